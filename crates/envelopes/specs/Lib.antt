@@ -1,0 +1,3 @@
+-- Lower envelopes of pseudo-lines.
+pub mod PseudoLines
+pub mod Bridge

@@ -1,0 +1,2 @@
+-- Lists: what the toolchain's library lacks.
+pub mod Members

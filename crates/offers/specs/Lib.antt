@@ -1,0 +1,2 @@
+-- Offers, loads and prices, as document 01 has them.
+pub mod Offers

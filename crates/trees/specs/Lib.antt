@@ -1,0 +1,2 @@
+-- Balanced trees whose leaves carry the items.
+pub mod Tree
