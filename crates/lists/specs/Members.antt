@@ -5,6 +5,6 @@ use mathlib.Core.Bool.{Bool, true, false}
 use lib.Dec.{T}
 
 -- A test that computes is decided.
-pub T? : (b : Bool) → Dec (T b)
+abbrev pub T? : (b : Bool) → Dec (T b)
 T? true = yes tt
 T? false = no (λ t. t)

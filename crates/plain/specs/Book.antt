@@ -1,0 +1,169 @@
+-- The plain book (document 01, "The plain book"): a capacity and a list of live offers in order, fed the calls' arguments, an
+-- output's length with them, and no word of any table. Each call is first tried against the table of declined calls.
+use Prim.Native.Nat.{ℕ, zero, suc, _+_, _*_, _-_}
+use mathlib.Core.List.{List, [], _∷_, _++_, filter}
+use mathlib.Core.Option.{Option, none, some}
+use mathlib.Core.Bool.{Bool, true, false, not, _&&_, _||_, cond}
+use lib.ListN.{length}
+use lib.Dec.{leb, ltb}
+use lib.IntN.{ℤ, pos, natAbs, _*ℤ_}
+use lib.Signed.{leZ, ltZ}
+use Rattle.lists.specs.Members.{T?}
+use Rattle.offers.specs.Offers.{Offer, between, numberInRange, rateInRange, baseInRange, loadInRange, priceAt, precedes, crossingNumerator, crossingDenominator}
+use Rattle.plain.specs.Causes.{Cause, Check, _when_, declined, causeNumber, capacityOutOfRange, tableTooShort, numberOutOfRange, rateOutOfRange, baseOutOfRange, loadOutOfRange, numberLive, rateLive, bookFull, numberNotLive, bookEmpty, outputTooShort}
+
+pub record State : Type 0 where
+  pub capacity : ℕ
+  -- the live offers, by falling rate
+  pub offers : List Offer
+
+-- ---- the calls and their answers
+
+pub data Call : Type 0 where
+  post : (number rate base : ℤ) → Call
+  withdraw : (number : ℤ) → Call
+  query : (load : ℤ) → Call
+  -- with the length of the lent output, in words
+  listing : (room : ℕ) → Call
+
+pub data Answer : Type 0 where
+  -- a declined call's number
+  refused : ℕ → Answer
+  -- the live count after a post or a withdrawal
+  live : ℕ → Answer
+  -- the number of the offer named, and the least price
+  found : (number price : ℤ) → Answer
+  -- the piece count, and the words written
+  listed : ℕ → List ℤ → Answer
+
+pub record Outcome : Type 0 where
+  pub state : State
+  pub answer : Answer
+
+-- ---- parts of the rules
+
+abbrev pub equal : ℤ → ℤ → Bool
+equal a b = leZ a b && leZ b a
+
+-- the elements that pass a test, in order
+abbrev pub keep : {A : Type 0} → (A → Bool) → List A → List A
+keep test os = filter (λ o. T? (test o)) os
+
+abbrev pub every : {A : Type 0} → (A → Bool) → List A → Bool
+every test [] = true
+every test (o ∷ os) = test o && every test os
+
+abbrev pub some-is : {A : Type 0} → (A → Bool) → List A → Bool
+some-is test os = not (every (λ o. not (test o)) os)
+
+abbrev pub hasNumber : ℤ → Offer → Bool
+hasNumber n o = equal (o .number) n
+
+abbrev pub hasRate : ℤ → Offer → Bool
+hasRate r o = equal (o .rate) r
+
+-- The offer joins, in order.
+abbrev pub join : Offer → List Offer → List Offer
+join o [] = o ∷ []
+join o (p ∷ ps) = cond (precedes o p) (o ∷ p ∷ ps) (p ∷ join o ps)
+
+-- The offer leaves.
+abbrev pub leave : ℤ → List Offer → List Offer
+leave n os = keep (λ o. not (hasNumber n o)) os
+
+-- The first in order among the cheapest at a load, of an offer and those after it.
+abbrev pub cheapest : ℤ → Offer → List Offer → Offer
+cheapest q best [] = best
+cheapest q best (o ∷ os) = cheapest q (cond (ltZ (priceAt o q) (priceAt best q)) o best) os
+
+-- The crossing of a and e lies strictly left of the crossing of e and c.
+abbrev pub turns : Offer → Offer → Offer → Bool
+turns a e c = ltZ (crossingNumerator a e *ℤ crossingDenominator e c) (crossingNumerator e c *ℤ crossingDenominator a e)
+
+-- The offers on the lower envelope: each whose every crossing with an earlier offer lies strictly left of its every crossing with a later one.
+-- `ListingLaws` proves that these are the offers that at some rational load, of any size, are strictly cheaper than every other.
+abbrev pub envelope : List Offer → List Offer
+envelope os = keep (λ e. every (λ a. every (λ c. not (precedes a e && precedes e c) || turns a e c) os) os) os
+
+-- Number, numerator, denominator a piece: its crossing with the next, unreduced. The last carries 0 and 0.
+abbrev pub pieceWords : List Offer → List ℤ
+pieceWords [] = []
+pieceWords (o ∷ []) = o .number ∷ pos 0 ∷ pos 0 ∷ []
+pieceWords (o ∷ p ∷ ps) = o .number ∷ crossingNumerator o p ∷ crossingDenominator o p ∷ pieceWords (p ∷ ps)
+
+-- ---- which calls are declined
+
+-- A part of capacity c has 64 × (c + 1) words.
+abbrev pub partLength : ℕ → ℕ
+partLength c = 64 * (c + 1)
+
+-- Open, on a table of so many words.
+abbrev pub openChecks : (words start : ℕ) → ℤ → List Check
+openChecks words start c =
+    capacityOutOfRange when not (between (pos 1) (pos 4_096) c)
+    ∷ tableTooShort when (ltb words start || ltb (words - start) (partLength (natAbs c)))
+    ∷ []
+
+abbrev pub rangeChecks : Call → List Check
+rangeChecks (post n r b) =
+    numberOutOfRange when not (numberInRange n)
+    ∷ rateOutOfRange when not (rateInRange r)
+    ∷ baseOutOfRange when not (baseInRange b)
+    ∷ []
+rangeChecks (withdraw n) = numberOutOfRange when not (numberInRange n) ∷ []
+rangeChecks (query q) = loadOutOfRange when not (loadInRange q) ∷ []
+rangeChecks (listing room) = []
+
+abbrev pub bookChecks : State → Call → List Check
+bookChecks s (post n r b) =
+    numberLive when some-is (hasNumber n) (s .offers)
+    ∷ rateLive when some-is (hasRate r) (s .offers)
+    ∷ bookFull when leb (s .capacity) (length (s .offers))
+    ∷ []
+bookChecks s (withdraw n) = numberNotLive when not (some-is (hasNumber n) (s .offers)) ∷ []
+bookChecks s (query q) = bookEmpty when leb (length (s .offers)) 0 ∷ []
+bookChecks s (listing room) = outputTooShort when ltb room (3 * length (envelope (s .offers))) ∷ []
+
+abbrev pub callChecks : State → Call → List Check
+callChecks s k = rangeChecks k ++ bookChecks s k
+
+-- ---- the book
+
+-- An accepted opening: no live offers.
+abbrev pub opened : ℤ → State
+opened c = record { capacity = natAbs c; offers = [] }
+
+-- What an accepted call does.
+abbrev pub accepted : State → Call → Outcome
+accepted s (post n r b) =
+    let os = join (record { number = n; rate = r; base = b }) (s .offers) in
+    record { state = record { capacity = s .capacity; offers = os }; answer = live (length os) }
+accepted s (withdraw n) =
+    let os = leave n (s .offers) in
+    record { state = record { capacity = s .capacity; offers = os }; answer = live (length os) }
+accepted s (query q) = record { state = s; answer = answerOf (s .offers) }
+  where
+    answerOf : List Offer → Answer
+    answerOf [] = refused (causeNumber bookEmpty)
+    answerOf (o ∷ os) = let best = cheapest q o os in found (best .number) (priceAt best q)
+accepted s (listing room) =
+    let es = envelope (s .offers) in
+    record { state = s; answer = listed (length es) (pieceWords es) }
+
+abbrev pub respond : State → Call → Option Cause → Outcome
+respond s k none = accepted s k
+respond s k (some c) = record { state = s; answer = refused (causeNumber c) }
+
+-- One call.
+abbrev pub step : State → Call → Outcome
+step s k = respond s k (declined (callChecks s k))
+
+-- A list of calls: the state after it.
+abbrev pub after : State → List Call → State
+after s [] = s
+after s (k ∷ ks) = after (step s k .state) ks
+
+-- The answers in order.
+abbrev pub answers : State → List Call → List Answer
+answers s [] = []
+answers s (k ∷ ks) = step s k .answer ∷ answers (step s k .state) ks

@@ -1,0 +1,51 @@
+-- "Prices to prove" (document 01): ten cases, each through the calls of a freshly opened book of capacity 64, as one table that the checker computes.
+use Prim.Native.Nat.{ℕ}
+use mathlib.Core.Path.{_≡_, refl}
+use mathlib.Core.List.{List, [], _∷_, _++_, map}
+use lib.IntN.{ℤ, pos, negℤ}
+use Rattle.plain.specs.Book.{State, Call, post, withdraw, query, listing, Answer, live, found, listed, opened, after, answers}
+
+-- Calls that make a book, and the answers of the calls asked of it then.
+pub record Row : Type 0 where
+  pub made : List Call
+  pub asked : List Call
+  pub told : List Answer
+
+abbrev pub answered : Row → List Answer
+answered r = answers (after (opened (pos 64)) (r .made)) (r .asked)
+
+-- (3, 0), (1, 10), (0, 40)
+abbrev pub three : List Call
+three = post (pos 1) (pos 3) (pos 0) ∷ post (pos 2) (pos 1) (pos 10) ∷ post (pos 3) (pos 0) (pos 40) ∷ []
+
+-- (2, 0), (1, 5), (0, 10): the second only touches a crossing
+abbrev pub touching : List Call
+touching = post (pos 1) (pos 2) (pos 0) ∷ post (pos 2) (pos 1) (pos 5) ∷ post (pos 3) (pos 0) (pos 10) ∷ []
+
+-- (2, 0), (1, 11), (0, 10), first withdrawn
+abbrev pub uncovered : List Call
+uncovered = post (pos 1) (pos 2) (pos 0) ∷ post (pos 2) (pos 1) (pos 11) ∷ post (pos 3) (pos 0) (pos 10) ∷ withdraw (pos 1) ∷ []
+
+-- (0, 0), (−3, 7): they cross at 7/3
+abbrev pub falling : List Call
+falling = post (pos 1) (pos 0) (pos 0) ∷ post (pos 2) (negℤ (pos 3)) (pos 7) ∷ []
+
+abbrev pub row : List Call → Call → Answer → Row
+row made asked told = record { made = made; asked = asked ∷ []; told = told ∷ [] }
+
+abbrev pub table : List Row
+table =
+    row three (listing 9) (listed 3 (pos 1 ∷ pos 10 ∷ pos 2 ∷ pos 2 ∷ pos 30 ∷ pos 1 ∷ pos 3 ∷ pos 0 ∷ pos 0 ∷ []))
+    ∷ row three (query (pos 5)) (found (pos 1) (pos 15))
+    ∷ row three (query (pos 6)) (found (pos 2) (pos 16))
+    ∷ row three (query (pos 30)) (found (pos 2) (pos 40))
+    ∷ row three (query (pos 31)) (found (pos 3) (pos 40))
+    ∷ row touching (listing 6) (listed 2 (pos 1 ∷ pos 10 ∷ pos 2 ∷ pos 3 ∷ pos 0 ∷ pos 0 ∷ []))
+    ∷ row (touching ++ (withdraw (pos 3) ∷ [])) (listing 6) (listed 2 (pos 1 ∷ pos 5 ∷ pos 1 ∷ pos 2 ∷ pos 0 ∷ pos 0 ∷ []))
+    ∷ row uncovered (listing 6) (listed 2 (pos 2 ∷ negℤ (pos 1) ∷ pos 1 ∷ pos 3 ∷ pos 0 ∷ pos 0 ∷ []))
+    ∷ row falling (query (pos 2)) (found (pos 1) (pos 0))
+    ∷ row falling (query (pos 3)) (found (pos 2) (negℤ (pos 2)))
+    ∷ []
+
+pub prices-to-prove : map answered table ≡ map (λ r. r .told) table
+prices-to-prove = refl

@@ -1,0 +1,61 @@
+-- When a call is declined (document 01's table). A call has a list of checks, tried in order; the first that fails decides.
+-- A later request renumbers a cause in `causeNumber`, or puts a check into one call's list; nothing else changes.
+use Prim.Native.Nat.{ℕ}
+use mathlib.Core.List.{List, [], _∷_}
+use mathlib.Core.Option.{Option, none, some}
+use mathlib.Core.Bool.{Bool, true, false}
+
+pub data Cause : Type 0 where
+  -- open
+  capacityOutOfRange tableTooShort : Cause
+  -- any other call: at `start` there is no book
+  noBook : Cause
+  -- an argument out of its range
+  numberOutOfRange rateOutOfRange baseOutOfRange loadOutOfRange priceOutOfRange : Cause
+  -- post
+  numberLive rateLive bookFull : Cause
+  -- withdraw
+  numberNotLive : Cause
+  -- query, mark, meet
+  bookEmpty : Cause
+  -- listing
+  outputTooShort : Cause
+  -- the counter program
+  unreadableLine : Cause
+  -- meet: some rate of the first book is not above some rate of the second
+  ratesNotApart : Cause
+  -- mark
+  noSuchMark : Cause
+
+abbrev pub causeNumber : Cause → ℕ
+causeNumber capacityOutOfRange = 1
+causeNumber tableTooShort = 2
+causeNumber noBook = 3
+causeNumber numberOutOfRange = 4
+causeNumber rateOutOfRange = 4
+causeNumber baseOutOfRange = 4
+causeNumber loadOutOfRange = 4
+causeNumber priceOutOfRange = 4
+causeNumber numberLive = 5
+causeNumber rateLive = 6
+causeNumber bookFull = 7
+causeNumber numberNotLive = 8
+causeNumber bookEmpty = 9
+causeNumber outputTooShort = 10
+causeNumber unreadableLine = 11
+causeNumber ratesNotApart = 12
+causeNumber noSuchMark = 13
+
+-- A check: the cause, and whether it applies.
+pub record Check : Type 0 where
+  pub cause : Cause
+  pub applies : Bool
+
+infix 80 _when_
+abbrev pub _when_ : Cause → Bool → Check
+c when b = record { cause = c; applies = b }
+
+-- The first cause that applies, if one does.
+abbrev pub declined : List Check → Option Cause
+declined [] = none
+declined (k ∷ ks) = elim (k .applies) [ true ↦ some (k .cause) | false ↦ declined ks ]

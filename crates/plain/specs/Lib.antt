@@ -1,0 +1,4 @@
+-- The plain book: what every history of calls is compared with.
+pub mod Causes
+pub mod Book
+pub mod Cases
