@@ -1,1 +1,2 @@
--- integers
+-- Integers: order, ring and size reasoning.
+pub mod Parts
