@@ -1,2 +1,3 @@
 -- Lists: what the toolchain's library lacks.
 pub mod Members
+pub mod Tests

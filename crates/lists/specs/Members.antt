@@ -2,16 +2,9 @@
 use mathlib.Core.Path.{_≡_, refl, sym, _∙_, subst}
 use mathlib.Core.Logic.{_⊎_, inl, inr, ⊎-elim, ∥∥₁-elim}
 use mathlib.Core.List.{List, [], _∷_, List·Memᴰ, List·Memᴰ·head, List·Memᴰ·tail, Sublistᴰ, Sublistᴰ·slnil, Sublistᴰ·cons, Sublistᴰ·cons-cons, Pairwise, Pairwise·cons}
-use mathlib.Core.Bool.{Bool, true, false}
 use Prim.Native.Nat.{ℕ, suc, _≤_}
 use native.Mathlib.Omega.{arith}
 use lib.ListN.{length}
-use lib.Dec.{T}
-
--- A test that computes is decided.
-abbrev pub T? : (b : Bool) → Dec (T b)
-T? true = yes tt
-T? false = no (λ t. t)
 
 module _ {A : Type 0} where
   pub sub-mem : {x : A} {s l : List A} → Sublistᴰ s l → List·Memᴰ x s → List·Memᴰ x l

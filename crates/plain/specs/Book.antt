@@ -1,14 +1,14 @@
 -- The plain book (document 01, "The plain book"): a capacity and a list of live offers in order, fed the calls' arguments, an
 -- output's length with them, and no word of any table. Each call is first tried against the table of declined calls.
 use Prim.Native.Nat.{ℕ, zero, suc, _+_, _*_, _-_}
-use mathlib.Core.List.{List, [], _∷_, _++_, filter}
+use mathlib.Core.List.{List, [], _∷_, _++_}
 use mathlib.Core.Option.{Option, none, some}
-use mathlib.Core.Bool.{Bool, true, false, not, _&&_, _||_, cond}
+use mathlib.Core.Bool.{Bool, not, _&&_, _||_, cond}
 use lib.ListN.{length}
 use lib.Dec.{leb, ltb}
 use lib.IntN.{ℤ, pos, natAbs, _*ℤ_}
 use lib.Signed.{leZ, ltZ}
-use Rattle.lists.specs.Members.{T?}
+use Rattle.lists.specs.Tests.{every, any, keep}
 use Rattle.offers.specs.Offers.{Offer, between, numberInRange, rateInRange, baseInRange, loadInRange, priceAt, precedes, crossingNumerator, crossingDenominator}
 use Rattle.plain.specs.Causes.{Cause, Check, _when_, declined, causeNumber, capacityOutOfRange, tableTooShort, numberOutOfRange, rateOutOfRange, baseOutOfRange, loadOutOfRange, numberLive, rateLive, bookFull, numberNotLive, bookEmpty, outputTooShort}
 
@@ -44,17 +44,6 @@ pub record Outcome : Type 0 where
 
 abbrev pub equal : ℤ → ℤ → Bool
 equal a b = leZ a b && leZ b a
-
--- the elements that pass a test, in order
-abbrev pub keep : {A : Type 0} → (A → Bool) → List A → List A
-keep test os = filter (λ o. T? (test o)) os
-
-abbrev pub every : {A : Type 0} → (A → Bool) → List A → Bool
-every test [] = true
-every test (o ∷ os) = test o && every test os
-
-abbrev pub some-is : {A : Type 0} → (A → Bool) → List A → Bool
-some-is test os = not (every (λ o. not (test o)) os)
 
 abbrev pub hasNumber : ℤ → Offer → Bool
 hasNumber n o = equal (o .number) n
@@ -116,11 +105,11 @@ rangeChecks (listing room) = []
 
 abbrev pub bookChecks : State → Call → List Check
 bookChecks s (post n r b) =
-    numberLive when some-is (hasNumber n) (s .offers)
-    ∷ rateLive when some-is (hasRate r) (s .offers)
+    numberLive when any (hasNumber n) (s .offers)
+    ∷ rateLive when any (hasRate r) (s .offers)
     ∷ bookFull when leb (s .capacity) (length (s .offers))
     ∷ []
-bookChecks s (withdraw n) = numberNotLive when not (some-is (hasNumber n) (s .offers)) ∷ []
+bookChecks s (withdraw n) = numberNotLive when not (any (hasNumber n) (s .offers)) ∷ []
 bookChecks s (query q) = bookEmpty when leb (length (s .offers)) 0 ∷ []
 bookChecks s (listing room) = outputTooShort when ltb room (3 * length (envelope (s .offers))) ∷ []
 

@@ -3,7 +3,7 @@
 use Prim.Native.Nat.{ℕ}
 use mathlib.Core.List.{List, [], _∷_}
 use mathlib.Core.Option.{Option, none, some}
-use mathlib.Core.Bool.{Bool, true, false}
+use mathlib.Core.Bool.{Bool, cond}
 
 pub data Cause : Type 0 where
   -- open
@@ -58,4 +58,4 @@ c when b = record { cause = c; applies = b }
 -- The first cause that applies, if one does.
 abbrev pub declined : List Check → Option Cause
 declined [] = none
-declined (k ∷ ks) = elim (k .applies) [ true ↦ some (k .cause) | false ↦ declined ks ]
+declined (k ∷ ks) = cond (k .applies) (some (k .cause)) (declined ks)

@@ -2,3 +2,4 @@
 pub mod Causes
 pub mod Book
 pub mod Cases
+pub mod Sound

@@ -1,0 +1,154 @@
+-- What holds of the plain book after every list of calls: its offers stand by falling rate, no two with one number or one rate,
+-- each in range, at most c of them; and a refused call changes nothing.
+use mathlib.Core.Path.{_≡_, refl, sym, _∙_, subst, ap}
+use mathlib.Core.Logic.{_⊎_, inl, inr, ⊎-elim, _≢_}
+use mathlib.Core.HLevel.{¬-prop}
+use mathlib.Core.List.{List, [], _∷_, _++_, List·Memᴰ, List·Memᴰ·head, List·Memᴰ·tail, List·Memᴰ·cases-cons, Pairwise, Pairwise·nil, Pairwise·cons, Pairwise·of-cons, rel-of-pairwise-cons, Pairwise·sublistᴰ, Sublistᴰ}
+use mathlib.Core.Option.{Option, none, some}
+use mathlib.Core.Bool.{Bool, true, false, not, _&&_, cond}
+use Prim.Native.Nat.{ℕ, suc, _≤_}
+use native.Mathlib.Omega.{arith}
+use lib.ListN.{length}
+use lib.Dec.{T, T-prop, T-not, leb, nleb→lt}
+use lib.IntN.{ℤ}
+use lib.Signed.{leZ, ltZ}
+use Rattle.lists.specs.Members.{sub-mem, sub-length, pairs-cons}
+use Rattle.lists.specs.Tests.{every, any, keep, and-both, not-not, none-at, keep-sub}
+use Rattle.integers.specs.Parts.{intRules, le-or-lt}
+use Rattle.offers.specs.Offers.{Offer, numberInRange, rateInRange, baseInRange, offerInRange, precedes}
+use Rattle.plain.specs.Causes.{Cause, Check, declined, causeNumber}
+use Rattle.plain.specs.Book.{State, Call, post, withdraw, query, listing, Answer, refused, live, found, listed, Outcome, equal, hasNumber, hasRate, join, leave, rangeChecks, bookChecks, callChecks, opened, accepted, respond, step, after}
+
+pub record Sound (s : State) : Type 0 where
+  pub ordered : Pairwise (λ a b. T (precedes a b)) (s .offers)
+  pub numbered : Pairwise (λ a b. a .number ≢ b .number) (s .offers)
+  pub ranged : (o : Offer) → List·Memᴰ o (s .offers) → T (offerInRange o)
+  pub fits : length (s .offers) ≤ s .capacity
+
+-- ---- a call that no check declines
+
+abbrev pub Clear : List Check → Type 0
+Clear [] = Unit {0}
+Clear (k ∷ ks) = T (not (k .applies)) × Clear ks
+
+pub clear : (ks : List Check) → declined ks ≡ none → Clear ks
+clear [] e = tt
+clear (k ∷ ks) e = go (k .applies) e (clear ks)
+  where
+    go : (b : Bool) → cond b (some (k .cause)) (declined ks) ≡ none → (declined ks ≡ none → Clear ks) → T (not b) × Clear ks
+    go true p rec = let z : _≡_ {A = ℕ} 0 1 = cc in absurd (omega arith)
+    go false p rec = (tt, rec p)
+
+-- ---- an offer joins
+
+mem-join : (o : Offer) {x : Offer} (os : List Offer) → List·Memᴰ x (join o os) → (x ≡ o) ⊎ List·Memᴰ x os
+mem-join o [] m = List·Memᴰ·cases-cons m
+mem-join o {x} (p ∷ ps) m = go (precedes o p) m (mem-join o ps)
+  where
+    go : (b : Bool) → List·Memᴰ x (cond b (o ∷ p ∷ ps) (p ∷ join o ps)) → (List·Memᴰ x (join o ps) → (x ≡ o) ⊎ List·Memᴰ x ps) → (x ≡ o) ⊎ List·Memᴰ x (p ∷ ps)
+    go true n rec = List·Memᴰ·cases-cons n
+    go false (List·Memᴰ·head e) rec = inr (List·Memᴰ·head e)
+    go false (List·Memᴰ·tail n) rec = ⊎-elim inl (λ k. inr (List·Memᴰ·tail k)) (rec n)
+
+length-join : (o : Offer) (os : List Offer) → length (join o os) ≡ suc (length os)
+length-join o [] = refl
+length-join o (p ∷ ps) = go (precedes o p) (length-join o ps)
+  where
+    go : (b : Bool) → length (join o ps) ≡ suc (length ps) → length (cond b (o ∷ p ∷ ps) (p ∷ join o ps)) ≡ suc (length (p ∷ ps))
+    go true e = refl
+    go false e = ap suc e
+
+precedes-trans : (a b c : Offer) → T (precedes a b) → T (precedes b c) → T (precedes a c)
+precedes-trans a b c p q = omega (arith, intRules)
+
+-- A relation that holds of the new offer and each old one, the earlier first, still holds of all pairs.
+join-pairs : {R : Offer → Offer → Type 0} → ((x y : Offer) → IsProp (R x y)) → (o : Offer) (os : List Offer) → Pairwise (λ a b. T (precedes a b)) os → Pairwise R os → ((q : Offer) → List·Memᴰ q os → T (precedes o q) → R o q) → ((q : Offer) → List·Memᴰ q os → T (not (precedes o q)) → R q o) → Pairwise R (join o os)
+join-pairs prop o [] p h f g = pairs-cons prop (λ b m. elim m [ ]) h
+join-pairs {R} prop o (x ∷ xs) p h f g = go (precedes o x) (λ t. t) (λ t. t) (join-pairs prop o xs (Pairwise·of-cons p) (Pairwise·of-cons h) (λ q m. f q (List·Memᴰ·tail m)) (λ q m. g q (List·Memᴰ·tail m)))
+  where
+    later : T (precedes o x) → (b : Offer) → (b ≡ x) ⊎ List·Memᴰ b xs → R o b
+    later t b (inl e) = f b (List·Memᴰ·head e) (subst (λ (y : Offer). T (precedes o y)) (sym e) t)
+    later t b (inr m) = f b (List·Memᴰ·tail m) (precedes-trans o x b t (rel-of-pairwise-cons p ∣ m ∣₁))
+
+    earlier : T (not (precedes o x)) → (b : Offer) → (b ≡ o) ⊎ List·Memᴰ b xs → R x b
+    earlier t b (inl e) = subst (λ (y : Offer). R x y) (sym e) (g x (List·Memᴰ·head refl) t)
+    earlier t b (inr m) = rel-of-pairwise-cons h ∣ m ∣₁
+
+    go : (b : Bool) → (T b → T (precedes o x)) → (T (not b) → T (not (precedes o x))) → Pairwise R (join o xs) → Pairwise R (cond b (o ∷ x ∷ xs) (x ∷ join o xs))
+    go true yes-is no-is rec = pairs-cons prop (λ b m. later (yes-is tt) b (List·Memᴰ·cases-cons m)) h
+    go false yes-is no-is rec = pairs-cons prop (λ b m. earlier (no-is tt) b (mem-join o xs m)) rec
+
+-- ---- what equality of numbers or rates says
+
+equal-is : (a b : ℤ) → a ≡ b → T (equal a b)
+equal-is a b e = and-both (leZ a b) (leZ b a) (omega (arith, intRules)) (omega (arith, intRules))
+
+unequal : (a b : ℤ) → T (not (equal a b)) → a ≢ b
+unequal a b t e = T-not (equal a b) t (equal-is a b e)
+
+other-rate : (a b : Offer) → T (not (equal (a .rate) (b .rate))) → T (not (precedes b a)) → T (precedes a b)
+other-rate a b ne t = ⊎-elim (λ h. absurd (unequal (a .rate) (b .rate) ne (omega (arith, intRules)))) (λ h. h) (le-or-lt (a .rate) (b .rate))
+
+-- ---- the calls
+
+post-sound : (s : State) (n r b : ℤ) → Sound s → Clear (callChecks s (post n r b)) → Sound (accepted s (post n r b) .state)
+post-sound s n r b h (cn, (cr, (cb, (live-n, (live-r, (full, _)))))) =
+    record {
+      ordered = join-pairs (λ x y. T-prop (precedes x y)) o os (h .ordered) (h .ordered) (λ q m t. t) (λ q m t. other-rate q o (none-at (hasRate r) live-r m) t);
+      numbered = join-pairs (λ x y. ¬-prop) o os (h .ordered) (h .numbered) (λ q m t e. unequal (q .number) n (none-at (hasNumber n) live-n m) (sym e)) (λ q m t. unequal (q .number) n (none-at (hasNumber n) live-n m));
+      ranged = λ x m. ⊎-elim (λ e. subst (λ (y : Offer). T (offerInRange y)) (sym e) inRange) (h .ranged x) (mem-join o os m);
+      fits = let k = nleb→lt (s .capacity) (length os) full in let e = length-join o os in omega arith;
+    }
+  where
+    os : List Offer
+    os = s .offers
+
+    o : Offer
+    o = record { number = n; rate = r; base = b }
+
+    inRange : T (offerInRange o)
+    inRange = and-both (numberInRange n && rateInRange r) (baseInRange b) (and-both (numberInRange n) (rateInRange r) (not-not (numberInRange n) cn) (not-not (rateInRange r) cr)) (not-not (baseInRange b) cb)
+
+withdraw-sound : (s : State) (n : ℤ) → Sound s → Sound (accepted s (withdraw n) .state)
+withdraw-sound s n h =
+    record {
+      ordered = Pairwise·sublistᴰ stay (h .ordered);
+      numbered = Pairwise·sublistᴰ stay (h .numbered);
+      ranged = λ o m. h .ranged o (sub-mem stay m);
+      fits = let k = sub-length stay in let f = h .fits in omega arith;
+    }
+  where
+    stay : Sublistᴰ (leave n (s .offers)) (s .offers)
+    stay = keep-sub (λ o. not (hasNumber n o)) (s .offers)
+
+accepted-sound : (s : State) (k : Call) → Sound s → Clear (callChecks s k) → Sound (accepted s k .state)
+accepted-sound s (post n r b) h c = post-sound s n r b h c
+accepted-sound s (withdraw n) h c = withdraw-sound s n h
+accepted-sound s (query q) h c = h
+accepted-sound s (listing room) h c = h
+
+pub opened-sound : (c : ℤ) → Sound (opened c)
+opened-sound c = record { ordered = Pairwise·nil; numbered = Pairwise·nil; ranged = λ o m. elim m [ ]; fits = omega arith }
+
+pub step-sound : (s : State) (k : Call) → Sound s → Sound (step s k .state)
+step-sound s k h = go (declined (callChecks s k)) refl
+  where
+    go : (d : Option Cause) → declined (callChecks s k) ≡ d → Sound (respond s k d .state)
+    go none e = accepted-sound s k h (clear (callChecks s k) e)
+    go (some c) e = h
+
+-- The state after any list of calls.
+pub after-sound : (s : State) (ks : List Call) → Sound s → Sound (after s ks)
+after-sound s [] h = h
+after-sound s (k ∷ ks) h = after-sound (step s k .state) ks (step-sound s k h)
+
+-- A refused call changes nothing.
+pub refused-keeps : (s : State) (k : Call) (n : ℕ) → step s k .answer ≡ refused n → step s k .state ≡ s
+refused-keeps s k n e = go (declined (callChecks s k)) k e
+  where
+    go : (d : Option Cause) (k : Call) → respond s k d .answer ≡ refused n → respond s k d .state ≡ s
+    go (some c) k e = refl
+    go none (post m r b) e = let z : _≡_ {A = ℕ} 0 1 = cc in absurd (omega arith)
+    go none (withdraw m) e = let z : _≡_ {A = ℕ} 0 1 = cc in absurd (omega arith)
+    go none (query q) e = refl
+    go none (listing room) e = refl
