@@ -3,3 +3,4 @@ pub mod Causes
 pub mod Book
 pub mod Cases
 pub mod Sound
+pub mod QueryLaws
