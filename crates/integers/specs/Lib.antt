@@ -1,2 +1,4 @@
 -- Integers: order, ring and size reasoning.
 pub mod Parts
+pub mod Ring
+pub mod Magnitude

@@ -245,6 +245,13 @@ pub ruleset intRules = (le-parts, parts-le, lt-parts, parts-lt, nle-parts, parts
 
 -- ---- which way it goes
 
+-- two tests that pass together are one
+pub same-test : (b c : Bool) → (T b → T c) → (T c → T b) → b ≡ c
+same-test true true f g = refl
+same-test true false f g = absurd (f tt)
+same-test false true f g = absurd (g tt)
+same-test false false f g = refl
+
 by-test : (b : Bool) → T b ⊎ T (not b)
 by-test true = inl tt
 by-test false = inr tt

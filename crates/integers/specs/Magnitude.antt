@@ -1,0 +1,79 @@
+-- How large an integer expression gets: its magnitude is at most the same expression of its unknowns' magnitudes, with sums for differences.
+-- `fits64 e (omega (arith, ..))` so shows that a value fits an i64, with `mul-le-mul` of the unknowns' bounds in the list where there are products.
+use mathlib.Core.Path.{_≡_, refl}
+use mathlib.Core.Bool.{_&&_}
+use Prim.Native.Nat.{ℕ, zero, suc, _+_, _*_, _^_, _≤_, _<_}
+use native.Mathlib.Nat.{le-trans, mul-le-mul}
+use native.Mathlib.Omega.{arith}
+use lib.Dec.{T}
+use lib.IntN.{ℤ, pos, negsuc, negℤ, natAbs, _+ℤ_, _-ℤ_, _*ℤ_}
+use lib.Signed.{leZ, ltZ, mag}
+use mir.Syntax.{Width, w64}
+use mir.Val.{SFits, hbits}
+use Rattle.integers.specs.Parts.{P, N, intRules, natAbs-parts, natAbs-most, mag-natAbs, neg-P, neg-N, add-parts, sub-parts, mul-P, mul-N, within-parts, range-parts}
+use Rattle.integers.specs.Ring.{Ex, var, nat, neg, _:+_, _:-_, _:*_, ⟦_⟧}
+
+abbrev pub M : Ex → ℕ
+M (var z) = natAbs z
+M (nat n) = n
+M (neg a) = M a
+M (a :+ b) = M a + M b
+M (a :- b) = M a + M b
+M (a :* b) = M a * M b
+
+-- one part of z is 0
+balance : (z : ℤ) (x y : ℕ) → P z + x ≡ N z + y → natAbs z ≤ x + y
+balance (pos n) x y h = omega arith
+balance (negsuc n) x y h = omega arith
+
+pub natAbs-neg : (a : ℤ) → natAbs (negℤ a) ≡ natAbs a
+natAbs-neg (pos zero) = refl
+natAbs-neg (pos (suc n)) = refl
+natAbs-neg (negsuc n) = refl
+
+pub natAbs-add : (a b : ℤ) → natAbs (a +ℤ b) ≤ natAbs a + natAbs b
+natAbs-add a b =
+    omega (arith, balance (a +ℤ b) (N a + N b) (P a + P b) (add-parts a b), natAbs-parts a, natAbs-parts b)
+
+pub natAbs-sub : (a b : ℤ) → natAbs (a -ℤ b) ≤ natAbs a + natAbs b
+natAbs-sub a b =
+    omega (arith, balance (a -ℤ b) (N a + P b) (P a + N b) (sub-parts a b), natAbs-parts a, natAbs-parts b)
+
+pub natAbs-mul : (a b : ℤ) → natAbs (a *ℤ b) ≡ natAbs a * natAbs b
+natAbs-mul (pos m) (pos n) = refl
+natAbs-mul (pos m) (negsuc n) = natAbs-neg (pos (m * suc n))
+natAbs-mul (negsuc m) (pos n) = natAbs-neg (pos (suc m * n))
+natAbs-mul (negsuc m) (negsuc n) = refl
+
+pub size : (e : Ex) → natAbs ⟦ e ⟧ ≤ M e
+size (var z) = omega arith
+size (nat n) = omega arith
+size (neg a) = omega (arith, size a, natAbs-neg ⟦ a ⟧)
+size (a :+ b) = omega (arith, size a, size b, natAbs-add ⟦ a ⟧ ⟦ b ⟧)
+size (a :- b) = omega (arith, size a, size b, natAbs-sub ⟦ a ⟧ ⟦ b ⟧)
+size (a :* b) = omega (arith, natAbs-mul ⟦ a ⟧ ⟦ b ⟧, mul-le-mul (size a) (size b))
+
+pub fits : (z : ℤ) → natAbs z < 2 ^ 63 → SFits w64 z
+fits z h = record { sfits = omega (arith, mag-natAbs z) }
+
+pub fits64 : (e : Ex) → M e < 2 ^ 63 → SFits w64 ⟦ e ⟧
+fits64 e h = fits ⟦ e ⟧ (omega (arith, size e))
+
+-- ---- bounds on an unknown
+
+pub within-natAbs : (m : ℕ) (z : ℤ) → T (leZ (negsuc m) z && leZ z (pos (suc m))) → natAbs z ≤ suc m
+within-natAbs m z t = omega (arith, within-parts m z t, natAbs-parts z)
+
+-- where it is not negative, a number is its magnitude
+pub natAbs-is : (z : ℤ) → T (leZ (pos 0) z) → pos (natAbs z) ≡ z
+natAbs-is (pos n) t = refl
+natAbs-is (negsuc n) t = absurd t
+
+-- ---- one line each
+
+sum-example : (a b : ℤ) → natAbs a ≤ 1_000 → natAbs b ≤ 1_000 → SFits w64 (a +ℤ b *ℤ pos 7)
+sum-example a b h k = fits64 (var a :+ var b :* nat 7) (omega arith)
+
+product-example : (a b : ℤ) → T (leZ (negsuc 999) a && leZ a (pos 1_000)) → T (leZ (negsuc 4) b && leZ b (pos 5)) → natAbs (a *ℤ b -ℤ pos 3) ≤ 5_003
+product-example a b h k =
+    omega (arith, size (var a :* var b :- nat 3), mul-le-mul (within-natAbs 999 a h) (within-natAbs 4 b k))
