@@ -51,31 +51,31 @@ pub record PseudoLines (S : Figure) : Type 0 where
 -- The mirror image: the order of lines and of points turned round.
 abbrev pub mirror : Figure → Figure
 mirror S =
-    record
-      { Line = S .Line
-      ; Point = S .Point
-      ; atMost = S .atMost
-      ; upTo = λ x y. S .upTo y x
-      ; before = λ a b. S .before b a
-      ; cross = λ a b. S .cross b a
-      }
+    record {
+      Line = S .Line;
+      Point = S .Point;
+      atMost = S .atMost;
+      upTo = λ x y. S .upTo y x;
+      before = λ a b. S .before b a;
+      cross = λ a b. S .cross b a;
+    }
 
 pub mirror-laws : (S : Figure) → PseudoLines S → PseudoLines (mirror S)
 mirror-laws S L =
-    record
-      { price-total = L .price-total
-      ; price-trans = L .price-trans
-      ; point-total = λ x y. L .point-total y x
-      ; point-trans = λ x y z p q. L .point-trans z y x q p
-      ; somewhere = L .somewhere
-      ; left-of = L .right-of
-      ; right-of = L .left-of
-      ; between = λ x z h. let (y, p, q) = L .between z x h in (y, q, p)
-      ; before-irrefl = L .before-irrefl
-      ; before-trans = λ a b c p q. L .before-trans c b a q p
-      ; rise = λ a b x y p h u. L .fall b a y x p h u
-      ; rise-strict = λ a b x y p h l k. L .rise-strict b a y x p k l h
-      ; fall = λ a b x y p h u. L .rise b a y x p h u
-      ; cross-le = λ a b p. L .cross-ge b a p
-      ; cross-ge = λ a b p. L .cross-le b a p
-      }
+    record {
+      price-total = L .price-total;
+      price-trans = L .price-trans;
+      point-total = λ x y. L .point-total y x;
+      point-trans = λ x y z p q. L .point-trans z y x q p;
+      somewhere = L .somewhere;
+      left-of = L .right-of;
+      right-of = L .left-of;
+      between = λ x z h. let (y, p, q) = L .between z x h in (y, q, p);
+      before-irrefl = L .before-irrefl;
+      before-trans = λ a b c p q. L .before-trans c b a q p;
+      rise = λ a b x y p h u. L .fall b a y x p h u;
+      rise-strict = λ a b x y p h l k. L .rise-strict b a y x p k l h;
+      fall = λ a b x y p h u. L .rise b a y x p h u;
+      cross-le = λ a b p. L .cross-ge b a p;
+      cross-ge = λ a b p. L .cross-le b a p;
+    }
