@@ -1,0 +1,2 @@
+-- The search for the meeting of two envelopes.
+pub mod Machine
