@@ -1,3 +1,5 @@
 -- Lower envelopes of pseudo-lines.
 pub mod PseudoLines
+pub mod Crossing
 pub mod Bridge
+pub mod Chains
