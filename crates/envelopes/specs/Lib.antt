@@ -3,3 +3,5 @@ pub mod PseudoLines
 pub mod Crossing
 pub mod Bridge
 pub mod Chains
+pub mod Bridges
+pub mod Search
