@@ -1,3 +1,7 @@
 -- Lower envelopes of pseudo-lines.
 pub mod PseudoLines
+pub mod Crossing
 pub mod Bridge
+pub mod Chains
+pub mod Bridges
+pub mod Search
