@@ -1,5 +1,6 @@
 -- Lower envelopes of pseudo-lines.
 pub mod PseudoLines
 pub mod Crossing
+pub mod Envelope
 pub mod Bridge
 pub mod Chains
