@@ -2,5 +2,6 @@
 pub mod PseudoLines
 pub mod Crossing
 pub mod Envelope
+pub mod EnvelopeLaws
 pub mod Bridge
 pub mod Chains
