@@ -1,6 +1,8 @@
 -- Lower envelopes of pseudo-lines.
 pub mod PseudoLines
 pub mod Crossing
+pub mod Envelope
+pub mod EnvelopeLaws
 pub mod Bridge
 pub mod Chains
 pub mod Bridges

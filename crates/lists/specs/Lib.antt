@@ -1,3 +1,5 @@
 -- Lists: what the toolchain's library lacks.
+pub mod Filter
 pub mod Members
+pub mod Places
 pub mod Tests

@@ -8,7 +8,8 @@ use lib.ListN.{length}
 use lib.Dec.{leb, ltb}
 use lib.IntN.{ℤ, pos, natAbs, _*ℤ_}
 use lib.Signed.{leZ, ltZ}
-use Rattle.lists.specs.Tests.{every, any, keep}
+use Rattle.lists.specs.Filter.{every, keep}
+use Rattle.lists.specs.Tests.{any}
 use Rattle.offers.specs.Offers.{Offer, between, numberInRange, rateInRange, baseInRange, loadInRange, priceAt, precedes, crossingNumerator, crossingDenominator}
 use Rattle.plain.specs.Causes.{Cause, Check, _when_, declined, causeNumber, capacityOutOfRange, tableTooShort, numberOutOfRange, rateOutOfRange, baseOutOfRange, loadOutOfRange, numberLive, rateLive, bookFull, numberNotLive, bookEmpty, outputTooShort}
 

@@ -12,8 +12,10 @@ use lib.ListN.{length}
 use lib.Dec.{T, T-prop, T-not, leb, nleb→lt}
 use lib.IntN.{ℤ}
 use lib.Signed.{leZ, ltZ}
-use Rattle.lists.specs.Members.{sub-mem, sub-length, pairs-cons}
-use Rattle.lists.specs.Tests.{every, any, keep, and-both, not-not, none-at, keep-sub}
+use Rattle.lists.specs.Filter.{both, keep-sublist}
+use Rattle.lists.specs.Members.{sub-length, pairs-cons}
+use Rattle.lists.specs.Places.{sublist-mem}
+use Rattle.lists.specs.Tests.{any, not-not, none-at}
 use Rattle.integers.specs.Parts.{intRules, le-or-lt}
 use Rattle.offers.specs.Offers.{Offer, numberInRange, rateInRange, baseInRange, offerInRange, precedes}
 use Rattle.plain.specs.Causes.{Cause, Check, declined, causeNumber}
@@ -81,7 +83,7 @@ join-pairs {R} prop o (x ∷ xs) p h f g = go (precedes o x) (λ t. t) (λ t. t)
 -- ---- what equality of numbers or rates says
 
 equal-is : (a b : ℤ) → a ≡ b → T (equal a b)
-equal-is a b e = and-both (leZ a b) (leZ b a) (omega (arith, intRules)) (omega (arith, intRules))
+equal-is a b e = both (leZ a b) (leZ b a) (omega (arith, intRules)) (omega (arith, intRules))
 
 unequal : (a b : ℤ) → T (not (equal a b)) → a ≢ b
 unequal a b t e = T-not (equal a b) t (equal-is a b e)
@@ -94,8 +96,8 @@ other-rate a b ne t = ⊎-elim (λ h. absurd (unequal (a .rate) (b .rate) ne (om
 post-sound : (s : State) (n r b : ℤ) → Sound s → Clear (callChecks s (post n r b)) → Sound (accepted s (post n r b) .state)
 post-sound s n r b h (cn, (cr, (cb, (live-n, (live-r, (full, _)))))) =
     record {
-      ordered = join-pairs (λ x y. T-prop (precedes x y)) o os (h .ordered) (h .ordered) (λ q m t. t) (λ q m t. other-rate q o (none-at (hasRate r) live-r m) t);
-      numbered = join-pairs (λ x y. ¬-prop) o os (h .ordered) (h .numbered) (λ q m t e. unequal (q .number) n (none-at (hasNumber n) live-n m) (sym e)) (λ q m t. unequal (q .number) n (none-at (hasNumber n) live-n m));
+      ordered = join-pairs (λ x y. T-prop (precedes x y)) o os (h .ordered) (h .ordered) (λ q m t. t) (λ q m t. other-rate q o (none-at (hasRate r) os live-r q m) t);
+      numbered = join-pairs (λ x y. ¬-prop) o os (h .ordered) (h .numbered) (λ q m t e. unequal (q .number) n (none-at (hasNumber n) os live-n q m) (sym e)) (λ q m t. unequal (q .number) n (none-at (hasNumber n) os live-n q m));
       ranged = λ x m. ⊎-elim (λ e. subst (λ (y : Offer). T (offerInRange y)) (sym e) inRange) (h .ranged x) (mem-join o os m);
       fits = let k = nleb→lt (s .capacity) (length os) full in let e = length-join o os in omega arith;
     }
@@ -107,19 +109,19 @@ post-sound s n r b h (cn, (cr, (cb, (live-n, (live-r, (full, _)))))) =
     o = record { number = n; rate = r; base = b }
 
     inRange : T (offerInRange o)
-    inRange = and-both (numberInRange n && rateInRange r) (baseInRange b) (and-both (numberInRange n) (rateInRange r) (not-not (numberInRange n) cn) (not-not (rateInRange r) cr)) (not-not (baseInRange b) cb)
+    inRange = both (numberInRange n && rateInRange r) (baseInRange b) (both (numberInRange n) (rateInRange r) (not-not (numberInRange n) cn) (not-not (rateInRange r) cr)) (not-not (baseInRange b) cb)
 
 withdraw-sound : (s : State) (n : ℤ) → Sound s → Sound (accepted s (withdraw n) .state)
 withdraw-sound s n h =
     record {
       ordered = Pairwise·sublistᴰ stay (h .ordered);
       numbered = Pairwise·sublistᴰ stay (h .numbered);
-      ranged = λ o m. h .ranged o (sub-mem stay m);
+      ranged = λ o m. h .ranged o (sublist-mem stay m);
       fits = let k = sub-length stay in let f = h .fits in omega arith;
     }
   where
     stay : Sublistᴰ (leave n (s .offers)) (s .offers)
-    stay = keep-sub (λ o. not (hasNumber n o)) (s .offers)
+    stay = keep-sublist (λ o. not (hasNumber n o)) (s .offers)
 
 accepted-sound : (s : State) (k : Call) → Sound s → Clear (callChecks s k) → Sound (accepted s k .state)
 accepted-sound s (post n r b) h c = post-sound s n r b h c

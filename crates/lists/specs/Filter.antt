@@ -1,0 +1,56 @@
+-- A test on every element of a list, and the elements that pass one, as functions that compute.
+use mathlib.Core.Path.{_≡_, refl, sym, subst}
+use mathlib.Core.Logic.{_⊎_, inl, inr, ⊎-elim}
+use mathlib.Core.Bool.{Bool, true, false, _&&_, cond}
+use mathlib.Core.List.{List, [], _∷_, List·Memᴰ, List·Memᴰ·head, List·Memᴰ·tail, List·Memᴰ·cases-cons, List·Memᴰ·not-nil, Sublistᴰ, Sublistᴰ·slnil, Sublistᴰ·cons, Sublistᴰ·cons-cons}
+use lib.Dec.{T}
+
+pub both : (a b : Bool) → T a → T b → T (a && b)
+both true b p q = q
+
+pub one-of-both : (a b : Bool) → T (a && b) → T a
+one-of-both true b t = tt
+
+pub other-of-both : (a b : Bool) → T (a && b) → T b
+other-of-both true b t = t
+
+module _ {A : Type 0} where
+  abbrev pub every : (A → Bool) → List A → Bool
+  every p [] = true
+  every p (x ∷ xs) = p x && every p xs
+
+  abbrev pub keep : (A → Bool) → List A → List A
+  keep p [] = []
+  keep p (x ∷ xs) = cond (p x) (x ∷ keep p xs) (keep p xs)
+
+  pub every-at : (p : A → Bool) (l : List A) → T (every p l) → (a : A) → List·Memᴰ a l → T (p a)
+  every-at p (x ∷ xs) t a m =
+      ⊎-elim (λ (e : a ≡ x). subst (λ (y : A). T (p y)) (sym e) (one-of-both (p x) (every p xs) t)) (λ m′. every-at p xs (other-of-both (p x) (every p xs) t) a m′) (List·Memᴰ·cases-cons m)
+
+  pub every-all : (p : A → Bool) (l : List A) → ((a : A) → List·Memᴰ a l → T (p a)) → T (every p l)
+  every-all p [] h = tt
+  every-all p (x ∷ xs) h = both (p x) (every p xs) (h x (List·Memᴰ·head refl)) (every-all p xs (λ a m. h a (List·Memᴰ·tail m)))
+
+  pub keep-sublist : (p : A → Bool) (l : List A) → Sublistᴰ (keep p l) l
+  keep-sublist p [] = Sublistᴰ·slnil
+  keep-sublist p (x ∷ xs) = step (p x) (keep-sublist p xs)
+    where
+      step : (b : Bool) → Sublistᴰ (keep p xs) xs → Sublistᴰ (cond b (x ∷ keep p xs) (keep p xs)) (x ∷ xs)
+      step true s = Sublistᴰ·cons-cons refl s
+      step false s = Sublistᴰ·cons s
+
+  pub keep-passes : (p : A → Bool) (l : List A) (a : A) → List·Memᴰ a (keep p l) → T (p a)
+  keep-passes p (x ∷ xs) a m = step (p x) refl m (keep-passes p xs a)
+    where
+      step : (b : Bool) → p x ≡ b → List·Memᴰ a (cond b (x ∷ keep p xs) (keep p xs)) → (List·Memᴰ a (keep p xs) → T (p a)) → T (p a)
+      step true e m ih = ⊎-elim (λ (q : a ≡ x). rw (q, e) tt) ih (List·Memᴰ·cases-cons m)
+      step false e m ih = ih m
+
+  pub keep-in : (p : A → Bool) (l : List A) (a : A) → List·Memᴰ a l → T (p a) → List·Memᴰ a (keep p l)
+  keep-in p (x ∷ xs) a m t = step (p x) refl (List·Memᴰ·cases-cons m) (λ m′. keep-in p xs a m′ t)
+    where
+      step : (b : Bool) → p x ≡ b → (a ≡ x) ⊎ List·Memᴰ a xs → (List·Memᴰ a xs → List·Memᴰ a (keep p xs)) → List·Memᴰ a (cond b (x ∷ keep p xs) (keep p xs))
+      step true e (inl q) ih = List·Memᴰ·head q
+      step true e (inr m′) ih = List·Memᴰ·tail (ih m′)
+      step false e (inl q) ih = absurd (subst T e (subst (λ (y : A). T (p y)) q t))
+      step false e (inr m′) ih = ih m′
