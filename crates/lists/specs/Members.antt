@@ -1,9 +1,16 @@
--- Lengths of sublists, and relations of all pairs.
+-- Decided tests, lengths of sublists, and relations of all pairs.
 use mathlib.Core.Logic.{∥∥₁-elim}
 use mathlib.Core.List.{List, [], _∷_, List·Memᴰ, Sublistᴰ, Sublistᴰ·slnil, Sublistᴰ·cons, Sublistᴰ·cons-cons, Pairwise, Pairwise·cons}
+use mathlib.Core.Bool.{Bool, true, false}
 use Prim.Native.Nat.{ℕ, suc, _≤_}
+use lib.Dec.{T}
 use native.Mathlib.Omega.{arith}
 use lib.ListN.{length}
+
+-- A test that computes is decided.
+abbrev pub T? : (b : Bool) → Dec (T b)
+T? true = yes tt
+T? false = no (λ t. t)
 
 module _ {A : Type 0} where
   pub sub-length : {s l : List A} → Sublistᴰ s l → length s ≤ length l
