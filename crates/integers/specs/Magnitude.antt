@@ -10,7 +10,7 @@ use lib.IntN.{ℤ, pos, negsuc, negℤ, natAbs, _+ℤ_, _-ℤ_, _*ℤ_}
 use lib.Signed.{leZ, ltZ, mag}
 use mir.Syntax.{Width, w64}
 use mir.Val.{SFits, hbits}
-use Rattle.integers.specs.Parts.{P, N, intRules, natAbs-parts, natAbs-most, mag-natAbs, neg-P, neg-N, add-parts, sub-parts, mul-P, mul-N, within-parts, range-parts}
+use Rattle.integers.specs.Parts.{P, N, intRules, natAbs-parts, natAbs-most, mag-natAbs, neg-P, neg-N, add-parts, sub-parts, mul-P, mul-N, within-parts, and-both}
 use Rattle.integers.specs.Ring.{Ex, var, nat, neg, _:+_, _:-_, _:*_, ⟦_⟧}
 
 abbrev pub M : Ex → ℕ
@@ -63,6 +63,9 @@ fits64 e h = fits ⟦ e ⟧ (omega (arith, size e))
 
 pub within-natAbs : (m : ℕ) (z : ℤ) → T (leZ (negsuc m) z && leZ z (pos (suc m))) → natAbs z ≤ suc m
 within-natAbs m z t = omega (arith, within-parts m z t, natAbs-parts z)
+
+pub natAbs-within : (m : ℕ) (z : ℤ) → natAbs z ≤ suc m → T (leZ (negsuc m) z && leZ z (pos (suc m)))
+natAbs-within m z h = and-both (leZ (negsuc m) z) (leZ z (pos (suc m))) (omega (arith, intRules, natAbs-parts z)) (omega (arith, intRules, natAbs-parts z))
 
 -- where it is not negative, a number is its magnitude
 pub natAbs-is : (z : ℤ) → T (leZ (pos 0) z) → pos (natAbs z) ≡ z

@@ -215,15 +215,15 @@ parts-<ℤ a b h = record { lt = parts-lt a b h }
 
 -- ---- a range, as `T (leZ low z && leZ z high)`
 
-and-left : (a b : Bool) → T (a && b) → T a
+pub and-left : (a b : Bool) → T (a && b) → T a
 and-left true b t = tt
 and-left false b t = t
 
-and-right : (a b : Bool) → T (a && b) → T b
+pub and-right : (a b : Bool) → T (a && b) → T b
 and-right true b t = t
 and-right false b t = absurd t
 
-and-both : (a b : Bool) → T a → T b → T (a && b)
+pub and-both : (a b : Bool) → T a → T b → T (a && b)
 and-both true b s t = t
 and-both false b s t = s
 

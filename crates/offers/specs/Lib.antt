@@ -1,2 +1,3 @@
 -- Offers, loads and prices, as document 01 has them.
 pub mod Offers
+pub mod Sizes
