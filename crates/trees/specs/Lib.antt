@@ -1,3 +1,7 @@
 -- Balanced trees whose leaves carry the items.
 pub mod Tree
 pub mod Operations
+pub mod Tests
+pub mod Leaves
+pub mod Mirror
+pub mod Balanced
