@@ -1,0 +1,4 @@
+-- The dynamic envelope: the tree of offers with its stored parts, post and withdraw as functions on trees.
+pub mod OfferTree
+pub mod Updates
+pub mod Valid
