@@ -7,3 +7,4 @@ pub mod Bridge
 pub mod Chains
 pub mod Bridges
 pub mod Search
+pub mod MergeCore
