@@ -8,3 +8,4 @@ pub mod Chains
 pub mod Bridges
 pub mod Search
 pub mod MergeCore
+pub mod Exists
