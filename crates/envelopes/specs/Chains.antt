@@ -1,7 +1,7 @@
 -- Chains: crossings of neighbours in order say which line is the lowest at a point.
 use Prim.Native.Nat.{ℕ, zero, suc, _<_, _≤_, _-_}
 use native.Mathlib.Omega.{arith}
-use native.Mathlib.Decide.{decLt, ℕ-discrete}
+use native.Mathlib.Decide.{decLt, decLe, ℕ-discrete}
 use mathlib.Core.Path.{_≡_, sym, subst}
 use mathlib.Core.Logic.{_≢_}
 use lib.Dec.{T}
@@ -66,6 +66,13 @@ module _ (S : Figure) (L : PseudoLines S) (a : ℕ → S .Line) (n : ℕ) (K : C
       right-of-cross S L (a t) (a (suc t)) x (K .ordered t (omega arith))
       (upto-left-trans S L (S .cross (a t) (a (suc t))) (S .cross (a k) (a (suc k))) x (turns-upto t k (omega arith) b) o))
 
+  pub outer-lowest : (x : S .Point) (k i : ℕ) → k < n → PastOuter S a k x → i ≤ k → T (S .atMost (a k) (a i) x)
+  outer-lowest x k i b o h =
+      elim (ℕ-discrete k i) [
+        | yes e ↦ subst (λ t. T (S .atMost (a k) (a t) x)) e (price-refl S L (a k) x)
+        | no e ↦ below-le S L (a k) (a i) x (outer-above x k i b o (omega arith))
+      ]
+
   -- up to its inner end every line further in is on or above it
   pub inner-above : (x : S .Point) (k i : ℕ) → (suc k < n → T (S .upTo x (S .cross (a k) (a (suc k))))) → k < i → i < n → T (S .atMost (a k) (a i) x)
   inner-above x k i e h b =
@@ -91,13 +98,9 @@ module _ (S : Figure) (L : PseudoLines S) (a : ℕ → S .Line) (n : ℕ) (K : C
 
   pub piece-lowest : (x : S .Point) (k i : ℕ) → InPiece S a n k x → i < n → T (S .atMost (a k) (a i) x)
   piece-lowest x k i P b =
-      elim (decLt i k) [
-        | yes h ↦ below-le S L (a k) (a i) x (piece-first x k i P h)
-        | no h ↦
-            elim (ℕ-discrete k i) [
-              | yes e ↦ subst (λ t. T (S .atMost (a k) (a t) x)) e (price-refl S L (a k) x)
-              | no e ↦ inner-above x k i (P .inner) (omega arith) b
-            ]
+      elim (decLe i k) [
+        | yes h ↦ outer-lowest x k i (P .inside) (P .outer) h
+        | no h ↦ inner-above x k i (P .inner) (omega arith) b
       ]
 
   -- every point lies in one piece: the last whose outer end is strictly outside

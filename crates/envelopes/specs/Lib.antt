@@ -7,3 +7,5 @@ pub mod Bridge
 pub mod Chains
 pub mod Bridges
 pub mod Search
+pub mod MergeCore
+pub mod Exists
