@@ -3,5 +3,6 @@ pub mod PseudoLines
 pub mod Crossing
 pub mod Envelope
 pub mod EnvelopeLaws
+pub mod Listed
 pub mod Bridge
 pub mod Chains
