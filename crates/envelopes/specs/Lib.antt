@@ -3,6 +3,8 @@ pub mod PseudoLines
 pub mod Crossing
 pub mod Envelope
 pub mod EnvelopeLaws
+pub mod Listed
+pub mod Query
 pub mod Bridge
 pub mod Chains
 pub mod Bridges
