@@ -1,0 +1,3 @@
+-- Integer lines at rational loads are pseudo-lines.
+pub mod Lead
+pub mod Lines

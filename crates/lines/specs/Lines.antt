@@ -1,0 +1,103 @@
+-- Lines with an integer rate and base, at rational loads: the instance of pseudo-lines that offers are. Their laws rest on one fact with products (Lead).
+use mathlib.Core.Path.{_≡_, refl, sym, ap, subst, _∙_}
+use mathlib.Core.Logic.{_⊎_}
+use mathlib.Core.Bool.{Bool}
+use Prim.Native.Nat.{ℕ, zero, suc, pred, _≤_, _<_}
+use native.Mathlib.Omega.{arith}
+use lib.Dec.{T}
+use lib.IntN.{ℤ, pos, negsuc, negℤ, natAbs, _+ℤ_, _-ℤ_, _*ℤ_}
+use lib.Signed.{leZ, ltZ}
+use Rattle.integers.specs.Parts.{intRules, no-le-parts, le-total, sub-parts}
+use Rattle.integers.specs.Ring.{Ex, var, nat, neg, _:+_, _:-_, _:*_, by-eq, by-le, same-le}
+use Rattle.offers.specs.Offers.{Offer, RationalLoad, denominator, priceAt, priceTimesD, precedes, crossingNumerator, crossingDenominator}
+use Rattle.envelopes.specs.PseudoLines.{Figure, PseudoLines, LeftOf, Below}
+use Rattle.lines.specs.Lead.{atOrLeft, lead, rises, rises-strictly, falls, order-trans, order-total, over, mediant, less-one, plus-one, mediant-left, mediant-right}
+
+abbrev pub lineFigure : (A : Type 0) (rate base : A → ℤ) → Figure
+lineFigure A rate base =
+    record {
+      Line = A;
+      Point = RationalLoad;
+      atMost = λ a b x. leZ (base a *ℤ denominator x +ℤ rate a *ℤ x .numerator) (base b *ℤ denominator x +ℤ rate b *ℤ x .numerator);
+      upTo = λ x y. leZ (x .numerator *ℤ denominator y) (y .numerator *ℤ denominator x);
+      before = λ a b. ltZ (rate b) (rate a);
+      cross = λ a b. record { numerator = base b -ℤ base a; above = pred (natAbs (rate a -ℤ rate b)) };
+    }
+
+-- ---- two lines compared, by the difference of their bases and rates
+
+module _ (b r b′ r′ : ℤ) (x : RationalLoad) where
+  quoted : Ex → Ex → Ex
+  quoted p q = p :* nat (suc (x .above)) :+ q :* var (x .numerator)
+
+  -- the second price is at most the first exactly where the first leads by 0 or more
+  pub leads : leZ (b′ *ℤ denominator x +ℤ r′ *ℤ x .numerator) (b *ℤ denominator x +ℤ r *ℤ x .numerator) ≡ leZ (pos 0) (lead (b -ℤ b′) (r -ℤ r′) x)
+  unfolding quoted
+  leads =
+      same-le (b′ *ℤ denominator x +ℤ r′ *ℤ x .numerator) (b *ℤ denominator x +ℤ r *ℤ x .numerator) (pos 0) (lead (b -ℤ b′) (r -ℤ r′) x)
+      (by-eq (quoted (var b) (var r) :- quoted (var b′) (var r′)) (quoted (var b :- var b′) (var r :- var r′) :- nat 0) (omega arith))
+
+  -- and the first at most the second exactly where it leads by 0 or less
+  pub trails : leZ (b *ℤ denominator x +ℤ r *ℤ x .numerator) (b′ *ℤ denominator x +ℤ r′ *ℤ x .numerator) ≡ leZ (lead (b -ℤ b′) (r -ℤ r′) x) (pos 0)
+  unfolding quoted
+  trails =
+      same-le (b *ℤ denominator x +ℤ r *ℤ x .numerator) (b′ *ℤ denominator x +ℤ r′ *ℤ x .numerator) (lead (b -ℤ b′) (r -ℤ r′) x) (pos 0)
+      (by-eq (quoted (var b′) (var r′) :- quoted (var b) (var r)) (nat 0 :- quoted (var b :- var b′) (var r :- var r′)) (omega arith))
+
+-- ---- crossings
+
+pub gap-above : (r r′ : ℤ) → T (ltZ r′ r) → T (ltZ (pos 0) (r -ℤ r′))
+gap-above r r′ h = omega (arith, intRules, sub-parts r r′)
+
+-- a number above 0, by its predecessor
+above-is : (z : ℤ) → T (ltZ (pos 0) z) → pos (suc (pred (natAbs z))) ≡ z
+above-is (pos zero) t = absurd t
+above-is (pos (suc n)) t = refl
+above-is (negsuc n) t = absurd t
+
+module _ (A : Type 0) (rate base : A → ℤ) where
+  abbrev F : Figure
+  F = lineFigure A rate base
+
+  -- a crossing's denominator is the difference of the rates
+  pub cross-denominator : (a b : A) → T (F .before a b) → denominator (F .cross a b) ≡ rate a -ℤ rate b
+  cross-denominator a b h = above-is (rate a -ℤ rate b) (gap-above (rate a) (rate b) h)
+
+  -- at the crossing both lines have one price
+  pub cross-price : (a b : A) → T (F .before a b) → base a *ℤ denominator (F .cross a b) +ℤ rate a *ℤ (base b -ℤ base a) ≡ base b *ℤ denominator (F .cross a b) +ℤ rate b *ℤ (base b -ℤ base a)
+  cross-price a b h =
+      let p = var (base a) in
+      let q = var (base b) in
+      let r = var (rate a) in
+      let s = var (rate b) in
+      rw (cross-denominator a b h) (by-eq (p :* (r :- s) :+ r :* (q :- p)) (q :* (r :- s) :+ s :* (q :- p)) (omega arith))
+
+  pub lineLaws : PseudoLines (lineFigure A rate base)
+  lineLaws =
+      record {
+        price-total = λ a b x. le-total (base a *ℤ denominator x +ℤ rate a *ℤ x .numerator) (base b *ℤ denominator x +ℤ rate b *ℤ x .numerator);
+        price-trans = λ a b c x h k. omega (arith, intRules);
+        point-total = order-total;
+        point-trans = order-trans;
+        somewhere = over (pos 0) 0;
+        left-of = λ x. (over (x .numerator -ℤ pos 1) (x .above), less-one x);
+        right-of = λ x. (over (x .numerator +ℤ pos 1) (x .above), plus-one x);
+        between = λ x z h. (mediant x z, mediant-right x z h, mediant-left x z h);
+        before-irrefl = λ a h. omega (arith, intRules);
+        before-trans = λ a b c h k. omega (arith, intRules);
+        rise =
+            λ a b x y p h u.
+            subst T (sym (leads (base a) (rate a) (base b) (rate b) y))
+            (rises (base a -ℤ base b) (rate a -ℤ rate b) x y (gap-above (rate a) (rate b) p) u (subst T (leads (base a) (rate a) (base b) (rate b) x) h));
+        rise-strict =
+            λ a b x y p h l k.
+            let s = rises-strictly (base a -ℤ base b) (rate a -ℤ rate b) x y (gap-above (rate a) (rate b) p) l (subst T (leads (base a) (rate a) (base b) (rate b) x) h) in
+            let t = subst T (trails (base a) (rate a) (base b) (rate b) y) k in
+            omega (arith, intRules);
+        fall =
+            λ a b x y p h u.
+            subst T (sym (trails (base a) (rate a) (base b) (rate b) x))
+            (falls (base a -ℤ base b) (rate a -ℤ rate b) x y (gap-above (rate a) (rate b) p) u (subst T (trails (base a) (rate a) (base b) (rate b) y) h));
+        cross-le = λ a b p. let e = cross-price a b p in omega (arith, intRules);
+        cross-ge = λ a b p. let e = cross-price a b p in omega (arith, intRules);
+      }
