@@ -5,3 +5,6 @@ pub mod Tests
 pub mod Leaves
 pub mod Mirror
 pub mod Balanced
+pub mod Order
+pub mod Split
+pub mod Find
