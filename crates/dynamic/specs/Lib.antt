@@ -2,3 +2,4 @@
 pub mod OfferTree
 pub mod Updates
 pub mod Valid
+pub mod Work

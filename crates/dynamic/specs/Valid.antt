@@ -1,1 +1,58 @@
--- valid
+-- When a tree of offers is right: every stored part is the rest of its node's lower envelope, and the whole in hand is the root's.
+use mathlib.Core.Path.{_≡_}
+use mathlib.Core.Bool.{_||_, cond}
+use mathlib.Core.List.{List, [], _∷_, _++_}
+use mathlib.Core.Option.{Option, none, some}
+use Rattle.lists.specs.Filter.{keep}
+use Rattle.envelopes.specs.PseudoLines.{Figure}
+use Rattle.envelopes.specs.Envelope.{Env, Ordered}
+use Rattle.trees.specs.Tree.{leaves, Avl}
+use Rattle.trees.specs.Operations.{Part, partLeaves}
+use Rattle.trees.specs.Balanced.{AvlP}
+use Rattle.dynamic.specs.OfferTree.{OfferTree, single, fork, shape, Held}
+
+-- `es` is the whole envelope of the tree. A fork's is the pieces of its left child up to u and those of its right child from v;
+-- each child's whole envelope is its part of that and what stays with it.
+pub data Valid (S : Figure) : OfferTree (S .Line) → List (S .Line) → Type 0 where
+  valid-single : {a : S .Line} → Valid S (single a) (a ∷ [])
+  valid-fork :
+      {u v : S .Line} {l r : OfferTree (S .Line)} {ql qr : Part (S .Line)} {es : List (S .Line)} (upTo from : List (S .Line)) →
+      es ≡ (upTo ++ u ∷ []) ++ v ∷ from →
+      Valid S l ((upTo ++ u ∷ []) ++ partLeaves ql) →
+      Valid S r (partLeaves qr ++ v ∷ from) →
+      AvlP ql →
+      AvlP qr →
+      Env S (leaves (shape l) ++ leaves (shape r)) es →
+      Valid S (fork u v l ql qr r) es
+
+-- A subtree with its whole envelope in hand, all of it right: its lines in order, its envelopes, and every tree balanced.
+pub record Whole (S : Figure) (h : Held (S .Line)) : Type 0 where
+  pub ordered : Ordered S (leaves (shape (h .tree)))
+  pub valid : Valid S (h .tree) (partLeaves (h .whole))
+  pub balanced : Avl (shape (h .tree))
+  pub balanced-whole : AvlP (h .whole)
+
+-- ---- a book: no offers, or a tree with its envelope
+
+abbrev pub bookLines : {A : Type 0} → Option (Held A) → List A
+bookLines none = []
+bookLines (some h) = leaves (shape (h .tree))
+
+-- the root's envelope
+abbrev pub bookEnvelope : {A : Type 0} → Option (Held A) → List A
+bookEnvelope none = []
+bookEnvelope (some h) = partLeaves (h .whole)
+
+abbrev pub WholeBook : (S : Figure) → Option (Held (S .Line)) → Type 0
+WholeBook S none = Unit {0}
+WholeBook S (some h) = Whole S h
+
+-- ---- a line joins or leaves a list in order
+
+abbrev pub placed : (S : Figure) → S .Line → List (S .Line) → List (S .Line)
+placed S s [] = s ∷ []
+placed S s (p ∷ ps) = cond (S .before s p) (s ∷ p ∷ ps) (p ∷ placed S s ps)
+
+-- every line but the one that stands where s stands
+abbrev pub without : (S : Figure) → S .Line → List (S .Line) → List (S .Line)
+without S s ls = keep (λ x. S .before s x || S .before x s) ls
