@@ -8,7 +8,7 @@ use native.Mathlib.Omega.{arith}
 use lib.Dec.{T}
 use lib.IntN.{ℤ}
 use lib.Signed.{ltZ, leZ}
-use Rattle.lists.specs.Tests.{and-left, and-right, and-both}
+use Rattle.lists.specs.Filter.{both, one-of-both, other-of-both}
 use Rattle.integers.specs.Parts.{intRules}
 use Rattle.trees.specs.Tree.{Tree, leaf, node, leaves, last}
 use Rattle.trees.specs.Operations.{find}
@@ -28,8 +28,8 @@ module _ {A : Type 0} (key : A → ℤ) (k : ℤ) where
     where
       here : T (leZ (key x) k && leZ k (key x)) → some x ≡ some a → Keyed (x ∷ []) a
       here t e =
-          let low : T (leZ (key x) k) = and-left (leZ (key x) k) (leZ k (key x)) t in
-          let high : T (leZ k (key x)) = and-right (leZ (key x) k) (leZ k (key x)) t in
+          let low : T (leZ (key x) k) = one-of-both (leZ (key x) k) (leZ k (key x)) t in
+          let high : T (leZ k (key x)) = other-of-both (leZ (key x) k) (leZ k (key x)) t in
           let is : key x ≡ k = omega (arith, intRules) in
           let one : x ≡ a = Option·some-injective x a e in
           record { inside = List·Memᴰ·head (sym one); keyed = sym (ap key one) ∙ is }
@@ -43,7 +43,7 @@ module _ {A : Type 0} (key : A → ℤ) (k : ℤ) where
   find-complete (leaf x) p {a} f =
       let one : a ≡ x = List·Memᴰ·eq-of-singleton (f .inside) in
       let is : key x ≡ k = sym (ap key one) ∙ f .keyed in
-      cond-yes (leZ (key x) k && leZ k (key x)) _ _ (and-both (leZ (key x) k) _ (omega (arith, intRules)) (omega (arith, intRules))) ∙ ap some (sym one)
+      cond-yes (leZ (key x) k && leZ k (key x)) _ _ (both (leZ (key x) k) _ (omega (arith, intRules)) (omega (arith, intRules))) ∙ ap some (sym one)
   find-complete (node l r) p {a} f =
       let q = parted (leaves l) p in
       let on-left : List·Memᴰ a (leaves l) → T (leZ (key (last l)) (key a)) = λ m. last-lowest key l (q .left) m in
