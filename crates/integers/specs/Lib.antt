@@ -2,3 +2,4 @@
 pub mod Parts
 pub mod Ring
 pub mod Magnitude
+pub mod Log

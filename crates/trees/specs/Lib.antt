@@ -8,3 +8,4 @@ pub mod Balanced
 pub mod Order
 pub mod Split
 pub mod Find
+pub mod Height
