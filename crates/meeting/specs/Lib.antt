@@ -3,3 +3,5 @@ pub mod Machine
 pub mod Located
 pub mod Moves
 pub mod Tests
+pub mod Verdicts
+pub mod Search

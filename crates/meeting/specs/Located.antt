@@ -121,7 +121,7 @@ pub record Stands {A : Type 0} (side : Side) (g : Aim A) (h : Half A) : Type 0 w
   pub bounded : hi ≤ g .count
   pub covers : g .star < hi
 
-pub located : {A : Type 0} {side : Side} {g : Aim A} {h : Half A} → Stands side g h → Located side (g .line) (h .at)
+abbrev pub located : {A : Type 0} {side : Side} {g : Aim A} {h : Half A} → Stands side g h → Located side (g .line) (h .at)
 located s = record { lo = s .lo; hi = s .hi; spans = s .spans; edged = s .edged }
 
 -- The stack never gets deeper than its tree is high.
