@@ -1,5 +1,5 @@
 -- Lines with an integer rate and base, at rational loads: the instance of pseudo-lines that offers are. Their laws rest on one fact with products (Lead).
-use mathlib.Core.Path.{_≡_, refl, sym, ap, subst, _∙_}
+use mathlib.Core.Path.{_≡_, refl, sym, ap, ap₂, subst}
 use mathlib.Core.Logic.{_⊎_}
 use mathlib.Core.Bool.{Bool}
 use Prim.Native.Nat.{ℕ, zero, suc, pred, _≤_, _<_}
@@ -55,6 +55,18 @@ above-is (pos zero) t = absurd t
 above-is (pos (suc n)) t = refl
 above-is (negsuc n) t = absurd t
 
+-- ---- whole loads
+
+-- q over 1
+abbrev pub whole : ℤ → RationalLoad
+whole q = over q 0
+
+times-one : (z : ℤ) → z *ℤ pos 1 ≡ z
+times-one z = by-eq (var z :* nat 1) (var z) (omega arith)
+
+price-at-whole : (r b q : ℤ) → b *ℤ pos 1 +ℤ r *ℤ q ≡ b +ℤ r *ℤ q
+price-at-whole r b q = ap (λ (z : ℤ). z +ℤ r *ℤ q) (times-one b)
+
 module _ (A : Type 0) (rate base : A → ℤ) where
   abbrev F : Figure
   F = lineFigure A rate base
@@ -64,7 +76,7 @@ module _ (A : Type 0) (rate base : A → ℤ) where
   cross-denominator a b h = above-is (rate a -ℤ rate b) (gap-above (rate a) (rate b) h)
 
   -- at the crossing both lines have one price
-  pub cross-price : (a b : A) → T (F .before a b) → base a *ℤ denominator (F .cross a b) +ℤ rate a *ℤ (base b -ℤ base a) ≡ base b *ℤ denominator (F .cross a b) +ℤ rate b *ℤ (base b -ℤ base a)
+  pub cross-price : (a b : A) → T (F .before a b) → base a *ℤ denominator (F .cross a b) +ℤ rate a *ℤ (F .cross a b) .numerator ≡ base b *ℤ denominator (F .cross a b) +ℤ rate b *ℤ (F .cross a b) .numerator
   cross-price a b h =
       let p = var (base a) in
       let q = var (base b) in
@@ -101,3 +113,23 @@ module _ (A : Type 0) (rate base : A → ℤ) where
         cross-le = λ a b p. let e = cross-price a b p in omega (arith, intRules);
         cross-ge = λ a b p. let e = cross-price a b p in omega (arith, intRules);
       }
+
+  -- ---- the tests as code computes them
+
+  -- at a whole load prices are compared as they are
+  pub whole-price : (a b : A) (q : ℤ) → F .atMost a b (whole q) ≡ leZ (base a +ℤ rate a *ℤ q) (base b +ℤ rate b *ℤ q)
+  whole-price a b q = ap₂ leZ (price-at-whole (rate a) (base a) q) (price-at-whole (rate b) (base b) q)
+
+  -- a whole load is at or left of a crossing
+  pub whole-left : (a b : A) (q : ℤ) → T (F .before a b) → F .upTo (whole q) (F .cross a b) ≡ leZ (q *ℤ (rate a -ℤ rate b)) (base b -ℤ base a)
+  whole-left a b q h = ap₂ leZ (ap (λ (d : ℤ). q *ℤ d) (cross-denominator a b h)) (times-one (base b -ℤ base a))
+
+  -- a crossing is at another or left of it
+  pub cross-left : (a b c d : A) → T (F .before a b) → T (F .before c d) → F .upTo (F .cross a b) (F .cross c d) ≡ leZ ((base b -ℤ base a) *ℤ (rate c -ℤ rate d)) ((base d -ℤ base c) *ℤ (rate a -ℤ rate b))
+  cross-left a b c d h k =
+      ap₂ leZ (ap (λ (z : ℤ). (base b -ℤ base a) *ℤ z) (cross-denominator c d k)) (ap (λ (z : ℤ). (base d -ℤ base c) *ℤ z) (cross-denominator a b h))
+
+  -- two lines compared at a crossing of two others
+  pub price-at-cross : (l m a b : A) → T (F .before a b) → F .atMost l m (F .cross a b) ≡ leZ (base l *ℤ (rate a -ℤ rate b) +ℤ rate l *ℤ (base b -ℤ base a)) (base m *ℤ (rate a -ℤ rate b) +ℤ rate m *ℤ (base b -ℤ base a))
+  price-at-cross l m a b h =
+      ap (λ (d : ℤ). leZ (base l *ℤ d +ℤ rate l *ℤ (base b -ℤ base a)) (base m *ℤ d +ℤ rate m *ℤ (base b -ℤ base a))) (cross-denominator a b h)
