@@ -3,6 +3,7 @@ pub mod PseudoLines
 pub mod Crossing
 pub mod Envelope
 pub mod EnvelopeLaws
+pub mod Listed
 pub mod Bridge
 pub mod Chains
 pub mod Bridges

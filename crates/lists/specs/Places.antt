@@ -1,12 +1,16 @@
 -- Members, the places where they stand, sublists, and the list turned round.
 use Prim.Native.Nat.{ℕ, zero, suc, _<_, suc-le-suc, zero-le}
 use native.Mathlib.Nat.{not-suc-le-zero, le-of-suc-le-suc}
-use mathlib.Core.Path.{_≡_, refl, _∙_}
+use mathlib.Core.Path.{_≡_, refl, sym, subst, _∙_}
 use mathlib.Core.Logic.{_⊎_, inl, inr, ⊎-elim}
 use mathlib.Core.List.{List, [], _∷_, reverse, reverseAux, List·Memᴰ, List·Memᴰ·head, List·Memᴰ·tail, List·Memᴰ·cases-cons, List·Memᴰ·not-nil, Sublistᴰ, Sublistᴰ·slnil, Sublistᴰ·cons, Sublistᴰ·cons-cons}
 use lib.ListN.{length, getD}
 
 module _ {A : Type 0} where
+  -- what holds of the first and of all later ones holds of all
+  pub all-cons {κ} : {P : A → Type κ} {x : A} {xs : List A} → P x → ((a : A) → List·Memᴰ a xs → P a) → (a : A) → List·Memᴰ a (x ∷ xs) → P a
+  all-cons {P} {x} p h a m = ⊎-elim (λ (e : a ≡ x). subst P (sym e) p) (h a) (List·Memᴰ·cases-cons m)
+
   pub mem-at : (l : List A) (i : ℕ) (d : A) → i < length l → List·Memᴰ (getD l i d) l
   mem-at [] i d h = absurd (not-suc-le-zero h)
   mem-at (x ∷ xs) zero d h = List·Memᴰ·head refl
