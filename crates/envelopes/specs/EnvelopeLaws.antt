@@ -91,6 +91,10 @@ module _ (S : Figure) (L : PseudoLines S) where
   pub before-other : (a b : S .Line) → T (S .before a b) → a ≢ b
   before-other a b p e = L .before-irrefl b (subst (λ (c : S .Line). T (S .before c b)) e p)
 
+  pub either-other : (a b : S .Line) → T (S .before a b) ⊎ T (S .before b a) → b ≢ a
+  either-other a b (inl p) q = before-other a b p (sym q)
+  either-other a b (inr p) q = before-other b a p q
+
   pub not-both : (a b : S .Line) → T (S .before a b) → T (S .before b a) → ⊥
   not-both a b p q = L .before-irrefl a (L .before-trans a b a p q)
 

@@ -4,6 +4,7 @@ pub mod Crossing
 pub mod Envelope
 pub mod EnvelopeLaws
 pub mod Listed
+pub mod Query
 pub mod Bridge
 pub mod Chains
 pub mod Bridges
