@@ -13,5 +13,4 @@ pub mod Bridge
 pub mod Chains
 pub mod Bridges
 pub mod Search
-pub mod MergeCore
 pub mod Exists
