@@ -30,7 +30,7 @@ fitting n c = cond (leb (64 * (c + 1)) n) c 0
 unfoldable pub cap : Words → ℕ
 cap w = fitting (length w) (upTo 4096 (word w 0))
 
-cap-of : (w w′ : Words) → length w′ ≡ length w → word w′ 0 ≡ word w 0 → cap w′ ≡ cap w
+pub cap-of : (w w′ : Words) → length w′ ≡ length w → word w′ 0 ≡ word w 0 → cap w′ ≡ cap w
 unfolding cap
 cap-of w w′ n z = rw (n, z)
 
