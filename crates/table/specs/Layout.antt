@@ -215,3 +215,6 @@ cset-other w f s z {f′} {s′} d = go (valid? w f s)
     go (yes v) =
         ap (word (cset w f s z)) (cset-spot w f s z f′ s′) ∙ wset-other w (spot w f s) (spot w f′ s′) z (spot-apart f′ s′ v d)
     go (no v) = ap (λ (u : Words). word u (spot u f′ s′)) (cset-out z v)
+
+pub link-of : {f f′ s s′ r : ℕ} (w : Words) → f ≡ f′ → s ≡ s′ → r ≡ linkAt w f s → r ≡ linkAt w f′ s′
+link-of w d e h = rw (← d, ← e) h
