@@ -1,17 +1,16 @@
 -- Lines with an integer rate and base, at rational loads: the instance of pseudo-lines that offers are. Their laws rest on one fact with products (Lead).
 use mathlib.Core.Path.{_≡_, refl, sym, ap, ap₂, subst}
-use mathlib.Core.Logic.{_⊎_}
-use mathlib.Core.Bool.{Bool}
-use Prim.Native.Nat.{ℕ, zero, suc, pred, _≤_, _<_}
+use mathlib.Core.Logic.{_⊎_, inl, inr, _≢_}
+use Prim.Native.Nat.{zero, suc, pred}
 use native.Mathlib.Omega.{arith}
 use lib.Dec.{T}
-use lib.IntN.{ℤ, pos, negsuc, negℤ, natAbs, _+ℤ_, _-ℤ_, _*ℤ_}
+use lib.IntN.{ℤ, pos, negsuc, natAbs, _+ℤ_, _-ℤ_, _*ℤ_}
 use lib.Signed.{leZ, ltZ}
-use Rattle.integers.specs.Parts.{intRules, no-le-parts, le-total, sub-parts}
-use Rattle.integers.specs.Ring.{Ex, var, nat, neg, _:+_, _:-_, _:*_, by-eq, by-le, same-le}
-use Rattle.offers.specs.Offers.{Offer, RationalLoad, denominator, priceAt, priceTimesD, precedes, crossingNumerator, crossingDenominator}
-use Rattle.envelopes.specs.PseudoLines.{Figure, PseudoLines, LeftOf, Below}
-use Rattle.lines.specs.Lead.{atOrLeft, lead, rises, rises-strictly, falls, order-trans, order-total, over, mediant, less-one, plus-one, mediant-left, mediant-right}
+use Rattle.integers.specs.Parts.{intRules, le-total, trichotomy, sub-parts}
+use Rattle.integers.specs.Ring.{Ex, var, nat, _:+_, _:-_, _:*_, by-eq, same-le}
+use Rattle.offers.specs.Offers.{RationalLoad, denominator}
+use Rattle.envelopes.specs.PseudoLines.{Figure, PseudoLines}
+use Rattle.lines.specs.Lead.{lead, rises, rises-strictly, falls, order-trans, order-total, over, mediant, less-one, plus-one, mediant-left, mediant-right}
 
 abbrev pub lineFigure : (A : Type 0) (rate base : A → ℤ) → Figure
 lineFigure A rate base =
@@ -113,6 +112,15 @@ module _ (A : Type 0) (rate base : A → ℤ) where
         cross-le = λ a b p. let e = cross-price a b p in omega (arith, intRules);
         cross-ge = λ a b p. let e = cross-price a b p in omega (arith, intRules);
       }
+
+  -- lines of different rates are in order
+  pub before-total : (a b : A) → rate a ≢ rate b → T (F .before a b) ⊎ T (F .before b a)
+  before-total a b f = pick (trichotomy (rate a) (rate b))
+    where
+      pick : T (ltZ (rate a) (rate b)) ⊎ ((rate a ≡ rate b) ⊎ T (ltZ (rate b) (rate a))) → T (F .before a b) ⊎ T (F .before b a)
+      pick (inl h) = inr h
+      pick (inr (inl e)) = absurd (f e)
+      pick (inr (inr h)) = inl h
 
   -- ---- the tests as code computes them
 

@@ -1,10 +1,12 @@
 -- Offers as lines: the figure's tests are document 01's comparisons.
 use mathlib.Core.Path.{_≡_, refl}
+use mathlib.Core.Logic.{_↔_}
 use lib.Dec.{T}
 use lib.IntN.{ℤ, _+ℤ_, _*ℤ_}
-use lib.Signed.{leZ}
+use lib.Signed.{leZ, ltZ}
+use Rattle.integers.specs.Parts.{not-le-is-lt}
 use Rattle.offers.specs.Offers.{Offer, RationalLoad, denominator, priceAt, priceTimesD, precedes, crossingNumerator, crossingDenominator}
-use Rattle.envelopes.specs.PseudoLines.{Figure, PseudoLines}
+use Rattle.envelopes.specs.PseudoLines.{Figure, PseudoLines, LeftOf, Below}
 use Rattle.lines.specs.Lines.{lineFigure, lineLaws, cross-denominator, whole, whole-price, whole-left, cross-left, price-at-cross}
 
 abbrev pub offerFigure : Figure
@@ -44,3 +46,12 @@ crossing-test a b c d h k = cross-left Offer (λ o. o .rate) (λ o. o .base) a b
 -- two offers' prices at the crossing of a and b
 pub price-test : (l m a b : Offer) → T (precedes a b) → offerFigure .atMost l m (offerFigure .cross a b) ≡ leZ (l .base *ℤ crossingDenominator a b +ℤ l .rate *ℤ crossingNumerator a b) (m .base *ℤ crossingDenominator a b +ℤ m .rate *ℤ crossingNumerator a b)
 price-test l m a b h = price-at-cross Offer (λ o. o .rate) (λ o. o .base) l m a b h
+
+-- ---- strictly
+
+pub strictly-cheaper : (a b : Offer) (x : RationalLoad) → Below offerFigure a b x ↔ T (ltZ (priceTimesD a x) (priceTimesD b x))
+strictly-cheaper a b x = not-le-is-lt (priceTimesD b x) (priceTimesD a x)
+
+pub strictly-left : (a b c d : Offer) → T (precedes a b) → T (precedes c d) → LeftOf offerFigure (offerFigure .cross a b) (offerFigure .cross c d) ↔ T (ltZ (crossingNumerator a b *ℤ crossingDenominator c d) (crossingNumerator c d *ℤ crossingDenominator a b))
+strictly-left a b c d h k =
+    rw (crossing-test c d a b k h) (not-le-is-lt (crossingNumerator c d *ℤ crossingDenominator a b) (crossingNumerator a b *ℤ crossingDenominator c d))

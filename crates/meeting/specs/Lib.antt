@@ -5,3 +5,4 @@ pub mod Moves
 pub mod Tests
 pub mod Verdicts
 pub mod Search
+pub mod Meets

@@ -23,7 +23,7 @@ pub record Sound {S : Figure} (M : Meeting S) (side : Side) (ours other : Half (
 
 module _ {S : Figure} {M : Meeting S} where
   -- what is left to pay: three for each edge still to be found, one for each stacked node
-  pub potential : {side : Side} {ours other : Half (S .Line)} → Sound M side ours other → ℕ
+  unfoldable pub potential : {side : Side} {ours other : Half (S .Line)} → Sound M side ours other → ℕ
   potential {ours = ours} {other = other} i = 3 * (owes (i .us) + owes (i .them)) + (length (ours .stack) + length (other .stack))
 
 module _ {S : Figure} (M : Meeting S) where
