@@ -4,3 +4,4 @@ pub mod Prices
 pub mod Pieces
 pub mod Walks
 pub mod Moves
+pub mod Steps

@@ -127,7 +127,7 @@ module _ {w : Words} (side : Bool) {h : Walk} {m : Half Item} (s : Stood w h m) 
             room = length-set (h .stack) (h .depth) (h .at) ∙ s .room;
           }
 
-module _ {w : Words} (side : Bool) {h : Walk} {t : Tree Item} {e : Option Item} {top : Place Item} {rest : List (Place Item)} (s : Stood w h (half t e (top ∷ rest))) where
+module _ {w : Words} {h : Walk} {t : Tree Item} {e : Option Item} {top : Place Item} {rest : List (Place Item)} (s : Stood w h (half t e (top ∷ rest))) where
   pub pop-empty : h .depth < 1 → ⊥
   pop-empty k = omega (arith, stacks-depth (s .stacks))
 
@@ -138,9 +138,9 @@ module _ {w : Words} (side : Bool) {h : Walk} {t : Tree Item} {e : Option Item} 
       go : {d : ℕ} {top : Place Item} {rest : List (Place Item)} → Stacks w (h .stack) d (top ∷ rest) → y ≡ refOf (top .tree) → Pieces w y (top .tree)
       go (pushed p z) q = rw (q ∙ sym (p .rep .root)) p
 
-  pub pop-node : (x y : ℕ) → y ≡ refOf (top .tree) → x ≡ childAt w 0 side y → Stood w (record { at = x; stack = h .stack; depth = h .depth - 1 }) (pop (sideOf side) top rest)
+  pub pop-node : (side : Bool) (x y : ℕ) → y ≡ refOf (top .tree) → x ≡ childAt w 0 side y → Stood w (record { at = x; stack = h .stack; depth = h .depth - 1 }) (pop (sideOf side) top rest)
   unfolding pop
-  pop-node x y q a = go (s .stacks) q
+  pop-node side x y q a = go (s .stacks) q
     where
       go : {d : ℕ} {top : Place Item} {rest : List (Place Item)} → Stacks w (h .stack) d (top ∷ rest) → y ≡ refOf (top .tree) → Stood w (record { at = x; stack = h .stack; depth = d - 1 }) (pop (sideOf side) top rest)
       go (pushed {d = d} {rest = rest} p z) q =
