@@ -5,3 +5,4 @@ pub mod Pieces
 pub mod Walks
 pub mod Moves
 pub mod Steps
+pub mod Runs
