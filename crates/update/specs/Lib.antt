@@ -1,0 +1,2 @@
+-- The tree of offers in words.
+pub mod Stored
