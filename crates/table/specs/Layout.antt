@@ -218,3 +218,6 @@ cset-other w f s z {f′} {s′} d = go (valid? w f s)
 
 pub link-of : {f f′ s s′ r : ℕ} (w : Words) → f ≡ f′ → s ≡ s′ → r ≡ linkAt w f s → r ≡ linkAt w f′ s′
 link-of w d e h = rw (← d, ← e) h
+
+pub link-most : (w : Words) (f s : ℕ) → linkAt w f s ≤ 8192
+link-most w f s = upTo-most 8192 (cell w f s)

@@ -140,7 +140,7 @@ child-field {k} false h = omega arith
 child-field {k} true h = omega arith
 
 module _ (w : Words) (k : ℕ) (side : Bool) (gap p q h : ℕ) where
-  wired-within : Within w (wired w k side gap p q h)
+  pub wired-within : Within w (wired w k side gap p q h)
   wired-within = within-trans (within-cset w _ gap (pos p)) (within-trans (within-cset _ _ gap (pos q)) (within-cset _ _ gap (pos h)))
 
   -- the node's slot is the only one written
