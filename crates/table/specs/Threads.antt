@@ -1,37 +1,12 @@
 -- Items whose slots hold their offers, and items threaded one to the next: a slot names the next item's slot and keeps the crossing with its offer.
 -- Both belong to the list of items and not to the shape of a tree.
-use mathlib.Core.Path.{_≡_, refl, sym, _∙_, ap, subst}
-use mathlib.Core.Logic.{_≢_, ⊎-elim}
-use mathlib.Core.List.{List, [], _∷_, _++_, append-assoc, List·Memᴰ, List·Memᴰ·head, List·Memᴰ·tail, Memᴰ·append-left, Memᴰ·append-right, List·Memᴰ·append-cases, IsChain, IsChain·nil, IsChain·singleton, IsChain·cons-cons}
-use mathlib.Mathlib.Data.List.Chain.{isChain-append-cons-cons}
-use Prim.Native.Nat.{ℕ, _+_, _≤_, _<_}
-use native.Mathlib.Omega.{arith}
+use mathlib.Core.Path.{_≡_}
+use mathlib.Core.List.{List, List·Memᴰ, IsChain}
 use lib.Dec.{T}
-use lib.IntN.{ℤ, pos}
-use lib.ListN.{length}
 use Rattle.offers.specs.Offers.{offerInRange, crossingNumerator, crossingDenominator}
-use Rattle.trees.specs.Tree.{Tree, leaves, first, last}
-use Rattle.trees.specs.Leaves.{start, rest, leaves-first, leaves-last}
-use Rattle.table.specs.Words.{Words, upTo, upTo-in}
-use Rattle.table.specs.Layout.{cap, cell, cset, linkAt, Valid, cset-cap, cset-same, cset-other}
-use Rattle.table.specs.Items.{Item, In, at, Slots, slots-across}
-use Rattle.table.specs.Rep.{Field, a-child, a-height, Only}
-
--- ---- neighbours in the leaves of two trees side by side
-
-seamed : {A : Type 0} (l r : Tree A) → leaves l ++ leaves r ≡ start l ++ (last l ∷ first r ∷ rest r)
-seamed l r = simp (leaves-last l, leaves-first r, append-assoc)
-
-module _ {A : Type 0} {R : A → A → Type 0} where
-  pub chain-seam : (l r : Tree A) → IsChain R (leaves l ++ leaves r) → R (last l) (first r)
-  chain-seam l r h = isChain-append-cons-cons (last l) (start l) .0 (subst (IsChain R) (seamed l r) h) .1
-
-  pub chain-join : (l r : Tree A) → IsChain R (leaves l) → R (last l) (first r) → IsChain R (leaves r) → IsChain R (leaves l ++ leaves r)
-  chain-join l r h s k =
-      subst (IsChain R) (sym (seamed l r))
-      (isChain-append-cons-cons (last l) (start l) .1 (subst (IsChain R) (leaves-last l) h, s, subst (IsChain R) (leaves-first r) k))
-
--- ---- offers in their slots
+use Rattle.table.specs.Words.{Words}
+use Rattle.table.specs.Layout.{cell, linkAt}
+use Rattle.table.specs.Items.{Item}
 
 -- the item's slot holds its offer, which is in range
 pub record Held (w : Words) (a : Item) : Type 0 where
@@ -43,17 +18,6 @@ pub record Held (w : Words) (a : Item) : Type 0 where
 pub record Holds (w : Words) (xs : List Item) : Type 0 where
   pub held : {a : Item} → List·Memᴰ a xs → Held w a
 
-pub holds-left : {w : Words} {xs : List Item} (ys : List Item) → Holds w (xs ++ ys) → Holds w xs
-holds-left ys h = record { held = λ m. h .held (Memᴰ·append-left ys m) }
-
-pub holds-right : {w : Words} (xs : List Item) {ys : List Item} → Holds w (xs ++ ys) → Holds w ys
-holds-right xs h = record { held = λ m. h .held (Memᴰ·append-right xs m) }
-
-pub holds-join : {w : Words} {xs ys : List Item} → Holds w xs → Holds w ys → Holds w (xs ++ ys)
-holds-join {w} h k = record { held = λ {a} m. ⊎-elim {C = Held w a} (h .held) (k .held) (List·Memᴰ·append-cases m) }
-
--- ---- threads
-
 -- a is followed by b
 pub record Next (w : Words) (a b : Item) : Type 0 where
   pub next : linkAt w 19 (a .slot) ≡ b .slot
@@ -62,70 +26,3 @@ pub record Next (w : Words) (a b : Item) : Type 0 where
 
 abbrev pub Threaded : Words → List Item → Type 0
 Threaded w xs = IsChain (Next w) xs
-
--- slot s is that of an item of xs after which another comes
-pub data Leads (s : ℕ) : List Item → Type 0 where
-  leads-here : {a : Item} {xs : List Item} → s ≡ a .slot → 1 ≤ length xs → Leads s (a ∷ xs)
-  leads-later : {a : Item} {xs : List Item} → Leads s xs → Leads s (a ∷ xs)
-
-pub leads-in : {s : ℕ} {xs : List Item} → Leads s xs → In s xs
-leads-in (leads-here e h) = at (List·Memᴰ·head refl) e
-leads-in (leads-later k) = later (leads-in k)
-  where
-    later : {s : ℕ} {a : Item} {xs : List Item} → In s xs → In s (a ∷ xs)
-    later (at m e) = at (List·Memᴰ·tail m) e
-
-leads-front : {s : ℕ} (xs : List Item) {z : Item} → Leads s (xs ++ z ∷ []) → In s xs
-leads-front [] (leads-here e h) = absurd (omega arith)
-leads-front (a ∷ xs) (leads-here e h) = at (List·Memᴰ·head refl) e
-leads-front (a ∷ xs) (leads-later k) = later (leads-front xs k)
-  where
-    later : {s : ℕ} → In s xs → In s (a ∷ xs)
-    later (at m e) = at (List·Memᴰ·tail m) e
-
--- the last item of a tree leads to none
-pub leads-last : {c s : ℕ} (t : Tree Item) → Slots c (leaves t) → Leads s (leaves t) → s ≢ last t .slot
-leads-last {c} {s} t h k e =
-    slots-across (start t) (subst (Slots c) (leaves-last t) h) (leads-front (start t) (subst (Leads s) (leaves-last t) k))
-    (at (List·Memᴰ·head refl) e)
-
--- ---- what a change leaves
-
--- slot s holds the same offer
-pub record SameOffer (w w′ : Words) (s : ℕ) : Type 0 where
-  pub number : cell w′ 0 s ≡ cell w 0 s
-  pub rate : cell w′ 1 s ≡ cell w 1 s
-  pub base : cell w′ 2 s ≡ cell w 2 s
-
--- slot s leads to the same slot, with the same crossing
-pub record SameThread (w w′ : Words) (s : ℕ) : Type 0 where
-  pub next : cell w′ 19 s ≡ cell w 19 s
-  pub numerator : cell w′ 6 s ≡ cell w 6 s
-  pub denominator : cell w′ 7 s ≡ cell w 7 s
-
-pub holds-still : {w w′ : Words} {xs : List Item} → Holds w xs → ((s : ℕ) → In s xs → SameOffer w w′ s) → Holds w′ xs
-holds-still {w} {w′} h same = record { held = λ {a} m. still a m (same (a .slot) (at m refl)) (h .held m) }
-  where
-    still : (a : Item) → List·Memᴰ a _ → SameOffer w w′ (a .slot) → Held w a → Held w′ a
-    still a m q g = record { number = q .number ∙ g .number; rate = q .rate ∙ g .rate; base = q .base ∙ g .base; ranged = g .ranged }
-
-next-still : {w w′ : Words} {a b : Item} → SameThread w w′ (a .slot) → Next w a b → Next w′ a b
-next-still q g = record { next = ap (upTo 8192) (q .next) ∙ g .next; numerator = q .numerator ∙ g .numerator; denominator = q .denominator ∙ g .denominator }
-
-pub threaded-still : {w w′ : Words} {xs : List Item} → Threaded w xs → ((s : ℕ) → Leads s xs → SameThread w w′ s) → Threaded w′ xs
-threaded-still IsChain·nil same = IsChain·nil
-threaded-still (IsChain·singleton a) same = IsChain·singleton a
-threaded-still (IsChain·cons-cons {a = a} n h) same =
-    IsChain·cons-cons (next-still (same (a .slot) (leads-here refl (omega arith))) n) (threaded-still h (λ s k. same s (leads-later k)))
-
--- writing nodes of a tree changes neither
-field-high : {k f : ℕ} → Field k f → 4 ≤ f
-field-high {k} (a-child false e) = omega arith
-field-high {k} (a-child true e) = omega arith
-field-high (a-height e) = omega arith
-
-pub only-offer : {k : ℕ} {xs : List Item} {w w′ : Words} → Only k xs w w′ → (s : ℕ) → SameOffer w w′ s
-only-offer g s = record { number = kept 0 (omega arith); rate = kept 1 (omega arith); base = kept 2 (omega arith) }
-  where
-    kept : (f : ℕ) → f < 4 → cell _ f s ≡ cell _ f s
-    kept f h = g .cells f s (λ q. omega (arith, field-high (q .0)))
