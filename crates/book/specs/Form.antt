@@ -20,7 +20,8 @@ use Rattle.table.specs.Words.{Words, word}
 use Rattle.table.specs.Layout.{cap, cell, linkAt}
 use Rattle.table.specs.Items.{Item, Slots}
 use Rattle.table.specs.Rep.{refOf, Tied}
-use Rattle.update.specs.Stored.{partRef, HeldIn}
+use Rattle.pieces.specs.Pieces.{partRef}
+use Rattle.update.specs.Stored.{HeldIn}
 
 -- ---- the offers
 

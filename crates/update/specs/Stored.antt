@@ -1,11 +1,7 @@
 -- The tree of offers in words: its nodes as any tree's; with each inner node its bridge; with each child the piece tree that stays with it.
 use mathlib.Core.Path.{_≡_}
 use mathlib.Core.List.{List}
-use mathlib.Core.Option.{Option, none, some}
 use Prim.Native.Nat.{ℕ}
-use lib.IntN.{ℤ}
-use Rattle.envelopes.specs.PseudoLines.{Figure, PseudoLines}
-use Rattle.lines.specs.Lines.{lineFigure, lineLaws}
 use Rattle.trees.specs.Tree.{Tree, leaves, last}
 use Rattle.trees.specs.Operations.{Part}
 use Rattle.dynamic.specs.OfferTree.{OfferTree, single, fork, shape, Held, heldShape}
@@ -14,32 +10,8 @@ use Rattle.table.specs.Words.{Words}
 use Rattle.table.specs.Layout.{cap, cell, linkAt}
 use Rattle.table.specs.Items.{Item, In, Slots}
 use Rattle.table.specs.Rep.{Field, refOf, Tied, Within}
-use Rattle.table.specs.Threads.{Holds, Threaded}
-
--- ---- items as lines
-
-abbrev pub rateOf : Item → ℤ
-rateOf a = a .offer .rate
-
-abbrev pub baseOf : Item → ℤ
-baseOf a = a .offer .base
-
-abbrev pub items : Figure
-items = lineFigure Item rateOf baseOf
-
-pub item-laws : PseudoLines items
-item-laws = lineLaws Item rateOf baseOf
-
--- ---- piece trees that may be empty
-
-abbrev pub partRef : Part Item → ℕ
-partRef none = 0
-partRef (some t) = refOf t
-
--- its nodes, and the thread along its leaves
-abbrev pub PartIn : Words → Part Item → Type 0
-PartIn w none = Unit {0}
-PartIn w (some t) = Tied w 0 t × Threaded w (leaves t)
+use Rattle.table.specs.Threads.{Holds}
+use Rattle.pieces.specs.Pieces.{items, partRef, PartIn, PieceField}
 
 -- ---- what is stored with the tree of offers
 
@@ -82,17 +54,14 @@ pub record HeldIn (w : Words) (x e : ℕ) (h : Held Item) : Type 0 where
 
 -- ---- what an update leaves alone
 
--- the fields that an update of envelopes changes: nodes of pieces and of offers, threads, bridges, rests
+-- the fields that an update of envelopes changes: pieces, nodes of offers, bridges, rests
 pub data EnvelopeField (f : ℕ) : Type 0 where
-  of-pieces : Field 0 f → EnvelopeField f
+  of-pieces : PieceField f → EnvelopeField f
   of-offers : Field 1 f → EnvelopeField f
-  of-thread : f ≡ 6 → EnvelopeField f
-  of-thread′ : f ≡ 7 → EnvelopeField f
-  of-next : f ≡ 19 → EnvelopeField f
-  of-bridge : f ≡ 10 → EnvelopeField f
-  of-bridge′ : f ≡ 11 → EnvelopeField f
-  of-rest : f ≡ 20 → EnvelopeField f
-  of-rest′ : f ≡ 21 → EnvelopeField f
+  of-bridge-u : f ≡ 10 → EnvelopeField f
+  of-bridge-v : f ≡ 11 → EnvelopeField f
+  of-inner-rest : f ≡ 20 → EnvelopeField f
+  of-leaf-rest : f ≡ 21 → EnvelopeField f
 
 -- of the fields, only those of envelopes in slots of xs have changed
 pub record Touched (xs : List Item) (w w′ : Words) : Type 0 where
