@@ -1,15 +1,13 @@
 -- What a comparison tells the search: the five facts, for either side, at located places.
-use Prim.Native.Nat.{ℕ, suc, _≤_, _<_}
+use Prim.Native.Nat.{ℕ, _≤_, _<_}
 use mathlib.Core.Path.{_≡_}
 use mathlib.Core.Bool.{Bool, true, false}
 use mathlib.Core.Logic.{_↔_, _⊎_, ⊎-swap}
 use lib.Dec.{T}
-use Rattle.envelopes.specs.PseudoLines.{Figure, mirror}
-use Rattle.envelopes.specs.Bridge.{Kind, leafy, inner, Local, OnOrAbove, One, Two, Facts}
-use Rattle.trees.specs.Tree.{Tree, leaf, node}
+use Rattle.envelopes.specs.PseudoLines.{Figure}
+use Rattle.envelopes.specs.Bridge.{Kind, leafy, Local, One, Two, Facts}
 use Rattle.meeting.specs.Machine.{Side, left, right, opposite, Place, onOrAbove, Case, mine, theirs, neither, caseOf, compare}
-use Rattle.meeting.specs.Located.{Spans, one, two, kind, rank, Located, Aim}
-use Rattle.meeting.specs.Moves.{Inner}
+use Rattle.meeting.specs.Located.{kind, rank, Located, Aim}
 use Rattle.meeting.specs.Tests.{Above, above-left, above-right, test}
 
 -- Both sides of a search, and the five facts.
