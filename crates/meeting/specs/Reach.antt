@@ -1,12 +1,15 @@
 -- A search followed step by step, as a loop does it: what is reached stays sound, and where the steps end they are those that `meet` counts.
 use Prim.Native.Nat.{ℕ, zero, suc, _+_, _*_, _-_, _≤_, _<_}
 use native.Mathlib.Omega.{arith}
-use mathlib.Core.Path.{_≡_, _∙_, ap}
+use mathlib.Core.Path.{_≡_, refl, _∙_, ap}
 use mathlib.Core.Bool.{true}
 use mathlib.Core.Option.{none, some}
 use Rattle.envelopes.specs.PseudoLines.{Figure}
-use Rattle.trees.specs.Tree.{Tree, height}
-use Rattle.meeting.specs.Machine.{left, State, step, start, Result, ended, counted, run, meet}
+use mathlib.Core.List.{List, _∷_}
+use lib.ListN.{length}
+use Rattle.trees.specs.Tree.{Tree, leaf, node, height}
+use Rattle.meeting.specs.Machine.{Side, left, right, Place, Half, pointAt, State, step, start, Result, ended, counted, run, meet}
+use Rattle.meeting.specs.Located.{Stacked, on, Aim, Stands, stack-depth, stack-room, topEdge, edge-of-top, topPoint, leaf-point}
 use Rattle.meeting.specs.Verdicts.{Meeting}
 use Rattle.meeting.specs.Search.{Sound, potential, Stepped, step-sound}
 use Rattle.meeting.specs.Meets.{limit, Ready}
@@ -60,6 +63,39 @@ module _ (S : Figure) where
       let b : Stepped M j (some t′) = rw q at (step-sound M t j) in
       (b .0, omega (arith, b .1))
 
-  -- from the roots of two trees whose search is ready: the steps are within the limit
-  pub reaches-within : {M : Meeting S} {l r : Tree (S .Line)} {k : ℕ} {s : State (S .Line)} → Ready M l r → Reaches S (start l r) k s → k < limit l r
-  reaches-within g w = omega (arith, reaches-sound (g .sound) w .1, g .afford)
+-- What a half of a search that goes on in the tree t shows of its stack: no deeper than the tree is high, with room for an inner node; a top is an
+-- inner node, the edge is the nearest line of its away child, and a leaf's p is its p.
+pub record Kept {A : Type 0} (side : Side) (t : Tree A) (h : Half A) : Type 0 where
+  pub depth : length (h .stack) ≤ height t
+  pub room : (l r : Tree A) → h .at .tree ≡ node l r → length (h .stack) < height t
+  pub top-inner : (top : Place A) (rest : List (Place A)) → h .stack ≡ top ∷ rest → (l : Tree A) × (r : Tree A) × (top .tree ≡ node l r)
+  pub edge : h .at .edge ≡ topEdge side (h .stack)
+  pub leaf-end : (x : A) → h .at .tree ≡ leaf x → pointAt side (leaf x) (h .at .edge) ≡ topPoint side (h .stack)
+
+kept : {A : Type 0} {side : Side} {g : Aim A} {h : Half A} (t : Tree A) → Stands side g h → g .tall ≡ height t → Kept side t h
+kept {A = A} {side = side} {g = g} t s e =
+    record {
+      depth = omega (arith, stack-depth s);
+      room = λ l r p. omega (arith, stack-room l r s p);
+      top-inner = λ top rest p. inner-by (rw p at (s .stacked));
+      edge = edge-of-top s;
+      leaf-end = λ x p. leaf-point x s p;
+    }
+  where
+    inner-by : {a : ℕ → A} {H lo : ℕ} {top : Place A} {rest : List (Place A)} → Stacked side a H (top ∷ rest) lo → (l : Tree A) × (r : Tree A) × (top .tree ≡ node l r)
+    inner-by (on {l = l} {r = r} st p q z b) = (l, r, refl)
+
+-- A search from the roots that is ready, after k steps.
+pub record Underway {A : Type 0} (l r : Tree A) (k : ℕ) (s : State A) : Type 0 where
+  pub within : k < limit l r
+  pub keptLeft : Kept left l (s .u)
+  pub keptRight : Kept right r (s .v)
+
+pub underway : (S : Figure) {M : Meeting S} {l r : Tree (S .Line)} {k : ℕ} {s : State (S .Line)} → Ready M l r → Reaches S (start l r) k s → Underway l r k s
+underway S {l = l} {r = r} g w =
+    let (j, h) = reaches-sound S (g .sound) w in
+    record {
+      within = omega (arith, g .afford);
+      keptLeft = kept l (j .us) (g .tallLeft);
+      keptRight = kept r (j .them) (g .tallRight);
+    }
