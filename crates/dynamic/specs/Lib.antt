@@ -3,3 +3,5 @@ pub mod OfferTree
 pub mod Updates
 pub mod Valid
 pub mod Work
+pub mod Floors
+pub mod Forests
