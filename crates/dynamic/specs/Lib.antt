@@ -1,4 +1,5 @@
 -- The dynamic envelope: the tree of offers with its stored parts, post and withdraw as functions on trees.
+pub mod Lower
 pub mod OfferTree
 pub mod Updates
 pub mod Valid

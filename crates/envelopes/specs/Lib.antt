@@ -5,6 +5,7 @@ pub mod Envelope
 pub mod EnvelopeLaws
 pub mod Listed
 pub mod Query
+pub mod Merge
 pub mod Bridge
 pub mod Chains
 pub mod Bridges

@@ -21,6 +21,17 @@ abbrev pub Stays : (S : Figure) → List (S .Line) → S .Line → Type 0
 Stays S ls e = (a b : S .Line) → List·Memᴰ a ls → List·Memᴰ b ls → T (S .before a e) → T (S .before e b) → LeftOf S (S .cross a e) (S .cross e b)
 
 module _ (S : Figure) where
+  -- to be the first speaks of members only
+  pub first-among-fewer : (ls ms : List (S .Line)) (e : S .Line) (x : S .Point) → ((a : S .Line) → List·Memᴰ a ms → List·Memᴰ a ls) → List·Memᴰ e ms → First S ls e x → First S ms e x
+  first-among-fewer ls ms e x i m f = record { one-of = m; least = λ l n. f .least l (i l n); earlier = λ l n. f .earlier l (i l n) }
+
+  -- so does to stay, and of both sides alike
+  pub stays-among : (ls ms : List (S .Line)) (e : S .Line) → ((a : S .Line) → List·Memᴰ a ms → List·Memᴰ a ls) → Stays S ls e → Stays S ms e
+  stays-among ls ms e i h a b m n = h a b (i a m) (i b n)
+
+  pub stays-mirror : (ls : List (S .Line)) (e : S .Line) → Stays S ls e → Stays (mirror S) ls e
+  stays-mirror ls e h a b m n p q = h b a n m q p
+
   pub stays-said : (ls : List (S .Line)) (e : S .Line) → T (stays S ls e) → Stays S ls e
   stays-said ls e t a b m n p q u =
       T-not (S .before a e && S .before e b && S .upTo (S .cross e b) (S .cross a e))
@@ -129,11 +140,12 @@ module _ (S : Figure) (L : PseudoLines S) where
           (below-left-of-cross S L e b x q (c .below b n (λ r. before-other S L e b q (sym r)))))
 
   -- the first among the lowest at some point is listed
+  pub first-stays : (ls : List (S .Line)) (e : S .Line) (x : S .Point) → First S ls e x → Stays S ls e
+  first-stays ls e x f a b m n p q =
+      left-upto-trans S L (S .cross a e) x (S .cross e b) (below-right-of-cross S L a e x p (f .earlier a m p)) (le-upto-cross S L e b x q (f .least b n))
+
   pub first-listed : (ls : List (S .Line)) (e : S .Line) (x : S .Point) → First S ls e x → List·Memᴰ e (listed S ls)
-  first-listed ls e x f =
-      stays-listed S ls e (f .one-of)
-      (λ a b m n p q.
-      left-upto-trans S L (S .cross a e) x (S .cross e b) (below-right-of-cross S L a e x p (f .earlier a m p)) (le-upto-cross S L e b x q (f .least b n)))
+  first-listed ls e x f = stays-listed S ls e (f .one-of) (first-stays ls e x f)
 
   -- at every point some line is the first among the lowest
   first-of : (x : S .Point) (l : S .Line) (ls : List (S .Line)) → Ordered S (l ∷ ls) → (e : S .Line) × First S (l ∷ ls) e x

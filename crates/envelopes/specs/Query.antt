@@ -7,14 +7,14 @@ use mathlib.Core.Logic.{_⊎_, inl, inr, ⊎-elim, _↔_}
 use mathlib.Core.List.{List, [], _∷_, reverse, List·Memᴰ, Memᴰ·cast}
 use lib.Dec.{T}
 use lib.ListN.{length, getD}
-use Rattle.lists.specs.Places.{mem-at, place-of, sublist-mem, mem-reverse}
+use Rattle.lists.specs.Places.{mem-at, place-of, sublist-mem, mem-reverse, mem-unreverse}
 use Rattle.envelopes.specs.PseudoLines.{Figure, LeftOf, PseudoLines, mirror, mirror-laws}
 use Rattle.envelopes.specs.Crossing.{left-upto, le-upto-cross, below-right-of-cross}
 use Rattle.envelopes.specs.Bridge.{Chain, PastOuter, InPiece}
 use Rattle.envelopes.specs.Chains.{piece, piece-lowest, strictly-lowest}
 use Rattle.envelopes.specs.Envelope.{Ordered, Env, First, Cheapest, listed}
-use Rattle.envelopes.specs.EnvelopeLaws.{ordered-sublist, ordered-at, either-other, compare-lines, same-members}
-use Rattle.envelopes.specs.Listed.{listed-sub, listed-exact, first-listed, listed-env}
+use Rattle.envelopes.specs.EnvelopeLaws.{ordered-sublist, ordered-reverse, either-other, compare-lines, same-members}
+use Rattle.envelopes.specs.Listed.{stays-among, stays-mirror, listed-sub, listed-one, listed-stays, stays-listed, listed-exact, first-listed, listed-env}
 
 module _ (S : Figure) (L : PseudoLines S) where
   -- a piece reaches further left from each of its points
@@ -91,3 +91,20 @@ module _ (S : Figure) (L : PseudoLines S) where
 
   pub env-unique : (ls es fs : List (S .Line)) → Ordered S ls → Env S ls es → Env S ls fs → es ≡ fs
   env-unique ls es fs o E F = env-listed ls es o E ∙ sym (env-listed ls fs o F)
+
+  -- the envelope turned round is the envelope in the mirror image
+  pub env-mirror : (ls es : List (S .Line)) → Ordered S ls → Env S ls es → Env (mirror S) (reverse ls) (reverse es)
+  env-mirror ls es o E =
+      let r : Ordered (mirror S) (reverse ls) = ordered-reverse S ls o in
+      rw
+      (same-members (mirror S) (mirror-laws S L) (reverse es) (listed (mirror S) (reverse ls)) (ordered-reverse S es (ordered-sublist S (E .sub) o)) (ordered-sublist (mirror S) (listed-sub (mirror S) (reverse ls)) r)
+      (λ e m.
+      let i : List·Memᴰ e (listed S ls) = subst (List·Memᴰ e) (env-listed ls es o E) (mem-unreverse es m) in
+      stays-listed (mirror S) (reverse ls) e (mem-reverse (listed-one S ls e i))
+      (stays-among (mirror S) ls (reverse ls) e (λ a. mem-unreverse ls) (stays-mirror S ls e (listed-stays S ls e i))))
+      (λ e m.
+      mem-reverse
+      (subst (List·Memᴰ e) (sym (env-listed ls es o E))
+      (stays-listed S ls e (mem-unreverse ls (listed-one (mirror S) (reverse ls) e m))
+      (stays-among S (reverse ls) ls e (λ a. mem-reverse) (stays-mirror (mirror S) (reverse ls) e (listed-stays (mirror S) (reverse ls) e m)))))))
+      (listed-env (mirror S) (mirror-laws S L) (reverse ls) r)

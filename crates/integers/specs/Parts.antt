@@ -1,11 +1,12 @@
 -- Linear reasoning on ℤ. Each integer has a positive and a negative part in ℕ, one of them 0, and every order or equation of integers is
 -- one of their parts. `omega (arith, intRules)` so proves linear facts with integers as its unknowns, from and to `T (leZ a b)`,
--- `T (not (leZ a b))`, `leZ a b ≡ true`, `leZ a b ≡ false`, the same of `ltZ`, `a ≤ℤ b`, `a <ℤ b` and `a ≡ b`, and to `¬ T (leZ a b)` and `a ≢ b`.
+-- `T (not (leZ a b))`, `leZ a b ≡ true`, `leZ a b ≡ false`, the same of `ltZ`, `a ≤ℤ b`, `a <ℤ b`, `a ≡ b` and
+-- `T (leZ a b && leZ b a)`, and to `¬ T (leZ a b)` and `a ≢ b`.
 -- By hand go into its list: `no-le-parts a b h` for `h : ¬ T (leZ a b)`, `ne-parts a b h` for `h : a ≢ b`, `range-parts l z h t` for a range, and
 -- `add-parts a b`, `sub-parts a b`, `neg-parts a` where a sum, difference or negation, else one unknown, is to be taken apart. Products: Ring.
 -- Examples at the end.
-use mathlib.Core.Path.{_≡_, refl, sym, ap, ap₂, _∙_, subst}
-use mathlib.Core.Logic.{_≢_, _⊎_, inl, inr}
+use mathlib.Core.Path.{_≡_, refl, sym, ap, ap₂, subst}
+use mathlib.Core.Logic.{_≢_, _⊎_, inl, inr, _↔_}
 use mathlib.Core.Bool.{Bool, true, false, not, cond, _&&_}
 use Prim.Native.Nat.{ℕ, zero, suc, _+_, _*_, _-_, _≤_, _<_}
 use native.Mathlib.Omega.{arith}
@@ -241,7 +242,21 @@ pub within-parts : (m : ℕ) (z : ℤ) → T (leZ (negsuc m) z && leZ z (pos (su
 within-parts m (pos n) t = omega (arith, range-parts (negsuc m) (pos n) (pos (suc m)) t)
 within-parts m (negsuc n) t = omega (arith, range-parts (negsuc m) (negsuc n) (pos (suc m)) t)
 
-pub ruleset intRules = (le-parts, parts-le, lt-parts, parts-lt, nle-parts, parts-nle, nlt-parts, parts-nlt, le-true-parts, parts-le-true, lt-true-parts, parts-lt-true, le-false-parts, parts-le-false, lt-false-parts, parts-lt-false, eq-parts, parts-eq, ≤ℤ-parts, <ℤ-parts, parts-≤ℤ, parts-<ℤ, within-parts)
+-- ---- equality as a test, `T (leZ a b && leZ b a)`
+
+pub equal-parts : (a b : ℤ) → T (leZ a b && leZ b a) → P a + N b ≡ P b + N a
+equal-parts a b t = omega (arith, range-parts a b a t)
+
+pub parts-equal : (a b : ℤ) → P a + N b ≡ P b + N a → T (leZ a b && leZ b a)
+parts-equal a b e = and-both (leZ a b) (leZ b a) (parts-le a b (omega arith)) (parts-le b a (omega arith))
+
+pub unequal-parts : (a b : ℤ) → T (not (leZ a b && leZ b a)) → P a + N b ≢ P b + N a
+unequal-parts a b t e = T-not (leZ a b && leZ b a) t (parts-equal a b e)
+
+pub parts-unequal : (a b : ℤ) → P a + N b ≢ P b + N a → T (not (leZ a b && leZ b a))
+parts-unequal a b f = not-T (leZ a b && leZ b a) (λ t. f (equal-parts a b t))
+
+pub ruleset intRules = (le-parts, parts-le, lt-parts, parts-lt, nle-parts, parts-nle, nlt-parts, parts-nlt, le-true-parts, parts-le-true, lt-true-parts, parts-lt-true, le-false-parts, parts-le-false, lt-false-parts, parts-lt-false, eq-parts, parts-eq, ≤ℤ-parts, <ℤ-parts, parts-≤ℤ, parts-<ℤ, within-parts, equal-parts, parts-equal, unequal-parts, parts-unequal)
 
 -- ---- which way it goes
 
@@ -278,6 +293,9 @@ trichotomy a b = go (le-or-lt a b) (le-or-lt b a)
     go (inl s) (inr t) = inl t
     go (inr s) t = inr (inr s)
 
+pub not-le-is-lt : (a b : ℤ) → (¬ T (leZ a b)) ↔ T (ltZ b a)
+not-le-is-lt a b = (λ f. parts-lt b a (no-le-parts a b f), λ t. parts-no-le a b (lt-parts b a t))
+
 -- ---- one line each
 
 trans-example : (a b c : ℤ) → T (leZ a b) → T (leZ b c) → T (leZ a c)
@@ -306,3 +324,9 @@ ne-example a b h = omega (arith, intRules)
 
 ne2-example : (a b : ℤ) → T (leZ a b) → a ≢ b → T (ltZ a b)
 ne2-example a b h n = omega (arith, intRules, ne-parts _ _ n)
+
+equal-example : (a b c : ℤ) → T (leZ a b && leZ b a) → T (not (leZ b c && leZ c b)) → a ≢ c
+equal-example a b c h k = omega (arith, intRules)
+
+unequal-example : (a b c : ℤ) → T (ltZ a b) → leZ c a ≡ true → T (not (leZ b c && leZ c b))
+unequal-example a b c h k = omega (arith, intRules)

@@ -132,10 +132,10 @@ pub mediant-right : (x z : RationalLoad) → ¬ T (atOrLeft z x) → ¬ T (atOrL
 mediant-right x z f t =
     let m = var (x .numerator) in
     let n = var (z .numerator) in
-    omega (arith, order-strict x z f, from-le ((m :+ n) :* nat (suc (x .above))) (m :* nat (suc (suc (x .above + z .above)))) t)
+    omega (arith, order-strict x z f, from-le ((m :+ n) :* nat (suc (x .above))) (m :* nat (suc ((mediant x z) .above))) t)
 
 pub mediant-left : (x z : RationalLoad) → ¬ T (atOrLeft z x) → ¬ T (atOrLeft z (mediant x z))
 mediant-left x z f t =
     let m = var (x .numerator) in
     let n = var (z .numerator) in
-    omega (arith, order-strict x z f, from-le (n :* nat (suc (suc (x .above + z .above)))) ((m :+ n) :* nat (suc (z .above))) t)
+    omega (arith, order-strict x z f, from-le (n :* nat (suc ((mediant x z) .above))) ((m :+ n) :* nat (suc (z .above))) t)

@@ -1,17 +1,16 @@
 -- Lines with an integer rate and base, at rational loads: the instance of pseudo-lines that offers are. Their laws rest on one fact with products (Lead).
-use mathlib.Core.Path.{_≡_, refl, sym, ap, subst, _∙_}
-use mathlib.Core.Logic.{_⊎_}
-use mathlib.Core.Bool.{Bool}
-use Prim.Native.Nat.{ℕ, zero, suc, pred, _≤_, _<_}
+use mathlib.Core.Path.{_≡_, refl, sym, ap, ap₂, subst}
+use mathlib.Core.Logic.{_⊎_, inl, inr, _≢_}
+use Prim.Native.Nat.{zero, suc, pred}
 use native.Mathlib.Omega.{arith}
 use lib.Dec.{T}
-use lib.IntN.{ℤ, pos, negsuc, negℤ, natAbs, _+ℤ_, _-ℤ_, _*ℤ_}
+use lib.IntN.{ℤ, pos, negsuc, natAbs, _+ℤ_, _-ℤ_, _*ℤ_}
 use lib.Signed.{leZ, ltZ}
-use Rattle.integers.specs.Parts.{intRules, no-le-parts, le-total, sub-parts}
-use Rattle.integers.specs.Ring.{Ex, var, nat, neg, _:+_, _:-_, _:*_, by-eq, by-le, same-le}
-use Rattle.offers.specs.Offers.{Offer, RationalLoad, denominator, priceAt, priceTimesD, precedes, crossingNumerator, crossingDenominator}
-use Rattle.envelopes.specs.PseudoLines.{Figure, PseudoLines, LeftOf, Below}
-use Rattle.lines.specs.Lead.{atOrLeft, lead, rises, rises-strictly, falls, order-trans, order-total, over, mediant, less-one, plus-one, mediant-left, mediant-right}
+use Rattle.integers.specs.Parts.{intRules, le-total, trichotomy, sub-parts}
+use Rattle.integers.specs.Ring.{Ex, var, nat, _:+_, _:-_, _:*_, by-eq, same-le}
+use Rattle.offers.specs.Offers.{RationalLoad, denominator}
+use Rattle.envelopes.specs.PseudoLines.{Figure, PseudoLines}
+use Rattle.lines.specs.Lead.{lead, rises, rises-strictly, falls, order-trans, order-total, over, mediant, less-one, plus-one, mediant-left, mediant-right}
 
 abbrev pub lineFigure : (A : Type 0) (rate base : A → ℤ) → Figure
 lineFigure A rate base =
@@ -55,6 +54,18 @@ above-is (pos zero) t = absurd t
 above-is (pos (suc n)) t = refl
 above-is (negsuc n) t = absurd t
 
+-- ---- whole loads
+
+-- q over 1
+abbrev pub whole : ℤ → RationalLoad
+whole q = over q 0
+
+times-one : (z : ℤ) → z *ℤ pos 1 ≡ z
+times-one z = by-eq (var z :* nat 1) (var z) (omega arith)
+
+price-at-whole : (r b q : ℤ) → b *ℤ pos 1 +ℤ r *ℤ q ≡ b +ℤ r *ℤ q
+price-at-whole r b q = ap (λ (z : ℤ). z +ℤ r *ℤ q) (times-one b)
+
 module _ (A : Type 0) (rate base : A → ℤ) where
   abbrev F : Figure
   F = lineFigure A rate base
@@ -64,7 +75,7 @@ module _ (A : Type 0) (rate base : A → ℤ) where
   cross-denominator a b h = above-is (rate a -ℤ rate b) (gap-above (rate a) (rate b) h)
 
   -- at the crossing both lines have one price
-  pub cross-price : (a b : A) → T (F .before a b) → base a *ℤ denominator (F .cross a b) +ℤ rate a *ℤ (base b -ℤ base a) ≡ base b *ℤ denominator (F .cross a b) +ℤ rate b *ℤ (base b -ℤ base a)
+  pub cross-price : (a b : A) → T (F .before a b) → base a *ℤ denominator (F .cross a b) +ℤ rate a *ℤ (F .cross a b) .numerator ≡ base b *ℤ denominator (F .cross a b) +ℤ rate b *ℤ (F .cross a b) .numerator
   cross-price a b h =
       let p = var (base a) in
       let q = var (base b) in
@@ -101,3 +112,32 @@ module _ (A : Type 0) (rate base : A → ℤ) where
         cross-le = λ a b p. let e = cross-price a b p in omega (arith, intRules);
         cross-ge = λ a b p. let e = cross-price a b p in omega (arith, intRules);
       }
+
+  -- lines of different rates are in order
+  pub before-total : (a b : A) → rate a ≢ rate b → T (F .before a b) ⊎ T (F .before b a)
+  before-total a b f = pick (trichotomy (rate a) (rate b))
+    where
+      pick : T (ltZ (rate a) (rate b)) ⊎ ((rate a ≡ rate b) ⊎ T (ltZ (rate b) (rate a))) → T (F .before a b) ⊎ T (F .before b a)
+      pick (inl h) = inr h
+      pick (inr (inl e)) = absurd (f e)
+      pick (inr (inr h)) = inl h
+
+  -- ---- the tests as code computes them
+
+  -- at a whole load prices are compared as they are
+  pub whole-price : (a b : A) (q : ℤ) → F .atMost a b (whole q) ≡ leZ (base a +ℤ rate a *ℤ q) (base b +ℤ rate b *ℤ q)
+  whole-price a b q = ap₂ leZ (price-at-whole (rate a) (base a) q) (price-at-whole (rate b) (base b) q)
+
+  -- a whole load is at or left of a crossing
+  pub whole-left : (a b : A) (q : ℤ) → T (F .before a b) → F .upTo (whole q) (F .cross a b) ≡ leZ (q *ℤ (rate a -ℤ rate b)) (base b -ℤ base a)
+  whole-left a b q h = ap₂ leZ (ap (λ (d : ℤ). q *ℤ d) (cross-denominator a b h)) (times-one (base b -ℤ base a))
+
+  -- a crossing is at another or left of it
+  pub cross-left : (a b c d : A) → T (F .before a b) → T (F .before c d) → F .upTo (F .cross a b) (F .cross c d) ≡ leZ ((base b -ℤ base a) *ℤ (rate c -ℤ rate d)) ((base d -ℤ base c) *ℤ (rate a -ℤ rate b))
+  cross-left a b c d h k =
+      ap₂ leZ (ap (λ (z : ℤ). (base b -ℤ base a) *ℤ z) (cross-denominator c d k)) (ap (λ (z : ℤ). (base d -ℤ base c) *ℤ z) (cross-denominator a b h))
+
+  -- two lines compared at a crossing of two others
+  pub price-at-cross : (l m a b : A) → T (F .before a b) → F .atMost l m (F .cross a b) ≡ leZ (base l *ℤ (rate a -ℤ rate b) +ℤ rate l *ℤ (base b -ℤ base a)) (base m *ℤ (rate a -ℤ rate b) +ℤ rate m *ℤ (base b -ℤ base a))
+  price-at-cross l m a b h =
+      ap (λ (d : ℤ). leZ (base l *ℤ d +ℤ rate l *ℤ (base b -ℤ base a)) (base m *ℤ d +ℤ rate m *ℤ (base b -ℤ base a))) (cross-denominator a b h)

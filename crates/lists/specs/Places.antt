@@ -1,10 +1,11 @@
 -- Members, the places where they stand, sublists, and the list turned round.
 use Prim.Native.Nat.{ℕ, zero, suc, _<_, suc-le-suc, zero-le}
 use native.Mathlib.Nat.{not-suc-le-zero, le-of-suc-le-suc}
-use mathlib.Core.Path.{_≡_, refl, sym, subst, _∙_}
+use mathlib.Core.Path.{_≡_, refl, sym, ap, subst, _∙_}
 use mathlib.Core.Logic.{_⊎_, inl, inr, ⊎-elim}
-use mathlib.Core.List.{List, [], _∷_, reverse, reverseAux, List·Memᴰ, List·Memᴰ·head, List·Memᴰ·tail, List·Memᴰ·cases-cons, List·Memᴰ·not-nil, Sublistᴰ, Sublistᴰ·slnil, Sublistᴰ·cons, Sublistᴰ·cons-cons}
-use lib.ListN.{length, getD}
+use mathlib.Core.List.{List, [], _∷_, _++_, reverse, reverseAux, reverse-append, reverse-cons, reverse-reverse, List·Memᴰ, List·Memᴰ·head, List·Memᴰ·tail, List·Memᴰ·cases-cons, List·Memᴰ·not-nil, Sublistᴰ, Sublistᴰ·slnil, Sublistᴰ·cons, Sublistᴰ·cons-cons}
+use lib.ListN.{length, getD, length-reverse}
+use lib.Seq.{append-snoc, getD-at}
 
 module _ {A : Type 0} where
   -- what holds of the first and of all later ones holds of all
@@ -33,3 +34,22 @@ module _ {A : Type 0} where
 
   pub mem-reverse : {a : A} {l : List A} → List·Memᴰ a l → List·Memᴰ a (reverse l)
   mem-reverse {l} m = mem-onto l [] (inl m)
+
+  pub mem-unreverse : {a : A} (l : List A) → List·Memᴰ a (reverse l) → List·Memᴰ a l
+  mem-unreverse {a} l m = subst (λ (r : List A). List·Memᴰ a r) (reverse-reverse l) (mem-reverse m)
+
+  -- the list turned round, about one of its elements
+  pub reverse-about : (xs : List A) (y : A) (ys : List A) → reverse (xs ++ y ∷ ys) ≡ reverse ys ++ y ∷ reverse xs
+  reverse-about xs y ys = reverse-append xs (y ∷ ys) ∙ ap (λ (r : List A). r ++ reverse xs) (reverse-cons y ys) ∙ append-snoc (reverse ys) y (reverse xs)
+
+  -- counted from the last, that element stands after those behind it
+  pub getD-reverse-about : (xs : List A) (y : A) (ys : List A) (d : A) → getD (reverse (xs ++ y ∷ ys)) (length ys) d ≡ y
+  getD-reverse-about xs y ys d = ap (λ (r : List A). getD r (length ys) d) (reverse-about xs y ys) ∙ getD-at (reverse ys) y (reverse xs) d (length ys) (length-reverse ys)
+
+  pub getD-next : (xs : List A) (y z : A) (zs : List A) (d : A) → getD (xs ++ y ∷ z ∷ zs) (suc (length xs)) d ≡ z
+  getD-next [] y z zs d = refl
+  getD-next (x ∷ xs) y z zs d = getD-next xs y z zs d
+
+  pub place-inside : (xs : List A) (y : A) (ys : List A) → length xs < length (xs ++ y ∷ ys)
+  place-inside [] y ys = suc-le-suc zero-le
+  place-inside (x ∷ xs) y ys = suc-le-suc (place-inside xs y ys)

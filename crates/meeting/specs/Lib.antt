@@ -1,2 +1,8 @@
 -- The search for the meeting of two envelopes.
 pub mod Machine
+pub mod Located
+pub mod Moves
+pub mod Tests
+pub mod Verdicts
+pub mod Search
+pub mod Meets

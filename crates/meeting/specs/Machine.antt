@@ -191,7 +191,7 @@ module _ {A : Type 0} where
   counted r = record { finished = r .finished; u = r .u; v = r .v; steps = suc (r .steps) }
 
   unfoldable pub start : Tree A → Tree A → State A
-  start tl tr = record { u = record { at = root tl; stack = [] }; v = record { at = root tr; stack = [] } }
+  start l r = record { u = record { at = root l; stack = [] }; v = record { at = root r; stack = [] } }
 
 module _ (S : Figure) where
   -- at most so many steps
@@ -200,4 +200,4 @@ module _ (S : Figure) where
   run (suc n) s = elim (step S s) [ none ↦ ended true s 1 | some s′ ↦ counted (run n s′) ]
 
   unfoldable pub meet : Tree (S .Line) → Tree (S .Line) → Result (S .Line)
-  meet tl tr = run (3 * (height tl + height tr) + 1) (start tl tr)
+  meet l r = run (3 * (height l + height r) + 1) (start l r)

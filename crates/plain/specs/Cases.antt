@@ -49,3 +49,10 @@ table =
 
 pub prices-to-prove : map answered table ≡ map (λ r. r .told) table
 prices-to-prove = refl
+
+-- Crossings are not rounded: (0, 0), (−3, 7), (−6, 15) cross at 7/3 and 8/3, so the second is the cheapest only between two whole loads.
+abbrev pub between-loads : Row
+between-loads = row (falling ++ (post (pos 3) (negℤ (pos 6)) (pos 15) ∷ [])) (listing 9) (listed 3 (pos 1 ∷ pos 7 ∷ pos 3 ∷ pos 2 ∷ pos 8 ∷ pos 3 ∷ pos 3 ∷ pos 0 ∷ pos 0 ∷ []))
+
+pub listed-between-loads : answered between-loads ≡ between-loads .told
+listed-between-loads = refl

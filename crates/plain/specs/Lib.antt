@@ -3,4 +3,6 @@ pub mod Causes
 pub mod Book
 pub mod Cases
 pub mod Sound
+pub mod Members
 pub mod QueryLaws
+pub mod ListingLaws

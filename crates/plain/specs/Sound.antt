@@ -12,7 +12,7 @@ use lib.ListN.{length}
 use lib.Dec.{T, T-prop, T-not, leb, nleb→lt}
 use lib.IntN.{ℤ}
 use lib.Signed.{leZ, ltZ}
-use Rattle.lists.specs.Filter.{both, keep-sublist}
+use Rattle.lists.specs.Filter.{both, one-of-both, other-of-both, keep-sublist}
 use Rattle.lists.specs.Members.{sub-length, pairs-cons}
 use Rattle.lists.specs.Places.{sublist-mem}
 use Rattle.lists.specs.Tests.{any, not-not, none-at}
@@ -43,7 +43,7 @@ clear (k ∷ ks) e = go (k .applies) e (clear ks)
 
 -- ---- an offer joins
 
-mem-join : (o : Offer) {x : Offer} (os : List Offer) → List·Memᴰ x (join o os) → (x ≡ o) ⊎ List·Memᴰ x os
+pub mem-join : (o : Offer) {x : Offer} (os : List Offer) → List·Memᴰ x (join o os) → (x ≡ o) ⊎ List·Memᴰ x os
 mem-join o [] m = List·Memᴰ·cases-cons m
 mem-join o {x} (p ∷ ps) m = go (precedes o p) m (mem-join o ps)
   where
@@ -85,7 +85,10 @@ join-pairs {R} prop o (x ∷ xs) p h f g = go (precedes o x) (λ t. t) (λ t. t)
 equal-is : (a b : ℤ) → a ≡ b → T (equal a b)
 equal-is a b e = both (leZ a b) (leZ b a) (omega (arith, intRules)) (omega (arith, intRules))
 
-unequal : (a b : ℤ) → T (not (equal a b)) → a ≢ b
+pub equal-eq : (a b : ℤ) → T (equal a b) → a ≡ b
+equal-eq a b t = let p = one-of-both (leZ a b) (leZ b a) t in let q = other-of-both (leZ a b) (leZ b a) t in omega (arith, intRules)
+
+pub unequal : (a b : ℤ) → T (not (equal a b)) → a ≢ b
 unequal a b t e = T-not (equal a b) t (equal-is a b e)
 
 other-rate : (a b : Offer) → T (not (equal (a .rate) (b .rate))) → T (not (precedes b a)) → T (precedes a b)

@@ -1,17 +1,17 @@
 -- The operations keep siblings' heights within one of each other, and a result is as high as the higher tree or one higher.
-use mathlib.Core.Path.{_≡_, refl, sym, ap, _∙_}
-use mathlib.Core.Bool.{Bool, true, false, cond, not}
+use mathlib.Core.Path.{_≡_, ap}
+use mathlib.Core.Bool.{not}
 use mathlib.Core.Option.{none, some}
-use Prim.Native.Nat.{ℕ, zero, suc, max, _≤_, _<_}
-use native.Mathlib.Nat.{max-comm, max-eq-left, max-eq-right}
+use Prim.Native.Nat.{ℕ, suc, max, _≤_, _<_}
+use native.Mathlib.Nat.{max-comm}
 use native.Mathlib.Decide.{decLe}
 use native.Mathlib.Omega.{arith}
-use lib.Arith.{le→nltb}
-use lib.Dec.{T, leb, ltb, ltb→lt, nltb→le, leb→le, nleb→lt}
-use Rattle.trees.specs.Tree.{Tree, leaf, node, height, mirror, Avl, avl-leaf, avl-node}
+use lib.Dec.{T, leb, ltb→lt, nltb→le, leb→le, nleb→lt}
+use Rattle.trees.specs.Tree.{Tree, leaf, node, height, mirror, Avl, avl-node}
 use Rattle.trees.specs.Operations.{Part, towers, doubleRight, rotateRight, rotateLeft, balance, joinR, joinL, join, partHeight, joinP}
-use Rattle.trees.specs.Tests.{cond-both, cond-yes, cond-no, cond-again}
-use Rattle.trees.specs.Mirror.{mirror-injective, towers-mirror, mirror-balance, height-mirror, avl-mirror, avl-unmirror, mirror-rotateLeft, mirror-joinL, mirror-join}
+use Rattle.trees.specs.Tests.{cond-both, by-heights}
+use Rattle.trees.specs.Steps.{balance-level}
+use Rattle.trees.specs.Mirror.{height-mirror, avl-mirror, avl-unmirror, mirror-rotateLeft, mirror-joinL}
 
 module _ {A : Type 0} where
   -- t is balanced and of height h, or one higher
@@ -60,17 +60,15 @@ module _ {A : Type 0} where
 
   -- ---- balance
 
-  -- siblings that are level within one stay as they are
-  pub balance-level : (l r : Tree A) → height l ≤ suc (height r) → height r ≤ suc (height l) → balance l r ≡ node l r
-  unfolding balance
-  balance-level l r hl hr = cond-no (towers l r) _ _ (le→nltb _ _ hl) ∙ cond-no (towers r l) _ _ (le→nltb _ _ hr)
-
   pub near-balance : (l r : Tree A) → Avl l → Avl r → height l ≤ suc (suc (height r)) → height r ≤ suc (suc (height l)) → Near (max (height l) (height r)) (balance l r)
   unfolding balance
   near-balance l r pl pr hl hr =
-      cond-both (Near (max (height l) (height r))) (towers l r) (λ t. near-is (near-rotateRight l r pl pr (omega (arith, ltb→lt))) (omega (arith, ltb→lt)))
-      (λ t. cond-both (Near (max (height l) (height r))) (towers r l) (λ u. near-is (near-rotateLeft l r pl pr (omega (arith, ltb→lt))) (omega (arith, ltb→lt)))
-      (λ u. near-node l r pl pr (nltb→le _ _ t) (nltb→le _ _ u)))
+      by-heights (Near (max (height l) (height r))) l r (λ t. near-is (near-rotateRight l r pl pr (omega arith)) (omega arith))
+      (λ t. near-is (near-rotateLeft l r pl pr (omega arith)) (omega arith))
+      (near-node l r pl pr)
+
+  pub height-balance-level : (l r : Tree A) → height l ≤ suc (height r) → height r ≤ suc (height l) → height (balance l r) ≡ suc (max (height l) (height r))
+  height-balance-level l r hl hr = ap height (balance-level l r hl hr)
 
   -- ---- join
 
@@ -86,7 +84,7 @@ module _ {A : Type 0} where
         where
           go : Dec (height (joinR b r) ≤ suc (height a)) → Near (max (height a) (height (joinR b r))) (balance a (joinR b r)) → Near (max (height (node a b)) (height r)) (balance a (joinR b r))
           go (yes le) m =
-              let same : height (balance a (joinR b r)) ≡ suc (max (height a) (height (joinR b r))) = ap height (balance-level a (joinR b r) (omega arith) le) in
+              let same = height-balance-level a (joinR b r) (omega arith) le in
               record { avl = m .avl; low = omega arith; high = omega arith }
           go (no gt) m = record { avl = m .avl; low = omega arith; high = omega arith }
 
@@ -98,35 +96,7 @@ module _ {A : Type 0} where
   pub near-join : (l r : Tree A) → Avl l → Avl r → Near (max (height l) (height r)) (join l r)
   unfolding join
   near-join l r pl pr =
-      cond-both (Near (max (height l) (height r))) (towers l r) (λ t. near-joinR l r pl pr (omega (arith, ltb→lt)))
-      (λ t. cond-both (Near (max (height l) (height r))) (towers r l) (λ u. near-joinL l r pl pr (omega (arith, ltb→lt)))
-      (λ u. near-node l r pl pr (nltb→le _ _ t) (nltb→le _ _ u)))
-
-  -- ---- down one spine only: the side functions are join itself, so each step of one is a step of the other
-
-  pub join-level : (l r : Tree A) → height l ≤ suc (height r) → height r ≤ suc (height l) → join l r ≡ node l r
-  unfolding join
-  join-level l r hl hr = cond-no (towers l r) _ _ (le→nltb _ _ hl) ∙ cond-no (towers r l) _ _ (le→nltb _ _ hr)
-
-  pub joinR-join : (l r : Tree A) → height r ≤ suc (height l) → joinR l r ≡ join l r
-  unfolding join joinR
-  joinR-join (leaf x) r h = sym (join-level (leaf x) r (omega arith) h)
-  joinR-join (node a b) r h =
-      sym (ap (cond (towers (node a b) r) (joinR (node a b) r)) (cond-no (towers r (node a b)) _ _ (le→nltb _ _ h)) ∙ cond-again (towers (node a b) r) _ _)
-
-  pub joinL-join : (l r : Tree A) → height l ≤ suc (height r) → joinL l r ≡ join l r
-  joinL-join l r h =
-      mirror-injective (joinL l r) (join l r) (mirror-joinL l r ∙ joinR-join (mirror r) (mirror l) (simp height-mirror h) ∙ sym (mirror-join l r))
-
-  pub join-left : (a b r : Tree A) → Avl (node a b) → T (towers (node a b) r) → join (node a b) r ≡ balance a (join b r)
-  unfolding join joinR
-  join-left a b r (avl-node pa pb ha hb) t =
-      cond-yes (towers (node a b) r) _ _ t ∙ cond-yes (towers (node a b) r) _ _ t ∙ ap (balance a) (joinR-join b r (omega (arith, ltb→lt)))
-
-  pub join-right : (l c d : Tree A) → Avl (node c d) → T (towers (node c d) l) → join l (node c d) ≡ balance (join l c) d
-  join-right l c d p t =
-      mirror-injective (join l (node c d)) (balance (join l c) d)
-      (mirror-join l (node c d) ∙ join-left (mirror d) (mirror c) (mirror l) (avl-mirror p) (rw (towers-mirror (node c d) l) t) ∙ simp (mirror-balance, mirror-join))
+      by-heights (Near (max (height l) (height r))) l r (λ t. near-joinR l r pl pr (omega arith)) (λ t. near-joinL l r pl pr (omega arith)) (near-node l r pl pr)
 
   -- ---- parts
 

@@ -1,18 +1,18 @@
 -- Find by key: what is found is a leaf with that key, and where keys fall strictly every leaf is found by its own.
-use mathlib.Core.Path.{_≡_, refl, sym, ap, _∙_, subst}
-use mathlib.Core.Logic.{_⊎_, inl, inr, ⊎-elim, _↔_}
-use mathlib.Core.Bool.{Bool, true, false, cond, not, _&&_}
+use mathlib.Core.Path.{_≡_, refl, sym, ap, _∙_}
+use mathlib.Core.Logic.{⊎-elim}
+use mathlib.Core.Bool.{not}
 use mathlib.Core.Option.{Option, none, some, Option·none-ne-some, Option·some-injective}
 use mathlib.Core.List.{List, [], _∷_, _++_, List·Memᴰ, List·Memᴰ·head, List·Memᴰ·append-cases, List·Memᴰ·eq-of-singleton, Memᴰ·append-left, Memᴰ·append-right}
 use native.Mathlib.Omega.{arith}
 use lib.Dec.{T}
 use lib.IntN.{ℤ}
 use lib.Signed.{ltZ, leZ}
-use Rattle.lists.specs.Filter.{both, one-of-both, other-of-both}
 use Rattle.integers.specs.Parts.{intRules}
 use Rattle.trees.specs.Tree.{Tree, leaf, node, leaves, last}
-use Rattle.trees.specs.Operations.{find}
-use Rattle.trees.specs.Tests.{cond-both, cond-yes, cond-no}
+use Rattle.trees.specs.Operations.{eqZ, find}
+use Rattle.trees.specs.Tests.{cond-both, eqZ-same}
+use Rattle.trees.specs.Steps.{find-here}
 use Rattle.trees.specs.Leaves.{last-leaf}
 use Rattle.trees.specs.Order.{Falling, parted, last-lowest}
 
@@ -24,15 +24,10 @@ module _ {A : Type 0} (key : A → ℤ) (k : ℤ) where
 
   pub find-sound : (t : Tree A) {a : A} → find key k t ≡ some a → Keyed (leaves t) a
   unfolding find
-  find-sound (leaf x) {a} = cond-both (λ o. o ≡ some a → Keyed (x ∷ []) a) (leZ (key x) k && leZ k (key x)) here (λ t e. absurd (Option·none-ne-some a e))
+  find-sound (leaf x) {a} = cond-both (λ o. o ≡ some a → Keyed (x ∷ []) a) (eqZ (key x) k) here (λ t e. absurd (Option·none-ne-some a e))
     where
-      here : T (leZ (key x) k && leZ k (key x)) → some x ≡ some a → Keyed (x ∷ []) a
-      here t e =
-          let low : T (leZ (key x) k) = one-of-both (leZ (key x) k) (leZ k (key x)) t in
-          let high : T (leZ k (key x)) = other-of-both (leZ (key x) k) (leZ k (key x)) t in
-          let is : key x ≡ k = omega (arith, intRules) in
-          let one : x ≡ a = Option·some-injective x a e in
-          record { inside = List·Memᴰ·head (sym one); keyed = sym (ap key one) ∙ is }
+      here : T (eqZ (key x) k) → some x ≡ some a → Keyed (x ∷ []) a
+      here t e = let one = Option·some-injective x a e in record { inside = List·Memᴰ·head (sym one); keyed = sym (ap key one) ∙ eqZ-same (key x) k t }
   find-sound (node l r) {a} =
       cond-both (λ o. o ≡ some a → Keyed (leaves l ++ leaves r) a) (ltZ k (key (last l)))
       (λ t e. let f = find-sound r e in record { inside = Memᴰ·append-right (leaves l) (f .inside); keyed = f .keyed })
@@ -40,10 +35,7 @@ module _ {A : Type 0} (key : A → ℤ) (k : ℤ) where
 
   pub find-complete : (t : Tree A) → Falling key (leaves t) → {a : A} → Keyed (leaves t) a → find key k t ≡ some a
   unfolding find
-  find-complete (leaf x) p {a} f =
-      let one : a ≡ x = List·Memᴰ·eq-of-singleton (f .inside) in
-      let is : key x ≡ k = sym (ap key one) ∙ f .keyed in
-      cond-yes (leZ (key x) k && leZ k (key x)) _ _ (both (leZ (key x) k) _ (omega (arith, intRules)) (omega (arith, intRules))) ∙ ap some (sym one)
+  find-complete (leaf x) p {a} f = let one = List·Memᴰ·eq-of-singleton (f .inside) in find-here key k x (sym (ap key one) ∙ f .keyed) ∙ ap some (sym one)
   find-complete (node l r) p {a} f =
       let q = parted (leaves l) p in
       let on-left : List·Memᴰ a (leaves l) → T (leZ (key (last l)) (key a)) = λ m. last-lowest key l (q .left) m in

@@ -1,14 +1,13 @@
 -- Every second level of a balanced tree doubles its leaves, so a tree of n leaves is at most 2 × B(n) high.
-use mathlib.Core.Path.{_≡_}
 use mathlib.Core.Option.{none, some}
-use Prim.Native.Nat.{ℕ, zero, suc, _+_, _*_, _^_, _≤_, _<_}
+use Prim.Native.Nat.{ℕ, zero, suc, _*_, _^_, _≤_}
 use native.Mathlib.Nat.{two-pow-succ}
 use native.Mathlib.Decide.{decLe}
 use native.Mathlib.Omega.{arith}
 use lib.ListN.{length, length-append}
 use lib.Pow.{pow-pos}
 use Rattle.integers.specs.Log.{B, B-covers, B-full}
-use Rattle.trees.specs.Tree.{Tree, leaf, node, height, leaves, Avl, avl-leaf, avl-node}
+use Rattle.trees.specs.Tree.{Tree, height, leaves, Avl, avl-leaf, avl-node}
 use Rattle.trees.specs.Operations.{Part, partLeaves, partHeight}
 use Rattle.trees.specs.Leaves.{some-leaf}
 use Rattle.trees.specs.Balanced.{AvlP}

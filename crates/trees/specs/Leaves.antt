@@ -1,15 +1,14 @@
 -- The leaves of what the operations make: none is lost, doubled or moved.
 use mathlib.Core.Path.{_≡_, refl, sym, ap, _∙_}
-use mathlib.Core.Bool.{cond}
 use mathlib.Core.List.{List, [], _∷_, _++_, append-assoc, append-nil, reverse, reverse-append, head-eq-of-cons-eq, List·Memᴰ, List·Memᴰ·head, Memᴰ·append-left, Memᴰ·append-right}
 use mathlib.Core.Option.{none, some}
-use Prim.Native.Nat.{ℕ, suc, _+_, _≤_}
+use Prim.Native.Nat.{_≤_}
 use native.Mathlib.Omega.{arith}
 use lib.Dec.{leb}
-use lib.ListN.{length, length-append}
+use lib.ListN.{length}
 use Rattle.trees.specs.Tree.{Tree, leaf, node, height, leaves, first, last, mirror}
 use Rattle.trees.specs.Operations.{Part, towers, doubleRight, doubleLeft, rotateRight, rotateLeft, balance, joinR, joinL, join, partLeaves, joinP}
-use Rattle.trees.specs.Tests.{cond-both}
+use Rattle.trees.specs.Tests.{cond-both, by-heights}
 
 module _ {A : Type 0} where
   leaves-doubleRight : (a m r : Tree A) → leaves (doubleRight a m r) ≡ leaves a ++ (leaves m ++ leaves r)
@@ -37,8 +36,7 @@ module _ {A : Type 0} where
   pub leaves-balance : (l r : Tree A) → leaves (balance l r) ≡ leaves l ++ leaves r
   unfolding balance
   leaves-balance l r =
-      cond-both (λ t. leaves t ≡ leaves l ++ leaves r) (towers l r) (λ t. leaves-rotateRight l r)
-      (λ t. cond-both (λ t. leaves t ≡ leaves l ++ leaves r) (towers r l) (λ t. leaves-rotateLeft l r) (λ t. refl))
+      by-heights (λ t. leaves t ≡ leaves l ++ leaves r) l r (λ t. leaves-rotateRight l r) (λ t. leaves-rotateLeft l r) (λ s t. refl)
 
   pub leaves-joinR : (l r : Tree A) → leaves (joinR l r) ≡ leaves l ++ leaves r
   unfolding joinR
@@ -56,9 +54,7 @@ module _ {A : Type 0} where
 
   pub leaves-join : (l r : Tree A) → leaves (join l r) ≡ leaves l ++ leaves r
   unfolding join
-  leaves-join l r =
-      cond-both (λ t. leaves t ≡ leaves l ++ leaves r) (towers l r) (λ t. leaves-joinR l r)
-      (λ t. cond-both (λ t. leaves t ≡ leaves l ++ leaves r) (towers r l) (λ t. leaves-joinL l r) (λ t. refl))
+  leaves-join l r = by-heights (λ t. leaves t ≡ leaves l ++ leaves r) l r (λ t. leaves-joinR l r) (λ t. leaves-joinL l r) (λ s t. refl)
 
   pub leaves-joinP : (p q : Part A) → partLeaves (joinP p q) ≡ partLeaves p ++ partLeaves q
   leaves-joinP none q = refl

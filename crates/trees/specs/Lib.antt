@@ -4,6 +4,7 @@ pub mod Operations
 pub mod Tests
 pub mod Leaves
 pub mod Mirror
+pub mod Steps
 pub mod Balanced
 pub mod Order
 pub mod Split

@@ -1,10 +1,10 @@
 -- The mirror image of what the operations make is what their mirror images make. So a left case is the right one.
 use mathlib.Core.Path.{_≡_, refl, sym, ap, _∙_}
 use mathlib.Core.Bool.{Bool, cond}
-use Prim.Native.Nat.{ℕ, suc, max}
+use Prim.Native.Nat.{suc}
 use native.Mathlib.Nat.{max-comm}
 use native.Mathlib.Omega.{arith}
-use lib.Dec.{T, leb, ltb, ltb→lt}
+use lib.Dec.{T, leb, ltb→lt}
 use Rattle.trees.specs.Tree.{Tree, leaf, node, height, mirror, Avl, avl-leaf, avl-node}
 use Rattle.trees.specs.Operations.{towers, doubleRight, doubleLeft, rotateRight, rotateLeft, balance, joinR, joinL, join}
 use Rattle.trees.specs.Tests.{cond-map, cond-swap}

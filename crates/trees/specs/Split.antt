@@ -1,14 +1,14 @@
 -- A cut where the test turns: the leaves in front of it and behind it, and the height and balance of both parts.
-use mathlib.Core.Path.{_≡_, refl, sym, ap, _∙_, subst}
-use mathlib.Core.Logic.{_⊎_, inl, inr, ⊎-elim}
-use mathlib.Core.Bool.{Bool, true, false, cond, not}
+use mathlib.Core.Path.{_≡_, refl, sym, _∙_, subst}
+use mathlib.Core.Logic.{⊎-elim}
+use mathlib.Core.Bool.{Bool, not}
 use mathlib.Core.Option.{none, some}
-use mathlib.Core.List.{List, [], _∷_, _++_, append-assoc, List·Memᴰ, List·Memᴰ·head, List·Memᴰ·append-cases, List·Memᴰ·eq-of-singleton, Pairwise}
-use Prim.Native.Nat.{ℕ, zero, suc, max, _≤_}
+use mathlib.Core.List.{List, [], _∷_, _++_, append-assoc, List·Memᴰ}
+use Prim.Native.Nat.{ℕ, zero, _≤_}
 use native.Mathlib.Omega.{arith}
 use lib.Dec.{T, not-T, T-not}
 use Rattle.trees.specs.Tree.{Tree, leaf, node, height, leaves, last, Avl, avl-leaf, avl-node}
-use Rattle.trees.specs.Operations.{Part, Cut, partLeaves, partHeight, joinP, split, splitP, afterLeft, beforeRight}
+use Rattle.trees.specs.Operations.{Part, Cut, partLeaves, partHeight, joinP, split, splitP}
 use Rattle.trees.specs.Tests.{cond-both}
 use Rattle.trees.specs.Leaves.{leaves-joinP, last-leaf}
 use Rattle.trees.specs.Balanced.{AvlP, near-joinP}

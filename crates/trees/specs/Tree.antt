@@ -1,6 +1,6 @@
 -- Leaf-oriented trees: the items stand at the leaves, from left to right. One type serves the offers, the pieces and the numbers.
 use mathlib.Core.List.{List, [], _∷_, _++_}
-use Prim.Native.Nat.{ℕ, zero, suc, _+_, _≤_, max}
+use Prim.Native.Nat.{ℕ, zero, suc, _≤_, max}
 
 pub data Tree (A : Type 0) : Type 0 where
   leaf : A → Tree A

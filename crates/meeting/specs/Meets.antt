@@ -1,0 +1,127 @@
+-- The search on two trees whose leaves are envelopes: it finishes at the bridge within 3 × (hl + hr) + 1 steps.
+use Prim.Native.Nat.{ℕ, zero, suc, _+_, _*_, _-_, _≤_, _<_}
+use native.Mathlib.Omega.{arith}
+use mathlib.Core.Path.{_≡_, refl, sym, _∙_, ap}
+use mathlib.Core.Bool.{true}
+use mathlib.Core.Logic.{inl}
+use mathlib.Core.Option.{none}
+use mathlib.Core.List.{[], _++_}
+use lib.ListN.{length, getD, length-append, List·getD-append}
+use lib.Seq.{getD-append-add}
+use Rattle.envelopes.specs.PseudoLines.{Figure, PseudoLines}
+use Rattle.envelopes.specs.Bridge.{Facing, Bridge, One, Two, Facts}
+use Rattle.envelopes.specs.Search.{facts}
+use Rattle.trees.specs.Tree.{Tree, leaf, node, height, leaves}
+use Rattle.meeting.specs.Machine.{Side, left, right, away, toward, start, run, meet, Result}
+use Rattle.meeting.specs.Located.{Spans, one, two, edgeOf, bottom, Aim, Stands}
+use Rattle.meeting.specs.Moves.{half, owes, owes-root}
+use Rattle.meeting.specs.Verdicts.{Meeting, aim}
+use Rattle.meeting.specs.Search.{Sound, potential, Found, Finds, run-finds}
+
+-- ---- a tree's lines, counted from the outer end
+
+abbrev pub placeFrom : Side → ℕ → ℕ → ℕ
+placeFrom left n i = i
+placeFrom right n i = n - suc i
+
+module _ {A : Type 0} where
+  abbrev pub size : Tree A → ℕ
+  size t = length (leaves t)
+
+  abbrev pub lineFrom : Side → Tree A → A → ℕ → A
+  lineFrom side t d i = getD (leaves t) (placeFrom side (size t) i) d
+
+module _ {A : Type 0} (a : ℕ → A) (d : A) where
+  -- from lo on, a counts the tree's lines
+  abbrev Counts : Side → ℕ → Tree A → Type 0
+  Counts side lo t = (i : ℕ) → i < size t → a (lo + i) ≡ lineFrom side t d i
+
+  front : (l r : Tree A) (k i : ℕ) → k ≡ i → i < size l → getD (leaves (node l r)) k d ≡ getD (leaves l) i d
+  front l r k i e h = ap (λ (z : ℕ). getD (leaves (node l r)) z d) e ∙ List·getD-append (leaves l) (leaves r) d i h
+
+  back : (l r : Tree A) (k i : ℕ) → k ≡ size l + i → getD (leaves (node l r)) k d ≡ getD (leaves r) i d
+  back l r k i e = ap (λ (z : ℕ). getD (leaves (node l r)) z d) e ∙ getD-append-add (leaves l) (leaves r) i d
+
+  counts-away : (side : Side) (lo : ℕ) (l r : Tree A) → Counts side lo (node l r) → Counts side lo (away side l r)
+  counts-away left lo l r c i h = c i (omega (arith, length-append (leaves l) (leaves r))) ∙ front l r i i refl h
+  counts-away right lo l r c i h =
+      let e : size (node l r) ≡ size l + size r = length-append (leaves l) (leaves r) in
+      c i (omega arith) ∙ back l r _ (size r - suc i) (omega arith)
+
+  counts-toward : (side : Side) (lo : ℕ) (l r : Tree A) → Counts side lo (node l r) → Counts side (lo + size (away side l r)) (toward side l r)
+  counts-toward left lo l r c i h =
+      let e : size (node l r) ≡ size l + size r = length-append (leaves l) (leaves r) in
+      ap a (omega arith) ∙ c (size l + i) (omega arith) ∙ back l r _ i refl
+  counts-toward right lo l r c i h =
+      let e : size (node l r) ≡ size l + size r = length-append (leaves l) (leaves r) in
+      ap a (omega arith) ∙ c (size r + i) (omega arith) ∙ front l r _ (size l - suc i) (omega arith) (omega arith)
+
+  size-node : (side : Side) (l r : Tree A) → size (node l r) ≡ size (away side l r) + size (toward side l r)
+  size-node left l r = length-append (leaves l) (leaves r)
+  size-node right l r = omega (arith, length-append (leaves l) (leaves r))
+
+  abbrev Spanned : Side → Tree A → Type 0
+  Spanned side t = (lo hi : ℕ) → hi ≡ lo + size t → Counts side lo t → Spans side a lo t hi
+
+  spans-node : (side : Side) (l r : Tree A) → Spanned side (away side l r) → Spanned side (toward side l r) → Spanned side (node l r)
+  spans-node side l r f g lo hi e c =
+      two (f lo (lo + size (away side l r)) refl (counts-away side lo l r c)) (g (lo + size (away side l r)) hi (omega (arith, size-node side l r)) (counts-toward side lo l r c))
+
+  leaf-line : (side : Side) (x : A) → lineFrom side (leaf x) d 0 ≡ x
+  leaf-line left x = refl
+  leaf-line right x = refl
+
+  spans-leaf : (side : Side) (x : A) → Spanned side (leaf x)
+  spans-leaf side x lo hi e c =
+      let q : hi ≡ suc lo = omega arith in
+      let p : a lo ≡ x = ap a (omega arith) ∙ c 0 (omega arith) ∙ leaf-line side x in
+      rw q (one (sym p))
+
+  spans-of : (side : Side) (t : Tree A) → Spanned side t
+  spans-of side (leaf x) = spans-leaf side x
+  spans-of left (node l r) = spans-node left l r (spans-of left l) (spans-of left r)
+  spans-of right (node l r) = spans-node right l r (spans-of right r) (spans-of right l)
+
+-- A tree spans its lines.
+pub spans-tree : {A : Type 0} (side : Side) (t : Tree A) (d : A) → Spans side (lineFrom side t d) 0 t (size t)
+spans-tree side t d = spans-of (lineFrom side t d) d side t 0 (size t) (omega arith) (λ i h. ap (lineFrom side t d) (omega arith))
+
+-- ---- the search from the roots
+
+-- The search finished at these two lines, within the steps allowed.
+pub record Met {A : Type 0} (limit : ℕ) (u v : A) (r : Result A) : Type 0 where
+  pub finished : r .finished ≡ true
+  pub atLeft : r .u .tree ≡ leaf u
+  pub atRight : r .v .tree ≡ leaf v
+  pub steps : r .steps ≤ limit
+
+abbrev pub limit : {A : Type 0} → Tree A → Tree A → ℕ
+limit l r = 3 * (height l + height r) + 1
+
+abbrev root-stands : {A : Type 0} (side : Side) (t : Tree A) (g : Aim A) → g .tall ≡ height t → g .star < g .count → Spans side (g .line) 0 t (g .count) → Stands side g (half t none [])
+root-stands side t g e h s =
+    record {
+      lo = 0;
+      hi = g .count;
+      stacked = bottom;
+      spans = s;
+      edged = refl;
+      shallow = omega arith;
+      bounded = omega arith;
+      covers = h;
+    }
+
+-- From the five facts alone.
+pub meets-by : (S : Figure) (l r : Tree (S .Line)) (a : ℕ → S .Line) (m : ℕ) (c : ℕ → S .Line) (n : ℕ) (istar jstar : ℕ) → Spans left a 0 l m → Spans right c 0 r n → istar < m → jstar < n → Facts m n istar jstar (λ i k j h. One S a i k c j h) (λ i k j h. Two S a i k c j h) → Met (limit l r) (a istar) (c jstar) (meet S l r)
+unfolding meet start potential
+meets-by S l r a m c n istar jstar p q h k f =
+    let M : Meeting S = record { leftAim = record { line = a; count = m; star = istar; tall = height l }; rightAim = record { line = c; count = n; star = jstar; tall = height r }; facts = f } in
+    let i : Sound M left (half l none []) (half r none []) = record { us = root-stands left l (M .leftAim) refl h p; them = root-stands right r (M .rightAim) refl k q; held = inl (omega arith) } in
+    let b : potential i ≤ 3 * (height l + height r) = omega (arith, owes-root (i .us), owes-root (i .them)) in
+    let z = run-finds M (limit l r) (start l r) i (omega arith) in
+    record { finished = z .finished; atLeft = z .foundLeft .line; atRight = z .foundRight .line; steps = omega (arith, z .steps) }
+
+-- Two trees whose leaves are envelopes facing each other: the search finds their bridge.
+pub meets : (S : Figure) → PseudoLines S → (l r : Tree (S .Line)) (d : S .Line) (i j : ℕ) → Facing S (lineFrom left l d) (size l) (lineFrom right r d) (size r) → Bridge S (lineFrom left l d) (size l) (lineFrom right r d) (size r) i j → Met (limit l r) (lineFrom left l d i) (lineFrom right r d j) (meet S l r)
+meets S L l r d i j F B =
+    meets-by S l r (lineFrom left l d) (size l) (lineFrom right r d) (size r) i j (spans-tree left l d) (spans-tree right r d) (B .on-left .inside) (B .on-right .inside) (facts S L (lineFrom left l d) (size l) (lineFrom right r d) (size r) F i j B)

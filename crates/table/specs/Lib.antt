@@ -1,0 +1,3 @@
+-- The table: words, the places of the slots' fields, and trees kept in words.
+pub mod Words
+pub mod Layout

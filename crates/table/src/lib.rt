@@ -1,0 +1,102 @@
+// The words of a book's part, by total accessors: whatever the words are, a read gives a value and a write stays inside the part.
+ghost use mathlib.Core.Path.{_≡_};
+ghost use lib.IntN.{pos};
+ghost use Rattle.table.specs.Words.{word, wset, upTo};
+ghost use Rattle.table.specs.Layout.{cap, spot, cell, cset, linkAt};
+
+// Word `at`, and 0 past the end.
+pub fn word_at(part: &[i64], at: usize) -> i64
+    ensures { λ r. ⌜ r ≡ word (now (part .entry)) at ⌝ }
+{
+    if at < part.len() {
+        return part[at];
+    }
+    0
+}
+
+// Puts `value` into word `at`, and does nothing past the end.
+pub fn set_word(part: &mut [i64], at: usize, value: i64)
+    ensures { λ _. ⌜ now (part .exit) ≡ wset (now (part .entry)) at value ⌝ }
+{
+    if at < part.len() {
+        part[at] = value;
+    }
+}
+
+// A word as a number from 0 to `most`, and 0 where it is none of those.
+pub fn up_to(most: u32, value: i64) -> u32
+    ensures { λ r. ⌜ r ≡ upTo most value ⌝ }
+{
+    if value < 0 {
+        return 0;
+    }
+    let number = value as u64;
+    if number > most as u64 {
+        return 0;
+    }
+    number as u32
+}
+
+// Word `at` as a number from 0 to `most`, and 0 where it is none of those.
+pub fn number_at(part: &[i64], at: usize, most: u32) -> u32
+    ensures { λ r. ⌜ r ≡ upTo most (word (now (part .entry)) at) ⌝ }
+{
+    up_to(most, word_at(part, at))
+}
+
+// The capacity that word 0 tells, and 0 where there is no book: no capacity from 1 to 4,096, or a part that is cut short.
+pub fn capacity(part: &[i64]) -> u32
+    ensures { λ r. ⌜ r ≡ cap (now (part .entry)) ⌝ }
+{
+    let told = number_at(part, 0, 4096);
+    if part.len() < 64 * (told as usize + 1) {
+        return 0;
+    }
+    told
+}
+
+// The place of a slot's field, and the end of the words where the part has no such field.
+pub fn spot(part: &[i64], field: usize, slot: u32) -> usize
+    ensures { λ r. ⌜ r ≡ spot (now (part .entry)) field slot ⌝ }
+{
+    let c = capacity(part);
+    if slot < 1 {
+        return part.len();
+    }
+    if c < slot {
+        return part.len();
+    }
+    if 32 <= field {
+        return part.len();
+    }
+    64 + 4 * (field / 4 * (c as usize + 1) + slot as usize) + field % 4
+}
+
+// A slot's field, and 0 where the part has none such.
+pub fn get(part: &[i64], field: usize, slot: u32) -> i64
+    ensures { λ r. ⌜ r ≡ cell (now (part .entry)) field slot ⌝ }
+{
+    word_at(part, spot(part, field, slot))
+}
+
+// A slot's field as the number of a node: 0 where it is none from 0 to 8,192.
+pub fn link(part: &[i64], field: usize, slot: u32) -> u32
+    ensures { λ r. ⌜ r ≡ linkAt (now (part .entry)) field slot ⌝ }
+{
+    number_at(part, spot(part, field, slot), 8192)
+}
+
+// Puts `value` into a slot's field, and does nothing where the part has none such.
+pub fn put(part: &mut [i64], field: usize, slot: u32, value: i64)
+    ensures { λ _. ⌜ now (part .exit) ≡ cset (now (part .entry)) field slot value ⌝ }
+{
+    let at = spot(part, field, slot);
+    set_word(part, at, value);
+}
+
+// Puts a node's number, or a height, into a slot's field.
+pub fn put_link(part: &mut [i64], field: usize, slot: u32, value: u32)
+    ensures { λ _. ⌜ now (part .exit) ≡ cset (now (part .entry)) field slot (pos value) ⌝ }
+{
+    put(part, field, slot, value as i64);
+}
