@@ -1,5 +1,7 @@
 -- The dynamic envelope: the tree of offers with its stored parts, post and withdraw as functions on trees.
+pub mod Bridged
 pub mod Lower
+pub mod Raise
 pub mod OfferTree
 pub mod Updates
 pub mod Valid

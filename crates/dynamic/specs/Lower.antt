@@ -41,7 +41,7 @@ module _ (S : Figure) (L : PseudoLines S) where
       (λ k. up-to-last r (ordered-right S (leaves l) (leaves r) o) a k)
       (List·Memᴰ·append-cases (leaves l) m)
 
-  not-before : (a b : S .Line) → (b ≡ a) ⊎ T (S .before b a) → T (not (S .before a b))
+  pub not-before : (a b : S .Line) → (b ≡ a) ⊎ T (S .before b a) → T (not (S .before a b))
   not-before a b (inl e) = not-T (S .before a b) (λ t. L .before-irrefl a (subst (λ (c : S .Line). T (S .before a c)) e t))
   not-before a b (inr p) = not-T (S .before a b) (λ t. not-both S L a b t p)
 

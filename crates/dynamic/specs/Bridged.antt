@@ -1,0 +1,111 @@
+-- Two trees whose leaves are envelopes that face each other: the search finds the lines between which the envelope of both is cut and joined.
+use Prim.Native.Nat.{ℕ, zero, suc, _-_, _<_}
+use native.Mathlib.Omega.{arith}
+use mathlib.Core.Path.{_≡_, refl, sym, _∙_, ap}
+use mathlib.Core.List.{List, _∷_, _++_, reverse}
+use lib.ListN.{length, getD, take, drop, length-drop}
+use lib.Seq.{split-at, length-take-le}
+use Rattle.lists.specs.Places.{mem-at, sublist-mem, getD-reverse-about}
+use Rattle.envelopes.specs.PseudoLines.{Figure, PseudoLines, mirror}
+use Rattle.envelopes.specs.Bridge.{Chain, PastOuter, InPiece, Facing, Bridge}
+use Rattle.envelopes.specs.Envelope.{Ordered, Env}
+use Rattle.envelopes.specs.EnvelopeLaws.{ordered-apart}
+use Rattle.envelopes.specs.Exists.{bridge}
+use Rattle.envelopes.specs.Merge.{merge-split}
+use Rattle.trees.specs.Tree.{Tree, leaves, first}
+use Rattle.trees.specs.Leaves.{some-leaf}
+use Rattle.meeting.specs.Machine.{left, right, meet}
+use Rattle.meeting.specs.Meets.{size, lineFrom, Met, limit, meets}
+
+-- ---- a chain counted from its last line
+
+getD-reverse : {A : Type 0} (l : List A) (j : ℕ) (d : A) → j < length l → getD (reverse l) j d ≡ getD l (length l - suc j) d
+getD-reverse l j d h =
+    let k : ℕ = length l - suc j in
+    let n : length (drop (suc k) l) ≡ j = length-drop (suc k) l ∙ omega arith in
+    ap (λ z. getD (reverse z) j d) (split-at l k d (omega arith)) ∙ ap (λ z. getD (reverse (take k l ++ getD l k d ∷ drop (suc k) l)) z d) (sym n)
+    ∙ getD-reverse-about (take k l) (getD l k d) (drop (suc k) l) d
+
+module _ (S : Figure) where
+  chain-mirror : (a : ℕ → S .Line) (n : ℕ) → Chain S a n → Chain (mirror S) (λ i. a (n - suc i)) n
+  chain-mirror a n K =
+      record {
+        ordered = λ i h. let k : ℕ = n - suc (suc i) in let e : n - suc i ≡ suc k = omega arith in rw e (K .ordered k (omega arith));
+        turning = λ i h.
+            let k : ℕ = n - suc (suc (suc i)) in
+            let e : n - suc (suc i) ≡ suc k = omega arith in
+            let f : n - suc i ≡ suc (suc k) = omega arith in
+            rw (e, f) (K .turning k (omega arith));
+      }
+
+  past-same : (a b : ℕ → S .Line) (n : ℕ) → ((k : ℕ) → k < n → a k ≡ b k) → (i : ℕ) → i < n → (x : S .Point) → PastOuter S a i x → PastOuter S b i x
+  past-same a b n e zero h x p = p
+  past-same a b n e (suc i) h x p = rw (← e i (omega arith), ← e (suc i) h) p
+
+  piece-same : (a b : ℕ → S .Line) (n : ℕ) → ((k : ℕ) → k < n → a k ≡ b k) → (i : ℕ) (x : S .Point) → InPiece S a n i x → InPiece S b n i x
+  piece-same a b n e i x P =
+      record {
+        inside = P .inside;
+        outer = past-same a b n e i (P .inside) x (P .outer);
+        inner = λ q. rw (← e i (P .inside), ← e (suc i) q) (P .inner q);
+      }
+
+module _ (S : Figure) where
+  bridge-same :
+      (a : ℕ → S .Line) (m : ℕ) (b c : ℕ → S .Line) (n i j : ℕ) → ((k : ℕ) → k < n → b k ≡ c k) → Bridge S a m b n i j → Bridge S a m c n i j
+  bridge-same a m b c n i j e B =
+      let h : j < n = B .on-right .inside in
+      record {
+        on-left = rw (← e j h) (B .on-left);
+        on-right = rw (← e j h) (piece-same (mirror S) b c n e j (S .cross (a i) (b j)) (B .on-right));
+      }
+
+-- The pieces of two trees about the lines that their search ends at: those up to u and from v are the envelope of both sets.
+pub record Bridged (S : Figure) (ls rs : List (S .Line)) (tl tr : Tree (S .Line)) : Type 0 where
+  pub u : S .Line
+  pub v : S .Line
+  pub upTo : List (S .Line)
+  pub beyond : List (S .Line)
+  pub short : List (S .Line)
+  pub from : List (S .Line)
+  pub left-pieces : leaves tl ≡ upTo ++ u ∷ beyond
+  pub right-pieces : leaves tr ≡ short ++ v ∷ from
+  pub merged : Env S (ls ++ rs) (upTo ++ u ∷ v ∷ from)
+  pub met : Met (limit tl tr) u v (meet S tl tr)
+
+module _ (S : Figure) (L : PseudoLines S) (ls rs : List (S .Line)) (o : Ordered S (ls ++ rs)) (tl tr : Tree (S .Line)) (E : Env S ls (leaves tl)) (F : Env S rs (leaves tr)) where
+  faces : (d : S .Line) → Facing S (lineFrom left tl d) (size tl) (lineFrom right tr d) (size tr)
+  faces d =
+      record {
+        left = E .chain d;
+        right = chain-mirror S (λ i. getD (leaves tr) i d) (size tr) (F .chain d);
+        apart = λ i j h k.
+            ordered-apart S ls rs o (lineFrom left tl d i) (lineFrom right tr d j) (sublist-mem (E .sub) (mem-at (leaves tl) i d h))
+            (sublist-mem (F .sub) (mem-at (leaves tr) (size tr - suc j) d (omega arith)));
+      }
+
+  pub search-bridges : Bridged S ls rs tl tr
+  search-bridges =
+      let d : S .Line = first tl in
+      let a : ℕ → S .Line = lineFrom left tl d in
+      let c : ℕ → S .Line = lineFrom right tr d in
+      let (i, j, G) = bridge S L a (size tl) c (size tr) (faces d) (some-leaf tl) (some-leaf tr) in
+      let k : ℕ = size tr - suc j in
+      let hi : i < size tl = G .on-left .inside in
+      let hj : j < size tr = G .on-right .inside in
+      let H = bridge-same S a (size tl) c (λ t. getD (reverse (leaves tr)) t d) (size tr) i j (λ t h. sym (getD-reverse (leaves tr) t d h)) G in
+      record {
+        u = a i;
+        v = c j;
+        upTo = take i (leaves tl);
+        beyond = drop (suc i) (leaves tl);
+        short = take k (leaves tr);
+        from = drop (suc k) (leaves tr);
+        left-pieces = split-at (leaves tl) i d hi;
+        right-pieces = split-at (leaves tr) k d (omega arith);
+        merged =
+            merge-split S L ls rs (leaves tl) (leaves tr) (take i (leaves tl) ++ a i ∷ c j ∷ drop (suc k) (leaves tr)) (take i (leaves tl)) (drop (suc i) (leaves tl))
+            (take k (leaves tr)) (drop (suc k) (leaves tr)) (a i) (c j) d i j (split-at (leaves tl) i d hi) (split-at (leaves tr) k d (omega arith)) refl
+            (length-take-le i (leaves tl) (omega arith)) (length-drop (suc k) (leaves tr) ∙ omega arith) o E F .0 H;
+        met = meets S L tl tr d i j (faces d) G;
+      }
