@@ -102,8 +102,16 @@ module _ {A : Type 0} where
   merged-row [] m = m
   merged-row (h ∷ hs) m = merged-row hs (merged-there m)
 
-  pub merged-on : (side : Side) {o i h : Held A} {hs ks : List (Held A)} → Merged o i h hs ks → (ys : List (Held A)) → MergedOn side o i h (rowOn side hs ys) (rowOn side ks ys)
-  merged-on left merged-here ys = merged-here
-  merged-on left (merged-there m) ys = merged-there (merged-on left m ys)
-  merged-on right (merged-here {hs}) ys = merged-row hs merged-here
-  merged-on right (merged-there {x} m) ys = merged-on right m (x ∷ ys)
+  merged-seen : (side : Side) {o i h : Held A} {hs ks : List (Held A)} → Merged o i h hs ks → (ys : List (Held A)) → MergedOn side o i h (rowOn side hs ys) (rowOn side ks ys)
+  merged-seen left merged-here ys = merged-here
+  merged-seen left (merged-there m) ys = merged-there (merged-seen left m ys)
+  merged-seen right (merged-here {hs}) ys = merged-row hs merged-here
+  merged-seen right (merged-there {x} m) ys = merged-seen right m (x ∷ ys)
+
+  pub merged-on :
+      (side : Side) (xs : List (Held A)) {o i h : Held A} {hs ks : List (Held A)} →
+      Merged o i h hs ks →
+      (ys : List (Held A)) →
+      MergedOn side o i h (xs ++ rowOn side hs ys) (xs ++ rowOn side ks ys)
+  merged-on left xs m ys = merged-behind xs (merged-seen left m ys)
+  merged-on right xs m ys = merged-behind xs (merged-seen right m ys)

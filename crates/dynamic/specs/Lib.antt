@@ -8,3 +8,4 @@ pub mod Valid
 pub mod Work
 pub mod Floors
 pub mod Forests
+pub mod Kept
