@@ -9,3 +9,4 @@ pub mod Work
 pub mod Floors
 pub mod Forests
 pub mod Kept
+pub mod Rebalanced
