@@ -7,7 +7,7 @@ use Rattle.trees.specs.Tree.{Tree, node, leaves}
 use Rattle.meeting.specs.Machine.{Side, left, right}
 use Rattle.dynamic.specs.OfferTree.{Held, heldShape}
 use Rattle.dynamic.specs.Work.{Inner, inners}
-use Rattle.dynamic.specs.Floors.{Added, added-between, added-behind}
+use Rattle.dynamic.specs.Floors.{Added, added-here, added-there, added-between, added-behind}
 
 module _ {A : Type 0} where
   abbrev pub linesOf : List (Held A) → List A
@@ -29,6 +29,21 @@ module _ {A : Type 0} where
   -- the inner node above two subtrees
   abbrev pub above : Held A → Held A → Inner A
   above l r = record { front = leaves (heldShape l); back = leaves (heldShape r) }
+
+module _ {A : Type 0} {h : Held A} where
+  -- a single line more has no inner node
+  pub single-inners : {hs ks : List (Held A)} → inners (heldShape h) ≡ [] → Added h hs ks → innersOf ks ≡ innersOf hs
+  single-inners {hs} e (added-here d) = ap (λ ns. ns ++ innersOf hs) (ap (λ x. inners (heldShape x)) (sym d) ∙ e)
+  single-inners e (added-there {x} m) = ap (λ ns. inners (heldShape x) ++ ns) (single-inners e m)
+
+  pub added-all : {P : Held A → Type 0} {hs ks : List (Held A)} → Added h hs ks → P h → ((x : Held A) → List·Memᴰ x hs → P x) → (x : Held A) → List·Memᴰ x ks → P x
+  added-all {P} (added-here d) p f x i = ⊎-elim (λ e. subst P (d ∙ sym e) p) (f x) (List·Memᴰ·cases-cons i)
+  added-all {P} (added-there m) p f x i =
+      ⊎-elim (λ e. f x (List·Memᴰ·head e)) (λ j. added-all {P = P} m p (λ y k. f y (List·Memᴰ·tail k)) x j) (List·Memᴰ·cases-cons i)
+
+  pub added-in : {hs ks : List (Held A)} → Added h hs ks → {x : Held A} → List·Memᴰ x hs → List·Memᴰ x ks
+  added-in (added-here d) i = List·Memᴰ·tail i
+  added-in (added-there m) i = ⊎-elim List·Memᴰ·head (λ j. List·Memᴰ·tail (added-in m j)) (List·Memᴰ·cases-cons i)
 
 -- The second row is the first with the neighbours l and r replaced by h.
 pub data Merged {A : Type 0} (l r h : Held A) : List (Held A) → List (Held A) → Type 0 where

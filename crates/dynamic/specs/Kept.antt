@@ -3,7 +3,7 @@ use Prim.Native.Nat.{ℕ, suc, _+_, _*_, _≤_, max}
 use native.Mathlib.Omega.{arith}
 use mathlib.Core.Path.{_≡_, refl, sym, ap, subst, _∙_}
 use mathlib.Core.Logic.{⊎-elim}
-use mathlib.Core.List.{List, [], _∷_, _++_, List·Memᴰ, List·Memᴰ·append-cases, List·Memᴰ·eq-of-singleton}
+use mathlib.Core.List.{List, [], _∷_, _++_, List·Memᴰ, List·Memᴰ·append-cases, List·Memᴰ·eq-of-singleton, List·Memᴰ·not-nil}
 use lib.ListN.{length, length-append}
 use Rattle.envelopes.specs.PseudoLines.{Figure, PseudoLines}
 use Rattle.envelopes.specs.Envelope.{Ordered}
@@ -12,11 +12,11 @@ use Rattle.trees.specs.Tree.{Tree, leaf, node, height, leaves, Avl, avl-node}
 use Rattle.meeting.specs.Machine.{Side, left, right, meet}
 use Rattle.dynamic.specs.OfferTree.{OfferTree, single, fork, shape, Held, heldShape, Pair, Made, Lowered, outer, inner, lower, raise, raiseOn}
 use Rattle.dynamic.specs.Valid.{Whole}
-use Rattle.dynamic.specs.Work.{Inner, Searched, Floor, stepsOf, heightsOf}
+use Rattle.dynamic.specs.Work.{Inner, inners, Searched, Floor, stepsOf, heightsOf}
 use Rattle.dynamic.specs.Lower.{whole-lower}
 use Rattle.dynamic.specs.Raise.{Raised, raised-shape, whole-raise}
-use Rattle.dynamic.specs.Floors.{added-last, floor-drop, floor-add}
-use Rattle.dynamic.specs.Forests.{linesOf, innersOf, Merged, MergedOn, left-in, right-in, whole-in, merge-all, part-all, merged-sub, merged-lines, merged-inners}
+use Rattle.dynamic.specs.Floors.{Added, added-last, floor-drop, floor-add}
+use Rattle.dynamic.specs.Forests.{linesOf, innersOf, single-inners, added-all, added-in, Merged, MergedOn, left-in, right-in, whole-in, merge-all, part-all, merged-sub, merged-lines, merged-inners}
 
 abbrev pub heldHeight : {A : Type 0} → Held A → ℕ
 heldHeight h = height (heldShape h)
@@ -64,6 +64,20 @@ searched-more :
     List·Memᴰ q (log ++ p ∷ []) →
     Searched S live q
 searched-more S {live} log f s q m = ⊎-elim (f q) (λ i. subst (Searched S live) (sym (List·Memᴰ·eq-of-singleton i)) s) (List·Memᴰ·append-cases log m)
+
+-- ---- before the first search
+
+-- a row with an empty log, and other lines that are to stay
+pub started : (S : Figure) {before : List (Inner (S .Line))} {live : List (S .Line)} {row : List (Held (S .Line))} → Ordered S live → linesOf row ≡ live → ((h : Held (S .Line)) → List·Memᴰ h row → Whole S h) → Floor S before (innersOf row) [] → Kept S before live row []
+started S o e w f = record { ordered = o; lines = e; whole = w; searched = λ p m. absurd (List·Memᴰ·not-nil m); few-steps = omega arith; floor = f }
+
+-- a single line joins the row, or leaves it
+module _ (S : Figure) {before : List (Inner (S .Line))} {old live : List (S .Line)} {h : Held (S .Line)} {row more : List (Held (S .Line))} where
+  pub line-joins : Kept S before old row [] → Added h row more → Whole S h → inners (heldShape h) ≡ [] → Ordered S live → linesOf more ≡ live → Kept S before live more []
+  line-joins k a w e o l = started S o l (added-all a w (k .whole)) (rw (single-inners e a) (k .floor))
+
+  pub line-leaves : Kept S before old more [] → Added h row more → inners (heldShape h) ≡ [] → Ordered S live → linesOf row ≡ live → Kept S before live row []
+  line-leaves k a e o l = started S o l (λ x i. k .whole x (added-in a i)) (rw (← single-inners e a) (k .floor))
 
 -- ---- what is made
 

@@ -10,3 +10,4 @@ pub mod Floors
 pub mod Forests
 pub mod Kept
 pub mod Rebalanced
+pub mod Placed

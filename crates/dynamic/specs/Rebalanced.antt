@@ -23,13 +23,19 @@ record Rotated (S : Figure) (before : List (Inner (S .Line))) (live : List (S .L
   high : heldHeight (m .held) ≤ suc h
   few : length (m .log) ≤ 3
 
+-- Heights: siblings l and r come under a tree of height h; where they are level within one, under a node of their own.
+pub record Balances (l r h : ℕ) : Type 0 where
+  pub low : max l r ≤ h
+  pub high : h ≤ suc (max l r)
+  pub level : l ≤ suc r → r ≤ suc l → h ≡ suc (max l r)
+
+pub balances-turned : {l r h : ℕ} → Balances l r h → Balances r l h
+balances-turned {l} {r} {h} b = record { low = omega (arith, b .low); high = omega (arith, b .high); level = λ p q. b .level q p ∙ omega arith }
+
 -- What rebalancing makes of the siblings l and r.
 pub record Joined (S : Figure) (before : List (Inner (S .Line))) (live : List (S .Line)) (row : List (Held (S .Line))) (log : List (Pair (S .Line))) (l r : Held (S .Line)) (m : Made (S .Line)) : Type 0 where
   pub kept : Kept S before live row (log ++ m .log)
-  pub low : max (heldHeight l) (heldHeight r) ≤ heldHeight (m .held)
-  pub high : heldHeight (m .held) ≤ suc (max (heldHeight l) (heldHeight r))
-  -- siblings that are level within one come under a node of their own
-  pub level : heldHeight l ≤ suc (heldHeight r) → heldHeight r ≤ suc (heldHeight l) → heldHeight (m .held) ≡ suc (max (heldHeight l) (heldHeight r))
+  pub heights : Balances (heldHeight l) (heldHeight r) (heldHeight (m .held))
   pub few : length (m .log) ≤ 3
 
 -- Heights at a double rotation: t and s are the siblings', o and i those of the taller one's children, p and q of i's, x of the tree above o and p.
@@ -117,7 +123,7 @@ module _ (S : Figure) (L : PseudoLines S) (before : List (Inner (S .Line))) (liv
       (heldHeight l ≤ suc (heldHeight r) → heldHeight r ≤ suc (heldHeight l) → ⊥) →
       Rotated S before live row log h m →
       Joined S before live row log l r m
-  tall-joined e f R = record { kept = R .kept; low = rw e (R .low); high = rw e (R .high); level = λ a b. absurd (f a b); few = R .few }
+  tall-joined e f R = record { kept = R .kept; heights = record { low = rw e (R .low); high = rw e (R .high); level = λ a b. absurd (f a b) }; few = R .few }
 
   raised-level :
       (l r : Held (S .Line)) {log : List (Pair (S .Line))} →
@@ -127,7 +133,7 @@ module _ (S : Figure) (L : PseudoLines S) (before : List (Inner (S .Line))) (liv
       Joined S before live (xs ++ raise S l r .held ∷ ys) log l r (raise S l r)
   raised-level l r k hl hr =
       let R = raised-on S L left k (merged-on left xs {hs = l ∷ r ∷ []} merged-here ys) hl hr in
-      record { kept = R .kept; low = omega arith; high = omega arith; level = λ a b. R .level .higher; few = omega arith }
+      record { kept = R .kept; heights = record { low = omega arith; high = omega arith; level = λ a b. R .level .higher }; few = omega arith }
 
   pub rebalanced :
       (l r : Held (S .Line)) {log : List (Pair (S .Line))} →
