@@ -2,7 +2,7 @@
 -- and its inner nodes but for the one that goes or comes.
 use mathlib.Core.Path.{_≡_, refl, sym, ap, subst, _∙_}
 use mathlib.Core.Logic.{_⊎_, inl, inr, ⊎-elim}
-use mathlib.Core.List.{List, [], _∷_, _++_, append-assoc, List·Memᴰ, List·Memᴰ·head, List·Memᴰ·tail, List·Memᴰ·cases-cons, Sublistᴰ, Sublistᴰ·cons-cons, Sublistᴰ·refl, Sublistᴰ·nil-sublist, Sublistᴰ·append}
+use mathlib.Core.List.{List, [], _∷_, _++_, append-assoc, append-nil, List·Memᴰ, List·Memᴰ·head, List·Memᴰ·tail, List·Memᴰ·cases-cons, Sublistᴰ, Sublistᴰ·cons-cons, Sublistᴰ·refl, Sublistᴰ·nil-sublist, Sublistᴰ·append}
 use Rattle.trees.specs.Tree.{Tree, node, leaves}
 use Rattle.meeting.specs.Machine.{Side, left, right}
 use Rattle.dynamic.specs.OfferTree.{Held, heldShape}
@@ -21,6 +21,20 @@ module _ {A : Type 0} where
   pub lines-append : (xs ys : List (Held A)) → linesOf (xs ++ ys) ≡ linesOf xs ++ linesOf ys
   lines-append [] ys = refl
   lines-append (x ∷ xs) ys = rw (lines-append xs ys, append-assoc)
+
+  -- the lines between two others, part of them moved to the row behind or in front
+  pub lines-left : {live ls : List A} (ps ms rs qs : List A) → ps ++ (ls ++ qs) ≡ live → ls ≡ ms ++ rs → ps ++ (ms ++ (rs ++ qs)) ≡ live
+  lines-left ps ms rs qs e d = ap (λ l. ps ++ l) (sym (append-assoc ms rs qs) ∙ ap (λ l. l ++ qs) (sym d)) ∙ e
+
+  pub lines-right :
+      {live ls : List A} (xs : List (Held A)) (h : Held A) (rs qs : List A) →
+      linesOf xs ++ (ls ++ qs) ≡ live →
+      ls ≡ leaves (heldShape h) ++ rs →
+      linesOf (xs ++ h ∷ []) ++ (rs ++ qs) ≡ live
+  lines-right xs h rs qs e d =
+      ap (λ l. l ++ (rs ++ qs)) (lines-append xs (h ∷ []) ∙ ap (λ l. linesOf xs ++ l) (append-nil (leaves (heldShape h))))
+      ∙ append-assoc (linesOf xs) (leaves (heldShape h)) (rs ++ qs)
+      ∙ lines-left (linesOf xs) (leaves (heldShape h)) rs qs e d
 
   pub prefix-sub : (xs ys : List A) → Sublistᴰ xs (xs ++ ys)
   prefix-sub [] ys = Sublistᴰ·nil-sublist ys

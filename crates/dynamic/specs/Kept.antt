@@ -36,7 +36,7 @@ pub record Above {A : Type 0} (l r h : Held A) : Type 0 where
   pub left-level : heldHeight l ≤ suc (heldHeight r)
   pub right-level : heldHeight r ≤ suc (heldHeight l)
 
-above-turned : {A : Type 0} {l r h : Held A} → Above l r h → Above r l h
+pub above-turned : {A : Type 0} {l r h : Held A} → Above l r h → Above r l h
 above-turned a = record { higher = a .higher ∙ omega arith; left-level = a .right-level; right-level = a .left-level }
 
 -- ---- counts of a longer log

@@ -11,3 +11,4 @@ pub mod Forests
 pub mod Kept
 pub mod Rebalanced
 pub mod Placed
+pub mod Inserted
