@@ -12,3 +12,4 @@ pub mod Kept
 pub mod Rebalanced
 pub mod Placed
 pub mod Inserted
+pub mod Removed

@@ -94,6 +94,13 @@ module _ (S : Figure) (L : PseudoLines S) (s : S .Line) where
           (λ (e : b ≡ s). subst (λ c. T (S .before p c)) (sym e) (⊎-elim (λ u. absurd (T-not (S .before s p) t u)) (λ u. u) (n p (List·Memᴰ·head refl))))
           (ordered-head S o b) (placed-mem S s ps b m)
 
+  pub without-one : {a : S .Line} → s ≡ a → without S s (a ∷ []) ≡ []
+  without-one {a} e = subst (λ c. without S s (c ∷ []) ≡ []) e (cond-no (S .before s s || S .before s s) (s ∷ []) [] (not-T (S .before s s || S .before s s) (λ t. L .before-irrefl s (same (S .before s s) t))))
+    where
+      same : (b : Bool) → T (b || b) → T b
+      same true t = t
+      same false t = t
+
   -- ---- the last line of a subtree decides for all
 
   pub none-behind : (t : Tree (S .Line)) → Ordered S (leaves t) → T (not (S .before s (last t))) → (x : S .Line) → List·Memᴰ x (leaves t) → T (not (S .before s x))
