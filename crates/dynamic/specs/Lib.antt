@@ -2,6 +2,8 @@
 pub mod Bridged
 pub mod Lower
 pub mod Raise
+pub mod Rearranged
+pub mod Heights
 pub mod OfferTree
 pub mod Updates
 pub mod Valid

@@ -16,6 +16,7 @@ use Rattle.trees.specs.Leaves.{leaves-joinP, first-leaf}
 use Rattle.trees.specs.Balanced.{near-joinP}
 use Rattle.trees.specs.Split.{Halves, split-halves, split-low}
 use Rattle.meeting.specs.Machine.{meet}
+use Rattle.meeting.specs.Meets.{Met, limit}
 use Rattle.dynamic.specs.OfferTree.{OfferTree, fork, shape, Held, hold, heldShape, Pair, Made, bridged, raiseBy, raise}
 use Rattle.dynamic.specs.Valid.{Valid, valid-fork, Whole}
 use Rattle.dynamic.specs.Work.{Searched, Holds}
@@ -89,10 +90,15 @@ pub record Raised (S : Figure) (l r : Held (S .Line)) (m : Made (S .Line)) : Typ
   pub logged : m .log ≡ pair ∷ []
   pub searched : (live : List (S .Line)) → Sublistᴰ (leaves (heldShape l) ++ leaves (heldShape r)) live → Searched S live pair
   pub holds : Holds S (record { front = leaves (heldShape l); back = leaves (heldShape r) }) pair
-  pub few-steps : meet S (pair .front) (pair .back) .steps ≤ 3 * (height (pair .front) + height (pair .back)) + 1
+  pub met : Met (limit (pair .front) (pair .back)) u v (meet S (pair .front) (pair .back))
 
 pub raised-shape : (S : Figure) {l r : Held (S .Line)} {m : Made (S .Line)} → Raised S l r m → heldShape (m .held) ≡ node (heldShape l) (heldShape r)
 raised-shape S R = ap shape (R .forked)
+
+pub raised-steps :
+    (S : Figure) {l r : Held (S .Line)} {m : Made (S .Line)} (R : Raised S l r m) →
+    meet S (R .pair .front) (R .pair .back) .steps ≤ 3 * (height (R .pair .front) + height (R .pair .back)) + 1
+raised-steps S R = R .met .steps
 
 module _ (S : Figure) (L : PseudoLines S) where
   -- no envelope is empty
@@ -138,7 +144,7 @@ module _ (S : Figure) (L : PseudoLines S) where
               right-balanced = wr .balanced-whole;
             };
         holds = record { front = E; back = F };
-        few-steps = G .met .steps;
+        met = rw (p, q) (G .met);
       }
 
   pub whole-raise :

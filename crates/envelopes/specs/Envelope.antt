@@ -1,5 +1,4 @@
 -- The lower envelope of a list of lines, and the listing of document 01.
-use Prim.Native.Nat.{ℕ}
 use mathlib.Core.Logic.{_≢_}
 use mathlib.Core.Bool.{Bool, not, _&&_}
 use mathlib.Core.List.{List, [], _∷_, List·Memᴰ, Sublistᴰ}

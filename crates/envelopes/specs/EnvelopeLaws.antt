@@ -2,27 +2,8 @@
 use Prim.Native.Nat.{ℕ, zero, suc, _<_}
 use native.Mathlib.Nat.{not-suc-le-zero, le-of-suc-le-suc}
 use mathlib.Core.Path.{_≡_, refl, sym, subst, _∙_, ap₂}
-use mathlib.Core.Logic.{_⊎_, inl, inr, ⊎-elim, _≢_, _↔_}
-use mathlib.Core.List.{
-  List,
-  [],
-  _∷_,
-  _++_,
-  reverse,
-  reverseAux,
-  List·Memᴰ,
-  List·Memᴰ·head,
-  List·Memᴰ·tail,
-  List·Memᴰ·cases-cons,
-  List·Memᴰ·append-cases,
-  List·Memᴰ·not-nil,
-  Memᴰ·append-left,
-  Memᴰ·append-right,
-  Sublistᴰ,
-  Sublistᴰ·slnil,
-  Sublistᴰ·cons,
-  Sublistᴰ·cons-cons,
-}
+use mathlib.Core.Logic.{_⊎_, inl, inr, ⊎-elim, _≢_}
+use mathlib.Core.List.{List, [], _∷_, _++_, reverse, reverseAux, List·Memᴰ, List·Memᴰ·head, List·Memᴰ·tail, List·Memᴰ·cases-cons, List·Memᴰ·append-cases, List·Memᴰ·not-nil, Memᴰ·append-left, Memᴰ·append-right, Sublistᴰ, Sublistᴰ·slnil, Sublistᴰ·cons, Sublistᴰ·cons-cons}
 use lib.Dec.{T}
 use lib.ListN.{length, getD}
 use Rattle.lists.specs.Places.{mem-at, sublist-mem}

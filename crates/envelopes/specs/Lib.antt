@@ -6,9 +6,11 @@ pub mod EnvelopeLaws
 pub mod Listed
 pub mod Query
 pub mod Merge
+pub mod Restrict
+pub mod Carried
+pub mod Small
 pub mod Bridge
 pub mod Chains
 pub mod Bridges
 pub mod Search
-pub mod MergeCore
 pub mod Exists

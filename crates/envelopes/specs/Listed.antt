@@ -1,16 +1,16 @@
 -- The listing is exact: a line is listed if and only if at some point it is strictly below every other. And the listing is a lower envelope.
-use Prim.Native.Nat.{ℕ, zero, suc, _<_}
+use Prim.Native.Nat.{suc}
 use native.Mathlib.Omega.{arith}
-use mathlib.Core.Path.{_≡_, refl, sym, subst}
+use mathlib.Core.Path.{refl, sym}
 use mathlib.Core.Logic.{_⊎_, inl, inr, ⊎-elim, _↔_}
-use mathlib.Core.Bool.{Bool, true, false, not, _&&_}
-use mathlib.Core.List.{List, [], _∷_, List·Memᴰ, List·Memᴰ·head, List·Memᴰ·tail, List·Memᴰ·cases-cons, List·Memᴰ·not-nil, Sublistᴰ}
+use mathlib.Core.Bool.{not, _&&_}
+use mathlib.Core.List.{List, [], _∷_, List·Memᴰ, List·Memᴰ·head, List·Memᴰ·tail, List·Memᴰ·not-nil, Sublistᴰ}
 use lib.Dec.{T, T-not, not-T}
 use lib.ListN.{length, getD}
 use Rattle.lists.specs.Members.{T?}
 use Rattle.lists.specs.Filter.{every, every-at, every-all, keep-sublist, keep-passes, keep-in, both, one-of-both, other-of-both}
 use Rattle.lists.specs.Places.{all-cons, mem-at, sublist-mem}
-use Rattle.envelopes.specs.PseudoLines.{Figure, LeftOf, Below, PseudoLines, mirror, mirror-laws}
+use Rattle.envelopes.specs.PseudoLines.{Figure, LeftOf, PseudoLines, mirror, mirror-laws}
 use Rattle.envelopes.specs.Crossing.{price-refl, point-refl, below-le, left-upto-trans, upto-left-trans, left-trans, left-of-cross, right-of-cross, le-upto-cross, below-left-of-cross, below-right-of-cross}
 use Rattle.envelopes.specs.Bridge.{Chain}
 use Rattle.envelopes.specs.Envelope.{Ordered, Env, Cheapest, First, stays, listed}

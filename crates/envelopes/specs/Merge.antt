@@ -1,39 +1,19 @@
 -- The merge of two envelopes: the left lines up to u and the right lines from v are the envelope of both exactly if (u, v) is the bridge.
-use Prim.Native.Nat.{ℕ, zero, suc, _-_, _<_}
+use Prim.Native.Nat.{ℕ, suc, _-_, _<_}
 use native.Mathlib.Omega.{arith}
-use mathlib.Core.Path.{_≡_, refl, sym, subst, _∙_, ap}
+use mathlib.Core.Path.{_≡_, refl, sym, subst, _∙_}
 use mathlib.Core.Logic.{_⊎_, inl, inr, ⊎-elim, _↔_}
-use mathlib.Core.List.{
-  List,
-  [],
-  _∷_,
-  _++_,
-  reverse,
-  List·Memᴰ,
-  List·Memᴰ·head,
-  List·Memᴰ·tail,
-  List·Memᴰ·cases-cons,
-  List·Memᴰ·append-cases,
-  List·Memᴰ·not-nil,
-  Memᴰ·append-left,
-  Memᴰ·append-right,
-  Sublistᴰ,
-  Sublistᴰ·refl,
-  Sublistᴰ·trans,
-  Sublistᴰ·append,
-  Sublistᴰ·cons-cons,
-  Sublistᴰ·nil-sublist,
-}
+use mathlib.Core.List.{List, _∷_, _++_, reverse, List·Memᴰ, List·Memᴰ·head, List·Memᴰ·tail, List·Memᴰ·cases-cons, List·Memᴰ·append-cases, Memᴰ·append-left, Memᴰ·append-right, Sublistᴰ, Sublistᴰ·refl, Sublistᴰ·trans, Sublistᴰ·append, Sublistᴰ·cons-cons, Sublistᴰ·nil-sublist}
 use lib.Dec.{T}
 use lib.ListN.{length, getD, length-append, length-reverse, length-drop, take, drop}
 use lib.Seq.{append-snoc, getD-append-seam, split-at, length-take-le, take-suc, drop-cons}
-use Rattle.lists.specs.Places.{sublist-mem, mem-reverse, mem-unreverse, getD-reverse-about, getD-next, place-inside}
+use Rattle.lists.specs.Places.{mem-at, sublist-mem, mem-reverse, mem-unreverse, getD-reverse-about, getD-next}
 use Rattle.envelopes.specs.PseudoLines.{Figure, LeftOf, PseudoLines, mirror, mirror-laws}
 use Rattle.envelopes.specs.Crossing.{left-upto, left-upto-trans, le-upto-cross, ge-cross-upto, below-right-of-cross, left-of-cross}
-use Rattle.envelopes.specs.Bridge.{InPiece, Bridge}
+use Rattle.envelopes.specs.Bridge.{InPiece, Facing, Bridge}
 use Rattle.envelopes.specs.Chains.{turn-in-piece}
 use Rattle.envelopes.specs.Envelope.{Ordered, Env, First, listed}
-use Rattle.envelopes.specs.EnvelopeLaws.{ordered-head, ordered-left, ordered-right, ordered-apart, ordered-sublist, ordered-reverse, not-both, same-members}
+use Rattle.envelopes.specs.EnvelopeLaws.{ordered-head, ordered-left, ordered-right, ordered-apart, ordered-sublist, not-both, same-members}
 use Rattle.envelopes.specs.Listed.{Stays, first-among-fewer, stays-among, stays-mirror, listed-sub, listed-one, listed-stays, stays-listed, first-stays, listed-env}
 use Rattle.envelopes.specs.Query.{query, first-in-piece, env-listed, env-mirror}
 
@@ -223,6 +203,24 @@ module _
 
         stays : Stays S (ls ++ rs) v
         stays = listed-stays S (ls ++ rs) v (subst (List·Memᴰ v) (env-listed S L (ls ++ rs) (B ++ u ∷ v ∷ D) o G) (Memᴰ·append-right B (List·Memᴰ·tail (List·Memᴰ·head refl))))
+
+-- The two envelopes face each other.
+pub env-facing :
+    (S : Figure) →
+    PseudoLines S →
+    (ls rs us vs : List (S .Line)) (d : S .Line) →
+    Ordered S (ls ++ rs) →
+    Env S ls us →
+    Env S rs vs →
+    Facing S (λ k. getD us k d) (length us) (λ k. getD (reverse vs) k d) (length vs)
+env-facing S L ls rs us vs d o E F =
+    record {
+      left = E .chain d;
+      right = rw length-reverse at (env-mirror S L rs vs (ordered-right S ls rs o) F .chain d);
+      apart = λ i j p q.
+          ordered-apart S ls rs o (getD us i d) (getD (reverse vs) j d) (sublist-mem (E .sub) (mem-at us i d p))
+          (sublist-mem (F .sub) (mem-unreverse vs (mem-at (reverse vs) j d (rw length-reverse q))));
+    }
 
 -- The bridge by places, right lines counted from the last, is the meeting of the lines at those places.
 module _ (S : Figure) (L : PseudoLines S) (ls rs A C : List (S .Line)) (o : Ordered S rs) (E : Env S ls A) (F : Env S rs C) (d : S .Line) (i j : ℕ) where

@@ -3,8 +3,8 @@ use Prim.Native.Nat.{ℕ, zero, suc, _<_}
 use native.Mathlib.Omega.{arith}
 use native.Mathlib.Decide.{ℕ-discrete}
 use mathlib.Core.Path.{_≡_, sym, subst, _∙_}
-use mathlib.Core.Logic.{_⊎_, inl, inr, ⊎-elim, _↔_}
-use mathlib.Core.List.{List, [], _∷_, reverse, List·Memᴰ, Memᴰ·cast}
+use mathlib.Core.Logic.{⊎-elim, _↔_}
+use mathlib.Core.List.{List, reverse, List·Memᴰ, Memᴰ·cast}
 use lib.Dec.{T}
 use lib.ListN.{length, getD}
 use Rattle.lists.specs.Places.{mem-at, place-of, sublist-mem, mem-reverse, mem-unreverse}
@@ -12,7 +12,7 @@ use Rattle.envelopes.specs.PseudoLines.{Figure, LeftOf, PseudoLines, mir
 use Rattle.envelopes.specs.Crossing.{left-upto, le-upto-cross, below-right-of-cross}
 use Rattle.envelopes.specs.Bridge.{Chain, PastOuter, InPiece}
 use Rattle.envelopes.specs.Chains.{piece, piece-lowest, strictly-lowest}
-use Rattle.envelopes.specs.Envelope.{Ordered, Env, First, Cheapest, listed}
+use Rattle.envelopes.specs.Envelope.{Ordered, Env, First, listed}
 use Rattle.envelopes.specs.EnvelopeLaws.{ordered-sublist, ordered-reverse, either-other, compare-lines, same-members}
 use Rattle.envelopes.specs.Listed.{stays-among, stays-mirror, listed-sub, listed-one, listed-stays, stays-listed, listed-exact, first-listed, listed-env}
 
@@ -88,6 +88,10 @@ module _ (S : Figure) (L : PseudoLines S) where
       (λ (q : e ≡ f). Memᴰ·cast q i)
       (λ p. absurd (c .below f (sublist-mem (E .sub) i) (either-other S L e f p) h))
       (compare-lines S L o (c .one-of) (sublist-mem (E .sub) i)))
+
+  -- so Env says: es is the listing
+  pub env-exact : (ls es : List (S .Line)) → Ordered S ls → Env S ls es ↔ (es ≡ listed S ls)
+  env-exact ls es o = (env-listed ls es o, λ e. rw e (listed-env S L ls o))
 
   pub env-unique : (ls es fs : List (S .Line)) → Ordered S ls → Env S ls es → Env S ls fs → es ≡ fs
   env-unique ls es fs o E F = env-listed ls es o E ∙ sym (env-listed ls fs o F)

@@ -1,8 +1,8 @@
 -- A test on every element of a list, and the elements that pass one, as functions that compute.
-use mathlib.Core.Path.{_≡_, refl, sym, subst}
+use mathlib.Core.Path.{_≡_, refl, sym, subst, ap}
 use mathlib.Core.Logic.{_⊎_, inl, inr, ⊎-elim}
 use mathlib.Core.Bool.{Bool, true, false, _&&_, cond}
-use mathlib.Core.List.{List, [], _∷_, List·Memᴰ, List·Memᴰ·head, List·Memᴰ·tail, List·Memᴰ·cases-cons, List·Memᴰ·not-nil, Sublistᴰ, Sublistᴰ·slnil, Sublistᴰ·cons, Sublistᴰ·cons-cons}
+use mathlib.Core.List.{List, map, [], _∷_, List·Memᴰ, List·Memᴰ·head, List·Memᴰ·tail, List·Memᴰ·cases-cons, Sublistᴰ, Sublistᴰ·slnil, Sublistᴰ·cons, Sublistᴰ·cons-cons}
 use lib.Dec.{T}
 
 pub both : (a b : Bool) → T a → T b → T (a && b)
@@ -54,3 +54,21 @@ module _ {A : Type 0} where
       step true e (inr m′) ih = List·Memᴰ·tail (ih m′)
       step false e (inl q) ih = absurd (subst T e (subst (λ (y : A). T (p y)) q t))
       step false e (inr m′) ih = ih m′
+
+  -- tests that agree keep the same
+  pub keep-same : (p q : A → Bool) → ((a : A) → p a ≡ q a) → (l : List A) → keep p l ≡ keep q l
+  keep-same p q h [] = refl
+  keep-same p q h (x ∷ xs) = rw (h x, keep-same p q h xs)
+
+module _ {A B : Type 0} where
+  pub every-map : (p : B → Bool) (f : A → B) (l : List A) → every p (map f l) ≡ every (λ a. p (f a)) l
+  every-map p f [] = refl
+  every-map p f (x ∷ xs) = ap (λ (b : Bool). p (f x) && b) (every-map p f xs)
+
+  pub keep-map : (p : B → Bool) (f : A → B) (l : List A) → keep p (map f l) ≡ map f (keep (λ a. p (f a)) l)
+  keep-map p f [] = refl
+  keep-map p f (x ∷ xs) = step (p (f x)) (keep-map p f xs)
+    where
+      step : (b : Bool) → keep p (map f xs) ≡ map f (keep (λ a. p (f a)) xs) → cond b (f x ∷ keep p (map f xs)) (keep p (map f xs)) ≡ map f (cond b (x ∷ keep (λ a. p (f a)) xs) (keep (λ a. p (f a)) xs))
+      step true e = ap {B = List B} (λ (r : List B). f x ∷ r) e
+      step false e = e

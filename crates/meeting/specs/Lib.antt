@@ -6,3 +6,4 @@ pub mod Tests
 pub mod Verdicts
 pub mod Search
 pub mod Meets
+pub mod Examples

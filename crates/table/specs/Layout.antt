@@ -30,7 +30,7 @@ fitting n c = cond (leb (64 * (c + 1)) n) c 0
 unfoldable pub cap : Words → ℕ
 cap w = fitting (length w) (upTo 4096 (word w 0))
 
-cap-of : (w w′ : Words) → length w′ ≡ length w → word w′ 0 ≡ word w 0 → cap w′ ≡ cap w
+pub cap-of : (w w′ : Words) → length w′ ≡ length w → word w′ 0 ≡ word w 0 → cap w′ ≡ cap w
 unfolding cap
 cap-of w w′ n z = rw (n, z)
 
@@ -215,3 +215,9 @@ cset-other w f s z {f′} {s′} d = go (valid? w f s)
     go (yes v) =
         ap (word (cset w f s z)) (cset-spot w f s z f′ s′) ∙ wset-other w (spot w f s) (spot w f′ s′) z (spot-apart f′ s′ v d)
     go (no v) = ap (λ (u : Words). word u (spot u f′ s′)) (cset-out z v)
+
+pub link-of : {f f′ s s′ r : ℕ} (w : Words) → f ≡ f′ → s ≡ s′ → r ≡ linkAt w f s → r ≡ linkAt w f′ s′
+link-of w d e h = rw (← d, ← e) h
+
+pub link-most : (w : Words) (f s : ℕ) → linkAt w f s ≤ 8192
+link-most w f s = upTo-most 8192 (cell w f s)

@@ -1,8 +1,10 @@
 // The words of a book's part, by total accessors: whatever the words are, a read gives a value and a write stays inside the part.
 ghost use mathlib.Core.Path.{_≡_};
+ghost use Prim.Native.Nat.{_-_};
 ghost use lib.IntN.{pos};
 ghost use Rattle.table.specs.Words.{word, wset, upTo};
 ghost use Rattle.table.specs.Layout.{cap, spot, cell, cset, linkAt};
+ghost use Rattle.table.specs.Rep.{childField, heightField, childAt, heightAt};
 
 // Word `at`, and 0 past the end.
 pub fn word_at(part: &[i64], at: usize) -> i64
@@ -99,4 +101,44 @@ pub fn put_link(part: &mut [i64], field: usize, slot: u32, value: u32)
     ensures { λ _. ⌜ now (part .exit) ≡ cset (now (part .entry)) field slot (pos value) ⌝ }
 {
     put(part, field, slot, value as i64);
+}
+
+// The field of a child in a tree. The trees are 0 the pieces, 1 the offers, 2 the numbers; the sides are false left, true right.
+pub fn child_field(tree: u8, side: bool) -> usize
+    ensures { λ r. ⌜ r ≡ childField tree side ⌝ }
+{
+    if side {
+        return 4 + 4 * (tree as usize) + 1;
+    }
+    4 + 4 * (tree as usize)
+}
+
+pub fn height_field(tree: u8) -> usize
+    ensures { λ r. ⌜ r ≡ heightField tree ⌝ }
+{
+    16 + tree as usize
+}
+
+// The slot that keeps inner node `x`, and 0 where `x` is no inner node.
+pub fn inner_slot(x: u32) -> u32
+    ensures { λ r. ⌜ r ≡ x - 4096 ⌝ }
+{
+    if x <= 4096 {
+        return 0;
+    }
+    x - 4096
+}
+
+// A child of an inner node, and 0 where `x` is none.
+pub fn child(part: &[i64], tree: u8, side: bool, x: u32) -> u32
+    ensures { λ r. ⌜ r ≡ childAt (now (part .entry)) tree side x ⌝ }
+{
+    link(part, child_field(tree, side), inner_slot(x))
+}
+
+// The height of node `x`, and 0 where it is no inner node.
+pub fn height(part: &[i64], tree: u8, x: u32) -> u32
+    ensures { λ r. ⌜ r ≡ heightAt (now (part .entry)) tree x ⌝ }
+{
+    link(part, height_field(tree), inner_slot(x))
 }

@@ -1,0 +1,2 @@
+-- The book in a lent table.
+pub mod Form

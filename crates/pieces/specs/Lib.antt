@@ -1,0 +1,2 @@
+-- Piece trees in words: envelopes with their crossings, cut and put together.
+pub mod Pieces

@@ -1,0 +1,2 @@
+-- What the operations on the trees of a table promise, and the steps of their proofs on trees and words alone.
+pub mod Joining

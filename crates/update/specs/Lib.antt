@@ -1,0 +1,3 @@
+-- The tree of offers in words.
+pub mod Stored
+pub mod Steps
