@@ -3,10 +3,12 @@
 use mathlib.Core.Path.{_≡_, refl, sym, ap, subst, _∙_}
 use mathlib.Core.Logic.{_⊎_, inl, inr, ⊎-elim}
 use mathlib.Core.List.{List, [], _∷_, _++_, append-assoc, append-nil, List·Memᴰ, List·Memᴰ·head, List·Memᴰ·tail, List·Memᴰ·cases-cons, Sublistᴰ, Sublistᴰ·cons-cons, Sublistᴰ·refl, Sublistᴰ·nil-sublist, Sublistᴰ·append}
+use mathlib.Core.Option.{Option, none, some}
 use Rattle.trees.specs.Tree.{Tree, node, leaves}
 use Rattle.meeting.specs.Machine.{Side, left, right}
 use Rattle.dynamic.specs.OfferTree.{Held, heldShape}
-use Rattle.dynamic.specs.Work.{Inner, inners}
+use Rattle.dynamic.specs.Valid.{bookLines}
+use Rattle.dynamic.specs.Work.{Inner, inners, bookInners}
 use Rattle.dynamic.specs.Floors.{Added, added-here, added-there, added-between, added-behind}
 
 module _ {A : Type 0} where
@@ -17,6 +19,19 @@ module _ {A : Type 0} where
   abbrev pub innersOf : List (Held A) → List (Inner A)
   innersOf [] = []
   innersOf (h ∷ hs) = inners (heldShape h) ++ innersOf hs
+
+  -- a book as a row
+  abbrev pub rowOf : Option (Held A) → List (Held A)
+  rowOf none = []
+  rowOf (some h) = h ∷ []
+
+  pub lines-row : (st : Option (Held A)) → linesOf (rowOf st) ≡ bookLines st
+  lines-row none = refl
+  lines-row (some h) = append-nil (leaves (heldShape h))
+
+  pub inners-row : (st : Option (Held A)) → innersOf (rowOf st) ≡ bookInners st
+  inners-row none = refl
+  inners-row (some h) = append-nil (inners (heldShape h))
 
   pub lines-append : (xs ys : List (Held A)) → linesOf (xs ++ ys) ≡ linesOf xs ++ linesOf ys
   lines-append [] ys = refl

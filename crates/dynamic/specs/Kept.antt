@@ -14,7 +14,7 @@ use Rattle.dynamic.specs.OfferTree.{OfferTree, single, fork, shape, Held
 use Rattle.dynamic.specs.Valid.{Whole}
 use Rattle.dynamic.specs.Work.{Inner, inners, Searched, Floor, stepsOf, heightsOf}
 use Rattle.dynamic.specs.Lower.{whole-lower}
-use Rattle.dynamic.specs.Raise.{Raised, raised-shape, whole-raise}
+use Rattle.dynamic.specs.Raise.{raised-shape, raised-steps, whole-raise}
 use Rattle.dynamic.specs.Floors.{Added, added-last, floor-drop, floor-add}
 use Rattle.dynamic.specs.Forests.{linesOf, innersOf, single-inners, added-all, added-in, Merged, MergedOn, left-in, right-in, whole-in, merge-all, part-all, merged-sub, merged-lines, merged-inners}
 
@@ -145,7 +145,7 @@ module _ (S : Figure) (L : PseudoLines S) where
                 lines = merged-lines forked m ∙ k .lines;
                 whole = merge-all m (R .whole) (k .whole);
                 searched = rw (R .logged) (searched-more S log (k .searched) (R .searched live (rw (← k .lines) (merged-sub m))));
-                few-steps = rw (R .logged) (few-more S log (R .pair) (k .few-steps) (R .few-steps));
+                few-steps = rw (R .logged) (few-more S log (R .pair) (k .few-steps) (raised-steps S R));
                 floor = rw (R .logged) (floor-add S before (merged-inners forked m) (added-last log) (R .holds) (k .floor));
               };
           level = above-node forked avl;

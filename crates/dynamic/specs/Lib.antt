@@ -15,3 +15,4 @@ pub mod Rebalanced
 pub mod Placed
 pub mod Inserted
 pub mod Removed
+pub mod Updated

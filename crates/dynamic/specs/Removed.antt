@@ -23,7 +23,7 @@ use Rattle.dynamic.specs.Updates.{Removed, rebalance, besideLeft, beside
 use Rattle.dynamic.specs.Valid.{without}
 use Rattle.dynamic.specs.Work.{Inner}
 use Rattle.dynamic.specs.Floors.{added-between}
-use Rattle.dynamic.specs.Forests.{linesOf, lines-append, lines-left, lines-right, merged-here, merged-behind}
+use Rattle.dynamic.specs.Forests.{rowOf, linesOf, lines-append, lines-left, lines-right, merged-here, merged-behind}
 use Rattle.dynamic.specs.Kept.{Kept, heldHeight, Above, above-turned, lowered-on, line-leaves}
 use Rattle.dynamic.specs.Rebalanced.{Balances, balances-turned, rebalanced}
 use Rattle.dynamic.specs.Placed.{or-left, or-right, without-append, without-all, without-one, all-before}
@@ -44,10 +44,6 @@ falls {h} {f} {g} {k} e p q low high = record { near = omega arith; far = omega 
     go n b (no d) = omega arith
 
 -- ---- what a removal leaves of a subtree of height h
-
-abbrev pub leftRow : {A : Type 0} → Option (Held A) → List (Held A)
-leftRow none = []
-leftRow (some h) = h ∷ []
 
 -- nothing only of a single line
 abbrev pub Lower : {A : Type 0} → ℕ → Option (Held A) → Type 0
@@ -75,8 +71,8 @@ module _ (S : Figure) (L : PseudoLines S) {before : List (Inner (S .Line))} {liv
   shrunk-left :
       {h f g : Held (S .Line)} (xs ys : List (Held (S .Line))) (rest : Option (Held (S .Line))) (log : List (Pair (S .Line))) →
       Above f g h →
-      Shrunk S before live (xs ++ (leftRow rest ++ g ∷ ys)) (heldHeight f) (record { rest = rest; log = log }) →
-      Shrunk S before live (xs ++ (leftRow (besideRight S (record { rest = rest; log = log }) g .rest) ++ ys)) (heldHeight h) (besideRight S (record { rest = rest; log = log }) g)
+      Shrunk S before live (xs ++ (rowOf rest ++ g ∷ ys)) (heldHeight f) (record { rest = rest; log = log }) →
+      Shrunk S before live (xs ++ (rowOf (besideRight S (record { rest = rest; log = log }) g .rest) ++ ys)) (heldHeight h) (besideRight S (record { rest = rest; log = log }) g)
   shrunk-left xs ys none log a G = record { kept = G .kept; heights = omega arith; few = omega arith }
   shrunk-left {g = g} xs ys (some l) log a G =
       let C = falls (a .higher) (a .left-level) (a .right-level) (G .heights .0) (G .heights .1) in
@@ -86,8 +82,8 @@ module _ (S : Figure) (L : PseudoLines S) {before : List (Inner (S .Line))} {liv
   shrunk-right :
       {h f g : Held (S .Line)} (xs ys : List (Held (S .Line))) (rest : Option (Held (S .Line))) (log : List (Pair (S .Line))) →
       Above g f h →
-      Shrunk S before live (xs ++ g ∷ (leftRow rest ++ ys)) (heldHeight f) (record { rest = rest; log = log }) →
-      Shrunk S before live (xs ++ (leftRow (besideLeft S g (record { rest = rest; log = log }) .rest) ++ ys)) (heldHeight h) (besideLeft S g (record { rest = rest; log = log }))
+      Shrunk S before live (xs ++ g ∷ (rowOf rest ++ ys)) (heldHeight f) (record { rest = rest; log = log }) →
+      Shrunk S before live (xs ++ (rowOf (besideLeft S g (record { rest = rest; log = log }) .rest) ++ ys)) (heldHeight h) (besideLeft S g (record { rest = rest; log = log }))
   shrunk-right xs ys none log a G = record { kept = G .kept; heights = omega arith; few = omega arith }
   shrunk-right {g = g} xs ys (some r) log b G =
       let a = above-turned b in
@@ -105,7 +101,7 @@ module _ (S : Figure) (L : PseudoLines S) (before : List (Inner (S .Line))) (liv
       Kept S before old (xs ++ hold t e ∷ ys) [] →
       List·Memᴰ s (leaves (shape t)) →
       linesOf xs ++ (without S s (leaves (shape t)) ++ linesOf ys) ≡ live →
-      Shrunk S before live (xs ++ (leftRow (remove S s t e .rest) ++ ys)) (height (shape t)) (remove S s t e)
+      Shrunk S before live (xs ++ (rowOf (remove S s t e .rest) ++ ys)) (height (shape t)) (remove S s t e)
 
   removed-single : (a : S .Line) → Removes (single a)
   unfolding remove
@@ -154,7 +150,7 @@ module _ (S : Figure) (L : PseudoLines S) (before : List (Inner (S .Line))) (liv
       let k₂ : Kept S before old ((xs ++ c .front ∷ []) ++ c .back ∷ ys) [] = rw append-snoc k₁ in
       let ml = remove S s l (c .front .whole) in
       let mr = remove S s r (c .back .whole) in
-      cond-both (λ n. Shrunk S before live (xs ++ (leftRow (n .rest) ++ ys)) (heldHeight h) n) (S .before (last (shape l)) s)
+      cond-both (λ n. Shrunk S before live (xs ++ (rowOf (n .rest) ++ ys)) (heldHeight h) n) (S .before (last (shape l)) s)
       (λ t. shrunk-right S L xs ys (mr .rest) (mr .log) a
       (rw append-snoc at
       (on-right (c .back .whole) (xs ++ c .front ∷ []) ys old k₂ (in-right l r (w .ordered) m t)
