@@ -1,10 +1,10 @@
 -- A line withdrawn: the row and the log stay right, the subtree gets at most one lower, and each level costs at most three searches.
-use Prim.Native.Nat.{ℕ, zero, suc, _+_, _*_, _≤_, max}
+use Prim.Native.Nat.{ℕ, suc, _+_, _*_, _≤_, max}
 use native.Mathlib.Omega.{arith}
 use native.Mathlib.Decide.{decLe}
-use mathlib.Core.Path.{_≡_, refl, sym, ap, subst, _∙_}
-use mathlib.Core.Logic.{_⊎_, ⊎-elim}
-use mathlib.Core.Bool.{not, _||_}
+use mathlib.Core.Path.{_≡_, refl, sym, ap, _∙_}
+use mathlib.Core.Logic.{⊎-elim}
+use mathlib.Core.Bool.{not}
 use mathlib.Core.List.{List, [], _∷_, _++_, List·Memᴰ, List·Memᴰ·head, List·Memᴰ·append-cases, List·Memᴰ·eq-of-singleton, Memᴰ·append-right}
 use mathlib.Core.Option.{Option, none, some}
 use lib.Dec.{T, T-not}
@@ -18,7 +18,7 @@ use Rattle.trees.specs.Operations.{Part}
 use Rattle.trees.specs.Leaves.{last-leaf}
 use Rattle.trees.specs.Tests.{cond-both}
 use Rattle.meeting.specs.Machine.{left}
-use Rattle.dynamic.specs.OfferTree.{OfferTree, single, fork, shape, Held, hold, heldShape, Pair, Made, lower, lowerTree}
+use Rattle.dynamic.specs.OfferTree.{OfferTree, single, fork, shape, Held, hold, Pair, Made, lower, lowerTree}
 use Rattle.dynamic.specs.Updates.{Removed, rebalance, besideLeft, besideRight, remove}
 use Rattle.dynamic.specs.Valid.{without}
 use Rattle.dynamic.specs.Work.{Inner}
