@@ -16,3 +16,4 @@ pub mod Placed
 pub mod Inserted
 pub mod Removed
 pub mod Updated
+pub mod Steps

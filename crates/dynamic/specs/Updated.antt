@@ -30,7 +30,7 @@ pub record Updates (S : Figure) (before after : Option (Held (S .Line))) (live :
 
 module _ (S : Figure) where
   -- a book before anything is done to it
-  opened : (h : Held (S .Line)) → Whole S h → Kept S (inners (heldShape h)) (leaves (heldShape h)) (h ∷ []) []
+  pub opened : (h : Held (S .Line)) → Whole S h → Kept S (inners (heldShape h)) (leaves (heldShape h)) (h ∷ []) []
   opened h w =
       started S (w .ordered) (append-nil (leaves (heldShape h))) (λ x m. subst (Whole S) (sym (List·Memᴰ·eq-of-singleton m)) w)
       (rw append-nil (floor-old S (inners (heldShape h)) (inners (heldShape h)) (λ n m. m)))
