@@ -46,13 +46,13 @@ falls {h} {f} {g} {k} e p q low high = record { near = omega arith; far = omega 
 -- ---- what a removal leaves of a subtree of height h
 
 -- nothing only of a single line
-abbrev pub Lower : {A : Type 0} → ℕ → Option (Held A) → Type 0
-Lower h none = h ≡ 0
-Lower h (some r) = (heldHeight r ≤ h) × (h ≤ suc (heldHeight r))
+abbrev pub Shorter : {A : Type 0} → ℕ → Option (Held A) → Type 0
+Shorter h none = h ≡ 0
+Shorter h (some r) = (heldHeight r ≤ h) × (h ≤ suc (heldHeight r))
 
 pub record Shrunk (S : Figure) (before : List (Inner (S .Line))) (live : List (S .Line)) (row : List (Held (S .Line))) (h : ℕ) (m : Removed (S .Line)) : Type 0 where
   pub kept : Kept S before live row (m .log)
-  pub heights : Lower h (m .rest)
+  pub heights : Shorter h (m .rest)
   pub few : length (m .log) ≤ 3 * h
 
 module _ (S : Figure) (L : PseudoLines S) {before : List (Inner (S .Line))} {live : List (S .Line)} where

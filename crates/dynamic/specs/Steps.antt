@@ -18,7 +18,7 @@ use Rattle.dynamic.specs.Kept.{Kept, heldHeight, started}
 use Rattle.dynamic.specs.Placed.{New, placed-ordered, without-ordered}
 use Rattle.dynamic.specs.Rebalanced.{Balances, rebalanced}
 use Rattle.dynamic.specs.Inserted.{inserted}
-use Rattle.dynamic.specs.Removed.{Lower, removed}
+use Rattle.dynamic.specs.Removed.{Shorter, removed}
 use Rattle.dynamic.specs.Updated.{opened}
 
 whole-row : (S : Figure) (st : Option (Held (S .Line))) → ((h : Held (S .Line)) → List·Memᴰ h (rowOf st) → Whole S h) → WholeBook S st
@@ -44,7 +44,7 @@ pub record Gains (S : Figure) (s : S .Line) (h : Held (S .Line)) (m : Made (S .L
 pub record Loses (S : Figure) (s : S .Line) (h : Held (S .Line)) (m : Removed (S .Line)) : Type 0 where
   pub whole : WholeBook S (m .rest)
   pub lines : bookLines (m .rest) ≡ without S s (leaves (heldShape h))
-  pub heights : Lower (heldHeight h) (m .rest)
+  pub heights : Shorter (heldHeight h) (m .rest)
   pub few : length (m .log) ≤ 3 * heldHeight h
 
 module _ (S : Figure) (L : PseudoLines S) where
