@@ -22,7 +22,7 @@ pub is-leaf : {w : Words} {k x : ℕ} {t : Tree Item} → Rep w k x t → x ≤ 
 is-leaf {t = leaf a} r h = (a, refl)
 is-leaf {t = node l s} r h = absurd (omega (arith, r .root, slots-left (leaves s) (r .slots) .low (last-leaf l)))
 
-slot-of : {a b : Item} → a ≡ b → a .slot ≡ b .slot
+pub slot-of : {a b : Item} → a ≡ b → a .slot ≡ b .slot
 slot-of e = ap (λ (i : Item). i .slot) e
 
 -- ---- a change of shape
