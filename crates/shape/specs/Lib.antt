@@ -5,3 +5,4 @@ pub mod Rows
 pub mod Rotations
 pub mod Balance
 pub mod Splices
+pub mod Merge

@@ -6,6 +6,7 @@ ghost use Rattle.shape.specs.Sides.{rowOn, doubleOn, rotateOn, balanceOn
 ghost use Rattle.shape.specs.Joining.{Joined};
 ghost use Rattle.shape.specs.Rows.{Rowed};
 ghost use Rattle.shape.specs.Splices.{Spliced, towersAt};
+ghost use Rattle.shape.specs.Merge.{Merged};
 
 // The height of a node over two.
 pub fn height_over(part: &[i64], tree: u8, p: u32, q: u32) -> u32
@@ -128,4 +129,23 @@ pub fn splice(part: &mut [i64], tree: u8, side: bool, gap: u32, p: u32, q: u32, 
         return balance(part, tree, side, g, a, y);
     }
     make_node(part, tree, side, gap, p, q)
+}
+
+// Joins two balanced trees, either of which may be empty. `gap` is the slot of the last leaf of `l`.
+pub fn join(part: &mut [i64], tree: u8, gap: u32, l: u32, r: u32) -> u32
+    ensures { λ x. ⌜ Merged tree gap l r (now (part .entry)) (now (part .exit)) x ⌝ }
+{
+    if l == 0 {
+        return r;
+    }
+    if r == 0 {
+        return l;
+    }
+    if towers(part, tree, l, r) {
+        return splice(part, tree, false, gap, l, r, 24);
+    }
+    if towers(part, tree, r, l) {
+        return splice(part, tree, true, gap, r, l, 24);
+    }
+    make_node(part, tree, false, gap, l, r)
 }

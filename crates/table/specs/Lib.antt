@@ -4,3 +4,4 @@ pub mod Layout
 pub mod Items
 pub mod Rep
 pub mod Nodes
+pub mod Parts
