@@ -2,3 +2,5 @@
 pub mod Stored
 pub mod Steps
 pub mod Frames
+pub mod Disjoint
+pub mod Lowering
