@@ -1,3 +1,4 @@
 -- The tree of offers in words.
 pub mod Stored
 pub mod Steps
+pub mod RaisingModel
