@@ -1,4 +1,5 @@
 -- The tree of offers in words.
 pub mod Stored
 pub mod Steps
+pub mod Frames
 pub mod RaisingModel
