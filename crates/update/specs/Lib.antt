@@ -3,3 +3,4 @@ pub mod Stored
 pub mod Steps
 pub mod Frames
 pub mod RaisingModel
+pub mod RaisingRests
