@@ -42,6 +42,9 @@ heightAt w k x = linkAt w (heightField k) (x - 4096)
 pub height-at-most : (w : Words) (k x : ℕ) → heightAt w k x ≤ 8192
 height-at-most w k x = link-most w (heightField k) (x - 4096)
 
+pub height-read : (w : Words) (k x : ℕ) {h : ℕ} → h ≡ heightAt w k x → h ≤ 8192
+height-read w k x e = omega (arith, e, height-at-most w k x)
+
 -- ---- trees by node numbers
 
 abbrev pub refOf : Tree Item → ℕ

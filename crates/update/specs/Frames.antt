@@ -5,7 +5,7 @@ use mathlib.Core.Logic.{_≢_}
 use mathlib.Core.HLevel.{¬-prop}
 use mathlib.Core.Bool.{Bool, true, false}
 use mathlib.Core.Option.{none, some}
-use mathlib.Core.List.{List, _++_, List·Memᴰ, List·Permᴰ, Permᴰ·symm, Permᴰ·pairwise}
+use mathlib.Core.List.{List, _++_, List·Permᴰ, Permᴰ·symm, Permᴰ·pairwise}
 use Prim.Native.Nat.{ℕ, _≤_}
 use native.Mathlib.Omega.{arith}
 use lib.IntN.{ℤ}
@@ -143,7 +143,7 @@ module _ {w w′ : Words} where
   holds-same h q =
       holds-still h (λ s i. record { number = q .cells 0 s (omega arith) i; rate = q .cells 1 s (omega arith) i; base = q .cells 2 s (omega arith) i })
 
-  rest-same : (t : OfferTree Item) {q : Part Item} → RestIn w t q → Same RestField (leaves (shape t)) w w′ → Same PieceField (partLeaves q) w w′ → RestIn w′ t q
+  pub rest-same : (t : OfferTree Item) {q : Part Item} → RestIn w t q → Same RestField (leaves (shape t)) w w′ → Same PieceField (partLeaves q) w w′ → RestIn w′ t q
   rest-same (single a) {q} h rests pieces = record { root = same-link 21 rests (leaf-rest refl) (at (last-leaf (shape (single a))) refl) ∙ h .root; pieces = part-same q (h .pieces) pieces }
   rest-same (fork u v l ql qr r) {q} h rests pieces =
       record { root = same-link 20 rests (inner-rest refl) (in-left (leaves (shape r)) (at (last-leaf (shape l)) refl)) ∙ h .root; pieces = part-same q (h .pieces) pieces }

@@ -2,5 +2,7 @@
 pub mod Stored
 pub mod Steps
 pub mod Frames
+pub mod Disjoint
+pub mod Lowering
 pub mod RaisingModel
 pub mod RaisingRests

@@ -1,15 +1,9 @@
 -- `shape::height_over` meets its contract. No height that is read is above 8,192.
-use Prim.Native.Nat.{ℕ, _≤_}
 use native.Mathlib.Omega.{arith}
-use mathlib.Core.Path.{_≡_}
-use Rattle.table.specs.Words.{Words}
-use Rattle.table.specs.Rep.{heightAt, height-at-most}
+use Rattle.table.specs.Rep.{height-read}
 use borrow.Author.Needs.{needs}
 use Rattle.shape.proofs.height_over.Statement.{statement}
 use Rattle.shape.proofs.height_over.Tie as tie
-
-small : (w : Words) (k x h : ℕ) → h ≡ heightAt w k x → h ≤ 8192
-small w k x h e = omega (arith, height-at-most w k x)
 
 height-requires : tie.Need-height-requires
 height-requires c κs = search needs
@@ -18,13 +12,13 @@ height-requires-2 : tie.Need-height-requires-2
 height-requires-2 c κs = search needs
 
 add-result : tie.Need-add-result
-add-result c = omega (arith, small _ _ _ _ (c .before .height2 .ensures))
+add-result c = omega (arith, height-read _ _ _ (c .before .height2 .ensures))
 
 returns : tie.Need-returns
 returns c = search needs
 
 add-result-2 : tie.Need-add-result-2
-add-result-2 c = omega (arith, small _ _ _ _ (c .before .before .height .ensures))
+add-result-2 c = omega (arith, height-read _ _ _ (c .before .before .height .ensures))
 
 returns-2 : tie.Need-returns-2
 returns-2 c = search needs
