@@ -6,3 +6,5 @@ pub mod Disjoint
 pub mod Lowering
 pub mod RaisingModel
 pub mod RaisingRests
+pub mod RaisingCuts
+pub mod RaisingWires
