@@ -8,3 +8,4 @@ pub mod RaisingModel
 pub mod RaisingRests
 pub mod RaisingCuts
 pub mod RaisingWires
+pub mod RaisingCat
