@@ -4,3 +4,8 @@ pub mod Steps
 pub mod Frames
 pub mod Disjoint
 pub mod Lowering
+pub mod RaisingModel
+pub mod RaisingRests
+pub mod RaisingCuts
+pub mod RaisingWires
+pub mod RaisingCat
