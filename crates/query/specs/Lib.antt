@@ -2,3 +2,5 @@
 pub mod Lookup
 pub mod Answer
 pub mod Plain
+pub mod Readings
+pub mod Groups
