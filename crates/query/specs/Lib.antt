@@ -4,3 +4,5 @@ pub mod Answer
 pub mod Plain
 pub mod Readings
 pub mod Groups
+pub mod Pieces
+pub mod Descent

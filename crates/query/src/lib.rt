@@ -2,6 +2,7 @@
 ghost use mathlib.Core.Path.{_≡_};
 ghost use Rattle.table.specs.Layout.{cap};
 ghost use Rattle.query.specs.Readings.{bounded, Sided, towardAt, priceIn};
+ghost use Rattle.query.specs.Descent.{Descended};
 
 // `value` where it is from `low` to `high`, and 0 for any other.
 pub fn bounded(low: i64, high: i64, value: i64) -> i64
@@ -41,6 +42,35 @@ fn toward(part: &[i64], c: u32, x: u32, load: i64) -> u32
     let at = 64 + 4 * (c as usize + 1 + slot as usize);
     let side = side_of(load, part[at + 2], part[at + 3]);
     table::up_to(8192, part[at + side])
+}
+
+// Where a query ends: the slot of its answer, and how many nodes it passed.
+pub struct Probe {
+    pub slot: u32,
+    pub probes: u32,
+}
+
+// From the root to the piece that is the cheapest at the load, the first in order of several.
+pub fn descend(part: &[i64], root: u32, load: i64) -> Probe
+    ensures { λ r. ⌜ Descended (now (part .entry)) root load (r .slot) (r .probes) ⌝ }
+{
+    let c = table::capacity(part);
+    let mut x = root;
+    let mut probes: u32 = 0;
+    while probes < 24 {
+        if x <= 4096 {
+            return Probe {
+                slot: x,
+                probes: probes,
+            };
+        }
+        x = toward(part, c, x, load);
+        probes += 1;
+    }
+    Probe {
+        slot: x,
+        probes: probes,
+    }
 }
 
 // The price of the offer in a slot.
