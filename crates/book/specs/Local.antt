@@ -16,7 +16,7 @@ use Rattle.table.specs.Layout.{cap, cap-of, cell, linkAt, place, place-high, Va
 use Rattle.table.specs.Items.{Item, Slots}
 use Rattle.update.specs.Stored.{HeldIn}
 use Rattle.update.specs.Frames.{Same, tied-same, part-same, holds-same, stored-same}
-use Rattle.book.specs.Form.{Book, OffersIn, NumbersIn, TiedPart, FreeChain, free-none, free-more, head0}
+use Rattle.update.specs.Form.{Book, OffersIn, NumbersIn, TiedPart, FreeChain, free-none, free-more, head0}
 
 -- the same words in a part of capacity c
 pub record Alike (c : ℕ) (w w′ : Words) : Type 0 where

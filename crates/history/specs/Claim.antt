@@ -22,7 +22,7 @@ use Rattle.dynamic.specs.Work.{Searched}
 use Rattle.table.specs.Items.{Item}
 use Rattle.pieces.specs.Pieces.{items}
 use Rattle.book.specs.declared.Opening.{Opening}
-use Rattle.book.specs.Form.{Book, OffersIn, plainOffers}
+use Rattle.update.specs.Form.{Book, OffersIn, plainOffers}
 use Rattle.book.specs.Local.{book-alike}
 use Rattle.book.specs.Promises.{partOf, plainOf, Opens, Updates, Follows, Queries, Lists, Passes}
 use Rattle.history.specs.History.{Happens, by-post, by-withdraw, by-query, by-listing, History, finished, next, Kept, EachCall}
