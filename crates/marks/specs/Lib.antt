@@ -1,0 +1,2 @@
+-- Chart marks: quotients rounded once, and how near they are.
+pub mod Rounding
