@@ -1,2 +1,4 @@
 -- Chart marks: quotients rounded once, and how near they are.
 pub mod Rounding
+pub mod Quotient
+pub mod QuotientLaws

@@ -56,7 +56,7 @@ closest-half a b B = go (a / b) (a % b) (div-add-mod' a b) (mod-lt a B) (compare
 -- ---- the number kept has all the format's digits, or is the next power of two
 
 module _ (p n c : ℕ) (P : 2 ≤ p) (enough : p ≤ size (n / c)) where
-  kept-most : kept p n c ≤ 2 ^ p
+  pub kept-most : kept p n c ≤ 2 ^ p
   kept-most =
       let u = c * 2 ^ drop p n c in
       le-trans (nearest-le (n / u) (compare (n % u * 2) u)) (subst (λ (x : ℕ). x < 2 ^ p) (div-div-eq-div-mul n c (2 ^ drop p n c)) (kept-lt p (n / c)))
