@@ -8,6 +8,7 @@ use native.Mathlib.Omega.{arith}
 use lib.IntN.{ℤ, pos, negsuc, negℤ, natAbs, _-ℤ_, _*ℤ_, negℤ-negℤ}
 use Rattle.integers.specs.Parts.{P, N, natAbs-parts, neg-P, neg-N, parts-eq}
 use Rattle.integers.specs.Ring.{var, nat, _:-_, _:*_, parts}
+use Rattle.integers.specs.Magnitude.{natAbs-gap}
 use Rattle.vouchers.specs.Rule.{nearestUnit, voucherUnits}
 
 -- how far u units are from a price, in cents
@@ -21,12 +22,8 @@ pub record Rounded (price u : ℤ) : Type 0 where
 
 -- ---- the distance, in natural numbers
 
-gap : (z : ℤ) (a b : ℕ) → P z + b ≡ N z + a → natAbs z ≡ (a - b) + (b - a)
-gap (pos n) a b h = omega arith
-gap (negsuc n) a b h = omega arith
-
 off-is : (p u : ℤ) → off p u ≡ (100 * P u + N p - (100 * N u + P p)) + (100 * N u + P p - (100 * P u + N p))
-off-is p u = gap (pos 100 *ℤ u -ℤ p) (100 * P u + N p) (100 * N u + P p) (omega (arith, parts (nat 100 :* var u :- var p)))
+off-is p u = natAbs-gap (pos 100 *ℤ u -ℤ p) (100 * P u + N p) (100 * N u + P p) (omega (arith, parts (nat 100 :* var u :- var p)))
 
 -- ---- the rule rounds, and nothing else does
 

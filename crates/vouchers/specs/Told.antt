@@ -5,7 +5,7 @@ use mathlib.Core.Option.{Option, none, some}
 use mathlib.Core.Bool.{not}
 use lib.IntN.{ℤ}
 use Rattle.offers.specs.Offers.{priceInRange}
-use Rattle.plain.specs.Causes.{Cause, Check, _when_, declined, causeNumber, priceOutOfRange}
+use Rattle.plain.specs.Causes.{Cause, Trial, _when_, declined, causeNumber, priceOutOfRange}
 use Rattle.vouchers.specs.Rule.{voucherUnits}
 use Rattle.vouchers.specs.declared.Voucher.{Voucher}
 use Rattle.vouchers.specs.declared.Voucher.the-variants.{Units, Declined}
@@ -21,12 +21,12 @@ told (Declined k) = record { number = k; values = [] }
 
 -- ---- what is due for a price
 
-abbrev pub voucherChecks : ℤ → List Check
-voucherChecks price = priceOutOfRange when not (priceInRange price) ∷ []
+abbrev pub voucherTrials : ℤ → List Trial
+voucherTrials price = priceOutOfRange when not (priceInRange price) ∷ []
 
 abbrev pub respond : ℤ → Option Cause → Told
 respond price none = record { number = 0; values = voucherUnits price ∷ [] }
 respond price (some c) = record { number = causeNumber c; values = [] }
 
 abbrev pub due : ℤ → Told
-due price = respond price (declined (voucherChecks price))
+due price = respond price (declined (voucherTrials price))

@@ -29,7 +29,7 @@ returns-3 c =
     let e = toZ-ofZ w64 (s .args .price) (s .fits .price) in
     let f : SFits w64 (c .whole-units .result) = record { sfits = c .whole-units .ok } in
     rw (toZ-ofZ w64 (c .whole-units .result) f, c .whole-units .ensures, e)
-    (sym (due-inside (s .args .price) (in-span (s .args .price) (rw e at (c .before .before .if1 .left)) (rw e at (c .before .if2 .left)))))
+    (sym (due-inside (s .args .price) (rw e at (c .before .before .if1 .left)) (rw e at (c .before .if2 .left))))
 
 pub voucher-price-spec : {M : Type 1} → statement M
 voucher-price-spec = tie.close (tie.spec returns returns-2 whole-units-requires returns-3)
