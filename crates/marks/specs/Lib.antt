@@ -2,3 +2,4 @@
 pub mod Rounding
 pub mod Quotient
 pub mod QuotientLaws
+pub mod Told

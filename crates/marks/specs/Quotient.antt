@@ -31,6 +31,11 @@ negative z = not (nonNeg z)
 abbrev pub Is : Float → ℤ → ℤ → Type 0
 Is x m e = HasValue x (negative m) (natAbs m * up e) (down e)
 
+-- x is an integer as a double, which loses nothing up to 2 ^ 53 either way
+pub record Doubled (z : ℤ) (x : Float) : Type 0 where
+  pub is : x ≡ double z
+  pub exactly : T (exact z) → Is x z (pos 0)
+
 -- ---- quotients
 
 -- IEEE 754's quotient of the two doubles

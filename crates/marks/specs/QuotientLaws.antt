@@ -3,12 +3,13 @@ use Prim.Native.Nat.{ℕ, zero, suc, _+_, _-_, _*_, _/_, _^_, _≤_, _<_}
 use mathlib.Core.Path.{_≡_, refl, sym, ap, _∙_, subst}
 use mathlib.Core.Logic.{_≢_}
 use mathlib.Core.Bool.{Bool, true, false, cond}
-use native.Mathlib.Nat.{le-refl, le-trans, lt-of-le-of-lt, lt-of-lt-of-le, mul-pos, mul-le-mul, mul-le-mul-right, div-le-self, eq-of-mul-eq-mul-right, zero-mul, zero-lt-suc}
+use native.Mathlib.Nat.{le-refl, le-trans, lt-of-le-of-lt, lt-of-lt-of-le, mul-pos, mul-le-mul, mul-le-mul-right, div-le-self, eq-of-mul-eq-mul-right, zero-mul, mul-one, zero-lt-suc}
 use native.Mathlib.Omega.{arith}
-use lib.Dec.{T, eqb, eqb→eq, lit≤, lit<}
+use lib.Dec.{T, eqb, eqb→eq, lit≤, lit<, le→leb, lt→ltb}
+use lib.Signed.{ltZ}
 use lib.IntN.{ℤ, pos, negsuc, natAbs, _-ℤ_, _*ℤ_}
 use lib.Pow.{pow-add, pow-pos, pow-mono, pow-lt}
-use lib.Ieee.{Float, nan, inf, fin, Format, binary32, binary64, prec, emax, low, up, down, unlike, size, round, div, ofInt, fits}
+use lib.Ieee.{Float, nan, inf, fin, Format, binary32, binary64, prec, emax, low, up, down, unlike, size, round, div, ofInt, inFloat, fits}
 use lib.Ieee.Digits.{size-le}
 use lib.Ieee.Fits.{down-pos, round-fits, two}
 use lib.Ieee.Exact.{HasValue, round-exact}
@@ -17,10 +18,11 @@ use lib.Ieee.Scale.{round-same, grid, overflow, normal-of-fraction}
 use lib.Ieee.Back.{round-whole, whole-unique}
 use Rattle.integers.specs.Parts.{P, N, and-left, and-right, range-parts}
 use Rattle.integers.specs.Ring.{var, nat, _:-_, _:*_, parts}
-use Rattle.integers.specs.Magnitude.{within-natAbs, natAbs-within}
+use Rattle.integers.specs.Magnitude.{natAbs-gap, within-natAbs, natAbs-within}
+use Rattle.integers.specs.Ranges.{too-low, too-high, in-range}
 use Rattle.offers.specs.Offers.{between}
 use Rattle.marks.specs.Rounding.{Within, Near, round-near, kept-most}
-use Rattle.marks.specs.Quotient.{exact, plusZero, double, negative, Is, quotient, divisible, HalfUnit, Quotient}
+use Rattle.marks.specs.Quotient.{exact, plusZero, double, negative, Is, quotient, divisible, Doubled, HalfUnit, Quotient}
 
 -- ---- a quotient of whole numbers up to 2 ^ prec keeps all digits and does not overflow
 
@@ -104,6 +106,32 @@ double-is z t = go (exact z) t
 pub double-value : (z : ℤ) → T (exact z) → HasValue (double z) (negative z) (natAbs z) 1
 double-value z t = subst (λ (x : Float). HasValue x (negative z) (natAbs z) 1) (sym (double-is z t)) (ofInt-value z (exact-size z t))
 
+pub doubled : (z : ℤ) → Doubled z (double z)
+doubled z = record { is = refl; exactly = λ t. subst (λ (k : ℕ). HasValue (double z) (negative z) k 1) (sym (mul-one (natAbs z))) (double-value z t) }
+
+-- what the cast asks
+pub cast-asks : (z : ℤ) → T (exact z) → T (inFloat binary64 z)
+unfolding inFloat
+cast-asks (pos n) t = le→leb n (2 ^ 53) (exact-size (pos n) t)
+cast-asks (negsuc n) t = lt→ltb n (2 ^ 53) (exact-size (negsuc n) t)
+
+-- as the code tests it
+abbrev least : ℤ
+least = negsuc 9_007_199_254_740_991
+
+abbrev most : ℤ
+most = pos 9_007_199_254_740_992
+
+module _ (z : ℤ) where
+  pub is-exact : ltZ z least ≡ false → ltZ most z ≡ false → T (exact z)
+  is-exact h k = subst T (sym (in-range least most z h k)) tt
+
+  pub zero-below : ltZ z least ≡ true → double z ≡ plusZero
+  zero-below h = ap (λ (b : Bool). cond b (ofInt binary64 z) plusZero) (too-low least most z h)
+
+  pub zero-above : ltZ most z ≡ true → double z ≡ plusZero
+  zero-above h = ap (λ (b : Bool). cond b (ofInt binary64 z) plusZero) (too-high least most z h)
+
 -- ---- the quotient is the rounded fraction
 
 same-sign : (s : Bool) → unlike s false ≡ s
@@ -143,8 +171,7 @@ round-zero c C =
 -- ---- the bound, over integers
 
 spread : (z : ℤ) (a b w : ℕ) → P z + b ≡ N z + a → 2 * a ≤ 2 * b + w → 2 * b ≤ 2 * a + w → 2 * natAbs z ≤ w
-spread (pos n) a b w e h k = omega arith
-spread (negsuc n) a b w e h k = omega arith
+spread z a b w e h k = omega (arith, natAbs-gap z a b e)
 
 positive-half : (a c : ℕ) (x : Float) → Near binary64 x false a c → HalfUnit (pos a) (pos c) x
 positive-half a c x r = record {
