@@ -3,3 +3,4 @@ pub mod Rounding
 pub mod Quotient
 pub mod QuotientLaws
 pub mod Told
+pub mod Crossings

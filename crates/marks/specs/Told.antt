@@ -1,12 +1,9 @@
 -- What a chart mark tells (document 01, "Marks, vouchers, reading"): the number and the values of each case.
 use Prim.Native.Nat.{ℕ}
-use mathlib.Core.Path.{_≡_}
 use mathlib.Core.List.{List, [], _∷_}
-use lib.Dec.{T}
-use lib.IntN.{ℤ, pos, natAbs}
+use lib.IntN.{ℤ}
 use lib.Ieee.{Float}
-use lib.Ieee.Exact.{HasValue}
-use Rattle.marks.specs.Quotient.{double, exact, negative, Quotient}
+use Rattle.marks.specs.Quotient.{double, quotient, Quotient}
 use Rattle.marks.specs.declared.Point.{Point}
 use Rattle.marks.specs.declared.Mark.{Mark}
 use Rattle.marks.specs.declared.Mark.the-variants.{OpenEnd, Crossing, Declined}
@@ -21,7 +18,15 @@ told (OpenEnd rate) = record { number = 0; values = rate ∷ [] }
 told (Crossing p) = record { number = 0; values = p .load ∷ p .price ∷ [] }
 told (Declined k) = record { number = k; values = [] }
 
--- a crossing's point: N / D and P / D
+-- an open end, with its rate
+abbrev pub openEnd : ℤ → Told
+openEnd rate = record { number = 0; values = double rate ∷ [] }
+
+-- a crossing at n over d, whose price times d is p
+abbrev pub crossing : ℤ → ℤ → ℤ → Told
+crossing n d p = record { number = 0; values = quotient n d ∷ quotient p d ∷ [] }
+
+-- its point, each value a quotient rounded once
 pub record PointOf (n d p : ℤ) (r : Point) : Type 0 where
   pub load : Quotient n d (r .load)
   pub price : Quotient p d (r .price)

@@ -1,6 +1,7 @@
 // Chart marks: the doubles of open ends and crossings.
+ghost use mathlib.Core.Path.{_≡_};
 ghost use Rattle.marks.specs.Quotient.{Doubled};
-ghost use Rattle.marks.specs.Told.{PointOf};
+ghost use Rattle.marks.specs.Told.{told, openEnd, crossing, PointOf};
 
 // Where two pieces cross.
 pub struct Point {
@@ -37,4 +38,16 @@ pub fn crossing_point(n: i64, d: i64, p: i64) -> Point
     let load = to_double(n) / divisor;
     let price = to_double(p) / divisor;
     Point { load, price }
+}
+
+pub fn open_end(rate: i64) -> Mark
+    ensures { λ r. ⌜ told r ≡ openEnd rate ⌝ }
+{
+    Mark::OpenEnd(to_double(rate))
+}
+
+pub fn crossing(n: i64, d: i64, p: i64) -> Mark
+    ensures { λ r. ⌜ told r ≡ crossing n d p ⌝ }
+{
+    Mark::Crossing(crossing_point(n, d, p))
 }
