@@ -4,3 +4,4 @@ pub mod Quotient
 pub mod QuotientLaws
 pub mod Told
 pub mod Crossings
+pub mod Written

@@ -1,6 +1,6 @@
 -- A mark's numbers (document 01, "Marks, vouchers, reading"): integers as doubles, exactly, and quotients of them, each rounded once.
 -- lib.Ieee is the toolchain's account of IEEE 754: a double is `fin s m e`, which is m × 2 ^ e, negative where s is true, or no number.
-use Prim.Native.Nat.{ℕ, _*_, _^_, _≤_, _<_}
+use Prim.Native.Nat.{_*_, _^_, _≤_, _<_}
 use mathlib.Core.Path.{_≡_}
 use mathlib.Core.Logic.{_≢_}
 use mathlib.Core.Bool.{Bool, false, not, cond, _&&_}
@@ -46,14 +46,21 @@ quotient n d = div binary64 (double n) (double d)
 abbrev pub divisible : ℤ → ℤ → Bool
 divisible n d = exact n && between (pos 1) (pos (2 ^ 53)) d
 
--- x is m × 2 ^ e with 2 ^ 52 ≤ |m| < 2 ^ 53, and twice |m × 2 ^ e × d − n| is at most 2 ^ e × d. Both sides are times `down e`, so
--- that they are whole.
+-- all digits of a double: 2 ^ 52 ≤ |m| < 2 ^ 53
+abbrev pub Full : ℤ → Type 0
+Full m = (2 ^ 52 ≤ natAbs m) × (natAbs m < 2 ^ 53)
+
+-- twice |m × 2 ^ e × d − n| is at most 2 ^ e × d: both sides times `down e`, so that they are whole
+abbrev pub WithinHalf : (n d m e : ℤ) → Type 0
+WithinHalf n d m e = 2 * natAbs (m *ℤ pos (up e) *ℤ d -ℤ n *ℤ pos (down e)) ≤ up e * natAbs d
+
+-- x is m × 2 ^ e with all digits, at most half of 2 ^ e off n / d. That m and e are the only ones is `written-once`.
 pub record HalfUnit (n d : ℤ) (x : Float) : Type 0 where
   pub m : ℤ
   pub e : ℤ
   pub value : Is x m e
-  pub digits : (2 ^ 52 ≤ natAbs m) × (natAbs m < 2 ^ 53)
-  pub near : 2 * natAbs (m *ℤ pos (up e) *ℤ d -ℤ n *ℤ pos (down e)) ≤ up e * natAbs d
+  pub digits : Full m
+  pub near : WithinHalf n d m e
 
 -- x is n / d, rounded once
 pub record Quotient (n d : ℤ) (x : Float) : Type 0 where

@@ -3,12 +3,12 @@ use Prim.Native.Nat.{ℕ, zero, suc, _+_, _-_, _*_, _/_, _^_, _≤_, _<_}
 use mathlib.Core.Path.{_≡_, refl, sym, ap, _∙_, subst}
 use mathlib.Core.Logic.{_≢_}
 use mathlib.Core.Bool.{Bool, true, false, cond}
-use native.Mathlib.Nat.{le-refl, le-trans, lt-of-le-of-lt, lt-of-lt-of-le, mul-pos, mul-le-mul, mul-le-mul-right, div-le-self, eq-of-mul-eq-mul-right, zero-mul, mul-one, zero-lt-suc}
+use native.Mathlib.Nat.{le-refl, le-trans, lt-of-le-of-lt, mul-pos, mul-le-mul, mul-le-mul-right, div-le-self, eq-of-mul-eq-mul-right, zero-mul, mul-one, zero-lt-suc}
 use native.Mathlib.Omega.{arith}
 use lib.Dec.{T, eqb, eqb→eq, lit≤, lit<, le→leb, lt→ltb}
 use lib.Signed.{ltZ}
 use lib.IntN.{ℤ, pos, negsuc, natAbs, _-ℤ_, _*ℤ_}
-use lib.Pow.{pow-add, pow-pos, pow-mono, pow-lt}
+use lib.Pow.{pow-add, pow-mono, pow-lt}
 use lib.Ieee.{Float, nan, inf, fin, Format, binary32, binary64, prec, emax, low, up, down, unlike, size, round, div, ofInt, inFloat, fits}
 use lib.Ieee.Digits.{size-le}
 use lib.Ieee.Fits.{down-pos, round-fits, two}
@@ -22,7 +22,7 @@ use Rattle.integers.specs.Magnitude.{natAbs-gap, within-natAbs, natAbs-within}
 use Rattle.integers.specs.Ranges.{too-low, too-high, in-range}
 use Rattle.offers.specs.Offers.{between}
 use Rattle.marks.specs.Rounding.{Within, Near, round-near, kept-most}
-use Rattle.marks.specs.Quotient.{exact, plusZero, double, negative, Is, quotient, divisible, Doubled, HalfUnit, Quotient}
+use Rattle.marks.specs.Quotient.{exact, plusZero, double, negative, quotient, divisible, Doubled, HalfUnit, Quotient}
 
 -- ---- a quotient of whole numbers up to 2 ^ prec keeps all digits and does not overflow
 

@@ -1,12 +1,11 @@
 -- `marks::crossing` meets its contract.
-use mathlib.Core.Path.{_≡_, ap₂}
+use mathlib.Core.Path.{ap₂}
 use mathlib.Core.List.{[], _∷_}
-use lib.IntN.{ℤ}
 use lib.Ieee.{Float}
 use mir.Syntax.{w64}
 use mir.ValLaws.{toZ-ofZ}
 use borrow.Author.Needs.{needs}
-use Rattle.marks.specs.Told.{Told, PointOf}
+use Rattle.marks.specs.Told.{Told}
 use Rattle.marks.proofs.crossing.Statement.{statement}
 use Rattle.marks.proofs.crossing.Tie as tie
 
