@@ -1,2 +1,4 @@
 -- The book in a lent table.
 pub mod Form
+pub mod Local
+pub mod Promises

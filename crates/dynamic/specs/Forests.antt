@@ -1,10 +1,10 @@
 -- A row of subtrees in hand, from left to right. An update takes trees apart and puts neighbours together; the lines of the row stay as they are,
 -- and its inner nodes but for the one that goes or comes.
 use mathlib.Core.Path.{_≡_, refl, sym, ap, subst, _∙_}
-use mathlib.Core.Logic.{_⊎_, inl, inr, ⊎-elim}
+use mathlib.Core.Logic.{⊎-elim}
 use mathlib.Core.List.{List, [], _∷_, _++_, append-assoc, append-nil, List·Memᴰ, List·Memᴰ·head, List·Memᴰ·tail, List·Memᴰ·cases-cons, Sublistᴰ, Sublistᴰ·cons-cons, Sublistᴰ·refl, Sublistᴰ·nil-sublist, Sublistᴰ·append}
 use mathlib.Core.Option.{Option, none, some}
-use Rattle.trees.specs.Tree.{Tree, node, leaves}
+use Rattle.trees.specs.Tree.{node, leaves}
 use Rattle.meeting.specs.Machine.{Side, left, right}
 use Rattle.dynamic.specs.OfferTree.{Held, heldShape}
 use Rattle.dynamic.specs.Valid.{bookLines}

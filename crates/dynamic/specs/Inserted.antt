@@ -1,30 +1,27 @@
 -- A line posted: the row and the log stay right, the subtree gets at most one higher, and each level costs at most three searches.
-use Prim.Native.Nat.{ℕ, zero, suc, _+_, _*_, _≤_, _<_, max}
+use Prim.Native.Nat.{ℕ, suc, _+_, _*_, _≤_, max}
 use native.Mathlib.Omega.{arith}
 use native.Mathlib.Decide.{decLe}
-use mathlib.Core.Path.{_≡_, refl, sym, ap, subst, _∙_}
-use mathlib.Core.Bool.{not}
-use mathlib.Core.List.{List, [], _∷_, _++_, append-assoc, append-nil, List·Memᴰ, List·Memᴰ·head, List·Memᴰ·not-nil, Memᴰ·append-right}
-use mathlib.Core.Option.{some}
-use lib.Dec.{T}
+use mathlib.Core.Path.{_≡_, refl, _∙_}
+use mathlib.Core.List.{List, [], _∷_, _++_, List·Memᴰ·head, List·Memᴰ·not-nil, Memᴰ·append-right}
 use lib.ListN.{length, length-append}
 use lib.Seq.{append-snoc}
 use Rattle.envelopes.specs.PseudoLines.{Figure, PseudoLines}
 use Rattle.envelopes.specs.Envelope.{Ordered, Ordered·nil, Ordered·cons}
 use Rattle.envelopes.specs.EnvelopeLaws.{ordered-left}
-use Rattle.trees.specs.Tree.{leaf, height, leaves, last, avl-leaf}
+use Rattle.trees.specs.Tree.{height, leaves, last, avl-leaf}
 use Rattle.trees.specs.Operations.{Part}
 use Rattle.trees.specs.Leaves.{last-leaf}
 use Rattle.trees.specs.Tests.{cond-both, cond-yes, cond-no}
 use Rattle.meeting.specs.Machine.{left}
-use Rattle.dynamic.specs.OfferTree.{OfferTree, single, fork, shape, Held, hold, alone, heldShape, Pair, Made, made, andThen, Lowered, lower, lowerTree, raise}
+use Rattle.dynamic.specs.OfferTree.{OfferTree, single, fork, shape, Held, hold, alone, Made, made, andThen, lower, lowerTree, raise}
 use Rattle.dynamic.specs.Updates.{rebalance, insert}
 use Rattle.dynamic.specs.Valid.{Whole, valid-single, placed}
 use Rattle.dynamic.specs.Work.{Inner}
 use Rattle.dynamic.specs.Floors.{added-here, added-there, added-between, added-behind}
 use Rattle.dynamic.specs.Forests.{linesOf, lines-append, lines-left, lines-right, Merged, merged-here, merged-behind}
 use Rattle.dynamic.specs.Kept.{Kept, heldHeight, Above, above-turned, lowered-on, raised-on, line-joins}
-use Rattle.dynamic.specs.Rebalanced.{Balances, balances-turned, Joined, rebalanced}
+use Rattle.dynamic.specs.Rebalanced.{Balances, balances-turned, rebalanced}
 use Rattle.dynamic.specs.Placed.{placed-left, placed-right, none-behind}
 
 -- ---- heights: below h stand f and g, and f grows to k

@@ -8,7 +8,7 @@ use lib.ListN.{length, length-append}
 use Rattle.envelopes.specs.PseudoLines.{Figure, PseudoLines}
 use Rattle.envelopes.specs.Envelope.{Ordered}
 use Rattle.envelopes.specs.EnvelopeLaws.{ordered-sublist}
-use Rattle.trees.specs.Tree.{Tree, leaf, node, height, leaves, Avl, avl-node}
+use Rattle.trees.specs.Tree.{node, height, Avl, avl-node}
 use Rattle.meeting.specs.Machine.{Side, left, right, meet}
 use Rattle.dynamic.specs.OfferTree.{OfferTree, single, fork, shape, Held, heldShape, Pair, Made, Lowered, outer, inner, lower, raise, raiseOn}
 use Rattle.dynamic.specs.Valid.{Whole}

@@ -16,3 +16,5 @@ pub mod Placed
 pub mod Inserted
 pub mod Removed
 pub mod Updated
+pub mod Story
+pub mod Steps

@@ -1,20 +1,19 @@
 -- Rebalancing two siblings whose heights differ by at most two: one, two or three searches, and the row and the log stay right.
-use Prim.Native.Nat.{ℕ, suc, _+_, _≤_, _<_, max}
+use Prim.Native.Nat.{ℕ, suc, _≤_, _<_, max}
 use native.Mathlib.Omega.{arith}
-use mathlib.Core.Path.{_≡_, refl, sym, ap, subst, _∙_}
-use mathlib.Core.Bool.{not}
+use mathlib.Core.Path.{_≡_, _∙_}
 use mathlib.Core.List.{List, [], _∷_, _++_, append-assoc}
-use lib.Dec.{T, leb, leb→le, nleb→lt, ltb→lt, nltb→le}
+use lib.Dec.{leb, leb→le, nleb→lt, ltb→lt, nltb→le}
 use lib.ListN.{length, length-append}
 use Rattle.envelopes.specs.PseudoLines.{Figure, PseudoLines}
 use Rattle.trees.specs.Operations.{towers}
 use Rattle.trees.specs.Tests.{cond-both}
 use Rattle.meeting.specs.Machine.{Side, left, right}
-use Rattle.dynamic.specs.OfferTree.{Held, heldShape, Pair, Made, andThen, Lowered, outer, inner, lower, raise, raiseOn}
-use Rattle.dynamic.specs.Updates.{rotateOnce, rotateTwice, rotate, rebalance}
+use Rattle.dynamic.specs.OfferTree.{Held, heldShape, Pair, Made, andThen, outer, inner, lower, raise, raiseOn}
+use Rattle.dynamic.specs.Updates.{rotate, rebalance}
 use Rattle.dynamic.specs.Work.{Inner}
 use Rattle.dynamic.specs.Forests.{rowOn, merged-here, merged-there, merged-on}
-use Rattle.dynamic.specs.Kept.{Kept, heldHeight, Above, Raises, lowered-on, raised-on}
+use Rattle.dynamic.specs.Kept.{Kept, heldHeight, Above, lowered-on, raised-on}
 
 -- What a rotation makes where the taller sibling has height h.
 record Rotated (S : Figure) (before : List (Inner (S .Line))) (live : List (S .Line)) (row : List (Held (S .Line))) (log : List (Pair (S .Line))) (h : ℕ) (m : Made (S .Line)) : Type 0 where

@@ -1,10 +1,10 @@
 -- A line withdrawn: the row and the log stay right, the subtree gets at most one lower, and each level costs at most three searches.
-use Prim.Native.Nat.{ℕ, zero, suc, _+_, _*_, _≤_, max}
+use Prim.Native.Nat.{ℕ, suc, _+_, _*_, _≤_, max}
 use native.Mathlib.Omega.{arith}
 use native.Mathlib.Decide.{decLe}
-use mathlib.Core.Path.{_≡_, refl, sym, ap, subst, _∙_}
-use mathlib.Core.Logic.{_⊎_, ⊎-elim}
-use mathlib.Core.Bool.{not, _||_}
+use mathlib.Core.Path.{_≡_, refl, sym, ap, _∙_}
+use mathlib.Core.Logic.{⊎-elim}
+use mathlib.Core.Bool.{not}
 use mathlib.Core.List.{List, [], _∷_, _++_, List·Memᴰ, List·Memᴰ·head, List·Memᴰ·append-cases, List·Memᴰ·eq-of-singleton, Memᴰ·append-right}
 use mathlib.Core.Option.{Option, none, some}
 use lib.Dec.{T, T-not}
@@ -18,7 +18,7 @@ use Rattle.trees.specs.Operations.{Part}
 use Rattle.trees.specs.Leaves.{last-leaf}
 use Rattle.trees.specs.Tests.{cond-both}
 use Rattle.meeting.specs.Machine.{left}
-use Rattle.dynamic.specs.OfferTree.{OfferTree, single, fork, shape, Held, hold, heldShape, Pair, Made, lower, lowerTree}
+use Rattle.dynamic.specs.OfferTree.{OfferTree, single, fork, shape, Held, hold, Pair, Made, lower, lowerTree}
 use Rattle.dynamic.specs.Updates.{Removed, rebalance, besideLeft, besideRight, remove}
 use Rattle.dynamic.specs.Valid.{without}
 use Rattle.dynamic.specs.Work.{Inner}
@@ -46,13 +46,13 @@ falls {h} {f} {g} {k} e p q low high = record { near = omega arith; far = omega 
 -- ---- what a removal leaves of a subtree of height h
 
 -- nothing only of a single line
-abbrev pub Lower : {A : Type 0} → ℕ → Option (Held A) → Type 0
-Lower h none = h ≡ 0
-Lower h (some r) = (heldHeight r ≤ h) × (h ≤ suc (heldHeight r))
+abbrev pub Shorter : {A : Type 0} → ℕ → Option (Held A) → Type 0
+Shorter h none = h ≡ 0
+Shorter h (some r) = (heldHeight r ≤ h) × (h ≤ suc (heldHeight r))
 
 pub record Shrunk (S : Figure) (before : List (Inner (S .Line))) (live : List (S .Line)) (row : List (Held (S .Line))) (h : ℕ) (m : Removed (S .Line)) : Type 0 where
   pub kept : Kept S before live row (m .log)
-  pub heights : Lower h (m .rest)
+  pub heights : Shorter h (m .rest)
   pub few : length (m .log) ≤ 3 * h
 
 module _ (S : Figure) (L : PseudoLines S) {before : List (Inner (S .Line))} {live : List (S .Line)} where

@@ -1,24 +1,24 @@
 -- Post and withdraw keep the book right: its lines, its envelopes, its balance, and what is promised of the searches.
-use Prim.Native.Nat.{ℕ, suc, _+_, _*_, _≤_, max}
+use Prim.Native.Nat.{_+_, _*_, _≤_, max}
 use native.Mathlib.Omega.{arith}
 use mathlib.Core.Path.{_≡_, refl, sym, ap, subst, _∙_}
-use mathlib.Core.List.{List, [], _∷_, _++_, append-nil, List·Memᴰ, List·Memᴰ·head, List·Memᴰ·not-nil, List·Memᴰ·eq-of-singleton}
+use mathlib.Core.List.{List, [], _∷_, append-nil, List·Memᴰ, List·Memᴰ·head, List·Memᴰ·not-nil, List·Memᴰ·eq-of-singleton}
 use mathlib.Core.Option.{Option, none, some}
 use lib.ListN.{length}
 use Rattle.integers.specs.Log.{B, B-mono}
 use Rattle.envelopes.specs.PseudoLines.{Figure, PseudoLines}
-use Rattle.envelopes.specs.Envelope.{Ordered, Ordered·nil, listed}
+use Rattle.envelopes.specs.Envelope.{listed}
 use Rattle.envelopes.specs.Query.{env-listed}
-use Rattle.trees.specs.Tree.{leaves, height}
+use Rattle.trees.specs.Tree.{leaves}
 use Rattle.trees.specs.Height.{log-height}
-use Rattle.dynamic.specs.OfferTree.{Held, alone, heldShape, Pair}
+use Rattle.dynamic.specs.OfferTree.{Held, heldShape, Pair}
 use Rattle.dynamic.specs.Updates.{posted, withdrawn}
 use Rattle.dynamic.specs.Valid.{Whole, WholeBook, bookLines, bookEnvelope, placed, without}
-use Rattle.dynamic.specs.Work.{Inner, inners, bookInners, Searched, Floor, floor-none, Work}
+use Rattle.dynamic.specs.Work.{inners, bookInners, Searched, floor-none, Work}
 use Rattle.dynamic.specs.Lower.{valid-env}
 use Rattle.dynamic.specs.Floors.{floor-old}
 use Rattle.dynamic.specs.Forests.{rowOf, lines-row, inners-row}
-use Rattle.dynamic.specs.Kept.{Kept, started, heldHeight}
+use Rattle.dynamic.specs.Kept.{Kept, started}
 use Rattle.dynamic.specs.Placed.{New, placed-ordered, without-ordered}
 use Rattle.dynamic.specs.Inserted.{alone-whole, inserted}
 use Rattle.dynamic.specs.Removed.{removed}
@@ -30,7 +30,7 @@ pub record Updates (S : Figure) (before after : Option (Held (S .Line))) (live :
 
 module _ (S : Figure) where
   -- a book before anything is done to it
-  opened : (h : Held (S .Line)) → Whole S h → Kept S (inners (heldShape h)) (leaves (heldShape h)) (h ∷ []) []
+  pub opened : (h : Held (S .Line)) → Whole S h → Kept S (inners (heldShape h)) (leaves (heldShape h)) (h ∷ []) []
   opened h w =
       started S (w .ordered) (append-nil (leaves (heldShape h))) (λ x m. subst (Whole S) (sym (List·Memᴰ·eq-of-singleton m)) w)
       (rw append-nil (floor-old S (inners (heldShape h)) (inners (heldShape h)) (λ n m. m)))
