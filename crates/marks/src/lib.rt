@@ -14,7 +14,7 @@ pub enum Mark {
     OpenEnd(f64),
     Crossing(Point),
     // The number of the cause.
-    Declined(u32),
+    Declined(i64),
 }
 
 // An integer as a double: exact up to 2^53 either way. Further out, where the doubles have gaps, it is 0.

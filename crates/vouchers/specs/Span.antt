@@ -26,11 +26,11 @@ module _ (p : ℤ) where
   decided : {b : Bool} → priceInRange p ≡ b → due p ≡ respond p (cond (not b) (some priceOutOfRange) none)
   decided e = ap (λ (b : Bool). respond p (cond (not b) (some priceOutOfRange) none)) e
 
-  pub due-inside : ltZ p least ≡ false → ltZ most p ≡ false → due p ≡ record { number = 0; values = voucherUnits p ∷ [] }
+  pub due-inside : ltZ p least ≡ false → ltZ most p ≡ false → due p ≡ record { number = pos 0; values = voucherUnits p ∷ [] }
   due-inside h k = decided (in-range least most p h k)
 
-  pub due-below : ltZ p least ≡ true → due p ≡ record { number = 4; values = [] }
+  pub due-below : ltZ p least ≡ true → due p ≡ record { number = pos 4; values = [] }
   due-below h = decided (too-low least most p h)
 
-  pub due-above : ltZ most p ≡ true → due p ≡ record { number = 4; values = [] }
+  pub due-above : ltZ most p ≡ true → due p ≡ record { number = pos 4; values = [] }
   due-above h = decided (too-high least most p h)

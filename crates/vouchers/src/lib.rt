@@ -9,7 +9,7 @@ pub enum Voucher {
     // Whole units of 100 cents.
     Units(i64),
     // The number of the cause.
-    Declined(u32),
+    Declined(i64),
 }
 
 // Half away from zero: the division cuts toward zero, so half a unit is added on the price's own side.

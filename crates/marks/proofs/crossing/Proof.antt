@@ -1,6 +1,7 @@
 -- `marks::crossing` meets its contract.
 use mathlib.Core.Path.{ap₂}
 use mathlib.Core.List.{[], _∷_}
+use lib.IntN.{pos}
 use lib.Ieee.{Float}
 use mir.Syntax.{w64}
 use mir.ValLaws.{toZ-ofZ}
@@ -13,7 +14,7 @@ crossing-point-requires : tie.Need-crossing-point-requires
 crossing-point-requires c κs = search needs
 
 twoValues : Float → Float → Told
-twoValues x y = record { number = 0; values = x ∷ y ∷ [] }
+twoValues x y = record { number = pos 0; values = x ∷ y ∷ [] }
 
 returns : tie.Need-returns
 unfolding twoValues

@@ -1,6 +1,7 @@
 -- `marks::open_end` meets its contract.
 use mathlib.Core.Path.{ap, _∙_}
 use mathlib.Core.List.{[], _∷_}
+use lib.IntN.{pos}
 use lib.Ieee.{Float}
 use mir.Syntax.{w64}
 use mir.ValLaws.{toZ-ofZ}
@@ -14,7 +15,7 @@ to-double-requires : tie.Need-to-double-requires
 to-double-requires c κs = search needs
 
 oneValue : Float → Told
-oneValue x = record { number = 0; values = x ∷ [] }
+oneValue x = record { number = pos 0; values = x ∷ [] }
 
 returns : tie.Need-returns
 unfolding oneValue
