@@ -15,7 +15,7 @@ use Rattle.meeting.specs.Machine.{left}
 use Rattle.meeting.specs.Located.{Spans, one, two, spans-some, farthest-at, nearest-at}
 use Rattle.meeting.specs.Meets.{size, lineFrom, spans-tree}
 use Rattle.table.specs.Items.{Item}
-use Rattle.update.specs.Stored.{rateOf, baseOf, items, item-laws}
+use Rattle.pieces.specs.Pieces.{rateOf, baseOf, items, item-laws}
 use Rattle.query.specs.Lookup.{atOrLeft, lookup}
 
 -- ---- the piece that the load lies in

@@ -1,7 +1,7 @@
 -- A tree of pieces in words, with the thread along its leaves and the offers in their slots; and what its root's words say.
 use mathlib.Core.Path.{_≡_, refl, _∙_, ap, subst}
 use mathlib.Core.Bool.{Bool, true, false, not}
-use mathlib.Core.List.{List, [], _∷_, _++_, append-assoc, List·Memᴰ, List·Memᴰ·head, Memᴰ·append-left, Memᴰ·append-right}
+use mathlib.Core.List.{List, [], _∷_, _++_, List·Memᴰ, List·Memᴰ·head, IsChain·nil, IsChain·singleton, IsChain·cons-cons, Memᴰ·append-left, Memᴰ·append-right}
 use Prim.Native.Nat.{ℕ, _-_, _≤_, _<_}
 use native.Mathlib.Omega.{arith}
 use lib.Dec.{T}
@@ -9,12 +9,12 @@ use lib.IntN.{ℤ}
 use Rattle.offers.specs.Offers.{loadInRange, rateInRange, priceAt, crossingNumerator, crossingDenominator}
 use Rattle.offers.specs.Sizes.{rate-of, base-of, denominatorInRange, rate-gap-in-range}
 use Rattle.trees.specs.Tree.{Tree, leaf, node, leaves, first, last}
-use Rattle.trees.specs.Leaves.{start, rest, leaves-first, leaves-last, first-leaf, last-leaf}
+use Rattle.trees.specs.Leaves.{first-leaf, last-leaf}
 use Rattle.table.specs.Words.{Words}
 use Rattle.table.specs.Layout.{cap-most, cell, linkAt}
 use Rattle.table.specs.Items.{Item, slots-left, slots-right}
 use Rattle.table.specs.Rep.{childField, refOf, Tied, tied-node, Rep}
-use Rattle.table.specs.Threads.{Kept, Holds, Threaded, thread-none, thread-last, thread-next}
+use Rattle.table.specs.Threads.{Held, Holds, Next, Threaded, chain-seam}
 use Rattle.query.specs.Lookup.{atOrLeft}
 use Rattle.query.specs.Readings.{bounded-in, beyond, towardAt, priceIn}
 
@@ -25,33 +25,16 @@ pub record Pieces (w : Words) (x : ℕ) (t : Tree Item) : Type 0 where
 
 -- ---- threads
 
--- from a piece to the next
-pub record Next (w : Words) (a b : Item) : Type 0 where
-  pub next : linkAt w 19 (a .slot) ≡ b .slot
-  pub numerator : cell w 6 (a .slot) ≡ crossingNumerator (a .offer) (b .offer)
-  pub denominator : cell w 7 (a .slot) ≡ crossingDenominator (a .offer) (b .offer)
-
-pub thread-head : {w : Words} {a b : Item} {xs : List Item} → Threaded w (a ∷ b ∷ xs) → Next w a b
-thread-head (thread-next e n d h) = record { next = e; numerator = n; denominator = d }
-
-pub thread-tail : {w : Words} {a : Item} {xs : List Item} → Threaded w (a ∷ xs) → Threaded w xs
-thread-tail thread-last = thread-none
-thread-tail (thread-next e n d h) = h
-
 thread-back : {w : Words} (xs : List Item) {ys : List Item} → Threaded w (xs ++ ys) → Threaded w ys
 thread-back [] h = h
-thread-back (x ∷ xs) h = thread-back xs (thread-tail h)
+thread-back (x ∷ []) {ys = []} h = IsChain·nil
+thread-back (x ∷ []) {ys = y ∷ ys} (IsChain·cons-cons n h) = h
+thread-back (x ∷ y ∷ xs) (IsChain·cons-cons n h) = thread-back (y ∷ xs) h
 
 thread-front : {w : Words} (xs ys : List Item) → Threaded w (xs ++ ys) → Threaded w xs
-thread-front [] ys h = thread-none
-thread-front (x ∷ []) ys h = thread-last
-thread-front (x ∷ y ∷ xs) ys (thread-next e n d h) = thread-next e n d (thread-front (y ∷ xs) ys h)
-
-thread-seam : {w : Words} (l r : Tree Item) → Threaded w (leaves l ++ leaves r) → Next w (last l) (first r)
-thread-seam {w} l r h = thread-head (thread-back (start l) (subst (Threaded w) seamed h))
-  where
-    seamed : leaves l ++ leaves r ≡ start l ++ (last l ∷ first r ∷ rest r)
-    seamed = simp (leaves-last l, leaves-first r, append-assoc)
+thread-front [] ys h = IsChain·nil
+thread-front (x ∷ []) ys h = IsChain·singleton x
+thread-front (x ∷ y ∷ xs) ys (IsChain·cons-cons n h) = IsChain·cons-cons n (thread-front (y ∷ xs) ys h)
 
 -- ---- an inner node
 
@@ -61,7 +44,7 @@ pieces-left {w} {l} {r} p t e =
     record {
       rep = record { kind = p .rep .kind; root = e; slots = slots-left (leaves r) (p .rep .slots); tied = t };
       thread = thread-front (leaves l) (leaves r) (p .thread);
-      holds = record { kept = λ a m. p .holds .kept a (Memᴰ·append-left (leaves r) m) };
+      holds = record { held = λ m. p .holds .held (Memᴰ·append-left (leaves r) m) };
     }
 
 pieces-right : {w : Words} {x y : ℕ} {l r : Tree Item} → Pieces w x (node l r) → Tied w 0 r → y ≡ refOf r → Pieces w y r
@@ -69,18 +52,18 @@ pieces-right {w} {l} {r} p t e =
     record {
       rep = record { kind = p .rep .kind; root = e; slots = slots-right (leaves l) (p .rep .slots); tied = t };
       thread = thread-back (leaves l) (p .thread);
-      holds = record { kept = λ a m. p .holds .kept a (Memᴰ·append-right (leaves l) m) };
+      holds = record { held = λ m. p .holds .held (Memᴰ·append-right (leaves l) m) };
     }
 
 -- the crossing that the node keeps decides as the two pieces beside it do
 seam-test : {w : Words} {x : ℕ} {l r : Tree Item} (q : ℤ) → Pieces w x (node l r) → T (loadInRange q) → beyond w (last l .slot) q ≡ not (atOrLeft q (last l .offer) (first r .offer))
 unfolding beyond
 seam-test {w} {x} {l} {r} q p h =
-    let n = thread-seam l r (p .thread) in
+    let n = chain-seam l r (p .thread) in
     rw (n .numerator, n .denominator, bounded-in _ _ q h, bounded-in _ _ (crossingDenominator (last l .offer) (first r .offer)) near)
   where
     ranged : (a : Item) → List·Memᴰ a (leaves l ++ leaves r) → T (rateInRange (a .offer .rate))
-    ranged a m = rate-of (a .offer) (p .holds .kept a m .ranged)
+    ranged a m = rate-of (a .offer) (p .holds .held m .ranged)
 
     near : T (denominatorInRange (crossingDenominator (last l .offer) (first r .offer)))
     near = rate-gap-in-range (last l .offer .rate) (first r .offer .rate) (ranged (last l) (Memᴰ·append-left (leaves r) (last-leaf l))) (ranged (first r) (Memᴰ·append-right (leaves l) (first-leaf r)))
@@ -115,7 +98,7 @@ at-leaf {t = node l r} p h = absurd (omega (arith, p .rep .root, slots-left (lea
 
 -- ---- the price of an offer kept in its slot
 
-pub price-kept : {w : Words} {a : Item} (q : ℤ) → Kept w a → T (loadInRange q) → priceIn w (a .slot) q ≡ priceAt (a .offer) q
+pub price-kept : {w : Words} {a : Item} (q : ℤ) → Held w a → T (loadInRange q) → priceIn w (a .slot) q ≡ priceAt (a .offer) q
 unfolding priceIn
 price-kept {w} {a} q k h =
     rw (k .base, k .rate, bounded-in _ _ q h, bounded-in _ _ (a .offer .base) (base-of (a .offer) (k .ranged)), bounded-in _ _ (a .offer .rate) (rate-of (a .offer) (k .ranged)))

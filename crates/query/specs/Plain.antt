@@ -25,7 +25,7 @@ use Rattle.plain.specs.QueryLaws.{Names, cheapest-names}
 use Rattle.plain.specs.ListingLaws.{in-order, envelope-listed}
 use Rattle.trees.specs.Tree.{Tree, leaves}
 use Rattle.table.specs.Items.{Item}
-use Rattle.update.specs.Stored.{rateOf, baseOf, items, item-laws}
+use Rattle.pieces.specs.Pieces.{rateOf, baseOf, items, item-laws}
 use Rattle.query.specs.Lookup.{lookup}
 use Rattle.query.specs.Answer.{lookup-first}
 
