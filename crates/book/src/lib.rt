@@ -14,7 +14,11 @@ pub enum Update {
 
 // What a query answers: the offer's number, the least price, and the depth of its leaf in the root's piece tree.
 pub enum Found {
-    Offer { number: i64, price: i64, probes: i64 },
+    Offer {
+        number: i64,
+        price: i64,
+        probes: i64,
+    },
     Declined(i64),
 }
 

@@ -4,3 +4,7 @@ pub mod Steps
 pub mod Frames
 pub mod Disjoint
 pub mod Lowering
+pub mod Neighbours
+pub mod Counting
+pub mod Rotating
+pub mod Rebalancing
