@@ -98,7 +98,7 @@ pub record Met {A : Type 0} (limit : ℕ) (u v : A) (r : Result A) : Type 0 wher
 abbrev pub limit : {A : Type 0} → Tree A → Tree A → ℕ
 limit l r = 3 * (height l + height r) + 1
 
-abbrev root-stands : {A : Type 0} (side : Side) (t : Tree A) (g : Aim A) → g .tall ≡ height t → g .star < g .count → Spans side (g .line) 0 t (g .count) → Stands side g (half t none [])
+abbrev pub root-stands : {A : Type 0} (side : Side) (t : Tree A) (g : Aim A) → g .tall ≡ height t → g .star < g .count → Spans side (g .line) 0 t (g .count) → Stands side g (half t none [])
 root-stands side t g e h s =
     record {
       lo = 0;

@@ -4,3 +4,5 @@ pub mod Sides
 pub mod Rows
 pub mod Rotations
 pub mod Balance
+pub mod Splices
+pub mod Merge

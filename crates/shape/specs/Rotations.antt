@@ -22,7 +22,7 @@ pub is-leaf : {w : Words} {k x : ℕ} {t : Tree Item} → Rep w k x t → x ≤ 
 is-leaf {t = leaf a} r h = (a, refl)
 is-leaf {t = node l s} r h = absurd (omega (arith, r .root, slots-left (leaves s) (r .slots) .low (last-leaf l)))
 
-slot-of : {a b : Item} → a ≡ b → a .slot ≡ b .slot
+pub slot-of : {a b : Item} → a ≡ b → a .slot ≡ b .slot
 slot-of e = ap (λ (i : Item). i .slot) e
 
 -- ---- a change of shape
@@ -30,7 +30,7 @@ slot-of e = ap (λ (i : Item). i .slot) e
 pub reshaped : {f g : Tree Item → Tree Item → Tree Item} {k gap p q x : ℕ} {side : Bool} {w w′ : Words} → Joined f k side gap p q w w′ x → ((tp tq : Tree Item) → Pair w k side p q tp tq → f tp tq ≡ g tp tq) → Joined g k side gap p q w w′ x
 reshaped j e = record { within = j .within; made = λ tp tq pair d. made-as (e tp tq pair) (j .made tp tq pair d) }
 
-pair-flip : {w : Words} {k p q : ℕ} {side : Bool} {tp tq : Tree Item} → Pair w k side p q tp tq → Pair w k (not side) q p tq tp
+pub pair-flip : {w : Words} {k p q : ℕ} {side : Bool} {tp tq : Tree Item} → Pair w k side p q tp tq → Pair w k (not side) q p tq tp
 pair-flip {side} {tp} {tq} h =
     record { kind = h .kind; one = h .other; other = h .one; slots = rw (other-way side tp tq) (h .slots); tied-one = h .tied-other; tied-other = h .tied-one }
 

@@ -6,6 +6,7 @@ use mathlib.Core.List.{_++_, append-assoc}
 use lib.Dec.{T, leb}
 use Rattle.trees.specs.Tree.{Tree, leaf, node, height, leaves, last}
 use Rattle.trees.specs.Operations.{towers, doubleRight, doubleLeft, rotateRight, rotateLeft, balance, joinR, joinL}
+use Rattle.trees.specs.Leaves.{leaves-balance, leaves-joinR, leaves-joinL, same-last}
 use Rattle.trees.specs.Mirror.{towers-apart}
 use Rattle.table.specs.Items.{Item}
 use Rattle.table.specs.Rep.{nodeOn, seam}
@@ -105,3 +106,23 @@ pub join-node : (side : Bool) (p m q : Tree Item) → joinOn side (nodeOn side p
 unfolding joinR joinL
 join-node false p m q = refl
 join-node true p m q = refl
+
+-- a tree that does not tower is joined at its root
+pub join-low : (side : Bool) (p q : Tree Item) → towers p q ≡ false → joinOn side p q ≡ nodeOn side p q
+join-low side (leaf a) q e = join-leaf side a q
+join-low false (node l r) q e = join-node false l r q ∙ rw e
+join-low true (node l r) q e = join-node true r l q ∙ rw e
+
+-- ---- leaves, and the last of them
+
+pub balance-leaves : (side : Bool) (p q : Tree Item) → leaves (balanceOn side p q) ≡ leaves (nodeOn side p q)
+balance-leaves false p q = leaves-balance p q
+balance-leaves true p q = leaves-balance q p
+
+pub join-leaves : (side : Bool) (p q : Tree Item) → leaves (joinOn side p q) ≡ leaves (nodeOn side p q)
+join-leaves false p q = leaves-joinR p q
+join-leaves true p q = leaves-joinL q p
+
+pub seam-join : (side : Bool) (p m q : Tree Item) → seam side p (joinOn side m q) ≡ seam side p m
+seam-join false p m q = refl
+seam-join true p m q = same-last (joinL q m) (node q m) (leaves-joinL q m)

@@ -5,6 +5,8 @@ ghost use Rattle.table.specs.Rep.{heightAt, nodeOn};
 ghost use Rattle.shape.specs.Sides.{rowOn, doubleOn, rotateOn, balanceOn};
 ghost use Rattle.shape.specs.Joining.{Joined};
 ghost use Rattle.shape.specs.Rows.{Rowed};
+ghost use Rattle.shape.specs.Splices.{Spliced, towersAt};
+ghost use Rattle.shape.specs.Merge.{Merged};
 
 // The height of a node over two.
 pub fn height_over(part: &[i64], tree: u8, p: u32, q: u32) -> u32
@@ -101,4 +103,49 @@ pub fn balance(part: &mut [i64], tree: u8, side: bool, gap: u32, p: u32, q: u32)
         return rotate(part, tree, !side, gap, q, p);
     }
     make_node(part, tree, side, gap, p, q)
+}
+
+// Node `p` stands more than one higher than `q`.
+pub fn towers(part: &[i64], tree: u8, p: u32, q: u32) -> bool
+    ensures { λ r. ⌜ r ≡ towersAt (now (part .entry)) tree p q ⌝ }
+{
+    let hp = table::height(part, tree, p);
+    let hq = table::height(part, tree, q);
+    hq + 1 < hp
+}
+
+// Joins two trees along the inner spine of `p`, as long as it towers over `q`. `limit` bounds the height of `p`.
+pub fn splice(part: &mut [i64], tree: u8, side: bool, gap: u32, p: u32, q: u32, limit: u32) -> u32
+    ensures { λ x. ⌜ Spliced tree side gap p q limit (now (part .entry)) (now (part .exit)) x ⌝ }
+{
+    if limit == 0 {
+        return make_node(part, tree, side, gap, p, q);
+    }
+    if towers(part, tree, p, q) {
+        let a = table::child(part, tree, side, p);
+        let m = table::child(part, tree, !side, p);
+        let g = table::inner_slot(p);
+        let y = splice(part, tree, side, gap, m, q, limit - 1);
+        return balance(part, tree, side, g, a, y);
+    }
+    make_node(part, tree, side, gap, p, q)
+}
+
+// Joins two balanced trees, either of which may be empty. `gap` is the slot of the last leaf of `l`.
+pub fn join(part: &mut [i64], tree: u8, gap: u32, l: u32, r: u32) -> u32
+    ensures { λ x. ⌜ Merged tree gap l r (now (part .entry)) (now (part .exit)) x ⌝ }
+{
+    if l == 0 {
+        return r;
+    }
+    if r == 0 {
+        return l;
+    }
+    if towers(part, tree, l, r) {
+        return splice(part, tree, false, gap, l, r, 24);
+    }
+    if towers(part, tree, r, l) {
+        return splice(part, tree, true, gap, r, l, 24);
+    }
+    make_node(part, tree, false, gap, l, r)
 }

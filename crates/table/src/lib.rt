@@ -2,6 +2,7 @@
 ghost use mathlib.Core.Path.{_≡_};
 ghost use Prim.Native.Nat.{_-_};
 ghost use lib.IntN.{pos};
+ghost use lib.Signed.{leZ, ltZ};
 ghost use Rattle.table.specs.Words.{word, wset, upTo};
 ghost use Rattle.table.specs.Layout.{cap, spot, cell, cset, linkAt};
 ghost use Rattle.table.specs.Rep.{childField, heightField, childAt, heightAt};
@@ -141,4 +142,25 @@ pub fn height(part: &[i64], tree: u8, x: u32) -> u32
     ensures { λ r. ⌜ r ≡ heightAt (now (part .entry)) tree x ⌝ }
 {
     link(part, height_field(tree), inner_slot(x))
+}
+
+// A slot's field is `key` or above.
+pub fn at_least(part: &[i64], field: usize, slot: u32, key: i64) -> bool
+    ensures { λ r. ⌜ r ≡ leZ key (cell (now (part .entry)) field slot) ⌝ }
+{
+    key <= get(part, field, slot)
+}
+
+// A slot's field is `key` or below.
+pub fn at_most(part: &[i64], field: usize, slot: u32, key: i64) -> bool
+    ensures { λ r. ⌜ r ≡ leZ (cell (now (part .entry)) field slot) key ⌝ }
+{
+    get(part, field, slot) <= key
+}
+
+// A slot's field is above `key`.
+pub fn is_above(part: &[i64], field: usize, slot: u32, key: i64) -> bool
+    ensures { λ r. ⌜ r ≡ ltZ key (cell (now (part .entry)) field slot) ⌝ }
+{
+    key < get(part, field, slot)
 }

@@ -57,7 +57,7 @@ of-pieces-field (of-numerator e) = omega arith
 of-pieces-field (of-denominator e) = omega arith
 of-pieces-field (of-next e) = omega arith
 
-offers-apart : {f : ℕ} → PieceField f → Field 1 f → ⊥
+pub offers-apart : {f : ℕ} → PieceField f → Field 1 f → ⊥
 offers-apart {f} p (a-child side e) = child side e (of-pieces-field p)
   where
     child : (side : Bool) → f ≡ childField 1 side → OfPieces f → ⊥
@@ -65,7 +65,7 @@ offers-apart {f} p (a-child side e) = child side e (of-pieces-field p)
     child true d q = q .no-right d
 offers-apart p (a-height e) = of-pieces-field p .no-height e
 
-rests-apart : {f : ℕ} → PieceField f → RestField f → ⊥
+pub rests-apart : {f : ℕ} → PieceField f → RestField f → ⊥
 rests-apart p (bridge-u e) = of-pieces-field p .no-bridge-u e
 rests-apart p (bridge-v e) = of-pieces-field p .no-bridge-v e
 rests-apart p (inner-rest e) = of-pieces-field p .no-inner-rest e

@@ -1,0 +1,8 @@
+-- The search on the table: what the code's walks stand for, and that each of its steps is the machine's.
+pub mod ItemLines
+pub mod Prices
+pub mod Pieces
+pub mod Walks
+pub mod Moves
+pub mod Steps
+pub mod Runs

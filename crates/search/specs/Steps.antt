@@ -1,0 +1,227 @@
+-- What a state of the code's search stands for, and that each of its steps is the machine's.
+use Prim.Native.Nat.{ℕ, suc, _+_, _-_, _≤_, _<_}
+use native.Mathlib.Omega.{arith}
+use mathlib.Core.Path.{_≡_, refl, sym, _∙_, ap, ap₂, subst}
+use mathlib.Core.Bool.{Bool, true, false, not, _&&_}
+use mathlib.Core.List.{List, [], _∷_}
+use mathlib.Core.Option.{Option, none, some}
+use lib.Dec.{leb}
+use lib.ListN.{length}
+use borrow.Author.Tests.{le-leb, lt-leb}
+use Rattle.trees.specs.Tree.{Tree, leaf, node, height, last}
+use Rattle.meeting.specs.Machine.{Side, opposite, isLeaf, Place, onOrAbove, Case, mine, theirs, neither, caseOf, compare, Half, State, pair, advance, retreat, pop, second, recedeBy, recede, advanceUnless, stepBy, step}
+use Rattle.meeting.specs.Moves.{half}
+use Rattle.table.specs.Words.{Words}
+use Rattle.table.specs.Items.{Item}
+use Rattle.table.specs.Rep.{refOf}
+use Rattle.search.specs.declared.Walk.{Walk}
+use Rattle.search.specs.declared.Search.{Search}
+use Rattle.search.specs.ItemLines.{itemFigure}
+use Rattle.search.specs.Prices.{aboveAt}
+use Rattle.search.specs.Pieces.{Pieces, sideOf, leaf-low, inner-high, seam-at}
+use Rattle.search.specs.Walks.{Stacks, empty, pushed, Stood, Fares, stacks-depth, topRef, pointSlot, node-above, half-above}
+use Rattle.search.specs.Moves.{Topped, Pointed, Retreated, Advanced, Popped, top-pieces}
+
+-- ---- the relation
+
+-- u's and v's walks
+abbrev pub uOf : Search → Walk
+uOf s = record { at = s .u; stack = s .us; depth = s .ud }
+
+abbrev pub vOf : Search → Walk
+vOf s = record { at = s .v; stack = s .vs; depth = s .vd }
+
+pub record Searches (wl wr : Words) (s : Search) (M : State Item) : Type 0 where
+  pub u : Stood wl (uOf s) (M .u)
+  pub v : Stood wr (vOf s) (M .v)
+
+-- two walks as a state that goes on: the first is of the given side
+abbrev pub paired : Bool → Walk → Walk → Search
+paired false h k =
+    record {
+      u = h .at;
+      v = k .at;
+      us = h .stack;
+      ud = h .depth;
+      vs = k .stack;
+      vd = k .depth;
+      done = false;
+    }
+paired true h k =
+    record {
+      u = k .at;
+      v = h .at;
+      us = k .stack;
+      ud = k .depth;
+      vs = h .stack;
+      vd = h .depth;
+      done = false;
+    }
+
+-- of what is ours and what is the other's, the left one and the right one
+abbrev pub leftOf : Bool → Words → Words → Words
+leftOf false ours other = ours
+leftOf true ours other = other
+
+abbrev pub rightOf : Bool → Words → Words → Words
+rightOf false ours other = other
+rightOf true ours other = ours
+
+-- ---- the promises
+
+pub record Receded (ours other : Words) (side : Bool) (h k : Walk) (r : Search) : Type 0 where
+  pub going : r .done ≡ false
+  pub moved : {m n : Half Item} → Fares ours side h m → Fares other (not side) k n → Searches (leftOf side ours other) (rightOf side ours other) r (recede itemFigure (sideOf side) m n)
+
+-- after a step: finished where the machine is, and else where the machine stands
+abbrev pub After : Words → Words → Search → Search → Option (State Item) → Type 0
+After wl wr s r none = (r .done ≡ true) × (r .u ≡ s .u) × (r .v ≡ s .v)
+After wl wr s r (some M) = (r .done ≡ false) × Searches wl wr r M
+
+pub record Stepped (wl wr : Words) (s r : Search) : Type 0 where
+  pub moved : {M : State Item} → Fares wl false (uOf s) (M .u) → Fares wr true (vOf s) (M .v) → After wl wr s r (step itemFigure M)
+
+-- ---- moves that recede
+
+module _ {ours other : Words} {h k : Walk} {m n : Half Item} where
+  paired-searches : (side : Bool) → Stood ours h m → Stood other k n → Searches (leftOf side ours other) (rightOf side ours other) (paired side h k) (pair (sideOf side) m n)
+  paired-searches false p q = record { u = p; v = q }
+  paired-searches true p q = record { u = q; v = p }
+
+turn : (side : Bool) → opposite (sideOf side) ≡ sideOf (not side)
+turn false = refl
+turn true = refl
+
+going-paired : (side : Bool) (h k : Walk) (r : Search) → r ≡ paired side h k → r .done ≡ false
+going-paired false h k r e = ap (λ (s : Search). s .done) e
+going-paired true h k r e = ap (λ (s : Search). s .done) e
+
+mine-case : (b c : Bool) → b ≡ true → caseOf b c ≡ mine
+mine-case b c e = ap (λ (d : Bool). caseOf d c) e
+
+-- a fared walk has room for what it may push
+roomy : {w : Words} {side : Bool} {h : Walk} {m : Half Item} → Fares w side h m → length (m .stack) + height (m .at .tree) ≤ 24
+roomy f = omega (arith, f .stands .shallow, f .low)
+
+-- the stack's top, compared
+top-above : {w v : Words} {st : List ℕ} {d y : ℕ} {top : Place Item} {rest : List (Place Item)} (side : Side) (t : ℕ) (q : Place Item) → Stacks w st d (top ∷ rest) → t ≡ refOf (top .tree) → Pieces v y (q .tree) → aboveAt w (t - 4096) v y ≡ onOrAbove itemFigure side top q
+top-above {w} {v} {y = y} side t q (pushed {l = l} {r = r} {e = e} p s) z b = ap (λ (i : ℕ). aboveAt w i v y) (omega (arith, z)) ∙ node-above side e q p b
+
+module _ {ours other : Words} {side : Bool} {h k : Walk} {t : Tree Item} {e : Option Item} {top : Place Item} {rest : List (Place Item)} {n : Half Item} where
+  -- the second comparison
+  second-case : (x p : ℕ) → Fares ours side h (half t e (top ∷ rest)) → Fares other (not side) k n → x ≡ refOf (top .tree) → p ≡ pointSlot (n .at .tree) (n .stack) → compare itemFigure (sideOf side) top (n .at) ≡ caseOf (aboveAt ours (x - 4096) other (k .at)) (aboveAt other p ours x)
+  unfolding compare
+  second-case x p f g a b =
+      ap₂ caseOf (sym (top-above (sideOf side) x (n .at) (f .stood .stacks) a (g .stood .here)))
+      (ap (λ (s : Side). onOrAbove itemFigure s (n .at) top) (turn side) ∙ sym (half-above g top (top-pieces (f .stood) x a)) ∙ ap (λ (i : ℕ). aboveAt other i ours x) (sym b))
+
+module _ {ours other : Words} {side : Bool} {h k : Walk} {n : Half Item} (g : Fares other (not side) k n) where
+  -- nothing to pop
+  bottom-by : {h′ : Walk} (t : Tree Item) (e : Option Item) (ps : List (Place Item)) (f : Fares ours side h (half t e ps)) → h .depth < 1 → Retreated ours side h h′ → Searches (leftOf side ours other) (rightOf side ours other) (paired side h′ k) (recede itemFigure (sideOf side) (half t e ps) n)
+  unfolding recede
+  bottom-by t e [] f d a = paired-searches side (a .moved (f .stood)) (g .stood)
+  bottom-by t e (top ∷ rest) f d a = absurd (omega (arith, stacks-depth (f .stood .stacks)))
+
+  -- a leaf pops
+  leaf-by : {h′ : Walk} (t : Tree Item) (e : Option Item) (ps : List (Place Item)) (f : Fares ours side h (half t e ps)) → 1 ≤ h .depth → h .at ≤ 4096 → Popped ours side h h′ → Searches (leftOf side ours other) (rightOf side ours other) (paired side h′ k) (recede itemFigure (sideOf side) (half t e ps) n)
+  unfolding recede
+  leaf-by t e [] f d l a = absurd (omega (arith, stacks-depth (f .stood .stacks)))
+  leaf-by (leaf x) e (top ∷ rest) f d l a = paired-searches side (a .moved (f .stood)) (g .stood)
+  leaf-by (node x y) e (top ∷ rest) f d l a = absurd (omega (arith, inner-high (f .stood .here)))
+
+  -- an inner node goes by the second comparison
+  second-by : {r : Search} (t : Tree Item) (e : Option Item) (ps : List (Place Item)) (f : Fares ours side h (half t e ps)) → 1 ≤ h .depth → 4096 < h .at → (x p : ℕ) → x ≡ topRef ps → p ≡ pointSlot (n .at .tree) (n .stack) → (c : Case) → caseOf (aboveAt ours (x - 4096) other (k .at)) (aboveAt other p ours x) ≡ c → ((top : Place Item) (rest : List (Place Item)) → Fares ours side h (half t e (top ∷ rest)) → Searches (leftOf side ours other) (rightOf side ours other) r (second itemFigure (sideOf side) c (half t e (top ∷ rest)) n top rest)) → Searches (leftOf side ours other) (rightOf side ours other) r (recede itemFigure (sideOf side) (half t e ps) n)
+  unfolding recede
+  second-by t e [] f d l x p a b c q s = absurd (omega (arith, stacks-depth (f .stood .stacks)))
+  second-by (leaf y) e (top ∷ rest) f d l x p a b c q s = absurd (omega (arith, leaf-low (f .stood .here)))
+  second-by (node y z) e (top ∷ rest) f d l x p a b c q s = rw (second-case x p f g a b ∙ q) (s top rest f)
+
+-- ---- each answer of the code, where ours recedes
+
+module _ {ours other : Words} {side : Bool} {h k h′ : Walk} {r : Search} where
+  pub receded-bottom : r ≡ paired side h′ k → Retreated ours side h h′ → h .depth < 1 → Receded ours other side h k r
+  receded-bottom e a d =
+      record {
+        going = going-paired side h′ k r e;
+        moved = λ {m} {n} f g. rw e (bottom-by g (m .at .tree) (m .at .edge) (m .stack) f d a);
+      }
+
+  pub receded-leaf : r ≡ paired side h′ k → Popped ours side h h′ → 1 ≤ h .depth → h .at ≤ 4096 → Receded ours other side h k r
+  receded-leaf e a d l =
+      record {
+        going = going-paired side h′ k r e;
+        moved = λ {m} {n} f g. rw e (leaf-by g (m .at .tree) (m .at .edge) (m .stack) f d l a);
+      }
+
+  module _ (x y : ℕ) (top : Topped h x) (at-top : y ≡ x - 4096) (deep : 1 ≤ h .depth) (inner : 4096 < h .at) where
+    pub receded-mine : r ≡ paired side h′ k → Popped ours side h h′ → aboveAt ours y other (k .at) ≡ true → Receded ours other side h k r
+    receded-mine e a b =
+        record {
+          going = going-paired side h′ k r e;
+          moved = λ {m} {n} f g.
+              rw e
+              (second-by g (m .at .tree) (m .at .edge) (m .stack) f deep inner x (pointSlot (n .at .tree) (n .stack)) (top .is (f .stood)) refl mine
+              (mine-case _ _ (ap (λ (i : ℕ). aboveAt ours i other (k .at)) (sym at-top) ∙ b))
+              (λ t rest f′. paired-searches side (a .moved (f′ .stood)) (g .stood)));
+        }
+
+    module _ {k′ : Walk} (p : ℕ) (point : Pointed k p) (clear : aboveAt ours y other (k .at) ≡ false) where
+      pub receded-theirs : r ≡ paired side h′ k′ → Retreated ours side h h′ → Retreated other (not side) k k′ → aboveAt other p ours x ≡ true → Receded ours other side h k r
+      receded-theirs e a a′ b =
+          record {
+            going = going-paired side h′ k′ r e;
+            moved = λ {m} {n} f g.
+                rw e
+                (second-by g (m .at .tree) (m .at .edge) (m .stack) f deep inner x p (top .is (f .stood)) (point .is (g .stood)) theirs
+                (ap₂ caseOf (ap (λ (i : ℕ). aboveAt ours i other (k .at)) (sym at-top) ∙ clear) b)
+                (λ t rest f′. paired-searches side (a .moved (f′ .stood)) (rw (turn side) (a′ .moved (g .stood)))));
+          }
+
+      pub receded-neither : r ≡ paired side h′ k′ → Retreated ours side h h′ → Advanced other (not side) k k′ → aboveAt other p ours x ≡ false → Receded ours other side h k r
+      receded-neither e a a′ b =
+          record {
+            going = going-paired side h′ k′ r e;
+            moved = λ {m} {n} f g.
+                rw e
+                (second-by g (m .at .tree) (m .at .edge) (m .stack) f deep inner x p (top .is (f .stood)) (point .is (g .stood)) neither
+                (ap₂ caseOf (ap (λ (i : ℕ). aboveAt ours i other (k .at)) (sym at-top) ∙ clear) b)
+                (λ t rest f′. paired-searches side (a .moved (f′ .stood)) (rw (turn side) (a′ .moved (g .stood) (roomy g)))));
+          }
+
+-- ---- each answer of the code's step
+
+leaf-test : {w : Words} {x : ℕ} (t : Tree Item) → Pieces w x t → leb x 4096 ≡ isLeaf t
+leaf-test {x} (leaf a) p = le-leb x 4096 (leaf-low p)
+leaf-test {x} (node l r) p = lt-leb x 4096 (inner-high p)
+
+module _ (wl wr : Words) (s : Search) where
+  -- the machine's step, by the code's two comparisons
+  step-by : (r : Search) {p q : ℕ} {M : State Item} (c : Case) → Pointed (uOf s) p → Pointed (vOf s) q → caseOf (aboveAt wl p wr (s .v)) (aboveAt wr q wl (s .u)) ≡ c → Fares wl false (uOf s) (M .u) → Fares wr true (vOf s) (M .v) → After wl wr s r (stepBy itemFigure c M) → After wl wr s r (step itemFigure M)
+  unfolding step compare
+  step-by r {p} {q} {M} c a b e f g z =
+      let u : aboveAt wl p wr (s .v) ≡ onOrAbove itemFigure (sideOf false) (M .u .at) (M .v .at) = ap (λ (i : ℕ). aboveAt wl i wr (s .v)) (a .is (f .stood)) ∙ half-above f (M .v .at) (g .stood .here) in
+      let v : aboveAt wr q wl (s .u) ≡ onOrAbove itemFigure (sideOf true) (M .v .at) (M .u .at) = ap (λ (i : ℕ). aboveAt wr i wl (s .u)) (b .is (g .stood)) ∙ half-above g (M .u .at) (f .stood .here) in
+      rw (sym (ap₂ caseOf u v) ∙ e) z
+
+  leaves-test : {M : State Item} (b : Bool) → leb (s .u) 4096 && leb (s .v) 4096 ≡ b → Fares wl false (uOf s) (M .u) → Fares wr true (vOf s) (M .v) → isLeaf (M .u .at .tree) && isLeaf (M .v .at .tree) ≡ b
+  leaves-test {M} b e f g = sym (ap₂ _&&_ (leaf-test (M .u .at .tree) (f .stood .here)) (leaf-test (M .v .at .tree) (g .stood .here))) ∙ e
+
+module _ {wl wr : Words} {s r : Search} {p q : ℕ} (pu : Pointed (uOf s) p) (pv : Pointed (vOf s) q) where
+  pub stepped-mine : aboveAt wl p wr (s .v) ≡ true → Receded wl wr false (uOf s) (vOf s) r → Stepped wl wr s r
+  stepped-mine a z = record { moved = λ f g. step-by wl wr s r mine pu pv (mine-case _ _ a) f g (z .going, z .moved f g) }
+
+  pub stepped-theirs : aboveAt wl p wr (s .v) ≡ false → aboveAt wr q wl (s .u) ≡ true → Receded wr wl true (vOf s) (uOf s) r → Stepped wl wr s r
+  stepped-theirs clear a z = record { moved = λ f g. step-by wl wr s r theirs pu pv (ap₂ caseOf clear a) f g (z .going, z .moved g f) }
+
+  module _ (clear : aboveAt wl p wr (s .v) ≡ false) (clear′ : aboveAt wr q wl (s .u) ≡ false) where
+    pub stepped-done : leb (s .u) 4096 && leb (s .v) 4096 ≡ true → r .done ≡ true → r .u ≡ s .u → r .v ≡ s .v → Stepped wl wr s r
+    stepped-done e a b c =
+        record { moved = λ {M} f g. step-by wl wr s r neither pu pv (ap₂ caseOf clear clear′) f g (rw (leaves-test wl wr s true e f g) (a, b, c)) }
+
+    pub stepped-on : {h k : Walk} → leb (s .u) 4096 && leb (s .v) 4096 ≡ false → r ≡ paired false h k → Advanced wl false (uOf s) h → Advanced wr true (vOf s) k → Stepped wl wr s r
+    stepped-on {h} {k} e a b c =
+        record {
+          moved = λ {M} f g.
+              step-by wl wr s r neither pu pv (ap₂ caseOf clear clear′) f g
+              (rw (leaves-test wl wr s false e f g) (going-paired false h k r a, rw a (paired-searches false (b .moved (f .stood) (roomy f)) (c .moved (g .stood) (roomy g)))));
+        }
