@@ -41,11 +41,11 @@ above-turned a = record { higher = a .higher ∙ omega arith; left-level = a .ri
 
 -- ---- counts of a longer log
 
-steps-append : (S : Figure) (xs ys : List (Pair (S .Line))) → stepsOf S (xs ++ ys) ≡ stepsOf S xs + stepsOf S ys
+pub steps-append : (S : Figure) (xs ys : List (Pair (S .Line))) → stepsOf S (xs ++ ys) ≡ stepsOf S xs + stepsOf S ys
 steps-append S [] ys = omega arith
 steps-append S (x ∷ xs) ys = omega (arith, steps-append S xs ys)
 
-heights-append : {A : Type 0} (xs ys : List (Pair A)) → heightsOf (xs ++ ys) ≡ heightsOf xs + heightsOf ys
+pub heights-append : {A : Type 0} (xs ys : List (Pair A)) → heightsOf (xs ++ ys) ≡ heightsOf xs + heightsOf ys
 heights-append [] ys = omega arith
 heights-append (x ∷ xs) ys = omega (arith, heights-append xs ys)
 

@@ -10,3 +10,7 @@ pub mod RaisingRests
 pub mod RaisingCuts
 pub mod RaisingWires
 pub mod RaisingCat
+pub mod Neighbours
+pub mod Counting
+pub mod Rotating
+pub mod Rebalancing
