@@ -9,3 +9,4 @@ pub mod RaisingRests
 pub mod RaisingCuts
 pub mod RaisingWires
 pub mod RaisingCat
+pub mod Raising
