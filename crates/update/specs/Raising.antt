@@ -2,21 +2,21 @@
 use mathlib.Core.Path.{_≡_, refl, sym, _∙_, ap, subst}
 use mathlib.Core.Bool.{true, false}
 use mathlib.Core.Option.{none, some}
-use mathlib.Core.List.{List, [], _∷_, _++_, List·Memᴰ}
-use Prim.Native.Nat.{ℕ, _+_, _^_, _%_, _≤_}
+use mathlib.Core.List.{[], _∷_, _++_}
+use Prim.Native.Nat.{ℕ, _+_, _≤_}
 use native.Mathlib.Omega.{arith}
 use lib.IntN.{ℤ, pos}
-use Rattle.trees.specs.Tree.{Tree, leaf, node, height, leaves, first, last, Avl}
-use Rattle.trees.specs.Operations.{Part, partLeaves}
+use Rattle.trees.specs.Tree.{Tree, node, height, leaves, first, Avl}
+use Rattle.trees.specs.Operations.{Part}
 use Rattle.trees.specs.Height.{height-full}
 use Rattle.meeting.specs.Machine.{Result, meet}
 use Rattle.meeting.specs.Meets.{FacingTrees}
-use Rattle.dynamic.specs.OfferTree.{Held, heldShape, Pair, bridged, raise}
+use Rattle.dynamic.specs.OfferTree.{Held, heldShape, raise}
 use Rattle.dynamic.specs.Valid.{Whole}
 use Rattle.table.specs.Words.{Words}
 use Rattle.table.specs.Layout.{cap, cap-most, cell, cset}
 use Rattle.table.specs.Items.{Item, at, slots-most}
-use Rattle.table.specs.Rep.{heightAt, refOf, nodeOn, Rep, Within, within-trans, within-cset}
+use Rattle.table.specs.Rep.{heightAt, refOf, nodeOn, Within, within-trans, within-cset}
 use Rattle.table.specs.Nodes.{ref-high, rep-height}
 use Rattle.shape.specs.Joining.{Joined}
 use Rattle.pieces.specs.Pieces.{items, rateOf, Standing, Catted, CutAt}

@@ -16,7 +16,7 @@ use Rattle.dynamic.specs.OfferTree.{OfferTree, shape, Held, hold, heldShape, Ma
 use Rattle.dynamic.specs.Valid.{Whole}
 use Rattle.dynamic.specs.Lower.{valid-env}
 use Rattle.dynamic.specs.Bridged.{Bridged, faces, search-bridges}
-use Rattle.dynamic.specs.Raise.{Raised, some-piece, whole-raise}
+use Rattle.dynamic.specs.Raise.{some-piece, whole-raise}
 use Rattle.table.specs.Items.{Item}
 use Rattle.pieces.specs.Pieces.{items, item-laws, rateOf, inFront}
 
