@@ -20,7 +20,7 @@ use Rattle.dynamic.specs.Work.{Work, stepsOf, heightsOf}
 use Rattle.table.specs.Words.{Words, word}
 use Rattle.table.specs.Items.{Item}
 use Rattle.pieces.specs.Pieces.{items}
-use Rattle.book.specs.Form.{Book, plainOffers}
+use Rattle.update.specs.Form.{Book, plainOffers}
 use Rattle.book.specs.declared.Opening.{Opening}
 use Rattle.book.specs.declared.Opening.the-variants.{Opened, Declined as OpeningDeclined}
 use Rattle.book.specs.declared.Update.{Update}

@@ -1,5 +1,6 @@
 -- The tree of offers in words.
 pub mod Stored
+pub mod Form
 pub mod Steps
 pub mod Frames
 pub mod Disjoint
