@@ -11,3 +11,4 @@ pub mod RaisingCuts
 pub mod RaisingWires
 pub mod RaisingCat
 pub mod Raising
+pub mod RaisingSearch
