@@ -4,9 +4,8 @@ use mathlib.Core.Bool.{Bool, true, false, not}
 use mathlib.Core.Option.{none, some}
 use mathlib.Core.List.{List, [], _∷_, _++_, List·Memᴰ, List·Memᴰ·head, Memᴰ·append-right}
 use native.Mathlib.Omega.{arith}
-use lib.IntN.{ℤ}
 use lib.Signed.{leZ, ltZ}
-use Rattle.integers.specs.Parts.{intRules}
+use Rattle.integers.specs.Parts.{intRules, same-test}
 use Rattle.envelopes.specs.Envelope.{Ordered, Env}
 use Rattle.trees.specs.Tree.{Tree, node, leaves, first, Avl}
 use Rattle.trees.specs.Operations.{Part, Cut, split, splitP}
@@ -22,16 +21,10 @@ use Rattle.pieces.specs.Pieces.{items, item-laws, rateOf, inFront}
 
 -- ---- the tests
 
-not-lower : (a b : ℤ) → not (ltZ a b) ≡ leZ b a
-not-lower a b = go (ltZ a b) refl
-  where
-    go : (t : Bool) → ltZ a b ≡ t → not t ≡ leZ b a
-    go true e = sym (omega (arith, intRules))
-    go false e = sym (omega (arith, intRules))
-
 -- up to u
 pub up-to-test : (u : Item) → (λ (x : Item). not (items .before u x)) ≡ inFront false (rateOf u)
-up-to-test u = fun-ext (λ x. not-lower (rateOf x) (rateOf u))
+up-to-test u =
+    fun-ext (λ x. same-test (not (ltZ (rateOf x) (rateOf u))) (leZ (rateOf u) (rateOf x)) (λ t. omega (arith, intRules)) (λ t. omega (arith, intRules)))
 
 -- in front of v
 pub before-test : (v : Item) → (λ (x : Item). items .before x v) ≡ inFront true (rateOf v)
