@@ -15,7 +15,8 @@ use Rattle.trees.specs.Balanced.{AvlP}
 use Rattle.table.specs.Words.{Words}
 use Rattle.table.specs.Layout.{cap, cell}
 use Rattle.table.specs.Items.{Item, In, Slots}
-use Rattle.table.specs.Rep.{Field, refOf, Tied, Within}
+use Rattle.table.specs.Rep.{Field, Tied, Within}
+use Rattle.table.specs.Parts.{refOfP}
 use Rattle.table.specs.Threads.{Holds, Threaded}
 
 -- ---- items as lines
@@ -35,8 +36,7 @@ item-laws = lineLaws Item rateOf baseOf
 -- ---- piece trees that may be empty
 
 abbrev pub partRef : Part Item → ℕ
-partRef none = 0
-partRef (some t) = refOf t
+partRef p = refOfP p
 
 -- its nodes, and the thread along its leaves
 abbrev pub PartIn : Words → Part Item → Type 0
