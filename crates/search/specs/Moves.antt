@@ -36,7 +36,7 @@ pub record Advanced (w : Words) (side : Bool) (h r : Walk) : Type 0 where
 pub record Popped (w : Words) (side : Bool) (h r : Walk) : Type 0 where
   pub moved : {t : Tree Item} {e : Option Item} {top : Place Item} {rest : List (Place Item)} → Stood w h (half t e (top ∷ rest)) → Stood w r (pop (sideOf side) top rest)
 
--- ---- the top and the point
+-- ---- why: the top and the point
 
 -- the stack holds what is pushed, since word 0 is no inner node
 stacks-room : {w : Words} {st : List ℕ} {d : ℕ} {ps : List (Place Item)} → Stacks w st d ps → d ≤ length st
@@ -48,41 +48,41 @@ stacks-room {st} (pushed {d = d} {l = l} {r = r} p s) = inside (decLt d (length 
     inside (no h) = absurd (omega (arith, inner-high p, List·getD-eq-default st 0 {n = d} (omega arith)))
 
 module _ {w : Words} {h : Walk} {m : Half Item} (s : Stood w h m) where
-  pub top-none : h .depth < 1 → 0 ≡ topRef (m .stack)
+  top-none : h .depth < 1 → 0 ≡ topRef (m .stack)
   top-none k = go (s .stacks) k
     where
       go : {d : ℕ} {ps : List (Place Item)} → Stacks w (h .stack) d ps → d < 1 → 0 ≡ topRef ps
       go empty k = refl
       go (pushed p z) k = absurd (omega arith)
 
-  pub top-over : 24 < h .depth → ⊥
+  top-over : 24 < h .depth → ⊥
   top-over k = omega (arith, stacks-room (s .stacks), s .room)
 
-  pub top-at : 1 ≤ h .depth → getD (h .stack) (h .depth - 1) 0 ≡ topRef (m .stack)
+  top-at : 1 ≤ h .depth → getD (h .stack) (h .depth - 1) 0 ≡ topRef (m .stack)
   top-at k = go (s .stacks) k
     where
       go : {d : ℕ} {ps : List (Place Item)} → Stacks w (h .stack) d ps → 1 ≤ d → getD (h .stack) (d - 1) 0 ≡ topRef ps
       go empty k = absurd (omega arith)
       go (pushed {d = d} p z) k = ap (λ (i : ℕ). getD (h .stack) i 0) (omega arith) ∙ p .rep .root
 
-  pub point-leaf : h .at ≤ 4096 → (x : ℕ) → x ≡ topRef (m .stack) → x - 4096 ≡ pointSlot (m .at .tree) (m .stack)
+  point-leaf : h .at ≤ 4096 → (x : ℕ) → x ≡ topRef (m .stack) → x - 4096 ≡ pointSlot (m .at .tree) (m .stack)
   point-leaf k x e = go (m .at .tree) (s .here)
     where
       go : (t : Tree Item) → Pieces w (h .at) t → x - 4096 ≡ pointSlot t (m .stack)
       go (leaf a) p = ap (λ (i : ℕ). i - 4096) e
       go (node l r) p = absurd (omega (arith, inner-high p))
 
-  pub point-node : 4096 < h .at → h .at - 4096 ≡ pointSlot (m .at .tree) (m .stack)
+  point-node : 4096 < h .at → h .at - 4096 ≡ pointSlot (m .at .tree) (m .stack)
   point-node k = go (m .at .tree) (s .here)
     where
       go : (t : Tree Item) → Pieces w (h .at) t → h .at - 4096 ≡ pointSlot t (m .stack)
       go (leaf a) p = absurd (omega (arith, leaf-low p))
       go (node l r) p = seam-at p
 
--- ---- the moves
+-- ---- why: the moves
 
 module _ {w : Words} (side : Bool) {h : Walk} {m : Half Item} (s : Stood w h m) where
-  pub retreat-leaf : h .at ≤ 4096 → Stood w h (retreat (sideOf side) m)
+  retreat-leaf : h .at ≤ 4096 → Stood w h (retreat (sideOf side) m)
   unfolding retreat
   retreat-leaf k = go (m .at .tree) (s .here)
     where
@@ -90,7 +90,7 @@ module _ {w : Words} (side : Bool) {h : Walk} {m : Half Item} (s : Stood w h m) 
       go (leaf a) p = record { here = p; stacks = s .stacks; room = s .room }
       go (node l r) p = absurd (omega (arith, inner-high p))
 
-  pub retreat-node : 4096 < h .at → (x : ℕ) → x ≡ childAt w 0 side (h .at) → Stood w (record { at = x; stack = h .stack; depth = h .depth }) (retreat (sideOf side) m)
+  retreat-node : 4096 < h .at → (x : ℕ) → x ≡ childAt w 0 side (h .at) → Stood w (record { at = x; stack = h .stack; depth = h .depth }) (retreat (sideOf side) m)
   unfolding retreat
   retreat-node k x e = go (m .at .tree) (s .here)
     where
@@ -98,7 +98,7 @@ module _ {w : Words} (side : Bool) {h : Walk} {m : Half Item} (s : Stood w h m) 
       go (leaf a) p = absurd (omega (arith, leaf-low p))
       go (node l r) p = record { here = rw e (pieces-away side p); stacks = s .stacks; room = s .room }
 
-  pub advance-leaf : h .at ≤ 4096 → Stood w h (advance (sideOf side) m)
+  advance-leaf : h .at ≤ 4096 → Stood w h (advance (sideOf side) m)
   unfolding advance
   advance-leaf k = go (m .at .tree) (s .here)
     where
@@ -107,14 +107,14 @@ module _ {w : Words} (side : Bool) {h : Walk} {m : Half Item} (s : Stood w h m) 
       go (node l r) p = absurd (omega (arith, inner-high p))
 
   -- an inner node's stack is not full
-  pub advance-full : 4096 < h .at → length (m .stack) + height (m .at .tree) ≤ 24 → 24 ≤ h .depth → ⊥
+  advance-full : 4096 < h .at → length (m .stack) + height (m .at .tree) ≤ 24 → 24 ≤ h .depth → ⊥
   advance-full k b f = go (m .at .tree) (s .here) b
     where
       go : (t : Tree Item) → Pieces w (h .at) t → length (m .stack) + height t ≤ 24 → ⊥
       go (leaf a) p b = omega (arith, leaf-low p)
       go (node l r) p b = omega (arith, stacks-depth (s .stacks))
 
-  pub advance-node : 4096 < h .at → h .depth < 24 → (x : ℕ) → x ≡ childAt w 0 (not side) (h .at) → Stood w (record { at = x; stack = set (h .stack) (h .depth) (h .at); depth = h .depth + 1 }) (advance (sideOf side) m)
+  advance-node : 4096 < h .at → h .depth < 24 → (x : ℕ) → x ≡ childAt w 0 (not side) (h .at) → Stood w (record { at = x; stack = set (h .stack) (h .depth) (h .at); depth = h .depth + 1 }) (advance (sideOf side) m)
   unfolding advance
   advance-node k f x e = go (m .at .tree) (s .here)
     where
@@ -128,7 +128,7 @@ module _ {w : Words} (side : Bool) {h : Walk} {m : Half Item} (s : Stood w h m) 
           }
 
 module _ {w : Words} {h : Walk} {t : Tree Item} {e : Option Item} {top : Place Item} {rest : List (Place Item)} (s : Stood w h (half t e (top ∷ rest))) where
-  pub pop-empty : h .depth < 1 → ⊥
+  pop-empty : h .depth < 1 → ⊥
   pop-empty k = omega (arith, stacks-depth (s .stacks))
 
   -- the top is a node of the table
@@ -138,7 +138,7 @@ module _ {w : Words} {h : Walk} {t : Tree Item} {e : Option Item} {top : Place I
       go : {d : ℕ} {top : Place Item} {rest : List (Place Item)} → Stacks w (h .stack) d (top ∷ rest) → y ≡ refOf (top .tree) → Pieces w y (top .tree)
       go (pushed p z) q = rw (q ∙ sym (p .rep .root)) p
 
-  pub pop-node : (side : Bool) (x y : ℕ) → y ≡ refOf (top .tree) → x ≡ childAt w 0 side y → Stood w (record { at = x; stack = h .stack; depth = h .depth - 1 }) (pop (sideOf side) top rest)
+  pop-node : (side : Bool) (x y : ℕ) → y ≡ refOf (top .tree) → x ≡ childAt w 0 side y → Stood w (record { at = x; stack = h .stack; depth = h .depth - 1 }) (pop (sideOf side) top rest)
   unfolding pop
   pop-node side x y q a = go (s .stacks) q
     where
@@ -149,3 +149,43 @@ module _ {w : Words} {h : Walk} {t : Tree Item} {e : Option Item} {top : Place I
             stacks = subst (λ (i : ℕ). Stacks w (h .stack) i rest) (omega arith) z;
             room = s .room;
           }
+
+-- ---- each answer of the code
+
+module _ {h : Walk} where
+  pub topped-none : h .depth < 1 → Topped h 0
+  topped-none k = record { is = λ s. top-none s k }
+
+  pub topped-over : {x : ℕ} → 24 < h .depth → Topped h x
+  topped-over k = record { is = λ s. absurd (top-over s k) }
+
+  pub topped-at : 1 ≤ h .depth → Topped h (getD (h .stack) (h .depth - 1) 0)
+  topped-at k = record { is = λ s. top-at s k }
+
+  pub pointed-leaf : {x y : ℕ} → Topped h x → y ≡ x - 4096 → h .at ≤ 4096 → Pointed h y
+  pointed-leaf {x} a e k = record { is = λ s. e ∙ point-leaf s k x (a .is s) }
+
+  pub pointed-node : 4096 < h .at → Pointed h (h .at - 4096)
+  pointed-node k = record { is = λ s. point-node s k }
+
+module _ {w : Words} {side : Bool} {h : Walk} where
+  pub retreated-leaf : h .at ≤ 4096 → Retreated w side h h
+  retreated-leaf k = record { moved = λ s. retreat-leaf side s k }
+
+  pub retreated-node : {x : ℕ} → 4096 < h .at → x ≡ childAt w 0 side (h .at) → Retreated w side h (record { at = x; stack = h .stack; depth = h .depth })
+  retreated-node {x} k e = record { moved = λ s. retreat-node side s k x e }
+
+  pub advanced-leaf : h .at ≤ 4096 → Advanced w side h h
+  advanced-leaf k = record { moved = λ s b. advance-leaf side s k }
+
+  pub advanced-full : {r : Walk} → 4096 < h .at → 24 ≤ h .depth → Advanced w side h r
+  advanced-full k f = record { moved = λ s b. absurd (advance-full side s k b f) }
+
+  pub advanced-node : {x : ℕ} → 4096 < h .at → h .depth < 24 → x ≡ childAt w 0 (not side) (h .at) → Advanced w side h (record { at = x; stack = set (h .stack) (h .depth) (h .at); depth = h .depth + 1 })
+  advanced-node {x} k f e = record { moved = λ s b. advance-node side s k f x e }
+
+  pub popped-none : {r : Walk} → h .depth < 1 → Popped w side h r
+  popped-none k = record { moved = λ s. absurd (pop-empty s k) }
+
+  pub popped-node : {x y : ℕ} → Topped h y → x ≡ childAt w 0 side y → Popped w side h (record { at = x; stack = h .stack; depth = h .depth - 1 })
+  popped-node {x} {y} a e = record { moved = λ s. pop-node s side x y (a .is s) e }

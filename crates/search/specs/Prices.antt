@@ -5,11 +5,13 @@ use mathlib.Core.Path.{_≡_, refl, sym, _∙_, ap}
 use mathlib.Core.Bool.{Bool, true, false, cond, _||_, _&&_}
 use lib.Dec.{T, leb, ltb}
 use lib.IntN.{ℤ, pos, negsuc, negℤ, _+ℤ_, _*ℤ_}
-use lib.Signed.{leZ}
+use lib.Signed.{leZ, ltZ}
 use borrow.Author.Tests.{le-leb, lt-leb, lt-ltb, le-ltb}
 use Rattle.integers.specs.Parts.{intRules, and-left, and-right, and-both}
 use Rattle.offers.specs.Offers.{between, rateInRange, baseInRange}
-use Rattle.offers.specs.Sizes.{numeratorInRange, denominatorInRange}
+use mir.Syntax.{w64}
+use mir.Val.{SFits}
+use Rattle.offers.specs.Sizes.{numeratorInRange, denominatorInRange, base-times-fits, rate-times-fits, scaled-price-fits}
 use Rattle.table.specs.Words.{Words}
 use Rattle.table.specs.Layout.{cell, linkAt}
 
@@ -32,6 +34,25 @@ bounded-ranged low high z t = go (between low high z) (λ h. h)
     go : (b : Bool) → (T b → T (between low high z)) → T (between low high (cond b z (pos 0)))
     go true f = f tt
     go false f = t
+
+-- by the code's two tests
+pub bounded-below : (low high z : ℤ) → ltZ z low ≡ true → pos 0 ≡ bounded low high z
+unfolding bounded
+bounded-below low high z t = let e : leZ low z ≡ false = omega (arith, intRules) in rw e
+
+pub bounded-over : (low high z : ℤ) → ltZ z low ≡ false → ltZ high z ≡ true → pos 0 ≡ bounded low high z
+unfolding bounded
+bounded-over low high z f t =
+    let d : leZ low z ≡ true = omega (arith, intRules) in
+    let e : leZ z high ≡ false = omega (arith, intRules) in
+    rw (d, e)
+
+pub bounded-inside : (low high z : ℤ) → ltZ z low ≡ false → ltZ high z ≡ false → z ≡ bounded low high z
+unfolding bounded
+bounded-inside low high z f g =
+    let d : leZ low z ≡ true = omega (arith, intRules) in
+    let e : leZ z high ≡ true = omega (arith, intRules) in
+    rw (d, e)
 
 abbrev pub rateAt : Words → ℕ → ℤ
 rateAt w s = bounded (negℤ (pos 100_000)) (pos 100_000) (cell w 1 s)
@@ -66,15 +87,37 @@ positive-ranged z t =
 pub denominator-ranged : (w : Words) (s : ℕ) → T (denominatorInRange (denominatorAt w s))
 denominator-ranged w s = positive-ranged (denominatorAt w s) (bounded-ranged (pos 0) (pos 200_000) (cell w 7 s) tt)
 
+-- so what the code computes with is in range
+pub crossing-ranged : (w : Words) (p : ℕ) (n d : ℤ) → n ≡ numeratorAt w p → d ≡ denominatorAt w p → T (numeratorInRange n) × T (denominatorInRange d)
+crossing-ranged w p n d a b = (rw a (numerator-ranged w p), rw b (denominator-ranged w p))
+
 -- ---- prices
 
 -- the price, times d, of the line in slot s at the load n over d
 abbrev pub priceIn : Words → ℕ → ℤ → ℤ → ℤ
 priceIn w s n d = baseAt w s *ℤ d +ℤ rateAt w s *ℤ n
 
+-- each of the code's products and sums fits
+module _ (w : Words) (s : ℕ) where
+  pub base-product-fits : (b d : ℤ) → b ≡ baseAt w s → T (denominatorInRange d) → SFits w64 (b *ℤ d)
+  base-product-fits b d hb hd = base-times-fits b d (rw hb (base-ranged w s)) hd
+
+  pub rate-product-fits : (r n : ℤ) → r ≡ rateAt w s → T (numeratorInRange n) → SFits w64 (r *ℤ n)
+  rate-product-fits r n hr hn = rate-times-fits r n (rw hr (rate-ranged w s)) hn
+
+  pub price-fits : (b r n d : ℤ) → b ≡ baseAt w s → r ≡ rateAt w s → T (numeratorInRange n) → T (denominatorInRange d) → SFits w64 (b *ℤ d +ℤ r *ℤ n)
+  price-fits b r n d hb hr hn hd = scaled-price-fits b r n d (rw hb (base-ranged w s)) (rw hr (rate-ranged w s)) hn hd
+
+  pub price-is : (b r n d : ℤ) → b ≡ baseAt w s → r ≡ rateAt w s → b *ℤ d +ℤ r *ℤ n ≡ priceIn w s n d
+  price-is b r n d hb hr = rw (hb, hr)
+
 -- at the crossing kept in slot p of w, the line in slot s of v is at most the line in slot p
 abbrev pub atMostAt : Words → ℕ → Words → ℕ → Bool
 atMostAt w p v s = leZ (priceIn v s (numeratorAt w p) (denominatorAt w p)) (priceIn w p (numeratorAt w p) (denominatorAt w p))
+
+-- by what the code computed
+pub compared : (w : Words) (p : ℕ) (v : Words) (s : ℕ) (n d y z : ℤ) → n ≡ numeratorAt w p → d ≡ denominatorAt w p → y ≡ priceIn w p n d → z ≡ priceIn v s n d → leZ z y ≡ atMostAt w p v s
+compared w p v s n d y z a b c e = rw (e, c, a, b)
 
 -- the slot in which a node is kept
 unfoldable pub keptIn : ℕ → ℕ

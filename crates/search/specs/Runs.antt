@@ -170,8 +170,8 @@ begun {wl} {wr} {x} {y} {tl} {tr} F =
       same = stepped-as (meet itemFigure tl tr) 0 (meet itemFigure tl tr) refl refl refl (omega arith);
     }
 
-pub going-start : (wl wr : Words) (x y : ℕ) → Going wl wr x y (started x y) 0
-going-start wl wr x y = record { going = begun }
+pub going-start : {wl wr : Words} {x y : ℕ} {s : Search} → s ≡ started x y → Going wl wr x y s 0
+going-start e = record { going = λ F. rw e (begun F) }
 
 -- ---- a turn of the loop
 

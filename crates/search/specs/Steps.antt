@@ -58,6 +58,19 @@ paired true h k =
       done = false;
     }
 
+-- the same state, finished
+abbrev pub finished : Search → Search
+finished s =
+    record {
+      u = s .u;
+      v = s .v;
+      us = s .us;
+      ud = s .ud;
+      vs = s .vs;
+      vd = s .vd;
+      done = true;
+    }
+
 -- of what is ours and what is the other's, the left one and the right one
 abbrev pub leftOf : Bool → Words → Words → Words
 leftOf false ours other = ours
@@ -196,32 +209,37 @@ leaf-test {x} (node l r) p = lt-leb x 4096 (inner-high p)
 
 module _ (wl wr : Words) (s : Search) where
   -- the machine's step, by the code's two comparisons
-  step-by : (r : Search) {p q : ℕ} {M : State Item} (c : Case) → Pointed (uOf s) p → Pointed (vOf s) q → caseOf (aboveAt wl p wr (s .v)) (aboveAt wr q wl (s .u)) ≡ c → Fares wl false (uOf s) (M .u) → Fares wr true (vOf s) (M .v) → After wl wr s r (stepBy itemFigure c M) → After wl wr s r (step itemFigure M)
+  step-by : (r : Search) {p q : ℕ} {M : State Item} (c : Case) → p ≡ pointSlot (M .u .at .tree) (M .u .stack) → q ≡ pointSlot (M .v .at .tree) (M .v .stack) → caseOf (aboveAt wl p wr (s .v)) (aboveAt wr q wl (s .u)) ≡ c → Fares wl false (uOf s) (M .u) → Fares wr true (vOf s) (M .v) → After wl wr s r (stepBy itemFigure c M) → After wl wr s r (step itemFigure M)
   unfolding step compare
   step-by r {p} {q} {M} c a b e f g z =
-      let u : aboveAt wl p wr (s .v) ≡ onOrAbove itemFigure (sideOf false) (M .u .at) (M .v .at) = ap (λ (i : ℕ). aboveAt wl i wr (s .v)) (a .is (f .stood)) ∙ half-above f (M .v .at) (g .stood .here) in
-      let v : aboveAt wr q wl (s .u) ≡ onOrAbove itemFigure (sideOf true) (M .v .at) (M .u .at) = ap (λ (i : ℕ). aboveAt wr i wl (s .u)) (b .is (g .stood)) ∙ half-above g (M .u .at) (f .stood .here) in
+      let u : aboveAt wl p wr (s .v) ≡ onOrAbove itemFigure (sideOf false) (M .u .at) (M .v .at) = ap (λ (i : ℕ). aboveAt wl i wr (s .v)) a ∙ half-above f (M .v .at) (g .stood .here) in
+      let v : aboveAt wr q wl (s .u) ≡ onOrAbove itemFigure (sideOf true) (M .v .at) (M .u .at) = ap (λ (i : ℕ). aboveAt wr i wl (s .u)) b ∙ half-above g (M .u .at) (f .stood .here) in
       rw (sym (ap₂ caseOf u v) ∙ e) z
 
   leaves-test : {M : State Item} (b : Bool) → leb (s .u) 4096 && leb (s .v) 4096 ≡ b → Fares wl false (uOf s) (M .u) → Fares wr true (vOf s) (M .v) → isLeaf (M .u .at .tree) && isLeaf (M .v .at .tree) ≡ b
   leaves-test {M} b e f g = sym (ap₂ _&&_ (leaf-test (M .u .at .tree) (f .stood .here)) (leaf-test (M .v .at .tree) (g .stood .here))) ∙ e
 
-module _ {wl wr : Words} {s r : Search} {p q : ℕ} (pu : Pointed (uOf s) p) (pv : Pointed (vOf s) q) where
+module _ {wl wr : Words} {s r : Search} {p : ℕ} (pu : Pointed (uOf s) p) where
   pub stepped-mine : aboveAt wl p wr (s .v) ≡ true → Receded wl wr false (uOf s) (vOf s) r → Stepped wl wr s r
-  stepped-mine a z = record { moved = λ f g. step-by wl wr s r mine pu pv (mine-case _ _ a) f g (z .going, z .moved f g) }
+  stepped-mine a z = record { moved = λ f g. step-by wl wr s r mine (pu .is (f .stood)) refl (mine-case _ _ a) f g (z .going, z .moved f g) }
 
-  pub stepped-theirs : aboveAt wl p wr (s .v) ≡ false → aboveAt wr q wl (s .u) ≡ true → Receded wr wl true (vOf s) (uOf s) r → Stepped wl wr s r
-  stepped-theirs clear a z = record { moved = λ f g. step-by wl wr s r theirs pu pv (ap₂ caseOf clear a) f g (z .going, z .moved g f) }
+  module _ {q : ℕ} (pv : Pointed (vOf s) q) (clear : aboveAt wl p wr (s .v) ≡ false) where
+    pub stepped-theirs : aboveAt wr q wl (s .u) ≡ true → Receded wr wl true (vOf s) (uOf s) r → Stepped wl wr s r
+    stepped-theirs a z =
+        record { moved = λ f g. step-by wl wr s r theirs (pu .is (f .stood)) (pv .is (g .stood)) (ap₂ caseOf clear a) f g (z .going, z .moved g f) }
 
-  module _ (clear : aboveAt wl p wr (s .v) ≡ false) (clear′ : aboveAt wr q wl (s .u) ≡ false) where
-    pub stepped-done : leb (s .u) 4096 && leb (s .v) 4096 ≡ true → r .done ≡ true → r .u ≡ s .u → r .v ≡ s .v → Stepped wl wr s r
-    stepped-done e a b c =
-        record { moved = λ {M} f g. step-by wl wr s r neither pu pv (ap₂ caseOf clear clear′) f g (rw (leaves-test wl wr s true e f g) (a, b, c)) }
-
-    pub stepped-on : {h k : Walk} → leb (s .u) 4096 && leb (s .v) 4096 ≡ false → r ≡ paired false h k → Advanced wl false (uOf s) h → Advanced wr true (vOf s) k → Stepped wl wr s r
-    stepped-on {h} {k} e a b c =
+    pub stepped-done : aboveAt wr q wl (s .u) ≡ false → leb (s .u) 4096 && leb (s .v) 4096 ≡ true → r ≡ finished s → Stepped wl wr s r
+    stepped-done clear′ e a =
         record {
           moved = λ {M} f g.
-              step-by wl wr s r neither pu pv (ap₂ caseOf clear clear′) f g
+              step-by wl wr s r neither (pu .is (f .stood)) (pv .is (g .stood)) (ap₂ caseOf clear clear′) f g
+              (rw (leaves-test wl wr s true e f g) (ap (λ (z : Search). z .done) a, ap (λ (z : Search). z .u) a, ap (λ (z : Search). z .v) a));
+        }
+
+    pub stepped-on : {h k : Walk} → aboveAt wr q wl (s .u) ≡ false → leb (s .u) 4096 && leb (s .v) 4096 ≡ false → r ≡ paired false h k → Advanced wl false (uOf s) h → Advanced wr true (vOf s) k → Stepped wl wr s r
+    stepped-on {h} {k} clear′ e a b c =
+        record {
+          moved = λ {M} f g.
+              step-by wl wr s r neither (pu .is (f .stood)) (pv .is (g .stood)) (ap₂ caseOf clear clear′) f g
               (rw (leaves-test wl wr s false e f g) (going-paired false h k r a, rw a (paired-searches false (b .moved (f .stood) (roomy f)) (c .moved (g .stood) (roomy g)))));
         }
