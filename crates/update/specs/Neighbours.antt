@@ -73,10 +73,10 @@ siblings-left h = record { outer-held = h .left; inner-held = h .right; at-seam 
 pub siblings-right : {w : Words} {gap lx le rx re : ℕ} {l r : Held Item} → Siblings w gap lx le rx re l r → Neighbours true w gap rx re lx le r l
 siblings-right h = record { outer-held = h .right; inner-held = h .left; at-seam = h .seam; slots = h .slots; ordered = h .ordered }
 
-neighbours-left : {w : Words} {gap ox oe ix ie : ℕ} {o i : Held Item} → Neighbours false w gap ox oe ix ie o i → Siblings w gap ox oe ix ie o i
+pub neighbours-left : {w : Words} {gap ox oe ix ie : ℕ} {o i : Held Item} → Neighbours false w gap ox oe ix ie o i → Siblings w gap ox oe ix ie o i
 neighbours-left h = record { left = h .outer-held; right = h .inner-held; seam = h .at-seam; slots = h .slots; ordered = h .ordered }
 
-neighbours-right : {w : Words} {gap ox oe ix ie : ℕ} {o i : Held Item} → Neighbours true w gap ox oe ix ie o i → Siblings w gap ix ie ox oe i o
+pub neighbours-right : {w : Words} {gap ox oe ix ie : ℕ} {o i : Held Item} → Neighbours true w gap ox oe ix ie o i → Siblings w gap ix ie ox oe i o
 neighbours-right h = record { left = h .inner-held; right = h .outer-held; seam = h .at-seam; slots = h .slots; ordered = h .ordered }
 
 -- ---- lower and raise from a side
