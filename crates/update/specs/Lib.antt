@@ -14,3 +14,5 @@ pub mod Neighbours
 pub mod Counting
 pub mod Rotating
 pub mod Rebalancing
+pub mod InsertingModel
+pub mod Inserting
