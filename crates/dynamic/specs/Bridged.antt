@@ -74,7 +74,7 @@ pub record Bridged (S : Figure) (ls rs : List (S .Line)) (tl tr : Tree (S .Line)
   pub met : Met (limit tl tr) u v (meet S tl tr)
 
 module _ (S : Figure) (L : PseudoLines S) (ls rs : List (S .Line)) (o : Ordered S (ls ++ rs)) (tl tr : Tree (S .Line)) (E : Env S ls (leaves tl)) (F : Env S rs (leaves tr)) where
-  faces : (d : S .Line) → Facing S (lineFrom left tl d) (size tl) (lineFrom right tr d) (size tr)
+  pub faces : (d : S .Line) → Facing S (lineFrom left tl d) (size tl) (lineFrom right tr d) (size tr)
   faces d =
       record {
         left = E .chain d;

@@ -10,6 +10,8 @@ pub mod RaisingRests
 pub mod RaisingCuts
 pub mod RaisingWires
 pub mod RaisingCat
+pub mod Raising
+pub mod RaisingSearch
 pub mod Neighbours
 pub mod Counting
 pub mod Rotating

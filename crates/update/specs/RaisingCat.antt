@@ -1,36 +1,26 @@
 -- Raise in words, third part: the kept parts of both envelopes are put together, and the words hold the fork with its whole envelope.
-use mathlib.Core.Path.{_≡_, refl, sym, _∙_, ap, subst}
-use mathlib.Core.Bool.{Bool, true, false}
-use mathlib.Core.Option.{some}
-use mathlib.Core.List.{List, _++_, List·Memᴰ}
-use Prim.Native.Nat.{ℕ, _+_, _*_, _^_, _%_, _≤_, _<_}
-use native.Mathlib.Omega.{arith}
-use lib.IntN.{ℤ, pos}
-use Rattle.envelopes.specs.Envelope.{Ordered}
-use Rattle.trees.specs.Tree.{Tree, node, height, leaves, last, Avl}
+use mathlib.Core.Path.{_≡_, refl, _∙_}
+use mathlib.Core.List.{_++_}
+use Prim.Native.Nat.{ℕ}
+use Rattle.trees.specs.Tree.{leaves, last}
 use Rattle.trees.specs.Leaves.{last-leaf}
-use Rattle.trees.specs.Operations.{Part, Cut, partLeaves, joinP, splitP}
-use Rattle.meeting.specs.Machine.{meet}
-use Rattle.meeting.specs.Meets.{Met, limit}
-use Rattle.dynamic.specs.OfferTree.{OfferTree, fork, shape, Held, heldShape, bridged, raise}
+use Rattle.trees.specs.Operations.{Part, Cut, partLeaves, joinP}
+use Rattle.dynamic.specs.OfferTree.{OfferTree, shape, Held, heldShape, bridged}
 use Rattle.dynamic.specs.Valid.{Whole}
 use Rattle.dynamic.specs.Rearranged.{stored}
 use Rattle.table.specs.Words.{Words}
-use Rattle.table.specs.Layout.{cap, cap-most, cell, cset, linkAt}
-use Rattle.table.specs.Items.{Item, In, at, Slots}
-use Rattle.table.specs.Rep.{Field, heightAt, refOf, nodeOn, Within, within-trans}
-use Rattle.table.specs.Nodes.{ref-high}
-use Rattle.table.specs.Threads.{Holds, holds-join}
-use Rattle.shape.specs.Joining.{Joined}
-use Rattle.pieces.specs.Pieces.{items, rateOf, partRef, PieceField, PiecesOnly, Standing, Beside, Catted, inFront, CutAt}
+use Rattle.table.specs.Layout.{linkAt}
+use Rattle.table.specs.Items.{Item, In, at}
+use Rattle.table.specs.Rep.{Within, within-trans}
+use Rattle.table.specs.Threads.{holds-join}
+use Rattle.pieces.specs.Pieces.{items, PieceField, PiecesOnly, Standing, Beside, Catted}
 use Rattle.update.specs.Stored.{RestIn, Stored, stored-fork, HeldIn, Touched, nodeSlot, restField}
-use Rattle.update.specs.Steps.{Counted, MadeIn, Siblings, RaisedIn}
-use Rattle.update.specs.Frames.{Inside, Disjoint, disjoint-across, RestField, bridge-u, bridge-v, same-link, Same, tied-same, part-same, holds-same, held-slots, whole-inside, stored-inside, pieces-offers, pieces-tree, pieces-rests, pieces-else, pieces-touched, slots-within, touched-offers, touched-trans, touched-more}
+use Rattle.update.specs.Steps.{Siblings}
+use Rattle.update.specs.Frames.{Inside, Disjoint, disjoint-across, bridge-u, bridge-v, same-link, tied-same, part-same, holds-same, held-slots, whole-inside, stored-inside, pieces-tree, pieces-rests, pieces-else, pieces-touched, slots-within, touched-offers, touched-trans, touched-more}
 use Rattle.update.specs.Disjoint.{inside-refl, inside-trans, inside-left, inside-right, inside-join, disjoint-both, disjoint-join, disjoint-turned, slots-join}
-use Rattle.update.specs.RaisingModel.{Raising, raising, leftCut, rightCut}
-use Rattle.update.specs.RaisingRests.{Tells, tells-field, tells-in, rest-field, node-in, Retold, stored-retold, RestSet, rest-within}
-use Rattle.update.specs.RaisingCuts.{Halved, halved-same, wholes-apart, AfterCuts, after-cuts}
-use Rattle.update.specs.RaisingWires.{Wires, left-untold, right-untold, Wired, wired-touched, wired-pieces, Unwired, AfterWires, after-wires}
+use Rattle.update.specs.RaisingRests.{Tells, tells-field, tells-in, rest-field, node-in, Retold, stored-retold}
+use Rattle.update.specs.RaisingCuts.{Halved, halved-same, wholes-apart, AfterCuts}
+use Rattle.update.specs.RaisingWires.{Wires, left-untold, right-untold, wired-touched, wired-pieces, AfterWires}
 
 -- ---- from the subtrees in hand to the subtree raised
 

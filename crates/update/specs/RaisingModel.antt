@@ -4,34 +4,27 @@ use mathlib.Core.Bool.{Bool, true, false, not}
 use mathlib.Core.Option.{none, some}
 use mathlib.Core.List.{List, [], _∷_, _++_, List·Memᴰ, List·Memᴰ·head, Memᴰ·append-right}
 use native.Mathlib.Omega.{arith}
-use lib.IntN.{ℤ}
 use lib.Signed.{leZ, ltZ}
-use Rattle.integers.specs.Parts.{intRules}
-use Rattle.envelopes.specs.Envelope.{Ordered}
+use Rattle.integers.specs.Parts.{intRules, same-test}
+use Rattle.envelopes.specs.Envelope.{Ordered, Env}
 use Rattle.trees.specs.Tree.{Tree, node, leaves, first, Avl}
 use Rattle.trees.specs.Operations.{Part, Cut, split, splitP}
 use Rattle.meeting.specs.Machine.{meet}
-use Rattle.meeting.specs.Meets.{Met, limit}
+use Rattle.meeting.specs.Meets.{Met, limit, FacingTrees}
 use Rattle.dynamic.specs.OfferTree.{OfferTree, shape, Held, hold, heldShape, Made, bridged, raiseBy, raise}
 use Rattle.dynamic.specs.Valid.{Whole}
 use Rattle.dynamic.specs.Lower.{valid-env}
-use Rattle.dynamic.specs.Bridged.{Bridged, search-bridges}
-use Rattle.dynamic.specs.Raise.{Raised, some-piece, whole-raise}
+use Rattle.dynamic.specs.Bridged.{Bridged, faces, search-bridges}
+use Rattle.dynamic.specs.Raise.{some-piece, whole-raise}
 use Rattle.table.specs.Items.{Item}
 use Rattle.pieces.specs.Pieces.{items, item-laws, rateOf, inFront}
 
 -- ---- the tests
 
-not-lower : (a b : ℤ) → not (ltZ a b) ≡ leZ b a
-not-lower a b = go (ltZ a b) refl
-  where
-    go : (t : Bool) → ltZ a b ≡ t → not t ≡ leZ b a
-    go true e = sym (omega (arith, intRules))
-    go false e = sym (omega (arith, intRules))
-
 -- up to u
 pub up-to-test : (u : Item) → (λ (x : Item). not (items .before u x)) ≡ inFront false (rateOf u)
-up-to-test u = fun-ext (λ x. not-lower (rateOf x) (rateOf u))
+up-to-test u =
+    fun-ext (λ x. same-test (not (ltZ (rateOf x) (rateOf u))) (leZ (rateOf u) (rateOf x)) (λ t. omega (arith, intRules)) (λ t. omega (arith, intRules)))
 
 -- in front of v
 pub before-test : (v : Item) → (λ (x : Item). items .before x v) ≡ inFront true (rateOf v)
@@ -55,6 +48,7 @@ pub record Raising (l r : Held Item) (m : Made Item) : Type 0 where
   pub v : Item
   pub u-piece : List·Memᴰ u (leaves front)
   pub v-piece : List·Memᴰ v (leaves back)
+  pub facing : FacingTrees items front back (first front)
   pub met : Met (limit front back) u v (meet items front back)
   pub logged : m .log ≡ record { front = front; back = back } ∷ []
   pub held : m .held ≡ bridged items u v l r (leftCut u l) (rightCut v r)
@@ -69,9 +63,9 @@ module _ (l r : OfferTree Item) where
   parts none q wl wr o g = absurd (some-piece items item-laws (wl .valid))
   parts (some a) none wl wr o g = absurd (some-piece items item-laws (wr .valid))
   parts (some a) (some b) wl wr o g =
-      let G : Bridged items (leaves (shape l)) (leaves (shape r)) a b =
-      search-bridges items item-laws (leaves (shape l)) (leaves (shape r)) o a b (valid-env items item-laws (wl .valid)) (valid-env items item-laws (wr .valid))
-      in
+      let E : Env items (leaves (shape l)) (leaves a) = valid-env items item-laws (wl .valid) in
+      let F : Env items (leaves (shape r)) (leaves b) = valid-env items item-laws (wr .valid) in
+      let G : Bridged items (leaves (shape l)) (leaves (shape r)) a b = search-bridges items item-laws (leaves (shape l)) (leaves (shape r)) o a b E F in
       let u : Item = first (meet items a b .u .tree) in
       let v : Item = first (meet items a b .v .tree) in
       let p : u ≡ G .u = ap first (G .met .atLeft) in
@@ -85,6 +79,7 @@ module _ (l r : OfferTree Item) where
         v = v;
         u-piece = among (G .upTo) (G .beyond) p (G .left-pieces);
         v-piece = among (G .short) (G .from) q (G .right-pieces);
+        facing = faces items item-laws (leaves (shape l)) (leaves (shape r)) o a b E F (first a);
         met = rw (p, q) (G .met);
         logged = refl;
         held =

@@ -3,21 +3,21 @@
 use mathlib.Core.Path.{_≡_, refl, sym, _∙_, ap, subst}
 use mathlib.Core.Logic.{_≢_}
 use mathlib.Core.List.{List, _++_, List·Memᴰ·head, Memᴰ·append-left}
-use Prim.Native.Nat.{ℕ, _+_, _-_, _≤_, _<_}
+use Prim.Native.Nat.{ℕ, _-_, _≤_, _<_}
 use native.Mathlib.Decide.{decLe}
 use native.Mathlib.Omega.{arith}
 use lib.IntN.{pos}
-use Rattle.trees.specs.Tree.{Tree, leaves, last}
+use Rattle.trees.specs.Tree.{leaves, last}
 use Rattle.trees.specs.Leaves.{last-leaf}
 use Rattle.trees.specs.Operations.{Part, partLeaves}
 use Rattle.dynamic.specs.OfferTree.{OfferTree, single, fork, shape}
 use Rattle.dynamic.specs.Rearranged.{stored}
 use Rattle.table.specs.Words.{Words, upTo}
-use Rattle.table.specs.Layout.{cap, cap-most, cell, cset, linkAt}
+use Rattle.table.specs.Layout.{cap, cap-most, cell, cset}
 use Rattle.table.specs.Items.{Item, In, at, in-left, in-right, Slots, slots-left, slots-across}
 use Rattle.table.specs.Rep.{refOf, Within, within-cset, Inner, of-root, of-left, of-right, inner-last}
 use Rattle.pieces.specs.Pieces.{PieceField}
-use Rattle.update.specs.Stored.{nodeSlot, restField, RestIn, Stored, stored-single, stored-fork}
+use Rattle.update.specs.Stored.{nodeSlot, restField, Stored, stored-single, stored-fork}
 use Rattle.update.specs.Frames.{RestField, bridge-u, bridge-v, inner-rest, leaf-rest, Same, same-inside, part-same}
 
 -- ---- the fields

@@ -3,17 +3,17 @@ use mathlib.Core.Path.{_≡_, refl, sym, _∙_, ap, subst}
 use mathlib.Core.Logic.{_≢_}
 use mathlib.Core.Bool.{Bool, true, false}
 use mathlib.Core.List.{List, _++_, Memᴰ·append-left}
-use Prim.Native.Nat.{ℕ, _+_, _≤_, _<_}
+use Prim.Native.Nat.{ℕ, _≤_, _<_}
 use native.Mathlib.Omega.{arith}
 use lib.IntN.{ℤ, pos}
-use Rattle.trees.specs.Tree.{Tree, node, leaves, last}
+use Rattle.trees.specs.Tree.{node, leaves, last}
 use Rattle.trees.specs.Leaves.{last-leaf}
 use Rattle.dynamic.specs.OfferTree.{OfferTree, single, fork, shape}
 use Rattle.table.specs.Words.{Words, upTo, upTo-in}
 use Rattle.table.specs.Layout.{cap, cell, cset, linkAt, Valid, cset-same, cset-other}
 use Rattle.table.specs.Items.{Item, In, at, in-left, in-right, Slots, slots-left, slots-right, slots-across}
 use Rattle.table.specs.Rep.{childField, Field, a-child, a-height, refOf, nodeOn, Tied, Within, within-cap, within-trans, within-cset, Only}
-use Rattle.table.specs.Nodes.{Pair, Made}
+use Rattle.table.specs.Nodes.{Made}
 use Rattle.shape.specs.Joining.{Joined}
 use Rattle.pieces.specs.Pieces.{PieceField}
 use Rattle.update.specs.Stored.{nodeSlot, restField, EnvelopeField, of-offers, Touched}

@@ -1,0 +1,2 @@
+-- Ways down the trees of a table: a cut, a search by key, the first and the last leaf.
+pub mod Cuts
