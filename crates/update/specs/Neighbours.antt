@@ -1,7 +1,7 @@
 -- Two subtrees side by side, seen from a side, and what raising them or lowering one leaves. One statement serves both sides.
 use mathlib.Core.Path.{_≡_, refl, sym, _∙_, ap, subst}
 use mathlib.Core.Bool.{Bool, true, false}
-use mathlib.Core.List.{append-assoc, List·Memᴰ, List·Memᴰ·head, Memᴰ·append-left}
+use mathlib.Core.List.{List·Memᴰ, List·Memᴰ·head, Memᴰ·append-left}
 use Prim.Native.Nat.{ℕ, suc, _-_, _≤_, _<_}
 use native.Mathlib.Omega.{arith}
 use Rattle.envelopes.specs.Envelope.{Ordered}
@@ -28,10 +28,6 @@ use Rattle.update.specs.Steps.{MadeIn, LoweredIn, Siblings, RaisedIn}
 abbrev pub sideOf : Bool → Side
 sideOf false = left
 sideOf true = right
-
-pub on-assoc : (side : Bool) (a b c : Tree Item) → leaves (nodeOn side (nodeOn side a b) c) ≡ leaves (nodeOn side a (nodeOn side b c))
-on-assoc false a b c = append-assoc (leaves a) (leaves b) (leaves c)
-on-assoc true a b c = sym (append-assoc (leaves c) (leaves b) (leaves a))
 
 module _ (tp tq : Tree Item) where
   pub ordered-one : (side : Bool) → Ordered items (leaves (nodeOn side tp tq)) → Ordered items (leaves tp)
