@@ -18,3 +18,5 @@ pub mod Rotating
 pub mod Rebalancing
 pub mod InsertingModel
 pub mod Inserting
+pub mod RemovingModel
+pub mod Removing

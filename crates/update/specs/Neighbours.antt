@@ -38,12 +38,13 @@ module _ (tp tq : Tree Item) where
   ordered-other false o = ordered-right items (leaves tp) (leaves tq) o
   ordered-other true o = ordered-left items (leaves tq) (leaves tp) o
 
+-- the tree alone
+pub held-rep : {w : Words} {x e : ℕ} {h : Held Item} → HeldIn w x e h → Rep w 1 x (heldShape h)
+held-rep held = record { kind = omega arith; root = held .root; slots = held .slots; tied = held .tied }
+
 -- the height that the words tell is the tree's
 pub held-height : {w : Words} {x e : ℕ} {h : Held Item} → HeldIn w x e h → heightAt w 1 x ≡ heldHeight h
-held-height {w} {x} {h} held = rep-height rep
-  where
-    rep : Rep w 1 x (heldShape h)
-    rep = record { kind = omega arith; root = held .root; slots = held .slots; tied = held .tied }
+held-height held = rep-height (held-rep held)
 
 -- a subtree of some height is an inner node
 pub held-inner : {w : Words} {x e : ℕ} {h : Held Item} → HeldIn w x e h → 1 ≤ heldHeight h → 4096 < x
