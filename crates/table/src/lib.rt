@@ -1,5 +1,6 @@
 // The words of a book's part, by total accessors: whatever the words are, a read gives a value and a write stays inside the part.
 ghost use mathlib.Core.Path.{_≡_};
+ghost use mathlib.Core.Bool.{_&&_};
 ghost use Prim.Native.Nat.{_-_};
 ghost use lib.IntN.{pos};
 ghost use lib.Signed.{leZ, ltZ};
@@ -163,4 +164,14 @@ pub fn is_above(part: &[i64], field: usize, slot: u32, key: i64) -> bool
     ensures { λ r. ⌜ r ≡ ltZ key (cell (now (part .entry)) field slot) ⌝ }
 {
     key < get(part, field, slot)
+}
+
+// A slot's field is `key`.
+pub fn is_equal(part: &[i64], field: usize, slot: u32, key: i64) -> bool
+    ensures { λ r. ⌜ r ≡ leZ (cell (now (part .entry)) field slot) key && leZ key (cell (now (part .entry)) field slot) ⌝ }
+{
+    if at_most(part, field, slot, key) {
+        return at_least(part, field, slot, key);
+    }
+    false
 }
