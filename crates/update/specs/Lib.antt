@@ -10,9 +10,13 @@ pub mod RaisingRests
 pub mod RaisingCuts
 pub mod RaisingWires
 pub mod RaisingCat
+pub mod Raising
+pub mod RaisingSearch
 pub mod Neighbours
 pub mod Counting
 pub mod Rotating
 pub mod Rebalancing
-pub mod Raising
-pub mod RaisingSearch
+pub mod InsertingModel
+pub mod Inserting
+pub mod RemovingModel
+pub mod Removing

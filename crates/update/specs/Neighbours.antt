@@ -1,7 +1,7 @@
 -- Two subtrees side by side, seen from a side, and what raising them or lowering one leaves. One statement serves both sides.
-use mathlib.Core.Path.{_≡_, sym, _∙_, ap}
+use mathlib.Core.Path.{_≡_, refl, sym, _∙_, ap, subst}
 use mathlib.Core.Bool.{Bool, true, false}
-use mathlib.Core.List.{append-assoc, Memᴰ·append-left}
+use mathlib.Core.List.{List·Memᴰ, List·Memᴰ·head, Memᴰ·append-left}
 use Prim.Native.Nat.{ℕ, suc, _-_, _≤_, _<_}
 use native.Mathlib.Omega.{arith}
 use Rattle.envelopes.specs.Envelope.{Ordered}
@@ -14,11 +14,11 @@ use Rattle.dynamic.specs.Valid.{Whole}
 use Rattle.dynamic.specs.Raise.{raised-shape, whole-raise}
 use Rattle.dynamic.specs.Kept.{heldHeight, Above, above-turned, Parted, part}
 use Rattle.table.specs.Words.{Words}
-use Rattle.table.specs.Layout.{cap}
+use Rattle.table.specs.Layout.{cap, cap-most, cell}
 use Rattle.table.specs.Items.{Item, Slots}
 use Rattle.table.specs.Rep.{refOf, nodeOn, seam, heightAt, Rep, Within}
-use Rattle.table.specs.Nodes.{rep-height, ref-on}
-use Rattle.pieces.specs.Pieces.{items, item-laws}
+use Rattle.table.specs.Nodes.{rep-height, ref-on, seam-in}
+use Rattle.pieces.specs.Pieces.{items, item-laws, rateOf}
 use Rattle.update.specs.Stored.{HeldIn, Touched}
 use Rattle.update.specs.Steps.{MadeIn, LoweredIn, Siblings, RaisedIn}
 
@@ -29,10 +29,6 @@ abbrev pub sideOf : Bool → Side
 sideOf false = left
 sideOf true = right
 
-pub on-assoc : (side : Bool) (a b c : Tree Item) → leaves (nodeOn side (nodeOn side a b) c) ≡ leaves (nodeOn side a (nodeOn side b c))
-on-assoc false a b c = append-assoc (leaves a) (leaves b) (leaves c)
-on-assoc true a b c = sym (append-assoc (leaves c) (leaves b) (leaves a))
-
 module _ (tp tq : Tree Item) where
   pub ordered-one : (side : Bool) → Ordered items (leaves (nodeOn side tp tq)) → Ordered items (leaves tp)
   ordered-one false o = ordered-left items (leaves tp) (leaves tq) o
@@ -42,12 +38,13 @@ module _ (tp tq : Tree Item) where
   ordered-other false o = ordered-right items (leaves tp) (leaves tq) o
   ordered-other true o = ordered-left items (leaves tq) (leaves tp) o
 
+-- the tree alone
+pub held-rep : {w : Words} {x e : ℕ} {h : Held Item} → HeldIn w x e h → Rep w 1 x (heldShape h)
+held-rep held = record { kind = omega arith; root = held .root; slots = held .slots; tied = held .tied }
+
 -- the height that the words tell is the tree's
 pub held-height : {w : Words} {x e : ℕ} {h : Held Item} → HeldIn w x e h → heightAt w 1 x ≡ heldHeight h
-held-height {w} {x} {h} held = rep-height rep
-  where
-    rep : Rep w 1 x (heldShape h)
-    rep = record { kind = omega arith; root = held .root; slots = held .slots; tied = held .tied }
+held-height held = rep-height (held-rep held)
 
 -- a subtree of some height is an inner node
 pub held-inner : {w : Words} {x e : ℕ} {h : Held Item} → HeldIn w x e h → 1 ≤ heldHeight h → 4096 < x
@@ -56,6 +53,14 @@ held-inner {w} {x} {h} held high = go (heldShape h) (held .root) (held .slots) h
     go : (t : Tree Item) → x ≡ refOf t → Slots (cap w) (leaves t) → 1 ≤ height t → 4096 < x
     go (leaf a) e s p = absurd (omega arith)
     go (node l r) e s p = omega (arith, s .low (Memᴰ·append-left (leaves r) (last-leaf l)))
+
+-- and an inner node is of some height
+pub inner-high : {w : Words} {x e : ℕ} {h : Held Item} → HeldIn w x e h → 4096 < x → 1 ≤ heldHeight h
+inner-high {w} {x} {h} held d = go (heldShape h) (held .root) (held .slots)
+  where
+    go : (t : Tree Item) → x ≡ refOf t → Slots (cap w) (leaves t) → 1 ≤ height t
+    go (leaf a) e s = absurd (omega (arith, s .high (List·Memᴰ·head refl), cap-most w))
+    go (node l r) e s = omega arith
 
 -- ---- what is given
 
@@ -73,10 +78,10 @@ siblings-left h = record { outer-held = h .left; inner-held = h .right; at-seam 
 pub siblings-right : {w : Words} {gap lx le rx re : ℕ} {l r : Held Item} → Siblings w gap lx le rx re l r → Neighbours true w gap rx re lx le r l
 siblings-right h = record { outer-held = h .right; inner-held = h .left; at-seam = h .seam; slots = h .slots; ordered = h .ordered }
 
-neighbours-left : {w : Words} {gap ox oe ix ie : ℕ} {o i : Held Item} → Neighbours false w gap ox oe ix ie o i → Siblings w gap ox oe ix ie o i
+pub neighbours-left : {w : Words} {gap ox oe ix ie : ℕ} {o i : Held Item} → Neighbours false w gap ox oe ix ie o i → Siblings w gap ox oe ix ie o i
 neighbours-left h = record { left = h .outer-held; right = h .inner-held; seam = h .at-seam; slots = h .slots; ordered = h .ordered }
 
-neighbours-right : {w : Words} {gap ox oe ix ie : ℕ} {o i : Held Item} → Neighbours true w gap ox oe ix ie o i → Siblings w gap ix ie ox oe i o
+pub neighbours-right : {w : Words} {gap ox oe ix ie : ℕ} {o i : Held Item} → Neighbours true w gap ox oe ix ie o i → Siblings w gap ix ie ox oe i o
 neighbours-right h = record { left = h .inner-held; right = h .outer-held; seam = h .at-seam; slots = h .slots; ordered = h .ordered }
 
 -- ---- lower and raise from a side
@@ -144,6 +149,17 @@ opens {side} {h} c held high =
       level = lower-level h (held .right) high side;
       touched = c .touched h held d;
     }
+
+-- the rate of the separator
+pub seam-rate :
+    {side : Bool} {w w′ : Words} {m x e ox oe ix ie : ℕ} {h o i : Held Item} →
+    HeldIn w x e h →
+    Opens side w w′ x ox oe ix ie h o i →
+    m ≡ x - 4096 →
+    cell w 1 m ≡ rateOf (seam side (heldShape o) (heldShape i))
+seam-rate {side} {w} {o} {i} held p d =
+    ap (cell w 1) (d ∙ p .at-seam)
+    ∙ held .kept .held (subst (λ t. List·Memᴰ (seam side (heldShape o) (heldShape i)) (leaves t)) (sym (p .shaped)) (seam-in side (heldShape o) (heldShape i))) .rate
 
 -- o and i raised to one
 pub record Raises (side : Bool) (w w′ : Words) (x e k s h : ℕ) (o i : Held Item) : Type 0 where

@@ -1,20 +1,21 @@
 -- Rebalancing two siblings in words: by their heights, one raise, or a rotation on the side of the taller one.
 use mathlib.Core.Path.{_≡_, sym, subst}
-use mathlib.Core.Bool.{true, false}
+use mathlib.Core.Bool.{Bool, true, false}
 use Prim.Native.Nat.{ℕ, suc, _≤_, _<_}
 use native.Mathlib.Omega.{arith}
 use borrow.Author.Tests.{lt-ltb, le-ltb}
-use Rattle.trees.specs.Tree.{avl-node}
+use Rattle.trees.specs.Tree.{leaves, avl-node}
 use Rattle.meeting.specs.Machine.{left, right}
-use Rattle.dynamic.specs.OfferTree.{Held, raise}
+use Rattle.dynamic.specs.OfferTree.{Held, heldShape, Made, raise}
 use Rattle.dynamic.specs.Updates.{rotate, rebalance}
 use Rattle.dynamic.specs.Kept.{heldHeight}
 use Rattle.table.specs.Words.{Words}
 use Rattle.table.specs.Items.{Item}
-use Rattle.table.specs.Rep.{heightAt}
+use Rattle.table.specs.Rep.{nodeOn, heightAt, Within}
 use Rattle.pieces.specs.Pieces.{items}
-use Rattle.update.specs.Steps.{MadeIn, Siblings, RaisedIn, RebalancedIn}
-use Rattle.update.specs.Neighbours.{held-height, siblings-left, siblings-right}
+use Rattle.update.specs.Stored.{Touched}
+use Rattle.update.specs.Steps.{MadeIn, Siblings, RaisedIn, Near, RebalancedIn}
+use Rattle.update.specs.Neighbours.{held-height, Neighbours, siblings-left, siblings-right, neighbours-left, neighbours-right}
 use Rattle.update.specs.Rotating.{RotatedIn}
 
 -- ---- which of the three
@@ -72,3 +73,23 @@ module _ {gap lx le rx re x e k s h : ℕ} {w w′ : Words} where
     where
       tall : (l r : Held Item) → Siblings w gap lx le rx re l r → suc (heldHeight l) < heldHeight r
       tall l r g = omega (arith, p, held-height (g .left), held-height (g .right))
+
+-- ---- rebalance from a side
+
+abbrev pub rebalanceOn : Bool → Held Item → Held Item → Made Item
+rebalanceOn false o i = rebalance items o i
+rebalanceOn true o i = rebalance items i o
+
+pub record RebalancedOn (side : Bool) (gap ox oe ix ie : ℕ) (w w′ : Words) (x e k s h : ℕ) : Type 0 where
+  pub within : Within w w′
+  pub made : (o i : Held Item) → Neighbours side w gap ox oe ix ie o i → Near o i → MadeIn w′ x e k s h (rebalanceOn side o i)
+  pub touched : (o i : Held Item) → Neighbours side w gap ox oe ix ie o i → Near o i → Touched (leaves (nodeOn side (heldShape o) (heldShape i))) w w′
+
+near-turned : {l r : Held Item} → Near l r → Near r l
+near-turned n = record { left = n .right; right = n .left }
+
+pub rebalanced-on-left : {gap ox oe ix ie x e k s h : ℕ} {w w′ : Words} → RebalancedIn gap ox oe ix ie w w′ x e k s h → RebalancedOn false gap ox oe ix ie w w′ x e k s h
+rebalanced-on-left c = record { within = c .within; made = λ o i n d. c .made o i (neighbours-left n) d; touched = λ o i n d. c .touched o i (neighbours-left n) d }
+
+pub rebalanced-on-right : {gap ox oe ix ie x e k s h : ℕ} {w w′ : Words} → RebalancedIn gap ix ie ox oe w w′ x e k s h → RebalancedOn true gap ox oe ix ie w w′ x e k s h
+rebalanced-on-right c = record { within = c .within; made = λ o i n d. c .made i o (neighbours-right n) (near-turned d); touched = λ o i n d. c .touched i o (neighbours-right n) (near-turned d) }

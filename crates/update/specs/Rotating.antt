@@ -1,7 +1,6 @@
 -- A rotation in words: its calls in a row make what the model's rotation makes, on either side.
-use mathlib.Core.Path.{_≡_, refl, sym, _∙_, ap, subst}
-use mathlib.Core.Bool.{Bool, true, false}
-use mathlib.Core.List.{_++_}
+use mathlib.Core.Path.{_≡_, sym, _∙_, ap, subst}
+use mathlib.Core.Bool.{Bool}
 use Prim.Native.Nat.{ℕ, suc, _+_, _-_, _≤_, _<_, max}
 use native.Mathlib.Omega.{arith}
 use borrow.Author.Tests.{le-leb, lt-leb}
@@ -16,22 +15,15 @@ use Rattle.table.specs.Layout.{cap}
 use Rattle.table.specs.Items.{Item, Slots}
 use Rattle.table.specs.Rep.{nodeOn, seam, heightAt, Within, within-trans}
 use Rattle.table.specs.Nodes.{on-one, on-other, on-across, in-one, in-other, height-on}
+use Rattle.shape.specs.Sides.{rowOn, row-leaves, four-leaves, seam-first, seam-last}
 use Rattle.pieces.specs.Pieces.{items}
 use Rattle.update.specs.Stored.{HeldIn, Touched}
 use Rattle.update.specs.Steps.{Counted, MadeIn}
 use Rattle.update.specs.Frames.{slots-within, held-still, touched-trans, touched-more}
-use Rattle.update.specs.Neighbours.{sideOf, on-assoc, ordered-one, ordered-other, held-height, Neighbours, LoweredOn, RaisedOn, Opens, opens, Raises, raises}
+use Rattle.update.specs.Neighbours.{sideOf, ordered-one, ordered-other, held-height, Neighbours, LoweredOn, RaisedOn, Opens, opens, Raises, raises}
 use Rattle.update.specs.Counting.{Counts, counted-two, counted-three}
 
 -- ---- three in a row
-
-seam-inner : (side : Bool) (a b c : Tree Item) → seam side a (nodeOn side b c) ≡ seam side a b
-seam-inner false a b c = refl
-seam-inner true a b c = refl
-
-seam-outer : (side : Bool) (a b c : Tree Item) → seam side (nodeOn side a b) c ≡ seam side b c
-seam-outer false a b c = refl
-seam-outer true a b c = refl
 
 -- from a side: o, i, s; `m` is the slot of the seam between o and i, `gap` that between i and s
 record Trio (side : Bool) (w : Words) (m gap ox oe ix ie sx se : ℕ) (o i s : Held Item) : Type 0 where
@@ -101,7 +93,7 @@ gathered {side} {w} {w₁} {w₂} {m} {gap} {ox} {oe} {ix} {ie} {sx} {se} {yx} {
         record {
           outer-held = held-still (c .within) (t .outer-held) (Y .touched) (λ n a b. on-across O (nodeOn side I S) side (t .slots) a b);
           inner-held = Y .made .held;
-          at-seam = t .outer-seam ∙ ap (λ (a : Item). a .slot) (sym (seam-inner side O I S) ∙ ap (seam side O) (sym (Y .shaped)));
+          at-seam = t .outer-seam ∙ ap (λ (a : Item). a .slot) (sym (seam-first side O I S) ∙ ap (seam side O) (sym (Y .shaped)));
           slots = subst (λ a. Slots (cap w₁) (leaves (nodeOn side O a))) (sym (Y .shaped)) (slots-within (c .within) (t .slots));
           ordered = subst (λ a. Ordered items (leaves (nodeOn side O a))) (sym (Y .shaped)) (t .ordered);
         }
@@ -113,7 +105,7 @@ gathered {side} {w} {w₁} {w₂} {m} {gap} {ox} {oe} {ix} {ie} {sx} {se} {yx} {
 
 module _ {side : Bool} {w w₁ : Words} {gap tx te sx se ox oe ix ie : ℕ} {tall s o i : Held Item} (n : Neighbours side w gap tx te sx se tall s) (within : Within w w₁) (p : Opens side w w₁ tx ox oe ix ie tall o i) where
   row : leaves (nodeOn side (heldShape tall) (heldShape s)) ≡ leaves (nodeOn side (heldShape o) (nodeOn side (heldShape i) (heldShape s)))
-  row = ap (λ t. leaves (nodeOn side t (heldShape s))) (p .shaped) ∙ on-assoc side (heldShape o) (heldShape i) (heldShape s)
+  row = ap (λ t. leaves (nodeOn side t (heldShape s))) (p .shaped) ∙ row-leaves side (heldShape o) (heldShape i) (heldShape s)
 
   trio : Trio side w₁ (tx - 4096) gap ox oe ix ie sx se o i s
   trio =
@@ -122,7 +114,7 @@ module _ {side : Bool} {w w₁ : Words} {gap tx te sx se ox oe ix ie : ℕ} {tal
         middle-held = p .inner-held;
         short-held = held-still within (n .inner-held) (p .touched) (λ k a b. on-across (heldShape tall) (heldShape s) side (n .slots) b a);
         outer-seam = p .at-seam;
-        short-seam = n .at-seam ∙ ap (λ (a : Item). a .slot) (ap (λ t. seam side t (heldShape s)) (p .shaped) ∙ seam-outer side (heldShape o) (heldShape i) (heldShape s));
+        short-seam = n .at-seam ∙ ap (λ (a : Item). a .slot) (ap (λ t. seam side t (heldShape s)) (p .shaped) ∙ seam-last side (heldShape o) (heldShape i) (heldShape s));
         slots = subst (Slots (cap w₁)) row (slots-within within (n .slots));
         ordered = subst (Ordered items) row (n .ordered);
       }
@@ -200,10 +192,6 @@ rotated-once {side} {w} {w₁} {w₂} {w₃} {gap} {m} {tx} {te} {sx} {se} {ox} 
 
 -- ---- the middle one of three lowered, and its outer child raised with the outer one
 
-on-inner : (side : Bool) (a b c : Tree Item) → leaves b ≡ leaves c → leaves (nodeOn side a b) ≡ leaves (nodeOn side a c)
-on-inner false a b c e = ap (λ xs. leaves a ++ xs) e
-on-inner true a b c e = ap (λ xs. xs ++ leaves a) e
-
 record Parts (side : Bool) (w w′ : Words) (m gap xx xe qx qe sx se k₁ s₁ h₁ : ℕ) (o p q i s : Held Item) : Type 0 where
   next : Trio side w′ m gap xx xe qx qe sx se (raiseOn items (sideOf side) o p .held) q s
   counted : Counted (raiseOn items (sideOf side) o p .log) k₁ s₁ h₁
@@ -229,8 +217,8 @@ parted {side} {w} {w₁} {w₂} {m} {gap} {ox} {oe} {ix} {ie} {sx} {se} {px} {pe
             outer-held = X .made .held;
             middle-held = held-still (c .within) (op .inner-held) (X .touched) (λ n a b. on-across (nodeOn side O P) (nodeOn side Q S) side slots₁ b (in-one side Q S a));
             short-held = held-still (c .within) short₁ (X .touched) (λ n a b. on-across (nodeOn side O P) (nodeOn side Q S) side slots₁ b (in-other side Q S a));
-            outer-seam = op .at-seam ∙ ap slotOf (sym (seam-outer side O P Q) ∙ ap (λ a. seam side a Q) (sym (X .shaped)));
-            short-seam = t .short-seam ∙ ap slotOf (ap (λ a. seam side a S) (op .shaped) ∙ seam-outer side P Q S);
+            outer-seam = op .at-seam ∙ ap slotOf (sym (seam-last side O P Q) ∙ ap (λ a. seam side a Q) (sym (X .shaped)));
+            short-seam = t .short-seam ∙ ap slotOf (ap (λ a. seam side a S) (op .shaped) ∙ seam-last side P Q S);
             slots = subst (λ a. Slots (cap w₂) (leaves (nodeOn side a (nodeOn side Q S)))) (sym (X .shaped)) (slots-within (c .within) slots₁);
             ordered = subst (λ a. Ordered items (leaves (nodeOn side a (nodeOn side Q S)))) (sym (X .shaped)) ordered₁;
           };
@@ -261,7 +249,7 @@ parted {side} {w} {w₁} {w₂} {m} {gap} {ox} {oe} {ix} {ie} {sx} {se} {px} {pe
     slotOf a = a .slot
 
     same : leaves (nodeOn side O (nodeOn side I S)) ≡ leaves (nodeOn side (nodeOn side O P) (nodeOn side Q S))
-    same = ap (λ a. leaves (nodeOn side O (nodeOn side a S))) (op .shaped) ∙ on-inner side O (nodeOn side (nodeOn side P Q) S) (nodeOn side P (nodeOn side Q S)) (on-assoc side P Q S) ∙ sym (on-assoc side O P (nodeOn side Q S))
+    same = ap (λ a. leaves (rowOn side O a S)) (op .shaped) ∙ four-leaves side O P Q S
 
     slots₁ : Slots (cap w₁) (leaves (nodeOn side (nodeOn side O P) (nodeOn side Q S)))
     slots₁ = subst (Slots (cap w₁)) same (slots-within within (t .slots))
@@ -278,7 +266,7 @@ parted {side} {w} {w₁} {w₂} {m} {gap} {ox} {oe} {ix} {ie} {sx} {se} {px} {pe
         (record {
           outer-held = held-still within (t .outer-held) (op .touched) (λ n a b. on-across O (nodeOn side I S) side (t .slots) a (in-one side I S b));
           inner-held = op .outer-held;
-          at-seam = t .outer-seam ∙ ap slotOf (ap (seam side O) (op .shaped) ∙ seam-inner side O P Q);
+          at-seam = t .outer-seam ∙ ap slotOf (ap (seam side O) (op .shaped) ∙ seam-first side O P Q);
           slots = on-one (nodeOn side O P) (nodeOn side Q S) side slots₁;
           ordered = ordered-one (nodeOn side O P) (nodeOn side Q S) side ordered₁;
         })
