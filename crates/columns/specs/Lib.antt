@@ -1,0 +1,4 @@
+pub mod Columns
+pub mod Decimals
+pub mod Values
+pub mod Justified
