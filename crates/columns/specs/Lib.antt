@@ -2,3 +2,4 @@ pub mod Columns
 pub mod Decimals
 pub mod Values
 pub mod Justified
+pub mod Printing
