@@ -3,3 +3,4 @@ pub mod Decimals
 pub mod Values
 pub mod Justified
 pub mod Printing
+pub mod Reading

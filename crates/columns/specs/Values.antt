@@ -6,10 +6,12 @@ use mathlib.Core.Bool.{Bool, true, false, _&&_, _||_, cond}
 use mathlib.Core.List.{List, [], _∷_, _++_}
 use native.Mathlib.Nat.{pow-zero, pow-suc, pow-le-pow-right}
 use native.Mathlib.Omega.{arith}
-use lib.ListN.{length, replicate}
-use lib.IntN.{ℤ, pos, negsuc, negℤ}
+use lib.ListN.{length, replicate, getD, drop, drop-of-length-le}
+use lib.Seq.{drop-cons}
+use native.Mathlib.Numerals.{add-one}
+use lib.IntN.{ℤ, pos, negsuc, negℤ, _-ℤ_, +ℤ-idl}
 use lib.Dec.{T, leb, eqb, leb→le}
-use borrow.Author.Tests.{leb-true, eqb-true, ne-eqb}
+use borrow.Author.Tests.{leb-true, eqb-true, ne-eqb, le-leb, lt-leb}
 use Rattle.lists.specs.Filter.{every, one-of-both, other-of-both}
 use Rattle.columns.specs.Columns.{space, minus, digit, digits, numeral, decimal, justified, FitsIn}
 use Rattle.columns.specs.Decimals.{isDigit, digit-is, along, digits-more, numeral-length, numeral-some, numeral-characters}
@@ -134,3 +136,70 @@ told-fits t h = go (hasMinus t) (valueFrom 0 t) (value-small t 0 0 (omega (arith
     go false n s = numeral-length (length t) n h (omega (arith, ten {i = 0 + length t - 0} {j = length t} (omega arith)))
     go true zero s = omega (arith, numeral-length 1 0 (omega arith) (omega (arith, pow-suc 10 0)))
     go true (suc n) s = omega (arith, numeral-length (0 + length t - 1) (suc n) (some-power (0 + length t - 1) n s) s)
+
+-- ---- as a loop reads it, from the front
+
+pub taken-below : (v b : ℕ) → b < 48 → v ≡ taken v b
+unfolding taken
+taken-below v b h = rw (lt-leb 48 b h)
+
+pub taken-above : (v b : ℕ) → 48 ≤ b → 57 < b → v ≡ taken v b
+unfolding taken
+taken-above v b l h = rw (le-leb 48 b l, lt-leb b 57 h)
+
+pub taken-inside : (v b : ℕ) → 48 ≤ b → b ≤ 57 → 10 * v + (b - 48) ≡ taken v b
+unfolding taken
+taken-inside v b l h = rw (le-leb 48 b l, le-leb b 57 h)
+
+-- The bytes before `at` say the value.
+pub record ReadTo (text : List ℕ) (value at : ℕ) : Type 0 where
+  pub high : at ≤ length text
+  pub same : valueFrom 0 text ≡ valueFrom value (drop at text)
+  pub small : value < 10 ^ at
+
+pub read-none : (text : List ℕ) → ReadTo text 0 0
+read-none text = record { high = omega arith; same = refl; small = omega (arith, pow-zero 10) }
+
+pub read-more : {text : List ℕ} {value at v : ℕ} → ReadTo text value at → at < length text → v ≡ taken value (getD text at 0) → ReadTo text v (at + 1)
+unfolding valueFrom
+read-more {text} {value} {at} {v} r h e =
+    record {
+      high = omega arith;
+      same = r .same ∙ rw (drop-cons text at 0 h, add-one at, e);
+      small = rw (e, add-one at) (taken-small value (getD text at 0) at (r .small));
+    }
+
+pub read-all : {text : List ℕ} {value at : ℕ} → ReadTo text value at → length text ≤ at → value ≡ valueFrom 0 text
+unfolding valueFrom
+read-all {text} {value} {at} r h = sym (r .same ∙ rw (drop-of-length-le text {i = at} h))
+
+-- With at most 18 bytes the value is far below 2^63.
+pub read-small : {text : List ℕ} {value at : ℕ} → ReadTo text value at → length text ≤ 18 → value < 10 ^ 18
+read-small {at = at} r h = omega (arith, r .small, ten {i = at} {j = 18} (omega (arith, r .high)))
+
+-- No minus stands before `at`.
+pub record NoMinusTo (text : List ℕ) (at : ℕ) : Type 0 where
+  pub high : at ≤ length text
+  pub same : hasMinus text ≡ hasMinus (drop at text)
+
+pub minus-found : {text : List ℕ} {at : ℕ} → NoMinusTo text at → at < length text → getD text at 0 ≡ minus → true ≡ hasMinus text
+unfolding hasMinus
+minus-found {text} {at} r h e = sym (r .same ∙ rw (drop-cons text at 0 h, e))
+
+pub minus-more : {text : List ℕ} {at : ℕ} → NoMinusTo text at → at < length text → (getD text at 0 ≡ minus → ⊥) → NoMinusTo text (at + 1)
+unfolding hasMinus
+minus-more {text} {at} r h e = record { high = omega arith; same = r .same ∙ rw (drop-cons text at 0 h, ne-eqb (getD text at 0) minus e, add-one at) }
+
+pub minus-never : {text : List ℕ} {at : ℕ} → NoMinusTo text at → length text ≤ at → false ≡ hasMinus text
+unfolding hasMinus
+minus-never {text} {at} r h = sym (r .same ∙ rw (drop-of-length-le text {i = at} h))
+
+-- ---- its sign
+
+pub told-minus : (text : List ℕ) {v : ℕ} → v ≡ valueFrom 0 text → true ≡ hasMinus text → pos 0 -ℤ pos v ≡ told text
+unfolding told
+told-minus text {v} e m = rw (← m, ← e) (+ℤ-idl (negℤ (pos v)))
+
+pub told-plain : (text : List ℕ) {v : ℕ} → v ≡ valueFrom 0 text → false ≡ hasMinus text → pos v ≡ told text
+unfolding told
+told-plain text e m = rw (← m, ← e)
