@@ -1,6 +1,9 @@
 pub mod Columns
+pub mod Commands
 pub mod Decimals
-pub mod Values
 pub mod Justified
+pub mod Lines
 pub mod Printing
 pub mod Reading
+pub mod Sections
+pub mod Values

@@ -6,13 +6,14 @@ use mathlib.Core.Bool.{Bool, true, false}
 use mathlib.Core.List.{List, [], _∷_, _++_, append-assoc}
 use native.Mathlib.Omega.{arith}
 use lib.ListN.{length, take, drop, set, length-append, length-drop, length-set, drop-of-length-le}
-use lib.Seq.{take-add, take-suc-set, take-at, drop-at, drop-drop, length-take-le, drop-cons, lt-length-set, getD-set-same, drop-set-lt}
+use lib.Seq.{take-add, take-suc-set, drop-drop, length-take-le, drop-cons, lt-length-set, getD-set-same, drop-set-lt}
 use lib.IntN.{ℤ, pos, negsuc, natAbs}
 use lib.Signed.{ltZ}
 use borrow.Author.Tests.{le-ltb}
 use Rattle.columns.specs.declared.Cut.{Cut}
 use Rattle.columns.specs.Columns.{space, minus, digit, digits, numeral, decimal, justified, FitsIn, newline, answerLine}
 use Rattle.columns.specs.Decimals.{digits-none, digits-more}
+use Rattle.columns.specs.Sections.{between, parts-left, parts-middle, parts-right}
 use Rattle.columns.specs.Justified.{justified-snoc, justified-blank, justified-none, justified-width}
 
 -- ---- a text that is still to be written: digits, with a minus before them or not
@@ -146,24 +147,6 @@ justifies-some z before after number e some wrote =
     cut = rw e (decimal-cut z)
 
 -- ---- a number among other bytes
-
--- The middle of a list in three parts.
-module _ (left middle right : List ℕ) (from width : ℕ) (l : length left ≡ from) (m : length middle ≡ width) where
-  parts-left : take from (left ++ (middle ++ right)) ≡ left
-  parts-left = take-at left (middle ++ right) from l
-
-  parts-rest : drop from (left ++ (middle ++ right)) ≡ middle ++ right
-  parts-rest = drop-at left (middle ++ right) from l
-
-  parts-middle : take width (drop from (left ++ (middle ++ right))) ≡ middle
-  parts-middle = rw parts-rest (take-at middle right width m)
-
-  parts-right : drop (from + width) (left ++ (middle ++ right)) ≡ right
-  parts-right = rw (← drop-drop width from, parts-rest) (drop-at middle right width m)
-
--- The bytes from `from` to `to`, as code cuts them out.
-abbrev pub between : (from to : ℕ) → List ℕ → List ℕ
-between from to l = take (to - from) (drop from l)
 
 pub puts-part : (from width : ℕ) (z : ℤ) (before column : List ℕ) → from + width ≤ length before
     → length column ≡ length (between from (from + width) before) → Justifies z (between from (from + width) before) column
