@@ -5,5 +5,6 @@ pub mod Justified
 pub mod Lines
 pub mod Printing
 pub mod Reading
+pub mod Samples
 pub mod Sections
 pub mod Values
