@@ -1,20 +1,16 @@
 -- Lower in words: cut the whole envelope behind the left child's last line, then give each child its rest back.
-use mathlib.Core.Path.{_≡_, refl, sym, _∙_, ap, subst, fun-ext}
-use mathlib.Core.Bool.{Bool, true, false, cond, not}
-use mathlib.Core.Option.{none, some}
+use mathlib.Core.Path.{_≡_, refl, sym, _∙_, ap, subst}
+use mathlib.Core.Bool.{true, false, cond}
 use mathlib.Core.List.{List, _∷_, _++_, List·Memᴰ·head, List·Memᴰ·tail, Memᴰ·append-left, Memᴰ·append-right}
 use Prim.Native.Nat.{ℕ, _+_, _-_, _<_}
 use native.Mathlib.Omega.{arith}
 use lib.Dec.{ltb}
 use lib.IntN.{ℤ}
-use lib.Signed.{leZ, ltZ}
 use borrow.Author.Tests.{lt-ltb, le-ltb}
-use Rattle.integers.specs.Parts.{intRules, same-test}
 use Rattle.trees.specs.Tree.{leaves, last}
 use Rattle.trees.specs.Leaves.{last-leaf, leaves-joinP}
 use Rattle.trees.specs.Operations.{Part, Cut, partLeaves, joinP, splitP}
 use Rattle.trees.specs.Balanced.{AvlP}
-use Rattle.trees.specs.Split.{cutLeaves, split-leaves}
 use Rattle.dynamic.specs.OfferTree.{OfferTree, single, fork, shape, Held, hold, heldShape, cutBehind, lowerTree, lower}
 use Rattle.dynamic.specs.Valid.{Whole}
 use Rattle.dynamic.specs.Lower.{LowersTo, whole-lower}
@@ -22,13 +18,15 @@ use Rattle.dynamic.specs.Rearranged.{stored, rests}
 use Rattle.dynamic.specs.Heights.{trees-balanced}
 use Rattle.table.specs.Words.{Words}
 use Rattle.table.specs.Layout.{cap, cap-most, cell, linkAt}
-use Rattle.table.specs.Items.{Item, In, Slots, slots-left, slots-right}
+use Rattle.table.specs.Items.{Item, Slots, slots-left, slots-right}
 use Rattle.table.specs.Rep.{childAt, refOf, Tied, tied-node, Within, within-trans}
 use Rattle.table.specs.Threads.{Holds, holds-left, holds-right}
 use Rattle.pieces.specs.Pieces.{items, item-laws, rateOf, partRef, PieceField, PiecesOnly, Standing, Beside, Catted, inFront, CutAt}
 use Rattle.update.specs.Stored.{RestIn, Stored, stored-fork, HeldIn, Touched}
 use Rattle.update.specs.Steps.{LoweredIn}
-use Rattle.update.specs.Frames.{Inside, Disjoint, disjoint-across, tied-same, holds-same, rest-same, stored-same, held-slots, held-holds, whole-standing, whole-inside, stored-inside, pieces-offers, pieces-tree, pieces-rests, pieces-else, pieces-touched, slots-within, standing-still, pieces-trans, pieces-more, touched-more}
+use Rattle.update.specs.Frames.{Disjoint, disjoint-across, tied-same, holds-same, rest-same, stored-same, held-slots, held-holds, whole-standing, whole-inside, stored-inside, pieces-offers, pieces-tree, pieces-rests, pieces-else, pieces-touched, slots-within, standing-still, pieces-trans, pieces-more, touched-more}
+use Rattle.update.specs.RaisingModel.{up-to-test}
+use Rattle.update.specs.RaisingCuts.{Halved, halved}
 use Rattle.update.specs.Disjoint.{inside-refl, inside-left, inside-right, inside-join, disjoint-join, disjoint-turned, disjoint-both, slots-join}
 
 -- ---- what is read
@@ -77,41 +75,9 @@ forked {w} {x} {u} {v} {l} {r} {ql} {qr} held = go (held .tied) (held .stored)
 
 -- ---- the cut
 
--- the code's test is the model's
-cut-test : (s : Item) → inFront false (rateOf s) ≡ (λ x. not (items .before s x))
-cut-test s = fun-ext (λ x. same-test (leZ (rateOf s) (rateOf x)) (not (ltZ (rateOf x) (rateOf s))) (λ t. omega (arith, intRules)) (λ t. omega (arith, intRules)))
-
-cut-leaves : {A : Type 0} (test : A → Bool) (p : Part A) → cutLeaves (splitP test p) ≡ partLeaves p
-unfolding splitP
-cut-leaves test none = refl
-cut-leaves test (some t) = split-leaves test t
-
--- the two parts of a whole envelope that is cut behind s
-record Parted (w : Words) (a b : ℕ) (p : Part Item) (c : Cut Item) : Type 0 where
-  front : Standing w a (c .front)
-  back : Standing w b (c .back)
-  front-inside : Inside (partLeaves (c .front)) (partLeaves p)
-  back-inside : Inside (partLeaves (c .back)) (partLeaves p)
-  apart : Disjoint (partLeaves (c .front)) (partLeaves (c .back))
-
-parted : {θ : ℤ} {e a b : ℕ} {w w₁ : Words} {p : Part Item} (s : Item) → θ ≡ rateOf s → CutAt false θ e w w₁ a b → Standing w e p → Parted w₁ a b p (cutBehind items s p)
-parted {θ} {e} {a} {b} {w} {w₁} {p} s d cut st =
-    record {
-      front = subst (λ test. Standing w₁ a (splitP test p .front)) test (cut .in-front p st);
-      back = subst (λ test. Standing w₁ b (splitP test p .back)) test (cut .behind p st);
-      front-inside = λ n i. subst (In n) whole (inside-left (partLeaves (c .back)) n i);
-      back-inside = λ n i. subst (In n) whole (inside-right (partLeaves (c .front)) n i);
-      apart = disjoint-across (partLeaves (c .front)) (subst (Slots (cap w)) (sym whole) (st .slots));
-    }
-  where
-    c : Cut Item
-    c = cutBehind items s p
-
-    whole : cutLeaves c ≡ partLeaves p
-    whole = cut-leaves (λ x. not (items .before s x)) p
-
-    test : inFront false θ ≡ (λ x. not (items .before s x))
-    test = ap (inFront false) d ∙ cut-test s
+-- the whole envelope cut by the rate of s is cut behind s
+cut-behind : {θ : ℤ} {e a b : ℕ} {w w₁ : Words} {p : Part Item} (s : Item) → θ ≡ rateOf s → CutAt false θ e w w₁ a b → Standing w e p → Halved w₁ a b p (cutBehind items s p)
+cut-behind {a} {b} {w₁} {p} s d cut st = subst (λ test. Halved w₁ a b p (splitP test p)) (ap (inFront false) d ∙ sym (up-to-test s)) (halved cut st)
 
 -- ---- a child, with its envelope put together again
 
@@ -274,8 +240,8 @@ module _ {x e l r ql qr a b le re : ℕ} {θ : ℤ} {w w₁ w₂ w₃ : Words} {
       c : Cut Item
       c = cutBehind items (last (shape L)) P
 
-      k : Parted w₁ a b P c
-      k = parted (last (shape L)) (calls .rate ∙ f .rate-at) (calls .cut) (whole-standing held)
+      k : Halved w₁ a b P c
+      k = cut-behind (last (shape L)) (calls .rate ∙ f .rate-at) (calls .cut) (whole-standing held)
 
       d : Spread (partLeaves P) (partLeaves QL) (stored L) (partLeaves QR) (stored R)
       d = spread (partLeaves P) (partLeaves QL) (stored L) (partLeaves QR) (stored R) (held-slots held)

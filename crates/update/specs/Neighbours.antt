@@ -9,7 +9,7 @@ use Rattle.envelopes.specs.EnvelopeLaws.{ordered-left, ordered-right}
 use Rattle.trees.specs.Tree.{Tree, leaf, node, height, leaves, Avl, avl-node}
 use Rattle.trees.specs.Leaves.{last-leaf}
 use Rattle.meeting.specs.Machine.{Side, left, right}
-use Rattle.dynamic.specs.OfferTree.{Held, heldShape, outer, inner, lower, raise, raiseOn}
+use Rattle.dynamic.specs.OfferTree.{Held, heldShape, outer, inner, lower, raiseOn}
 use Rattle.dynamic.specs.Valid.{Whole}
 use Rattle.dynamic.specs.Raise.{raised-shape, whole-raise}
 use Rattle.dynamic.specs.Kept.{heldHeight, Above, above-turned, Parted, part}

@@ -33,7 +33,7 @@ unfolding splitP
 cut-leaves test none = refl
 cut-leaves test (some t) = split-leaves test t
 
-halved : {strict : Bool} {θ : ℤ} {e a b : ℕ} {w w₁ : Words} {p : Part Item} → CutAt strict θ e w w₁ a b → Standing w e p → Halved w₁ a b p (splitP (inFront strict θ) p)
+pub halved : {strict : Bool} {θ : ℤ} {e a b : ℕ} {w w₁ : Words} {p : Part Item} → CutAt strict θ e w w₁ a b → Standing w e p → Halved w₁ a b p (splitP (inFront strict θ) p)
 halved {strict} {θ} {w} {p} cut st =
     record {
       front = cut .in-front p st;
