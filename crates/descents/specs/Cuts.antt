@@ -18,7 +18,7 @@ use Rattle.table.specs.Items.{Item, In, in-left, in-right, Slots, slots-left, s
 use Rattle.table.specs.Rep.{childAt, refOf, Rep, Within, within-cap, within-refl, within-trans, Only, only-refl, only-trans, only-more, tied-still, inner-in}
 use Rattle.table.specs.Nodes.{Parents, parents, leaf-low, ref-low}
 use Rattle.table.specs.Parts.{refOfP, TiedP, RepP, rep-some, MadeP, repP-still, PairP, Seam}
-use Rattle.table.specs.Data.{Keyed, keyed-left, keyed-right}
+use Rattle.table.specs.Keys.{Keyed, keyed-left, keyed-right}
 use Rattle.shape.specs.Merge.{Merged}
 
 -- the parts of a cut of xs, with roots x and y; nothing but nodes of xs was written

@@ -16,7 +16,7 @@ use Rattle.table.specs.Items.{Item}
 use Rattle.table.specs.Rep.{childAt, Rep}
 use Rattle.table.specs.Nodes.{parents, leaf-low}
 use Rattle.table.specs.Parts.{low}
-use Rattle.table.specs.Data.{Keyed, keyed-left, keyed-right}
+use Rattle.table.specs.Keys.{Keyed, keyed-left, keyed-right}
 use Rattle.shape.specs.Splices.{inner-ref}
 use Rattle.descents.specs.Ends.{pick, down, down-low}
 

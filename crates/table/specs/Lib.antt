@@ -6,4 +6,4 @@ pub mod Rep
 pub mod Nodes
 pub mod Threads
 pub mod Parts
-pub mod Data
+pub mod Keys

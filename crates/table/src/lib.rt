@@ -175,3 +175,10 @@ pub fn is_equal(part: &[i64], field: usize, slot: u32, key: i64) -> bool
     }
     false
 }
+
+// Puts a number into word `at`, and does nothing past the end.
+pub fn set_number(part: &mut [i64], at: usize, value: u32)
+    ensures { λ _. ⌜ now (part .exit) ≡ wset (now (part .entry)) at (pos value) ⌝ }
+{
+    set_word(part, at, value as i64);
+}
