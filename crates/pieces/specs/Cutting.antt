@@ -20,7 +20,7 @@ use Rattle.table.specs.Words.{Words}
 use Rattle.table.specs.Layout.{cap, cell}
 use Rattle.table.specs.Items.{Item, In}
 use Rattle.table.specs.Rep.{Only}
-use Rattle.table.specs.Data.{Keyed}
+use Rattle.table.specs.Keys.{Keyed}
 use Rattle.table.specs.Parts.{refOfP, TiedP, RepP, low}
 use Rattle.table.specs.Threads.{Held, Holds, Threaded, holds-left, holds-right, holds-still, threaded-left, threaded-right, threaded-still, only-offer, only-thread}
 use Rattle.descents.specs.Cuts.{from, Halving, Halved}
