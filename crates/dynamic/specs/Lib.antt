@@ -8,3 +8,13 @@ pub mod OfferTree
 pub mod Updates
 pub mod Valid
 pub mod Work
+pub mod Floors
+pub mod Forests
+pub mod Kept
+pub mod Rebalanced
+pub mod Placed
+pub mod Inserted
+pub mod Removed
+pub mod Updated
+pub mod Story
+pub mod Steps

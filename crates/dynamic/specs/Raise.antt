@@ -140,6 +140,7 @@ module _ (S : Figure) (L : PseudoLines S) where
               sets = s;
               left-envelope = E;
               right-envelope = F;
+              ended = G .met .finished;
               left-balanced = wl .balanced-whole;
               right-balanced = wr .balanced-whole;
             };

@@ -1,6 +1,7 @@
 -- What an update's log of searched pairs is held to (document 01, "The meeting of two envelopes"): k, s and H are its length, its steps and its heights.
 use Prim.Native.Nat.{ℕ, _+_, _*_, _≤_, max}
 use mathlib.Core.Path.{_≡_}
+use mathlib.Core.Bool.{true}
 use mathlib.Core.List.{List, [], _∷_, _++_, List·Memᴰ, Sublistᴰ}
 use mathlib.Core.Option.{Option, none, some}
 use lib.ListN.{length}
@@ -22,7 +23,7 @@ abbrev pub heightsOf : {A : Type 0} → List (Pair A) → ℕ
 heightsOf [] = 0
 heightsOf (p ∷ ps) = height (p .front) + height (p .back) + heightsOf ps
 
--- ---- each pair: the envelopes of two sets of lines that are live, the first set before the second, in balanced trees
+-- ---- each pair: the envelopes of two sets of lines that are live after the update, the first set before the second, in balanced trees
 
 pub record Searched (S : Figure) (live : List (S .Line)) (p : Pair (S .Line)) : Type 0 where
   pub left-set : List (S .Line)
@@ -30,6 +31,8 @@ pub record Searched (S : Figure) (live : List (S .Line)) (p : Pair (S .Line)) : 
   pub sets : Sublistᴰ (left-set ++ right-set) live
   pub left-envelope : Env S left-set (leaves (p .front))
   pub right-envelope : Env S right-set (leaves (p .back))
+  -- the search ran to its end
+  pub ended : meet S (p .front) (p .back) .finished ≡ true
   pub left-balanced : Avl (p .front)
   pub right-balanced : Avl (p .back)
 

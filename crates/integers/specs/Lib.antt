@@ -2,4 +2,5 @@
 pub mod Parts
 pub mod Ring
 pub mod Magnitude
+pub mod Ranges
 pub mod Log

@@ -2,7 +2,7 @@
 -- `fits64 e (omega (arith, ..))` so shows that a value fits an i64, with `mul-le-mul` of the unknowns' bounds in the list where there are products.
 use mathlib.Core.Path.{_≡_, refl}
 use mathlib.Core.Bool.{_&&_}
-use Prim.Native.Nat.{ℕ, zero, suc, _+_, _*_, _^_, _≤_, _<_}
+use Prim.Native.Nat.{ℕ, zero, suc, _+_, _-_, _*_, _^_, _≤_, _<_}
 use native.Mathlib.Nat.{le-trans, mul-le-mul}
 use native.Mathlib.Omega.{arith}
 use lib.Dec.{T}
@@ -25,6 +25,11 @@ M (a :* b) = M a * M b
 balance : (z : ℤ) (x y : ℕ) → P z + x ≡ N z + y → natAbs z ≤ x + y
 balance (pos n) x y h = omega arith
 balance (negsuc n) x y h = omega arith
+
+-- the size of a difference a − b of naturals
+pub natAbs-gap : (z : ℤ) (a b : ℕ) → P z + b ≡ N z + a → natAbs z ≡ (a - b) + (b - a)
+natAbs-gap (pos n) a b h = omega arith
+natAbs-gap (negsuc n) a b h = omega arith
 
 pub natAbs-neg : (a : ℤ) → natAbs (negℤ a) ≡ natAbs a
 natAbs-neg (pos zero) = refl

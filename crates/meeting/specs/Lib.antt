@@ -6,3 +6,5 @@ pub mod Tests
 pub mod Verdicts
 pub mod Search
 pub mod Meets
+pub mod Reach
+pub mod Examples

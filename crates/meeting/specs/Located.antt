@@ -1,6 +1,6 @@
 -- Where the places of a search stand among the lines of their tree, counted from the outer end: a 0, a 1, ..
 -- No geometry: this holds of every run.
-use Prim.Native.Nat.{ℕ, zero, suc, _+_, _≤_, _<_, max}
+use Prim.Native.Nat.{ℕ, zero, suc, _+_, _≤_, _<_}
 use native.Mathlib.Omega.{arith}
 use mathlib.Core.Path.{_≡_, refl, sym, _∙_, ap}
 use mathlib.Core.Option.{Option, none, some}
@@ -8,7 +8,7 @@ use mathlib.Core.List.{List, [], _∷_}
 use lib.ListN.{length}
 use Rattle.envelopes.specs.Bridge.{Kind, leafy, inner}
 use Rattle.trees.specs.Tree.{Tree, leaf, node, height}
-use Rattle.meeting.specs.Machine.{Side, left, right, away, toward, nearest, farthest, Place, Half, Crossing, endOf, pointAt}
+use Rattle.meeting.specs.Machine.{Side, left, right, away, toward, nearest, farthest, Place, Half, awayFrom, Crossing, endOf, pointAt}
 
 -- The subtree's lines are a lo, .., a (hi − 1), from its outer end.
 pub data Spans {A : Type 0} (side : Side) (a : ℕ → A) : ℕ → Tree A → ℕ → Type 0 where
@@ -128,9 +128,24 @@ located s = record { lo = s .lo; hi = s .hi; spans = s .spans; edged = s .edged 
 pub stack-depth : {A : Type 0} {side : Side} {g : Aim A} {h : Half A} → Stands side g h → length (h .stack) ≤ g .tall
 stack-depth s = omega arith
 
--- ---- the end of a leaf's piece is the point of the stack's top
+-- An inner node finds room on it.
+pub stack-room : {A : Type 0} {side : Side} {g : Aim A} {h : Half A} (l r : Tree A) → Stands side g h → h .at .tree ≡ node l r → length (h .stack) < g .tall
+stack-room l r s e = let b = rw e at (s .shallow) in omega arith
+
+-- ---- the edge is the nearest line of the top's away child, and the end of a leaf's piece is the top's point
 
 module _ {A : Type 0} where
+  abbrev pub topEdge : Side → List (Place A) → Option A
+  topEdge side [] = none
+  topEdge side (top ∷ rest) = some (nearest side (awayFrom side (top .tree) (top .edge) .tree))
+
+  edge-by : {side : Side} {a : ℕ → A} {H lo : ℕ} {stack : List (Place A)} → Stacked side a H stack lo → edgeOf a lo ≡ topEdge side stack
+  edge-by bottom = refl
+  edge-by (on st s t e b) = sym (nearest-edge s)
+
+  pub edge-of-top : {side : Side} {g : Aim A} {h : Half A} → Stands side g h → h .at .edge ≡ topEdge side (h .stack)
+  edge-of-top s = s .edged ∙ edge-by (s .stacked)
+
   abbrev pub topPoint : Side → List (Place A) → Option (Crossing A)
   topPoint side [] = none
   topPoint side (top ∷ rest) = pointAt side (top .tree) (top .edge)

@@ -190,7 +190,7 @@ module _ {A : Type 0} where
   unfoldable pub counted : Result A → Result A
   counted r = record { finished = r .finished; u = r .u; v = r .v; steps = suc (r .steps) }
 
-  unfoldable pub start : Tree A → Tree A → State A
+  abbrev pub start : Tree A → Tree A → State A
   start l r = record { u = record { at = root l; stack = [] }; v = record { at = root r; stack = [] } }
 
 module _ (S : Figure) where

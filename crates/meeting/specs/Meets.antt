@@ -1,22 +1,22 @@
 -- The search on two trees whose leaves are envelopes: it finishes at the bridge within 3 × (hl + hr) + 1 steps.
-use Prim.Native.Nat.{ℕ, zero, suc, _+_, _*_, _-_, _≤_, _<_}
+use Prim.Native.Nat.{ℕ, suc, _+_, _*_, _-_, _≤_, _<_}
 use native.Mathlib.Omega.{arith}
 use mathlib.Core.Path.{_≡_, refl, sym, _∙_, ap}
 use mathlib.Core.Bool.{true}
 use mathlib.Core.Logic.{inl}
 use mathlib.Core.Option.{none}
-use mathlib.Core.List.{[], _++_}
+use mathlib.Core.List.{[]}
 use lib.ListN.{length, getD, length-append, List·getD-append}
 use lib.Seq.{getD-append-add}
 use Rattle.envelopes.specs.PseudoLines.{Figure, PseudoLines}
-use Rattle.envelopes.specs.Bridge.{Facing, Bridge, One, Two, Facts}
+use Rattle.envelopes.specs.Bridge.{Facing, Bridge}
 use Rattle.envelopes.specs.Search.{facts}
 use Rattle.trees.specs.Tree.{Tree, leaf, node, height, leaves}
-use Rattle.meeting.specs.Machine.{Side, left, right, away, toward, start, run, meet, Result}
-use Rattle.meeting.specs.Located.{Spans, one, two, edgeOf, bottom, Aim, Stands}
-use Rattle.meeting.specs.Moves.{half, owes, owes-root}
-use Rattle.meeting.specs.Verdicts.{Meeting, aim}
-use Rattle.meeting.specs.Search.{Sound, potential, Found, Finds, run-finds}
+use Rattle.meeting.specs.Machine.{Side, left, right, away, toward, start, meet, Result}
+use Rattle.meeting.specs.Located.{Spans, one, two, bottom, Aim, Stands}
+use Rattle.meeting.specs.Moves.{half, owes-root}
+use Rattle.meeting.specs.Verdicts.{Meeting, FactsOf}
+use Rattle.meeting.specs.Search.{Sound, potential, run-finds}
 
 -- ---- a tree's lines, counted from the outer end
 
@@ -111,17 +111,53 @@ root-stands side t g e h s =
       covers = h;
     }
 
--- From the five facts alone.
-pub meets-by : (S : Figure) (l r : Tree (S .Line)) (a : ℕ → S .Line) (m : ℕ) (c : ℕ → S .Line) (n : ℕ) (istar jstar : ℕ) → Spans left a 0 l m → Spans right c 0 r n → istar < m → jstar < n → Facts m n istar jstar (λ i k j h. One S a i k c j h) (λ i k j h. Two S a i k c j h) → Met (limit l r) (a istar) (c jstar) (meet S l r)
-unfolding meet start potential
-meets-by S l r a m c n istar jstar p q h k f =
-    let M : Meeting S = record { leftAim = record { line = a; count = m; star = istar; tall = height l }; rightAim = record { line = c; count = n; star = jstar; tall = height r }; facts = f } in
-    let i : Sound M left (half l none []) (half r none []) = record { us = root-stands left l (M .leftAim) refl h p; them = root-stands right r (M .rightAim) refl k q; held = inl (omega arith) } in
-    let b : potential i ≤ 3 * (height l + height r) = omega (arith, owes-root (i .us), owes-root (i .them)) in
-    let z = run-finds M (limit l r) (start l r) i (omega arith) in
-    record { finished = z .finished; atLeft = z .foundLeft .line; atRight = z .foundRight .line; steps = omega (arith, z .steps) }
+-- A search from the roots is sound, and what it has to pay is within the limit.
+pub record Ready {S : Figure} (M : Meeting S) (l r : Tree (S .Line)) : Type 0 where
+  pub sound : Sound M left (start l r .u) (start l r .v)
+  pub afford : potential sound < limit l r
+  pub tallLeft : M .leftAim .tall ≡ height l
+  pub tallRight : M .rightAim .tall ≡ height r
 
--- Two trees whose leaves are envelopes facing each other: the search finds their bridge.
-pub meets : (S : Figure) → PseudoLines S → (l r : Tree (S .Line)) (d : S .Line) (i j : ℕ) → Facing S (lineFrom left l d) (size l) (lineFrom right r d) (size r) → Bridge S (lineFrom left l d) (size l) (lineFrom right r d) (size r) i j → Met (limit l r) (lineFrom left l d i) (lineFrom right r d j) (meet S l r)
-meets S L l r d i j F B =
-    meets-by S l r (lineFrom left l d) (size l) (lineFrom right r d) (size r) i j (spans-tree left l d) (spans-tree right r d) (B .on-left .inside) (B .on-right .inside) (facts S L (lineFrom left l d) (size l) (lineFrom right r d) (size r) F i j B)
+abbrev pub sides : (S : Figure) (l r : Tree (S .Line)) (a : ℕ → S .Line) (m : ℕ) (c : ℕ → S .Line) (n i j : ℕ) → FactsOf S a m c n i j → Meeting S
+sides S l r a m c n i j f =
+    record {
+      leftAim = record { line = a; count = m; star = i; tall = height l };
+      rightAim = record { line = c; count = n; star = j; tall = height r };
+      facts = f;
+    }
+
+-- From the five facts alone.
+module _ (S : Figure) (l r : Tree (S .Line)) (a : ℕ → S .Line) (m : ℕ) (c : ℕ → S .Line) (n i j : ℕ) where
+  pub ready-by : Spans left a 0 l m → Spans right c 0 r n → i < m → j < n → (f : FactsOf S a m c n i j) → Ready (sides S l r a m c n i j f) l r
+  unfolding potential
+  ready-by p q h k f =
+      let M : Meeting S = sides S l r a m c n i j f in
+      let us = root-stands left l (M .leftAim) refl h p in
+      let them = root-stands right r (M .rightAim) refl k q in
+      let s : Sound M left (half l none []) (half r none []) = record { us = us; them = them; held = inl (omega arith) } in
+      record { sound = s; afford = omega (arith, owes-root us, owes-root them); tallLeft = refl; tallRight = refl }
+
+  pub meets-by : Spans left a 0 l m → Spans right c 0 r n → i < m → j < n → FactsOf S a m c n i j → Met (limit l r) (a i) (c j) (meet S l r)
+  unfolding meet
+  meets-by p q h k f =
+      let g = ready-by p q h k f in
+      let z = run-finds (sides S l r a m c n i j f) (limit l r) (start l r) (g .sound) (g .afford) in
+      record { finished = z .finished; atLeft = z .foundLeft .line; atRight = z .foundRight .line; steps = omega (arith, z .steps, g .afford) }
+
+-- Two trees whose leaves are envelopes that face each other, each counted from its outer end.
+abbrev pub FacingTrees : (S : Figure) (l r : Tree (S .Line)) (d : S .Line) → Type 0
+FacingTrees S l r d = Facing S (lineFrom left l d) (size l) (lineFrom right r d) (size r)
+
+abbrev pub BridgeOf : (S : Figure) (l r : Tree (S .Line)) (d : S .Line) (i j : ℕ) → Type 0
+BridgeOf S l r d i j = Bridge S (lineFrom left l d) (size l) (lineFrom right r d) (size r) i j
+
+-- The search finds their bridge.
+module _ (S : Figure) (L : PseudoLines S) (l r : Tree (S .Line)) (d : S .Line) (i j : ℕ) (F : FacingTrees S l r d) (B : BridgeOf S l r d i j) where
+  five : FactsOf S (lineFrom left l d) (size l) (lineFrom right r d) (size r) i j
+  five = facts S L (lineFrom left l d) (size l) (lineFrom right r d) (size r) F i j B
+
+  pub meeting-of : (M : Meeting S) × Ready M l r
+  meeting-of = (_, ready-by S l r _ _ _ _ i j (spans-tree left l d) (spans-tree right r d) (B .on-left .inside) (B .on-right .inside) five)
+
+  pub meets : Met (limit l r) (lineFrom left l d i) (lineFrom right r d j) (meet S l r)
+  meets = meets-by S l r _ _ _ _ i j (spans-tree left l d) (spans-tree right r d) (B .on-left .inside) (B .on-right .inside) five

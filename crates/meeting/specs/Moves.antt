@@ -3,15 +3,14 @@
 use Prim.Native.Nat.{ℕ, zero, suc, _+_, _≤_, _<_}
 use native.Mathlib.Omega.{arith}
 use native.Mathlib.Decide.{decLe}
-use mathlib.Core.Path.{_≡_, refl, sym, _∙_, ap}
-use mathlib.Core.Logic.{ite, if-pos, if-neg}
-use mathlib.Core.Option.{Option, none, some}
+use mathlib.Core.Path.{_≡_}
+use mathlib.Core.Logic.{ite, if-neg}
+use mathlib.Core.Option.{Option, none}
 use mathlib.Core.List.{List, [], _∷_}
 use lib.ListN.{length}
-use Rattle.envelopes.specs.Bridge.{Kind, leafy, inner}
 use Rattle.trees.specs.Tree.{Tree, leaf, node, height}
 use Rattle.meeting.specs.Machine.{Side, away, toward, Place, Half, advance, retreat, pop}
-use Rattle.meeting.specs.Located.{Spans, one, two, edgeOf, Stacked, bottom, on, kind, rank, spans-some, height-away, height-toward, nearest-edge, Aim, Stands}
+use Rattle.meeting.specs.Located.{Spans, one, two, edgeOf, Stacked, bottom, on, rank, spans-some, height-away, height-toward, nearest-edge, Aim, Stands}
 
 module _ {A : Type 0} {side : Side} {a : ℕ → A} {H : ℕ} where
   -- for a line below the stacked nodes

@@ -1,17 +1,17 @@
 -- The search finds the bridge, within 3 × (hl + hr) + 1 steps (source 000, Lemmas 4.2 to 4.4).
 use Prim.Native.Nat.{ℕ, zero, suc, _+_, _*_, _≤_, _<_}
 use native.Mathlib.Omega.{arith}
-use mathlib.Core.Path.{_≡_, refl, sym, _∙_, ap}
-use mathlib.Core.Bool.{Bool, true, false, _&&_}
+use mathlib.Core.Path.{_≡_, refl, _∙_, ap}
+use mathlib.Core.Bool.{true, _&&_}
 use mathlib.Core.Logic.{_⊎_, inl, inr, ⊎-elim, ⊎-swap}
 use mathlib.Core.Option.{Option, none, some}
 use mathlib.Core.List.{List, [], _∷_}
 use lib.ListN.{length}
 use Rattle.envelopes.specs.PseudoLines.{Figure}
-use Rattle.envelopes.specs.Bridge.{Kind, leafy, inner}
-use Rattle.trees.specs.Tree.{Tree, leaf, node, height}
-use Rattle.meeting.specs.Machine.{Side, left, right, opposite, isLeaf, Place, Case, mine, theirs, neither, compare, Half, State, pair, advance, retreat, pop, second, recedeBy, recede, advanceUnless, stepBy, step, Result, ended, counted, run}
-use Rattle.meeting.specs.Located.{Spans, one, two, edgeOf, Stacked, bottom, on, kind, rank, rank-from, rank-before, spans-some, Located, Top, top-located, Aim, Stands, located}
+use Rattle.envelopes.specs.Bridge.{Kind, inner}
+use Rattle.trees.specs.Tree.{Tree, leaf, node}
+use Rattle.meeting.specs.Machine.{Side, left, right, opposite, isLeaf, Place, Case, mine, theirs, neither, compare, Half, State, pair, pop, second, recedeBy, recede, advanceUnless, stepBy, step, Result, ended, counted, run}
+use Rattle.meeting.specs.Located.{Spans, one, edgeOf, Stacked, bottom, kind, rank, rank-before, spans-some, Top, top-located, Stands, located}
 use Rattle.meeting.specs.Moves.{half, Inner, owes, Moved, retreat-moved, advance-moved, pop-moved}
 use Rattle.meeting.specs.Verdicts.{Meeting, aim, Apart, Verdict, verdict}
 

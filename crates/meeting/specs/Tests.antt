@@ -3,12 +3,12 @@ use Prim.Native.Nat.{ℕ, zero, suc}
 use mathlib.Core.Path.{_≡_, refl, sym, _∙_, ap, subst}
 use mathlib.Core.Bool.{Bool, true, false, _||_}
 use mathlib.Core.Logic.{_↔_, Iff·trans, _⊎_, inl, inr, ⊎-elim, ⊎-swap}
-use mathlib.Core.Option.{Option, none, some}
+use mathlib.Core.Option.{some}
 use lib.Dec.{T}
 use Rattle.envelopes.specs.PseudoLines.{Figure, mirror}
-use Rattle.envelopes.specs.Bridge.{Kind, leafy, inner, Local, OnOrAbove}
-use Rattle.trees.specs.Tree.{Tree, leaf, node, first, last}
-use Rattle.meeting.specs.Machine.{Side, left, right, away, toward, nearest, farthest, Place, Crossing, endOf, pointAt, crossingPoint, localAtMost, crossingOnOrAbove, onOrAbove}
+use Rattle.envelopes.specs.Bridge.{Kind, inner, Local, OnOrAbove}
+use Rattle.trees.specs.Tree.{Tree, node, first, last}
+use Rattle.meeting.specs.Machine.{Side, left, right, away, toward, nearest, farthest, Place, pointAt, crossingPoint, localAtMost, crossingOnOrAbove, onOrAbove}
 use Rattle.meeting.specs.Located.{Spans, one, two, edgeOf, kind, rank, farthest-at, nearest-at, Located}
 
 either : (b c : Bool) → T (b || c) ↔ (T b ⊎ T c)

@@ -1,22 +1,24 @@
 -- What a comparison tells the search: the five facts, for either side, at located places.
-use Prim.Native.Nat.{ℕ, suc, _≤_, _<_}
+use Prim.Native.Nat.{ℕ, _≤_, _<_}
 use mathlib.Core.Path.{_≡_}
 use mathlib.Core.Bool.{Bool, true, false}
 use mathlib.Core.Logic.{_↔_, _⊎_, ⊎-swap}
 use lib.Dec.{T}
-use Rattle.envelopes.specs.PseudoLines.{Figure, mirror}
-use Rattle.envelopes.specs.Bridge.{Kind, leafy, inner, Local, OnOrAbove, One, Two, Facts}
-use Rattle.trees.specs.Tree.{Tree, leaf, node}
+use Rattle.envelopes.specs.PseudoLines.{Figure}
+use Rattle.envelopes.specs.Bridge.{Kind, leafy, Local, One, Two, Facts}
 use Rattle.meeting.specs.Machine.{Side, left, right, opposite, Place, onOrAbove, Case, mine, theirs, neither, caseOf, compare}
-use Rattle.meeting.specs.Located.{Spans, one, two, kind, rank, Located, Aim}
-use Rattle.meeting.specs.Moves.{Inner}
+use Rattle.meeting.specs.Located.{kind, rank, Located, Aim}
 use Rattle.meeting.specs.Tests.{Above, above-left, above-right, test}
+
+-- The five facts, of the left lines a and the right lines c, each from its outer end, and their bridge (i, j).
+abbrev pub FactsOf : (S : Figure) (a : ℕ → S .Line) (m : ℕ) (c : ℕ → S .Line) (n i j : ℕ) → Type 0
+FactsOf S a m c n i j = Facts m n i j (λ i k j h. One S a i k c j h) (λ i k j h. Two S a i k c j h)
 
 -- Both sides of a search, and the five facts.
 pub record Meeting (S : Figure) : Type 0 where
   pub leftAim : Aim (S .Line)
   pub rightAim : Aim (S .Line)
-  pub facts : Facts (leftAim .count) (rightAim .count) (leftAim .star) (rightAim .star) (λ i k j h. One S (leftAim .line) i k (rightAim .line) j h) (λ i k j h. Two S (leftAim .line) i k (rightAim .line) j h)
+  pub facts : FactsOf S (leftAim .line) (leftAim .count) (rightAim .line) (rightAim .count) (leftAim .star) (rightAim .star)
 
 module _ {S : Figure} (M : Meeting S) where
   abbrev pub aim : Side → Aim (S .Line)

@@ -11,7 +11,7 @@ use lib.Signed.{leZ, ltZ}
 use Rattle.lists.specs.Filter.{every, keep}
 use Rattle.lists.specs.Tests.{any}
 use Rattle.offers.specs.Offers.{Offer, between, numberInRange, rateInRange, baseInRange, loadInRange, priceAt, precedes, crossingNumerator, crossingDenominator}
-use Rattle.plain.specs.Causes.{Cause, Check, _when_, declined, causeNumber, capacityOutOfRange, tableTooShort, numberOutOfRange, rateOutOfRange, baseOutOfRange, loadOutOfRange, numberLive, rateLive, bookFull, numberNotLive, bookEmpty, outputTooShort}
+use Rattle.plain.specs.Causes.{Cause, Trial, _when_, declined, causeNumber, capacityOutOfRange, tableTooShort, numberOutOfRange, rateOutOfRange, baseOutOfRange, loadOutOfRange, numberLive, rateLive, bookFull, numberNotLive, bookEmpty, outputTooShort}
 
 pub record State : Type 0 where
   pub capacity : ℕ
@@ -87,41 +87,58 @@ pieceWords (o ∷ p ∷ ps) = o .number ∷ crossingNumerator o p ∷ crossingDe
 abbrev pub partLength : ℕ → ℕ
 partLength c = 64 * (c + 1)
 
+-- No book: `start` beyond the table, fewer than 128 words there, first word outside 1 to 4,096, or part cut short.
+abbrev pub noBookAt : (words start : ℕ) → ℤ → Bool
+noBookAt words start first =
+    ltb words start || ltb (words - start) 128 || not (between (pos 1) (pos 4_096) first) || ltb (words - start) (partLength (natAbs first))
+
 -- Open, on a table of so many words.
-abbrev pub openChecks : (words start : ℕ) → ℤ → List Check
-openChecks words start c =
+abbrev pub openTrials : (words start : ℕ) → ℤ → List Trial
+openTrials words start c =
     capacityOutOfRange when not (between (pos 1) (pos 4_096) c)
     ∷ tableTooShort when (ltb words start || ltb (words - start) (partLength (natAbs c)))
     ∷ []
 
-abbrev pub rangeChecks : Call → List Check
-rangeChecks (post n r b) =
+abbrev pub rangeTrials : Call → List Trial
+rangeTrials (post n r b) =
     numberOutOfRange when not (numberInRange n)
     ∷ rateOutOfRange when not (rateInRange r)
     ∷ baseOutOfRange when not (baseInRange b)
     ∷ []
-rangeChecks (withdraw n) = numberOutOfRange when not (numberInRange n) ∷ []
-rangeChecks (query q) = loadOutOfRange when not (loadInRange q) ∷ []
-rangeChecks (listing room) = []
+rangeTrials (withdraw n) = numberOutOfRange when not (numberInRange n) ∷ []
+rangeTrials (query q) = loadOutOfRange when not (loadInRange q) ∷ []
+rangeTrials (listing room) = []
 
-abbrev pub bookChecks : State → Call → List Check
-bookChecks s (post n r b) =
+abbrev pub bookTrials : State → Call → List Trial
+bookTrials s (post n r b) =
     numberLive when any (hasNumber n) (s .offers)
     ∷ rateLive when any (hasRate r) (s .offers)
     ∷ bookFull when leb (s .capacity) (length (s .offers))
     ∷ []
-bookChecks s (withdraw n) = numberNotLive when not (any (hasNumber n) (s .offers)) ∷ []
-bookChecks s (query q) = bookEmpty when leb (length (s .offers)) 0 ∷ []
-bookChecks s (listing room) = outputTooShort when ltb room (3 * length (envelope (s .offers))) ∷ []
+bookTrials s (withdraw n) = numberNotLive when not (any (hasNumber n) (s .offers)) ∷ []
+bookTrials s (query q) = bookEmpty when leb (length (s .offers)) 0 ∷ []
+bookTrials s (listing room) = outputTooShort when ltb room (3 * length (envelope (s .offers))) ∷ []
 
-abbrev pub callChecks : State → Call → List Check
-callChecks s k = rangeChecks k ++ bookChecks s k
+abbrev pub trials : State → Call → List Trial
+trials s k = rangeTrials k ++ bookTrials s k
 
 -- ---- the book
 
 -- An accepted opening: no live offers.
 abbrev pub opened : ℤ → State
 opened c = record { capacity = natAbs c; offers = [] }
+
+-- What opening a table of so many words answers: a refusal's number, or 0 alone and the book.
+pub data Opening : Type 0 where
+  declined-opening : ℕ → Opening
+  accepted-opening : State → Opening
+
+abbrev pub openingBy : ℤ → Option Cause → Opening
+openingBy c none = accepted-opening (opened c)
+openingBy c (some k) = declined-opening (causeNumber k)
+
+abbrev pub opening : (words start : ℕ) → ℤ → Opening
+opening words start c = openingBy c (declined (openTrials words start c))
 
 -- What an accepted call does.
 abbrev pub accepted : State → Call → Outcome
@@ -134,7 +151,7 @@ accepted s (withdraw n) =
 accepted s (query q) = record { state = s; answer = answerOf (s .offers) }
   where
     answerOf : List Offer → Answer
-    answerOf [] = refused (causeNumber bookEmpty)
+    answerOf [] = refused (causeNumber bookEmpty)  -- idle: an empty book declines the query
     answerOf (o ∷ os) = let best = cheapest q o os in found (best .number) (priceAt best q)
 accepted s (listing room) =
     let es = envelope (s .offers) in
@@ -146,7 +163,7 @@ respond s k (some c) = record { state = s; answer = refused (causeNumber c) }
 
 -- One call.
 abbrev pub step : State → Call → Outcome
-step s k = respond s k (declined (callChecks s k))
+step s k = respond s k (declined (trials s k))
 
 -- A list of calls: the state after it.
 abbrev pub after : State → List Call → State

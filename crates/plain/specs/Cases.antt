@@ -3,7 +3,7 @@ use Prim.Native.Nat.{ℕ}
 use mathlib.Core.Path.{_≡_, refl}
 use mathlib.Core.List.{List, [], _∷_, _++_, map}
 use lib.IntN.{ℤ, pos, negℤ}
-use Rattle.plain.specs.Book.{State, Call, post, withdraw, query, listing, Answer, live, found, listed, opened, after, answers}
+use Rattle.plain.specs.Book.{State, Call, post, withdraw, query, listing, Answer, refused, live, found, listed, Opening, declined-opening, accepted-opening, opened, opening, after, answers}
 
 -- Calls that make a book, and the answers of the calls asked of it then.
 pub record Row : Type 0 where
@@ -56,3 +56,70 @@ between-loads = row (falling ++ (post (pos 3) (negℤ (pos 6)) (pos 15) ∷ []))
 
 pub listed-between-loads : answered between-loads ≡ between-loads .told
 listed-between-loads = refl
+
+-- ---- the counter program's sample, and one refusal of each number that a call of the book can meet
+
+-- the sample's six lines in a row: every call sees what those before it left
+abbrev pub sample : Row
+sample =
+    record {
+      made = [];
+      asked = post (pos 1) (pos 3) (pos 0) ∷ post (pos 2) (pos 1) (pos 10) ∷ query (pos 5) ∷ listing 192 ∷ withdraw (pos 1) ∷ query (pos 5) ∷ [];
+      told = live 1 ∷ live 2 ∷ found (pos 1) (pos 15) ∷ listed 2 (pos 1 ∷ pos 10 ∷ pos 2 ∷ pos 2 ∷ pos 0 ∷ pos 0 ∷ []) ∷ live 1 ∷ found (pos 2) (pos 15) ∷ [];
+    }
+
+pub sample-told : answered sample ≡ sample .told
+sample-told = refl
+
+-- where two causes apply, the lower number counts; a refused call leaves the book as it was
+abbrev pub refusals : Row
+refusals =
+    record {
+      made = three;
+      asked =
+          post (pos 0) (pos 3) (pos 0)
+          ∷ post (pos 10_000) (pos 100_001) (pos 0)
+          ∷ post (pos 4) (pos 100_001) (pos 0)
+          ∷ post (pos 4) (pos 5) (negℤ (pos 1_000_000_001))
+          ∷ withdraw (pos 10_000)
+          ∷ query (pos 1_000_001)
+          ∷ post (pos 1) (pos 3) (pos 7)
+          ∷ post (pos 4) (pos 3) (pos 7)
+          ∷ withdraw (pos 4)
+          ∷ listing 8
+          ∷ withdraw (pos 2)
+          ∷ withdraw (pos 2)
+          ∷ listing 6
+          ∷ [];
+      told =
+          refused 4
+          ∷ refused 4
+          ∷ refused 4
+          ∷ refused 4
+          ∷ refused 4
+          ∷ refused 4
+          ∷ refused 5
+          ∷ refused 6
+          ∷ refused 8
+          ∷ refused 10
+          ∷ live 2
+          ∷ refused 8
+          ∷ listed 2 (pos 1 ∷ pos 40 ∷ pos 3 ∷ pos 3 ∷ pos 0 ∷ pos 0 ∷ [])
+          ∷ [];
+    }
+
+pub refusals-told : answered refusals ≡ refusals .told
+refusals-told = refl
+
+-- a book of one slot: full, then empty; nothing listed takes no room
+pub one-slot : answers (opened (pos 1)) (query (pos 0) ∷ listing 0 ∷ post (pos 9) (pos 1) (pos 2) ∷ post (pos 9) (pos 1) (pos 2) ∷ post (pos 8) (pos 2) (pos 2) ∷ withdraw (pos 9) ∷ query (pos 0) ∷ []) ≡ refused 9 ∷ listed 0 [] ∷ live 1 ∷ refused 5 ∷ refused 7 ∷ live 0 ∷ refused 9 ∷ []
+one-slot = refl
+
+-- four pieces, and an opening of each kind
+pub four-pieces :
+    answers (opened (pos 4)) (post (pos 1) (pos 3) (pos 0) ∷ post (pos 2) (pos 2) (pos 1) ∷ post (pos 3) (pos 1) (pos 3) ∷ post (pos 4) (pos 0) (pos 6) ∷ listing 12 ∷ []) ≡
+    live 1 ∷ live 2 ∷ live 3 ∷ live 4 ∷ listed 4 (pos 1 ∷ pos 1 ∷ pos 1 ∷ pos 2 ∷ pos 2 ∷ pos 1 ∷ pos 3 ∷ pos 3 ∷ pos 1 ∷ pos 4 ∷ pos 0 ∷ pos 0 ∷ []) ∷ []
+four-pieces = refl
+
+pub openings : opening 128 0 (pos 0) ∷ opening 128 1 (pos 4_097) ∷ opening 128 1 (pos 1) ∷ opening 127 0 (pos 1) ∷ opening 10 11 (pos 1) ∷ opening 128 0 (pos 1) ∷ [] ≡ declined-opening 1 ∷ declined-opening 1 ∷ declined-opening 2 ∷ declined-opening 2 ∷ declined-opening 2 ∷ accepted-opening (opened (pos 1)) ∷ []
+openings = refl

@@ -1,5 +1,5 @@
--- When a call is declined (document 01's table). A call has a list of checks, tried in order; the first that fails decides.
--- A later request renumbers a cause in `causeNumber`, or puts a check into one call's list; nothing else changes.
+-- When a call is declined (document 01's table). A call has a list of trials, in the order in which they are made; the first that applies decides.
+-- A later request renumbers a cause in `causeNumber`, or puts a trial into one call's list, and leaves the other calls alone.
 use Prim.Native.Nat.{ℕ}
 use mathlib.Core.List.{List, [], _∷_}
 use mathlib.Core.Option.{Option, none, some}
@@ -46,16 +46,16 @@ causeNumber unreadableLine = 11
 causeNumber ratesNotApart = 12
 causeNumber noSuchMark = 13
 
--- A check: the cause, and whether it applies.
-pub record Check : Type 0 where
+-- A cause, and whether it applies.
+pub record Trial : Type 0 where
   pub cause : Cause
   pub applies : Bool
 
 infix 80 _when_
-abbrev pub _when_ : Cause → Bool → Check
+abbrev pub _when_ : Cause → Bool → Trial
 c when b = record { cause = c; applies = b }
 
 -- The first cause that applies, if one does.
-abbrev pub declined : List Check → Option Cause
+abbrev pub declined : List Trial → Option Cause
 declined [] = none
 declined (k ∷ ks) = cond (k .applies) (some (k .cause)) (declined ks)

@@ -4,5 +4,6 @@ pub mod Book
 pub mod Cases
 pub mod Sound
 pub mod Members
+pub mod Rules
 pub mod QueryLaws
 pub mod ListingLaws

@@ -12,7 +12,7 @@ use lib.Signed.{leZ, ltZ}
 use Rattle.integers.specs.Parts.{intRules}
 use Rattle.offers.specs.Offers.{Offer, priceAt, precedes}
 use Rattle.plain.specs.Causes.{Cause, declined}
-use Rattle.plain.specs.Book.{State, Call, query, Answer, refused, found, cheapest, respond, callChecks, step}
+use Rattle.plain.specs.Book.{State, Call, query, Answer, refused, found, cheapest, respond, trials, step}
 use Rattle.plain.specs.Sound.{Sound}
 
 -- The offer that a query names.
@@ -85,7 +85,7 @@ cheapest-names q o (x ∷ xs) p = go (ltZ (priceAt x q) (priceAt o q)) (λ t. t)
 
 -- What an answered query tells.
 pub query-names : (s : State) (q n price : ℤ) → Sound s → step s (query q) .answer ≡ found n price → (o : Offer) × Names q (s .offers) o × (n ≡ o .number) × (price ≡ priceAt o q)
-query-names s q n price h e = go (declined (callChecks s (query q))) (s .offers) (h .ordered) e
+query-names s q n price h e = go (declined (trials s (query q))) (s .offers) (h .ordered) e
   where
     go : (d : Option Cause) (os : List Offer) → Pairwise (λ a b. T (precedes a b)) os → respond (record { capacity = s .capacity; offers = os }) (query q) d .answer ≡ found n price → (o : Offer) × Names q os o × (n ≡ o .number) × (price ≡ priceAt o q)
     go (some c) os p a = let z : _≡_ {A = ℕ} 0 1 = cc in absurd (omega arith)

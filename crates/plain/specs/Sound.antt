@@ -10,18 +10,20 @@ use Prim.Native.Nat.{ℕ, suc, _≤_}
 use native.Mathlib.Omega.{arith}
 use lib.ListN.{length}
 use lib.Dec.{T, T-prop, T-not, leb, nleb→lt}
-use lib.IntN.{ℤ}
+use lib.IntN.{ℤ, pos, negsuc}
 use lib.Signed.{leZ, ltZ}
 use Rattle.lists.specs.Filter.{both, one-of-both, other-of-both, keep-sublist}
 use Rattle.lists.specs.Members.{sub-length, pairs-cons}
 use Rattle.lists.specs.Places.{sublist-mem}
 use Rattle.lists.specs.Tests.{any, not-not, none-at}
-use Rattle.integers.specs.Parts.{intRules, le-or-lt}
-use Rattle.offers.specs.Offers.{Offer, numberInRange, rateInRange, baseInRange, offerInRange, precedes}
-use Rattle.plain.specs.Causes.{Cause, Check, declined, causeNumber}
-use Rattle.plain.specs.Book.{State, Call, post, withdraw, query, listing, Answer, refused, live, found, listed, Outcome, equal, hasNumber, hasRate, join, leave, rangeChecks, bookChecks, callChecks, opened, accepted, respond, step, after}
+use Rattle.integers.specs.Parts.{intRules, le-or-lt, range-parts}
+use Rattle.offers.specs.Offers.{Offer, between, numberInRange, rateInRange, baseInRange, offerInRange, precedes}
+use Rattle.plain.specs.Causes.{Cause, Trial, declined, causeNumber}
+use Rattle.plain.specs.Book.{State, Call, post, withdraw, query, listing, Answer, refused, live, found, listed, Outcome, equal, hasNumber, hasRate, join, leave, rangeTrials, bookTrials, trials, Opening, accepted-opening, opened, openingBy, opening, openTrials, accepted, respond, step, after}
 
 pub record Sound (s : State) : Type 0 where
+  pub capacity-low : 1 ≤ s .capacity
+  pub capacity-high : s .capacity ≤ 4_096
   pub ordered : Pairwise (λ a b. T (precedes a b)) (s .offers)
   pub numbered : Pairwise (λ a b. a .number ≢ b .number) (s .offers)
   pub ranged : (o : Offer) → List·Memᴰ o (s .offers) → T (offerInRange o)
@@ -29,11 +31,11 @@ pub record Sound (s : State) : Type 0 where
 
 -- ---- a call that no check declines
 
-abbrev pub Clear : List Check → Type 0
+abbrev pub Clear : List Trial → Type 0
 Clear [] = Unit {0}
 Clear (k ∷ ks) = T (not (k .applies)) × Clear ks
 
-pub clear : (ks : List Check) → declined ks ≡ none → Clear ks
+pub clear : (ks : List Trial) → declined ks ≡ none → Clear ks
 clear [] e = tt
 clear (k ∷ ks) e = go (k .applies) e (clear ks)
   where
@@ -52,7 +54,7 @@ mem-join o {x} (p ∷ ps) m = go (precedes o p) m (mem-join o ps)
     go false (List·Memᴰ·head e) rec = inr (List·Memᴰ·head e)
     go false (List·Memᴰ·tail n) rec = ⊎-elim inl (λ k. inr (List·Memᴰ·tail k)) (rec n)
 
-length-join : (o : Offer) (os : List Offer) → length (join o os) ≡ suc (length os)
+pub length-join : (o : Offer) (os : List Offer) → length (join o os) ≡ suc (length os)
 length-join o [] = refl
 length-join o (p ∷ ps) = go (precedes o p) (length-join o ps)
   where
@@ -96,9 +98,11 @@ other-rate a b ne t = ⊎-elim (λ h. absurd (unequal (a .rate) (b .rate) ne (om
 
 -- ---- the calls
 
-post-sound : (s : State) (n r b : ℤ) → Sound s → Clear (callChecks s (post n r b)) → Sound (accepted s (post n r b) .state)
+post-sound : (s : State) (n r b : ℤ) → Sound s → Clear (trials s (post n r b)) → Sound (accepted s (post n r b) .state)
 post-sound s n r b h (cn, (cr, (cb, (live-n, (live-r, (full, _)))))) =
     record {
+      capacity-low = h .capacity-low;
+      capacity-high = h .capacity-high;
       ordered = join-pairs (λ x y. T-prop (precedes x y)) o os (h .ordered) (h .ordered) (λ q m t. t) (λ q m t. other-rate q o (none-at (hasRate r) os live-r q m) t);
       numbered = join-pairs (λ x y. ¬-prop) o os (h .ordered) (h .numbered) (λ q m t e. unequal (q .number) n (none-at (hasNumber n) os live-n q m) (sym e)) (λ q m t. unequal (q .number) n (none-at (hasNumber n) os live-n q m));
       ranged = λ x m. ⊎-elim (λ e. subst (λ (y : Offer). T (offerInRange y)) (sym e) inRange) (h .ranged x) (mem-join o os m);
@@ -117,6 +121,8 @@ post-sound s n r b h (cn, (cr, (cb, (live-n, (live-r, (full, _)))))) =
 withdraw-sound : (s : State) (n : ℤ) → Sound s → Sound (accepted s (withdraw n) .state)
 withdraw-sound s n h =
     record {
+      capacity-low = h .capacity-low;
+      capacity-high = h .capacity-high;
       ordered = Pairwise·sublistᴰ stay (h .ordered);
       numbered = Pairwise·sublistᴰ stay (h .numbered);
       ranged = λ o m. h .ranged o (sublist-mem stay m);
@@ -126,20 +132,35 @@ withdraw-sound s n h =
     stay : Sublistᴰ (leave n (s .offers)) (s .offers)
     stay = keep-sublist (λ o. not (hasNumber n o)) (s .offers)
 
-accepted-sound : (s : State) (k : Call) → Sound s → Clear (callChecks s k) → Sound (accepted s k .state)
+accepted-sound : (s : State) (k : Call) → Sound s → Clear (trials s k) → Sound (accepted s k .state)
 accepted-sound s (post n r b) h c = post-sound s n r b h c
 accepted-sound s (withdraw n) h c = withdraw-sound s n h
 accepted-sound s (query q) h c = h
 accepted-sound s (listing room) h c = h
 
-pub opened-sound : (c : ℤ) → Sound (opened c)
-opened-sound c = record { ordered = Pairwise·nil; numbered = Pairwise·nil; ranged = λ o m. elim m [ ]; fits = omega arith }
+pub opened-sound : (words start : ℕ) (c : ℤ) (s : State) → opening words start c ≡ accepted-opening s → Sound s
+opened-sound words start c s e = go (declined (openTrials words start c)) refl e
+  where
+    fresh : (c : ℤ) → T (between (pos 1) (pos 4_096) c) → Sound (opened c)
+    fresh (pos n) t =
+        let (l, h) = range-parts (pos 1) (pos n) (pos 4_096) t in
+        record { capacity-low = omega arith; capacity-high = omega arith; ordered = Pairwise·nil; numbered = Pairwise·nil; ranged = λ o m. elim m [ ]; fits = omega arith }
+    fresh (negsuc n) t = absurd t
+
+    go : (d : Option Cause) → declined (openTrials words start c) ≡ d → openingBy c d ≡ accepted-opening s → Sound s
+    go none d a =
+        let (range, rest) = clear (openTrials words start c) d in
+        subst Sound (opening-is a) (fresh c (not-not (between (pos 1) (pos 4_096) c) range))
+      where
+        opening-is : accepted-opening (opened c) ≡ accepted-opening s → opened c ≡ s
+        opening-is p = cc
+    go (some k) d a = let z : _≡_ {A = ℕ} 0 1 = cc in absurd (omega arith)
 
 pub step-sound : (s : State) (k : Call) → Sound s → Sound (step s k .state)
-step-sound s k h = go (declined (callChecks s k)) refl
+step-sound s k h = go (declined (trials s k)) refl
   where
-    go : (d : Option Cause) → declined (callChecks s k) ≡ d → Sound (respond s k d .state)
-    go none e = accepted-sound s k h (clear (callChecks s k) e)
+    go : (d : Option Cause) → declined (trials s k) ≡ d → Sound (respond s k d .state)
+    go none e = accepted-sound s k h (clear (trials s k) e)
     go (some c) e = h
 
 -- The state after any list of calls.
@@ -149,7 +170,7 @@ after-sound s (k ∷ ks) h = after-sound (step s k .state) ks (step-sound s k h)
 
 -- A refused call changes nothing.
 pub refused-keeps : (s : State) (k : Call) (n : ℕ) → step s k .answer ≡ refused n → step s k .state ≡ s
-refused-keeps s k n e = go (declined (callChecks s k)) k e
+refused-keeps s k n e = go (declined (trials s k)) k e
   where
     go : (d : Option Cause) (k : Call) → respond s k d .answer ≡ refused n → respond s k d .state ≡ s
     go (some c) k e = refl

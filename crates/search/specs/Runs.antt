@@ -140,7 +140,7 @@ started x y =
     }
 
 begun : {wl wr : Words} {x y : ℕ} {tl tr : Tree Item} → Faced wl wr x y tl tr → Underway wl wr tl tr (started x y) 0
-unfolding meet start
+unfolding meet
 begun {wl} {wr} {x} {y} {tl} {tr} F =
     let a : ℕ → Item = lineFrom left tl (first tl) in
     let c : ℕ → Item = lineFrom right tr (first tl) in

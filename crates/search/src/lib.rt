@@ -49,13 +49,13 @@ fn bounded(low: i64, high: i64, value: i64) -> i64
     value
 }
 
-fn rate(part: &[i64], slot: u32) -> i64
+pub fn rate(part: &[i64], slot: u32) -> i64
     ensures { λ r. ⌜ r ≡ rateAt (now (part .entry)) slot ⌝ }
 {
     bounded(-100_000, 100_000, table::get(part, 1, slot))
 }
 
-fn base(part: &[i64], slot: u32) -> i64
+pub fn base(part: &[i64], slot: u32) -> i64
     ensures { λ r. ⌜ r ≡ baseAt (now (part .entry)) slot ⌝ }
 {
     bounded(-1_000_000_000, 1_000_000_000, table::get(part, 2, slot))

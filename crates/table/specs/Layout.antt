@@ -218,3 +218,21 @@ cset-other w f s z {f′} {s′} d = go (valid? w f s)
 
 pub link-of : {f f′ s s′ r : ℕ} (w : Words) → f ≡ f′ → s ≡ s′ → r ≡ linkAt w f s → r ≡ linkAt w f′ s′
 link-of w d e h = rw (← d, ← e) h
+
+pub link-most : (w : Words) (f s : ℕ) → linkAt w f s ≤ 8192
+link-most w f s = upTo-most 8192 (cell w f s)
+
+-- ---- a write to the header, but for the capacity
+
+module _ (w : Words) (i : ℕ) (z : ℤ) (low : 1 ≤ i) (high : i < 64) where
+  pub header-cap : cap (wset w i z) ≡ cap w
+  header-cap = cap-of w (wset w i z) (wset-length w i z) (wset-other w i 0 z (λ e. omega (arith, e, low)))
+
+  -- no field is there
+  pub header-cell : (f s : ℕ) → cell (wset w i z) f s ≡ cell w f s
+  unfolding cell
+  header-cell f s = ap (word (wset w i z)) (spot-of w (wset w i z) f s (wset-length w i z) header-cap) ∙ go (valid? w f s)
+    where
+      go : Dec (Valid w f s) → word (wset w i z) (spot w f s) ≡ word w (spot w f s)
+      go (yes v) = wset-other w i (spot w f s) z (λ e. omega (arith, e, spot-in v, place-low (cap w) f s, high))
+      go (no v) = word-out (wset w i z) _ (omega (arith, wset-length w i z, spot-out v)) ∙ sym (word-out w _ (omega (arith, spot-out v)))

@@ -5,3 +5,5 @@ pub mod Items
 pub mod Rep
 pub mod Nodes
 pub mod Threads
+pub mod Parts
+pub mod Keys

@@ -38,8 +38,30 @@ rep-height {w} {k} {x} {t = node l r} h = ap (linkAt w (heightField k)) (omega (
     stored : Tied w k (node l r) → linkAt w (heightField k) (last l .slot) ≡ suc (max (height l) (height r))
     stored (tied-node tl tr el er eh) = eh
 
--- ---- an inner node, seen from a side
+-- ---- an inner node
 
+pub record Parents (w : Words) (k x : ℕ) (l r : Tree Item) : Type 0 where
+  pub left-at : childAt w k false x ≡ refOf l
+  pub right-at : childAt w k true x ≡ refOf r
+  pub seam-at : x - 4096 ≡ last l .slot
+  pub tied-left : Tied w k l
+  pub tied-right : Tied w k r
+
+pub parents : {w : Words} {k x : ℕ} {l r : Tree Item} → Rep w k x (node l r) → Parents w k x l r
+parents {w} {k} {x} {l} {r} h = go (h .tied)
+  where
+    here : x - 4096 ≡ last l .slot
+    here = omega (arith, h .root)
+
+    go : Tied w k (node l r) → Parents w k x l r
+    go (tied-node tl tr el er eh) =
+        record { left-at = ap (linkAt w (childField k false)) here ∙ el; right-at = ap (linkAt w (childField k true)) here ∙ er; seam-at = here; tied-left = tl; tied-right = tr }
+
+-- a leaf has no such number
+pub leaf-low : {w : Words} {k x : ℕ} {a : Item} → Rep w k x (leaf a) → x ≤ 4096
+leaf-low {w} h = omega (arith, h .root, h .slots .high (List·Memᴰ·head refl), cap-most w)
+
+-- the same, seen from a side
 pub record Opened (w : Words) (k : ℕ) (side : Bool) (x : ℕ) (t : Tree Item) : Type 0 where
   pub one : Tree Item
   pub other : Tree Item
@@ -51,15 +73,14 @@ pub record Opened (w : Words) (k : ℕ) (side : Bool) (x : ℕ) (t : Tree Item) 
   pub tied-other : Tied w k other
 
 pub opened : {w : Words} {k x : ℕ} {t : Tree Item} (side : Bool) → Rep w k x t → 4096 < x → Opened w k side x t
-opened {w} {t = leaf a} side h d = absurd (omega (arith, h .root, h .slots .high (List·Memᴰ·head refl), cap-most w))
-opened {w} {k} {x} {t = node l r} side h d = go side (h .tied)
+opened {t = leaf a} side h d = absurd (omega (arith, leaf-low h))
+opened {w} {k} {x} {t = node l r} side h d = go side (parents h)
   where
-    here : x - 4096 ≡ last l .slot
-    here = omega (arith, h .root)
-
-    go : (side : Bool) → Tied w k (node l r) → Opened w k side x (node l r)
-    go false (tied-node tl tr el er eh) = record { one = l; other = r; shape = refl; one-at = ap (linkAt w _) here ∙ el; other-at = ap (linkAt w _) here ∙ er; seam-at = here; tied-one = tl; tied-other = tr }
-    go true (tied-node tl tr el er eh) = record { one = r; other = l; shape = refl; one-at = ap (linkAt w _) here ∙ er; other-at = ap (linkAt w _) here ∙ el; seam-at = here; tied-one = tr; tied-other = tl }
+    go : (side : Bool) → Parents w k x l r → Opened w k side x (node l r)
+    go false p =
+        record { one = l; other = r; shape = refl; one-at = p .left-at; other-at = p .right-at; seam-at = p .seam-at; tied-one = p .tied-left; tied-other = p .tied-right }
+    go true p =
+        record { one = r; other = l; shape = refl; one-at = p .right-at; other-at = p .left-at; seam-at = p .seam-at; tied-one = p .tied-right; tied-other = p .tied-left }
 
 -- ---- two trees side by side
 
@@ -140,7 +161,7 @@ child-field {k} false h = omega arith
 child-field {k} true h = omega arith
 
 module _ (w : Words) (k : ℕ) (side : Bool) (gap p q h : ℕ) where
-  wired-within : Within w (wired w k side gap p q h)
+  pub wired-within : Within w (wired w k side gap p q h)
   wired-within = within-trans (within-cset w _ gap (pos p)) (within-trans (within-cset _ _ gap (pos q)) (within-cset _ _ gap (pos h)))
 
   -- the node's slot is the only one written

@@ -12,7 +12,7 @@ use lib.IntN.{ℤ, pos}
 use Rattle.trees.specs.Tree.{Tree, leaf, node, height, leaves, last}
 use Rattle.trees.specs.Leaves.{last-leaf}
 use Rattle.table.specs.Words.{Words, word, word-out, upTo, upTo-in}
-use Rattle.table.specs.Layout.{cap, cap-of, cap-most, place, cell, cset, linkAt, spot-out, valid-of, Valid, Outside, header-outside, cset-length, cset-rest, cset-other}
+use Rattle.table.specs.Layout.{cap, cap-of, cap-most, place, cell, cset, linkAt, link-most, spot-out, valid-of, Valid, Outside, header-outside, cset-length, cset-rest, cset-other}
 use Rattle.table.specs.Items.{Item, In, at, in-left, in-right, Slots, slots-left, slots-right, slots-across}
 
 -- ---- nodes
@@ -38,6 +38,12 @@ childAt w k side x = linkAt w (childField k side) (x - 4096)
 
 abbrev pub heightAt : Words → ℕ → ℕ → ℕ
 heightAt w k x = linkAt w (heightField k) (x - 4096)
+
+pub height-at-most : (w : Words) (k x : ℕ) → heightAt w k x ≤ 8192
+height-at-most w k x = link-most w (heightField k) (x - 4096)
+
+pub height-read : (w : Words) (k x : ℕ) {h : ℕ} → h ≡ heightAt w k x → h ≤ 8192
+height-read w k x e = omega (arith, e, height-at-most w k x)
 
 -- ---- trees by node numbers
 

@@ -1,7 +1,9 @@
 // The words of a book's part, by total accessors: whatever the words are, a read gives a value and a write stays inside the part.
 ghost use mathlib.Core.Path.{_≡_};
+ghost use mathlib.Core.Bool.{_&&_};
 ghost use Prim.Native.Nat.{_-_};
 ghost use lib.IntN.{pos};
+ghost use lib.Signed.{leZ, ltZ};
 ghost use Rattle.table.specs.Words.{word, wset, upTo};
 ghost use Rattle.table.specs.Layout.{cap, spot, cell, cset, linkAt};
 ghost use Rattle.table.specs.Rep.{childField, heightField, childAt, heightAt};
@@ -141,4 +143,42 @@ pub fn height(part: &[i64], tree: u8, x: u32) -> u32
     ensures { λ r. ⌜ r ≡ heightAt (now (part .entry)) tree x ⌝ }
 {
     link(part, height_field(tree), inner_slot(x))
+}
+
+// A slot's field is `key` or above.
+pub fn at_least(part: &[i64], field: usize, slot: u32, key: i64) -> bool
+    ensures { λ r. ⌜ r ≡ leZ key (cell (now (part .entry)) field slot) ⌝ }
+{
+    key <= get(part, field, slot)
+}
+
+// A slot's field is `key` or below.
+pub fn at_most(part: &[i64], field: usize, slot: u32, key: i64) -> bool
+    ensures { λ r. ⌜ r ≡ leZ (cell (now (part .entry)) field slot) key ⌝ }
+{
+    get(part, field, slot) <= key
+}
+
+// A slot's field is above `key`.
+pub fn is_above(part: &[i64], field: usize, slot: u32, key: i64) -> bool
+    ensures { λ r. ⌜ r ≡ ltZ key (cell (now (part .entry)) field slot) ⌝ }
+{
+    key < get(part, field, slot)
+}
+
+// A slot's field is `key`.
+pub fn is_equal(part: &[i64], field: usize, slot: u32, key: i64) -> bool
+    ensures { λ r. ⌜ r ≡ leZ (cell (now (part .entry)) field slot) key && leZ key (cell (now (part .entry)) field slot) ⌝ }
+{
+    if at_most(part, field, slot, key) {
+        return at_least(part, field, slot, key);
+    }
+    false
+}
+
+// Puts a number into word `at`, and does nothing past the end.
+pub fn set_number(part: &mut [i64], at: usize, value: u32)
+    ensures { λ _. ⌜ now (part .exit) ≡ wset (now (part .entry)) at (pos value) ⌝ }
+{
+    set_word(part, at, value as i64);
 }

@@ -1,0 +1,3 @@
+-- The book in a lent table.
+pub mod Local
+pub mod Promises

@@ -1,0 +1,146 @@
+-- What each call on a lent table promises. `t` are the table's words before the call and `t′` those after it.
+-- On words of any content causes 1 to 4 hold as tabled, and no word outside the part changes. Where the part passes the check
+-- (`Book`), the answer is the plain book's, and the part stands for the plain book's offers afterwards.
+use mathlib.Core.Path.{_≡_}
+use mathlib.Core.Bool.{Bool, true}
+use mathlib.Core.Logic.{_↔_}
+use mathlib.Core.List.{List, [], _∷_, _++_, List·Memᴰ}
+use mathlib.Core.Option.{Option, none, some}
+use Prim.Native.Nat.{ℕ, zero, suc, _+_, _*_, _≤_, max}
+use lib.ListN.{length, take, drop}
+use lib.IntN.{ℤ, pos, natAbs}
+use Rattle.plain.specs.Causes.{Cause, noBook, Trial, _when_, causeNumber}
+use Rattle.plain.specs.Book.{State, Call, post, withdraw, query, listing, Answer, refused, live, found, listed, opened, openTrials, rangeTrials, noBookAt, partLength, step}
+use Rattle.plain.specs.Rules.{FirstOf}
+use Rattle.plain.specs.Sound.{Clear}
+use Rattle.trees.specs.Tree.{Tree, leaf, node}
+use Rattle.trees.specs.Operations.{Part}
+use Rattle.dynamic.specs.OfferTree.{Held, Pair}
+use Rattle.dynamic.specs.Work.{Work, stepsOf, heightsOf}
+use Rattle.table.specs.Words.{Words, word}
+use Rattle.table.specs.Items.{Item}
+use Rattle.pieces.specs.Pieces.{items}
+use Rattle.update.specs.Form.{Book, plainOffers}
+use Rattle.book.specs.declared.Opening.{Opening}
+use Rattle.book.specs.declared.Opening.the-variants.{Opened, Declined as OpeningDeclined}
+use Rattle.book.specs.declared.Update.{Update}
+use Rattle.book.specs.declared.Update.the-variants.{Done, Declined as UpdateDeclined}
+use Rattle.book.specs.declared.Found.{Found}
+use Rattle.book.specs.declared.Found.the-variants.{Offer, Declined as FoundDeclined}
+use Rattle.book.specs.declared.Listing.{Listing}
+use Rattle.book.specs.declared.Listing.the-variants.{Pieces, Declined as ListingDeclined}
+
+-- ---- the part of a table
+
+abbrev pub partOf : List ℤ → ℕ → Words
+partOf t start = drop start t
+
+-- the first word there, as a capacity
+abbrev pub capacityAt : List ℤ → ℕ → ℕ
+capacityAt t start = natAbs (word (partOf t start) 0)
+
+-- no word outside the part of capacity c has changed
+pub record OnlyPart (c start : ℕ) (t t′ : List ℤ) : Type 0 where
+  pub long : length t′ ≡ length t
+  pub front : take start t′ ≡ take start t
+  pub back : drop (start + partLength c) t′ ≡ drop (start + partLength c) t
+
+-- the plain book that a part stands for
+abbrev pub plainOf : ℕ → Option (Held Item) → State
+plainOf c held = record { capacity = c; offers = plainOffers held }
+
+-- ---- the trials of a call on words of any content
+
+abbrev pub tableTrials : List ℤ → ℕ → Call → List Trial
+tableTrials t start k = noBook when noBookAt (length t) start (word (partOf t start) 0) ∷ rangeTrials k
+
+-- ---- answers in document 01's numbers and values
+
+abbrev pub updateAnswer : Update → Answer
+updateAnswer (Done n k s h) = live (natAbs n)
+updateAnswer (UpdateDeclined c) = refused (natAbs c)
+
+abbrev pub foundAnswer : Found → Answer
+foundAnswer (Offer number price probes) = found number price
+foundAnswer (FoundDeclined c) = refused (natAbs c)
+
+-- with the words that the output then begins with
+abbrev pub listingAnswer : Listing → List ℤ → Answer
+listingAnswer (Pieces m) out = listed (natAbs m) (take (3 * natAbs m) out)
+listingAnswer (ListingDeclined c) out = refused (natAbs c)
+
+-- ---- open
+
+pub record Opens (c : ℤ) (start : ℕ) (t t′ : List ℤ) (r : Opening) : Type 0 where
+  pub declined : (k : Cause) → FirstOf (openTrials (length t) start c) k → (r ≡ OpeningDeclined (pos (causeNumber k))) × (t′ ≡ t)
+  pub accepted : Clear (openTrials (length t) start c) → (r ≡ Opened) × Book (partOf t′ start) (natAbs c) none × OnlyPart (natAbs c) start t t′
+
+-- ---- post and withdraw
+
+-- k, s and H are those of the log; a declined call has none
+abbrev pub Counts : Update → List (Pair Item) → Type 0
+Counts (Done n k s h) log = (k ≡ pos (length log)) × (s ≡ pos (stepsOf items log)) × (h ≡ pos (heightsOf log))
+Counts (UpdateDeclined c) log = log ≡ []
+
+-- on a part that stands for a plain book
+pub record Follows (k : Call) (c : ℕ) (held : Option (Held Item)) (start : ℕ) (t t′ : List ℤ) (r : Update) : Type 0 where
+  pub after : Option (Held Item)
+  pub log : List (Pair Item)
+  pub answers : updateAnswer r ≡ step (plainOf c held) k .answer
+  pub stands : Book (partOf t′ start) c after
+  pub offers : plainOffers after ≡ step (plainOf c held) k .state .offers
+  pub refusal : (n : ℕ) → updateAnswer r ≡ refused n → t′ ≡ t
+  pub work : Work items held after log
+  pub counts : Counts r log
+
+pub record Updates (k : Call) (start : ℕ) (t t′ : List ℤ) (r : Update) : Type 0 where
+  pub declined : (z : Cause) → FirstOf (tableTrials t start k) z → (r ≡ UpdateDeclined (pos (causeNumber z))) × (t′ ≡ t)
+  pub outside : OnlyPart (capacityAt t start) start t t′
+  pub follows : (c : ℕ) (held : Option (Held Item)) → Book (partOf t start) c held → Follows k c held start t t′ r
+
+-- ---- query
+
+-- the item stands at a leaf at that depth
+pub data LeafAt (a : Item) : ℕ → Tree Item → Type 0 where
+  here : LeafAt a zero (leaf a)
+  in-left : {d : ℕ} {l r : Tree Item} → LeafAt a d l → LeafAt a (suc d) (node l r)
+  in-right : {d : ℕ} {l r : Tree Item} → LeafAt a d r → LeafAt a (suc d) (node l r)
+
+-- the root's piece tree has a leaf at the depth of the probes, with the offer named
+abbrev pub ProbesIn : Option (Held Item) → ℤ → ℤ → Type 0
+ProbesIn none number probes = ⊥
+ProbesIn (some h) number probes = elim (h .whole) [ none ↦ ⊥ | some t ↦ (a : Item) × LeafAt a (natAbs probes) t × (a .offer .number ≡ number) × (probes ≡ pos (natAbs probes)) ]
+
+abbrev pub Probes : Option (Held Item) → Found → Type 0
+Probes held (Offer number price probes) = ProbesIn held number probes
+Probes held (FoundDeclined c) = Unit {0}
+
+pub record Queries (q : ℤ) (start : ℕ) (t : List ℤ) (r : Found) : Type 0 where
+  pub declined : (z : Cause) → FirstOf (tableTrials t start (query q)) z → r ≡ FoundDeclined (pos (causeNumber z))
+  pub answers : (c : ℕ) (held : Option (Held Item)) → Book (partOf t start) c held → foundAnswer r ≡ step (plainOf c held) (query q) .answer
+  pub probes : (c : ℕ) (held : Option (Held Item)) → Book (partOf t start) c held → Probes held r
+
+-- ---- listing, into an output lent with it
+
+abbrev pub writtenWords : Answer → ℕ
+writtenWords (refused n) = 0
+writtenWords (live n) = 0
+writtenWords (found n p) = 0
+writtenWords (listed m ws) = length ws
+
+pub record Lists (start : ℕ) (t out out′ : List ℤ) (r : Listing) : Type 0 where
+  pub declined : (z : Cause) → FirstOf (tableTrials t start (listing (length out))) z → (r ≡ ListingDeclined (pos (causeNumber z))) × (out′ ≡ out)
+  pub long : length out′ ≡ length out
+  pub answers : (c : ℕ) (held : Option (Held Item)) → Book (partOf t start) c held → listingAnswer r out′ ≡ step (plainOf c held) (listing (length out)) .answer
+  -- later output words keep their contents; of a refused listing all of them
+  pub later : (c : ℕ) (held : Option (Held Item)) → Book (partOf t start) c held → drop (writtenWords (listingAnswer r out′)) out′ ≡ drop (writtenWords (listingAnswer r out′)) out
+
+-- ---- check
+
+-- the part has the form, with every envelope the lower envelope of the offers below
+abbrev pub Passes : ℕ → List ℤ → Type 0
+Passes start t = (c : ℕ) × (held : Option (Held Item)) × Book (partOf t start) c held
+
+pub record Checks (start : ℕ) (t : List ℤ) (yes-it-does : Bool) : Type 0 where
+  pub sound : yes-it-does ≡ true → Passes start t
+  pub complete : Passes start t → yes-it-does ≡ true

@@ -1,0 +1,164 @@
+-- What `parse` answers: the command of the call whose line it was given, and `Unreadable` where it was given no call's.
+use Prim.Native.Nat.{ℕ, _≤_, _<_}
+use mathlib.Core.Path.{_≡_, refl, ap, sym, _∙_}
+use mathlib.Core.Logic.{_≢_, _↔_}
+use mathlib.Core.Bool.{Bool, true, false, cond}
+use mathlib.Core.List.{List, [], _∷_}
+use native.Mathlib.Omega.{arith}
+use lib.ListN.{length, replicate}
+use lib.IntN.{ℤ, pos}
+use lib.Dec.{eqb}
+use Rattle.plain.specs.Book.{Call, post, withdraw, query, listing}
+use Rattle.columns.specs.declared.Command.{Command}
+use Rattle.columns.specs.declared.Command.the-variants.{Post, Withdraw, Query, List as Listing, Unreadable}
+use Rattle.columns.specs.declared.Field.{Field}
+use Rattle.columns.specs.declared.Field.the-variants.{Number, Bad}
+use Rattle.columns.specs.Columns.{space, lineOf, IsLineOf}
+use Rattle.columns.specs.Values.{told}
+use Rattle.columns.specs.Reading.{Holds, FieldRead, holds-told}
+use Rattle.columns.specs.Sections.{between}
+use Rattle.columns.specs.Lines.{letter, Shape, PostColumns, LastColumns, line-shape, shape-line, line-length}
+
+-- The command of a call. A listing's room is no part of it.
+abbrev pub asCommand : Call → Command
+asCommand (post number rate base) = Post number rate base
+asCommand (withdraw number) = Withdraw number
+asCommand (query load) = Query load
+asCommand (listing room) = Listing
+
+-- The command is a call's exactly where the line is that call's.
+abbrev pub Parsed : List ℕ → Command → Type 0
+Parsed line r = ((k : Call) → (r ≡ asCommand k) ↔ IsLineOf k line)
+
+-- What stands in the last columns, the ones before them blank.
+abbrev pub LastRead : List ℕ → Field → Type 0
+LastRead line (Number z) = LastColumns line z
+LastRead line Bad = ((z : ℤ) → LastColumns line z → ⊥)
+
+-- ---- the command that a line's parts tell
+
+decode : List ℕ → Command
+decode line =
+    cond (eqb (letter line) 80) (Post (told (between 1 7 line)) (told (between 7 15 line)) (told (between 15 27 line)))
+    (cond (eqb (letter line) 87) (Withdraw (told (between 15 27 line)))
+    (cond (eqb (letter line) 81) (Query (told (between 15 27 line))) Listing))
+
+shape-tells : (k : Call) (line : List ℕ) → Shape k line → decode line ≡ asCommand k
+unfolding decode
+shape-tells (post n r b) line s = rw (s .0, holds-told (between 1 7 line) n (s .1 .first), holds-told (between 7 15 line) r (s .1 .second), holds-told (between 15 27 line) b (s .1 .third))
+shape-tells (withdraw n) line s = rw (s .0, holds-told (between 15 27 line) n (s .1 .last))
+shape-tells (query q) line s = rw (s .0, holds-told (between 15 27 line) q (s .1 .last))
+shape-tells (listing room) line s = rw (s .0)
+
+-- ---- a line that is some call's
+
+-- A call with a command: its room is free.
+someCall : Command → Call
+someCall (Post n r b) = post n r b
+someCall (Withdraw n) = withdraw n
+someCall (Query q) = query q
+someCall Listing = listing 0
+someCall Unreadable = listing 0
+
+to-some : (k : Call) {line : List ℕ} → IsLineOf k line → IsLineOf (someCall (asCommand k)) line
+unfolding someCall lineOf
+to-some (post n r b) i = i
+to-some (withdraw n) i = i
+to-some (query q) i = i
+to-some (listing room) i = record { fits = tt; text = i .text }
+
+from-some : (k : Call) {line : List ℕ} → IsLineOf (someCall (asCommand k)) line → IsLineOf k line
+unfolding someCall lineOf
+from-some (post n r b) i = i
+from-some (withdraw n) i = i
+from-some (query q) i = i
+from-some (listing room) i = record { fits = tt; text = i .text }
+
+pub parsed : (k : Call) (line : List ℕ) → IsLineOf k line → Parsed line (asCommand k)
+parsed k line i j = (λ e. from-some j (rw e at (to-some k i)), λ i′. sym (shape-tells k line (line-shape i)) ∙ shape-tells j line (line-shape i′))
+
+-- ---- a line that is no call's
+
+readable : (k : Call) → Unreadable ≡ asCommand k → ⊥
+readable (post n r b) e = let z : _≡_ {A = ℕ} 0 1 = cc in omega arith
+readable (withdraw n) e = let z : _≡_ {A = ℕ} 0 1 = cc in omega arith
+readable (query q) e = let z : _≡_ {A = ℕ} 0 1 = cc in omega arith
+readable (listing room) e = let z : _≡_ {A = ℕ} 0 1 = cc in omega arith
+
+pub unreadable : (line : List ℕ) → ((k : Call) → IsLineOf k line → ⊥) → Parsed line Unreadable
+unreadable line none k = (λ e. absurd (readable k e), λ i. absurd (none k i))
+
+-- Where each test of the program sends a line.
+pub wrong-length : (line : List ℕ) → length line ≢ 27 → Parsed line Unreadable
+wrong-length line h = unreadable line (λ k i. h (line-length i))
+
+pub wrong-letter : (line : List ℕ) → letter line ≢ 80 → letter line ≢ 87 → letter line ≢ 81 → letter line ≢ 76 → Parsed line Unreadable
+wrong-letter line p w q l = unreadable line (λ k i. go k (line-shape i))
+  where
+    go : (k : Call) → Shape k line → ⊥
+    go (post n r b) s = p (s .0)
+    go (withdraw n) s = w (s .0)
+    go (query x) s = q (s .0)
+    go (listing room) s = l (s .0)
+
+-- The letter P, and columns that hold no three numbers.
+pub wrong-post : (line : List ℕ) → letter line ≡ 80 → ((n r b : ℤ) → PostColumns line n r b → ⊥) → Parsed line Unreadable
+wrong-post line e none = unreadable line (λ k i. go k (line-shape i))
+  where
+    go : (k : Call) → Shape k line → ⊥
+    go (post n r b) s = none n r b (s .1)
+    go (withdraw n) s = omega (arith, s .0)
+    go (query x) s = omega (arith, s .0)
+    go (listing room) s = omega (arith, s .0)
+
+-- Another letter, and last columns that hold no number.
+pub wrong-last : (line : List ℕ) → letter line ≢ 80 → ((z : ℤ) → LastColumns line z → ⊥) → Parsed line Unreadable
+wrong-last line e none = unreadable line (λ k i. go k (line-shape i))
+  where
+    go : (k : Call) → Shape k line → ⊥
+    go (post n r b) s = e (s .0)
+    go (withdraw n) s = none n (s .1)
+    go (query x) s = none x (s .1)
+    go (listing room) s = none (pos 0) (s .1)
+
+-- The letter L, and last columns that hold another number than 0.
+pub wrong-list : (line : List ℕ) (z : ℤ) → letter line ≡ 76 → LastColumns line z → z ≢ pos 0 → Parsed line Unreadable
+wrong-list line z e held other = unreadable line (λ k i. go k (line-shape i))
+  where
+    go : (k : Call) → Shape k line → ⊥
+    go (post n r b) s = omega (arith, s .0)
+    go (withdraw n) s = omega (arith, s .0)
+    go (query x) s = omega (arith, s .0)
+    go (listing room) s = other (sym (holds-told (between 15 27 line) z (held .last)) ∙ holds-told (between 15 27 line) (pos 0) (s .1 .last))
+
+-- ---- a line that is some call's, by its parts
+
+pub is-post : (line : List ℕ) (n r b : ℤ) → length line ≡ 27 → letter line ≡ 80 → PostColumns line n r b → Parsed line (Post n r b)
+is-post line n r b e l p = parsed (post n r b) line (shape-line (post n r b) line e (l, p))
+
+pub is-withdraw : (line : List ℕ) (n : ℤ) → length line ≡ 27 → letter line ≡ 87 → LastColumns line n → Parsed line (Withdraw n)
+is-withdraw line n e l p = parsed (withdraw n) line (shape-line (withdraw n) line e (l, p))
+
+pub is-query : (line : List ℕ) (q : ℤ) → length line ≡ 27 → letter line ≡ 81 → LastColumns line q → Parsed line (Query q)
+is-query line q e l p = parsed (query q) line (shape-line (query q) line e (l, p))
+
+pub is-list : (line : List ℕ) (z : ℤ) → length line ≡ 27 → letter line ≡ 76 → LastColumns line z → z ≡ pos 0 → Parsed line Listing
+is-list line z e l p zero = parsed (listing 0) line (shape-line (listing 0) line e (l, rw zero at p))
+
+-- ---- a field that was read
+
+pub number-read : (columns : List ℕ) (f : Field) {z : ℤ} → FieldRead columns f → f ≡ Number z → Holds columns z
+number-read columns f r e = rw e at r
+
+pub bad-read : (columns : List ℕ) (f : Field) → FieldRead columns f → f ≡ Bad → (z : ℤ) → Holds columns z → ⊥
+bad-read columns f r e = rw e at r
+
+pub last-read : (line : List ℕ) (f : Field) → between 1 15 line ≡ replicate 14 space → FieldRead (between 15 27 line) f → LastRead line f
+last-read line (Number z) e r = record { blank = e; last = r }
+last-read line Bad e r = λ z l. r z (l .last)
+
+pub last-number : (line : List ℕ) (f : Field) {z : ℤ} → LastRead line f → f ≡ Number z → LastColumns line z
+last-number line f r e = rw e at r
+
+pub last-bad : (line : List ℕ) (f : Field) → LastRead line f → f ≡ Bad → (z : ℤ) → LastColumns line z → ⊥
+last-bad line f r e = rw e at r

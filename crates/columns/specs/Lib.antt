@@ -1,0 +1,10 @@
+pub mod Columns
+pub mod Commands
+pub mod Decimals
+pub mod Justified
+pub mod Lines
+pub mod Printing
+pub mod Reading
+pub mod Samples
+pub mod Sections
+pub mod Values

@@ -1,0 +1,197 @@
+-- A cut, as steps on words.
+use mathlib.Core.Path.{_≡_, refl, sym, _∙_, ap, subst, subst₂}
+use mathlib.Core.Bool.{Bool, true, false, not, cond}
+use mathlib.Core.Option.{Option, none, some}
+use mathlib.Core.List.{List, [], _∷_, _++_, append-assoc, List·Memᴰ, List·Memᴰ·head, Pairwise·nil, Memᴰ·append-left}
+use Prim.Native.Nat.{ℕ, suc, _+_, _-_, _≤_, _<_, max}
+use native.Mathlib.Omega.{arith}
+use lib.IntN.{ℤ}
+use lib.Signed.{leZ}
+use Rattle.trees.specs.Tree.{Tree, leaf, node, height, leaves, last, Avl, avl-leaf, avl-node}
+use Rattle.trees.specs.Operations.{Part, Cut, partLeaves, partHeight, joinP, split, splitP, allFront, allBack, afterLeft, beforeRight}
+use Rattle.trees.specs.Leaves.{leaves-joinP, last-leaf, same-last}
+use Rattle.trees.specs.Balanced.{AvlP}
+use Rattle.trees.specs.Split.{split-leaves, split-low}
+use Rattle.table.specs.Words.{Words}
+use Rattle.table.specs.Layout.{cap, cell}
+use Rattle.table.specs.Items.{Item, In, in-left, in-right, Slots, slots-left, slots-right, slots-across}
+use Rattle.table.specs.Rep.{childAt, refOf, Rep, Within, within-cap, within-refl, within-trans, Only, only-refl, only-trans, only-more, tied-still, inner-in}
+use Rattle.table.specs.Nodes.{Parents, parents, leaf-low, ref-low}
+use Rattle.table.specs.Parts.{refOfP, TiedP, RepP, rep-some, MadeP, repP-still, PairP, Seam}
+use Rattle.table.specs.Keys.{Keyed, keyed-left, keyed-right}
+use Rattle.shape.specs.Merge.{Merged}
+
+-- the parts of a cut of xs, with roots x and y; nothing but nodes of xs was written
+pub record Halved (k : ℕ) (w w′ : Words) (x y : ℕ) (xs : List Item) (c : Cut Item) : Type 0 where
+  pub front : RepP w′ k x (c .front)
+  pub back : RepP w′ k y (c .back)
+  pub only : Only k xs w w′
+
+-- the leaves whose key is at least a number
+abbrev pub from : (Item → ℤ) → ℤ → Item → Bool
+from key least a = leZ least (key a)
+
+pub record Halving (k f : ℕ) (least : ℤ) (x limit : ℕ) (w w′ : Words) (y z : ℕ) : Type 0 where
+  pub within : Within w w′
+  pub made : (p : Part Item) (key : Item → ℤ) → RepP w k x p → AvlP p → partHeight p ≤ limit → Keyed w f key (partLeaves p)
+      → Halved k w w′ y z (partLeaves p) (splitP (from key least) p)
+
+empty : {w : Words} {k : ℕ} → k ≤ 2 → RepP w k 0 none
+empty h = record { kind = h; root = refl; slots = record { low = λ m. elim m [ ]; high = λ m. elim m [ ]; apart = Pairwise·nil }; tied = tt }
+
+-- ---- a leaf, or nothing
+
+pub halved-leaf : {k f x limit : ℕ} {b : Bool} {w : Words} (least : ℤ) (d : Bool) → x ≤ 4096 → b ≡ leZ least (cell w f x) → b ≡ d → Halving k f least x limit w w (cond d x 0) (cond d 0 x)
+unfolding split splitP
+halved-leaf {k} {f} {x} {limit} {b} {w} least d h e g = record { within = within-refl w; made = made }
+  where
+    nothing : (d : Bool) → RepP w k x none → Halved k w w (cond d x 0) (cond d 0 x) [] (record { front = none; back = none })
+    nothing true r = record { front = r; back = empty (r .kind); only = only-refl k [] w }
+    nothing false r = record { front = empty (r .kind); back = r; only = only-refl k [] w }
+
+    one : (d : Bool) (i : Item) → RepP w k x (some (leaf i)) → Halved k w w (cond d x 0) (cond d 0 x) (i ∷ []) (cond d (allFront (leaf i)) (allBack (leaf i)))
+    one true i r = record { front = r; back = empty (r .kind); only = only-refl k (i ∷ []) w }
+    one false i r = record { front = empty (r .kind); back = r; only = only-refl k (i ∷ []) w }
+
+    made : (p : Part Item) (key : Item → ℤ) → RepP w k x p → AvlP p → partHeight p ≤ limit → Keyed w f key (partLeaves p) → Halved k w w (cond d x 0) (cond d 0 x) (partLeaves p) (splitP (from key least) p)
+    made none key r a n q = nothing d r
+    made (some (leaf i)) key r a n q = subst (λ c. Halved k w w (cond d x 0) (cond d 0 x) (i ∷ []) (cond c (allFront (leaf i)) (allBack (leaf i)))) told (one d i r)
+      where
+        told : d ≡ from key least i
+        told = sym g ∙ e ∙ ap (leZ least) (ap (cell w f) (r .root) ∙ q .read (List·Memᴰ·head refl))
+    made (some (node s t)) key r a n q = absurd (omega (arith, h, r .root, slots-left (leaves t) (r .slots) .low (last-leaf s)))
+
+-- ---- an inner node
+
+-- a joined part and the rest of a cut: xs are all leaves, ys those of the child that was cut
+settled : {k u v : ℕ} {w w₁ w₂ : Words} {xs ys : List Item} {p q : Part Item} → Within w₁ w₂ → Only k ys w w₁ → RepP w₁ k u q → MadeP k w₁ w₂ v p
+    → ((s : ℕ) → In s ys → In s xs) → ((s : ℕ) → In s (partLeaves p) → In s xs) → ((s : ℕ) → In s (partLeaves p) → In s (partLeaves q) → ⊥)
+    → RepP w₂ k u q × Only k xs w w₂
+settled {q} g o r m a b d = (repP-still q r g (m .only) d, only-trans (only-more a o) (only-more b (m .only)))
+
+seam-left : (g : ℕ) (t : Tree Item) (q : Part Item) → g ≡ last t .slot → Seam g (some t) q
+seam-left g t none e = tt
+seam-left g t (some u) e = e
+
+-- the last leaf of what is behind a cut is the tree's
+seam-right : (g : ℕ) (p q : Part Item) (s t : Tree Item) → partLeaves p ++ partLeaves q ≡ leaves s → g ≡ last s .slot → Seam g q (some t)
+seam-right g p none s t e d = tt
+seam-right g none (some u) s t e d = d ∙ ap (λ (i : Item). i .slot) (sym (same-last u s e))
+seam-right g (some v) (some u) s t e d = d ∙ ap (λ (i : Item). i .slot) (sym (same-last (node v u) s e))
+
+-- only an inner node has such a number
+at-node : {k f x limit y z : ℕ} {w w′ : Words} (least : ℤ) → 4096 < x → Within w w′
+    → ((s t : Tree Item) (key : Item → ℤ) → RepP w k x (some (node s t)) → Avl s → Avl t → height (node s t) ≤ limit → Keyed w f key (leaves s ++ leaves t)
+    → Halved k w w′ y z (leaves s ++ leaves t) (split (from key least) (node s t)))
+    → Halving k f least x limit w w′ y z
+unfolding splitP
+at-node {k} {f} {x} {limit} {y} {z} {w} {w′} least h g step = record { within = g; made = made }
+  where
+    made : (p : Part Item) (key : Item → ℤ) → RepP w k x p → AvlP p → partHeight p ≤ limit → Keyed w f key (partLeaves p) → Halved k w w′ y z (partLeaves p) (splitP (from key least) p)
+    made none key r a n q = absurd (omega (arith, h, r .root))
+    made (some (leaf i)) key r a n q = absurd (omega (arith, h, leaf-low (rep-some r)))
+    made (some (node s t)) key r (avl-node a b c d) n q = step s t key r a b n q
+
+-- the limit is used up
+pub halved-over : {k f x limit y z : ℕ} {w : Words} (least : ℤ) → 4096 < x → limit ≡ 0 → Halving k f least x limit w w y z
+halved-over {w} least h e = at-node least h (within-refl w) (λ s t key r a b n q. absurd (omega (arith, n, e)))
+
+-- what the test tells of the seam
+seam-test : {w : Words} {k f x g : ℕ} {b : Bool} {s t : Tree Item} {key : Item → ℤ} (least : ℤ) → g ≡ x - 4096 → b ≡ leZ least (cell w f g) → RepP w k x (some (node s t)) → Keyed w f key (leaves s ++ leaves t) → b ≡ from key least (last s)
+seam-test {w} {f} {s} {t} least eg eb rep q =
+    eb ∙ ap (leZ least) (ap (cell w f) (eg ∙ parents (rep-some rep) .seam-at) ∙ q .read (Memᴰ·append-left (leaves t) (last-leaf s)))
+
+module _ {k f x limit g l r y z v : ℕ} {b : Bool} {w w₁ w₂ : Words} (least : ℤ) (inner : 4096 < x) (eg : g ≡ x - 4096) (el : l ≡ childAt w k false x) (er : r ≡ childAt w k true x) (eb : b ≡ leZ least (cell w f g)) where
+  pub halved-right : b ≡ true → Halving k f least r (limit - 1) w w₁ y z → Merged k g l y w₁ w₂ v → Halving k f least x limit w w₂ v z
+  unfolding split splitP
+  halved-right e rec j = at-node least inner (within-trans (rec .within) (j .within)) step
+    where
+      step : (s t : Tree Item) (key : Item → ℤ) → RepP w k x (some (node s t)) → Avl s → Avl t → height (node s t) ≤ limit → Keyed w f key (leaves s ++ leaves t) → Halved k w w₂ v z (leaves s ++ leaves t) (split (from key least) (node s t))
+      step s t key rep a₁ a₂ n q =
+          subst (λ d. Halved k w w₂ v z (leaves s ++ leaves t) (cond d (afterLeft s c) (beforeRight (split test s) t))) (sym e ∙ seam-test least eg eb rep q)
+          (record { front = m .rep; back = done .0; only = done .1 })
+        where
+          test : Item → Bool
+          test = from key least
+
+          c : Cut Item
+          c = split test t
+
+          o : Parents w k x s t
+          o = parents (rep-some rep)
+
+          cut : Halved k w w₁ y z (leaves t) c
+          cut = rec .made (some t) key (record { kind = rep .kind; root = er ∙ o .right-at; slots = slots-right (leaves s) (rep .slots); tied = o .tied-right }) a₂ (omega (arith, n)) (keyed-right (leaves s) q)
+
+          order : partLeaves (joinP (some s) (c .front)) ++ partLeaves (c .back) ≡ leaves s ++ leaves t
+          order = simp (leaves-joinP, append-assoc, split-leaves test t)
+
+          slots : Slots (cap w) (partLeaves (joinP (some s) (c .front)) ++ partLeaves (c .back))
+          slots = rw order (rep .slots)
+
+          pair : PairP w₁ k l y (some s) (c .front)
+          pair =
+              record {
+                kind = rep .kind;
+                left = el ∙ o .left-at;
+                right = cut .front .root;
+                slots = subst₂ Slots (sym (within-cap (rec .within))) (leaves-joinP (some s) (c .front)) (slots-left (partLeaves (c .back)) slots);
+                tied-left = tied-still (o .tied-left) (cut .only) (λ i x y. slots-across (leaves s) (rep .slots) (inner-in x) y);
+                tied-right = cut .front .tied;
+              }
+
+          m : MadeP k w₁ w₂ v (joinP (some s) (c .front))
+          m = j .made (some s) (c .front) pair (seam-left g s (c .front) (eg ∙ o .seam-at)) a₁ (split-low test a₂ .front-avl)
+
+          done : RepP w₂ k z (c .back) × Only k (leaves s ++ leaves t) w w₂
+          done =
+              settled (j .within) (cut .only) (cut .back) m (λ i x. in-right (leaves s) x)
+              (λ i x. rw (← order) (in-left (partLeaves (c .back)) x))
+              (λ i x y. slots-across (partLeaves (joinP (some s) (c .front))) slots x y)
+
+  pub halved-left : b ≡ false → Halving k f least l (limit - 1) w w₁ y z → Merged k g z r w₁ w₂ v → Halving k f least x limit w w₂ y v
+  unfolding split splitP
+  halved-left e rec j = at-node least inner (within-trans (rec .within) (j .within)) step
+    where
+      step : (s t : Tree Item) (key : Item → ℤ) → RepP w k x (some (node s t)) → Avl s → Avl t → height (node s t) ≤ limit → Keyed w f key (leaves s ++ leaves t) → Halved k w w₂ y v (leaves s ++ leaves t) (split (from key least) (node s t))
+      step s t key rep a₁ a₂ n q =
+          subst (λ d. Halved k w w₂ y v (leaves s ++ leaves t) (cond d (afterLeft s (split test t)) (beforeRight c t))) (sym e ∙ seam-test least eg eb rep q)
+          (record { front = done .0; back = m .rep; only = done .1 })
+        where
+          test : Item → Bool
+          test = from key least
+
+          c : Cut Item
+          c = split test s
+
+          o : Parents w k x s t
+          o = parents (rep-some rep)
+
+          cut : Halved k w w₁ y z (leaves s) c
+          cut = rec .made (some s) key (record { kind = rep .kind; root = el ∙ o .left-at; slots = slots-left (leaves t) (rep .slots); tied = o .tied-left }) a₁ (omega (arith, n)) (keyed-left (leaves t) q)
+
+          order : partLeaves (c .front) ++ partLeaves (joinP (c .back) (some t)) ≡ leaves s ++ leaves t
+          order = simp (leaves-joinP, ← append-assoc, split-leaves test s)
+
+          slots : Slots (cap w) (partLeaves (c .front) ++ partLeaves (joinP (c .back) (some t)))
+          slots = rw order (rep .slots)
+
+          pair : PairP w₁ k z r (c .back) (some t)
+          pair =
+              record {
+                kind = rep .kind;
+                left = cut .back .root;
+                right = er ∙ o .right-at;
+                slots = subst₂ Slots (sym (within-cap (rec .within))) (leaves-joinP (c .back) (some t)) (slots-right (partLeaves (c .front)) slots);
+                tied-left = cut .back .tied;
+                tied-right = tied-still (o .tied-right) (cut .only) (λ i x y. slots-across (leaves s) (rep .slots) y (inner-in x));
+              }
+
+          m : MadeP k w₁ w₂ v (joinP (c .back) (some t))
+          m = j .made (c .back) (some t) pair (seam-right g (c .front) (c .back) s t (split-leaves test s) (eg ∙ o .seam-at)) (split-low test a₁ .back-avl) a₂
+
+          done : RepP w₂ k y (c .front) × Only k (leaves s ++ leaves t) w w₂
+          done =
+              settled (j .within) (cut .only) (cut .front) m (λ i x. in-left (leaves t) x)
+              (λ i x. rw (← order) (in-right (partLeaves (c .front)) x))
+              (λ i x y. slots-across (partLeaves (c .front)) slots y x)

@@ -1,0 +1,76 @@
+// Ways down the trees of a table. Each goes at most `limit` levels, so that it ends on any words.
+ghost use Rattle.descents.specs.Cuts.{Halving};
+ghost use Rattle.descents.specs.Ends.{Ended};
+ghost use Rattle.descents.specs.Finds.{Found};
+
+// The roots of the two parts of a cut, 0 for an empty one.
+pub struct Cut {
+    pub front: u32,
+    pub back: u32,
+}
+
+// Cuts a tree behind its last leaf whose field is at least `least`, where these leaves stand in front.
+pub fn split(part: &mut [i64], tree: u8, field: usize, least: i64, x: u32, limit: u32) -> Cut
+    ensures { λ r. ⌜ Halving tree field least x limit (now (part .entry)) (now (part .exit)) (r .front) (r .back) ⌝ }
+{
+    if x <= 4096 {
+        if table::at_least(part, field, x, least) {
+            return Cut { front: x, back: 0 };
+        }
+        return Cut { front: 0, back: x };
+    }
+    if limit == 0 {
+        return Cut { front: 0, back: 0 };
+    }
+    let gap = table::inner_slot(x);
+    let l = table::child(part, tree, false, x);
+    let r = table::child(part, tree, true, x);
+    if table::at_least(part, field, gap, least) {
+        let c = split(part, tree, field, least, r, limit - 1);
+        let f = c.front;
+        let b = c.back;
+        let y = shape::join(part, tree, gap, l, f);
+        return Cut { front: y, back: b };
+    }
+    let c = split(part, tree, field, least, l, limit - 1);
+    let f = c.front;
+    let b = c.back;
+    let y = shape::join(part, tree, gap, b, r);
+    Cut { front: f, back: y }
+}
+
+// The first leaf of a balanced tree, or, on the other side, its last; 0 for an empty one.
+pub fn end(part: &[i64], tree: u8, side: bool, x: u32) -> u32
+    ensures { λ r. ⌜ Ended (now (part .entry)) tree side x r ⌝ }
+{
+    let mut y = x;
+    let mut limit: u32 = 24;
+    while y > 4096 {
+        if limit == 0 {
+            return 0;
+        }
+        limit -= 1;
+        y = table::child(part, tree, side, y);
+    }
+    y
+}
+
+// The leaf of a balanced tree whose field is `key`, where fields fall from left to right; 0 where there is none.
+pub fn find(part: &[i64], tree: u8, field: usize, key: i64, x: u32) -> u32
+    ensures { λ r. ⌜ Found (now (part .entry)) tree field key x r ⌝ }
+{
+    let mut y = x;
+    let mut limit: u32 = 24;
+    while y > 4096 {
+        if limit == 0 {
+            return 0;
+        }
+        limit -= 1;
+        let right = table::is_above(part, field, table::inner_slot(y), key);
+        y = table::child(part, tree, right, y);
+    }
+    if table::is_equal(part, field, y, key) {
+        return y;
+    }
+    0
+}

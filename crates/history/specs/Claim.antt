@@ -1,0 +1,148 @@
+-- Demand 3: one claim about a whole list of calls. From an accepted opening, whatever the capacity, the start and the words were, and after any
+-- list of posts, withdrawals, queries and listings, refused ones among them: the part passes the check and stands for the plain book's offers,
+-- the answers in order are the plain book's, every tree is low, and each update has its list of searched pairs.
+use mathlib.Core.Path.{_≡_, refl, sym, _∙_, ap, subst}
+use mathlib.Core.List.{List, [], _∷_, List·Memᴰ, List·Memᴰ·head}
+use mathlib.Core.Option.{Option, none, some}
+use Prim.Native.Nat.{ℕ, _*_, _≤_}
+use native.Mathlib.Omega.{arith}
+use lib.ListN.{length}
+use lib.IntN.{ℤ, natAbs}
+use Rattle.integers.specs.Log.{B}
+use Rattle.plain.specs.Causes.{Cause, declined}
+use Rattle.plain.specs.Book.{State, Call, post, withdraw, query, listing, Answer, opened, openTrials, trials, respond, step, after, answers}
+use Rattle.plain.specs.Sound.{Clear}
+use Rattle.trees.specs.Tree.{height, leaves}
+use Rattle.trees.specs.Operations.{Part, partLeaves, partHeight}
+use Rattle.trees.specs.Height.{log-height}
+use Rattle.dynamic.specs.OfferTree.{Held, heldShape, Pair}
+use Rattle.dynamic.specs.Rearranged.{pieceTrees}
+use Rattle.dynamic.specs.Heights.{offers-height, piece-height}
+use Rattle.dynamic.specs.Work.{Searched}
+use Rattle.table.specs.Items.{Item}
+use Rattle.pieces.specs.Pieces.{items}
+use Rattle.book.specs.declared.Opening.{Opening}
+use Rattle.update.specs.Form.{Book, OffersIn, plainOffers}
+use Rattle.book.specs.Local.{book-alike}
+use Rattle.book.specs.Promises.{partOf, plainOf, Opens, Updates, Follows, Queries, Lists, Passes}
+use Rattle.history.specs.History.{Happens, by-post, by-withdraw, by-query, by-listing, History, finished, next, Kept, EachCall}
+
+-- ---- heights
+
+-- every tree of a book is at most 2 × B(n) high over its n leaves
+abbrev pub Low : Option (Held Item) → Type 0
+Low none = Unit {0}
+Low (some h) = (height (heldShape h) ≤ 2 * B (length (leaves (heldShape h)))) × ((p : Part Item) → List·Memᴰ p (pieceTrees h) → partHeight p ≤ 2 * B (length (partLeaves p)))
+
+pub low-trees : (w : List ℤ) (held : Option (Held Item)) → OffersIn w held → Low held
+low-trees w none o = tt
+low-trees w (some h) o = (offers-height items (o .right), piece-height items (o .right))
+
+-- so is every tree that went into a search
+pub low-searched : {live : List Item} (p : Pair Item) → Searched items live p → (height (p .front) ≤ 2 * B (length (leaves (p .front)))) × (height (p .back) ≤ 2 * B (length (leaves (p .back))))
+low-searched p s = (log-height (s .left-balanced), log-height (s .right-balanced))
+
+-- ---- the claim
+
+pub record Claim {c start : ℕ} {t : List ℤ} {ks : List Call} {as′ : List Answer} {t′ : List ℤ} (s : State) (before : Option (Held Item)) (h : History c start t ks as′ t′) : Type 0 where
+  pub held : Option (Held Item)
+  -- the part passes the check, and its leaves hold exactly the plain book's offers, in order
+  pub stands : Book (partOf t′ start) c held
+  pub offers : plainOffers held ≡ after s ks .offers
+  -- refusals' numbers, live counts, prices, offers named, piece counts and words written
+  pub told : as′ ≡ answers s ks
+  pub low : Low held
+  pub each : EachCall h before held
+
+-- ---- its proof
+
+step-capacity : (s : State) (k : Call) → step s k .state .capacity ≡ s .capacity
+step-capacity s k = go (declined (trials s k)) k
+  where
+    go : (d : Option Cause) (k : Call) → respond s k d .state .capacity ≡ s .capacity
+    go (some c) k = refl
+    go none (post n r b) = refl
+    go none (withdraw n) = refl
+    go none (query q) = refl
+    go none (listing room) = refl
+
+-- the plain book after a call is the one that the part then stands for
+same-state : (c : ℕ) (held held′ : Option (Held Item)) (k : Call) → plainOffers held′ ≡ step (plainOf c held) k .state .offers → step (plainOf c held) k .state ≡ plainOf c held′
+same-state c held held′ k e = λ i. record { capacity = step-capacity (plainOf c held) k i; offers = sym e i }
+
+-- a query and a listing leave the plain book as it was
+asked-state : (s : State) (q : ℤ) → step s (query q) .state ≡ s
+asked-state s q = go (declined (trials s (query q)))
+  where
+    go : (d : Option Cause) → respond s (query q) d .state ≡ s
+    go (some c) = refl
+    go none = refl
+
+listed-state : (s : State) (room : ℕ) → step s (listing room) .state ≡ s
+listed-state s room = go (declined (trials s (listing room)))
+  where
+    go : (d : Option Cause) → respond s (listing room) d .state ≡ s
+    go (some c) = refl
+    go none = refl
+
+-- what one call does to a part that stands for a plain book
+record OneCall {start : ℕ} {t : List ℤ} {k : Call} {t′ : List ℤ} {a : Answer} (c : ℕ) (held : Option (Held Item)) (p : Happens start t k t′ a) : Type 0 where
+  mid : Option (Held Item)
+  stands : Book (partOf t′ start) c mid
+  state : step (plainOf c held) k .state ≡ plainOf c mid
+  told : a ≡ step (plainOf c held) k .answer
+  kept : Kept c start p held mid
+
+one-call : {start : ℕ} {t : List ℤ} {k : Call} {t′ : List ℤ} {a : Answer} (c : ℕ) (held : Option (Held Item)) (p : Happens start t k t′ a) → Book (partOf t start) c held → OneCall c held p
+one-call c held (by-post n r b u p e) book =
+    let f = p .follows c held book in
+    record { mid = f .after; stands = f .stands; state = same-state c held (f .after) (post n r b) (f .offers); told = e ∙ f .answers; kept = (f, refl) }
+one-call c held (by-withdraw n u p e) book =
+    let f = p .follows c held book in
+    record { mid = f .after; stands = f .stands; state = same-state c held (f .after) (withdraw n) (f .offers); told = e ∙ f .answers; kept = (f, refl) }
+one-call {start} c held (by-query q f p d e) book =
+    record {
+      mid = held;
+      stands = subst (λ (t : List ℤ). Book (partOf t start) c held) (sym d) book;
+      state = asked-state (plainOf c held) q;
+      told = e ∙ p .answers c held book;
+      kept = (p .probes c held book, refl);
+    }
+one-call {start} c held (by-listing {room} out out′ l p m d e) book =
+    record {
+      mid = held;
+      stands = subst (λ (t : List ℤ). Book (partOf t start) c held) (sym d) book;
+      state = listed-state (plainOf c held) room;
+      told = e ∙ p .answers c held book ∙ ap (λ (n : ℕ). step (plainOf c held) (listing n) .answer) (sym m);
+      kept = refl;
+    }
+
+pub from-book : {c start : ℕ} {t : List ℤ} {ks : List Call} {as′ : List Answer} {t′ : List ℤ} (h : History c start t ks as′ t′) (held : Option (Held Item)) → Book (partOf t start) c held → Claim (plainOf c held) held h
+from-book {start} {t} finished held book = record { held = held; stands = book; offers = refl; told = refl; low = low-trees (partOf t start) held (book .offers); each = refl }
+from-book {c} {start} (next {k} {ks} alike p rest) held book =
+    let o = one-call c held p (book-alike book alike) in
+    onward o (from-book rest (o .mid) (o .stands))
+  where
+    onward : (o : OneCall c held p) → Claim (plainOf c (o .mid)) (o .mid) rest → Claim (plainOf c held) held (next alike p rest)
+    onward o r =
+        record {
+          held = r .held;
+          stands = r .stands;
+          offers = r .offers ∙ ap (λ (s : State). after s ks .offers) (sym (o .state));
+          told = λ i. o .told i ∷ (r .told ∙ ap (λ (s : State). answers s ks) (sym (o .state))) i;
+          low = r .low;
+          each = (o .mid, o .kept, r .each);
+        }
+
+-- Every history: the list begins at an opening that meets neither cause 1 nor cause 2.
+pub every-history :
+    {start : ℕ} {t t₀ : List ℤ} {ks : List Call} {as′ : List Answer} {t′ : List ℤ} (c : ℤ) (r : Opening) →
+    Opens c start t t₀ r →
+    Clear (openTrials (length t) start c) →
+    (h : History (natAbs c) start t₀ ks as′ t′) →
+    Claim (opened c) none h
+every-history c r p clear h = from-book h none (p .accepted clear .1)
+
+-- so the part passes the check
+pub history-passes : {c start : ℕ} {t : List ℤ} {ks : List Call} {as′ : List Answer} {t′ : List ℤ} {s : State} {held : Option (Held Item)} {h : History c start t ks as′ t′} → Claim s held h → Passes start t′
+history-passes {c} q = (c, q .held, q .stands)

@@ -1,0 +1,46 @@
+-- A list of calls on one table (document 01, demand 3). Each call is told by its function's own promise; between two calls anybody may write
+-- words outside the part, and nobody writes the part.
+use mathlib.Core.Path.{_≡_}
+use mathlib.Core.List.{List, [], _∷_}
+use mathlib.Core.Option.{Option, none, some}
+use Prim.Native.Nat.{ℕ}
+use lib.ListN.{length}
+use lib.IntN.{ℤ}
+use Rattle.plain.specs.Book.{State, Call, post, withdraw, query, listing, Answer, after, answers}
+use Rattle.dynamic.specs.OfferTree.{Held}
+use Rattle.table.specs.Items.{Item}
+use Rattle.book.specs.declared.Update.{Update}
+use Rattle.book.specs.declared.Found.{Found}
+use Rattle.book.specs.declared.Listing.{Listing}
+use Rattle.update.specs.Form.{Book, plainOffers}
+use Rattle.book.specs.Local.{Alike}
+use Rattle.book.specs.Promises.{partOf, Updates, Follows, Queries, Probes, Lists, updateAnswer, foundAnswer, listingAnswer, plainOf}
+
+-- One call: the words before and after it, and its answer.
+pub data Happens (start : ℕ) (t : List ℤ) : Call → List ℤ → Answer → Type 0 where
+  by-post : {t′ : List ℤ} {a : Answer} (n r b : ℤ) (u : Update) → Updates (post n r b) start t t′ u → a ≡ updateAnswer u → Happens start t (post n r b) t′ a
+  by-withdraw : {t′ : List ℤ} {a : Answer} (n : ℤ) (u : Update) → Updates (withdraw n) start t t′ u → a ≡ updateAnswer u → Happens start t (withdraw n) t′ a
+  by-query : {t′ : List ℤ} {a : Answer} (q : ℤ) (f : Found) → Queries q start t f → t′ ≡ t → a ≡ foundAnswer f → Happens start t (query q) t′ a
+  by-listing : {t′ : List ℤ} {a : Answer} {room : ℕ} (out out′ : List ℤ) (l : Listing) → Lists start t out out′ l → room ≡ length out → t′ ≡ t → a ≡ listingAnswer l out′ → Happens start t (listing room) t′ a
+
+-- A list of calls with their answers, from the words `t` to the words `t′`.
+pub data History (c start : ℕ) : List ℤ → List Call → List Answer → List ℤ → Type 0 where
+  finished : {t : List ℤ} → History c start t [] [] t
+  next :
+      {t t₁ t₂ t′ : List ℤ} {k : Call} {ks : List Call} {a : Answer} {as′ : List Answer} →
+      Alike c (partOf t start) (partOf t₁ start) →
+      Happens start t₁ k t₂ a →
+      History c start t₂ ks as′ t′ →
+      History c start t (k ∷ ks) (a ∷ as′) t′
+
+-- What each call of a history is held to, from one offer tree to the next: an update's log of searched pairs with k, s, H and the floor,
+-- a query's probes.
+abbrev pub Kept : (c start : ℕ) {t : List ℤ} {k : Call} {t′ : List ℤ} {a : Answer} → Happens start t k t′ a → (before after : Option (Held Item)) → Type 0
+Kept c start {t} {t′ = t′} (by-post n r b u p e) held held′ = (f : Follows (post n r b) c held start t t′ u) × (f .after ≡ held′)
+Kept c start {t} {t′ = t′} (by-withdraw n u p e) held held′ = (f : Follows (withdraw n) c held start t t′ u) × (f .after ≡ held′)
+Kept c start (by-query q f p d e) held held′ = Probes held f × (held ≡ held′)
+Kept c start (by-listing out out′ l p m d e) held held′ = held ≡ held′
+
+abbrev pub EachCall : {c start : ℕ} {t : List ℤ} {ks : List Call} {as′ : List Answer} {t′ : List ℤ} → History c start t ks as′ t′ → (before after : Option (Held Item)) → Type 0
+EachCall finished held held′ = held ≡ held′
+EachCall {c} {start} (next q p rest) held held′ = (mid : Option (Held Item)) × Kept c start p held mid × EachCall rest mid held′

@@ -1,0 +1,3 @@
+-- Every history of calls.
+pub mod History
+pub mod Claim

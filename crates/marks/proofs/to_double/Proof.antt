@@ -1,0 +1,47 @@
+-- `marks::to_double` meets its contract: between the two tests the cast loses nothing, and outside them 0 is written.
+use mathlib.Core.Path.{_≡_, refl, sym, _∙_, subst}
+use lib.IntN.{ℤ}
+use lib.Ieee.{Float, binary64, ofBits, ofInt}
+use mir.Syntax.{w64}
+use mir.ValLaws.{toZ-ofZ}
+use Rattle.marks.specs.Quotient.{plusZero, double, Doubled}
+use Rattle.marks.specs.QuotientLaws.{doubled, double-is, cast-asks, is-exact, zero-below, zero-above}
+use Rattle.marks.proofs.to_double.Statement.{statement}
+use Rattle.marks.proofs.to_double.Tie as tie
+
+-- the literal 0.0
+written : ofBits binary64 0 ≡ plusZero
+unfolding ofBits
+written = refl
+
+same : (z : ℤ) (x : Float) → x ≡ double z → Doubled z x
+same z x e = subst (λ (y : Float). Doubled z y) (sym e) (doubled z)
+
+returns : tie.Need-returns
+returns c =
+    let s = c .before in
+    let z = s .args .value in
+    same z (ofBits binary64 0) (written ∙ sym (zero-below z (rw (toZ-ofZ w64 z (s .fits .value)) at (c .if1 .taken))))
+
+returns-2 : tie.Need-returns-2
+returns-2 c =
+    let s = c .before .before in
+    let z = s .args .value in
+    same z (ofBits binary64 0) (written ∙ sym (zero-above z (rw (toZ-ofZ w64 z (s .fits .value)) at (c .if2 .taken))))
+
+int-to-float-result : tie.Need-int-to-float-result
+int-to-float-result c =
+    let s = c .before .before .before in
+    let z = s .args .value in
+    let e = toZ-ofZ w64 z (s .fits .value) in
+    rw e (cast-asks z (is-exact z (rw e at (c .before .before .if1 .left)) (rw e at (c .before .if2 .left))))
+
+returns-3 : tie.Need-returns-3
+returns-3 c =
+    let s = c .before .before .before in
+    let z = s .args .value in
+    let e = toZ-ofZ w64 z (s .fits .value) in
+    rw e (same z (ofInt binary64 z) (sym (double-is z (is-exact z (rw e at (c .before .before .if1 .left)) (rw e at (c .before .if2 .left))))))
+
+pub to-double-spec : {M : Type 1} → statement M
+to-double-spec = tie.close (tie.spec returns returns-2 int-to-float-result returns-3)

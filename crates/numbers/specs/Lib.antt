@@ -1,0 +1,2 @@
+-- The tree of numbers and the free slots.
+pub mod Numbers

@@ -1,0 +1,216 @@
+-- Two piece trees put together, as steps on words: the seam is threaded, then the trees are joined.
+use mathlib.Core.Path.{_≡_, refl, sym, _∙_, ap, ap₂, subst}
+use mathlib.Core.Logic.{_≢_}
+use mathlib.Core.Bool.{Bool, true, false}
+use mathlib.Core.List.{List, [], _∷_, _++_, append-nil, List·Memᴰ, Memᴰ·append-left, Memᴰ·append-right}
+use mathlib.Core.Option.{Option, none, some}
+use Prim.Native.Nat.{ℕ, _≤_, _<_}
+use native.Mathlib.Omega.{arith}
+use lib.IntN.{ℤ, pos, negℤ, _-ℤ_}
+use Rattle.offers.specs.Offers.{crossingNumerator, crossingDenominator}
+use Rattle.offers.specs.Sizes.{rate-of, base-of}
+use Rattle.trees.specs.Tree.{Tree, leaf, node, leaves, first, last, Avl}
+use Rattle.trees.specs.Leaves.{leaves-join, first-leaf, last-leaf}
+use Rattle.trees.specs.Operations.{Part, partLeaves, join, joinP}
+use Rattle.trees.specs.Balanced.{AvlP, near-join}
+use Rattle.table.specs.Words.{Words, upTo}
+use Rattle.table.specs.Layout.{cap, cap-most, cell, cset, linkAt, cset-cap, cset-other}
+use Rattle.table.specs.Items.{Item, In, at, in-left, in-right, Slots, slots-left, slots-right, slots-across}
+use Rattle.table.specs.Rep.{Field, a-child, a-height, childField, heightField, refOf, Tied, tied-leaf, tied-node, Rep, Within, within-cap, within-refl, within-trans, within-cset, Only}
+use Rattle.table.specs.Nodes.{ref-low}
+use Rattle.table.specs.Parts.{refOfP, RepP, MadeP, PairP}
+use Rattle.table.specs.Threads.{Held, Holds, Next, Threaded, SameOffer, SameThread, Leads, leads-in, leads-last, chain-join, holds-still, holds-join, threaded-still, only-offer, only-thread, cset-offer, cset-thread, threading, threading-next}
+use Rattle.shape.specs.Merge.{Merged}
+use Rattle.descents.specs.Ends.{Ended}
+use Rattle.search.specs.Prices.{rateAt, baseAt, bounded-in}
+use Rattle.pieces.specs.Pieces.{partRef, PartIn, PieceField, of-node, of-numerator, of-denominator, of-next, PiecesOnly, Standing, Beside, Catted}
+
+-- ---- nothing on one side
+
+no-root : {w : Words} {x : ℕ} (p : Part Item) → Standing w x p → x ≡ 0 → p ≡ none
+no-root none s e = refl
+no-root (some t) s e = absurd (omega (arith, s .root, e, ref-low t (s .slots)))
+
+pub catted-right : {l r : ℕ} {w : Words} → l ≡ 0 → Catted l r w w r
+catted-right {l} {r} {w} e =
+    record {
+      within = within-refl w;
+      root = λ p q b. subst (λ (o : Part Item). Standing w r (joinP o q)) (sym (no-root p (b .left) e)) (b .right);
+      only = λ p q b. record { cells = λ f s h. refl };
+    }
+
+pub catted-left : {l r : ℕ} {w : Words} → r ≡ 0 → Catted l r w w l
+catted-left {l} {r} {w} e =
+    record {
+      within = within-refl w;
+      root = λ p q b. subst (λ (o : Part Item). Standing w l (joinP p o)) (sym (no-root q (b .right) e)) (alone p (b .left));
+      only = λ p q b. record { cells = λ f s h. refl };
+    }
+  where
+    alone : (p : Part Item) → Standing w l p → Standing w l (joinP p none)
+    alone none s = s
+    alone (some t) s = s
+
+-- ---- what writing a thread leaves
+
+tied-other : {k f : ℕ} {w : Words} {t : Tree Item} (s : ℕ) (z : ℤ) → ¬ Field k f → Tied w k t → Tied (cset w f s z) k t
+tied-other s z n tied-leaf = tied-leaf
+tied-other {k} {f} {w} s z n (tied-node {l} {r} ol or el er eh) = tied-node (tied-other s z n ol) (tied-other s z n or) (same (a-child false refl) ∙ el) (same (a-child true refl) ∙ er) (same (a-height refl) ∙ eh)
+  where
+    same : {g : ℕ} → Field k g → linkAt (cset w f s z) g (last l .slot) ≡ linkAt w g (last l .slot)
+    same {g} i = ap (upTo 8192) (cset-other w f s z (λ e. n (subst (Field k) (e .0) i)))
+
+no-node : {f : ℕ} → 6 ≤ f → f ≢ 16 → ¬ Field 0 f
+no-node {f} h d (a-child side e) = go side e
+  where
+    go : (side : Bool) → f ≡ childField 0 side → ⊥
+    go false e = omega arith
+    go true e = omega arith
+no-node h d (a-height e) = d e
+
+tied-threading : {w : Words} {t : Tree Item} (a b : Item) → Tied w 0 t → Tied (threading w a b) 0 t
+tied-threading a b t =
+    tied-other (a .slot) (pos (b .slot)) (no-node (omega arith) (λ e. omega arith))
+    (tied-other (a .slot) (crossingDenominator (a .offer) (b .offer)) (no-node (omega arith) (λ e. omega arith))
+    (tied-other (a .slot) (crossingNumerator (a .offer) (b .offer)) (no-node (omega arith) (λ e. omega arith)) t))
+
+module _ (w : Words) (a b : Item) where
+  w₁ : Words
+  w₁ = cset w 6 (a .slot) (crossingNumerator (a .offer) (b .offer))
+
+  w₂ : Words
+  w₂ = cset (cset w 6 (a .slot) (crossingNumerator (a .offer) (b .offer))) 7 (a .slot) (crossingDenominator (a .offer) (b .offer))
+
+  threading-within : Within w (threading w a b)
+  unfolding w₁ w₂
+  threading-within = within-trans (within-cset w 6 (a .slot) (crossingNumerator (a .offer) (b .offer))) (within-trans (within-cset w₁ 7 (a .slot) (crossingDenominator (a .offer) (b .offer))) (within-cset w₂ 19 (a .slot) (pos (b .slot))))
+
+  threading-offer : (s : ℕ) → SameOffer w (threading w a b) s
+  unfolding w₁ w₂
+  threading-offer s =
+      let p = cset-offer w 6 (a .slot) (crossingNumerator (a .offer) (b .offer)) (omega arith) s in
+      let q = cset-offer w₁ 7 (a .slot) (crossingDenominator (a .offer) (b .offer)) (omega arith) s in
+      let r = cset-offer w₂ 19 (a .slot) (pos (b .slot)) (omega arith) s in
+      record { number = r .number ∙ q .number ∙ p .number; rate = r .rate ∙ q .rate ∙ p .rate; base = r .base ∙ q .base ∙ p .base }
+
+  threading-thread : {s : ℕ} → s ≢ a .slot → SameThread w (threading w a b) s
+  unfolding w₁ w₂
+  threading-thread {s} d =
+      let p = cset-thread w 6 (a .slot) (crossingNumerator (a .offer) (b .offer)) d in
+      let q = cset-thread w₁ 7 (a .slot) (crossingDenominator (a .offer) (b .offer)) d in
+      let r = cset-thread w₂ 19 (a .slot) (pos (b .slot)) d in
+      record { next = r .next ∙ q .next ∙ p .next; numerator = r .numerator ∙ q .numerator ∙ p .numerator; denominator = r .denominator ∙ q .denominator ∙ p .denominator }
+
+  threading-only : {xs : List Item} → In (a .slot) xs → PiecesOnly xs w (threading w a b)
+  unfolding w₁ w₂
+  threading-only {xs} i = record { cells = λ f s d. far w₂ 19 (of-next refl) (pos (b .slot)) f s d ∙ far w₁ 7 (of-denominator refl) (crossingDenominator (a .offer) (b .offer)) f s d ∙ far w 6 (of-numerator refl) (crossingNumerator (a .offer) (b .offer)) f s d }
+    where
+      far : (v : Words) (g : ℕ) → PieceField g → (z : ℤ) (f s : ℕ) → ¬ (PieceField f × In s xs) → cell (cset v g (a .slot) z) f s ≡ cell v f s
+      far v g p z f s d = cset-other v g (a .slot) z (λ e. d (subst PieceField (sym (e .0)) p, subst (λ (n : ℕ). In n xs) (sym (e .1)) i))
+
+-- ---- the seam threaded and the trees joined
+
+module _ {w : Words} {l r : ℕ} {tl tr′ : Tree Item} (b : Beside w l r (some tl) (some tr′)) where
+  here : In (last tl .slot) (leaves tl ++ leaves tr′)
+  here = in-left (leaves tr′) (at (last-leaf tl) refl)
+
+  pair-threaded : PairP (threading w (last tl) (first tr′)) 0 l r (some tl) (some tr′)
+  pair-threaded =
+      record {
+        kind = omega arith;
+        left = b .left .root;
+        right = b .right .root;
+        slots = rw (within-cap (threading-within w (last tl) (first tr′))) (b .slots);
+        tied-left = tied-threading (last tl) (first tr′) (b .left .pieces .0);
+        tied-right = tied-threading (last tl) (first tr′) (b .right .pieces .0);
+      }
+
+  all-threaded : Threaded (threading w (last tl) (first tr′)) (leaves tl ++ leaves tr′)
+  all-threaded =
+      chain-join tl tr′
+      (threaded-still (b .left .pieces .1) (λ s k. threading-thread w (last tl) (first tr′) (leads-last tl (b .left .slots) k)))
+      (threading-next w (last tl) (first tr′) (b .left .slots .low (last-leaf tl)) (b .left .slots .high (last-leaf tl)) (omega (arith, b .right .slots .high (first-leaf tr′), cap-most w)))
+      (threaded-still (b .right .pieces .1) (λ s k. threading-thread w (last tl) (first tr′) (λ e. slots-across (leaves tl) (b .slots) (at (last-leaf tl) e) (leads-in k))))
+
+  standing-joined : {w₄ : Words} {x : ℕ} → MadeP 0 (threading w (last tl) (first tr′)) w₄ x (some (join tl tr′)) → Standing w₄ x (some (join tl tr′))
+  standing-joined m =
+      record {
+        root = m .rep .root;
+        slots = m .rep .slots;
+        holds = rw (leaves-join tl tr′) (holds-still (holds-still (holds-join (b .left .holds) (b .right .holds)) (λ s i. threading-offer w (last tl) (first tr′) s)) (λ s i. only-offer (m .only) s));
+        balanced = near-join tl tr′ (b .left .balanced) (b .right .balanced) .avl;
+        pieces = (m .rep .tied, rw (leaves-join tl tr′) (threaded-still all-threaded (λ s k. only-thread (m .only) (omega arith) s)));
+      }
+
+  only-joined : {w₄ : Words} {x : ℕ} → MadeP 0 (threading w (last tl) (first tr′)) w₄ x (some (join tl tr′)) → PiecesOnly (leaves tl ++ leaves tr′) w w₄
+  only-joined m = record { cells = λ f s d. m .only .cells f s (λ q. d (of-node (q .0), subst (In s) (leaves-join tl tr′) (q .1))) ∙ threading-only w (last tl) (first tr′) here .cells f s d }
+
+-- what the code reads of an item that its slot holds
+rate-read : {w : Words} {a : Item} → Held w a → rateAt w (a .slot) ≡ a .offer .rate
+rate-read {w} {a} h = rw (h .rate) (bounded-in (negℤ (pos 100_000)) (pos 100_000) (a .offer .rate) (rate-of (a .offer) (h .ranged)))
+
+base-read : {w : Words} {a : Item} → Held w a → baseAt w (a .slot) ≡ a .offer .base
+base-read {w} {a} h = rw (h .base) (bounded-in (negℤ (pos 1_000_000_000)) (pos 1_000_000_000) (a .offer .base) (base-of (a .offer) (h .ranged)))
+
+-- the calls that put two trees together
+record Calls (l r s n : ℕ) (w w₃ : Words) : Type 0 where
+  left-end : Ended w 0 true l s
+  right-end : Ended w 0 false r n
+  wired : w₃ ≡ cset (cset (cset w 6 s (baseAt w n -ℤ baseAt w s)) 7 s (rateAt w s -ℤ rateAt w n)) 19 s (pos n)
+
+standing-rep : {w : Words} {x : ℕ} {t : Tree Item} → Standing w x (some t) → Rep w 0 x t
+standing-rep h = record { kind = omega arith; root = h .root; slots = h .slots; tied = h .pieces .0 }
+
+module _ {w w₃ : Words} {l r s n : ℕ} {tl tr′ : Tree Item} (c : Calls l r s n w w₃) (b : Beside w l r (some tl) (some tr′)) where
+  left-is : s ≡ last tl .slot
+  left-is = c .left-end .is tl (standing-rep (b .left)) (b .left .balanced)
+
+  right-is : n ≡ first tr′ .slot
+  right-is = c .right-end .is tr′ (standing-rep (b .right)) (b .right .balanced)
+
+  wired-is : w₃ ≡ threading w (last tl) (first tr′)
+  wired-is =
+      let p : Held w (last tl) = b .left .holds .held (last-leaf tl) in
+      let q : Held w (first tr′) = b .right .holds .held (first-leaf tr′) in
+      c .wired ∙ rw (left-is, right-is, base-read p, base-read q, rate-read p, rate-read q) refl
+
+  joined : {w₄ : Words} {x : ℕ} → Merged 0 s l r w₃ w₄ x → MadeP 0 (threading w (last tl) (first tr′)) w₄ x (some (join tl tr′))
+  joined {w₄} {x} m = subst (λ (v : Words). Merged 0 s l r v w₄ x) wired-is m .made (some tl) (some tr′) (pair-threaded b) left-is (b .left .balanced) (b .right .balanced)
+
+  cat-root : {w₄ : Words} {x : ℕ} → Merged 0 s l r w₃ w₄ x → Standing w₄ x (some (join tl tr′))
+  cat-root m = standing-joined b (joined m)
+
+  cat-only : {w₄ : Words} {x : ℕ} → Merged 0 s l r w₃ w₄ x → PiecesOnly (leaves tl ++ leaves tr′) w w₄
+  cat-only m = only-joined b (joined m)
+
+-- The ends at the seam are found, the crossing and the next piece are written, and the trees are joined.
+pub catted :
+    {l r s n x : ℕ} {N D : ℤ} {w w₁ w₂ w₃ w₄ : Words} →
+    l ≢ 0 →
+    r ≢ 0 →
+    Ended w 0 true l s →
+    Ended w 0 false r n →
+    N ≡ baseAt w n -ℤ baseAt w s →
+    D ≡ rateAt w s -ℤ rateAt w n →
+    w₁ ≡ cset w 6 s N →
+    w₂ ≡ cset w₁ 7 s D →
+    w₃ ≡ cset w₂ 19 s (pos n) →
+    Merged 0 s l r w₃ w₄ x →
+    Catted l r w w₄ x
+catted {l} {r} {s} {n} {x} {N} {D} {w} {w₁} {w₂} {w₃} {w₄} nl nr es en eN eD e₁ e₂ e₃ m = record { within = within-trans written (m .within); root = root; only = only }
+  where
+    written : Within w w₃
+    written = subst (Within w) (sym e₃) (within-trans (subst (Within w) (sym e₂) (within-trans (subst (Within w) (sym e₁) (within-cset w 6 s N)) (within-cset w₁ 7 s D))) (within-cset w₂ 19 s (pos n)))
+
+    calls : Calls l r s n w w₃
+    calls = record { left-end = es; right-end = en; wired = e₃ ∙ rw (e₂, e₁, eN, eD) refl }
+
+    root : (p q : Part Item) → Beside w l r p q → Standing w₄ x (joinP p q)
+    root none q b = absurd (nl (b .left .root))
+    root (some tl) none b = absurd (nr (b .right .root))
+    root (some tl) (some tr′) b = cat-root calls b m
+
+    only : (p q : Part Item) → Beside w l r p q → PiecesOnly (partLeaves p ++ partLeaves q) w w₄
+    only none q b = absurd (nl (b .left .root))
+    only (some tl) none b = absurd (nr (b .right .root))
+    only (some tl) (some tr′) b = cat-only calls b m

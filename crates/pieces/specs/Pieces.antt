@@ -1,0 +1,90 @@
+-- A piece tree in words: the nodes of a tree, and along its leaves the thread with the crossings. It may be empty. What cutting one and
+-- putting two together promise: on any words only fields of slots change; where the words hold the trees, the results are the model's.
+use mathlib.Core.Path.{_≡_}
+use mathlib.Core.Bool.{Bool, true, false}
+use mathlib.Core.List.{List, _++_}
+use mathlib.Core.Option.{Option, none, some}
+use Prim.Native.Nat.{ℕ}
+use lib.IntN.{ℤ}
+use lib.Signed.{leZ, ltZ}
+use Rattle.envelopes.specs.PseudoLines.{Figure, PseudoLines}
+use Rattle.lines.specs.Lines.{lineFigure, lineLaws}
+use Rattle.trees.specs.Tree.{Tree, leaves}
+use Rattle.trees.specs.Operations.{Part, Cut, partLeaves, joinP, splitP}
+use Rattle.trees.specs.Balanced.{AvlP}
+use Rattle.table.specs.Words.{Words}
+use Rattle.table.specs.Layout.{cap, cell}
+use Rattle.table.specs.Items.{Item, In, Slots}
+use Rattle.table.specs.Rep.{Field, Tied, Within}
+use Rattle.table.specs.Parts.{refOfP}
+use Rattle.table.specs.Threads.{Holds, Threaded}
+
+-- ---- items as lines
+
+abbrev pub rateOf : Item → ℤ
+rateOf a = a .offer .rate
+
+abbrev pub baseOf : Item → ℤ
+baseOf a = a .offer .base
+
+abbrev pub items : Figure
+items = lineFigure Item rateOf baseOf
+
+pub item-laws : PseudoLines items
+item-laws = lineLaws Item rateOf baseOf
+
+-- ---- piece trees that may be empty
+
+abbrev pub partRef : Part Item → ℕ
+partRef p = refOfP p
+
+-- its nodes, and the thread along its leaves
+abbrev pub PartIn : Words → Part Item → Type 0
+PartIn w none = Unit {0}
+PartIn w (some t) = Tied w 0 t × Threaded w (leaves t)
+
+-- ---- what a change of pieces leaves alone
+
+-- nodes of the piece tree, the next piece and the crossing with it
+pub data PieceField (f : ℕ) : Type 0 where
+  of-node : Field 0 f → PieceField f
+  of-numerator : f ≡ 6 → PieceField f
+  of-denominator : f ≡ 7 → PieceField f
+  of-next : f ≡ 19 → PieceField f
+
+-- of the fields, only those of pieces in slots of xs have changed
+pub record PiecesOnly (xs : List Item) (w w′ : Words) : Type 0 where
+  pub cells : (f s : ℕ) → ¬ (PieceField f × In s xs) → cell w′ f s ≡ cell w f s
+
+-- ---- the promises
+
+-- the words hold the piece tree p, with the data of its items
+pub record Standing (w : Words) (x : ℕ) (p : Part Item) : Type 0 where
+  pub root : x ≡ partRef p
+  pub slots : Slots (cap w) (partLeaves p)
+  pub holds : Holds w (partLeaves p)
+  pub balanced : AvlP p
+  pub pieces : PartIn w p
+
+-- two of them side by side, sharing no slot
+pub record Beside (w : Words) (l r : ℕ) (p q : Part Item) : Type 0 where
+  pub left : Standing w l p
+  pub right : Standing w r q
+  pub slots : Slots (cap w) (partLeaves p ++ partLeaves q)
+
+-- put together, with the crossing at the seam
+pub record Catted (l r : ℕ) (w w′ : Words) (x : ℕ) : Type 0 where
+  pub within : Within w w′
+  pub root : (p q : Part Item) → Beside w l r p q → Standing w′ x (joinP p q)
+  pub only : (p q : Part Item) → Beside w l r p q → PiecesOnly (partLeaves p ++ partLeaves q) w w′
+
+-- cut by rate: in front the pieces whose rate is at least that, or above it where the cut is strict
+abbrev pub inFront : Bool → ℤ → Item → Bool
+inFront false rate a = leZ rate (rateOf a)
+inFront true rate a = ltZ rate (rateOf a)
+
+pub record CutAt (strict : Bool) (rate : ℤ) (x : ℕ) (w w′ : Words) (front back : ℕ) : Type 0 where
+  pub within : Within w w′
+  pub in-front : (p : Part Item) → Standing w x p → Standing w′ front (splitP (inFront strict rate) p .front)
+  pub behind : (p : Part Item) → Standing w x p → Standing w′ back (splitP (inFront strict rate) p .back)
+  pub only : (p : Part Item) → Standing w x p → PiecesOnly (partLeaves p) w w′

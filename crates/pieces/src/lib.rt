@@ -1,0 +1,45 @@
+// Piece trees in the table: an envelope's pieces with their crossings, cut by rate and put together.
+ghost use mathlib.Core.Path.{_≡_};
+ghost use Rattle.pieces.specs.Pieces.{CutAt, Catted};
+ghost use Rattle.pieces.specs.Cutting.{leastRate};
+
+// The least rate in front of a cut: for a strict one a rate more. No offer's rate reaches a million.
+fn least_rate(strict: bool, rate: i64) -> i64
+    ensures { λ r. ⌜ r ≡ leastRate strict rate ⌝ }
+{
+    if !strict {
+        return rate;
+    }
+    if rate < 1_000_000 {
+        return rate + 1;
+    }
+    1_000_000
+}
+
+// Cuts a piece tree by rate: in front the pieces whose rate is at least `rate`, or above it where the cut is strict.
+pub fn cut(part: &mut [i64], strict: bool, rate: i64, x: u32) -> descents::Cut
+    ensures { λ r. ⌜ CutAt strict rate x (now (part .entry)) (now (part .exit)) (r .front) (r .back) ⌝ }
+{
+    let least = least_rate(strict, rate);
+    descents::split(part, 0, 1, least, x, 24)
+}
+
+// Puts two piece trees together, either of which may be empty, and keeps the crossing at the seam.
+pub fn cat(part: &mut [i64], l: u32, r: u32) -> u32
+    ensures { λ x. ⌜ Catted l r (now (part .entry)) (now (part .exit)) x ⌝ }
+{
+    if l == 0 {
+        return r;
+    }
+    if r == 0 {
+        return l;
+    }
+    let s = descents::end(part, 0, true, l);
+    let n = descents::end(part, 0, false, r);
+    let numerator = search::base(part, n) - search::base(part, s);
+    let denominator = search::rate(part, s) - search::rate(part, n);
+    table::put(part, 6, s, numerator);
+    table::put(part, 7, s, denominator);
+    table::put_link(part, 19, s, n);
+    shape::join(part, 0, s, l, r)
+}

@@ -1,0 +1,82 @@
+-- `query::price` meets its contract.
+use mathlib.Core.Path.{_≡_, _∙_, ap}
+use Prim.Native.Nat.{_≤_}
+use native.Mathlib.Omega.{arith}
+use lib.IntN.{ℤ, natAbs, _+ℤ_, _*ℤ_}
+use mir.Syntax.{w64}
+use mir.Val.{SFits}
+use mir.Facts.{toZ-ofZ}
+use Rattle.integers.specs.Magnitude.{fits, natAbs-add}
+use Rattle.table.specs.Words.{Words}
+use Rattle.table.specs.Layout.{cell}
+use Rattle.query.specs.Readings.{clamped, clamped-size, clamped-product, priceIn}
+use borrow.Author.Needs.{needs}
+use Rattle.query.proofs.price.Statement.{statement}
+use Rattle.query.proofs.price.Tie as tie
+use Rattle.query.proofs.price.Reads as reads
+use Rattle.query.proofs.price.Lts as lts
+use Rattle.table.proofs.get.Reads as get-reads
+use Rattle.query.proofs.bounded.Reads as bounded-reads
+
+-- base, rate and load as they were clamped
+module _ {b r l : ℤ} (x y q : ℤ) (eb : b ≡ clamped 1_000_000_000 x) (er : r ≡ clamped 100_000 y) (el : l ≡ clamped 1_000_000 q) where
+  product-fits : SFits w64 (r *ℤ l)
+  product-fits = fits _ (omega (arith, clamped-product 99_999 999_999 _ _ er el))
+
+  base-size : natAbs b ≤ 1_000_000_000
+  base-size = rw eb (clamped-size 999_999_999 x)
+
+  sum-fits : SFits w64 (b +ℤ r *ℤ l)
+  sum-fits = fits _ (omega (arith, natAbs-add b (r *ℤ l), base-size, clamped-product 99_999 999_999 _ _ er el))
+
+  told : (w : Words) (s : _) → x ≡ cell w 2 s → y ≡ cell w 1 s → b +ℤ r *ℤ l ≡ priceIn w s q
+  unfolding priceIn
+  told w s d e = rw (← d, ← e, ← eb, ← er, ← el)
+
+get-requires : tie.Need-get-requires
+get-requires c κs = search needs
+
+bounded-requires : tie.Need-bounded-requires
+bounded-requires c κs = search needs
+
+get-requires-2 : tie.Need-get-requires-2
+get-requires-2 c κs = search needs
+
+bounded-requires-2 : tie.Need-bounded-requires-2
+bounded-requires-2 c κs = search needs
+
+bounded-requires-3 : tie.Need-bounded-requires-3
+bounded-requires-3 c κs = search needs
+
+mul-result : tie.Need-mul-result
+mul-result c =
+    let r : SFits w64 (c .before .bounded2 .result) = record { sfits = c .before .bounded2 .ok } in
+    let l : SFits w64 (c .bounded3 .result) = record { sfits = c .bounded3 .ok } in
+    simp (toZ-ofZ, r, l) (product-fits _ _ _ (c .before .before .before .bounded .ensures) (c .before .bounded2 .ensures) (c .bounded3 .ensures))
+
+add-result : tie.Need-add-result
+add-result c =
+    let b : SFits w64 (c .before .before .before .bounded .result) = record { sfits = c .before .before .before .bounded .ok } in
+    let r : SFits w64 (c .before .bounded2 .result) = record { sfits = c .before .bounded2 .ok } in
+    let l : SFits w64 (c .bounded3 .result) = record { sfits = c .bounded3 .ok } in
+    let p = product-fits _ _ _ (c .before .before .before .bounded .ensures) (c .before .bounded2 .ensures) (c .bounded3 .ensures) in
+    simp (toZ-ofZ, b, r, l, p) (sum-fits _ _ _ (c .before .before .before .bounded .ensures) (c .before .bounded2 .ensures) (c .bounded3 .ensures))
+
+returns : tie.Need-returns
+returns c =
+    let x : SFits w64 (c .before .before .before .before .get .result) = record { sfits = c .before .before .before .before .get .ok } in
+    let y : SFits w64 (c .before .before .get2 .result) = record { sfits = c .before .before .get2 .ok } in
+    let b : SFits w64 (c .before .before .before .bounded .result) = record { sfits = c .before .before .before .bounded .ok } in
+    let r : SFits w64 (c .before .bounded2 .result) = record { sfits = c .before .bounded2 .ok } in
+    let l : SFits w64 (c .bounded3 .result) = record { sfits = c .bounded3 .ok } in
+    let p = product-fits _ _ _ (c .before .before .before .bounded .ensures) (c .before .bounded2 .ensures) (c .bounded3 .ensures) in
+    let s = sum-fits _ _ _ (c .before .before .before .bounded .ensures) (c .before .bounded2 .ensures) (c .bounded3 .ensures) in
+    simp (toZ-ofZ, b, r, l, p, s)
+    (told _ _ _
+    (simp (toZ-ofZ, x) at (c .before .before .before .bounded .ensures))
+    (simp (toZ-ofZ, y) at (c .before .bounded2 .ensures))
+    (simp (toZ-ofZ, c .before .before .before .before .before .fits .load) at (c .bounded3 .ensures))
+    _ _ (c .before .before .before .before .get .ensures) (c .before .before .get2 .ensures))
+
+pub price-spec : {M : Type 1} → statement M
+price-spec = tie.close (tie.spec get-requires bounded-requires get-requires-2 bounded-requires-2 bounded-requires-3 mul-result add-result returns)

@@ -1,0 +1,151 @@
+// Balanced trees in the table. One set of functions serves the three trees and both sides.
+ghost use mathlib.Core.Path.{_≡_};
+ghost use Prim.Native.Nat.{suc, max};
+ghost use Rattle.table.specs.Rep.{heightAt, nodeOn};
+ghost use Rattle.shape.specs.Sides.{rowOn, doubleOn, rotateOn, balanceOn};
+ghost use Rattle.shape.specs.Joining.{Joined};
+ghost use Rattle.shape.specs.Rows.{Rowed};
+ghost use Rattle.shape.specs.Splices.{Spliced, towersAt};
+ghost use Rattle.shape.specs.Merge.{Merged};
+
+// The height of a node over two.
+pub fn height_over(part: &[i64], tree: u8, p: u32, q: u32) -> u32
+    ensures { λ r. ⌜ r ≡ suc (max (heightAt (now (part .entry)) tree p) (heightAt (now (part .entry)) tree q)) ⌝ }
+{
+    let hp = table::height(part, tree, p);
+    let hq = table::height(part, tree, q);
+    if hp < hq {
+        return hq + 1;
+    }
+    hp + 1
+}
+
+// One node over two trees side by side, `p` on a side and `q` on the other, kept in the slot `gap` of the seam.
+pub fn make_node(part: &mut [i64], tree: u8, side: bool, gap: u32, p: u32, q: u32) -> u32
+    ensures { λ x. ⌜ Joined (nodeOn side) tree side gap p q (now (part .entry)) (now (part .exit)) x ⌝ }
+{
+    if gap > 4096 {
+        return 0;
+    }
+    let h = height_over(part, tree, p, q);
+    table::put_link(part, table::child_field(tree, side), gap, p);
+    table::put_link(part, table::child_field(tree, !side), gap, q);
+    table::put_link(part, table::height_field(tree), gap, h);
+    4096 + gap
+}
+
+// Three trees in a row: a node over the last two, and one over the first and that. `near` is the first seam's slot, `far` the second's.
+pub fn hang(
+    part: &mut [i64],
+    tree: u8,
+    side: bool,
+    near: u32,
+    far: u32,
+    p: u32,
+    m: u32,
+    q: u32,
+) -> u32
+    ensures { λ x. ⌜ Rowed (rowOn side) tree side near far p m q (now (part .entry)) (now (part .exit)) x ⌝ }
+{
+    let y = make_node(part, tree, side, far, m, q);
+    make_node(part, tree, side, near, p, y)
+}
+
+// The double rotation: the middle one of three trees in a row comes up between the others.
+pub fn double(
+    part: &mut [i64],
+    tree: u8,
+    side: bool,
+    near: u32,
+    far: u32,
+    p: u32,
+    m: u32,
+    q: u32,
+) -> u32
+    ensures { λ x. ⌜ Rowed (doubleOn side) tree side near far p m q (now (part .entry)) (now (part .exit)) x ⌝ }
+{
+    if m <= 4096 {
+        return hang(part, tree, side, near, far, p, m, q);
+    }
+    let a = table::child(part, tree, side, m);
+    let b = table::child(part, tree, !side, m);
+    let gap = table::inner_slot(m);
+    let y = make_node(part, tree, side, near, p, a);
+    hang(part, tree, side, gap, far, y, b, q)
+}
+
+// A rotation away from the side on which `p`, the higher tree, stands.
+pub fn rotate(part: &mut [i64], tree: u8, side: bool, gap: u32, p: u32, q: u32) -> u32
+    ensures { λ x. ⌜ Joined (rotateOn side) tree side gap p q (now (part .entry)) (now (part .exit)) x ⌝ }
+{
+    if p <= 4096 {
+        return make_node(part, tree, side, gap, p, q);
+    }
+    let a = table::child(part, tree, side, p);
+    let m = table::child(part, tree, !side, p);
+    let near = table::inner_slot(p);
+    if table::height(part, tree, m) <= table::height(part, tree, a) {
+        return hang(part, tree, side, near, gap, a, m, q);
+    }
+    double(part, tree, side, near, gap, a, m, q)
+}
+
+// One tree of two side by side whose heights differ by at most 2.
+pub fn balance(part: &mut [i64], tree: u8, side: bool, gap: u32, p: u32, q: u32) -> u32
+    ensures { λ x. ⌜ Joined (balanceOn side) tree side gap p q (now (part .entry)) (now (part .exit)) x ⌝ }
+{
+    let hp = table::height(part, tree, p);
+    let hq = table::height(part, tree, q);
+    if hp > hq + 1 {
+        return rotate(part, tree, side, gap, p, q);
+    }
+    if hq > hp + 1 {
+        return rotate(part, tree, !side, gap, q, p);
+    }
+    make_node(part, tree, side, gap, p, q)
+}
+
+// Node `p` stands more than one higher than `q`.
+pub fn towers(part: &[i64], tree: u8, p: u32, q: u32) -> bool
+    ensures { λ r. ⌜ r ≡ towersAt (now (part .entry)) tree p q ⌝ }
+{
+    let hp = table::height(part, tree, p);
+    let hq = table::height(part, tree, q);
+    hq + 1 < hp
+}
+
+// Joins two trees along the inner spine of `p`, as long as it towers over `q`. `limit` bounds the height of `p`.
+pub fn splice(part: &mut [i64], tree: u8, side: bool, gap: u32, p: u32, q: u32, limit: u32) -> u32
+    ensures { λ x. ⌜ Spliced tree side gap p q limit (now (part .entry)) (now (part .exit)) x ⌝ }
+{
+    if limit == 0 {
+        return make_node(part, tree, side, gap, p, q);
+    }
+    if towers(part, tree, p, q) {
+        let a = table::child(part, tree, side, p);
+        let m = table::child(part, tree, !side, p);
+        let g = table::inner_slot(p);
+        let y = splice(part, tree, side, gap, m, q, limit - 1);
+        return balance(part, tree, side, g, a, y);
+    }
+    make_node(part, tree, side, gap, p, q)
+}
+
+// Joins two balanced trees, either of which may be empty. `gap` is the slot of the last leaf of `l`.
+pub fn join(part: &mut [i64], tree: u8, gap: u32, l: u32, r: u32) -> u32
+    ensures { λ x. ⌜ Merged tree gap l r (now (part .entry)) (now (part .exit)) x ⌝ }
+{
+    if l == 0 {
+        return r;
+    }
+    if r == 0 {
+        return l;
+    }
+    if towers(part, tree, l, r) {
+        return splice(part, tree, false, gap, l, r, 24);
+    }
+    if towers(part, tree, r, l) {
+        return splice(part, tree, true, gap, r, l, 24);
+    }
+    make_node(part, tree, false, gap, l, r)
+}

@@ -1,0 +1,19 @@
+-- `table::at_least` meets its contract.
+use mathlib.Core.Path.{ap}
+use lib.IntN.{ℤ}
+use lib.Signed.{leZ}
+use mir.Facts.{toZ-ofZ}
+use mir.Syntax.{w64}
+use mir.Val.{SFits}
+use borrow.Author.Needs.{needs}
+use Rattle.table.proofs.at_least.Statement.{statement}
+use Rattle.table.proofs.at_least.Tie as tie
+
+get-requires : tie.Need-get-requires
+get-requires c κs = search needs
+
+returns : tie.Need-returns
+returns c = let k = c .before .fits .key in let g : SFits w64 (c .get .result) = record { sfits = c .get .ok } in simp (toZ-ofZ, k, g) (ap (leZ (c .before .args .key)) (c .get .ensures))
+
+pub at-least-spec : {M : Type 1} → statement M
+at-least-spec = tie.close (tie.spec get-requires returns)

@@ -1,0 +1,67 @@
+-- Trees that may be empty, kept in words: node number 0 is the empty one.
+use mathlib.Core.Path.{_≡_, refl, sym, _∙_, ap, subst}
+use mathlib.Core.Option.{Option, none, some}
+use mathlib.Core.List.{List, [], _∷_, _++_}
+use Prim.Native.Nat.{ℕ, _≤_, _<_}
+use native.Mathlib.Omega.{arith}
+use Rattle.trees.specs.Tree.{Tree, leaf, node, height, leaves, last, Avl}
+use Rattle.trees.specs.Operations.{Part, partLeaves}
+use Rattle.trees.specs.Height.{height-full}
+use Rattle.table.specs.Words.{Words}
+use Rattle.table.specs.Layout.{cap, cap-most}
+use Rattle.table.specs.Items.{Item, In, Slots, slots-most}
+use Rattle.table.specs.Rep.{refOf, Tied, tied-still, Rep, Within, within-cap, Only, inner-in}
+use Rattle.table.specs.Nodes.{Made, ref-low}
+
+abbrev pub refOfP : Part Item → ℕ
+refOfP none = 0
+refOfP (some t) = refOf t
+
+abbrev pub TiedP : Words → ℕ → Part Item → Type 0
+TiedP w k none = Unit {0}
+TiedP w k (some t) = Tied w k t
+
+pub record RepP (w : Words) (k x : ℕ) (p : Part Item) : Type 0 where
+  pub kind : k ≤ 2
+  pub root : x ≡ refOfP p
+  pub slots : Slots (cap w) (partLeaves p)
+  pub tied : TiedP w k p
+
+-- x is the root of p, and nothing but nodes of p was written
+pub record MadeP (k : ℕ) (w w′ : Words) (x : ℕ) (p : Part Item) : Type 0 where
+  pub rep : RepP w′ k x p
+  pub only : Only k (partLeaves p) w w′
+
+pub made-some : {k x : ℕ} {w w′ : Words} {t : Tree Item} → Made k w w′ x t → MadeP k w w′ x (some t)
+made-some m = record { rep = record { kind = m .rep .kind; root = m .rep .root; slots = m .rep .slots; tied = m .rep .tied }; only = m .only }
+
+pub rep-some : {w : Words} {k x : ℕ} {t : Tree Item} → RepP w k x (some t) → Rep w k x t
+rep-some r = record { kind = r .kind; root = r .root; slots = r .slots; tied = r .tied }
+
+pub tiedP-still : {k : ℕ} {xs : List Item} {w w′ : Words} (p : Part Item) → TiedP w k p → Only k xs w w′ → ((s : ℕ) → In s xs → In s (partLeaves p) → ⊥) → TiedP w′ k p
+tiedP-still none t g d = tt
+tiedP-still (some u) t g d = tied-still t g (λ s i j. d s j (inner-in i))
+
+-- a part that shares no slot with what was written stands as before
+pub repP-still : {k x : ℕ} {xs : List Item} {w w′ : Words} (p : Part Item) → RepP w k x p → Within w w′ → Only k xs w w′ → ((s : ℕ) → In s xs → In s (partLeaves p) → ⊥) → RepP w′ k x p
+repP-still p r g o d = record { kind = r .kind; root = r .root; slots = rw (within-cap g) (r .slots); tied = tiedP-still p (r .tied) o d }
+
+-- a balanced tree in a table is at most 24 high
+pub low : (w : Words) {t : Tree Item} → Slots (cap w) (leaves t) → Avl t → height t ≤ 24
+low w {t} s a = height-full a (omega (arith, slots-most (cap w) (leaves t) s, cap-most w))
+
+-- ---- two parts side by side
+
+pub record PairP (w : Words) (k l r : ℕ) (pl pr : Part Item) : Type 0 where
+  pub kind : k ≤ 2
+  pub left : l ≡ refOfP pl
+  pub right : r ≡ refOfP pr
+  pub slots : Slots (cap w) (partLeaves pl ++ partLeaves pr)
+  pub tied-left : TiedP w k pl
+  pub tied-right : TiedP w k pr
+
+-- the slot of the seam, where there is one
+abbrev pub Seam : ℕ → Part Item → Part Item → Type 0
+Seam gap none pr = Unit {0}
+Seam gap (some tl) none = Unit {0}
+Seam gap (some tl) (some tr) = gap ≡ last tl .slot

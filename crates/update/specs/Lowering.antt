@@ -1,0 +1,325 @@
+-- Lower in words: cut the whole envelope behind the left child's last line, then give each child its rest back.
+use mathlib.Core.Path.{_≡_, refl, sym, _∙_, ap, subst}
+use mathlib.Core.Bool.{true, false, cond}
+use mathlib.Core.List.{List, _∷_, _++_, List·Memᴰ·head, List·Memᴰ·tail, Memᴰ·append-left, Memᴰ·append-right}
+use Prim.Native.Nat.{ℕ, _+_, _-_, _<_}
+use native.Mathlib.Omega.{arith}
+use lib.Dec.{ltb}
+use lib.IntN.{ℤ}
+use borrow.Author.Tests.{lt-ltb, le-ltb}
+use Rattle.trees.specs.Tree.{leaves, last}
+use Rattle.trees.specs.Leaves.{last-leaf, leaves-joinP}
+use Rattle.trees.specs.Operations.{Part, Cut, partLeaves, joinP, splitP}
+use Rattle.trees.specs.Balanced.{AvlP}
+use Rattle.dynamic.specs.OfferTree.{OfferTree, single, fork, shape, Held, hold, heldShape, cutBehind, lowerTree, lower}
+use Rattle.dynamic.specs.Valid.{Whole}
+use Rattle.dynamic.specs.Lower.{LowersTo, whole-lower}
+use Rattle.dynamic.specs.Rearranged.{stored, rests}
+use Rattle.dynamic.specs.Heights.{trees-balanced}
+use Rattle.table.specs.Words.{Words}
+use Rattle.table.specs.Layout.{cap, cap-most, cell, linkAt}
+use Rattle.table.specs.Items.{Item, Slots, slots-left, slots-right}
+use Rattle.table.specs.Rep.{childAt, refOf, Tied, tied-node, Within, within-trans}
+use Rattle.table.specs.Threads.{Holds, holds-left, holds-right}
+use Rattle.pieces.specs.Pieces.{items, item-laws, rateOf, partRef, PieceField, PiecesOnly, Standing, Beside, Catted, inFront, CutAt}
+use Rattle.update.specs.Stored.{RestIn, Stored, stored-fork, HeldIn, Touched}
+use Rattle.update.specs.Steps.{LoweredIn}
+use Rattle.update.specs.Frames.{Disjoint, disjoint-across, tied-same, holds-same, rest-same, stored-same, held-slots, held-holds, whole-standing, whole-inside, stored-inside, pieces-offers, pieces-tree, pieces-rests, pieces-else, pieces-touched, slots-within, standing-still, pieces-trans, pieces-more, touched-more}
+use Rattle.update.specs.RaisingModel.{up-to-test}
+use Rattle.update.specs.RaisingCuts.{Halved, halved}
+use Rattle.update.specs.Disjoint.{inside-refl, inside-left, inside-right, inside-join, disjoint-join, disjoint-turned, disjoint-both, slots-join}
+
+-- ---- what is read
+
+-- the root of what stays with node n
+abbrev pub restAt : Words → ℕ → ℕ
+restAt w n = cond (ltb 4096 n) (linkAt w 20 (n - 4096)) (linkAt w 21 n)
+
+pub rest-at : {w : Words} (t : OfferTree Item) {q : Part Item} → Slots (cap w) (leaves (shape t)) → RestIn w t q → restAt w (refOf (shape t)) ≡ partRef q
+rest-at {w} (single a) s h = rw (le-ltb 4096 (a .slot) (omega (arith, s .high (List·Memᴰ·head refl), cap-most w))) (h .root)
+rest-at {w} (fork u v l ql qr r) {q} s h =
+    let here : 4096 + last (shape l) .slot - 4096 ≡ last (shape l) .slot = omega arith in
+    rw (lt-ltb 4096 (4096 + last (shape l) .slot) (omega (arith, s .low (Memᴰ·append-left (leaves (shape r)) (last-leaf (shape l)))))) (rw here (h .root))
+
+-- a fork in hand: its children, its separator and what stays with the children
+pub record Forked (w : Words) (x : ℕ) (l r : OfferTree Item) (ql qr : Part Item) : Type 0 where
+  pub left-at : childAt w 1 false x ≡ refOf (shape l)
+  pub right-at : childAt w 1 true x ≡ refOf (shape r)
+  pub rate-at : cell w 1 (x - 4096) ≡ rateOf (last (shape l))
+  pub tied-left : Tied w 1 (shape l)
+  pub tied-right : Tied w 1 (shape r)
+  pub stored-left : Stored w l
+  pub stored-right : Stored w r
+  pub rest-left : RestIn w l ql
+  pub rest-right : RestIn w r qr
+
+pub forked : {w : Words} {x e : ℕ} {u v : Item} {l r : OfferTree Item} {ql qr p : Part Item} → HeldIn w x e (hold (fork u v l ql qr r) p) → Forked w x l r ql qr
+forked {w} {x} {u} {v} {l} {r} {ql} {qr} held = go (held .tied) (held .stored)
+  where
+    here : x - 4096 ≡ last (shape l) .slot
+    here = omega (arith, held .root)
+
+    go : Tied w 1 (shape (fork u v l ql qr r)) → Stored w (fork u v l ql qr r) → Forked w x l r ql qr
+    go (tied-node a b el er eh) (stored-fork sl sr eu ev rl rr) =
+        record {
+          left-at = ap (linkAt w _) here ∙ el;
+          right-at = ap (linkAt w _) here ∙ er;
+          rate-at = ap (cell w 1) here ∙ held .kept .held (Memᴰ·append-left (leaves (shape r)) (last-leaf (shape l))) .rate;
+          tied-left = a;
+          tied-right = b;
+          stored-left = sl;
+          stored-right = sr;
+          rest-left = rl;
+          rest-right = rr;
+        }
+
+-- ---- the cut
+
+-- the whole envelope cut by the rate of s is cut behind s
+cut-behind : {θ : ℤ} {e a b : ℕ} {w w₁ : Words} {p : Part Item} (s : Item) → θ ≡ rateOf s → CutAt false θ e w w₁ a b → Standing w e p → Halved w₁ a b p (cutBehind items s p)
+cut-behind {a} {b} {w₁} {p} s d cut st = subst (λ test. Halved w₁ a b p (splitP test p)) (ap (inFront false) d ∙ sym (up-to-test s)) (halved cut st)
+
+-- ---- a child, with its envelope put together again
+
+child-held :
+    {w w′ : Words} {n y : ℕ} {t : OfferTree Item} {q : Part Item} {ys : List Item} →
+    Within w w′ →
+    PiecesOnly ys w w′ →
+    n ≡ refOf (shape t) →
+    Slots (cap w) (leaves (shape t)) →
+    Holds w (leaves (shape t)) →
+    Tied w 1 (shape t) →
+    Stored w t →
+    Disjoint (stored t) ys →
+    Standing w′ y q →
+    Whole items (hold t q) →
+    HeldIn w′ n y (hold t q)
+child-held {t} within g e slots holds tied st d whole right =
+    record {
+      root = e;
+      envelope = whole .root;
+      slots = slots-within within slots;
+      kept = holds-same holds (pieces-offers g (leaves (shape t)));
+      tied = tied-same tied (pieces-tree g (leaves (shape t)));
+      stored = stored-same st (pieces-rests g (leaves (shape t))) (pieces-else g PieceField d);
+      pieces = whole .pieces;
+      right = right;
+    }
+
+-- what stays with node n, as a piece tree
+rest-standing :
+    {w : Words} {n x : ℕ} {q : Part Item} (t : OfferTree Item) →
+    n ≡ refOf (shape t) →
+    x ≡ restAt w n →
+    Slots (cap w) (leaves (shape t)) →
+    RestIn w t q →
+    Slots (cap w) (partLeaves q) →
+    Holds w (partLeaves q) →
+    AvlP q →
+    Standing w x q
+rest-standing {w} t d e slots rest own holds balanced =
+    record { root = e ∙ ap (restAt w) d ∙ rest-at t slots rest; slots = own; holds = holds; balanced = balanced; pieces = rest .pieces }
+
+-- ---- two pairs of piece trees, each put together
+
+record Joins (w w′ : Words) (x y : ℕ) (p q p′ q′ : Part Item) : Type 0 where
+  within : Within w w′
+  one : Standing w′ x (joinP p q)
+  other : Standing w′ y (joinP p′ q′)
+  only : PiecesOnly ((partLeaves p ++ partLeaves q) ++ (partLeaves p′ ++ partLeaves q′)) w w′
+
+joins :
+    {w w₁ w₂ : Words} {a b a′ b′ x y : ℕ} {p q p′ q′ : Part Item} →
+    Catted a b w w₁ x →
+    Catted a′ b′ w₁ w₂ y →
+    Beside w a b p q →
+    Beside w a′ b′ p′ q′ →
+    Disjoint (partLeaves p ++ partLeaves q) (partLeaves p′ ++ partLeaves q′) →
+    Joins w w₂ x y p q p′ q′
+joins {w} {w₁} {w₂} {a′} {b′} {p} {q} {p′} {q′} one other side side′ d =
+    record {
+      within = within-trans (one .within) (other .within);
+      one = standing-still (other .within) (one .root p q side) (pieces-touched only₂) (rw leaves-joinP d);
+      other = other .root p′ q′ later;
+      only = pieces-trans (pieces-more (inside-left (partLeaves p′ ++ partLeaves q′)) only₁) (pieces-more (inside-right (partLeaves p ++ partLeaves q)) only₂);
+    }
+  where
+    only₁ : PiecesOnly (partLeaves p ++ partLeaves q) w w₁
+    only₁ = one .only p q side
+
+    later : Beside w₁ a′ b′ p′ q′
+    later =
+        record {
+          left = standing-still (one .within) (side′ .left) (pieces-touched only₁) (disjoint-both (inside-left (partLeaves q′)) (inside-refl _) (disjoint-turned d));
+          right = standing-still (one .within) (side′ .right) (pieces-touched only₁) (disjoint-both (inside-right (partLeaves p′)) (inside-refl _) (disjoint-turned d));
+          slots = slots-within (one .within) (side′ .slots);
+        }
+
+    only₂ : PiecesOnly (partLeaves p′ ++ partLeaves q′) w₁ w₂
+    only₂ = other .only p′ q′ later
+
+-- ---- the calls in a row
+
+-- the children, the separator's rate, the cut, the rests, and each child's part put together with its rest
+record Calls (x e : ℕ) (w w₁ w₂ w₃ : Words) (l r ql qr a b le re : ℕ) (θ : ℤ) : Type 0 where
+  left : l ≡ childAt w 1 false x
+  right : r ≡ childAt w 1 true x
+  rate : θ ≡ cell w 1 (x - 4096)
+  cut : CutAt false θ e w w₁ a b
+  rest-left : ql ≡ restAt w₁ l
+  rest-right : qr ≡ restAt w₁ r
+  front : Catted a ql w₁ w₂ le
+  back : Catted qr b w₂ w₃ re
+
+-- what they leave of a subtree in hand
+record Lowers (x e : ℕ) (w w′ : Words) (l le r re : ℕ) (h : Held Item) : Type 0 where
+  front : HeldIn w′ l le (lower items h .front)
+  back : HeldIn w′ r re (lower items h .back)
+  touched : Touched (leaves (heldShape h)) w w′
+
+-- the five lists of a fork's pieces, no two of which share a slot
+record Spread (p ql sl qr sr : List Item) : Type 0 where
+  p-ql : Disjoint p ql
+  p-sl : Disjoint p sl
+  p-qr : Disjoint p qr
+  p-sr : Disjoint p sr
+  ql-sl : Disjoint ql sl
+  ql-qr : Disjoint ql qr
+  ql-sr : Disjoint ql sr
+  sl-qr : Disjoint sl qr
+  qr-sr : Disjoint qr sr
+
+spread : {c : ℕ} (p ql sl qr sr : List Item) → Slots c (p ++ ((ql ++ sl) ++ (qr ++ sr))) → Spread p ql sl qr sr
+spread {c} p ql sl qr sr s =
+    record {
+      p-ql = disjoint-both (inside-refl p) (λ n i. inside-left (qr ++ sr) n (inside-left sl n i)) whole;
+      p-sl = disjoint-both (inside-refl p) (λ n i. inside-left (qr ++ sr) n (inside-right ql n i)) whole;
+      p-qr = disjoint-both (inside-refl p) (λ n i. inside-right (ql ++ sl) n (inside-left sr n i)) whole;
+      p-sr = disjoint-both (inside-refl p) (λ n i. inside-right (ql ++ sl) n (inside-right qr n i)) whole;
+      ql-sl = disjoint-across ql (slots-left (qr ++ sr) rest);
+      ql-qr = disjoint-both (inside-left sl) (inside-left sr) sides;
+      ql-sr = disjoint-both (inside-left sl) (inside-right qr) sides;
+      sl-qr = disjoint-both (inside-right ql) (inside-left sr) sides;
+      qr-sr = disjoint-across qr (slots-right (ql ++ sl) rest);
+    }
+  where
+    whole : Disjoint p ((ql ++ sl) ++ (qr ++ sr))
+    whole = disjoint-across p s
+
+    rest : Slots c ((ql ++ sl) ++ (qr ++ sr))
+    rest = slots-right p s
+
+    sides : Disjoint (ql ++ sl) (qr ++ sr)
+    sides = disjoint-across (ql ++ sl) rest
+
+module _ {x e l r ql qr a b le re : ℕ} {θ : ℤ} {w w₁ w₂ w₃ : Words} {u v : Item} {L R : OfferTree Item} {QL QR P : Part Item} (calls : Calls x e w w₁ w₂ w₃ l r ql qr a b le re θ) (held : HeldIn w x e (hold (fork u v L QL QR R) P)) where
+  lowers-fork : Lowers x e w w₃ l le r re (hold (fork u v L QL QR R) P)
+  unfolding lowerTree
+  lowers-fork =
+      record {
+        front =
+            child-held within pieces (calls .left ∙ f .left-at) (slots-left (leaves (shape R)) (held .slots)) (holds-left (leaves (shape R)) (held .kept)) (f .tied-left) (f .stored-left)
+            (disjoint-turned (disjoint-join (partLeaves P) (d .p-sl) (disjoint-join (partLeaves QL) (d .ql-sl) (disjoint-turned (d .sl-qr))))) (joined .one) (whole .front);
+        back =
+            child-held within pieces (calls .right ∙ f .right-at) (slots-right (leaves (shape L)) (held .slots)) (holds-right (leaves (shape L)) (held .kept)) (f .tied-right) (f .stored-right)
+            (disjoint-turned (disjoint-join (partLeaves P) (d .p-sr) (disjoint-join (partLeaves QL) (d .ql-sr) (d .qr-sr)))) (joined .other) (whole .back);
+        touched =
+            touched-more
+            (inside-join (partLeaves P) (whole-inside held)
+            (inside-join (partLeaves QL) (λ n i. stored-inside held n (inside-left (partLeaves QR ++ stored R) n (inside-left (stored L) n i)))
+            (λ n i. stored-inside held n (inside-right (partLeaves QL ++ stored L) n (inside-left (stored R) n i)))))
+            (pieces-touched pieces);
+      }
+    where
+      f : Forked w x L R QL QR
+      f = forked held
+
+      whole : LowersTo items L R (lower items (hold (fork u v L QL QR R) P))
+      whole = whole-lower items item-laws (held .right) refl
+
+      c : Cut Item
+      c = cutBehind items (last (shape L)) P
+
+      k : Halved w₁ a b P c
+      k = cut-behind (last (shape L)) (calls .rate ∙ f .rate-at) (calls .cut) (whole-standing held)
+
+      d : Spread (partLeaves P) (partLeaves QL) (stored L) (partLeaves QR) (stored R)
+      d = spread (partLeaves P) (partLeaves QL) (stored L) (partLeaves QR) (stored R) (held-slots held)
+
+      cutting : PiecesOnly (partLeaves P) w w₁
+      cutting = calls .cut .only P (whole-standing held)
+
+      rest-slots : Slots (cap w₁) (stored (fork u v L QL QR R))
+      rest-slots = slots-within (calls .cut .within) (slots-right (partLeaves P) (held-slots held))
+
+      rest-holds : Holds w₁ (stored (fork u v L QL QR R))
+      rest-holds = holds-same (holds-right (partLeaves P) (held-holds held)) (pieces-offers cutting (stored (fork u v L QL QR R)))
+
+      ql₁ : Standing w₁ ql QL
+      ql₁ =
+          rest-standing L (calls .left ∙ f .left-at) (calls .rest-left) (slots-within (calls .cut .within) (slots-left (leaves (shape R)) (held .slots)))
+          (rest-same L (f .rest-left) (pieces-rests cutting (leaves (shape L))) (pieces-else cutting PieceField (disjoint-turned (d .p-ql))))
+          (slots-left (stored L) (slots-left (partLeaves QR ++ stored R) rest-slots))
+          (holds-left (stored L) (holds-left (partLeaves QR ++ stored R) rest-holds))
+          (trees-balanced items (held .right) QL (List·Memᴰ·tail (List·Memᴰ·head refl)))
+
+      qr₁ : Standing w₁ qr QR
+      qr₁ =
+          rest-standing R (calls .right ∙ f .right-at) (calls .rest-right) (slots-within (calls .cut .within) (slots-right (leaves (shape L)) (held .slots)))
+          (rest-same R (f .rest-right) (pieces-rests cutting (leaves (shape R))) (pieces-else cutting PieceField (disjoint-turned (d .p-qr))))
+          (slots-left (stored R) (slots-right (partLeaves QL ++ stored L) rest-slots))
+          (holds-left (stored R) (holds-right (partLeaves QL ++ stored L) rest-holds))
+          (trees-balanced items (held .right) QR (List·Memᴰ·tail (Memᴰ·append-right (QL ∷ rests L) (List·Memᴰ·head refl))))
+
+      joined : Joins w₁ w₃ le re (c .front) QL QR (c .back)
+      joined =
+          joins (calls .front) (calls .back)
+          (record { left = k .front; right = ql₁; slots = slots-join (k .front .slots) (ql₁ .slots) (disjoint-both (k .front-inside) (inside-refl _) (d .p-ql)) })
+          (record { left = qr₁; right = k .back; slots = slots-join (qr₁ .slots) (k .back .slots) (disjoint-turned (disjoint-both (k .back-inside) (inside-refl _) (d .p-qr))) })
+          (disjoint-join (partLeaves (c .front))
+          (disjoint-turned (disjoint-join (partLeaves QR) (disjoint-turned (disjoint-both (k .front-inside) (inside-refl _) (d .p-qr))) (disjoint-turned (k .apart))))
+          (disjoint-turned (disjoint-join (partLeaves QR) (disjoint-turned (d .ql-qr)) (disjoint-both (k .back-inside) (inside-refl _) (d .p-ql)))))
+
+      within : Within w w₃
+      within = within-trans (calls .cut .within) (joined .within)
+
+      pieces : PiecesOnly (partLeaves P ++ (partLeaves QL ++ partLeaves QR)) w w₃
+      pieces = pieces-trans (pieces-more (inside-left (partLeaves QL ++ partLeaves QR)) cutting)
+          (pieces-more
+          (inside-join (partLeaves (c .front) ++ partLeaves QL)
+          (inside-join (partLeaves (c .front)) (λ n i. inside-left _ n (k .front-inside n i)) (λ n i. inside-right (partLeaves P) n (inside-left (partLeaves QR) n i)))
+          (inside-join (partLeaves QR) (λ n i. inside-right (partLeaves P) n (inside-right (partLeaves QL) n i)) (λ n i. inside-left _ n (k .back-inside n i))))
+          (joined .only))
+
+lowers :
+    {x e l r ql qr a b le re : ℕ} {θ : ℤ} {w w₁ w₂ w₃ : Words} →
+    Calls x e w w₁ w₂ w₃ l r ql qr a b le re θ →
+    (t : OfferTree Item) (p : Part Item) →
+    HeldIn w x e (hold t p) →
+    4096 < x →
+    Lowers x e w w₃ l le r re (hold t p)
+lowers {w} calls (single a) p held h = absurd (omega (arith, held .root, held .slots .high (List·Memᴰ·head refl), cap-most w))
+lowers calls (fork u v l ql qr r) p held h = lowers-fork calls held
+
+-- The children of x and the separator's rate are read, the envelope e is cut, the rests are read, and both parts are put together with them.
+pub lowered :
+    {x e l r ql qr a b le re : ℕ} {θ : ℤ} {w w₁ w₂ w₃ : Words} →
+    l ≡ childAt w 1 false x →
+    r ≡ childAt w 1 true x →
+    θ ≡ cell w 1 (x - 4096) →
+    CutAt false θ e w w₁ a b →
+    ql ≡ restAt w₁ l →
+    qr ≡ restAt w₁ r →
+    Catted a ql w₁ w₂ le →
+    Catted qr b w₂ w₃ re →
+    LoweredIn x e w w₃ l le r re
+lowered {x} {e} {l} {r} {ql} {qr} {a} {b} {le} {re} {θ} {w} {w₁} {w₂} {w₃} el er et cut eql eqr front back =
+    record {
+      within = within-trans (cut .within) (within-trans (front .within) (back .within));
+      front = λ h held d. lowers calls (h .tree) (h .whole) held d .front;
+      back = λ h held d. lowers calls (h .tree) (h .whole) held d .back;
+      touched = λ h held d. lowers calls (h .tree) (h .whole) held d .touched;
+    }
+  where
+    calls : Calls x e w w₁ w₂ w₃ l r ql qr a b le re θ
+    calls = record { left = el; right = er; rate = et; cut = cut; rest-left = eql; rest-right = eqr; front = front; back = back }

@@ -1,0 +1,92 @@
+-- What raising two subtrees makes, said by cuts by rate as code makes them.
+use mathlib.Core.Path.{_≡_, refl, sym, ap, ap₂, subst, fun-ext}
+use mathlib.Core.Bool.{Bool, true, false, not}
+use mathlib.Core.Option.{none, some}
+use mathlib.Core.List.{List, [], _∷_, _++_, List·Memᴰ, List·Memᴰ·head, Memᴰ·append-right}
+use native.Mathlib.Omega.{arith}
+use lib.Signed.{leZ, ltZ}
+use Rattle.integers.specs.Parts.{intRules, same-test}
+use Rattle.envelopes.specs.Envelope.{Ordered, Env}
+use Rattle.trees.specs.Tree.{Tree, node, leaves, first, Avl}
+use Rattle.trees.specs.Operations.{Part, Cut, split, splitP}
+use Rattle.meeting.specs.Machine.{meet}
+use Rattle.meeting.specs.Meets.{Met, limit, FacingTrees}
+use Rattle.dynamic.specs.OfferTree.{OfferTree, shape, Held, hold, heldShape, Made, bridged, raiseBy, raise}
+use Rattle.dynamic.specs.Valid.{Whole}
+use Rattle.dynamic.specs.Lower.{valid-env}
+use Rattle.dynamic.specs.Bridged.{Bridged, faces, search-bridges}
+use Rattle.dynamic.specs.Raise.{some-piece, whole-raise}
+use Rattle.table.specs.Items.{Item}
+use Rattle.pieces.specs.Pieces.{items, item-laws, rateOf, inFront}
+
+-- ---- the tests
+
+-- up to u
+pub up-to-test : (u : Item) → (λ (x : Item). not (items .before u x)) ≡ inFront false (rateOf u)
+up-to-test u =
+    fun-ext (λ x. same-test (not (ltZ (rateOf x) (rateOf u))) (leZ (rateOf u) (rateOf x)) (λ t. omega (arith, intRules)) (λ t. omega (arith, intRules)))
+
+-- in front of v
+pub before-test : (v : Item) → (λ (x : Item). items .before x v) ≡ inFront true (rateOf v)
+before-test v = fun-ext (λ x. refl)
+
+-- ---- the two cuts and the bridge
+
+-- the left envelope up to u and what is behind; the right one up to v, v not with it, and from v on
+abbrev pub leftCut : Item → Held Item → Cut Item
+leftCut u l = splitP (inFront false (rateOf u)) (l .whole)
+
+abbrev pub rightCut : Item → Held Item → Cut Item
+rightCut v r = splitP (inFront true (rateOf v)) (r .whole)
+
+pub record Raising (l r : Held Item) (m : Made Item) : Type 0 where
+  pub front : Tree Item
+  pub back : Tree Item
+  pub left-is : l .whole ≡ some front
+  pub right-is : r .whole ≡ some back
+  pub u : Item
+  pub v : Item
+  pub u-piece : List·Memᴰ u (leaves front)
+  pub v-piece : List·Memᴰ v (leaves back)
+  pub facing : FacingTrees items front back (first front)
+  pub met : Met (limit front back) u v (meet items front back)
+  pub logged : m .log ≡ record { front = front; back = back } ∷ []
+  pub held : m .held ≡ bridged items u v l r (leftCut u l) (rightCut v r)
+  pub whole : Whole items (m .held)
+
+among : {a b : Item} {zs : List Item} (xs ys : List Item) → a ≡ b → zs ≡ xs ++ b ∷ ys → List·Memᴰ a zs
+among {a} xs ys p e = subst (List·Memᴰ a) (sym e) (Memᴰ·append-right xs (List·Memᴰ·head p))
+
+module _ (l r : OfferTree Item) where
+  parts : (p q : Part Item) → Whole items (hold l p) → Whole items (hold r q) → Ordered items (leaves (shape l) ++ leaves (shape r)) → Whole items (raiseBy items p q (hold l p) (hold r q) .held) → Raising (hold l p) (hold r q) (raiseBy items p q (hold l p) (hold r q))
+  unfolding raiseBy splitP
+  parts none q wl wr o g = absurd (some-piece items item-laws (wl .valid))
+  parts (some a) none wl wr o g = absurd (some-piece items item-laws (wr .valid))
+  parts (some a) (some b) wl wr o g =
+      let E : Env items (leaves (shape l)) (leaves a) = valid-env items item-laws (wl .valid) in
+      let F : Env items (leaves (shape r)) (leaves b) = valid-env items item-laws (wr .valid) in
+      let G : Bridged items (leaves (shape l)) (leaves (shape r)) a b = search-bridges items item-laws (leaves (shape l)) (leaves (shape r)) o a b E F in
+      let u : Item = first (meet items a b .u .tree) in
+      let v : Item = first (meet items a b .v .tree) in
+      let p : u ≡ G .u = ap first (G .met .atLeft) in
+      let q : v ≡ G .v = ap first (G .met .atRight) in
+      record {
+        front = a;
+        back = b;
+        left-is = refl;
+        right-is = refl;
+        u = u;
+        v = v;
+        u-piece = among (G .upTo) (G .beyond) p (G .left-pieces);
+        v-piece = among (G .short) (G .from) q (G .right-pieces);
+        facing = faces items item-laws (leaves (shape l)) (leaves (shape r)) o a b E F (first a);
+        met = rw (p, q) (G .met);
+        logged = refl;
+        held =
+            ap₂ (λ (f g : Item → Bool). bridged items u v (hold l (some a)) (hold r (some b)) (split f a) (split g b)) (up-to-test u) (before-test v);
+        whole = g;
+      }
+
+pub raising : {l r : Held Item} → Whole items l → Whole items r → Ordered items (leaves (heldShape l) ++ leaves (heldShape r)) → Avl (node (heldShape l) (heldShape r)) → Raising l r (raise items l r)
+raising {l} {r} wl wr o g =
+    parts (l .tree) (r .tree) (l .whole) (r .whole) wl wr o (whole-raise items item-laws {l = l} {r = r} wl wr o g .whole)

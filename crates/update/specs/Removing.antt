@@ -1,0 +1,244 @@
+-- One level of a removal in words, given the promise of the call on the child: the line leaves a side, and what is left there is rebalanced.
+use mathlib.Core.Path.{_≡_, refl, sym, _∙_, ap, ap₂, subst}
+use mathlib.Core.Bool.{Bool, true, false}
+use mathlib.Core.List.{List, _++_, List·Memᴰ, Memᴰ·append-left}
+use mathlib.Core.Option.{Option, none, some}
+use Prim.Native.Nat.{ℕ, suc, _+_, _-_, _≤_, _<_}
+use native.Mathlib.Omega.{arith}
+use lib.IntN.{ℤ}
+use lib.Signed.{ltZ}
+use Rattle.lists.specs.Places.{sublist-mem}
+use Rattle.envelopes.specs.Envelope.{Ordered}
+use Rattle.envelopes.specs.EnvelopeLaws.{ordered-sublist}
+use Rattle.trees.specs.Tree.{Tree, leaves, Avl}
+use Rattle.trees.specs.Leaves.{last-leaf}
+use Rattle.trees.specs.Operations.{Part}
+use Rattle.dynamic.specs.OfferTree.{OfferTree, single, fork, shape, Held, hold, heldShape, Pair, outer, inner, lower}
+use Rattle.dynamic.specs.Updates.{Removed, remove}
+use Rattle.dynamic.specs.Kept.{heldHeight}
+use Rattle.dynamic.specs.Steps.{Loses, remove-whole}
+use Rattle.table.specs.Words.{Words}
+use Rattle.table.specs.Layout.{cap, cell}
+use Rattle.table.specs.Items.{Item, In, at, Slots}
+use Rattle.table.specs.Rep.{nodeOn, seam, Rep, Within, within-refl, within-trans}
+use Rattle.table.specs.Nodes.{ref-low, on-across, in-one}
+use Rattle.table.specs.Parts.{low}
+use Rattle.descents.specs.Ends.{Ended}
+use Rattle.pieces.specs.Pieces.{items, item-laws}
+use Rattle.update.specs.Stored.{HeldIn, Touched}
+use Rattle.update.specs.Steps.{Counted, MadeIn, Near, Leaver, LeftIn, RemovedIn}
+use Rattle.update.specs.Frames.{Inside, slots-within, held-still, touched-refl, touched-trans, touched-more}
+use Rattle.update.specs.Neighbours.{sideOf, held-rep, inner-high, seam-rate, Neighbours, LoweredOn, Opens, opens}
+use Rattle.update.specs.Counting.{Counts, counted-two}
+use Rattle.update.specs.Rebalancing.{rebalanceOn, RebalancedOn}
+use Rattle.update.specs.RemovingModel.{besideOn, remove-on, stands-on, left-row, slots-sublist}
+
+-- ---- what is promised
+
+-- the words hold what a removal has left, and count its log
+pub record LeavesIn (w : Words) (x e k s h : ℕ) (m : Removed Item) : Type 0 where
+  pub rest : LeftIn w x e (m .rest)
+  pub counted : Counted (m .log) k s h
+
+-- of a subtree that is at most `limit` high
+pub record RemovedBelow (limit slot x e : ℕ) (w w′ : Words) (x′ e′ k s h : ℕ) : Type 0 where
+  pub within : Within w w′
+  pub made : (a : Item) (t : Held Item) → Leaver w slot x e a t → heldHeight t ≤ limit → LeavesIn w′ x′ e′ k s h (remove items a (t .tree) (t .whole))
+  pub touched : (a : Item) (t : Held Item) → Leaver w slot x e a t → heldHeight t ≤ limit → Touched (leaves (heldShape t)) w w′
+
+-- no subtree in a table is higher than 24
+pub removed : {limit slot x e x′ e′ k s h : ℕ} {w w′ : Words} → 24 ≤ limit → RemovedBelow limit slot x e w w′ x′ e′ k s h → RemovedIn slot x e w w′ x′ e′ k s h
+removed {limit} {slot} {x} {e} {w} enough c =
+    record { within = c .within; rest = λ a t f. c .made a t f (room a t f) .rest; counted = λ a t f. c .made a t f (room a t f) .counted; touched = λ a t f. c .touched a t f (room a t f) }
+  where
+    room : (a : Item) (t : Held Item) → Leaver w slot x e a t → heldHeight t ≤ limit
+    room a t f = omega (arith, low w (f .held .slots) (f .held .right .balanced))
+
+-- where the limit is used up at an inner node, nothing is promised
+pub removed-spent : {slot x e x′ e′ k s h : ℕ} {w : Words} → 4096 < x → RemovedBelow 0 slot x e w w x′ e′ k s h
+removed-spent {w} inside =
+    record { within = within-refl w; made = λ a t f d. absurd (omega (arith, inner-high (f .held) inside)); touched = λ a t f d. absurd (omega (arith, inner-high (f .held) inside)) }
+
+record Removes (w w′ : Words) (x′ e′ k s h : ℕ) (a : Item) (t : Held Item) : Type 0 where
+  made : LeavesIn w′ x′ e′ k s h (remove items a (t .tree) (t .whole))
+  touched : Touched (leaves (heldShape t)) w w′
+
+-- ---- a single line
+
+pub removed-leaf : {w : Words} {limit slot x e : ℕ} → x ≤ 4096 → RemovedBelow limit slot x e w w 0 0 0 0 0
+unfolding remove
+removed-leaf {w} {limit} {slot} {x} {e} single-line =
+    record { within = within-refl w; made = λ a t f d. go a (t .tree) (t .whole) (f .held); touched = λ a t f d. touched-refl (leaves (heldShape t)) w }
+  where
+    go : (a : Item) (t : OfferTree Item) (p : Part Item) → HeldIn w x e (hold t p) → LeavesIn w 0 0 0 0 0 (remove items a t p)
+    go a (fork u v l ql qr r) p held = absurd (omega (arith, held .root, held .slots .low (Memᴰ·append-left (leaves (shape r)) (last-leaf (shape l)))))
+    go a (single b) p held = record { rest = (refl, refl); counted = record { searches = refl; steps = refl; heights = refl } }
+
+-- ---- from the child on a side
+
+-- the slot of the seam after a removal: on the left the last line may have left, and x's last one is looked for again
+pub record SeamFound (side : Bool) (w : Words) (x m gap : ℕ) : Type 0 where
+  pub on-left : side ≡ false → Ended w 1 true x gap
+  pub on-right : side ≡ true → gap ≡ m
+
+found-seam :
+    {w : Words} {x m gap : ℕ} (side : Bool) (O I G : Tree Item) →
+    SeamFound side w x m gap →
+    Rep w 1 x G →
+    Avl G →
+    m ≡ seam side O I .slot →
+    gap ≡ seam side G I .slot
+found-seam false O I G f r b d = f .on-left refl .is G r b
+found-seam true O I G f r b d = f .on-right refl ∙ d
+
+-- nothing is left of the child: its sibling stays
+beside-none : (side : Bool) (log : List (Pair Item)) (i : Held Item) → besideOn side (record { rest = none; log = log }) i ≡ record { rest = some i; log = log }
+beside-none false log i = refl
+beside-none true log i = refl
+
+-- what is left is rebalanced with it
+beside-some :
+    (side : Bool) (g : Held Item) (log : List (Pair Item)) (i : Held Item) →
+    besideOn side (record { rest = some g; log = log }) i ≡ record { rest = some (rebalanceOn side g i .held); log = log ++ rebalanceOn side g i .log }
+beside-some false g log i = refl
+beside-some true g log i = refl
+
+-- after the call on the child o of t; r is what the model leaves of it
+record Below (side : Bool) (w w₁ w₂ : Words) (x ox oe ix ie gx ge k₁ s₁ h₁ : ℕ) (a : Item) (t o i : Held Item) (r : Removed Item) : Type 0 where
+  opened : Opens side w w₁ x ox oe ix ie t o i
+  way : remove items a (t .tree) (t .whole) ≡ besideOn side r i
+  left : LeavesIn w₂ gx ge k₁ s₁ h₁ r
+  loses : Loses items a o r
+  sibling : HeldIn w₂ ix ie i
+  slots : Slots (cap w₂) (leaves (nodeOn side (heldShape o) (heldShape i)))
+  ordered : Ordered items (leaves (nodeOn side (heldShape o) (heldShape i)))
+  touched : Touched (leaves (heldShape t)) w w₂
+
+module _
+    {side : Bool} {θ : ℤ} {w w₁ w₂ : Words} {limit limit′ x e slot m ox oe ix ie gx ge k₁ s₁ h₁ : ℕ}
+    (inside : 4096 < x)
+    (m-is : m ≡ x - 4096)
+    (rate : θ ≡ cell w 1 slot)
+    (test : side ≡ ltZ θ (cell w 1 m))
+    (low₁ : LoweredOn side x e w w₁ ox oe ix ie)
+    (enough : limit ≤ suc limit′)
+    (rem : RemovedBelow limit′ slot ox oe w₁ w₂ gx ge k₁ s₁ h₁) where
+  below :
+      (a : Item) (t : Held Item) →
+      Leaver w slot x e a t →
+      heldHeight t ≤ limit →
+      Below side w w₁ w₂ x ox oe ix ie gx ge k₁ s₁ h₁ a t (outer (sideOf side) (lower items t)) (inner (sideOf side) (lower items t)) (remove items a (outer (sideOf side) (lower items t) .tree) (outer (sideOf side) (lower items t) .whole))
+  below a t f lim =
+      record {
+        opened = p;
+        way = remove-on a side t high way;
+        left = rem .made a o leaver room;
+        loses = remove-whole items item-laws a (p .outer-held .right) (leaver .member);
+        sibling = held-still (rem .within) (p .inner-held) child-touched (λ n j q. on-across O I side slots q j);
+        slots = slots-within (rem .within) (slots-within (low₁ .within) slots);
+        ordered = ordered;
+        touched = touched-trans (p .touched) (touched-more (λ n j. subst (λ u. In n (leaves u)) (sym (p .shaped)) (in-one side O I j)) child-touched);
+      }
+    where
+      high : 1 ≤ heldHeight t
+      high = inner-high (f .held) inside
+
+      o : Held Item
+      o = outer (sideOf side) (lower items t)
+
+      i : Held Item
+      i = inner (sideOf side) (lower items t)
+
+      p : Opens side w w₁ x ox oe ix ie t o i
+      p = opens low₁ (f .held) high
+
+      O : Tree Item
+      O = heldShape o
+
+      I : Tree Item
+      I = heldShape i
+
+      way : items .before (seam side O I) a ≡ side
+      way = sym (test ∙ ap₂ ltZ (rate ∙ ap (cell w 1) (f .slot) ∙ f .held .kept .held (f .member) .rate) (seam-rate (f .held) p m-is))
+
+      slots : Slots (cap w) (leaves (nodeOn side O I))
+      slots = subst (λ u. Slots (cap w) (leaves u)) (p .shaped) (f .held .slots)
+
+      ordered : Ordered items (leaves (nodeOn side O I))
+      ordered = subst (λ u. Ordered items (leaves u)) (p .shaped) (f .held .right .ordered)
+
+      leaver : Leaver w₁ slot ox oe a o
+      leaver = record { slot = f .slot; member = stands-on a O I side ordered (subst (λ u. List·Memᴰ a (leaves u)) (p .shaped) (f .member)) way; held = p .outer-held }
+
+      room : heldHeight o ≤ limit′
+      room = omega (arith, p .level .higher)
+
+      child-touched : Touched (leaves O) w₁ w₂
+      child-touched = rem .touched a o leaver room
+
+  -- nothing is left of the child
+  pub removed-gone : gx ≡ 0 → RemovedBelow limit slot x e w w₂ ix ie k₁ s₁ h₁
+  removed-gone none-left =
+      record {
+        within = within-trans (low₁ .within) (rem .within);
+        made = λ a t f d. go a t _ _ (below a t f d);
+        touched = λ a t f d. below a t f d .touched;
+      }
+    where
+      go :
+          (a : Item) (t o i : Held Item) {r : Removed Item} →
+          Below side w w₁ w₂ x ox oe ix ie gx ge k₁ s₁ h₁ a t o i r →
+          LeavesIn w₂ ix ie k₁ s₁ h₁ (remove items a (t .tree) (t .whole))
+      go a t o i {r} b = subst (LeavesIn w₂ ix ie k₁ s₁ h₁) (sym (b .way)) (go-on (r .rest) (r .log) (b .left .rest) (b .left .counted))
+        where
+          go-on : (left : Option (Held Item)) (log : List (Pair Item)) → LeftIn w₂ gx ge left → Counted log k₁ s₁ h₁ → LeavesIn w₂ ix ie k₁ s₁ h₁ (besideOn side (record { rest = left; log = log }) i)
+          go-on none log l c = subst (LeavesIn w₂ ix ie k₁ s₁ h₁) (sym (beside-none side log i)) (record { rest = b .sibling; counted = c })
+          go-on (some g) log l c = absurd (omega (arith, l .root, ref-low (heldShape g) (l .slots)))
+
+  module _
+      {w₃ : Words} {gap x′ e′ k₂ s₂ h₂ k s h : ℕ}
+      (some-left : 1 ≤ gx)
+      (found : SeamFound side w₂ gx m gap)
+      (reb : RebalancedOn side gap gx ge ix ie w₂ w₃ x′ e′ k₂ s₂ h₂)
+      (counts : Counts (k₁ + k₂) (s₁ + s₂) (h₁ + h₂) k s h) where
+    removes-inner : (a : Item) (t o i : Held Item) (left : Option (Held Item)) (log : List (Pair Item)) → Below side w w₁ w₂ x ox oe ix ie gx ge k₁ s₁ h₁ a t o i (record { rest = left; log = log }) → Removes w w₃ x′ e′ k s h a t
+    removes-inner a t o i none log b = absurd (omega (arith, b .left .rest .0))
+    removes-inner a t o i (some g) log b =
+        record {
+          made = subst (LeavesIn w₃ x′ e′ k s h) (sym (b .way ∙ beside-some side g log i)) (record { rest = R .held; counted = counted-two (b .left .counted) (R .counted) counts });
+          touched = touched-trans (b .touched) (touched-more inside-t (reb .touched g i next near));
+        }
+      where
+        O : Tree Item
+        O = heldShape o
+
+        I : Tree Item
+        I = heldShape i
+
+        next : Neighbours side w₂ gap gx ge ix ie g i
+        next =
+            record {
+              outer-held = b .left .rest;
+              inner-held = b .sibling;
+              at-seam = found-seam side O I (heldShape g) found (held-rep (b .left .rest)) (b .left .rest .right .balanced) (m-is ∙ b .opened .at-seam);
+              slots = slots-sublist (left-row a O I (heldShape g) (b .loses .lines) side) (b .slots);
+              ordered = ordered-sublist items (left-row a O I (heldShape g) (b .loses .lines) side) (b .ordered);
+            }
+
+        near : Near g i
+        near = record { left = omega (arith, b .loses .heights .0, b .opened .level .left-level); right = omega (arith, b .loses .heights .1, b .opened .level .right-level) }
+
+        R : MadeIn w₃ x′ e′ k₂ s₂ h₂ (rebalanceOn side g i)
+        R = reb .made g i next near
+
+        inside-t : Inside (leaves (nodeOn side (heldShape g) I)) (leaves (heldShape t))
+        inside-t n (at j d) = subst (λ u. In n (leaves u)) (sym (b .opened .shaped)) (at (sublist-mem (left-row a O I (heldShape g) (b .loses .lines) side) j) d)
+
+    -- what is left of the child is rebalanced with its sibling
+    pub removed-inner : RemovedBelow limit slot x e w w₃ x′ e′ k s h
+    removed-inner =
+        record {
+          within = within-trans (low₁ .within) (within-trans (rem .within) (reb .within));
+          made = λ a t f d. removes-inner a t _ _ _ _ (below a t f d) .made;
+          touched = λ a t f d. removes-inner a t _ _ _ _ (below a t f d) .touched;
+        }

@@ -1,0 +1,351 @@
+-- A rotation in words: its calls in a row make what the model's rotation makes, on either side.
+use mathlib.Core.Path.{_≡_, sym, _∙_, ap, subst}
+use mathlib.Core.Bool.{Bool}
+use Prim.Native.Nat.{ℕ, suc, _+_, _-_, _≤_, _<_, max}
+use native.Mathlib.Omega.{arith}
+use borrow.Author.Tests.{le-leb, lt-leb}
+use Rattle.meeting.specs.Machine.{Side}
+use Rattle.envelopes.specs.Envelope.{Ordered}
+use Rattle.trees.specs.Tree.{Tree, height, leaves}
+use Rattle.dynamic.specs.OfferTree.{Held, heldShape, Made, outer, inner, lower, raiseOn}
+use Rattle.dynamic.specs.Updates.{rotateOnce, rotateTwice, rotate}
+use Rattle.dynamic.specs.Kept.{heldHeight}
+use Rattle.table.specs.Words.{Words}
+use Rattle.table.specs.Layout.{cap}
+use Rattle.table.specs.Items.{Item, Slots}
+use Rattle.table.specs.Rep.{nodeOn, seam, heightAt, Within, within-trans}
+use Rattle.table.specs.Nodes.{on-one, on-other, on-across, in-one, in-other, height-on}
+use Rattle.shape.specs.Sides.{rowOn, row-leaves, four-leaves, seam-first, seam-last}
+use Rattle.pieces.specs.Pieces.{items}
+use Rattle.update.specs.Stored.{HeldIn, Touched}
+use Rattle.update.specs.Steps.{Counted, MadeIn}
+use Rattle.update.specs.Frames.{slots-within, held-still, touched-trans, touched-more}
+use Rattle.update.specs.Neighbours.{sideOf, ordered-one, ordered-other, held-height, Neighbours, LoweredOn, RaisedOn, Opens, opens, Raises, raises}
+use Rattle.update.specs.Counting.{Counts, counted-two, counted-three}
+
+-- ---- three in a row
+
+-- from a side: o, i, s; `m` is the slot of the seam between o and i, `gap` that between i and s
+record Trio (side : Bool) (w : Words) (m gap ox oe ix ie sx se : ℕ) (o i s : Held Item) : Type 0 where
+  outer-held : HeldIn w ox oe o
+  middle-held : HeldIn w ix ie i
+  short-held : HeldIn w sx se s
+  outer-seam : m ≡ seam side (heldShape o) (heldShape i) .slot
+  short-seam : gap ≡ seam side (heldShape i) (heldShape s) .slot
+  slots : Slots (cap w) (leaves (nodeOn side (heldShape o) (nodeOn side (heldShape i) (heldShape s))))
+  ordered : Ordered items (leaves (nodeOn side (heldShape o) (nodeOn side (heldShape i) (heldShape s))))
+
+-- made one: the inner two first, then the outer one with them
+record Gathered (side : Bool) (w w′ : Words) (x e k₁ s₁ h₁ k₂ s₂ h₂ : ℕ) (o i s : Held Item) (y z : Made Item) : Type 0 where
+  held : HeldIn w′ x e (z .held)
+  counted-inner : Counted (y .log) k₁ s₁ h₁
+  counted-outer : Counted (z .log) k₂ s₂ h₂
+  touched : Touched (leaves (nodeOn side (heldShape o) (nodeOn side (heldShape i) (heldShape s)))) w w′
+
+gathered :
+    {side : Bool} {w w₁ w₂ : Words} {m gap ox oe ix ie sx se yx ye k₁ s₁ h₁ x e k₂ s₂ h₂ : ℕ} {o i s : Held Item} →
+    Trio side w m gap ox oe ix ie sx se o i s →
+    RaisedOn side gap ix ie sx se w w₁ yx ye k₁ s₁ h₁ →
+    RaisedOn side m ox oe yx ye w₁ w₂ x e k₂ s₂ h₂ →
+    heldHeight i ≤ suc (heldHeight s) →
+    heldHeight s ≤ suc (heldHeight i) →
+    heldHeight o ≤ suc (suc (max (heldHeight i) (heldHeight s))) →
+    max (heldHeight i) (heldHeight s) ≤ heldHeight o →
+    Gathered side w w₂ x e k₁ s₁ h₁ k₂ s₂ h₂ o i s (raiseOn items (sideOf side) i s) (raiseOn items (sideOf side) o (raiseOn items (sideOf side) i s .held))
+gathered {side} {w} {w₁} {w₂} {m} {gap} {ox} {oe} {ix} {ie} {sx} {se} {yx} {ye} {k₁} {s₁} {h₁} {x} {e} {k₂} {s₂} {h₂} {o} {i} {s} t c d hi hs ho hm =
+    record {
+      held = Z .made .held;
+      counted-inner = Y .made .counted;
+      counted-outer = Z .made .counted;
+      touched = touched-trans (touched-more (λ n j. in-other side O (nodeOn side I S) j) (Y .touched)) (subst (λ a. Touched (leaves (nodeOn side O a)) w₁ w₂) (Y .shaped) (Z .touched));
+    }
+  where
+    O : Tree Item
+    O = heldShape o
+
+    I : Tree Item
+    I = heldShape i
+
+    S : Tree Item
+    S = heldShape s
+
+    y : Held Item
+    y = raiseOn items (sideOf side) i s .held
+
+    Y : Raises side w w₁ yx ye k₁ s₁ h₁ i s
+    Y =
+        raises c
+        (record {
+          outer-held = t .middle-held;
+          inner-held = t .short-held;
+          at-seam = t .short-seam;
+          slots = on-other O (nodeOn side I S) side (t .slots);
+          ordered = ordered-other O (nodeOn side I S) side (t .ordered);
+        })
+        hi
+        hs
+
+    tall : heldHeight y ≡ suc (max (heldHeight i) (heldHeight s))
+    tall = ap height (Y .shaped) ∙ height-on side I S
+
+    next : Neighbours side w₁ m ox oe yx ye o y
+    next =
+        record {
+          outer-held = held-still (c .within) (t .outer-held) (Y .touched) (λ n a b. on-across O (nodeOn side I S) side (t .slots) a b);
+          inner-held = Y .made .held;
+          at-seam = t .outer-seam ∙ ap (λ (a : Item). a .slot) (sym (seam-first side O I S) ∙ ap (seam side O) (sym (Y .shaped)));
+          slots = subst (λ a. Slots (cap w₁) (leaves (nodeOn side O a))) (sym (Y .shaped)) (slots-within (c .within) (t .slots));
+          ordered = subst (λ a. Ordered items (leaves (nodeOn side O a))) (sym (Y .shaped)) (t .ordered);
+        }
+
+    Z : Raises side w₁ w₂ x e k₂ s₂ h₂ o y
+    Z = raises d next (omega (arith, tall)) (omega (arith, tall))
+
+-- ---- the taller of two neighbours lowered
+
+module _ {side : Bool} {w w₁ : Words} {gap tx te sx se ox oe ix ie : ℕ} {tall s o i : Held Item} (n : Neighbours side w gap tx te sx se tall s) (within : Within w w₁) (p : Opens side w w₁ tx ox oe ix ie tall o i) where
+  row : leaves (nodeOn side (heldShape tall) (heldShape s)) ≡ leaves (nodeOn side (heldShape o) (nodeOn side (heldShape i) (heldShape s)))
+  row = ap (λ t. leaves (nodeOn side t (heldShape s))) (p .shaped) ∙ row-leaves side (heldShape o) (heldShape i) (heldShape s)
+
+  trio : Trio side w₁ (tx - 4096) gap ox oe ix ie sx se o i s
+  trio =
+      record {
+        outer-held = p .outer-held;
+        middle-held = p .inner-held;
+        short-held = held-still within (n .inner-held) (p .touched) (λ k a b. on-across (heldShape tall) (heldShape s) side (n .slots) b a);
+        outer-seam = p .at-seam;
+        short-seam = n .at-seam ∙ ap (λ (a : Item). a .slot) (ap (λ t. seam side t (heldShape s)) (p .shaped) ∙ seam-last side (heldShape o) (heldShape i) (heldShape s));
+        slots = subst (Slots (cap w₁)) row (slots-within within (n .slots));
+        ordered = subst (Ordered items) row (n .ordered);
+      }
+
+  lowered-touched : Touched (leaves (nodeOn side (heldShape tall) (heldShape s))) w w₁
+  lowered-touched = touched-more (λ k a. in-one side (heldShape tall) (heldShape s) a) (p .touched)
+
+-- ---- what a rotation promises
+
+-- the subtree tx on a side stands two higher than its neighbour sx
+pub record RotatedIn (side : Bool) (gap tx te sx se : ℕ) (w w′ : Words) (x e k s h : ℕ) : Type 0 where
+  pub within : Within w w′
+  pub made : (tall short : Held Item) → Neighbours side w gap tx te sx se tall short → heldHeight tall ≡ suc (suc (heldHeight short)) → MadeIn w′ x e k s h (rotate items (sideOf side) tall short)
+  pub touched : (tall short : Held Item) → Neighbours side w gap tx te sx se tall short → heldHeight tall ≡ suc (suc (heldHeight short)) → Touched (leaves (nodeOn side (heldShape tall) (heldShape short))) w w′
+
+record Rotates (side : Bool) (w w′ : Words) (x e k s h : ℕ) (tall short : Held Item) : Type 0 where
+  made : MadeIn w′ x e k s h (rotate items (sideOf side) tall short)
+  touched : Touched (leaves (nodeOn side (heldShape tall) (heldShape short))) w w′
+
+rotated : {side : Bool} {gap tx te sx se x e k s h : ℕ} {w w′ : Words} → Within w w′ → ((tall short : Held Item) → Neighbours side w gap tx te sx se tall short → heldHeight tall ≡ suc (suc (heldHeight short)) → Rotates side w w′ x e k s h tall short) → RotatedIn side gap tx te sx se w w′ x e k s h
+rotated within f = record { within = within; made = λ t s n e. f t s n e .made; touched = λ t s n e. f t s n e .touched }
+
+module _ (side : Side) (tall short : Held Item) where
+  rotate-once : heldHeight (inner side (lower items tall)) ≤ heldHeight (outer side (lower items tall)) → rotate items side tall short ≡ rotateOnce items side (lower items tall) short
+  unfolding rotate
+  rotate-once le = rw (le-leb (heldHeight (inner side (lower items tall))) (heldHeight (outer side (lower items tall))) le)
+
+  rotate-twice :
+      heldHeight (outer side (lower items tall)) < heldHeight (inner side (lower items tall)) →
+      rotate items side tall short ≡ rotateTwice items side (lower items tall) (lower items (inner side (lower items tall))) short
+  unfolding rotate
+  rotate-twice lt = rw (lt-leb (heldHeight (inner side (lower items tall))) (heldHeight (outer side (lower items tall))) lt)
+
+-- the inner child is no higher than the outer one
+pub rotated-once :
+    {side : Bool} {w w₁ w₂ w₃ : Words} {gap m tx te sx se ox oe ix ie yx ye k₁ s₁ h₁ x e k₂ s₂ h₂ k s h : ℕ} →
+    LoweredOn side tx te w w₁ ox oe ix ie →
+    heightAt w₁ 1 ix ≤ heightAt w₁ 1 ox →
+    RaisedOn side gap ix ie sx se w₁ w₂ yx ye k₁ s₁ h₁ →
+    m ≡ tx - 4096 →
+    RaisedOn side m ox oe yx ye w₂ w₃ x e k₂ s₂ h₂ →
+    Counts (k₁ + k₂) (s₁ + s₂) (h₁ + h₂) k s h →
+    RotatedIn side gap tx te sx se w w₃ x e k s h
+rotated-once {side} {w} {w₁} {w₂} {w₃} {gap} {m} {tx} {te} {sx} {se} {ox} {oe} {ix} {ie} {yx} {ye} {k₁} {s₁} {h₁} {x} {e} {k₂} {s₂} {h₂} {k} {s} {h} low test c d₀ d counts = rotated (within-trans (low .within) (within-trans (c .within) (d .within))) go
+  where
+    go : (tall short : Held Item) → Neighbours side w gap tx te sx se tall short → heldHeight tall ≡ suc (suc (heldHeight short)) → Rotates side w w₃ x e k s h tall short
+    go tall short n two =
+        record {
+          made = subst (MadeIn w₃ x e k s h) (sym (rotate-once (sideOf side) tall short le)) (record { held = G .held; counted = counted-two (G .counted-inner) (G .counted-outer) counts });
+          touched = touched-trans (lowered-touched n (low .within) p) (subst (λ xs. Touched xs w₁ w₃) (sym (row n (low .within) p)) (G .touched));
+        }
+      where
+        o : Held Item
+        o = outer (sideOf side) (lower items tall)
+
+        i : Held Item
+        i = inner (sideOf side) (lower items tall)
+
+        p : Opens side w w₁ tx ox oe ix ie tall o i
+        p = opens low (n .outer-held) (omega arith)
+
+        le : heldHeight i ≤ heldHeight o
+        le = omega (arith, test, held-height (p .inner-held), held-height (p .outer-held))
+
+        higher : heldHeight tall ≡ suc (max (heldHeight o) (heldHeight i))
+        higher = p .level .higher
+
+        near : heldHeight o ≤ suc (heldHeight i)
+        near = p .level .left-level
+
+        G : Gathered side w₁ w₃ x e k₁ s₁ h₁ k₂ s₂ h₂ o i short (raiseOn items (sideOf side) i short) (raiseOn items (sideOf side) o (raiseOn items (sideOf side) i short .held))
+        G =
+            gathered (trio n (low .within) p) c (subst (λ j. RaisedOn side j ox oe yx ye w₂ w₃ x e k₂ s₂ h₂) d₀ d) (omega (arith, le, higher, near)) (omega (arith, le, higher, near)) (omega (arith, le, higher, near))
+            (omega (arith, le, higher, near))
+
+-- ---- the middle one of three lowered, and its outer child raised with the outer one
+
+record Parts (side : Bool) (w w′ : Words) (m gap xx xe qx qe sx se k₁ s₁ h₁ : ℕ) (o p q i s : Held Item) : Type 0 where
+  next : Trio side w′ m gap xx xe qx qe sx se (raiseOn items (sideOf side) o p .held) q s
+  counted : Counted (raiseOn items (sideOf side) o p .log) k₁ s₁ h₁
+  tall : heldHeight (raiseOn items (sideOf side) o p .held) ≡ suc (max (heldHeight o) (heldHeight p))
+  touched : Touched (leaves (nodeOn side (heldShape o) (nodeOn side (heldShape i) (heldShape s)))) w w′
+  same-row :
+      leaves (nodeOn side (heldShape o) (nodeOn side (heldShape i) (heldShape s)))
+      ≡ leaves (nodeOn side (heldShape (raiseOn items (sideOf side) o p .held)) (nodeOn side (heldShape q) (heldShape s)))
+
+parted :
+    {side : Bool} {w w₁ w₂ : Words} {m gap ox oe ix ie sx se px pe qx qe xx xe k₁ s₁ h₁ : ℕ} {o i s p q : Held Item} →
+    Trio side w m gap ox oe ix ie sx se o i s →
+    Within w w₁ →
+    Opens side w w₁ ix px pe qx qe i p q →
+    RaisedOn side m ox oe px pe w₁ w₂ xx xe k₁ s₁ h₁ →
+    heldHeight o ≤ suc (heldHeight p) →
+    heldHeight p ≤ suc (heldHeight o) →
+    Parts side w w₂ (ix - 4096) gap xx xe qx qe sx se k₁ s₁ h₁ o p q i s
+parted {side} {w} {w₁} {w₂} {m} {gap} {ox} {oe} {ix} {ie} {sx} {se} {px} {pe} {qx} {qe} {xx} {xe} {k₁} {s₁} {h₁} {o} {i} {s} {p} {q} t within op c ho hp =
+    record {
+      next =
+          record {
+            outer-held = X .made .held;
+            middle-held = held-still (c .within) (op .inner-held) (X .touched) (λ n a b. on-across (nodeOn side O P) (nodeOn side Q S) side slots₁ b (in-one side Q S a));
+            short-held = held-still (c .within) short₁ (X .touched) (λ n a b. on-across (nodeOn side O P) (nodeOn side Q S) side slots₁ b (in-other side Q S a));
+            outer-seam = op .at-seam ∙ ap slotOf (sym (seam-last side O P Q) ∙ ap (λ a. seam side a Q) (sym (X .shaped)));
+            short-seam = t .short-seam ∙ ap slotOf (ap (λ a. seam side a S) (op .shaped) ∙ seam-last side P Q S);
+            slots = subst (λ a. Slots (cap w₂) (leaves (nodeOn side a (nodeOn side Q S)))) (sym (X .shaped)) (slots-within (c .within) slots₁);
+            ordered = subst (λ a. Ordered items (leaves (nodeOn side a (nodeOn side Q S)))) (sym (X .shaped)) ordered₁;
+          };
+      counted = X .made .counted;
+      tall = ap height (X .shaped) ∙ height-on side O P;
+      touched =
+          touched-trans (touched-more (λ n a. in-other side O (nodeOn side I S) (in-one side I S a)) (op .touched))
+          (subst (λ xs. Touched xs w₁ w₂) (sym same) (touched-more (λ n a. in-one side (nodeOn side O P) (nodeOn side Q S) a) (X .touched)));
+      same-row = same ∙ ap (λ a. leaves (nodeOn side a (nodeOn side Q S))) (sym (X .shaped));
+    }
+  where
+    O : Tree Item
+    O = heldShape o
+
+    I : Tree Item
+    I = heldShape i
+
+    S : Tree Item
+    S = heldShape s
+
+    P : Tree Item
+    P = heldShape p
+
+    Q : Tree Item
+    Q = heldShape q
+
+    slotOf : Item → ℕ
+    slotOf a = a .slot
+
+    same : leaves (nodeOn side O (nodeOn side I S)) ≡ leaves (nodeOn side (nodeOn side O P) (nodeOn side Q S))
+    same = ap (λ a. leaves (rowOn side O a S)) (op .shaped) ∙ four-leaves side O P Q S
+
+    slots₁ : Slots (cap w₁) (leaves (nodeOn side (nodeOn side O P) (nodeOn side Q S)))
+    slots₁ = subst (Slots (cap w₁)) same (slots-within within (t .slots))
+
+    ordered₁ : Ordered items (leaves (nodeOn side (nodeOn side O P) (nodeOn side Q S)))
+    ordered₁ = subst (Ordered items) same (t .ordered)
+
+    short₁ : HeldIn w₁ sx se s
+    short₁ = held-still within (t .short-held) (op .touched) (λ n a b. on-across I S side (on-other O (nodeOn side I S) side (t .slots)) b a)
+
+    X : Raises side w₁ w₂ xx xe k₁ s₁ h₁ o p
+    X =
+        raises c
+        (record {
+          outer-held = held-still within (t .outer-held) (op .touched) (λ n a b. on-across O (nodeOn side I S) side (t .slots) a (in-one side I S b));
+          inner-held = op .outer-held;
+          at-seam = t .outer-seam ∙ ap slotOf (ap (seam side O) (op .shaped) ∙ seam-first side O P Q);
+          slots = on-one (nodeOn side O P) (nodeOn side Q S) side slots₁;
+          ordered = ordered-one (nodeOn side O P) (nodeOn side Q S) side ordered₁;
+        })
+        ho
+        hp
+
+-- heights at a double rotation: of the outer child, of the inner child's children, and of the short neighbour
+record Levels (o p q s : ℕ) : Type 0 where
+  o-p : o ≤ suc p
+  p-o : p ≤ suc o
+  q-s : q ≤ suc s
+  s-q : s ≤ suc q
+  low : max o p ≤ suc (max q s)
+  high : max q s ≤ suc (max o p)
+
+doubled : {t o i p q s : ℕ} → t ≡ suc (suc s) → t ≡ suc (max o i) → i ≤ suc o → i ≡ suc (max p q) → p ≤ suc q → q ≤ suc p → o < i → Levels o p q s
+doubled e a ai b bp bq lt = omega arith
+
+-- the inner child is the higher one
+pub rotated-twice :
+    {side : Bool} {w w₁ w₂ w₃ w₄ w₅ : Words} {gap m m₂ tx te sx se ox oe ix ie px pe qx qe xx xe k₁ s₁ h₁ yx ye k₂ s₂ h₂ x e k₃ s₃ h₃ k s h : ℕ} →
+    LoweredOn side tx te w w₁ ox oe ix ie →
+    heightAt w₁ 1 ox < heightAt w₁ 1 ix →
+    LoweredOn side ix ie w₁ w₂ px pe qx qe →
+    m ≡ tx - 4096 →
+    RaisedOn side m ox oe px pe w₂ w₃ xx xe k₁ s₁ h₁ →
+    RaisedOn side gap qx qe sx se w₃ w₄ yx ye k₂ s₂ h₂ →
+    m₂ ≡ ix - 4096 →
+    RaisedOn side m₂ xx xe yx ye w₄ w₅ x e k₃ s₃ h₃ →
+    Counts (k₁ + k₂ + k₃) (s₁ + s₂ + s₃) (h₁ + h₂ + h₃) k s h →
+    RotatedIn side gap tx te sx se w w₅ x e k s h
+rotated-twice {side} {w} {w₁} {w₂} {w₃} {w₄} {w₅} {gap} {m} {m₂} {tx} {te} {sx} {se} {ox} {oe} {ix} {ie} {px} {pe} {qx} {qe} {xx} {xe} {k₁} {s₁} {h₁} {yx} {ye} {k₂} {s₂} {h₂} {x} {e} {k₃} {s₃} {h₃} {k} {s} {h} low test low₂ e₁ c₁ c₂ e₃ c₃ counts =
+    rotated (within-trans (low .within) (within-trans (low₂ .within) (within-trans (c₁ .within) (within-trans (c₂ .within) (c₃ .within))))) go
+  where
+    go : (tall short : Held Item) → Neighbours side w gap tx te sx se tall short → heldHeight tall ≡ suc (suc (heldHeight short)) → Rotates side w w₅ x e k s h tall short
+    go tall short n two =
+        record {
+          made =
+              subst (MadeIn w₅ x e k s h) (sym (rotate-twice (sideOf side) tall short lt))
+              (record { held = G .held; counted = counted-three (D .counted) (G .counted-inner) (G .counted-outer) counts });
+          touched =
+              touched-trans (lowered-touched n (low .within) a)
+              (subst (λ xs. Touched xs w₁ w₅) (sym (row n (low .within) a)) (touched-trans (D .touched) (subst (λ xs. Touched xs w₃ w₅) (sym (D .same-row)) (G .touched))));
+        }
+      where
+        o : Held Item
+        o = outer (sideOf side) (lower items tall)
+
+        i : Held Item
+        i = inner (sideOf side) (lower items tall)
+
+        p : Held Item
+        p = outer (sideOf side) (lower items i)
+
+        q : Held Item
+        q = inner (sideOf side) (lower items i)
+
+        a : Opens side w w₁ tx ox oe ix ie tall o i
+        a = opens low (n .outer-held) (omega arith)
+
+        lt : heldHeight o < heldHeight i
+        lt = omega (arith, test, held-height (a .inner-held), held-height (a .outer-held))
+
+        b : Opens side w₁ w₂ ix px pe qx qe i p q
+        b = opens low₂ (a .inner-held) (omega (arith, lt))
+
+        levels : Levels (heldHeight o) (heldHeight p) (heldHeight q) (heldHeight short)
+        levels = doubled two (a .level .higher) (a .level .right-level) (b .level .higher) (b .level .left-level) (b .level .right-level) lt
+
+        D : Parts side w₁ w₃ (ix - 4096) gap xx xe qx qe sx se k₁ s₁ h₁ o p q i short
+        D = parted (trio n (low .within) a) (low₂ .within) b (subst (λ j. RaisedOn side j ox oe px pe w₂ w₃ xx xe k₁ s₁ h₁) e₁ c₁) (levels .o-p) (levels .p-o)
+
+        y : Made Item
+        y = raiseOn items (sideOf side) q short
+
+        z : Made Item
+        z = raiseOn items (sideOf side) (raiseOn items (sideOf side) o p .held) (y .held)
+
+        G : Gathered side w₃ w₅ x e k₂ s₂ h₂ k₃ s₃ h₃ (raiseOn items (sideOf side) o p .held) q short y z
+        G =
+            gathered (D .next) c₂ (subst (λ j. RaisedOn side j xx xe yx ye w₄ w₅ x e k₃ s₃ h₃) e₃ c₃) (levels .q-s) (levels .s-q) (omega (arith, D .tall, levels .low))
+            (omega (arith, D .tall, levels .high))

@@ -1,0 +1,68 @@
+-- The tree of offers in words: its nodes as any tree's; with each inner node its bridge; with each child the piece tree that stays with it.
+use mathlib.Core.Path.{_≡_}
+use mathlib.Core.List.{List}
+use Prim.Native.Nat.{ℕ}
+use Rattle.trees.specs.Tree.{Tree, leaves, last}
+use Rattle.trees.specs.Operations.{Part}
+use Rattle.dynamic.specs.OfferTree.{OfferTree, single, fork, shape, Held, heldShape}
+use Rattle.dynamic.specs.Valid.{Whole}
+use Rattle.table.specs.Words.{Words}
+use Rattle.table.specs.Layout.{cap, cell, linkAt}
+use Rattle.table.specs.Items.{Item, In, Slots}
+use Rattle.table.specs.Rep.{Field, refOf, Tied, Within}
+use Rattle.table.specs.Threads.{Holds}
+use Rattle.pieces.specs.Pieces.{items, partRef, PartIn, PieceField}
+
+-- ---- what is stored with the tree of offers
+
+-- the slot of a node, and the field there of the part that stays with it
+abbrev pub nodeSlot : OfferTree Item → ℕ
+nodeSlot (single a) = a .slot
+nodeSlot (fork u v l ql qr r) = last (shape l) .slot
+
+abbrev pub restField : OfferTree Item → ℕ
+restField (single a) = 21
+restField (fork u v l ql qr r) = 20
+
+-- the part stays with the node
+pub record RestIn (w : Words) (t : OfferTree Item) (q : Part Item) : Type 0 where
+  pub root : linkAt w (restField t) (nodeSlot t) ≡ partRef q
+  pub pieces : PartIn w q
+
+pub data Stored (w : Words) : OfferTree Item → Type 0 where
+  stored-single : {a : Item} → Stored w (single a)
+  stored-fork :
+      {u v : Item} {l r : OfferTree Item} {ql qr : Part Item} →
+      Stored w l →
+      Stored w r →
+      linkAt w 10 (last (shape l) .slot) ≡ u .slot →
+      linkAt w 11 (last (shape l) .slot) ≡ v .slot →
+      RestIn w l ql →
+      RestIn w r qr →
+      Stored w (fork u v l ql qr r)
+
+-- node x of the tree of offers and node e of the pieces are a subtree with its whole envelope in hand
+pub record HeldIn (w : Words) (x e : ℕ) (h : Held Item) : Type 0 where
+  pub root : x ≡ refOf (heldShape h)
+  pub envelope : e ≡ partRef (h .whole)
+  pub slots : Slots (cap w) (leaves (heldShape h))
+  pub kept : Holds w (leaves (heldShape h))
+  pub tied : Tied w 1 (heldShape h)
+  pub stored : Stored w (h .tree)
+  pub pieces : PartIn w (h .whole)
+  pub right : Whole items h
+
+-- ---- what an update leaves alone
+
+-- the fields that an update of envelopes changes: pieces, nodes of offers, bridges, rests
+pub data EnvelopeField (f : ℕ) : Type 0 where
+  of-pieces : PieceField f → EnvelopeField f
+  of-offers : Field 1 f → EnvelopeField f
+  of-bridge-u : f ≡ 10 → EnvelopeField f
+  of-bridge-v : f ≡ 11 → EnvelopeField f
+  of-inner-rest : f ≡ 20 → EnvelopeField f
+  of-leaf-rest : f ≡ 21 → EnvelopeField f
+
+-- of the fields, only those of envelopes in slots of xs have changed
+pub record Touched (xs : List Item) (w w′ : Words) : Type 0 where
+  pub cells : (f s : ℕ) → ¬ (EnvelopeField f × In s xs) → cell w′ f s ≡ cell w f s

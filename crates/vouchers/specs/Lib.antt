@@ -1,0 +1,6 @@
+-- Voucher prices, as document 01 has them: the rule, what it comes to, and what the call tells.
+pub mod Rule
+pub mod RuleLaws
+pub mod Told
+pub mod Span
+pub mod Steps
