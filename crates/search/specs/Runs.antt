@@ -56,8 +56,8 @@ pub record Answers (r : Met) (m : Result Item) : Type 0 where
   pub right : Item
   pub at-left : m .u .tree ≡ leaf left
   pub at-right : m .v .tree ≡ leaf right
-  pub u : r .u ≡ left .slot
-  pub v : r .v ≡ right .slot
+  pub u : r .u ≡ refOf (m .u .tree)
+  pub v : r .v ≡ refOf (m .v .tree)
   pub steps : r .steps ≡ m .steps
 
 -- What is promised of the search's answer, on any words and any roots.
@@ -205,8 +205,8 @@ module _ {wl wr : Words} {tl tr : Tree Item} {s : Search} {k : ℕ} (g : Underwa
           right = aim (g .meeting) right .line (aim (g .meeting) right .star);
           at-left = ap (λ (m : Result Item). m .u .tree) f ∙ z .0 .line;
           at-right = ap (λ (m : Result Item). m .v .tree) f ∙ z .1 .line;
-          u = a .1 ∙ g .stood .u .here .rep .root ∙ ap refOf (z .0 .line);
-          v = a .2 ∙ g .stood .v .here .rep .root ∙ ap refOf (z .1 .line);
+          u = a .1 ∙ g .stood .u .here .rep .root ∙ sym (ap (λ (m : Result Item). refOf (m .u .tree)) f);
+          v = a .2 ∙ g .stood .v .here .rep .root ∙ sym (ap (λ (m : Result Item). refOf (m .v .tree)) f);
           steps = sym (ap (λ (m : Result Item). m .steps) f);
         },
       )
