@@ -1,3 +1,4 @@
 -- The book in a lent table.
 pub mod Local
 pub mod Promises
+pub mod Live
