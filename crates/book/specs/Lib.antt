@@ -2,3 +2,4 @@
 pub mod Local
 pub mod Promises
 pub mod Live
+pub mod Sought

@@ -1,12 +1,12 @@
 -- What a part's form says of its live items; and the plain book that it stands for is sound.
-use mathlib.Core.Path.{_≡_, refl, sym, _∙_, ap, subst}
+use mathlib.Core.Path.{_≡_, sym, _∙_, ap, subst}
 use mathlib.Core.Logic.{_≢_, ∥∥₁-elim}
 use mathlib.Core.HLevel.{¬-prop}
-use mathlib.Core.List.{List, [], _∷_, map, List·Memᴰ, List·Memᴰ·head, List·Memᴰ·tail, Memᴰ·of-map, Pairwise, Pairwise·nil, Pairwise·map, Pairwise·imp-of-mem, Pairwise·of-cons, rel-of-pairwise-cons}
+use mathlib.Core.List.{List, List·Memᴰ, List·Memᴰ·head, List·Memᴰ·tail, Memᴰ·of-map, Pairwise, Pairwise·nil, Pairwise·map, Pairwise·imp-of-mem, Pairwise·of-cons, rel-of-pairwise-cons}
 use mathlib.Core.Option.{Option, none, some}
-use Prim.Native.Nat.{ℕ, _≤_}
+use Prim.Native.Nat.{ℕ}
 use native.Mathlib.Omega.{arith}
-use lib.ListN.{length, length-map}
+use lib.ListN.{length-map}
 use lib.Dec.{T, T-prop}
 use lib.IntN.{ℤ}
 use lib.Signed.{ltZ}
@@ -24,7 +24,7 @@ use Rattle.table.specs.Layout.{cap, cap-most}
 use Rattle.table.specs.Items.{Item, Slots}
 use Rattle.table.specs.Threads.{Holds}
 use Rattle.pieces.specs.Pieces.{items}
-use Rattle.update.specs.Form.{Book, OffersIn, numberOf, plainOffers}
+use Rattle.update.specs.Form.{Book, OffersIn, numberOf}
 use Rattle.book.specs.Promises.{plainOf}
 
 abbrev pub offerOf : Item → Offer
