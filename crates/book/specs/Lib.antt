@@ -3,3 +3,4 @@ pub mod Local
 pub mod Promises
 pub mod Live
 pub mod Sought
+pub mod Plainly
