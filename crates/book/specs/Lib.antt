@@ -4,3 +4,4 @@ pub mod Promises
 pub mod Live
 pub mod Sought
 pub mod Plainly
+pub mod Agree
