@@ -5,3 +5,4 @@ pub mod Live
 pub mod Sought
 pub mod Plainly
 pub mod Agree
+pub mod Writing
