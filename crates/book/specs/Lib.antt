@@ -6,3 +6,4 @@ pub mod Sought
 pub mod Plainly
 pub mod Agree
 pub mod Writing
+pub mod Counts
