@@ -7,3 +7,4 @@ pub mod Plainly
 pub mod Agree
 pub mod Writing
 pub mod Counts
+pub mod Joining

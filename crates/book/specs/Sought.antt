@@ -21,6 +21,7 @@ use Rattle.trees.specs.Order.{Falling}
 use Rattle.trees.specs.Find.{find-complete, none-find}
 use Rattle.dynamic.specs.OfferTree.{Held, heldShape}
 use Rattle.dynamic.specs.Valid.{bookLines}
+use Rattle.dynamic.specs.Rearranged.{stored}
 use Rattle.table.specs.Words.{Words, word, upTo, upTo-in}
 use Rattle.table.specs.Layout.{cap-most}
 use Rattle.table.specs.Items.{Item, Slots}
@@ -28,7 +29,8 @@ use Rattle.table.specs.Rep.{refOf}
 use Rattle.table.specs.Parts.{refOfP}
 use Rattle.descents.specs.Finds.{Found, foundAt}
 use Rattle.pieces.specs.Pieces.{rateOf, partRef}
-use Rattle.update.specs.Form.{Book, OffersIn, numberOf, offersRef}
+use Rattle.update.specs.Frames.{held-slots}
+use Rattle.update.specs.Form.{Book, OffersIn, numberOf, offersRef, envelopeRef}
 use Rattle.numbers.specs.Numbers.{NumbersAt, FoundNumber}
 use Rattle.book.specs.Live.{offerOf, live-slots, live-holds, ordered-pairs}
 
@@ -107,7 +109,7 @@ part-high : {c : ℕ} (p : Part Item) → ((a : Item) → List·Memᴰ a (partLe
 part-high none h k = omega arith
 part-high (some t) h k = refs-high t h k
 
-part-ref : (p : Part Item) → partRef p ≡ refOfP p
+pub part-ref : (p : Part Item) → partRef p ≡ refOfP p
 part-ref none = refl
 part-ref (some t) = refl
 
@@ -132,6 +134,14 @@ module _ {w : Words} {c : ℕ} {held : Option (Held Item)} (b : Book w c held) w
       high : (h : Option (Held Item)) → OffersIn w h → offersRef h ≤ 8192
       high none o = omega arith
       high (some h) o = refs-high (heldShape h) (λ a m. o .slots .high m) (cap-most w)
+
+  -- the root's envelope
+  pub envelope-read : upTo 8192 (word w 2) ≡ envelopeRef held
+  envelope-read = read-word (b .envelope-root) (high held (b .offers))
+    where
+      high : (h : Option (Held Item)) → OffersIn w h → envelopeRef h ≤ 8192
+      high none o = omega arith
+      high (some h) o = rw (part-ref (h .whole)) (part-high (h .whole) (λ a m. held-slots o .high (Memᴰ·append-left (stored (h .tree)) m)) (cap-most w))
 
   -- the root of the numbers
   pub numbers-read : upTo 8192 (word w 4) ≡ refOfP (b .numbers)
