@@ -8,3 +8,4 @@ pub mod Agree
 pub mod Writing
 pub mod Counts
 pub mod Joining
+pub mod Posting
