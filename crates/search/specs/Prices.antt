@@ -137,21 +137,26 @@ aboveAt w p v x =
     cond (ltb p 1) false (cond (atMostAt w p v (keptIn x)) true (cond (leb x 4096) false (atMostAt w p v (linkAt v 19 (keptIn x)))))
 
 module _ (w : Words) (p : ℕ) (v : Words) (x : ℕ) where
-  pub above-missing : p < 1 → aboveAt w p v x ≡ false
+  pub above-missing : p < 1 → false ≡ aboveAt w p v x
   unfolding aboveAt
   above-missing h = rw (lt-ltb p 1 h)
 
-  pub above-first : 1 ≤ p → atMostAt w p v (keptIn x) ≡ true → aboveAt w p v x ≡ true
-  unfolding aboveAt
-  above-first h e = rw (le-ltb p 1 h, e)
+  -- each answer of the code
+  module _ {s : ℕ} {b : Bool} (some : 1 ≤ p) (kept : s ≡ keptIn x) (test : b ≡ atMostAt w p v s) where
+    first-test : atMostAt w p v (keptIn x) ≡ b
+    first-test = rw (← kept) (sym test)
 
-  pub above-leaf : 1 ≤ p → x ≤ 4096 → atMostAt w p v (keptIn x) ≡ false → aboveAt w p v x ≡ false
-  unfolding aboveAt
-  above-leaf h k e = rw (le-ltb p 1 h, e, le-leb x 4096 k)
+    pub above-first : b ≡ true → true ≡ aboveAt w p v x
+    unfolding aboveAt
+    above-first e = rw (le-ltb p 1 some, first-test, e)
 
-  pub above-second : 1 ≤ p → 4096 < x → atMostAt w p v (keptIn x) ≡ false → aboveAt w p v x ≡ atMostAt w p v (linkAt v 19 (keptIn x))
-  unfolding aboveAt
-  above-second h k e = rw (le-ltb p 1 h, e, lt-leb x 4096 k)
+    pub above-leaf : b ≡ false → x ≤ 4096 → false ≡ aboveAt w p v x
+    unfolding aboveAt
+    above-leaf e k = rw (le-ltb p 1 some, first-test, e, le-leb x 4096 k)
+
+    pub above-second : {t : ℕ} {c : Bool} → b ≡ false → 4096 < x → t ≡ linkAt v 19 s → c ≡ atMostAt w p v t → c ≡ aboveAt w p v x
+    unfolding aboveAt
+    above-second e k l f = rw (le-ltb p 1 some, first-test, e, lt-leb x 4096 k, ← kept, ← l) f
 
   -- a leaf's one line, and an inner node's two
   pub above-one : 1 ≤ p → x ≤ 4096 → aboveAt w p v x ≡ atMostAt w p v (keptIn x)

@@ -18,8 +18,7 @@ use Rattle.trees.specs.Leaves.{some-leaf}
 use Rattle.meeting.specs.Machine.{Side, left, right, State, step, Result, ended, counted, start, run, meet}
 use Rattle.meeting.specs.Moves.{half, owes-root}
 use Rattle.meeting.specs.Verdicts.{Meeting, aim}
-use Rattle.meeting.specs.Search.{Sound, potential, step-sound}
-use Rattle.meeting.specs.Search as theory
+use Rattle.meeting.specs.Search.{Sound, potential, Stepped as Progress, step-sound}
 use Rattle.meeting.specs.Meets.{size, lineFrom, limit, spans-tree, root-stands}
 use Rattle.table.specs.Words.{Words}
 use Rattle.table.specs.Items.{Item}
@@ -49,14 +48,19 @@ pub record Faced (wl wr : Words) (x y : ℕ) (tl tr : Tree Item) : Type 0 where
 
 -- ---- what it is held to
 
--- the search has ended where the machine ends
+-- the search has ended where the machine ends: at two leaves, of which it tells the slots
 pub record Answers (r : Met) (m : Result Item) : Type 0 where
   pub done : r .done ≡ true
   pub finished : m .finished ≡ true
-  pub u : r .u ≡ refOf (m .u .tree)
-  pub v : r .v ≡ refOf (m .v .tree)
+  pub left : Item
+  pub right : Item
+  pub at-left : m .u .tree ≡ leaf left
+  pub at-right : m .v .tree ≡ leaf right
+  pub u : r .u ≡ left .slot
+  pub v : r .v ≡ right .slot
   pub steps : r .steps ≡ m .steps
 
+-- What is promised of the search's answer, on any words and any roots.
 pub record Meets (wl wr : Words) (x y : ℕ) (r : Met) : Type 0 where
   pub few : r .steps ≤ 145
   pub met : {tl tr : Tree Item} → Faced wl wr x y tl tr → Answers r (meet itemFigure tl tr)
@@ -187,7 +191,7 @@ module _ {wl wr : Words} {tl tr : Tree Item} {s : Search} {k : ℕ} (g : Underwa
   fares-v = record { aim = g .meeting .rightAim; low = g .right-tall; stands = g .sound .them; stood = g .stood .v }
 
   -- one step of the machine is one of the steps that are left
-  turned-by : {r : Search} (n : ℕ) → n + k ≡ limit tl tr → potential (g .sound) < n → meet itemFigure tl tr ≡ counting k (run itemFigure n (g .state)) → (o : Option (State Item)) → step itemFigure (g .state) ≡ o → theory.Stepped (g .meeting) (g .sound) o → After wl wr s r o → Turned wl wr tl tr r (k + 1)
+  turned-by : {r : Search} (n : ℕ) → n + k ≡ limit tl tr → potential (g .sound) < n → meet itemFigure tl tr ≡ counting k (run itemFigure n (g .state)) → (o : Option (State Item)) → step itemFigure (g .state) ≡ o → Progress (g .meeting) (g .sound) o → After wl wr s r o → Turned wl wr tl tr r (k + 1)
   unfolding run ended counted
   turned-by zero b p e o q z a = absurd (omega arith)
   turned-by {r} (suc n) b p e none q z a =
@@ -197,8 +201,12 @@ module _ {wl wr : Words} {tl tr : Tree Item} {s : Search} {k : ℕ} (g : Underwa
         record {
           done = refl;
           finished = ap (λ (m : Result Item). m .finished) f;
-          u = a .1 ∙ g .stood .u .here .rep .root ∙ sym (ap (λ (m : Result Item). refOf (m .u .tree)) f);
-          v = a .2 ∙ g .stood .v .here .rep .root ∙ sym (ap (λ (m : Result Item). refOf (m .v .tree)) f);
+          left = aim (g .meeting) left .line (aim (g .meeting) left .star);
+          right = aim (g .meeting) right .line (aim (g .meeting) right .star);
+          at-left = ap (λ (m : Result Item). m .u .tree) f ∙ z .0 .line;
+          at-right = ap (λ (m : Result Item). m .v .tree) f ∙ z .1 .line;
+          u = a .1 ∙ g .stood .u .here .rep .root ∙ ap refOf (z .0 .line);
+          v = a .2 ∙ g .stood .v .here .rep .root ∙ ap refOf (z .1 .line);
           steps = sym (ap (λ (m : Result Item). m .steps) f);
         },
       )

@@ -80,7 +80,7 @@ point-by : {w v : Words} {x y : ℕ} {st : List ℕ} {d : ℕ} (side : Side) (g 
 unfolding onOrAbove
 point-by side g (node l r) e ps q s p k z = node-above side e q p z
 point-by {w} {v} {y = y} side g (leaf a) e [] q s p empty z =
-    above-missing w 0 v y (omega arith)
+    sym (above-missing w 0 v y (omega arith))
     ∙ sym (ap (λ (c : Option (Crossing Item)). crossingOnOrAbove itemFigure side c (q .tree)) (leaf-point a s refl))
 point-by {w} {v} {y = y} side g (leaf a) e (top ∷ rest) q s p (pushed {l = l} {r = r} {e = e′} b k) z =
     ap (λ (i : ℕ). aboveAt w i v y) (omega arith)

@@ -5,7 +5,7 @@ ghost use mathlib.Core.Bool.{_&&_};
 ghost use lib.Dec.{T, leb};
 ghost use lib.IntN.{_+ℤ_, _*ℤ_};
 ghost use Rattle.offers.specs.Sizes.{numeratorInRange, denominatorInRange};
-ghost use Rattle.search.specs.Prices.{bounded, rateAt, baseAt, numeratorAt, denominatorAt, priceIn, keptIn, aboveAt};
+ghost use Rattle.search.specs.Prices.{bounded, rateAt, baseAt, numeratorAt, denominatorAt, priceIn, atMostAt, keptIn, aboveAt};
 ghost use Rattle.search.specs.Moves.{Topped, Pointed, Retreated, Advanced, Popped};
 ghost use Rattle.search.specs.Steps.{paired, finished, Receded, Stepped};
 ghost use Rattle.search.specs.Runs.{started, Meets};
@@ -92,6 +92,15 @@ fn kept_in(x: u32) -> u32
     x - 4096
 }
 
+// Whether at the crossing that slot `p` keeps the line of slot `s` is at most the line of slot `p`.
+fn at_most(ours: &[i64], p: u32, other: &[i64], s: u32) -> bool
+    ensures { λ r. ⌜ r ≡ atMostAt (now (ours .entry)) p (now (other .entry)) s ⌝ }
+{
+    let n = numerator(ours, p);
+    let d = denominator(ours, p);
+    price(other, s, n, d) <= price(ours, p, n, d)
+}
+
 // Whether the crossing that slot `p` keeps is on or above the local envelope of node `x`. Slot 0 stands for a missing end.
 pub fn on_or_above(ours: &[i64], p: u32, other: &[i64], x: u32) -> bool
     ensures { λ r. ⌜ r ≡ aboveAt (now (ours .entry)) p (now (other .entry)) x ⌝ }
@@ -99,17 +108,14 @@ pub fn on_or_above(ours: &[i64], p: u32, other: &[i64], x: u32) -> bool
     if p < 1 {
         return false;
     }
-    let n = numerator(ours, p);
-    let d = denominator(ours, p);
-    let y = price(ours, p, n, d);
     let s = kept_in(x);
-    if price(other, s, n, d) <= y {
+    if at_most(ours, p, other, s) {
         return true;
     }
     if x <= 4096 {
         return false;
     }
-    price(other, table::link(other, 19, s), n, d) <= y
+    at_most(ours, p, other, table::link(other, 19, s))
 }
 
 // The node pushed last, and 0 where there is none.

@@ -25,7 +25,7 @@ add-steps : tie.Need-add-steps Inv-loop μ-loop
 add-steps c = omega arith
 
 returns : tie.Need-returns Inv-loop μ-loop
-returns c = going-done (c .before .before .before .loop .inv .1) (c .before .step .ensures) (c .if1 .taken) (c .before .before .loop-test .taken)
+returns c = going-done (c .before .before .before .loop .inv .1) (c .before .step .ensures) (c .if1 .taken) (omega arith)
 
 loop-less : tie.Need-loop-less Inv-loop μ-loop
 loop-less c = omega arith
@@ -34,7 +34,7 @@ loop-again : tie.Need-loop-again Inv-loop μ-loop
 loop-again c = (omega arith, going-on (c .before .before .before .loop .inv .1) (c .before .step .ensures) (c .if1 .left))
 
 returns-2 : tie.Need-returns-2 Inv-loop μ-loop
-returns-2 c = going-over (c .before .loop .inv .1) (c .loop-test .left) (c .before .loop .inv .0)
+returns-2 c = going-over (c .before .loop .inv .1) (omega arith) (omega arith)
 
 pub meet-spec : {M : Type 1} → statement M
 meet-spec =
