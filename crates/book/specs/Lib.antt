@@ -1,3 +1,11 @@
 -- The book in a lent table.
 pub mod Local
 pub mod Promises
+pub mod Live
+pub mod Sought
+pub mod Plainly
+pub mod Agree
+pub mod Writing
+pub mod Counts
+pub mod Joining
+pub mod Posting

@@ -1,13 +1,13 @@
 -- A cut, as steps on words.
 use mathlib.Core.Path.{_≡_, refl, sym, _∙_, ap, subst, subst₂}
-use mathlib.Core.Bool.{Bool, true, false, not, cond}
-use mathlib.Core.Option.{Option, none, some}
-use mathlib.Core.List.{List, [], _∷_, _++_, append-assoc, List·Memᴰ, List·Memᴰ·head, Pairwise·nil, Memᴰ·append-left}
-use Prim.Native.Nat.{ℕ, suc, _+_, _-_, _≤_, _<_, max}
+use mathlib.Core.Bool.{Bool, true, false, cond}
+use mathlib.Core.Option.{none, some}
+use mathlib.Core.List.{List, [], _∷_, _++_, append-assoc, List·Memᴰ·head, Pairwise·nil, Memᴰ·append-left}
+use Prim.Native.Nat.{ℕ, _-_, _≤_, _<_}
 use native.Mathlib.Omega.{arith}
 use lib.IntN.{ℤ}
 use lib.Signed.{leZ}
-use Rattle.trees.specs.Tree.{Tree, leaf, node, height, leaves, last, Avl, avl-leaf, avl-node}
+use Rattle.trees.specs.Tree.{Tree, leaf, node, height, leaves, last, Avl, avl-node}
 use Rattle.trees.specs.Operations.{Part, Cut, partLeaves, partHeight, joinP, split, splitP, allFront, allBack, afterLeft, beforeRight}
 use Rattle.trees.specs.Leaves.{leaves-joinP, last-leaf, same-last}
 use Rattle.trees.specs.Balanced.{AvlP}
@@ -15,9 +15,9 @@ use Rattle.trees.specs.Split.{split-leaves, split-low}
 use Rattle.table.specs.Words.{Words}
 use Rattle.table.specs.Layout.{cap, cell}
 use Rattle.table.specs.Items.{Item, In, in-left, in-right, Slots, slots-left, slots-right, slots-across}
-use Rattle.table.specs.Rep.{childAt, refOf, Rep, Within, within-cap, within-refl, within-trans, Only, only-refl, only-trans, only-more, tied-still, inner-in}
-use Rattle.table.specs.Nodes.{Parents, parents, leaf-low, ref-low}
-use Rattle.table.specs.Parts.{refOfP, TiedP, RepP, rep-some, MadeP, repP-still, PairP, Seam}
+use Rattle.table.specs.Rep.{childAt, Within, within-cap, within-refl, within-trans, Only, only-refl, only-trans, only-more, tied-still, inner-in}
+use Rattle.table.specs.Nodes.{Parents, parents, leaf-low}
+use Rattle.table.specs.Parts.{RepP, rep-some, MadeP, repP-still, PairP, Seam}
 use Rattle.table.specs.Keys.{Keyed, keyed-left, keyed-right}
 use Rattle.shape.specs.Merge.{Merged}
 

@@ -1,13 +1,13 @@
 -- The first and the last leaf of a tree, found by going down one side.
 use mathlib.Core.Path.{_≡_, refl, sym, _∙_, ap}
 use mathlib.Core.Bool.{Bool, true, false}
-use Prim.Native.Nat.{ℕ, suc, _+_, _-_, _≤_, _<_}
+use Prim.Native.Nat.{ℕ, suc, _-_, _≤_, _<_}
 use native.Mathlib.Omega.{arith}
 use Rattle.trees.specs.Tree.{Tree, leaf, node, height, leaves, first, last, Avl}
 use Rattle.table.specs.Words.{Words}
 use Rattle.table.specs.Items.{Item, slots-left, slots-right}
 use Rattle.table.specs.Rep.{childAt, Rep}
-use Rattle.table.specs.Nodes.{Parents, parents, leaf-low}
+use Rattle.table.specs.Nodes.{parents, leaf-low}
 use Rattle.table.specs.Parts.{low}
 use Rattle.shape.specs.Splices.{inner-ref}
 

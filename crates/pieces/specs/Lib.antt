@@ -2,3 +2,4 @@
 pub mod Pieces
 pub mod Catting
 pub mod Cutting
+pub mod LeastRate

@@ -7,13 +7,13 @@ ghost use Rattle.pieces.specs.Cutting.{leastRate};
 fn least_rate(strict: bool, rate: i64) -> i64
     ensures { λ r. ⌜ r ≡ leastRate strict rate ⌝ }
 {
-    if !strict {
-        return rate;
+    if strict {
+        if rate < 1_000_000 {
+            return rate + 1;
+        }
+        return 1_000_000;
     }
-    if rate < 1_000_000 {
-        return rate + 1;
-    }
-    1_000_000
+    rate
 }
 
 // Cuts a piece tree by rate: in front the pieces whose rate is at least `rate`, or above it where the cut is strict.

@@ -1,6 +1,6 @@
 -- Balance, as steps on words: the two heights tell which rotation it is, or none.
-use mathlib.Core.Path.{_≡_, refl, sym, _∙_, ap}
-use mathlib.Core.Bool.{Bool, true, false, not, cond}
+use mathlib.Core.Path.{_≡_, sym, _∙_}
+use mathlib.Core.Bool.{Bool, true, false, not}
 use Prim.Native.Nat.{ℕ, suc, _+_, _≤_, _<_}
 use native.Mathlib.Omega.{arith}
 use borrow.Author.Tests.{lt-ltb, le-ltb}
@@ -9,7 +9,7 @@ use Rattle.trees.specs.Operations.{towers}
 use Rattle.table.specs.Words.{Words}
 use Rattle.table.specs.Items.{Item}
 use Rattle.table.specs.Rep.{heightAt, nodeOn, Rep}
-use Rattle.table.specs.Nodes.{Pair, pair-one, pair-other, rep-height}
+use Rattle.table.specs.Nodes.{pair-one, pair-other, rep-height}
 use Rattle.shape.specs.Sides.{rotateOn, balanceOn, balance-on}
 use Rattle.shape.specs.Joining.{Joined}
 use Rattle.shape.specs.Rotations.{reshaped, flipped}

@@ -1,15 +1,15 @@
 -- Two trees side by side made into one. The promise has two parts: on any words, only fields of slots change; and where the words hold
 -- two trees side by side, with the seam's slot given, they hold one tree of a given shape afterwards, and only nodes of it were written.
-use mathlib.Core.Path.{_≡_, refl, sym, _∙_, ap, subst}
-use mathlib.Core.Bool.{Bool, true, false, not}
-use Prim.Native.Nat.{ℕ, suc, _+_, _≤_, _<_, max}
+use mathlib.Core.Path.{_≡_, sym, _∙_, ap, subst}
+use mathlib.Core.Bool.{Bool, not}
+use Prim.Native.Nat.{ℕ, suc, _+_, _<_, max}
 use native.Mathlib.Omega.{arith}
 use lib.IntN.{pos}
-use Rattle.trees.specs.Tree.{Tree, leaf, node, height, leaves, last}
+use Rattle.trees.specs.Tree.{Tree}
 use Rattle.table.specs.Words.{Words}
-use Rattle.table.specs.Layout.{cap, cap-most, cset}
+use Rattle.table.specs.Layout.{cap-most, cset}
 use Rattle.table.specs.Items.{Item}
-use Rattle.table.specs.Rep.{childField, heightField, heightAt, nodeOn, seam, Within, within-refl, within-trans, within-cset}
+use Rattle.table.specs.Rep.{childField, heightField, heightAt, nodeOn, seam, Within, within-refl}
 use Rattle.table.specs.Nodes.{Pair, Made, wired, wired-within, made-node, seam-in}
 
 pub record Joined (shape : Tree Item → Tree Item → Tree Item) (k : ℕ) (side : Bool) (gap p q : ℕ) (w w′ : Words) (x : ℕ) : Type 0 where

@@ -1,22 +1,19 @@
 -- Join of two trees, either of which may be empty, as steps on words.
-use mathlib.Core.Path.{_≡_, refl, sym, _∙_, ap, subst}
+use mathlib.Core.Path.{_≡_, sym, _∙_}
 use mathlib.Core.Logic.{_≢_}
-use mathlib.Core.Bool.{Bool, true, false, not, cond}
-use mathlib.Core.Option.{Option, none, some}
-use mathlib.Core.List.{List, [], _∷_, _++_, append-nil}
-use Prim.Native.Nat.{ℕ, suc, _+_, _-_, _≤_, _<_, max}
+use mathlib.Core.Bool.{Bool, true, false}
+use mathlib.Core.Option.{none, some}
+use mathlib.Core.List.{[]}
+use Prim.Native.Nat.{ℕ, _≤_}
 use native.Mathlib.Omega.{arith}
-use Rattle.trees.specs.Tree.{Tree, leaf, node, height, leaves, last, Avl}
-use Rattle.trees.specs.Leaves.{leaves-join}
-use Rattle.trees.specs.Operations.{Part, partLeaves, towers, join, joinP}
+use Rattle.trees.specs.Tree.{Tree, last, Avl}
+use Rattle.trees.specs.Operations.{Part, partLeaves, join, joinP}
 use Rattle.trees.specs.Balanced.{AvlP}
 use Rattle.table.specs.Words.{Words}
-use Rattle.table.specs.Layout.{cap}
-use Rattle.table.specs.Items.{Item, In, Slots, slots-left, slots-right}
-use Rattle.table.specs.Rep.{nodeOn, seam, refOf, Rep, Within, within-refl, within-trans, only-refl}
+use Rattle.table.specs.Items.{Item, slots-left, slots-right}
+use Rattle.table.specs.Rep.{nodeOn, Within, within-refl, only-refl}
 use Rattle.table.specs.Nodes.{Pair, pair-one, pair-other, Made, ref-low}
-use Rattle.table.specs.Parts.{refOfP, TiedP, RepP, MadeP, made-some, low, PairP, Seam}
-use Rattle.shape.specs.Sides.{joinOn}
+use Rattle.table.specs.Parts.{MadeP, made-some, low, PairP, Seam}
 use Rattle.shape.specs.Joining.{Joined}
 use Rattle.shape.specs.Rows.{made-as}
 use Rattle.shape.specs.Rotations.{pair-flip}

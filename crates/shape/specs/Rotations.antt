@@ -1,21 +1,19 @@
 -- Rotations, as steps on words: each lemma is one way through the code.
 use mathlib.Core.Path.{_≡_, refl, sym, _∙_, ap, ap₂, subst}
-use mathlib.Core.Bool.{Bool, true, false, not, cond}
-use mathlib.Core.List.{List, List·Memᴰ·head}
-use Prim.Native.Nat.{ℕ, suc, _+_, _-_, _≤_, _<_}
+use mathlib.Core.Bool.{Bool, not, cond}
+use Prim.Native.Nat.{ℕ, _-_, _≤_, _<_}
 use native.Mathlib.Omega.{arith}
-use lib.Dec.{leb, ltb}
-use Rattle.trees.specs.Tree.{Tree, leaf, node, height, leaves, last}
+use lib.Dec.{leb}
+use Rattle.trees.specs.Tree.{Tree, leaf, node, height, leaves}
 use Rattle.trees.specs.Leaves.{last-leaf}
-use Rattle.trees.specs.Operations.{towers}
 use Rattle.table.specs.Words.{Words}
-use Rattle.table.specs.Layout.{cap, cap-most}
+use Rattle.table.specs.Layout.{cap}
 use Rattle.table.specs.Items.{Item, In, Slots, slots-left}
-use Rattle.table.specs.Rep.{childAt, heightAt, refOf, nodeOn, seam, Tied, Rep, Within, within-cap, within-trans, inner-in}
-use Rattle.table.specs.Nodes.{Pair, pair-one, pair-other, Made, Opened, opened, rep-height, ref-low, on-one, on-other, on-across, in-one, in-other}
-use Rattle.shape.specs.Sides.{rowOn, doubleOn, rotateOn, balanceOn, row-leaves, four-leaves, on-leaves, other-way, seam-other, seam-first, seam-last, double-leaf, double-node, rotate-leaf, rotate-node, balance-on}
+use Rattle.table.specs.Rep.{childAt, heightAt, nodeOn, seam, Rep, within-cap, within-trans}
+use Rattle.table.specs.Nodes.{Pair, pair-one, Made, Opened, opened, rep-height, on-one, on-across, in-one, in-other}
+use Rattle.shape.specs.Sides.{rowOn, doubleOn, rotateOn, row-leaves, four-leaves, other-way, seam-other, seam-first, seam-last, double-leaf, double-node, rotate-leaf, rotate-node}
 use Rattle.shape.specs.Joining.{Joined}
-use Rattle.shape.specs.Rows.{tied-beside, pair-made, pair-beside, made-then, made-as, Row, Rowed, row-pair, row-one, row-middle}
+use Rattle.shape.specs.Rows.{tied-beside, made-then, made-as, Row, Rowed, row-one, row-middle}
 
 -- a root's number tells a leaf
 pub is-leaf : {w : Words} {k x : ℕ} {t : Tree Item} → Rep w k x t → x ≤ 4096 → (a : Item) × (t ≡ leaf a)

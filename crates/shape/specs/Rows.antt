@@ -1,16 +1,14 @@
 -- Steps that follow one another: what one leaves is what the next finds.
-use mathlib.Core.Path.{_≡_, refl, sym, _∙_, ap, subst}
-use mathlib.Core.Bool.{Bool, true, false, not}
-use mathlib.Core.List.{List}
-use Prim.Native.Nat.{ℕ, suc, _+_, _≤_, _<_}
-use native.Mathlib.Omega.{arith}
-use Rattle.trees.specs.Tree.{Tree, leaf, node, height, leaves, last}
+use mathlib.Core.Path.{_≡_, sym, _∙_, ap, subst}
+use mathlib.Core.Bool.{Bool}
+use Prim.Native.Nat.{ℕ, _≤_}
+use Rattle.trees.specs.Tree.{Tree, leaves}
 use Rattle.table.specs.Words.{Words}
 use Rattle.table.specs.Layout.{cap}
 use Rattle.table.specs.Items.{Item, In, Slots}
-use Rattle.table.specs.Rep.{refOf, nodeOn, seam, Tied, tied-still, Rep, Within, within-cap, within-trans, Only, only-trans, only-more, inner-in}
-use Rattle.table.specs.Nodes.{Pair, pair-one, Made, on-one, on-other, on-across, in-one, in-other}
-use Rattle.shape.specs.Sides.{rowOn, row-leaves, seam-first, seam-last}
+use Rattle.table.specs.Rep.{refOf, nodeOn, seam, Tied, tied-still, Rep, Within, within-cap, within-trans, only-trans, only-more, inner-in}
+use Rattle.table.specs.Nodes.{Pair, pair-one, Made, on-one, on-other, on-across, in-other}
+use Rattle.shape.specs.Sides.{rowOn, seam-first}
 use Rattle.shape.specs.Joining.{Joined}
 
 -- a tree that shares no slot with the one that was made stands as before

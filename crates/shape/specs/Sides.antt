@@ -4,7 +4,7 @@ use mathlib.Core.Path.{_≡_, refl, sym, _∙_, ap}
 use mathlib.Core.Bool.{Bool, true, false, not, cond}
 use mathlib.Core.List.{_++_, append-assoc}
 use lib.Dec.{T, leb}
-use Rattle.trees.specs.Tree.{Tree, leaf, node, height, leaves, last}
+use Rattle.trees.specs.Tree.{Tree, leaf, node, height, leaves}
 use Rattle.trees.specs.Operations.{towers, doubleRight, doubleLeft, rotateRight, rotateLeft, balance, joinR, joinL}
 use Rattle.trees.specs.Leaves.{leaves-balance, leaves-joinR, leaves-joinL, same-last}
 use Rattle.trees.specs.Mirror.{towers-apart}

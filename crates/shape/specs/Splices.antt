@@ -1,19 +1,19 @@
 -- Join, as steps on words: down the inner spine of the higher tree, and balance on the way back.
-use mathlib.Core.Path.{_≡_, refl, sym, _∙_, ap, subst}
-use mathlib.Core.Bool.{Bool, true, false, not, cond}
-use Prim.Native.Nat.{ℕ, suc, _+_, _-_, _≤_, _<_, max}
+use mathlib.Core.Path.{_≡_, sym, _∙_, ap, subst}
+use mathlib.Core.Bool.{Bool, true, false, not}
+use Prim.Native.Nat.{ℕ, suc, _-_, _≤_, _<_, max}
 use native.Mathlib.Omega.{arith}
 use lib.Dec.{ltb}
 use borrow.Author.Tests.{ltb-true, le-ltb}
-use Rattle.trees.specs.Tree.{Tree, leaf, node, height, leaves, last}
+use Rattle.trees.specs.Tree.{Tree, leaf, node, height, leaves}
 use Rattle.trees.specs.Leaves.{last-leaf}
 use Rattle.trees.specs.Operations.{towers}
 use Rattle.table.specs.Words.{Words}
 use Rattle.table.specs.Layout.{cap}
-use Rattle.table.specs.Items.{Item, In, Slots, slots-left}
+use Rattle.table.specs.Items.{Item, Slots, slots-left}
 use Rattle.table.specs.Rep.{childAt, heightAt, nodeOn, seam, Rep, Within, within-trans}
 use Rattle.table.specs.Nodes.{Pair, pair-one, pair-other, Made, Opened, opened, rep-height, height-on, in-other}
-use Rattle.shape.specs.Sides.{rowOn, balanceOn, joinOn, on-leaves, seam-last, join-leaf, join-node, join-low, balance-leaves, join-leaves, seam-join}
+use Rattle.shape.specs.Sides.{balanceOn, joinOn, on-leaves, seam-last, join-node, join-low, balance-leaves, join-leaves, seam-join}
 use Rattle.shape.specs.Joining.{Joined}
 use Rattle.shape.specs.Rows.{Row, row-pair, pair-beside, made-then, made-as}
 use Rattle.shape.specs.Rotations.{opened-row, slot-of}

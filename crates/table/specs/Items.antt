@@ -10,7 +10,7 @@ use Rattle.lists.specs.Places.{sublist-mem}
 use Rattle.offers.specs.Offers.{Offer}
 use Rattle.trees.specs.Tree.{Tree, leaf, node, height, leaves}
 use Rattle.trees.specs.Leaves.{some-leaf}
-use Rattle.trees.specs.Order.{Parted, parted}
+use Rattle.trees.specs.Order.{parted}
 
 pub record Item : Type 0 where
   pub slot : ℕ

@@ -8,16 +8,16 @@
 --     plane 5   the part stored with the inner node, with the leaf
 -- Reading and writing a field are total: a field that the part lacks reads 0, and a write to it does nothing.
 use mathlib.Core.Path.{_≡_, refl, sym, _∙_, ap}
-use mathlib.Core.Logic.{_≢_, _⊎_, ⊎-elim}
-use mathlib.Core.Bool.{Bool, true, false, cond, _&&_}
-use Prim.Native.Nat.{ℕ, suc, _+_, _*_, _/_, _%_, _-_, _≤_, _<_}
+use mathlib.Core.Logic.{_≢_}
+use mathlib.Core.Bool.{Bool, true, false, cond}
+use Prim.Native.Nat.{ℕ, _+_, _*_, _/_, _%_, _≤_, _<_}
 use native.Mathlib.Nat.{mul-le-mul-right}
 use native.Mathlib.Decide.{decLe, decLt}
 use native.Mathlib.Omega.{arith}
 use lib.ListN.{length}
-use lib.IntN.{ℤ, pos}
-use lib.Dec.{leb, ltb}
-use borrow.Author.Tests.{le-leb, lt-leb, leb-true, lt-ltb, le-ltb}
+use lib.IntN.{ℤ}
+use lib.Dec.{leb}
+use borrow.Author.Tests.{leb-true}
 use Rattle.table.specs.Words.{Words, word, wset, word-out, wset-length, wset-same, wset-other, wset-out, upTo, upTo-most}
 
 -- ---- the capacity
@@ -181,6 +181,9 @@ cset-cap w f s z = cap-of w (cset w f s z) (cset-length w f s z) (cset-rest w f 
 -- places depend on the capacity and on nothing else
 pub valid-of : {w w′ : Words} {f s : ℕ} → cap w ≡ cap w′ → Valid w f s → Valid w′ f s
 valid-of e v = record { low = v .low; high = omega arith; field = v .field }
+
+pub outside-of : {w w′ : Words} {i : ℕ} → cap w′ ≡ cap w → Outside w i → Outside w′ i
+outside-of e o = record { apart = λ f s v d. o .apart f s (valid-of e v) (d ∙ ap (λ c. place c f s) e) }
 
 pub spot-of : (w w′ : Words) (f s : ℕ) → length w′ ≡ length w → cap w′ ≡ cap w → spot w′ f s ≡ spot w f s
 spot-of w w′ f s n e = go (valid? w f s)

@@ -7,3 +7,4 @@ pub mod Nodes
 pub mod Threads
 pub mod Parts
 pub mod Keys
+pub mod Free

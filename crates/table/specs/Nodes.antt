@@ -1,17 +1,17 @@
 -- What a node's words say of the tree that it is the root of, and what the words of a new node make of two trees side by side.
 use mathlib.Core.Path.{_≡_, refl, sym, _∙_, ap, subst}
-use mathlib.Core.Logic.{_≢_, ⊎-elim}
+use mathlib.Core.Logic.{_≢_}
 use mathlib.Core.Bool.{Bool, true, false, not}
-use mathlib.Core.List.{List, [], _∷_, _++_, List·Memᴰ, List·Memᴰ·head, List·Memᴰ·eq-of-singleton, Memᴰ·append-left}
-use Prim.Native.Nat.{ℕ, suc, _+_, _*_, _-_, _≤_, _<_, max}
+use mathlib.Core.List.{List, [], _∷_, List·Memᴰ, List·Memᴰ·head, List·Memᴰ·eq-of-singleton, Memᴰ·append-left}
+use Prim.Native.Nat.{ℕ, suc, _+_, _-_, _≤_, _<_, max}
 use native.Mathlib.Omega.{arith}
 use lib.IntN.{ℤ, pos}
 use Rattle.trees.specs.Tree.{Tree, leaf, node, height, leaves, last}
 use Rattle.trees.specs.Leaves.{last-leaf}
 use Rattle.table.specs.Words.{Words, word, word-out, upTo, upTo-in}
-use Rattle.table.specs.Layout.{cap, cap-most, cell, cset, linkAt, spot-out, Valid, valid-of, cset-same, cset-other}
+use Rattle.table.specs.Layout.{cap, cap-most, cell, cset, linkAt, spot-out, Valid, cset-same, cset-other}
 use Rattle.table.specs.Items.{Item, In, at, in-left, in-right, Slots, slots-left, slots-right, slots-across, height-most}
-use Rattle.table.specs.Rep.{childField, heightField, Field, a-child, a-height, childAt, heightAt, refOf, nodeOn, seam, Tied, tied-leaf, tied-node, tied-still, Rep, Within, within-cap, within-refl, within-trans, within-cset, Only, only-trans, only-more, only-cset, Inner, inner-in, inner-last}
+use Rattle.table.specs.Rep.{childField, heightField, a-child, a-height, childAt, heightAt, refOf, nodeOn, seam, Tied, tied-node, tied-still, Rep, Within, within-cap, within-refl, within-trans, within-cset, Only, only-trans, only-cset, Inner, inner-in, inner-last}
 
 -- ---- the root's number
 

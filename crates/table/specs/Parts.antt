@@ -1,17 +1,17 @@
 -- Trees that may be empty, kept in words: node number 0 is the empty one.
-use mathlib.Core.Path.{_≡_, refl, sym, _∙_, ap, subst}
-use mathlib.Core.Option.{Option, none, some}
-use mathlib.Core.List.{List, [], _∷_, _++_}
-use Prim.Native.Nat.{ℕ, _≤_, _<_}
+use mathlib.Core.Path.{_≡_}
+use mathlib.Core.Option.{none, some}
+use mathlib.Core.List.{List, _++_}
+use Prim.Native.Nat.{ℕ, _≤_}
 use native.Mathlib.Omega.{arith}
-use Rattle.trees.specs.Tree.{Tree, leaf, node, height, leaves, last, Avl}
+use Rattle.trees.specs.Tree.{Tree, height, leaves, last, Avl}
 use Rattle.trees.specs.Operations.{Part, partLeaves}
 use Rattle.trees.specs.Height.{height-full}
 use Rattle.table.specs.Words.{Words}
 use Rattle.table.specs.Layout.{cap, cap-most}
 use Rattle.table.specs.Items.{Item, In, Slots, slots-most}
 use Rattle.table.specs.Rep.{refOf, Tied, tied-still, Rep, Within, within-cap, Only, inner-in}
-use Rattle.table.specs.Nodes.{Made, ref-low}
+use Rattle.table.specs.Nodes.{Made}
 
 abbrev pub refOfP : Part Item → ℕ
 refOfP none = 0

@@ -2,18 +2,18 @@
 -- the leaf of that slot, 4,096 + s for the inner node kept in slot s, and 0 for no tree. An inner node is kept in the slot of the last leaf
 -- of its left part, so every node's number follows from the tree. A side is a Bool: false is left.
 use mathlib.Core.Path.{_≡_, refl, sym, _∙_, ap, subst}
-use mathlib.Core.Logic.{_≢_, ⊎-elim}
-use mathlib.Core.Bool.{Bool, true, false, not}
-use mathlib.Core.List.{List, [], _∷_, _++_, List·Memᴰ, List·Memᴰ·head, List·Memᴰ·eq-of-singleton}
-use Prim.Native.Nat.{ℕ, suc, _+_, _*_, _-_, _≤_, _<_, max}
+use mathlib.Core.Logic.{_≢_}
+use mathlib.Core.Bool.{Bool, true, false}
+use mathlib.Core.List.{List}
+use Prim.Native.Nat.{ℕ, suc, _+_, _*_, _-_, _≤_, max}
 use native.Mathlib.Omega.{arith}
 use lib.ListN.{length}
-use lib.IntN.{ℤ, pos}
+use lib.IntN.{ℤ}
 use Rattle.trees.specs.Tree.{Tree, leaf, node, height, leaves, last}
 use Rattle.trees.specs.Leaves.{last-leaf}
-use Rattle.table.specs.Words.{Words, word, word-out, upTo, upTo-in}
-use Rattle.table.specs.Layout.{cap, cap-of, cap-most, place, cell, cset, linkAt, link-most, spot-out, valid-of, Valid, Outside, header-outside, cset-length, cset-rest, cset-other}
-use Rattle.table.specs.Items.{Item, In, at, in-left, in-right, Slots, slots-left, slots-right, slots-across}
+use Rattle.table.specs.Words.{Words, word, upTo}
+use Rattle.table.specs.Layout.{cap, cap-of, cell, cset, linkAt, link-most, outside-of, Outside, header-outside, cset-length, cset-rest, cset-other}
+use Rattle.table.specs.Items.{Item, In, at, in-left, in-right, Slots, slots-right, slots-across}
 
 -- ---- nodes
 
@@ -89,11 +89,7 @@ pub within-refl : (w : Words) → Within w w
 within-refl w = record { long = refl; rest = λ i o. refl }
 
 pub within-trans : {w w′ w″ : Words} → Within w w′ → Within w′ w″ → Within w w″
-within-trans {w} {w′} g h =
-    record { long = h .long ∙ g .long; rest = λ i o. h .rest i (further i o) ∙ g .rest i o }
-  where
-    further : (i : ℕ) → Outside w i → Outside w′ i
-    further i o = record { apart = λ f s v e. o .apart f s (valid-of (within-cap g) v) (e ∙ ap (λ c. place c f s) (within-cap g)) }
+within-trans g h = record { long = h .long ∙ g .long; rest = λ i o. h .rest i (outside-of (within-cap g) o) ∙ g .rest i o }
 
 pub within-cset : (w : Words) (f s : ℕ) (z : ℤ) → Within w (cset w f s z)
 within-cset w f s z = record { long = cset-length w f s z; rest = λ i o. cset-rest w f s z o }

@@ -1,6 +1,5 @@
 -- `table::at_least` meets its contract.
 use mathlib.Core.Path.{ap}
-use lib.IntN.{ℤ}
 use lib.Signed.{leZ}
 use mir.Facts.{toZ-ofZ}
 use mir.Syntax.{w64}

@@ -1,11 +1,10 @@
 -- `table::capacity` meets its contract: by its one test.
-use mathlib.Core.Path.{_≡_, _∙_, sym, ap}
-use mathlib.Core.Bool.{cond}
+use mathlib.Core.Path.{_≡_}
 use Prim.Native.Nat.{ℕ, _+_, _*_, _≤_, _<_}
 use lib.ListN.{length}
 use borrow.Author.Tests.{le-leb, lt-leb}
 use Rattle.table.specs.Words.{Words, word, upTo}
-use Rattle.table.specs.Layout.{cap, fitting}
+use Rattle.table.specs.Layout.{cap}
 use borrow.Author.Needs.{needs}
 use Rattle.table.proofs.capacity.Statement.{statement}
 use Rattle.table.proofs.capacity.Tie as tie

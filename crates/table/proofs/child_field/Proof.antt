@@ -3,7 +3,7 @@ use mathlib.Core.Path.{_≡_, sym, _∙_, ap}
 use mathlib.Core.Bool.{Bool, true, false}
 use Prim.Native.Nat.{ℕ, _+_, _*_}
 use native.Mathlib.Omega.{arith}
-use Rattle.table.specs.Rep.{bit, childField}
+use Rattle.table.specs.Rep.{childField}
 use borrow.Author.Needs.{needs}
 use Rattle.table.proofs.child_field.Statement.{statement}
 use Rattle.table.proofs.child_field.Tie as tie

@@ -1,6 +1,5 @@
 -- `table::is_above` meets its contract.
 use mathlib.Core.Path.{ap}
-use lib.IntN.{ℤ}
 use lib.Signed.{ltZ}
 use mir.Facts.{toZ-ofZ}
 use mir.Syntax.{w64}

@@ -2,8 +2,6 @@
 use mathlib.Core.Path.{_≡_, _∙_, ap}
 use Prim.Native.Nat.{ℕ}
 use mir.Facts.{toZ-ofZ}
-use mir.Syntax.{w64}
-use mir.Val.{SFits}
 use lib.IntN.{ℤ}
 use Rattle.table.specs.Words.{Words, wset}
 use Rattle.table.specs.Layout.{cset, spot}

@@ -1,0 +1,32 @@
+-- `slots::take_slot` meets its contract.
+use mathlib.Core.Path.{_≡_, _∙_, ap}
+use Prim.Native.Nat.{ℕ}
+use lib.IntN.{pos}
+use Rattle.table.specs.Words.{Words, wset}
+use Rattle.table.specs.Layout.{linkAt}
+use Rattle.table.specs.Free.{firstFree, taken}
+use borrow.Author.Needs.{needs}
+use Rattle.slots.proofs.take_slot.Statement.{statement}
+use Rattle.slots.proofs.take_slot.Tie as tie
+
+words : (w w′ : Words) (s next : ℕ) → s ≡ firstFree w → next ≡ linkAt w 3 s → w′ ≡ wset w 5 (pos next) → w′ ≡ taken w
+words w w′ s next e d h = h ∙ ap (λ (n : ℕ). wset w 5 (pos n)) (d ∙ ap (linkAt w 3) e)
+
+number-at-requires : tie.Need-number-at-requires
+number-at-requires c κs = search needs
+
+link-requires : tie.Need-link-requires
+link-requires c κs = search needs
+
+set-number-requires : tie.Need-set-number-requires
+set-number-requires c κs = search needs
+
+same-length : tie.Need-same-length
+same-length c = search needs
+
+returns : tie.Need-returns
+returns c = (c .before .before .before .before .before .number-at .ensures, words _ _ _ _ (c .before .before .before .before .before .number-at .ensures) (c .before .before .before .link .ensures) (c .before .set-number .ensures))
+
+pub take-slot-spec : {M : Type 1} → statement M
+take-slot-spec =
+    tie.close (tie.spec number-at-requires link-requires set-number-requires same-length returns)
