@@ -9,3 +9,4 @@ pub mod Writing
 pub mod Counts
 pub mod Joining
 pub mod Posting
+pub mod Leaving
