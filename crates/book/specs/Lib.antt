@@ -10,3 +10,4 @@ pub mod Counts
 pub mod Joining
 pub mod Posting
 pub mod Leaving
+pub mod Withdrawing
