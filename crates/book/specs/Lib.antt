@@ -11,3 +11,4 @@ pub mod Joining
 pub mod Posting
 pub mod Leaving
 pub mod Withdrawing
+pub mod Opening
