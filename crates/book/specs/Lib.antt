@@ -12,3 +12,4 @@ pub mod Posting
 pub mod Leaving
 pub mod Withdrawing
 pub mod Opening
+pub mod Following

@@ -6,7 +6,7 @@ use mathlib.Core.List.{List, _∷_, map, List·Memᴰ}
 use mathlib.Core.Option.{Option}
 use Prim.Native.Nat.{ℕ, suc, _≤_, _<_}
 use native.Mathlib.Omega.{arith}
-use lib.ListN.{length}
+use lib.ListN.{length, length-map}
 use lib.IntN.{ℤ, pos}
 use Rattle.lists.specs.Members.{pairs-cons}
 use Rattle.plain.specs.Book.{leave}
@@ -25,7 +25,7 @@ use Rattle.update.specs.Form.{Book, OffersIn, NumbersIn, FreeChain, free-none, 
 use Rattle.update.specs.Steps.{RemovedIn}
 use Rattle.numbers.specs.Numbers.{NumbersAt, Dropped}
 use Rattle.book.specs.Live.{offerOf, live-slots, live-holds, live-whole, whole-ordered, slot-tells, number-tells}
-use Rattle.book.specs.Sought.{part-ref, numbers-at, offers-read, envelope-read, capacity-most, live-most}
+use Rattle.book.specs.Sought.{Sought, sought-item, part-ref, numbers-at, offers-read, envelope-read, capacity-most, live-most}
 use Rattle.book.specs.Agree.{Agree, Everywhere, FreeHere, agree-trans, agree-less, agree-header, agree-only, agree-touched, header-kept, header-set, offers-number, numbers-envelope, free-number, free-envelope, offers-agree, numbers-agree, free-agree}
 use Rattle.book.specs.Writing.{Headed, Freed, free-not-live}
 use Rattle.book.specs.Counts.{counts-exact}
@@ -48,6 +48,9 @@ pub record LiveAt (number : ℤ) (s : ℕ) (live : List Item) (a : Item) : Type 
   pub member : List·Memᴰ a live
   pub number-is : numberOf a ≡ number
   pub slot : s ≡ a .slot
+
+pub live-at : {number : ℤ} {s : ℕ} {live : List Item} → Sought numberOf number live s → s ≢ 0 → (a : Item) × LiveAt number s live a
+live-at f h = let (a, m, e, d) = sought-item f h in (a, record { member = m; number-is = e; slot = d })
 
 -- a chain begins at 0 or at a slot
 chain-head : {w : Words} {ss : List ℕ} → FreeChain w ss → head0 ss ≤ cap w
@@ -179,6 +182,13 @@ module _ {w w₁ w₂ w₃ w₄ w′ : Words} {number : ℤ} {c s root root′ x
         slots-used = omega (arith, fewer, b .slots-used);
       }
 
+  plain′ : plainOffers (withdrawn items a held .rest) ≡ leave number (plainOffers held)
+  plain′ = ap (map offerOf) lines ∙ without-leave a number ordered (live .member) (live .number-is) (λ y m d. number-tells b m (live .member) d)
+
+  -- the count written is the plain book's
+  pub withdrawn-count : n ≡ length (leave number (plainOffers held))
+  withdrawn-count = omega (arith, fewer, length-map (bookLines (withdrawn items a held .rest)) offerOf, ap length plain′)
+
   -- the part stands for the plain book after the withdrawal
   pub withdrawn-plain : Updated w′ c held (leave number (plainOffers held)) k st h
   withdrawn-plain =
@@ -187,7 +197,7 @@ module _ {w w₁ w₂ w₃ w₄ w′ : Words} {number : ℤ} {c s root root′ x
         after = withdrawn items a held .rest;
         log = withdrawn items a held .log;
         stands = withdrawn-book;
-        offers = ap (map offerOf) lines ∙ without-leave a number ordered (live .member) (live .number-is) (λ y m d. number-tells b m (live .member) d);
+        offers = plain′;
         work = done;
         counts = counts-exact (omega (arith, live-most b, capacity-most b)) (omega (arith, live-most withdrawn-book, capacity-most withdrawn-book)) done (left₃ .counted);
       }
