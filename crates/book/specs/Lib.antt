@@ -13,3 +13,4 @@ pub mod Leaving
 pub mod Withdrawing
 pub mod Opening
 pub mod Following
+pub mod Calls
