@@ -9,3 +9,8 @@ pub mod Writing
 pub mod Counts
 pub mod Joining
 pub mod Posting
+pub mod Leaving
+pub mod Withdrawing
+pub mod Opening
+pub mod Following
+pub mod Calls

@@ -8,10 +8,11 @@ use Prim.Native.Nat.{ℕ, suc, _≤_, _<_}
 use native.Mathlib.Omega.{arith}
 use lib.ListN.{length}
 use lib.Dec.{T}
-use lib.IntN.{pos}
+use lib.IntN.{ℤ, pos}
 use Rattle.lists.specs.Members.{pairs-cons}
 use Rattle.offers.specs.Offers.{Offer, offerInRange}
-use Rattle.plain.specs.Book.{join}
+use Rattle.plain.specs.Book.{post, join, rangeTrials}
+use Rattle.plain.specs.Sound.{Clear}
 use Rattle.trees.specs.Operations.{Part}
 use Rattle.dynamic.specs.OfferTree.{Held, Pair}
 use Rattle.dynamic.specs.Updates.{posted}
@@ -27,8 +28,9 @@ use Rattle.table.specs.Threads.{Held as HeldAt, Holds}
 use Rattle.pieces.specs.Pieces.{items, item-laws, rateOf, partRef}
 use Rattle.update.specs.Form.{Book, OffersIn, NumbersIn, numberOf, head0, plainOffers}
 use Rattle.numbers.specs.Numbers.{NumbersAt, Added}
-use Rattle.book.specs.Live.{offerOf, live-whole}
-use Rattle.book.specs.Sought.{part-ref, numbers-at, offers-read, envelope-read, capacity-most, live-most}
+use Rattle.book.specs.Live.{offerOf, live-slots, live-whole}
+use Rattle.book.specs.Sought.{Sought, sought-none, part-ref, numbers-at, offers-read, envelope-read, capacity-most, live-most}
+use Rattle.book.specs.Plainly.{clear-offer}
 use Rattle.book.specs.Agree.{Agree, Everywhere, FreeHere, agree-trans, agree-less, agree-header, agree-only, agree-touched, header-kept, header-set, offers-number, numbers-envelope, free-number, free-envelope, held-agree, offers-agree, numbers-agree, free-agree}
 use Rattle.book.specs.Writing.{Filled, Headed, FirstFree, first-free}
 use Rattle.book.specs.Counts.{Exact, counts-exact}
@@ -61,6 +63,19 @@ pub record Postable (o : Offer) (c : ℕ) (live : List Item) : Type 0 where
   pub number-new : (a : Item) → List·Memᴰ a live → numberOf a ≢ o .number
   pub rate-new : (a : Item) → List·Memᴰ a live → rateOf a ≢ o .rate
   pub room : length live < c
+
+-- where the searches found nothing
+pub postable :
+    {w : Words} {c : ℕ} {held : Option (Held Item)} (n r z : ℤ) {s u : ℕ} → Book w c held → Clear (rangeTrials (post n r z)) →
+    Sought numberOf n (bookLines held) s → s ≡ 0 → Sought rateOf r (bookLines held) u → u ≡ 0 → length (bookLines held) < c →
+    Postable (record { number = n; rate = r; base = z }) c (bookLines held)
+postable {w} {held} n r z b ranged by-number es by-rate eu room =
+    record {
+      ranged = clear-offer n r z ranged;
+      number-new = sought-none (live-slots w held (b .offers)) by-number es;
+      rate-new = sought-none (live-slots w held (b .offers)) by-rate eu;
+      room = room;
+    }
 
 -- the offer in that slot
 abbrev pub itemAt : ℕ → Offer → Item
