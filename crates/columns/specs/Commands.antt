@@ -1,9 +1,9 @@
 -- What `parse` answers: the command of the call whose line it was given, and `Unreadable` where it was given no call's.
-use Prim.Native.Nat.{ℕ, _≤_, _<_}
-use mathlib.Core.Path.{_≡_, refl, ap, sym, _∙_}
+use Prim.Native.Nat.{ℕ}
+use mathlib.Core.Path.{_≡_, refl, sym, _∙_}
 use mathlib.Core.Logic.{_≢_, _↔_}
-use mathlib.Core.Bool.{Bool, true, false, cond}
-use mathlib.Core.List.{List, [], _∷_}
+use mathlib.Core.Bool.{cond}
+use mathlib.Core.List.{List}
 use native.Mathlib.Omega.{arith}
 use lib.ListN.{length, replicate}
 use lib.IntN.{ℤ, pos}
@@ -87,6 +87,21 @@ readable (listing room) e = let z : _≡_ {A = ℕ} 0 1 = cc in omega arith
 
 pub unreadable : (line : List ℕ) → ((k : Call) → IsLineOf k line → ⊥) → Parsed line Unreadable
 unreadable line none k = (λ e. absurd (readable k e), λ i. absurd (none k i))
+
+-- ---- one line has one answer
+
+pub parsed-unique : (line : List ℕ) (r s : Command) → Parsed line r → Parsed line s → r ≡ s
+parsed-unique line (Post n r b) s p q = sym (q (post n r b) .1 (p (post n r b) .0 refl))
+parsed-unique line (Withdraw n) s p q = sym (q (withdraw n) .1 (p (withdraw n) .0 refl))
+parsed-unique line (Query x) s p q = sym (q (query x) .1 (p (query x) .0 refl))
+parsed-unique line Listing s p q = sym (q (listing 0) .1 (p (listing 0) .0 refl))
+parsed-unique line Unreadable (Post n r b) p q = p (post n r b) .1 (q (post n r b) .0 refl)
+parsed-unique line Unreadable (Withdraw n) p q = p (withdraw n) .1 (q (withdraw n) .0 refl)
+parsed-unique line Unreadable (Query x) p q = p (query x) .1 (q (query x) .0 refl)
+parsed-unique line Unreadable Listing p q = p (listing 0) .1 (q (listing 0) .0 refl)
+parsed-unique line Unreadable Unreadable p q = refl
+
+-- ---- no call's line, and a call's line, by the parts
 
 -- Where each test of the program sends a line.
 pub wrong-length : (line : List ℕ) → length line ≢ 27 → Parsed line Unreadable

@@ -1,19 +1,19 @@
 -- What a number's decimal text is made of, how long it is, and that it tells the number.
-use Prim.Native.Nat.{ℕ, zero, suc, _+_, _-_, _*_, _/_, _%_, _^_, _≤_, _<_}
-use mathlib.Core.Path.{_≡_, refl, ap, sym, _∙_}
-use mathlib.Core.Logic.{_≢_}
-use mathlib.Core.Bool.{Bool, true, false, _&&_, _||_, cond}
+use Prim.Native.Nat.{ℕ, zero, suc, _+_, _/_, _%_, _^_, _≤_, _<_}
+use mathlib.Core.Path.{_≡_, refl, ap}
+use mathlib.Core.Bool.{Bool, true, _&&_, _||_}
 use mathlib.Core.List.{List, [], _∷_, _++_}
 use native.Mathlib.Nat.{pow-zero, pow-suc}
 use native.Mathlib.Decide.{decLt}
 use native.Mathlib.Omega.{arith}
-use lib.ListN.{length, length-append, getD, List·getD-append}
-use lib.IntN.{ℤ, pos, negsuc, natAbs, negℤ}
+use lib.ListN.{length, length-append, getD}
+use lib.IntN.{ℤ, pos, negsuc, natAbs}
 use lib.Dec.{leb, eqb}
-use borrow.Author.Tests.{le-leb, lt-leb, leb-true}
+use mir.Syntax.{w64}
+use mir.Val.{SFits}
+use borrow.Author.Tests.{le-leb}
 use lib.Dec.{T}
 use Rattle.lists.specs.Filter.{every, both, one-of-both, other-of-both}
-use Rattle.lists.specs.Tests.{any}
 use Rattle.columns.specs.Columns.{digit, minus, digitsWithin, digits, numeral, decimal, FitsIn}
 
 -- ---- the two laws that the rest goes by
@@ -76,6 +76,24 @@ pub numeral-characters : (n : ℕ) → T (every isDigit (numeral n))
 unfolding numeral
 numeral-characters n = every-snoc (digits (n / 10)) _ (digits-characters (n / 10)) (digit-is (n % 10) (omega arith))
 
+-- A digit or the minus, which `decimal` puts nowhere but in front.
+abbrev pub isDecimal : ℕ → Bool
+isDecimal b = isDigit b || eqb b minus
+
+digits-decimal : (t : List ℕ) → T (every isDigit t) → T (every isDecimal t)
+digits-decimal [] h = tt
+digits-decimal (b ∷ t) h =
+    both (isDecimal b) (every isDecimal t) (left (isDigit b) (one-of-both (isDigit b) (every isDigit t) h))
+    (digits-decimal t (other-of-both (isDigit b) (every isDigit t) h))
+  where
+    left : (x : Bool) → T x → T (x || eqb b minus)
+    left true h = tt
+
+pub decimal-characters : (z : ℤ) → T (every isDecimal (decimal z))
+unfolding decimal
+decimal-characters (pos n) = digits-decimal (numeral n) (numeral-characters n)
+decimal-characters (negsuc n) = digits-decimal (numeral (suc n)) (numeral-characters (suc n))
+
 -- No leading zero, but for 0 itself.
 abbrev Leads : ℕ → List ℕ → Type 0
 Leads m t = (m ≡ 0 → t ≡ []) × (0 < m → digit 0 < getD t 0 0)
@@ -113,6 +131,11 @@ pub numeral-some : (n : ℕ) → 0 < length (numeral n)
 unfolding numeral
 numeral-some n = rw length-append (omega arith)
 
+pub decimal-some : (z : ℤ) → 0 < length (decimal z)
+unfolding decimal
+decimal-some (pos n) = numeral-some n
+decimal-some (negsuc n) = omega arith
+
 -- A number of at most k digits fits a column of k + 1, with its minus.
 pub fits-column : (k : ℕ) (z : ℤ) → 0 < k → natAbs z < 10 ^ k → FitsIn (k + 1) z
 unfolding decimal
@@ -123,3 +146,8 @@ fits-column k (negsuc n) a h = omega (arith, numeral-length k (suc n) a h)
 pub fits-unsigned : (k n : ℕ) → 0 < k → n < 10 ^ k → FitsIn k (pos n)
 unfolding decimal
 fits-unsigned k n a h = numeral-length k n a h
+
+-- Any word fits a column of 20.
+pub fits-word : (z : ℤ) → SFits w64 z → FitsIn 20 z
+fits-word (pos n) f = fits-column 19 (pos n) (omega arith) (omega arith)
+fits-word (negsuc n) f = fits-column 19 (negsuc n) (omega arith) (omega arith)

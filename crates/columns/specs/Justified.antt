@@ -1,10 +1,10 @@
 -- Texts in columns: how wide they are, and how they grow at the right end.
-use Prim.Native.Nat.{ℕ, zero, suc, _+_, _-_, _≤_, _<_}
-use mathlib.Core.Path.{_≡_, refl, ap, sym, _∙_}
+use Prim.Native.Nat.{ℕ, zero, suc, _+_, _-_, _≤_}
+use mathlib.Core.Path.{_≡_, refl, ap, _∙_}
 use mathlib.Core.List.{List, [], _∷_, _++_, append-assoc, append-nil}
 use native.Mathlib.Nat.{sub-zero}
 use native.Mathlib.Omega.{arith}
-use lib.ListN.{length, replicate, length-append, length-replicate, replicate-append-replicate}
+use lib.ListN.{length, replicate, length-append, length-replicate}
 use Rattle.columns.specs.Columns.{space, justified}
 
 -- A text that fits is as wide as its column, and a longer one keeps its length.

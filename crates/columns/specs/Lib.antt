@@ -3,6 +3,7 @@ pub mod Commands
 pub mod Decimals
 pub mod Justified
 pub mod Lines
+pub mod Printed
 pub mod Printing
 pub mod Reading
 pub mod Samples

@@ -1,19 +1,16 @@
 -- A call's line, taken apart: it is 27 bytes long, and its letter and its columns tell the call.
-use Prim.Native.Nat.{ℕ, zero, suc, _+_, _-_, _≤_, _<_}
+use Prim.Native.Nat.{ℕ, _+_, _≤_}
 use mathlib.Core.Path.{_≡_, refl, ap, sym, _∙_, subst}
-use mathlib.Core.Logic.{_≢_, _↔_}
-use mathlib.Core.Bool.{Bool, true, false, cond}
 use mathlib.Core.List.{List, [], _∷_, _++_, append-assoc}
 use native.Mathlib.Omega.{arith}
-use lib.ListN.{length, getD, take, drop, replicate, length-append, length-replicate, length-drop}
+use lib.ListN.{length, getD, take, drop, replicate, length-append, length-drop}
 use lib.Seq.{take-at, drop-at, take-all, length-take-le}
 use lib.IntN.{ℤ, pos}
-use lib.Dec.{eqb}
 use Rattle.plain.specs.Book.{Call, post, withdraw, query, listing}
 use Rattle.columns.specs.Columns.{space, decimal, justified, FitsIn, lastColumns, lineOf, HasLine, IsLineOf}
 use Rattle.columns.specs.Decimals.{fits-unsigned}
 use Rattle.columns.specs.Justified.{justified-width, justified-fits}
-use Rattle.columns.specs.Reading.{Holds, holds-told}
+use Rattle.columns.specs.Reading.{Holds}
 use Rattle.columns.specs.Sections.{between, parts-left, parts-middle, parts-right, two-parts, three-parts}
 
 -- ---- the parts of a line

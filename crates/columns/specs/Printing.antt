@@ -1,5 +1,5 @@
--- What the printing functions do: a text is written from its right end, a byte at a time.
-use Prim.Native.Nat.{ℕ, zero, suc, _+_, _-_, _/_, _%_, _≤_, _<_}
+-- How a text is printed: from its right end, a byte at a time. `Printed` says what is promised of it.
+use Prim.Native.Nat.{ℕ, suc, _+_, _-_, _/_, _%_, _≤_, _<_}
 use mathlib.Core.Path.{_≡_, refl, ap, sym, _∙_}
 use mathlib.Core.Logic.{_≢_}
 use mathlib.Core.Bool.{Bool, true, false}
@@ -11,8 +11,9 @@ use lib.IntN.{ℤ, pos, negsuc, natAbs}
 use lib.Signed.{ltZ}
 use borrow.Author.Tests.{le-ltb}
 use Rattle.columns.specs.declared.Cut.{Cut}
-use Rattle.columns.specs.Columns.{space, minus, digit, digits, numeral, decimal, justified, FitsIn, newline, answerLine}
-use Rattle.columns.specs.Decimals.{digits-none, digits-more}
+use Rattle.columns.specs.Columns.{minus, digit, digits, numeral, decimal, justified, FitsIn, newline, answerLine}
+use Rattle.columns.specs.Printed.{Justifies, Puts, Answers}
+use Rattle.columns.specs.Decimals.{digits-none, digits-more, decimal-some}
 use Rattle.columns.specs.Sections.{between, parts-left, parts-middle, parts-right}
 use Rattle.columns.specs.Justified.{justified-snoc, justified-blank, justified-none, justified-width}
 
@@ -28,21 +29,6 @@ unwritten number negative = withSign negative (digits number)
 -- The last byte of the text goes into the last column, and the rest into the columns before it.
 abbrev pub Cuts : ℕ → Bool → Cut → Type 0
 Cuts number negative c = (w : ℕ) → justified (suc w) (unwritten number negative) ≡ justified w (unwritten (c .number) (c .minus)) ++ c .byte ∷ []
-
--- ---- contracts
-
-pub record Justifies (value : ℤ) (before after : List ℕ) : Type 0 where
-  pub text : FitsIn (length before) value → after ≡ justified (length before) (decimal value)
-
-pub record Puts (from width : ℕ) (value : ℤ) (before after : List ℕ) : Type 0 where
-  pub text : FitsIn width value → take width (drop from after) ≡ justified width (decimal value)
-  pub left : take from after ≡ take from before
-  pub right : drop (from + width) after ≡ drop (from + width) before
-
--- A line in the first 39 bytes.
-pub record Answers (letter : ℕ) (refusal offer value second : ℤ) (before after : List ℕ) : Type 0 where
-  pub text : FitsIn 3 refusal → FitsIn 6 offer → FitsIn 14 value → FitsIn 14 second → take 39 after ≡ answerLine letter refusal offer value second
-  pub rest : drop 39 after ≡ drop 39 before
 
 -- ---- what cutting a byte off does
 
@@ -119,9 +105,6 @@ decimal-cut : (z : ℤ) → decimal z ≡ unwritten (natAbs z / 10) (ltZ z (pos 
 unfolding decimal numeral unwritten
 decimal-cut (pos n) = rw (le-ltb n 0 (omega arith))
 decimal-cut (negsuc n) = refl
-
-pub decimal-some : (z : ℤ) → 0 < length (decimal z)
-decimal-some z = rw (decimal-cut z, length-append) (omega arith)
 
 pub justifies-none : (z : ℤ) (before after : List ℕ) → length before ≡ 0 → Justifies z before after
 justifies-none z before after e = record { text = λ fits. absurd (omega (arith, decimal-some z)) }

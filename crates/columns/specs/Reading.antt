@@ -1,8 +1,8 @@
 -- What the reading functions answer.
-use Prim.Native.Nat.{ℕ, _≤_, _<_}
+use Prim.Native.Nat.{ℕ, _≤_}
 use mathlib.Core.Path.{_≡_, refl, ap, sym, _∙_}
 use mathlib.Core.Logic.{_≢_}
-use mathlib.Core.List.{List, [], _∷_, _++_}
+use mathlib.Core.List.{List, _++_}
 use native.Mathlib.Omega.{arith}
 use lib.ListN.{length, take, drop}
 use lib.Seq.{length-take-le, take-at}
@@ -12,7 +12,8 @@ use Rattle.columns.specs.declared.Field.the-variants.{Number, Bad}
 use Rattle.columns.specs.Columns.{decimal, justified, FitsIn}
 use Rattle.columns.specs.Values.{told, told-justified, told-fits}
 use Rattle.columns.specs.Justified.{justified-length}
-use Rattle.columns.specs.Printing.{Justifies, decimal-some}
+use Rattle.columns.specs.Printed.{Justifies}
+use Rattle.columns.specs.Decimals.{decimal-some}
 
 -- The columns hold a number: its decimal text, justified to their width.
 abbrev pub Holds : List ℕ → ℤ → Type 0
@@ -26,6 +27,12 @@ FieldRead columns Bad = ((z : ℤ) → Holds columns z → ⊥)
 -- They hold no other number than the one that they tell.
 pub holds-told : (columns : List ℕ) (z : ℤ) → Holds columns z → told columns ≡ z
 holds-told columns z e = ap told e ∙ told-justified (length columns) z
+
+pub field-unique : (columns : List ℕ) (f g : Field) → FieldRead columns f → FieldRead columns g → f ≡ g
+field-unique columns (Number y) (Number z) p q = ap Number (sym (holds-told columns y p) ∙ holds-told columns z q)
+field-unique columns (Number y) Bad p q = absurd (q y p)
+field-unique columns Bad (Number z) p q = absurd (p z q)
+field-unique columns Bad Bad p q = refl
 
 -- ---- the one candidate, printed into as many bytes
 

@@ -5,7 +5,7 @@ use Prim.Native.Char.{code}
 use mathlib.Core.Path.{_≡_, refl}
 use mathlib.Core.List.{List, [], _∷_}
 use lib.IntN.{pos, negsuc}
-use Rattle.plain.specs.Book.{Call, post, withdraw, query, listing}
+use Rattle.plain.specs.Book.{post, withdraw, query, listing}
 use Rattle.columns.specs.Columns.{digitsWithin, digits, numeral, decimal, justified, lastColumns, lineOf, answerLine}
 
 -- The bytes of a text of plain characters.

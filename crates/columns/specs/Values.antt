@@ -14,7 +14,7 @@ use lib.Dec.{T, leb, eqb, leb→le}
 use borrow.Author.Tests.{leb-true, eqb-true, ne-eqb, le-leb, lt-leb}
 use Rattle.lists.specs.Filter.{every, one-of-both, other-of-both}
 use Rattle.columns.specs.Columns.{space, minus, digit, digits, numeral, decimal, justified, FitsIn}
-use Rattle.columns.specs.Decimals.{isDigit, digit-is, along, digits-more, numeral-length, numeral-some, numeral-characters}
+use Rattle.columns.specs.Decimals.{isDigit, digit-is, along, numeral-length, numeral-characters}
 
 -- One more byte.
 unfoldable pub taken : ℕ → ℕ → ℕ

@@ -1,6 +1,5 @@
 // The columns of the counter program: a call's line is read, and an answer's line is written.
 ghost use mathlib.Core.Path.{_≡_};
-ghost use mathlib.Core.Bool.{Bool};
 ghost use mathlib.Core.List.{_++_};
 ghost use Prim.Native.Nat.{_+_, _^_, _≤_, _<_};
 ghost use lib.ListN.{length, drop};
@@ -10,7 +9,8 @@ ghost use Rattle.columns.specs.Values.{taken, valueFrom, hasMinus, told}
 ghost use Rattle.columns.specs.Reading.{FieldRead};
 ghost use Rattle.columns.specs.Lines.{letter};
 ghost use Rattle.columns.specs.Commands.{LastRead, Parsed};
-ghost use Rattle.columns.specs.Printing.{unwritten, Cuts, Justifies, Puts, Answers};
+ghost use Rattle.columns.specs.Printed.{Justifies, Puts, Answers};
+ghost use Rattle.columns.specs.Printing.{unwritten, Cuts};
 
 // ---- reading
 

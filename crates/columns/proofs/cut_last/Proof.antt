@@ -1,9 +1,6 @@
 -- `columns::cut_last` meets its contract: by what is left of the text.
-use mathlib.Core.Path.{_≡_, sym, subst}
-use mathlib.Core.Bool.{Bool, true, false}
-use Prim.Native.Nat.{ℕ, _≤_}
 use borrow.Author.Needs.{needs}
-use Rattle.columns.specs.Printing.{Cuts, cuts-digit, cuts-minus, cuts-space}
+use Rattle.columns.specs.Printing.{cuts-digit, cuts-minus, cuts-space}
 use Rattle.columns.proofs.cut_last.Statement.{statement}
 use Rattle.columns.proofs.cut_last.Tie as tie
 

@@ -1,6 +1,5 @@
 -- `columns::fill` meets its contract. The loop's invariant: what is left of the text, justified, with the columns written after it, is the whole.
-use mathlib.Core.Path.{_≡_, refl}
-use Prim.Native.Nat.{_≤_}
+use mathlib.Core.Path.{refl}
 use native.Mathlib.Omega.{arith}
 use borrow.Author.Needs.{needs}
 use Rattle.columns.specs.Printing.{Filling, filling-more, filling-done}

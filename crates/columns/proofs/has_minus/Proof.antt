@@ -1,5 +1,5 @@
 -- `columns::has_minus` meets its contract. The loop's invariant: no minus was passed.
-use mathlib.Core.Path.{_≡_, refl}
+use mathlib.Core.Path.{refl}
 use Prim.Native.Nat.{_-_}
 use native.Mathlib.Omega.{arith}
 use lib.ListN.{length}

@@ -1,5 +1,5 @@
 -- `columns::justify` meets its contract: the last digit, and before it what is left of the text.
-use mathlib.Core.Path.{_≡_, _∙_}
+use mathlib.Core.Path.{_∙_}
 use native.Mathlib.Omega.{arith}
 use lib.ListN.{length-set}
 use mir.Facts.{toZ-ofZ}

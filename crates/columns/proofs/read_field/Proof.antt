@@ -1,8 +1,8 @@
 -- `columns::read_field` meets its contract: the columns hold a number exactly where they are the one candidate's text.
-use mathlib.Core.Path.{_≡_, _∙_, sym}
+use mathlib.Core.Path.{_∙_, sym}
 use mathlib.Core.Bool.{true≢false}
 use native.Mathlib.Omega.{arith}
-use lib.ListN.{length-append, length-take, length-drop}
+use lib.ListN.{length-append, length-take}
 use mir.Facts.{toZ-ofZ}
 use mir.Syntax.{w64}
 use mir.Val.{SFits}

@@ -1,5 +1,4 @@
 -- `columns::value_in` meets its contract. The loop's invariant: the bytes passed say the value, which has no more digits than those.
-use mathlib.Core.Path.{_≡_}
 use Prim.Native.Nat.{_-_}
 use native.Mathlib.Omega.{arith}
 use lib.ListN.{length}
