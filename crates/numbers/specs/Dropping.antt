@@ -30,23 +30,17 @@ use Rattle.descents.specs.Ends.{Ended}
 use Rattle.pieces.specs.Cutting.{splitP-leaves}
 use Rattle.update.specs.Form.{numberOf}
 use Rattle.numbers.specs.Numbers.{NumbersAt, Dropped}
+use Rattle.numbers.specs.Above.{leastAbove, above-more}
 use Rattle.numbers.specs.Trees.{Among, among-in, among-holds, falling-one, falling-slots, leaves-hold, numbers-rep, part-low, numbers-made, splitP-clean, seam-end, Beside, joined}
 
--- ---- the least number above a number, as far as numbers go
-
-unfoldable pub leastAbove : ℤ → ℤ
-leastAbove number = cond (ltZ number (pos 1_000_000)) (number +ℤ pos 1) (pos 1_000_000)
+-- ---- the cut above an item's number
 
 least-above : {w : Words} {live : List Item} (number : ℤ) (a : Item) → Holds w live → List·Memᴰ a live → numberOf a ≡ number → leastAbove number ≡ number +ℤ pos 1
-unfolding leastAbove
-least-above number a h m e = go (ltZ number (pos 1_000_000)) (λ t. t)
+least-above number a h m e =
+    above-more′ (let k = range-parts (pos 1) (numberOf a) (pos 9_999) (number-of (a .offer) (h .held m .ranged)) in omega (arith, intRules))
   where
-    go : (b : Bool) → (T (not b) → T (not (ltZ number (pos 1_000_000)))) → cond b (number +ℤ pos 1) (pos 1_000_000) ≡ number +ℤ pos 1
-    go true f = refl
-    go false f =
-        let over = f tt in
-        let k = range-parts (pos 1) (numberOf a) (pos 9_999) (number-of (a .offer) (h .held m .ranged)) in
-        absurd (omega (arith, intRules))
+    above-more′ : T (ltZ number (pos 1_000_000)) → leastAbove number ≡ number +ℤ pos 1
+    above-more′ t = sym (above-more number (omega (arith, intRules)))
 
 -- ---- the calls that drop an item
 
@@ -208,13 +202,14 @@ module _ {root f r m b g x : ℕ} {number : ℤ} {w w₁ w₂ w₃ : Words} {liv
         (λ c i. rw whole-leaves (stayed c (f c i) (d c i)))
 
 pub dropped :
-    {root f r m b g x : ℕ} {number : ℤ} {w w₁ w₂ w₃ : Words} →
-    Halving 2 0 (leastAbove number) root 24 w w₁ f r →
+    {root f r m b g x : ℕ} {number least : ℤ} {w w₁ w₂ w₃ : Words} →
+    least ≡ leastAbove number →
+    Halving 2 0 least root 24 w w₁ f r →
     Halving 2 0 number r 24 w₁ w₂ m b →
     Ended w₂ 2 true f g →
     Merged 2 g f b w₂ w₃ x →
     Dropped number root w w₃ x
-dropped {root} {f} {r} {m} {b} {g} {x} {number} {w} {w₁} {w₂} {w₃} u l e j =
+dropped {root} {f} {r} {m} {b} {g} {x} {number} {least} {w} {w₁} {w₂} {w₃} above u l e j =
     record {
       within = within-trans (u .within) (within-trans (l .within) (j .within));
       made = λ a live others p h i n o d k s. (whole calls h, drop-made calls h a i n others o d k s);
@@ -222,4 +217,4 @@ dropped {root} {f} {r} {m} {b} {g} {x} {number} {w} {w₁} {w₂} {w₃} u l e j
     }
   where
     calls : Calls root f r m b g x number w w₁ w₂ w₃
-    calls = record { upper = u; lower = l; end = e; merge = j }
+    calls = record { upper = subst (λ (z : ℤ). Halving 2 0 z root 24 w w₁ f r) above u; lower = l; end = e; merge = j }

@@ -3,4 +3,5 @@ pub mod Numbers
 pub mod Trees
 pub mod Finding
 pub mod Adding
+pub mod Above
 pub mod Dropping
