@@ -37,10 +37,10 @@ use Rattle.numbers.specs.Trees.{Among, among-in, among-holds, falling-on
 
 least-above : {w : Words} {live : List Item} (number : ℤ) (a : Item) → Holds w live → List·Memᴰ a live → numberOf a ≡ number → leastAbove number ≡ number +ℤ pos 1
 least-above number a h m e =
-    above-more′ (let k = range-parts (pos 1) (numberOf a) (pos 9_999) (number-of (a .offer) (h .held m .ranged)) in omega (arith, intRules))
+    few (let k = range-parts (pos 1) (numberOf a) (pos 9_999) (number-of (a .offer) (h .held m .ranged)) in omega (arith, intRules))
   where
-    above-more′ : T (ltZ number (pos 1_000_000)) → leastAbove number ≡ number +ℤ pos 1
-    above-more′ t = sym (above-more number (omega (arith, intRules)))
+    few : T (ltZ number (pos 1_000_000)) → leastAbove number ≡ number +ℤ pos 1
+    few t = sym (above-more number (omega (arith, intRules)))
 
 -- ---- the calls that drop an item
 
@@ -190,7 +190,7 @@ module _ {root f r m b g x : ℕ} {number : ℤ} {w w₁ w₂ w₃ : Words} {liv
     stayed : (c : Item) → List·Memᴰ c live → c ≢ a → List·Memᴰ c (partLeaves front ++ partLeaves back)
     stayed c i d =
         ⊎-elim (λ j. Memᴰ·append-left (partLeaves back) j)
-        (λ j. ⊎-elim (λ l. absurd (d (falling-one (h .numbers .falling) (h .numbers .all-there c i) (h .numbers .all-there a here) (only-middle c l ∙ sym e)))) (λ l. Memᴰ·append-right (partLeaves front) l)
+        (λ j. ⊎-elim (λ l. absurd (d (falling-one numberOf (h .numbers .falling) (h .numbers .all-there c i) (h .numbers .all-there a here) (only-middle c l ∙ sym e)))) (λ l. Memᴰ·append-right (partLeaves front) l)
         (List·Memᴰ·append-cases (partLeaves middle) (rw lower-order j)))
         (List·Memᴰ·append-cases (partLeaves front) (rw upper-order (h .numbers .all-there c i)))
 

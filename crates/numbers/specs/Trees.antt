@@ -39,18 +39,18 @@ among-in f s (at m e) = at (f _ m) e
 pub among-holds : {w : Words} {xs ys : List Item} → Among xs ys → Holds w ys → Holds w xs
 among-holds f h = record { held = λ {a} m. h .held (f a m) }
 
--- where numbers fall, a number tells its item
-pub falling-one : {xs : List Item} → Falling numberOf xs → {a b : Item} → List·Memᴰ a xs → List·Memᴰ b xs → numberOf a ≡ numberOf b → a ≡ b
-falling-one p (List·Memᴰ·head d) (List·Memᴰ·head f) e = d ∙ sym f
-falling-one p (List·Memᴰ·head {x} d) (List·Memᴰ·tail n) e = absurd (below (ap numberOf d) e (rel-of-pairwise-cons p ∣ n ∣₁))
+-- where keys fall, a key tells its owner
+pub falling-one : {A : Type 0} (key : A → ℤ) {xs : List A} → Falling key xs → {a b : A} → List·Memᴰ a xs → List·Memᴰ b xs → key a ≡ key b → a ≡ b
+falling-one key p (List·Memᴰ·head d) (List·Memᴰ·head f) e = d ∙ sym f
+falling-one key p (List·Memᴰ·head {x} d) (List·Memᴰ·tail n) e = absurd (below (ap key d) e (rel-of-pairwise-cons p ∣ n ∣₁))
   where
     below : {k l m : ℤ} → k ≡ m → k ≡ l → T (ltZ l m) → ⊥
     below q r t = omega (arith, intRules)
-falling-one p (List·Memᴰ·tail m) (List·Memᴰ·head f) e = absurd (below (ap numberOf f) e (rel-of-pairwise-cons p ∣ m ∣₁))
+falling-one key p (List·Memᴰ·tail m) (List·Memᴰ·head f) e = absurd (below (ap key f) e (rel-of-pairwise-cons p ∣ m ∣₁))
   where
     below : {k l m : ℤ} → l ≡ m → k ≡ l → T (ltZ k m) → ⊥
     below q r t = omega (arith, intRules)
-falling-one p (List·Memᴰ·tail m) (List·Memᴰ·tail n) e = falling-one (Pairwise·of-cons p) m n e
+falling-one key p (List·Memᴰ·tail m) (List·Memᴰ·tail n) e = falling-one key (Pairwise·of-cons p) m n e
 
 -- items with falling numbers, each in the slot that holds its number, are in slots apart
 pub falling-slots : {w : Words} {c : ℕ} {xs ys : List Item} → Among xs ys → Slots c ys → Holds w xs → Falling numberOf xs → Slots c xs
