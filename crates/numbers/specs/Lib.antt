@@ -1,2 +1,7 @@
--- The tree of numbers and the free slots.
+-- The tree of numbers in words: finding, adding and dropping an item by its number.
 pub mod Numbers
+pub mod Trees
+pub mod Finding
+pub mod Adding
+pub mod Above
+pub mod Dropping

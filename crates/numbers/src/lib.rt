@@ -1,0 +1,56 @@
+// The tree of the live items' numbers: find, add and drop an item by its number. Numbers fall from left to right.
+ghost use mathlib.Core.Path.{_≡_};
+ghost use Rattle.descents.specs.Finds.{Found};
+ghost use Rattle.numbers.specs.Numbers.{FoundNumber, Added, Dropped};
+ghost use Rattle.numbers.specs.Above.{leastAbove};
+
+// The slot of the live item with that number, and 0 where there is none.
+pub fn find(part: &[i64], root: u32, number: i64) -> u32
+    ensures { λ r. ⌜ FoundNumber number root (now (part .entry)) r ⌝ }
+{
+    descents::find(part, 2, 0, number, root)
+}
+
+// The slot of the offer with that rate in the tree of offers, and 0 where there is none.
+pub fn find_rate(part: &[i64], root: u32, rate: i64) -> u32
+    ensures { λ r. ⌜ Found (now (part .entry)) 1 1 rate root r ⌝ }
+{
+    descents::find(part, 1, 1, rate, root)
+}
+
+// Adds the item in slot `s`, whose number no item of the tree has.
+pub fn add(part: &mut [i64], root: u32, s: u32) -> u32
+    ensures { λ r. ⌜ Added s root (now (part .entry)) (now (part .exit)) r ⌝ }
+{
+    let number = table::get(part, 0, s);
+    let c = descents::split(part, 2, 0, number, root, 24);
+    let f = c.front;
+    let b = c.back;
+    let gap = descents::end(part, 2, true, f);
+    let y = shape::join(part, 2, gap, f, s);
+    shape::join(part, 2, s, y, b)
+}
+
+// The least number above a number. No item's number reaches a million.
+fn least_above(number: i64) -> i64
+    ensures { λ r. ⌜ r ≡ leastAbove number ⌝ }
+{
+    if number < 1_000_000 {
+        return number + 1;
+    }
+    1_000_000
+}
+
+// Drops the item with that number, and keeps the others.
+pub fn drop_number(part: &mut [i64], root: u32, number: i64) -> u32
+    ensures { λ r. ⌜ Dropped number root (now (part .entry)) (now (part .exit)) r ⌝ }
+{
+    let least = least_above(number);
+    let c = descents::split(part, 2, 0, least, root, 24);
+    let f = c.front;
+    let below = c.back;
+    let d = descents::split(part, 2, 0, number, below, 24);
+    let b = d.back;
+    let gap = descents::end(part, 2, true, f);
+    shape::join(part, 2, gap, f, b)
+}

@@ -41,7 +41,7 @@ unfolding splitP
 splitP-same test test′ none f = refl
 splitP-same test test′ (some t) f = split-same test test′ t f
 
-splitP-leaves : (test : Item → Bool) (p : Part Item) → partLeaves (splitP test p .front) ++ partLeaves (splitP test p .back) ≡ partLeaves p
+pub splitP-leaves : (test : Item → Bool) (p : Part Item) → partLeaves (splitP test p .front) ++ partLeaves (splitP test p .back) ≡ partLeaves p
 unfolding splitP
 splitP-leaves test none = refl
 splitP-leaves test (some t) = split-leaves test t

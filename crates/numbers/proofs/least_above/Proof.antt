@@ -1,0 +1,26 @@
+-- `numbers::least_above` meets its contract: by its test.
+use mir.Facts.{toZ-ofZ}
+use Rattle.pieces.specs.LeastRate.{more-fits}
+use Rattle.numbers.specs.Above.{above-more, above-most}
+use Rattle.numbers.proofs.least_above.Statement.{statement}
+use Rattle.numbers.proofs.least_above.Tie as tie
+
+add-result : tie.Need-add-result
+add-result c =
+    let f = c .before .fits .number in
+    simp (toZ-ofZ, f) (more-fits _ f (simp (toZ-ofZ, f) at (c .if1 .taken)))
+
+returns : tie.Need-returns
+returns c =
+    let f = c .before .fits .number in
+    let t = simp (toZ-ofZ, f) at (c .if1 .taken) in
+    let g = more-fits _ f t in
+    simp (toZ-ofZ, f, g) (above-more _ t)
+
+returns-2 : tie.Need-returns-2
+returns-2 c =
+    let f = c .before .fits .number in
+    above-most _ (simp (toZ-ofZ, f) at (c .if1 .left))
+
+pub least-above-spec : {M : Type 1} → statement M
+least-above-spec = tie.close (tie.spec add-result returns returns-2)

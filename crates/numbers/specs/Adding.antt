@@ -1,0 +1,232 @@
+-- An item added to the tree of numbers: cut where its number belongs, and joined between the two parts.
+use mathlib.Core.Path.{_≡_, refl, sym, _∙_, ap, subst}
+use mathlib.Core.Logic.{_≢_, ⊎-elim}
+use mathlib.Core.Bool.{Bool, true}
+use mathlib.Core.List.{List, [], _∷_, _++_, append-assoc, List·Memᴰ, List·Memᴰ·head, List·Memᴰ·tail, List·Memᴰ·append-cases, List·Memᴰ·cases-cons, Memᴰ·append-left, Memᴰ·append-right, Pairwise, Pairwise·of-cons, rel-of-pairwise-cons, mem-append-left}
+use mathlib.Core.Option.{Option, none, some}
+use Prim.Native.Nat.{ℕ}
+use native.Mathlib.Omega.{arith}
+use lib.Dec.{T, T-prop}
+use lib.IntN.{ℤ}
+use lib.Signed.{leZ, ltZ}
+use Rattle.lists.specs.Members.{pairs-cons}
+use Rattle.integers.specs.Parts.{intRules, ne-parts}
+use Rattle.trees.specs.Tree.{Tree, leaf, avl-leaf}
+use Rattle.trees.specs.Leaves.{leaves-joinP, last-join}
+use Rattle.trees.specs.Operations.{Part, Cut, partLeaves, joinP, splitP}
+use Rattle.trees.specs.Balanced.{AvlP, near-joinP}
+use Rattle.trees.specs.Order.{Falling, falling-turning, parted}
+use Rattle.trees.specs.Split.{Clean, Low, splitP-low}
+use Rattle.table.specs.Words.{Words}
+use Rattle.table.specs.Layout.{cap, cell}
+use Rattle.table.specs.Items.{Item, Slots, slots-left, slots-right, slots-across}
+use Rattle.table.specs.Rep.{Within, within-cap, within-trans, Only, only-trans, only-more, tied-leaf}
+use Rattle.table.specs.Keys.{keyed-numbers}
+use Rattle.table.specs.Parts.{RepP, MadeP, Seam, repP-still}
+use Rattle.table.specs.Threads.{Holds}
+use Rattle.shape.specs.Merge.{Merged}
+use Rattle.descents.specs.Cuts.{from, Halving, Halved}
+use Rattle.descents.specs.Ends.{Ended}
+use Rattle.pieces.specs.Cutting.{splitP-leaves}
+use Rattle.update.specs.Form.{numberOf}
+use Rattle.numbers.specs.Numbers.{NumbersAt, Added}
+use Rattle.numbers.specs.Trees.{Among, among-in, among-holds, falling-slots, leaves-hold, numbers-rep, part-low, numbers-made, splitP-clean, seam-end, Beside, joined}
+
+-- ---- lists
+
+-- an item that falls in between
+falling-between : (a : Item) (xs ys : List Item) → Falling numberOf (xs ++ ys) → ((b : Item) → List·Memᴰ b xs → T (ltZ (numberOf a) (numberOf b))) → ((b : Item) → List·Memᴰ b ys → T (ltZ (numberOf b) (numberOf a)))
+    → Falling numberOf (xs ++ (a ∷ ys))
+falling-between a [] ys p above below = pairs-cons (λ x y. T-prop (ltZ (numberOf y) (numberOf x))) below p
+falling-between a (x ∷ xs) ys p above below =
+    pairs-cons (λ x y. T-prop (ltZ (numberOf y) (numberOf x))) first (falling-between a xs ys (Pairwise·of-cons p) (λ b m. above b (List·Memᴰ·tail m)) below)
+  where
+    first : (b : Item) → List·Memᴰ b (xs ++ (a ∷ ys)) → T (ltZ (numberOf b) (numberOf x))
+    first b m =
+        ⊎-elim (λ i. rel-of-pairwise-cons p ∣ Memᴰ·append-left ys i ∣₁)
+        (λ i. ⊎-elim (λ (e : b ≡ a). subst (λ (c : Item). T (ltZ (numberOf c) (numberOf x))) (sym e) (above x (List·Memᴰ·head refl))) (λ j. rel-of-pairwise-cons p ∣ Memᴰ·append-right xs j ∣₁) (List·Memᴰ·cases-cons i))
+        (List·Memᴰ·append-cases xs m)
+
+among-between : {a : Item} {live : List Item} (xs ys : List Item) → Among (xs ++ ys) live → Among (xs ++ (a ∷ ys)) (a ∷ live)
+among-between {a} {live} xs ys f b m =
+    ⊎-elim (λ i. List·Memᴰ·tail (f b (Memᴰ·append-left ys i)))
+    (λ i. ⊎-elim (λ (e : b ≡ a). List·Memᴰ·head e) (λ j. List·Memᴰ·tail (f b (Memᴰ·append-right xs j))) (List·Memᴰ·cases-cons i))
+    (List·Memᴰ·append-cases xs m)
+
+between-among : {a : Item} {live : List Item} (xs ys : List Item) → Among live (xs ++ ys) → Among (a ∷ live) (xs ++ (a ∷ ys))
+between-among {a} {live} xs ys f b m =
+    ⊎-elim (λ (e : b ≡ a). Memᴰ·append-right xs (List·Memᴰ·head e))
+    (λ i. ⊎-elim (λ j. Memᴰ·append-left (a ∷ ys) j) (λ j. Memᴰ·append-right xs (List·Memᴰ·tail j)) (List·Memᴰ·append-cases xs (f b i)))
+    (List·Memᴰ·cases-cons m)
+
+-- ---- the seam behind the new leaf
+
+seam-new : {s : ℕ} (a : Item) (p q : Part Item) → s ≡ a .slot → Seam s (joinP p (some (leaf a))) q
+seam-new a none none e = tt
+seam-new a none (some u) e = e
+seam-new a (some t) none e = tt
+seam-new a (some t) (some u) e = e ∙ ap (λ (i : Item). i .slot) (sym (last-join t (leaf a)))
+
+-- ---- the calls that add an item
+
+record Calls (s root f b g y x : ℕ) (number : ℤ) (w w₁ w₂ w₃ : Words) : Type 0 where
+  read : number ≡ cell w 0 s
+  cut : Halving 2 0 number root 24 w w₁ f b
+  end : Ended w₁ 2 true f g
+  near : Merged 2 g f s w₁ w₂ y
+  far : Merged 2 s y b w₂ w₃ x
+
+-- an item that is not there yet
+record Newcomer (w : Words) (s root : ℕ) (a : Item) (live : List Item) (p : Part Item) : Type 0 where
+  numbers : NumbersAt w root live p
+  slot-is : s ≡ a .slot
+  slots : Slots (cap w) (a ∷ live)
+  holds : Holds w (a ∷ live)
+  new : (b : Item) → List·Memᴰ b live → numberOf b ≢ numberOf a
+
+module _ {s root f b g y x : ℕ} {number : ℤ} {w w₁ w₂ w₃ : Words} {a : Item} {live : List Item} {p : Part Item} (k : Calls s root f b g y x number w w₁ w₂ w₃) (h : Newcomer w s root a live p) where
+  test : Item → Bool
+  test = from numberOf number
+
+  front : Part Item
+  front = splitP (from numberOf number) p .front
+
+  back : Part Item
+  back = splitP (from numberOf number) p .back
+
+  number-is : number ≡ numberOf a
+  number-is = k .read ∙ ap (cell w 0) (h .slot-is) ∙ h .holds .held (List·Memᴰ·head refl) .number
+
+  order : partLeaves front ++ partLeaves back ≡ partLeaves p
+  unfolding front back
+  order = splitP-leaves (from numberOf number) p
+
+  halves : Halved 2 w w₁ f b (partLeaves p) (splitP (from numberOf number) p)
+  halves =
+      let r = numbers-rep p (h .numbers) in
+      k .cut .made p numberOf r (h .numbers .numbers .balanced) (part-low w p (r .slots) (h .numbers .numbers .balanced)) (keyed-numbers (leaves-hold p (h .numbers)))
+
+  front-rep : RepP w₁ 2 f front
+  unfolding front
+  front-rep = halves .front
+
+  back-rep : RepP w₁ 2 b back
+  unfolding back
+  back-rep = halves .back
+
+  balanced-both : AvlP front × AvlP back
+  unfolding front back
+  balanced-both = let l = splitP-low (from numberOf number) p (h .numbers .numbers .balanced) in (l .front-avl, l .back-avl)
+
+  live-parts : Among (partLeaves front ++ partLeaves back) live
+  live-parts c m = h .numbers .numbers .all-live c (rw (← order) m)
+
+  parts-live : Among live (partLeaves front ++ partLeaves back)
+  parts-live c m = rw order (h .numbers .numbers .all-there c m)
+
+  clean : Clean (from numberOf number) (splitP (from numberOf number) p)
+  clean = splitP-clean (from numberOf number) p (falling-turning numberOf number (h .numbers .numbers .falling))
+
+  above : (c : Item) → List·Memᴰ c (partLeaves front) → T (ltZ (numberOf a) (numberOf c))
+  unfolding front
+  above c m =
+      let t : T (leZ number (numberOf c)) = clean .passing c m in
+      let e = number-is in
+      omega (arith, intRules, ne-parts (numberOf c) (numberOf a) (h .new c (live-parts c (Memᴰ·append-left (partLeaves back) m))))
+
+  below : (c : Item) → List·Memᴰ c (partLeaves back) → T (ltZ (numberOf c) (numberOf a))
+  unfolding back
+  below c m =
+      let t = clean .failing c m in
+      let e = number-is in
+      omega (arith, intRules)
+
+  falls : Falling numberOf (partLeaves front ++ (a ∷ partLeaves back))
+  falls = falling-between a (partLeaves front) (partLeaves back) (rw order (h .numbers .numbers .falling)) above below
+
+  inside : Among (partLeaves front ++ (a ∷ partLeaves back)) (a ∷ live)
+  inside = among-between (partLeaves front) (partLeaves back) live-parts
+
+  all-slots : Slots (cap w) (partLeaves front ++ (a ∷ partLeaves back))
+  all-slots = falling-slots inside (h .slots) (among-holds inside (h .holds)) falls
+
+  -- ---- the first join
+
+  start : Part Item
+  start = joinP front (some (leaf a))
+
+  start-leaves : partLeaves start ++ partLeaves back ≡ partLeaves front ++ (a ∷ partLeaves back)
+  unfolding start
+  start-leaves = simp (leaves-joinP, append-assoc)
+
+  start-slots : Slots (cap w) (partLeaves start ++ partLeaves back)
+  start-slots = rw start-leaves all-slots
+
+  made-start : MadeP 2 w₁ w₂ y start
+  unfolding start
+  made-start =
+      joined (k .near) (seam-end front (some (leaf a)) (k .end) front-rep (balanced-both .0))
+      (record { left = front-rep; right = record { kind = omega arith; root = h .slot-is; slots = slots-right (partLeaves front) one; tied = tied-leaf }; slots = one; balanced-left = balanced-both .0; balanced-right = avl-leaf })
+    where
+      one : Slots (cap w₁) (partLeaves front ++ (a ∷ []))
+      one = rw (within-cap (k .cut .within)) (subst (Slots (cap w)) (leaves-joinP front (some (leaf a))) (slots-left (partLeaves back) start-slots))
+
+  -- ---- the second
+
+  whole : Part Item
+  whole = joinP start back
+
+  whole-leaves : partLeaves whole ≡ partLeaves front ++ (a ∷ partLeaves back)
+  unfolding whole
+  whole-leaves = leaves-joinP start back ∙ start-leaves
+
+  start-balanced : AvlP start
+  unfolding start
+  start-balanced = near-joinP front (some (leaf a)) (balanced-both .0) avl-leaf .avl
+
+  made-whole : MadeP 2 w₂ w₃ x whole
+  unfolding whole start
+  made-whole =
+      joined (k .far) (seam-new a front back (h .slot-is))
+      (record { left = made-start .rep; right = repP-still back back-rep (k .near .within) (made-start .only) (λ i u v. slots-across (partLeaves start) start-slots u v); slots = rw (within-cap (within-trans (k .cut .within) (k .near .within))) start-slots; balanced-left = start-balanced; balanced-right = balanced-both .1 })
+
+  -- ---- the result
+
+  add-within : Within w w₃
+  add-within = within-trans (k .cut .within) (within-trans (k .near .within) (k .far .within))
+
+  add-only : Only 2 (a ∷ live) w w₃
+  add-only =
+      only-trans (only-more (among-in (λ c m. List·Memᴰ·tail (h .numbers .numbers .all-live c m))) (halves .only))
+      (only-trans (only-more (among-in (λ c m. inside c (rw (← start-leaves) (Memᴰ·append-left (partLeaves back) m)))) (made-start .only))
+      (only-more (among-in (λ c m. inside c (rw (← whole-leaves) m))) (made-whole .only)))
+
+  add-made : NumbersAt w₃ x (a ∷ live) whole
+  unfolding whole
+  add-made =
+      numbers-made (made-whole .rep) add-within add-only (h .slots) (h .holds) whole-balanced (rw whole-leaves falls) (λ c m. inside c (rw (← whole-leaves) m))
+      (λ c m. rw whole-leaves (between-among (partLeaves front) (partLeaves back) parts-live c m))
+    where
+      whole-balanced : AvlP whole
+      whole-balanced = near-joinP start back start-balanced (balanced-both .1) .avl
+
+pub added :
+    {s root f b g y x : ℕ} {number : ℤ} {w w₁ w₂ w₃ : Words} →
+    number ≡ cell w 0 s →
+    Halving 2 0 number root 24 w w₁ f b →
+    Ended w₁ 2 true f g →
+    Merged 2 g f s w₁ w₂ y →
+    Merged 2 s y b w₂ w₃ x →
+    Added s root w w₃ x
+added {s} {root} {f} {b} {g} {y} {x} {number} {w} {w₁} {w₂} {w₃} r c e m₁ m₂ =
+    record {
+      within = within-trans (c .within) (within-trans (m₁ .within) (m₂ .within));
+      made = λ a live p n i j o d. (whole calls (newcomer a live p n i j o d), add-made calls (newcomer a live p n i j o d));
+      only = λ a live p n i j o d. add-only calls (newcomer a live p n i j o d);
+    }
+  where
+    calls : Calls s root f b g y x number w w₁ w₂ w₃
+    calls = record { read = r; cut = c; end = e; near = m₁; far = m₂ }
+
+    newcomer : (a : Item) (live : List Item) (p : Part Item) → NumbersAt w root live p → s ≡ a .slot → Slots (cap w) (a ∷ live) → Holds w (a ∷ live) → ((b : Item) → List·Memᴰ b live → numberOf b ≢ numberOf a) → Newcomer w s root a live p
+    newcomer a live p n i j o d = record { numbers = n; slot-is = i; slots = j; holds = o; new = d }

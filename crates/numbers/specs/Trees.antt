@@ -1,0 +1,139 @@
+-- The tree of numbers as any tree in words. Its items hold their numbers, so that numbers that fall have slots apart.
+use mathlib.Core.Bool.{Bool, true, false}
+use mathlib.Core.Path.{_≡_, refl, sym, _∙_, ap}
+use mathlib.Core.Logic.{_≢_, ∥∥₁-elim}
+use mathlib.Core.HLevel.{¬-prop}
+use mathlib.Core.List.{List, [], _∷_, _++_, List·Memᴰ, Pairwise, Pairwise·imp-of-mem, Pairwise·of-cons, rel-of-pairwise-cons, List·Memᴰ·head, List·Memᴰ·tail}
+use mathlib.Core.Option.{Option, none, some}
+use Prim.Native.Nat.{ℕ, _≤_}
+use native.Mathlib.Omega.{arith}
+use lib.Dec.{T}
+use lib.IntN.{ℤ}
+use lib.Signed.{ltZ}
+use Rattle.integers.specs.Parts.{intRules}
+use Rattle.trees.specs.Tree.{Tree, leaves}
+use Rattle.trees.specs.Operations.{Part, partLeaves, partHeight, joinP, splitP}
+use Rattle.trees.specs.Balanced.{AvlP}
+use Rattle.trees.specs.Order.{Falling, Turning}
+use Rattle.trees.specs.Split.{Clean, split-clean}
+use Rattle.table.specs.Words.{Words}
+use Rattle.table.specs.Layout.{cap, cell}
+use Rattle.table.specs.Items.{Item, In, at, Slots, Apart}
+use Rattle.table.specs.Rep.{Within, within-cap, Only}
+use Rattle.table.specs.Parts.{TiedP, RepP, rep-some, MadeP, PairP, Seam, low}
+use Rattle.table.specs.Threads.{Holds, holds-still, only-offer}
+use Rattle.shape.specs.Merge.{Merged}
+use Rattle.descents.specs.Ends.{Ended}
+use Rattle.update.specs.Form.{NumbersIn, TiedPart, numberOf}
+use Rattle.numbers.specs.Numbers.{NumbersAt}
+
+-- ---- lists of items
+
+-- every item of xs is one of ys
+abbrev pub Among : List Item → List Item → Type 0
+Among xs ys = (a : Item) → List·Memᴰ a xs → List·Memᴰ a ys
+
+pub among-in : {xs ys : List Item} → Among xs ys → (s : ℕ) → In s xs → In s ys
+among-in f s (at m e) = at (f _ m) e
+
+pub among-holds : {w : Words} {xs ys : List Item} → Among xs ys → Holds w ys → Holds w xs
+among-holds f h = record { held = λ {a} m. h .held (f a m) }
+
+-- where keys fall, a key tells its owner
+pub falling-one : {A : Type 0} (key : A → ℤ) {xs : List A} → Falling key xs → {a b : A} → List·Memᴰ a xs → List·Memᴰ b xs → key a ≡ key b → a ≡ b
+falling-one key p (List·Memᴰ·head d) (List·Memᴰ·head f) e = d ∙ sym f
+falling-one key p (List·Memᴰ·head {x} d) (List·Memᴰ·tail n) e = absurd (below (ap key d) e (rel-of-pairwise-cons p ∣ n ∣₁))
+  where
+    below : {k l m : ℤ} → k ≡ m → k ≡ l → T (ltZ l m) → ⊥
+    below q r t = omega (arith, intRules)
+falling-one key p (List·Memᴰ·tail m) (List·Memᴰ·head f) e = absurd (below (ap key f) e (rel-of-pairwise-cons p ∣ m ∣₁))
+  where
+    below : {k l m : ℤ} → l ≡ m → k ≡ l → T (ltZ k m) → ⊥
+    below q r t = omega (arith, intRules)
+falling-one key p (List·Memᴰ·tail m) (List·Memᴰ·tail n) e = falling-one key (Pairwise·of-cons p) m n e
+
+-- items with falling numbers, each in the slot that holds its number, are in slots apart
+pub falling-slots : {w : Words} {c : ℕ} {xs ys : List Item} → Among xs ys → Slots c ys → Holds w xs → Falling numberOf xs → Slots c xs
+falling-slots {w} {c} {xs} f s h p = record { low = λ {a} m. s .low (f a m); high = λ {a} m. s .high (f a m); apart = Pairwise·imp-of-mem apart p }
+  where
+    differ : {k l : ℤ} → T (ltZ l k) → k ≡ l → ⊥
+    differ t e = omega (arith, intRules)
+
+    apart : (a b : Item) → ∥ List·Memᴰ a xs ∥₁ → ∥ List·Memᴰ b xs ∥₁ → T (ltZ (numberOf b) (numberOf a)) → Apart a b
+    apart a b m n t e = ∥∥₁-elim m (λ p q. absurd p) (λ i. ∥∥₁-elim n (λ p q. absurd p) (λ j. differ t (sym (h .held i .number) ∙ ap (cell w 0) e ∙ h .held j .number)))
+
+-- ---- the tree
+
+tied-part : (w : Words) (p : Part Item) → TiedPart w 2 p → TiedP w 2 p
+tied-part w none t = tt
+tied-part w (some u) t = t
+
+part-tied : (w : Words) (p : Part Item) → TiedP w 2 p → TiedPart w 2 p
+part-tied w none t = tt
+part-tied w (some u) t = t
+
+module _ {w : Words} {root : ℕ} {live : List Item} (p : Part Item) (n : NumbersAt w root live p) where
+  pub leaves-hold : Holds w (partLeaves p)
+  leaves-hold = among-holds (n .numbers .all-live) (n .holds)
+
+  pub numbers-rep : RepP w 2 root p
+  numbers-rep =
+      record {
+        kind = omega arith;
+        root = n .root-is;
+        slots = falling-slots (n .numbers .all-live) (n .slots) leaves-hold (n .numbers .falling);
+        tied = tied-part w p (n .numbers .tied);
+      }
+
+-- a balanced tree in a table is low
+pub part-low : (w : Words) (p : Part Item) → Slots (cap w) (partLeaves p) → AvlP p → partHeight p ≤ 24
+part-low w none s a = omega arith
+part-low w (some t) s a = low w s a
+
+-- a tree that was made of other live items
+pub numbers-made :
+    {w w′ : Words} {root : ℕ} {xs live : List Item} {q : Part Item} →
+    RepP w′ 2 root q →
+    Within w w′ →
+    Only 2 xs w w′ →
+    Slots (cap w) live →
+    Holds w live →
+    AvlP q →
+    Falling numberOf (partLeaves q) →
+    Among (partLeaves q) live →
+    Among live (partLeaves q) →
+    NumbersAt w′ root live q
+numbers-made {w′} {q} r g o s h a f i j =
+    record {
+      root-is = r .root;
+      slots = rw (within-cap g) s;
+      holds = holds-still h (λ s i. only-offer o s);
+      numbers = record { tied = part-tied w′ q (r .tied); balanced = a; falling = f; all-live = i; all-there = j };
+    }
+
+-- ---- a cut
+
+pub splitP-clean : (test : Item → Bool) (p : Part Item) → Turning test (partLeaves p) → Clean test (splitP test p)
+unfolding splitP
+splitP-clean test none h = record { passing = λ a m. elim m [ ]; failing = λ a m. elim m [ ] }
+splitP-clean test (some t) h = split-clean test t h
+
+-- ---- two of them side by side
+
+-- the seam is at the end of the left one
+pub seam-end : {w : Words} {x g : ℕ} (p q : Part Item) → Ended w 2 true x g → RepP w 2 x p → AvlP p → Seam g p q
+seam-end none q e r a = tt
+seam-end (some t) none e r a = tt
+seam-end (some t) (some u) e r a = e .is t (rep-some r) a
+
+pub record Beside (w : Words) (x y : ℕ) (p q : Part Item) : Type 0 where
+  pub left : RepP w 2 x p
+  pub right : RepP w 2 y q
+  pub slots : Slots (cap w) (partLeaves p ++ partLeaves q)
+  pub balanced-left : AvlP p
+  pub balanced-right : AvlP q
+
+pub joined : {w w′ : Words} {g x y z : ℕ} {p q : Part Item} → Merged 2 g x y w w′ z → Seam g p q → Beside w x y p q → MadeP 2 w w′ z (joinP p q)
+joined {p} {q} j s b =
+    j .made p q (record { kind = b .left .kind; left = b .left .root; right = b .right .root; slots = b .slots; tied-left = b .left .tied; tied-right = b .right .tied }) s
+    (b .balanced-left) (b .balanced-right)
