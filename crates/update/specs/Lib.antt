@@ -21,3 +21,4 @@ pub mod Inserting
 pub mod RemovingModel
 pub mod Removing
 pub mod CodeSteps
+pub mod CodeUpdates

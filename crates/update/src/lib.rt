@@ -1,14 +1,19 @@
 // The tree of offers with its envelopes, in the table. Lower, raise and rebalance take one level apart and put it together; insert and
 // remove go down and up. Every function takes any words. Left is false, right is true.
 ghost use mathlib.Core.Path.{_≡_};
-ghost use Prim.Native.Nat.{_+_};
-ghost use Rattle.update.specs.Steps.{LoweredIn, RaisedIn, RebalancedIn};
+ghost use Prim.Native.Nat.{ℕ, _+_, _≤_};
+ghost use lib.Signed.{leZ, ltZ};
+ghost use Rattle.table.specs.Layout.{cell};
+ghost use Rattle.update.specs.Steps.{LoweredIn, RaisedIn, RebalancedIn, InsertedIn, RemovedIn};
 ghost use Rattle.update.specs.Lowering.{restAt};
 ghost use Rattle.update.specs.RaisingRests.{RestSet};
 ghost use Rattle.update.specs.Neighbours.{LoweredOn, RaisedOn};
 ghost use Rattle.update.specs.Counting.{Counts};
 ghost use Rattle.update.specs.Rotating.{RotatedIn};
 ghost use Rattle.update.specs.Rebalancing.{RebalancedOn};
+ghost use Rattle.update.specs.Inserting.{InsertedBelow};
+ghost use Rattle.update.specs.Removing.{RemovedBelow, SeamFound};
+ghost use Rattle.update.specs.CodeUpdates.{Rebuilt};
 
 // A subtree that was made: its root and its envelope's, the searches on the way, their steps in all and the sum of their trees' heights.
 pub struct Made {
@@ -210,4 +215,129 @@ fn rebalance_on(part: &mut [i64], side: bool, gap: u32, ox: u32, oe: u32, ix: u3
         return rebalance(part, gap, ix, ie, ox, oe);
     }
     rebalance(part, gap, ox, oe, ix, ie)
+}
+
+// The way up: what came of a child on a side is rebalanced with its sibling, and the counts are added.
+fn rebuild(part: &mut [i64], side: bool, gap: u32, g: Made, ix: u32, ie: u32) -> Made
+    ensures { λ r. ⌜ Rebuilt side gap (g .x) (g .e) (g .k) (g .s) (g .h) ix ie (now (part .entry)) (now (part .exit)) (r .x) (r .e) (r .k) (r .s) (r .h) ⌝ }
+{
+    let b = rebalance_on(part, side, gap, g.x, g.e, ix, ie);
+    let n = sum(g, b);
+    Made {
+        x: b.x,
+        e: b.e,
+        k: n.k,
+        s: n.s,
+        h: n.h,
+    }
+}
+
+// The rate in slot `a` is at most the one in slot `b`.
+fn at_most(part: &[i64], a: u32, b: u32) -> bool
+    ensures { λ r. ⌜ r ≡ leZ (cell (now (part .entry)) 1 a) (cell (now (part .entry)) 1 b) ⌝ }
+{
+    table::at_least(part, 1, b, table::get(part, 1, a))
+}
+
+// The rate in slot `a` is below the one in slot `b`.
+fn is_less(part: &[i64], a: u32, b: u32) -> bool
+    ensures { λ r. ⌜ r ≡ ltZ (cell (now (part .entry)) 1 a) (cell (now (part .entry)) 1 b) ⌝ }
+{
+    table::is_above(part, 1, b, table::get(part, 1, a))
+}
+
+// Puts the line in `slot` beside the single line `x`.
+fn insert_beside(part: &mut [i64], x: u32, e: u32, slot: u32) -> Made
+    ensures { λ r. ⌜ ((limit : ℕ) → x ≤ 4096 → InsertedBelow limit slot x e (now (part .entry)) (now (part .exit)) (r .x) (r .e) (r .k) (r .s) (r .h)) ⌝ }
+{
+    if at_most(part, slot, x) {
+        return raise(part, x, x, e, slot, slot);
+    }
+    raise(part, slot, slot, slot, x, e)
+}
+
+// Inserts the line in `slot` into subtree `x` with the envelope `e`. It is at most `limit` high.
+fn insert_below(part: &mut [i64], x: u32, e: u32, slot: u32, limit: u32) -> Made
+    ensures { λ r. ⌜ InsertedBelow limit slot x e (now (part .entry)) (now (part .exit)) (r .x) (r .e) (r .k) (r .s) (r .h) ⌝ }
+{
+    if x <= 4096 {
+        return insert_beside(part, x, e, slot);
+    }
+    if limit == 0 {
+        return Made {
+            x: 0,
+            e: 0,
+            k: 0,
+            s: 0,
+            h: 0,
+        };
+    }
+    let m = table::inner_slot(x);
+    let side = at_most(part, slot, m);
+    let c = lower_on(part, side, x, e);
+    let g = insert_below(part, c.ox, c.oe, slot, limit - 1);
+    rebuild(part, side, m, g, c.ix, c.ie)
+}
+
+// The slot of the seam after a removal: on the left the last line may have left.
+fn seam_after(part: &[i64], side: bool, x: u32, m: u32) -> u32
+    ensures { λ r. ⌜ SeamFound side (now (part .entry)) x m r ⌝ }
+{
+    if side {
+        return m;
+    }
+    descents::end(part, 1, true, x)
+}
+
+// Removes the line in `slot` from subtree `x` with the envelope `e`; 0 where nothing is left. It is at most `limit` high.
+fn remove_below(part: &mut [i64], x: u32, e: u32, slot: u32, limit: u32) -> Made
+    ensures { λ r. ⌜ RemovedBelow limit slot x e (now (part .entry)) (now (part .exit)) (r .x) (r .e) (r .k) (r .s) (r .h) ⌝ }
+{
+    if x <= 4096 {
+        return Made {
+            x: 0,
+            e: 0,
+            k: 0,
+            s: 0,
+            h: 0,
+        };
+    }
+    if limit == 0 {
+        return Made {
+            x: 0,
+            e: 0,
+            k: 0,
+            s: 0,
+            h: 0,
+        };
+    }
+    let m = table::inner_slot(x);
+    let side = is_less(part, slot, m);
+    let c = lower_on(part, side, x, e);
+    let g = remove_below(part, c.ox, c.oe, slot, limit - 1);
+    if g.x == 0 {
+        return Made {
+            x: c.ix,
+            e: c.ie,
+            k: g.k,
+            s: g.s,
+            h: g.h,
+        };
+    }
+    let gap = seam_after(part, side, g.x, m);
+    rebuild(part, side, gap, g, c.ix, c.ie)
+}
+
+// Inserts the line in slot `s` into the offers with root `x` and envelope `e`.
+pub fn insert(part: &mut [i64], x: u32, e: u32, s: u32) -> Made
+    ensures { λ r. ⌜ InsertedIn s x e (now (part .entry)) (now (part .exit)) (r .x) (r .e) (r .k) (r .s) (r .h) ⌝ }
+{
+    insert_below(part, x, e, s, 24)
+}
+
+// Removes the line in slot `s` from the offers with root `x` and envelope `e`.
+pub fn remove(part: &mut [i64], x: u32, e: u32, s: u32) -> Made
+    ensures { λ r. ⌜ RemovedIn s x e (now (part .entry)) (now (part .exit)) (r .x) (r .e) (r .k) (r .s) (r .h) ⌝ }
+{
+    remove_below(part, x, e, s, 24)
 }
