@@ -20,3 +20,5 @@ pub mod InsertingModel
 pub mod Inserting
 pub mod RemovingModel
 pub mod Removing
+pub mod CodeSteps
+pub mod CodeUpdates

@@ -1,0 +1,254 @@
+-- `update::insert_below` meets its contract, by recursion on the limit.
+use Rattle.update.specs.CodeUpdates.{inserted-none, inserted-step}
+use borrow.Author.Needs.{needs}
+use native.Mathlib.Omega.{arith}
+use Prim.Native.Nat.{ℕ, _<_}
+use borrow.Fn.Kinds.{In}
+use borrow.Fn.PlainCycle.{Measures, is, falls, and}
+use Rattle.update.proofs.insert_below.Reads as insert-below
+use Rattle.update.proofs.insert_below.Kinds as insert-below-kinds
+use Rattle.update.proofs.+insert_below.Lts-insert_below as insert-below-lts
+use Rattle.table.proofs.inner_slot.Reads as inner-slot-reads
+use Rattle.update.proofs.at_most.Reads as at-most-reads
+use Rattle.update.proofs.insert_beside.Reads as insert-beside-reads
+use Rattle.update.proofs.lower_on.Reads as lower-on-reads
+use Rattle.update.proofs.rebuild.Reads as rebuild-reads
+use Rattle.update.proofs.+insert_below.{statement}
+use Rattle.update.proofs.+insert_below.Tie.{close}
+
+abbrev μ-insert-below : Measures 1 insert-below-kinds.ps ℕ
+μ-insert-below κs a = a .1 .1 .1 .1 .0
+
+abbrev insert-below-at : ℕ → In 1 insert-below-kinds.ps
+insert-below-at t =
+    and 1 insert-below-kinds.ps (is 1 insert-below-kinds.ps μ-insert-below t) insert-below.Pre
+
+abbrev insert-below-below : ℕ → In 1 insert-below-kinds.ps
+insert-below-below t =
+    and
+    1
+    insert-below-kinds.ps
+    (falls 1 insert-below-kinds.ps _<_ μ-insert-below t)
+    insert-below.Pre
+
+insert-below-insert-beside-requires : (t : ℕ) → insert-below-lts.Need-insert-beside-requires (
+  insert-beside-reads.Asked,
+  insert-beside-reads.Learnt,
+  inner-slot-reads.Asked,
+  inner-slot-reads.Learnt,
+  at-most-reads.Asked,
+  at-most-reads.Learnt,
+  lower-on-reads.Asked,
+  lower-on-reads.Learnt,
+  insert-below-below t,
+  insert-below.Post,
+  rebuild-reads.Asked,
+  rebuild-reads.Learnt,
+) (insert-below-at t) insert-below.Post
+insert-below-insert-beside-requires t c κs = search needs
+
+insert-below-same-length : (t : ℕ) → insert-below-lts.Need-same-length (
+  insert-beside-reads.Asked,
+  insert-beside-reads.Learnt,
+  inner-slot-reads.Asked,
+  inner-slot-reads.Learnt,
+  at-most-reads.Asked,
+  at-most-reads.Learnt,
+  lower-on-reads.Asked,
+  lower-on-reads.Learnt,
+  insert-below-below t,
+  insert-below.Post,
+  rebuild-reads.Asked,
+  rebuild-reads.Learnt,
+) (insert-below-at t) insert-below.Post
+insert-below-same-length t c = search needs
+
+insert-below-returns : (t : ℕ) → insert-below-lts.Need-returns (
+  insert-beside-reads.Asked,
+  insert-beside-reads.Learnt,
+  inner-slot-reads.Asked,
+  inner-slot-reads.Learnt,
+  at-most-reads.Asked,
+  at-most-reads.Learnt,
+  lower-on-reads.Asked,
+  lower-on-reads.Learnt,
+  insert-below-below t,
+  insert-below.Post,
+  rebuild-reads.Asked,
+  rebuild-reads.Learnt,
+) (insert-below-at t) insert-below.Post
+insert-below-returns t c = c .before .insert-beside .ensures _ (c .before .before .before .if1 .taken)
+
+insert-below-returns-2 : (t : ℕ) → insert-below-lts.Need-returns-2 (
+  insert-beside-reads.Asked,
+  insert-beside-reads.Learnt,
+  inner-slot-reads.Asked,
+  inner-slot-reads.Learnt,
+  at-most-reads.Asked,
+  at-most-reads.Learnt,
+  lower-on-reads.Asked,
+  lower-on-reads.Learnt,
+  insert-below-below t,
+  insert-below.Post,
+  rebuild-reads.Asked,
+  rebuild-reads.Learnt,
+) (insert-below-at t) insert-below.Post
+insert-below-returns-2 t c = inserted-none (c .before .if1 .left) (c .if2 .taken)
+
+insert-below-inner-slot-requires : (t : ℕ) → insert-below-lts.Need-inner-slot-requires (
+  insert-beside-reads.Asked,
+  insert-beside-reads.Learnt,
+  inner-slot-reads.Asked,
+  inner-slot-reads.Learnt,
+  at-most-reads.Asked,
+  at-most-reads.Learnt,
+  lower-on-reads.Asked,
+  lower-on-reads.Learnt,
+  insert-below-below t,
+  insert-below.Post,
+  rebuild-reads.Asked,
+  rebuild-reads.Learnt,
+) (insert-below-at t) insert-below.Post
+insert-below-inner-slot-requires t c κs = search needs
+
+insert-below-at-most-requires : (t : ℕ) → insert-below-lts.Need-at-most-requires (
+  insert-beside-reads.Asked,
+  insert-beside-reads.Learnt,
+  inner-slot-reads.Asked,
+  inner-slot-reads.Learnt,
+  at-most-reads.Asked,
+  at-most-reads.Learnt,
+  lower-on-reads.Asked,
+  lower-on-reads.Learnt,
+  insert-below-below t,
+  insert-below.Post,
+  rebuild-reads.Asked,
+  rebuild-reads.Learnt,
+) (insert-below-at t) insert-below.Post
+insert-below-at-most-requires t c κs = search needs
+
+insert-below-lower-on-requires : (t : ℕ) → insert-below-lts.Need-lower-on-requires (
+  insert-beside-reads.Asked,
+  insert-beside-reads.Learnt,
+  inner-slot-reads.Asked,
+  inner-slot-reads.Learnt,
+  at-most-reads.Asked,
+  at-most-reads.Learnt,
+  lower-on-reads.Asked,
+  lower-on-reads.Learnt,
+  insert-below-below t,
+  insert-below.Post,
+  rebuild-reads.Asked,
+  rebuild-reads.Learnt,
+) (insert-below-at t) insert-below.Post
+insert-below-lower-on-requires t c κs = search needs
+
+insert-below-sub-insert-below : (t : ℕ) → insert-below-lts.Need-sub-insert-below (
+  insert-beside-reads.Asked,
+  insert-beside-reads.Learnt,
+  inner-slot-reads.Asked,
+  inner-slot-reads.Learnt,
+  at-most-reads.Asked,
+  at-most-reads.Learnt,
+  lower-on-reads.Asked,
+  lower-on-reads.Learnt,
+  insert-below-below t,
+  insert-below.Post,
+  rebuild-reads.Asked,
+  rebuild-reads.Learnt,
+) (insert-below-at t) insert-below.Post
+insert-below-sub-insert-below t c = omega arith
+
+insert-below-insert-below-requires : (t : ℕ) → insert-below-lts.Need-insert-below-requires (
+  insert-beside-reads.Asked,
+  insert-beside-reads.Learnt,
+  inner-slot-reads.Asked,
+  inner-slot-reads.Learnt,
+  at-most-reads.Asked,
+  at-most-reads.Learnt,
+  lower-on-reads.Asked,
+  lower-on-reads.Learnt,
+  insert-below-below t,
+  insert-below.Post,
+  rebuild-reads.Asked,
+  rebuild-reads.Learnt,
+) (insert-below-at t) insert-below.Post
+insert-below-insert-below-requires t c κs = (omega (arith, c .before .before .before .before .before .before .before .before .before .pre .0), tt)
+
+insert-below-rebuild-requires : (t : ℕ) → insert-below-lts.Need-rebuild-requires (
+  insert-beside-reads.Asked,
+  insert-beside-reads.Learnt,
+  inner-slot-reads.Asked,
+  inner-slot-reads.Learnt,
+  at-most-reads.Asked,
+  at-most-reads.Learnt,
+  lower-on-reads.Asked,
+  lower-on-reads.Learnt,
+  insert-below-below t,
+  insert-below.Post,
+  rebuild-reads.Asked,
+  rebuild-reads.Learnt,
+) (insert-below-at t) insert-below.Post
+insert-below-rebuild-requires t c κs = search needs
+
+insert-below-same-length-2 : (t : ℕ) → insert-below-lts.Need-same-length-2 (
+  insert-beside-reads.Asked,
+  insert-beside-reads.Learnt,
+  inner-slot-reads.Asked,
+  inner-slot-reads.Learnt,
+  at-most-reads.Asked,
+  at-most-reads.Learnt,
+  lower-on-reads.Asked,
+  lower-on-reads.Learnt,
+  insert-below-below t,
+  insert-below.Post,
+  rebuild-reads.Asked,
+  rebuild-reads.Learnt,
+) (insert-below-at t) insert-below.Post
+insert-below-same-length-2 t c = search needs
+
+insert-below-returns-3 : (t : ℕ) → insert-below-lts.Need-returns-3 (
+  insert-beside-reads.Asked,
+  insert-beside-reads.Learnt,
+  inner-slot-reads.Asked,
+  inner-slot-reads.Learnt,
+  at-most-reads.Asked,
+  at-most-reads.Learnt,
+  lower-on-reads.Asked,
+  lower-on-reads.Learnt,
+  insert-below-below t,
+  insert-below.Post,
+  rebuild-reads.Asked,
+  rebuild-reads.Learnt,
+) (insert-below-at t) insert-below.Post
+insert-below-returns-3 t c = inserted-step (c .before .before .before .before .before .before .before .before .before .before .before .before .before .if1 .left) (c .before .before .before .before .before .before .before .before .before .before .before .inner-slot .ensures) (c .before .before .before .before .before .before .before .before .before .at-most .ensures) (c .before .before .before .before .before .before .before .lower-on .ensures) (c .before .before .before .before .insert-below .ensures) (c .before .rebuild .ensures)
+
+pub +insert-below-spec : {M : Type 1} → statement M
++insert-below-spec = close μ-insert-below λ t. insert-below-lts.spec (
+  insert-beside-reads.Asked,
+  insert-beside-reads.Learnt,
+  inner-slot-reads.Asked,
+  inner-slot-reads.Learnt,
+  at-most-reads.Asked,
+  at-most-reads.Learnt,
+  lower-on-reads.Asked,
+  lower-on-reads.Learnt,
+  insert-below-below t,
+  insert-below.Post,
+  rebuild-reads.Asked,
+  rebuild-reads.Learnt,
+)
+    (insert-below-at t)
+    insert-below.Post
+    (insert-below-insert-beside-requires t)
+    (insert-below-same-length t)
+    (insert-below-returns t)
+    (insert-below-returns-2 t)
+    (insert-below-inner-slot-requires t)
+    (insert-below-at-most-requires t)
+    (insert-below-lower-on-requires t)
+    (insert-below-sub-insert-below t)
+    (insert-below-insert-below-requires t)
+    (insert-below-rebuild-requires t)
+    (insert-below-same-length-2 t)
+    (insert-below-returns-3 t)

@@ -1,0 +1,23 @@
+-- `update::lower_on` meets its contract.
+use Rattle.update.specs.CodeSteps.{lowered-one, lowered-other}
+use borrow.Author.Needs.{needs}
+use Rattle.update.proofs.lower_on.Statement.{statement}
+use Rattle.update.proofs.lower_on.Tie as tie
+
+lower-requires : tie.Need-lower-requires
+lower-requires c κs = search needs
+
+same-length : tie.Need-same-length
+same-length c = search needs
+
+returns : tie.Need-returns
+returns c = lowered-other (c .if1 .taken) (c .before .before .lower .ensures)
+
+same-length-2 : tie.Need-same-length-2
+same-length-2 c = search needs
+
+returns-2 : tie.Need-returns-2
+returns-2 c = lowered-one (c .if1 .left) (c .before .before .lower .ensures)
+
+pub lower-on-spec : {M : Type 1} → statement M
+lower-on-spec = tie.close (tie.spec lower-requires same-length returns same-length-2 returns-2)
