@@ -1,19 +1,18 @@
 -- Words that agree in some fields of some slots, and what of a book such words keep: the offers, the numbers, the free slots.
-use mathlib.Core.Path.{_≡_, refl, sym, _∙_, ap}
+use mathlib.Core.Path.{_≡_, refl, _∙_, ap}
 use mathlib.Core.Logic.{_≢_, _⊎_, inl, inr}
 use mathlib.Core.Bool.{true, false}
 use mathlib.Core.List.{List, List·Memᴰ, List·Memᴰ·head, List·Memᴰ·tail}
 use mathlib.Core.Option.{Option, none, some}
 use Prim.Native.Nat.{ℕ, _≤_, _<_}
 use native.Mathlib.Omega.{arith}
-use lib.ListN.{length}
 use lib.IntN.{ℤ}
 use Rattle.trees.specs.Tree.{leaves}
 use Rattle.trees.specs.Operations.{Part, partLeaves}
 use Rattle.dynamic.specs.OfferTree.{Held, heldShape}
 use Rattle.dynamic.specs.Valid.{bookLines}
-use Rattle.table.specs.Words.{Words, word, wset, word-out, wset-length, wset-same, wset-other, upTo}
-use Rattle.table.specs.Layout.{cap, cap-of, cell, cset, Valid, valid?, spot, spot-of, spot-in, spot-out, place-low, cset-cap, cset-other, header-outside}
+use Rattle.table.specs.Words.{Words, word, wset, wset-same, upTo}
+use Rattle.table.specs.Layout.{cap, cell, cset, cset-cap, cset-other, header-outside, header-cap, header-cell}
 use Rattle.table.specs.Items.{Item, In, at}
 use Rattle.table.specs.Rep.{Field, a-child, a-height, Within, within-cap, Only}
 use Rattle.pieces.specs.Pieces.{of-node, of-numerator, of-denominator, of-next}
@@ -73,18 +72,7 @@ agree-less i g = record { room = g .room; cells = λ f s d. g .cells f s (i f s 
 
 -- a word of the header that is not the first
 pub agree-header : (w : Words) (i : ℕ) (z : ℤ) → 1 ≤ i → i < 64 → Agree Everywhere w (wset w i z)
-unfolding cell
-agree-header w i z low high = record { room = room; cells = λ f s d. ap (word (wset w i z)) (spot-of w (wset w i z) f s long room) ∙ same f s (valid? w f s) }
-  where
-    long : length (wset w i z) ≡ length w
-    long = wset-length w i z
-
-    room : cap (wset w i z) ≡ cap w
-    room = cap-of w (wset w i z) long (wset-other w i 0 z (omega arith))
-
-    same : (f s : ℕ) → Dec (Valid w f s) → word (wset w i z) (spot w f s) ≡ word w (spot w f s)
-    same f s (yes v) = wset-other w i (spot w f s) z (omega (arith, spot-in v, place-low (cap w) f s))
-    same f s (no v) = word-out (wset w i z) (spot w f s) (omega (arith, spot-out v, long)) ∙ sym (word-out w (spot w f s) (omega (arith, spot-out v)))
+agree-header w i z low high = record { room = header-cap w i z low high; cells = λ f s d. header-cell w i z low high f s }
 
 pub agree-cset : (w : Words) (f s : ℕ) (z : ℤ) → Agree (Elsewhere s) w (cset w f s z)
 agree-cset w f s z = record { room = cset-cap w f s z; cells = λ g t d. cset-other w f s z (λ e. d (e .1)) }

@@ -1,5 +1,5 @@
 -- The writes of a post and of a withdrawal, each as the code makes it, in the order of the code.
-use mathlib.Core.Path.{_≡_, _∙_, ap}
+use mathlib.Core.Path.{_≡_, sym, _∙_, ap}
 use mathlib.Core.Logic.{_≢_}
 use mathlib.Core.Option.{Option}
 use Prim.Native.Nat.{ℕ, suc, _<_}
@@ -12,6 +12,7 @@ use Rattle.dynamic.specs.OfferTree.{Held}
 use Rattle.dynamic.specs.Valid.{bookLines}
 use Rattle.table.specs.Words.{Words, word, wset, wset-other, upTo}
 use Rattle.table.specs.Layout.{cap, cset, linkAt}
+use Rattle.table.specs.Free.{firstFree, taken, given}
 use Rattle.table.specs.Items.{Item}
 use Rattle.table.specs.Rep.{Within, within-cap}
 use Rattle.update.specs.Steps.{RemovedIn}
@@ -19,7 +20,7 @@ use Rattle.update.specs.Form.{Book, plainOffers}
 use Rattle.numbers.specs.Numbers.{Added, Dropped}
 use Rattle.book.specs.Live.{live-slots}
 use Rattle.book.specs.Agree.{agree-header, header-kept}
-use Rattle.book.specs.Writing.{filled, freed, headed, first-free, Filled, Headed}
+use Rattle.book.specs.Writing.{filled, freed-given, headed, first-free, Filled, Headed}
 use Rattle.book.specs.Joining.{Joined, joins-alone, joins-among}
 use Rattle.book.specs.Posting.{Updated, PostSteps, Postable, posted-plain}
 use Rattle.book.specs.Withdrawing.{WithdrawSteps, LiveAt, withdrawn-plain, withdrawn-count}
@@ -31,8 +32,8 @@ root-room w z e = ap cap e ∙ agree-header w 4 z (omega arith) (omega arith) .r
 -- ---- post
 
 pub record PostWrites (o : Offer) (w v₁ v₂ v₃ w₁ w₂ w₃ w₄ u₁ u₂ w′ : Words) (s root root′ x e x′ e′ n k st h : ℕ) : Type 0 where
-  pub slot : s ≡ upTo 8192 (word w 5)
-  pub take : v₁ ≡ wset w 5 (pos (linkAt w 3 s))
+  pub slot : s ≡ firstFree w
+  pub take : v₁ ≡ taken w
   pub put-number : v₂ ≡ cset v₁ 0 s (o .number)
   pub put-rate : v₃ ≡ cset v₂ 1 s (o .rate)
   pub put-base : w₁ ≡ cset v₃ 2 s (o .base)
@@ -69,14 +70,14 @@ module _ {w v₁ v₂ v₃ w₁ w₂ w₃ w₄ u₁ u₂ w′ : Words} {c s root
       }
     where
       fills : Filled s o w w₁
-      fills = let f = first-free b (new .room) (p .slot) .1 in filled w s (f .low) (f .high) o (p .take) (p .put-number) (p .put-rate) (p .put-base)
+      fills = let f = first-free b (new .room) (p .slot) .1 in filled w s (f .low) (f .high) o (p .take ∙ ap (λ (i : ℕ). wset w 5 (pos (linkAt w 3 i))) (sym (p .slot))) (p .put-number) (p .put-rate) (p .put-base)
 
   pub post-done : n ≡ suc (length (bookLines held)) → Updated w′ c held (join o (plainOffers held)) k st h
   post-done count = posted-plain o b new post-steps count
 
 -- ---- withdraw
 
-pub record WithdrawWrites (number : ℤ) (w w₁ w₂ w₃ u₁ u₂ w₄ v₁ v₂ w′ : Words) (z : ℤ) (s root root′ x e x′ e′ n k st h : ℕ) : Type 0 where
+pub record WithdrawWrites (number : ℤ) (w w₁ w₂ w₃ u₁ u₂ w₄ w′ : Words) (s root root′ x e x′ e′ n k st h : ℕ) : Type 0 where
   pub numbers-root : root ≡ upTo 8192 (word w 4)
   pub dropped : Dropped number root w w₁ root′
   pub rooted : w₂ ≡ wset w₁ 4 (pos root′)
@@ -86,12 +87,9 @@ pub record WithdrawWrites (number : ℤ) (w w₁ w₂ w₃ u₁ u₂ w₄ v₁ v
   pub set-root : u₁ ≡ wset w₃ 1 (pos x′)
   pub set-envelope : u₂ ≡ wset u₁ 2 (pos e′)
   pub set-count : w₄ ≡ wset u₂ 3 (pos n)
-  pub clear-number : v₁ ≡ cset w₄ 0 s (pos 0)
-  pub first-was : z ≡ word w₄ 5
-  pub put-next : v₂ ≡ cset v₁ 3 s z
-  pub give-back : w′ ≡ wset v₂ 5 (pos s)
+  pub give-back : w′ ≡ given w₄ s
 
-module _ {w w₁ w₂ w₃ u₁ u₂ w₄ v₁ v₂ w′ : Words} {number z : ℤ} {c s root root′ x e x′ e′ n k st h : ℕ} {held : Option (Held Item)} (a : Item) (b : Book w c held) (live : LiveAt number s (bookLines held) a) (p : WithdrawWrites number w w₁ w₂ w₃ u₁ u₂ w₄ v₁ v₂ w′ z s root root′ x e x′ e′ n k st h) where
+module _ {w w₁ w₂ w₃ u₁ u₂ w₄ w′ : Words} {number : ℤ} {c s root root′ x e x′ e′ n k st h : ℕ} {held : Option (Held Item)} (a : Item) (b : Book w c held) (live : LiveAt number s (bookLines held) a) (p : WithdrawWrites number w w₁ w₂ w₃ u₁ u₂ w₄ w′ s root root′ x e x′ e′ n k st h) where
   withdraw-steps : WithdrawSteps number w w₁ w₂ w₃ w₄ w′ s root root′ x e x′ e′ n k st h
   withdraw-steps =
       record {
@@ -103,10 +101,10 @@ module _ {w w₁ w₂ w₃ u₁ u₂ w₄ v₁ v₂ w′ : Words} {number z : �
         removed = p .removed;
         headed = heads;
         freed =
-            freed w₄ s
+            freed-given w₄ s
             (omega (arith, live .slot, live-slots w held (b .offers) .low (live .member)))
             (omega (arith, live .slot, live-slots w held (b .offers) .high (live .member), same, heads .agree .room))
-            (p .clear-number) (p .first-was) (p .put-next) (p .give-back);
+            (p .give-back);
       }
     where
       same : cap w₃ ≡ cap w

@@ -13,8 +13,9 @@ use Rattle.integers.specs.Parts.{intRules, and-left, range-low}
 use Rattle.offers.specs.Offers.{Offer, numberInRange, rateInRange, baseInRange}
 use Rattle.dynamic.specs.OfferTree.{Held}
 use Rattle.dynamic.specs.Valid.{bookLines}
-use Rattle.table.specs.Words.{Words, word, wset, wset-other, upTo, upTo-in}
+use Rattle.table.specs.Words.{Words, word, wset, wset-other, upTo, upTo-in, upTo-most}
 use Rattle.table.specs.Layout.{cap, cap-most, cell, cset, linkAt, Valid, cset-same, cset-other, cset-rest, header-outside}
+use Rattle.table.specs.Free.{firstFree, given}
 use Rattle.table.specs.Items.{Item, In, at}
 use Rattle.table.specs.Threads.{Holds}
 use Rattle.update.specs.Form.{Book, FreeChain, free-more, head0}
@@ -35,7 +36,7 @@ pub record Filled (s : ℕ) (o : Offer) (w w′ : Words) : Type 0 where
 
 pub record Freed (s : ℕ) (w w′ : Words) : Type 0 where
   pub number : cell w′ 0 s ≡ pos 0
-  pub next : cell w′ 3 s ≡ word w 5
+  pub next : linkAt w′ 3 s ≡ upTo 8192 (word w 5)
   pub first : word w′ 5 ≡ pos s
   pub header : (i : ℕ) → i < 64 → i ≢ 5 → word w′ i ≡ word w i
   pub agree : Agree (Elsewhere s) w w′
@@ -85,11 +86,11 @@ module _ (w : Words) (s : ℕ) (low : 1 ≤ s) (high : s ≤ cap w) where
           ∙ ap (λ (v : Words). word v i) e₃ ∙ cset-rest w₂ 1 s (o .rate) (header-outside w₂ h)
           ∙ ap (λ (v : Words). word v i) e₂ ∙ cset-rest w₁ 0 s (o .number) (header-outside w₁ h)
 
-  pub freed : {w₁ w₂ w₃ : Words} {z : ℤ} → w₁ ≡ cset w 0 s (pos 0) → z ≡ word w 5 → w₂ ≡ cset w₁ 3 s z → w₃ ≡ wset w₂ 5 (pos s) → Freed s w w₃
-  freed {w₁} {w₂} {w₃} {z} e₁ ez e₂ e₃ =
+  pub freed : {w₁ w₂ w₃ : Words} (z : ℤ) → w₁ ≡ cset w 0 s (pos 0) → upTo 8192 z ≡ upTo 8192 (word w 5) → w₂ ≡ cset w₁ 3 s z → w₃ ≡ wset w₂ 5 (pos s) → Freed s w w₃
+  freed {w₁} {w₂} {w₃} z e₁ ez e₂ e₃ =
       record {
         number = last 0 ∙ ap (at 0) e₂ ∙ cset-other w₁ 3 s z (λ q. omega (arith, q .0)) ∙ ap (at 0) e₁ ∙ cset-same (pos 0) (here w 0 (omega arith) refl);
-        next = last 3 ∙ ap (at 3) e₂ ∙ cset-same z (here w₁ 3 (omega arith) (g₁ .room)) ∙ ez;
+        next = ap (upTo 8192) (last 3 ∙ ap (at 3) e₂ ∙ cset-same z (here w₁ 3 (omega arith) (g₁ .room))) ∙ ez;
         first = ap (λ (v : Words). word v 5) e₃ ∙ header-set w₂ 5 (pos s) (omega (arith, g₂ .room)) (omega arith);
         header = λ i h d.
             ap (λ (v : Words). word v i) e₃ ∙ wset-other w₂ 5 i (pos s) d
@@ -112,6 +113,10 @@ module _ (w : Words) (s : ℕ) (low : 1 ≤ s) (high : s ≤ cap w) where
 
       last : (f : ℕ) → cell w₃ f s ≡ cell w₂ f s
       last f = g₃ .cells f s tt
+
+  -- as the code gives it back
+  pub freed-given : {w′ : Words} → w′ ≡ given w s → Freed s w w′
+  freed-given e = freed (pos (firstFree w)) refl (upTo-in 8192 (firstFree w) (upTo-most 8192 (word w 5))) refl e
 
 pub headed : (w : Words) → 1 ≤ cap w → {w₁ w₂ w₃ : Words} {x e n : ℕ} → w₁ ≡ wset w 1 (pos x) → w₂ ≡ wset w₁ 2 (pos e) → w₃ ≡ wset w₂ 3 (pos n) → Headed x e n w w₃
 headed w low {w₁} {w₂} {w₃} {x} {e} {n} e₁ e₂ e₃ =
