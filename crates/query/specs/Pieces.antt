@@ -16,7 +16,7 @@ use Rattle.table.specs.Items.{Item, slots-left, slots-right}
 use Rattle.table.specs.Rep.{childField, refOf, Tied, tied-node, Rep}
 use Rattle.table.specs.Threads.{Held, Holds, Next, Threaded, chain-seam}
 use Rattle.query.specs.Lookup.{atOrLeft}
-use Rattle.query.specs.Readings.{bounded-in, beyond, towardAt, priceIn}
+use Rattle.query.specs.Readings.{true-is, bounded-in, rightOf, childToward, towardAt, priceIn}
 
 pub record Pieces (w : Words) (x : ℕ) (t : Tree Item) : Type 0 where
   pub rep : Rep w 0 x t
@@ -56,16 +56,19 @@ pieces-right {w} {l} {r} p t e =
     }
 
 -- the crossing that the node keeps decides as the two pieces beside it do
-seam-test : {w : Words} {x : ℕ} {l r : Tree Item} (q : ℤ) → Pieces w x (node l r) → T (loadInRange q) → beyond w (last l .slot) q ≡ not (atOrLeft q (last l .offer) (first r .offer))
-unfolding beyond
-seam-test {w} {x} {l} {r} q p h =
+seam-toward : {w : Words} {x : ℕ} {l r : Tree Item} (q : ℤ) → Pieces w x (node l r) → T (loadInRange q) → childToward w (last l .slot) q ≡ linkAt w (childField 0 (not (atOrLeft q (last l .offer) (first r .offer)))) (last l .slot)
+unfolding childToward rightOf
+seam-toward {w} {x} {l} {r} q p h =
     let n = chain-seam l r (p .thread) in
-    rw (n .numerator, n .denominator, bounded-in _ _ q h, bounded-in _ _ (crossingDenominator (last l .offer) (first r .offer)) near)
+    rw (n .numerator, n .denominator, true-is (denominatorInRange d) near, bounded-in _ _ q h, bounded-in _ _ d near)
   where
+    d : ℤ
+    d = crossingDenominator (last l .offer) (first r .offer)
+
     ranged : (a : Item) → List·Memᴰ a (leaves l ++ leaves r) → T (rateInRange (a .offer .rate))
     ranged a m = rate-of (a .offer) (p .holds .held m .ranged)
 
-    near : T (denominatorInRange (crossingDenominator (last l .offer) (first r .offer)))
+    near : T (denominatorInRange d)
     near = rate-gap-in-range (last l .offer .rate) (first r .offer .rate) (ranged (last l) (Memᴰ·append-left (leaves r) (last-leaf l))) (ranged (first r) (Memᴰ·append-right (leaves l) (first-leaf r)))
 
 -- the child on the load's side
@@ -84,7 +87,7 @@ opened {w} {x} {t = node l r} q p h d = go (p .rep .tied)
     here = omega (arith, p .rep .root)
 
     side : (b : Bool) → atOrLeft q (last l .offer) (first r .offer) ≡ b → towardAt w x q ≡ linkAt w (childField 0 (not b)) (last l .slot)
-    side b e = rw here (ap (λ z. linkAt w (childField 0 z) (last l .slot)) (seam-test q p h ∙ ap not e))
+    side b e = ap (λ n. childToward w n q) here ∙ seam-toward q p h ∙ ap (λ z. linkAt w (childField 0 (not z)) (last l .slot)) e
 
     go : Tied w 0 (node l r) → Opened w x q (node l r)
     go (tied-node tl tr el er eh) =

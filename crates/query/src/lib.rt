@@ -1,7 +1,9 @@
 // Queries and listings on a part. Any words are safe: what a word tells is brought into its range, and every walk has a limit.
 ghost use mathlib.Core.Path.{_≡_};
+ghost use mathlib.Core.Bool.{not};
+ghost use Rattle.offers.specs.Offers.{between};
 ghost use Rattle.table.specs.Layout.{cap};
-ghost use Rattle.query.specs.Readings.{bounded, Sided, towardAt, priceIn};
+ghost use Rattle.query.specs.Readings.{bounded, Sided, childOf, towardAt, priceIn};
 ghost use Rattle.query.specs.Descent.{Descended};
 
 // `value` where it is from `low` to `high`, and 0 for any other.
@@ -17,6 +19,16 @@ pub fn bounded(low: i64, high: i64, value: i64) -> i64
     value
 }
 
+// Whether `value` is below `low` or above `high`.
+fn outside(low: i64, high: i64, value: i64) -> bool
+    ensures { λ r. ⌜ r ≡ not (between low high value) ⌝ }
+{
+    if value < low {
+        return true;
+    }
+    high < value
+}
+
 // 0 where the load is at or left of the crossing n / d, and 1 right of it.
 fn side_of(load: i64, n: i64, d: i64) -> usize
     ensures { λ r. ⌜ Sided load n d r ⌝ }
@@ -27,21 +39,35 @@ fn side_of(load: i64, n: i64, d: i64) -> usize
     1
 }
 
-// The child of inner node `x` on the load's side: one group of four words is read. `c` is the part's capacity.
-fn toward(part: &[i64], c: u32, x: u32, load: i64) -> u32
+// To a child, or off: what the words tell is no node of a tree of pieces. Each way off leaves the loop of a descent, so that no value waits for a test.
+pub enum Step {
+    To(usize),
+    Off,
+}
+
+// From inner node `x` to its child on the load's side: one group of four words is read. `c` is the part's capacity.
+// The group of slot s begins at 64 + 4 × (c + 1 + s), and s is 4,096 less than the node's number.
+fn toward(part: &[i64], c: usize, x: usize, load: i64) -> Step
     requires { ⌜ c ≡ cap (now part) ⌝ }
-    ensures { λ r. ⌜ r ≡ towardAt (now (part .entry)) x load ⌝ }
+    ensures { λ r. ⌜ childOf r ≡ towardAt (now (part .entry)) x load ⌝ }
 {
     if x <= 4096 {
-        return 0;
+        return Step::Off;
     }
-    let slot = x - 4096;
-    if c < slot {
-        return 0;
+    if c + 4096 < x {
+        return Step::Off;
     }
-    let at = 64 + 4 * (c as usize + 1 + slot as usize);
-    let side = side_of(load, part[at + 2], part[at + 3]);
-    table::up_to(8192, part[at + side])
+    let at = 4 * (c + 1 + x) - 16_320;
+    let d = part[at + 3];
+    if outside(-200_000, 200_000, d) {
+        return Step::Off;
+    }
+    let side = side_of(load, part[at + 2], d);
+    let z = part[at + side];
+    if outside(0, 8192, z) {
+        return Step::Off;
+    }
+    Step::To(table::up_to(8192, z) as usize)
 }
 
 // Where a query ends: the slot of its answer, and how many nodes it passed.
@@ -54,21 +80,28 @@ pub struct Probe {
 pub fn descend(part: &[i64], root: u32, load: i64) -> Probe
     ensures { λ r. ⌜ Descended (now (part .entry)) root load (r .slot) (r .probes) ⌝ }
 {
-    let c = table::capacity(part);
-    let mut x = root;
+    let c = table::capacity(part) as usize;
+    let mut x = root as usize;
     let mut probes: u32 = 0;
-    while probes < 24 {
-        if x <= 4096 {
+    while 4096 < x {
+        if 24 <= probes {
             return Probe {
-                slot: x,
+                slot: 0,
                 probes: probes,
             };
         }
-        x = toward(part, c, x, load);
+        let step = toward(part, c, x, load);
+        let Step::To(child) = step else {
+            return Probe {
+                slot: 0,
+                probes: probes,
+            };
+        };
+        x = child;
         probes += 1;
     }
     Probe {
-        slot: x,
+        slot: x as u32,
         probes: probes,
     }
 }
@@ -77,7 +110,15 @@ pub fn descend(part: &[i64], root: u32, load: i64) -> Probe
 pub fn price(part: &[i64], slot: u32, load: i64) -> i64
     ensures { λ r. ⌜ r ≡ priceIn (now (part .entry)) slot load ⌝ }
 {
-    let base = bounded(-1_000_000_000, 1_000_000_000, table::get(part, 2, slot));
-    let rate = bounded(-100_000, 100_000, table::get(part, 1, slot));
+    let c = table::capacity(part);
+    if slot < 1 {
+        return 0;
+    }
+    if c < slot {
+        return 0;
+    }
+    let at = 64 + 4 * slot as usize;
+    let base = bounded(-1_000_000_000, 1_000_000_000, part[at + 2]);
+    let rate = bounded(-100_000, 100_000, part[at + 1]);
     base + rate * bounded(-1_000_000, 1_000_000, load)
 }
