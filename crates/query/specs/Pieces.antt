@@ -1,12 +1,12 @@
 -- A tree of pieces in words, with the thread along its leaves and the offers in their slots; and what its root's words say.
-use mathlib.Core.Path.{_≡_, refl, _∙_, ap, subst}
+use mathlib.Core.Path.{_≡_, refl, _∙_, ap}
 use mathlib.Core.Bool.{Bool, true, false, not}
-use mathlib.Core.List.{List, [], _∷_, _++_, List·Memᴰ, List·Memᴰ·head, IsChain·nil, IsChain·singleton, IsChain·cons-cons, Memᴰ·append-left, Memᴰ·append-right}
+use mathlib.Core.List.{_++_, List·Memᴰ, List·Memᴰ·head, Memᴰ·append-left, Memᴰ·append-right}
 use Prim.Native.Nat.{ℕ, _-_, _≤_, _<_}
 use native.Mathlib.Omega.{arith}
 use lib.Dec.{T}
 use lib.IntN.{ℤ}
-use Rattle.offers.specs.Offers.{loadInRange, rateInRange, priceAt, crossingNumerator, crossingDenominator}
+use Rattle.offers.specs.Offers.{loadInRange, rateInRange, priceAt, crossingDenominator}
 use Rattle.offers.specs.Sizes.{rate-of, base-of, denominatorInRange, rate-gap-in-range}
 use Rattle.trees.specs.Tree.{Tree, leaf, node, leaves, first, last}
 use Rattle.trees.specs.Leaves.{first-leaf, last-leaf}
@@ -14,7 +14,7 @@ use Rattle.table.specs.Words.{Words}
 use Rattle.table.specs.Layout.{cap-most, cell, linkAt}
 use Rattle.table.specs.Items.{Item, slots-left, slots-right}
 use Rattle.table.specs.Rep.{childField, refOf, Tied, tied-node, Rep}
-use Rattle.table.specs.Threads.{Held, Holds, Next, Threaded, chain-seam}
+use Rattle.table.specs.Threads.{Held, Holds, holds-left, holds-right, Threaded, threaded-left, threaded-right, chain-seam}
 use Rattle.query.specs.Lookup.{atOrLeft}
 use Rattle.query.specs.Readings.{true-is, bounded-in, rightOf, childToward, towardAt, priceIn}
 
@@ -23,19 +23,6 @@ pub record Pieces (w : Words) (x : ℕ) (t : Tree Item) : Type 0 where
   pub thread : Threaded w (leaves t)
   pub holds : Holds w (leaves t)
 
--- ---- threads
-
-thread-back : {w : Words} (xs : List Item) {ys : List Item} → Threaded w (xs ++ ys) → Threaded w ys
-thread-back [] h = h
-thread-back (x ∷ []) {ys = []} h = IsChain·nil
-thread-back (x ∷ []) {ys = y ∷ ys} (IsChain·cons-cons n h) = h
-thread-back (x ∷ y ∷ xs) (IsChain·cons-cons n h) = thread-back (y ∷ xs) h
-
-thread-front : {w : Words} (xs ys : List Item) → Threaded w (xs ++ ys) → Threaded w xs
-thread-front [] ys h = IsChain·nil
-thread-front (x ∷ []) ys h = IsChain·singleton x
-thread-front (x ∷ y ∷ xs) ys (IsChain·cons-cons n h) = IsChain·cons-cons n (thread-front (y ∷ xs) ys h)
-
 -- ---- an inner node
 
 -- a child's pieces
@@ -43,16 +30,16 @@ pieces-left : {w : Words} {x y : ℕ} {l r : Tree Item} → Pieces w x (node l r
 pieces-left {w} {l} {r} p t e =
     record {
       rep = record { kind = p .rep .kind; root = e; slots = slots-left (leaves r) (p .rep .slots); tied = t };
-      thread = thread-front (leaves l) (leaves r) (p .thread);
-      holds = record { held = λ m. p .holds .held (Memᴰ·append-left (leaves r) m) };
+      thread = threaded-left (leaves r) (p .thread);
+      holds = holds-left (leaves r) (p .holds);
     }
 
 pieces-right : {w : Words} {x y : ℕ} {l r : Tree Item} → Pieces w x (node l r) → Tied w 0 r → y ≡ refOf r → Pieces w y r
 pieces-right {w} {l} {r} p t e =
     record {
       rep = record { kind = p .rep .kind; root = e; slots = slots-right (leaves l) (p .rep .slots); tied = t };
-      thread = thread-back (leaves l) (p .thread);
-      holds = record { held = λ m. p .holds .held (Memᴰ·append-right (leaves l) m) };
+      thread = threaded-right (leaves l) (p .thread);
+      holds = holds-right (leaves l) (p .holds);
     }
 
 -- the crossing that the node keeps decides as the two pieces beside it do

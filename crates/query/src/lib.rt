@@ -1,10 +1,13 @@
 // Queries and listings on a part. Any words are safe: what a word tells is brought into its range, and every walk has a limit.
 ghost use mathlib.Core.Path.{_≡_};
 ghost use mathlib.Core.Bool.{not};
+ghost use Prim.Native.Nat.{_≤_};
 ghost use Rattle.offers.specs.Offers.{between};
 ghost use Rattle.table.specs.Layout.{cap};
 ghost use Rattle.query.specs.Readings.{bounded, Sided, childOf, towardAt, priceIn};
 ghost use Rattle.query.specs.Descent.{Descended};
+ghost use Rattle.query.specs.Counting.{Counted};
+ghost use Rattle.query.specs.Listing.{crossingWord, pieceAt, Written};
 
 // `value` where it is from `low` to `high`, and 0 for any other.
 pub fn bounded(low: i64, high: i64, value: i64) -> i64
@@ -121,4 +124,62 @@ pub fn price(part: &[i64], slot: u32, load: i64) -> i64
     let base = bounded(-1_000_000_000, 1_000_000_000, part[at + 2]);
     let rate = bounded(-100_000, 100_000, part[at + 1]);
     base + rate * bounded(-1_000_000, 1_000_000, load)
+}
+
+// How many pieces a tree has, counted along the thread from its first to its last; 0 for no tree.
+pub fn count(part: &[i64], root: u32) -> u32
+    ensures { λ r. ⌜ Counted (now (part .entry)) root r ⌝ }
+{
+    let last = descents::end(part, 0, true, root);
+    let mut s = descents::end(part, 0, false, root);
+    if s == 0 {
+        return 0;
+    }
+    let mut n: u32 = 1;
+    while s != last {
+        if 4096 <= n {
+            return 0;
+        }
+        s = table::link(part, 19, s);
+        n += 1;
+    }
+    n
+}
+
+// A word of a piece's crossing with the next; the last piece has none.
+fn crossing_word(part: &[i64], field: usize, slot: u32, last: bool) -> i64
+    ensures { λ r. ⌜ r ≡ crossingWord (now (part .entry)) field slot last ⌝ }
+{
+    if last {
+        return 0;
+    }
+    table::get(part, field, slot)
+}
+
+// Writes the number and the crossing of the piece in a slot to the three words from `at` on.
+fn put_piece(part: &[i64], slot: u32, last: bool, out: &mut [i64], at: usize)
+    requires { ⌜ at ≤ 12_288 ⌝ }
+    ensures { λ _. ⌜ now (out .exit) ≡ pieceAt (now (part .entry)) slot last (now (out .entry)) at ⌝ }
+{
+    table::set_word(out, at, table::get(part, 0, slot));
+    table::set_word(out, at + 1, crossing_word(part, 6, slot, last));
+    table::set_word(out, at + 2, crossing_word(part, 7, slot, last));
+}
+
+// Writes number, numerator, denominator a piece, where the output is long enough for all of them. Returns the count.
+pub fn write(part: &[i64], root: u32, out: &mut [i64]) -> u32
+    ensures { λ r. ⌜ Written (now (part .entry)) root (now (out .entry)) (now (out .exit)) r ⌝ }
+{
+    let n = count(part, root);
+    if out.len() < 3 * (n as usize) {
+        return n;
+    }
+    let mut s = descents::end(part, 0, false, root);
+    let mut i: u32 = 0;
+    while i < n {
+        put_piece(part, s, i + 1 == n, out, 3 * (i as usize));
+        s = table::link(part, 19, s);
+        i += 1;
+    }
+    n
 }
