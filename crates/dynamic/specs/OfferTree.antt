@@ -1,4 +1,4 @@
--- The tree of offers (source 000, section 3): leaves are lines in order; each child keeps the part of its envelope that is not on its parent's.
+-- The tree of offers (source 000, section 3): leaves are lines in order; a fork keeps for each child the part of its envelope that is not on the fork's.
 -- A node is never handled without its whole envelope in hand, as one piece tree; below it only the rests are stored.
 use mathlib.Core.Bool.{not}
 use mathlib.Core.List.{List, [], _∷_, _++_}
@@ -48,16 +48,17 @@ module _ {A : Type 0} where
   abbrev pub andThen : Made A → (Held A → Made A) → Made A
   andThen m f = let n = f (m .held) in made (n .held) (m .log ++ n .log)
 
-  -- a line in front, and one behind
+  -- the tree alone of what is held
   abbrev pub heldShape : Held A → Tree A
   heldShape h = shape (h .tree)
 
--- A node's children, each with its whole envelope: outer and inner, seen from a side.
+-- A node's children, each with its whole envelope.
 pub record Lowered (A : Type 0) : Type 0 where
   pub front : Held A
   pub back : Held A
 
 module _ {A : Type 0} where
+  -- the child on a side, and the other
   abbrev pub outer : Side → Lowered A → Held A
   outer left c = c .front
   outer right c = c .back

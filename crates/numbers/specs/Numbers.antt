@@ -1,5 +1,4 @@
--- What finding, adding and dropping a number promise, and what taking and giving back a slot promise. On any words only fields of slots, and of
--- the header the first free slot, change.
+-- What finding, adding and dropping a number promise. On any words only fields of slots change.
 use mathlib.Core.Path.{_≡_}
 use mathlib.Core.Logic.{_≢_}
 use mathlib.Core.List.{List, [], _∷_, List·Memᴰ, Pairwise}

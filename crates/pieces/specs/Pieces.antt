@@ -7,8 +7,7 @@ use mathlib.Core.Option.{Option, none, some}
 use Prim.Native.Nat.{ℕ}
 use lib.IntN.{ℤ}
 use lib.Signed.{leZ, ltZ}
-use Rattle.envelopes.specs.PseudoLines.{Figure, PseudoLines}
-use Rattle.lines.specs.Lines.{lineFigure, lineLaws}
+pub use Rattle.search.specs.ItemLines.{rateOf, baseOf, itemFigure as items, itemLaws as item-laws}
 use Rattle.trees.specs.Tree.{Tree, leaves}
 use Rattle.trees.specs.Operations.{Part, Cut, partLeaves, joinP, splitP}
 use Rattle.trees.specs.Balanced.{AvlP}
@@ -18,20 +17,6 @@ use Rattle.table.specs.Items.{Item, In, Slots}
 use Rattle.table.specs.Rep.{Field, Tied, Within}
 use Rattle.table.specs.Parts.{refOfP}
 use Rattle.table.specs.Threads.{Holds, Threaded}
-
--- ---- items as lines
-
-abbrev pub rateOf : Item → ℤ
-rateOf a = a .offer .rate
-
-abbrev pub baseOf : Item → ℤ
-baseOf a = a .offer .base
-
-abbrev pub items : Figure
-items = lineFigure Item rateOf baseOf
-
-pub item-laws : PseudoLines items
-item-laws = lineLaws Item rateOf baseOf
 
 -- ---- piece trees that may be empty
 

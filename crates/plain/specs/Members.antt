@@ -23,11 +23,11 @@ in-join o {x} (p ∷ ps) w = go (precedes o p) w (in-join o ps)
     go false (inr (List·Memᴰ·head e)) rec = List·Memᴰ·head e
     go false (inr (List·Memᴰ·tail m)) rec = List·Memᴰ·tail (rec (inr m))
 
--- After a post: the new offer and those before it.
+-- After a post: the new offer and those that were live.
 pub post-adds : (o : Offer) {x : Offer} (os : List Offer) → List·Memᴰ x (join o os) ↔ ((x ≡ o) ⊎ List·Memᴰ x os)
 post-adds o os = (mem-join o os, in-join o os)
 
--- After a withdrawal: those before it with other numbers.
+-- After a withdrawal: those that were live, with other numbers.
 pub withdraw-drops : (n : ℤ) (x : Offer) (os : List Offer) → List·Memᴰ x (leave n os) ↔ (List·Memᴰ x os × (x .number ≢ n))
 withdraw-drops n x os = (λ m. (sublist-mem (keep-sublist other os) m, unequal (x .number) n (keep-passes other os x m)), λ w. keep-in other os x (w .0) (not-T (equal (x .number) n) (λ t. w .1 (equal-eq (x .number) n t))))
   where

@@ -9,7 +9,7 @@ use Rattle.offers.specs.Offers.{loadInRange}
 use Rattle.trees.specs.Tree.{Tree, leaf, node, height, first, last}
 use Rattle.table.specs.Words.{Words}
 use Rattle.table.specs.Items.{Item}
-use Rattle.table.specs.Rep.{refOf}
+use Rattle.table.specs.Nodes.{ref-low}
 use Rattle.query.specs.Lookup.{atOrLeft, deeper, lookup, lookup-left, lookup-right}
 use Rattle.query.specs.Readings.{towardAt}
 use Rattle.query.specs.Pieces.{Pieces, Opened, opened, at-leaf}
@@ -68,10 +68,12 @@ pub ongoing-leaf : {w : Words} {root x probes : ℕ} {q : ℤ} → Ongoing w roo
 ongoing-leaf {q} g d =
     record { finds = λ t p k h. let b = g .below t p h in let (a, s, e) = at-leaf (b .pieces) d in at-end a b s e }
 
--- a tree at most 24 high has a leaf there after 24 probes
-pub ongoing-limit : {w : Words} {root x probes : ℕ} {q : ℤ} → Ongoing w root q x probes → 24 ≤ probes → Descended w root q x probes
-ongoing-limit {w} {root} {x} {probes} {q} g d = record { finds = λ t p k h. let b = g .below t p h in low b (b .tree) refl k }
-  where
-    low : {t : Tree Item} (b : Below w q t x probes) (s : Tree Item) → b .tree ≡ s → height t ≤ 24 → Finds q t x probes
-    low b (leaf a) e k = at-end a b e (b .pieces .rep .root ∙ ap refOf e)
-    low b (node l r) e k = absurd (omega (arith, b .high, ap height e))
+-- no node of a tree of pieces is without a child on the load's side
+pub ongoing-off : {w : Words} {root x probes : ℕ} {q : ℤ} → Ongoing w root q x probes → 4096 < x → 0 ≡ towardAt w x q → (slot found : ℕ) → Descended w root q slot found
+ongoing-off g d e slot found =
+    record { finds = λ t p k h. let b = ongoing-step g d e .below t p h in absurd (omega (arith, b .pieces .rep .root, ref-low (b .tree) (b .pieces .rep .slots))) }
+
+-- a tree at most 24 high has a leaf after 24 probes
+pub ongoing-limit : {w : Words} {root x probes : ℕ} {q : ℤ} → Ongoing w root q x probes → 4096 < x → 24 ≤ probes → (slot found : ℕ) → Descended w root q slot found
+ongoing-limit {q} g d l slot found =
+    record { finds = λ t p k h. let b = g .below t p h in let o = opened q (b .pieces) h d in absurd (omega (arith, b .high, ap height (o .shape))) }

@@ -1,49 +1,119 @@
 -- The four words of an inner node of the pieces' tree lie side by side: left, right, numerator, denominator.
 use mathlib.Core.Path.{_≡_, refl, sym, _∙_, ap}
+use mathlib.Core.Bool.{Bool, true, false, not, cond}
 use Prim.Native.Nat.{ℕ, _+_, _*_, _/_, _-_, _≤_, _<_}
 use native.Mathlib.Omega.{arith}
 use lib.ListN.{length, getD}
-use lib.IntN.{ℤ, pos}
-use Rattle.table.specs.Words.{Words, word, word-out, upTo, upTo-in}
+use lib.IntN.{ℤ, pos, negsuc, negℤ}
+use borrow.Author.Tests.{le-leb, leb-false}
+use Rattle.integers.specs.Ring.{var, nat, _:+_, _:*_, by-eq}
+use Rattle.offers.specs.Offers.{between, within}
+use Rattle.table.specs.Words.{Words, word, word-out, upTo, upTo-in, upTo-over, upTo-below}
 use Rattle.table.specs.Layout.{cap, place, Valid, place-in, spot-in, spot-out, cell, linkAt}
-use Rattle.table.specs.Rep.{bit, childField}
-use Rattle.query.specs.Readings.{Sided, beyond, towardAt}
+use Rattle.table.specs.Rep.{childField}
+use Rattle.query.specs.Readings.{clamped, bounded-in, rightOf, Sided, childToward, priceIn}
+
+cell-out : {w : Words} {f s : ℕ} → ¬ Valid w f s → cell w f s ≡ pos 0
+unfolding cell
+cell-out {w} v = ap (word w) (spot-out v) ∙ word-out w _ (omega arith)
 
 link-out : {w : Words} {f s : ℕ} → ¬ Valid w f s → linkAt w f s ≡ 0
-unfolding cell
-link-out {w} v = ap (upTo 8192) (ap (word w) (spot-out v) ∙ word-out w _ (omega arith)) ∙ upTo-in 8192 0 (omega arith)
+link-out v = ap (upTo 8192) (cell-out v) ∙ upTo-in 8192 0 (omega arith)
 
-pub toward-none : (w : Words) (x : ℕ) (q : ℤ) → x ≤ 4096 → 0 ≡ towardAt w x q
-toward-none w x q h = sym (link-out (λ v. omega (arith, v .low)))
+-- ---- no node
 
-pub toward-over : (w : Words) (c x : ℕ) (q : ℤ) → c ≡ cap w → c < x - 4096 → 0 ≡ towardAt w x q
-toward-over w c x q e h = sym (link-out (λ v. omega (arith, v .high)))
+-- a slot that the part has not
+pub off-slot : (w : Words) (c s : ℕ) (q : ℤ) → c ≡ cap w → ¬ ((1 ≤ s) × (s ≤ c)) → 0 ≡ childToward w s q
+unfolding childToward
+off-slot w c s q e h = go (within 200_000 (cell w 7 s)) (link-out (λ v. h (v .low, omega (arith, v .high))))
+  where
+    go : (b : Bool) {n : ℕ} → n ≡ 0 → 0 ≡ cond b n 0
+    go true d = sym d
+    go false d = refl
 
--- ---- a node that the part has
+-- ---- a slot that it has
 
--- where the group of slot s begins, c being the capacity
+-- where the group of inner node x begins, c being the capacity
 abbrev pub group : ℕ → ℕ → ℕ
-group c s = 64 + 4 * (c + 1 + s)
+group c x = 4 * (c + 1 + x) - 16_320
 
-module _ (w : Words) (c s : ℕ) (e : c ≡ cap w) (low : 1 ≤ s) (high : s ≤ c) where
+true-is : (b : Bool) → not b ≡ false → b ≡ true
+true-is true e = refl
+true-is false e = sym e
+
+false-is : (b : Bool) → not b ≡ true → b ≡ false
+false-is true e = sym e
+false-is false e = refl
+
+-- no number of a node
+no-link : (z : ℤ) → between (pos 0) (pos 8192) z ≡ false → upTo 8192 z ≡ 0
+no-link (pos n) e = upTo-over 8192 n (leb-false n 8192 (rw (le-leb 0 n (omega arith)) at e))
+no-link (negsuc n) e = upTo-below 8192 n
+
+module _ (w : Words) (c x : ℕ) (e : c ≡ cap w) (low : 4096 < x) (high : x ≤ c + 4096) where
+  abbrev s : ℕ
+  s = x - 4096
+
   there : {f : ℕ} → f < 32 → Valid w f s
-  there h = record { low = low; high = omega arith; field = h }
+  there h = record { low = omega arith; high = omega arith; field = h }
 
-  pub group-in : (j : ℕ) → j < 4 → group c s + j < length w
+  pub group-in : (j : ℕ) → j < 4 → group c x + j < length w
   unfolding place
   group-in j h = omega (arith, place-in (there {f = 7} (omega arith)))
 
-  group-cell : (f j : ℕ) → f ≡ 4 + j → j < 4 → getD w (group c s + j) (pos 0) ≡ cell w f s
+  group-cell : (f j : ℕ) → f ≡ 4 + j → j < 4 → getD w (group c x + j) (pos 0) ≡ cell w f s
   unfolding cell word place
   group-cell f j d h = ap (λ i. getD w i (pos 0)) at ∙ sym (ap (word w) (spot-in (there (omega arith))))
     where
-      at : group c s + j ≡ place (cap w) f s
+      at : group c x + j ≡ place (cap w) f s
       at = let p : f / 4 ≡ 1 = omega arith in omega (arith, ap (λ k. k * (cap w + 1)) p)
 
-  module _ {q : ℤ} {side : ℕ} (t : Sided q (getD w (group c s + 2) (pos 0)) (getD w (group c s + 3) (pos 0)) side) where
-    told-beyond : side ≡ bit (beyond w s q)
-    unfolding beyond
-    told-beyond = rw (← group-cell 7 3 (omega arith) (omega arith), ← group-cell 6 2 (omega arith) (omega arith)) (t .told)
+  -- the words of the group
+  abbrev ourD : ℤ
+  ourD = getD w (group c x + 3) (pos 0)
 
-    pub toward-there : upTo 8192 (getD w (group c s + side) (pos 0)) ≡ linkAt w (childField 0 (beyond w s q)) s
-    toward-there = ap (upTo 8192) (group-cell (childField 0 (beyond w s q)) side (omega (arith, told-beyond)) (omega (arith, t .low)))
+  abbrev ourN : ℤ
+  ourN = getD w (group c x + 2) (pos 0)
+
+  -- a denominator out of range
+  pub off-steep : (q : ℤ) → not (within 200_000 ourD) ≡ true → 0 ≡ childToward w s q
+  unfolding childToward
+  off-steep q d = rw (← group-cell 7 3 (omega arith) (omega arith), false-is (within 200_000 ourD) d)
+
+  module _ {q : ℤ} {side : ℕ} (t : Sided q ourN ourD side) (d : not (within 200_000 ourD) ≡ false) where
+    -- the child's word
+    pub toward-there : upTo 8192 (getD w (group c x + side) (pos 0)) ≡ childToward w s q
+    unfolding childToward
+    toward-there =
+        rw (← group-cell 7 3 (omega arith) (omega arith), ← group-cell 6 2 (omega arith) (omega arith), true-is (within 200_000 ourD) d)
+        (ap (upTo 8192) (group-cell (childField 0 (rightOf q ourN ourD)) side (omega (arith, t .told)) (omega (arith, t .low))))
+
+    -- it is no number of a node
+    pub off-wild : not (between (pos 0) (pos 8192) (getD w (group c x + side) (pos 0))) ≡ true → 0 ≡ childToward w s q
+    off-wild g = sym (no-link _ (false-is _ g)) ∙ toward-there
+
+-- ---- a slot's number, rate and base lie side by side too
+
+pub price-none : (w : Words) (c s : ℕ) (q : ℤ) → c ≡ cap w → ¬ ((1 ≤ s) × (s ≤ c)) → pos 0 ≡ priceIn w s q
+unfolding priceIn
+price-none w c s q e h =
+    rw (cell-out {f = 1} gone, cell-out {f = 2} gone, bounded-in (negℤ (pos 1_000_000_000)) (pos 1_000_000_000) (pos 0) tt, bounded-in (negℤ (pos 100_000)) (pos 100_000) (pos 0) tt)
+    (by-eq (nat 0) (nat 0 :+ nat 0 :* var (clamped 1_000_000 q)) (omega arith))
+  where
+    gone : {f : ℕ} → ¬ Valid w f s
+    gone v = h (v .low, omega (arith, v .high))
+
+module _ (w : Words) (c s : ℕ) (e : c ≡ cap w) (low : 1 ≤ s) (high : s ≤ c) where
+  here : {f : ℕ} → f < 32 → Valid w f s
+  here h = record { low = low; high = omega arith; field = h }
+
+  pub data-in : (f : ℕ) → f < 4 → 64 + 4 * s + f < length w
+  unfolding place
+  data-in f h = omega (arith, place-in (here {f = 4} (omega arith)))
+
+  pub data-cell : (f : ℕ) → f < 4 → getD w (64 + 4 * s + f) (pos 0) ≡ cell w f s
+  unfolding cell word place
+  data-cell f h = ap (λ i. getD w i (pos 0)) at ∙ sym (ap (word w) (spot-in (here (omega arith))))
+    where
+      at : 64 + 4 * s + f ≡ place (cap w) f s
+      at = let p : f / 4 ≡ 0 = omega arith in omega (arith, ap (λ k. k * (cap w + 1)) p)

@@ -6,3 +6,5 @@ pub mod Readings
 pub mod Groups
 pub mod Pieces
 pub mod Descent
+pub mod Counting
+pub mod Listing

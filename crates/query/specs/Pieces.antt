@@ -1,12 +1,12 @@
 -- A tree of pieces in words, with the thread along its leaves and the offers in their slots; and what its root's words say.
-use mathlib.Core.Path.{_≡_, refl, _∙_, ap, subst}
+use mathlib.Core.Path.{_≡_, refl, _∙_, ap}
 use mathlib.Core.Bool.{Bool, true, false, not}
-use mathlib.Core.List.{List, [], _∷_, _++_, List·Memᴰ, List·Memᴰ·head, IsChain·nil, IsChain·singleton, IsChain·cons-cons, Memᴰ·append-left, Memᴰ·append-right}
+use mathlib.Core.List.{_++_, List·Memᴰ, List·Memᴰ·head, Memᴰ·append-left, Memᴰ·append-right}
 use Prim.Native.Nat.{ℕ, _-_, _≤_, _<_}
 use native.Mathlib.Omega.{arith}
 use lib.Dec.{T}
 use lib.IntN.{ℤ}
-use Rattle.offers.specs.Offers.{loadInRange, rateInRange, priceAt, crossingNumerator, crossingDenominator}
+use Rattle.offers.specs.Offers.{loadInRange, rateInRange, priceAt, crossingDenominator}
 use Rattle.offers.specs.Sizes.{rate-of, base-of, denominatorInRange, rate-gap-in-range}
 use Rattle.trees.specs.Tree.{Tree, leaf, node, leaves, first, last}
 use Rattle.trees.specs.Leaves.{first-leaf, last-leaf}
@@ -14,27 +14,14 @@ use Rattle.table.specs.Words.{Words}
 use Rattle.table.specs.Layout.{cap-most, cell, linkAt}
 use Rattle.table.specs.Items.{Item, slots-left, slots-right}
 use Rattle.table.specs.Rep.{childField, refOf, Tied, tied-node, Rep}
-use Rattle.table.specs.Threads.{Held, Holds, Next, Threaded, chain-seam}
+use Rattle.table.specs.Threads.{Held, Holds, holds-left, holds-right, Threaded, threaded-left, threaded-right, chain-seam}
 use Rattle.query.specs.Lookup.{atOrLeft}
-use Rattle.query.specs.Readings.{bounded-in, beyond, towardAt, priceIn}
+use Rattle.query.specs.Readings.{true-is, bounded-in, rightOf, childToward, towardAt, priceIn}
 
 pub record Pieces (w : Words) (x : ℕ) (t : Tree Item) : Type 0 where
   pub rep : Rep w 0 x t
   pub thread : Threaded w (leaves t)
   pub holds : Holds w (leaves t)
-
--- ---- threads
-
-thread-back : {w : Words} (xs : List Item) {ys : List Item} → Threaded w (xs ++ ys) → Threaded w ys
-thread-back [] h = h
-thread-back (x ∷ []) {ys = []} h = IsChain·nil
-thread-back (x ∷ []) {ys = y ∷ ys} (IsChain·cons-cons n h) = h
-thread-back (x ∷ y ∷ xs) (IsChain·cons-cons n h) = thread-back (y ∷ xs) h
-
-thread-front : {w : Words} (xs ys : List Item) → Threaded w (xs ++ ys) → Threaded w xs
-thread-front [] ys h = IsChain·nil
-thread-front (x ∷ []) ys h = IsChain·singleton x
-thread-front (x ∷ y ∷ xs) ys (IsChain·cons-cons n h) = IsChain·cons-cons n (thread-front (y ∷ xs) ys h)
 
 -- ---- an inner node
 
@@ -43,29 +30,32 @@ pieces-left : {w : Words} {x y : ℕ} {l r : Tree Item} → Pieces w x (node l r
 pieces-left {w} {l} {r} p t e =
     record {
       rep = record { kind = p .rep .kind; root = e; slots = slots-left (leaves r) (p .rep .slots); tied = t };
-      thread = thread-front (leaves l) (leaves r) (p .thread);
-      holds = record { held = λ m. p .holds .held (Memᴰ·append-left (leaves r) m) };
+      thread = threaded-left (leaves r) (p .thread);
+      holds = holds-left (leaves r) (p .holds);
     }
 
 pieces-right : {w : Words} {x y : ℕ} {l r : Tree Item} → Pieces w x (node l r) → Tied w 0 r → y ≡ refOf r → Pieces w y r
 pieces-right {w} {l} {r} p t e =
     record {
       rep = record { kind = p .rep .kind; root = e; slots = slots-right (leaves l) (p .rep .slots); tied = t };
-      thread = thread-back (leaves l) (p .thread);
-      holds = record { held = λ m. p .holds .held (Memᴰ·append-right (leaves l) m) };
+      thread = threaded-right (leaves l) (p .thread);
+      holds = holds-right (leaves l) (p .holds);
     }
 
 -- the crossing that the node keeps decides as the two pieces beside it do
-seam-test : {w : Words} {x : ℕ} {l r : Tree Item} (q : ℤ) → Pieces w x (node l r) → T (loadInRange q) → beyond w (last l .slot) q ≡ not (atOrLeft q (last l .offer) (first r .offer))
-unfolding beyond
-seam-test {w} {x} {l} {r} q p h =
+seam-toward : {w : Words} {x : ℕ} {l r : Tree Item} (q : ℤ) → Pieces w x (node l r) → T (loadInRange q) → childToward w (last l .slot) q ≡ linkAt w (childField 0 (not (atOrLeft q (last l .offer) (first r .offer)))) (last l .slot)
+unfolding childToward rightOf
+seam-toward {w} {x} {l} {r} q p h =
     let n = chain-seam l r (p .thread) in
-    rw (n .numerator, n .denominator, bounded-in _ _ q h, bounded-in _ _ (crossingDenominator (last l .offer) (first r .offer)) near)
+    rw (n .numerator, n .denominator, true-is (denominatorInRange d) near, bounded-in _ _ q h, bounded-in _ _ d near)
   where
+    d : ℤ
+    d = crossingDenominator (last l .offer) (first r .offer)
+
     ranged : (a : Item) → List·Memᴰ a (leaves l ++ leaves r) → T (rateInRange (a .offer .rate))
     ranged a m = rate-of (a .offer) (p .holds .held m .ranged)
 
-    near : T (denominatorInRange (crossingDenominator (last l .offer) (first r .offer)))
+    near : T (denominatorInRange d)
     near = rate-gap-in-range (last l .offer .rate) (first r .offer .rate) (ranged (last l) (Memᴰ·append-left (leaves r) (last-leaf l))) (ranged (first r) (Memᴰ·append-right (leaves l) (first-leaf r)))
 
 -- the child on the load's side
@@ -84,7 +74,7 @@ opened {w} {x} {t = node l r} q p h d = go (p .rep .tied)
     here = omega (arith, p .rep .root)
 
     side : (b : Bool) → atOrLeft q (last l .offer) (first r .offer) ≡ b → towardAt w x q ≡ linkAt w (childField 0 (not b)) (last l .slot)
-    side b e = rw here (ap (λ z. linkAt w (childField 0 z) (last l .slot)) (seam-test q p h ∙ ap not e))
+    side b e = ap (λ n. childToward w n q) here ∙ seam-toward q p h ∙ ap (λ z. linkAt w (childField 0 (not z)) (last l .slot)) e
 
     go : Tied w 0 (node l r) → Opened w x q (node l r)
     go (tied-node tl tr el er eh) =

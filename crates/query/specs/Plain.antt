@@ -1,7 +1,6 @@
 -- What a tree of pieces tells is what the plain book answers.
 use mathlib.Core.Path.{_≡_, refl, sym, _∙_, ap, subst}
 use mathlib.Core.Logic.{⊎-elim}
-use mathlib.Core.Bool.{Bool, true, false}
 use mathlib.Core.List.{List, [], _∷_, map, List·Memᴰ, List·Memᴰ·not-nil, Memᴰ·map, Memᴰ·of-map, Pairwise}
 use Prim.Native.Nat.{ℕ, _*_, _≤_, _<_}
 use native.Mathlib.Omega.{arith}
@@ -26,6 +25,7 @@ use Rattle.plain.specs.ListingLaws.{in-order, envelope-listed}
 use Rattle.trees.specs.Tree.{Tree, leaves}
 use Rattle.table.specs.Items.{Item}
 use Rattle.pieces.specs.Pieces.{rateOf, baseOf, items, item-laws}
+use Rattle.query.specs.Readings.{true-is}
 use Rattle.query.specs.Lookup.{lookup}
 use Rattle.query.specs.Answer.{lookup-first}
 
@@ -33,10 +33,6 @@ abbrev pub offerOf : Item → Offer
 offerOf a = a .offer
 
 -- ---- a query
-
-true-is : (b : Bool) → T b → b ≡ true
-true-is true t = refl
-true-is false t = absurd t
 
 -- the plain book names that offer
 first-names : {ls : List Item} {z : Item} {q : ℤ} → First items ls z (whole q) → Names q (map offerOf ls) (z .offer)

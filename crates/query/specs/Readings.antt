@@ -11,8 +11,10 @@ use Rattle.integers.specs.Magnitude.{natAbs-mul, within-natAbs}
 use Rattle.integers.specs.Parts.{intRules, range-parts, and-both}
 use Rattle.offers.specs.Offers.{between, within}
 use Rattle.table.specs.Words.{Words}
-use Rattle.table.specs.Layout.{cell}
-use Rattle.table.specs.Rep.{bit, childAt}
+use Rattle.table.specs.Layout.{cell, linkAt}
+use Rattle.table.specs.Rep.{bit, childField}
+use Rattle.query.specs.declared.Step.{Step}
+use Rattle.query.specs.declared.Step.the-variants.{To, Off}
 
 -- the number itself where it is from `low` to `high`, and 0 for any other
 unfoldable pub bounded : ℤ → ℤ → ℤ → ℤ
@@ -30,7 +32,11 @@ bounded-in low high z t = go (between low high z) t
     go true t = refl
     go false t = absurd t
 
--- a test that fails
+-- a test that passes, and one that fails
+pub true-is : (b : Bool) → T b → b ≡ true
+true-is true t = refl
+true-is false t = absurd t
+
 no-test : (b : Bool) → ¬ T b → b ≡ false
 no-test true f = absurd (f tt)
 no-test false f = refl
@@ -58,18 +64,25 @@ pub clamped-product : {x y : ℤ} (m n : ℕ) (a b : ℤ) → x ≡ clamped (suc
 clamped-product {x} {y} m n a b d e =
     rw (d, e) (omega (arith, natAbs-mul (clamped (suc m) a) (clamped (suc n) b), mul-le-mul (clamped-size m a) (clamped-size n b)))
 
--- 0 where the load is at or left of the crossing n / d, and 1 right of it
+-- the load lies right of the crossing n / d
+unfoldable pub rightOf : ℤ → ℤ → ℤ → Bool
+rightOf q n d = not (leZ (clamped 1_000_000 q *ℤ clamped 200_000 d) n)
+
+-- as a number: 0 is left, 1 is right
 pub record Sided (q n d : ℤ) (side : ℕ) : Type 0 where
-  pub told : side ≡ bit (not (leZ (clamped 1_000_000 q *ℤ clamped 200_000 d) n))
+  pub told : side ≡ bit (rightOf q n d)
   pub low : side ≤ 1
 
--- the load lies right of the crossing kept in slot s
-unfoldable pub beyond : Words → ℕ → ℤ → Bool
-beyond w s q = not (leZ (clamped 1_000_000 q *ℤ clamped 200_000 (cell w 7 s)) (cell w 6 s))
+-- the child, on the load's side, of the inner node kept in slot s; 0 where there is none
+unfoldable pub childToward : Words → ℕ → ℤ → ℕ
+childToward w s q = cond (within 200_000 (cell w 7 s)) (linkAt w (childField 0 (rightOf q (cell w 6 s) (cell w 7 s))) s) 0
 
--- the child of inner node x on the load's side, and 0 where x is none
 abbrev pub towardAt : Words → ℕ → ℤ → ℕ
-towardAt w x q = childAt w 0 (beyond w (x - 4096) q) x
+towardAt w x q = childToward w (x - 4096) q
+
+abbrev pub childOf : Step → ℕ
+childOf (To x) = x
+childOf Off = 0
 
 -- the price of the offer kept in slot s
 unfoldable pub priceIn : Words → ℕ → ℤ → ℤ

@@ -1,8 +1,13 @@
 // Queries and listings on a part. Any words are safe: what a word tells is brought into its range, and every walk has a limit.
 ghost use mathlib.Core.Path.{_≡_};
+ghost use mathlib.Core.Bool.{not};
+ghost use Prim.Native.Nat.{_≤_};
+ghost use Rattle.offers.specs.Offers.{between};
 ghost use Rattle.table.specs.Layout.{cap};
-ghost use Rattle.query.specs.Readings.{bounded, Sided, towardAt, priceIn};
+ghost use Rattle.query.specs.Readings.{bounded, Sided, childOf, towardAt, priceIn};
 ghost use Rattle.query.specs.Descent.{Descended};
+ghost use Rattle.query.specs.Counting.{Counted};
+ghost use Rattle.query.specs.Listing.{crossingWord, pieceAt, Written};
 
 // `value` where it is from `low` to `high`, and 0 for any other.
 pub fn bounded(low: i64, high: i64, value: i64) -> i64
@@ -17,6 +22,16 @@ pub fn bounded(low: i64, high: i64, value: i64) -> i64
     value
 }
 
+// Whether `value` is below `low` or above `high`.
+fn outside(low: i64, high: i64, value: i64) -> bool
+    ensures { λ r. ⌜ r ≡ not (between low high value) ⌝ }
+{
+    if value < low {
+        return true;
+    }
+    high < value
+}
+
 // 0 where the load is at or left of the crossing n / d, and 1 right of it.
 fn side_of(load: i64, n: i64, d: i64) -> usize
     ensures { λ r. ⌜ Sided load n d r ⌝ }
@@ -27,21 +42,35 @@ fn side_of(load: i64, n: i64, d: i64) -> usize
     1
 }
 
-// The child of inner node `x` on the load's side: one group of four words is read. `c` is the part's capacity.
-fn toward(part: &[i64], c: u32, x: u32, load: i64) -> u32
+// To a child, or off: what the words tell is no node of a tree of pieces. Each way off leaves the loop of a descent, so that no value waits for a test.
+pub enum Step {
+    To(usize),
+    Off,
+}
+
+// From inner node `x` to its child on the load's side: one group of four words is read. `c` is the part's capacity.
+// The group of slot s begins at 64 + 4 × (c + 1 + s), and s is 4,096 less than the node's number.
+fn toward(part: &[i64], c: usize, x: usize, load: i64) -> Step
     requires { ⌜ c ≡ cap (now part) ⌝ }
-    ensures { λ r. ⌜ r ≡ towardAt (now (part .entry)) x load ⌝ }
+    ensures { λ r. ⌜ childOf r ≡ towardAt (now (part .entry)) x load ⌝ }
 {
     if x <= 4096 {
-        return 0;
+        return Step::Off;
     }
-    let slot = x - 4096;
-    if c < slot {
-        return 0;
+    if c + 4096 < x {
+        return Step::Off;
     }
-    let at = 64 + 4 * (c as usize + 1 + slot as usize);
-    let side = side_of(load, part[at + 2], part[at + 3]);
-    table::up_to(8192, part[at + side])
+    let at = 4 * (c + 1 + x) - 16_320;
+    let d = part[at + 3];
+    if outside(-200_000, 200_000, d) {
+        return Step::Off;
+    }
+    let side = side_of(load, part[at + 2], d);
+    let z = part[at + side];
+    if outside(0, 8192, z) {
+        return Step::Off;
+    }
+    Step::To(table::up_to(8192, z) as usize)
 }
 
 // Where a query ends: the slot of its answer, and how many nodes it passed.
@@ -54,21 +83,28 @@ pub struct Probe {
 pub fn descend(part: &[i64], root: u32, load: i64) -> Probe
     ensures { λ r. ⌜ Descended (now (part .entry)) root load (r .slot) (r .probes) ⌝ }
 {
-    let c = table::capacity(part);
-    let mut x = root;
+    let c = table::capacity(part) as usize;
+    let mut x = root as usize;
     let mut probes: u32 = 0;
-    while probes < 24 {
-        if x <= 4096 {
+    while 4096 < x {
+        if 24 <= probes {
             return Probe {
-                slot: x,
+                slot: 0,
                 probes: probes,
             };
         }
-        x = toward(part, c, x, load);
+        let step = toward(part, c, x, load);
+        let Step::To(child) = step else {
+            return Probe {
+                slot: 0,
+                probes: probes,
+            };
+        };
+        x = child;
         probes += 1;
     }
     Probe {
-        slot: x,
+        slot: x as u32,
         probes: probes,
     }
 }
@@ -77,7 +113,73 @@ pub fn descend(part: &[i64], root: u32, load: i64) -> Probe
 pub fn price(part: &[i64], slot: u32, load: i64) -> i64
     ensures { λ r. ⌜ r ≡ priceIn (now (part .entry)) slot load ⌝ }
 {
-    let base = bounded(-1_000_000_000, 1_000_000_000, table::get(part, 2, slot));
-    let rate = bounded(-100_000, 100_000, table::get(part, 1, slot));
+    let c = table::capacity(part);
+    if slot < 1 {
+        return 0;
+    }
+    if c < slot {
+        return 0;
+    }
+    let at = 64 + 4 * slot as usize;
+    let base = bounded(-1_000_000_000, 1_000_000_000, part[at + 2]);
+    let rate = bounded(-100_000, 100_000, part[at + 1]);
     base + rate * bounded(-1_000_000, 1_000_000, load)
+}
+
+// How many pieces a tree has, counted along the thread from its first to its last; 0 for no tree.
+pub fn count(part: &[i64], root: u32) -> u32
+    ensures { λ r. ⌜ Counted (now (part .entry)) root r ⌝ }
+{
+    let last = descents::end(part, 0, true, root);
+    let mut s = descents::end(part, 0, false, root);
+    if s == 0 {
+        return 0;
+    }
+    let mut n: u32 = 1;
+    while s != last {
+        if 4096 <= n {
+            return 0;
+        }
+        s = table::link(part, 19, s);
+        n += 1;
+    }
+    n
+}
+
+// A word of a piece's crossing with the next; the last piece has none.
+fn crossing_word(part: &[i64], field: usize, slot: u32, last: bool) -> i64
+    ensures { λ r. ⌜ r ≡ crossingWord (now (part .entry)) field slot last ⌝ }
+{
+    if last {
+        return 0;
+    }
+    table::get(part, field, slot)
+}
+
+// Writes the number and the crossing of the piece in a slot to the three words from `at` on.
+fn put_piece(part: &[i64], slot: u32, last: bool, out: &mut [i64], at: usize)
+    requires { ⌜ at ≤ 12_288 ⌝ }
+    ensures { λ _. ⌜ now (out .exit) ≡ pieceAt (now (part .entry)) slot last (now (out .entry)) at ⌝ }
+{
+    table::set_word(out, at, table::get(part, 0, slot));
+    table::set_word(out, at + 1, crossing_word(part, 6, slot, last));
+    table::set_word(out, at + 2, crossing_word(part, 7, slot, last));
+}
+
+// Writes number, numerator, denominator a piece, where the output is long enough for all of them. Returns the count.
+pub fn write(part: &[i64], root: u32, out: &mut [i64]) -> u32
+    ensures { λ r. ⌜ Written (now (part .entry)) root (now (out .entry)) (now (out .exit)) r ⌝ }
+{
+    let n = count(part, root);
+    if out.len() < 3 * (n as usize) {
+        return n;
+    }
+    let mut s = descents::end(part, 0, false, root);
+    let mut i: u32 = 0;
+    while i < n {
+        put_piece(part, s, i + 1 == n, out, 3 * (i as usize));
+        s = table::link(part, 19, s);
+        i += 1;
+    }
+    n
 }

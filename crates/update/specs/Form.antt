@@ -18,7 +18,8 @@ use Rattle.dynamic.specs.OfferTree.{Held, heldShape}
 use Rattle.dynamic.specs.Valid.{bookLines}
 use Rattle.table.specs.Words.{Words, word}
 use Rattle.table.specs.Layout.{cap, cell, linkAt}
-use Rattle.table.specs.Items.{Item, Slots}
+pub use Rattle.table.specs.Free.{head0, FreeChain, free-none, free-more}
+use Rattle.table.specs.Items.{Item}
 use Rattle.table.specs.Rep.{refOf, Tied}
 use Rattle.pieces.specs.Pieces.{partRef}
 use Rattle.update.specs.Stored.{HeldIn}
@@ -52,16 +53,6 @@ pub record NumbersIn (w : Words) (live : List Item) (numbers : Part Item) : Type
   pub falling : Falling numberOf (partLeaves numbers)
   pub all-live : (a : Item) → List·Memᴰ a (partLeaves numbers) → List·Memᴰ a live
   pub all-there : (a : Item) → List·Memᴰ a live → List·Memᴰ a (partLeaves numbers)
-
--- ---- the free slots: a chain, each with number 0
-
-abbrev pub head0 : List ℕ → ℕ
-head0 [] = 0
-head0 (s ∷ ss) = s
-
-pub data FreeChain (w : Words) : List ℕ → Type 0 where
-  free-none : FreeChain w []
-  free-more : {s : ℕ} {ss : List ℕ} → 1 ≤ s → s ≤ cap w → cell w 0 s ≡ pos 0 → linkAt w 3 s ≡ head0 ss → FreeChain w ss → FreeChain w (s ∷ ss)
 
 -- ---- the form
 

@@ -1,10 +1,12 @@
 -- `query::descend` meets its contract. The loop's invariant: from x on, the walk goes on as from the root.
+use mathlib.Core.Path.{_≡_, sym, _∙_, ap}
 use Prim.Native.Nat.{_≤_, _-_}
 use native.Mathlib.Omega.{arith}
 use mir.Syntax.{w64}
 use mir.Val.{toZ}
 use mir.Facts.{toZ-ofZ}
-use Rattle.query.specs.Descent.{Ongoing, ongoing-start, ongoing-step, ongoing-leaf, ongoing-limit}
+use Rattle.query.specs.Readings.{childOf}
+use Rattle.query.specs.Descent.{Ongoing, ongoing-start, ongoing-step, ongoing-leaf, ongoing-off, ongoing-limit}
 use borrow.Author.Needs.{needs}
 use Rattle.query.proofs.descend.Statement.{statement}
 use Rattle.query.proofs.descend.Tie as tie
@@ -22,14 +24,28 @@ abbrev μ-loop : tie.MeasureT-loop
 capacity-requires : tie.Need-capacity-requires Inv-loop μ-loop
 capacity-requires c κs = search needs
 
+cast-c : tie.Need-cast-c Inv-loop μ-loop
+cast-c c = search needs
+
 loop-holds : tie.Need-loop-holds Inv-loop μ-loop
 loop-holds c = ongoing-start _ _ _
 
 returns : tie.Need-returns Inv-loop μ-loop
-returns c = simp (toZ-ofZ, c .before .before .before .before .fits .load) at (ongoing-leaf (c .before .before .loop .inv) (c .if1 .taken))
+returns c = simp (toZ-ofZ, c .before .before .before .before .fits .load) at (ongoing-limit (c .before .before .loop .inv) (c .before .loop-test .taken) (c .if1 .taken) 0 (c .before .before .loop .probes))
 
 toward-requires : tie.Need-toward-requires Inv-loop μ-loop
 toward-requires c κs = c .before .before .before .capacity .ensures
+
+enum-known-step : tie.Need-enum-known-step Inv-loop μ-loop
+enum-known-step c = search needs
+
+enum-told : tie.Need-enum-told Inv-loop μ-loop
+enum-told c = search needs
+
+returns-2 : tie.Need-returns-2 Inv-loop μ-loop
+returns-2 c =
+    simp (toZ-ofZ, c .before .before .before .before .before .before .before .fits .load) at
+    (ongoing-off (c .before .before .before .before .before .loop .inv) (c .before .before .before .before .loop-test .taken) (sym (ap childOf (c .enum-told .given .1)) ∙ c .before .before .toward .ensures) 0 (c .before .before .before .before .before .loop .probes))
 
 add-probes : tie.Need-add-probes Inv-loop μ-loop
 add-probes c = omega arith
@@ -38,10 +54,13 @@ loop-less : tie.Need-loop-less Inv-loop μ-loop
 loop-less c = omega arith
 
 loop-again : tie.Need-loop-again Inv-loop μ-loop
-loop-again c = ongoing-step (c .before .before .before .loop .inv) (c .before .if1 .left) (c .toward .ensures)
+loop-again c = ongoing-step (c .before .before .before .before .before .before .loop .inv) (c .before .before .before .before .before .loop-test .taken) (sym (ap childOf (c .before .step .given .1)) ∙ c .before .before .before .toward .ensures)
 
-returns-2 : tie.Need-returns-2 Inv-loop μ-loop
-returns-2 c = simp (toZ-ofZ, c .before .before .before .fits .load) at (ongoing-limit (c .before .loop .inv) (c .loop-test .left))
+cast-t9 : tie.Need-cast-t9 Inv-loop μ-loop
+cast-t9 c = omega arith
+
+returns-3 : tie.Need-returns-3 Inv-loop μ-loop
+returns-3 c = simp (toZ-ofZ, c .before .before .before .fits .load) at (ongoing-leaf (c .before .loop .inv) (c .loop-test .left))
 
 pub descend-spec : {M : Type 1} → statement M
 descend-spec =
@@ -50,10 +69,15 @@ descend-spec =
     Inv-loop
     μ-loop
     capacity-requires
+    cast-c
     loop-holds
     returns
     toward-requires
+    enum-known-step
+    enum-told
+    returns-2
     add-probes
     loop-less
     loop-again
-    returns-2)
+    cast-t9
+    returns-3)

@@ -1,21 +1,23 @@
 -- `query::price` meets its contract.
 use mathlib.Core.Path.{_≡_, _∙_, ap}
-use Prim.Native.Nat.{_≤_}
+use Prim.Native.Nat.{_+_, _*_, _≤_}
 use native.Mathlib.Omega.{arith}
-use lib.IntN.{ℤ, natAbs, _+ℤ_, _*ℤ_}
+use lib.ListN.{getD}
+use lib.IntN.{ℤ, pos, natAbs, _+ℤ_, _*ℤ_}
 use mir.Syntax.{w64}
 use mir.Val.{SFits}
 use mir.Facts.{toZ-ofZ}
 use Rattle.integers.specs.Magnitude.{fits, natAbs-add}
 use Rattle.table.specs.Words.{Words}
 use Rattle.table.specs.Layout.{cell}
+use Rattle.query.specs.Groups.{price-none, data-in, data-cell}
 use Rattle.query.specs.Readings.{clamped, clamped-size, clamped-product, priceIn}
 use borrow.Author.Needs.{needs}
 use Rattle.query.proofs.price.Statement.{statement}
 use Rattle.query.proofs.price.Tie as tie
 use Rattle.query.proofs.price.Reads as reads
 use Rattle.query.proofs.price.Lts as lts
-use Rattle.table.proofs.get.Reads as get-reads
+use Rattle.table.proofs.capacity.Reads as capacity-reads
 use Rattle.query.proofs.bounded.Reads as bounded-reads
 
 -- base, rate and load as they were clamped
@@ -33,14 +35,41 @@ module _ {b r l : ℤ} (x y q : ℤ) (eb : b ≡ clamped 1_000_000_000 x) (er : 
   unfolding priceIn
   told w s d e = rw (← d, ← e, ← eb, ← er, ← el)
 
-get-requires : tie.Need-get-requires
-get-requires c κs = search needs
+capacity-requires : tie.Need-capacity-requires
+capacity-requires c κs = search needs
+
+returns : tie.Need-returns
+returns c = price-none _ _ _ _ (c .before .capacity .ensures) (λ h. omega (arith, h .0))
+
+returns-2 : tie.Need-returns-2
+returns-2 c = price-none _ _ _ _ (c .before .before .capacity .ensures) (λ h. omega (arith, h .1))
+
+mul-at : tie.Need-mul-at
+mul-at c = search needs
+
+add-at : tie.Need-add-at
+add-at c = search needs
+
+add-bounded : tie.Need-add-bounded
+add-bounded c = search needs
+
+mul-bounded : tie.Need-mul-bounded
+mul-bounded c = search needs
+
+shared-slice-copy-out-bounded : tie.Need-shared-slice-copy-out-bounded
+shared-slice-copy-out-bounded c = data-in _ _ _ (c .before .before .capacity .ensures) (c .before .if1 .left) (c .if2 .left) 2 (omega arith)
 
 bounded-requires : tie.Need-bounded-requires
 bounded-requires c κs = search needs
 
-get-requires-2 : tie.Need-get-requires-2
-get-requires-2 c κs = search needs
+add-bounded-2 : tie.Need-add-bounded-2
+add-bounded-2 c = search needs
+
+mul-bounded-2 : tie.Need-mul-bounded-2
+mul-bounded-2 c = search needs
+
+shared-slice-copy-out-bounded-2 : tie.Need-shared-slice-copy-out-bounded-2
+shared-slice-copy-out-bounded-2 c = data-in _ _ _ (c .before .before .before .before .capacity .ensures) (c .before .before .before .if1 .left) (c .before .before .if2 .left) 1 (omega arith)
 
 bounded-requires-2 : tie.Need-bounded-requires-2
 bounded-requires-2 c κs = search needs
@@ -62,10 +91,12 @@ add-result c =
     let p = product-fits _ _ _ (c .before .before .before .bounded .ensures) (c .before .bounded2 .ensures) (c .bounded3 .ensures) in
     simp (toZ-ofZ, b, r, l, p) (sum-fits _ _ _ (c .before .before .before .bounded .ensures) (c .before .bounded2 .ensures) (c .bounded3 .ensures))
 
-returns : tie.Need-returns
-returns c =
-    let x : SFits w64 (c .before .before .before .before .get .result) = record { sfits = c .before .before .before .before .get .ok } in
-    let y : SFits w64 (c .before .before .get2 .result) = record { sfits = c .before .before .get2 .ok } in
+returns-3 : tie.Need-returns-3
+returns-3 c =
+    let w = c .before .before .before .before .before .before .before .before .args .part .now in
+    let at = 64 + 4 * c .before .before .before .before .before .before .before .before .args .slot in
+    let x : SFits w64 (getD w (at + 2) (pos 0)) = record { sfits = c .before .before .before .before .bounded-arg .given } in
+    let y : SFits w64 (getD w (at + 1) (pos 0)) = record { sfits = c .before .before .bounded-arg2 .given } in
     let b : SFits w64 (c .before .before .before .bounded .result) = record { sfits = c .before .before .before .bounded .ok } in
     let r : SFits w64 (c .before .bounded2 .result) = record { sfits = c .before .bounded2 .ok } in
     let l : SFits w64 (c .bounded3 .result) = record { sfits = c .bounded3 .ok } in
@@ -75,8 +106,29 @@ returns c =
     (told _ _ _
     (simp (toZ-ofZ, x) at (c .before .before .before .bounded .ensures))
     (simp (toZ-ofZ, y) at (c .before .bounded2 .ensures))
-    (simp (toZ-ofZ, c .before .before .before .before .before .fits .load) at (c .bounded3 .ensures))
-    _ _ (c .before .before .before .before .get .ensures) (c .before .before .get2 .ensures))
+    (simp (toZ-ofZ, c .before .before .before .before .before .before .before .before .fits .load) at (c .bounded3 .ensures))
+    _ _
+    (data-cell _ _ _ (c .before .before .before .before .before .before .before .capacity .ensures) (c .before .before .before .before .before .before .if1 .left) (c .before .before .before .before .before .if2 .left) 2 (omega arith))
+    (data-cell _ _ _ (c .before .before .before .before .before .before .before .capacity .ensures) (c .before .before .before .before .before .before .if1 .left) (c .before .before .before .before .before .if2 .left) 1 (omega arith)))
 
 pub price-spec : {M : Type 1} → statement M
-price-spec = tie.close (tie.spec get-requires bounded-requires get-requires-2 bounded-requires-2 bounded-requires-3 mul-result add-result returns)
+price-spec =
+    tie.close
+    (tie.spec
+    capacity-requires
+    returns
+    returns-2
+    mul-at
+    add-at
+    add-bounded
+    mul-bounded
+    shared-slice-copy-out-bounded
+    bounded-requires
+    add-bounded-2
+    mul-bounded-2
+    shared-slice-copy-out-bounded-2
+    bounded-requires-2
+    bounded-requires-3
+    mul-result
+    add-result
+    returns-3)

@@ -8,7 +8,7 @@ use mir.Syntax.{w64}
 use mir.Val.{SFits}
 use mir.Facts.{toZ-ofZ}
 use Rattle.integers.specs.Magnitude.{fits}
-use Rattle.query.specs.Readings.{clamped, clamped-product, Sided}
+use Rattle.query.specs.Readings.{clamped, clamped-product, rightOf, Sided}
 use borrow.Author.Needs.{needs}
 use Rattle.query.proofs.side_of.Statement.{statement}
 use Rattle.query.proofs.side_of.Tie as tie
@@ -19,9 +19,11 @@ use Rattle.query.proofs.bounded.Reads as bounded-reads
 -- clamped factors, and the test's outcome
 module _ {x y : ℤ} (q n d : ℤ) (a : x ≡ clamped 1_000_000 q) (b : y ≡ clamped 200_000 d) where
   left : leZ (x *ℤ y) n ≡ true → Sided q n d 0
+  unfolding rightOf
   left t = record { told = rw (← a, ← b, t); low = omega arith }
 
   right : leZ (x *ℤ y) n ≡ false → Sided q n d 1
+  unfolding rightOf
   right t = record { told = rw (← a, ← b, t); low = omega arith }
 
 bounded-requires : tie.Need-bounded-requires

@@ -1,128 +1,142 @@
-use native.Mathlib.Omega.{arith}
-use Prim.Native.Nat.{ℕ, _+_, _-_}
+-- `query::toward` meets its contract: the group is read where the part has it, and every way off tells that there is no child.
 use mathlib.Core.Path.{_≡_, sym, _∙_}
+use Prim.Native.Nat.{ℕ, _+_, _-_}
+use native.Mathlib.Omega.{arith}
 use lib.ListN.{getD}
 use lib.IntN.{ℤ, pos}
 use mir.Syntax.{w64}
 use mir.Val.{SFits}
 use mir.Facts.{toZ-ofZ}
-use Rattle.query.specs.Groups.{group, group-in, toward-none, toward-over, toward-there}
+use Rattle.table.specs.Layout.{cap-most}
+use Rattle.query.specs.Groups.{group, group-in, off-slot, off-steep, off-wild, toward-there}
 use borrow.Author.Needs.{needs}
 use Rattle.query.proofs.toward.Statement.{statement}
 use Rattle.query.proofs.toward.Tie as tie
 use Rattle.query.proofs.toward.Reads as reads
 use Rattle.query.proofs.toward.Lts as lts
+use Rattle.query.proofs.outside.Reads as outside-reads
 use Rattle.query.proofs.side_of.Reads as side-of-reads
 use Rattle.table.proofs.up_to.Reads as up-to-reads
 
--- src/lib.rt:39:9
 returns : tie.Need-returns
-returns c = toward-none _ _ _ (c .if1 .taken)
+returns c = off-slot _ _ _ _ (c .before .pre) (λ h. omega (arith, h .0))
 
--- src/lib.rt:41:16
-sub-slot : tie.Need-sub-slot
-sub-slot c = search needs
+add-if2 : tie.Need-add-if2
+add-if2 c = omega (arith, cap-most (c .before .args .part .now))
 
--- src/lib.rt:43:9
 returns-2 : tie.Need-returns-2
-returns-2 c = toward-over _ _ _ _ (c .before .before .pre) (c .if2 .taken)
+returns-2 c = off-slot _ _ _ _ (c .before .before .pre) (λ h. omega (arith, h .1))
 
--- src/lib.rt:45:24
 add-at : tie.Need-add-at
-add-at c = search needs
+add-at c = omega (arith, cap-most (c .before .before .args .part .now))
 
--- src/lib.rt:45:41
-cast-at : tie.Need-cast-at
-cast-at c = search needs
-
--- src/lib.rt:45:24
 add-at-2 : tie.Need-add-at-2
-add-at-2 c = search needs
+add-at-2 c = omega (arith, cap-most (c .before .before .args .part .now))
 
--- src/lib.rt:45:19
 mul-at : tie.Need-mul-at
-mul-at c = search needs
+mul-at c = omega (arith, cap-most (c .before .before .args .part .now))
 
--- src/lib.rt:45:14
-add-at-3 : tie.Need-add-at-3
-add-at-3 c = search needs
+sub-at : tie.Need-sub-at
+sub-at c = omega (arith, cap-most (c .before .before .args .part .now))
 
--- src/lib.rt:46:35
+add-d : tie.Need-add-d
+add-d c = omega (arith, cap-most (c .before .before .args .part .now))
+
+mul-d : tie.Need-mul-d
+mul-d c = omega (arith, cap-most (c .before .before .args .part .now))
+
+shared-slice-copy-out-d : tie.Need-shared-slice-copy-out-d
+shared-slice-copy-out-d c = group-in _ _ _ (c .before .before .pre) (c .before .if1 .left) (c .if2 .left) 3 (omega arith)
+
+outside-requires : tie.Need-outside-requires
+outside-requires c κs = search needs
+
+returns-3 : tie.Need-returns-3
+returns-3 c =
+    let w = c .before .before .before .before .before .args .part .now in
+    let at = group (c .before .before .before .before .before .args .c) (c .before .before .before .before .before .args .x) in
+    let d : SFits w64 (getD w (at + 3) (pos 0)) = record { sfits = c .before .before .d .given } in
+    off-steep _ _ _ (c .before .before .before .before .before .pre) (c .before .before .before .before .if1 .left) (c .before .before .before .if2 .left) _ (sym (simp (toZ-ofZ, d) at (c .before .outside .ensures)) ∙ c .if3 .taken)
+
 add-side-of : tie.Need-add-side-of
-add-side-of c = search needs
+add-side-of c = omega (arith, cap-most (c .before .before .before .before .before .args .part .now))
 
--- src/lib.rt:46:30
 mul-side-of : tie.Need-mul-side-of
-mul-side-of c = search needs
+mul-side-of c = omega (arith, cap-most (c .before .before .before .before .before .args .part .now))
 
--- src/lib.rt:46:30
 shared-slice-copy-out-side-of : tie.Need-shared-slice-copy-out-side-of
-shared-slice-copy-out-side-of c = group-in _ _ _ (c .before .before .pre) (omega arith) (c .if2 .left) 2 (omega arith)
+shared-slice-copy-out-side-of c = group-in _ _ _ (c .before .before .before .before .before .pre) (c .before .before .before .before .if1 .left) (c .before .before .before .if2 .left) 2 (omega arith)
 
--- src/lib.rt:46:49
-add-side-of-2 : tie.Need-add-side-of-2
-add-side-of-2 c = search needs
-
--- src/lib.rt:46:44
-mul-side-of-2 : tie.Need-mul-side-of-2
-mul-side-of-2 c = search needs
-
--- src/lib.rt:46:44
-shared-slice-copy-out-side-of-2 : tie.Need-shared-slice-copy-out-side-of-2
-shared-slice-copy-out-side-of-2 c = group-in _ _ _ (c .before .before .before .pre) (omega arith) (c .before .if2 .left) 3 (omega arith)
-
--- src/lib.rt:46:9
 side-of-requires : tie.Need-side-of-requires
 side-of-requires c κs = search needs
 
--- src/lib.rt:47:29
-add-up-to : tie.Need-add-up-to
-add-up-to c = omega arith
+add-z : tie.Need-add-z
+add-z c = omega (arith, cap-most (c .before .before .before .before .before .before .before .args .part .now))
 
--- src/lib.rt:47:24
-mul-up-to : tie.Need-mul-up-to
-mul-up-to c = omega arith
+mul-z : tie.Need-mul-z
+mul-z c = omega (arith, cap-most (c .before .before .before .before .before .before .before .args .part .now))
 
--- src/lib.rt:47:24
-shared-slice-copy-out-up-to : tie.Need-shared-slice-copy-out-up-to
-shared-slice-copy-out-up-to c = group-in _ _ _ (c .before .before .before .before .before .pre) (omega arith) (c .before .before .before .if2 .left) _ (omega (arith, c .side-of .ensures .low))
+shared-slice-copy-out-z : tie.Need-shared-slice-copy-out-z
+shared-slice-copy-out-z c = group-in _ _ _ (c .before .before .before .before .before .before .before .pre) (c .before .before .before .before .before .before .if1 .left) (c .before .before .before .before .before .if2 .left) _ (omega (arith, c .side-of .ensures .low))
 
--- src/lib.rt:47:5
+outside-requires-2 : tie.Need-outside-requires-2
+outside-requires-2 c κs = search needs
+
+returns-4 : tie.Need-returns-4
+returns-4 c =
+    let w = c .before .before .before .before .before .before .before .before .before .before .args .part .now in
+    let at = group (c .before .before .before .before .before .before .before .before .before .before .args .c) (c .before .before .before .before .before .before .before .before .before .before .args .x) in
+    let d : SFits w64 (getD w (at + 3) (pos 0)) = record { sfits = c .before .before .before .before .before .before .before .d .given } in
+    let n : SFits w64 (getD w (at + 2) (pos 0)) = record { sfits = c .before .before .before .before .side-of-arg .given } in
+    let z : SFits w64 (getD w (at + c .before .before .before .side-of .result) (pos 0)) = record { sfits = c .before .before .z .given } in
+    off-wild _ _ _ (c .before .before .before .before .before .before .before .before .before .before .pre) (c .before .before .before .before .before .before .before .before .before .if1 .left) (c .before .before .before .before .before .before .before .before .if2 .left)
+    (simp (toZ-ofZ, n, d, c .before .before .before .before .before .before .before .before .before .before .fits .load) at (c .before .before .before .side-of .ensures))
+    (sym (simp (toZ-ofZ, d) at (c .before .before .before .before .before .before .outside .ensures)) ∙ c .before .before .before .before .before .if3 .left)
+    (sym (simp (toZ-ofZ, z) at (c .before .outside2 .ensures)) ∙ c .if4 .taken)
+
 up-to-requires : tie.Need-up-to-requires
 up-to-requires c κs = search needs
 
--- src/lib.rt:34:1
-returns-3 : tie.Need-returns-3
-returns-3 c =
-    let w = c .before .before .before .before .before .before .before .args .part .now in
-    let at = group (c .before .before .before .before .before .before .before .args .c) (c .before .before .before .before .before .before .before .args .x - 4096) in
-    let n : SFits w64 (getD w (at + 2) (pos 0)) = record { sfits = c .before .before .before .before .side-of-arg .given } in
-    let d : SFits w64 (getD w (at + 3) (pos 0)) = record { sfits = c .before .before .before .side-of-arg2 .given } in
-    let z : SFits w64 (getD w (at + c .before .before .side-of .result) (pos 0)) = record { sfits = c .before .up-to-arg .given } in
+cast-t10 : tie.Need-cast-t10
+cast-t10 c = search needs
+
+returns-5 : tie.Need-returns-5
+returns-5 c =
+    let w = c .before .before .before .before .before .before .before .before .before .before .before .args .part .now in
+    let at = group (c .before .before .before .before .before .before .before .before .before .before .before .args .c) (c .before .before .before .before .before .before .before .before .before .before .before .args .x) in
+    let d : SFits w64 (getD w (at + 3) (pos 0)) = record { sfits = c .before .before .before .before .before .before .before .before .d .given } in
+    let n : SFits w64 (getD w (at + 2) (pos 0)) = record { sfits = c .before .before .before .before .before .side-of-arg .given } in
+    let z : SFits w64 (getD w (at + c .before .before .before .before .side-of .result) (pos 0)) = record { sfits = c .before .before .before .z .given } in
     (simp (toZ-ofZ, z) at (c .up-to .ensures))
-    ∙ toward-there _ _ _ (c .before .before .before .before .before .before .before .pre) (omega arith) (c .before .before .before .before .before .if2 .left) (simp (toZ-ofZ, n, d, c .before .before .before .before .before .before .before .fits .load) at (c .before .before .side-of .ensures))
+    ∙ toward-there _ _ _ (c .before .before .before .before .before .before .before .before .before .before .before .pre) (c .before .before .before .before .before .before .before .before .before .before .if1 .left) (c .before .before .before .before .before .before .before .before .before .if2 .left)
+    (simp (toZ-ofZ, n, d, c .before .before .before .before .before .before .before .before .before .before .before .fits .load) at (c .before .before .before .before .side-of .ensures))
+    (sym (simp (toZ-ofZ, d) at (c .before .before .before .before .before .before .before .outside .ensures)) ∙ c .before .before .before .before .before .before .if3 .left)
 
 pub toward-spec : {M : Type 1} → statement M
 toward-spec =
     tie.close
     (tie.spec
     returns
-    sub-slot
+    add-if2
     returns-2
     add-at
-    cast-at
     add-at-2
     mul-at
-    add-at-3
+    sub-at
+    add-d
+    mul-d
+    shared-slice-copy-out-d
+    outside-requires
+    returns-3
     add-side-of
     mul-side-of
     shared-slice-copy-out-side-of
-    add-side-of-2
-    mul-side-of-2
-    shared-slice-copy-out-side-of-2
     side-of-requires
-    add-up-to
-    mul-up-to
-    shared-slice-copy-out-up-to
+    add-z
+    mul-z
+    shared-slice-copy-out-z
+    outside-requires-2
+    returns-4
     up-to-requires
-    returns-3)
+    cast-t10
+    returns-5)

@@ -1,0 +1,65 @@
+-- `query::put_piece` meets its contract: three writes, one behind the other.
+use mir.Syntax.{w64}
+use mir.Val.{SFits}
+use mir.Facts.{toZ-ofZ}
+use Rattle.query.specs.Listing.{piece-put}
+use borrow.Author.Needs.{needs}
+use Rattle.query.proofs.put_piece.Statement.{statement}
+use Rattle.query.proofs.put_piece.Tie as tie
+use Rattle.query.proofs.put_piece.Reads as reads
+use Rattle.query.proofs.put_piece.Lts as lts
+use Rattle.query.proofs.crossing_word.Reads as crossing-word-reads
+use Rattle.table.proofs.get.Reads as get-reads
+use Rattle.table.proofs.set_word.Reads as set-word-reads
+
+get-requires : tie.Need-get-requires
+get-requires c κs = search needs
+
+set-word-requires : tie.Need-set-word-requires
+set-word-requires c κs = search needs
+
+add-set-word : tie.Need-add-set-word
+add-set-word c = search needs
+
+crossing-word-requires : tie.Need-crossing-word-requires
+crossing-word-requires c κs = search needs
+
+set-word-requires-2 : tie.Need-set-word-requires-2
+set-word-requires-2 c κs = search needs
+
+add-set-word-2 : tie.Need-add-set-word-2
+add-set-word-2 c = search needs
+
+crossing-word-requires-2 : tie.Need-crossing-word-requires-2
+crossing-word-requires-2 c κs = search needs
+
+set-word-requires-3 : tie.Need-set-word-requires-3
+set-word-requires-3 c κs = search needs
+
+same-length : tie.Need-same-length
+same-length c = search needs
+
+returns : tie.Need-returns
+returns c =
+    let x : SFits w64 (c .before .before .before .before .before .before .before .before .before .before .get .result) = record { sfits = c .before .before .before .before .before .before .before .before .before .before .get .ok } in
+    let y : SFits w64 (c .before .before .before .before .before .before .crossing-word .result) = record { sfits = c .before .before .before .before .before .before .crossing-word .ok } in
+    let z : SFits w64 (c .before .before .crossing-word2 .result) = record { sfits = c .before .before .crossing-word2 .ok } in
+    piece-put _ _ (c .before .before .before .before .before .before .before .before .before .before .before .before .args .last) _ _ (c .before .before .before .before .before .before .before .before .before .before .get .ensures) (c .before .before .before .before .before .before .crossing-word .ensures) (c .before .before .crossing-word2 .ensures)
+    (simp (toZ-ofZ, x) at (c .before .before .before .before .before .before .before .before .before .set-word .ensures))
+    (simp (toZ-ofZ, y) at (c .before .before .before .before .before .set-word2 .ensures))
+    (simp (toZ-ofZ, z) at (c .before .set-word3 .ensures))
+
+pub put-piece-spec : {M : Type 1} → statement M
+put-piece-spec =
+    tie.close
+    (tie.spec
+    get-requires
+    set-word-requires
+    add-set-word
+    crossing-word-requires
+    set-word-requires-2
+    add-set-word-2
+    crossing-word-requires-2
+    set-word-requires-3
+    same-length
+    returns)
