@@ -16,3 +16,5 @@ pub mod Following
 pub mod Calls
 pub mod Parts
 pub mod Opens
+pub mod PartUpdates
+pub mod TableUpdates

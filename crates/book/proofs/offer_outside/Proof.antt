@@ -1,0 +1,29 @@
+-- `book::offer_outside` meets its contract.
+use mir.Facts.{toZ-ofZ}
+use Rattle.book.specs.TableUpdates.{number-out, rate-out, base-out}
+use borrow.Author.Needs.{needs}
+use Rattle.book.proofs.offer_outside.Statement.{statement}
+use Rattle.book.proofs.offer_outside.Tie as tie
+
+outside-requires : tie.Need-outside-requires
+outside-requires c κs = search needs
+
+returns : tie.Need-returns
+returns c = number-out _ _ _ (simp (toZ-ofZ, c .before .before .fits .number) at (c .before .outside .ensures)) (c .if1 .taken)
+
+outside-requires-2 : tie.Need-outside-requires-2
+outside-requires-2 c κs = search needs
+
+returns-2 : tie.Need-returns-2
+returns-2 c = rate-out _ _ _ (simp (toZ-ofZ, c .before .before .before .before .fits .number) at (c .before .before .before .outside .ensures)) (c .before .before .if1 .left) (simp (toZ-ofZ, c .before .before .before .before .fits .rate) at (c .before .outside2 .ensures)) (c .if2 .taken)
+
+outside-requires-3 : tie.Need-outside-requires-3
+outside-requires-3 c κs = search needs
+
+returns-3 : tie.Need-returns-3
+returns-3 c = base-out _ _ _ (simp (toZ-ofZ, c .before .before .before .before .before .fits .number) at (c .before .before .before .before .outside .ensures)) (c .before .before .before .if1 .left) (simp (toZ-ofZ, c .before .before .before .before .before .fits .rate) at (c .before .before .outside2 .ensures)) (c .before .if2 .left) (simp (toZ-ofZ, c .before .before .before .before .before .fits .base) at (c .outside3 .ensures))
+
+pub offer-outside-spec : {M : Type 1} → statement M
+offer-outside-spec =
+    tie.close
+    (tie.spec outside-requires returns outside-requires-2 returns-2 outside-requires-3 returns-3)

@@ -1,0 +1,108 @@
+-- `book::post` meets its contract.
+use mathlib.Core.Path.{_≡_, refl}
+use native.Mathlib.Omega.{arith}
+use lib.IntN.{pos}
+use mir.Facts.{toZ-ofZ, toZ-pos}
+use mir.Syntax.{w64}
+use mir.Val.{toZ}
+use Rattle.book.specs.TableUpdates.{start-in, updates-none, updates-range, post-refused, post-accepted}
+use borrow.Author.Needs.{needs}
+use Rattle.book.proofs.post.Statement.{statement}
+use Rattle.book.proofs.post.Tie as tie
+
+no-book-requires : tie.Need-no-book-requires
+no-book-requires c κs = search needs
+
+same-length : tie.Need-same-length
+same-length c = search needs
+
+returns : tie.Need-returns
+returns c = updates-none _ _ _ _ (c .before .no-book .ensures) (c .if1 .taken) refl
+
+offer-outside-requires : tie.Need-offer-outside-requires
+offer-outside-requires c κs = search needs
+
+same-length-2 : tie.Need-same-length-2
+same-length-2 c = search needs
+
+returns-2 : tie.Need-returns-2
+returns-2 c = updates-range _ _ _ _ (c .before .before .before .no-book .ensures) (c .before .before .if1 .left) (simp (toZ-ofZ, c .before .before .before .before .before .fits .number, c .before .before .before .before .before .fits .rate, c .before .before .before .before .before .fits .base) at (c .before .offer-outside .ensures)) (c .if2 .taken) refl
+
+mul-post-cause : tie.Need-mul-post-cause
+mul-post-cause c = omega (arith, start-in (c .before .before .before .before .before .args .table .now) (c .before .before .before .before .before .args .start) (c .before .before .before .no-book .ensures) (c .before .before .if1 .left))
+
+sub-post-cause : tie.Need-sub-post-cause
+sub-post-cause c = omega (arith, start-in (c .before .before .before .before .before .args .table .now) (c .before .before .before .before .before .args .start) (c .before .before .before .no-book .ensures) (c .before .before .if1 .left))
+
+part-post-cause-start : tie.Need-part-post-cause-start
+part-post-cause-start c = omega (arith, start-in (c .before .before .before .before .before .before .args .table .now) (c .before .before .before .before .before .before .args .start) (c .before .before .before .before .no-book .ensures) (c .before .before .before .if1 .left))
+
+part-post-cause-end : tie.Need-part-post-cause-end
+part-post-cause-end c = search needs
+
+post-cause-requires : tie.Need-post-cause-requires
+post-cause-requires c κs = search needs
+
+cast-t18 : tie.Need-cast-t18
+cast-t18 c = search needs
+
+same-length-3 : tie.Need-same-length-3
+same-length-3 c = search needs
+
+returns-3 : tie.Need-returns-3
+returns-3 c = 
+    let v : toZ w64 (c .before .post-cause .result) ≡ pos (c .before .post-cause .result) = toZ-pos w64 (omega (arith, c .before .post-cause .ok)) in
+    post-refused _ _ _ (c .before .before .before .before .before .before .before .no-book .ensures) (c .before .before .before .before .before .before .if1 .left) _ _ _ (simp (toZ-ofZ, c .before .before .before .before .before .before .before .before .before .fits .number, c .before .before .before .before .before .before .before .before .before .fits .rate, c .before .before .before .before .before .before .before .before .before .fits .base) at (c .before .before .before .before .before .offer-outside .ensures)) (c .before .before .before .before .if2 .left) (simp (toZ-ofZ, c .before .before .before .before .before .before .before .before .before .fits .number, c .before .before .before .before .before .before .before .before .before .fits .rate) at (c .before .post-cause .ensures)) (c .if3 .taken) (simp v refl) refl
+
+mul-post-part : tie.Need-mul-post-part
+mul-post-part c = omega (arith, start-in (c .before .before .before .before .before .before .before .before .before .args .table .now) (c .before .before .before .before .before .before .before .before .before .args .start) (c .before .before .before .before .before .before .before .no-book .ensures) (c .before .before .before .before .before .before .if1 .left))
+
+sub-post-part : tie.Need-sub-post-part
+sub-post-part c = omega (arith, start-in (c .before .before .before .before .before .before .before .before .before .args .table .now) (c .before .before .before .before .before .before .before .before .before .args .start) (c .before .before .before .before .before .before .before .no-book .ensures) (c .before .before .before .before .before .before .if1 .left))
+
+part-post-part-start : tie.Need-part-post-part-start
+part-post-part-start c = omega (arith, start-in (c .before .before .before .before .before .before .before .before .before .args .table .now) (c .before .before .before .before .before .before .before .before .before .args .start) (c .before .before .before .before .before .before .before .no-book .ensures) (c .before .before .before .before .before .before .if1 .left))
+
+part-post-part-end : tie.Need-part-post-part-end
+part-post-part-end c = search needs
+
+post-part-requires : tie.Need-post-part-requires
+post-part-requires c κs = search needs
+
+done-requires : tie.Need-done-requires
+done-requires c κs = search needs
+
+same-length-4 : tie.Need-same-length-4
+same-length-4 c = search needs
+
+returns-4 : tie.Need-returns-4
+returns-4 c = 
+    let f = c .before .before .before .before .before .before .before .before .before .before .before .before .before .fits in
+    post-accepted _ _ _ (c .before .before .before .before .before .before .before .before .before .before .before .no-book .ensures) (c .before .before .before .before .before .before .before .before .before .before .if1 .left) _ _ _ (simp (toZ-ofZ, c .before .before .before .before .before .before .before .before .before .before .before .before .before .fits .number, c .before .before .before .before .before .before .before .before .before .before .before .before .before .fits .rate, c .before .before .before .before .before .before .before .before .before .before .before .before .before .fits .base) at (c .before .before .before .before .before .before .before .before .before .offer-outside .ensures)) (c .before .before .before .before .before .before .before .before .if2 .left) (simp (toZ-ofZ, c .before .before .before .before .before .before .before .before .before .before .before .before .before .fits .number, c .before .before .before .before .before .before .before .before .before .before .before .before .before .fits .rate) at (c .before .before .before .before .before .post-cause .ensures)) (c .before .before .before .before .if3 .left) _ (simp (toZ-ofZ, f .number, f .rate, f .base) at (c .before .before .post-part .ensures)) (c .done .ensures) refl
+
+pub post-spec : {M : Type 1} → statement M
+post-spec =
+    tie.close
+    (tie.spec
+    no-book-requires
+    same-length
+    returns
+    offer-outside-requires
+    same-length-2
+    returns-2
+    mul-post-cause
+    sub-post-cause
+    part-post-cause-start
+    part-post-cause-end
+    post-cause-requires
+    cast-t18
+    same-length-3
+    returns-3
+    mul-post-part
+    sub-post-part
+    part-post-part-start
+    part-post-part-end
+    post-part-requires
+    done-requires
+    same-length-4
+    returns-4)

@@ -1,0 +1,143 @@
+-- A post and a withdrawal on a lent table: what the code's guards and its work on the part promise, put together.
+use mathlib.Core.Path.{_≡_, refl, sym, _∙_, ap, subst}
+use mathlib.Core.Bool.{Bool, true, false, not}
+use mathlib.Core.List.{List, [], _∷_, _++_}
+use mathlib.Core.Option.{Option}
+use Prim.Native.Nat.{ℕ, suc, _+_, _*_, _-_, _≤_, _<_}
+use native.Mathlib.Omega.{arith}
+use lib.ListN.{length, take, drop, length-drop}
+use lib.Dec.{T}
+use lib.IntN.{ℤ, pos, natAbs}
+use Rattle.offers.specs.Offers.{numberInRange, rateInRange, baseInRange}
+use Rattle.plain.specs.Causes.{Cause, causeNumber, noBook, numberOutOfRange, rateOutOfRange, baseOutOfRange}
+use Rattle.plain.specs.Book.{Call, post, withdraw, join, leave, rangeTrials, noBookAt, partLength, step}
+use Rattle.plain.specs.Rules.{FirstOf, at-once, further}
+use Rattle.plain.specs.Sound.{Clear}
+use Rattle.dynamic.specs.OfferTree.{Held}
+use Rattle.table.specs.Words.{Words, word, upTo}
+use Rattle.table.specs.Layout.{cap}
+use Rattle.table.specs.Items.{Item}
+use Rattle.update.specs.Form.{Book, plainOffers}
+use Rattle.numbers.specs.Numbers.{FoundNumber}
+use Rattle.book.specs.declared.Update.{Update}
+use Rattle.book.specs.declared.Update.the-variants.{Done, Declined}
+use Rattle.book.specs.Promises.{partOf, plainOf, capacityAt, tableTrials, OnlyPart, Updates, Follows}
+use Rattle.book.specs.Sought.{number-sought}
+use Rattle.book.specs.Plainly.{refusing, There, cap-there, table-declined, withdraw-missing, withdraw-clear}
+use Rattle.book.specs.Following.{follows-declined, follows-posted, follows-withdrawn}
+use Rattle.book.specs.Parts.{Beyond, part-back, only-part, whole-part, lent-back, said, denied, book-cap}
+use Rattle.book.specs.Opens.{one-cause, not-clear}
+use Rattle.book.specs.Posting.{Updated}
+use Rattle.book.specs.PartUpdates.{OutOfRange, Kept, PostCause, PostDone, WithdrawDone}
+
+-- ---- the ranges, as the code tests them
+
+module _ (n r z : ℤ) {b : Bool} (e : b ≡ not (numberInRange n)) where
+  pub number-out : b ≡ true → OutOfRange (post n r z) true
+  number-out h = record { says = λ q. (numberOutOfRange, at-once (said e h), refl); denies = λ q. absurd (subst T q tt) }
+
+  module _ {d : Bool} (h : b ≡ false) (e′ : d ≡ not (rateInRange r)) where
+    pub rate-out : d ≡ true → OutOfRange (post n r z) true
+    rate-out k = record { says = λ q. (rateOutOfRange, further (denied e h) (at-once (said e′ k)), refl); denies = λ q. absurd (subst T q tt) }
+
+    pub base-out : {f : Bool} → d ≡ false → f ≡ not (baseInRange z) → OutOfRange (post n r z) f
+    base-out k e″ =
+        record {
+          says = λ q. (baseOutOfRange, further (denied e h) (further (denied e′ k) (at-once (said e″ q))), refl);
+          denies = λ q. (denied e h, (denied e′ k, (denied e″ q, tt)));
+        }
+
+pub number-alone : (n : ℤ) {b : Bool} → b ≡ not (numberInRange n) → OutOfRange (withdraw n) b
+number-alone n e = record { says = λ q. (numberOutOfRange, at-once (said e q), refl); denies = λ q. (denied e q, tt) }
+
+-- ---- where there is a book
+
+-- `start` lies in the table
+pub start-in : (t : List ℤ) (start : ℕ) {b : Bool} → b ≡ noBookAt (length t) start (word (partOf t start) 0) → b ≡ false → start ≤ length t
+start-in t start e h =
+    let (p, q) = book-cap t start (denied e h) in
+    omega (arith, q, cap-there (partOf t start) p q .room, length-drop start t)
+
+-- the words lent
+abbrev lent : List ℤ → ℕ → Words
+lent t start = take (length t - start) (drop start t)
+
+module _ (k : Call) (start : ℕ) (t t′ : List ℤ) where
+  only-same : {c : ℕ} → t′ ≡ t → OnlyPart c start t t′
+  only-same {c} e = record { long = ap length e; front = ap (take start) e; back = ap (drop (start + partLength c)) e }
+
+  updates-declined : {z : Cause} {r : Update} → FirstOf (tableTrials t start k) z → r ≡ Declined (pos (causeNumber z)) → t′ ≡ t → Updates k start t t′ r
+  updates-declined f er et =
+      record {
+        declined = λ z g. (er ∙ ap (λ (n : ℕ). Declined (pos n)) (sym (one-cause f g)), et);
+        outside = only-same et;
+        follows = λ c held b. follows-declined start t k b (table-declined start t k b f) er et;
+      }
+
+  module _ {b : Bool} (e : b ≡ noBookAt (length t) start (word (partOf t start) 0)) where
+    pub updates-none : b ≡ true → t′ ≡ t → Updates k start t t′ (Declined (pos 3))
+    updates-none h et = updates-declined (at-once (said e h)) refl et
+
+    module _ {d : Bool} (h : b ≡ false) (o : OutOfRange k d) where
+      pub updates-range : d ≡ true → t′ ≡ t → Updates k start t t′ (Declined (pos 4))
+      updates-range q et = let (z, f, n) = o .says q in updates-declined (further (denied e h) f) (ap (λ (i : ℕ). Declined (pos i)) (sym n)) et
+
+      module _ (q : d ≡ false) where
+        clear : Clear (tableTrials t start k)
+        clear = (denied e h, o .denies q)
+
+        pub updates-refused :
+            {m : ℕ} {r : Update} → ((c : ℕ) (held : Option (Held Item)) → Book (lent t start) c held → step (plainOf c held) k ≡ refusing (plainOf c held) m) →
+            r ≡ Declined (pos m) → t′ ≡ t → Updates k start t t′ r
+        updates-refused f er et =
+            record {
+              declined = λ z g. absurd (not-clear g clear);
+              outside = only-same et;
+              follows = λ c held b. follows-declined start t k b (f c held (subst (λ (u : Words). Book u c held) (sym (whole-part t start)) b)) er et;
+            }
+
+        pub updates-done :
+            {r : Update} (w′ : Words) → t′ ≡ take start t ++ (w′ ++ drop (length t - start) (drop start t)) → Kept (lent t start) w′ →
+            ((c : ℕ) (held : Option (Held Item)) → Book (lent t start) c held → partOf t′ start ≡ w′ → Follows k c held start t t′ r) →
+            Updates k start t t′ r
+        updates-done w′ et g f =
+            record {
+              declined = λ z g. absurd (not-clear g clear);
+              outside = only-part t start w′ back low (record { long = kept .long; rest = λ i l. kept .rest i (omega (arith, l, book-cap t start (denied e h) .0)) });
+              follows = λ c held b. f c held (subst (λ (u : Words). Book u c held) (sym (whole-part t start)) b) (part-back t start w′ back low);
+            }
+          where
+            back : t′ ≡ take start t ++ w′
+            back = lent-back t start w′ et
+
+            low : start ≤ length t
+            low = start-in t start e h
+
+            kept : Kept (partOf t start) w′
+            kept = subst (λ (u : Words). Kept u w′) (whole-part t start) g
+
+-- ---- the two calls
+
+module _ (start : ℕ) (t t′ : List ℤ) {b d : Bool} (e : b ≡ noBookAt (length t) start (word (partOf t start) 0)) (h : b ≡ false) where
+  module _ (n r z : ℤ) (o : OutOfRange (post n r z) d) (q : d ≡ false) {m : ℕ} (cause : PostCause n r (lent t start) m) where
+    pub post-refused : {u : Update} → 0 < m → u ≡ Declined (pos m) → t′ ≡ t → Updates (post n r z) start t t′ u
+    post-refused l eu et = updates-refused (post n r z) start t t′ e h o q (λ c held b. cause .declines z c held b (o .denies q) l) eu et
+
+    pub post-accepted : {i k st hs : ℕ} {u : Update} → m ≤ 0 → (w′ : Words) → PostDone n r z (lent t start) w′ i k st hs → u ≡ Done (pos i) (pos k) (pos st) (pos hs) → t′ ≡ take start t ++ (w′ ++ drop (length t - start) (drop start t)) → Updates (post n r z) start t t′ u
+    post-accepted {i} {k} {st} {hs} l w′ g eu et =
+        updates-done (post n r z) start t t′ e h o q w′ et (g .kept)
+        (λ c held b p.
+            let (clear, new) = cause .clears z c held b (o .denies q) l in
+            let (updated, count) = g .done c held b new in
+            follows-posted start t n r z clear (subst (λ (v : Words). Updated v c held (join (record { number = n; rate = r; base = z }) (plainOffers held)) k st hs) (sym p) updated) count eu)
+
+  module _ (n : ℤ) (o : OutOfRange (withdraw n) d) (q : d ≡ false) {s : ℕ} (f : FoundNumber n (upTo 8192 (word (lent t start) 4)) (lent t start) s) where
+    pub withdraw-refused : s < 1 → t′ ≡ t → Updates (withdraw n) start t t′ (Declined (pos 8))
+    withdraw-refused l et = updates-refused (withdraw n) start t t′ e h o q (λ c held b. withdraw-missing b n (o .denies q) (number-sought b f refl) (omega (arith, l))) refl et
+
+    pub withdraw-accepted : {i k st hs : ℕ} {u : Update} → 1 ≤ s → (w′ : Words) → WithdrawDone n s (lent t start) w′ i k st hs → u ≡ Done (pos i) (pos k) (pos st) (pos hs) → t′ ≡ take start t ++ (w′ ++ drop (length t - start) (drop start t)) → Updates (withdraw n) start t t′ u
+    withdraw-accepted {i} {k} {st} {hs} l w′ g eu et =
+        updates-done (withdraw n) start t t′ e h o q w′ et (g .kept)
+        (λ c held b p.
+            let (updated, count) = g .done c held b f l in
+            follows-withdrawn start t n (withdraw-clear b n (o .denies q) (number-sought b f refl) (λ x. omega (arith, x, l))) (subst (λ (v : Words). Updated v c held (leave n (plainOffers held)) k st hs) (sym p) updated) count eu)
