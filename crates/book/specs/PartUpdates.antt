@@ -1,6 +1,5 @@
 -- A post and a withdrawal on the words lent from a book's start on: what the code's parts promise of them, and put together.
-use mathlib.Core.Path.{_≡_, refl, sym, _∙_, ap, subst}
-use mathlib.Core.Logic.{_≢_}
+use mathlib.Core.Path.{_≡_, refl, _∙_, ap, subst}
 use mathlib.Core.Bool.{Bool, true, false}
 use mathlib.Core.List.{List, [], _∷_, List·Memᴰ, List·Memᴰ·not-nil}
 use mathlib.Core.Option.{Option}
@@ -8,7 +7,6 @@ use Prim.Native.Nat.{ℕ, suc, _+_, _*_, _-_, _≤_, _<_}
 use native.Mathlib.Omega.{arith}
 use lib.ListN.{length}
 use lib.IntN.{ℤ, pos}
-use Rattle.offers.specs.Offers.{Offer}
 use Rattle.plain.specs.Causes.{Cause, causeNumber}
 use Rattle.plain.specs.Book.{Call, post, withdraw, join, leave, rangeTrials, trials, step}
 use Rattle.plain.specs.Rules.{FirstOf}
@@ -135,9 +133,10 @@ module _ (n r : ℤ) (w : Words) {root s : ℕ} (er : root ≡ upTo 8192 (word w
           record {
             declines = λ z c held b g q. absurd (omega (arith, q));
             clears = λ z c held b g q.
-                let room : length (bookLines held) < c = omega (arith, h, em, ei, b .capacity, count-read b) in
-                (post-clear b n r z g (number-sought b f er) (omega (arith, low)) (rate-sought b d ex) (omega (arith, least)) room,
-                 postable n r z b g (number-sought b f er) (omega (arith, low)) (rate-sought b d ex) (omega (arith, least)) room);
+                let room : length (bookLines held) < c = omega (arith, h, em, ei, b .capacity, count-read b) in (
+                  post-clear b n r z g (number-sought b f er) (omega (arith, low)) (rate-sought b d ex) (omega (arith, least)) room,
+                  postable n r z b g (number-sought b f er) (omega (arith, low)) (rate-sought b d ex) (omega (arith, least)) room,
+                );
           }
 
 -- a post that is not declined: m offers are live after it
@@ -156,11 +155,12 @@ pub posted-part :
 posted-part n r z {w} {w₁} {w₂} {w₃} {w₄} {w′} {s} {root} {root′} {x} {e} {x′} {e′} {i} {m} er ex ee ei es e₁ added e₃ joined em e′′ =
     record {
       kept = then (then (then (then (then (then (kept-filling n r z s w) (kept-same e₁)) (kept-within (added .within))) (then (kept-header w₂ 4 (pos root′) (omega arith) (omega arith)) (kept-same e₃))) (kept-joined joined)) (kept-rooting x′ e′ m w₄)) (kept-same e′′);
-      done = λ c held b new.
-          (post-done (record { number = n; rate = r; base = z }) b new
+      done = λ c held b new. (
+        post-done (record { number = n; rate = r; base = z }) b new
             (record { slot = es; take = refl; put-number = refl; put-rate = refl; put-base = e₁; numbers-root = er; added = added; rooted = e₃; offers-root = ex; envelope-root = ee; joined = joined; set-root = refl; set-envelope = refl; set-count = e′′ })
             (omega (arith, em, ei, count-read b)),
-           omega (arith, em, ei, count-read b));
+        omega (arith, em, ei, count-read b),
+      );
     }
 
 -- ---- withdraw

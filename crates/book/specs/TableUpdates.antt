@@ -1,31 +1,30 @@
 -- A post and a withdrawal on a lent table: what the code's guards and its work on the part promise, put together.
 use mathlib.Core.Path.{_≡_, refl, sym, _∙_, ap, subst}
 use mathlib.Core.Bool.{Bool, true, false, not}
-use mathlib.Core.List.{List, [], _∷_, _++_}
+use mathlib.Core.List.{List, _++_}
 use mathlib.Core.Option.{Option}
-use Prim.Native.Nat.{ℕ, suc, _+_, _*_, _-_, _≤_, _<_}
+use Prim.Native.Nat.{ℕ, _+_, _-_, _≤_, _<_}
 use native.Mathlib.Omega.{arith}
 use lib.ListN.{length, take, drop, length-drop}
 use lib.Dec.{T}
-use lib.IntN.{ℤ, pos, natAbs}
+use lib.IntN.{ℤ, pos}
 use Rattle.offers.specs.Offers.{numberInRange, rateInRange, baseInRange}
-use Rattle.plain.specs.Causes.{Cause, causeNumber, noBook, numberOutOfRange, rateOutOfRange, baseOutOfRange}
-use Rattle.plain.specs.Book.{Call, post, withdraw, join, leave, rangeTrials, noBookAt, partLength, step}
+use Rattle.plain.specs.Causes.{Cause, causeNumber, numberOutOfRange, rateOutOfRange, baseOutOfRange}
+use Rattle.plain.specs.Book.{Call, post, withdraw, join, leave, noBookAt, partLength, step}
 use Rattle.plain.specs.Rules.{FirstOf, at-once, further}
 use Rattle.plain.specs.Sound.{Clear}
 use Rattle.dynamic.specs.OfferTree.{Held}
 use Rattle.table.specs.Words.{Words, word, upTo}
-use Rattle.table.specs.Layout.{cap}
 use Rattle.table.specs.Items.{Item}
 use Rattle.update.specs.Form.{Book, plainOffers}
 use Rattle.numbers.specs.Numbers.{FoundNumber}
 use Rattle.book.specs.declared.Update.{Update}
 use Rattle.book.specs.declared.Update.the-variants.{Done, Declined}
-use Rattle.book.specs.Promises.{partOf, plainOf, capacityAt, tableTrials, OnlyPart, Updates, Follows}
+use Rattle.book.specs.Promises.{partOf, plainOf, tableTrials, OnlyPart, Updates, Follows}
 use Rattle.book.specs.Sought.{number-sought}
-use Rattle.book.specs.Plainly.{refusing, There, cap-there, table-declined, withdraw-missing, withdraw-clear}
+use Rattle.book.specs.Plainly.{refusing, cap-there, table-declined, withdraw-missing, withdraw-clear}
 use Rattle.book.specs.Following.{follows-declined, follows-posted, follows-withdrawn}
-use Rattle.book.specs.Parts.{Beyond, part-back, only-part, whole-part, lent-back, said, denied, book-cap}
+use Rattle.book.specs.Parts.{part-back, only-part, whole-part, lent-back, said, denied, book-cap}
 use Rattle.book.specs.Opens.{one-cause, not-clear}
 use Rattle.book.specs.Posting.{Updated}
 use Rattle.book.specs.PartUpdates.{OutOfRange, Kept, PostCause, PostDone, WithdrawDone}
@@ -127,9 +126,9 @@ module _ (start : ℕ) (t t′ : List ℤ) {b d : Bool} (e : b ≡ noBookAt (len
     post-accepted {i} {k} {st} {hs} l w′ g eu et =
         updates-done (post n r z) start t t′ e h o q w′ et (g .kept)
         (λ c held b p.
-            let (clear, new) = cause .clears z c held b (o .denies q) l in
-            let (updated, count) = g .done c held b new in
-            follows-posted start t n r z clear (subst (λ (v : Words). Updated v c held (join (record { number = n; rate = r; base = z }) (plainOffers held)) k st hs) (sym p) updated) count eu)
+        let (clear, new) = cause .clears z c held b (o .denies q) l in
+        let (updated, count) = g .done c held b new in
+        follows-posted start t n r z clear (subst (λ (v : Words). Updated v c held (join (record { number = n; rate = r; base = z }) (plainOffers held)) k st hs) (sym p) updated) count eu)
 
   module _ (n : ℤ) (o : OutOfRange (withdraw n) d) (q : d ≡ false) {s : ℕ} (f : FoundNumber n (upTo 8192 (word (lent t start) 4)) (lent t start) s) where
     pub withdraw-refused : s < 1 → t′ ≡ t → Updates (withdraw n) start t t′ (Declined (pos 8))
@@ -139,5 +138,5 @@ module _ (start : ℕ) (t t′ : List ℤ) {b d : Bool} (e : b ≡ noBookAt (len
     withdraw-accepted {i} {k} {st} {hs} l w′ g eu et =
         updates-done (withdraw n) start t t′ e h o q w′ et (g .kept)
         (λ c held b p.
-            let (updated, count) = g .done c held b f l in
-            follows-withdrawn start t n (withdraw-clear b n (o .denies q) (number-sought b f refl) (λ x. omega (arith, x, l))) (subst (λ (v : Words). Updated v c held (leave n (plainOffers held)) k st hs) (sym p) updated) count eu)
+        let (updated, count) = g .done c held b f l in
+        follows-withdrawn start t n (withdraw-clear b n (o .denies q) (number-sought b f refl) (λ x. omega (arith, x, l))) (subst (λ (v : Words). Updated v c held (leave n (plainOffers held)) k st hs) (sym p) updated) count eu)

@@ -1,21 +1,17 @@
 // The carrier book in a lent table: open, post, withdraw, query, listing, check.
 ghost use mathlib.Core.Path.{_≡_};
 ghost use mathlib.Core.Bool.{not};
-ghost use Prim.Native.Nat.{_+_, _*_, _≤_};
+ghost use Prim.Native.Nat.{_+_, _*_, _-_, _≤_};
 ghost use lib.ListN.{length};
 ghost use Rattle.offers.specs.Offers.{between};
-ghost use Rattle.plain.specs.Book.{noBookAt};
-ghost use Rattle.table.specs.Words.{word};
-ghost use Rattle.book.specs.Promises.{partOf, Opens};
+ghost use Rattle.plain.specs.Book.{post, withdraw, noBookAt};
+ghost use Rattle.table.specs.Words.{word, upTo};
+ghost use Rattle.book.specs.Promises.{partOf, Opens, Updates};
 ghost use Rattle.book.specs.Opens.{Heading, Lays, Starts};
-ghost use Prim.Native.Nat.{_-_};
 ghost use lib.IntN.{pos};
-ghost use Rattle.plain.specs.Book.{post, withdraw};
-ghost use Rattle.table.specs.Words.{upTo};
 ghost use Rattle.table.specs.Free.{firstFree};
 ghost use Rattle.numbers.specs.Numbers.{FoundNumber};
 ghost use Rattle.book.specs.declared.Update.the-variants.{Done};
-ghost use Rattle.book.specs.Promises.{Updates};
 ghost use Rattle.book.specs.Joining.{Joined};
 ghost use Rattle.book.specs.PartUpdates.{filling, rooting, OutOfRange, PostCause, PostDone, WithdrawDone};
 
@@ -136,7 +132,12 @@ struct Told {
 fn done(live: u32, k: u32, s: u32, h: u32) -> Update
     ensures { λ r. ⌜ r ≡ Done (pos live) (pos k) (pos s) (pos h) ⌝ }
 {
-    Update::Done { live: live as i64, k: k as i64, s: s as i64, h: h as i64 }
+    Update::Done {
+        live: live as i64,
+        k: k as i64,
+        s: s as i64,
+        h: h as i64,
+    }
 }
 
 // An offer's value out of range.
@@ -188,7 +189,13 @@ fn join_in(part: &mut [i64], x: u32, e: u32, s: u32) -> update::Made
     ensures { λ r. ⌜ Joined s x e (now (part .entry)) (now (part .exit)) (r .x) (r .e) (r .k) (r .s) (r .h) ⌝ }
 {
     if x < 1 {
-        return update::Made { x: s, e: s, k: 0, s: 0, h: 0 };
+        return update::Made {
+            x: s,
+            e: s,
+            k: 0,
+            s: 0,
+            h: 0,
+        };
     }
     update::insert(part, x, e, s)
 }
@@ -216,7 +223,12 @@ fn post_part(part: &mut [i64], number: i64, rate: i64, base: i64) -> Told
     let m = join_in(part, x, e, s);
     let live = n + 1;
     set_roots(part, m.x, m.e, live);
-    Told { live: live, k: m.k, s: m.s, h: m.h }
+    Told {
+        live: live,
+        k: m.k,
+        s: m.s,
+        h: m.h,
+    }
 }
 
 // Posts an offer to the book at `start`.
@@ -269,7 +281,12 @@ fn withdraw_part(part: &mut [i64], number: i64, s: u32) -> Told
     let live = one_less(n);
     set_roots(part, m.x, m.e, live);
     slots::give_slot(part, s);
-    Told { live: live, k: m.k, s: m.s, h: m.h }
+    Told {
+        live: live,
+        k: m.k,
+        s: m.s,
+        h: m.h,
+    }
 }
 
 // Withdraws an offer from the book at `start`.

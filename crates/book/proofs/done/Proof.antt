@@ -1,4 +1,4 @@
--- `book::done` meets its contract.
+-- `book::done` meets its contract: the counts as 64-bit numbers.
 use mathlib.Core.Path.{_≡_, refl}
 use native.Mathlib.Omega.{arith}
 use lib.IntN.{pos}
@@ -22,7 +22,7 @@ cast-t8 : tie.Need-cast-t8
 cast-t8 c = search needs
 
 returns : tie.Need-returns
-returns c = 
+returns c =
     let v : toZ w64 (c .args .live) ≡ pos (c .args .live) = toZ-pos w64 (omega (arith, c .fits .live)) in
     let k : toZ w64 (c .args .k) ≡ pos (c .args .k) = toZ-pos w64 (omega (arith, c .fits .k)) in
     let s : toZ w64 (c .args .s) ≡ pos (c .args .s) = toZ-pos w64 (omega (arith, c .fits .s)) in

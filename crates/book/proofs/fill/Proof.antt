@@ -1,4 +1,4 @@
--- `book::fill` meets its contract.
+-- `book::fill` meets its contract: a slot taken, and three fields written one after another.
 use mir.Facts.{toZ-ofZ}
 use Rattle.book.specs.PartUpdates.{filled-in}
 use borrow.Author.Needs.{needs}

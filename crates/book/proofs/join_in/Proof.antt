@@ -1,4 +1,4 @@
--- `book::join_in` meets its contract.
+-- `book::join_in` meets its contract: alone, or inserted.
 use mathlib.Core.Path.{refl}
 use native.Mathlib.Omega.{arith}
 use Rattle.book.specs.Joining.{Joined, joins-alone, joins-among}

@@ -1,4 +1,4 @@
--- `book::live_slot` meets its contract.
+-- `book::live_slot` meets its contract: a search from the root of the numbers.
 use mir.Facts.{toZ-ofZ}
 use Rattle.book.specs.PartUpdates.{found-at}
 use borrow.Author.Needs.{needs}

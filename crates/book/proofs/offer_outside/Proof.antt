@@ -1,4 +1,4 @@
--- `book::offer_outside` meets its contract.
+-- `book::offer_outside` meets its contract: by the three ranges, in the order of the trials.
 use mir.Facts.{toZ-ofZ}
 use Rattle.book.specs.TableUpdates.{number-out, rate-out, base-out}
 use borrow.Author.Needs.{needs}

@@ -1,4 +1,4 @@
--- `book::post` meets its contract.
+-- `book::post` meets its contract: by its guards, and then what a post does to the part.
 use mathlib.Core.Path.{_≡_, refl}
 use native.Mathlib.Omega.{arith}
 use lib.IntN.{pos}
@@ -50,7 +50,7 @@ same-length-3 : tie.Need-same-length-3
 same-length-3 c = search needs
 
 returns-3 : tie.Need-returns-3
-returns-3 c = 
+returns-3 c =
     let v : toZ w64 (c .before .post-cause .result) ≡ pos (c .before .post-cause .result) = toZ-pos w64 (omega (arith, c .before .post-cause .ok)) in
     post-refused _ _ _ (c .before .before .before .before .before .before .before .no-book .ensures) (c .before .before .before .before .before .before .if1 .left) _ _ _ (simp (toZ-ofZ, c .before .before .before .before .before .before .before .before .before .fits .number, c .before .before .before .before .before .before .before .before .before .fits .rate, c .before .before .before .before .before .before .before .before .before .fits .base) at (c .before .before .before .before .before .offer-outside .ensures)) (c .before .before .before .before .if2 .left) (simp (toZ-ofZ, c .before .before .before .before .before .before .before .before .before .fits .number, c .before .before .before .before .before .before .before .before .before .fits .rate) at (c .before .post-cause .ensures)) (c .if3 .taken) (simp v refl) refl
 
@@ -76,7 +76,7 @@ same-length-4 : tie.Need-same-length-4
 same-length-4 c = search needs
 
 returns-4 : tie.Need-returns-4
-returns-4 c = 
+returns-4 c =
     let f = c .before .before .before .before .before .before .before .before .before .before .before .before .before .fits in
     post-accepted _ _ _ (c .before .before .before .before .before .before .before .before .before .before .before .no-book .ensures) (c .before .before .before .before .before .before .before .before .before .before .if1 .left) _ _ _ (simp (toZ-ofZ, c .before .before .before .before .before .before .before .before .before .before .before .before .before .fits .number, c .before .before .before .before .before .before .before .before .before .before .before .before .before .fits .rate, c .before .before .before .before .before .before .before .before .before .before .before .before .before .fits .base) at (c .before .before .before .before .before .before .before .before .before .offer-outside .ensures)) (c .before .before .before .before .before .before .before .before .if2 .left) (simp (toZ-ofZ, c .before .before .before .before .before .before .before .before .before .before .before .before .before .fits .number, c .before .before .before .before .before .before .before .before .before .before .before .before .before .fits .rate) at (c .before .before .before .before .before .post-cause .ensures)) (c .before .before .before .before .if3 .left) _ (simp (toZ-ofZ, f .number, f .rate, f .base) at (c .before .before .post-part .ensures)) (c .done .ensures) refl
 

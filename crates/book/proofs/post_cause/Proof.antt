@@ -1,4 +1,4 @@
--- `book::post_cause` meets its contract.
+-- `book::post_cause` meets its contract: by its two searches and the live count.
 use mir.Facts.{toZ-ofZ}
 use Rattle.book.specs.PartUpdates.{cause-number, cause-rate, cause-full, cause-none}
 use borrow.Author.Needs.{needs}

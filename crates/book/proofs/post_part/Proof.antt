@@ -1,4 +1,4 @@
--- `book::post_part` meets its contract.
+-- `book::post_part` meets its contract: the writes of a post, in the order of the code.
 use native.Mathlib.Omega.{arith}
 use mir.Facts.{toZ-ofZ}
 use Rattle.book.specs.PartUpdates.{read-most, posted-part}
@@ -40,7 +40,7 @@ same-length : tie.Need-same-length
 same-length c = search needs
 
 returns : tie.Need-returns
-returns c = 
+returns c =
     let f = c .before .before .before .before .before .before .before .before .before .before .before .before .before .before .before .before .before .before .before .before .before .before .before .fits in
     posted-part _ _ _ (c .before .before .before .before .before .before .before .before .before .before .before .before .before .before .before .before .before .before .before .before .before .number-at .ensures) (c .before .before .before .before .before .before .before .before .before .before .before .before .before .before .before .before .before .before .before .number-at2 .ensures) (c .before .before .before .before .before .before .before .before .before .before .before .before .before .before .before .before .before .number-at3 .ensures) (c .before .before .before .before .before .before .before .before .before .before .before .before .before .before .before .number-at4 .ensures) (c .before .before .before .before .before .before .before .before .before .before .before .before .before .fill .ensures .0)
     (simp (toZ-ofZ, f .number, f .rate, f .base) at (c .before .before .before .before .before .before .before .before .before .before .before .before .before .fill .ensures .1))

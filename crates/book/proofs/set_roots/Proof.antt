@@ -1,4 +1,4 @@
--- `book::set_roots` meets its contract.
+-- `book::set_roots` meets its contract: three words written one after another.
 use Rattle.book.specs.PartUpdates.{rooted-in}
 use borrow.Author.Needs.{needs}
 use Rattle.book.proofs.set_roots.Statement.{statement}

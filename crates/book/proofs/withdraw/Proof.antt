@@ -1,4 +1,4 @@
--- `book::withdraw` meets its contract.
+-- `book::withdraw` meets its contract: by its guards, and then what a withdrawal does to the part.
 use mathlib.Core.Path.{refl}
 use native.Mathlib.Omega.{arith}
 use mir.Facts.{toZ-ofZ}

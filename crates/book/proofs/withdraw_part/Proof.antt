@@ -1,4 +1,4 @@
--- `book::withdraw_part` meets its contract.
+-- `book::withdraw_part` meets its contract: the writes of a withdrawal, in the order of the code.
 use mir.Facts.{toZ-ofZ}
 use Rattle.book.specs.PartUpdates.{withdrawn-part}
 use borrow.Author.Needs.{needs}
