@@ -14,3 +14,5 @@ pub mod Withdrawing
 pub mod Opening
 pub mod Following
 pub mod Calls
+pub mod Parts
+pub mod Opens
