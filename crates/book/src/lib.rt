@@ -6,8 +6,10 @@ ghost use lib.ListN.{length};
 ghost use Rattle.offers.specs.Offers.{between};
 ghost use Rattle.plain.specs.Book.{noBookAt};
 ghost use Rattle.table.specs.Words.{word};
-ghost use Rattle.book.specs.Promises.{partOf, Opens};
+ghost use Rattle.book.specs.Promises.{partOf, Opens, Queries, Lists};
 ghost use Rattle.book.specs.Opens.{Heading, Lays, Starts};
+ghost use Rattle.book.specs.Asking.{Answered};
+ghost use Rattle.book.specs.Showing.{Shown};
 
 // What opening answers: the book is empty and open, or the number of the cause for which it was declined.
 pub enum Opening {
@@ -32,7 +34,7 @@ pub enum Found {
 }
 
 // What a listing answers: how many pieces it wrote, three words each.
-pub enum Listing {
+pub enum Listed {
     Pieces(i64),
     Declined(i64),
 }
@@ -112,4 +114,59 @@ pub fn open(table: &mut [i64], start: usize, capacity: i64) -> Opening
     }
     start_book(&mut table[start..], c);
     Opening::Opened
+}
+
+// The answer of a part for a load in range.
+fn answer(part: &[i64], load: i64) -> Found
+    ensures { λ r. ⌜ Answered load (now (part .entry)) r ⌝ }
+{
+    let root = table::number_at(part, 2, 8192);
+    if root == 0 {
+        return Found::Declined(9);
+    }
+    let probe = query::descend(part, root, load);
+    let slot = probe.slot;
+    let number = table::get(part, 0, slot);
+    let price = query::price(part, slot, load);
+    Found::Offer {
+        number: number,
+        price: price,
+        probes: probe.probes as i64,
+    }
+}
+
+// The first in order among the cheapest at a load, its price, and the probes.
+pub fn query(table: &[i64], start: usize, load: i64) -> Found
+    ensures { λ r. ⌜ Queries load start (now (table .entry)) r ⌝ }
+{
+    if no_book(table, start) {
+        return Found::Declined(3);
+    }
+    if outside(-1_000_000, 1_000_000, load) {
+        return Found::Declined(4);
+    }
+    answer(&table[start..], load)
+}
+
+// The pieces of a part.
+fn show(part: &[i64], out: &mut [i64]) -> Listed
+    ensures { λ r. ⌜ Shown (now (part .entry)) (now (out .entry)) (now (out .exit)) r ⌝ }
+{
+    let room = out.len();
+    let root = table::number_at(part, 2, 8192);
+    let n = query::write(part, root, out);
+    if room < 3 * (n as usize) {
+        return Listed::Declined(10);
+    }
+    Listed::Pieces(n as i64)
+}
+
+// Number, numerator, denominator a piece of the lower envelope, from the first word of the output on.
+pub fn listing(table: &[i64], start: usize, out: &mut [i64]) -> Listed
+    ensures { λ r. ⌜ Lists start (now (table .entry)) (now (out .entry)) (now (out .exit)) r ⌝ }
+{
+    if no_book(table, start) {
+        return Listed::Declined(3);
+    }
+    show(&table[start..], out)
 }
