@@ -16,3 +16,4 @@ pub mod Following
 pub mod Calls
 pub mod Parts
 pub mod Opens
+pub mod Asking

@@ -21,6 +21,7 @@ use Rattle.table.specs.Words.{Words, word}
 use Rattle.table.specs.Items.{Item}
 use Rattle.pieces.specs.Pieces.{items}
 use Rattle.update.specs.Form.{Book, plainOffers}
+use Rattle.query.specs.Lookup.{LeafAt}
 use Rattle.book.specs.declared.Opening.{Opening}
 use Rattle.book.specs.declared.Opening.the-variants.{Opened, Declined as OpeningDeclined}
 use Rattle.book.specs.declared.Update.{Update}
@@ -99,12 +100,6 @@ pub record Updates (k : Call) (start : ℕ) (t t′ : List ℤ) (r : Update) : T
   pub follows : (c : ℕ) (held : Option (Held Item)) → Book (partOf t start) c held → Follows k c held start t t′ r
 
 -- ---- query
-
--- the item stands at a leaf at that depth
-pub data LeafAt (a : Item) : ℕ → Tree Item → Type 0 where
-  here : LeafAt a zero (leaf a)
-  in-left : {d : ℕ} {l r : Tree Item} → LeafAt a d l → LeafAt a (suc d) (node l r)
-  in-right : {d : ℕ} {l r : Tree Item} → LeafAt a d r → LeafAt a (suc d) (node l r)
 
 -- the root's piece tree has a leaf at the depth of the probes, with the offer named
 abbrev pub ProbesIn : Option (Held Item) → ℤ → ℤ → Type 0

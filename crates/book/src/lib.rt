@@ -6,7 +6,8 @@ ghost use lib.ListN.{length};
 ghost use Rattle.offers.specs.Offers.{between};
 ghost use Rattle.plain.specs.Book.{noBookAt};
 ghost use Rattle.table.specs.Words.{word};
-ghost use Rattle.book.specs.Promises.{partOf, Opens};
+ghost use Rattle.book.specs.Promises.{partOf, Opens, Queries};
+ghost use Rattle.book.specs.Asking.{Asks};
 ghost use Rattle.book.specs.Opens.{Heading, Lays, Starts};
 
 // What opening answers: the book is empty and open, or the number of the cause for which it was declined.
@@ -112,4 +113,37 @@ pub fn open(table: &mut [i64], start: usize, capacity: i64) -> Opening
     }
     start_book(&mut table[start..], c);
     Opening::Opened
+}
+
+// The cheapest offer at a load, on the part's own words.
+fn ask(part: &[i64], load: i64) -> Found
+    ensures { λ r. ⌜ Asks load (now (part .entry)) r ⌝ }
+{
+    if table::number_at(part, 3, 8192) < 1 {
+        return Found::Declined(9);
+    }
+    let root = table::number_at(part, 2, 8192);
+    let p = query::descend(part, root, load);
+    let slot = p.slot;
+    let probes = p.probes;
+    let number = table::get(part, 0, slot);
+    let price = query::price(part, slot, load);
+    Found::Offer {
+        number: number,
+        price: price,
+        probes: probes as i64,
+    }
+}
+
+// The cheapest offer at a load, the first in order of several.
+pub fn query(table: &[i64], start: usize, load: i64) -> Found
+    ensures { λ r. ⌜ Queries load start (now (table .entry)) r ⌝ }
+{
+    if no_book(table, start) {
+        return Found::Declined(3);
+    }
+    if outside(-1_000_000, 1_000_000, load) {
+        return Found::Declined(4);
+    }
+    ask(&table[start..], load)
 }
