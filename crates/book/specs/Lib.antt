@@ -16,6 +16,6 @@ pub mod Following
 pub mod Calls
 pub mod Parts
 pub mod Opens
-pub mod Rooted
 pub mod Asking
+pub mod Rooted
 pub mod Showing

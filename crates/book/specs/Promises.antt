@@ -6,13 +6,14 @@ use mathlib.Core.Bool.{Bool, true}
 use mathlib.Core.Logic.{_↔_}
 use mathlib.Core.List.{List, [], _∷_, _++_, List·Memᴰ}
 use mathlib.Core.Option.{Option, none, some}
-use Prim.Native.Nat.{ℕ, _+_, _*_}
+use Prim.Native.Nat.{ℕ, zero, suc, _+_, _*_, _≤_, max}
 use lib.ListN.{length, take, drop}
 use lib.IntN.{ℤ, pos, natAbs}
 use Rattle.plain.specs.Causes.{Cause, noBook, Trial, _when_, causeNumber}
 use Rattle.plain.specs.Book.{State, Call, post, withdraw, query, listing, Answer, refused, live, found, listed, opened, openTrials, rangeTrials, noBookAt, partLength, step}
 use Rattle.plain.specs.Rules.{FirstOf}
 use Rattle.plain.specs.Sound.{Clear}
+use Rattle.trees.specs.Tree.{Tree, leaf, node}
 use Rattle.trees.specs.Operations.{Part}
 use Rattle.dynamic.specs.OfferTree.{Held, Pair}
 use Rattle.dynamic.specs.Work.{Work, stepsOf, heightsOf}
@@ -101,13 +102,9 @@ pub record Updates (k : Call) (start : ℕ) (t t′ : List ℤ) (r : Update) : T
 -- ---- query
 
 -- the root's piece tree has a leaf at the depth of the probes, with the offer named
-abbrev pub ProbesAt : ℤ → ℤ → Part Item → Type 0
-ProbesAt number probes none = ⊥
-ProbesAt number probes (some t) = (a : Item) × LeafAt a (natAbs probes) t × (a .offer .number ≡ number) × (probes ≡ pos (natAbs probes))
-
 abbrev pub ProbesIn : Option (Held Item) → ℤ → ℤ → Type 0
 ProbesIn none number probes = ⊥
-ProbesIn (some h) number probes = ProbesAt number probes (h .whole)
+ProbesIn (some h) number probes = elim (h .whole) [ none ↦ ⊥ | some t ↦ (a : Item) × LeafAt a (natAbs probes) t × (a .offer .number ≡ number) × (probes ≡ pos (natAbs probes)) ]
 
 abbrev pub Probes : Option (Held Item) → Found → Type 0
 Probes held (Offer number price probes) = ProbesIn held number probes

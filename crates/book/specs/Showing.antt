@@ -1,18 +1,17 @@
 -- A listing's answer on a part, and on a table, by what the code counts and writes.
 use mathlib.Core.Path.{_≡_, refl, sym, _∙_, ap, subst}
-use mathlib.Core.Bool.{Bool, true, false, not}
+use mathlib.Core.Bool.{Bool, true, false}
 use mathlib.Core.List.{List, [], _∷_, _++_, map}
 use mathlib.Core.Option.{Option, none, some}
 use Prim.Native.Nat.{ℕ, _*_, _-_, _≤_, _<_}
 use native.Mathlib.Omega.{arith}
 use lib.ListN.{length, take, drop, length-map}
 use lib.Seq.{take-at, drop-at}
-use lib.Dec.{T}
 use lib.IntN.{ℤ, pos}
 use Rattle.envelopes.specs.Envelope.{Ordered, Ordered·nil}
 use Rattle.envelopes.specs.Small.{env-nil}
-use Rattle.plain.specs.Causes.{Cause, noBook, causeNumber}
-use Rattle.plain.specs.Book.{listing, Answer, Outcome, listed, refused, pieceWords, noBookAt, step}
+use Rattle.plain.specs.Causes.{noBook}
+use Rattle.plain.specs.Book.{listing, Outcome, listed, refused, pieceWords, noBookAt, step}
 use Rattle.plain.specs.Rules.{FirstOf, at-once, words-length}
 use Rattle.trees.specs.Tree.{leaves}
 use Rattle.dynamic.specs.OfferTree.{Held}
@@ -26,9 +25,9 @@ use Rattle.query.specs.Listing.{Written}
 use Rattle.book.specs.Promises.{partOf, plainOf, tableTrials, listingAnswer, writtenWords, Lists}
 use Rattle.book.specs.Live.{live-whole, whole-ordered}
 use Rattle.book.specs.Plainly.{table-declined}
-use Rattle.book.specs.Parts.{whole-part}
+use Rattle.book.specs.Parts.{whole-part, said, denied}
 use Rattle.book.specs.Rooted.{Root, bare, topped, root-of}
-use Rattle.book.specs.Asking.{one-first, first-clear}
+use Rattle.book.specs.Opens.{one-cause, not-clear}
 use Rattle.book.specs.declared.Listed.{Listed}
 use Rattle.book.specs.declared.Listed.the-variants.{Pieces, Declined}
 
@@ -94,20 +93,20 @@ module _ (start : ℕ) (t out : List ℤ) {no : Bool} (e : no ≡ noBookAt (leng
   pub listing-no-book : no ≡ true → Lists start t out out (Declined (pos 3))
   listing-no-book d =
       record {
-        declined = λ z g. (ap (λ (x : Cause). Declined (pos (causeNumber x))) (one-first none-there g), refl);
+        declined = λ z g. (ap (λ (n : ℕ). Declined (pos n)) (sym (one-cause none-there g)), refl);
         long = refl;
         answers = λ c held b. sym (ap (λ (o : Outcome). o .answer) (table-declined start t (listing (length out)) b none-there));
         later = λ c held b. refl;
       }
     where
       none-there : FirstOf (tableTrials t start (listing (length out))) noBook
-      none-there = at-once (subst T (sym d ∙ e) tt)
+      none-there = at-once (said e d)
 
   pub listing-done : {out′ : List ℤ} {r : Listed} → no ≡ false → Shown (take (length t - start) (drop start t)) out out′ r → Lists start t out out′ r
   listing-done {out′} {r} d k =
       let s : Shown (partOf t start) out out′ r = subst (λ (w : Words). Shown w out out′ r) (whole-part t start) k in
       record {
-        declined = λ z f. absurd (first-clear (tableTrials t start (listing (length out))) (subst (λ (b : Bool). T (not b)) (sym d ∙ e) tt, tt) f);
+        declined = λ z f. absurd (not-clear f (denied e d, tt));
         long = s .long;
         answers = s .answers;
         later = s .later;

@@ -7,8 +7,8 @@ ghost use Rattle.offers.specs.Offers.{between};
 ghost use Rattle.plain.specs.Book.{noBookAt};
 ghost use Rattle.table.specs.Words.{word};
 ghost use Rattle.book.specs.Promises.{partOf, Opens, Queries, Lists};
+ghost use Rattle.book.specs.Asking.{Asks};
 ghost use Rattle.book.specs.Opens.{Heading, Lays, Starts};
-ghost use Rattle.book.specs.Asking.{Answered};
 ghost use Rattle.book.specs.Showing.{Shown};
 
 // What opening answers: the book is empty and open, or the number of the cause for which it was declined.
@@ -116,26 +116,27 @@ pub fn open(table: &mut [i64], start: usize, capacity: i64) -> Opening
     Opening::Opened
 }
 
-// The answer of a part for a load in range.
-fn answer(part: &[i64], load: i64) -> Found
-    ensures { λ r. ⌜ Answered load (now (part .entry)) r ⌝ }
+// The cheapest offer at a load, on the part's own words.
+fn ask(part: &[i64], load: i64) -> Found
+    ensures { λ r. ⌜ Asks load (now (part .entry)) r ⌝ }
 {
-    let root = table::number_at(part, 2, 8192);
-    if root == 0 {
+    if table::number_at(part, 3, 8192) < 1 {
         return Found::Declined(9);
     }
-    let probe = query::descend(part, root, load);
-    let slot = probe.slot;
+    let root = table::number_at(part, 2, 8192);
+    let p = query::descend(part, root, load);
+    let slot = p.slot;
+    let probes = p.probes;
     let number = table::get(part, 0, slot);
     let price = query::price(part, slot, load);
     Found::Offer {
         number: number,
         price: price,
-        probes: probe.probes as i64,
+        probes: probes as i64,
     }
 }
 
-// The first in order among the cheapest at a load, its price, and the probes.
+// The cheapest offer at a load, the first in order of several.
 pub fn query(table: &[i64], start: usize, load: i64) -> Found
     ensures { λ r. ⌜ Queries load start (now (table .entry)) r ⌝ }
 {
@@ -145,7 +146,7 @@ pub fn query(table: &[i64], start: usize, load: i64) -> Found
     if outside(-1_000_000, 1_000_000, load) {
         return Found::Declined(4);
     }
-    answer(&table[start..], load)
+    ask(&table[start..], load)
 }
 
 // The pieces of a part.

@@ -1,6 +1,6 @@
 -- `book::listing` meets its contract: by its guard, and then what the part shows.
 use native.Mathlib.Omega.{arith}
-use Rattle.book.specs.Asking.{begins-inside}
+use Rattle.book.specs.Parts.{book-start}
 use Rattle.book.specs.Showing.{listing-no-book, listing-done}
 use borrow.Author.Needs.{needs}
 use Rattle.book.proofs.listing.Statement.{statement}
@@ -13,13 +13,13 @@ returns : tie.Need-returns
 returns c = listing-no-book (c .before .before .args .start) (c .before .before .args .table .now) (c .before .before .args .out .now) (c .before .no-book .ensures) (c .if1 .taken)
 
 mul-show : tie.Need-mul-show
-mul-show c = omega (arith, begins-inside (c .before .before .args .start) (c .before .before .args .table .now) (c .before .no-book .ensures) (c .if1 .left))
+mul-show c = omega (arith, book-start (c .before .before .args .table .now) (c .before .before .args .start) (c .before .no-book .ensures) (c .if1 .left))
 
 sub-show : tie.Need-sub-show
-sub-show c = omega (arith, begins-inside (c .before .before .args .start) (c .before .before .args .table .now) (c .before .no-book .ensures) (c .if1 .left))
+sub-show c = omega (arith, book-start (c .before .before .args .table .now) (c .before .before .args .start) (c .before .no-book .ensures) (c .if1 .left))
 
 part-show-start : tie.Need-part-show-start
-part-show-start c = omega (arith, begins-inside (c .before .before .args .start) (c .before .before .args .table .now) (c .before .no-book .ensures) (c .if1 .left))
+part-show-start c = omega (arith, book-start (c .before .before .args .table .now) (c .before .before .args .start) (c .before .no-book .ensures) (c .if1 .left))
 
 part-show-end : tie.Need-part-show-end
 part-show-end c = search needs

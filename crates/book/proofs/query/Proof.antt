@@ -1,7 +1,7 @@
--- `book::query` meets its contract: by its guards, and then what the part answers.
-use native.Mathlib.Omega.{arith}
+-- `book::query` meets its contract: by its guards, and then the answer on the part.
 use mir.Facts.{toZ-ofZ}
-use Rattle.book.specs.Asking.{begins-inside, query-no-book, query-off, query-done}
+use Rattle.book.specs.Parts.{book-start}
+use Rattle.book.specs.Asking.{queries-none, queries-range, queries-asked}
 use borrow.Author.Needs.{needs}
 use Rattle.book.proofs.query.Statement.{statement}
 use Rattle.book.proofs.query.Tie as tie
@@ -10,31 +10,31 @@ no-book-requires : tie.Need-no-book-requires
 no-book-requires c κs = search needs
 
 returns : tie.Need-returns
-returns c = query-no-book (c .before .before .args .load) (c .before .before .args .start) (c .before .before .args .table .now) (c .before .no-book .ensures) (c .if1 .taken)
+returns c = queries-none (c .before .before .args .load) (c .before .before .args .table .now) (c .before .before .args .start) (c .before .no-book .ensures) (c .if1 .taken)
 
 outside-requires : tie.Need-outside-requires
 outside-requires c κs = search needs
 
 returns-2 : tie.Need-returns-2
-returns-2 c = query-off (c .before .before .before .before .args .load) (c .before .before .before .before .args .start) (c .before .before .before .before .args .table .now) (c .before .before .before .no-book .ensures) (c .before .before .if1 .left) (simp (toZ-ofZ, c .before .before .before .before .fits .load) at (c .before .outside .ensures)) (c .if2 .taken)
+returns-2 c = queries-range (c .before .before .before .before .args .load) (c .before .before .before .before .args .table .now) (c .before .before .before .before .args .start) (c .before .before .before .no-book .ensures) (c .before .before .if1 .left) (simp (toZ-ofZ, c .before .before .before .before .fits .load) at (c .before .outside .ensures)) (c .if2 .taken)
 
-mul-answer : tie.Need-mul-answer
-mul-answer c = omega (arith, begins-inside (c .before .before .before .before .args .start) (c .before .before .before .before .args .table .now) (c .before .before .before .no-book .ensures) (c .before .before .if1 .left))
+mul-ask : tie.Need-mul-ask
+mul-ask c = let h = book-start (c .before .before .before .before .args .table .now) (c .before .before .before .before .args .start) (c .before .before .before .no-book .ensures) (c .before .before .if1 .left) in search needs
 
-sub-answer : tie.Need-sub-answer
-sub-answer c = omega (arith, begins-inside (c .before .before .before .before .args .start) (c .before .before .before .before .args .table .now) (c .before .before .before .no-book .ensures) (c .before .before .if1 .left))
+sub-ask : tie.Need-sub-ask
+sub-ask c = let h = book-start (c .before .before .before .before .args .table .now) (c .before .before .before .before .args .start) (c .before .before .before .no-book .ensures) (c .before .before .if1 .left) in search needs
 
-part-answer-start : tie.Need-part-answer-start
-part-answer-start c = omega (arith, begins-inside (c .before .before .before .before .args .start) (c .before .before .before .before .args .table .now) (c .before .before .before .no-book .ensures) (c .before .before .if1 .left))
+part-ask-start : tie.Need-part-ask-start
+part-ask-start c = let h = book-start (c .before .before .before .before .args .table .now) (c .before .before .before .before .args .start) (c .before .before .before .no-book .ensures) (c .before .before .if1 .left) in search needs
 
-part-answer-end : tie.Need-part-answer-end
-part-answer-end c = search needs
+part-ask-end : tie.Need-part-ask-end
+part-ask-end c = search needs
 
-answer-requires : tie.Need-answer-requires
-answer-requires c κs = search needs
+ask-requires : tie.Need-ask-requires
+ask-requires c κs = search needs
 
 returns-3 : tie.Need-returns-3
-returns-3 c = query-done (c .before .before .before .before .before .before .args .load) (c .before .before .before .before .before .before .args .start) (c .before .before .before .before .before .before .args .table .now) (c .before .before .before .before .before .no-book .ensures) (c .before .before .before .before .if1 .left) (simp (toZ-ofZ, c .before .before .before .before .before .before .fits .load) at (c .before .before .before .outside .ensures)) (c .before .before .if2 .left) (simp (toZ-ofZ, c .before .before .before .before .before .before .fits .load) at (c .answer .ensures))
+returns-3 c = queries-asked (c .before .before .before .before .before .before .args .load) (c .before .before .before .before .before .before .args .table .now) (c .before .before .before .before .before .before .args .start) (c .before .before .before .before .before .no-book .ensures) (c .before .before .before .before .if1 .left) (simp (toZ-ofZ, c .before .before .before .before .before .before .fits .load) at (c .before .before .before .outside .ensures)) (c .before .before .if2 .left) (simp (toZ-ofZ, c .before .before .before .before .before .before .fits .load) at (c .ask .ensures))
 
 pub query-spec : {M : Type 1} → statement M
 query-spec =
@@ -44,9 +44,9 @@ query-spec =
     returns
     outside-requires
     returns-2
-    mul-answer
-    sub-answer
-    part-answer-start
-    part-answer-end
-    answer-requires
+    mul-ask
+    sub-ask
+    part-ask-start
+    part-ask-end
+    ask-requires
     returns-3)
