@@ -14,3 +14,8 @@ pub mod Withdrawing
 pub mod Opening
 pub mod Following
 pub mod Calls
+pub mod Parts
+pub mod Opens
+pub mod Asking
+pub mod Rooted
+pub mod Showing

@@ -23,13 +23,13 @@ use Rattle.plain.specs.Rules.{FirstOf, at-once, further, step-declined}
 use Rattle.dynamic.specs.OfferTree.{Held}
 use Rattle.dynamic.specs.Valid.{bookLines}
 use Rattle.table.specs.Words.{Words, word, upTo}
-use Rattle.table.specs.Layout.{cap}
+use Rattle.table.specs.Layout.{cap, cap-most}
 use Rattle.table.specs.Items.{Item}
 use Rattle.pieces.specs.Pieces.{rateOf}
 use Rattle.update.specs.Form.{Book, numberOf, plainOffers}
 use Rattle.book.specs.Promises.{partOf, plainOf, tableTrials}
 use Rattle.book.specs.Live.{offerOf, live-slots}
-use Rattle.book.specs.Sought.{Sought, sought-item, sought-none, keyed-any, keyed-none, capacity-most}
+use Rattle.book.specs.Sought.{Sought, sought-item, sought-none, keyed-any, keyed-none}
 
 -- ---- trials one behind the other
 
@@ -128,17 +128,14 @@ or-no true b p q t = p t
 or-no false b p q t = q t
 
 -- cause 3 does not apply
-pub book-there : (start : ℕ) (t : List ℤ) {c : ℕ} {held : Option (Held Item)} → Book (partOf t start) c held → T (not (noBookAt (length t) start (word (partOf t start) 0)))
-book-there start t {c} b = subst (λ (z : ℤ). T (not (noBookAt (length t) start z))) (sym (there .first)) (not-T (noBookAt (length t) start (pos c)) no-cause)
+pub cap-book : (start : ℕ) (t : List ℤ) {c : ℕ} → cap (partOf t start) ≡ c → 1 ≤ c → T (not (noBookAt (length t) start (word (partOf t start) 0)))
+cap-book start t {c} e low = subst (λ (z : ℤ). T (not (noBookAt (length t) start z))) (sym (there .first)) (not-T (noBookAt (length t) start (pos c)) no-cause)
   where
     there : There (partOf t start) c
-    there = cap-there (partOf t start) (b .capacity) (b .some-slot)
-
-    low : 1 ≤ c
-    low = b .some-slot
+    there = cap-there (partOf t start) e low
 
     high : c ≤ 4096
-    high = capacity-most b
+    high = omega (arith, e, cap-most (partOf t start))
 
     long : 64 * (c + 1) ≤ length t - start
     long = omega (arith, there .room, length-drop start t)
@@ -150,6 +147,9 @@ book-there start t {c} b = subst (λ (z : ℤ). T (not (noBookAt (length t) star
         (or-no (ltb (length t) start) _ (λ q. omega (arith, long, ltb→lt (length t) start q)) (λ q. omega (arith, low, long, ltb→lt (length t - start) 128 q)))
         (λ q. T-not (between (pos 1) (pos 4_096) (pos c)) q (both (leZ (pos 1) (pos c)) (leZ (pos c) (pos 4_096)) (omega (arith, intRules, low)) (omega (arith, intRules, high)))))
         (λ q. omega (arith, long, ltb→lt (length t - start) (partLength c) q))
+
+pub book-there : (start : ℕ) (t : List ℤ) {c : ℕ} {held : Option (Held Item)} → Book (partOf t start) c held → T (not (noBookAt (length t) start (word (partOf t start) 0)))
+book-there start t b = cap-book start t (b .capacity) (b .some-slot)
 
 -- so the trials on words of any content decide for the plain book
 pub table-declined : (start : ℕ) (t : List ℤ) (k : Call) {c : ℕ} {held : Option (Held Item)} {z : Cause} → Book (partOf t start) c held → FirstOf (tableTrials t start k) z → step (plainOf c held) k ≡ refusing (plainOf c held) (causeNumber z)
