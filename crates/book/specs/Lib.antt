@@ -17,3 +17,4 @@ pub mod Calls
 pub mod Parts
 pub mod Opens
 pub mod Asking
+pub mod Acting
