@@ -3,7 +3,8 @@ use mathlib.Core.Path.{_≡_, refl, sym, _∙_, ap, subst}
 use mathlib.Core.Bool.{Bool, false, not}
 use mathlib.Core.List.{List, _++_}
 use mathlib.Core.Option.{Option}
-use Prim.Native.Nat.{ℕ, _+_, _-_, _≤_}
+use Prim.Native.Nat.{ℕ, _+_, _-_, _≤_, _<_}
+use native.Mathlib.Omega.{arith}
 use lib.ListN.{length, take, drop}
 use lib.Dec.{T}
 use lib.IntN.{ℤ, pos, natAbs}
@@ -12,8 +13,9 @@ use Rattle.plain.specs.Book.{Call, noBookAt, partLength, rangeTrials}
 use Rattle.plain.specs.Rules.{FirstOf}
 use Rattle.plain.specs.Sound.{Clear}
 use Rattle.dynamic.specs.OfferTree.{Held}
-use Rattle.table.specs.Words.{Words, word}
-use Rattle.table.specs.Layout.{cap}
+use Rattle.table.specs.Words.{Words, word, wset, wset-length, wset-other}
+use Rattle.table.specs.Layout.{cap, cset, beyond-outside, header-cap}
+use Rattle.table.specs.Rep.{Within, within-cap, within-cset}
 use Rattle.table.specs.Items.{Item}
 use Rattle.update.specs.Form.{Book}
 use Rattle.book.specs.declared.Update.{Update}
@@ -68,3 +70,27 @@ module _ (k : Call) (t : List ℤ) (start : ℕ) where
               work = f .work;
               counts = f .counts;
             }
+
+-- ---- the words past the part, write by write
+
+pub beyond-trans : {c : ℕ} {w w′ w″ : Words} → Beyond c w w′ → Beyond c w′ w″ → Beyond c w w″
+beyond-trans f g = record { long = g .long ∙ f .long; rest = λ i h. g .rest i h ∙ f .rest i h }
+
+-- the capacity stays, and the words past the part do
+pub record Keeps (w w′ : Words) : Type 0 where
+  pub room : cap w′ ≡ cap w
+  pub beyond : Beyond (cap w) w w′
+
+pub keeps-trans : {w w′ w″ : Words} → Keeps w w′ → Keeps w′ w″ → Keeps w w″
+keeps-trans {w} {w′} {w″} f g = record { room = g .room ∙ f .room; beyond = beyond-trans (f .beyond) (subst (λ (c : ℕ). Beyond c w′ w″) (f .room) (g .beyond)) }
+
+pub keeps-within : {w w′ : Words} → Within w w′ → Keeps w w′
+keeps-within {w} g = record { room = within-cap g; beyond = record { long = g .long; rest = λ i h. g .rest i (beyond-outside w h) } }
+
+pub keeps-cset : {w w′ : Words} (f s : ℕ) (z : ℤ) → w′ ≡ cset w f s z → Keeps w w′
+keeps-cset {w} {w′} f s z e = subst (Keeps w) (sym e) (keeps-within (within-cset w f s z))
+
+pub keeps-header : {w w′ : Words} (i : ℕ) (z : ℤ) → 1 ≤ i → i < 64 → w′ ≡ wset w i z → Keeps w w′
+keeps-header {w} {w′} i z low high e =
+    subst (Keeps w) (sym e)
+    (record { room = header-cap w i z low high; beyond = record { long = wset-length w i z; rest = λ j h. wset-other w i j z (λ q. omega (arith, q, h, high)) } })
