@@ -18,3 +18,4 @@ pub mod Parts
 pub mod Opens
 pub mod Asking
 pub mod Acting
+pub mod Keeping
