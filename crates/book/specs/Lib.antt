@@ -19,3 +19,5 @@ pub mod Opens
 pub mod Asking
 pub mod Rooted
 pub mod Showing
+pub mod Acting
+pub mod Keeping
