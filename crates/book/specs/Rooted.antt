@@ -1,5 +1,5 @@
 -- What the root's envelope is in a part that has the form: none in an empty book, and else a balanced tree of pieces.
-use mathlib.Core.Path.{_≡_, refl, sym, _∙_, ap, subst}
+use mathlib.Core.Path.{_≡_, refl, sym, _∙_, subst}
 use mathlib.Core.List.{List}
 use mathlib.Core.Option.{Option, none, some}
 use Prim.Native.Nat.{ℕ}
@@ -13,9 +13,7 @@ use Rattle.dynamic.specs.Lower.{valid-env}
 use Rattle.dynamic.specs.Raise.{some-piece}
 use Rattle.table.specs.Words.{Words, word, upTo}
 use Rattle.table.specs.Items.{Item}
-use Rattle.table.specs.Rep.{refOf}
-use Rattle.pieces.specs.Pieces.{items, item-laws, partRef, Standing}
-use Rattle.update.specs.Stored.{HeldIn}
+use Rattle.pieces.specs.Pieces.{items, item-laws, Standing}
 use Rattle.update.specs.Frames.{whole-standing}
 use Rattle.update.specs.Form.{Book, OffersIn, envelopeRef}
 use Rattle.query.specs.Pieces.{Pieces}
