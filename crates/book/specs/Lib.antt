@@ -16,5 +16,10 @@ pub mod Following
 pub mod Calls
 pub mod Parts
 pub mod Opens
+pub mod Asking
+pub mod Rooted
+pub mod Showing
+pub mod Acting
+pub mod Keeping
 pub mod PartUpdates
 pub mod TableUpdates

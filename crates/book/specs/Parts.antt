@@ -81,6 +81,16 @@ told-is (pos n) t =
     (upTo-in 4096 n (omega (arith, intRules, high)), omega (arith, intRules, low), omega (arith, intRules, high))
 told-is (negsuc n) t = absurd (one-of-both (leZ (pos 1) (negsuc n)) (leZ (negsuc n) (pos 4_096)) t)
 
+-- where there is a book, its part begins within the table
+pub book-start : (t : List ℤ) (start : ℕ) {b : Bool} → b ≡ noBookAt (length t) start (word (partOf t start) 0) → b ≡ false → start ≤ length t
+book-start t start e h = go (word (partOf t start) 0) (denied e h)
+  where
+    go : (z : ℤ) → T (not (noBookAt (length t) start z)) → start ≤ length t
+    go z k =
+        let x = neither (ltb (length t) start || ltb (length t - start) 128 || not (between (pos 1) (pos 4_096) z)) (ltb (length t - start) (partLength (natAbs z))) k in
+        let y = neither (ltb (length t) start || ltb (length t - start) 128) (not (between (pos 1) (pos 4_096) z)) (x .0) in
+        nltb→le (length t) start (neither (ltb (length t) start) (ltb (length t - start) 128) (y .0) .0)
+
 -- the capacity told, where the first word is in range and its part is not cut short
 capacity-is : (w : Words) (z : ℤ) → word w 0 ≡ z → T (between (pos 1) (pos 4_096) z) → partLength (natAbs z) ≤ length w → (cap w ≡ natAbs z) × (1 ≤ natAbs z)
 unfolding cap

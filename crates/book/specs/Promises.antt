@@ -21,14 +21,15 @@ use Rattle.table.specs.Words.{Words, word}
 use Rattle.table.specs.Items.{Item}
 use Rattle.pieces.specs.Pieces.{items}
 use Rattle.update.specs.Form.{Book, plainOffers}
+use Rattle.query.specs.Lookup.{LeafAt}
 use Rattle.book.specs.declared.Opening.{Opening}
 use Rattle.book.specs.declared.Opening.the-variants.{Opened, Declined as OpeningDeclined}
 use Rattle.book.specs.declared.Update.{Update}
 use Rattle.book.specs.declared.Update.the-variants.{Done, Declined as UpdateDeclined}
 use Rattle.book.specs.declared.Found.{Found}
 use Rattle.book.specs.declared.Found.the-variants.{Offer, Declined as FoundDeclined}
-use Rattle.book.specs.declared.Listing.{Listing}
-use Rattle.book.specs.declared.Listing.the-variants.{Pieces, Declined as ListingDeclined}
+use Rattle.book.specs.declared.Listed.{Listed}
+use Rattle.book.specs.declared.Listed.the-variants.{Pieces, Declined as ListingDeclined}
 
 -- ---- the part of a table
 
@@ -65,7 +66,7 @@ foundAnswer (Offer number price probes) = found number price
 foundAnswer (FoundDeclined c) = refused (natAbs c)
 
 -- with the words that the output then begins with
-abbrev pub listingAnswer : Listing → List ℤ → Answer
+abbrev pub listingAnswer : Listed → List ℤ → Answer
 listingAnswer (Pieces m) out = listed (natAbs m) (take (3 * natAbs m) out)
 listingAnswer (ListingDeclined c) out = refused (natAbs c)
 
@@ -100,12 +101,6 @@ pub record Updates (k : Call) (start : ℕ) (t t′ : List ℤ) (r : Update) : T
 
 -- ---- query
 
--- the item stands at a leaf at that depth
-pub data LeafAt (a : Item) : ℕ → Tree Item → Type 0 where
-  here : LeafAt a zero (leaf a)
-  in-left : {d : ℕ} {l r : Tree Item} → LeafAt a d l → LeafAt a (suc d) (node l r)
-  in-right : {d : ℕ} {l r : Tree Item} → LeafAt a d r → LeafAt a (suc d) (node l r)
-
 -- the root's piece tree has a leaf at the depth of the probes, with the offer named
 abbrev pub ProbesIn : Option (Held Item) → ℤ → ℤ → Type 0
 ProbesIn none number probes = ⊥
@@ -128,7 +123,7 @@ writtenWords (live n) = 0
 writtenWords (found n p) = 0
 writtenWords (listed m ws) = length ws
 
-pub record Lists (start : ℕ) (t out out′ : List ℤ) (r : Listing) : Type 0 where
+pub record Lists (start : ℕ) (t out out′ : List ℤ) (r : Listed) : Type 0 where
   pub declined : (z : Cause) → FirstOf (tableTrials t start (listing (length out))) z → (r ≡ ListingDeclined (pos (causeNumber z))) × (out′ ≡ out)
   pub long : length out′ ≡ length out
   pub answers : (c : ℕ) (held : Option (Held Item)) → Book (partOf t start) c held → listingAnswer r out′ ≡ step (plainOf c held) (listing (length out)) .answer

@@ -4,16 +4,18 @@ ghost use mathlib.Core.Bool.{not};
 ghost use Prim.Native.Nat.{_+_, _*_, _-_, _≤_};
 ghost use lib.ListN.{length};
 ghost use Rattle.offers.specs.Offers.{between};
+ghost use lib.IntN.{pos};
 ghost use Rattle.plain.specs.Book.{post, withdraw, noBookAt};
 ghost use Rattle.table.specs.Words.{word, upTo};
-ghost use Rattle.book.specs.Promises.{partOf, Opens, Updates};
-ghost use Rattle.book.specs.Opens.{Heading, Lays, Starts};
-ghost use lib.IntN.{pos};
 ghost use Rattle.table.specs.Free.{firstFree};
 ghost use Rattle.numbers.specs.Numbers.{FoundNumber};
 ghost use Rattle.book.specs.declared.Update.the-variants.{Done};
+ghost use Rattle.book.specs.Promises.{partOf, Opens, Updates, Queries, Lists};
+ghost use Rattle.book.specs.Asking.{Asks};
 ghost use Rattle.book.specs.Joining.{Joined};
+ghost use Rattle.book.specs.Opens.{Heading, Lays, Starts};
 ghost use Rattle.book.specs.PartUpdates.{filling, rooting, OutOfRange, PostCause, PostDone, WithdrawDone};
+ghost use Rattle.book.specs.Showing.{Shown};
 
 // What opening answers: the book is empty and open, or the number of the cause for which it was declined.
 pub enum Opening {
@@ -38,7 +40,7 @@ pub enum Found {
 }
 
 // What a listing answers: how many pieces it wrote, three words each.
-pub enum Listing {
+pub enum Listed {
     Pieces(i64),
     Declined(i64),
 }
@@ -305,4 +307,60 @@ pub fn withdraw(table: &mut [i64], start: usize, number: i64) -> Update
     }
     let told = withdraw_part(&mut table[start..], number, s);
     done(told.live, told.k, told.s, told.h)
+}
+
+// The cheapest offer at a load, on the part's own words.
+fn ask(part: &[i64], load: i64) -> Found
+    ensures { λ r. ⌜ Asks load (now (part .entry)) r ⌝ }
+{
+    if table::number_at(part, 3, 8192) < 1 {
+        return Found::Declined(9);
+    }
+    let root = table::number_at(part, 2, 8192);
+    let p = query::descend(part, root, load);
+    let slot = p.slot;
+    let probes = p.probes;
+    let number = table::get(part, 0, slot);
+    let price = query::price(part, slot, load);
+    Found::Offer {
+        number: number,
+        price: price,
+        probes: probes as i64,
+    }
+}
+
+// The cheapest offer at a load, the first in order of several.
+pub fn query(table: &[i64], start: usize, load: i64) -> Found
+    ensures { λ r. ⌜ Queries load start (now (table .entry)) r ⌝ }
+{
+    if no_book(table, start) {
+        return Found::Declined(3);
+    }
+    if outside(-1_000_000, 1_000_000, load) {
+        return Found::Declined(4);
+    }
+    ask(&table[start..], load)
+}
+
+// The pieces of a part.
+fn show(part: &[i64], out: &mut [i64]) -> Listed
+    ensures { λ r. ⌜ Shown (now (part .entry)) (now (out .entry)) (now (out .exit)) r ⌝ }
+{
+    let room = out.len();
+    let root = table::number_at(part, 2, 8192);
+    let n = query::write(part, root, out);
+    if room < 3 * (n as usize) {
+        return Listed::Declined(10);
+    }
+    Listed::Pieces(n as i64)
+}
+
+// Number, numerator, denominator a piece of the lower envelope, from the first word of the output on.
+pub fn listing(table: &[i64], start: usize, out: &mut [i64]) -> Listed
+    ensures { λ r. ⌜ Lists start (now (table .entry)) (now (out .entry)) (now (out .exit)) r ⌝ }
+{
+    if no_book(table, start) {
+        return Listed::Declined(3);
+    }
+    show(&table[start..], out)
 }

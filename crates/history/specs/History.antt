@@ -11,7 +11,7 @@ use Rattle.dynamic.specs.OfferTree.{Held}
 use Rattle.table.specs.Items.{Item}
 use Rattle.book.specs.declared.Update.{Update}
 use Rattle.book.specs.declared.Found.{Found}
-use Rattle.book.specs.declared.Listing.{Listing}
+use Rattle.book.specs.declared.Listed.{Listed}
 use Rattle.update.specs.Form.{Book, plainOffers}
 use Rattle.book.specs.Local.{Alike}
 use Rattle.book.specs.Promises.{partOf, Updates, Follows, Queries, Probes, Lists, updateAnswer, foundAnswer, listingAnswer, plainOf}
@@ -21,7 +21,7 @@ pub data Happens (start : ℕ) (t : List ℤ) : Call → List ℤ → Answer →
   by-post : {t′ : List ℤ} {a : Answer} (n r b : ℤ) (u : Update) → Updates (post n r b) start t t′ u → a ≡ updateAnswer u → Happens start t (post n r b) t′ a
   by-withdraw : {t′ : List ℤ} {a : Answer} (n : ℤ) (u : Update) → Updates (withdraw n) start t t′ u → a ≡ updateAnswer u → Happens start t (withdraw n) t′ a
   by-query : {t′ : List ℤ} {a : Answer} (q : ℤ) (f : Found) → Queries q start t f → t′ ≡ t → a ≡ foundAnswer f → Happens start t (query q) t′ a
-  by-listing : {t′ : List ℤ} {a : Answer} {room : ℕ} (out out′ : List ℤ) (l : Listing) → Lists start t out out′ l → room ≡ length out → t′ ≡ t → a ≡ listingAnswer l out′ → Happens start t (listing room) t′ a
+  by-listing : {t′ : List ℤ} {a : Answer} {room : ℕ} (out out′ : List ℤ) (l : Listed) → Lists start t out out′ l → room ≡ length out → t′ ≡ t → a ≡ listingAnswer l out′ → Happens start t (listing room) t′ a
 
 -- A list of calls with their answers, from the words `t` to the words `t′`.
 pub data History (c start : ℕ) : List ℤ → List Call → List Answer → List ℤ → Type 0 where

@@ -1,0 +1,113 @@
+-- A listing's answer on a part, and on a table, by what the code counts and writes.
+use mathlib.Core.Path.{_≡_, refl, sym, _∙_, ap, subst}
+use mathlib.Core.Bool.{Bool, true, false}
+use mathlib.Core.List.{List, [], _++_, map}
+use mathlib.Core.Option.{Option, none}
+use Prim.Native.Nat.{ℕ, _*_, _-_, _≤_, _<_}
+use native.Mathlib.Omega.{arith}
+use lib.ListN.{length, take, drop, length-map}
+use lib.Seq.{take-at, drop-at}
+use lib.IntN.{ℤ, pos}
+use Rattle.envelopes.specs.Envelope.{Ordered, Ordered·nil}
+use Rattle.envelopes.specs.Small.{env-nil}
+use Rattle.plain.specs.Causes.{noBook}
+use Rattle.plain.specs.Book.{listing, Outcome, listed, refused, pieceWords, noBookAt, step}
+use Rattle.plain.specs.Rules.{FirstOf, at-once, words-length}
+use Rattle.trees.specs.Tree.{leaves}
+use Rattle.dynamic.specs.OfferTree.{Held}
+use Rattle.dynamic.specs.Valid.{bookLines}
+use Rattle.table.specs.Words.{Words, word, upTo}
+use Rattle.table.specs.Items.{Item}
+use Rattle.pieces.specs.Pieces.{items}
+use Rattle.update.specs.Form.{Book}
+use Rattle.query.specs.Plain.{offerOf, listing-plain, listing-short}
+use Rattle.query.specs.Listing.{Written}
+use Rattle.book.specs.Promises.{partOf, plainOf, tableTrials, listingAnswer, writtenWords, Lists}
+use Rattle.book.specs.Live.{live-whole, whole-ordered}
+use Rattle.book.specs.Plainly.{table-declined}
+use Rattle.book.specs.Parts.{whole-part, said, denied}
+use Rattle.book.specs.Rooted.{Root, bare, topped, root-of}
+use Rattle.book.specs.Opens.{one-cause, not-clear}
+use Rattle.book.specs.declared.Listed.{Listed}
+use Rattle.book.specs.declared.Listed.the-variants.{Pieces, Declined}
+
+-- ---- on a part
+
+pub record Shown (w : Words) (out out′ : List ℤ) (r : Listed) : Type 0 where
+  pub long : length out′ ≡ length out
+  pub answers : (c : ℕ) (held : Option (Held Item)) → Book w c held → listingAnswer r out′ ≡ step (plainOf c held) (listing (length out)) .answer
+  pub later : (c : ℕ) (held : Option (Held Item)) → Book w c held → drop (writtenWords (listingAnswer r out′)) out′ ≡ drop (writtenWords (listingAnswer r out′)) out
+
+-- the output begins with the words of these pieces, and goes on as before
+record Laid (n : ℕ) (out out′ : List ℤ) (es : List Item) : Type 0 where
+  count : n ≡ length es
+  words : out′ ≡ pieceWords (map offerOf es) ++ drop (3 * n) out
+
+module _ {n : ℕ} {out out′ : List ℤ} {es : List Item} (l : Laid n out out′ es) where
+  size : length (pieceWords (map offerOf es)) ≡ 3 * n
+  size = omega (arith, words-length (map offerOf es), length-map es offerOf, l .count)
+
+  begins : take (3 * n) out′ ≡ pieceWords (map offerOf es)
+  begins = ap (take (3 * n)) (l .words) ∙ take-at (pieceWords (map offerOf es)) (drop (3 * n) out) (3 * n) size
+
+  laid-answer : listed n (take (3 * n) out′) ≡ listed (length es) (pieceWords (map offerOf es))
+  laid-answer = ap (listed n) begins ∙ ap (λ (m : ℕ). listed m (pieceWords (map offerOf es))) (l .count)
+
+  laid-later : drop (length (take (3 * n) out′)) out′ ≡ drop (length (take (3 * n) out′)) out
+  laid-later =
+      subst (λ (k : ℕ). drop k out′ ≡ drop k out) (sym (ap length begins ∙ size))
+      (ap (drop (3 * n)) (l .words) ∙ drop-at (pieceWords (map offerOf es)) (drop (3 * n) out) (3 * n) size)
+
+book-ordered : {w : Words} {c : ℕ} {held : Option (Held Item)} → Book w c held → Ordered items (bookLines held)
+book-ordered {w} {c} {held} b = whole-ordered held (live-whole w held (b .offers))
+
+module _ {w : Words} {root n : ℕ} {out out′ : List ℤ} (e : root ≡ upTo 8192 (word w 2)) (k : Written w root out out′ n) where
+  -- too short an output
+  pub shown-short : length out < 3 * n → Shown w out out′ (Declined (pos 10))
+  shown-short h = record { long = k .long; answers = λ c held b. go c b (root-of b e); later = λ c held b. ap (drop 0) (k .short h) }
+    where
+      go : (c : ℕ) {held : Option (Held Item)} → Book w c held → Root w root held → refused 10 ≡ step (plainOf c held) (listing (length out)) .answer
+      go c b (bare z) = absurd (omega (arith, k .counted .none z))
+      go c {held} b (topped t f p) = sym (listing-short (plainOf c held) refl (book-ordered b) (p .env) (length out) (omega (arith, k .counted .is t (p .pieces) (p .balanced))))
+
+  -- every piece
+  pub shown-all : 3 * n ≤ length out → Shown w out out′ (Pieces (pos n))
+  shown-all h = record { long = k .long; answers = λ c held b. go c b (root-of b e); later = λ c held b. behind (root-of b e) }
+    where
+      nothing : root ≡ 0 → Laid n out out′ []
+      nothing z = record { count = k .counted .none z; words = k .none z ∙ ap (λ (m : ℕ). drop (3 * m) out) (sym (k .counted .none z)) }
+
+      go : (c : ℕ) {held : Option (Held Item)} → Book w c held → Root w root held → listed n (take (3 * n) out′) ≡ step (plainOf c held) (listing (length out)) .answer
+      go c {held} b (bare z) = laid-answer (nothing z) ∙ sym (listing-plain {ls = []} {es = []} (plainOf c none) refl Ordered·nil (env-nil items) (length out) (omega arith))
+      go c {held} b (topped t f p) =
+          let l : Laid n out out′ (leaves t) = record { count = k .counted .is t (p .pieces) (p .balanced); words = k .words t (p .pieces) (p .balanced) h } in
+          laid-answer l ∙ sym (listing-plain (plainOf c held) refl (book-ordered b) (p .env) (length out) (omega (arith, l .count)))
+
+      behind : {held : Option (Held Item)} → Root w root held → drop (length (take (3 * n) out′)) out′ ≡ drop (length (take (3 * n) out′)) out
+      behind (bare z) = laid-later {es = []} (nothing z)
+      behind (topped t f p) = laid-later {es = leaves t} (record { count = k .counted .is t (p .pieces) (p .balanced); words = k .words t (p .pieces) (p .balanced) h })
+
+-- ---- on a table
+
+module _ (start : ℕ) (t out : List ℤ) {no : Bool} (e : no ≡ noBookAt (length t) start (word (partOf t start) 0)) where
+  pub listing-no-book : no ≡ true → Lists start t out out (Declined (pos 3))
+  listing-no-book d =
+      record {
+        declined = λ z g. (ap (λ (n : ℕ). Declined (pos n)) (sym (one-cause none-there g)), refl);
+        long = refl;
+        answers = λ c held b. sym (ap (λ (o : Outcome). o .answer) (table-declined start t (listing (length out)) b none-there));
+        later = λ c held b. refl;
+      }
+    where
+      none-there : FirstOf (tableTrials t start (listing (length out))) noBook
+      none-there = at-once (said e d)
+
+  pub listing-done : {out′ : List ℤ} {r : Listed} → no ≡ false → Shown (take (length t - start) (drop start t)) out out′ r → Lists start t out out′ r
+  listing-done {out′} {r} d k =
+      let s : Shown (partOf t start) out out′ r = subst (λ (w : Words). Shown w out out′ r) (whole-part t start) k in
+      record {
+        declined = λ z f. absurd (not-clear f (denied e d, tt));
+        long = s .long;
+        answers = s .answers;
+        later = s .later;
+      }
