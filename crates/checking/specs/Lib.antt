@@ -1,0 +1,2 @@
+-- The check of a part: yes exactly when it has the form of a book.
+pub mod PieceTrees
