@@ -1,2 +1,3 @@
 -- The check of a part: yes exactly when it has the form of a book.
 pub mod PieceTrees
+pub mod BridgeTests
