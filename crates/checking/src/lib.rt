@@ -4,6 +4,12 @@ ghost use Prim.Native.Nat.{_≤_};
 ghost use lib.ListN.{length};
 ghost use Rattle.checking.specs.PieceTrees.{Matches};
 
+// What the walk over the offers answers: whether it went through, and the place behind the last piece of the envelope.
+pub struct Walked {
+    pub ok: bool,
+    pub next: usize,
+}
+
 // Node `q` of the pieces is the root of a threaded, balanced tree over the slots from place `from` up to `to`, or 0 where there are none.
 // Entries from 4,096 on are written.
 fn matches(part: &[i64], q: u32, scratch: &mut [u32; 8192], from: usize, to: usize) -> bool
