@@ -3,6 +3,7 @@ ghost use mathlib.Core.Path.{_≡_};
 ghost use Prim.Native.Nat.{_≤_};
 ghost use lib.ListN.{length};
 ghost use Rattle.checking.specs.PieceTrees.{Matches};
+ghost use Rattle.checking.specs.Merges.{Two, Refuses, Merges};
 
 // What the walk over the offers answers: whether it went through, and the place behind the last piece of the envelope.
 pub struct Walked {
@@ -34,4 +35,50 @@ fn matches(part: &[i64], q: u32, scratch: &mut [u32; 8192], from: usize, to: usi
         return false;
     }
     bridging::threaded(part, scratch, from, to)
+}
+
+fn refused() -> Walked
+    ensures { λ r. ⌜ Refuses r ⌝ }
+{
+    Walked { ok: false, next: 0 }
+}
+
+// Merges the pieces of the children of node `x`, from `at` up to `mid` and from there up to `to`, at its bridge. What is left of both
+// is compared with what stays with the children.
+fn merge(
+    part: &[i64],
+    x: u32,
+    scratch: &mut [u32; 8192],
+    at: usize,
+    mid: usize,
+    to: usize,
+) -> Walked
+    requires { ⌜ (length (now scratch) ≡ 8192) × Two at mid to ⌝ }
+    ensures { λ r. ⌜ Merges (now (part .entry)) x (now (scratch .entry)) (now (scratch .exit)) at mid to r ⌝ }
+{
+    let gap = table::inner_slot(x);
+    let i = matching::place(scratch, at, mid, table::link(part, 10, gap));
+    if mid <= i {
+        return refused();
+    }
+    let j = matching::place(scratch, mid, to, table::link(part, 11, gap));
+    if to <= j {
+        return refused();
+    }
+    if !bridging::bridges(part, scratch, at, mid, to, i, j) {
+        return refused();
+    }
+    let left = update::rest(part, table::child(part, 1, false, x));
+    if !matches(part, left, scratch, i + 1, mid) {
+        return refused();
+    }
+    let right = update::rest(part, table::child(part, 1, true, x));
+    if !matches(part, right, scratch, mid, j) {
+        return refused();
+    }
+    matching::shift(scratch, i + 1, j, to - j);
+    Walked {
+        ok: true,
+        next: i + 1 + (to - j),
+    }
 }
