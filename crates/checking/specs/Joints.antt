@@ -97,15 +97,15 @@ first-place w xs a b i o h k = record { at = λ n l m e. item-laws .before-irref
 -- ---- parts of a node
 
 -- the left and the right part of a node, and itself of a leaf
-half-left : Tree Item → Tree Item
+unfoldable pub half-left : Tree Item → Tree Item
 half-left (leaf a) = leaf a
 half-left (node s t) = s
 
-half-right : Tree Item → Tree Item
+unfoldable pub half-right : Tree Item → Tree Item
 half-right (leaf a) = leaf a
 half-right (node s t) = t
 
-no-leaf : {a : Item} {s t : Tree Item} → leaf a ≡ node s t → ⊥
+pub no-leaf : {a : Item} {s t : Tree Item} → leaf a ≡ node s t → ⊥
 no-leaf e = let z : _≡_ {A = ℕ} 0 1 = cc in omega arith
 
 -- ---- both children with their pieces

@@ -4,3 +4,4 @@ pub mod BridgeTests
 pub mod Stands
 pub mod Joints
 pub mod Merges
+pub mod OfferWalks

@@ -1,9 +1,11 @@
 // The check of a part: yes exactly when it has the form of a book. Any words are safe.
 ghost use mathlib.Core.Path.{_≡_};
-ghost use Prim.Native.Nat.{_≤_};
+ghost use Prim.Native.Nat.{ℕ, _≤_};
 ghost use lib.ListN.{length};
+ghost use Rattle.table.specs.Words.{Words};
 ghost use Rattle.checking.specs.PieceTrees.{Matches};
 ghost use Rattle.checking.specs.Merges.{Two, Refuses, Merges};
+ghost use Rattle.checking.specs.OfferWalks.{Walks};
 
 // What the walk over the offers answers: whether it went through, and the place behind the last piece of the envelope.
 pub struct Walked {
@@ -81,4 +83,55 @@ fn merge(
         ok: true,
         next: i + 1 + (to - j),
     }
+}
+
+// The envelope of leaf `x` is its own line.
+fn single(x: u32, scratch: &mut [u32; 8192], at: usize) -> Walked
+    requires { ⌜ length (now scratch) ≡ 8192 ⌝ }
+    ensures { λ r. ⌜ (x ≤ 4096 → (w : Words) (limit : ℕ) → Walks w x limit (now (scratch .entry)) (now (scratch .exit)) at r) ⌝ }
+{
+    if 4096 <= at {
+        return refused();
+    }
+    scratch[at] = x;
+    Walked {
+        ok: true,
+        next: at + 1,
+    }
+}
+
+// Walks the offers from node `x` on: both children, then the merge of their envelopes. The whole envelope of `x` is left from place `at`
+// on; what stands before that is not touched. `limit` bounds the tree's height.
+pub fn walk(part: &[i64], x: u32, scratch: &mut [u32; 8192], at: usize, limit: u32) -> Walked
+    requires { ⌜ length (now scratch) ≡ 8192 ⌝ }
+    ensures { λ r. ⌜ Walks (now (part .entry)) x limit (now (scratch .entry)) (now (scratch .exit)) at r ⌝ }
+{
+    if x <= 4096 {
+        return single(x, scratch, at);
+    }
+    if limit == 0 {
+        return refused();
+    }
+    let a = walk(
+        part,
+        table::child(part, 1, false, x),
+        scratch,
+        at,
+        limit - 1,
+    );
+    if !a.ok {
+        return a;
+    }
+    let mid = a.next;
+    let b = walk(
+        part,
+        table::child(part, 1, true, x),
+        scratch,
+        mid,
+        limit - 1,
+    );
+    if !b.ok {
+        return b;
+    }
+    merge(part, x, scratch, at, mid, b.next)
 }
