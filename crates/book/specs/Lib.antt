@@ -19,7 +19,5 @@ pub mod Opens
 pub mod Asking
 pub mod Rooted
 pub mod Showing
-pub mod Acting
-pub mod Keeping
 pub mod PartUpdates
 pub mod TableUpdates
