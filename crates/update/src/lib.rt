@@ -48,7 +48,7 @@ pub struct Count {
 }
 
 // The root of the pieces that stay with node `n`.
-fn rest(part: &[i64], n: u32) -> u32
+pub fn rest(part: &[i64], n: u32) -> u32
     ensures { λ r. ⌜ r ≡ restAt (now (part .entry)) n ⌝ }
 {
     if 4096 < n {

@@ -1,0 +1,83 @@
+-- Stretches of a scratch array: the numbers from one place up to another. Reading is total, so no bound on the array is asked.
+use mathlib.Core.Path.{_≡_, refl, sym, _∙_, ap, ap₂}
+use mathlib.Core.List.{List, [], _∷_, _++_, map, List·Memᴰ, List·Memᴰ·head, List·Memᴰ·tail}
+use Prim.Native.Nat.{ℕ, zero, suc, _+_, _-_, _≤_, _<_}
+use native.Mathlib.Decide.{decLe}
+use native.Mathlib.Omega.{arith}
+use lib.ListN.{length, getD, take, drop}
+
+-- n numbers from place a on
+unfoldable pub stretch : List ℕ → ℕ → ℕ → List ℕ
+stretch xs a zero = []
+stretch xs a (suc n) = getD xs a 0 ∷ stretch xs (suc a) n
+
+-- from place a up to place b
+abbrev pub span : List ℕ → ℕ → ℕ → List ℕ
+span xs a b = stretch xs a (b - a)
+
+pub stretch-length : (xs : List ℕ) (a n : ℕ) → length (stretch xs a n) ≡ n
+unfolding stretch
+stretch-length xs a zero = refl
+stretch-length xs a (suc n) = ap suc (stretch-length xs (suc a) n)
+
+pub stretch-at : (xs : List ℕ) (a n k d : ℕ) → k < n → getD (stretch xs a n) k d ≡ getD xs (a + k) 0
+unfolding stretch
+stretch-at xs a zero k d h = absurd (omega arith)
+stretch-at xs a (suc n) zero d h = ap (λ (i : ℕ). getD xs i 0) (omega arith)
+stretch-at xs a (suc n) (suc k) d h = stretch-at xs (suc a) n k d (omega arith) ∙ ap (λ (i : ℕ). getD xs i 0) (omega arith)
+
+-- two stretches that agree place by place
+pub stretch-same : (xs ys : List ℕ) (a b n : ℕ) → ((k : ℕ) → k < n → getD xs (a + k) 0 ≡ getD ys (b + k) 0) → stretch xs a n ≡ stretch ys b n
+unfolding stretch
+stretch-same xs ys a b zero f = refl
+stretch-same xs ys a b (suc n) f =
+    ap₂ _∷_ (here (f zero (omega arith))) (stretch-same xs ys (suc a) (suc b) n (λ k h. there k (f (suc k) (omega arith))))
+  where
+    here : getD xs (a + 0) 0 ≡ getD ys (b + 0) 0 → getD xs a 0 ≡ getD ys b 0
+    here e = let p : a + 0 ≡ a = omega arith in let q : b + 0 ≡ b = omega arith in rw (p, q) at e
+
+    there : (k : ℕ) → getD xs (a + suc k) 0 ≡ getD ys (b + suc k) 0 → getD xs (suc a + k) 0 ≡ getD ys (suc b + k) 0
+    there k e = let p : a + suc k ≡ suc a + k = omega arith in let q : b + suc k ≡ suc b + k = omega arith in rw (p, q) at e
+
+-- .. and only then
+pub stretch-agrees : (xs ys : List ℕ) (a b n : ℕ) → stretch xs a n ≡ stretch ys b n → (k : ℕ) → k < n → getD xs (a + k) 0 ≡ getD ys (b + k) 0
+stretch-agrees xs ys a b n e k h = sym (stretch-at xs a n k 0 h) ∙ ap (λ (zs : List ℕ). getD zs k 0) e ∙ stretch-at ys b n k 0 h
+
+pub stretch-add : (xs : List ℕ) (a m n : ℕ) → stretch xs a (m + n) ≡ stretch xs a m ++ stretch xs (a + m) n
+unfolding stretch
+stretch-add xs a zero n = let p : 0 + n ≡ n = omega arith in let q : a + 0 ≡ a = omega arith in rw (p, q)
+stretch-add xs a (suc m) n =
+    let p : suc m + n ≡ suc (m + n) = omega arith in
+    let q : a + suc m ≡ suc a + m = omega arith in
+    rw (p, q) (ap (λ (zs : List ℕ). getD xs a 0 ∷ zs) (stretch-add xs (suc a) m n))
+
+-- ---- by both ends
+
+module _ (xs : List ℕ) where
+  pub span-length : (a b : ℕ) → length (span xs a b) ≡ b - a
+  span-length a b = stretch-length xs a (b - a)
+
+  pub span-none : (a b : ℕ) → b ≤ a → span xs a b ≡ []
+  unfolding stretch
+  span-none a b h = let p : b - a ≡ 0 = omega arith in rw p
+
+  pub span-at : (a b k d : ℕ) → a + k < b → getD (span xs a b) k d ≡ getD xs (a + k) 0
+  span-at a b k d h = stretch-at xs a (b - a) k d (omega arith)
+
+  -- cut in two
+  pub span-cut : (a b c : ℕ) → a ≤ b → b ≤ c → span xs a c ≡ span xs a b ++ span xs b c
+  span-cut a b c h k =
+      let p : c - a ≡ (b - a) + (c - b) = omega arith in
+      let q : a + (b - a) ≡ b = omega arith in
+      rw (p, stretch-add xs a (b - a) (c - b), q)
+
+  pub span-cons : (a b : ℕ) → a < b → span xs a b ≡ getD xs a 0 ∷ span xs (suc a) b
+  unfolding stretch
+  span-cons a b h = let p : b - a ≡ suc (b - suc a) = omega arith in rw p
+
+  pub span-one : (a : ℕ) → span xs a (suc a) ≡ getD xs a 0 ∷ []
+  span-one a = span-cons a (suc a) (omega arith) ∙ ap (λ (zs : List ℕ). getD xs a 0 ∷ zs) (span-none (suc a) (suc a) (omega arith))
+
+-- two arrays that agree there
+pub span-same : (xs ys : List ℕ) (a b : ℕ) → ((i : ℕ) → a ≤ i → i < b → getD xs i 0 ≡ getD ys i 0) → span xs a b ≡ span ys a b
+span-same xs ys a b f = stretch-same xs ys a a (b - a) (λ k h. f (a + k) (omega arith) (omega arith))

@@ -1,0 +1,62 @@
+-- Answers that decide a statement, and statements of every place of a stretch.
+use mathlib.Core.Path.{_≡_, refl, sym, _∙_}
+use mathlib.Core.Bool.{Bool, true, false, _&&_, not, true≢false}
+use mathlib.Core.List.{List}
+use Prim.Native.Nat.{ℕ, suc, _+_, _-_, _≤_, _<_}
+use native.Mathlib.Decide.{decLt}
+use native.Mathlib.Omega.{arith}
+use lib.Dec.{T}
+use lib.ListN.{getD}
+
+-- the answer is yes exactly where P holds
+pub record Decides (b : Bool) (P : Type 0) : Type 0 where
+  pub sound : b ≡ true → P
+  pub complete : P → b ≡ true
+
+pub decides-yes : {P : Type 0} → P → Decides true P
+decides-yes p = record { sound = λ e. p; complete = λ q. refl }
+
+pub decides-no : {P : Type 0} → (P → ⊥) → Decides false P
+decides-no f = record { sound = λ e. absurd (true≢false (sym e)); complete = λ p. absurd (f p) }
+
+-- as another answer does
+pub decides-as : {b : Bool} {P Q : Type 0} → (P → Q) → (Q → P) → Decides b P → Decides b Q
+decides-as f g d = record { sound = λ e. f (d .sound e); complete = λ q. d .complete (g q) }
+
+pub is-true : (b : Bool) → b ≡ true → T b
+is-true true e = tt
+is-true false e = absurd (true≢false (sym e))
+
+pub true-is : (b : Bool) → T b → b ≡ true
+true-is true t = refl
+
+pub decides-test : (b : Bool) → Decides b (T b)
+decides-test b = record { sound = is-true b; complete = true-is b }
+
+pub decides-by : {a b : Bool} → a ≡ b → Decides a (T b)
+decides-by {a} {b} e = record { sound = λ q. is-true b (sym e ∙ q); complete = λ t. e ∙ true-is b t }
+
+-- ---- every place
+
+pub record Every (P : ℕ → Type 0) (a b : ℕ) : Type 0 where
+  pub at : (k : ℕ) → a ≤ k → k < b → P k
+
+module _ {P : ℕ → Type 0} where
+  pub every-none : {a b : ℕ} → b ≤ a → Every P a b
+  every-none h = record { at = λ k l m. absurd (omega arith) }
+
+  pub every-more : {a i : ℕ} → Every P a i → P i → Every P a (i + 1)
+  every-more {a} {i} e p = record { at = λ k l m. go k l (decLt k i) m }
+    where
+      go : (k : ℕ) → a ≤ k → Dec (k < i) → k < i + 1 → P k
+      go k l (yes h) m = e .at k l h
+      go k l (no h) m = let q : k ≡ i = omega arith in rw q p
+
+  pub every-less : {a b c : ℕ} → c ≤ b → Every P a b → Every P a c
+  every-less h e = record { at = λ k l m. e .at k l (omega arith) }
+
+-- ---- what the loops look for
+
+-- neighbours fall in a field
+abbrev pub Agree : List ℕ → ℕ → ℕ → ℕ → Type 0
+Agree xs a b n = Every (λ k. getD xs (a + k) 0 ≡ getD xs (b + k) 0) 0 n
