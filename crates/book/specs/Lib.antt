@@ -1,6 +1,7 @@
 -- The book in a lent table.
 pub mod Local
 pub mod Promises
+pub mod Numbered
 pub mod Live
 pub mod Sought
 pub mod Plainly

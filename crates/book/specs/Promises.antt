@@ -8,7 +8,7 @@ use mathlib.Core.List.{List, [], _∷_, _++_, List·Memᴰ}
 use mathlib.Core.Option.{Option, none, some}
 use Prim.Native.Nat.{ℕ, zero, suc, _+_, _*_, _≤_, max}
 use lib.ListN.{length, take, drop}
-use lib.IntN.{ℤ, pos, natAbs}
+use lib.IntN.{ℤ, pos, negsuc, natAbs}
 use Rattle.plain.specs.Causes.{Cause, noBook, Trial, _when_, causeNumber}
 use Rattle.plain.specs.Book.{State, Call, post, withdraw, query, listing, Answer, refused, live, found, listed, opened, openTrials, rangeTrials, noBookAt, partLength, step}
 use Rattle.plain.specs.Rules.{FirstOf}
@@ -57,18 +57,23 @@ tableTrials t start k = noBook when noBookAt (length t) start (word (partOf t st
 
 -- ---- answers in document 01's numbers and values
 
+-- A number or a count as document 01 gives it. A word below 0 is none: `refused 0` is no answer of the plain book (`numbered`).
+abbrev pub counted : (ℕ → Answer) → ℤ → Answer
+counted f (pos n) = f n
+counted f (negsuc n) = refused 0
+
 abbrev pub updateAnswer : Update → Answer
-updateAnswer (Done n k s h) = live (natAbs n)
-updateAnswer (UpdateDeclined c) = refused (natAbs c)
+updateAnswer (Done n k s h) = counted live n
+updateAnswer (UpdateDeclined c) = counted refused c
 
 abbrev pub foundAnswer : Found → Answer
 foundAnswer (Offer number price probes) = found number price
-foundAnswer (FoundDeclined c) = refused (natAbs c)
+foundAnswer (FoundDeclined c) = counted refused c
 
 -- with the words that the output then begins with
 abbrev pub listingAnswer : Listed → List ℤ → Answer
-listingAnswer (Pieces m) out = listed (natAbs m) (take (3 * natAbs m) out)
-listingAnswer (ListingDeclined c) out = refused (natAbs c)
+listingAnswer (Pieces m) out = counted (λ n. listed n (take (3 * n) out)) m
+listingAnswer (ListingDeclined c) out = counted refused c
 
 -- ---- open
 
