@@ -1,0 +1,3 @@
+-- The free slots and the tree of numbers, as parts of the check.
+pub mod Tallies
+pub mod FreeChains
