@@ -1,7 +1,7 @@
 -- A slot sought by its number in a tree of numbers: it is found exactly where the tree has its item.
 use mathlib.Core.Path.{_≡_, refl, sym, _∙_, ap, subst}
 use mathlib.Core.Logic.{_≢_, ∥∥₁-elim}
-use mathlib.Core.Bool.{Bool, true, false, true≢false}
+use mathlib.Core.Bool.{Bool, true, false}
 use mathlib.Core.List.{List, List·Memᴰ, Pairwise·imp-of-mem}
 use mathlib.Core.Option.{Option, none, some}
 use Prim.Native.Nat.{ℕ, _+_, _≤_, _<_}
@@ -24,6 +24,7 @@ use Rattle.table.specs.Rep.{Rep}
 use Rattle.descents.specs.Finds.{Found, foundAt}
 use Rattle.update.specs.Form.{numberOf}
 use Rattle.matching.specs.Tests.{Decides, decides-no, decides-yes, Every, every-none, every-more, every-less}
+use Rattle.matching.specs.Fills.{never}
 use Rattle.matching.specs.Laid.{itemAt, Placed, Laid}
 
 -- two items that are in one slot are one
@@ -97,10 +98,7 @@ module _ {w : Words} {root n i s : ℕ} {b : Bool} (xs : List ℕ) (h : i < n) (
   sought-more g e = record { so-far = λ t L F l. every-more (g .so-far t L F l) (record { has = rw (← es) (here t L F l .sound e) }) }
 
   pub sought-not : b ≡ false → SeeksAll w root xs n false
-  sought-not e = record { told = λ t L F l. decides-no (λ p. never (here t L F l .complete (rw es (p .at i (omega arith) h .has)))) }
-    where
-      never : b ≡ true → ⊥
-      never p = true≢false (sym p ∙ e)
+  sought-not e = record { told = λ t L F l. decides-no (λ p. never (here t L F l .complete (rw es (p .at i (omega arith) h .has))) e) }
 
 pub sought-all : {w : Words} {root n i : ℕ} {xs : List ℕ} → n ≤ i → Sought w root xs n i → SeeksAll w root xs n true
 sought-all h g = record { told = λ t L F l. decides-yes (every-less h (g .so-far t L F l)) }
