@@ -2,12 +2,12 @@
 use mathlib.Core.Path.{_≡_, refl, sym, _∙_, ap, subst}
 use mathlib.Core.Logic.{_≢_}
 use mathlib.Core.HLevel.{¬-prop}
-use mathlib.Core.Bool.{Bool, true, false, _&&_, true≢false}
+use mathlib.Core.Bool.{Bool, true, false, _&&_}
 use mathlib.Core.List.{List, [], _∷_, List·Memᴰ, List·Memᴰ·head, List·Memᴰ·tail, Pairwise, Pairwise·nil}
-use Prim.Native.Nat.{ℕ, zero, suc, _+_, _-_, _≤_, _<_}
+use Prim.Native.Nat.{ℕ, suc, _-_, _≤_, _<_}
 use native.Mathlib.Omega.{arith}
 use lib.ListN.{length}
-use lib.IntN.{ℤ, pos}
+use lib.IntN.{pos}
 use lib.Signed.{leZ}
 use lib.Dec.{eqb}
 use borrow.Author.Tests.{eqb-true, eq-eqb}
@@ -17,6 +17,7 @@ use Rattle.table.specs.Words.{Words, word, upTo, upTo-in}
 use Rattle.table.specs.Layout.{cap, cell, linkAt}
 use Rattle.table.specs.Free.{head0, FreeChain, free-none, free-more, head-most}
 use Rattle.matching.specs.Tests.{Decides, decides-no, decides-as, decides-by}
+use Rattle.matching.specs.Fills.{never}
 use Rattle.tallying.specs.Tallies.{Freely}
 
 -- a slot of the part, without an offer
@@ -83,9 +84,6 @@ module _ {w : Words} {first count s k : ℕ} (g : Left w first count s k) where
 
     pub left-not : b ≡ false → Decides false (Chained w first count)
     left-not e = decides-no (λ c. never (d .complete (headed (subst (Chained w s) some (g .there c)) .head)) e)
-      where
-        never : {b : Bool} → b ≡ true → b ≡ false → ⊥
-        never p q = true≢false (sym p ∙ q)
 
   -- the slots are counted: here the chain has to end
   pub left-ends : k ≤ 0 → Decides (eqb s 0) (Chained w first count)
@@ -136,10 +134,7 @@ module _ {w : Words} {n c : ℕ} (ec : c ≡ cap w) where
     first-is f = ef ∙ ap (upTo 8192) (f .first-free) ∙ upTo-in 8192 (head0 (f .free)) (omega (arith, head-most (f .free) (f .free-chain)))
 
     pub freely-told : {b : Bool} → Decides b (word w 5 ≡ pos first) → b ≡ false → Decides false (Freely w n)
-    freely-told {b} d e = decides-no (λ f. never (d .complete (f .first-free ∙ ap pos (sym (first-is f)))))
-      where
-        never : b ≡ true → ⊥
-        never p = true≢false (sym p ∙ e)
+    freely-told d e = decides-no (λ f. never (d .complete (f .first-free ∙ ap pos (sym (first-is f)))) e)
 
     pub freely-chained : {b r : Bool} → Decides b (word w 5 ≡ pos first) → b ≡ true → Decides r (Chained w first (c - n)) → Decides r (Freely w n)
     freely-chained d e = decides-as there back
