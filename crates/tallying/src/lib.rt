@@ -2,20 +2,11 @@
 ghost use mathlib.Core.Path.{_≡_};
 ghost use Prim.Native.Nat.{_≤_};
 ghost use lib.ListN.{length};
-ghost use lib.IntN.{pos};
-ghost use Rattle.table.specs.Words.{word};
 ghost use Rattle.matching.specs.Tests.{Decides};
 ghost use Rattle.tallying.specs.Tallies.{Freely, Tallies};
 ghost use Rattle.tallying.specs.FreeChains.{IsFree, Chained};
 ghost use Rattle.tallying.specs.Seeking.{Seeks, SeeksAll};
 ghost use Rattle.tallying.specs.NumberTrees.{Trees};
-
-// Word `at` is that number, and not only read as such.
-fn tells(part: &[i64], at: usize, number: u32) -> bool
-    ensures { λ r. ⌜ Decides r (word (now (part .entry)) at ≡ pos number) ⌝ }
-{
-    table::word_at(part, at) == number as i64
-}
 
 // Slot `s` is one of the part's, and has no offer.
 fn is_free(part: &[i64], s: u32) -> bool
@@ -55,7 +46,7 @@ pub fn free_slots(part: &[i64], n: u32) -> bool
         return false;
     }
     let first = table::number_at(part, 5, 8192);
-    if !tells(part, 5, first) {
+    if !matching::tells(part, 5, first) {
         return false;
     }
     chained(part, first, c - n)
@@ -109,7 +100,7 @@ pub fn numbers(part: &[i64], scratch: &mut [u32; 8192], n: usize) -> bool
     ensures { λ r. ⌜ Tallies (now (part .entry)) (now (scratch .entry)) (now (scratch .exit)) n r ⌝ }
 {
     let root = table::number_at(part, 4, 8192);
-    if !tells(part, 4, root) {
+    if !matching::tells(part, 4, root) {
         return false;
     }
     if root == 0 {
