@@ -1,0 +1,42 @@
+-- `meet::meet_parts` meets its contract: by its guards, and then the search.
+use Rattle.meet.specs.Searching.{first-empty, second-empty, not-apart, apart-found}
+use borrow.Author.Needs.{needs}
+use Rattle.meet.proofs.meet_parts.Statement.{statement}
+use Rattle.meet.proofs.meet_parts.Tie as tie
+
+is-empty-requires : tie.Need-is-empty-requires
+is-empty-requires c κs = search needs
+
+returns : tie.Need-returns
+returns c = first-empty (c .before .is-empty .ensures) (c .if1 .taken)
+
+is-empty-requires-2 : tie.Need-is-empty-requires-2
+is-empty-requires-2 c κs = search needs
+
+returns-2 : tie.Need-returns-2
+returns-2 c = second-empty (c .before .before .before .is-empty .ensures) (c .before .is-empty2 .ensures) (c .if2 .taken)
+
+stand-apart-requires : tie.Need-stand-apart-requires
+stand-apart-requires c κs = search needs
+
+search-roots-requires : tie.Need-search-roots-requires
+search-roots-requires c κs = search needs
+
+returns-3 : tie.Need-returns-3
+returns-3 c = apart-found (c .before .before .before .before .before .before .is-empty .ensures) (c .before .before .before .before .is-empty2 .ensures) (c .before .before .stand-apart .ensures) (c .before .before .before .before .before .if1 .left) (c .before .before .before .if2 .left) (c .before .if3 .taken) (c .search-roots .ensures)
+
+returns-4 : tie.Need-returns-4
+returns-4 c = not-apart (c .before .before .before .before .before .is-empty .ensures) (c .before .before .before .is-empty2 .ensures) (c .before .stand-apart .ensures) (c .before .before .before .before .if1 .left) (c .before .before .if2 .left) (c .if3 .left)
+
+pub meet-parts-spec : {M : Type 1} → statement M
+meet-parts-spec =
+    tie.close
+    (tie.spec
+    is-empty-requires
+    returns
+    is-empty-requires-2
+    returns-2
+    stand-apart-requires
+    search-roots-requires
+    returns-3
+    returns-4)

@@ -1,0 +1,5 @@
+-- The meeting of two books.
+pub mod Promises
+pub mod Apart
+pub mod Searching
+pub mod Tables
