@@ -1,4 +1,5 @@
 // The carrier book for Rust and C: a slice is a pointer and a length there. Every answer is one number, a refusal its cause below 0.
+// Rust's rules hold of what is lent: a pointer is aligned and not null, and what is written overlaps nothing else that is lent.
 ghost use mathlib.Core.Path.{_≡_};
 ghost use Prim.Native.Nat.{_≤_};
 ghost use lib.ListN.{length};
