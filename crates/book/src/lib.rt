@@ -10,7 +10,7 @@ ghost use Rattle.table.specs.Words.{word, upTo};
 ghost use Rattle.table.specs.Free.{firstFree};
 ghost use Rattle.numbers.specs.Numbers.{FoundNumber};
 ghost use Rattle.book.specs.declared.Update.the-variants.{Done};
-ghost use Rattle.book.specs.Promises.{partOf, Opens, Updates, Queries, Lists};
+ghost use Rattle.book.specs.Promises.{partOf, Opens, Updates, Queries, Lists, Checks};
 ghost use Rattle.book.specs.Asking.{Asks};
 ghost use Rattle.book.specs.Joining.{Joined};
 ghost use Rattle.book.specs.Opens.{Heading, Lays, Starts};
@@ -363,4 +363,14 @@ pub fn listing(table: &[i64], start: usize, out: &mut [i64]) -> Listed
         return Listed::Declined(3);
     }
     show(&table[start..], out)
+}
+
+// Whether the words from `start` on have the form of a book, every envelope the lower envelope of the offers below it.
+pub fn check(table: &[i64], start: usize) -> bool
+    ensures { λ r. ⌜ Checks start (now (table .entry)) r ⌝ }
+{
+    if no_book(table, start) {
+        return false;
+    }
+    auditing::book_stands(&table[start..])
 }
