@@ -279,15 +279,15 @@ fn withdraw_part(part: &mut [i64], number: i64, s: u32) -> Told
     let n = table::number_at(part, 3, 8192);
     let y = numbers::drop_number(part, root, number);
     table::set_number(part, 4, y);
-    let m = update::remove(part, x, e, s);
+    let rest = update::remove(part, x, e, s);
     let live = one_less(n);
-    set_roots(part, m.x, m.e, live);
+    set_roots(part, rest.x, rest.e, live);
     slots::give_slot(part, s);
     Told {
         live: live,
-        k: m.k,
-        s: m.s,
-        h: m.h,
+        k: rest.k,
+        s: rest.s,
+        h: rest.h,
     }
 }
 
