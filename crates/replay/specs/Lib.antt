@@ -1,0 +1,3 @@
+-- Encoded calls, run one after the other: what a whole run does.
+pub mod Encoding
+pub mod Decoding
