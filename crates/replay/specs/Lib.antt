@@ -1,3 +1,4 @@
 -- Encoded calls, run one after the other: what a whole run does.
 pub mod Encoding
 pub mod Decoding
+pub mod Told

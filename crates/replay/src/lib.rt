@@ -8,6 +8,7 @@ ghost use lib.Dec.{leb};
 ghost use Rattle.plain.specs.Book.{post, withdraw, query, listing};
 ghost use Rattle.replay.specs.Encoding.{shortCall, callOf, nextCall, fitting, updateWords, foundWords, listedWords};
 ghost use Rattle.replay.specs.Decoding.{asked};
+ghost use Rattle.replay.specs.Told.{Performed, Performs, Step};
 
 // What a run of calls answers: how many calls were run, all of them or those before one that is unreadable or whose answer does
 // not fit any more; or the number of the cause for which the opening was declined.
@@ -98,4 +99,125 @@ fn five_and(n: usize, room: usize) -> bool
         return false;
     }
     n <= room - 5
+}
+
+// ---- answers written
+
+// Writes an answer's five words.
+fn put_five(out: &mut [i64], a: i64, b: i64, c: i64, d: i64, e: i64)
+    requires { ⌜ 5 ≤ length (now out) ⌝ }
+    ensures { λ _. ⌜ now (out .exit) ≡ a ∷ b ∷ c ∷ d ∷ e ∷ drop 5 (now (out .entry)) ⌝ }
+{
+    out[0] = a;
+    out[1] = b;
+    out[2] = c;
+    out[3] = d;
+    out[4] = e;
+}
+
+fn tell_update(out: &mut [i64], told: book::Update)
+    requires { ⌜ 5 ≤ length (now out) ⌝ }
+    ensures { λ _. ⌜ now (out .exit) ≡ updateWords told ++ drop 5 (now (out .entry)) ⌝ }
+{
+    match told {
+        book::Update::Done { live, k, s, h } => put_five(out, 0, live, k, s, h),
+        book::Update::Declined(cause) => put_five(out, cause, 0, 0, 0, 0),
+    }
+}
+
+fn tell_found(out: &mut [i64], told: book::Found)
+    requires { ⌜ 5 ≤ length (now out) ⌝ }
+    ensures { λ _. ⌜ now (out .exit) ≡ foundWords told ++ drop 5 (now (out .entry)) ⌝ }
+{
+    match told {
+        book::Found::Offer {
+            number,
+            price,
+            probes,
+        } => put_five(out, 0, number, price, probes, 0),
+        book::Found::Declined(cause) => put_five(out, cause, 0, 0, 0, 0),
+    }
+}
+
+fn tell_listed(out: &mut [i64], told: book::Listed)
+    requires { ⌜ 5 ≤ length (now out) ⌝ }
+    ensures { λ _. ⌜ now (out .exit) ≡ listedWords told ++ drop 5 (now (out .entry)) ⌝ }
+{
+    match told {
+        book::Listed::Pieces(count) => put_five(out, 0, count, 0, 0, 0),
+        book::Listed::Declined(cause) => put_five(out, cause, 0, 0, 0, 0),
+    }
+}
+
+// ---- one call
+
+fn do_post(table: &mut [i64], start: usize, number: i64, rate: i64, base: i64, out: &mut [i64])
+    requires { ⌜ 5 ≤ length (now out) ⌝ }
+    ensures { λ _. ⌜ Performed (post number rate base) start (now (table .entry)) (now (table .exit)) (now (out .entry)) (now (out .exit)) ⌝ }
+{
+    let told = book::post(table, start, number, rate, base);
+    tell_update(out, told);
+}
+
+fn do_withdraw(table: &mut [i64], start: usize, number: i64, out: &mut [i64])
+    requires { ⌜ 5 ≤ length (now out) ⌝ }
+    ensures { λ _. ⌜ Performed (withdraw number) start (now (table .entry)) (now (table .exit)) (now (out .entry)) (now (out .exit)) ⌝ }
+{
+    let told = book::withdraw(table, start, number);
+    tell_update(out, told);
+}
+
+fn do_query(table: &[i64], start: usize, load: i64, out: &mut [i64])
+    requires { ⌜ 5 ≤ length (now out) ⌝ }
+    ensures { λ _. ⌜ Performed (query load) start (now (table .entry)) (now (table .entry)) (now (out .entry)) (now (out .exit)) ⌝ }
+{
+    let told = book::query(table, start, load);
+    tell_found(out, told);
+}
+
+// The output lent is the `room` words behind the answer's five.
+fn do_listing(table: &[i64], start: usize, room: usize, out: &mut [i64])
+    requires { ⌜ 5 + room ≤ length (now out) ⌝ }
+    ensures { λ _. ⌜ Performed (listing room) start (now (table .entry)) (now (table .entry)) (now (out .entry)) (now (out .exit)) ⌝ }
+{
+    let end = 5 + room;
+    let told = book::listing(table, start, &mut out[5..end]);
+    tell_listed(out, told);
+}
+
+// Makes a call whose answer fits. Returns how many words that takes.
+fn perform(table: &mut [i64], start: usize, next: Next, out: &mut [i64]) -> usize
+    requires { ⌜ fitting (asked next) (length (now out)) ≡ true ⌝ }
+    ensures { λ r. ⌜ Performs (asked next) start (now (table .entry)) (now (table .exit)) (now (out .entry)) (now (out .exit)) r ⌝ }
+{
+    match next {
+        Next::Post { number, rate, base } => {
+            do_post(table, start, number, rate, base, out);
+            5
+        }
+        Next::Withdraw(number) => {
+            do_withdraw(table, start, number, out);
+            5
+        }
+        Next::Query(load) => {
+            do_query(table, start, load, out);
+            5
+        }
+        Next::Listing(room) => {
+            do_listing(table, start, room, out);
+            5 + room
+        }
+        Next::Nothing => 0,
+    }
+}
+
+// Makes the first call, where it can be read and its answer fits. Returns how many words the answer takes, and 0 where there is no such call.
+fn one_call(table: &mut [i64], start: usize, calls: &[i64], out: &mut [i64]) -> usize
+    ensures { λ r. ⌜ Step start (now (table .entry)) (now (table .exit)) (now (calls .entry)) (now (out .entry)) (now (out .exit)) r ⌝ }
+{
+    let next = next_call(calls);
+    if fits(next, out.len()) {
+        return perform(table, start, next, out);
+    }
+    0
 }
