@@ -1,6 +1,6 @@
 -- A run's answers, beside the history that it is: the words of each are the encoding of the very value that its call returned.
 use mathlib.Core.Path.{_≡_, refl, sym, _∙_, ap, subst}
-use mathlib.Core.Bool.{Bool, true, false}
+use mathlib.Core.Bool.{Bool, true, false, true≢false}
 use mathlib.Core.List.{List, [], _∷_, _++_}
 use mathlib.Core.Option.{Option, none, some}
 use Prim.Native.Nat.{ℕ, _+_, _*_, _-_, _≤_, _<_}
@@ -142,6 +142,15 @@ lists {start} {t} ws {ws₁} {ws′} {out′} {l} room h p e₁ e =
     back : drop 5 ws′ ≡ out′ ++ drop room (drop 5 ws)
     back = five-drop ws₁ (listedWords l) (listed-five l) h₁ e ∙ ap (drop 5) e₁ ∙ drop-at (take 5 ws) (out′ ++ drop room (drop 5 ws)) 5 (length-take-le 5 ws (omega arith))
 
+-- its end is told as the words in front and the room
+pub lists-to :
+    {start : ℕ} {t : List ℤ} (ws : List ℤ) {ws₁ ws′ out′ : List ℤ} {l : Listed} (room : ℕ) → 5 + room ≤ length ws →
+    Lists start t (take (5 + room - 5) (drop 5 ws)) out′ l → ws₁ ≡ take 5 ws ++ (out′ ++ drop (5 + room - 5) (drop 5 ws)) → ws′ ≡ listedWords l ++ drop 5 ws₁ →
+    Performed (listing room) start t t ws ws′
+lists-to {start} {t} ws {ws₁} {ws′} {out′} {l} room h p e₁ e =
+    let r : 5 + room - 5 ≡ room = omega arith in
+    lists ws room h (subst (λ (n : ℕ). Lists start t (take n (drop 5 ws)) out′ l) r p) (e₁ ∙ ap (λ (n : ℕ). take 5 ws ++ (out′ ++ drop n (drop 5 ws))) r) e
+
 -- ---- and which it is
 
 pub some-words : (k : Call) → 5 ≤ stretch k
@@ -158,3 +167,13 @@ pub step-some :
     asked ≡ nextCall cs → fitting asked (length ws) ≡ true → Performs asked start t t′ ws ws′ used → Step start t t′ cs ws ws′ used
 step-some cs ws ws′ none e f p = absurd p
 step-some cs ws ws′ (some k) e f p = record { stopped = λ h. absurd (omega (arith, h, p .1, some-words k)); ran = λ h. (k, record { reads = sym e; fits = f }, p .0, p .1) }
+
+module _ {asked : Option Call} {k : Call} (e : asked ≡ some k) where
+  pub call-fits : (room : ℕ) → fitting asked room ≡ true → stretch k ≤ room
+  call-fits room f = leb-true (stretch k) room (subst (λ (o : Option Call). fitting o room ≡ true) e f)
+
+  pub performs : {start : ℕ} {t t′ ws ws′ : List ℤ} {used : ℕ} → Performed k start t t′ ws ws′ → used ≡ stretch k → Performs asked start t t′ ws ws′ used
+  performs {start} {t} {t′} {ws} {ws′} {used} p u = subst (λ (o : Option Call). Performs o start t t′ ws ws′ used) (sym e) (p, u)
+
+pub never : {asked : Option Call} → asked ≡ none → (ws : List ℤ) → fitting asked (length ws) ≡ true → ⊥
+never e ws f = true≢false (sym f ∙ ap (λ (o : Option Call). fitting o (length ws)) e)
