@@ -36,7 +36,7 @@ same-yes z = both (leZ z z) (omega (arith, intRules))
     both true t = refl
     both false t = absurd t
 
-same-is : (a b : ℤ) → equal a b ≡ true → a ≡ b
+pub same-is : (a b : ℤ) → equal a b ≡ true → a ≡ b
 same-is a b e = split (leZ a b) (leZ b a) e (λ h k. omega (arith, intRules, h, k))
   where
     split : (x y : Bool) → x && y ≡ true → (T x → T y → a ≡ b) → a ≡ b

@@ -102,7 +102,7 @@ abbrev pub acceptedAnswer : Call → ℤ → ℤ → List ℤ → Answer
 acceptedAnswer (post n r b) x y out = counted live x
 acceptedAnswer (withdraw n) x y out = counted live x
 acceptedAnswer (query q) x y out = found x y
-acceptedAnswer (listing room) x y out = counted (λ m. listed m (take (3 * m) out)) x
+acceptedAnswer (listing room) x y out = counted (λ m. listed m (take (3 * m) (take room out))) x
 
 abbrev pub answerOf : Call → ℤ → ℤ → ℤ → List ℤ → Answer
 answerOf k refusal x y out = cond (equal refusal (pos 0)) (acceptedAnswer k x y out) (counted refused refusal)

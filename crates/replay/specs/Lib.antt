@@ -2,3 +2,7 @@
 pub mod Encoding
 pub mod Decoding
 pub mod Told
+pub mod Right
+pub mod Promises
+pub mod Running
+pub mod Resumed
