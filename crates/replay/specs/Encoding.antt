@@ -1,6 +1,7 @@
 -- A list of calls as words: four a call. And the words that each answer is written to.
 --     1 number rate base   post           3 load 0 0   query
 --     2 number 0 0         withdraw       4 room 0 0   listing
+use mathlib.Core.Path.{_≡_}
 use mathlib.Core.List.{List, [], _∷_, _++_}
 use mathlib.Core.Option.{Option, none, some}
 use mathlib.Core.Bool.{Bool, true, false, _&&_, cond}
@@ -15,7 +16,7 @@ use Rattle.book.specs.declared.Found.{Found}
 use Rattle.book.specs.declared.Found.the-variants.{Offer, Declined as FoundDeclined}
 use Rattle.book.specs.declared.Listed.{Listed}
 use Rattle.book.specs.declared.Listed.the-variants.{Pieces, Declined as ListingDeclined}
-use Rattle.book.specs.Promises.{counted}
+use Rattle.book.specs.Promises.{counted, writtenWords}
 
 -- ---- calls
 
@@ -62,6 +63,10 @@ stretch (post n r b) = 5
 stretch (withdraw n) = 5
 stretch (query q) = 5
 stretch (listing room) = 5 + room
+
+abbrev pub stretches : List Call → ℕ
+stretches [] = 0
+stretches (k ∷ ks) = stretch k + stretches ks
 
 -- whether there is a call, and `room` words are enough for its answer
 abbrev pub fitting : Option Call → ℕ → Bool
@@ -111,3 +116,18 @@ answerOf k refusal x y out = cond (equal refusal (pos 0)) (acceptedAnswer k x y 
 abbrev pub told : List Call → List ℤ → List Answer
 told [] ws = []
 told (k ∷ ks) ws = answerOf k (getD ws 0 (pos 0)) (getD ws 1 (pos 0)) (getD ws 2 (pos 0)) (drop 5 ws) ∷ told ks (drop (stretch k) ws)
+
+-- ---- words that no answer is written to
+
+-- of one call's stretch: behind what a listing writes, and all of a refused listing's room
+abbrev pub spared : Call → Answer → List ℤ → List ℤ
+spared (post n r b) a ws = []
+spared (withdraw n) a ws = []
+spared (query q) a ws = []
+spared (listing room) a ws = drop (writtenWords a) (take room (drop 5 ws))
+
+-- they keep their contents
+abbrev pub Spares : List Call → List Answer → (ws ws′ : List ℤ) → Type 0
+Spares [] as′ ws ws′ = Unit {0}
+Spares (k ∷ ks) [] ws ws′ = Unit {0}
+Spares (k ∷ ks) (a ∷ as′) ws ws′ = (spared k a ws′ ≡ spared k a ws) × Spares ks as′ (drop (stretch k) ws) (drop (stretch k) ws′)

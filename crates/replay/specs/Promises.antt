@@ -21,7 +21,7 @@ use Rattle.history.specs.History.{History}
 use Rattle.history.specs.Claim.{Claim}
 use Rattle.replay.specs.declared.Replayed.{Replayed}
 use Rattle.replay.specs.declared.Replayed.the-variants.{Ran, Stopped, Declined}
-use Rattle.replay.specs.Encoding.{runnable, told}
+use Rattle.replay.specs.Encoding.{runnable, told, Spares}
 use Rattle.replay.specs.Told.{Tells}
 
 -- These calls were made, one after the other, and the words are their answers'. It holds on words of any content; c is any capacity.
@@ -43,6 +43,7 @@ pub record Resumes (start : ℕ) (t t′ calls out out′ : List ℤ) (r : Repla
   -- where the part passes the check
   pub claim : (c : ℕ) (held : Option (Held Item)) → Book (partOf t start) c held → Claim (plainOf c held) held (made c .history)
   pub right : (c : ℕ) (held : Option (Held Item)) → Book (partOf t start) c held → told (runnable calls (length out)) out′ ≡ answers (plainOf c held) (runnable calls (length out))
+  pub spares : (c : ℕ) (held : Option (Held Item)) → Book (partOf t start) c held → Spares (runnable calls (length out)) (answers (plainOf c held) (runnable calls (length out))) out out′
 
 -- After an accepted opening, with the words `t₀` that it left.
 pub record Opening (c : ℤ) (start : ℕ) (t t′ calls out out′ : List ℤ) (r : Replayed) : Type 0 where
@@ -51,6 +52,7 @@ pub record Opening (c : ℤ) (start : ℕ) (t t′ calls out out′ : List ℤ) 
   pub resumes : Resumes start t₀ t′ calls out out′ r
   pub claim : Claim (opened c) none (resumes .made (natAbs c) .history)
   pub right : told (runnable calls (length out)) out′ ≡ answers (opened c) (runnable calls (length out))
+  pub spares : Spares (runnable calls (length out)) (answers (opened c) (runnable calls (length out))) out out′
   pub outside : OnlyPart (natAbs c) start t t′
 
 pub record Replays (c : ℤ) (start : ℕ) (t t′ calls out out′ : List ℤ) (r : Replayed) : Type 0 where

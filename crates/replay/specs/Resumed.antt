@@ -8,7 +8,7 @@ use lib.ListN.{length}
 use lib.IntN.{ℤ, pos, natAbs}
 use borrow.Author.Tests.{le-leb, lt-leb}
 use Rattle.plain.specs.Causes.{Cause, causeNumber}
-use Rattle.plain.specs.Book.{openTrials}
+use Rattle.plain.specs.Book.{Answer, openTrials}
 use Rattle.plain.specs.Rules.{FirstOf}
 use Rattle.plain.specs.Sound.{Clear}
 use Rattle.dynamic.specs.OfferTree.{Held}
@@ -21,7 +21,8 @@ use Rattle.book.specs.Plainly.{cap-there}
 use Rattle.history.specs.Claim.{from-book}
 use Rattle.replay.specs.declared.Replayed.{Replayed}
 use Rattle.replay.specs.declared.Replayed.the-variants.{Ran, Stopped, Declined}
-use Rattle.replay.specs.Right.{told-right}
+use Rattle.replay.specs.Encoding.{runnable, Spares}
+use Rattle.replay.specs.Right.{told-right, spares-right}
 use Rattle.replay.specs.Promises.{runCount, Resumes, Opening, Replays}
 use Rattle.replay.specs.Running.{Ended, only-then}
 
@@ -38,6 +39,9 @@ module _ {start : ℕ} {t t′ calls out out′ : List ℤ} {n : ℕ} (e : Ended
             let m = e .made c in
             let k = from-book (m .history) held b .told in
             told-right (m .history) out out′ (m .tells) (plainOf c held) k ∙ k;
+        spares = λ c held b.
+            let m = e .made c in
+            subst (λ (as′ : List Answer). Spares (runnable calls (length out)) as′ out out′) (from-book (m .history) held b .told) (spares-right (m .history) out out′ (m .tells) held b);
       }
 
   pub resumes-all : length calls ≤ 4 * n → Resumes start t t′ calls out out′ (Ran n)
@@ -76,5 +80,6 @@ module _ {c : ℤ} {start : ℕ} {t t₀ : List ℤ} {o : told-opening.Opening} 
             resumes = s;
             claim = s .claim (natAbs c) none b;
             right = s .right (natAbs c) none b;
+            spares = s .spares (natAbs c) none b;
             outside = only-then (p .accepted clear .2) (told-capacity start t₀ b) (s .outside);
           }
