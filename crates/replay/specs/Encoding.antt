@@ -5,7 +5,7 @@ use mathlib.Core.Path.{_≡_}
 use mathlib.Core.List.{List, [], _∷_, _++_}
 use mathlib.Core.Option.{Option, none, some}
 use mathlib.Core.Bool.{Bool, true, false, _&&_, cond}
-use Prim.Native.Nat.{ℕ, _+_, _*_, _-_}
+use Prim.Native.Nat.{ℕ, _+_, _*_, _-_, _≤_}
 use lib.ListN.{length, take, drop, getD}
 use lib.IntN.{ℤ, pos, negsuc}
 use lib.Dec.{leb}
@@ -84,6 +84,12 @@ runnable (a ∷ []) room = []
 runnable (a ∷ b ∷ []) room = []
 runnable (a ∷ b ∷ c ∷ []) room = []
 runnable (a ∷ b ∷ c ∷ d ∷ ws) room = firstRun (callOf a b c d) room (runnable ws)
+
+-- how far calls reach, in the words of the calls and in those of the answers, and that the next cannot be run
+pub record Run (calls : List ℤ) (room : ℕ) (ks : List Call) : Type 0 where
+  pub words : take (4 * length ks) calls ≡ encoded ks
+  pub fits : stretches ks ≤ room
+  pub ends : fitting (nextCall (drop (4 * length ks) calls)) (room - stretches ks) ≡ false
 
 -- ---- answers: a refusal's number, or 0 and four values
 

@@ -21,7 +21,7 @@ use Rattle.history.specs.History.{History}
 use Rattle.history.specs.Claim.{Claim}
 use Rattle.replay.specs.declared.Replayed.{Replayed}
 use Rattle.replay.specs.declared.Replayed.the-variants.{Ran, Stopped, Declined}
-use Rattle.replay.specs.Encoding.{runnable, told, Spares}
+use Rattle.replay.specs.Encoding.{runnable, Run, told, Spares}
 use Rattle.replay.specs.Told.{Tells}
 
 -- These calls were made, one after the other, and the words are their answers'. It holds on words of any content; c is any capacity.
@@ -37,6 +37,7 @@ runCount calls n = cond (leb (length calls) (4 * n)) (Ran n) (Stopped n)
 -- On a part that is there already. The calls run are those up to the first that is unreadable or whose answer does not fit.
 pub record Resumes (start : ℕ) (t t′ calls out out′ : List ℤ) (r : Replayed) : Type 0 where
   pub count : r ≡ runCount calls (length (runnable calls (length out)))
+  pub reach : Run calls (length out) (runnable calls (length out))
   pub made : (c : ℕ) → Made c start t t′ (runnable calls (length out)) out out′
   pub long : length out′ ≡ length out
   pub outside : OnlyPart (capacityAt t start) start t t′

@@ -22,6 +22,7 @@ use Rattle.history.specs.Claim.{from-book}
 use Rattle.replay.specs.declared.Replayed.{Replayed}
 use Rattle.replay.specs.declared.Replayed.the-variants.{Ran, Stopped, Declined}
 use Rattle.replay.specs.Encoding.{runnable, Spares}
+use Rattle.replay.specs.Laws.{run-reach}
 use Rattle.replay.specs.Right.{told-right, spares-right}
 use Rattle.replay.specs.Promises.{runCount, Resumes, Opening, Replays}
 use Rattle.replay.specs.Running.{Ended, only-then}
@@ -31,6 +32,7 @@ module _ {start : ℕ} {t t′ calls out out′ : List ℤ} {n : ℕ} (e : Ended
   resumes q =
       record {
         count = q ∙ ap (runCount calls) (e .count);
+        reach = run-reach calls (length out);
         made = e .made;
         long = e .long;
         outside = e .outside;
