@@ -47,7 +47,7 @@ pub record Resumes (start : ℕ) (t t′ calls out out′ : List ℤ) (r : Repla
   pub spares : (c : ℕ) (held : Option (Held Item)) → Book (partOf t start) c held → Spares (runnable calls (length out)) (answers (plainOf c held) (runnable calls (length out))) out out′
 
 -- After an accepted opening, with the words `t₀` that it left.
-pub record Opening (c : ℤ) (start : ℕ) (t t′ calls out out′ : List ℤ) (r : Replayed) : Type 0 where
+pub record Begun (c : ℤ) (start : ℕ) (t t′ calls out out′ : List ℤ) (r : Replayed) : Type 0 where
   pub t₀ : List ℤ
   pub opens : Opens c start t t₀ Opened
   pub resumes : Resumes start t₀ t′ calls out out′ r
@@ -58,4 +58,4 @@ pub record Opening (c : ℤ) (start : ℕ) (t t′ calls out out′ : List ℤ) 
 
 pub record Replays (c : ℤ) (start : ℕ) (t t′ calls out out′ : List ℤ) (r : Replayed) : Type 0 where
   pub declined : (k : Cause) → FirstOf (openTrials (length t) start c) k → (r ≡ Declined (pos (causeNumber k))) × (t′ ≡ t) × (out′ ≡ out)
-  pub accepted : Clear (openTrials (length t) start c) → Opening c start t t′ calls out out′ r
+  pub accepted : Clear (openTrials (length t) start c) → Begun c start t t′ calls out out′ r

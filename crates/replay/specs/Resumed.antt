@@ -14,7 +14,7 @@ use Rattle.plain.specs.Sound.{Clear}
 use Rattle.dynamic.specs.OfferTree.{Held}
 use Rattle.table.specs.Items.{Item}
 use Rattle.update.specs.Form.{Book}
-use Rattle.book.specs.declared.Opening as told-opening
+use Rattle.book.specs.declared.Opening.{Opening}
 use Rattle.book.specs.declared.Opening.the-variants.{Opened, Declined as OpeningDeclined}
 use Rattle.book.specs.Promises.{partOf, capacityAt, plainOf, Opens}
 use Rattle.book.specs.Plainly.{cap-there}
@@ -24,7 +24,7 @@ use Rattle.replay.specs.declared.Replayed.the-variants.{Ran, Stopped, De
 use Rattle.replay.specs.Encoding.{runnable, Spares}
 use Rattle.replay.specs.Laws.{run-reach}
 use Rattle.replay.specs.Right.{told-right, spares-right}
-use Rattle.replay.specs.Promises.{runCount, Resumes, Opening, Replays}
+use Rattle.replay.specs.Promises.{runCount, Resumes, Begun, Replays}
 use Rattle.replay.specs.Running.{Ended, only-then}
 
 module _ {start : ℕ} {t t′ calls out out′ : List ℤ} {n : ℕ} (e : Ended start t t′ calls out out′ n) where
@@ -58,7 +58,7 @@ module _ {start : ℕ} {t t′ calls out out′ : List ℤ} {n : ℕ} (e : Ended
 told-capacity : (start : ℕ) (t : List ℤ) {c : ℕ} {held : Option (Held Item)} → Book (partOf t start) c held → capacityAt t start ≡ c
 told-capacity start t b = ap natAbs (cap-there (partOf t start) (b .capacity) (b .some-slot) .first)
 
-module _ {c : ℤ} {start : ℕ} {t t₀ : List ℤ} {o : told-opening.Opening} (p : Opens c start t t₀ o) where
+module _ {c : ℤ} {start : ℕ} {t t₀ : List ℤ} {o : Opening} (p : Opens c start t t₀ o) where
   pub replays-none : {z : ℤ} (calls out : List ℤ) → o ≡ OpeningDeclined z → Replays c start t t₀ calls out out (Declined z)
   replays-none {z} calls out e = record { declined = λ k f. (number k f, p .declined k f .1, refl); accepted = λ clear. absurd (not-open clear) }
     where
@@ -74,11 +74,11 @@ module _ {c : ℤ} {start : ℕ} {t t₀ : List ℤ} {o : told-opening.Opening} 
       is-open : (k : Cause) → FirstOf (openTrials (length t) start c) k → ⊥
       is-open k f = let q = p .declined k f .0 in let x : _≡_ {A = ℕ} 0 1 = cc in omega arith
 
-      goes : Book (partOf t₀ start) (natAbs c) none → Clear (openTrials (length t) start c) → Opening c start t t′ calls out out′ r
+      goes : Book (partOf t₀ start) (natAbs c) none → Clear (openTrials (length t) start c) → Begun c start t t′ calls out out′ r
       goes b clear =
           record {
             t₀ = t₀;
-            opens = subst (λ (x : told-opening.Opening). Opens c start t t₀ x) e p;
+            opens = subst (λ (x : Opening). Opens c start t t₀ x) e p;
             resumes = s;
             claim = s .claim (natAbs c) none b;
             right = s .right (natAbs c) none b;
