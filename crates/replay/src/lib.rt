@@ -31,6 +31,7 @@ enum Next {
 
 // ---- calls read
 
+// A call with one argument. A listing's room is no number below 0.
 fn read_short(code: i64, a: i64) -> Next
     ensures { λ r. ⌜ asked r ≡ shortCall code a ⌝ }
 {
@@ -49,6 +50,7 @@ fn read_short(code: i64, a: i64) -> Next
     Next::Listing(a as usize)
 }
 
+// The call that four words encode. Only a post uses all of them; of another the last two are 0.
 fn read_call(code: i64, a: i64, b: i64, c: i64) -> Next
     ensures { λ r. ⌜ asked r ≡ callOf code a b c ⌝ }
 {
@@ -68,6 +70,7 @@ fn read_call(code: i64, a: i64, b: i64, c: i64) -> Next
     read_short(code, a)
 }
 
+// The first call, where there are four words and they encode one.
 fn next_call(calls: &[i64]) -> Next
     ensures { λ r. ⌜ asked r ≡ nextCall (now (calls .entry)) ⌝ }
 {
@@ -75,6 +78,16 @@ fn next_call(calls: &[i64]) -> Next
         return Next::Nothing;
     }
     read_call(calls[0], calls[1], calls[2], calls[3])
+}
+
+// `room` words are enough for five and n more: tested without the sum, which might not fit.
+fn five_and(n: usize, room: usize) -> bool
+    ensures { λ r. ⌜ r ≡ leb (5 + n) room ⌝ }
+{
+    if room < 5 {
+        return false;
+    }
+    n <= room - 5
 }
 
 // There is a call, and `room` words are enough for its answer.
@@ -94,15 +107,6 @@ fn fits(next: Next, room: usize) -> bool
     }
 }
 
-fn five_and(n: usize, room: usize) -> bool
-    ensures { λ r. ⌜ r ≡ leb (5 + n) room ⌝ }
-{
-    if room < 5 {
-        return false;
-    }
-    n <= room - 5
-}
-
 // ---- answers written
 
 // Writes an answer's five words.
@@ -117,6 +121,7 @@ fn put_five(out: &mut [i64], a: i64, b: i64, c: i64, d: i64, e: i64)
     out[4] = e;
 }
 
+// An update's answer: 0, the live count, k, s and H; or the refusal's number.
 fn tell_update(out: &mut [i64], told: book::Update)
     requires { ⌜ 5 ≤ length (now out) ⌝ }
     ensures { λ _. ⌜ now (out .exit) ≡ updateWords told ++ drop 5 (now (out .entry)) ⌝ }
@@ -127,6 +132,7 @@ fn tell_update(out: &mut [i64], told: book::Update)
     }
 }
 
+// A query's answer: 0, the offer's number, the price and the probes; or the refusal's number.
 fn tell_found(out: &mut [i64], told: book::Found)
     requires { ⌜ 5 ≤ length (now out) ⌝ }
     ensures { λ _. ⌜ now (out .exit) ≡ foundWords told ++ drop 5 (now (out .entry)) ⌝ }
@@ -141,6 +147,7 @@ fn tell_found(out: &mut [i64], told: book::Found)
     }
 }
 
+// A listing's answer: 0 and the piece count; or the refusal's number.
 fn tell_listed(out: &mut [i64], told: book::Listed)
     requires { ⌜ 5 ≤ length (now out) ⌝ }
     ensures { λ _. ⌜ now (out .exit) ≡ listedWords told ++ drop 5 (now (out .entry)) ⌝ }
