@@ -102,6 +102,8 @@ pub record Follows (k : Call) (c : ℕ) (held : Option (Held Item)) (start : ℕ
 pub record Updates (k : Call) (start : ℕ) (t t′ : List ℤ) (r : Update) : Type 0 where
   pub declined : (z : Cause) → FirstOf (tableTrials t start k) z → (r ≡ UpdateDeclined (pos (causeNumber z))) × (t′ ≡ t)
   pub outside : OnlyPart (capacityAt t start) start t t′
+  -- nor does the part's length change
+  pub same-part : capacityAt t′ start ≡ capacityAt t start
   pub follows : (c : ℕ) (held : Option (Held Item)) → Book (partOf t start) c held → Follows k c held start t t′ r
 
 -- ---- query

@@ -7,7 +7,7 @@ use Prim.Native.Nat.{ℕ, _+_, _-_, _≤_, _<_}
 use native.Mathlib.Omega.{arith}
 use lib.ListN.{length, take, drop, length-drop}
 use lib.Dec.{T}
-use lib.IntN.{ℤ, pos}
+use lib.IntN.{ℤ, pos, natAbs}
 use Rattle.offers.specs.Offers.{numberInRange, rateInRange, baseInRange}
 use Rattle.plain.specs.Causes.{Cause, causeNumber, numberOutOfRange, rateOutOfRange, baseOutOfRange}
 use Rattle.plain.specs.Book.{Call, post, withdraw, join, leave, noBookAt, partLength, step}
@@ -15,12 +15,13 @@ use Rattle.plain.specs.Rules.{FirstOf, at-once, further}
 use Rattle.plain.specs.Sound.{Clear}
 use Rattle.dynamic.specs.OfferTree.{Held}
 use Rattle.table.specs.Words.{Words, word, upTo}
+use Rattle.table.specs.Layout.{cap}
 use Rattle.table.specs.Items.{Item}
 use Rattle.update.specs.Form.{Book, plainOffers}
 use Rattle.numbers.specs.Numbers.{FoundNumber}
 use Rattle.book.specs.declared.Update.{Update}
 use Rattle.book.specs.declared.Update.the-variants.{Done, Declined}
-use Rattle.book.specs.Promises.{partOf, plainOf, tableTrials, OnlyPart, Updates, Follows}
+use Rattle.book.specs.Promises.{partOf, capacityAt, plainOf, tableTrials, OnlyPart, Updates, Follows}
 use Rattle.book.specs.Sought.{number-sought}
 use Rattle.book.specs.Plainly.{refusing, cap-there, table-declined, withdraw-missing, withdraw-clear}
 use Rattle.book.specs.Following.{follows-declined, follows-posted, follows-withdrawn}
@@ -70,6 +71,7 @@ module _ (k : Call) (start : ℕ) (t t′ : List ℤ) where
       record {
         declined = λ z g. (er ∙ ap (λ (n : ℕ). Declined (pos n)) (sym (one-cause f g)), et);
         outside = only-same et;
+        same-part = ap (λ (u : List ℤ). capacityAt u start) et;
         follows = λ c held b. follows-declined start t k b (table-declined start t k b f) er et;
       }
 
@@ -92,6 +94,7 @@ module _ (k : Call) (start : ℕ) (t t′ : List ℤ) where
             record {
               declined = λ z g. absurd (not-clear g clear);
               outside = only-same et;
+              same-part = ap (λ (u : List ℤ). capacityAt u start) et;
               follows = λ c held b. follows-declined start t k b (f c held (subst (λ (u : Words). Book u c held) (sym (whole-part t start)) b)) er et;
             }
 
@@ -103,9 +106,13 @@ module _ (k : Call) (start : ℕ) (t t′ : List ℤ) where
             record {
               declined = λ z g. absurd (not-clear g clear);
               outside = only-part t start w′ back low (record { long = kept .long; rest = λ i l. kept .rest i (omega (arith, l, book-cap t start (denied e h) .0)) });
+              same-part = ap (λ (u : Words). natAbs (word u 0)) (part-back t start w′ back low) ∙ ap natAbs (cap-there w′ (kept .room ∙ there .0) (there .1) .first);
               follows = λ c held b. f c held (subst (λ (u : Words). Book u c held) (sym (whole-part t start)) b) (part-back t start w′ back low);
             }
           where
+            there : (cap (partOf t start) ≡ capacityAt t start) × (1 ≤ capacityAt t start)
+            there = book-cap t start (denied e h)
+
             back : t′ ≡ take start t ++ w′
             back = lent-back t start w′ et
 

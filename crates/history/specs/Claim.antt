@@ -86,14 +86,14 @@ listed-state s room = go (declined (trials s (listing room)))
     go none = refl
 
 -- what one call does to a part that stands for a plain book
-record OneCall {start : ℕ} {t : List ℤ} {k : Call} {t′ : List ℤ} {a : Answer} (c : ℕ) (held : Option (Held Item)) (p : Happens start t k t′ a) : Type 0 where
-  mid : Option (Held Item)
-  stands : Book (partOf t′ start) c mid
-  state : step (plainOf c held) k .state ≡ plainOf c mid
-  told : a ≡ step (plainOf c held) k .answer
-  kept : Kept c start p held mid
+pub record OneCall {start : ℕ} {t : List ℤ} {k : Call} {t′ : List ℤ} {a : Answer} (c : ℕ) (held : Option (Held Item)) (p : Happens start t k t′ a) : Type 0 where
+  pub mid : Option (Held Item)
+  pub stands : Book (partOf t′ start) c mid
+  pub state : step (plainOf c held) k .state ≡ plainOf c mid
+  pub told : a ≡ step (plainOf c held) k .answer
+  pub kept : Kept c start p held mid
 
-one-call : {start : ℕ} {t : List ℤ} {k : Call} {t′ : List ℤ} {a : Answer} (c : ℕ) (held : Option (Held Item)) (p : Happens start t k t′ a) → Book (partOf t start) c held → OneCall c held p
+pub one-call : {start : ℕ} {t : List ℤ} {k : Call} {t′ : List ℤ} {a : Answer} (c : ℕ) (held : Option (Held Item)) (p : Happens start t k t′ a) → Book (partOf t start) c held → OneCall c held p
 one-call c held (by-post n r b u p e) book =
     let f = p .follows c held book in
     record { mid = f .after; stands = f .stands; state = same-state c held (f .after) (post n r b) (f .offers); told = e ∙ f .answers; kept = (f, refl) }

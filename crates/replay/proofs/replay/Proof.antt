@@ -1,0 +1,53 @@
+-- `replay::replay` meets its contract: by the opening, and then the run.
+use lib.IntN.{pos}
+use mir.Syntax.{w64}
+use mir.Val.{SFits}
+use mir.Facts.{toZ-ofZ}
+use Rattle.replay.specs.Resumed.{replays-none, replays-opened}
+use borrow.Author.Needs.{needs}
+use Rattle.replay.proofs.replay.Statement.{statement}
+use Rattle.replay.proofs.replay.Tie as tie
+
+open-requires : tie.Need-open-requires
+open-requires c κs = search needs
+
+enum-known-opening : tie.Need-enum-known-opening
+enum-known-opening c = search needs
+
+same-length : tie.Need-same-length
+same-length c = search needs
+
+returns : tie.Need-returns
+returns c =
+    let f = c .before .before .before .before .before .before .fits in
+    let z : SFits w64 (c .before .opening .given .0 .0) = record { sfits = c .known-told .given .0 .1 } in
+    simp (toZ-ofZ, z) (replays-none (simp (toZ-ofZ, f .capacity) at (c .before .before .before .before .«open» .ensures)) (c .before .before .before .before .before .before .args .calls .now) (c .before .before .before .before .before .before .args .answers .now) (c .before .opening .given .1))
+
+enum-told : tie.Need-enum-told
+enum-told c = search needs
+
+resume-requires : tie.Need-resume-requires
+resume-requires c κs = search needs
+
+same-length-2 : tie.Need-same-length-2
+same-length-2 c = search needs
+
+same-length-3 : tie.Need-same-length-3
+same-length-3 c = search needs
+
+returns-2 : tie.Need-returns-2
+returns-2 c = let f = c .before .before .before .before .before .before .before .before .before .before .fits in replays-opened (simp (toZ-ofZ, f .capacity) at (c .before .before .before .before .before .before .before .before .«open» .ensures)) (c .before .before .before .before .before .enum-told .given .1) (c .before .before .resume .ensures)
+
+pub replay-spec : {M : Type 1} → statement M
+replay-spec =
+    tie.close
+    (tie.spec
+    open-requires
+    enum-known-opening
+    same-length
+    returns
+    enum-told
+    resume-requires
+    same-length-2
+    same-length-3
+    returns-2)

@@ -1,0 +1,87 @@
+-- A run that has ended keeps its promise, and so does one from an opening on.
+use mathlib.Core.Path.{_≡_, refl, sym, _∙_, ap, subst}
+use mathlib.Core.List.{List}
+use mathlib.Core.Option.{Option, none}
+use Prim.Native.Nat.{ℕ, _*_, _≤_, _<_}
+use native.Mathlib.Omega.{arith}
+use lib.ListN.{length}
+use lib.IntN.{ℤ, pos, natAbs}
+use borrow.Author.Tests.{le-leb, lt-leb}
+use Rattle.plain.specs.Causes.{Cause, causeNumber}
+use Rattle.plain.specs.Book.{Answer, openTrials}
+use Rattle.plain.specs.Rules.{FirstOf}
+use Rattle.plain.specs.Sound.{Clear}
+use Rattle.dynamic.specs.OfferTree.{Held}
+use Rattle.table.specs.Items.{Item}
+use Rattle.update.specs.Form.{Book}
+use Rattle.book.specs.declared.Opening.{Opening}
+use Rattle.book.specs.declared.Opening.the-variants.{Opened, Declined as OpeningDeclined}
+use Rattle.book.specs.Promises.{partOf, capacityAt, plainOf, Opens}
+use Rattle.book.specs.Plainly.{cap-there}
+use Rattle.history.specs.Claim.{from-book}
+use Rattle.replay.specs.declared.Replayed.{Replayed}
+use Rattle.replay.specs.declared.Replayed.the-variants.{Ran, Stopped, Declined}
+use Rattle.replay.specs.Encoding.{runnable, Spares}
+use Rattle.replay.specs.Laws.{run-reach}
+use Rattle.replay.specs.Right.{told-right, spares-right}
+use Rattle.replay.specs.Promises.{runCount, Resumes, Begun, Replays}
+use Rattle.replay.specs.Running.{Ended, only-then}
+
+module _ {start : ℕ} {t t′ calls out out′ : List ℤ} {n : ℕ} (e : Ended start t t′ calls out out′ n) where
+  resumes : {r : Replayed} → r ≡ runCount calls n → Resumes start t t′ calls out out′ r
+  resumes q =
+      record {
+        count = q ∙ ap (runCount calls) (e .count);
+        reach = run-reach calls (length out);
+        made = e .made;
+        long = e .long;
+        outside = e .outside;
+        claim = λ c held b. from-book (e .made c .history) held b;
+        right = λ c held b.
+            let m = e .made c in
+            let k = from-book (m .history) held b .told in
+            told-right (m .history) out out′ (m .tells) (plainOf c held) k ∙ k;
+        spares = λ c held b.
+            let m = e .made c in
+            subst (λ (as′ : List Answer). Spares (runnable calls (length out)) as′ out out′) (from-book (m .history) held b .told) (spares-right (m .history) out out′ (m .tells) held b);
+      }
+
+  pub resumes-all : length calls ≤ 4 * n → Resumes start t t′ calls out out′ (Ran n)
+  resumes-all h = resumes (rw (le-leb (length calls) (4 * n) h))
+
+  pub resumes-some : 4 * n < length calls → Resumes start t t′ calls out out′ (Stopped n)
+  resumes-some h = resumes (rw (lt-leb (length calls) (4 * n) h))
+
+-- ---- from an opening on
+
+-- the first word of a book tells its capacity
+told-capacity : (start : ℕ) (t : List ℤ) {c : ℕ} {held : Option (Held Item)} → Book (partOf t start) c held → capacityAt t start ≡ c
+told-capacity start t b = ap natAbs (cap-there (partOf t start) (b .capacity) (b .some-slot) .first)
+
+module _ {c : ℤ} {start : ℕ} {t t₀ : List ℤ} {o : Opening} (p : Opens c start t t₀ o) where
+  pub replays-none : {z : ℤ} (calls out : List ℤ) → o ≡ OpeningDeclined z → Replays c start t t₀ calls out out (Declined z)
+  replays-none {z} calls out e = record { declined = λ k f. (number k f, p .declined k f .1, refl); accepted = λ clear. absurd (not-open clear) }
+    where
+      number : (k : Cause) → FirstOf (openTrials (length t) start c) k → Declined z ≡ Declined (pos (causeNumber k))
+      number k f = let q = p .declined k f .0 in cc
+
+      not-open : Clear (openTrials (length t) start c) → ⊥
+      not-open clear = let q = p .accepted clear .0 in let x : _≡_ {A = ℕ} 0 1 = cc in omega arith
+
+  pub replays-opened : {t′ calls out out′ : List ℤ} {r : Replayed} → o ≡ Opened → Resumes start t₀ t′ calls out out′ r → Replays c start t t′ calls out out′ r
+  replays-opened {t′} {calls} {out} {out′} {r} e s = record { declined = λ k f. absurd (is-open k f); accepted = λ clear. goes (p .accepted clear .1) clear }
+    where
+      is-open : (k : Cause) → FirstOf (openTrials (length t) start c) k → ⊥
+      is-open k f = let q = p .declined k f .0 in let x : _≡_ {A = ℕ} 0 1 = cc in omega arith
+
+      goes : Book (partOf t₀ start) (natAbs c) none → Clear (openTrials (length t) start c) → Begun c start t t′ calls out out′ r
+      goes b clear =
+          record {
+            t₀ = t₀;
+            opens = subst (λ (x : Opening). Opens c start t t₀ x) e p;
+            resumes = s;
+            claim = s .claim (natAbs c) none b;
+            right = s .right (natAbs c) none b;
+            spares = s .spares (natAbs c) none b;
+            outside = only-then (p .accepted clear .2) (told-capacity start t₀ b) (s .outside);
+          }

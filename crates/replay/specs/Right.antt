@@ -1,0 +1,104 @@
+-- The answers read off the words are the history's, where none of those is `refused 0`, as no answer of the plain book is.
+use mathlib.Core.Path.{_≡_, refl, sym, _∙_, ap, subst}
+use mathlib.Core.Logic.{_≢_}
+use mathlib.Core.Bool.{Bool, true, false, cond}
+use mathlib.Core.List.{List, [], _∷_}
+use mathlib.Core.Option.{Option}
+use Prim.Native.Nat.{ℕ, _*_}
+use native.Mathlib.Omega.{arith}
+use lib.ListN.{take, drop, getD}
+use lib.Seq.{getD-take}
+use lib.IntN.{ℤ, pos, negsuc}
+use Rattle.plain.specs.Book.{State, Call, post, withdraw, query, listing, Answer, refused, live, found, listed, equal, step, answers}
+use Rattle.book.specs.declared.Update.{Update}
+use Rattle.book.specs.declared.Update.the-variants.{Done, Declined as UpdateDeclined}
+use Rattle.book.specs.declared.Found.{Found}
+use Rattle.book.specs.declared.Found.the-variants.{Offer, Declined as FoundDeclined}
+use Rattle.book.specs.declared.Listed.{Listed}
+use Rattle.book.specs.declared.Listed.the-variants.{Pieces, Declined as ListingDeclined}
+use Rattle.dynamic.specs.OfferTree.{Held}
+use Rattle.table.specs.Items.{Item}
+use Rattle.update.specs.Form.{Book}
+use Rattle.book.specs.Local.{book-alike}
+use Rattle.book.specs.Promises.{partOf, writtenWords, counted, updateAnswer, foundAnswer, listingAnswer}
+use Rattle.book.specs.Numbered.{numbered}
+use Rattle.history.specs.History.{Happens, by-post, by-withdraw, by-query, by-listing, History, finished, next}
+use Rattle.history.specs.Claim.{one-call}
+use Rattle.replay.specs.Encoding.{stretch, updateWords, foundWords, listedWords, acceptedAnswer, answerOf, told, spared, Spares}
+use Rattle.replay.specs.Decoding.{same-is}
+use Rattle.replay.specs.Told.{TellsOne, Tells}
+
+-- the answer by five words
+abbrev byWords : Call → List ℤ → List ℤ → Answer
+byWords k five out = answerOf k (getD five 0 (pos 0)) (getD five 1 (pos 0)) (getD five 2 (pos 0)) out
+
+first-words : (k : Call) (ws : List ℤ) {five : List ℤ} (out : List ℤ) → take 5 ws ≡ five → byWords k ws out ≡ byWords k five out
+first-words k ws {five} out e = part ∙ ap (λ (l : List ℤ). byWords k l out) e
+  where
+    part : byWords k ws out ≡ byWords k (take 5 ws) out
+    part = rw (getD-take 5 ws 0 (pos 0) (omega arith), getD-take 5 ws 1 (pos 0) (omega arith), getD-take 5 ws 2 (pos 0) (omega arith))
+
+-- a refusal's number is not 0
+refusal-told : (k : Call) (z x y : ℤ) (out : List ℤ) → counted refused z ≢ refused 0 → answerOf k z x y out ≡ counted refused z
+refusal-told k z x y out f = go (equal z (pos 0)) refl
+  where
+    go : (b : Bool) → equal z (pos 0) ≡ b → cond b (acceptedAnswer k x y out) (counted refused z) ≡ counted refused z
+    go true e = absurd (f (ap (counted refused) (same-is z (pos 0) e)))
+    go false e = refl
+
+post-told : (n r b : ℤ) (u : Update) (out : List ℤ) → updateAnswer u ≢ refused 0 → byWords (post n r b) (updateWords u) out ≡ updateAnswer u
+post-told n r b (Done m k s h) out f = refl
+post-told n r b (UpdateDeclined z) out f = refusal-told (post n r b) z (pos 0) (pos 0) out f
+
+withdraw-told : (n : ℤ) (u : Update) (out : List ℤ) → updateAnswer u ≢ refused 0 → byWords (withdraw n) (updateWords u) out ≡ updateAnswer u
+withdraw-told n (Done m k s h) out f = refl
+withdraw-told n (UpdateDeclined z) out f = refusal-told (withdraw n) z (pos 0) (pos 0) out f
+
+query-told : (q : ℤ) (a : Found) (out : List ℤ) → foundAnswer a ≢ refused 0 → byWords (query q) (foundWords a) out ≡ foundAnswer a
+query-told q (Offer n p s) out f = refl
+query-told q (FoundDeclined z) out f = refusal-told (query q) z (pos 0) (pos 0) out f
+
+listing-told : (room : ℕ) (l : Listed) (out : List ℤ) → listingAnswer l (take room out) ≢ refused 0 → byWords (listing room) (listedWords l) out ≡ listingAnswer l (take room out)
+listing-told room (Pieces m) out f = refl
+listing-told room (ListingDeclined z) out f = refusal-told (listing room) z (pos 0) (pos 0) out f
+
+one-told : {start : ℕ} {t : List ℤ} {k : Call} {t′ : List ℤ} {a : Answer} (p : Happens start t k t′ a) (ws ws′ : List ℤ) → TellsOne p ws ws′ → a ≢ refused 0 → byWords k ws′ (drop 5 ws′) ≡ a
+one-told (by-post n r b u p e) ws ws′ h f = first-words (post n r b) ws′ (drop 5 ws′) h ∙ post-told n r b u (drop 5 ws′) (λ q. f (e ∙ q)) ∙ sym e
+one-told (by-withdraw n u p e) ws ws′ h f = first-words (withdraw n) ws′ (drop 5 ws′) h ∙ withdraw-told n u (drop 5 ws′) (λ q. f (e ∙ q)) ∙ sym e
+one-told (by-query q u p d e) ws ws′ h f = first-words (query q) ws′ (drop 5 ws′) h ∙ query-told q u (drop 5 ws′) (λ z. f (e ∙ z)) ∙ sym e
+one-told (by-listing {room} out out′ l p m d e) ws ws′ (h, b, o) f =
+    let q = e ∙ ap (listingAnswer l) (sym o) in
+    first-words (listing room) ws′ (drop 5 ws′) h ∙ listing-told room l (drop 5 ws′) (λ z. f (q ∙ z)) ∙ sym q
+
+pub told-right : {c start : ℕ} {t : List ℤ} {ks : List Call} {as′ : List Answer} {t′ : List ℤ} (h : History c start t ks as′ t′) (ws ws′ : List ℤ) → Tells h ws ws′ → (s : State) → as′ ≡ answers s ks → told ks ws′ ≡ as′
+told-right finished ws ws′ w s e = refl
+told-right (next {k} {ks} {a} {as′} alike p rest) ws ws′ (x, y) s e =
+    let this : a ≡ step s k .answer = cc in
+    let those : as′ ≡ answers (step s k .state) ks = cc in
+    let first = one-told p ws ws′ x (λ q. numbered s k (sym this ∙ q)) in
+    let others = told-right rest (drop (stretch k) ws) (drop (stretch k) ws′) y (step s k .state) those in
+    λ i. first i ∷ others i
+
+-- ---- what is not written stays
+
+one-spares :
+    {c start : ℕ} {t : List ℤ} {k : Call} {t′ : List ℤ} {a : Answer} (p : Happens start t k t′ a) (ws ws′ : List ℤ) → TellsOne p ws ws′ →
+    (held : Option (Held Item)) → Book (partOf t start) c held → spared k a ws′ ≡ spared k a ws
+one-spares (by-post n r b u p e) ws ws′ w held book = refl
+one-spares (by-withdraw n u p e) ws ws′ w held book = refl
+one-spares (by-query q f p d e) ws ws′ w held book = refl
+one-spares {c} {a = a} (by-listing {room} out out′ l p m d e) ws ws′ (x, y, z) held book =
+    ap (λ (n : ℕ). drop n (take room (drop 5 ws′))) same ∙ ap (drop (writtenWords (listingAnswer l out′))) z ∙ p .later c held book
+    ∙ ap (drop (writtenWords (listingAnswer l out′))) (sym y) ∙ ap (λ (n : ℕ). drop n (take room (drop 5 ws))) (sym same)
+  where
+    same : writtenWords a ≡ writtenWords (listingAnswer l out′)
+    same = ap writtenWords e
+
+pub spares-right :
+    {c start : ℕ} {t : List ℤ} {ks : List Call} {as′ : List Answer} {t′ : List ℤ} (h : History c start t ks as′ t′) (ws ws′ : List ℤ) → Tells h ws ws′ →
+    (held : Option (Held Item)) → Book (partOf t start) c held → Spares ks as′ ws ws′
+spares-right finished ws ws′ w held book = tt
+spares-right {c} (next {k} alike p rest) ws ws′ (x, y) held book =
+    let here = book-alike book alike in
+    let o = one-call c held p here in
+    (one-spares p ws ws′ x held here, spares-right rest (drop (stretch k) ws) (drop (stretch k) ws′) y (o .mid) (o .stands))
