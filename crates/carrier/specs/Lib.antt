@@ -1,0 +1,3 @@
+-- The book's calls for Rust and C.
+pub mod Promises
+pub mod Answers
