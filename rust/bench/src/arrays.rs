@@ -45,6 +45,40 @@ pub fn rebuild(offers: &[Offer], stack: &mut Vec<Offer>) {
     }
 }
 
+/// Offers in an array sorted by falling rate, whose envelope is rebuilt at each update.
+pub struct Sorted {
+    offers: Vec<Offer>,
+    pub envelope: Vec<Offer>,
+    /// by number
+    rates: Vec<i64>,
+}
+
+impl Sorted {
+    pub fn of(offers: &[Offer]) -> Sorted {
+        let mut sorted = Sorted { offers: offers.to_vec(), envelope: vec![], rates: vec![0; 10_000] };
+        offers.iter().for_each(|o| sorted.rates[o.number as usize] = o.rate);
+        rebuild(&sorted.offers, &mut sorted.envelope);
+        sorted
+    }
+
+    fn place(&self, rate: i64) -> usize {
+        self.offers.partition_point(|o| o.rate > rate)
+    }
+
+    pub fn withdraw(&mut self, number: i64) {
+        let at = self.place(self.rates[number as usize]);
+        self.offers.remove(at);
+        rebuild(&self.offers, &mut self.envelope);
+    }
+
+    pub fn post(&mut self, o: Offer) {
+        let at = self.place(o.rate);
+        self.offers.insert(at, o);
+        self.rates[o.number as usize] = o.rate;
+        rebuild(&self.offers, &mut self.envelope);
+    }
+}
+
 pub fn pieces(envelope: &[Offer]) -> Vec<Piece> {
     let crossing = |i: usize| {
         let o = envelope[i];

@@ -8,7 +8,6 @@ use arrays::Offer;
 use carrier_book::Book;
 use plot::{Line, Panel};
 use std::fmt::Write;
-use std::hint::black_box;
 
 const RUNS: usize = 5;
 const SIZES: [usize; 7] = [64, 128, 256, 512, 1_024, 2_048, 4_096];
@@ -99,24 +98,33 @@ fn timed(turns: usize, work: impl FnOnce()) -> f64 {
     (processor_time() - start) / turns as f64
 }
 
-/// The median of each contender, the contenders taking turns.
-fn medians<const N: usize>(mut run: impl FnMut() -> [f64; N]) -> [f64; N] {
-    let runs: Vec<[f64; N]> = (0..RUNS).map(|_| run()).collect();
-    std::array::from_fn(|i| {
-        let mut times: Vec<f64> = runs.iter().map(|r| r[i]).collect();
-        times.sort_by(f64::total_cmp);
-        times[RUNS / 2]
-    })
-}
-
-struct Row<const N: usize> {
+/// Offers, and a run that times its three contenders one after the other.
+struct Case {
     offers: usize,
     pieces: usize,
-    times: [f64; N],
+    run: Box<dyn FnMut() -> [f64; 3]>,
+}
+
+struct Row {
+    offers: usize,
+    pieces: usize,
+    times: [f64; 3],
+}
+
+/// The medians of five runs. All cases take turns, so that a slow while of the machine falls on all of them.
+fn medians(mut cases: Vec<Case>) -> Vec<Row> {
+    let runs: Vec<Vec<[f64; 3]>> = (0..RUNS).map(|_| cases.iter_mut().map(|c| (c.run)()).collect()).collect();
+    let median = |case: usize, at: usize| {
+        let mut times: Vec<f64> = runs.iter().map(|run| run[case][at]).collect();
+        times.sort_by(f64::total_cmp);
+        times[RUNS / 2]
+    };
+    let row = |(i, c): (usize, &Case)| Row { offers: c.offers, pieces: c.pieces, times: std::array::from_fn(|at| median(i, at)) };
+    cases.iter().enumerate().map(row).collect()
 }
 
 /// book, scan, binary search
-fn queries(n: usize) -> Row<3> {
+fn queries(n: usize) -> Case {
     let offers = offers(n, Listed::Half);
     let (book, _) = books(&offers);
     let mut envelope = vec![];
@@ -125,16 +133,17 @@ fn queries(n: usize) -> Row<3> {
     assert_eq!(book.listing().len(), pieces.len());
     let mut r = Random(7);
     let loads: Vec<i64> = (0..QUERIES).map(|_| r.within(-60_000, 60_000)).collect();
-    let mut sums = [0i64; 3];
-    let times = medians(|| {
-        [
+    let run = move || {
+        let mut sums = [0i64; 3];
+        let times = [
             timed(QUERIES, || sums[0] = sum(&loads, |q| book.query(q).map(|f| (f.number, f.price)).unwrap())),
             timed(QUERIES, || sums[1] = sum(&loads, |q| arrays::scan(&offers, q))),
             timed(QUERIES, || sums[2] = sum(&loads, |q| arrays::search(&pieces, q))),
-        ]
-    });
-    assert!(sums[0] == sums[1] && sums[0] == sums[2], "the answers differ");
-    Row { offers: n, pieces: pieces.len(), times }
+        ];
+        assert!(sums[0] == sums[1] && sums[0] == sums[2], "the answers differ");
+        times
+    };
+    Case { offers: n, pieces: envelope.len(), run: Box::new(run) }
 }
 
 /// one word of all answers, which differs where they do
@@ -146,43 +155,41 @@ fn sum(loads: &[i64], answer: impl Fn(i64) -> (i64, i64)) -> i64 {
 }
 
 /// book, plain Rust in the same layout, sorted array with its envelope rebuilt; a turn is one withdrawal or one post
-fn updates(n: usize, listed: Listed) -> Row<3> {
-    let mut sorted = offers(n, listed);
-    let (mut book, mut plain) = books(&sorted);
+fn updates(n: usize, listed: Listed) -> Case {
+    let offers = offers(n, listed);
+    let (mut book, mut plain) = books(&offers);
+    let mut sorted = arrays::Sorted::of(&offers);
+    let pieces = sorted.envelope.len();
     let mut r = Random(9);
-    let places: Vec<usize> = (0..UPDATES / 2).map(|_| r.within(0, n as i64 - 1) as usize).collect();
-    let chosen: Vec<Offer> = places.iter().map(|i| sorted[*i]).collect();
-    let mut envelope = vec![];
-    let times = medians(|| {
-        [
-            timed(UPDATES, || {
-                for o in &chosen {
-                    book.withdraw(o.number).unwrap();
-                    book.post(o.number, o.rate, o.base).unwrap();
-                }
-            }),
-            timed(UPDATES, || {
-                for o in &chosen {
-                    plain.withdraw(o.number).unwrap();
-                    plain.post(o.number, o.rate, o.base).unwrap();
-                }
-            }),
-            timed(UPDATES, || {
-                for i in &places {
-                    let o = sorted.remove(*i);
-                    arrays::rebuild(black_box(&sorted), &mut envelope);
-                    sorted.insert(*i, o);
-                    arrays::rebuild(black_box(&sorted), &mut envelope);
-                }
-            }),
-        ]
-    });
-    assert!(book.as_words() == plain.words, "the layouts differ");
-    assert_eq!(book.listing().len(), envelope.len());
-    Row { offers: n, pieces: envelope.len(), times }
+    let chosen: Vec<Offer> = (0..UPDATES / 2).map(|_| offers[r.within(0, n as i64 - 1) as usize]).collect();
+    let run = move || {
+        let of_book = timed(UPDATES, || {
+            for o in &chosen {
+                book.withdraw(o.number).unwrap();
+                book.post(o.number, o.rate, o.base).unwrap();
+            }
+        });
+        let of_plain = timed(UPDATES, || {
+            for o in &chosen {
+                plain.withdraw(o.number).unwrap();
+                plain.post(o.number, o.rate, o.base).unwrap();
+            }
+        });
+        let of_sorted = timed(UPDATES, || {
+            for o in &chosen {
+                sorted.withdraw(o.number);
+                sorted.post(*o);
+            }
+        });
+        assert!(book.as_words() == plain.words, "the layouts differ");
+        let numbers = book.listing().into_iter().map(|p| p.number);
+        assert!(sorted.envelope.iter().map(|o| o.number).eq(numbers), "the envelopes differ");
+        [of_book, of_plain, of_sorted]
+    };
+    Case { offers: n, pieces, run: Box::new(run) }
 }
 
-fn query_table(rows: &[Row<3>]) -> String {
+fn query_table(rows: &[Row]) -> String {
     let mut t = String::from("| offers | pieces | book, ns | scan, ns | scan ÷ book | binary search, ns | book ÷ binary search |\n|---|---|---|---|---|---|---|\n");
     for r in rows.iter().filter(|r| IN_TABLES.contains(&r.offers)) {
         let [book, scan, search] = r.times;
@@ -199,7 +206,7 @@ fn query_table(rows: &[Row<3>]) -> String {
     t
 }
 
-fn update_table(rows: &[(Listed, Row<3>)]) -> String {
+fn update_table(rows: &[(Listed, Row)]) -> String {
     let mut t = String::from("| listed | offers | pieces | book, µs | Rust, µs | book ÷ Rust | rebuild, µs | rebuild ÷ book | book, as a multiple of its time at 64 |\n|---|---|---|---|---|---|---|---|---|\n");
     for (listed, r) in rows.iter().filter(|r| IN_TABLES.contains(&r.1.offers)) {
         let [book, plain, rebuild] = r.times;
@@ -212,13 +219,13 @@ fn update_table(rows: &[(Listed, Row<3>)]) -> String {
     t
 }
 
-fn line<'a>(name: &'a str, colour: &'a str, rows: &[&Row<3>], at: usize) -> Line<'a> {
+fn line<'a>(name: &'a str, colour: &'a str, rows: &[&Row], at: usize) -> Line<'a> {
     Line { name, colour, points: rows.iter().map(|r| (r.offers as f64, r.times[at])).collect() }
 }
 
-fn panels(queries: &[Row<3>], updates: &[(Listed, Row<3>)]) -> String {
-    let queries: Vec<&Row<3>> = queries.iter().collect();
-    let updates: Vec<&Row<3>> = updates.iter().filter(|r| r.0 == Listed::Half).map(|r| &r.1).collect();
+fn panels(queries: &[Row], updates: &[(Listed, Row)]) -> String {
+    let queries: Vec<&Row> = queries.iter().collect();
+    let updates: Vec<&Row> = updates.iter().filter(|r| r.0 == Listed::Half).map(|r| &r.1).collect();
     let left = Panel {
         title: "one query",
         lines: vec![
@@ -248,11 +255,11 @@ fn write_tables(page: &str, tables: &str) -> String {
 
 fn main() {
     let docs = concat!(env!("CARGO_MANIFEST_DIR"), "/../../docs/");
-    let asked: Vec<Row<3>> = SIZES.iter().map(|n| queries(*n)).collect();
-    let mut updated = vec![];
-    for listed in [Listed::All, Listed::Half, Listed::Few] {
-        updated.extend(SIZES.iter().map(|n| (listed, updates(*n, listed))));
-    }
+    let asked = medians(SIZES.iter().map(|n| queries(*n)).collect());
+    let kinds: Vec<(Listed, usize)> =
+        [Listed::All, Listed::Half, Listed::Few].iter().flat_map(|k| SIZES.map(|n| (*k, n))).collect();
+    let rows = medians(kinds.iter().map(|(k, n)| updates(*n, *k)).collect());
+    let updated: Vec<(Listed, Row)> = kinds.iter().map(|k| k.0).zip(rows).collect();
     let tables = format!("\n{}\n{}\n", query_table(&asked), update_table(&updated));
     print!("{tables}");
     let page = std::fs::read_to_string(format!("{docs}BENCHMARKS.md")).unwrap();
