@@ -22,3 +22,4 @@ pub mod Rooted
 pub mod Showing
 pub mod PartUpdates
 pub mod TableUpdates
+pub mod Checking

@@ -10,7 +10,7 @@ ghost use Rattle.table.specs.Words.{word, upTo};
 ghost use Rattle.table.specs.Free.{firstFree};
 ghost use Rattle.numbers.specs.Numbers.{FoundNumber};
 ghost use Rattle.book.specs.declared.Update.the-variants.{Done};
-ghost use Rattle.book.specs.Promises.{partOf, Opens, Updates, Queries, Lists};
+ghost use Rattle.book.specs.Promises.{partOf, Opens, Updates, Queries, Lists, Checks};
 ghost use Rattle.book.specs.Asking.{Asks};
 ghost use Rattle.book.specs.Joining.{Joined};
 ghost use Rattle.book.specs.Opens.{Heading, Lays, Starts};
@@ -279,15 +279,15 @@ fn withdraw_part(part: &mut [i64], number: i64, s: u32) -> Told
     let n = table::number_at(part, 3, 8192);
     let y = numbers::drop_number(part, root, number);
     table::set_number(part, 4, y);
-    let m = update::remove(part, x, e, s);
+    let rest = update::remove(part, x, e, s);
     let live = one_less(n);
-    set_roots(part, m.x, m.e, live);
+    set_roots(part, rest.x, rest.e, live);
     slots::give_slot(part, s);
     Told {
         live: live,
-        k: m.k,
-        s: m.s,
-        h: m.h,
+        k: rest.k,
+        s: rest.s,
+        h: rest.h,
     }
 }
 
@@ -363,4 +363,14 @@ pub fn listing(table: &[i64], start: usize, out: &mut [i64]) -> Listed
         return Listed::Declined(3);
     }
     show(&table[start..], out)
+}
+
+// Whether the words from `start` on have the form of a book, every envelope the lower envelope of the offers below it.
+pub fn check(table: &[i64], start: usize) -> bool
+    ensures { λ r. ⌜ Checks start (now (table .entry)) r ⌝ }
+{
+    if no_book(table, start) {
+        return false;
+    }
+    auditing::book_stands(&table[start..])
 }

@@ -1,6 +1,6 @@
 -- What the answers' functions do, case by case.
 use mathlib.Core.Path.{_≡_, refl, sym}
-use mathlib.Core.Bool.{true, false, true≢false}
+use mathlib.Core.Bool.{Bool, true, false, true≢false}
 use mathlib.Core.List.{List, [], _∷_}
 use Prim.Native.Nat.{ℕ, zero, suc, _≤_, _<_}
 use native.Mathlib.Omega.{arith}
@@ -11,12 +11,12 @@ use lib.Signed.{ltZ}
 use mir.Syntax.{w64}
 use mir.Val.{SFits}
 use Rattle.plain.specs.Book.{Call}
-use Rattle.book.specs.Promises.{Updates, Queries}
+use Rattle.book.specs.Promises.{Updates, Queries, Checks}
 use Rattle.book.specs.declared.Update.{Update}
 use Rattle.book.specs.declared.Update.the-variants.{Done, Declined as UpdateDeclined}
 use Rattle.book.specs.declared.Found.{Found}
 use Rattle.book.specs.declared.Found.the-variants.{Offer, Declined as FoundDeclined}
-use Rattle.carrier.specs.Promises.{refusal, tooShort, Told, Updated, Named, Queried}
+use Rattle.carrier.specs.Promises.{refusal, tooShort, Told, Updated, Named, Queried, Checked}
 
 -- ---- a cause, below 0
 
@@ -77,3 +77,11 @@ queried-short load start t found h = record { short = λ _. (refl, refl); long =
 
 pub queried-long : (load : ℤ) (start : ℕ) (t found found′ : List ℤ) (r : ℤ) (f : Found) → 2 ≤ length found → Queries load start t f → Named f found found′ r → Queried load start t found found′ r
 queried-long load start t found found′ r f h p q = record { short = λ g. absurd (omega arith); long = λ _. (f, p, q) }
+
+-- ---- a check's answer
+
+pub checked-yes : (start : ℕ) (t : List ℤ) (b : Bool) → Checks start t b → b ≡ true → Checked start t (pos 1)
+checked-yes start t b p e = record { passes = b; checks = p; number = rw e }
+
+pub checked-no : (start : ℕ) (t : List ℤ) (b : Bool) → Checks start t b → b ≡ false → Checked start t (pos 0)
+checked-no start t b p e = record { passes = b; checks = p; number = rw e }

@@ -1,3 +1,4 @@
 -- The book's calls for Rust and C.
 pub mod Promises
 pub mod Answers
+pub mod Plainly

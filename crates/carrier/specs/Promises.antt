@@ -1,6 +1,7 @@
 -- What each function for Rust and C promises: its call's own promise (book, Promises), with the answer as one number. `t` are the table's words
 -- before the call and `t′` those after it; so for the words of a lent output.
 use mathlib.Core.Path.{_≡_}
+use mathlib.Core.Bool.{Bool, cond}
 use mathlib.Core.List.{List, [], _∷_, _++_}
 use Prim.Native.Nat.{ℕ, _≤_, _<_}
 use lib.ListN.{length, drop}
@@ -14,7 +15,7 @@ use Rattle.book.specs.declared.Found.{Found}
 use Rattle.book.specs.declared.Found.the-variants.{Offer, Declined as FoundDeclined}
 use Rattle.book.specs.declared.Listed.{Listed}
 use Rattle.book.specs.declared.Listed.the-variants.{Pieces, Declined as ListingDeclined}
-use Rattle.book.specs.Promises.{Opens, Updates, Queries, Lists}
+use Rattle.book.specs.Promises.{Opens, Updates, Queries, Lists, Checks}
 
 -- ---- an answer as one number
 
@@ -83,3 +84,8 @@ pub record Listing (start : ℕ) (t out out′ : List ℤ) (r : ℤ) : Type 0 wh
   pub listed : Listed
   pub lists : Lists start t out out′ listed
   pub number : r ≡ listedNumber listed
+
+pub record Checked (start : ℕ) (t : List ℤ) (r : ℤ) : Type 0 where
+  pub passes : Bool
+  pub checks : Checks start t passes
+  pub number : r ≡ cond passes (pos 1) (pos 0)

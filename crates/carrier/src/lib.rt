@@ -1,9 +1,10 @@
 // The carrier book for Rust and C: a slice is a pointer and a length there. Every answer is one number, a refusal its cause below 0.
+// Rust's rules hold of what is lent: a pointer is aligned and not null, and what is written overlaps nothing else that is lent.
 ghost use mathlib.Core.Path.{_≡_};
 ghost use Prim.Native.Nat.{_≤_};
 ghost use lib.ListN.{length};
 ghost use Rattle.plain.specs.Book.{post, withdraw};
-ghost use Rattle.carrier.specs.Promises.{refusal, openingNumber, listedNumber, Opened, Told, Named, Updated, Queried, Listing};
+ghost use Rattle.carrier.specs.Promises.{refusal, openingNumber, listedNumber, Opened, Told, Named, Updated, Queried, Listing, Checked};
 
 // A cause, below 0.
 fn below_zero(cause: i64) -> i64
@@ -129,4 +130,15 @@ pub extern "C" fn carrier_listing(table: &[i64], start: usize, out: &mut [i64]) 
     ensures { λ r. ⌜ Listing start (now (table .entry)) (now (out .entry)) (now (out .exit)) r ⌝ }
 {
     listed_number(book::listing(table, start, out))
+}
+
+// Whether the words from `start` on pass the check: 1 or 0.
+#[no_mangle]
+pub extern "C" fn carrier_check(table: &[i64], start: usize) -> i64
+    ensures { λ r. ⌜ Checked start (now (table .entry)) r ⌝ }
+{
+    if book::check(table, start) {
+        return 1;
+    }
+    0
 }

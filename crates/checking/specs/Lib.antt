@@ -5,3 +5,10 @@ pub mod Stands
 pub mod Joints
 pub mod Merges
 pub mod OfferWalks
+pub mod Headers
+pub mod Orders
+pub mod Envelops
+pub mod OffersStand
+pub mod OffersSound
+pub mod OffersComplete
+pub mod OfferWays

@@ -3,9 +3,14 @@ ghost use mathlib.Core.Path.{_≡_};
 ghost use Prim.Native.Nat.{ℕ, _≤_};
 ghost use lib.ListN.{length};
 ghost use Rattle.table.specs.Words.{Words};
+ghost use Rattle.matching.specs.Tests.{Decides};
 ghost use Rattle.checking.specs.PieceTrees.{Matches};
 ghost use Rattle.checking.specs.Merges.{Two, Refuses, Merges};
 ghost use Rattle.checking.specs.OfferWalks.{Walks};
+ghost use Rattle.checking.specs.Headers.{Header};
+ghost use Rattle.checking.specs.Orders.{Orders};
+ghost use Rattle.checking.specs.Envelops.{Envelops};
+ghost use Rattle.checking.specs.OffersStand.{Offers};
 
 // What the walk over the offers answers: whether it went through, and the place behind the last piece of the envelope.
 pub struct Walked {
@@ -134,4 +139,73 @@ pub fn walk(part: &[i64], x: u32, scratch: &mut [u32; 8192], at: usize, limit: u
         return b;
     }
     merge(part, x, scratch, at, mid, b.next)
+}
+
+// The header has the offers' root at node `x`, their envelope's at node `e`, and a live count of `n`.
+fn header(part: &[i64], x: u32, e: u32, n: u32) -> bool
+    ensures { λ r. ⌜ Decides r (Header (now (part .entry)) x e n) ⌝ }
+{
+    if !matching::tells(part, 1, x) {
+        return false;
+    }
+    if !matching::tells(part, 2, e) {
+        return false;
+    }
+    matching::tells(part, 3, n)
+}
+
+// The tree of offers from node `x` on has `n` leaves, with offers in range whose rates fall. Their slots are left from place 0 on.
+fn ordered(part: &[i64], x: u32, scratch: &mut [u32; 8192], n: u32) -> bool
+    requires { ⌜ length (now scratch) ≡ 8192 ⌝ }
+    ensures { λ r. ⌜ Orders (now (part .entry)) x (now (scratch .entry)) (now (scratch .exit)) n r ⌝ }
+{
+    let f = matching::fill(part, 1, x, scratch, 0, 24);
+    if !f.ok {
+        return false;
+    }
+    let next = f.next;
+    if next != n as usize {
+        return false;
+    }
+    if !matching::all_ranged(part, scratch, 0, next) {
+        return false;
+    }
+    matching::falling(part, 1, scratch, 0, next)
+}
+
+// Envelopes are stored with the tree of offers from node `x` on, and node `e` of the pieces is the root of the whole one.
+fn enveloped(part: &[i64], x: u32, e: u32, scratch: &mut [u32; 8192]) -> bool
+    requires { ⌜ length (now scratch) ≡ 8192 ⌝ }
+    ensures { λ r. ⌜ Envelops (now (part .entry)) x e (now (scratch .entry)) (now (scratch .exit)) r ⌝ }
+{
+    let a = walk(part, x, scratch, 0, 24);
+    if !a.ok {
+        return false;
+    }
+    let next = a.next;
+    matches(part, e, scratch, 0, next)
+}
+
+// The offers of a part, `n` of them, with their envelopes. The slots of the offers are left in order from place 0 on.
+pub fn offers(part: &[i64], scratch: &mut [u32; 8192], n: u32) -> bool
+    requires { ⌜ length (now scratch) ≡ 8192 ⌝ }
+    ensures { λ r. ⌜ Offers (now (part .entry)) (now (scratch .entry)) (now (scratch .exit)) n r ⌝ }
+{
+    if n == 0 {
+        return header(part, 0, 0, 0);
+    }
+    let x = table::number_at(part, 1, 8192);
+    let e = table::number_at(part, 2, 8192);
+    if !header(part, x, e, n) {
+        return false;
+    }
+    if !ordered(part, x, scratch, n) {
+        return false;
+    }
+    if !enveloped(part, x, e, scratch) {
+        return false;
+    }
+    // the walk wrote over the slots
+    let f = matching::fill(part, 1, x, scratch, 0, 24);
+    f.ok
 }

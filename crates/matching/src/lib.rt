@@ -3,13 +3,22 @@ ghost use mathlib.Core.Path.{_≡_};
 ghost use mathlib.Core.Bool.{true, false};
 ghost use Prim.Native.Nat.{ℕ, suc, max, _+_, _-_, _≤_, _<_};
 ghost use lib.ListN.{length, getD};
+ghost use lib.IntN.{pos};
 ghost use lib.Signed.{ltZ};
 ghost use Rattle.offers.specs.Offers.{between, offerInRange};
+ghost use Rattle.table.specs.Words.{word};
 ghost use Rattle.table.specs.Layout.{cell};
 ghost use Rattle.matching.specs.Tests.{Decides, Every, Agree};
 ghost use Rattle.matching.specs.Laid.{itemAt};
 ghost use Rattle.matching.specs.Loops.{FallsHere, RangedHere, NextHere, PlaceOf, Moved};
 ghost use Rattle.matching.specs.Fills.{Fails, Fills, Ended, Covers};
+
+// Word `at` is that number, and not only read as such.
+pub fn tells(part: &[i64], at: usize, number: u32) -> bool
+    ensures { λ r. ⌜ Decides r (word (now (part .entry)) at ≡ pos number) ⌝ }
+{
+    table::word_at(part, at) == number as i64
+}
 
 // What a walk over a tree answers: whether it went through, the place behind the last leaf, and the tree's height.
 pub struct Filled {

@@ -1,0 +1,53 @@
+-- `auditing::book_stands` meets its contract.
+use native.Mathlib.Omega.{arith}
+use borrow.Author.Tests.{not-true, not-false}
+use Rattle.table.specs.Words.{word, upTo-most}
+use Rattle.auditing.specs.Audits.{audits-no-slot, audits-no-free, audits-no-offers, audits-all}
+use borrow.Author.Needs.{needs}
+use Rattle.auditing.proofs.book_stands.Statement.{statement}
+use Rattle.auditing.proofs.book_stands.Tie as tie
+
+capacity-requires : tie.Need-capacity-requires
+capacity-requires c κs = search needs
+
+returns : tie.Need-returns
+returns c = audits-no-slot (c .before .capacity .ensures) (c .if1 .taken)
+
+number-at-requires : tie.Need-number-at-requires
+number-at-requires c κs = search needs
+
+free-slots-requires : tie.Need-free-slots-requires
+free-slots-requires c κs = search needs
+
+returns-2 : tie.Need-returns-2
+returns-2 c = audits-no-free (c .before .before .number-at .ensures) (c .before .free-slots .ensures) (not-true _ (c .if2 .taken))
+
+offers-requires : tie.Need-offers-requires
+offers-requires c κs = search needs
+
+returns-3 : tie.Need-returns-3
+returns-3 c = audits-no-offers (c .before .before .before .before .before .number-at .ensures) (c .before .before .before .before .free-slots .ensures) (c .before .offers .ensures) (not-true _ (c .if3 .taken))
+
+cast-numbers : tie.Need-cast-numbers
+cast-numbers c = search needs
+
+numbers-requires : tie.Need-numbers-requires
+numbers-requires c κs = (search needs, omega (arith, c .before .before .before .before .before .before .number-at .ensures, upTo-most 4096 (word (c .before .before .before .before .before .before .before .before .before .args .part .now) 3)))
+
+returns-4 : tie.Need-returns-4
+returns-4 c = audits-all (c .before .before .before .before .before .before .before .number-at .ensures) (c .before .before .before .before .before .before .free-slots .ensures) (c .before .before .before .offers .ensures) (c .before .before .before .before .before .before .before .before .before .capacity .ensures) (λ h. omega (arith, h, c .before .before .before .before .before .before .before .before .if1 .left)) (not-false _ (c .before .before .before .before .before .if2 .left)) (not-false _ (c .before .before .if3 .left)) (c .numbers .ensures)
+
+pub book-stands-spec : {M : Type 1} → statement M
+book-stands-spec =
+    tie.close
+    (tie.spec
+    capacity-requires
+    returns
+    number-at-requires
+    free-slots-requires
+    returns-2
+    offers-requires
+    returns-3
+    cast-numbers
+    numbers-requires
+    returns-4)

@@ -1,0 +1,2 @@
+-- Whether a part has the form of a book.
+pub mod Audits

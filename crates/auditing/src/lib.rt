@@ -1,0 +1,21 @@
+// Whether a part has the form of a book: yes exactly where it has. Any words are safe.
+ghost use Rattle.matching.specs.Tests.{Decides};
+ghost use Rattle.auditing.specs.Audits.{BookStands};
+
+// The free slots, then the offers with their envelopes, then the numbers over the slots that the offers left in the scratch array.
+pub fn book_stands(part: &[i64]) -> bool
+    ensures { λ r. ⌜ Decides r (BookStands (now (part .entry))) ⌝ }
+{
+    if table::capacity(part) < 1 {
+        return false;
+    }
+    let n = table::number_at(part, 3, 4096);
+    if !tallying::free_slots(part, n) {
+        return false;
+    }
+    let mut scratch = [0; 8192];
+    if !checking::offers(part, &mut scratch, n) {
+        return false;
+    }
+    tallying::numbers(part, &mut scratch, n as usize)
+}

@@ -1,0 +1,27 @@
+-- The check, on the part of a table.
+use mathlib.Core.Path.{_≡_, sym, subst}
+use mathlib.Core.Bool.{Bool, true, false, true≢false}
+use mathlib.Core.List.{List}
+use Prim.Native.Nat.{ℕ, _-_}
+use lib.ListN.{length, take, drop}
+use lib.Dec.{T-not}
+use lib.IntN.{ℤ}
+use Rattle.plain.specs.Book.{noBookAt}
+use Rattle.table.specs.Words.{Words, word}
+use Rattle.matching.specs.Tests.{Decides}
+use Rattle.auditing.specs.Audits.{BookStands}
+use Rattle.book.specs.Promises.{partOf, Checks}
+use Rattle.book.specs.Plainly.{book-there}
+use Rattle.book.specs.Parts.{said, whole-part}
+
+module _ (t : List ℤ) (start : ℕ) where
+  -- where there is no book for any call, none passes
+  pub checks-none : {b : Bool} → b ≡ noBookAt (length t) start (word (partOf t start) 0) → b ≡ true → Checks start t false
+  checks-none e h =
+      record { sound = λ k. absurd (true≢false (sym k)); complete = λ p. absurd (T-not (noBookAt (length t) start (word (partOf t start) 0)) (book-there start t (p .2)) (said e h)) }
+
+  pub checks-part : {r : Bool} → Decides r (BookStands (take (length t - start) (drop start t))) → Checks start t r
+  checks-part {r} d = go (subst (λ (w : Words). Decides r (BookStands w)) (whole-part t start) d)
+    where
+      go : Decides r (BookStands (partOf t start)) → Checks start t r
+      go k = record { sound = k .sound; complete = k .complete }

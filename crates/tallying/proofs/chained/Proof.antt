@@ -1,0 +1,52 @@
+-- `tallying::chained` meets its contract: the chain is there exactly where what is left of it is there.
+use native.Mathlib.Omega.{arith}
+use borrow.Author.Needs.{needs}
+use borrow.Author.Tests.{not-true, not-false}
+use Rattle.tallying.specs.FreeChains.{Left, left-all, left-more, left-not, left-ends}
+use Rattle.tallying.proofs.chained.Statement.{statement}
+use Rattle.tallying.proofs.chained.Tie as tie
+
+abbrev Inv-loop : tie.InvT-loop
+Inv-loop part first count s₀ k₀ s k = Left part first count s k
+
+abbrev μ-loop : tie.MeasureT-loop
+μ-loop part first count s₀ k₀ s k = k
+
+loop-holds : tie.Need-loop-holds Inv-loop μ-loop
+loop-holds c = left-all
+
+is-free-requires : tie.Need-is-free-requires Inv-loop μ-loop
+is-free-requires c κs = search needs
+
+returns : tie.Need-returns Inv-loop μ-loop
+returns c = left-not (c .before .before .before .loop .inv) (c .before .before .loop-test .taken) (c .before .is-free .ensures) (not-true _ (c .if1 .taken))
+
+link-requires : tie.Need-link-requires Inv-loop μ-loop
+link-requires c κs = search needs
+
+sub-k : tie.Need-sub-k Inv-loop μ-loop
+sub-k c = search needs
+
+loop-less : tie.Need-loop-less Inv-loop μ-loop
+loop-less c = omega arith
+
+loop-again : tie.Need-loop-again Inv-loop μ-loop
+loop-again c = left-more (c .before .before .before .before .loop .inv) (c .before .before .before .loop-test .taken) (c .before .before .is-free .ensures) (not-false _ (c .before .if1 .left)) (c .link .ensures)
+
+returns-2 : tie.Need-returns-2 Inv-loop μ-loop
+returns-2 c = left-ends (c .before .loop .inv) (c .loop-test .left)
+
+pub chained-spec : {M : Type 1} → statement M
+chained-spec =
+    tie.close
+    (tie.spec
+    Inv-loop
+    μ-loop
+    loop-holds
+    is-free-requires
+    returns
+    link-requires
+    sub-k
+    loop-less
+    loop-again
+    returns-2)

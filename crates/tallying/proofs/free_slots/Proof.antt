@@ -1,0 +1,39 @@
+-- `tallying::free_slots` meets its contract.
+use borrow.Author.Needs.{needs}
+use borrow.Author.Tests.{not-true, not-false}
+use Rattle.tallying.specs.FreeChains.{freely-over, freely-told, freely-chained}
+use Rattle.tallying.proofs.free_slots.Statement.{statement}
+use Rattle.tallying.proofs.free_slots.Tie as tie
+
+capacity-requires : tie.Need-capacity-requires
+capacity-requires c κs = search needs
+
+returns : tie.Need-returns
+returns c = freely-over (c .before .capacity .ensures) (c .if1 .taken)
+
+number-at-requires : tie.Need-number-at-requires
+number-at-requires c κs = search needs
+
+tells-requires : tie.Need-tells-requires
+tells-requires c κs = search needs
+
+returns-2 : tie.Need-returns-2
+returns-2 c = freely-told (c .before .before .before .before .capacity .ensures) (c .before .before .before .if1 .left) (c .before .before .number-at .ensures) (c .before .tells .ensures) (not-true _ (c .if2 .taken))
+
+chained-requires : tie.Need-chained-requires
+chained-requires c κs = search needs
+
+returns-3 : tie.Need-returns-3
+returns-3 c = freely-chained (c .before .before .before .before .before .capacity .ensures) (c .before .before .before .before .if1 .left) (c .before .before .before .number-at .ensures) (c .before .before .tells .ensures) (not-false _ (c .before .if2 .left)) (c .chained .ensures)
+
+pub free-slots-spec : {M : Type 1} → statement M
+free-slots-spec =
+    tie.close
+    (tie.spec
+    capacity-requires
+    returns
+    number-at-requires
+    tells-requires
+    returns-2
+    chained-requires
+    returns-3)

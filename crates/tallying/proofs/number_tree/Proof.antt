@@ -1,0 +1,43 @@
+-- `tallying::number_tree` meets its contract.
+use borrow.Author.Needs.{needs}
+use borrow.Author.Tests.{not-true, not-false}
+use Rattle.tallying.specs.NumberTrees.{trees-not-filled, trees-not-long, trees-not-falling, trees-rest}
+use Rattle.tallying.proofs.number_tree.Statement.{statement}
+use Rattle.tallying.proofs.number_tree.Tie as tie
+
+fill-requires : tie.Need-fill-requires
+fill-requires c κs = search needs
+
+returns : tie.Need-returns
+returns c = trees-not-filled (c .before .before .before .before .pre .1) (c .before .before .fill .ensures) (not-true _ (c .if1 .taken))
+
+add-if2 : tie.Need-add-if2
+add-if2 c = search needs
+
+returns-2 : tie.Need-returns-2
+returns-2 c = trees-not-long (c .before .before .before .before .before .pre .1) (c .before .before .before .fill .ensures) (not-false _ (c .before .if1 .left)) (c .if2 .taken)
+
+falling-requires : tie.Need-falling-requires
+falling-requires c κs = search needs
+
+returns-3 : tie.Need-returns-3
+returns-3 c = trees-not-falling (c .before .before .before .before .before .before .before .before .pre .1) (c .before .before .before .before .before .before .fill .ensures) (not-false _ (c .before .before .before .before .if1 .left)) (c .before .falling .ensures) (not-true _ (c .if3 .taken))
+
+all-sought-requires : tie.Need-all-sought-requires
+all-sought-requires c κs = search needs
+
+returns-4 : tie.Need-returns-4
+returns-4 c = trees-rest (c .before .before .before .before .before .before .before .before .before .before .pre .1) (c .before .before .before .before .before .before .before .before .fill .ensures) (not-false _ (c .before .before .before .before .before .before .if1 .left)) (c .before .before .before .falling .ensures) (not-false _ (c .before .before .if3 .left)) (c .before .before .before .before .before .if2 .left) (c .all-sought .ensures)
+
+pub number-tree-spec : {M : Type 1} → statement M
+number-tree-spec =
+    tie.close
+    (tie.spec
+    fill-requires
+    returns
+    add-if2
+    returns-2
+    falling-requires
+    returns-3
+    all-sought-requires
+    returns-4)

@@ -1,0 +1,29 @@
+-- `tallying::numbers` meets its contract.
+use borrow.Author.Needs.{needs}
+use borrow.Author.Tests.{not-true, not-false}
+use Rattle.tallying.specs.Numberings.{tallies-told, tallies-none, tallies-tree}
+use Rattle.tallying.proofs.numbers.Statement.{statement}
+use Rattle.tallying.proofs.numbers.Tie as tie
+
+number-at-requires : tie.Need-number-at-requires
+number-at-requires c κs = search needs
+
+tells-requires : tie.Need-tells-requires
+tells-requires c κs = search needs
+
+returns : tie.Need-returns
+returns c = tallies-told (c .before .before .number-at .ensures) (c .before .tells .ensures) (not-true _ (c .if1 .taken))
+
+returns-2 : tie.Need-returns-2
+returns-2 c = tallies-none (c .before .before .before .number-at .ensures) (c .before .before .tells .ensures) (not-false _ (c .before .if1 .left)) (c .if2 .taken)
+
+number-tree-requires : tie.Need-number-tree-requires
+number-tree-requires c κs = search needs
+
+returns-3 : tie.Need-returns-3
+returns-3 c = tallies-tree (c .before .before .before .before .before .number-at .ensures) (c .before .before .before .before .tells .ensures) (not-false _ (c .before .before .before .if1 .left)) (c .before .before .if2 .left) (c .number-tree .ensures)
+
+pub numbers-spec : {M : Type 1} → statement M
+numbers-spec =
+    tie.close
+    (tie.spec number-at-requires tells-requires returns returns-2 number-tree-requires returns-3)
