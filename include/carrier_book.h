@@ -69,11 +69,9 @@ int64_t carrier_query(const int64_t *table, size_t words, size_t start, int64_t 
  * the next piece begins; 0 and 0 for the last piece. Later words stay. */
 int64_t carrier_listing(const int64_t *table, size_t words, size_t start, int64_t *out, size_t out_words);
 
-#ifdef CARRIER_HAS_CHECK
 /* Returns 1 where the words from `start` on are a book in every particular, with every envelope right, and 0 where they are not.
  * It reads the whole part: meant for tables that come from elsewhere. */
 int64_t carrier_check(const int64_t *table, size_t words, size_t start);
-#endif
 
 #ifdef __cplusplus
 }

@@ -1,5 +1,6 @@
-//! Times of the proved book against a scan, sorted arrays and plain Rust in the same layout; medians of five runs. It rewrites the
-//! tables in docs/BENCHMARKS.md, between its two marks, and docs/benchmarks.svg. Run it in release, with nothing else running.
+//! Times of the proved book against a scan, sorted arrays and plain Rust in the same layout; medians of five runs. It prints
+//! the tables; with the word `record` it also puts them into docs/BENCHMARKS.md, between its two marks, and draws docs/benchmarks.svg.
+//! Run it in release.
 mod arrays;
 mod plot;
 mod same_layout;
@@ -253,8 +254,14 @@ fn write_tables(page: &str, tables: &str) -> String {
     format!("{}{tables}{}", &page[..begin], &page[end..])
 }
 
-fn main() {
+fn record(tables: &str, plot: &str) {
     let docs = concat!(env!("CARGO_MANIFEST_DIR"), "/../../docs/");
+    let page = std::fs::read_to_string(format!("{docs}BENCHMARKS.md")).unwrap();
+    std::fs::write(format!("{docs}BENCHMARKS.md"), write_tables(&page, tables)).unwrap();
+    std::fs::write(format!("{docs}benchmarks.svg"), plot).unwrap();
+}
+
+fn main() {
     let asked = medians(SIZES.iter().map(|n| queries(*n)).collect());
     let kinds: Vec<(Listed, usize)> =
         [Listed::All, Listed::Half, Listed::Few].iter().flat_map(|k| SIZES.map(|n| (*k, n))).collect();
@@ -262,7 +269,7 @@ fn main() {
     let updated: Vec<(Listed, Row)> = kinds.iter().map(|k| k.0).zip(rows).collect();
     let tables = format!("\n{}\n{}\n", query_table(&asked), update_table(&updated));
     print!("{tables}");
-    let page = std::fs::read_to_string(format!("{docs}BENCHMARKS.md")).unwrap();
-    std::fs::write(format!("{docs}BENCHMARKS.md"), write_tables(&page, &tables)).unwrap();
-    std::fs::write(format!("{docs}benchmarks.svg"), panels(&asked, &updated)).unwrap();
+    if std::env::args().any(|word| word == "record") {
+        record(&tables, &panels(&asked, &updated));
+    }
 }

@@ -69,7 +69,6 @@ pub fn listing(table: &[i64], start: usize, out: &mut [i64]) -> Result<usize, De
 }
 
 /// Whether the words from `start` on are a book in every particular, with every envelope right.
-#[cfg(feature = "check")]
 pub fn check(table: &[i64], start: usize) -> bool {
     // SAFETY: the pointer and the length are those of one slice; nothing is written.
     unsafe { raw::carrier_check(table.as_ptr(), table.len(), start) == 1 }

@@ -162,7 +162,6 @@ impl Book {
     }
 
     /// A book from words that [`Book::as_words`] gave, or nothing where they are none.
-    #[cfg(feature = "check")]
     pub fn from_words(table: Vec<i64>) -> Option<Book> {
         let whole = lent::check(&table, 0) && table.len() == words(table[0] as usize);
         whole.then_some(Book { table })
@@ -203,7 +202,6 @@ impl Book {
     }
 
     /// Whether the book's words are a book in every particular.
-    #[cfg(feature = "check")]
     pub fn check(&self) -> bool {
         lent::check(&self.table, 0)
     }

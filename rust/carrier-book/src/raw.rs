@@ -24,6 +24,5 @@ extern "C" {
     ) -> i64;
     pub fn carrier_query(table: *const i64, words: usize, start: usize, load: i64, found: *mut i64, found_words: usize) -> i64;
     pub fn carrier_listing(table: *const i64, words: usize, start: usize, out: *mut i64, out_words: usize) -> i64;
-    #[cfg(feature = "check")]
     pub fn carrier_check(table: *const i64, words: usize, start: usize) -> i64;
 }

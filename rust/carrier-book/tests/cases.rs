@@ -124,11 +124,8 @@ fn a_book_is_its_words() {
     b.withdraw(2).unwrap();
     assert_eq!(asked(&copy, 6), (2, 16));
     assert_eq!(asked(&b, 6), (1, 18));
-    #[cfg(feature = "check")]
-    {
-        let again = Book::from_words(b.as_words().to_vec()).unwrap();
-        assert_eq!(pieces(&again), pieces(&b));
-        assert!(Book::from_words(vec![]).is_none());
-        assert!(Book::from_words([b.as_words(), &[0]].concat()).is_none());
-    }
+    let again = Book::from_words(b.as_words().to_vec()).unwrap();
+    assert_eq!(pieces(&again), pieces(&b));
+    assert!(Book::from_words(vec![]).is_none());
+    assert!(Book::from_words([b.as_words(), &[0]].concat()).is_none());
 }

@@ -1,5 +1,4 @@
 //! Check says no after a change of any one word that the form fixes, and yes whatever the words hold that it does not use.
-#![cfg(feature = "check")]
 mod common;
 
 use carrier_book::{lent, words};

@@ -59,7 +59,7 @@ fn calls(r: &mut Random, table: &mut [i64], capacity: usize, rounds: usize) {
         lent::listing(table, EDGE, &mut out[EDGE..room]).ok();
         assert!(out[..EDGE].iter().chain(&out[room..]).all(|w| *w == MARK));
         lent::query(table, EDGE, r.within(-1_000_000, 1_000_000)).ok();
-        checked(table);
+        lent::check(table, EDGE);
         // causes before any word of the part is trusted
         assert_eq!(lent::post(table, EDGE, 10_000, 0, 0), Err(Declined::OutOfRange));
         assert_eq!(lent::withdraw(table, EDGE, 0), Err(Declined::OutOfRange));
@@ -68,14 +68,6 @@ fn calls(r: &mut Random, table: &mut [i64], capacity: usize, rounds: usize) {
         assert!(table[..EDGE].iter().chain(&table[end..]).all(|w| *w == MARK));
     }
 }
-
-#[cfg(feature = "check")]
-fn checked(table: &[i64]) {
-    lent::check(table, EDGE);
-}
-
-#[cfg(not(feature = "check"))]
-fn checked(_: &[i64]) {}
 
 #[test]
 fn a_book_with_some_words_changed() {

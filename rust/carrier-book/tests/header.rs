@@ -36,8 +36,7 @@ fn a_program_in_c() {
     let source = here().join("tests/c/book.c");
     let archive = Path::new(env!("CARRIER_ARCHIVE"));
     let program = Path::new(env!("CARGO_TARGET_TMPDIR")).join("book_in_c");
-    let check = if cfg!(feature = "check") { "-DCARRIER_HAS_CHECK" } else { "-DCARRIER_LACKS_CHECK" };
-    compile("cc", &["-std=c99", "-O1", check, source.to_str().unwrap(), archive.to_str().unwrap()], &program);
+    compile("cc", &["-std=c99", "-O1", source.to_str().unwrap(), archive.to_str().unwrap()], &program);
     let run = Command::new(&program).output().unwrap();
     assert!(run.status.success(), "{}", String::from_utf8_lossy(&run.stderr));
     assert_eq!(run.stdout, b"book.c: all holds\n");

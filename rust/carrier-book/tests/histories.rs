@@ -83,13 +83,9 @@ impl Pair {
         }
     }
 
-    #[cfg(feature = "check")]
     fn check(&self) {
         assert!(lent::check(&self.table, self.start));
     }
-
-    #[cfg(not(feature = "check"))]
-    fn check(&self) {}
 
     /// a load at which two live offers cost nearly the same, where they do so in range
     fn near_crossing(&self, r: &mut Random) -> i64 {

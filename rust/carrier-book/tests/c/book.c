@@ -80,12 +80,10 @@ int main(void) {
     refusals();
     EXPECT(withdraw(1) == 2);
     EXPECT(query(5, &price) == 2 && price == 15);
-#ifdef CARRIER_HAS_CHECK
     EXPECT(carrier_check(table, WORDS, START) == 1);
     table[START + 3]++;
     EXPECT(carrier_check(table, WORDS, START) == 0);
     EXPECT(carrier_check(table, WORDS, WORDS + 1) == 0);
-#endif
     edges_are_kept();
     puts("book.c: all holds");
     return 0;
