@@ -220,6 +220,23 @@ fn update_table(rows: &[(Listed, Row)]) -> String {
     t
 }
 
+/// what was aimed at, with the least and the greatest that was measured
+fn aims(queries: &[Row], updates: &[(Listed, Row)]) -> String {
+    let span = |values: Vec<f64>| {
+        let least = values.iter().copied().fold(f64::MAX, f64::min);
+        let greatest = values.iter().copied().fold(0.0, f64::max);
+        format!("{least:.1} to {greatest:.1}")
+    };
+    let large = queries.last().map_or(0.0, |r| r.times[1] / r.times[0]);
+    let of_rust = updates.iter().map(|r| r.1.times[0] / r.1.times[1]).collect();
+    let growth = updates.chunks(SIZES.len()).map(|rows| rows[SIZES.len() - 1].1.times[0] / rows[0].1.times[0]).collect();
+    let mut t = String::from("| aim | measured |\n|---|---|\n");
+    writeln!(t, "| a query at 4,096 offers is at least 20 times as quick as the scan | {large:.1} |").unwrap();
+    writeln!(t, "| an update at 4,096 offers takes at most 5 times its time at 64 | {} |", span(growth)).unwrap();
+    writeln!(t, "| an update takes at most twice the time of plain Rust, all sizes | {} |", span(of_rust)).unwrap();
+    t
+}
+
 fn line<'a>(name: &'a str, colour: &'a str, rows: &[&Row], at: usize) -> Line<'a> {
     Line { name, colour, points: rows.iter().map(|r| (r.offers as f64, r.times[at])).collect() }
 }
@@ -267,7 +284,7 @@ fn main() {
         [Listed::All, Listed::Half, Listed::Few].iter().flat_map(|k| SIZES.map(|n| (*k, n))).collect();
     let rows = medians(kinds.iter().map(|(k, n)| updates(*n, *k)).collect());
     let updated: Vec<(Listed, Row)> = kinds.iter().map(|k| k.0).zip(rows).collect();
-    let tables = format!("\n{}\n{}\n", query_table(&asked), update_table(&updated));
+    let tables = format!("\n{}\n{}\n{}\n", query_table(&asked), update_table(&updated), aims(&asked, &updated));
     print!("{tables}");
     if std::env::args().any(|word| word == "record") {
         record(&tables, &panels(&asked, &updated));
