@@ -1,0 +1,214 @@
+//! The book once more in plain Rust, with the same words in the same places and the same searches, but nothing proved and no word
+//! mistrusted: what the proved archive's times are held to.
+
+mod search;
+mod trees;
+
+use trees::slot_of;
+
+/// Node numbers up to this are leaves, by their slot; an inner node is this much more than the slot that keeps it.
+const INNER: usize = 4096;
+
+/// Planes of four words a slot.
+const DATA: usize = 0;
+const PIECE: usize = 1;
+const META: usize = 4;
+const STORED: usize = 5;
+
+/// The trees; the children of tree `t` are in plane 1 + t.
+const PIECES: usize = 0;
+const OFFERS: usize = 1;
+const NUMBERS: usize = 2;
+
+/// Words of the data plane.
+const NUMBER: usize = 0;
+const RATE: usize = 1;
+const BASE: usize = 2;
+
+pub struct Book {
+    pub words: Vec<i64>,
+    slots: usize,
+}
+
+/// A subtree of offers, with the root of its whole envelope.
+#[derive(Clone, Copy)]
+struct Held {
+    x: usize,
+    e: usize,
+}
+
+/// Searches, their steps, and the heights of the trees searched.
+#[derive(Clone, Copy, Default, Debug, PartialEq)]
+pub struct Counts {
+    pub searches: i64,
+    pub steps: i64,
+    pub heights: i64,
+}
+
+impl Book {
+    pub fn open(capacity: usize) -> Book {
+        let mut book = Book { words: vec![0; 64 * (capacity + 1)], slots: capacity + 1 };
+        book.words[0] = capacity as i64;
+        book.words[5] = 1;
+        for slot in 1..capacity {
+            book.put(DATA, slot, 3, slot as i64 + 1);
+        }
+        book
+    }
+
+    /// where the pieces that stay with node `x` are kept
+    fn stored(&self, x: usize) -> usize {
+        self.at(STORED, slot_of(x), (x <= INNER) as usize)
+    }
+
+    fn lower(&mut self, v: Held) -> [Held; 2] {
+        let (l, r) = (self.child(OFFERS, v.x, 0), self.child(OFFERS, v.x, 1));
+        let (front, back) = self.cut(v.e, self.get(DATA, v.x - INNER, RATE));
+        let (left, right) = (self.words[self.stored(l)] as usize, self.words[self.stored(r)] as usize);
+        let le = self.cat(front, left);
+        let re = self.cat(right, back);
+        [Held { x: l, e: le }, Held { x: r, e: re }]
+    }
+
+    fn raise(&mut self, gap: usize, l: Held, r: Held, counts: &mut Counts) -> Held {
+        let (u, v, steps) = self.meet(l.e, r.e);
+        counts.searches += 1;
+        counts.steps += steps;
+        counts.heights += self.height(PIECES, l.e) + self.height(PIECES, r.e);
+        let (front, left) = self.cut(l.e, self.get(DATA, u, RATE));
+        let (right, back) = self.cut(r.e, self.get(DATA, v, RATE) + 1);
+        let (at_left, at_right) = (self.stored(l.x), self.stored(r.x));
+        self.words[at_left] = left as i64;
+        self.words[at_right] = right as i64;
+        let x = self.node(OFFERS, gap, l.x, r.x);
+        self.put(1 + OFFERS, gap, 2, u as i64);
+        self.put(1 + OFFERS, gap, 3, v as i64);
+        Held { x, e: self.cat(front, back) }
+    }
+
+    fn raise_on(&mut self, side: usize, gap: usize, p: Held, q: Held, counts: &mut Counts) -> Held {
+        if side == 0 {
+            self.raise(gap, p, q, counts)
+        } else {
+            self.raise(gap, q, p, counts)
+        }
+    }
+
+    fn lower_on(&mut self, side: usize, v: Held) -> (Held, Held) {
+        let children = self.lower(v);
+        (children[side], children[1 - side])
+    }
+
+    fn rebalance(&mut self, side: usize, gap: usize, p: Held, q: Held, counts: &mut Counts) -> Held {
+        let (hp, hq) = (self.height(OFFERS, p.x), self.height(OFFERS, q.x));
+        if hq > hp + 1 {
+            return self.rebalance(1 - side, gap, q, p, counts);
+        }
+        if hp <= hq + 1 {
+            return self.raise_on(side, gap, p, q, counts);
+        }
+        let near = p.x - INNER;
+        let (outer, middle) = self.lower_on(side, p);
+        if self.height(OFFERS, middle.x) <= self.height(OFFERS, outer.x) {
+            let y = self.raise_on(side, gap, middle, q, counts);
+            return self.raise_on(side, near, outer, y, counts);
+        }
+        let (a, b) = self.lower_on(side, middle);
+        let x = self.raise_on(side, near, outer, a, counts);
+        let y = self.raise_on(side, gap, b, q, counts);
+        self.raise_on(side, middle.x - INNER, x, y, counts)
+    }
+
+    fn insert(&mut self, v: Held, slot: usize, counts: &mut Counts) -> Held {
+        let rate = self.get(DATA, slot, RATE);
+        let side = (rate <= self.get(DATA, slot_of(v.x), RATE)) as usize;
+        if v.x <= INNER {
+            let gap = if side == 0 { slot } else { v.x };
+            return self.raise_on(side, gap, Held { x: slot, e: slot }, v, counts);
+        }
+        let (near, far) = self.lower_on(side, v);
+        let grown = self.insert(near, slot, counts);
+        self.rebalance(side, v.x - INNER, grown, far, counts)
+    }
+
+    fn remove(&mut self, v: Held, slot: usize, counts: &mut Counts) -> Held {
+        if v.x <= INNER {
+            return Held { x: 0, e: 0 };
+        }
+        let side = (self.get(DATA, slot, RATE) < self.get(DATA, v.x - INNER, RATE)) as usize;
+        let (near, far) = self.lower_on(side, v);
+        let left = self.remove(near, slot, counts);
+        if left.x == 0 {
+            return far;
+        }
+        let gap = if side == 0 { self.end(OFFERS, 1, left.x) } else { v.x - INNER };
+        self.rebalance(side, gap, left, far, counts)
+    }
+
+    fn finish(&mut self, held: Held, live: i64) {
+        self.words[1] = held.x as i64;
+        self.words[2] = held.e as i64;
+        self.words[3] = live;
+    }
+
+    fn held(&self) -> Held {
+        Held { x: self.words[1] as usize, e: self.words[2] as usize }
+    }
+
+    fn split_numbers(&mut self, root: usize, least: i64) -> (usize, usize) {
+        if root == 0 {
+            return (0, 0);
+        }
+        self.split(NUMBERS, NUMBER, root, least)
+    }
+
+    /// posts an offer in range; the live count after it, or the cause's number
+    pub fn post(&mut self, number: i64, rate: i64, base: i64) -> Result<(i64, Counts), i64> {
+        let root = self.words[4] as usize;
+        if self.find(NUMBERS, NUMBER, root, number) > 0 {
+            return Err(5);
+        }
+        if self.find(OFFERS, RATE, self.words[1] as usize, rate) > 0 {
+            return Err(6);
+        }
+        if self.words[3] == self.words[0] {
+            return Err(7);
+        }
+        let slot = self.words[5] as usize;
+        self.words[5] = self.get(DATA, slot, 3);
+        let at = self.at(DATA, slot, 0);
+        self.words[at..at + 3].copy_from_slice(&[number, rate, base]);
+        let (front, back) = self.split_numbers(root, number);
+        let gap = self.end(NUMBERS, 1, front);
+        let front = self.join(NUMBERS, gap, front, slot);
+        self.words[4] = self.join(NUMBERS, slot, front, back) as i64;
+        let mut counts = Counts::default();
+        let held = match self.held() {
+            Held { x: 0, .. } => Held { x: slot, e: slot },
+            held => self.insert(held, slot, &mut counts),
+        };
+        self.finish(held, self.words[3] + 1);
+        Ok((self.words[3], counts))
+    }
+
+    /// withdraws an offer; the live count after it, or the cause's number
+    pub fn withdraw(&mut self, number: i64) -> Result<(i64, Counts), i64> {
+        let root = self.words[4] as usize;
+        let slot = self.find(NUMBERS, NUMBER, root, number);
+        if slot == 0 {
+            return Err(8);
+        }
+        let (front, rest) = self.split_numbers(root, number + 1);
+        let (_, back) = self.split_numbers(rest, number);
+        let gap = self.end(NUMBERS, 1, front);
+        self.words[4] = self.join(NUMBERS, gap, front, back) as i64;
+        let mut counts = Counts::default();
+        let held = self.remove(self.held(), slot, &mut counts);
+        self.finish(held, self.words[3] - 1);
+        self.put(DATA, slot, NUMBER, 0);
+        let free = self.words[5];
+        self.put(DATA, slot, 3, free);
+        self.words[5] = slot as i64;
+        Ok((self.words[3], counts))
+    }
+}

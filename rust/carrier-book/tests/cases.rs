@@ -1,0 +1,131 @@
+//! The requirements' worked cases, the order of causes, and the archive's own numbers.
+use carrier_book::{lent, raw, words, Book, Declined, Piece};
+
+fn book(offers: &[(i64, i64)]) -> Book {
+    let mut book = Book::new(64).unwrap();
+    for (i, (rate, base)) in offers.iter().enumerate() {
+        book.post(i as i64 + 1, *rate, *base).unwrap();
+    }
+    book
+}
+
+fn pieces(book: &Book) -> Vec<(i64, i64, i64)> {
+    book.listing().iter().map(|p: &Piece| (p.number, p.numerator, p.denominator)).collect()
+}
+
+fn asked(book: &Book, load: i64) -> (i64, i64) {
+    let found = book.query(load).unwrap();
+    (found.number, found.price)
+}
+
+#[test]
+fn prices_to_prove() {
+    let b = book(&[(3, 0), (1, 10), (0, 40)]);
+    assert_eq!(pieces(&b), [(1, 10, 2), (2, 30, 1), (3, 0, 0)]);
+    assert_eq!([5, 6, 30, 31].map(|q| asked(&b, q)), [(1, 15), (2, 16), (2, 40), (3, 40)]);
+    let mut b = book(&[(2, 0), (1, 5), (0, 10)]);
+    assert_eq!(pieces(&b), [(1, 10, 2), (3, 0, 0)]);
+    b.withdraw(3).unwrap();
+    assert_eq!(pieces(&b), [(1, 5, 1), (2, 0, 0)]);
+    let mut b = book(&[(2, 0), (1, 11), (0, 10)]);
+    b.withdraw(1).unwrap();
+    assert_eq!(pieces(&b), [(2, -1, 1), (3, 0, 0)]);
+    let b = book(&[(0, 0), (-3, 7)]);
+    assert_eq!([2, 3].map(|q| asked(&b, q)), [(1, 0), (2, -2)]);
+}
+
+#[test]
+fn causes_in_order() {
+    let mut b = Book::new(2).unwrap();
+    assert_eq!(b.query(0), Err(Declined::Empty));
+    b.post(1, 5, 0).unwrap();
+    b.post(2, 6, 0).unwrap();
+    assert_eq!(b.post(10_000, 5, 0), Err(Declined::OutOfRange));
+    assert_eq!(b.post(3, 100_001, 0), Err(Declined::OutOfRange));
+    assert_eq!(b.post(3, 7, -1_000_000_001), Err(Declined::OutOfRange));
+    assert_eq!(b.post(1, 6, 0), Err(Declined::NumberLive));
+    assert_eq!(b.post(3, 6, 0), Err(Declined::RateLive));
+    assert_eq!(b.post(3, 7, 0), Err(Declined::Full));
+    assert_eq!(b.withdraw(3), Err(Declined::NotLive));
+    assert_eq!(b.query(1_000_001), Err(Declined::OutOfRange));
+    assert_eq!(lent::listing(b.as_words(), 0, &mut [0; 5]), Err(Declined::OutputTooShort));
+    assert_eq!(Book::new(0).unwrap_err(), Declined::Capacity);
+    assert_eq!(Book::new(4_097).unwrap_err(), Declined::Capacity);
+    for number in 1..=10 {
+        assert_eq!(Declined::from_number(number).number(), number);
+    }
+}
+
+#[test]
+fn the_ends_of_the_ranges() {
+    let mut b = Book::new(4).unwrap();
+    let ends = [
+        (1, 100_000, -1_000_000_000),
+        (9_999, -100_000, 1_000_000_000),
+        (2, 99_999, 1_000_000_000),
+        (3, -99_999, -1_000_000_000),
+    ];
+    for (number, rate, base) in ends {
+        b.post(number, rate, base).unwrap();
+    }
+    assert_eq!(asked(&b, -1_000_000), (1, -101_000_000_000));
+    assert_eq!(asked(&b, 1_000_000), (3, -100_999_000_000));
+    assert_eq!(pieces(&b), [(1, 0, 199_999), (3, 2_000_000_000, 1), (9_999, 0, 0)]);
+}
+
+#[test]
+fn arrays_too_short() {
+    let mut table = vec![0i64; words(2)];
+    lent::open(&mut table, 0, 2).unwrap();
+    lent::post(&mut table, 0, 1, 1, 1).unwrap();
+    let before = table.clone();
+    let mut few = [7i64; 3];
+    for length in 0..3 {
+        // SAFETY: the lengths are at most those of the arrays.
+        unsafe {
+            let (t, n, f) = (table.as_mut_ptr(), table.len(), few.as_mut_ptr());
+            assert_eq!(raw::carrier_post(t, n, 0, 2, 2, 2, f, length), -100);
+            assert_eq!(raw::carrier_post(t, n, n + 1, 0, 0, 0, f, length), -100);
+            assert_eq!(raw::carrier_withdraw(t, n, 0, 1, f, length), -100);
+            if length < 2 {
+                assert_eq!(raw::carrier_query(t, n, 0, 0, f, length), -100);
+                assert_eq!(raw::carrier_query(t, n, n + 1, i64::MAX, f, length), -100);
+            }
+        }
+    }
+    assert!(table == before && few == [7; 3]);
+}
+
+#[test]
+fn refusals_leave_counts_and_later_words_stay() {
+    let mut table = vec![0i64; words(2)];
+    lent::open(&mut table, 0, 2).unwrap();
+    let mut room = [7i64; 5];
+    // SAFETY: the lengths are those of the arrays.
+    unsafe {
+        let (t, n, f) = (table.as_mut_ptr(), table.len(), room.as_mut_ptr());
+        assert_eq!(raw::carrier_withdraw(t, n, 0, 1, f, 5), -8);
+        assert_eq!(raw::carrier_query(t, n, 0, 1, f, 5), -9);
+        assert_eq!(room, [7; 5]);
+        assert_eq!(raw::carrier_post(t, n, 0, 1, 3, 0, f, 5), 1);
+        assert_eq!(room, [0, 0, 0, 7, 7]);
+        assert_eq!(raw::carrier_post(t, n, 0, 2, 1, 10, f, 5), 2);
+        // two single lines meet in one step
+        assert_eq!(room, [1, 1, 0, 7, 7]);
+        assert_eq!(raw::carrier_query(t, n, 0, 6, f, 5), 2);
+        assert_eq!(room, [16, 1, 0, 7, 7]);
+    }
+}
+
+#[test]
+fn a_book_is_its_words() {
+    let mut b = book(&[(3, 0), (1, 10), (0, 40)]);
+    let copy = b.clone();
+    b.withdraw(2).unwrap();
+    assert_eq!(asked(&copy, 6), (2, 16));
+    assert_eq!(asked(&b, 6), (1, 18));
+    let again = Book::from_words(b.as_words().to_vec()).unwrap();
+    assert_eq!(pieces(&again), pieces(&b));
+    assert!(Book::from_words(vec![]).is_none());
+    assert!(Book::from_words([b.as_words(), &[0]].concat()).is_none());
+}

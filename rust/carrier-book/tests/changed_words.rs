@@ -1,0 +1,196 @@
+//! Check says no after a change of any one word that the form fixes, and yes whatever the words hold that it does not use.
+mod common;
+
+use carrier_book::{lent, words};
+use common::{offer, Lie, Random, LIES};
+use std::collections::BTreeMap;
+
+/// The trees, by the number that the layout gives them.
+const PIECES: usize = 0;
+const OFFERS: usize = 1;
+const NUMBERS: usize = 2;
+
+/// The words of a part that its form fixes, each with what it is.
+struct Used<'a> {
+    part: &'a [i64],
+    words: BTreeMap<usize, &'static str>,
+}
+
+impl Used<'_> {
+    fn of(part: &[i64]) -> Used<'_> {
+        let mut used = Used { part, words: BTreeMap::new() };
+        for (at, what) in ["capacity", "root of offers", "root of pieces", "live count", "root of numbers", "first free slot"]
+            .iter()
+            .enumerate()
+        {
+            used.words.insert(at, what);
+        }
+        if part[3] > 0 {
+            used.tree(OFFERS, part[1]);
+            used.tree(PIECES, part[2]);
+            used.tree(NUMBERS, part[4]);
+        }
+        let mut slot = part[5];
+        while slot != 0 {
+            used.field(slot, 0, "number of a free slot");
+            slot = used.field(slot, 3, "link of the free chain");
+        }
+        used
+    }
+
+    fn place(&self, slot: i64, field: usize) -> usize {
+        64 + 4 * (field / 4 * (self.part[0] as usize + 1) + slot as usize) + field % 4
+    }
+
+    fn field(&mut self, slot: i64, field: usize, what: &'static str) -> i64 {
+        let at = self.place(slot, field);
+        self.words.insert(at, what);
+        self.part[at]
+    }
+
+    fn tree(&mut self, tree: usize, x: i64) {
+        if x <= 4_096 {
+            return;
+        }
+        let slot = x - 4_096;
+        let children = [self.field(slot, 4 + 4 * tree, "left child"), self.field(slot, 5 + 4 * tree, "right child")];
+        self.field(slot, 16 + tree, "height");
+        if tree == PIECES {
+            self.field(slot, 6, "numerator of a crossing");
+            self.field(slot, 7, "denominator of a crossing");
+            self.field(slot, 19, "next piece");
+        }
+        if tree == OFFERS {
+            self.field(slot, 10, "left end of a bridge");
+            self.field(slot, 11, "right end of a bridge");
+            for child in children {
+                let stored = match child {
+                    leaf @ 0..=4_096 => self.field(leaf, 21, "stored part of a leaf"),
+                    inner => self.field(inner - 4_096, 20, "stored part of an inner node"),
+                };
+                self.tree(PIECES, stored);
+            }
+        }
+        for child in children {
+            self.tree(tree, child);
+        }
+    }
+}
+
+fn book(r: &mut Random, capacity: usize, lie: Lie, calls: usize) -> Vec<i64> {
+    let mut part: Vec<i64> = (0..words(capacity)).map(|_| r.word()).collect();
+    lent::open(&mut part, 0, capacity as i64).unwrap();
+    let mut numbers = vec![];
+    for _ in 0..calls {
+        let o = offer(r, lie, capacity as i64);
+        if lent::post(&mut part, 0, o.number, o.rate, o.base).is_ok() {
+            numbers.push(o.number);
+        } else if r.one_in(2) && !numbers.is_empty() {
+            lent::withdraw(&mut part, 0, r.pick(&numbers)).ok();
+        }
+    }
+    part
+}
+
+/// Whether the word tells the form the same. A link that may be missing is so where its word is 0 or no node's number.
+fn tells_the_same(what: &str, old: i64, word: i64) -> bool {
+    let may_be_missing = what.starts_with("stored part") || what == "link of the free chain";
+    word == old || may_be_missing && old == 0 && !(0..=8_192).contains(&word)
+}
+
+/// another word than `old`: near it, a node or a slot, or anything
+fn other(r: &mut Random, what: &str, old: i64, capacity: usize) -> i64 {
+    let c = capacity as i64;
+    loop {
+        let word = match r.within(0, 7) {
+            0 => old.wrapping_add(1),
+            1 => old.wrapping_sub(1),
+            2 => 0,
+            3 => old.wrapping_add(1 << 32),
+            4 => r.within(1, c),
+            5 => 4_096 + r.within(1, c),
+            6 => r.pick(&[i64::MIN, i64::MAX, -1]),
+            _ => r.word(),
+        };
+        if !tells_the_same(what, old, word) {
+            return word;
+        }
+    }
+}
+
+#[test]
+fn a_word_of_the_form() {
+    let mut seen: BTreeMap<&str, usize> = BTreeMap::new();
+    for seed in 0..240 {
+        let r = &mut Random::new(70_000 + seed);
+        let capacity = r.pick(&[1, 2, 3, 5, 8, 16, 64]);
+        let lie = LIES[seed as usize % LIES.len()];
+        let calls = r.within(0, 5 * capacity as i64) as usize;
+        let mut part = book(r, capacity, lie, calls);
+        assert!(lent::check(&part, 0));
+        for (at, what) in Used::of(&part.clone()).words {
+            let old = part[at];
+            for _ in 0..4 {
+                part[at] = other(r, what, old, capacity);
+                assert!(!lent::check(&part, 0), "seed {seed}, word {at} ({what}): {old} became {}", part[at]);
+                *seen.entry(what).or_default() += 1;
+            }
+            part[at] = old;
+        }
+        assert!(lent::check(&part, 0));
+    }
+    // each kind of word was among them, often
+    assert_eq!(seen.len(), 18);
+    assert!(seen.values().all(|n| *n > 500), "{seen:?}");
+}
+
+#[test]
+fn a_word_of_a_large_book() {
+    let r = &mut Random::new(80_000);
+    let mut part = book(r, 4_096, Lie::Mixed, 5_000);
+    assert!(lent::check(&part, 0));
+    let used: Vec<(usize, &str)> = Used::of(&part).words.into_iter().collect();
+    for _ in 0..400 {
+        let (at, what) = r.pick(&used);
+        let old = part[at];
+        part[at] = other(r, what, old, 4_096);
+        assert!(!lent::check(&part, 0), "word {at} ({what}): {old} became {}", part[at]);
+        part[at] = old;
+    }
+}
+
+#[test]
+fn words_that_the_form_leaves_free() {
+    for seed in 0..120 {
+        let r = &mut Random::new(90_000 + seed);
+        let capacity = r.pick(&[1, 2, 3, 8, 64]);
+        let calls = r.within(0, 5 * capacity as i64) as usize;
+        let mut part = book(r, capacity, LIES[seed as usize % LIES.len()], calls);
+        let used = Used::of(&part).words;
+        for at in 6..part.len() {
+            // a slot's number, rate and base stay as they are
+            let is_data = (64..68 + 4 * capacity).contains(&at);
+            if !is_data && !used.contains_key(&at) {
+                part[at] = r.word();
+            }
+        }
+        assert!(lent::check(&part, 0), "seed {seed}");
+    }
+}
+
+#[test]
+fn no_where_there_is_no_book() {
+    let r = &mut Random::new(95_000);
+    let part = book(r, 3, Lie::Close, 9);
+    assert!(!lent::check(&[], 0));
+    assert!(!lent::check(&part, 1));
+    assert!(!lent::check(&part, part.len() + 1));
+    assert!(!lent::check(&part, usize::MAX));
+    assert!(!lent::check(&part[..part.len() - 1], 0));
+    for told in [0, -1, 4, 4_097, i64::MIN] {
+        let mut other = part.clone();
+        other[0] = told;
+        assert!(!lent::check(&other, 0));
+    }
+    assert!(lent::check(&[&[7, 7][..], &part].concat(), 2));
+}

@@ -1,0 +1,196 @@
+//! A scan of all offers, written from the requirements alone, and numbers that are the same in every run.
+#![allow(dead_code)]
+
+/// xorshift64*
+pub struct Random(u64);
+
+impl Random {
+    pub fn new(seed: u64) -> Random {
+        Random(seed.wrapping_mul(0x9e37_79b9_7f4a_7c15) | 1)
+    }
+
+    pub fn word(&mut self) -> i64 {
+        self.0 ^= self.0 >> 12;
+        self.0 ^= self.0 << 25;
+        self.0 ^= self.0 >> 27;
+        self.0.wrapping_mul(0x2545_f491_4f6c_dd1d) as i64
+    }
+
+    /// from `low` to `high`, both included
+    pub fn within(&mut self, low: i64, high: i64) -> i64 {
+        low + ((self.word() as u64 >> 1) % (high - low + 1) as u64) as i64
+    }
+
+    pub fn one_in(&mut self, n: i64) -> bool {
+        self.within(1, n) == 1
+    }
+
+    pub fn pick<T: Copy>(&mut self, from: &[T]) -> T {
+        from[self.within(0, from.len() as i64 - 1) as usize]
+    }
+}
+
+#[derive(Clone, Copy, Debug, PartialEq)]
+pub struct Offer {
+    pub number: i64,
+    pub rate: i64,
+    pub base: i64,
+}
+
+impl Offer {
+    pub fn price(&self, load: i64) -> i64 {
+        self.base + self.rate * load
+    }
+}
+
+/// The live offers in no order; every answer is found by going through all of them.
+pub struct Scan {
+    pub capacity: usize,
+    pub offers: Vec<Offer>,
+}
+
+impl Scan {
+    pub fn new(capacity: usize) -> Scan {
+        Scan { capacity, offers: vec![] }
+    }
+
+    pub fn post(&mut self, o: Offer) -> Result<i64, i64> {
+        if o.number < 1 || o.number > 9_999 || o.rate.unsigned_abs() > 100_000 || o.base.unsigned_abs() > 1_000_000_000 {
+            return Err(4);
+        }
+        if self.offers.iter().any(|p| p.number == o.number) {
+            return Err(5);
+        }
+        if self.offers.iter().any(|p| p.rate == o.rate) {
+            return Err(6);
+        }
+        if self.offers.len() == self.capacity {
+            return Err(7);
+        }
+        self.offers.push(o);
+        Ok(self.offers.len() as i64)
+    }
+
+    pub fn withdraw(&mut self, number: i64) -> Result<i64, i64> {
+        if !(1..=9_999).contains(&number) {
+            return Err(4);
+        }
+        let at = self.offers.iter().position(|p| p.number == number).ok_or(8i64)?;
+        self.offers.swap_remove(at);
+        Ok(self.offers.len() as i64)
+    }
+
+    /// the number and the price of the cheapest, of several the one with the highest rate
+    pub fn query(&self, load: i64) -> Result<(i64, i64), i64> {
+        if load.unsigned_abs() > 1_000_000 {
+            return Err(4);
+        }
+        let mut best: Option<Offer> = None;
+        for o in &self.offers {
+            let better = match best {
+                None => true,
+                Some(b) => o.price(load) < b.price(load) || o.price(load) == b.price(load) && o.rate > b.rate,
+            };
+            if better {
+                best = Some(*o);
+            }
+        }
+        best.map(|b| (b.number, b.price(load))).ok_or(9)
+    }
+
+    /// Whether an offer is strictly cheaper than every other at some rational load: it is so right of its greatest crossing with an
+    /// offer of a higher rate and left of its least with one of a lower rate. No product reaches 2^49.
+    fn is_listed(&self, e: &Offer) -> bool {
+        let mut after: Option<(i64, i64)> = None;
+        let mut before: Option<(i64, i64)> = None;
+        for o in &self.offers {
+            let n = o.base - e.base;
+            let d = e.rate - o.rate;
+            if d < 0 && after.map_or(true, |(m, f)| -n * f > m * -d) {
+                after = Some((-n, -d));
+            } else if d > 0 && before.map_or(true, |(m, f)| n * f < m * d) {
+                before = Some((n, d));
+            } else {
+                continue;
+            }
+            if let (Some((n, d)), Some((m, f))) = (after, before) {
+                if n * f >= m * d {
+                    return false;
+                }
+            }
+        }
+        true
+    }
+
+    /// number, numerator, denominator a piece
+    pub fn listing(&self) -> Vec<i64> {
+        let mut listed: Vec<Offer> = self.offers.iter().filter(|e| self.is_listed(e)).copied().collect();
+        listed.sort_by_key(|o| -o.rate);
+        let mut out = vec![];
+        for (i, o) in listed.iter().enumerate() {
+            let (n, d) = listed.get(i + 1).map_or((0, 0), |next| (next.base - o.base, o.rate - next.rate));
+            out.extend([o.number, n, d]);
+        }
+        out
+    }
+}
+
+/// the least j with 2^j ≥ n
+pub fn log2_up(n: usize) -> i64 {
+    let mut j = 0;
+    while 1usize << j < n {
+        j += 1;
+    }
+    j
+}
+
+/// How the offers of a history lie to each other.
+#[derive(Clone, Copy, Debug)]
+pub enum Lie {
+    /// anywhere in the whole ranges
+    Anywhere,
+    /// in ranges so small that most crossings coincide
+    Close,
+    /// tangents of a parabola: each is listed
+    Tangent,
+    /// tangents from the other side: only the two outermost are listed
+    Hidden,
+    /// all through one point
+    Pencil,
+    /// parallel families through few points, with tangents among them
+    Mixed,
+}
+
+pub const LIES: [Lie; 6] = [Lie::Anywhere, Lie::Close, Lie::Tangent, Lie::Hidden, Lie::Pencil, Lie::Mixed];
+
+pub fn offer(r: &mut Random, lie: Lie, capacity: i64) -> Offer {
+    let number = r.within(1, (3 * capacity).min(9_999));
+    let span = (2 * capacity + 2).max(6);
+    let (rate, base) = match lie {
+        Lie::Anywhere => (r.within(-100_000, 100_000), r.within(-1_000_000_000, 1_000_000_000)),
+        Lie::Close => (r.within(-span, span), r.within(-12, 12)),
+        Lie::Tangent => {
+            let rate = r.within(-30_000, 30_000);
+            (rate, rate * rate)
+        }
+        Lie::Hidden => {
+            let rate = r.within(-30_000, 30_000);
+            (rate, -rate * rate)
+        }
+        Lie::Pencil => {
+            let rate = r.within(-span, span);
+            (rate, 1_000 - 13 * rate)
+        }
+        Lie::Mixed => {
+            let rate = r.within(-span, span);
+            let base = match r.within(0, 3) {
+                0 => rate * rate,
+                1 => 50 - 7 * rate,
+                2 => 50 + 2 * rate,
+                _ => r.within(-span, span),
+            };
+            (rate, base)
+        }
+    };
+    Offer { number, rate, base }
+}

@@ -1,0 +1,163 @@
+//! Tables of any content: every call returns, and no word outside the part changes.
+mod common;
+
+use carrier_book::{lent, words, Declined};
+use common::{offer, Random, LIES};
+
+/// the words around a part
+const EDGE: usize = 40;
+const MARK: i64 = 0x7a7a_7a7a;
+
+/// A part between marked words.
+fn framed(part: &[i64]) -> Vec<i64> {
+    let edge = vec![MARK; EDGE];
+    [&edge[..], part, &edge[..]].concat()
+}
+
+fn book(r: &mut Random, capacity: usize, posts: usize) -> Vec<i64> {
+    let mut part: Vec<i64> = (0..words(capacity)).map(|_| r.word()).collect();
+    lent::open(&mut part, 0, capacity as i64).unwrap();
+    let lie = r.pick(&LIES);
+    let mut numbers = vec![];
+    for _ in 0..posts {
+        let o = offer(r, lie, capacity as i64);
+        if lent::post(&mut part, 0, o.number, o.rate, o.base).is_ok() {
+            numbers.push(o.number);
+        }
+        if r.one_in(4) && !numbers.is_empty() {
+            lent::withdraw(&mut part, 0, r.pick(&numbers)).ok();
+        }
+    }
+    part
+}
+
+fn wild(r: &mut Random, capacity: usize) -> i64 {
+    let c = capacity as i64;
+    match r.within(0, 7) {
+        0 => r.word(),
+        1 => r.within(-2, 30),
+        2 => r.within(1, c),
+        3 => 4_096 + r.within(1, c),
+        4 => r.within(0, 8_200),
+        5 => r.pick(&[i64::MIN, i64::MAX, -1, u32::MAX as i64, 1 << 32]),
+        6 => r.within(-2_000_000_000, 2_000_000_000),
+        _ => r.within(-200_000, 200_000),
+    }
+}
+
+/// All calls on a part, with what must hold on any words.
+fn calls(r: &mut Random, table: &mut [i64], capacity: usize, rounds: usize) {
+    let end = EDGE + words(capacity);
+    for _ in 0..rounds {
+        let lie = r.pick(&LIES);
+        let o = offer(r, lie, capacity as i64);
+        lent::post(table, EDGE, o.number, o.rate, o.base).ok();
+        lent::withdraw(table, EDGE, r.within(1, 3 * capacity as i64).min(9_999)).ok();
+        let before = table.to_vec();
+        let mut out = vec![MARK; r.within(0, 3 * capacity as i64) as usize + 2 * EDGE];
+        let room = out.len() - EDGE;
+        lent::listing(table, EDGE, &mut out[EDGE..room]).ok();
+        assert!(out[..EDGE].iter().chain(&out[room..]).all(|w| *w == MARK));
+        lent::query(table, EDGE, r.within(-1_000_000, 1_000_000)).ok();
+        lent::check(table, EDGE);
+        // causes before any word of the part is trusted
+        assert_eq!(lent::post(table, EDGE, 10_000, 0, 0), Err(Declined::OutOfRange));
+        assert_eq!(lent::withdraw(table, EDGE, 0), Err(Declined::OutOfRange));
+        assert_eq!(lent::query(table, EDGE, -1_000_001), Err(Declined::OutOfRange));
+        assert!(table == before);
+        assert!(table[..EDGE].iter().chain(&table[end..]).all(|w| *w == MARK));
+    }
+}
+
+#[test]
+fn a_book_with_some_words_changed() {
+    for seed in 0..1_500 {
+        let r = &mut Random::new(9_000 + seed);
+        let capacity = r.pick(&[1, 2, 3, 8, 16, 64]);
+        let mut part = book(r, capacity, 3 * capacity);
+        for _ in 0..r.pick(&[1, 2, 5, 40]) {
+            let at = r.within(1, part.len() as i64 - 1) as usize;
+            part[at] = wild(r, capacity);
+        }
+        calls(r, &mut framed(&part), capacity, 20);
+    }
+}
+
+#[test]
+fn header_words_changed() {
+    for seed in 0..600 {
+        let r = &mut Random::new(19_000 + seed);
+        let capacity = r.pick(&[2, 8, 64]);
+        let mut part = book(r, capacity, 3 * capacity);
+        part[r.within(1, 6) as usize] = wild(r, capacity);
+        calls(r, &mut framed(&part), capacity, 20);
+    }
+}
+
+#[test]
+fn words_of_any_content() {
+    for seed in 0..600 {
+        let r = &mut Random::new(29_000 + seed);
+        let capacity = r.pick(&[1, 2, 3, 16, 64]);
+        let mut part: Vec<i64> = (0..words(capacity)).map(|_| wild(r, capacity)).collect();
+        part[0] = capacity as i64;
+        calls(r, &mut framed(&part), capacity, 20);
+    }
+}
+
+#[test]
+fn links_of_any_content_in_a_large_part() {
+    for seed in 0..6 {
+        let r = &mut Random::new(39_000 + seed);
+        let capacity = 4_096;
+        let mut part: Vec<i64> = (0..words(capacity)).map(|_| r.within(4_097, 8_192)).collect();
+        part[0] = capacity as i64;
+        part[3] = r.within(0, 4_096);
+        calls(r, &mut framed(&part), capacity, 15);
+    }
+}
+
+#[test]
+fn no_book() {
+    let r = &mut Random::new(49_000);
+    let whole = book(r, 3, 9);
+    let mut cases: Vec<(Vec<i64>, usize)> = vec![(vec![], 0), (vec![], 1), (whole.clone(), 1 << 60), (whole.clone(), usize::MAX)];
+    cases.extend([(whole.clone(), whole.len()), (whole.clone(), whole.len() + 1), (whole[..whole.len() - 1].to_vec(), 0)]);
+    for told in [0, -1, 4, 4_097, i64::MIN, i64::MAX] {
+        let mut part = whole.clone();
+        part[0] = told;
+        cases.push((part, 0));
+    }
+    for (mut table, start) in cases {
+        let before = table.clone();
+        assert_eq!(lent::post(&mut table, start, 0, 0, 0), Err(Declined::NoBook));
+        assert_eq!(lent::withdraw(&mut table, start, 0), Err(Declined::NoBook));
+        assert_eq!(lent::query(&table, start, i64::MAX), Err(Declined::NoBook));
+        assert_eq!(lent::listing(&table, start, &mut []), Err(Declined::NoBook));
+        assert!(table == before);
+    }
+}
+
+#[test]
+fn opening_on_any_words() {
+    for seed in 0..300 {
+        let r = &mut Random::new(59_000 + seed);
+        let capacity = r.pick(&[1, 2, 3, 64]);
+        let part: Vec<i64> = (0..words(capacity)).map(|_| wild(r, capacity)).collect();
+        let mut table = framed(&part);
+        let before = table.clone();
+        for wrong in [0, -1, 4_097, i64::MIN, i64::MAX] {
+            assert_eq!(lent::open(&mut table, usize::MAX, wrong), Err(Declined::Capacity));
+        }
+        let beyond = table.len() - words(capacity) + 1;
+        for start in [beyond, table.len(), table.len() + 1, usize::MAX] {
+            assert_eq!(lent::open(&mut table, start, capacity as i64), Err(Declined::NoRoom));
+        }
+        assert!(table == before);
+        lent::open(&mut table, EDGE, capacity as i64).unwrap();
+        assert!(table[..EDGE] == before[..EDGE] && table[EDGE + part.len()..] == before[EDGE + part.len()..]);
+        assert_eq!(lent::query(&table, EDGE, 0), Err(Declined::Empty));
+        assert_eq!(lent::listing(&table, EDGE, &mut []), Ok(0));
+        assert_eq!(lent::post(&mut table, EDGE, 5, 1, 2).map(|u| u.live), Ok(1));
+    }
+}

@@ -1,0 +1,226 @@
+//! Random histories of calls, long and short, against a scan of all offers.
+mod common;
+
+use carrier_book::{lent, words, Declined};
+use common::{log2_up, offer, Lie, Offer, Random, Scan, LIES};
+
+/// A book somewhere in a table of other words, and the scan beside it.
+struct Pair {
+    table: Vec<i64>,
+    start: usize,
+    scan: Scan,
+}
+
+impl Pair {
+    fn open(r: &mut Random, capacity: usize) -> Pair {
+        let start = r.within(0, 70) as usize;
+        let mut table: Vec<i64> = (0..start + words(capacity) + 9).map(|_| r.word()).collect();
+        let before = table.clone();
+        lent::open(&mut table, start, capacity as i64).unwrap();
+        let pair = Pair { table, start, scan: Scan::new(capacity) };
+        pair.same_outside(&before);
+        pair
+    }
+
+    fn same_outside(&self, before: &[i64]) {
+        let end = self.start + words(self.scan.capacity);
+        assert_eq!(self.table[..self.start], before[..self.start]);
+        assert_eq!(self.table[end..], before[end..]);
+    }
+
+    /// holds an update's answer and counts to the scan's, and a refusal to changing nothing
+    fn hold(&self, before: Option<Vec<i64>>, n: usize, expected: Result<i64, i64>, told: Result<carrier_book::Update, Declined>) {
+        assert_eq!(told.map(|u| u.live).map_err(Declined::number), expected);
+        if let Some(before) = before {
+            match told {
+                Ok(_) => self.same_outside(&before),
+                Err(_) => assert!(self.table == before),
+            }
+        }
+        if let Ok(u) = told {
+            assert!(u.searches <= 8 * log2_up(n.max(self.scan.offers.len())) + 4);
+            assert!(u.steps >= u.searches && u.steps <= 3 * u.heights + u.searches);
+        }
+    }
+
+    fn post(&mut self, o: Offer, whole: bool) {
+        let before = whole.then(|| self.table.clone());
+        let n = self.scan.offers.len();
+        let told = lent::post(&mut self.table, self.start, o.number, o.rate, o.base);
+        let expected = self.scan.post(o);
+        self.hold(before, n, expected, told);
+    }
+
+    fn withdraw(&mut self, number: i64, whole: bool) {
+        let before = whole.then(|| self.table.clone());
+        let n = self.scan.offers.len();
+        let told = lent::withdraw(&mut self.table, self.start, number);
+        let expected = self.scan.withdraw(number);
+        self.hold(before, n, expected, told);
+    }
+
+    fn query(&self, load: i64) -> Option<i64> {
+        let told = lent::query(&self.table, self.start, load);
+        assert_eq!(told.map(|f| (f.number, f.price)).map_err(Declined::number), self.scan.query(load), "load {load}");
+        let found = told.ok()?;
+        assert!((0..=2 * log2_up(self.scan.offers.len())).contains(&found.probes));
+        Some(found.number)
+    }
+
+    fn listing(&self) {
+        let expected = self.scan.listing();
+        let mut out = vec![-7; expected.len() + 4];
+        assert_eq!(lent::listing(&self.table, self.start, &mut out), Ok(expected.len() / 3));
+        assert_eq!(out[..expected.len()], expected[..]);
+        assert_eq!(out[expected.len()..], [-7; 4]);
+        let mut exact = vec![-7; expected.len()];
+        assert_eq!(lent::listing(&self.table, self.start, &mut exact), Ok(expected.len() / 3));
+        assert_eq!(exact, expected);
+        if let Some(short) = expected.len().checked_sub(1) {
+            let mut out = vec![-7; short];
+            assert_eq!(lent::listing(&self.table, self.start, &mut out), Err(Declined::OutputTooShort));
+            assert_eq!(out, vec![-7; short]);
+        }
+    }
+
+    fn check(&self) {
+        assert!(lent::check(&self.table, self.start));
+    }
+
+    /// a load at which two live offers cost nearly the same, where they do so in range
+    fn near_crossing(&self, r: &mut Random) -> i64 {
+        if self.scan.offers.is_empty() {
+            return 0;
+        }
+        let (a, b) = (r.pick(&self.scan.offers), r.pick(&self.scan.offers));
+        if a.rate == b.rate {
+            return 0;
+        }
+        ((b.base - a.base) / (a.rate - b.rate) + r.within(-1, 1)).clamp(-1_000_000, 1_000_000)
+    }
+
+    fn number_to_withdraw(&self, r: &mut Random) -> i64 {
+        if self.scan.offers.is_empty() || r.one_in(12) {
+            return r.within(-1, 10_001);
+        }
+        // half the time one that is listed, so that hidden ones come up
+        let load = self.near_crossing(r);
+        match self.query(load) {
+            Some(number) if r.one_in(2) => number,
+            _ => r.pick(&self.scan.offers).number,
+        }
+    }
+}
+
+struct Kind {
+    capacity: usize,
+    calls: usize,
+    /// one call of so many is followed by queries and a listing that are held to the scan, and by the check
+    every: usize,
+}
+
+fn history(seed: u64, lie: Lie, kind: &Kind) {
+    let r = &mut Random::new(seed);
+    let mut pair = Pair::open(r, kind.capacity);
+    let mut posts = 95;
+    let mut was_full = false;
+    for call in 0..kind.calls {
+        // the book fills up first; then it empties, fills and stays about as it is, by turns
+        if call > 3 * kind.capacity && r.one_in(kind.capacity as i64 / 2 + 5) {
+            posts = r.pick(&[90, 70, 50, 40, 10]);
+        }
+        was_full |= pair.scan.offers.len() == kind.capacity;
+        let whole = kind.capacity <= 64;
+        if r.within(1, 100) <= posts {
+            let mut o = offer(r, lie, kind.capacity as i64);
+            if r.one_in(30) {
+                let outside = r.pick(&[0, 10_000, -5, i64::MAX, i64::MIN]);
+                o.number = outside;
+            }
+            pair.post(o, whole);
+        } else {
+            let number = pair.number_to_withdraw(r);
+            pair.withdraw(number, whole);
+        }
+        if call % kind.every == 0 {
+            for load in
+                [-1_000_000, 1_000_000, 1_000_001, -1_000_001, i64::MIN, 13, r.within(-1_000_000, 1_000_000), r.within(-40, 40)]
+            {
+                pair.query(load);
+            }
+            for _ in 0..4 {
+                let load = pair.near_crossing(r);
+                pair.query(load);
+            }
+            pair.listing();
+            pair.check();
+        }
+    }
+    assert!(was_full);
+}
+
+fn histories(first: u64, each: u64, kind: Kind) {
+    for (i, lie) in LIES.iter().enumerate() {
+        for seed in 0..each {
+            history(first + 100 * i as u64 + seed, *lie, &kind);
+        }
+    }
+}
+
+#[test]
+fn capacity_1() {
+    histories(1_000, 10, Kind { capacity: 1, calls: 60, every: 1 });
+}
+
+#[test]
+fn capacity_2() {
+    histories(2_000, 20, Kind { capacity: 2, calls: 100, every: 1 });
+}
+
+#[test]
+fn capacity_3() {
+    histories(3_000, 20, Kind { capacity: 3, calls: 150, every: 1 });
+    histories(3_500, 1, Kind { capacity: 3, calls: 5_000, every: 1 });
+}
+
+#[test]
+fn other_small_capacities() {
+    for capacity in 4..=24 {
+        histories(4_000 + 1_000 * capacity as u64, 2, Kind { capacity, calls: 300, every: 1 });
+    }
+}
+
+#[test]
+fn capacity_64() {
+    histories(64_000, 5, Kind { capacity: 64, calls: 1_200, every: 1 });
+}
+
+#[test]
+fn capacity_4096() {
+    histories(4_096_000, 1, Kind { capacity: 4_096, calls: 20_000, every: 1_000 });
+}
+
+#[test]
+fn short_histories_of_all_calls() {
+    // every sequence of four of ten calls
+    let offers = [(1, 2, 0), (2, 1, 5), (3, 0, 10), (1, -3, 7), (2, 2, -1), (4, 1, 11)];
+    for sequence in 0..10_000 {
+        let mut pair = Pair::open(&mut Random::new(7), 3);
+        let mut rest = sequence;
+        for _ in 0..4 {
+            match rest % 10 {
+                n @ 0..=5 => {
+                    let (number, rate, base) = offers[n];
+                    pair.post(Offer { number, rate, base }, true);
+                }
+                n => pair.withdraw(n as i64 - 5, true),
+            }
+            rest /= 10;
+            for load in [-12, 2, 5, 10] {
+                pair.query(load);
+            }
+            pair.listing();
+            pair.check();
+        }
+    }
+}
