@@ -28,9 +28,16 @@ pub fn make_node(part: &mut [i64], tree: u8, side: bool, gap: u32, p: u32, q: u3
         return 0;
     }
     let h = height_over(part, tree, p, q);
-    table::put_link(part, table::child_field(tree, side), gap, p);
-    table::put_link(part, table::child_field(tree, !side), gap, q);
-    table::put_link(part, table::height_field(tree), gap, h);
+    table::put_three(
+        part,
+        gap,
+        table::child_field(tree, side),
+        p as i64,
+        table::child_field(tree, !side),
+        q as i64,
+        table::height_field(tree),
+        h as i64,
+    );
     4096 + gap
 }
 

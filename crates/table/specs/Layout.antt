@@ -17,7 +17,7 @@ use native.Mathlib.Omega.{arith}
 use lib.ListN.{length}
 use lib.IntN.{ℤ}
 use lib.Dec.{leb}
-use borrow.Author.Tests.{leb-true}
+use borrow.Author.Tests.{le-leb, lt-leb, leb-true}
 use Rattle.table.specs.Words.{Words, word, wset, word-out, wset-length, wset-same, wset-other, wset-out, upTo, upTo-most}
 
 -- ---- the capacity
@@ -33,6 +33,15 @@ cap w = fitting (length w) (upTo 4096 (word w 0))
 pub cap-of : (w w′ : Words) → length w′ ≡ length w → word w′ 0 ≡ word w 0 → cap w′ ≡ cap w
 unfolding cap
 cap-of w w′ n z = rw (n, z)
+
+-- by the test that the code makes
+pub cap-cut : (w : Words) (told : ℕ) → told ≡ upTo 4096 (word w 0) → length w < 64 * (told + 1) → 0 ≡ cap w
+unfolding cap
+cap-cut w told e h = rw (← e, lt-leb (64 * (told + 1)) (length w) h)
+
+pub cap-whole : (w : Words) (told : ℕ) → told ≡ upTo 4096 (word w 0) → 64 * (told + 1) ≤ length w → told ≡ cap w
+unfolding cap
+cap-whole w told e h = rw (← e, le-leb (64 * (told + 1)) (length w) h)
 
 pub cap-most : (w : Words) → cap w ≤ 4096
 unfolding cap
@@ -193,7 +202,7 @@ spot-of w w′ f s n e = go (valid? w f s)
     go (no v) = spot-out (λ u. v (valid-of e u)) ∙ n ∙ sym (spot-out v)
 
 -- a write moves no place
-cset-spot : (w : Words) (f s : ℕ) (z : ℤ) (f′ s′ : ℕ) → spot (cset w f s z) f′ s′ ≡ spot w f′ s′
+pub cset-spot : (w : Words) (f s : ℕ) (z : ℤ) (f′ s′ : ℕ) → spot (cset w f s z) f′ s′ ≡ spot w f′ s′
 cset-spot w f s z f′ s′ = spot-of w (cset w f s z) f′ s′ (cset-length w f s z) (cset-cap w f s z)
 
 pub cset-same : {w : Words} {f s : ℕ} (z : ℤ) → Valid w f s → cell (cset w f s z) f s ≡ z

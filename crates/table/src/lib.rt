@@ -59,11 +59,15 @@ pub fn capacity(part: &[i64]) -> u32
     told
 }
 
-// The place of a slot's field, and the end of the words where the part has no such field.
+// The place of a slot's field, and the end of the words where the part has no such field. The tests are those of `capacity`, each with an
+// end of its own, which costs a reader less than a capacity made 0.
 pub fn spot(part: &[i64], field: usize, slot: u32) -> usize
     ensures { λ r. ⌜ r ≡ spot (now (part .entry)) field slot ⌝ }
 {
-    let c = capacity(part);
+    let c = number_at(part, 0, 4096);
+    if part.len() < 64 * (c as usize + 1) {
+        return part.len();
+    }
     if slot < 1 {
         return part.len();
     }
@@ -103,6 +107,27 @@ pub fn put_link(part: &mut [i64], field: usize, slot: u32, value: u32)
     ensures { λ _. ⌜ now (part .exit) ≡ cset (now (part .entry)) field slot (pos value) ⌝ }
 {
     put(part, field, slot, value as i64);
+}
+
+// Three fields of a slot. Their places are found before the first write, so that the capacity is read once.
+pub fn put_three(
+    part: &mut [i64],
+    slot: u32,
+    f: usize,
+    first: i64,
+    g: usize,
+    second: i64,
+    h: usize,
+    third: i64,
+)
+    ensures { λ _. ⌜ now (part .exit) ≡ cset (cset (cset (now (part .entry)) f slot first) g slot second) h slot third ⌝ }
+{
+    let x = spot(part, f, slot);
+    let y = spot(part, g, slot);
+    let z = spot(part, h, slot);
+    set_word(part, x, first);
+    set_word(part, y, second);
+    set_word(part, z, third);
 }
 
 // The field of a child in a tree. The trees are 0 the pieces, 1 the offers, 2 the numbers; the sides are false left, true right.

@@ -1,4 +1,10 @@
 -- `shape::make_node` meets its contract.
+use mathlib.Core.Path.{_≡_, refl}
+use native.Mathlib.Omega.{arith}
+use lib.IntN.{pos}
+use mir.Facts.{toZ-pos}
+use mir.Syntax.{w64}
+use mir.Val.{toZ}
 use Rattle.shape.specs.Joining.{no-gap, joined-node}
 use borrow.Author.Needs.{needs}
 use Rattle.shape.proofs.make_node.Statement.{statement}
@@ -13,20 +19,23 @@ height-over-requires c κs = search needs
 child-field-requires : tie.Need-child-field-requires
 child-field-requires c κs = search needs
 
-put-link-requires : tie.Need-put-link-requires
-put-link-requires c κs = search needs
+cast-put-three : tie.Need-cast-put-three
+cast-put-three c = search needs
 
 child-field-requires-2 : tie.Need-child-field-requires-2
 child-field-requires-2 c κs = search needs
 
-put-link-requires-2 : tie.Need-put-link-requires-2
-put-link-requires-2 c κs = search needs
+cast-put-three-2 : tie.Need-cast-put-three-2
+cast-put-three-2 c = search needs
 
 height-field-requires : tie.Need-height-field-requires
 height-field-requires c κs = search needs
 
-put-link-requires-3 : tie.Need-put-link-requires-3
-put-link-requires-3 c κs = search needs
+cast-put-three-3 : tie.Need-cast-put-three-3
+cast-put-three-3 c = search needs
+
+put-three-requires : tie.Need-put-three-requires
+put-three-requires c κs = search needs
 
 add-result : tie.Need-add-result
 add-result c = search needs
@@ -35,7 +44,14 @@ same-length : tie.Need-same-length
 same-length c = search needs
 
 returns-2 : tie.Need-returns-2
-returns-2 c = joined-node (c .before .before .before .before .before .before .before .before .before .before .before .before .height-over .ensures) (c .before .before .before .before .before .before .before .before .before .before .child-field .ensures) (c .before .before .before .before .before .before .before .before .before .put-link .ensures) (c .before .before .before .before .before .before .child-field2 .ensures) (c .before .before .before .before .before .put-link2 .ensures) (c .before .before .height-field .ensures) (c .before .put-link3 .ensures)
+returns-2 c =
+    let a = c .before .before .before .before .before .before .before .before .before .args in
+    let f = c .before .before .before .before .before .before .before .before .before .fits in
+    let h = c .before .before .before .before .before .before .height-over .result in
+    let vp : toZ w64 (a .p) ≡ pos (a .p) = toZ-pos w64 (omega (arith, f .p)) in
+    let vq : toZ w64 (a .q) ≡ pos (a .q) = toZ-pos w64 (omega (arith, f .q)) in
+    let vh : toZ w64 h ≡ pos h = toZ-pos w64 (omega (arith, c .before .before .before .before .before .before .height-over .ok)) in
+    joined-node (c .before .before .before .before .before .before .height-over .ensures) (c .before .before .before .before .child-field .ensures) refl (c .before .before .before .child-field2 .ensures) refl (c .before .before .height-field .ensures) (simp (vp, vq, vh) at (c .before .put-three .ensures))
 
 pub make-node-spec : {M : Type 1} → statement M
 make-node-spec =
@@ -44,11 +60,12 @@ make-node-spec =
     returns
     height-over-requires
     child-field-requires
-    put-link-requires
+    cast-put-three
     child-field-requires-2
-    put-link-requires-2
+    cast-put-three-2
     height-field-requires
-    put-link-requires-3
+    cast-put-three-3
+    put-three-requires
     add-result
     same-length
     returns-2)
