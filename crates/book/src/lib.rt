@@ -56,7 +56,7 @@ fn outside(low: i64, high: i64, value: i64) -> bool
 }
 
 // There is no book at `start`: it lies beyond the table, or the words there tell no capacity that they have room for.
-fn no_book(table: &[i64], start: usize) -> bool
+pub fn no_book(table: &[i64], start: usize) -> bool
     ensures { λ r. ⌜ r ≡ noBookAt (length (now (table .entry))) start (word (partOf (now (table .entry)) start) 0) ⌝ }
 {
     if table.len() < start {

@@ -1,0 +1,4 @@
+-- Chart marks of a book.
+pub mod Promises
+pub mod Walks
+pub mod Marking

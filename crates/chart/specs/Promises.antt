@@ -1,0 +1,63 @@
+-- A book's chart marks (document 01, "Marks, vouchers, reading"), and what asking for one promises.
+use Prim.Native.Nat.{ℕ, suc}
+use mathlib.Core.Path.{_≡_, refl, ap}
+use mathlib.Core.List.{List, [], _∷_}
+use mathlib.Core.Option.{Option, none, some}
+use mathlib.Core.Bool.{not}
+use lib.ListN.{length, getD}
+use lib.Dec.{leb}
+use lib.IntN.{ℤ, pos, natAbs}
+use Rattle.offers.specs.Offers.{Offer, between, crossingNumerator, crossingDenominator}
+use Rattle.plain.specs.Causes.{Cause, noBook, bookEmpty, noSuchMark, Trial, _when_, declined, causeNumber}
+use Rattle.plain.specs.Book.{envelope, noBookAt}
+use Rattle.plain.specs.Rules.{FirstOf}
+use Rattle.marks.specs.Told.{Told, told, openEnd, crossing}
+use Rattle.marks.specs.Crossings.{scaledPrice}
+use Rattle.marks.specs.declared.Mark.{Mark}
+use Rattle.marks.specs.declared.Mark.the-variants.{Declined}
+use Rattle.dynamic.specs.OfferTree.{Held}
+use Rattle.table.specs.Words.{word}
+use Rattle.table.specs.Items.{Item}
+use Rattle.update.specs.Form.{Book, plainOffers}
+use Rattle.book.specs.Promises.{partOf}
+
+-- ---- the marks of a listing
+
+-- the marks behind a piece: its crossing with the next, and so on to the last piece's rate
+abbrev pub marksBehind : Offer → List Offer → List Told
+marksBehind own [] = openEnd (own .rate) ∷ []
+marksBehind own (next ∷ es) = crossing (crossingNumerator own next) (crossingDenominator own next) (scaledPrice own next) ∷ marksBehind next es
+
+-- Mark 0 carries the first piece's rate, mark m the last's; mark i between is the crossing of pieces i and i + 1, counted from 1.
+abbrev pub marks : List Offer → List Told
+marks [] = []
+marks (o ∷ es) = openEnd (o .rate) ∷ marksBehind o es
+
+-- a listing of m pieces has m + 1 marks
+pub marks-count : (o : Offer) (es : List Offer) → length (marks (o ∷ es)) ≡ suc (length (o ∷ es))
+marks-count o [] = refl
+marks-count o (p ∷ es) = ap suc (marks-count p es)
+
+-- ---- the plain book's answer
+
+abbrev pub refusal : Cause → Told
+refusal c = record { number = pos (causeNumber c); values = [] }
+
+abbrev pub markTrials : List Offer → ℤ → List Trial
+markTrials os index = bookEmpty when leb (length os) 0 ∷ noSuchMark when not (between (pos 0) (pos (length (envelope os))) index) ∷ []
+
+abbrev pub markOf : List Offer → ℤ → Option Cause → Told
+markOf os index none = getD (marks (envelope os)) (natAbs index) (refusal noSuchMark)
+markOf os index (some c) = refusal c
+
+abbrev pub plainMark : List Offer → ℤ → Told
+plainMark os index = markOf os index (declined (markTrials os index))
+
+-- ---- on a lent table
+
+abbrev pub tableTrials : List ℤ → ℕ → List Trial
+tableTrials t start = noBook when noBookAt (length t) start (word (partOf t start) 0) ∷ []
+
+pub record Marks (start : ℕ) (t : List ℤ) (index : ℤ) (r : Mark) : Type 0 where
+  pub declined : (z : Cause) → FirstOf (tableTrials t start) z → r ≡ Declined (pos (causeNumber z))
+  pub answers : (c : ℕ) (held : Option (Held Item)) → Book (partOf t start) c held → told r ≡ plainMark (plainOffers held) index
