@@ -1,0 +1,66 @@
+-- A reading of a book's pieces (document 01, "Marks, vouchers, reading"): what it hands out at its n-th step, and what moves it on.
+use Prim.Native.Nat.{ℕ, _+_, _*_, _≤_}
+use mathlib.Core.Path.{_≡_}
+use mathlib.Core.List.{List, [], _∷_}
+use mathlib.Core.Option.{Option, none, some}
+use lib.ListN.{length, take, drop}
+use lib.IntN.{ℤ, pos}
+use Rattle.offers.specs.Offers.{Offer}
+use Rattle.plain.specs.Causes.{Cause, noBook, Trial, _when_, causeNumber}
+use Rattle.plain.specs.Book.{envelope, pieceWords, noBookAt}
+use Rattle.plain.specs.Rules.{FirstOf}
+use Rattle.trees.specs.Operations.{partLeaves}
+use Rattle.dynamic.specs.OfferTree.{Held}
+use Rattle.table.specs.Words.{Words, word}
+use Rattle.table.specs.Items.{Item}
+use Rattle.update.specs.Form.{Book, plainOffers}
+use Rattle.query.specs.Counting.{Passed}
+use Rattle.book.specs.Promises.{partOf}
+use Rattle.reading.specs.declared.Handed.{Handed}
+use Rattle.reading.specs.declared.Handed.the-variants.{Piece, End, Declined}
+
+-- ---- answers in document 01's numbers and words
+
+-- the number of the cause for declining, 0 where there is none, and the words handed out
+pub record Told : Type 0 where
+  pub number : ℤ
+  pub words : List ℤ
+
+abbrev pub told : Handed → Told
+told (Piece number numerator denominator) = record { number = pos 0; words = number ∷ numerator ∷ denominator ∷ [] }
+told End = record { number = pos 0; words = [] }
+told (Declined k) = record { number = k; words = [] }
+
+-- The n-th three words of the listing, counted from 0; past the last piece there are none, which is the end.
+abbrev pub listedAt : List Offer → ℕ → Told
+listedAt os n = record { number = pos 0; words = take 3 (drop (3 * n) (pieceWords (envelope os))) }
+
+-- ---- places
+
+-- the pieces that a part keeps at the root
+abbrev pub rootPieces : Option (Held Item) → List Item
+rootPieces none = []
+rootPieces (some h) = partLeaves (h .whole)
+
+-- p is the slot of the n-th of these pieces, counted from 0, or 0 past the last
+pub data PlaceOf (xs : List Item) (n p : ℕ) : Type 0 where
+  at-piece : Passed p (n + 1) xs → PlaceOf xs n p
+  past-last : length xs ≤ n → p ≡ 0 → PlaceOf xs n p
+
+-- a reading at place p has handed out n pieces, or has come to the end
+pub record Before (w : Words) (n p : ℕ) : Type 0 where
+  pub stands : (c : ℕ) (held : Option (Held Item)) → Book w c held → PlaceOf (rootPieces held) n p
+
+-- ---- the promises
+
+abbrev pub tableTrials : List ℤ → ℕ → List Trial
+tableTrials t start = noBook when noBookAt (length t) start (word (partOf t start) 0) ∷ []
+
+-- one step on
+pub record Moves (start : ℕ) (t : List ℤ) (place r : ℕ) : Type 0 where
+  pub on : (n : ℕ) → Before (partOf t start) n place → Before (partOf t start) (n + 1) r
+
+-- what is handed out at a place
+pub record Hands (start : ℕ) (t : List ℤ) (place : ℕ) (r : Handed) : Type 0 where
+  pub declined : (z : Cause) → FirstOf (tableTrials t start) z → r ≡ Declined (pos (causeNumber z))
+  pub answers : (n : ℕ) → Before (partOf t start) n place → (c : ℕ) (held : Option (Held Item)) → Book (partOf t start) c held → told r ≡ listedAt (plainOffers held) n
