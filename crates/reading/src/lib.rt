@@ -4,6 +4,7 @@ ghost use mathlib.Core.Path.{_≡_};
 ghost use Prim.Native.Nat.{_+_};
 ghost use Rattle.reading.specs.Promises.{Before, Hands, Moves};
 ghost use Rattle.reading.specs.Parts.{PartMoves, PartHands};
+ghost use Rattle.reading.specs.Steps.{Begins, Advances, HandsAt};
 ghost use Rattle.book.specs.Promises.{partOf};
 
 pub struct Reading<'a> {
@@ -93,4 +94,42 @@ pub fn piece_at(table: &[i64], start: usize, place: u32) -> Handed
         return Handed::Declined(3);
     }
     part_piece(&table[start..], place)
+}
+
+// A reading of the book at `start`, at its first piece.
+pub fn begin<'a>(table: &'a [i64], start: usize) -> Reading<'a>
+    ensures { λ r. ⌜ Begins (table .entry) start r ⌝ }
+{
+    let place = first_place(table, start);
+    Reading {
+        table,
+        start,
+        place,
+    }
+}
+
+// The piece to hand out next.
+pub fn piece<'a>(r: Reading<'a>) -> Handed
+    ensures { λ s. ⌜ Hands (r .entry .start) (now (r .entry .table)) (r .entry .place) s ⌝ }
+{
+    piece_at(r.table, r.start, r.place)
+}
+
+// The reading one piece further on.
+pub fn advance<'a>(r: Reading<'a>) -> Reading<'a>
+    ensures { λ q. ⌜ Advances (r .entry) q ⌝ }
+{
+    let place = place_after(r.table, r.start, r.place);
+    Reading {
+        table: r.table,
+        start: r.start,
+        place,
+    }
+}
+
+// The first piece of the book at `start`, by a reading of it.
+pub fn first_piece(table: &[i64], start: usize) -> Handed
+    ensures { λ s. ⌜ HandsAt start (now (table .entry)) 0 s ⌝ }
+{
+    piece(begin(table, start))
 }
