@@ -120,6 +120,10 @@ module _ {w : Words} {root : ℕ} (er : root ≡ upTo 8192 (word w 2)) where
 pub after-none : {w : Words} {p : ℕ} → p < 1 → PartMoves w p 0
 after-none {w} {p} h = record { on = λ n k. record { stands = λ c held b. past-last (omega (arith, none-past {w = w} {root = upTo 8192 (word w 2)} refl b h k)) refl } }
 
+-- at the end a reading stays
+pub stays-past : {w : Words} {n p : ℕ} (m : ℕ) → n ≤ m → p < 1 → Before w n p → Before w m 0
+stays-past {w} {n} {p} m l h k = record { stands = λ c held b. past-last (omega (arith, none-past {w = w} {root = upTo 8192 (word w 2)} refl b h k)) refl }
+
 -- ---- handing out
 
 abbrev handing : List ℤ → Told
@@ -211,3 +215,21 @@ first-there start t {p} k = subst (λ (w : Words). Before w 0 p) (whole-part t s
 
 pub after-there : (start : ℕ) (t : List ℤ) {p r : ℕ} → PartMoves (take (length t - start) (drop start t)) p r → Moves start t p r
 after-there start t {p} {r} k = record { on = subst (λ (w : Words). PartMoves w p r) (whole-part t start) k .on }
+
+-- ---- on the way to place n
+
+pub record Nearing (w : Words) (n place i : ℕ) : Type 0 where
+  pub within : i ≤ n
+  pub here : Before w i place
+
+pub nearing-begins : {w : Words} {p : ℕ} (n : ℕ) → Before w 0 p → Nearing w n p 0
+nearing-begins n b = record { within = omega arith; here = b }
+
+pub nearing-on : (start : ℕ) (t : List ℤ) {n p q i : ℕ} → Nearing (partOf t start) n p i → i < n → Moves start t p q → Nearing (partOf t start) n q (i + 1)
+nearing-on start t {i} g h m = record { within = omega arith; here = m .on i (g .here) }
+
+pub nearing-past : {w : Words} {n p i : ℕ} → Nearing w n p i → p < 1 → Before w n 0
+nearing-past {n} g h = stays-past n (g .within) h (g .here)
+
+pub nearing-ends : {w : Words} {n p i : ℕ} → Nearing w n p i → n ≤ i → Before w n p
+nearing-ends {w} {n} {p} {i} g h = let e : i ≡ n = omega (arith, g .within) in subst (λ (k : ℕ). Before w k p) e (g .here)

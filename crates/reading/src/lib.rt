@@ -96,6 +96,22 @@ pub fn piece_at(table: &[i64], start: usize, place: u32) -> Handed
     part_piece(&table[start..], place)
 }
 
+// The place of piece `n`, counted from 0, and 0 past the last.
+pub fn nth_place(table: &[i64], start: usize, n: u32) -> u32
+    ensures { λ r. ⌜ Before (partOf (now (table .entry)) start) n r ⌝ }
+{
+    let mut place = first_place(table, start);
+    let mut i: u32 = 0;
+    while i < n {
+        if place < 1 {
+            return 0;
+        }
+        place = place_after(table, start, place);
+        i += 1;
+    }
+    place
+}
+
 // A reading of the book at `start`, at its first piece.
 pub fn begin<'a>(table: &'a [i64], start: usize) -> Reading<'a>
     ensures { λ r. ⌜ Begins (table .entry) start r ⌝ }
@@ -132,4 +148,16 @@ pub fn first_piece(table: &[i64], start: usize) -> Handed
     ensures { λ s. ⌜ HandsAt start (now (table .entry)) 0 s ⌝ }
 {
     piece(begin(table, start))
+}
+
+// What a reading of the book at `start` hands out after `n` pieces.
+pub fn nth_piece(table: &[i64], start: usize, n: u32) -> Handed
+    ensures { λ s. ⌜ HandsAt start (now (table .entry)) n s ⌝ }
+{
+    let place = nth_place(table, start, n);
+    piece(Reading {
+        table,
+        start,
+        place,
+    })
 }
