@@ -97,7 +97,7 @@ pub fn piece_at(table: &[i64], start: usize, place: u32) -> Handed
 }
 
 // The place of piece `n`, counted from 0, and 0 past the last.
-pub fn nth_place(table: &[i64], start: usize, n: u32) -> u32
+fn nth_place(table: &[i64], start: usize, n: u32) -> u32
     ensures { λ r. ⌜ Before (partOf (now (table .entry)) start) n r ⌝ }
 {
     let mut place = first_place(table, start);
@@ -143,14 +143,7 @@ pub fn advance<'a>(r: Reading<'a>) -> Reading<'a>
     }
 }
 
-// The first piece of the book at `start`, by a reading of it.
-pub fn first_piece(table: &[i64], start: usize) -> Handed
-    ensures { λ s. ⌜ HandsAt start (now (table .entry)) 0 s ⌝ }
-{
-    piece(begin(table, start))
-}
-
-// What a reading of the book at `start` hands out after `n` pieces.
+// What a reading of the book at `start` hands out after `n` pieces. It has plain parameters, so any caller can use it.
 pub fn nth_piece(table: &[i64], start: usize, n: u32) -> Handed
     ensures { λ s. ⌜ HandsAt start (now (table .entry)) n s ⌝ }
 {
