@@ -2,3 +2,4 @@
 pub mod Promises
 pub mod Walks
 pub mod Marking
+pub mod Rounded

@@ -1,24 +1,24 @@
 -- A part's mark, by what the code reads: the count of its pieces, and the slot of one of them.
 use mathlib.Core.Path.{_≡_, refl, sym, _∙_, ap, subst}
 use mathlib.Core.Bool.{Bool, true, false, not}
-use mathlib.Core.List.{List, [], _∷_, _++_, append-assoc, map, map-append, List·Memᴰ, List·Memᴰ·head, List·Memᴰ·tail, Memᴰ·append-right}
+use mathlib.Core.List.{List, [], _∷_, _++_, map, map-append, List·Memᴰ, List·Memᴰ·head, List·Memᴰ·tail, Memᴰ·append-right}
 use mathlib.Core.Option.{Option, none, some}
 use mathlib.Mathlib.Data.List.Chain.{isChain-append-cons-cons}
 use Prim.Native.Nat.{ℕ, suc, _+_, _-_, _≤_, _<_}
 use native.Mathlib.Omega.{arith}
 use lib.ListN.{length, getD, take, drop, length-map, length-append}
-use lib.Dec.{T, T-not, not-T, leb, le→leb}
+use lib.Dec.{T, T-not, not-T, leb}
 use lib.Arith.{lt→nleb}
-use lib.IntN.{ℤ, pos, negsuc, natAbs}
+use lib.IntN.{ℤ, pos, negsuc}
 use lib.Signed.{leZ, ltZ}
 use Rattle.lists.specs.Filter.{both}
 use Rattle.integers.specs.Parts.{intRules, range-parts}
 use Rattle.offers.specs.Offers.{Offer, between, crossingNumerator, crossingDenominator}
-use Rattle.envelopes.specs.Envelope.{Ordered, Env}
+use Rattle.envelopes.specs.Envelope.{Ordered}
 use Rattle.envelopes.specs.EnvelopeLaws.{ordered-sublist, ordered-right, ordered-head}
-use Rattle.plain.specs.Causes.{Cause, noBook, bookEmpty, noSuchMark, _when_, causeNumber}
+use Rattle.plain.specs.Causes.{noBook, bookEmpty, noSuchMark, _when_}
 use Rattle.plain.specs.Book.{envelope, noBookAt}
-use Rattle.plain.specs.Rules.{FirstOf, at-once, further, declined-by, not-declined}
+use Rattle.plain.specs.Rules.{at-once, further, declined-by, not-declined}
 use Rattle.marks.specs.Told.{Told, told, openEnd, crossing}
 use Rattle.marks.specs.Crossings.{scaledPrice}
 use Rattle.marks.specs.declared.Mark.{Mark}
@@ -31,9 +31,9 @@ use Rattle.table.specs.Words.{Words, word, upTo, upTo-in}
 use Rattle.table.specs.Items.{Item}
 use Rattle.table.specs.Threads.{Held as InSlot, Next, Threaded}
 use Rattle.search.specs.ItemLines.{Falls}
-use Rattle.search.specs.Prices.{rateAt, numeratorAt, denominatorAt, priceIn, crossingPriceAt}
+use Rattle.search.specs.Prices.{rateAt, numeratorAt, denominatorAt, crossingPriceAt}
 use Rattle.search.specs.Pieces.{read-rate, read-price, read-numerator, read-denominator}
-use Rattle.pieces.specs.Pieces.{items, item-laws}
+use Rattle.pieces.specs.Pieces.{items}
 use Rattle.update.specs.Form.{Book, plainOffers}
 use Rattle.query.specs.Pieces.{Pieces}
 use Rattle.query.specs.Plain.{offerOf, pieces-plain}
@@ -44,7 +44,7 @@ use Rattle.book.specs.Plainly.{book-there}
 use Rattle.book.specs.Parts.{whole-part, said, denied}
 use Rattle.book.specs.Opens.{one-cause, not-clear}
 use Rattle.book.specs.Rooted.{Root, bare, topped, Top, root-of}
-use Rattle.chart.specs.Promises.{marksBehind, marks, refusal, markTrials, markOf, plainMark, tableTrials, Marks}
+use Rattle.chart.specs.Promises.{marksBehind, marks, refusal, markTrials, markOf, plainMark, Marks}
 use Rattle.chart.specs.Walks.{SlotOf}
 
 pub record PartMark (w : Words) (index : ℤ) (r : Mark) : Type 0 where

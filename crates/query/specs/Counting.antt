@@ -13,7 +13,7 @@ use Rattle.trees.specs.Tree.{Tree, leaves, first, last, Avl}
 use Rattle.trees.specs.Leaves.{start, rest, leaves-first, leaves-last, first-leaf}
 use Rattle.table.specs.Words.{Words}
 use Rattle.table.specs.Layout.{cap, cap-most, linkAt}
-use Rattle.table.specs.Items.{Item, In, at, Slots, slots-across, slots-most}
+use Rattle.table.specs.Items.{Item, at, Slots, slots-across, slots-most}
 use Rattle.table.specs.Threads.{Next, Threaded}
 use Rattle.descents.specs.Ends.{endOf, Ended}
 use Rattle.query.specs.Pieces.{Pieces}

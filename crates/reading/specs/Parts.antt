@@ -10,19 +10,19 @@ use native.Mathlib.Omega.{arith}
 use lib.ListN.{length, take, drop, length-map, length-append, drop-of-length-le}
 use lib.Dec.{T-not}
 use lib.IntN.{ℤ, pos}
-use Rattle.offers.specs.Offers.{Offer, crossingNumerator, crossingDenominator}
+use Rattle.offers.specs.Offers.{Offer, crossingNumerator}
 use Rattle.plain.specs.Causes.{noBook, _when_}
 use Rattle.plain.specs.Book.{envelope, pieceWords, noBookAt}
 use Rattle.plain.specs.Rules.{at-once, words-length}
-use Rattle.trees.specs.Tree.{Tree, leaves, first, last, Avl}
+use Rattle.trees.specs.Tree.{Tree, leaves, first, last}
 use Rattle.trees.specs.Leaves.{rest, leaves-first}
 use Rattle.trees.specs.Operations.{Part, partLeaves}
-use Rattle.dynamic.specs.OfferTree.{Held, heldShape}
+use Rattle.dynamic.specs.OfferTree.{Held}
 use Rattle.dynamic.specs.Valid.{bookLines}
 use Rattle.table.specs.Words.{Words, word, upTo}
 use Rattle.table.specs.Layout.{cell, linkAt}
 use Rattle.table.specs.Items.{Item}
-use Rattle.table.specs.Threads.{Held as InSlot, Next, Threaded}
+use Rattle.table.specs.Threads.{Next, Threaded}
 use Rattle.descents.specs.Ends.{Ended}
 use Rattle.update.specs.Form.{Book, plainOffers}
 use Rattle.query.specs.Pieces.{Pieces}
@@ -37,7 +37,7 @@ use Rattle.book.specs.Opens.{one-cause, not-clear}
 use Rattle.book.specs.Rooted.{Root, bare, topped, Top, root-of}
 use Rattle.reading.specs.declared.Handed.{Handed}
 use Rattle.reading.specs.declared.Handed.the-variants.{Piece, End, Declined}
-use Rattle.reading.specs.Promises.{Told, told, listedAt, rootPieces, PlaceOf, at-piece, past-last, Before, tableTrials, Moves, Hands}
+use Rattle.reading.specs.Promises.{Told, told, listedAt, rootPieces, PlaceOf, at-piece, past-last, Before, Moves, Hands}
 
 pub record PartMoves (w : Words) (place r : ℕ) : Type 0 where
   pub on : (n : ℕ) → Before w n place → Before w (n + 1) r

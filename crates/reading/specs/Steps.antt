@@ -1,10 +1,9 @@
 -- A reading, step by step: begun, moved on, and what it hands out after n steps.
-use Prim.Native.Nat.{ℕ, suc, _+_}
+use Prim.Native.Nat.{ℕ, suc}
 use native.Mathlib.Numerals.{add-one}
-use mathlib.Core.Path.{_≡_, refl, sym, _∙_, ap, subst}
+use mathlib.Core.Path.{_≡_, _∙_, subst}
 use mathlib.Core.List.{List}
 use mathlib.Core.Option.{Option}
-use lib.ListN.{length}
 use lib.IntN.{ℤ, pos}
 use denote.Ref.{RefT, now}
 use Rattle.plain.specs.Causes.{Cause, causeNumber}

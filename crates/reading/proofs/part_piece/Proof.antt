@@ -1,5 +1,4 @@
 -- `reading::part_piece` meets its contract: the words of the slot, with no crossing at the last piece.
-use lib.Dec.{eqb}
 use mir.Syntax.{w64}
 use mir.Val.{SFits}
 use mir.Facts.{toZ-ofZ}
