@@ -16,7 +16,7 @@ use Rattle.integers.specs.Parts.{intRules, range-parts}
 use Rattle.offers.specs.Offers.{Offer, between, crossingNumerator, crossingDenominator}
 use Rattle.envelopes.specs.Envelope.{Ordered}
 use Rattle.envelopes.specs.EnvelopeLaws.{ordered-sublist, ordered-right, ordered-head}
-use Rattle.plain.specs.Causes.{noBook, bookEmpty, noSuchMark, _when_}
+use Rattle.plain.specs.Causes.{bookEmpty, noSuchMark}
 use Rattle.plain.specs.Book.{envelope, noBookAt}
 use Rattle.plain.specs.Rules.{at-once, further, declined-by, not-declined}
 use Rattle.marks.specs.Told.{Told, told, openEnd, crossing}
@@ -40,9 +40,8 @@ use Rattle.query.specs.Plain.{offerOf, pieces-plain}
 use Rattle.query.specs.Counting.{Counted, Passed}
 use Rattle.book.specs.Live.{live-whole, whole-ordered}
 use Rattle.book.specs.Promises.{partOf}
-use Rattle.book.specs.Plainly.{book-there}
-use Rattle.book.specs.Parts.{whole-part, said, denied}
-use Rattle.book.specs.Opens.{one-cause, not-clear}
+use Rattle.book.specs.Parts.{whole-part, denied, no-form, no-book-cause}
+use Rattle.book.specs.Opens.{not-clear}
 use Rattle.book.specs.Rooted.{Root, bare, topped, Top, root-of}
 use Rattle.chart.specs.Promises.{marksBehind, marks, refusal, markTrials, markOf, plainMark, Marks}
 use Rattle.chart.specs.Walks.{SlotOf}
@@ -263,11 +262,7 @@ index-there (negsuc n) a b h e = absurd (omega (arith, intRules))
 
 module _ (start : ℕ) (t : List ℤ) (index : ℤ) {no : Bool} (e : no ≡ noBookAt (length t) start (word (partOf t start) 0)) where
   pub mark-no-book : no ≡ true → Marks start t index (Declined (pos 3))
-  mark-no-book d =
-      record {
-        declined = λ z g. ap (λ (n : ℕ). Declined (pos n)) (sym (one-cause (at-once {k = noBook when noBookAt (length t) start (word (partOf t start) 0)} (said e d)) g));
-        answers = λ c held b. absurd (T-not (noBookAt (length t) start (word (partOf t start) 0)) (book-there start t b) (said e d));
-      }
+  mark-no-book d = record { declined = λ z g. ap (λ (n : ℕ). Declined (pos n)) (sym (no-book-cause t start g)); answers = λ c held b. absurd (no-form t start e d b) }
 
   pub mark-there : {r : Mark} → no ≡ false → PartMark (take (length t - start) (drop start t)) index r → Marks start t index r
   mark-there {r} d k =

@@ -8,18 +8,17 @@ use lib.ListN.{length, getD}
 use lib.Dec.{leb}
 use lib.IntN.{ℤ, pos, natAbs}
 use Rattle.offers.specs.Offers.{Offer, between, crossingNumerator, crossingDenominator}
-use Rattle.plain.specs.Causes.{Cause, noBook, bookEmpty, noSuchMark, Trial, _when_, declined, causeNumber}
-use Rattle.plain.specs.Book.{envelope, noBookAt}
+use Rattle.plain.specs.Causes.{Cause, bookEmpty, noSuchMark, Trial, _when_, declined, causeNumber}
+use Rattle.plain.specs.Book.{envelope}
 use Rattle.plain.specs.Rules.{FirstOf}
 use Rattle.marks.specs.Told.{Told, told, openEnd, crossing}
 use Rattle.marks.specs.Crossings.{scaledPrice}
 use Rattle.marks.specs.declared.Mark.{Mark}
 use Rattle.marks.specs.declared.Mark.the-variants.{Declined}
 use Rattle.dynamic.specs.OfferTree.{Held}
-use Rattle.table.specs.Words.{word}
 use Rattle.table.specs.Items.{Item}
 use Rattle.update.specs.Form.{Book, plainOffers}
-use Rattle.book.specs.Promises.{partOf}
+use Rattle.book.specs.Promises.{partOf, noBookTrial}
 
 -- ---- the marks of a listing
 
@@ -55,9 +54,6 @@ plainMark os index = markOf os index (declined (markTrials os index))
 
 -- ---- on a lent table
 
-abbrev pub tableTrials : List ℤ → ℕ → List Trial
-tableTrials t start = noBook when noBookAt (length t) start (word (partOf t start) 0) ∷ []
-
 pub record Marks (start : ℕ) (t : List ℤ) (index : ℤ) (r : Mark) : Type 0 where
-  pub declined : (z : Cause) → FirstOf (tableTrials t start) z → r ≡ Declined (pos (causeNumber z))
+  pub declined : (z : Cause) → FirstOf (noBookTrial t start ∷ []) z → r ≡ Declined (pos (causeNumber z))
   pub answers : (c : ℕ) (held : Option (Held Item)) → Book (partOf t start) c held → told r ≡ plainMark (plainOffers held) index

@@ -8,12 +8,10 @@ use mathlib.Mathlib.Data.List.Chain.{isChain-append-cons-cons}
 use Prim.Native.Nat.{ℕ, suc, _+_, _*_, _-_, _≤_, _<_}
 use native.Mathlib.Omega.{arith}
 use lib.ListN.{length, take, drop, length-map, length-append, drop-of-length-le}
-use lib.Dec.{T-not}
 use lib.IntN.{ℤ, pos}
 use Rattle.offers.specs.Offers.{Offer, crossingNumerator}
-use Rattle.plain.specs.Causes.{noBook, _when_}
 use Rattle.plain.specs.Book.{envelope, pieceWords, noBookAt}
-use Rattle.plain.specs.Rules.{at-once, words-length}
+use Rattle.plain.specs.Rules.{words-length}
 use Rattle.trees.specs.Tree.{Tree, leaves, first, last}
 use Rattle.trees.specs.Leaves.{rest, leaves-first}
 use Rattle.trees.specs.Operations.{Part, partLeaves}
@@ -31,9 +29,8 @@ use Rattle.query.specs.Listing.{crossingWord}
 use Rattle.query.specs.Counting.{Passed, all-passed, not-all, go-on}
 use Rattle.book.specs.Live.{live-whole, whole-ordered}
 use Rattle.book.specs.Promises.{partOf}
-use Rattle.book.specs.Plainly.{book-there}
-use Rattle.book.specs.Parts.{whole-part, said, denied}
-use Rattle.book.specs.Opens.{one-cause, not-clear}
+use Rattle.book.specs.Parts.{whole-part, denied, no-form, no-book-cause}
+use Rattle.book.specs.Opens.{not-clear}
 use Rattle.book.specs.Rooted.{Root, bare, topped, Top, root-of}
 use Rattle.reading.specs.declared.Handed.{Handed}
 use Rattle.reading.specs.declared.Handed.the-variants.{Piece, End, Declined}
@@ -187,21 +184,14 @@ module _ {w : Words} {root z p : ℕ} {last : Bool} {number u v : ℤ} (er : roo
 
 module _ (start : ℕ) (t : List ℤ) {no : Bool} (e : no ≡ noBookAt (length t) start (word (partOf t start) 0)) where
   module _ (d : no ≡ true) where
-    no-form : {c : ℕ} {held : Option (Held Item)} → Book (partOf t start) c held → ⊥
-    no-form b = T-not (noBookAt (length t) start (word (partOf t start) 0)) (book-there start t b) (said e d)
-
     pub first-no-book : (p : ℕ) → Before (partOf t start) 0 p
-    first-no-book p = record { stands = λ c held b. absurd (no-form b) }
+    first-no-book p = record { stands = λ c held b. absurd (no-form t start e d b) }
 
     pub after-no-book : (p r : ℕ) → Moves start t p r
-    after-no-book p r = record { on = λ n k. record { stands = λ c held b. absurd (no-form b) } }
+    after-no-book p r = record { on = λ n k. record { stands = λ c held b. absurd (no-form t start e d b) } }
 
     pub hands-no-book : (p : ℕ) → Hands start t p (Declined (pos 3))
-    hands-no-book p =
-        record {
-          declined = λ z g. ap (λ (n : ℕ). Declined (pos n)) (sym (one-cause (at-once {k = noBook when noBookAt (length t) start (word (partOf t start) 0)} (said e d)) g));
-          answers = λ n k c held b. absurd (no-form b);
-        }
+    hands-no-book p = record { declined = λ z g. ap (λ (n : ℕ). Declined (pos n)) (sym (no-book-cause t start g)); answers = λ n k c held b. absurd (no-form t start e d b) }
 
   pub hands-there : {p : ℕ} {r : Handed} → no ≡ false → PartHands (take (length t - start) (drop start t)) p r → Hands start t p r
   hands-there {p} {r} d k =

@@ -7,16 +7,16 @@ use mathlib.Core.Option.{Option, none, some}
 use lib.ListN.{length, take, drop, getD, drop-of-length-le}
 use lib.IntN.{ℤ, pos}
 use Rattle.offers.specs.Offers.{Offer, crossingNumerator, crossingDenominator}
-use Rattle.plain.specs.Causes.{Cause, noBook, Trial, _when_, causeNumber}
-use Rattle.plain.specs.Book.{envelope, pieceWords, noBookAt}
+use Rattle.plain.specs.Causes.{Cause, causeNumber}
+use Rattle.plain.specs.Book.{envelope, pieceWords}
 use Rattle.plain.specs.Rules.{FirstOf, words-length}
 use Rattle.trees.specs.Operations.{partLeaves}
 use Rattle.dynamic.specs.OfferTree.{Held}
-use Rattle.table.specs.Words.{Words, word}
+use Rattle.table.specs.Words.{Words}
 use Rattle.table.specs.Items.{Item}
 use Rattle.update.specs.Form.{Book, plainOffers}
 use Rattle.query.specs.Counting.{Passed}
-use Rattle.book.specs.Promises.{partOf}
+use Rattle.book.specs.Promises.{partOf, noBookTrial}
 use Rattle.reading.specs.declared.Handed.{Handed}
 use Rattle.reading.specs.declared.Handed.the-variants.{Piece, End, Declined}
 
@@ -86,14 +86,11 @@ pub record Before (w : Words) (n p : ℕ) : Type 0 where
 
 -- ---- the promises
 
-abbrev pub tableTrials : List ℤ → ℕ → List Trial
-tableTrials t start = noBook when noBookAt (length t) start (word (partOf t start) 0) ∷ []
-
 -- one step on
 pub record Moves (start : ℕ) (t : List ℤ) (place r : ℕ) : Type 0 where
   pub on : (n : ℕ) → Before (partOf t start) n place → Before (partOf t start) (n + 1) r
 
 -- what is handed out at a place
 pub record Hands (start : ℕ) (t : List ℤ) (place : ℕ) (r : Handed) : Type 0 where
-  pub declined : (z : Cause) → FirstOf (tableTrials t start) z → r ≡ Declined (pos (causeNumber z))
+  pub declined : (z : Cause) → FirstOf (noBookTrial t start ∷ []) z → r ≡ Declined (pos (causeNumber z))
   pub answers : (n : ℕ) → Before (partOf t start) n place → (c : ℕ) (held : Option (Held Item)) → Book (partOf t start) c held → told r ≡ listedAt (plainOffers held) n

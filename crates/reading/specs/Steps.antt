@@ -2,7 +2,7 @@
 use Prim.Native.Nat.{ℕ, suc}
 use native.Mathlib.Numerals.{add-one}
 use mathlib.Core.Path.{_≡_, _∙_, subst}
-use mathlib.Core.List.{List}
+use mathlib.Core.List.{List, [], _∷_}
 use mathlib.Core.Option.{Option}
 use lib.IntN.{ℤ, pos}
 use denote.Ref.{RefT, now}
@@ -11,11 +11,11 @@ use Rattle.plain.specs.Rules.{FirstOf}
 use Rattle.dynamic.specs.OfferTree.{Held}
 use Rattle.table.specs.Items.{Item}
 use Rattle.update.specs.Form.{Book, plainOffers}
-use Rattle.book.specs.Promises.{partOf}
+use Rattle.book.specs.Promises.{partOf, noBookTrial}
 use Rattle.reading.specs.declared.Reading.{Reading}
 use Rattle.reading.specs.declared.Handed.{Handed}
 use Rattle.reading.specs.declared.Handed.the-variants.{Declined}
-use Rattle.reading.specs.Promises.{told, listedAt, Before, tableTrials, Moves, Hands}
+use Rattle.reading.specs.Promises.{told, listedAt, Before, Moves, Hands}
 
 -- a reading of that table and `start`, before the first piece
 pub record Begins (table : RefT (List ℤ)) (start : ℕ) (r : Reading) : Type 0 where
@@ -31,7 +31,7 @@ pub record Advances (r q : Reading) : Type 0 where
 
 -- what is handed out after n steps
 pub record HandsAt (start : ℕ) (t : List ℤ) (n : ℕ) (s : Handed) : Type 0 where
-  pub declined : (z : Cause) → FirstOf (tableTrials t start) z → s ≡ Declined (pos (causeNumber z))
+  pub declined : (z : Cause) → FirstOf (noBookTrial t start ∷ []) z → s ≡ Declined (pos (causeNumber z))
   pub answers : (c : ℕ) (held : Option (Held Item)) → Book (partOf t start) c held → told s ≡ listedAt (plainOffers held) n
 
 pub hands-at : {start : ℕ} {t : List ℤ} {n place : ℕ} {s : Handed} → Before (partOf t start) n place → Hands start t place s → HandsAt start t n s
