@@ -2,6 +2,7 @@
 use mathlib.Core.Path.{_≡_, refl, sym, _∙_, ap, subst}
 use mathlib.Core.Bool.{Bool, true, false, not, _&&_, _||_}
 use mathlib.Core.List.{List, [], _∷_, _++_}
+use mathlib.Core.Option.{Option}
 use Prim.Native.Nat.{ℕ, suc, _+_, _*_, _-_, _≤_, _<_}
 use native.Mathlib.Omega.{arith}
 use lib.ListN.{length, take, drop, length-drop, length-append, getD, drop-of-length-le, take-append-drop}
@@ -14,11 +15,16 @@ use Rattle.lists.specs.Filter.{one-of-both, other-of-both}
 use Rattle.lists.specs.Tests.{not-not}
 use Rattle.integers.specs.Parts.{intRules}
 use Rattle.offers.specs.Offers.{between}
+use Rattle.plain.specs.Causes.{Cause, causeNumber}
 use Rattle.plain.specs.Book.{noBookAt, partLength}
+use Rattle.plain.specs.Rules.{FirstOf, at-once, further}
+use Rattle.dynamic.specs.OfferTree.{Held}
 use Rattle.table.specs.Words.{Words, word, upTo, upTo-in}
 use Rattle.table.specs.Layout.{cap, fitting}
-use Rattle.book.specs.Promises.{partOf, OnlyPart}
-use Rattle.book.specs.Plainly.{cap-book}
+use Rattle.table.specs.Items.{Item}
+use Rattle.update.specs.Form.{Book}
+use Rattle.book.specs.Promises.{partOf, noBookTrial, OnlyPart}
+use Rattle.book.specs.Plainly.{cap-book, book-there}
 
 -- ---- truths as values
 
@@ -115,6 +121,15 @@ cap-none t start {n} e h = go (noBookAt (length t) start (word (partOf t start) 
     go : (b : Bool) → (T (not b) → (cap (partOf t start) ≡ natAbs (word (partOf t start) 0)) × (1 ≤ natAbs (word (partOf t start) 0))) → true ≡ b
     go true f = refl
     go false f = let (p, q) = f tt in absurd (omega (arith, p, q, e, ap cap (whole-part t start)))
+
+-- where there is none, no part has the form, and the number is 3
+module _ (t : List ℤ) (start : ℕ) {no : Bool} (e : no ≡ noBookAt (length t) start (word (partOf t start) 0)) (d : no ≡ true) where
+  pub no-form : {c : ℕ} {held : Option (Held Item)} → Book (partOf t start) c held → ⊥
+  no-form b = T-not (noBookAt (length t) start (word (partOf t start) 0)) (book-there start t b) (said e d)
+
+pub no-book-cause : (t : List ℤ) (start : ℕ) {z : Cause} → FirstOf (noBookTrial t start ∷ []) z → causeNumber z ≡ 3
+no-book-cause t start (at-once h) = refl
+no-book-cause t start (further h f) = elim f [ ]
 
 -- ---- the table when the part comes back
 

@@ -52,8 +52,12 @@ plainOf c held = record { capacity = c; offers = plainOffers held }
 
 -- ---- the trials of a call on words of any content
 
+-- every call's but open's
+abbrev pub noBookTrial : List ℤ → ℕ → Trial
+noBookTrial t start = noBook when noBookAt (length t) start (word (partOf t start) 0)
+
 abbrev pub tableTrials : List ℤ → ℕ → Call → List Trial
-tableTrials t start k = noBook when noBookAt (length t) start (word (partOf t start) 0) ∷ rangeTrials k
+tableTrials t start k = noBookTrial t start ∷ rangeTrials k
 
 -- ---- answers in document 01's numbers and values
 

@@ -13,7 +13,7 @@ use Rattle.trees.specs.Tree.{Tree, leaves, first, last, Avl}
 use Rattle.trees.specs.Leaves.{start, rest, leaves-first, leaves-last, first-leaf}
 use Rattle.table.specs.Words.{Words}
 use Rattle.table.specs.Layout.{cap, cap-most, linkAt}
-use Rattle.table.specs.Items.{Item, In, at, Slots, slots-across, slots-most}
+use Rattle.table.specs.Items.{Item, at, Slots, slots-across, slots-most}
 use Rattle.table.specs.Threads.{Next, Threaded}
 use Rattle.descents.specs.Ends.{endOf, Ended}
 use Rattle.query.specs.Pieces.{Pieces}
@@ -70,9 +70,28 @@ along-begins e f h =
 pub along-none : {w : Words} {root s : ℕ} → Ended w 0 false root s → s ≡ 0 → Counted w root 0
 along-none f e = record { few = omega arith; is = λ t p a. absurd (omega (arith, e, f .is t (p .rep) a, p .rep .slots .low (first-leaf t))); none = λ d. refl }
 
+-- a piece that is not the last leads to the next
+pub follow : {w : Words} {xs : List Item} {s n : ℕ} → Threaded w xs → Passed s n xs → n < length xs → Passed (linkAt w 19 s) (n + 1) xs
+follow {w} {xs} {s} {n} c k h = go (k .ahead) (k .split)
+  where
+    go : (ys : List Item) → xs ≡ k .seen ++ k .here ∷ ys → Passed (linkAt w 19 s) (n + 1) xs
+    go [] d = absurd (omega (arith, ap length d, length-append (k .seen) (k .here ∷ []), k .count))
+    go (y ∷ ys) d =
+        record {
+          seen = k .seen ++ k .here ∷ [];
+          here = y;
+          ahead = ys;
+          split = d ∙ sym (append-assoc (k .seen) (k .here ∷ []) (y ∷ ys));
+          slot = ap (linkAt w 19) (k .slot) ∙ next .next;
+          count = omega (arith, k .count, length-append (k .seen) (k .here ∷ []));
+        }
+      where
+        next : Next w (k .here) y
+        next = isChain-append-cons-cons (k .here) (k .seen) .0 (subst (Threaded w) d c) .1
+
 module _ {w : Words} {t : Tree Item} {x z s n : ℕ} (p : Pieces w x t) (end : z ≡ last t .slot) (k : Passed s n (leaves t)) where
   -- at the last piece all were passed
-  all-passed : s ≡ z → n ≡ length (leaves t)
+  pub all-passed : s ≡ z → n ≡ length (leaves t)
   all-passed e = go (k .ahead) (k .split)
     where
       go : (ys : List Item) → leaves t ≡ k .seen ++ k .here ∷ ys → n ≡ length (leaves t)
@@ -86,23 +105,15 @@ module _ {w : Words} {t : Tree Item} {x z s n : ℕ} (p : Pieces w x t) (end : z
           apart = d ∙ sym (append-assoc (k .seen) (k .here ∷ []) (y ∷ ys))
 
   -- before it there is a next
-  pub go-on : s ≢ z → Passed (linkAt w 19 s) (n + 1) (leaves t)
-  go-on e = go (k .ahead) (k .split)
+  pub not-all : s ≢ z → n < length (leaves t)
+  not-all e = go (k .ahead) (k .split)
     where
-      go : (ys : List Item) → leaves t ≡ k .seen ++ k .here ∷ ys → Passed (linkAt w 19 s) (n + 1) (leaves t)
+      go : (ys : List Item) → leaves t ≡ k .seen ++ k .here ∷ ys → n < length (leaves t)
       go [] d = absurd (e (k .slot ∙ ap (λ (a : Item). a .slot) (sym (List·Memᴰ·eq-of-singleton (last-in (k .seen) (k .here) [] (start t) (last t) (sym d ∙ leaves-last t)))) ∙ sym end))
-      go (y ∷ ys) d =
-          record {
-            seen = k .seen ++ k .here ∷ [];
-            here = y;
-            ahead = ys;
-            split = d ∙ sym (append-assoc (k .seen) (k .here ∷ []) (y ∷ ys));
-            slot = ap (linkAt w 19) (k .slot) ∙ next .next;
-            count = omega (arith, k .count, length-append (k .seen) (k .here ∷ []));
-          }
-        where
-          next : Next w (k .here) y
-          next = isChain-append-cons-cons (k .here) (k .seen) .0 (subst (Threaded w) d (p .thread)) .1
+      go (y ∷ ys) d = omega (arith, ap length d, length-append (k .seen) (k .here ∷ y ∷ ys), k .count)
+
+  pub go-on : s ≢ z → Passed (linkAt w 19 s) (n + 1) (leaves t)
+  go-on e = follow (p .thread) k (not-all e)
 
   -- no more pieces than slots
   few-passed : n ≤ 4096

@@ -147,7 +147,7 @@ pub fn count(part: &[i64], root: u32) -> u32
 }
 
 // A word of a piece's crossing with the next; the last piece has none.
-fn crossing_word(part: &[i64], field: usize, slot: u32, last: bool) -> i64
+pub fn crossing_word(part: &[i64], field: usize, slot: u32, last: bool) -> i64
     ensures { λ r. ⌜ r ≡ crossingWord (now (part .entry)) field slot last ⌝ }
 {
     if last {

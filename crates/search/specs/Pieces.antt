@@ -87,13 +87,13 @@ leaf-low {w} p = omega (arith, p .rep .root, p .rep .slots .high (List·Memᴰ·
 
 -- of a slot that holds an offer, the code reads its rate and base
 module _ {w : Words} {a : Item} (h : Held w a) where
-  read-rate : rateAt w (a .slot) ≡ rateOf a
+  pub read-rate : rateAt w (a .slot) ≡ rateOf a
   read-rate = ap (bounded _ _) (h .rate) ∙ bounded-in _ _ (rateOf a) (rate-of (a .offer) (h .ranged))
 
   read-base : baseAt w (a .slot) ≡ baseOf a
   read-base = ap (bounded _ _) (h .base) ∙ bounded-in _ _ (baseOf a) (base-of (a .offer) (h .ranged))
 
-  read-price : (n d : ℤ) → priceIn w (a .slot) n d ≡ scaled a n d
+  pub read-price : (n d : ℤ) → priceIn w (a .slot) n d ≡ scaled a n d
   read-price n d = ap₂ (λ (b r : ℤ). b *ℤ d +ℤ r *ℤ n) read-base read-rate
 
 -- of a slot that leads to the next, the crossing
@@ -107,12 +107,12 @@ module _ {w : Words} {a b : Item} (h : Held w a) (k : Held w b) (n : Next w a b)
       above : T (ltZ (pos 0) (rateOf a -ℤ rateOf b)) → T (leZ (pos 0) (rateOf a -ℤ rateOf b))
       above t = omega (arith, intRules)
 
-  read-numerator : numeratorAt w (a .slot) ≡ crossingNumerator (a .offer) (b .offer)
+  pub read-numerator : numeratorAt w (a .slot) ≡ crossingNumerator (a .offer) (b .offer)
   read-numerator =
       ap (bounded _ _) (n .numerator)
       ∙ bounded-in _ _ _ (base-gap-in-range (baseOf a) (baseOf b) (base-of (a .offer) (h .ranged)) (base-of (b .offer) (k .ranged)))
 
-  read-denominator : denominatorAt w (a .slot) ≡ crossingDenominator (a .offer) (b .offer)
+  pub read-denominator : denominatorAt w (a .slot) ≡ crossingDenominator (a .offer) (b .offer)
   read-denominator = ap (bounded _ _) (n .denominator) ∙ bounded-in _ _ _ gap-ranged
 
   -- the line of another item that is held, at that crossing

@@ -97,6 +97,13 @@ crossing-ranged w p n d a b = (rw a (numerator-ranged w p), rw b (denominator-ra
 abbrev pub priceIn : Words → ℕ → ℤ → ℤ → ℤ
 priceIn w s n d = baseAt w s *ℤ d +ℤ rateAt w s *ℤ n
 
+-- and at the crossing that its own slot keeps
+abbrev pub crossingPriceAt : Words → ℕ → ℤ
+crossingPriceAt w s = priceIn w s (numeratorAt w s) (denominatorAt w s)
+
+pub crossing-price-is : (w : Words) (s : ℕ) (n d : ℤ) {p : ℤ} → n ≡ numeratorAt w s → d ≡ denominatorAt w s → p ≡ priceIn w s n d → p ≡ crossingPriceAt w s
+crossing-price-is w s n d a b c = rw (c, a, b)
+
 -- each of the code's products and sums fits
 module _ (w : Words) (s : ℕ) where
   pub base-product-fits : (b d : ℤ) → b ≡ baseAt w s → T (denominatorInRange d) → SFits w64 (b *ℤ d)

@@ -5,7 +5,7 @@ ghost use mathlib.Core.Bool.{_&&_};
 ghost use lib.Dec.{T, leb};
 ghost use lib.IntN.{_+ℤ_, _*ℤ_};
 ghost use Rattle.offers.specs.Sizes.{numeratorInRange, denominatorInRange};
-ghost use Rattle.search.specs.Prices.{bounded, rateAt, baseAt, numeratorAt, denominatorAt, priceIn, atMostAt, keptIn, aboveAt};
+ghost use Rattle.search.specs.Prices.{bounded, rateAt, baseAt, numeratorAt, denominatorAt, priceIn, crossingPriceAt, atMostAt, keptIn, aboveAt};
 ghost use Rattle.search.specs.Moves.{Topped, Pointed, Retreated, Advanced, Popped};
 ghost use Rattle.search.specs.Steps.{paired, finished, Receded, Stepped};
 ghost use Rattle.search.specs.Runs.{started, Meets};
@@ -61,14 +61,14 @@ pub fn base(part: &[i64], slot: u32) -> i64
     bounded(-1_000_000_000, 1_000_000_000, table::get(part, 2, slot))
 }
 
-// The crossing with the next piece.
-fn numerator(part: &[i64], slot: u32) -> i64
+// The crossing with the next piece: where the words hold one, its numerator and its denominator.
+pub fn numerator(part: &[i64], slot: u32) -> i64
     ensures { λ r. ⌜ r ≡ numeratorAt (now (part .entry)) slot ⌝ }
 {
     bounded(-2_000_000_000, 2_000_000_000, table::get(part, 6, slot))
 }
 
-fn denominator(part: &[i64], slot: u32) -> i64
+pub fn denominator(part: &[i64], slot: u32) -> i64
     ensures { λ r. ⌜ r ≡ denominatorAt (now (part .entry)) slot ⌝ }
 {
     bounded(0, 200_000, table::get(part, 7, slot))
@@ -80,6 +80,15 @@ fn price(part: &[i64], slot: u32, n: i64, d: i64) -> i64
     ensures { λ r. ⌜ r ≡ priceIn (now (part .entry)) slot n d ⌝ }
 {
     base(part, slot) * d + rate(part, slot) * n
+}
+
+// The price of a slot's line at the crossing that the slot keeps, times its denominator.
+pub fn crossing_price(part: &[i64], slot: u32) -> i64
+    ensures { λ r. ⌜ r ≡ crossingPriceAt (now (part .entry)) slot ⌝ }
+{
+    let n = numerator(part, slot);
+    let d = denominator(part, slot);
+    price(part, slot, n, d)
 }
 
 // The slot in which a node is kept.

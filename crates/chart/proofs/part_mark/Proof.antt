@@ -1,0 +1,125 @@
+-- `chart::part_mark` meets its contract: one lemma for each way out.
+use mathlib.Core.Path.{_≡_, sym, _∙_, ap, subst}
+use mathlib.Core.Logic.{_≢_}
+use Prim.Native.Nat.{ℕ, _≤_, _<_}
+use native.Mathlib.Omega.{arith}
+use lib.IntN.{ℤ, pos}
+use mir.Facts.{toZ-ofZ, toZ-pos}
+use mir.Syntax.{w64}
+use mir.Val.{SFits, toZ}
+use Rattle.marks.specs.Told.{openEnd}
+use Rattle.chart.specs.Marking.{PartMark, part-empty, part-outside, part-first, part-last, part-inner, index-below, index-above, index-there}
+use borrow.Author.Needs.{needs}
+use Rattle.chart.proofs.part_mark.Statement.{statement}
+use Rattle.chart.proofs.part_mark.Tie as tie
+
+first : {i : ℕ} → i < 1 → i ≡ 0
+first h = omega arith
+
+below : {i m : ℕ} → i ≤ m → i ≢ m → i < m
+below h d = omega arith
+
+number-at-requires : tie.Need-number-at-requires
+number-at-requires c κs = search needs
+
+count-requires : tie.Need-count-requires
+count-requires c κs = search needs
+
+returns : tie.Need-returns
+returns c = part-empty (c .before .before .number-at .ensures) (c .before .count .ensures) (c .before .before .before .args .index) (c .if1 .taken)
+
+returns-2 : tie.Need-returns-2
+returns-2 c =
+    let s = c .before .before .before .before in
+    part-outside (c .before .before .before .number-at .ensures) (c .before .before .count .ensures) (s .args .index) (c .before .if1 .left)
+    (index-below (s .args .index) _ (simp (toZ-ofZ, s .fits .index) at (c .if2 .taken)))
+
+cast-if3 : tie.Need-cast-if3
+cast-if3 c = search needs
+
+returns-3 : tie.Need-returns-3
+returns-3 c =
+    let s = c .before .before .before .before .before in
+    let m = c .before .before .before .count in
+    let e : toZ w64 (m .result) ≡ pos (m .result) = toZ-pos w64 (omega (arith, m .ensures .few)) in
+    part-outside (c .before .before .before .before .number-at .ensures) (m .ensures) (s .args .index) (c .before .before .if1 .left)
+    (index-above (s .args .index) _ (simp (toZ-ofZ, s .fits .index, e) at (c .if3 .taken)))
+
+up-to-requires : tie.Need-up-to-requires
+up-to-requires c κs = search needs
+
+slot-of-requires : tie.Need-slot-of-requires
+slot-of-requires c κs = search needs
+
+rate-requires : tie.Need-rate-requires
+rate-requires c κs = search needs
+
+open-end-requires : tie.Need-open-end-requires
+open-end-requires c κs = search needs
+
+returns-4 : tie.Need-returns-4
+returns-4 c =
+    let s = c .before .before .before .before .before .before .before .before .before .before in
+    let m = c .before .before .before .before .before .before .before .before .count in
+    let e : toZ w64 (m .result) ≡ pos (m .result) = toZ-pos w64 (omega (arith, m .ensures .few)) in
+    let j = index-there (s .args .index) (simp (toZ-ofZ, s .fits .index) at (c .before .before .before .before .before .before .if2 .left)) (simp (toZ-ofZ, s .fits .index, e) at (c .before .before .before .before .before .if3 .left)) (m .ensures .few) (simp (toZ-ofZ, s .fits .index) at (c .before .before .before .before .up-to .ensures)) in
+    let f : SFits w64 (c .before .rate .result) = record { sfits = c .before .rate .ok } in
+    let i : s .args .index ≡ pos 0 = j .0 ∙ ap pos (first (c .before .before .before .if4 .taken)) in
+    subst (λ (z : ℤ). PartMark (s .args .part .now) z (c .open-end .result)) (sym i)
+    (part-first (c .before .before .before .before .before .before .before .before .before .number-at .ensures) (m .ensures) (c .before .before .before .before .before .before .before .if1 .left) (c .before .before .slot-of .ensures)
+    ((simp (toZ-ofZ, f) at (c .open-end .ensures)) ∙ ap openEnd (c .before .rate .ensures)))
+
+slot-of-requires-2 : tie.Need-slot-of-requires-2
+slot-of-requires-2 c κs = search needs
+
+rate-requires-2 : tie.Need-rate-requires-2
+rate-requires-2 c κs = search needs
+
+open-end-requires-2 : tie.Need-open-end-requires-2
+open-end-requires-2 c κs = search needs
+
+returns-5 : tie.Need-returns-5
+returns-5 c =
+    let s = c .before .before .before .before .before .before .before .before .before .before .before in
+    let m = c .before .before .before .before .before .before .before .before .before .count in
+    let e : toZ w64 (m .result) ≡ pos (m .result) = toZ-pos w64 (omega (arith, m .ensures .few)) in
+    let j = index-there (s .args .index) (simp (toZ-ofZ, s .fits .index) at (c .before .before .before .before .before .before .before .if2 .left)) (simp (toZ-ofZ, s .fits .index, e) at (c .before .before .before .before .before .before .if3 .left)) (m .ensures .few) (simp (toZ-ofZ, s .fits .index) at (c .before .before .before .before .before .up-to .ensures)) in
+    let f : SFits w64 (c .before .rate2 .result) = record { sfits = c .before .rate2 .ok } in
+    subst (λ (z : ℤ). PartMark (s .args .part .now) z (c .open-end2 .result)) (sym (j .0))
+    (part-last (c .before .before .before .before .before .before .before .before .before .before .number-at .ensures) (m .ensures) (c .before .before .before .before .before .before .before .before .if1 .left) (c .before .before .before .before .before .up-to .result) (c .before .before .before .before .if4 .left) (c .before .before .before .slot-of2 .ensures) (c .before .before .if5 .taken)
+    ((simp (toZ-ofZ, f) at (c .open-end2 .ensures)) ∙ ap openEnd (c .before .rate2 .ensures)))
+
+crossing-at-requires : tie.Need-crossing-at-requires
+crossing-at-requires c κs = search needs
+
+returns-6 : tie.Need-returns-6
+returns-6 c =
+    let s = c .before .before .before .before .before .before .before .before .before .before in
+    let m = c .before .before .before .before .before .before .before .before .count in
+    let e : toZ w64 (m .result) ≡ pos (m .result) = toZ-pos w64 (omega (arith, m .ensures .few)) in
+    let j = index-there (s .args .index) (simp (toZ-ofZ, s .fits .index) at (c .before .before .before .before .before .before .if2 .left)) (simp (toZ-ofZ, s .fits .index, e) at (c .before .before .before .before .before .if3 .left)) (m .ensures .few) (simp (toZ-ofZ, s .fits .index) at (c .before .before .before .before .up-to .ensures)) in
+    subst (λ (z : ℤ). PartMark (s .args .part .now) z (c .crossing-at .result)) (sym (j .0))
+    (part-inner (c .before .before .before .before .before .before .before .before .before .number-at .ensures) (m .ensures) (c .before .before .before .before .before .before .before .if1 .left) (c .before .before .before .before .up-to .result) (c .before .before .before .if4 .left) (c .before .before .slot-of2 .ensures) (below (j .1) (c .before .if5 .left))
+    (c .crossing-at .ensures))
+
+pub part-mark-spec : {M : Type 1} → statement M
+part-mark-spec =
+    tie.close
+    (tie.spec
+    number-at-requires
+    count-requires
+    returns
+    returns-2
+    cast-if3
+    returns-3
+    up-to-requires
+    slot-of-requires
+    rate-requires
+    open-end-requires
+    returns-4
+    slot-of-requires-2
+    rate-requires-2
+    open-end-requires-2
+    returns-5
+    crossing-at-requires
+    returns-6)

@@ -1,0 +1,64 @@
+-- A book's chart marks (document 01, "Marks, vouchers, reading"), and what asking for one promises.
+use Prim.Native.Nat.{ℕ, suc}
+use mathlib.Core.Path.{_≡_, refl, ap}
+use mathlib.Core.List.{List, [], _∷_}
+use mathlib.Core.Option.{Option, none, some}
+use mathlib.Core.Bool.{not}
+use lib.ListN.{length, getD}
+use lib.Dec.{leb}
+use lib.IntN.{ℤ, pos, natAbs}
+use Rattle.offers.specs.Offers.{Offer, between, crossingNumerator, crossingDenominator}
+use Rattle.plain.specs.Causes.{Cause, bookEmpty, noSuchMark, Trial, _when_, declined, causeNumber}
+use Rattle.plain.specs.Book.{envelope}
+use Rattle.plain.specs.Rules.{FirstOf}
+use Rattle.marks.specs.Told.{Told, told, openEnd, crossing}
+use Rattle.marks.specs.Crossings.{scaledPrice}
+use Rattle.marks.specs.declared.Mark.{Mark}
+use Rattle.marks.specs.declared.Mark.the-variants.{Declined}
+use Rattle.dynamic.specs.OfferTree.{Held}
+use Rattle.table.specs.Items.{Item}
+use Rattle.update.specs.Form.{Book, plainOffers}
+use Rattle.book.specs.Promises.{partOf, noBookTrial}
+
+-- ---- the marks of a listing
+
+-- the marks behind a piece: its crossing with the next, and so on to the last piece's rate
+abbrev pub marksBehind : Offer → List Offer → List Told
+marksBehind own [] = openEnd (own .rate) ∷ []
+marksBehind own (next ∷ es) = crossing (crossingNumerator own next) (crossingDenominator own next) (scaledPrice own next) ∷ marksBehind next es
+
+-- Mark 0 carries the first piece's rate, mark m the last's; mark i between is the crossing of pieces i and i + 1, counted from 1.
+abbrev pub marks : List Offer → List Told
+marks [] = []
+marks (o ∷ es) = openEnd (o .rate) ∷ marksBehind o es
+
+-- a listing of m pieces has m + 1 marks
+pub marks-count : (o : Offer) (es : List Offer) → length (marks (o ∷ es)) ≡ suc (length (o ∷ es))
+marks-count o [] = refl
+marks-count o (p ∷ es) = ap suc (marks-count p es)
+
+-- the offers (3, 0), (1, 10) and (0, 40) cross at 10 / 2, for 30 / 2, and at 30 / 1, for 40 / 1
+pub three-pieces : marks (record { number = pos 1; rate = pos 3; base = pos 0 } ∷ record { number = pos 2; rate = pos 1; base = pos 10 } ∷ record { number = pos 3; rate = pos 0; base = pos 40 } ∷ [])
+    ≡ openEnd (pos 3) ∷ crossing (pos 10) (pos 2) (pos 30) ∷ crossing (pos 30) (pos 1) (pos 40) ∷ openEnd (pos 0) ∷ []
+three-pieces = refl
+
+-- ---- the plain book's answer
+
+abbrev pub refusal : Cause → Told
+refusal c = record { number = pos (causeNumber c); values = [] }
+
+abbrev pub markTrials : List Offer → ℤ → List Trial
+markTrials os index = bookEmpty when leb (length os) 0 ∷ noSuchMark when not (between (pos 0) (pos (length (envelope os))) index) ∷ []
+
+abbrev pub markOf : List Offer → ℤ → Option Cause → Told
+markOf os index none = getD (marks (envelope os)) (natAbs index) (refusal noSuchMark)
+markOf os index (some c) = refusal c
+
+abbrev pub plainMark : List Offer → ℤ → Told
+plainMark os index = markOf os index (declined (markTrials os index))
+
+-- ---- on a lent table
+
+pub record Marks (start : ℕ) (t : List ℤ) (index : ℤ) (r : Mark) : Type 0 where
+  pub declined : (z : Cause) → FirstOf (noBookTrial t start ∷ []) z → r ≡ Declined (pos (causeNumber z))
+  pub answers : (c : ℕ) (held : Option (Held Item)) → Book (partOf t start) c held → told r ≡ plainMark (plainOffers held) index

@@ -1,0 +1,53 @@
+-- `reading::part_piece` meets its contract: the words of the slot, with no crossing at the last piece.
+use mir.Syntax.{w64}
+use mir.Val.{SFits}
+use mir.Facts.{toZ-ofZ}
+use borrow.Author.Tests.{eqb-true, eqb-false}
+use Rattle.reading.specs.Parts.{hands-end, hands-piece}
+use borrow.Author.Needs.{needs}
+use Rattle.reading.proofs.part_piece.Statement.{statement}
+use Rattle.reading.proofs.part_piece.Tie as tie
+
+returns : tie.Need-returns
+returns c = hands-end (c .if1 .taken)
+
+number-at-requires : tie.Need-number-at-requires
+number-at-requires c κs = search needs
+
+end-requires : tie.Need-end-requires
+end-requires c κs = search needs
+
+get-requires : tie.Need-get-requires
+get-requires c κs = search needs
+
+crossing-word-requires : tie.Need-crossing-word-requires
+crossing-word-requires c κs = search needs
+
+crossing-word-requires-2 : tie.Need-crossing-word-requires-2
+crossing-word-requires-2 c κs = search needs
+
+returns-2 : tie.Need-returns-2
+returns-2 c =
+    let n = c .before .before .get in
+    let u = c .before .crossing-word in
+    let v = c .crossing-word2 in
+    let p = c .before .before .before .before .before .before .args .place in
+    let z = c .before .before .before .end .result in
+    let fn : SFits w64 (n .result) = record { sfits = n .ok } in
+    let fu : SFits w64 (u .result) = record { sfits = u .ok } in
+    let fv : SFits w64 (v .result) = record { sfits = v .ok } in
+    simp (toZ-ofZ, fn, fu, fv)
+    (hands-piece (c .before .before .before .before .number-at .ensures) (c .before .before .before .end .ensures) (c .before .before .before .before .before .if1 .left)
+    (λ e. eqb-true p z e) (λ e. eqb-false p z e) (n .ensures) (u .ensures) (v .ensures))
+
+pub part-piece-spec : {M : Type 1} → statement M
+part-piece-spec =
+    tie.close
+    (tie.spec
+    returns
+    number-at-requires
+    end-requires
+    get-requires
+    crossing-word-requires
+    crossing-word-requires-2
+    returns-2)

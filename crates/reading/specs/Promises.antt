@@ -1,0 +1,96 @@
+-- A reading of a book's pieces (document 01, "Marks, vouchers, reading"): what it hands out at its n-th step, and what moves it on.
+use Prim.Native.Nat.{ℕ, zero, suc, _+_, _*_, _≤_, _<_}
+use native.Mathlib.Omega.{arith}
+use mathlib.Core.Path.{_≡_, refl, _∙_, ap}
+use mathlib.Core.List.{List, [], _∷_}
+use mathlib.Core.Option.{Option, none, some}
+use lib.ListN.{length, take, drop, getD, drop-of-length-le}
+use lib.IntN.{ℤ, pos}
+use Rattle.offers.specs.Offers.{Offer, crossingNumerator, crossingDenominator}
+use Rattle.plain.specs.Causes.{Cause, causeNumber}
+use Rattle.plain.specs.Book.{envelope, pieceWords}
+use Rattle.plain.specs.Rules.{FirstOf, words-length}
+use Rattle.trees.specs.Operations.{partLeaves}
+use Rattle.dynamic.specs.OfferTree.{Held}
+use Rattle.table.specs.Words.{Words}
+use Rattle.table.specs.Items.{Item}
+use Rattle.update.specs.Form.{Book, plainOffers}
+use Rattle.query.specs.Counting.{Passed}
+use Rattle.book.specs.Promises.{partOf, noBookTrial}
+use Rattle.reading.specs.declared.Handed.{Handed}
+use Rattle.reading.specs.declared.Handed.the-variants.{Piece, End, Declined}
+
+-- ---- answers in document 01's numbers and words
+
+-- the number of the cause for declining, 0 where there is none, and the words handed out
+pub record Told : Type 0 where
+  pub number : ℤ
+  pub words : List ℤ
+
+abbrev pub told : Handed → Told
+told (Piece number numerator denominator) = record { number = pos 0; words = number ∷ numerator ∷ denominator ∷ [] }
+told End = record { number = pos 0; words = [] }
+told (Declined k) = record { number = k; words = [] }
+
+-- The n-th three words of the listing, counted from 0; past the last piece there are none, which is the end.
+abbrev pub listedAt : List Offer → ℕ → Told
+listedAt os n = record { number = pos 0; words = take 3 (drop (3 * n) (pieceWords (envelope os))) }
+
+-- from the last piece on it is the end, for ever
+pub listed-end : (os : List Offer) (n : ℕ) → length (envelope os) ≤ n → listedAt os n ≡ told End
+listed-end os n h = ap (λ (ws : List ℤ). record { number = pos 0; words = take 3 ws }) (drop-of-length-le (pieceWords (envelope os)) {i = 3 * n} (omega (arith, words-length (envelope os))))
+
+-- before it the pieces' numbers, each with its crossing with the next; the last carries 0 and 0
+threes : (n : ℕ) (a b c : ℤ) (ws : List ℤ) → drop (3 * suc n) (a ∷ b ∷ c ∷ ws) ≡ drop (3 * n) ws
+threes n a b c ws = let e : 3 * suc n ≡ suc (suc (suc (3 * n))) = omega arith in ap (λ (i : ℕ). drop i (a ∷ b ∷ c ∷ ws)) e
+
+inner-at : (es : List Offer) (n : ℕ) (d : Offer) → suc n < length es
+    → take 3 (drop (3 * n) (pieceWords es)) ≡ getD es n d .number ∷ crossingNumerator (getD es n d) (getD es (suc n) d) ∷ crossingDenominator (getD es n d) (getD es (suc n) d) ∷ []
+inner-at [] n d h = absurd (omega arith)
+inner-at (o ∷ []) n d h = absurd (omega arith)
+inner-at (o ∷ p ∷ es) zero d h = refl
+inner-at (o ∷ p ∷ es) (suc n) d h = ap (take 3) (threes n _ _ _ (pieceWords (p ∷ es))) ∙ inner-at (p ∷ es) n d (omega arith)
+
+last-at : (es : List Offer) (n : ℕ) (d : Offer) → suc n ≡ length es → take 3 (drop (3 * n) (pieceWords es)) ≡ getD es n d .number ∷ pos 0 ∷ pos 0 ∷ []
+last-at [] n d h = absurd (omega arith)
+last-at (o ∷ []) zero d h = refl
+last-at (o ∷ []) (suc n) d h = absurd (omega arith)
+last-at (o ∷ p ∷ es) zero d h = absurd (omega arith)
+last-at (o ∷ p ∷ es) (suc n) d h = ap (take 3) (threes n _ _ _ (pieceWords (p ∷ es))) ∙ last-at (p ∷ es) n d (omega arith)
+
+abbrev handing : List ℤ → Told
+handing ws = record { number = pos 0; words = ws }
+
+pub listed-inner : (os : List Offer) (n : ℕ) (d : Offer) → suc n < length (envelope os)
+    → listedAt os n ≡ told (Piece (getD (envelope os) n d .number) (crossingNumerator (getD (envelope os) n d) (getD (envelope os) (suc n) d)) (crossingDenominator (getD (envelope os) n d) (getD (envelope os) (suc n) d)))
+listed-inner os n d h = ap handing (inner-at (envelope os) n d h)
+
+pub listed-last : (os : List Offer) (n : ℕ) (d : Offer) → suc n ≡ length (envelope os) → listedAt os n ≡ told (Piece (getD (envelope os) n d .number) (pos 0) (pos 0))
+listed-last os n d h = ap handing (last-at (envelope os) n d h)
+
+-- ---- places
+
+-- the pieces that a part keeps at the root
+abbrev pub rootPieces : Option (Held Item) → List Item
+rootPieces none = []
+rootPieces (some h) = partLeaves (h .whole)
+
+-- p is the slot of the n-th of these pieces, counted from 0, or 0 past the last
+pub data PlaceOf (xs : List Item) (n p : ℕ) : Type 0 where
+  at-piece : Passed p (n + 1) xs → PlaceOf xs n p
+  past-last : length xs ≤ n → p ≡ 0 → PlaceOf xs n p
+
+-- a reading at place p has handed out n pieces, or has come to the end
+pub record Before (w : Words) (n p : ℕ) : Type 0 where
+  pub stands : (c : ℕ) (held : Option (Held Item)) → Book w c held → PlaceOf (rootPieces held) n p
+
+-- ---- the promises
+
+-- one step on
+pub record Moves (start : ℕ) (t : List ℤ) (place r : ℕ) : Type 0 where
+  pub on : (n : ℕ) → Before (partOf t start) n place → Before (partOf t start) (n + 1) r
+
+-- what is handed out at a place
+pub record Hands (start : ℕ) (t : List ℤ) (place : ℕ) (r : Handed) : Type 0 where
+  pub declined : (z : Cause) → FirstOf (noBookTrial t start ∷ []) z → r ≡ Declined (pos (causeNumber z))
+  pub answers : (n : ℕ) → Before (partOf t start) n place → (c : ℕ) (held : Option (Held Item)) → Book (partOf t start) c held → told r ≡ listedAt (plainOffers held) n
