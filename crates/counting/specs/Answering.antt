@@ -53,7 +53,7 @@ lists-lines {pieces = pieces} {before = before} {after} {n} e l r =
 
 -- ---- one line
 
-untouched : (c start : ℕ) (t : List ℤ) → OnlyPart c start t t
+pub untouched : (c start : ℕ) (t : List ℤ) → OnlyPart c start t t
 untouched c start t = record { long = refl; front = refl; back = refl }
 
 pub command-is : {line : List ℕ} {r m : Command} → Parsed line r → r ≡ m → Parsed line m

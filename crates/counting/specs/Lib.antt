@@ -4,3 +4,5 @@ pub mod Replies
 pub mod Pieces
 pub mod Fitting
 pub mod Answering
+pub mod Input
+pub mod Whole

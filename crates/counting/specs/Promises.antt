@@ -3,14 +3,16 @@
 use mathlib.Core.Path.{_≡_}
 use mathlib.Core.List.{List, [], _∷_, _++_}
 use mathlib.Core.Option.{Option}
+use mathlib.Core.Bool.{cond}
 use Prim.Native.Nat.{ℕ, _≤_, _<_}
 use lib.ListN.{length, drop}
+use lib.Dec.{eqb}
 use lib.IntN.{ℤ, pos}
 use Rattle.plain.specs.Causes.{causeNumber, unreadableLine}
-use Rattle.plain.specs.Book.{State, Call, post, withdraw, query, listing, Answer, refused, live, found, listed, Outcome, step}
+use Rattle.plain.specs.Book.{State, Call, post, withdraw, query, listing, Answer, refused, live, found, listed, Outcome, opened, step}
 use Rattle.columns.specs.declared.Command.{Command}
 use Rattle.columns.specs.declared.Command.the-variants.{Post, Withdraw, Query, List as Listing, Unreadable}
-use Rattle.columns.specs.Columns.{answerLine}
+use Rattle.columns.specs.Columns.{newline, answerLine}
 use Rattle.columns.specs.Commands.{commandOf}
 use Rattle.dynamic.specs.OfferTree.{Held}
 use Rattle.table.specs.Items.{Item}
@@ -57,6 +59,21 @@ commanded s Unreadable = record { state = s; bytes = answered 63 (pos 0) (refuse
 -- A line, without its newline.
 abbrev pub told : State → List ℕ → Told
 told s line = commanded s (commandOf line)
+
+-- Lines one after the other.
+abbrev pub toldAll : State → List (List ℕ) → List ℕ
+toldAll s [] = []
+toldAll s (line ∷ lines) = told s line .bytes ++ toldAll (told s line .state) lines
+
+-- The lines of an input, the bytes `text` of the first one being there already. The last line may lack its newline; after a final newline there is none.
+abbrev pub linesFrom : List ℕ → List ℕ → List (List ℕ)
+linesFrom [] [] = []
+linesFrom (b ∷ text) [] = (b ∷ text) ∷ []
+linesFrom text (b ∷ input) = cond (eqb b newline) (text ∷ linesFrom [] input) (linesFrom (text ++ b ∷ []) input)
+
+-- What the counter prints for an input.
+abbrev pub output : List ℕ → List ℕ
+output input = toldAll (opened (pos capacity)) (linesFrom [] input)
 
 -- ---- the counter on words
 

@@ -4,6 +4,7 @@ use book::Listed;
 use book::Update;
 use columns::Command;
 ghost use mathlib.Core.Path.{_≡_};
+ghost use mathlib.Core.List.{[]};
 ghost use Prim.Native.Nat.{_+_, _*_, _≤_};
 ghost use lib.ListN.{length};
 ghost use lib.IntN.{pos};
@@ -12,6 +13,7 @@ ghost use Rattle.counting.specs.Replies.{Replies};
 ghost use Rattle.counting.specs.Pieces.{PieceLine, PiecesTo};
 ghost use Rattle.counting.specs.Answering.{ListsLines};
 ghost use Rattle.counting.specs.Promises.{Counts};
+ghost use Rattle.counting.specs.Input.{Keeps, Pushes, CountsFront, CountsKept, Feeds, Finishes};
 
 // ---- one answer
 
@@ -142,4 +144,93 @@ pub fn answer(table: &mut [i64], line: &[u8], out: &mut [u8]) -> usize
             return 39;
         }
     }
+}
+
+// ---- the input, byte by byte
+
+// A line so far: its first 28 bytes, and how many those are. No line of more than 27 bytes can be read, so the later ones do not matter.
+pub struct Line {
+    pub bytes: [u8; 28],
+    pub length: usize,
+}
+
+pub fn no_line() -> Line
+    ensures { λ r. ⌜ Keeps r [] ⌝ }
+{
+    Line {
+        bytes: [0u8; 28],
+        length: 0,
+    }
+}
+
+// One more byte of the line.
+pub fn push(line: Line, byte: u8) -> Line
+    ensures { λ r. ⌜ Pushes line byte r ⌝ }
+{
+    let at = line.length;
+    let mut bytes = line.bytes;
+    if 28 <= at {
+        return Line {
+            bytes: bytes,
+            length: at,
+        };
+    }
+    bytes[at] = byte;
+    Line {
+        bytes: bytes,
+        length: at + 1,
+    }
+}
+
+// Answers the line in the first `length` of some bytes.
+fn answer_front(table: &mut [i64], bytes: &[u8], length: usize, out: &mut [u8]) -> usize
+    ensures { λ r. ⌜ CountsFront (now (bytes .entry)) length (now (table .entry)) (now (table .exit)) (now (out .entry)) (now (out .exit)) r ⌝ }
+{
+    if bytes.len() < length {
+        return 0;
+    }
+    answer(table, &bytes[..length], out)
+}
+
+// Answers the line that was kept.
+fn answer_kept(table: &mut [i64], line: Line, out: &mut [u8]) -> usize
+    ensures { λ r. ⌜ CountsKept line (now (table .entry)) (now (table .exit)) (now (out .entry)) (now (out .exit)) r ⌝ }
+{
+    let bytes = line.bytes;
+    answer_front(table, &bytes, line.length, out)
+}
+
+// The line after a byte of the input, and how many bytes of `out` were printed.
+pub struct Fed {
+    pub line: Line,
+    pub printed: usize,
+}
+
+// Takes in one byte of the input: at a newline the line is answered, and the next one begins.
+pub fn feed(table: &mut [i64], line: Line, byte: u8, out: &mut [u8]) -> Fed
+    ensures { λ r. ⌜ Feeds byte line (r .line) (now (table .entry)) (now (table .exit)) (now (out .entry)) (now (out .exit)) (r .printed) ⌝ }
+{
+    if byte != b'\n' {
+        let longer = push(line, byte);
+        return Fed {
+            line: longer,
+            printed: 0,
+        };
+    }
+    let printed = answer_kept(table, line, out);
+    let next = no_line();
+    Fed {
+        line: next,
+        printed: printed,
+    }
+}
+
+// At the end of the input: a last line may lack its newline.
+pub fn finish(table: &mut [i64], line: Line, out: &mut [u8]) -> usize
+    ensures { λ r. ⌜ Finishes line (now (table .entry)) (now (table .exit)) (now (out .entry)) (now (out .exit)) r ⌝ }
+{
+    if line.length == 0 {
+        return 0;
+    }
+    answer_kept(table, line, out)
 }
