@@ -1,9 +1,10 @@
 -- What `parse` answers: the command of the call whose line it was given, and `Unreadable` where it was given no call's.
 use Prim.Native.Nat.{ℕ}
-use mathlib.Core.Path.{_≡_, refl, sym, _∙_}
+use mathlib.Core.Path.{_≡_, refl, sym, _∙_, subst}
 use mathlib.Core.Logic.{_≢_, _↔_}
 use mathlib.Core.Bool.{cond}
-use mathlib.Core.List.{List}
+use mathlib.Core.List.{List, List-discrete}
+use native.Mathlib.Decide.{decLe, ℕ-discrete}
 use native.Mathlib.Omega.{arith}
 use lib.ListN.{length, replicate}
 use lib.IntN.{ℤ, pos}
@@ -13,7 +14,7 @@ use Rattle.columns.specs.declared.Command.{Command}
 use Rattle.columns.specs.declared.Command.the-variants.{Post, Withdraw, Query, List as Listing, Unreadable}
 use Rattle.columns.specs.declared.Field.{Field}
 use Rattle.columns.specs.declared.Field.the-variants.{Number, Bad}
-use Rattle.columns.specs.Columns.{space, lineOf, IsLineOf}
+use Rattle.columns.specs.Columns.{space, decimal, FitsIn, lineOf, HasLine, IsLineOf}
 use Rattle.columns.specs.Values.{told}
 use Rattle.columns.specs.Reading.{Holds, FieldRead, holds-told}
 use Rattle.columns.specs.Sections.{between}
@@ -100,6 +101,47 @@ parsed-unique line Unreadable (Withdraw n) p q = p (withdraw n) .1 (q (withdraw 
 parsed-unique line Unreadable (Query x) p q = p (query x) .1 (q (query x) .0 refl)
 parsed-unique line Unreadable Listing p q = p (listing 0) .1 (q (listing 0) .0 refl)
 parsed-unique line Unreadable Unreadable p q = refl
+
+-- ---- and every line has one: the command as a function of the line
+
+all-known : {A B C : Type 0} → Dec A → Dec B → Dec C → Dec (A × B × C)
+all-known (yes a) (yes b) (yes c) = yes (a, b, c)
+all-known (yes a) (yes b) (no c) = no (λ p. c (p .2))
+all-known (yes a) (no b) d = no (λ p. b (p .1))
+all-known (no a) d e = no (λ p. a (p .0))
+
+fits-known : (width : ℕ) (z : ℤ) → Dec (FitsIn width z)
+fits-known width z = decLe (length (decimal z)) width
+
+has-line-known : (k : Call) → Dec (HasLine k)
+has-line-known (post n r b) = all-known (fits-known 6 n) (fits-known 8 r) (fits-known 12 b)
+has-line-known (withdraw n) = fits-known 12 n
+has-line-known (query q) = fits-known 12 q
+has-line-known (listing room) = yes tt
+
+line-known : (k : Call) (line : List ℕ) → Dec (IsLineOf k line)
+line-known k line = go (has-line-known k) (List-discrete ℕ-discrete line (lineOf k))
+  where
+    go : Dec (HasLine k) → Dec (line ≡ lineOf k) → Dec (IsLineOf k line)
+    go (yes f) (yes e) = yes (record { fits = f; text = e })
+    go (yes f) (no e) = no (λ i. e (i .text))
+    go (no f) d = no (λ i. f (i .fits))
+
+commandIf : (k : Call) {line : List ℕ} → Dec (IsLineOf k line) → Command
+commandIf k (yes i) = asCommand k
+commandIf k (no n) = Unreadable
+
+-- `Parsed` fixes it.
+pub commandOf : List ℕ → Command
+commandOf line = commandIf (someCall (decode line)) (line-known (someCall (decode line)) line)
+
+pub command-parsed : (line : List ℕ) → Parsed line (commandOf line)
+unfolding commandOf commandIf
+command-parsed line = go (line-known (someCall (decode line)) line)
+  where
+    go : (d : Dec (IsLineOf (someCall (decode line)) line)) → Parsed line (commandIf (someCall (decode line)) d)
+    go (yes i) = parsed (someCall (decode line)) line i
+    go (no n) = unreadable line (λ k i. n (subst (λ (m : Command). IsLineOf (someCall m) line) (sym (shape-tells k line (line-shape i))) (to-some k i)))
 
 -- ---- no call's line, and a call's line, by the parts
 

@@ -67,18 +67,18 @@ step-capacity s k = go (declined (trials s k)) k
     go none (listing room) = refl
 
 -- the plain book after a call is the one that the part then stands for
-same-state : (c : ℕ) (held held′ : Option (Held Item)) (k : Call) → plainOffers held′ ≡ step (plainOf c held) k .state .offers → step (plainOf c held) k .state ≡ plainOf c held′
+pub same-state : (c : ℕ) (held held′ : Option (Held Item)) (k : Call) → plainOffers held′ ≡ step (plainOf c held) k .state .offers → step (plainOf c held) k .state ≡ plainOf c held′
 same-state c held held′ k e = λ i. record { capacity = step-capacity (plainOf c held) k i; offers = sym e i }
 
 -- a query and a listing leave the plain book as it was
-asked-state : (s : State) (q : ℤ) → step s (query q) .state ≡ s
+pub asked-state : (s : State) (q : ℤ) → step s (query q) .state ≡ s
 asked-state s q = go (declined (trials s (query q)))
   where
     go : (d : Option Cause) → respond s (query q) d .state ≡ s
     go (some c) = refl
     go none = refl
 
-listed-state : (s : State) (room : ℕ) → step s (listing room) .state ≡ s
+pub listed-state : (s : State) (room : ℕ) → step s (listing room) .state ≡ s
 listed-state s room = go (declined (trials s (listing room)))
   where
     go : (d : Option Cause) → respond s (listing room) d .state ≡ s

@@ -1,0 +1,101 @@
+-- The counter (document 01, "The counter program"): what a line prints, and what it does to the plain book. The book stands at the table's
+-- beginning with capacity 64, and a listing has room for 192 words.
+use mathlib.Core.Path.{_≡_}
+use mathlib.Core.List.{List, [], _∷_, _++_}
+use mathlib.Core.Option.{Option}
+use mathlib.Core.Bool.{cond}
+use Prim.Native.Nat.{ℕ, _≤_, _<_}
+use lib.ListN.{length, drop}
+use lib.Dec.{eqb}
+use lib.IntN.{ℤ, pos}
+use Rattle.plain.specs.Causes.{causeNumber, unreadableLine}
+use Rattle.plain.specs.Book.{State, Call, post, withdraw, query, listing, Answer, refused, live, found, listed, Outcome, opened, step}
+use Rattle.columns.specs.declared.Command.{Command}
+use Rattle.columns.specs.declared.Command.the-variants.{Post, Withdraw, Query, List as Listing, Unreadable}
+use Rattle.columns.specs.Columns.{newline, answerLine}
+use Rattle.columns.specs.Commands.{commandOf}
+use Rattle.dynamic.specs.OfferTree.{Held}
+use Rattle.table.specs.Items.{Item}
+use Rattle.update.specs.Form.{Book}
+use Rattle.book.specs.Promises.{partOf, capacityAt, plainOf, OnlyPart}
+
+-- ---- the plain counter
+
+abbrev pub capacity : ℕ
+capacity = 64
+
+abbrev pub room : ℕ
+room = 192
+
+-- a piece's line: its offer, and its crossing with the next
+unfoldable pub pieceLines : List ℤ → List ℕ
+pieceLines (number ∷ numerator ∷ denominator ∷ ws) = answerLine 69 (pos 0) number numerator denominator ++ pieceLines ws
+pieceLines (number ∷ numerator ∷ []) = []
+pieceLines (number ∷ []) = []
+pieceLines [] = []
+
+-- What an answer prints: letter, refusal or 0, offer, value, second value. A post and a withdrawal show the number that they name.
+abbrev pub answered : (letter : ℕ) (number : ℤ) → Answer → List ℕ
+answered letter number (refused n) = answerLine letter (pos n) (pos 0) (pos 0) (pos 0)
+answered letter number (live n) = answerLine letter (pos 0) number (pos n) (pos 0)
+answered letter number (found offer price) = answerLine letter (pos 0) offer price (pos 0)
+answered letter number (listed m words) = pieceLines words ++ answerLine letter (pos 0) (pos 0) (pos m) (pos 0)
+
+-- The plain book after a line, and the bytes that the line prints.
+pub record Told : Type 0 where
+  pub state : State
+  pub bytes : List ℕ
+
+abbrev pub toldBy : (letter : ℕ) (number : ℤ) → Outcome → Told
+toldBy letter number o = record { state = o .state; bytes = answered letter number (o .answer) }
+
+abbrev pub commanded : State → Command → Told
+commanded s (Post number rate base) = toldBy 80 number (step s (post number rate base))
+commanded s (Withdraw number) = toldBy 87 number (step s (withdraw number))
+commanded s (Query load) = toldBy 81 (pos 0) (step s (query load))
+commanded s Listing = toldBy 76 (pos 0) (step s (listing room))
+commanded s Unreadable = record { state = s; bytes = answered 63 (pos 0) (refused (causeNumber unreadableLine)) }
+
+-- A line, without its newline.
+abbrev pub told : State → List ℕ → Told
+told s line = commanded s (commandOf line)
+
+-- Lines one after the other.
+abbrev pub toldAll : State → List (List ℕ) → List ℕ
+toldAll s [] = []
+toldAll s (line ∷ lines) = told s line .bytes ++ toldAll (told s line .state) lines
+
+-- The lines of an input, the bytes `text` of the first one being there already. The last line may lack its newline; after a final newline there is none.
+abbrev pub linesFrom : List ℕ → List ℕ → List (List ℕ)
+linesFrom [] [] = []
+linesFrom (b ∷ text) [] = (b ∷ text) ∷ []
+linesFrom text (b ∷ input) = cond (eqb b newline) (text ∷ linesFrom [] input) (linesFrom (text ++ b ∷ []) input)
+
+-- What the counter prints for an input.
+abbrev pub output : List ℕ → List ℕ
+output input = toldAll (opened (pos capacity)) (linesFrom [] input)
+
+-- ---- the counter on words
+
+-- A text stands in front, and the bytes behind it stay.
+pub record Prints (text before after : List ℕ) (n : ℕ) : Type 0 where
+  pub whole : after ≡ text ++ drop (length text) before
+  pub count : n ≡ length text
+
+-- The most that a line prints: 64 pieces and the listing's own line.
+abbrev pub most : ℕ
+most = 2_535
+
+-- The part stands for the plain book after the line, and the line's bytes are printed.
+pub record Stands (o : Told) (t′ : List ℤ) (out out′ : List ℕ) (n : ℕ) : Type 0 where
+  pub after : Option (Held Item)
+  pub stands : Book (partOf t′ 0) capacity after
+  pub plain : plainOf capacity after ≡ o .state
+  pub prints : Prints (o .bytes) out out′ n
+
+-- An output that is too short for some line gets nothing, and the line is not answered.
+pub record Counts (line : List ℕ) (t t′ : List ℤ) (out out′ : List ℕ) (n : ℕ) : Type 0 where
+  pub short : length out < most → (n ≡ 0) × (t′ ≡ t) × (out′ ≡ out)
+  pub within : n ≤ length out
+  pub outside : OnlyPart (capacityAt t 0) 0 t t′
+  pub follows : most ≤ length out → (held : Option (Held Item)) → Book (partOf t 0) capacity held → Stands (told (plainOf capacity held) line) t′ out out′ n
