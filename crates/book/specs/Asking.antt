@@ -118,7 +118,7 @@ module _ (q : ℤ) (t : List ℤ) (start : ℕ) where
   queries-declined : {k : Cause} → FirstOf (tableTrials t start (query q)) k → Queries q start t (Declined (pos (causeNumber k)))
   queries-declined f =
       record {
-        declined = λ z g. ap (λ (n : ℕ). Declined (pos n)) (sym (one-cause f g));
+        declined = λ z g. ap refused (sym (one-cause f g));
         answers = λ c held b. sym (ap (λ (o : Outcome). o .answer) (table-declined start t (query q) b f));
         probes = λ c held b. tt;
       }

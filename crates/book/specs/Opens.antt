@@ -13,7 +13,7 @@ use Rattle.lists.specs.Tests.{not-not}
 use lib.IntN.{ℤ, pos, natAbs}
 use Rattle.offers.specs.Offers.{between}
 use Rattle.plain.specs.Causes.{Cause, Trial, declined, causeNumber, capacityOutOfRange, tableTooShort}
-use Rattle.plain.specs.Book.{openTrials, partLength}
+use Rattle.plain.specs.Book.{openTrials, openingBy, partLength}
 use Rattle.plain.specs.Rules.{FirstOf, at-once, further, declined-by, not-declined}
 use Rattle.plain.specs.Sound.{Clear}
 use Rattle.table.specs.Words.{Words, word, wset, upTo, wset-length, wset-other}
@@ -22,7 +22,7 @@ use Rattle.table.specs.Rep.{Within}
 use Rattle.update.specs.Form.{Book}
 use Rattle.book.specs.declared.Opening.{Opening}
 use Rattle.book.specs.declared.Opening.the-variants.{Opened, Declined}
-use Rattle.book.specs.Promises.{partOf, Opens, OnlyPart}
+use Rattle.book.specs.Promises.{partOf, openingNumber, plainOpening, Opens, OnlyPart}
 use Rattle.book.specs.Opening.{Begun, begun, begun-cap, Laid, laid-more, opened-book}
 use Rattle.book.specs.Parts.{Beyond, part-back, only-part, whole-part, lent-back, either-first, either-second, not-either, said, denied, told-is}
 
@@ -119,7 +119,7 @@ starts {c} {w} {w₀} {w′} low high room g l =
 
 module _ (c : ℤ) (start : ℕ) (t t′ : List ℤ) where
   opens-declined : {r : Opening} {k : Cause} → FirstOf (openTrials (length t) start c) k → r ≡ Declined (pos (causeNumber k)) → t′ ≡ t → Opens c start t t′ r
-  opens-declined f er et = record { declined = λ z g. (er ∙ ap (λ (n : ℕ). Declined (pos n)) (sym (one-cause f g)), et); accepted = λ g. absurd (not-clear f g) }
+  opens-declined {k = k} f er et = record { answers = ap openingNumber er ∙ ap (λ (d : Option Cause). plainOpening (openingBy c d)) (sym (declined-by (openTrials (length t) start c) k f)); declined = λ z g. (er ∙ ap (λ (n : ℕ). Declined (pos n)) (sym (one-cause f g)), et); accepted = λ g. absurd (not-clear f g) }
 
   pub opens-range : {b : Bool} → b ≡ not (between (pos 1) (pos 4_096) c) → b ≡ true → t′ ≡ t → Opens c start t t′ (Declined (pos 1))
   opens-range e h et = opens-declined (at-once (said e h)) refl et
@@ -146,6 +146,7 @@ module _ (c : ℤ) (start : ℕ) (t t′ : List ℤ) where
     pub opens-done : start ≤ length t → 64 * (n + 1) ≤ length t - start → (w′ : Words) → Starts n (take (length t - start) (drop start t)) w′ → t′ ≡ take start t ++ (w′ ++ drop (length t - start) (drop start t)) → Opens c start t t′ Opened
     opens-done low room w′ g et =
         record {
+          answers = ap (λ (d : Option Cause). plainOpening (openingBy c d)) (sym (not-declined (openTrials (length t) start c) clears));
           declined = λ z f. absurd (not-clear f clears);
           accepted = λ k. (refl, subst (λ (m : ℕ). Book (partOf t′ start) m none) is-capacity (subst (λ (u : Words). Book u n none) (sym (part-back t start w′ back low)) (g .stands)), subst (λ (m : ℕ). OnlyPart m start t t′) is-capacity (only-part t start w′ back low (subst (λ (u : Words). Beyond n u w′) (whole-part t start) (g .beyond))));
         }

@@ -10,7 +10,7 @@ use Prim.Native.Nat.{ℕ, zero, suc, _+_, _*_, _≤_, max}
 use lib.ListN.{length, take, drop}
 use lib.IntN.{ℤ, pos, negsuc, natAbs}
 use Rattle.plain.specs.Causes.{Cause, noBook, Trial, _when_, causeNumber}
-use Rattle.plain.specs.Book.{State, Call, post, withdraw, query, listing, Answer, refused, live, found, listed, opened, openTrials, rangeTrials, noBookAt, partLength, step}
+use Rattle.plain.specs.Book.{State, Call, post, withdraw, query, listing, Answer, refused, live, found, listed, Opening as Plainly, declined-opening, accepted-opening, opening, opened, openTrials, rangeTrials, noBookAt, partLength, step}
 use Rattle.plain.specs.Rules.{FirstOf}
 use Rattle.plain.specs.Sound.{Clear}
 use Rattle.trees.specs.Tree.{Tree, leaf, node}
@@ -66,6 +66,16 @@ abbrev pub counted : (ℕ → Answer) → ℤ → Answer
 counted f (pos n) = f n
 counted f (negsuc n) = refused 0
 
+-- an opening's: 0 alone, or a refusal's number
+abbrev pub openingNumber : Opening → ℤ
+openingNumber Opened = pos 0
+openingNumber (OpeningDeclined c) = c
+
+-- the plain book's
+abbrev pub plainOpening : Plainly → ℤ
+plainOpening (accepted-opening s) = pos 0
+plainOpening (declined-opening n) = pos n
+
 abbrev pub updateAnswer : Update → Answer
 updateAnswer (Done n k s h) = counted live n
 updateAnswer (UpdateDeclined c) = counted refused c
@@ -82,6 +92,7 @@ listingAnswer (ListingDeclined c) out = counted refused c
 -- ---- open
 
 pub record Opens (c : ℤ) (start : ℕ) (t t′ : List ℤ) (r : Opening) : Type 0 where
+  pub answers : openingNumber r ≡ plainOpening (opening (length t) start c)
   pub declined : (k : Cause) → FirstOf (openTrials (length t) start c) k → (r ≡ OpeningDeclined (pos (causeNumber k))) × (t′ ≡ t)
   pub accepted : Clear (openTrials (length t) start c) → (r ≡ Opened) × Book (partOf t′ start) (natAbs c) none × OnlyPart (natAbs c) start t t′
 
@@ -104,10 +115,12 @@ pub record Follows (k : Call) (c : ℕ) (held : Option (Held Item)) (start : ℕ
   pub counts : Counts r log
 
 pub record Updates (k : Call) (start : ℕ) (t t′ : List ℤ) (r : Update) : Type 0 where
-  pub declined : (z : Cause) → FirstOf (tableTrials t start k) z → (r ≡ UpdateDeclined (pos (causeNumber z))) × (t′ ≡ t)
+  pub declined : (z : Cause) → FirstOf (tableTrials t start k) z → updateAnswer r ≡ refused (causeNumber z)
+  -- a refusal leaves every word, whatever the words are
+  pub refusal : (z : ℤ) → r ≡ UpdateDeclined z → t′ ≡ t
   pub outside : OnlyPart (capacityAt t start) start t t′
   -- nor does the part's length change
-  pub same-part : capacityAt t′ start ≡ capacityAt t start
+  pub same-part : word (partOf t′ start) 0 ≡ word (partOf t start) 0
   pub follows : (c : ℕ) (held : Option (Held Item)) → Book (partOf t start) c held → Follows k c held start t t′ r
 
 -- ---- query
@@ -122,7 +135,7 @@ Probes held (Offer number price probes) = ProbesIn held number probes
 Probes held (FoundDeclined c) = Unit {0}
 
 pub record Queries (q : ℤ) (start : ℕ) (t : List ℤ) (r : Found) : Type 0 where
-  pub declined : (z : Cause) → FirstOf (tableTrials t start (query q)) z → r ≡ FoundDeclined (pos (causeNumber z))
+  pub declined : (z : Cause) → FirstOf (tableTrials t start (query q)) z → foundAnswer r ≡ refused (causeNumber z)
   pub answers : (c : ℕ) (held : Option (Held Item)) → Book (partOf t start) c held → foundAnswer r ≡ step (plainOf c held) (query q) .answer
   pub probes : (c : ℕ) (held : Option (Held Item)) → Book (partOf t start) c held → Probes held r
 
@@ -135,10 +148,12 @@ writtenWords (found n p) = 0
 writtenWords (listed m ws) = length ws
 
 pub record Lists (start : ℕ) (t out out′ : List ℤ) (r : Listed) : Type 0 where
-  pub declined : (z : Cause) → FirstOf (tableTrials t start (listing (length out))) z → (r ≡ ListingDeclined (pos (causeNumber z))) × (out′ ≡ out)
+  pub declined : (z : Cause) → FirstOf (tableTrials t start (listing (length out))) z → listingAnswer r out′ ≡ refused (causeNumber z)
+  -- a refusal leaves every word of the output, whatever the table's words are
+  pub refusal : (z : ℤ) → r ≡ ListingDeclined z → out′ ≡ out
   pub long : length out′ ≡ length out
   pub answers : (c : ℕ) (held : Option (Held Item)) → Book (partOf t start) c held → listingAnswer r out′ ≡ step (plainOf c held) (listing (length out)) .answer
-  -- later output words keep their contents; of a refused listing all of them
+  -- later output words keep their contents
   pub later : (c : ℕ) (held : Option (Held Item)) → Book (partOf t start) c held → drop (writtenWords (listingAnswer r out′)) out′ ≡ drop (writtenWords (listingAnswer r out′)) out
 
 -- ---- check

@@ -34,6 +34,7 @@ use Rattle.book.specs.declared.Listed.the-variants.{Pieces, Declined}
 -- ---- on a part
 
 pub record Shown (w : Words) (out out′ : List ℤ) (r : Listed) : Type 0 where
+  pub refusal : (z : ℤ) → r ≡ Declined z → out′ ≡ out
   pub long : length out′ ≡ length out
   pub answers : (c : ℕ) (held : Option (Held Item)) → Book w c held → listingAnswer r out′ ≡ step (plainOf c held) (listing (length out)) .answer
   pub later : (c : ℕ) (held : Option (Held Item)) → Book w c held → drop (writtenWords (listingAnswer r out′)) out′ ≡ drop (writtenWords (listingAnswer r out′)) out
@@ -58,13 +59,16 @@ module _ {n : ℕ} {out out′ : List ℤ} {es : List Item} (l : Laid n out out�
       subst (λ (k : ℕ). drop k out′ ≡ drop k out) (sym (ap length begins ∙ size))
       (ap (drop (3 * n)) (l .words) ∙ drop-at (pieceWords (map offerOf es)) (drop (3 * n) out) (3 * n) size)
 
+pieces-declined : {m z : ℤ} → Pieces m ≡ Declined z → ⊥
+pieces-declined e = let x : _≡_ {A = ℕ} 0 1 = cc in omega arith
+
 book-ordered : {w : Words} {c : ℕ} {held : Option (Held Item)} → Book w c held → Ordered items (bookLines held)
 book-ordered {w} {c} {held} b = whole-ordered held (live-whole w held (b .offers))
 
 module _ {w : Words} {root n : ℕ} {out out′ : List ℤ} (e : root ≡ upTo 8192 (word w 2)) (k : Written w root out out′ n) where
   -- too short an output
   pub shown-short : length out < 3 * n → Shown w out out′ (Declined (pos 10))
-  shown-short h = record { long = k .long; answers = λ c held b. go c b (root-of b e); later = λ c held b. ap (drop 0) (k .short h) }
+  shown-short h = record { refusal = λ z d. k .short h; long = k .long; answers = λ c held b. go c b (root-of b e); later = λ c held b. ap (drop 0) (k .short h) }
     where
       go : (c : ℕ) {held : Option (Held Item)} → Book w c held → Root w root held → refused 10 ≡ step (plainOf c held) (listing (length out)) .answer
       go c b (bare z) = absurd (omega (arith, k .counted .none z))
@@ -72,7 +76,7 @@ module _ {w : Words} {root n : ℕ} {out out′ : List ℤ} (e : root ≡ upTo 8
 
   -- every piece
   pub shown-all : 3 * n ≤ length out → Shown w out out′ (Pieces (pos n))
-  shown-all h = record { long = k .long; answers = λ c held b. go c b (root-of b e); later = λ c held b. behind (root-of b e) }
+  shown-all h = record { refusal = λ z d. absurd (pieces-declined d); long = k .long; answers = λ c held b. go c b (root-of b e); later = λ c held b. behind (root-of b e) }
     where
       nothing : root ≡ 0 → Laid n out out′ []
       nothing z = record { count = k .counted .none z; words = k .none z ∙ ap (λ (m : ℕ). drop (3 * m) out) (sym (k .counted .none z)) }
@@ -93,7 +97,8 @@ module _ (start : ℕ) (t out : List ℤ) {no : Bool} (e : no ≡ noBookAt (leng
   pub listing-no-book : no ≡ true → Lists start t out out (Declined (pos 3))
   listing-no-book d =
       record {
-        declined = λ z g. (ap (λ (n : ℕ). Declined (pos n)) (sym (one-cause none-there g)), refl);
+        declined = λ z g. ap refused (sym (one-cause none-there g));
+        refusal = λ z d. refl;
         long = refl;
         answers = λ c held b. sym (ap (λ (o : Outcome). o .answer) (table-declined start t (listing (length out)) b none-there));
         later = λ c held b. refl;
@@ -107,6 +112,7 @@ module _ (start : ℕ) (t out : List ℤ) {no : Bool} (e : no ≡ noBookAt (leng
       let s : Shown (partOf t start) out out′ r = subst (λ (w : Words). Shown w out out′ r) (whole-part t start) k in
       record {
         declined = λ z f. absurd (not-clear f (denied e d, tt));
+        refusal = s .refusal;
         long = s .long;
         answers = s .answers;
         later = s .later;

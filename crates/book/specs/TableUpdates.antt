@@ -21,7 +21,7 @@ use Rattle.update.specs.Form.{Book, plainOffers}
 use Rattle.numbers.specs.Numbers.{FoundNumber}
 use Rattle.book.specs.declared.Update.{Update}
 use Rattle.book.specs.declared.Update.the-variants.{Done, Declined}
-use Rattle.book.specs.Promises.{partOf, capacityAt, plainOf, tableTrials, OnlyPart, Updates, Follows}
+use Rattle.book.specs.Promises.{partOf, capacityAt, plainOf, tableTrials, updateAnswer, OnlyPart, Updates, Follows}
 use Rattle.book.specs.Sought.{number-sought}
 use Rattle.book.specs.Plainly.{refusing, cap-there, table-declined, withdraw-missing, withdraw-clear}
 use Rattle.book.specs.Following.{follows-declined, follows-posted, follows-withdrawn}
@@ -62,6 +62,9 @@ start-in t start e h =
 abbrev lent : List ℤ → ℕ → Words
 lent t start = take (length t - start) (drop start t)
 
+done-declined : {live searches steps heights z : ℤ} → Done live searches steps heights ≡ Declined z → ⊥
+done-declined e = let x : _≡_ {A = ℕ} 0 1 = cc in omega arith
+
 module _ (k : Call) (start : ℕ) (t t′ : List ℤ) where
   only-same : {c : ℕ} → t′ ≡ t → OnlyPart c start t t′
   only-same {c} e = record { long = ap length e; front = ap (take start) e; back = ap (drop (start + partLength c)) e }
@@ -69,9 +72,10 @@ module _ (k : Call) (start : ℕ) (t t′ : List ℤ) where
   updates-declined : {z : Cause} {r : Update} → FirstOf (tableTrials t start k) z → r ≡ Declined (pos (causeNumber z)) → t′ ≡ t → Updates k start t t′ r
   updates-declined f er et =
       record {
-        declined = λ z g. (er ∙ ap (λ (n : ℕ). Declined (pos n)) (sym (one-cause f g)), et);
+        declined = λ z g. ap updateAnswer (er ∙ ap (λ (n : ℕ). Declined (pos n)) (sym (one-cause f g)));
+        refusal = λ z d. et;
         outside = only-same et;
-        same-part = ap (λ (u : List ℤ). capacityAt u start) et;
+        same-part = ap (λ (u : List ℤ). word (partOf u start) 0) et;
         follows = λ c held b. follows-declined start t k b (table-declined start t k b f) er et;
       }
 
@@ -93,20 +97,22 @@ module _ (k : Call) (start : ℕ) (t t′ : List ℤ) where
         updates-refused f er et =
             record {
               declined = λ z g. absurd (not-clear g clear);
+              refusal = λ z d. et;
               outside = only-same et;
-              same-part = ap (λ (u : List ℤ). capacityAt u start) et;
+              same-part = ap (λ (u : List ℤ). word (partOf u start) 0) et;
               follows = λ c held b. follows-declined start t k b (f c held (subst (λ (u : Words). Book u c held) (sym (whole-part t start)) b)) er et;
             }
 
         pub updates-done :
-            {r : Update} (w′ : Words) → t′ ≡ take start t ++ (w′ ++ drop (length t - start) (drop start t)) → Kept (lent t start) w′ →
+            {r : Update} {live searches steps heights : ℤ} → r ≡ Done live searches steps heights → (w′ : Words) → t′ ≡ take start t ++ (w′ ++ drop (length t - start) (drop start t)) → Kept (lent t start) w′ →
             ((c : ℕ) (held : Option (Held Item)) → Book (lent t start) c held → partOf t′ start ≡ w′ → Follows k c held start t t′ r) →
             Updates k start t t′ r
-        updates-done w′ et g f =
+        updates-done er w′ et g f =
             record {
               declined = λ z g. absurd (not-clear g clear);
+              refusal = λ z d. absurd (done-declined (sym er ∙ d));
               outside = only-part t start w′ back low (record { long = kept .long; rest = λ i l. kept .rest i (omega (arith, l, book-cap t start (denied e h) .0)) });
-              same-part = ap (λ (u : Words). natAbs (word u 0)) (part-back t start w′ back low) ∙ ap natAbs (cap-there w′ (kept .room ∙ there .0) (there .1) .first);
+              same-part = ap (λ (u : Words). word u 0) (part-back t start w′ back low) ∙ cap-there w′ (kept .room ∙ there .0) (there .1) .first ∙ sym (cap-there (partOf t start) (there .0) (there .1) .first);
               follows = λ c held b. f c held (subst (λ (u : Words). Book u c held) (sym (whole-part t start)) b) (part-back t start w′ back low);
             }
           where
@@ -131,7 +137,7 @@ module _ (start : ℕ) (t t′ : List ℤ) {b d : Bool} (e : b ≡ noBookAt (len
 
     pub post-accepted : {i k st hs : ℕ} {u : Update} → m ≤ 0 → (w′ : Words) → PostDone n r z (lent t start) w′ i k st hs → u ≡ Done (pos i) (pos k) (pos st) (pos hs) → t′ ≡ take start t ++ (w′ ++ drop (length t - start) (drop start t)) → Updates (post n r z) start t t′ u
     post-accepted {i} {k} {st} {hs} l w′ g eu et =
-        updates-done (post n r z) start t t′ e h o q w′ et (g .kept)
+        updates-done (post n r z) start t t′ e h o q eu w′ et (g .kept)
         (λ c held b p.
         let (clear, new) = cause .clears z c held b (o .denies q) l in
         let (updated, count) = g .done c held b new in
@@ -143,7 +149,7 @@ module _ (start : ℕ) (t t′ : List ℤ) {b d : Bool} (e : b ≡ noBookAt (len
 
     pub withdraw-accepted : {i k st hs : ℕ} {u : Update} → 1 ≤ s → (w′ : Words) → WithdrawDone n s (lent t start) w′ i k st hs → u ≡ Done (pos i) (pos k) (pos st) (pos hs) → t′ ≡ take start t ++ (w′ ++ drop (length t - start) (drop start t)) → Updates (withdraw n) start t t′ u
     withdraw-accepted {i} {k} {st} {hs} l w′ g eu et =
-        updates-done (withdraw n) start t t′ e h o q w′ et (g .kept)
+        updates-done (withdraw n) start t t′ e h o q eu w′ et (g .kept)
         (λ c held b p.
         let (updated, count) = g .done c held b f l in
         follows-withdrawn start t n (withdraw-clear b n (o .denies q) (number-sought b f refl) (λ x. omega (arith, x, l))) (subst (λ (v : Words). Updated v c held (leave n (plainOffers held)) k st hs) (sym p) updated) count eu)

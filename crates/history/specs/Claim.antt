@@ -14,18 +14,19 @@ use Rattle.plain.specs.Book.{State, Call, post, withdraw, query, listing, Answe
 use Rattle.plain.specs.Sound.{Clear}
 use Rattle.trees.specs.Tree.{height, leaves}
 use Rattle.trees.specs.Operations.{Part, partLeaves, partHeight}
-use Rattle.trees.specs.Height.{log-height}
+use Rattle.trees.specs.Height.{log-height, log-heightP}
 use Rattle.dynamic.specs.OfferTree.{Held, heldShape, Pair}
 use Rattle.dynamic.specs.Rearranged.{pieceTrees}
 use Rattle.dynamic.specs.Heights.{offers-height, piece-height}
-use Rattle.dynamic.specs.Work.{Searched}
+use Rattle.dynamic.specs.Work.{Work}
 use Rattle.table.specs.Items.{Item}
 use Rattle.pieces.specs.Pieces.{items}
 use Rattle.book.specs.declared.Opening.{Opening}
+use Rattle.book.specs.declared.Opening.the-variants.{Opened}
 use Rattle.update.specs.Form.{Book, OffersIn, plainOffers}
 use Rattle.book.specs.Local.{book-alike}
 use Rattle.book.specs.Promises.{partOf, plainOf, Opens, Updates, Follows, Queries, Lists, Passes}
-use Rattle.history.specs.History.{Happens, by-post, by-withdraw, by-query, by-listing, History, finished, next, Kept, EachCall}
+use Rattle.history.specs.History.{Happens, by-post, by-withdraw, by-query, by-listing, History, finished, next, LowPairs, Kept, EachCall}
 
 -- ---- heights
 
@@ -39,8 +40,8 @@ low-trees w none o = tt
 low-trees w (some h) o = (offers-height items (o .right), piece-height items (o .right))
 
 -- so is every tree that went into a search
-pub low-searched : {live : List Item} (p : Pair Item) → Searched items live p → (height (p .front) ≤ 2 * B (length (leaves (p .front)))) × (height (p .back) ≤ 2 * B (length (leaves (p .back))))
-low-searched p s = (log-height (s .left-balanced), log-height (s .right-balanced))
+pub low-pairs : {before after : Option (Held Item)} {log : List (Pair Item)} → Work items before after log → LowPairs log
+low-pairs w p m = let s = w .searched p m in (log-height (s .left-balanced), log-height (s .right-balanced))
 
 -- ---- the claim
 
@@ -52,6 +53,7 @@ pub record Claim {c start : ℕ} {t : List ℤ} {ks : List Call} {as′ : List A
   -- refusals' numbers, live counts, prices, offers named, piece counts and words written
   pub told : as′ ≡ answers s ks
   pub low : Low held
+  pub low-numbers : partHeight (stands .numbers) ≤ 2 * B (length (partLeaves (stands .numbers)))
   pub each : EachCall h before held
 
 -- ---- its proof
@@ -96,10 +98,10 @@ pub record OneCall {start : ℕ} {t : List ℤ} {k : Call} {t′ : List ℤ} {a 
 pub one-call : {start : ℕ} {t : List ℤ} {k : Call} {t′ : List ℤ} {a : Answer} (c : ℕ) (held : Option (Held Item)) (p : Happens start t k t′ a) → Book (partOf t start) c held → OneCall c held p
 one-call c held (by-post n r b u p e) book =
     let f = p .follows c held book in
-    record { mid = f .after; stands = f .stands; state = same-state c held (f .after) (post n r b) (f .offers); told = e ∙ f .answers; kept = (f, refl) }
+    record { mid = f .after; stands = f .stands; state = same-state c held (f .after) (post n r b) (f .offers); told = e ∙ f .answers; kept = (f, refl, low-pairs (f .work)) }
 one-call c held (by-withdraw n u p e) book =
     let f = p .follows c held book in
-    record { mid = f .after; stands = f .stands; state = same-state c held (f .after) (withdraw n) (f .offers); told = e ∙ f .answers; kept = (f, refl) }
+    record { mid = f .after; stands = f .stands; state = same-state c held (f .after) (withdraw n) (f .offers); told = e ∙ f .answers; kept = (f, refl, low-pairs (f .work)) }
 one-call {start} c held (by-query q f p d e) book =
     record {
       mid = held;
@@ -118,7 +120,7 @@ one-call {start} c held (by-listing {room} out out′ l p m d e) book =
     }
 
 pub from-book : {c start : ℕ} {t : List ℤ} {ks : List Call} {as′ : List Answer} {t′ : List ℤ} (h : History c start t ks as′ t′) (held : Option (Held Item)) → Book (partOf t start) c held → Claim (plainOf c held) held h
-from-book {start} {t} finished held book = record { held = held; stands = book; offers = refl; told = refl; low = low-trees (partOf t start) held (book .offers); each = refl }
+from-book {start} {t} finished held book = record { held = held; stands = book; offers = refl; told = refl; low = low-trees (partOf t start) held (book .offers); low-numbers = log-heightP (book .numbers) (book .numbers-in .balanced); each = refl }
 from-book {c} {start} (next {k} {ks} alike p rest) held book =
     let o = one-call c held p (book-alike book alike) in
     onward o (from-book rest (o .mid) (o .stands))
@@ -131,17 +133,18 @@ from-book {c} {start} (next {k} {ks} alike p rest) held book =
           offers = r .offers ∙ ap (λ (s : State). after s ks .offers) (sym (o .state));
           told = λ i. o .told i ∷ (r .told ∙ ap (λ (s : State). answers s ks) (sym (o .state))) i;
           low = r .low;
+          low-numbers = r .low-numbers;
           each = (o .mid, o .kept, r .each);
         }
 
--- Every history: the list begins at an opening that meets neither cause 1 nor cause 2.
+-- Every history: the list begins at an opening that meets neither cause 1 nor cause 2. That opening is accepted.
 pub every-history :
     {start : ℕ} {t t₀ : List ℤ} {ks : List Call} {as′ : List Answer} {t′ : List ℤ} (c : ℤ) (r : Opening) →
     Opens c start t t₀ r →
     Clear (openTrials (length t) start c) →
     (h : History (natAbs c) start t₀ ks as′ t′) →
-    Claim (opened c) none h
-every-history c r p clear h = from-book h none (p .accepted clear .1)
+    (r ≡ Opened) × Claim (opened c) none h
+every-history c r p clear h = (p .accepted clear .0, from-book h none (p .accepted clear .1))
 
 -- so the part passes the check
 pub history-passes : {c start : ℕ} {t : List ℤ} {ks : List Call} {as′ : List Answer} {t′ : List ℤ} {s : State} {held : Option (Held Item)} {h : History c start t ks as′ t′} → Claim s held h → Passes start t′

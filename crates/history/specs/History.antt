@@ -1,13 +1,15 @@
 -- A list of calls on one table (document 01, demand 3). Each call is told by its function's own promise; between two calls anybody may write
 -- words outside the part, and nobody writes the part.
 use mathlib.Core.Path.{_≡_}
-use mathlib.Core.List.{List, [], _∷_}
+use mathlib.Core.List.{List, [], _∷_, List·Memᴰ}
 use mathlib.Core.Option.{Option, none, some}
-use Prim.Native.Nat.{ℕ}
+use Prim.Native.Nat.{ℕ, _*_, _≤_}
 use lib.ListN.{length}
 use lib.IntN.{ℤ}
+use Rattle.integers.specs.Log.{B}
 use Rattle.plain.specs.Book.{State, Call, post, withdraw, query, listing, Answer, after, answers}
-use Rattle.dynamic.specs.OfferTree.{Held}
+use Rattle.trees.specs.Tree.{height, leaves}
+use Rattle.dynamic.specs.OfferTree.{Held, Pair}
 use Rattle.table.specs.Items.{Item}
 use Rattle.book.specs.declared.Update.{Update}
 use Rattle.book.specs.declared.Found.{Found}
@@ -33,11 +35,15 @@ pub data History (c start : ℕ) : List ℤ → List Call → List Answer → Li
       History c start t₂ ks as′ t′ →
       History c start t (k ∷ ks) (a ∷ as′) t′
 
+-- every tree that went into a search is at most 2 × B(n) high over its n leaves
+abbrev pub LowPairs : List (Pair Item) → Type 0
+LowPairs log = (p : Pair Item) → List·Memᴰ p log → (height (p .front) ≤ 2 * B (length (leaves (p .front)))) × (height (p .back) ≤ 2 * B (length (leaves (p .back))))
+
 -- What each call of a history is held to, from one offer tree to the next: an update's log of searched pairs with k, s, H and the floor,
 -- a query's probes.
 abbrev pub Kept : (c start : ℕ) {t : List ℤ} {k : Call} {t′ : List ℤ} {a : Answer} → Happens start t k t′ a → (before after : Option (Held Item)) → Type 0
-Kept c start {t} {t′ = t′} (by-post n r b u p e) held held′ = (f : Follows (post n r b) c held start t t′ u) × (f .after ≡ held′)
-Kept c start {t} {t′ = t′} (by-withdraw n u p e) held held′ = (f : Follows (withdraw n) c held start t t′ u) × (f .after ≡ held′)
+Kept c start {t} {t′ = t′} (by-post n r b u p e) held held′ = (f : Follows (post n r b) c held start t t′ u) × (f .after ≡ held′) × LowPairs (f .log)
+Kept c start {t} {t′ = t′} (by-withdraw n u p e) held held′ = (f : Follows (withdraw n) c held start t t′ u) × (f .after ≡ held′) × LowPairs (f .log)
 Kept c start (by-query q f p d e) held held′ = Probes held f × (held ≡ held′)
 Kept c start (by-listing out out′ l p m d e) held held′ = held ≡ held′
 

@@ -1,3 +1,4 @@
 -- Every history of calls.
 pub mod History
 pub mod Claim
+pub mod Searches

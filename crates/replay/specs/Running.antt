@@ -7,7 +7,7 @@ use Prim.Native.Nat.{ℕ, suc, _+_, _*_, _-_, _≤_, _<_}
 use native.Mathlib.Omega.{arith}
 use lib.ListN.{length, take, drop, length-append, length-take, length-drop, take-append-drop}
 use lib.Seq.{take-at, drop-at, drop-drop, take-add, take-take, take-append-le, drop-append-le, length-take-le}
-use lib.IntN.{ℤ, pos}
+use lib.IntN.{ℤ, pos, natAbs}
 use borrow.Author.Tests.{leb-true}
 use Rattle.plain.specs.Book.{Call, post, withdraw, query, listing, Answer, partLength}
 use Rattle.book.specs.Promises.{partOf, capacityAt, OnlyPart}
@@ -37,8 +37,8 @@ inside-same : {start : ℕ} {t t′ : List ℤ} → t′ ≡ t → Inside start 
 inside-same {start} e = record { outside = only-same e; same-part = ap (λ (u : List ℤ). capacityAt u start) e }
 
 happens-inside : {start : ℕ} {t : List ℤ} {k : Call} {t′ : List ℤ} {a : Answer} → Happens start t k t′ a → Inside start t t′
-happens-inside (by-post n r b u p e) = record { outside = p .outside; same-part = p .same-part }
-happens-inside (by-withdraw n u p e) = record { outside = p .outside; same-part = p .same-part }
+happens-inside (by-post n r b u p e) = record { outside = p .outside; same-part = ap natAbs (p .same-part) }
+happens-inside (by-withdraw n u p e) = record { outside = p .outside; same-part = ap natAbs (p .same-part) }
 happens-inside (by-query q f p d e) = inside-same d
 happens-inside (by-listing out out′ l p m d e) = inside-same d
 
