@@ -27,7 +27,7 @@ fn differing(n: u32, same: bool) -> u32 {
 }
 
 // One call more, of which so many queries, listings and meetings.
-fn counted(t: Tally, queries: u32, listings: u32, meetings: u32, same: bool) -> Tally {
+pub fn counted(t: Tally, queries: u32, listings: u32, meetings: u32, same: bool) -> Tally {
     Tally {
         calls: std::num::wrapping_add_u32(t.calls, 1),
         queries: std::num::wrapping_add_u32(t.queries, queries),
@@ -39,11 +39,22 @@ fn counted(t: Tally, queries: u32, listings: u32, meetings: u32, same: bool) -> 
 
 // ---- open, post and withdraw
 
-pub fn open(table: &mut [i64], start: usize, room: u32, t: Tally) -> Tally {
-    match book::open(table, start, room as i64) {
-        book::Opening::Opened => counted(t, 0, 0, 0, true),
-        book::Opening::Declined(_) => counted(t, 0, 0, 0, false),
+fn opening_same(r: book::Opening, cause: i64) -> bool {
+    match r {
+        book::Opening::Opened => cause == 0,
+        book::Opening::Declined(c) => {
+            if cause == 0 {
+                return false;
+            }
+            c == cause
+        }
     }
+}
+
+// An opening that is to be declined for that cause; 0 for none.
+pub fn open(table: &mut [i64], start: usize, room: i64, cause: i64, t: Tally) -> Tally {
+    let r = book::open(table, start, room);
+    counted(t, 0, 0, 0, opening_same(r, cause))
 }
 
 fn is_outside(low: i64, high: i64, value: i64) -> bool {
@@ -194,6 +205,22 @@ pub fn query(table: &[i64], start: usize, os: &[i64; 192], load: i64, t: Tally) 
     counted(t, 1, 0, 0, found_same(os, load, r))
 }
 
+fn is_no_book(r: book::Found) -> bool {
+    match r {
+        book::Found::Offer {
+            number: _,
+            price: _,
+            probes: _,
+        } => false,
+        book::Found::Declined(c) => c == 3,
+    }
+}
+
+// At `start` there is no book.
+pub fn no_query(table: &[i64], start: usize, t: Tally) -> Tally {
+    counted(t, 1, 0, 0, is_no_book(book::query(table, start, 5)))
+}
+
 // ---- listing
 
 // The crossing with the next piece, or 0 where there is none.
@@ -252,7 +279,7 @@ pub fn listing(table: &[i64], start: usize, os: &[i64; 192], t: Tally) -> Tally 
     counted(t, 0, 1, 0, listing_same(os, &out, r))
 }
 
-// An output with room for one piece: more are declined, and the output stays.
+// An output that lacks a word for two pieces: two or more are declined, and the output stays.
 fn short_same(os: &[i64; 192], a: i64, r: book::Listed) -> bool {
     let i = scan::next_piece(os, 100_001);
     let j = scan::next_piece(os, scan::rate(os, i));
@@ -271,119 +298,7 @@ fn short_same(os: &[i64; 192], a: i64, r: book::Listed) -> bool {
 }
 
 pub fn short_listing(table: &[i64], start: usize, os: &[i64; 192], t: Tally) -> Tally {
-    let mut out = [7i64; 3];
+    let mut out = [7i64; 5];
     let r = book::listing(table, start, &mut out);
     counted(t, 0, 1, 0, short_same(os, out[0], r))
-}
-
-// ---- meet
-
-// The offers of both in one array: those of the left in slots 0 to 31, those of the right in slots 32 to 63.
-fn both(l: &[i64; 192], r: &[i64; 192]) -> [i64; 192] {
-    let mut all = [0i64; 192];
-    for i in 0..32 {
-        scan::put(
-            &mut all,
-            i,
-            scan::number(l, i),
-            scan::rate(l, i),
-            scan::base(l, i),
-        );
-        scan::put(
-            &mut all,
-            i + 32,
-            scan::number(r, i),
-            scan::rate(r, i),
-            scan::base(r, i),
-        );
-    }
-    all
-}
-
-fn meet_cause(l: &[i64; 192], r: &[i64; 192]) -> i64 {
-    if scan::count(l) < 1 {
-        return 9;
-    }
-    if scan::count(r) < 1 {
-        return 9;
-    }
-    if scan::mixed(l, r) {
-        return 12;
-    }
-    0
-}
-
-// The last piece of the left that has a piece of the right behind it, or 64.
-fn seam(all: &[i64; 192]) -> usize {
-    let mut i = scan::next_piece(all, 100_001);
-    let most: u32 = 64;
-    for k in 0..most {
-        let j = scan::next_piece(all, scan::rate(all, i));
-        if j > 31 {
-            return i;
-        }
-        i = j;
-    }
-    64
-}
-
-fn meeting_same(cause: i64, all: &[i64; 192], m: meet::Met) -> bool {
-    let i = seam(all);
-    let j = scan::next_piece(all, scan::rate(all, i));
-    match m {
-        meet::Met::Meeting {
-            u,
-            v,
-            steps: _,
-            hl: _,
-            hr: _,
-        } => {
-            if cause != 0 {
-                return false;
-            }
-            if u != scan::number(all, i) {
-                return false;
-            }
-            v == scan::number(all, j)
-        }
-        meet::Met::Declined(c) => {
-            if cause == 0 {
-                return false;
-            }
-            c == cause
-        }
-    }
-}
-
-// The book at `from` with offers `l` and the one at `to` with offers `r`.
-pub fn meeting(
-    table: &[i64],
-    from: usize,
-    l: &[i64; 192],
-    to: usize,
-    r: &[i64; 192],
-    t: Tally,
-) -> Tally {
-    let m = meet::meet(table, from, table, to);
-    let all = both(l, r);
-    counted(t, 0, 0, 1, meeting_same(meet_cause(l, r), &all, m))
-}
-
-fn is_no_book(m: meet::Met) -> bool {
-    match m {
-        meet::Met::Meeting {
-            u: _,
-            v: _,
-            steps: _,
-            hl: _,
-            hr: _,
-        } => false,
-        meet::Met::Declined(c) => c == 3,
-    }
-}
-
-// At `to` there is no book.
-pub fn no_meeting(table: &[i64], from: usize, to: usize, t: Tally) -> Tally {
-    let a = counted(t, 0, 0, 1, is_no_book(meet::meet(table, from, table, to)));
-    counted(a, 0, 0, 1, is_no_book(meet::meet(table, to, table, from)))
 }

@@ -2,6 +2,7 @@
 // through one point, the ends of the ranges, capacity 1, a full book, and pairs of books that meet. Prints a line for each.
 mod calls;
 mod makers;
+mod meetings;
 mod scan;
 
 use calls::Tally;
@@ -110,10 +111,23 @@ fn summary(name: &[u8], t: Tally) {
     io::write_all(STDOUT_FILENO, b"\n");
 }
 
+// Openings that are declined, one that just fits, and a query where there is no book.
+fn run_openings(table: &mut [i64], name: &[u8]) {
+    let a = calls::open(table, 17, 0, 1, calls::nothing());
+    let b = calls::open(table, 7000, 4_097, 1, a);
+    let c = calls::open(table, 17, 4_096, 2, b);
+    let d = calls::open(table, 7000, 1, 2, c);
+    let e = calls::open(table, 5873, 1, 2, d);
+    let f = calls::no_query(table, 5873, e);
+    let g = calls::open(table, 5872, 1, 0, f);
+    let h = calls::no_query(table, 7000, g);
+    summary(name, h);
+}
+
 // A book of one kind: filled, half emptied, filled again and emptied.
 fn run(table: &mut [i64], name: &[u8], kind: u32, room: u32) {
     let mut os = [0i64; 192];
-    let a = calls::open(table, 17, room, calls::nothing());
+    let a = calls::open(table, 17, room as i64, 0, calls::nothing());
     let b = fill(table, 17, &mut os, room, kind, a);
     let c = refusals(table, 17, &mut os, room, b);
     let d = drain(table, 17, &mut os, kind, 15, c);
@@ -134,9 +148,9 @@ fn shrink_once(
 ) -> Tally {
     let at = 7 * (i % 64);
     let a = calls::withdraw(table, 17, l, makers::number(left, at % 30), t);
-    let b = calls::meeting(table, 17, l, 3000, r, a);
+    let b = meetings::meeting(table, 17, l, 3000, r, a);
     let c = calls::withdraw(table, 3000, r, makers::number(right, (at + 7) % 30), b);
-    calls::meeting(table, 17, l, 3000, r, c)
+    meetings::meeting(table, 17, l, 3000, r, c)
 }
 
 fn shrink(
@@ -158,23 +172,24 @@ fn shrink(
 fn run_pair(table: &mut [i64], name: &[u8], left: u32, right: u32) {
     let mut l = [0i64; 192];
     let mut r = [0i64; 192];
-    let a = calls::open(table, 17, 32, calls::nothing());
-    let b = calls::open(table, 3000, 30, a);
-    let c = calls::meeting(table, 17, &l, 3000, &r, b);
+    let a = calls::open(table, 17, 32, 0, calls::nothing());
+    let b = calls::open(table, 3000, 30, 0, a);
+    let c = meetings::meeting(table, 17, &l, 3000, &r, b);
     let d = fill(table, 17, &mut l, 32, left, c);
-    let e = calls::meeting(table, 17, &l, 3000, &r, d);
+    let e = meetings::meeting(table, 17, &l, 3000, &r, d);
     let f = fill(table, 3000, &mut r, 30, right, e);
-    let g = calls::meeting(table, 17, &l, 3000, &r, f);
-    let h = calls::meeting(table, 3000, &r, 17, &l, g);
-    let i = calls::meeting(table, 17, &l, 17, &l, h);
-    let j = calls::no_meeting(table, 17, 5990, i);
-    let k = calls::no_meeting(table, 17, 7000, j);
+    let g = meetings::meeting(table, 17, &l, 3000, &r, f);
+    let h = meetings::meeting(table, 3000, &r, 17, &l, g);
+    let i = meetings::meeting(table, 17, &l, 17, &l, h);
+    let j = meetings::no_meeting(table, 17, 5990, i);
+    let k = meetings::no_meeting(table, 17, 7000, j);
     let m = shrink(table, &mut l, left, &mut r, right, k);
     summary(name, m);
 }
 
 fn main() {
     let mut words = [5i64; 6000];
+    run_openings(&mut words, b"openings");
     run(&mut words, b"offers that touch", 0, 32);
     run(&mut words, b"one point", 1, 32);
     run(&mut words, b"hidden offers", 2, 32);

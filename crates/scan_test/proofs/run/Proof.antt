@@ -4,6 +4,9 @@ use borrow.Author.Needs.{needs}
 use Rattle.scan_test.proofs.run.Statement.{statement}
 use Rattle.scan_test.proofs.run.Tie as tie
 
+cast-open : tie.Need-cast-open
+cast-open c = search needs
+
 nothing-requires : tie.Need-nothing-requires
 nothing-requires c κs = search needs
 
@@ -38,6 +41,7 @@ pub run-spec : {M : Type 1} → statement M
 run-spec =
     tie.close
     (tie.spec
+    cast-open
     nothing-requires
     open-requires
     fill-requires

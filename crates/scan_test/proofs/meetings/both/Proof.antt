@@ -1,8 +1,8 @@
--- `scan_test::calls::both` is safe and ends: the slots are gone through once.
+-- `scan_test::meetings::both` is safe and ends: the slots are gone through once.
 use Prim.Native.Nat.{_≤_, _-_}
 use borrow.Author.Needs.{needs}
-use Rattle.scan_test.proofs.calls.both.Statement.{statement}
-use Rattle.scan_test.proofs.calls.both.Tie as tie
+use Rattle.scan_test.proofs.meetings.both.Statement.{statement}
+use Rattle.scan_test.proofs.meetings.both.Tie as tie
 
 abbrev Inv-loop : tie.InvT-loop
 Inv-loop l r all₀ i₀ all i = i ≤ 32

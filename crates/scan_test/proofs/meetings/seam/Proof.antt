@@ -1,8 +1,8 @@
--- `scan_test::calls::seam` is safe and ends: there are at most 64 pieces.
+-- `scan_test::meetings::seam` is safe and ends: there are at most 64 pieces.
 use Prim.Native.Nat.{_≤_, _-_}
 use borrow.Author.Needs.{needs}
-use Rattle.scan_test.proofs.calls.seam.Statement.{statement}
-use Rattle.scan_test.proofs.calls.seam.Tie as tie
+use Rattle.scan_test.proofs.meetings.seam.Statement.{statement}
+use Rattle.scan_test.proofs.meetings.seam.Tie as tie
 
 abbrev Inv-loop : tie.InvT-loop
 Inv-loop all i₀ most k₀ i k = k ≤ 64
