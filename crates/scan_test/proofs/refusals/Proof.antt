@@ -1,0 +1,42 @@
+-- `scan_test::refusals` is safe: each call leaves the table as long as it was.
+use mathlib.Core.Path.{_∙_}
+use borrow.Author.Needs.{needs}
+use Rattle.scan_test.proofs.refusals.Statement.{statement}
+use Rattle.scan_test.proofs.refusals.Tie as tie
+
+posts-outside-requires : tie.Need-posts-outside-requires
+posts-outside-requires c κs = search needs
+
+post-requires : tie.Need-post-requires
+post-requires c κs = search needs
+
+post-requires-2 : tie.Need-post-requires-2
+post-requires-2 c κs = search needs
+
+withdraw-requires : tie.Need-withdraw-requires
+withdraw-requires c κs = search needs
+
+withdraw-requires-2 : tie.Need-withdraw-requires-2
+withdraw-requires-2 c κs = search needs
+
+withdraw-requires-3 : tie.Need-withdraw-requires-3
+withdraw-requires-3 c κs = search needs
+
+same-length : tie.Need-same-length
+same-length c = c .before .withdraw3 .kept .0 ∙ c .before .before .before .before .before .withdraw2 .kept .0 ∙ c .before .before .before .before .before .before .before .before .before .withdraw .kept .0 ∙ c .before .before .before .before .before .before .before .before .before .before .before .before .before .post2 .kept .0 ∙ c .before .before .before .before .before .before .before .before .before .before .before .before .before .before .before .before .before .post .kept .0 ∙ c .before .before .before .before .before .before .before .before .before .before .before .before .before .before .before .before .before .before .before .before .before .posts-outside .kept .0
+
+returns : tie.Need-returns
+returns c = search needs
+
+pub refusals-spec : {M : Type 1} → statement M
+refusals-spec =
+    tie.close
+    (tie.spec
+    posts-outside-requires
+    post-requires
+    post-requires-2
+    withdraw-requires
+    withdraw-requires-2
+    withdraw-requires-3
+    same-length
+    returns)

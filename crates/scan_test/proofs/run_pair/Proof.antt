@@ -1,0 +1,74 @@
+-- `scan_test::run_pair` is safe: each call leaves the table as long as it was.
+use mathlib.Core.Path.{_∙_}
+use borrow.Author.Needs.{needs}
+use Rattle.scan_test.proofs.run_pair.Statement.{statement}
+use Rattle.scan_test.proofs.run_pair.Tie as tie
+
+nothing-requires : tie.Need-nothing-requires
+nothing-requires c κs = search needs
+
+open-requires : tie.Need-open-requires
+open-requires c κs = search needs
+
+open-requires-2 : tie.Need-open-requires-2
+open-requires-2 c κs = search needs
+
+meeting-requires : tie.Need-meeting-requires
+meeting-requires c κs = search needs
+
+fill-requires : tie.Need-fill-requires
+fill-requires c κs = search needs
+
+meeting-requires-2 : tie.Need-meeting-requires-2
+meeting-requires-2 c κs = search needs
+
+fill-requires-2 : tie.Need-fill-requires-2
+fill-requires-2 c κs = search needs
+
+meeting-requires-3 : tie.Need-meeting-requires-3
+meeting-requires-3 c κs = search needs
+
+meeting-requires-4 : tie.Need-meeting-requires-4
+meeting-requires-4 c κs = search needs
+
+meeting-requires-5 : tie.Need-meeting-requires-5
+meeting-requires-5 c κs = search needs
+
+no-meeting-requires : tie.Need-no-meeting-requires
+no-meeting-requires c κs = search needs
+
+no-meeting-requires-2 : tie.Need-no-meeting-requires-2
+no-meeting-requires-2 c κs = search needs
+
+shrink-requires : tie.Need-shrink-requires
+shrink-requires c κs = search needs
+
+summary-requires : tie.Need-summary-requires
+summary-requires c κs = search needs
+
+same-length : tie.Need-same-length
+same-length c = c .before .before .shrink .kept .0 ∙ c .before .before .before .before .before .before .before .before .before .before .before .before .before .before .before .before .before .before .before .before .before .before .before .fill2 .kept .0 ∙ c .before .before .before .before .before .before .before .before .before .before .before .before .before .before .before .before .before .before .before .before .before .before .before .before .before .before .before .before .before .before .before .fill .kept .0 ∙ c .before .before .before .before .before .before .before .before .before .before .before .before .before .before .before .before .before .before .before .before .before .before .before .before .before .before .before .before .before .before .before .before .before .before .before .before .before .before .before .open2 .kept .0 ∙ c .before .before .before .before .before .before .before .before .before .before .before .before .before .before .before .before .before .before .before .before .before .before .before .before .before .before .before .before .before .before .before .before .before .before .before .before .before .before .before .before .before .before .«open» .kept .0
+
+returns : tie.Need-returns
+returns c = search needs
+
+pub run-pair-spec : {M : Type 1} → statement M
+run-pair-spec =
+    tie.close
+    (tie.spec
+    nothing-requires
+    open-requires
+    open-requires-2
+    meeting-requires
+    fill-requires
+    meeting-requires-2
+    fill-requires-2
+    meeting-requires-3
+    meeting-requires-4
+    meeting-requires-5
+    no-meeting-requires
+    no-meeting-requires-2
+    shrink-requires
+    summary-requires
+    same-length
+    returns)

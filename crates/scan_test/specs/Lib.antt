@@ -1,0 +1,2 @@
+-- The scan's arithmetic.
+pub mod Clamps

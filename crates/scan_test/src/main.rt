@@ -1,0 +1,205 @@
+// Books of many kinds, each call compared with a scan of all offers: ties, offers that only touch, hidden ones that withdrawals uncover, all
+// through one point, the ends of the ranges, capacity 1, a full book, and pairs of books that meet. Prints a line for each.
+mod calls;
+mod makers;
+mod meetings;
+mod scan;
+
+use calls::Tally;
+use libc::STDOUT_FILENO;
+
+// The queries and the listings after each update.
+fn sweep(table: &[i64], start: usize, os: &[i64; 192], kind: u32, t: Tally) -> Tally {
+    let mut told = t;
+    for j in 0..85 {
+        told = calls::query(table, start, os, makers::load(kind, j), told);
+    }
+    told = calls::listing(table, start, os, told);
+    calls::short_listing(table, start, os, told)
+}
+
+// Posts the maker's offer.
+fn post_made(
+    table: &mut [i64],
+    start: usize,
+    os: &mut [i64; 192],
+    room: u32,
+    kind: u32,
+    m: makers::Maker,
+    t: Tally,
+) -> Tally {
+    let o = makers::made(kind, m);
+    calls::post(table, start, os, room, o.number, o.rate, o.base, t)
+}
+
+// Posts 30 offers, with a sweep after each.
+fn fill(
+    table: &mut [i64],
+    start: usize,
+    os: &mut [i64; 192],
+    room: u32,
+    kind: u32,
+    t: Tally,
+) -> Tally {
+    let mut told = t;
+    let mut m = makers::first();
+    let posts: u32 = 30;
+    for i in 0..posts {
+        told = post_made(table, start, os, room, kind, m, told);
+        told = sweep(table, start, os, kind, told);
+        m = makers::next(m);
+    }
+    told
+}
+
+// Withdraws `n` offers, in another order, with a sweep after each.
+fn drain(
+    table: &mut [i64],
+    start: usize,
+    os: &mut [i64; 192],
+    kind: u32,
+    n: u32,
+    t: Tally,
+) -> Tally {
+    let mut told = t;
+    for i in 0..n {
+        let number = makers::number(kind, 7 * (i % 64) % 30);
+        told = calls::withdraw(table, start, os, number, told);
+        told = sweep(table, start, os, kind, told);
+    }
+    told
+}
+
+// Posts with values out of range.
+fn posts_outside(
+    table: &mut [i64],
+    start: usize,
+    os: &mut [i64; 192],
+    room: u32,
+    t: Tally,
+) -> Tally {
+    let a = calls::post(table, start, os, room, 0, 50, 0, t);
+    let b = calls::post(table, start, os, room, 10_000, 50, 0, a);
+    let c = calls::post(table, start, os, room, 77, 100_001, 0, b);
+    let d = calls::post(table, start, os, room, 77, -100_001, 0, c);
+    let e = calls::post(table, start, os, room, 77, 50, 1_000_000_001, d);
+    calls::post(table, start, os, room, 77, 50, -1_000_000_001, e)
+}
+
+// A number that may be live, a rate that may be, and numbers that are not.
+fn refusals(table: &mut [i64], start: usize, os: &mut [i64; 192], room: u32, t: Tally) -> Tally {
+    let a = posts_outside(table, start, os, room, t);
+    let b = calls::post(table, start, os, room, 8, 51, 0, a);
+    let c = calls::post(table, start, os, room, 77, 100, 0, b);
+    let d = calls::withdraw(table, start, os, 0, c);
+    let e = calls::withdraw(table, start, os, 77, d);
+    calls::withdraw(table, start, os, 78, e)
+}
+
+fn say(label: &[u8], n: u32) {
+    io::write_all(STDOUT_FILENO, label);
+    io::print_decimal(STDOUT_FILENO, n as u64);
+}
+
+fn summary(name: &[u8], t: Tally) {
+    io::write_all(STDOUT_FILENO, name);
+    say(b": calls ", t.calls);
+    say(b", queries ", t.queries);
+    say(b", listings ", t.listings);
+    say(b", meetings ", t.meetings);
+    say(b", differences ", t.differences);
+    io::write_all(STDOUT_FILENO, b"\n");
+}
+
+// Openings that are declined, one that just fits, and a query where there is no book.
+fn run_openings(table: &mut [i64], name: &[u8]) {
+    let a = calls::open(table, 17, 0, 1, calls::nothing());
+    let b = calls::open(table, 7000, 4_097, 1, a);
+    let c = calls::open(table, 17, 4_096, 2, b);
+    let d = calls::open(table, 7000, 1, 2, c);
+    let e = calls::open(table, 5873, 1, 2, d);
+    let f = calls::no_query(table, 5873, e);
+    let g = calls::open(table, 5872, 1, 0, f);
+    let h = calls::no_query(table, 7000, g);
+    summary(name, h);
+}
+
+// A book of one kind: filled, half emptied, filled again and emptied.
+fn run(table: &mut [i64], name: &[u8], kind: u32, room: u32) {
+    let mut os = [0i64; 192];
+    let a = calls::open(table, 17, room as i64, 0, calls::nothing());
+    let b = fill(table, 17, &mut os, room, kind, a);
+    let c = refusals(table, 17, &mut os, room, b);
+    let d = drain(table, 17, &mut os, kind, 15, c);
+    let e = fill(table, 17, &mut os, room, kind, d);
+    let f = drain(table, 17, &mut os, kind, 32, e);
+    summary(name, f);
+}
+
+// Withdraws an offer from each book, and lets them meet after each.
+fn shrink_once(
+    table: &mut [i64],
+    l: &mut [i64; 192],
+    left: u32,
+    r: &mut [i64; 192],
+    right: u32,
+    i: u32,
+    t: Tally,
+) -> Tally {
+    let at = 7 * (i % 64);
+    let a = calls::withdraw(table, 17, l, makers::number(left, at % 30), t);
+    let b = meetings::meeting(table, 17, l, 3000, r, a);
+    let c = calls::withdraw(table, 3000, r, makers::number(right, (at + 7) % 30), b);
+    meetings::meeting(table, 17, l, 3000, r, c)
+}
+
+fn shrink(
+    table: &mut [i64],
+    l: &mut [i64; 192],
+    left: u32,
+    r: &mut [i64; 192],
+    right: u32,
+    t: Tally,
+) -> Tally {
+    let mut told = t;
+    for i in 0..30 {
+        told = shrink_once(table, l, left, r, right, i, told);
+    }
+    told
+}
+
+// Two books in one table that meet: empty, one of them empty, in either order, with itself, with no book, and while both shrink.
+fn run_pair(table: &mut [i64], name: &[u8], left: u32, right: u32) {
+    let mut l = [0i64; 192];
+    let mut r = [0i64; 192];
+    let a = calls::open(table, 17, 32, 0, calls::nothing());
+    let b = calls::open(table, 3000, 30, 0, a);
+    let c = meetings::meeting(table, 17, &l, 3000, &r, b);
+    let d = fill(table, 17, &mut l, 32, left, c);
+    let e = meetings::meeting(table, 17, &l, 3000, &r, d);
+    let f = fill(table, 3000, &mut r, 30, right, e);
+    let g = meetings::meeting(table, 17, &l, 3000, &r, f);
+    let h = meetings::meeting(table, 3000, &r, 17, &l, g);
+    let i = meetings::meeting(table, 17, &l, 17, &l, h);
+    let j = meetings::no_meeting(table, 17, 5990, i);
+    let k = meetings::no_meeting(table, 17, 7000, j);
+    let m = shrink(table, &mut l, left, &mut r, right, k);
+    summary(name, m);
+}
+
+fn main() {
+    let mut words = [5i64; 6000];
+    run_openings(&mut words, b"openings");
+    run(&mut words, b"offers that touch", 0, 32);
+    run(&mut words, b"one point", 1, 32);
+    run(&mut words, b"hidden offers", 2, 32);
+    run(&mut words, b"ends of the ranges", 3, 32);
+    run(&mut words, b"no rule", 4, 40);
+    run(&mut words, b"ties", 5, 32);
+    run(&mut words, b"capacity 1", 5, 1);
+    run(&mut words, b"full at 20", 4, 20);
+    run_pair(&mut words, b"touching offers meet", 0, 6);
+    run_pair(&mut words, b"hidden offers meet", 2, 6);
+    run_pair(&mut words, b"ties meet", 5, 6);
+    run_pair(&mut words, b"mixed rates", 4, 6);
+}
