@@ -1,5 +1,5 @@
 -- What a line's answer does, command by command: the call's promise, and the lines of its answer.
-use mathlib.Core.Path.{_≡_, refl, sym, _∙_, subst}
+use mathlib.Core.Path.{_≡_, refl, sym, subst}
 use mathlib.Core.List.{List}
 use mathlib.Core.Option.{Option}
 use Prim.Native.Nat.{ℕ, _≤_, _<_}
@@ -21,8 +21,8 @@ use Rattle.book.specs.declared.Listed.{Listed}
 use Rattle.book.specs.Promises.{partOf, capacityAt, plainOf, OnlyPart, Updates, Queries, Lists, updateAnswer, foundAnswer, listingAnswer}
 use Rattle.book.specs.Live.{book-sound}
 use Rattle.history.specs.Claim.{same-state, asked-state, listed-state}
-use Rattle.counting.specs.Promises.{capacity, room, answered, Told, toldBy, commanded, told, Prints, most, Stands, Counts}
-use Rattle.counting.specs.Replies.{Fits, Replies, one-line, refused-line}
+use Rattle.counting.specs.Promises.{capacity, room, answered, Told, toldBy, commanded, Prints, most, Stands, Counts}
+use Rattle.counting.specs.Replies.{Fits, Replies, refused-line}
 use Rattle.counting.specs.Fitting.{named, Roomy, answer-fits, refusal-fits}
 
 -- ---- the lines of an answer are the plain book's

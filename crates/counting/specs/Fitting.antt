@@ -1,12 +1,11 @@
 -- Every number that the plain book answers fits its column.
-use mathlib.Core.Path.{_≡_, refl, sym, _∙_, subst}
+use mathlib.Core.Path.{_≡_, refl}
 use mathlib.Core.List.{List, [], _∷_, List·Memᴰ, List·Memᴰ·head, List·Memᴰ·tail, Pairwise}
 use mathlib.Core.Option.{Option, none, some}
-use mathlib.Core.Bool.{Bool, not}
 use Prim.Native.Nat.{ℕ, _*_, _≤_}
 use native.Mathlib.Omega.{arith}
 use lib.ListN.{length}
-use lib.Dec.{T, ltb, nltb→le}
+use lib.Dec.{T, nltb→le}
 use lib.IntN.{ℤ, pos, natAbs}
 use Rattle.lists.specs.Filter.{keep-sublist}
 use Rattle.lists.specs.Places.{sublist-mem}
@@ -14,9 +13,8 @@ use Rattle.lists.specs.Tests.{not-not}
 use Rattle.offers.specs.Offers.{Offer, numberInRange, loadInRange, offerInRange, priceAt, crossingNumerator, crossingDenominator, precedes}
 use Rattle.offers.specs.Sizes.{number-of, rate-of, base-of, number-size, number-is, price-at-size, base-gap-size, rate-gap-size}
 use Rattle.plain.specs.Causes.{Cause, declined, causeNumber, capacityOutOfRange, tableTooShort, noBook, numberOutOfRange, rateOutOfRange, baseOutOfRange, loadOutOfRange, priceOutOfRange, numberLive, rateLive, bookFull, numberNotLive, bookEmpty, outputTooShort, unreadableLine, ratesNotApart, noSuchMark}
-use Rattle.plain.specs.Book.{State, Call, post, withdraw, query, listing, Answer, refused, live, found, listed, cheapest, envelope, pieceWords, trials, respond, accepted, step}
-use Rattle.plain.specs.Sound.{Sound, Clear, clear, step-sound}
-use Rattle.plain.specs.Rules.{words-length}
+use Rattle.plain.specs.Book.{State, Call, post, withdraw, query, listing, refused, live, cheapest, envelope, pieceWords, trials, respond, accepted, step}
+use Rattle.plain.specs.Sound.{Sound, clear, step-sound}
 use Rattle.plain.specs.QueryLaws.{cheapest-names}
 use Rattle.book.specs.Numbered.{from-one}
 use Rattle.columns.specs.Columns.{FitsIn}

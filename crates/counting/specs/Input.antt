@@ -1,14 +1,14 @@
 -- The input, byte by byte: a line's first 28 bytes are kept, and at its newline it is answered.
 use mathlib.Core.Path.{_≡_, refl, sym, _∙_, ap, subst}
 use mathlib.Core.Logic.{_≢_}
-use mathlib.Core.Bool.{Bool, true, false, cond}
+use mathlib.Core.Bool.{cond}
 use mathlib.Core.List.{List, [], _∷_, _++_}
 use mathlib.Core.Option.{Option}
-use Prim.Native.Nat.{ℕ, suc, _+_, _≤_, _<_}
+use Prim.Native.Nat.{ℕ, _+_, _≤_, _<_}
 use native.Mathlib.Decide.{decLe}
 use native.Mathlib.Numerals.{add-one}
 use native.Mathlib.Omega.{arith}
-use lib.ListN.{length, take, drop, set, length-append, length-set}
+use lib.ListN.{length, take, set, length-append, length-set}
 use lib.Seq.{take-all, take-append-le, take-suc-set, length-take-le}
 use lib.Dec.{eqb}
 use lib.IntN.{ℤ}
@@ -21,7 +21,7 @@ use Rattle.table.specs.Items.{Item}
 use Rattle.update.specs.Form.{Book}
 use Rattle.book.specs.Promises.{partOf, capacityAt, plainOf, OnlyPart}
 use Rattle.counting.specs.declared.Line.{Line}
-use Rattle.counting.specs.Promises.{capacity, Told, commanded, told, Prints, most, Stands, Counts}
+use Rattle.counting.specs.Promises.{capacity, Told, commanded, told, most, Stands, Counts}
 use Rattle.counting.specs.Answering.{untouched}
 
 -- ---- the line so far

@@ -9,7 +9,7 @@ use lib.ListN.{length, drop}
 use lib.Dec.{eqb}
 use lib.IntN.{ℤ, pos}
 use Rattle.plain.specs.Causes.{causeNumber, unreadableLine}
-use Rattle.plain.specs.Book.{State, Call, post, withdraw, query, listing, Answer, refused, live, found, listed, Outcome, opened, step}
+use Rattle.plain.specs.Book.{State, post, withdraw, query, listing, Answer, refused, live, found, listed, Outcome, opened, step}
 use Rattle.columns.specs.declared.Command.{Command}
 use Rattle.columns.specs.declared.Command.the-variants.{Post, Withdraw, Query, List as Listing, Unreadable}
 use Rattle.columns.specs.Columns.{newline, answerLine}

@@ -17,8 +17,8 @@ use Rattle.update.specs.Form.{Book}
 use Rattle.book.specs.declared.Opening.{Opening}
 use Rattle.book.specs.Promises.{partOf, plainOf, Opens}
 use Rattle.counting.specs.declared.Line.{Line}
-use Rattle.counting.specs.Promises.{capacity, Told, told, toldAll, linesFrom, output, Prints, most, Stands, Counts}
-use Rattle.counting.specs.Input.{Keeps, Desk, answeredLine, fed, Follows, Feeds, ended, Finishes}
+use Rattle.counting.specs.Promises.{capacity, told, toldAll, linesFrom, output, Prints, most, Counts}
+use Rattle.counting.specs.Input.{Keeps, Desk, answeredLine, fed, Feeds, ended, Finishes}
 
 -- the bytes printed are those in front
 printed : {text before after : List ℕ} {n : ℕ} → Prints text before after n → take n after ≡ text
