@@ -72,11 +72,11 @@ pieces-fit (o ∷ p ∷ ps) r =
 -- ---- the answers
 
 -- The number that a post's or a withdrawal's line shows.
-abbrev pub named : Call → ℤ
-named (post n r b) = n
-named (withdraw n) = n
-named (query q) = pos 0
-named (listing room) = pos 0
+abbrev pub shown : Call → ℤ
+shown (post n r b) = n
+shown (withdraw n) = n
+shown (query q) = pos 0
+shown (listing room) = pos 0
 
 -- the room that the counter gives
 abbrev pub Roomy : Call → Type 0
@@ -96,11 +96,11 @@ module _ (c : ℕ) (os : List Offer) (small : c ≤ 64) (sound : Sound (record {
       let u = r b (cheapest-names q o os p .live) in
       (number-fits (b .number) (number-of b u), size-fits (priceAt b q) (price-at-size (b .base) (b .rate) q (base-of b u) (rate-of b u) t))
 
-  pub answer-fits : (k : Call) → Roomy k → Fits (named k) (step s k .answer)
+  pub answer-fits : (k : Call) → Roomy k → Fits (shown k) (step s k .answer)
   answer-fits k roomy = go (declined (trials s k)) k refl roomy (step-sound s k sound)
     where
-      go : (d : Option Cause) (k : Call) → declined (trials s k) ≡ d → Roomy k → Sound (respond s k d .state) → Fits (named k) (respond s k d .answer)
-      go (some z) k e roomy after = refusal-fits (named k) z
+      go : (d : Option Cause) (k : Call) → declined (trials s k) ≡ d → Roomy k → Sound (respond s k d .state) → Fits (shown k) (respond s k d .answer)
+      go (some z) k e roomy after = refusal-fits (shown k) z
       go none (post n r b) e roomy after =
           (number-fits n (not-not (numberInRange n) (clear (trials s (post n r b)) e .0)), count-fits _ (omega (arith, after .fits, small)))
       go none (withdraw n) e roomy after =
