@@ -1,25 +1,17 @@
 -- The input, byte by byte: a line's first 28 bytes are kept, and at its newline it is answered.
-use mathlib.Core.Path.{_≡_, refl, sym, _∙_, ap, subst}
+use mathlib.Core.Path.{_≡_, refl, sym, _∙_, ap}
 use mathlib.Core.Logic.{_≢_}
-use mathlib.Core.Bool.{cond}
 use mathlib.Core.List.{List, [], _∷_, _++_}
-use mathlib.Core.Option.{Option}
 use Prim.Native.Nat.{ℕ, _+_, _≤_, _<_}
 use native.Mathlib.Decide.{decLe}
 use native.Mathlib.Numerals.{add-one}
 use native.Mathlib.Omega.{arith}
 use lib.ListN.{length, take, set, length-append, length-set}
 use lib.Seq.{take-all, take-append-le, take-suc-set, length-take-le}
-use lib.Dec.{eqb}
 use lib.IntN.{ℤ}
-use borrow.Author.Tests.{eq-eqb, ne-eqb}
-use Rattle.plain.specs.Book.{State}
 use Rattle.columns.specs.Columns.{newline}
 use Rattle.columns.specs.Commands.{parsed-unique, commandOf, command-parsed, wrong-length}
-use Rattle.dynamic.specs.OfferTree.{Held}
-use Rattle.table.specs.Items.{Item}
-use Rattle.update.specs.Form.{Book}
-use Rattle.book.specs.Promises.{partOf, capacityAt, plainOf, OnlyPart}
+use Rattle.book.specs.Promises.{capacityAt, OnlyPart}
 use Rattle.counting.specs.declared.Line.{Line}
 use Rattle.counting.specs.Promises.{Counts}
 use Rattle.counting.specs.Answering.{untouched, counts-alike}
