@@ -9,11 +9,11 @@ use Rattle.plain.specs.Book.{post, withdraw, query, listing}
 use Rattle.columns.specs.Columns.{digitsWithin, digits, numeral, decimal, justified, lastColumns, lineOf, answerLine}
 
 -- The bytes of a text of plain characters.
-abbrev bytesFrom : String → (at left : ℕ) → List ℕ
+abbrev pub bytesFrom : String → (at left : ℕ) → List ℕ
 bytesFrom s at zero = []
 bytesFrom s at (suc k) = code (charAt s at) ∷ bytesFrom s (suc at) k
 
-abbrev bytes : String → List ℕ
+abbrev pub bytes : String → List ℕ
 bytes s = bytesFrom s 0 (len s)
 
 -- ---- calls

@@ -1,13 +1,14 @@
 -- What a line's answer does, command by command: the call's promise, and the lines of its answer.
-use mathlib.Core.Path.{_≡_, refl, sym, _∙_, subst}
+use mathlib.Core.Path.{_≡_, refl, sym, _∙_, subst, ap}
 use mathlib.Core.List.{List}
 use mathlib.Core.Option.{Option}
 use Prim.Native.Nat.{ℕ, _≤_, _<_}
 use native.Mathlib.Omega.{arith}
 use lib.ListN.{length}
 use lib.IntN.{ℤ, pos}
-use Rattle.plain.specs.Causes.{unreadableLine}
+use Rattle.plain.specs.Causes.{Cause, causeNumber, unreadableLine}
 use Rattle.plain.specs.Book.{State, Call, post, withdraw, query, listing, Answer, refused, step}
+use Rattle.plain.specs.Rules.{FirstOf}
 use Rattle.columns.specs.declared.Command.{Command}
 use Rattle.columns.specs.declared.Command.the-variants.{Post, Withdraw, Query, List as Listing, Unreadable}
 use Rattle.columns.specs.Commands.{Parsed, parsed-unique, commandOf, command-parsed}
@@ -18,34 +19,41 @@ use Rattle.update.specs.Form.{Book, plainOffers}
 use Rattle.book.specs.declared.Update.{Update}
 use Rattle.book.specs.declared.Found.{Found}
 use Rattle.book.specs.declared.Listed.{Listed}
-use Rattle.book.specs.Promises.{partOf, capacityAt, plainOf, OnlyPart, Updates, Queries, Lists, updateAnswer, foundAnswer, listingAnswer}
+use Rattle.book.specs.Promises.{partOf, capacityAt, plainOf, tableTrials, OnlyPart, Updates, Queries, Lists, updateAnswer, foundAnswer, listingAnswer}
 use Rattle.book.specs.Live.{book-sound}
 use Rattle.history.specs.Claim.{same-state, asked-state, listed-state}
-use Rattle.counting.specs.Promises.{capacity, room, answered, Told, toldBy, commanded, told, Prints, most, Stands, Counts}
-use Rattle.counting.specs.Replies.{Fits, Replies, one-line, refused-line}
-use Rattle.counting.specs.Fitting.{named, Roomy, answer-fits, refusal-fits}
+use Rattle.counting.specs.Promises.{capacity, room, answered, letterOf, named, outcome, Prints, most, Stands, Declines, Obeys, Counts}
+use Rattle.counting.specs.Replies.{Fits, Replies, refused-line}
+use Rattle.counting.specs.Fitting.{shown, Roomy, answer-fits, refusal-fits}
 
 -- ---- the lines of an answer are the plain book's
 
 -- where the answer is the plain book's
 plainly : {letter : ℕ} {a : Answer} {before after : List ℕ} {n : ℕ} {t : List ℤ} (k : Call) (held : Option (Held Item)) → Book (partOf t 0) capacity held → Roomy k
-    → a ≡ step (plainOf capacity held) k .answer → Replies letter (named k) a before after n
-    → Prints (answered letter (named k) (step (plainOf capacity held) k .answer)) before after n
+    → a ≡ step (plainOf capacity held) k .answer → Replies letter (shown k) a before after n
+    → Prints (answered letter (shown k) (step (plainOf capacity held) k .answer)) before after n
 plainly {letter} {a} {before} {after} {n} k held book roomy e r =
-    subst (λ (x : Answer). Prints (answered letter (named k) x) before after n) e
-    (r .prints (subst (Fits (named k)) (sym e) (answer-fits capacity (plainOffers held) (omega arith) (book-sound book) k roomy)))
+    subst (λ (x : Answer). Prints (answered letter (shown k) x) before after n) e
+    (r .prints (subst (Fits (shown k)) (sym e) (answer-fits capacity (plainOffers held) (omega arith) (book-sound book) k roomy)))
+
+-- where it is a refusal, whatever the words are
+refusing : {letter : ℕ} {number : ℤ} {a : Answer} {before after : List ℕ} {n : ℕ} (z : Cause) → a ≡ refused (causeNumber z) → Replies letter number a before after n
+    → Prints (answered letter number (refused (causeNumber z))) before after n
+refusing {letter} {number} {before = before} {after} {n} z e r = subst (λ (x : Answer). Replies letter number x before after n) e r .prints (refusal-fits number z)
 
 -- ---- a listing's lines
 
 pub record ListsLines (t : List ℤ) (before after : List ℕ) (n : ℕ) : Type 0 where
   pub within : n ≤ length before
+  pub declined : (z : Cause) → FirstOf (tableTrials t 0 (listing room)) z → Prints (answered 76 (pos 0) (refused (causeNumber z))) before after n
   pub prints : (held : Option (Held Item)) → Book (partOf t 0) capacity held → Prints (answered 76 (pos 0) (step (plainOf capacity held) (listing room) .answer)) before after n
 
 pub lists-lines : {t pieces pieces′ : List ℤ} {before after : List ℕ} {n : ℕ} {l : Listed} → length pieces ≡ 192 → Lists 0 t pieces pieces′ l
     → Replies 76 (pos 0) (listingAnswer l pieces′) before after n → ListsLines t before after n
-lists-lines {pieces = pieces} {before = before} {after} {n} e l r =
+lists-lines {pieces = pieces} {pieces′} {before} {after} {n} e l r =
     record {
       within = r .within;
+      declined = λ z f. refusing z (ap (λ (x : Listed). listingAnswer x pieces′) (l .declined z f .0)) r;
       prints = λ held book.
           subst (λ (m : ℕ). Prints (answered 76 (pos 0) (step (plainOf capacity held) (listing m) .answer)) before after n) e
           (plainly (listing (length pieces)) held book e (l .answers capacity held book) r);
@@ -61,48 +69,81 @@ command-is {line} p e = subst (Parsed line) e p
 
 pub counts-short : (line : List ℕ) (t : List ℤ) (out : List ℕ) → length out < most → Counts line t t out out 0
 counts-short line t out h =
-    record { short = λ _. (refl, refl, refl); within = omega arith; outside = untouched (capacityAt t 0) 0 t; follows = λ g. absurd (omega arith) }
+    record { short = λ _. (refl, refl, refl); within = omega arith; outside = untouched (capacityAt t 0) 0 t; obeys = λ g. absurd (omega arith) }
+
+-- lines of one command
+pub counts-alike : {line line′ : List ℕ} {t t′ : List ℤ} {out out′ : List ℕ} {n : ℕ} → commandOf line ≡ commandOf line′ → Counts line t t′ out out′ n → Counts line′ t t′ out out′ n
+counts-alike {t = t} {t′} {out} {out′} {n} e c =
+    record { short = c .short; within = c .within; outside = c .outside; obeys = λ h. subst (λ (m : Command). Obeys m t t′ out out′ n) e (c .obeys h) }
+
+-- a post or a withdrawal
+updated : {t t′ : List ℤ} {out out′ : List ℕ} {n letter : ℕ} (k : Call) {u : Update} (held : Option (Held Item)) → Book (partOf t 0) capacity held → Roomy k → Updates k 0 t t′ u
+    → Replies letter (shown k) (updateAnswer u) out out′ n
+    → Stands (record { state = step (plainOf capacity held) k .state; bytes = answered letter (shown k) (step (plainOf capacity held) k .answer) }) t′ out out′ n
+updated k held book roomy u r =
+    let f = u .follows capacity held book in
+    record { after = f .after; stands = f .stands; plain = sym (same-state capacity held (f .after) k (f .offers)); prints = plainly k held book roomy (f .answers) r }
+
+left : {t t′ : List ℤ} {k : Call} {u : Update} → Updates k 0 t t′ u → (held : Option (Held Item)) → Book (partOf t 0) capacity held → (j : ℕ) → step (plainOf capacity held) k .answer ≡ refused j → t′ ≡ t
+left u held book j e = let f = u .follows capacity held book in f .refusal j (f .answers ∙ e)
 
 module _ {line : List ℕ} {t : List ℤ} {out out′ : List ℕ} {n : ℕ} (long : most ≤ length out) where
-  by-command : {t′ : List ℤ} (m : Command) → Parsed line m → n ≤ length out → OnlyPart (capacityAt t 0) 0 t t′
-      → ((held : Option (Held Item)) → Book (partOf t 0) capacity held → Stands (commanded (plainOf capacity held) m) t′ out out′ n) → Counts line t t′ out out′ n
-  by-command {t′} m p within outside f =
+  by-command : {t′ : List ℤ} (m : Command) → Parsed line m → n ≤ length out → OnlyPart (capacityAt t 0) 0 t t′ → Obeys m t t′ out out′ n → Counts line t t′ out out′ n
+  by-command {t′} m p within outside o =
       record {
         short = λ h. absurd (omega (arith, long));
         within = within;
         outside = outside;
-        follows = λ _ held book. subst (λ (m : Command). Stands (commanded (plainOf capacity held) m) t′ out out′ n) (parsed-unique line m (commandOf line) p (command-parsed line)) (f held book);
+        obeys = λ _. subst (λ (m : Command). Obeys m t t′ out out′ n) (parsed-unique line m (commandOf line) p (command-parsed line)) o;
       }
-
-  by-update : {t′ : List ℤ} (letter : ℕ) (k : Call) (m : Command) {u : Update} → ((s : State) → toldBy letter (named k) (step s k) ≡ commanded s m) → Roomy k
-      → Parsed line m → Updates k 0 t t′ u → Replies letter (named k) (updateAnswer u) out out′ n → Counts line t t′ out out′ n
-  by-update {t′} letter k m same roomy p u r =
-      by-command m p (r .within) (u .outside) (λ held book.
-      let f = u .follows capacity held book in
-      subst (λ (o : Told). Stands o t′ out out′ n) (same (plainOf capacity held))
-      (record { after = f .after; stands = f .stands; plain = sym (same-state capacity held (f .after) k (f .offers)); prints = plainly k held book roomy (f .answers) r }))
 
   pub posted : {t′ : List ℤ} (number rate base : ℤ) {u : Update} → Parsed line (Post number rate base) → Updates (post number rate base) 0 t t′ u
       → Replies 80 number (updateAnswer u) out out′ n → Counts line t t′ out out′ n
-  posted number rate base p u r = by-update 80 (post number rate base) (Post number rate base) (λ s. refl) tt p u r
+  posted number rate base p u r =
+      by-command (Post number rate base) p (r .within) (u .outside)
+      (record {
+        asks = λ no. absurd no;
+        declined = λ z f. let d = u .declined z f in (d .1, refusing z (ap updateAnswer (d .0)) r);
+        refusal = left u;
+        follows = λ held book. updated (post number rate base) held book tt u r;
+      })
 
   pub withdrawn : {t′ : List ℤ} (number : ℤ) {u : Update} → Parsed line (Withdraw number) → Updates (withdraw number) 0 t t′ u
       → Replies 87 number (updateAnswer u) out out′ n → Counts line t t′ out out′ n
-  withdrawn number p u r = by-update 87 (withdraw number) (Withdraw number) (λ s. refl) tt p u r
+  withdrawn number p u r =
+      by-command (Withdraw number) p (r .within) (u .outside)
+      (record {
+        asks = λ no. absurd no;
+        declined = λ z f. let d = u .declined z f in (d .1, refusing z (ap updateAnswer (d .0)) r);
+        refusal = left u;
+        follows = λ held book. updated (withdraw number) held book tt u r;
+      })
+
+  -- a line that only asks
+  asking : (m : Command) → Parsed line m → n ≤ length out → ((z : Cause) → Declines t m z → Prints (answered (letterOf m) (named m) (refused (causeNumber z))) out out′ n)
+      → ((s : State) → outcome s m .state ≡ s)
+      → ((held : Option (Held Item)) → Book (partOf t 0) capacity held → Prints (answered (letterOf m) (named m) (outcome (plainOf capacity held) m .answer)) out out′ n)
+      → Counts line t t out out′ n
+  asking m p within declined same prints =
+      by-command m p within (untouched (capacityAt t 0) 0 t)
+      (record {
+        asks = λ _. refl;
+        declined = λ z f. (refl, declined z f);
+        refusal = λ held book k e. refl;
+        follows = λ held book. record { after = held; stands = book; plain = sym (same (plainOf capacity held)); prints = prints held book };
+      })
 
   pub asked : (load : ℤ) {f : Found} → Parsed line (Query load) → Queries load 0 t f → Replies 81 (pos 0) (foundAnswer f) out out′ n → Counts line t t out out′ n
   asked load p f r =
-      by-command (Query load) p (r .within) (untouched (capacityAt t 0) 0 t) (λ held book.
-      record { after = held; stands = book; plain = sym (asked-state (plainOf capacity held) load); prints = plainly (query load) held book tt (f .answers capacity held book) r })
+      asking (Query load) p (r .within) (λ z d. refusing z (ap foundAnswer (f .declined z d)) r) (λ s. asked-state s load)
+      (λ held book. plainly (query load) held book tt (f .answers capacity held book) r)
 
   pub listed-all : Parsed line Listing → ListsLines t out out′ n → Counts line t t out out′ n
-  listed-all p l =
-      by-command Listing p (l .within) (untouched (capacityAt t 0) 0 t) (λ held book.
-      record { after = held; stands = book; plain = sym (listed-state (plainOf capacity held) room); prints = l .prints held book })
+  listed-all p l = asking Listing p (l .within) (l .declined) (λ s. listed-state s room) (l .prints)
 
 pub unread : {line : List ℕ} {t : List ℤ} {out out′ : List ℕ} → most ≤ length out → Parsed line Unreadable
     → Answers 63 (pos 11) (pos 0) (pos 0) (pos 0) out out′ → Counts line t t out out′ 39
-unread {t = t} {out} {out′} long p a =
+unread {out = out} {out′} long p a =
     let r : Replies 63 (pos 0) (refused 11) out out′ 39 = refused-line (omega arith) (pos 11) a in
-    by-command long Unreadable p (r .within) (untouched (capacityAt t 0) 0 t) (λ held book.
-    record { after = held; stands = book; plain = refl; prints = r .prints (refusal-fits (pos 0) unreadableLine) })
+    asking long Unreadable p (r .within) (λ z e. refusing z (ap (λ (c : Cause). refused (causeNumber c)) (sym e)) r) (λ s. refl)
+    (λ held book. r .prints (refusal-fits (pos 0) unreadableLine))

@@ -1,12 +1,11 @@
 -- Every number that the plain book answers fits its column.
-use mathlib.Core.Path.{_≡_, refl, sym, _∙_, subst}
+use mathlib.Core.Path.{_≡_, refl}
 use mathlib.Core.List.{List, [], _∷_, List·Memᴰ, List·Memᴰ·head, List·Memᴰ·tail, Pairwise}
 use mathlib.Core.Option.{Option, none, some}
-use mathlib.Core.Bool.{Bool, not}
 use Prim.Native.Nat.{ℕ, _*_, _≤_}
 use native.Mathlib.Omega.{arith}
 use lib.ListN.{length}
-use lib.Dec.{T, ltb, nltb→le}
+use lib.Dec.{T, nltb→le}
 use lib.IntN.{ℤ, pos, natAbs}
 use Rattle.lists.specs.Filter.{keep-sublist}
 use Rattle.lists.specs.Places.{sublist-mem}
@@ -14,9 +13,8 @@ use Rattle.lists.specs.Tests.{not-not}
 use Rattle.offers.specs.Offers.{Offer, numberInRange, loadInRange, offerInRange, priceAt, crossingNumerator, crossingDenominator, precedes}
 use Rattle.offers.specs.Sizes.{number-of, rate-of, base-of, number-size, number-is, price-at-size, base-gap-size, rate-gap-size}
 use Rattle.plain.specs.Causes.{Cause, declined, causeNumber, capacityOutOfRange, tableTooShort, noBook, numberOutOfRange, rateOutOfRange, baseOutOfRange, loadOutOfRange, priceOutOfRange, numberLive, rateLive, bookFull, numberNotLive, bookEmpty, outputTooShort, unreadableLine, ratesNotApart, noSuchMark}
-use Rattle.plain.specs.Book.{State, Call, post, withdraw, query, listing, Answer, refused, live, found, listed, cheapest, envelope, pieceWords, trials, respond, accepted, step}
-use Rattle.plain.specs.Sound.{Sound, Clear, clear, step-sound}
-use Rattle.plain.specs.Rules.{words-length}
+use Rattle.plain.specs.Book.{State, Call, post, withdraw, query, listing, refused, live, cheapest, envelope, pieceWords, trials, respond, accepted, step}
+use Rattle.plain.specs.Sound.{Sound, clear, step-sound}
 use Rattle.plain.specs.QueryLaws.{cheapest-names}
 use Rattle.book.specs.Numbered.{from-one}
 use Rattle.columns.specs.Columns.{FitsIn}
@@ -74,11 +72,11 @@ pieces-fit (o ∷ p ∷ ps) r =
 -- ---- the answers
 
 -- The number that a post's or a withdrawal's line shows.
-abbrev pub named : Call → ℤ
-named (post n r b) = n
-named (withdraw n) = n
-named (query q) = pos 0
-named (listing room) = pos 0
+abbrev pub shown : Call → ℤ
+shown (post n r b) = n
+shown (withdraw n) = n
+shown (query q) = pos 0
+shown (listing room) = pos 0
 
 -- the room that the counter gives
 abbrev pub Roomy : Call → Type 0
@@ -98,11 +96,11 @@ module _ (c : ℕ) (os : List Offer) (small : c ≤ 64) (sound : Sound (record {
       let u = r b (cheapest-names q o os p .live) in
       (number-fits (b .number) (number-of b u), size-fits (priceAt b q) (price-at-size (b .base) (b .rate) q (base-of b u) (rate-of b u) t))
 
-  pub answer-fits : (k : Call) → Roomy k → Fits (named k) (step s k .answer)
+  pub answer-fits : (k : Call) → Roomy k → Fits (shown k) (step s k .answer)
   answer-fits k roomy = go (declined (trials s k)) k refl roomy (step-sound s k sound)
     where
-      go : (d : Option Cause) (k : Call) → declined (trials s k) ≡ d → Roomy k → Sound (respond s k d .state) → Fits (named k) (respond s k d .answer)
-      go (some z) k e roomy after = refusal-fits (named k) z
+      go : (d : Option Cause) (k : Call) → declined (trials s k) ≡ d → Roomy k → Sound (respond s k d .state) → Fits (shown k) (respond s k d .answer)
+      go (some z) k e roomy after = refusal-fits (shown k) z
       go none (post n r b) e roomy after =
           (number-fits n (not-not (numberInRange n) (clear (trials s (post n r b)) e .0)), count-fits _ (omega (arith, after .fits, small)))
       go none (withdraw n) e roomy after =

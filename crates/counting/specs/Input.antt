@@ -1,28 +1,20 @@
 -- The input, byte by byte: a line's first 28 bytes are kept, and at its newline it is answered.
-use mathlib.Core.Path.{_≡_, refl, sym, _∙_, ap, subst}
+use mathlib.Core.Path.{_≡_, refl, sym, _∙_, ap}
 use mathlib.Core.Logic.{_≢_}
-use mathlib.Core.Bool.{Bool, true, false, cond}
 use mathlib.Core.List.{List, [], _∷_, _++_}
-use mathlib.Core.Option.{Option}
-use Prim.Native.Nat.{ℕ, suc, _+_, _≤_, _<_}
+use Prim.Native.Nat.{ℕ, _+_, _≤_, _<_}
 use native.Mathlib.Decide.{decLe}
 use native.Mathlib.Numerals.{add-one}
 use native.Mathlib.Omega.{arith}
-use lib.ListN.{length, take, drop, set, length-append, length-set}
+use lib.ListN.{length, take, set, length-append, length-set}
 use lib.Seq.{take-all, take-append-le, take-suc-set, length-take-le}
-use lib.Dec.{eqb}
 use lib.IntN.{ℤ}
-use borrow.Author.Tests.{eq-eqb, ne-eqb}
-use Rattle.plain.specs.Book.{State}
 use Rattle.columns.specs.Columns.{newline}
 use Rattle.columns.specs.Commands.{parsed-unique, commandOf, command-parsed, wrong-length}
-use Rattle.dynamic.specs.OfferTree.{Held}
-use Rattle.table.specs.Items.{Item}
-use Rattle.update.specs.Form.{Book}
-use Rattle.book.specs.Promises.{partOf, capacityAt, plainOf, OnlyPart}
+use Rattle.book.specs.Promises.{capacityAt, OnlyPart}
 use Rattle.counting.specs.declared.Line.{Line}
-use Rattle.counting.specs.Promises.{capacity, Told, commanded, told, Prints, most, Stands, Counts}
-use Rattle.counting.specs.Answering.{untouched}
+use Rattle.counting.specs.Promises.{Counts}
+use Rattle.counting.specs.Answering.{untouched, counts-alike}
 
 -- ---- the line so far
 
@@ -86,92 +78,65 @@ kept-command text = go (decLe (length text) 28)
 pub record CountsFront (bytes : List ℕ) (kept : ℕ) (t t′ : List ℤ) (out out′ : List ℕ) (n : ℕ) : Type 0 where
   pub within : n ≤ length out
   pub outside : OnlyPart (capacityAt t 0) 0 t t′
-  pub follows : most ≤ length out → kept ≤ length bytes → (held : Option (Held Item)) → Book (partOf t 0) capacity held → Stands (told (plainOf capacity held) (take kept bytes)) t′ out out′ n
+  pub counts : kept ≤ length bytes → Counts (take kept bytes) t t′ out out′ n
 
+-- the whole line is answered
 pub record CountsKept (line : Line) (t t′ : List ℤ) (out out′ : List ℕ) (n : ℕ) : Type 0 where
   pub within : n ≤ length out
   pub outside : OnlyPart (capacityAt t 0) 0 t t′
-  pub follows : most ≤ length out → (text : List ℕ) → Keeps line text → (held : Option (Held Item)) → Book (partOf t 0) capacity held → Stands (told (plainOf capacity held) text) t′ out out′ n
+  pub counts : (text : List ℕ) → Keeps line text → Counts text t t′ out out′ n
 
 pub front-none : (bytes : List ℕ) (kept : ℕ) (t : List ℤ) (out : List ℕ) → length bytes < kept → CountsFront bytes kept t t out out 0
-front-none bytes kept t out h = record { within = omega arith; outside = untouched (capacityAt t 0) 0 t; follows = λ _ k. absurd (omega arith) }
+front-none bytes kept t out h = record { within = omega arith; outside = untouched (capacityAt t 0) 0 t; counts = λ k. absurd (omega arith) }
 
 pub front-all : {bytes : List ℕ} {kept : ℕ} {t t′ : List ℤ} {out out′ : List ℕ} {n : ℕ} → Counts (take kept bytes) t t′ out out′ n → CountsFront bytes kept t t′ out out′ n
-front-all c = record { within = c .within; outside = c .outside; follows = λ h k held book. c .follows h held book }
+front-all c = record { within = c .within; outside = c .outside; counts = λ k. c }
 
 pub counts-kept : {line : Line} {t t′ : List ℤ} {out out′ : List ℕ} {n : ℕ} → CountsFront (line .bytes) (line .length) t t′ out out′ n → CountsKept line t t′ out out′ n
-counts-kept {line} {t} {t′} {out} {out′} {n} c =
+counts-kept c =
     record {
       within = c .within;
       outside = c .outside;
-      follows = λ h text k held book.
-          subst (λ (o : Told). Stands o t′ out out′ n) (ap (λ (l : List ℕ). told (plainOf capacity held) l) (k .front) ∙ ap (commanded (plainOf capacity held)) (kept-command text))
-          (c .follows h (omega (arith, k .room, k .few)) held book);
+      counts = λ text k. counts-alike (ap commandOf (k .front) ∙ kept-command text) (c .counts (omega (arith, k .room, k .few)));
     }
 
 -- ---- one byte more
 
--- The plain book, the bytes of the line so far, and what the byte printed.
-pub record Desk : Type 0 where
-  pub state : State
-  pub text : List ℕ
-  pub bytes : List ℕ
-
-abbrev pub answeredLine : Told → Desk
-answeredLine o = record { state = o .state; text = []; bytes = o .bytes }
-
-abbrev pub fed : State → List ℕ → ℕ → Desk
-fed s text b = cond (eqb b newline) (answeredLine (told s text)) (record { state = s; text = text ++ b ∷ []; bytes = [] })
-
-pub record Follows (d : Desk) (line′ : Line) (t′ : List ℤ) (out out′ : List ℕ) (n : ℕ) : Type 0 where
-  pub keeps : Keeps line′ (d .text)
-  pub stands : Stands (record { state = d .state; bytes = d .bytes }) t′ out out′ n
-
 pub record Feeds (byte : ℕ) (line line′ : Line) (t t′ : List ℤ) (out out′ : List ℕ) (n : ℕ) : Type 0 where
   pub within : n ≤ length out
   pub outside : OnlyPart (capacityAt t 0) 0 t t′
-  pub follows : most ≤ length out → (text : List ℕ) → Keeps line text → (held : Option (Held Item)) → Book (partOf t 0) capacity held → Follows (fed (plainOf capacity held) text byte) line′ t′ out out′ n
+  pub grows : byte ≢ newline → Pushes line byte line′ × (t′ ≡ t) × (out′ ≡ out) × (n ≡ 0)
+  pub ends : byte ≡ newline → Keeps line′ [] × CountsKept line t t′ out out′ n
 
 pub feeds-on : {byte : ℕ} {line line′ : Line} (t : List ℤ) (out : List ℕ) → byte ≢ newline → Pushes line byte line′ → Feeds byte line line′ t t out out 0
-feeds-on {byte} t out h p =
-    record {
-      within = omega arith;
-      outside = untouched (capacityAt t 0) 0 t;
-      follows = λ _ text k held book.
-          rw (ne-eqb byte newline h)
-          (record { keeps = p .keeps text k; stands = record { after = held; stands = book; plain = refl; prints = record { whole = refl; count = refl } } });
-    }
+feeds-on t out h p = record { within = omega arith; outside = untouched (capacityAt t 0) 0 t; grows = λ _. (p, refl, refl, refl); ends = λ e. absurd (h e) }
 
 pub feeds-line : {byte : ℕ} {line line′ : Line} {t t′ : List ℤ} {out out′ : List ℕ} {n : ℕ} → byte ≡ newline → Keeps line′ [] → CountsKept line t t′ out out′ n → Feeds byte line line′ t t′ out out′ n
-feeds-line {byte} e k c =
-    record {
-      within = c .within;
-      outside = c .outside;
-      follows = λ h text k′ held book. rw (eq-eqb byte newline e) (record { keeps = k; stands = c .follows h text k′ held book });
-    }
+feeds-line e k c = record { within = c .within; outside = c .outside; grows = λ h. absurd (h e); ends = λ _. (k, c) }
 
 -- ---- the end of the input
 
-abbrev pub ended : State → List ℕ → Told
-ended s [] = record { state = s; bytes = [] }
-ended s (b ∷ text) = told s (b ∷ text)
-
+-- A last line without its newline is answered, and a line of no bytes is none.
 pub record Finishes (line : Line) (t t′ : List ℤ) (out out′ : List ℕ) (n : ℕ) : Type 0 where
   pub within : n ≤ length out
   pub outside : OnlyPart (capacityAt t 0) 0 t t′
-  pub follows : most ≤ length out → (text : List ℕ) → Keeps line text → (held : Option (Held Item)) → Book (partOf t 0) capacity held → Stands (ended (plainOf capacity held) text) t′ out out′ n
+  pub no-more : Keeps line [] → (t′ ≡ t) × (out′ ≡ out) × (n ≡ 0)
+  pub last : (b : ℕ) (text : List ℕ) → Keeps line (b ∷ text) → Counts (b ∷ text) t t′ out out′ n
 
 pub finishes-none : {line : Line} (t : List ℤ) (out : List ℕ) → line .length ≡ 0 → Finishes line t t out out 0
-finishes-none {line} t out e = record { within = omega arith; outside = untouched (capacityAt t 0) 0 t; follows = λ h text k held book. go text k held book (kept-all k (omega arith)) }
-  where
-    go : (text : List ℕ) → Keeps line text → (held : Option (Held Item)) → Book (partOf t 0) capacity held → length text ≡ line .length → Stands (ended (plainOf capacity held) text) t out out 0
-    go [] k held book l = record { after = held; stands = book; plain = refl; prints = record { whole = refl; count = refl } }
-    go (b ∷ text) k held book l = absurd (omega arith)
+finishes-none t out e =
+    record {
+      within = omega arith;
+      outside = untouched (capacityAt t 0) 0 t;
+      no-more = λ _. (refl, refl, refl);
+      last = λ b text k. absurd (omega (arith, kept-all k (omega arith)));
+    }
 
 pub finishes-line : {line : Line} {t t′ : List ℤ} {out out′ : List ℕ} {n : ℕ} → line .length ≢ 0 → CountsKept line t t′ out out′ n → Finishes line t t′ out out′ n
-finishes-line {line} {t} {t′} {out} {out′} {n} some c =
-    record { within = c .within; outside = c .outside; follows = λ h text k held book. go text k held (c .follows h text k held book) }
-  where
-    go : (text : List ℕ) → Keeps line text → (held : Option (Held Item)) → Stands (told (plainOf capacity held) text) t′ out out′ n → Stands (ended (plainOf capacity held) text) t′ out out′ n
-    go [] k held s = absurd (some (kept-length k))
-    go (b ∷ text) k held s = s
+finishes-line some c =
+    record {
+      within = c .within;
+      outside = c .outside;
+      no-more = λ k. absurd (some (kept-length k));
+      last = λ b text k. c .counts (b ∷ text) k;
+    }

@@ -6,3 +6,4 @@ pub mod Fitting
 pub mod Answering
 pub mod Input
 pub mod Whole
+pub mod Sample

@@ -1,18 +1,18 @@
 -- A listing's lines, piece after piece.
 use mathlib.Core.Path.{_≡_, refl, sym, _∙_, ap, subst}
-use mathlib.Core.List.{List, [], _∷_, _++_, append-assoc, append-nil}
-use Prim.Native.Nat.{ℕ, zero, suc, _+_, _*_, _-_, _≤_, _<_}
+use mathlib.Core.List.{List, _∷_, _++_, append-assoc, append-nil}
+use Prim.Native.Nat.{ℕ, suc, _+_, _*_, _-_, _≤_}
 use native.Mathlib.Omega.{arith}
-use lib.ListN.{length, take, drop, getD, length-append, length-drop, take-append-drop, drop-of-length-le}
+use lib.ListN.{length, take, drop, length-append, length-drop, drop-of-length-le}
 use lib.Seq.{take-all, drop-cons, drop-drop, take-add, length-take-le, take-at, drop-at}
 use lib.IntN.{ℤ, pos, negsuc}
-use Rattle.plain.specs.Book.{Answer, listed}
+use Rattle.plain.specs.Book.{listed}
 use Rattle.table.specs.Words.{word, upTo, upTo-in, upTo-most}
 use Rattle.columns.specs.Columns.{FitsIn, answerLine}
 use Rattle.columns.specs.Printed.{Answers}
-use Rattle.book.specs.Promises.{counted, listingAnswer}
-use Rattle.counting.specs.Promises.{pieceLines, answered, Prints}
-use Rattle.counting.specs.Replies.{PiecesFit, Fits, Replies, zero-fits, answer-length, one-line}
+use Rattle.book.specs.Promises.{counted}
+use Rattle.counting.specs.Promises.{pieceLines, Prints}
+use Rattle.counting.specs.Replies.{PiecesFit, Replies, zero-fits, one-line}
 
 -- ---- bytes lent from a place on
 

@@ -8,8 +8,9 @@ use Prim.Native.Nat.{ℕ, _≤_, _<_}
 use lib.ListN.{length, drop}
 use lib.Dec.{eqb}
 use lib.IntN.{ℤ, pos}
-use Rattle.plain.specs.Causes.{causeNumber, unreadableLine}
-use Rattle.plain.specs.Book.{State, Call, post, withdraw, query, listing, Answer, refused, live, found, listed, Outcome, opened, step}
+use Rattle.plain.specs.Causes.{Cause, causeNumber, unreadableLine}
+use Rattle.plain.specs.Book.{State, post, withdraw, query, listing, Answer, refused, live, found, listed, Outcome, opened, step}
+use Rattle.plain.specs.Rules.{FirstOf}
 use Rattle.columns.specs.declared.Command.{Command}
 use Rattle.columns.specs.declared.Command.the-variants.{Post, Withdraw, Query, List as Listing, Unreadable}
 use Rattle.columns.specs.Columns.{newline, answerLine}
@@ -17,7 +18,7 @@ use Rattle.columns.specs.Commands.{commandOf}
 use Rattle.dynamic.specs.OfferTree.{Held}
 use Rattle.table.specs.Items.{Item}
 use Rattle.update.specs.Form.{Book}
-use Rattle.book.specs.Promises.{partOf, capacityAt, plainOf, OnlyPart}
+use Rattle.book.specs.Promises.{partOf, capacityAt, plainOf, tableTrials, OnlyPart}
 
 -- ---- the plain counter
 
@@ -46,15 +47,29 @@ pub record Told : Type 0 where
   pub state : State
   pub bytes : List ℕ
 
-abbrev pub toldBy : (letter : ℕ) (number : ℤ) → Outcome → Told
-toldBy letter number o = record { state = o .state; bytes = answered letter number (o .answer) }
+abbrev pub letterOf : Command → ℕ
+letterOf (Post number rate base) = 80
+letterOf (Withdraw number) = 87
+letterOf (Query load) = 81
+letterOf Listing = 76
+letterOf Unreadable = 63
+
+abbrev pub named : Command → ℤ
+named (Post number rate base) = number
+named (Withdraw number) = number
+named (Query load) = pos 0
+named Listing = pos 0
+named Unreadable = pos 0
+
+abbrev pub outcome : State → Command → Outcome
+outcome s (Post number rate base) = step s (post number rate base)
+outcome s (Withdraw number) = step s (withdraw number)
+outcome s (Query load) = step s (query load)
+outcome s Listing = step s (listing room)
+outcome s Unreadable = record { state = s; answer = refused (causeNumber unreadableLine) }
 
 abbrev pub commanded : State → Command → Told
-commanded s (Post number rate base) = toldBy 80 number (step s (post number rate base))
-commanded s (Withdraw number) = toldBy 87 number (step s (withdraw number))
-commanded s (Query load) = toldBy 81 (pos 0) (step s (query load))
-commanded s Listing = toldBy 76 (pos 0) (step s (listing room))
-commanded s Unreadable = record { state = s; bytes = answered 63 (pos 0) (refused (causeNumber unreadableLine)) }
+commanded s m = record { state = outcome s m .state; bytes = answered (letterOf m) (named m) (outcome s m .answer) }
 
 -- A line, without its newline.
 abbrev pub told : State → List ℕ → Told
@@ -93,9 +108,31 @@ pub record Stands (o : Told) (t′ : List ℤ) (out out′ : List ℕ) (n : ℕ)
   pub plain : plainOf capacity after ≡ o .state
   pub prints : Prints (o .bytes) out out′ n
 
+-- On words of any content: the causes that do not depend on the offers.
+abbrev pub Declines : List ℤ → Command → Cause → Type 0
+Declines t (Post number rate base) z = FirstOf (tableTrials t 0 (post number rate base)) z
+Declines t (Withdraw number) z = FirstOf (tableTrials t 0 (withdraw number)) z
+Declines t (Query load) z = FirstOf (tableTrials t 0 (query load)) z
+Declines t Listing z = FirstOf (tableTrials t 0 (listing room)) z
+Declines t Unreadable z = z ≡ unreadableLine
+
+-- Only a post and a withdrawal write.
+abbrev pub Asks : Command → Type 0
+Asks (Post number rate base) = ⊥
+Asks (Withdraw number) = ⊥
+Asks (Query load) = Unit {0}
+Asks Listing = Unit {0}
+Asks Unreadable = Unit {0}
+
+pub record Obeys (m : Command) (t t′ : List ℤ) (out out′ : List ℕ) (n : ℕ) : Type 0 where
+  pub asks : Asks m → t′ ≡ t
+  pub declined : (z : Cause) → Declines t m z → (t′ ≡ t) × Prints (answered (letterOf m) (named m) (refused (causeNumber z))) out out′ n
+  pub refusal : (held : Option (Held Item)) → Book (partOf t 0) capacity held → (k : ℕ) → outcome (plainOf capacity held) m .answer ≡ refused k → t′ ≡ t
+  pub follows : (held : Option (Held Item)) → Book (partOf t 0) capacity held → Stands (commanded (plainOf capacity held) m) t′ out out′ n
+
 -- An output that is too short for some line gets nothing, and the line is not answered.
 pub record Counts (line : List ℕ) (t t′ : List ℤ) (out out′ : List ℕ) (n : ℕ) : Type 0 where
   pub short : length out < most → (n ≡ 0) × (t′ ≡ t) × (out′ ≡ out)
   pub within : n ≤ length out
   pub outside : OnlyPart (capacityAt t 0) 0 t t′
-  pub follows : most ≤ length out → (held : Option (Held Item)) → Book (partOf t 0) capacity held → Stands (told (plainOf capacity held) line) t′ out out′ n
+  pub obeys : most ≤ length out → Obeys (commandOf line) t t′ out out′ n

@@ -1,17 +1,16 @@
 -- What an answer's lines are written as, where each number fits its column.
-use mathlib.Core.Path.{_≡_, refl, sym, _∙_, ap}
-use mathlib.Core.List.{List, [], _∷_, _++_, append-assoc}
-use Prim.Native.Nat.{ℕ, zero, suc, _+_, _*_, _≤_, _<_}
+use mathlib.Core.Path.{_≡_, sym, _∙_, ap}
+use mathlib.Core.List.{List, [], _∷_, _++_}
+use Prim.Native.Nat.{ℕ, _≤_}
 use native.Mathlib.Omega.{arith}
-use lib.ListN.{length, take, drop, getD, length-append, take-append-drop}
-use lib.Seq.{drop-cons}
+use lib.ListN.{length, drop, length-append, take-append-drop}
 use lib.IntN.{ℤ, pos, negsuc}
 use Rattle.plain.specs.Book.{Answer, refused, live, found, listed}
-use Rattle.columns.specs.Columns.{decimal, numeral, digits, digitsWithin, justified, FitsIn, answerLine}
+use Rattle.columns.specs.Columns.{decimal, numeral, digits, digitsWithin, FitsIn, answerLine}
 use Rattle.columns.specs.Justified.{justified-width}
 use Rattle.columns.specs.Printed.{Answers}
 use Rattle.book.specs.Promises.{counted}
-use Rattle.counting.specs.Promises.{pieceLines, answered, Prints}
+use Rattle.counting.specs.Promises.{answered, Prints}
 
 -- ---- what fits its columns
 

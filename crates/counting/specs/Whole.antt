@@ -1,13 +1,13 @@
 -- Whole inputs: whatever is read from the opening on, what is printed in all is the plain counter's output.
-use mathlib.Core.Path.{_≡_, refl, sym, _∙_, ap}
-use mathlib.Core.Bool.{Bool, true, false, cond}
+use mathlib.Core.Path.{_≡_, refl, sym, _∙_, ap, subst}
 use mathlib.Core.List.{List, [], _∷_, _++_, append-nil}
 use mathlib.Core.Option.{Option, none}
 use Prim.Native.Nat.{ℕ, _≤_}
+use native.Mathlib.Decide.{ℕ-discrete}
 use lib.ListN.{length, take, drop}
 use lib.Seq.{take-at}
-use lib.Dec.{eqb}
 use lib.IntN.{ℤ, pos}
+use borrow.Author.Tests.{eq-eqb, ne-eqb}
 use Rattle.plain.specs.Book.{State, opened, openTrials}
 use Rattle.plain.specs.Sound.{Clear}
 use Rattle.columns.specs.Columns.{newline}
@@ -17,12 +17,17 @@ use Rattle.update.specs.Form.{Book}
 use Rattle.book.specs.declared.Opening.{Opening}
 use Rattle.book.specs.Promises.{partOf, plainOf, Opens}
 use Rattle.counting.specs.declared.Line.{Line}
-use Rattle.counting.specs.Promises.{capacity, Told, told, toldAll, linesFrom, output, Prints, most, Stands, Counts}
-use Rattle.counting.specs.Input.{Keeps, Desk, answeredLine, fed, Follows, Feeds, ended, Finishes}
+use Rattle.counting.specs.Promises.{capacity, told, toldAll, linesFrom, output, Prints, most, Stands, Counts}
+use Rattle.counting.specs.Input.{Keeps, Feeds, Finishes}
 
 -- the bytes printed are those in front
 printed : {text before after : List ℕ} {n : ℕ} → Prints text before after n → take n after ≡ text
 printed {text} {before} {n = n} p = ap (take n) (p .whole) ∙ take-at text (drop (length text) before) n (sym (p .count))
+
+-- one line more
+line-told : (line : List ℕ) (lines : List (List ℕ)) {t′ : List ℤ} {out out′ bytes : List ℕ} {n : ℕ} (held : Option (Held Item)) → (s : Stands (told (plainOf capacity held) line) t′ out out′ n)
+    → bytes ≡ toldAll (plainOf capacity (s .after)) lines → take n out′ ++ bytes ≡ toldAll (plainOf capacity held) (line ∷ lines)
+line-told line lines held s e = λ i. printed (s .prints) i ++ (e ∙ ap (λ (o : State). toldAll o lines) (s .plain)) i
 
 -- ---- lines
 
@@ -38,9 +43,9 @@ pub data Lines : List ℤ → List (List ℕ) → List ℕ → Type 0 where
 
 lines-told : {t : List ℤ} {lines : List (List ℕ)} {bytes : List ℕ} → Lines t lines bytes → (held : Option (Held Item)) → Book (partOf t 0) capacity held → bytes ≡ toldAll (plainOf capacity held) lines
 lines-told no-lines held book = refl
-lines-told (line-more {lines = lines} h c rest) held book =
-    let s = c .follows h held book in
-    λ i. printed (s .prints) i ++ (lines-told rest (s .after) (s .stands) ∙ ap (λ (o : State). toldAll o lines) (s .plain)) i
+lines-told (line-more {line = line} {lines} h c rest) held book =
+    let s = c .obeys h .follows held book in
+    line-told line lines held s (lines-told rest (s .after) (s .stands))
 
 pub every-line : {t t₀ : List ℤ} {lines : List (List ℕ)} {bytes : List ℕ} (r : Opening) → Opens (pos capacity) 0 t t₀ r → Clear (openTrials (length t) 0 (pos capacity))
     → Lines t₀ lines bytes → bytes ≡ toldAll (opened (pos capacity)) lines
@@ -62,29 +67,25 @@ pub data Input : List ℤ → Line → List ℕ → List ℕ → Type 0 where
       Input t′ line′ input bytes →
       Input t line (byte ∷ input) (take n out′ ++ bytes)
 
-end-told : (s : State) (text : List ℕ) → ended s text .bytes ≡ toldAll s (linesFrom text [])
-end-told s [] = refl
-end-told s (b ∷ text) = sym (append-nil (told s (b ∷ text) .bytes))
-
--- what a byte prints, and what comes after it
-byte-told : (s : State) (text : List ℕ) (b : ℕ) (input : List ℕ) → fed s text b .bytes ++ toldAll (fed s text b .state) (linesFrom (fed s text b .text) input) ≡ toldAll s (linesFrom text (b ∷ input))
-byte-told s text b input = go (eqb b newline)
-  where
-    next : Bool → Desk
-    next x = cond x (answeredLine (told s text)) (record { state = s; text = text ++ b ∷ []; bytes = [] })
-
-    go : (x : Bool) → next x .bytes ++ toldAll (next x .state) (linesFrom (next x .text) input) ≡ toldAll s (cond x (text ∷ linesFrom [] input) (linesFrom (text ++ b ∷ []) input))
-    go true = refl
-    go false = refl
-
 input-told : {t : List ℤ} {line : Line} {input bytes : List ℕ} → Input t line input bytes → (text : List ℕ) → Keeps line text → (held : Option (Held Item)) → Book (partOf t 0) capacity held
     → bytes ≡ toldAll (plainOf capacity held) (linesFrom text input)
-input-told (at-end h f) text k held book = printed (f .follows h text k held book .prints) ∙ end-told (plainOf capacity held) text
-input-told (byte-more {byte = b} {input} h f rest) text k held book =
-    let q = f .follows h text k held book in
-    let d = fed (plainOf capacity held) text b in
-    (λ i. printed (q .stands .prints) i ++ (input-told rest (d .text) (q .keeps) (q .stands .after) (q .stands .stands) ∙ ap (λ (s : State). toldAll s (linesFrom (d .text) input)) (q .stands .plain)) i)
-    ∙ byte-told (plainOf capacity held) text b input
+input-told (at-end {out′ = out′} h f) [] k held book = ap (λ (n : ℕ). take n out′) (f .no-more k .2)
+input-told (at-end h f) (b ∷ text) k held book =
+    let s = f .last b text k .obeys h .follows held book in
+    printed (s .prints) ∙ sym (append-nil (told (plainOf capacity held) (b ∷ text) .bytes))
+input-told (byte-more {t} {t′} {line} {line′} {byte = b} {input} {out} {out′} {bytes} {n} h f rest) text k held book = go (ℕ-discrete b newline) (λ text k held book. input-told rest text k held book)
+  where
+    More : Type 0
+    More = (text : List ℕ) → Keeps line′ text → (held : Option (Held Item)) → Book (partOf t′ 0) capacity held → bytes ≡ toldAll (plainOf capacity held) (linesFrom text input)
+
+    go : Dec (b ≡ newline) → More → take n out′ ++ bytes ≡ toldAll (plainOf capacity held) (linesFrom text (b ∷ input))
+    go (yes e) more =
+        let q = f .ends e in
+        let s = q .1 .counts text k .obeys h .follows held book in
+        rw (eq-eqb b newline e) (line-told text (linesFrom [] input) held s (more [] (q .0) (s .after) (s .stands)))
+    go (no e) more =
+        let q = f .grows e in
+        rw (ne-eqb b newline e, q .3) (more (text ++ b ∷ []) (q .0 .keeps text k) held (subst (λ (w : List ℤ). Book (partOf w 0) capacity held) (sym (q .1)) book))
 
 -- From an accepted opening and no line yet.
 pub every-input : {t t₀ : List ℤ} {line : Line} {input bytes : List ℕ} (r : Opening) → Opens (pos capacity) 0 t t₀ r → Clear (openTrials (length t) 0 (pos capacity))

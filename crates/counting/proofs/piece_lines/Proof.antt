@@ -1,8 +1,7 @@
 -- `counting::piece_lines` meets its contract: the invariant is the contract at the current piece.
 use Prim.Native.Nat.{_-_, _≤_}
-use mathlib.Core.Path.{_≡_, _∙_}
+use mathlib.Core.Path.{_≡_}
 use native.Mathlib.Omega.{arith}
-use lib.ListN.{length}
 use Rattle.counting.specs.Pieces.{PiecesTo, pieces-none, pieces-more}
 use Rattle.counting.proofs.piece_lines.Statement.{statement}
 use Rattle.counting.proofs.piece_lines.Tie as tie
