@@ -115,7 +115,7 @@ pub record Follows (k : Call) (c : ℕ) (held : Option (Held Item)) (start : ℕ
   pub counts : Counts r log
 
 pub record Updates (k : Call) (start : ℕ) (t t′ : List ℤ) (r : Update) : Type 0 where
-  pub declined : (z : Cause) → FirstOf (tableTrials t start k) z → updateAnswer r ≡ refused (causeNumber z)
+  pub declined : (z : Cause) → FirstOf (tableTrials t start k) z → (updateAnswer r ≡ refused (causeNumber z)) × (t′ ≡ t)
   -- a refusal leaves every word, whatever the words are
   pub refusal : (z : ℤ) → r ≡ UpdateDeclined z → t′ ≡ t
   pub outside : OnlyPart (capacityAt t start) start t t′
@@ -148,7 +148,7 @@ writtenWords (found n p) = 0
 writtenWords (listed m ws) = length ws
 
 pub record Lists (start : ℕ) (t out out′ : List ℤ) (r : Listed) : Type 0 where
-  pub declined : (z : Cause) → FirstOf (tableTrials t start (listing (length out))) z → listingAnswer r out′ ≡ refused (causeNumber z)
+  pub declined : (z : Cause) → FirstOf (tableTrials t start (listing (length out))) z → (listingAnswer r out′ ≡ refused (causeNumber z)) × (out′ ≡ out)
   -- a refusal leaves every word of the output, whatever the table's words are
   pub refusal : (z : ℤ) → r ≡ ListingDeclined z → out′ ≡ out
   pub long : length out′ ≡ length out

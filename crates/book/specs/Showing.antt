@@ -97,7 +97,7 @@ module _ (start : ℕ) (t out : List ℤ) {no : Bool} (e : no ≡ noBookAt (leng
   pub listing-no-book : no ≡ true → Lists start t out out (Declined (pos 3))
   listing-no-book d =
       record {
-        declined = λ z g. ap refused (sym (one-cause none-there g));
+        declined = λ z g. (ap refused (sym (one-cause none-there g)), refl);
         refusal = λ z d. refl;
         long = refl;
         answers = λ c held b. sym (ap (λ (o : Outcome). o .answer) (table-declined start t (listing (length out)) b none-there));

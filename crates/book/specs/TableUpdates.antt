@@ -10,7 +10,7 @@ use lib.Dec.{T}
 use lib.IntN.{ℤ, pos, natAbs}
 use Rattle.offers.specs.Offers.{numberInRange, rateInRange, baseInRange}
 use Rattle.plain.specs.Causes.{Cause, causeNumber, numberOutOfRange, rateOutOfRange, baseOutOfRange}
-use Rattle.plain.specs.Book.{Call, post, withdraw, join, leave, noBookAt, partLength, step}
+use Rattle.plain.specs.Book.{Call, post, withdraw, refused, join, leave, noBookAt, partLength, step}
 use Rattle.plain.specs.Rules.{FirstOf, at-once, further}
 use Rattle.plain.specs.Sound.{Clear}
 use Rattle.dynamic.specs.OfferTree.{Held}
@@ -72,7 +72,7 @@ module _ (k : Call) (start : ℕ) (t t′ : List ℤ) where
   updates-declined : {z : Cause} {r : Update} → FirstOf (tableTrials t start k) z → r ≡ Declined (pos (causeNumber z)) → t′ ≡ t → Updates k start t t′ r
   updates-declined f er et =
       record {
-        declined = λ z g. ap updateAnswer (er ∙ ap (λ (n : ℕ). Declined (pos n)) (sym (one-cause f g)));
+        declined = λ z g. (ap updateAnswer er ∙ ap refused (sym (one-cause f g)), et);
         refusal = λ z d. et;
         outside = only-same et;
         same-part = ap (λ (u : List ℤ). word (partOf u start) 0) et;

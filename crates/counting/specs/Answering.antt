@@ -53,7 +53,7 @@ pub lists-lines : {t pieces pieces′ : List ℤ} {before after : List ℕ} {n :
 lists-lines {pieces = pieces} {pieces′} {before} {after} {n} e l r =
     record {
       within = r .within;
-      declined = λ z f. refusing z (ap (λ (x : Listed). listingAnswer x pieces′) (l .declined z f .0)) r;
+      declined = λ z f. refusing z (l .declined z f .0) r;
       prints = λ held book.
           subst (λ (m : ℕ). Prints (answered 76 (pos 0) (step (plainOf capacity held) (listing m) .answer)) before after n) e
           (plainly (listing (length pieces)) held book e (l .answers capacity held book) r);
@@ -103,7 +103,7 @@ module _ {line : List ℕ} {t : List ℤ} {out out′ : List ℕ} {n : ℕ} (lon
       by-command (Post number rate base) p (r .within) (u .outside)
       (record {
         asks = λ no. absurd no;
-        declined = λ z f. let d = u .declined z f in (d .1, refusing z (ap updateAnswer (d .0)) r);
+        declined = λ z f. let d = u .declined z f in (d .1, refusing z (d .0) r);
         refusal = left u;
         follows = λ held book. updated (post number rate base) held book tt u r;
       })
@@ -114,7 +114,7 @@ module _ {line : List ℕ} {t : List ℤ} {out out′ : List ℕ} {n : ℕ} (lon
       by-command (Withdraw number) p (r .within) (u .outside)
       (record {
         asks = λ no. absurd no;
-        declined = λ z f. let d = u .declined z f in (d .1, refusing z (ap updateAnswer (d .0)) r);
+        declined = λ z f. let d = u .declined z f in (d .1, refusing z (d .0) r);
         refusal = left u;
         follows = λ held book. updated (withdraw number) held book tt u r;
       })
@@ -135,7 +135,7 @@ module _ {line : List ℕ} {t : List ℤ} {out out′ : List ℕ} {n : ℕ} (lon
 
   pub asked : (load : ℤ) {f : Found} → Parsed line (Query load) → Queries load 0 t f → Replies 81 (pos 0) (foundAnswer f) out out′ n → Counts line t t out out′ n
   asked load p f r =
-      asking (Query load) p (r .within) (λ z d. refusing z (ap foundAnswer (f .declined z d)) r) (λ s. asked-state s load)
+      asking (Query load) p (r .within) (λ z d. refusing z (f .declined z d) r) (λ s. asked-state s load)
       (λ held book. plainly (query load) held book tt (f .answers capacity held book) r)
 
   pub listed-all : Parsed line Listing → ListsLines t out out′ n → Counts line t t out out′ n
