@@ -34,8 +34,8 @@ use Rattle.book.specs.Parts.{whole-part, denied, no-form, no-book-cause}
 use Rattle.book.specs.Opens.{not-clear}
 use Rattle.book.specs.Rooted.{Root, bare, topped, Top, root-of}
 use Rattle.reading.specs.declared.Handed.{Handed}
-use Rattle.reading.specs.declared.Handed.the-variants.{Piece, End, Declined}
-use Rattle.reading.specs.Promises.{told, refused, pieceOf, listedAt, rootPieces, PlaceOf, at-piece, past-last, Before, Starts, Moves, Hands}
+use Rattle.reading.specs.declared.Handed.the-variants.{Piece, Declined}
+use Rattle.reading.specs.Promises.{ended, refused, told, pieceOf, listedAt, rootPieces, PlaceOf, at-piece, past-last, Before, Starts, Moves, Hands}
 
 pub record PartMoves (w : Words) (place r : ℕ) : Type 0 where
   pub on : (n : ℕ) → Before w n place → Before w (n + 1) r
@@ -138,8 +138,8 @@ listed-is {w} {c} {held} b = go held b (root-of {root = upTo 8192 (word w 2)} b 
 no-words : (es : List Offer) (n : ℕ) → length es ≤ n → take 3 (drop (3 * n) (pieceWords es)) ≡ []
 no-words es n h = ap (take 3) (drop-of-length-le (pieceWords es) {i = 3 * n} (omega (arith, words-length es)))
 
-pub hands-end : {w : Words} {p : ℕ} → p < 1 → PartHands w p End
-hands-end {w} {p} h = record { answers = λ n k c held b. ap pieceOf (sym (no-words (envelope (plainOffers held)) n (omega (arith, ap length (listed-is b), length-map (rootPieces held) offerOf, none-past {w = w} {root = upTo 8192 (word w 2)} refl b h k)))) }
+pub hands-end : {w : Words} {p : ℕ} {r : Handed} → told r ≡ ended → p < 1 → PartHands w p r
+hands-end {w} {p} e h = record { answers = λ n k c held b. e ∙ ap pieceOf (sym (no-words (envelope (plainOffers held)) n (omega (arith, ap length (listed-is b), length-map (rootPieces held) offerOf, none-past {w = w} {root = upTo 8192 (word w 2)} refl b h k)))) }
 
 -- at a piece
 module _ {w : Words} {root z p : ℕ} {last : Bool} {number u v : ℤ} (er : root ≡ upTo 8192 (word w 2)) (end : Ended w 0 true root z) (low : 1 ≤ p)

@@ -24,11 +24,11 @@ use Rattle.replay.specs.declared.Replayed.the-variants.{Ran, Stopped, De
 use Rattle.replay.specs.Encoding.{runnable, Spares}
 use Rattle.replay.specs.Laws.{run-reach}
 use Rattle.replay.specs.Right.{told-right, spares-right}
-use Rattle.replay.specs.Promises.{runCount, Resumes, Begun, Replays}
+use Rattle.replay.specs.Promises.{unopened, runAnswer, runCount, Resumes, Begun, Replays}
 use Rattle.replay.specs.Running.{Ended, only-then}
 
 module _ {start : ℕ} {t t′ calls out out′ : List ℤ} {n : ℕ} (e : Ended start t t′ calls out out′ n) where
-  resumes : {r : Replayed} → r ≡ runCount calls n → Resumes start t t′ calls out out′ r
+  resumes : {r : Replayed} → runAnswer r ≡ runCount calls n → Resumes start t t′ calls out out′ r
   resumes q =
       record {
         count = q ∙ ap (runCount calls) (e .count);
@@ -62,7 +62,7 @@ module _ {c : ℤ} {start : ℕ} {t t₀ : List ℤ} {o : Opening} (p : Opens c 
   pub replays-none : {z : ℤ} (calls out : List ℤ) → o ≡ OpeningDeclined z → Replays c start t t₀ calls out out (Declined z)
   replays-none {z} calls out e = record { declined = λ k f. (number k f, p .declined k f .1, refl); accepted = λ clear. absurd (not-open clear) }
     where
-      number : (k : Cause) → FirstOf (openTrials (length t) start c) k → Declined z ≡ Declined (pos (causeNumber k))
+      number : (k : Cause) → FirstOf (openTrials (length t) start c) k → unopened z ≡ unopened (pos (causeNumber k))
       number k f = let q = p .declined k f .0 in cc
 
       not-open : Clear (openTrials (length t) start c) → ⊥
