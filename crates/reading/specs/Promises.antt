@@ -48,7 +48,7 @@ abbrev pub listedAt : List Offer → ℕ → Told
 listedAt os n = pieceOf (take 3 (drop (3 * n) (pieceWords (envelope os))))
 
 -- from the last piece on it is the end, for ever
-pub listed-end : (os : List Offer) (n : ℕ) → length (envelope os) ≤ n → listedAt os n ≡ told End
+pub listed-end : (os : List Offer) (n : ℕ) → length (envelope os) ≤ n → listedAt os n ≡ ended
 listed-end os n h = ap (λ (ws : List ℤ). pieceOf (take 3 ws)) (drop-of-length-le (pieceWords (envelope os)) {i = 3 * n} (omega (arith, words-length (envelope os))))
 
 -- before it the pieces' numbers, each with its crossing with the next; the last carries 0 and 0
@@ -70,10 +70,10 @@ last-at (o ∷ p ∷ es) zero d h = absurd (omega arith)
 last-at (o ∷ p ∷ es) (suc n) d h = ap (take 3) (threes n _ _ _ (pieceWords (p ∷ es))) ∙ last-at (p ∷ es) n d (omega arith)
 
 pub listed-inner : (os : List Offer) (n : ℕ) (d : Offer) → suc n < length (envelope os)
-    → listedAt os n ≡ told (Piece (getD (envelope os) n d .number) (crossingNumerator (getD (envelope os) n d) (getD (envelope os) (suc n) d)) (crossingDenominator (getD (envelope os) n d) (getD (envelope os) (suc n) d)))
+    → listedAt os n ≡ piece (getD (envelope os) n d .number) (crossingNumerator (getD (envelope os) n d) (getD (envelope os) (suc n) d)) (crossingDenominator (getD (envelope os) n d) (getD (envelope os) (suc n) d))
 listed-inner os n d h = ap pieceOf (inner-at (envelope os) n d h)
 
-pub listed-last : (os : List Offer) (n : ℕ) (d : Offer) → suc n ≡ length (envelope os) → listedAt os n ≡ told (Piece (getD (envelope os) n d .number) (pos 0) (pos 0))
+pub listed-last : (os : List Offer) (n : ℕ) (d : Offer) → suc n ≡ length (envelope os) → listedAt os n ≡ piece (getD (envelope os) n d .number) (pos 0) (pos 0)
 listed-last os n d h = ap pieceOf (last-at (envelope os) n d h)
 
 -- ---- places
