@@ -15,7 +15,7 @@ use Rattle.plain.specs.Sound.{Clear}
 use Rattle.dynamic.specs.OfferTree.{Held}
 use Rattle.table.specs.Items.{Item}
 use Rattle.update.specs.Form.{Book}
-use Rattle.book.specs.declared.Opening.the-variants.{Opened}
+use Rattle.book.specs.declared.Opening.{Opening}
 use Rattle.book.specs.Promises.{partOf, capacityAt, plainOf, OnlyPart, Opens}
 use Rattle.history.specs.History.{History}
 use Rattle.history.specs.Claim.{Claim}
@@ -60,10 +60,11 @@ pub record Resumes (start : ℕ) (t t′ calls out out′ : List ℤ) (r : Repla
   pub right : (c : ℕ) (held : Option (Held Item)) → Book (partOf t start) c held → told (runnable calls (length out)) out′ ≡ answers (plainOf c held) (runnable calls (length out))
   pub spares : (c : ℕ) (held : Option (Held Item)) → Book (partOf t start) c held → Spares (runnable calls (length out)) (answers (plainOf c held) (runnable calls (length out))) out out′
 
--- After an accepted opening, with the words `t₀` that it left.
+-- After an accepted opening, with its answer and the words `t₀` that it left.
 pub record Begun (c : ℤ) (start : ℕ) (t t′ calls out out′ : List ℤ) (r : Replayed) : Type 0 where
   pub t₀ : List ℤ
-  pub opens : Opens c start t t₀ Opened
+  pub opening : Opening
+  pub opens : Opens c start t t₀ opening
   pub resumes : Resumes start t₀ t′ calls out out′ r
   pub claim : Claim (opened c) none (resumes .made (natAbs c) .history)
   pub right : told (runnable calls (length out)) out′ ≡ answers (opened c) (runnable calls (length out))

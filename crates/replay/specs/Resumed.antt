@@ -78,7 +78,8 @@ module _ {c : ℤ} {start : ℕ} {t t₀ : List ℤ} {o : Opening} (p : Opens c 
       goes b clear =
           record {
             t₀ = t₀;
-            opens = subst (λ (x : Opening). Opens c start t t₀ x) e p;
+            opening = o;
+            opens = p;
             resumes = s;
             claim = s .claim (natAbs c) none b;
             right = s .right (natAbs c) none b;
