@@ -8,7 +8,7 @@
  *
  * Every array is passed as a pointer to its first word and its length in words, so that no call can step outside it. The pointer is
  * not null, also where the length is 0. The arrays of one call do not overlap. A book occupies CARRIER_WORDS(capacity) words of its
- * table, from `start` on; no call reads or writes a word outside that part, and nothing else may write inside it. There is no
+ * table, from `start` on; no call writes a word outside that part, and nothing else may write inside it. There is no
  * other state: a book may be copied, moved or stored as words, and calls on different tables may run at the same time.
  *
  * A call that is declined returns one of the numbers below 0 and leaves every word of every array as it was. Causes are tried in the

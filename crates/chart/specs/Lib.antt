@@ -1,5 +1,5 @@
 -- Chart marks of a book.
 pub mod Promises
+pub mod Rounded
 pub mod Walks
 pub mod Marking
-pub mod Rounded

@@ -44,6 +44,7 @@ use Rattle.book.specs.Parts.{whole-part, denied, no-form, no-book-cause}
 use Rattle.book.specs.Opens.{not-clear}
 use Rattle.book.specs.Rooted.{Root, bare, topped, Top, root-of}
 use Rattle.chart.specs.Promises.{marksBehind, marks, refusal, markTrials, markOf, plainMark, Marks}
+use Rattle.chart.specs.Rounded.{part-rounded}
 use Rattle.chart.specs.Walks.{SlotOf}
 
 pub record PartMark (w : Words) (index : ℤ) (r : Mark) : Type 0 where
@@ -260,13 +261,23 @@ index-there (negsuc n) a b h e = absurd (omega (arith, intRules))
 
 -- ---- on a table
 
+abbrev refused : ℕ → Told
+refused n = record { number = pos n; values = [] }
+
 module _ (start : ℕ) (t : List ℤ) (index : ℤ) {no : Bool} (e : no ≡ noBookAt (length t) start (word (partOf t start) 0)) where
   pub mark-no-book : no ≡ true → Marks start t index (Declined (pos 3))
-  mark-no-book d = record { declined = λ z g. ap (λ (n : ℕ). Declined (pos n)) (sym (no-book-cause t start g)); answers = λ c held b. absurd (no-form t start e d b) }
+  mark-no-book d =
+      record {
+        declined = λ z g. ap refused (sym (no-book-cause t start g));
+        answers = λ c held b. absurd (no-form t start e d b);
+        rounded = λ c held b. absurd (no-form t start e d b);
+      }
 
   pub mark-there : {r : Mark} → no ≡ false → PartMark (take (length t - start) (drop start t)) index r → Marks start t index r
   mark-there {r} d k =
+      let here : PartMark (partOf t start) index r = subst (λ (w : Words). PartMark w index r) (whole-part t start) k in
       record {
         declined = λ z f. absurd (not-clear f (denied e d, tt));
-        answers = subst (λ (w : Words). PartMark w index r) (whole-part t start) k .answers;
+        answers = here .answers;
+        rounded = λ c held b. part-rounded b index (here .answers c held b);
       }

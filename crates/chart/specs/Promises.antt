@@ -5,16 +5,16 @@ use mathlib.Core.List.{List, [], _∷_}
 use mathlib.Core.Option.{Option, none, some}
 use mathlib.Core.Bool.{not}
 use lib.ListN.{length, getD}
-use lib.Dec.{leb}
+use lib.Dec.{T, leb}
 use lib.IntN.{ℤ, pos, natAbs}
 use Rattle.offers.specs.Offers.{Offer, between, crossingNumerator, crossingDenominator}
 use Rattle.plain.specs.Causes.{Cause, bookEmpty, noSuchMark, Trial, _when_, declined, causeNumber}
 use Rattle.plain.specs.Book.{envelope}
 use Rattle.plain.specs.Rules.{FirstOf}
+use Rattle.marks.specs.Quotient.{double, quotient, divisible, Is, Quotient}
 use Rattle.marks.specs.Told.{Told, told, openEnd, crossing}
 use Rattle.marks.specs.Crossings.{scaledPrice}
 use Rattle.marks.specs.declared.Mark.{Mark}
-use Rattle.marks.specs.declared.Mark.the-variants.{Declined}
 use Rattle.dynamic.specs.OfferTree.{Held}
 use Rattle.table.specs.Items.{Item}
 use Rattle.update.specs.Form.{Book, plainOffers}
@@ -57,8 +57,17 @@ markOf os index (some c) = refusal c
 abbrev pub plainMark : List Offer → ℤ → Told
 plainMark os index = markOf os index (declined (markTrials os index))
 
+-- ---- how exact it is
+
+-- What a mark tells is a refusal, a rate that is exact as a double, or two quotients of numbers that are, each rounded once: at most half a unit off.
+pub data Rounded : Told → Type 0 where
+  no-mark : (c : Cause) → Rounded (refusal c)
+  at-end : (rate : ℤ) → Is (double rate) rate (pos 0) → Rounded (openEnd rate)
+  at-crossing : (n d p : ℤ) → T (divisible n d) → Quotient n d (quotient n d) → T (divisible p d) → Quotient p d (quotient p d) → Rounded (crossing n d p)
+
 -- ---- on a lent table
 
 pub record Marks (start : ℕ) (t : List ℤ) (index : ℤ) (r : Mark) : Type 0 where
-  pub declined : (z : Cause) → FirstOf (noBookTrial t start ∷ []) z → r ≡ Declined (pos (causeNumber z))
+  pub declined : (z : Cause) → FirstOf (noBookTrial t start ∷ []) z → told r ≡ refusal z
   pub answers : (c : ℕ) (held : Option (Held Item)) → Book (partOf t start) c held → told r ≡ plainMark (plainOffers held) index
+  pub rounded : (c : ℕ) (held : Option (Held Item)) → Book (partOf t start) c held → Rounded (told r)

@@ -1,5 +1,5 @@
--- The numbers of a book's mark are exact as doubles (document 01): so its rate is exact, and each of a crossing's quotients is at most half a unit off.
-use mathlib.Core.Path.{refl, sym, subst}
+-- The numbers of a sound book's marks are exact as doubles.
+use mathlib.Core.Path.{_≡_, refl, sym, subst}
 use mathlib.Core.List.{List, [], _∷_, List·Memᴰ, List·Memᴰ·head, List·Memᴰ·tail, List·Memᴰ·eq-of-singleton, Pairwise, Pairwise·of-cons, Pairwise·sublistᴰ, rel-of-pairwise-cons}
 use mathlib.Core.Option.{Option, none, some}
 use Prim.Native.Nat.{ℕ, zero, suc}
@@ -15,23 +15,16 @@ use Rattle.offers.specs.Sizes.{rate-of, rate-size}
 use Rattle.plain.specs.Causes.{Cause, noSuchMark, declined}
 use Rattle.plain.specs.Book.{State, envelope}
 use Rattle.plain.specs.Sound.{Sound}
-use Rattle.marks.specs.Quotient.{double, quotient, divisible, Is, Quotient}
 use Rattle.marks.specs.QuotientLaws.{doubled, quotient-is}
-use Rattle.marks.specs.Told.{Told, told, openEnd, crossing}
+use Rattle.marks.specs.Told.{Told, openEnd, crossing}
 use Rattle.marks.specs.Crossings.{scaledPrice, load-divisible, price-divisible}
-use Rattle.marks.specs.declared.Mark.{Mark}
 use Rattle.dynamic.specs.OfferTree.{Held}
+use Rattle.table.specs.Words.{Words}
 use Rattle.table.specs.Items.{Item}
-use Rattle.update.specs.Form.{Book}
+use Rattle.update.specs.Form.{Book, plainOffers}
 use Rattle.book.specs.Live.{book-sound}
-use Rattle.book.specs.Promises.{partOf, plainOf}
-use Rattle.chart.specs.Promises.{marksBehind, marks, refusal, markTrials, markOf, plainMark, Marks}
-
--- what a mark tells is a refusal, an exact rate, or two quotients of exact numbers, each rounded once
-pub data Rounded : Told → Type 0 where
-  no-mark : (c : Cause) → Rounded (refusal c)
-  at-end : (rate : ℤ) → Is (double rate) rate (pos 0) → Rounded (openEnd rate)
-  between : (n d p : ℤ) → T (divisible n d) → Quotient n d (quotient n d) → T (divisible p d) → Quotient p d (quotient p d) → Rounded (crossing n d p)
+use Rattle.book.specs.Promises.{plainOf}
+use Rattle.chart.specs.Promises.{marksBehind, marks, refusal, markTrials, markOf, plainMark, Rounded, no-mark, at-end, at-crossing}
 
 -- ---- the marks of a listing
 
@@ -40,7 +33,7 @@ rounded-end o h = at-end (o .rate) (doubled (o .rate) .exactly (natAbs-within 9_
 
 rounded-between : (a b : Offer) → T (offerInRange a) → T (offerInRange b) → T (precedes a b) → Rounded (crossing (crossingNumerator a b) (crossingDenominator a b) (scaledPrice a b))
 rounded-between a b h k p =
-    between (crossingNumerator a b) (crossingDenominator a b) (scaledPrice a b) (load-divisible a b h k p) (quotient-is (crossingNumerator a b) (crossingDenominator a b)) (price-divisible a b h k p) (quotient-is (scaledPrice a b) (crossingDenominator a b))
+    at-crossing (crossingNumerator a b) (crossingDenominator a b) (scaledPrice a b) (load-divisible a b h k p) (quotient-is (crossingNumerator a b) (crossingDenominator a b)) (price-divisible a b h k p) (quotient-is (scaledPrice a b) (crossingDenominator a b))
 
 Ranged : List Offer → Type 0
 Ranged es = (o : Offer) → List·Memᴰ o es → T (offerInRange o)
@@ -66,7 +59,7 @@ at-place [] i d h k = k
 at-place (m ∷ ms) zero d h k = h m (List·Memᴰ·head refl)
 at-place (m ∷ ms) (suc i) d h k = at-place ms i d (λ x j. h x (List·Memᴰ·tail j)) k
 
--- ---- the plain book's answer, and the call's
+-- ---- the plain book's answer
 
 pub plain-rounded : (s : State) (index : ℤ) → Sound s → Rounded (plainMark (s .offers) index)
 unfolding Ranged Falling
@@ -79,5 +72,5 @@ plain-rounded s index h = go (declined (markTrials (s .offers) index))
         (λ m i. marks-rounded (envelope (s .offers)) (λ o j. h .ranged o (sublist-mem (keep-sublist _ (s .offers)) j)) (Pairwise·sublistᴰ (keep-sublist _ (s .offers)) (h .ordered)) i)
         (no-mark noSuchMark)
 
-pub mark-rounded : {start : ℕ} {t : List ℤ} {index : ℤ} {r : Mark} → Marks start t index r → (c : ℕ) (held : Option (Held Item)) → Book (partOf t start) c held → Rounded (told r)
-mark-rounded {index} m c held b = subst Rounded (sym (m .answers c held b)) (plain-rounded (plainOf c held) index (book-sound b))
+pub part-rounded : {w : Words} {c : ℕ} {held : Option (Held Item)} → Book w c held → (index : ℤ) → {m : Told} → m ≡ plainMark (plainOffers held) index → Rounded m
+part-rounded {c} {held} b index e = subst Rounded (sym e) (plain-rounded (plainOf c held) index (book-sound b))

@@ -11,7 +11,8 @@ use lib.ListN.{length, take, drop, length-map, length-append, drop-of-length-le}
 use lib.IntN.{ℤ, pos}
 use Rattle.offers.specs.Offers.{Offer, crossingNumerator}
 use Rattle.plain.specs.Book.{envelope, pieceWords, noBookAt}
-use Rattle.plain.specs.Rules.{words-length}
+use Rattle.plain.specs.Causes.{Cause}
+use Rattle.plain.specs.Rules.{FirstOf, words-length}
 use Rattle.trees.specs.Tree.{Tree, leaves, first, last}
 use Rattle.trees.specs.Leaves.{rest, leaves-first}
 use Rattle.trees.specs.Operations.{Part, partLeaves}
@@ -28,13 +29,13 @@ use Rattle.query.specs.Plain.{offerOf, pieces-plain}
 use Rattle.query.specs.Listing.{crossingWord}
 use Rattle.query.specs.Counting.{Passed, all-passed, not-all, go-on}
 use Rattle.book.specs.Live.{live-whole, whole-ordered}
-use Rattle.book.specs.Promises.{partOf}
+use Rattle.book.specs.Promises.{partOf, noBookTrial}
 use Rattle.book.specs.Parts.{whole-part, denied, no-form, no-book-cause}
 use Rattle.book.specs.Opens.{not-clear}
 use Rattle.book.specs.Rooted.{Root, bare, topped, Top, root-of}
 use Rattle.reading.specs.declared.Handed.{Handed}
-use Rattle.reading.specs.declared.Handed.the-variants.{Piece, End, Declined}
-use Rattle.reading.specs.Promises.{Told, told, listedAt, rootPieces, PlaceOf, at-piece, past-last, Before, Moves, Hands}
+use Rattle.reading.specs.declared.Handed.the-variants.{Piece, Declined}
+use Rattle.reading.specs.Promises.{ended, refused, told, pieceOf, listedAt, rootPieces, PlaceOf, at-piece, past-last, Before, Starts, Moves, Hands}
 
 pub record PartMoves (w : Words) (place r : ℕ) : Type 0 where
   pub on : (n : ℕ) → Before w n place → Before w (n + 1) r
@@ -123,9 +124,6 @@ stays-past {w} {n} {p} m l h k = record { stands = λ c held b. past-last (omega
 
 -- ---- handing out
 
-abbrev handing : List ℤ → Told
-handing ws = record { number = pos 0; words = ws }
-
 -- the plain listing is of those pieces
 listed-is : {w : Words} {c : ℕ} {held : Option (Held Item)} → Book w c held → envelope (plainOffers held) ≡ map offerOf (rootPieces held)
 listed-is {w} {c} {held} b = go held b (root-of {root = upTo 8192 (word w 2)} b refl)
@@ -140,8 +138,8 @@ listed-is {w} {c} {held} b = go held b (root-of {root = upTo 8192 (word w 2)} b 
 no-words : (es : List Offer) (n : ℕ) → length es ≤ n → take 3 (drop (3 * n) (pieceWords es)) ≡ []
 no-words es n h = ap (take 3) (drop-of-length-le (pieceWords es) {i = 3 * n} (omega (arith, words-length es)))
 
-pub hands-end : {w : Words} {p : ℕ} → p < 1 → PartHands w p End
-hands-end {w} {p} h = record { answers = λ n k c held b. ap handing (sym (no-words (envelope (plainOffers held)) n (omega (arith, ap length (listed-is b), length-map (rootPieces held) offerOf, none-past {w = w} {root = upTo 8192 (word w 2)} refl b h k)))) }
+pub hands-end : {w : Words} {p : ℕ} {r : Handed} → told r ≡ ended → p < 1 → PartHands w p r
+hands-end {w} {p} e h = record { answers = λ n k c held b. e ∙ ap pieceOf (sym (no-words (envelope (plainOffers held)) n (omega (arith, ap length (listed-is b), length-map (rootPieces held) offerOf, none-past {w = w} {root = upTo 8192 (word w 2)} refl b h k)))) }
 
 -- at a piece
 module _ {w : Words} {root z p : ℕ} {last : Bool} {number u v : ℤ} (er : root ≡ upTo 8192 (word w 2)) (end : Ended w 0 true root z) (low : 1 ≤ p)
@@ -167,7 +165,7 @@ module _ {w : Words} {root z p : ℕ} {last : Bool} {number u v : ℤ} (er : roo
     here-words = three last (k .ahead) refl (k .split) ∙ ap (take 3) (sym (words-at n k (k .ahead) (k .split)))
 
   pub hands-piece : PartHands w p (Piece number u v)
-  hands-piece = record { answers = λ n k c held b. ap handing (words n (by-root er (λ xs. PlaceOf xs n p → number ∷ u ∷ v ∷ [] ≡ take 3 (drop (3 * n) (pieceWords (map offerOf xs)))) b (λ y q. nowhere n q) (over n) (k .stands c held b)) (listed-is b)) }
+  hands-piece = record { answers = λ n k c held b. ap pieceOf (words n (by-root er (λ xs. PlaceOf xs n p → number ∷ u ∷ v ∷ [] ≡ take 3 (drop (3 * n) (pieceWords (map offerOf xs)))) b (λ y q. nowhere n q) (over n) (k .stands c held b)) (listed-is b)) }
     where
       words : (n : ℕ) {os es : List Offer} → number ∷ u ∷ v ∷ [] ≡ take 3 (drop (3 * n) (pieceWords es)) → os ≡ es → number ∷ u ∷ v ∷ [] ≡ take 3 (drop (3 * n) (pieceWords os))
       words n e d = e ∙ ap (λ (l : List Offer). take 3 (drop (3 * n) (pieceWords l))) (sym d)
@@ -184,27 +182,28 @@ module _ {w : Words} {root z p : ℕ} {last : Bool} {number u v : ℤ} (er : roo
 
 module _ (start : ℕ) (t : List ℤ) {no : Bool} (e : no ≡ noBookAt (length t) start (word (partOf t start) 0)) where
   module _ (d : no ≡ true) where
-    pub first-no-book : (p : ℕ) → Before (partOf t start) 0 p
-    first-no-book p = record { stands = λ c held b. absurd (no-form t start e d b) }
+    pub first-no-book : Starts start t 0
+    first-no-book = record { nowhere = λ z g. refl; before = record { stands = λ c held b. absurd (no-form t start e d b) } }
 
-    pub after-no-book : (p r : ℕ) → Moves start t p r
-    after-no-book p r = record { on = λ n k. record { stands = λ c held b. absurd (no-form t start e d b) } }
+    pub after-no-book : (p : ℕ) → Moves start t p 0
+    after-no-book p = record { nowhere = λ z g. refl; on = λ n k. record { stands = λ c held b. absurd (no-form t start e d b) } }
 
     pub hands-no-book : (p : ℕ) → Hands start t p (Declined (pos 3))
-    hands-no-book p = record { declined = λ z g. ap (λ (n : ℕ). Declined (pos n)) (sym (no-book-cause t start g)); answers = λ n k c held b. absurd (no-form t start e d b) }
+    hands-no-book p = record { declined = λ z g. ap (λ (n : ℕ). refused (pos n)) (sym (no-book-cause t start g)); answers = λ n k c held b. absurd (no-form t start e d b) }
 
-  pub hands-there : {p : ℕ} {r : Handed} → no ≡ false → PartHands (take (length t - start) (drop start t)) p r → Hands start t p r
-  hands-there {p} {r} d k =
-      record {
-        declined = λ z f. absurd (not-clear f (denied e d, tt));
-        answers = subst (λ (w : Words). PartHands w p r) (whole-part t start) k .answers;
-      }
+  module _ (d : no ≡ false) where
+    -- there is a book
+    not-nowhere : (z : Cause) → FirstOf (noBookTrial t start ∷ []) z → ⊥
+    not-nowhere z f = not-clear f (denied e d, tt)
 
-pub first-there : (start : ℕ) (t : List ℤ) {p : ℕ} → Before (take (length t - start) (drop start t)) 0 p → Before (partOf t start) 0 p
-first-there start t {p} k = subst (λ (w : Words). Before w 0 p) (whole-part t start) k
+    pub hands-there : {p : ℕ} {r : Handed} → PartHands (take (length t - start) (drop start t)) p r → Hands start t p r
+    hands-there {p} {r} k = record { declined = λ z f. absurd (not-nowhere z f); answers = subst (λ (w : Words). PartHands w p r) (whole-part t start) k .answers }
 
-pub after-there : (start : ℕ) (t : List ℤ) {p r : ℕ} → PartMoves (take (length t - start) (drop start t)) p r → Moves start t p r
-after-there start t {p} {r} k = record { on = subst (λ (w : Words). PartMoves w p r) (whole-part t start) k .on }
+    pub first-there : {p : ℕ} → Before (take (length t - start) (drop start t)) 0 p → Starts start t p
+    first-there {p} k = record { nowhere = λ z f. absurd (not-nowhere z f); before = subst (λ (w : Words). Before w 0 p) (whole-part t start) k }
+
+    pub after-there : {p r : ℕ} → PartMoves (take (length t - start) (drop start t)) p r → Moves start t p r
+    after-there {p} {r} k = record { nowhere = λ z f. absurd (not-nowhere z f); on = subst (λ (w : Words). PartMoves w p r) (whole-part t start) k .on }
 
 -- ---- on the way to place n
 

@@ -22,23 +22,34 @@ use Rattle.reading.specs.declared.Handed.the-variants.{Piece, End, Decli
 
 -- ---- answers in document 01's numbers and words
 
--- the number of the cause for declining, 0 where there is none, and the words handed out
-pub record Told : Type 0 where
-  pub number : ℤ
-  pub words : List ℤ
+-- a piece's three words, the end, or the number of the cause for declining
+pub data Told : Type 0 where
+  piece : (number numerator denominator : ℤ) → Told
+  ended : Told
+  refused : ℤ → Told
 
 abbrev pub told : Handed → Told
-told (Piece number numerator denominator) = record { number = pos 0; words = number ∷ numerator ∷ denominator ∷ [] }
-told End = record { number = pos 0; words = [] }
-told (Declined k) = record { number = k; words = [] }
+told (Piece number numerator denominator) = piece number numerator denominator
+told End = ended
+told (Declined k) = refused k
+
+abbrev pub refusal : Cause → Told
+refusal c = refused (pos (causeNumber c))
+
+-- three words are a piece, and none the end
+abbrev pub pieceOf : List ℤ → Told
+pieceOf [] = ended
+pieceOf (number ∷ []) = ended
+pieceOf (number ∷ numerator ∷ []) = ended
+pieceOf (number ∷ numerator ∷ denominator ∷ ws) = piece number numerator denominator
 
 -- The n-th three words of the listing, counted from 0; past the last piece there are none, which is the end.
 abbrev pub listedAt : List Offer → ℕ → Told
-listedAt os n = record { number = pos 0; words = take 3 (drop (3 * n) (pieceWords (envelope os))) }
+listedAt os n = pieceOf (take 3 (drop (3 * n) (pieceWords (envelope os))))
 
 -- from the last piece on it is the end, for ever
-pub listed-end : (os : List Offer) (n : ℕ) → length (envelope os) ≤ n → listedAt os n ≡ told End
-listed-end os n h = ap (λ (ws : List ℤ). record { number = pos 0; words = take 3 ws }) (drop-of-length-le (pieceWords (envelope os)) {i = 3 * n} (omega (arith, words-length (envelope os))))
+pub listed-end : (os : List Offer) (n : ℕ) → length (envelope os) ≤ n → listedAt os n ≡ ended
+listed-end os n h = ap (λ (ws : List ℤ). pieceOf (take 3 ws)) (drop-of-length-le (pieceWords (envelope os)) {i = 3 * n} (omega (arith, words-length (envelope os))))
 
 -- before it the pieces' numbers, each with its crossing with the next; the last carries 0 and 0
 threes : (n : ℕ) (a b c : ℤ) (ws : List ℤ) → drop (3 * suc n) (a ∷ b ∷ c ∷ ws) ≡ drop (3 * n) ws
@@ -58,15 +69,12 @@ last-at (o ∷ []) (suc n) d h = absurd (omega arith)
 last-at (o ∷ p ∷ es) zero d h = absurd (omega arith)
 last-at (o ∷ p ∷ es) (suc n) d h = ap (take 3) (threes n _ _ _ (pieceWords (p ∷ es))) ∙ last-at (p ∷ es) n d (omega arith)
 
-abbrev handing : List ℤ → Told
-handing ws = record { number = pos 0; words = ws }
-
 pub listed-inner : (os : List Offer) (n : ℕ) (d : Offer) → suc n < length (envelope os)
-    → listedAt os n ≡ told (Piece (getD (envelope os) n d .number) (crossingNumerator (getD (envelope os) n d) (getD (envelope os) (suc n) d)) (crossingDenominator (getD (envelope os) n d) (getD (envelope os) (suc n) d)))
-listed-inner os n d h = ap handing (inner-at (envelope os) n d h)
+    → listedAt os n ≡ piece (getD (envelope os) n d .number) (crossingNumerator (getD (envelope os) n d) (getD (envelope os) (suc n) d)) (crossingDenominator (getD (envelope os) n d) (getD (envelope os) (suc n) d))
+listed-inner os n d h = ap pieceOf (inner-at (envelope os) n d h)
 
-pub listed-last : (os : List Offer) (n : ℕ) (d : Offer) → suc n ≡ length (envelope os) → listedAt os n ≡ told (Piece (getD (envelope os) n d .number) (pos 0) (pos 0))
-listed-last os n d h = ap handing (last-at (envelope os) n d h)
+pub listed-last : (os : List Offer) (n : ℕ) (d : Offer) → suc n ≡ length (envelope os) → listedAt os n ≡ piece (getD (envelope os) n d .number) (pos 0) (pos 0)
+listed-last os n d h = ap pieceOf (last-at (envelope os) n d h)
 
 -- ---- places
 
@@ -86,11 +94,21 @@ pub record Before (w : Words) (n p : ℕ) : Type 0 where
 
 -- ---- the promises
 
+-- where there is no book the place is 0
+abbrev pub Nowhere : ℕ → List ℤ → ℕ → Type 0
+Nowhere start t p = (z : Cause) → FirstOf (noBookTrial t start ∷ []) z → p ≡ 0
+
+-- where a reading begins
+pub record Starts (start : ℕ) (t : List ℤ) (r : ℕ) : Type 0 where
+  pub nowhere : Nowhere start t r
+  pub before : Before (partOf t start) 0 r
+
 -- one step on
 pub record Moves (start : ℕ) (t : List ℤ) (place r : ℕ) : Type 0 where
+  pub nowhere : Nowhere start t r
   pub on : (n : ℕ) → Before (partOf t start) n place → Before (partOf t start) (n + 1) r
 
 -- what is handed out at a place
 pub record Hands (start : ℕ) (t : List ℤ) (place : ℕ) (r : Handed) : Type 0 where
-  pub declined : (z : Cause) → FirstOf (noBookTrial t start ∷ []) z → r ≡ Declined (pos (causeNumber z))
+  pub declined : (z : Cause) → FirstOf (noBookTrial t start ∷ []) z → told r ≡ refusal z
   pub answers : (n : ℕ) → Before (partOf t start) n place → (c : ℕ) (held : Option (Held Item)) → Book (partOf t start) c held → told r ≡ listedAt (plainOffers held) n

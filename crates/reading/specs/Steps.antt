@@ -4,9 +4,9 @@ use native.Mathlib.Numerals.{add-one}
 use mathlib.Core.Path.{_≡_, _∙_, subst}
 use mathlib.Core.List.{List, [], _∷_}
 use mathlib.Core.Option.{Option}
-use lib.IntN.{ℤ, pos}
+use lib.IntN.{ℤ}
 use denote.Ref.{RefT, now}
-use Rattle.plain.specs.Causes.{Cause, causeNumber}
+use Rattle.plain.specs.Causes.{Cause}
 use Rattle.plain.specs.Rules.{FirstOf}
 use Rattle.dynamic.specs.OfferTree.{Held}
 use Rattle.table.specs.Items.{Item}
@@ -14,14 +14,13 @@ use Rattle.update.specs.Form.{Book, plainOffers}
 use Rattle.book.specs.Promises.{partOf, noBookTrial}
 use Rattle.reading.specs.declared.Reading.{Reading}
 use Rattle.reading.specs.declared.Handed.{Handed}
-use Rattle.reading.specs.declared.Handed.the-variants.{Declined}
-use Rattle.reading.specs.Promises.{told, listedAt, Before, Moves, Hands}
+use Rattle.reading.specs.Promises.{told, refusal, listedAt, Before, Nowhere, Starts, Moves, Hands}
 
 -- a reading of that table and `start`, before the first piece
 pub record Begins (table : RefT (List ℤ)) (start : ℕ) (r : Reading) : Type 0 where
   pub same-table : r .table ≡ table
   pub same-start : r .start ≡ start
-  pub before : Before (partOf (now table) start) 0 (r .place)
+  pub place : Starts start (now table) (r .place)
 
 -- the same reading, one step on
 pub record Advances (r q : Reading) : Type 0 where
@@ -31,7 +30,7 @@ pub record Advances (r q : Reading) : Type 0 where
 
 -- what is handed out after n steps
 pub record HandsAt (start : ℕ) (t : List ℤ) (n : ℕ) (s : Handed) : Type 0 where
-  pub declined : (z : Cause) → FirstOf (noBookTrial t start ∷ []) z → s ≡ Declined (pos (causeNumber z))
+  pub declined : (z : Cause) → FirstOf (noBookTrial t start ∷ []) z → told s ≡ refusal z
   pub answers : (c : ℕ) (held : Option (Held Item)) → Book (partOf t start) c held → told s ≡ listedAt (plainOffers held) n
 
 pub hands-at : {start : ℕ} {t : List ℤ} {n place : ℕ} {s : Handed} → Before (partOf t start) n place → Hands start t place s → HandsAt start t n s
@@ -48,15 +47,17 @@ pub data Moved (table : RefT (List ℤ)) (start : ℕ) : ℕ → Reading → Typ
 record Stands (table : RefT (List ℤ)) (start n : ℕ) (r : Reading) : Type 0 where
   same-table : r .table ≡ table
   same-start : r .start ≡ start
+  nowhere : Nowhere start (now table) (r .place)
   before : Before (partOf (now table) start) n (r .place)
 
 stands : {table : RefT (List ℤ)} {start n : ℕ} {r : Reading} → Moved table start n r → Stands table start n r
-stands (begun b) = record { same-table = b .same-table; same-start = b .same-start; before = b .before }
+stands (begun b) = record { same-table = b .same-table; same-start = b .same-start; nowhere = b .place .nowhere; before = b .place .before }
 stands {table} {start} (onward {n} {r} {q} m a) =
     let k = stands m in
     record {
       same-table = a .same-table ∙ k .same-table;
       same-start = a .same-start ∙ k .same-start;
+      nowhere = rw (← k .same-table, ← k .same-start) (a .moves .nowhere);
       before = subst (λ (i : ℕ). Before (partOf (now table) start) i (q .place)) (add-one n) (rw (← k .same-table, ← k .same-start) (a .moves .on n (rw (k .same-table, k .same-start) (k .before))));
     }
 
@@ -65,3 +66,7 @@ pub every-step : {table : RefT (List ℤ)} {start n : ℕ} {r : Reading} {s : Ha
 every-step {table} {start} {n} {r} {s} m h =
     let k = stands m in
     hands-at (k .before) (subst (λ (i : ℕ). Hands i (now table) (r .place) s) (k .same-start) (subst (λ (x : RefT (List ℤ)). Hands (r .start) (now x) (r .place) s) (k .same-table) h))
+
+-- where there is no book it stands at place 0
+pub every-place : {table : RefT (List ℤ)} {start n : ℕ} {r : Reading} → Moved table start n r → Nowhere start (now table) (r .place)
+every-place m = stands m .nowhere

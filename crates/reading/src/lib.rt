@@ -2,7 +2,7 @@
 // The functions over `Reading` are thin. The work is in functions over a table, a start and a place.
 ghost use mathlib.Core.Path.{_≡_};
 ghost use Prim.Native.Nat.{_+_};
-ghost use Rattle.reading.specs.Promises.{Before, Hands, Moves};
+ghost use Rattle.reading.specs.Promises.{Before, Starts, Hands, Moves};
 ghost use Rattle.reading.specs.Parts.{PartMoves, PartHands};
 ghost use Rattle.reading.specs.Steps.{Begins, Advances, HandsAt};
 ghost use Rattle.book.specs.Promises.{partOf};
@@ -68,7 +68,7 @@ fn part_piece(part: &[i64], place: u32) -> Handed
 
 // The place of the first piece of the book at `start`, and 0 where there is none.
 pub fn first_place(table: &[i64], start: usize) -> u32
-    ensures { λ r. ⌜ Before (partOf (now (table .entry)) start) 0 r ⌝ }
+    ensures { λ r. ⌜ Starts start (now (table .entry)) r ⌝ }
 {
     if book::no_book(table, start) {
         return 0;
@@ -76,7 +76,7 @@ pub fn first_place(table: &[i64], start: usize) -> u32
     part_first(&table[start..])
 }
 
-// The place after a place, and 0 past the last piece.
+// The place after a place, and 0 past the last piece and where there is no book.
 pub fn place_after(table: &[i64], start: usize, place: u32) -> u32
     ensures { λ r. ⌜ Moves start (now (table .entry)) place r ⌝ }
 {

@@ -1,7 +1,7 @@
 -- What a run of encoded calls promises. `t` are the table's words before it and `t′` those after it, `calls` the encoded calls, `out` and `out′`
 -- the words that answers are written to, before and after.
 use mathlib.Core.Path.{_≡_}
-use mathlib.Core.Bool.{cond}
+use mathlib.Core.Bool.{Bool, true, false}
 use mathlib.Core.List.{List}
 use mathlib.Core.Option.{Option, none}
 use Prim.Native.Nat.{ℕ, _*_}
@@ -15,7 +15,7 @@ use Rattle.plain.specs.Sound.{Clear}
 use Rattle.dynamic.specs.OfferTree.{Held}
 use Rattle.table.specs.Items.{Item}
 use Rattle.update.specs.Form.{Book}
-use Rattle.book.specs.declared.Opening.the-variants.{Opened}
+use Rattle.book.specs.declared.Opening.{Opening}
 use Rattle.book.specs.Promises.{partOf, capacityAt, plainOf, OnlyPart, Opens}
 use Rattle.history.specs.History.{History}
 use Rattle.history.specs.Claim.{Claim}
@@ -30,13 +30,27 @@ pub record Made (c start : ℕ) (t t′ : List ℤ) (ks : List Call) (out out′
   pub history : History c start t ks answered t′
   pub tells : Tells history out out′
 
--- how many calls were run: all that there are words for, or so many
-abbrev pub runCount : List ℤ → ℕ → Replayed
-runCount calls n = cond (leb (length calls) (4 * n)) (Ran n) (Stopped n)
+-- ---- what a run answers, in numbers
+
+-- how many calls were run, and whether those are all; or the number of the cause for which the opening was declined
+pub data RunAnswer : Type 0 where
+  ran : (calls : ℕ) (all : Bool) → RunAnswer
+  unopened : ℤ → RunAnswer
+
+abbrev pub runAnswer : Replayed → RunAnswer
+runAnswer (Ran n) = ran n true
+runAnswer (Stopped n) = ran n false
+runAnswer (Declined k) = unopened k
+
+-- n calls were run: all, if no word is left
+abbrev pub runCount : List ℤ → ℕ → RunAnswer
+runCount calls n = ran n (leb (length calls) (4 * n))
+
+-- ---- the promises
 
 -- On a part that is there already. The calls run are those up to the first that is unreadable or whose answer does not fit.
 pub record Resumes (start : ℕ) (t t′ calls out out′ : List ℤ) (r : Replayed) : Type 0 where
-  pub count : r ≡ runCount calls (length (runnable calls (length out)))
+  pub count : runAnswer r ≡ runCount calls (length (runnable calls (length out)))
   pub reach : Run calls (length out) (runnable calls (length out))
   pub made : (c : ℕ) → Made c start t t′ (runnable calls (length out)) out out′
   pub long : length out′ ≡ length out
@@ -46,10 +60,11 @@ pub record Resumes (start : ℕ) (t t′ calls out out′ : List ℤ) (r : Repla
   pub right : (c : ℕ) (held : Option (Held Item)) → Book (partOf t start) c held → told (runnable calls (length out)) out′ ≡ answers (plainOf c held) (runnable calls (length out))
   pub spares : (c : ℕ) (held : Option (Held Item)) → Book (partOf t start) c held → Spares (runnable calls (length out)) (answers (plainOf c held) (runnable calls (length out))) out out′
 
--- After an accepted opening, with the words `t₀` that it left.
+-- After an accepted opening, with its answer and the words `t₀` that it left.
 pub record Begun (c : ℤ) (start : ℕ) (t t′ calls out out′ : List ℤ) (r : Replayed) : Type 0 where
   pub t₀ : List ℤ
-  pub opens : Opens c start t t₀ Opened
+  pub opening : Opening
+  pub opens : Opens c start t t₀ opening
   pub resumes : Resumes start t₀ t′ calls out out′ r
   pub claim : Claim (opened c) none (resumes .made (natAbs c) .history)
   pub right : told (runnable calls (length out)) out′ ≡ answers (opened c) (runnable calls (length out))
@@ -57,5 +72,5 @@ pub record Begun (c : ℤ) (start : ℕ) (t t′ calls out out′ : List ℤ) (r
   pub outside : OnlyPart (natAbs c) start t t′
 
 pub record Replays (c : ℤ) (start : ℕ) (t t′ calls out out′ : List ℤ) (r : Replayed) : Type 0 where
-  pub declined : (k : Cause) → FirstOf (openTrials (length t) start c) k → (r ≡ Declined (pos (causeNumber k))) × (t′ ≡ t) × (out′ ≡ out)
+  pub declined : (k : Cause) → FirstOf (openTrials (length t) start c) k → (runAnswer r ≡ unopened (pos (causeNumber k))) × (t′ ≡ t) × (out′ ≡ out)
   pub accepted : Clear (openTrials (length t) start c) → Begun c start t t′ calls out out′ r

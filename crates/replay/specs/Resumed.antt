@@ -20,15 +20,15 @@ use Rattle.book.specs.Promises.{partOf, capacityAt, plainOf, Opens}
 use Rattle.book.specs.Plainly.{cap-there}
 use Rattle.history.specs.Claim.{from-book}
 use Rattle.replay.specs.declared.Replayed.{Replayed}
-use Rattle.replay.specs.declared.Replayed.the-variants.{Ran, Stopped, Declined}
+use Rattle.replay.specs.declared.Replayed.the-variants.{Ran, Stopped}
 use Rattle.replay.specs.Encoding.{runnable, Spares}
 use Rattle.replay.specs.Laws.{run-reach}
 use Rattle.replay.specs.Right.{told-right, spares-right}
-use Rattle.replay.specs.Promises.{runCount, Resumes, Begun, Replays}
+use Rattle.replay.specs.Promises.{unopened, runAnswer, runCount, Resumes, Begun, Replays}
 use Rattle.replay.specs.Running.{Ended, only-then}
 
 module _ {start : ℕ} {t t′ calls out out′ : List ℤ} {n : ℕ} (e : Ended start t t′ calls out out′ n) where
-  resumes : {r : Replayed} → r ≡ runCount calls n → Resumes start t t′ calls out out′ r
+  resumes : {r : Replayed} → runAnswer r ≡ runCount calls n → Resumes start t t′ calls out out′ r
   resumes q =
       record {
         count = q ∙ ap (runCount calls) (e .count);
@@ -59,11 +59,11 @@ told-capacity : (start : ℕ) (t : List ℤ) {c : ℕ} {held : Option (Held Item
 told-capacity start t b = ap natAbs (cap-there (partOf t start) (b .capacity) (b .some-slot) .first)
 
 module _ {c : ℤ} {start : ℕ} {t t₀ : List ℤ} {o : Opening} (p : Opens c start t t₀ o) where
-  pub replays-none : {z : ℤ} (calls out : List ℤ) → o ≡ OpeningDeclined z → Replays c start t t₀ calls out out (Declined z)
-  replays-none {z} calls out e = record { declined = λ k f. (number k f, p .declined k f .1, refl); accepted = λ clear. absurd (not-open clear) }
+  pub replays-none : {z : ℤ} {r : Replayed} (calls out : List ℤ) → o ≡ OpeningDeclined z → runAnswer r ≡ unopened z → Replays c start t t₀ calls out out r
+  replays-none {z} {r} calls out e d = record { declined = λ k f. (number k f, p .declined k f .1, refl); accepted = λ clear. absurd (not-open clear) }
     where
-      number : (k : Cause) → FirstOf (openTrials (length t) start c) k → Declined z ≡ Declined (pos (causeNumber k))
-      number k f = let q = p .declined k f .0 in cc
+      number : (k : Cause) → FirstOf (openTrials (length t) start c) k → runAnswer r ≡ unopened (pos (causeNumber k))
+      number k f = let q = p .declined k f .0 in d ∙ ap unopened (let x : _≡_ {A = ℤ} z (pos (causeNumber k)) = cc in x)
 
       not-open : Clear (openTrials (length t) start c) → ⊥
       not-open clear = let q = p .accepted clear .0 in let x : _≡_ {A = ℕ} 0 1 = cc in omega arith
@@ -78,7 +78,8 @@ module _ {c : ℤ} {start : ℕ} {t t₀ : List ℤ} {o : Opening} (p : Opens c 
       goes b clear =
           record {
             t₀ = t₀;
-            opens = subst (λ (x : Opening). Opens c start t t₀ x) e p;
+            opening = o;
+            opens = p;
             resumes = s;
             claim = s .claim (natAbs c) none b;
             right = s .right (natAbs c) none b;

@@ -38,8 +38,7 @@ use denote.Triple.Table.{entered, cited}
 use denote.Triple.Walked.{says, Stays, stay-none, stay-none-slice, walkOf, goes-none, goes-none-slice, Walks, ends-at, walked, walk-meets}
 use denote.Exit.{yes}
 use denote.Triple.Clauses.{ensured, lasts}
-use Rattle.book.specs.Promises.{partOf}
-use Rattle.reading.specs.Promises.{Before}
+use Rattle.reading.specs.Promises.{Starts}
 use Rattle.reading.specs.declared.Reading.{Reading}
 use Rattle.reading.proofs.Reading as T
 use Rattle.reading.proofs.Reading.Laws as T′
@@ -75,7 +74,7 @@ module _ {M : Type 1} (𝓤 : URA M) (H : Heap 𝓤) (A : Atoms 𝓤) (W : Given
   passed = (v ∷ [], (vint w64 n ∷ [], tt))
 
   abbrev Says : ℕ → Type 0
-  Says p = Before (partOf (now s) n) 0 p
+  Says p = Starts n (now s) p
 
   abbrev Post : Val → SProp 𝓤
   Post = walkOf 𝓤 H A begin.ended stayed (begin.clauses 𝓤 H A mem run) .post (((κ, tt), (q, tt), tt, (s, (n, tt)), passed), tt)
@@ -104,7 +103,7 @@ module _ {M : Type 1} (𝓤 : URA M) (H : Heap 𝓤) (A : Atoms 𝓤) (W : Given
   exits : (p : ℕ) → p < 2 ^ 32 → Says p → ent 𝓤 (⋆ 𝓤 H A ((‵ (flft κ q) ⊛ ‵ ftrue) ∷ ‵ Own ∷ [])) (Post (T′.lowered (made p)))
   exits p p-fits e =
       qed W ((‵ (flft κ q) ⊛ ‵ ftrue) ∷ ‵ Own ∷ []) ∵
-      suffices ! _ (ends-at 𝓤 H A begin.ended stayed (begin.clauses 𝓤 H A mem run) W (((κ, tt), (q, tt), tt, (s, (n, tt)), passed), tt) (T′.lowered (made p)) (made p) (tt, (tt, tt)) (tt, (tt, tt))) $ says ! (record { same-table = refl; same-start = refl; before = e }) $
+      suffices ! _ (ends-at 𝓤 H A begin.ended stayed (begin.clauses 𝓤 H A mem run) W (((κ, tt), (q, tt), tt, (s, (n, tt)), passed), tt) (T′.lowered (made p)) (made p) (tt, (tt, tt)) (tt, (tt, tt))) $ says ! (record { same-table = refl; same-start = refl; place = e }) $
       frame ! $ use1 W (‵ Own ⊛ ‵ Own) (shr-slice-copy 𝓤 H A W (named 0) κ i64 .twice s (v ∷ [])) $ split ! $
       nothing ! $ owned ! usize (Is usize) (uint-makes 𝓤 H A W w64) n _ (refl, n-fits) $ fjoin ! $ move ! (1 ∷ 0 ∷ []) $ fjoin ! $ frame ! $
       -- [what the slice owns]: what the fields own together, of it and of the numbers' facts, is what the struct owns

@@ -10,7 +10,7 @@ no-book-requires : tie.Need-no-book-requires
 no-book-requires c κs = search needs
 
 returns : tie.Need-returns
-returns c = first-no-book (c .before .before .args .start) (c .before .before .args .table .now) (c .before .no-book .ensures) (c .if1 .taken) 0
+returns c = first-no-book (c .before .before .args .start) (c .before .before .args .table .now) (c .before .no-book .ensures) (c .if1 .taken)
 
 mul-part-first : tie.Need-mul-part-first
 mul-part-first c = omega (arith, book-start (c .before .before .args .table .now) (c .before .before .args .start) (c .before .no-book .ensures) (c .if1 .left))
@@ -28,7 +28,7 @@ part-first-requires : tie.Need-part-first-requires
 part-first-requires c κs = search needs
 
 returns-2 : tie.Need-returns-2
-returns-2 c = first-there (c .before .before .before .before .args .start) (c .before .before .before .before .args .table .now) (c .part-first .ensures)
+returns-2 c = first-there (c .before .before .before .before .args .start) (c .before .before .before .before .args .table .now) (c .before .before .before .no-book .ensures) (c .before .before .if1 .left) (c .part-first .ensures)
 
 pub first-place-spec : {M : Type 1} → statement M
 first-place-spec =

@@ -17,7 +17,7 @@ first-place-requires : tie.Need-first-place-requires Inv-loop μ-loop
 first-place-requires c κs = search needs
 
 loop-holds : tie.Need-loop-holds Inv-loop μ-loop
-loop-holds c = nearing-begins _ (c .first-place .ensures)
+loop-holds c = nearing-begins _ (c .first-place .ensures .before)
 
 returns : tie.Need-returns Inv-loop μ-loop
 returns c = nearing-past (c .before .before .loop .inv) (c .if1 .taken)

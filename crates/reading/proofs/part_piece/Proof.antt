@@ -1,4 +1,5 @@
 -- `reading::part_piece` meets its contract: the words of the slot, with no crossing at the last piece.
+use mathlib.Core.Path.{refl}
 use mir.Syntax.{w64}
 use mir.Val.{SFits}
 use mir.Facts.{toZ-ofZ}
@@ -9,7 +10,7 @@ use Rattle.reading.proofs.part_piece.Statement.{statement}
 use Rattle.reading.proofs.part_piece.Tie as tie
 
 returns : tie.Need-returns
-returns c = hands-end (c .if1 .taken)
+returns c = hands-end refl (c .if1 .taken)
 
 number-at-requires : tie.Need-number-at-requires
 number-at-requires c κs = search needs

@@ -10,7 +10,7 @@ no-book-requires : tie.Need-no-book-requires
 no-book-requires c κs = search needs
 
 returns : tie.Need-returns
-returns c = after-no-book (c .before .before .args .start) (c .before .before .args .table .now) (c .before .no-book .ensures) (c .if1 .taken) (c .before .before .args .place) 0
+returns c = after-no-book (c .before .before .args .start) (c .before .before .args .table .now) (c .before .no-book .ensures) (c .if1 .taken) (c .before .before .args .place)
 
 mul-part-after : tie.Need-mul-part-after
 mul-part-after c = omega (arith, book-start (c .before .before .args .table .now) (c .before .before .args .start) (c .before .no-book .ensures) (c .if1 .left))
@@ -28,7 +28,7 @@ part-after-requires : tie.Need-part-after-requires
 part-after-requires c κs = search needs
 
 returns-2 : tie.Need-returns-2
-returns-2 c = after-there (c .before .before .before .before .args .start) (c .before .before .before .before .args .table .now) (c .part-after .ensures)
+returns-2 c = after-there (c .before .before .before .before .args .start) (c .before .before .before .before .args .table .now) (c .before .before .before .no-book .ensures) (c .before .before .if1 .left) (c .part-after .ensures)
 
 pub place-after-spec : {M : Type 1} → statement M
 place-after-spec =

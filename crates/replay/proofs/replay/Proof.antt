@@ -1,8 +1,9 @@
 -- `replay::replay` meets its contract: by the opening, and then the run.
-use lib.IntN.{pos}
+use mathlib.Core.Path.{_≡_, ap}
 use mir.Syntax.{w64}
-use mir.Val.{SFits}
+use mir.Val.{SFits, toZ, ofZ}
 use mir.Facts.{toZ-ofZ}
+use Rattle.replay.specs.Promises.{unopened}
 use Rattle.replay.specs.Resumed.{replays-none, replays-opened}
 use borrow.Author.Needs.{needs}
 use Rattle.replay.proofs.replay.Statement.{statement}
@@ -21,7 +22,8 @@ returns : tie.Need-returns
 returns c =
     let f = c .before .before .before .before .before .before .fits in
     let z : SFits w64 (c .before .opening .given .0 .0) = record { sfits = c .known-told .given .0 .1 } in
-    simp (toZ-ofZ, z) (replays-none (simp (toZ-ofZ, f .capacity) at (c .before .before .before .before .«open» .ensures)) (c .before .before .before .before .before .before .args .calls .now) (c .before .before .before .before .before .before .args .answers .now) (c .before .opening .given .1))
+    let same : toZ w64 (ofZ w64 (c .before .opening .given .0 .0)) ≡ c .before .opening .given .0 .0 = simp (toZ-ofZ, z) in
+    replays-none (simp (toZ-ofZ, f .capacity) at (c .before .before .before .before .«open» .ensures)) (c .before .before .before .before .before .before .args .calls .now) (c .before .before .before .before .before .before .args .answers .now) (c .before .opening .given .1) (ap unopened same)
 
 enum-told : tie.Need-enum-told
 enum-told c = search needs
