@@ -28,6 +28,10 @@ pub record Spliced (k : ℕ) (side : Bool) (gap p q limit : ℕ) (w w′ : Words
 abbrev pub towersAt : Words → ℕ → ℕ → ℕ → Bool
 towersAt w k p q = ltb (suc (heightAt w k q)) (heightAt w k p)
 
+-- by the two heights as read
+pub towers-told : (w : Words) (k p q : ℕ) {hp hq : ℕ} {b : Bool} → hp ≡ heightAt w k p → hq ≡ heightAt w k q → b ≡ ltb (suc hq) hp → b ≡ towersAt w k p q
+towers-told w k p q ep eq eb = rw (eb, ep, eq)
+
 pub towers-read : {w : Words} {k p q : ℕ} {s t : Tree Item} → Rep w k p s → Rep w k q t → towersAt w k p q ≡ towers s t
 towers-read a b = rw (rep-height a, rep-height b)
 

@@ -1,6 +1,7 @@
 // Balanced trees in the table. One set of functions serves the three trees and both sides.
 ghost use mathlib.Core.Path.{_≡_};
-ghost use Prim.Native.Nat.{suc, max};
+ghost use Prim.Native.Nat.{suc, max, _≤_};
+ghost use lib.Dec.{ltb};
 ghost use Rattle.table.specs.Rep.{heightAt, nodeOn};
 ghost use Rattle.shape.specs.Sides.{rowOn, doubleOn, rotateOn, balanceOn};
 ghost use Rattle.shape.specs.Joining.{Joined};
@@ -112,13 +113,20 @@ pub fn balance(part: &mut [i64], tree: u8, side: bool, gap: u32, p: u32, q: u32)
     make_node(part, tree, side, gap, p, q)
 }
 
+// One height is more than one above another.
+fn above(h: u32, other: u32) -> bool
+    requires { ⌜ other ≤ 8192 ⌝ }
+    ensures { λ r. ⌜ r ≡ ltb (suc other) h ⌝ }
+{
+    other + 1 < h
+}
+
 // Node `p` stands more than one higher than `q`.
 pub fn towers(part: &[i64], tree: u8, p: u32, q: u32) -> bool
     ensures { λ r. ⌜ r ≡ towersAt (now (part .entry)) tree p q ⌝ }
 {
     let hp = table::height(part, tree, p);
-    let hq = table::height(part, tree, q);
-    hq + 1 < hp
+    above(hp, table::height(part, tree, q))
 }
 
 // Joins two trees along the inner spine of `p`, as long as it towers over `q`. `limit` bounds the height of `p`.
@@ -148,10 +156,12 @@ pub fn join(part: &mut [i64], tree: u8, gap: u32, l: u32, r: u32) -> u32
     if r == 0 {
         return l;
     }
-    if towers(part, tree, l, r) {
+    let hl = table::height(part, tree, l);
+    let hr = table::height(part, tree, r);
+    if above(hl, hr) {
         return splice(part, tree, false, gap, l, r, 24);
     }
-    if towers(part, tree, r, l) {
+    if above(hr, hl) {
         return splice(part, tree, true, gap, r, l, 24);
     }
     make_node(part, tree, false, gap, l, r)

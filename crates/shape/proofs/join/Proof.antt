@@ -1,5 +1,7 @@
 -- `shape::join` meets its contract.
 use native.Mathlib.Omega.{arith}
+use Rattle.table.specs.Rep.{height-read}
+use Rattle.shape.specs.Splices.{towers-told}
 use Rattle.shape.specs.Merge.{merged-right, merged-left, merged-one, merged-other, merged-level}
 use borrow.Author.Needs.{needs}
 use Rattle.shape.proofs.join.Statement.{statement}
@@ -11,8 +13,14 @@ returns c = merged-right (c .if1 .taken)
 returns-2 : tie.Need-returns-2
 returns-2 c = merged-left (c .if2 .taken)
 
-towers-requires : tie.Need-towers-requires
-towers-requires c κs = search needs
+height-requires : tie.Need-height-requires
+height-requires c κs = search needs
+
+height-requires-2 : tie.Need-height-requires-2
+height-requires-2 c κs = search needs
+
+above-requires : tie.Need-above-requires
+above-requires c κs = omega (arith, height-read _ _ _ (c .height2 .ensures))
 
 splice-requires : tie.Need-splice-requires
 splice-requires c κs = search needs
@@ -21,10 +29,10 @@ same-length : tie.Need-same-length
 same-length c = search needs
 
 returns-3 : tie.Need-returns-3
-returns-3 c = merged-one (c .before .before .before .before .before .before .before .if1 .left) (c .before .before .before .before .before .before .if2 .left) (omega arith) (c .before .before .before .before .towers .ensures) (c .before .before .before .if3 .taken) (c .before .splice .ensures)
+returns-3 c = merged-one (c .before .before .before .before .before .before .before .before .before .before .if1 .left) (c .before .before .before .before .before .before .before .before .before .if2 .left) (omega arith) (towers-told _ _ _ _ (c .before .before .before .before .before .before .before .height .ensures) (c .before .before .before .before .before .height2 .ensures) (c .before .before .before .before .above .ensures)) (c .before .before .before .if3 .taken) (c .before .splice .ensures)
 
-towers-requires-2 : tie.Need-towers-requires-2
-towers-requires-2 c κs = search needs
+above-requires-2 : tie.Need-above-requires-2
+above-requires-2 c κs = omega (arith, height-read _ _ _ (c .before .before .before .before .height .ensures))
 
 splice-requires-2 : tie.Need-splice-requires-2
 splice-requires-2 c κs = search needs
@@ -33,7 +41,7 @@ same-length-2 : tie.Need-same-length-2
 same-length-2 c = search needs
 
 returns-4 : tie.Need-returns-4
-returns-4 c = merged-other (c .before .before .before .before .before .before .before .before .before .before .if1 .left) (c .before .before .before .before .before .before .before .before .before .if2 .left) (omega arith) (c .before .before .before .before .before .before .before .towers .ensures) (c .before .before .before .before .before .before .if3 .left) (c .before .before .before .before .towers2 .ensures) (c .before .before .before .if4 .taken) (c .before .splice2 .ensures)
+returns-4 c = merged-other (c .before .before .before .before .before .before .before .before .before .before .before .before .if1 .left) (c .before .before .before .before .before .before .before .before .before .before .before .if2 .left) (omega arith) (towers-told _ _ _ _ (c .before .before .before .before .before .before .before .before .before .height .ensures) (c .before .before .before .before .before .before .before .height2 .ensures) (c .before .before .before .before .before .before .above .ensures)) (c .before .before .before .before .before .if3 .left) (towers-told _ _ _ _ (c .before .before .before .before .before .before .before .height2 .ensures) (c .before .before .before .before .before .before .before .before .before .height .ensures) (c .before .before .before .before .above2 .ensures)) (c .before .before .before .if4 .taken) (c .before .splice2 .ensures)
 
 make-node-requires : tie.Need-make-node-requires
 make-node-requires c κs = search needs
@@ -42,7 +50,7 @@ same-length-3 : tie.Need-same-length-3
 same-length-3 c = search needs
 
 returns-5 : tie.Need-returns-5
-returns-5 c = merged-level (c .before .before .before .before .before .before .before .before .before .before .if1 .left) (c .before .before .before .before .before .before .before .before .before .if2 .left) (c .before .before .before .before .before .before .before .towers .ensures) (c .before .before .before .before .before .before .if3 .left) (c .before .before .before .before .towers2 .ensures) (c .before .before .before .if4 .left) (c .before .make-node .ensures)
+returns-5 c = merged-level (c .before .before .before .before .before .before .before .before .before .before .before .before .if1 .left) (c .before .before .before .before .before .before .before .before .before .before .before .if2 .left) (towers-told _ _ _ _ (c .before .before .before .before .before .before .before .before .before .height .ensures) (c .before .before .before .before .before .before .before .height2 .ensures) (c .before .before .before .before .before .before .above .ensures)) (c .before .before .before .before .before .if3 .left) (towers-told _ _ _ _ (c .before .before .before .before .before .before .before .height2 .ensures) (c .before .before .before .before .before .before .before .before .before .height .ensures) (c .before .before .before .before .above2 .ensures)) (c .before .before .before .if4 .left) (c .before .make-node .ensures)
 
 pub join-spec : {M : Type 1} → statement M
 join-spec =
@@ -50,11 +58,13 @@ join-spec =
     (tie.spec
     returns
     returns-2
-    towers-requires
+    height-requires
+    height-requires-2
+    above-requires
     splice-requires
     same-length
     returns-3
-    towers-requires-2
+    above-requires-2
     splice-requires-2
     same-length-2
     returns-4
