@@ -2,10 +2,9 @@
 // Every function takes any words. Left is false, right is true; toward is the way to the other envelope, away the way to the outer end.
 ghost use mathlib.Core.Path.{_≡_};
 ghost use mathlib.Core.Bool.{_&&_};
-ghost use lib.Dec.{T, leb};
-ghost use lib.IntN.{_+ℤ_, _*ℤ_};
-ghost use Rattle.offers.specs.Sizes.{numeratorInRange, denominatorInRange};
-ghost use Rattle.search.specs.Prices.{bounded, rateAt, baseAt, numeratorAt, denominatorAt, priceIn, atMostAt, keptIn, aboveAt};
+ghost use lib.Dec.{leb};
+ghost use Rattle.table.specs.Layout.{cap, cell, linkAt};
+ghost use Rattle.search.specs.Prices.{bounded, rateAt, baseAt, numeratorAt, denominatorAt, Priced, priceIn, keptIn, aboveAt};
 ghost use Rattle.search.specs.Moves.{Topped, Pointed, Retreated, Advanced, Popped};
 ghost use Rattle.search.specs.Steps.{paired, finished, Receded, Stepped};
 ghost use Rattle.search.specs.Runs.{started, Meets};
@@ -61,25 +60,65 @@ pub fn base(part: &[i64], slot: u32) -> i64
     bounded(-1_000_000_000, 1_000_000_000, table::get(part, 2, slot))
 }
 
-// The crossing with the next piece.
-fn numerator(part: &[i64], slot: u32) -> i64
-    ensures { λ r. ⌜ r ≡ numeratorAt (now (part .entry)) slot ⌝ }
+// A slot's field, as `table::get` reads it. `c` is the part's capacity, which is read once for a whole search.
+fn read(part: &[i64], c: u32, field: usize, slot: u32) -> i64
+    requires { ⌜ c ≡ cap (now part) ⌝ }
+    ensures { λ r. ⌜ r ≡ cell (now (part .entry)) field slot ⌝ }
 {
-    bounded(-2_000_000_000, 2_000_000_000, table::get(part, 6, slot))
+    if slot < 1 {
+        return 0;
+    }
+    if c < slot {
+        return 0;
+    }
+    if 32 <= field {
+        return 0;
+    }
+    part[64 + 4 * (field / 4 * (c as usize + 1) + slot as usize) + field % 4]
 }
 
-fn denominator(part: &[i64], slot: u32) -> i64
+fn link(part: &[i64], c: u32, field: usize, slot: u32) -> u32
+    requires { ⌜ c ≡ cap (now part) ⌝ }
+    ensures { λ r. ⌜ r ≡ linkAt (now (part .entry)) field slot ⌝ }
+{
+    table::up_to(8192, read(part, c, field, slot))
+}
+
+fn rate_in(part: &[i64], c: u32, slot: u32) -> i64
+    requires { ⌜ c ≡ cap (now part) ⌝ }
+    ensures { λ r. ⌜ r ≡ rateAt (now (part .entry)) slot ⌝ }
+{
+    bounded(-100_000, 100_000, read(part, c, 1, slot))
+}
+
+fn base_in(part: &[i64], c: u32, slot: u32) -> i64
+    requires { ⌜ c ≡ cap (now part) ⌝ }
+    ensures { λ r. ⌜ r ≡ baseAt (now (part .entry)) slot ⌝ }
+{
+    bounded(-1_000_000_000, 1_000_000_000, read(part, c, 2, slot))
+}
+
+// The crossing with the next piece.
+fn numerator(part: &[i64], c: u32, slot: u32) -> i64
+    requires { ⌜ c ≡ cap (now part) ⌝ }
+    ensures { λ r. ⌜ r ≡ numeratorAt (now (part .entry)) slot ⌝ }
+{
+    bounded(-2_000_000_000, 2_000_000_000, read(part, c, 6, slot))
+}
+
+fn denominator(part: &[i64], c: u32, slot: u32) -> i64
+    requires { ⌜ c ≡ cap (now part) ⌝ }
     ensures { λ r. ⌜ r ≡ denominatorAt (now (part .entry)) slot ⌝ }
 {
-    bounded(0, 200_000, table::get(part, 7, slot))
+    bounded(0, 200_000, read(part, c, 7, slot))
 }
 
 // The price of a slot's line at the load n over d, times d.
-fn price(part: &[i64], slot: u32, n: i64, d: i64) -> i64
-    requires { ⌜ T (numeratorInRange n) × T (denominatorInRange d) ⌝ }
+fn price(part: &[i64], c: u32, slot: u32, n: i64, d: i64) -> i64
+    requires { ⌜ Priced c (now part) n d ⌝ }
     ensures { λ r. ⌜ r ≡ priceIn (now (part .entry)) slot n d ⌝ }
 {
-    base(part, slot) * d + rate(part, slot) * n
+    base_in(part, c, slot) * d + rate_in(part, c, slot) * n
 }
 
 // The slot in which a node is kept.
@@ -92,30 +131,39 @@ fn kept_in(x: u32) -> u32
     x - 4096
 }
 
-// Whether at the crossing that slot `p` keeps the line of slot `s` is at most the line of slot `p`.
-fn at_most(ours: &[i64], p: u32, other: &[i64], s: u32) -> bool
-    ensures { λ r. ⌜ r ≡ atMostAt (now (ours .entry)) p (now (other .entry)) s ⌝ }
-{
-    let n = numerator(ours, p);
-    let d = denominator(ours, p);
-    price(other, s, n, d) <= price(ours, p, n, d)
-}
-
-// Whether the crossing that slot `p` keeps is on or above the local envelope of node `x`. Slot 0 stands for a missing end.
-pub fn on_or_above(ours: &[i64], p: u32, other: &[i64], x: u32) -> bool
+// Whether the crossing that slot `p` keeps is on or above the local envelope of node `x`: at that load one of the envelope's lines is
+// at most the line of slot `p`. Slot 0 stands for a missing end. `c` and `k` are the capacities.
+fn above(ours: &[i64], c: u32, p: u32, other: &[i64], k: u32, x: u32) -> bool
+    requires { ⌜ (c ≡ cap (now ours)) × (k ≡ cap (now other)) ⌝ }
     ensures { λ r. ⌜ r ≡ aboveAt (now (ours .entry)) p (now (other .entry)) x ⌝ }
 {
     if p < 1 {
         return false;
     }
+    let n = numerator(ours, c, p);
+    let d = denominator(ours, c, p);
+    let y = price(ours, c, p, n, d);
     let s = kept_in(x);
-    if at_most(ours, p, other, s) {
+    if price(other, k, s, n, d) <= y {
         return true;
     }
     if x <= 4096 {
         return false;
     }
-    at_most(ours, p, other, table::link(other, 19, s))
+    price(other, k, link(other, k, 19, s), n, d) <= y
+}
+
+pub fn on_or_above(ours: &[i64], p: u32, other: &[i64], x: u32) -> bool
+    ensures { λ r. ⌜ r ≡ aboveAt (now (ours .entry)) p (now (other .entry)) x ⌝ }
+{
+    above(
+        ours,
+        table::capacity(ours),
+        p,
+        other,
+        table::capacity(other),
+        x,
+    )
 }
 
 // The node pushed last, and 0 where there is none.
