@@ -5,5 +5,7 @@ pub mod Prices
 pub mod Pieces
 pub mod Walks
 pub mod Moves
+pub mod Actions
 pub mod Steps
+pub mod Choices
 pub mod Runs
