@@ -1,11 +1,11 @@
--- `search::price` meets its contract: no product and no sum wraps, since all that is multiplied is in range.
+-- `search::prices::price` meets its contract: no product and no sum wraps, since all that is multiplied is in range.
 use mir.Facts.{toZ-ofZ}
 use mir.Syntax.{w64}
 use mir.Val.{SFits}
 use Rattle.search.specs.Prices.{base-product-fits, rate-product-fits, price-fits, price-is}
 use borrow.Author.Needs.{needs}
-use Rattle.search.proofs.price.Statement.{statement}
-use Rattle.search.proofs.price.Tie as tie
+use Rattle.search.proofs.prices.price.Statement.{statement}
+use Rattle.search.proofs.prices.price.Tie as tie
 
 base-in-requires : tie.Need-base-in-requires
 base-in-requires c κs = c .pre .known

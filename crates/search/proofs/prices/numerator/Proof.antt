@@ -1,12 +1,12 @@
--- `search::numerator` meets its contract.
+-- `search::prices::numerator` meets its contract.
 use mathlib.Core.Path.{_∙_, ap}
 use mir.Facts.{toZ-ofZ}
 use mir.Syntax.{w64}
 use mir.Val.{SFits}
 use Rattle.search.specs.Prices.{bounded}
 use borrow.Author.Needs.{needs}
-use Rattle.search.proofs.numerator.Statement.{statement}
-use Rattle.search.proofs.numerator.Tie as tie
+use Rattle.search.proofs.prices.numerator.Statement.{statement}
+use Rattle.search.proofs.prices.numerator.Tie as tie
 
 read-requires : tie.Need-read-requires
 read-requires c κs = search needs

@@ -1,4 +1,4 @@
--- `search::read` meets its contract: by its three tests, and since the capacity is the part's.
+-- `search::prices::read` meets its contract: by its three tests, and since the capacity is the part's.
 use Prim.Native.Nat.{_+_, _*_, _/_, _%_}
 use native.Mathlib.Omega.{arith}
 use lib.ListN.{getD}
@@ -9,8 +9,8 @@ use mir.Val.{SFits}
 use Rattle.table.specs.Layout.{cap-most}
 use Rattle.search.specs.Cells.{cell-none, plane-low, cell-inside, cell-there}
 use borrow.Author.Needs.{needs}
-use Rattle.search.proofs.read.Statement.{statement}
-use Rattle.search.proofs.read.Tie as tie
+use Rattle.search.proofs.prices.read.Statement.{statement}
+use Rattle.search.proofs.prices.read.Tie as tie
 
 returns : tie.Need-returns
 returns c = cell-none (λ v. omega arith)

@@ -1,11 +1,11 @@
--- `search::above` meets its contract: by its tests.
+-- `search::prices::above` meets its contract: by its tests.
 use mir.Facts.{toZ-ofZ}
 use mir.Syntax.{w64}
 use mir.Val.{SFits}
 use Rattle.search.specs.Prices.{crossing-priced, above-missing, above-first, above-leaf, above-second}
 use borrow.Author.Needs.{needs}
-use Rattle.search.proofs.above.Statement.{statement}
-use Rattle.search.proofs.above.Tie as tie
+use Rattle.search.proofs.prices.above.Statement.{statement}
+use Rattle.search.proofs.prices.above.Tie as tie
 
 returns : tie.Need-returns
 returns c = let a = c .before .args in above-missing (a .ours .now) (a .p) (a .other .now) (a .x) (c .if1 .taken)

@@ -1,12 +1,12 @@
--- `search::link` meets its contract.
+-- `search::prices::link` meets its contract.
 use mathlib.Core.Path.{_∙_, ap}
 use mir.Facts.{toZ-ofZ}
 use mir.Syntax.{w64}
 use mir.Val.{SFits}
 use Rattle.table.specs.Words.{upTo}
 use borrow.Author.Needs.{needs}
-use Rattle.search.proofs.link.Statement.{statement}
-use Rattle.search.proofs.link.Tie as tie
+use Rattle.search.proofs.prices.link.Statement.{statement}
+use Rattle.search.proofs.prices.link.Tie as tie
 
 read-requires : tie.Need-read-requires
 read-requires c κs = search needs
