@@ -2,12 +2,14 @@
 -- that stands for a half of the machine's state.
 use Prim.Native.Nat.{ℕ, zero, suc, _+_, _-_, _≤_, _<_}
 use native.Mathlib.Omega.{arith}
-use native.Mathlib.Decide.{decLt}
+use native.Mathlib.Decide.{decLe, decLt}
 use native.Mathlib.Numerals.{add-one}
 use mathlib.Core.Path.{_≡_, refl, sym, _∙_, ap, subst}
-use mathlib.Core.Bool.{Bool, not}
+use mathlib.Core.Bool.{Bool, not, cond}
 use mathlib.Core.List.{List, [], _∷_}
 use mathlib.Core.Option.{Option}
+use lib.Dec.{leb, ltb}
+use borrow.Author.Tests.{le-leb, lt-leb, lt-ltb, le-ltb}
 use lib.ListN.{length, getD, set, length-set, List·getD-eq-default}
 use Rattle.trees.specs.Tree.{Tree, leaf, node, height, last}
 use Rattle.meeting.specs.Machine.{Place, Half, advance, retreat, pop}
@@ -15,9 +17,8 @@ use Rattle.meeting.specs.Moves.{half}
 use Rattle.table.specs.Words.{Words}
 use Rattle.table.specs.Items.{Item}
 use Rattle.table.specs.Rep.{childAt, refOf}
-use Rattle.search.specs.declared.Walk.{Walk}
 use Rattle.search.specs.Pieces.{Pieces, sideOf, pieces-away, pieces-toward, leaf-low, inner-high, seam-at}
-use Rattle.search.specs.Walks.{Stacks, empty, pushed, Stood, stacks-depth, stacks-push, topRef, topSlot, pointSlot}
+use Rattle.search.specs.Walks.{Walk, Stacks, empty, pushed, Stood, stacks-depth, stacks-push, topRef, topSlot, pointSlot}
 
 -- ---- the promises
 
@@ -48,31 +49,31 @@ stacks-room {st} (pushed {d = d} {l = l} {r = r} p s) = inside (decLt d (length 
     inside (no h) = absurd (omega (arith, inner-high p, List·getD-eq-default st 0 {n = d} (omega arith)))
 
 module _ {w : Words} {h : Walk} {m : Half Item} (s : Stood w h m) where
-  top-none : h .depth < 1 → 0 ≡ topRef (m .stack)
+  pub top-none : h .depth < 1 → 0 ≡ topRef (m .stack)
   top-none k = go (s .stacks) k
     where
       go : {d : ℕ} {ps : List (Place Item)} → Stacks w (h .stack) d ps → d < 1 → 0 ≡ topRef ps
       go empty k = refl
       go (pushed p z) k = absurd (omega arith)
 
-  top-over : 24 < h .depth → ⊥
+  pub top-over : 24 < h .depth → ⊥
   top-over k = omega (arith, stacks-room (s .stacks), s .room)
 
-  top-at : 1 ≤ h .depth → getD (h .stack) (h .depth - 1) 0 ≡ topRef (m .stack)
+  pub top-at : 1 ≤ h .depth → getD (h .stack) (h .depth - 1) 0 ≡ topRef (m .stack)
   top-at k = go (s .stacks) k
     where
       go : {d : ℕ} {ps : List (Place Item)} → Stacks w (h .stack) d ps → 1 ≤ d → getD (h .stack) (d - 1) 0 ≡ topRef ps
       go empty k = absurd (omega arith)
       go (pushed {d = d} p z) k = ap (λ (i : ℕ). getD (h .stack) i 0) (omega arith) ∙ p .rep .root
 
-  point-leaf : h .at ≤ 4096 → (x : ℕ) → x ≡ topRef (m .stack) → x - 4096 ≡ pointSlot (m .at .tree) (m .stack)
+  pub point-leaf : h .at ≤ 4096 → (x : ℕ) → x ≡ topRef (m .stack) → x - 4096 ≡ pointSlot (m .at .tree) (m .stack)
   point-leaf k x e = go (m .at .tree) (s .here)
     where
       go : (t : Tree Item) → Pieces w (h .at) t → x - 4096 ≡ pointSlot t (m .stack)
       go (leaf a) p = ap (λ (i : ℕ). i - 4096) e
       go (node l r) p = absurd (omega (arith, inner-high p))
 
-  point-node : 4096 < h .at → h .at - 4096 ≡ pointSlot (m .at .tree) (m .stack)
+  pub point-node : 4096 < h .at → h .at - 4096 ≡ pointSlot (m .at .tree) (m .stack)
   point-node k = go (m .at .tree) (s .here)
     where
       go : (t : Tree Item) → Pieces w (h .at) t → h .at - 4096 ≡ pointSlot t (m .stack)
@@ -82,7 +83,7 @@ module _ {w : Words} {h : Walk} {m : Half Item} (s : Stood w h m) where
 -- ---- why: the moves
 
 module _ {w : Words} (side : Bool) {h : Walk} {m : Half Item} (s : Stood w h m) where
-  retreat-leaf : h .at ≤ 4096 → Stood w h (retreat (sideOf side) m)
+  pub retreat-leaf : h .at ≤ 4096 → Stood w h (retreat (sideOf side) m)
   unfolding retreat
   retreat-leaf k = go (m .at .tree) (s .here)
     where
@@ -90,7 +91,7 @@ module _ {w : Words} (side : Bool) {h : Walk} {m : Half Item} (s : Stood w h m) 
       go (leaf a) p = record { here = p; stacks = s .stacks; room = s .room }
       go (node l r) p = absurd (omega (arith, inner-high p))
 
-  retreat-node : 4096 < h .at → (x : ℕ) → x ≡ childAt w 0 side (h .at) → Stood w (record { at = x; stack = h .stack; depth = h .depth }) (retreat (sideOf side) m)
+  pub retreat-node : 4096 < h .at → (x : ℕ) → x ≡ childAt w 0 side (h .at) → Stood w (record { at = x; stack = h .stack; depth = h .depth }) (retreat (sideOf side) m)
   unfolding retreat
   retreat-node k x e = go (m .at .tree) (s .here)
     where
@@ -98,7 +99,7 @@ module _ {w : Words} (side : Bool) {h : Walk} {m : Half Item} (s : Stood w h m) 
       go (leaf a) p = absurd (omega (arith, leaf-low p))
       go (node l r) p = record { here = rw e (pieces-away side p); stacks = s .stacks; room = s .room }
 
-  advance-leaf : h .at ≤ 4096 → Stood w h (advance (sideOf side) m)
+  pub advance-leaf : h .at ≤ 4096 → Stood w h (advance (sideOf side) m)
   unfolding advance
   advance-leaf k = go (m .at .tree) (s .here)
     where
@@ -107,14 +108,14 @@ module _ {w : Words} (side : Bool) {h : Walk} {m : Half Item} (s : Stood w h m) 
       go (node l r) p = absurd (omega (arith, inner-high p))
 
   -- an inner node's stack is not full
-  advance-full : 4096 < h .at → length (m .stack) + height (m .at .tree) ≤ 24 → 24 ≤ h .depth → ⊥
+  pub advance-full : 4096 < h .at → length (m .stack) + height (m .at .tree) ≤ 24 → 24 ≤ h .depth → ⊥
   advance-full k b f = go (m .at .tree) (s .here) b
     where
       go : (t : Tree Item) → Pieces w (h .at) t → length (m .stack) + height t ≤ 24 → ⊥
       go (leaf a) p b = omega (arith, leaf-low p)
       go (node l r) p b = omega (arith, stacks-depth (s .stacks))
 
-  advance-node : 4096 < h .at → h .depth < 24 → (x : ℕ) → x ≡ childAt w 0 (not side) (h .at) → Stood w (record { at = x; stack = set (h .stack) (h .depth) (h .at); depth = h .depth + 1 }) (advance (sideOf side) m)
+  pub advance-node : 4096 < h .at → h .depth < 24 → (x : ℕ) → x ≡ childAt w 0 (not side) (h .at) → Stood w (record { at = x; stack = set (h .stack) (h .depth) (h .at); depth = h .depth + 1 }) (advance (sideOf side) m)
   unfolding advance
   advance-node k f x e = go (m .at .tree) (s .here)
     where
@@ -128,7 +129,7 @@ module _ {w : Words} (side : Bool) {h : Walk} {m : Half Item} (s : Stood w h m) 
           }
 
 module _ {w : Words} {h : Walk} {t : Tree Item} {e : Option Item} {top : Place Item} {rest : List (Place Item)} (s : Stood w h (half t e (top ∷ rest))) where
-  pop-empty : h .depth < 1 → ⊥
+  pub pop-empty : h .depth < 1 → ⊥
   pop-empty k = omega (arith, stacks-depth (s .stacks))
 
   -- the top is a node of the table
@@ -138,7 +139,7 @@ module _ {w : Words} {h : Walk} {t : Tree Item} {e : Option Item} {top : Place I
       go : {d : ℕ} {top : Place Item} {rest : List (Place Item)} → Stacks w (h .stack) d (top ∷ rest) → y ≡ refOf (top .tree) → Pieces w y (top .tree)
       go (pushed p z) q = rw (q ∙ sym (p .rep .root)) p
 
-  pop-node : (side : Bool) (x y : ℕ) → y ≡ refOf (top .tree) → x ≡ childAt w 0 side y → Stood w (record { at = x; stack = h .stack; depth = h .depth - 1 }) (pop (sideOf side) top rest)
+  pub pop-node : (side : Bool) (x y : ℕ) → y ≡ refOf (top .tree) → x ≡ childAt w 0 side y → Stood w (record { at = x; stack = h .stack; depth = h .depth - 1 }) (pop (sideOf side) top rest)
   unfolding pop
   pop-node side x y q a = go (s .stacks) q
     where
@@ -150,42 +151,34 @@ module _ {w : Words} {h : Walk} {t : Tree Item} {e : Option Item} {top : Place I
             room = s .room;
           }
 
--- ---- each answer of the code
+-- ---- the top and the point, by the code's numbers
 
-module _ {h : Walk} where
-  pub topped-none : h .depth < 1 → Topped h 0
-  topped-none k = record { is = λ s. top-none s k }
+-- a place in the stack: that of the top, where there is one
+pub record Under (depth i : ℕ) : Type 0 where
+  pub inside : i < 24
+  pub is : 1 ≤ depth → depth ≤ 24 → i ≡ depth - 1
 
-  pub topped-over : {x : ℕ} → 24 < h .depth → Topped h x
-  topped-over k = record { is = λ s. absurd (top-over s k) }
+abbrev pub topWord : ℕ → ℕ → ℕ
+topWord depth word = cond (ltb depth 1) 0 word
 
-  pub topped-at : 1 ≤ h .depth → Topped h (getD (h .stack) (h .depth - 1) 0)
-  topped-at k = record { is = λ s. top-at s k }
+abbrev pub pointWord : ℕ → ℕ → ℕ
+pointWord at top = cond (leb at 4096) (top - 4096) (at - 4096)
 
-  pub pointed-leaf : {x y : ℕ} → Topped h x → y ≡ x - 4096 → h .at ≤ 4096 → Pointed h y
-  pointed-leaf {x} a e k = record { is = λ s. e ∙ point-leaf s k x (a .is s) }
+pub topped-by : {h : Walk} {i t : ℕ} → Under (h .depth) i → t ≡ topWord (h .depth) (getD (h .stack) i 0) → Topped h t
+topped-by {h} {i} {t} a e = record { is = λ s. go s (decLt (h .depth) 1) }
+  where
+    go : {w : Words} {m : Half Item} → Stood w h m → Dec (h .depth < 1) → t ≡ topRef (m .stack)
+    go s (yes k) = e ∙ rw (lt-ltb (h .depth) 1 k) (top-none s k)
+    go s (no k) =
+        let l : 1 ≤ h .depth = omega arith in
+        let n : h .depth ≤ 24 = omega (arith, stacks-room (s .stacks), s .room) in
+        e ∙ rw (le-ltb (h .depth) 1 l) (ap (λ (j : ℕ). getD (h .stack) j 0) (a .is l n) ∙ top-at s l)
 
-  pub pointed-node : 4096 < h .at → Pointed h (h .at - 4096)
-  pointed-node k = record { is = λ s. point-node s k }
-
-module _ {w : Words} {side : Bool} {h : Walk} where
-  pub retreated-leaf : h .at ≤ 4096 → Retreated w side h h
-  retreated-leaf k = record { moved = λ s. retreat-leaf side s k }
-
-  pub retreated-node : {x : ℕ} → 4096 < h .at → x ≡ childAt w 0 side (h .at) → Retreated w side h (record { at = x; stack = h .stack; depth = h .depth })
-  retreated-node {x} k e = record { moved = λ s. retreat-node side s k x e }
-
-  pub advanced-leaf : h .at ≤ 4096 → Advanced w side h h
-  advanced-leaf k = record { moved = λ s b. advance-leaf side s k }
-
-  pub advanced-full : {r : Walk} → 4096 < h .at → 24 ≤ h .depth → Advanced w side h r
-  advanced-full k f = record { moved = λ s b. absurd (advance-full side s k b f) }
-
-  pub advanced-node : {x : ℕ} → 4096 < h .at → h .depth < 24 → x ≡ childAt w 0 (not side) (h .at) → Advanced w side h (record { at = x; stack = set (h .stack) (h .depth) (h .at); depth = h .depth + 1 })
-  advanced-node {x} k f e = record { moved = λ s b. advance-node side s k f x e }
-
-  pub popped-none : {r : Walk} → h .depth < 1 → Popped w side h r
-  popped-none k = record { moved = λ s. absurd (pop-empty s k) }
-
-  pub popped-node : {x y : ℕ} → Topped h y → x ≡ childAt w 0 side y → Popped w side h (record { at = x; stack = h .stack; depth = h .depth - 1 })
-  popped-node {x} {y} a e = record { moved = λ s. pop-node s side x y (a .is s) e }
+pub pointed-by : {h : Walk} {t p : ℕ} → Topped h t → p ≡ pointWord (h .at) t → Pointed h p
+pointed-by {h} {t} {p} a e = record { is = λ s. go s (decLe (h .at) 4096) }
+  where
+    go : {w : Words} {m : Half Item} → Stood w h m → Dec (h .at ≤ 4096) → p ≡ pointSlot (m .at .tree) (m .stack)
+    go s (yes k) = e ∙ rw (le-leb (h .at) 4096 k) (point-leaf s k t (a .is s))
+    go s (no k) =
+        let l : 4096 < h .at = omega arith in
+        e ∙ rw (lt-leb (h .at) 4096 l) (point-node s l)

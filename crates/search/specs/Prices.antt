@@ -13,7 +13,7 @@ use mir.Syntax.{w64}
 use mir.Val.{SFits}
 use Rattle.offers.specs.Sizes.{numeratorInRange, denominatorInRange, base-times-fits, rate-times-fits, scaled-price-fits}
 use Rattle.table.specs.Words.{Words}
-use Rattle.table.specs.Layout.{cell, linkAt}
+use Rattle.table.specs.Layout.{cap, cell, linkAt}
 
 -- a word from low to high, and 0 for any other
 unfoldable pub bounded : ℤ → ℤ → ℤ → ℤ
@@ -87,11 +87,16 @@ positive-ranged z t =
 pub denominator-ranged : (w : Words) (s : ℕ) → T (denominatorInRange (denominatorAt w s))
 denominator-ranged w s = positive-ranged (denominatorAt w s) (bounded-ranged (pos 0) (pos 200_000) (cell w 7 s) tt)
 
--- so what the code computes with is in range
-pub crossing-ranged : (w : Words) (p : ℕ) (n d : ℤ) → n ≡ numeratorAt w p → d ≡ denominatorAt w p → T (numeratorInRange n) × T (denominatorInRange d)
-crossing-ranged w p n d a b = (rw a (numerator-ranged w p), rw b (denominator-ranged w p))
-
 -- ---- prices
+
+-- what a price is computed with: the part's capacity, and a load in range
+pub record Priced (c : ℕ) (w : Words) (n d : ℤ) : Type 0 where
+  pub known : c ≡ cap w
+  pub above : T (numeratorInRange n)
+  pub below : T (denominatorInRange d)
+
+pub crossing-priced : (w : Words) (p : ℕ) {n d : ℤ} (v : Words) {c : ℕ} → c ≡ cap v → n ≡ numeratorAt w p → d ≡ denominatorAt w p → Priced c v n d
+crossing-priced w p v e a b = record { known = e; above = rw a (numerator-ranged w p); below = rw b (denominator-ranged w p) }
 
 -- the price, times d, of the line in slot s at the load n over d
 abbrev pub priceIn : Words → ℕ → ℤ → ℤ → ℤ
@@ -148,22 +153,22 @@ module _ (w : Words) (p : ℕ) (v : Words) (x : ℕ) where
   unfolding aboveAt
   above-missing h = rw (lt-ltb p 1 h)
 
-  -- each answer of the code
-  module _ {s : ℕ} {b : Bool} (some : 1 ≤ p) (kept : s ≡ keptIn x) (test : b ≡ atMostAt w p v s) where
-    first-test : atMostAt w p v (keptIn x) ≡ b
-    first-test = rw (← kept) (sym test)
+  -- each answer of the code: n and d are the crossing kept in slot p, y is the price there of slot p's line, z that of slot s's
+  module _ {n d y z : ℤ} {s : ℕ} (some : 1 ≤ p) (en : n ≡ numeratorAt w p) (ed : d ≡ denominatorAt w p) (ey : y ≡ priceIn w p n d) (kept : s ≡ keptIn x) (ez : z ≡ priceIn v s n d) where
+    first-test : atMostAt w p v (keptIn x) ≡ leZ z y
+    first-test = rw (← kept) (sym (compared w p v s n d y z en ed ey ez))
 
-    pub above-first : b ≡ true → true ≡ aboveAt w p v x
+    pub above-first : leZ z y ≡ true → true ≡ aboveAt w p v x
     unfolding aboveAt
     above-first e = rw (le-ltb p 1 some, first-test, e)
 
-    pub above-leaf : b ≡ false → x ≤ 4096 → false ≡ aboveAt w p v x
+    pub above-leaf : leZ z y ≡ false → x ≤ 4096 → false ≡ aboveAt w p v x
     unfolding aboveAt
     above-leaf e k = rw (le-ltb p 1 some, first-test, e, le-leb x 4096 k)
 
-    pub above-second : {t : ℕ} {c : Bool} → b ≡ false → 4096 < x → t ≡ linkAt v 19 s → c ≡ atMostAt w p v t → c ≡ aboveAt w p v x
+    pub above-second : {t : ℕ} {z′ : ℤ} → leZ z y ≡ false → 4096 < x → t ≡ linkAt v 19 s → z′ ≡ priceIn v t n d → leZ z′ y ≡ aboveAt w p v x
     unfolding aboveAt
-    above-second e k l f = rw (le-ltb p 1 some, first-test, e, lt-leb x 4096 k, ← kept, ← l) f
+    above-second {t} {z′} e k l f = rw (le-ltb p 1 some, first-test, e, lt-leb x 4096 k, ← kept, ← l) (compared w p v t n d y z′ en ed ey f)
 
   -- a leaf's one line, and an inner node's two
   pub above-one : 1 ≤ p → x ≤ 4096 → aboveAt w p v x ≡ atMostAt w p v (keptIn x)

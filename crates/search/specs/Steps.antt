@@ -14,13 +14,13 @@ use Rattle.meeting.specs.Moves.{half}
 use Rattle.table.specs.Words.{Words}
 use Rattle.table.specs.Items.{Item}
 use Rattle.table.specs.Rep.{refOf}
-use Rattle.search.specs.declared.Walk.{Walk}
 use Rattle.search.specs.declared.Search.{Search}
 use Rattle.search.specs.ItemLines.{itemFigure}
 use Rattle.search.specs.Prices.{aboveAt}
 use Rattle.search.specs.Pieces.{Pieces, sideOf, leaf-low, inner-high, seam-at}
-use Rattle.search.specs.Walks.{Stacks, empty, pushed, Stood, Fares, stacks-depth, topRef, pointSlot, node-above, half-above}
+use Rattle.search.specs.Walks.{Walk, Stacks, empty, pushed, Stood, Fares, stacks-depth, topRef, pointSlot, node-above, half-above}
 use Rattle.search.specs.Moves.{Topped, Pointed, Retreated, Advanced, Popped, top-pieces}
+use Rattle.search.specs.Actions.{Stays}
 
 -- ---- the relation
 
@@ -58,19 +58,6 @@ paired true h k =
       done = false;
     }
 
--- the same state, finished
-abbrev pub finished : Search → Search
-finished s =
-    record {
-      u = s .u;
-      v = s .v;
-      us = s .us;
-      ud = s .ud;
-      vs = s .vs;
-      vd = s .vd;
-      done = true;
-    }
-
 -- of what is ours and what is the other's, the left one and the right one
 abbrev pub leftOf : Bool → Words → Words → Words
 leftOf false ours other = ours
@@ -82,9 +69,9 @@ rightOf true ours other = ours
 
 -- ---- the promises
 
-pub record Receded (ours other : Words) (side : Bool) (h k : Walk) (r : Search) : Type 0 where
-  pub going : r .done ≡ false
-  pub moved : {m n : Half Item} → Fares ours side h m → Fares other (not side) k n → Searches (leftOf side ours other) (rightOf side ours other) r (recede itemFigure (sideOf side) m n)
+-- two walks that recede to two others
+pub record Receded (ours other : Words) (side : Bool) (h k h′ k′ : Walk) : Type 0 where
+  pub moved : {m n : Half Item} → Fares ours side h m → Fares other (not side) k n → Searches (leftOf side ours other) (rightOf side ours other) (paired side h′ k′) (recede itemFigure (sideOf side) m n)
 
 -- after a step: finished where the machine is, and else where the machine stands
 abbrev pub After : Words → Words → Search → Search → Option (State Item) → Type 0
@@ -105,10 +92,6 @@ turn : (side : Bool) → opposite (sideOf side) ≡ sideOf (not side)
 turn false = refl
 turn true = refl
 
-going-paired : (side : Bool) (h k : Walk) (r : Search) → r ≡ paired side h k → r .done ≡ false
-going-paired false h k r e = ap (λ (s : Search). s .done) e
-going-paired true h k r e = ap (λ (s : Search). s .done) e
-
 mine-case : (b c : Bool) → b ≡ true → caseOf b c ≡ mine
 mine-case b c e = ap (λ (d : Bool). caseOf d c) e
 
@@ -128,80 +111,71 @@ module _ {ours other : Words} {side : Bool} {h k : Walk} {t : Tree Item} {e : Op
       ap₂ caseOf (sym (top-above (sideOf side) x (n .at) (f .stood .stacks) a (g .stood .here)))
       (ap (λ (s : Side). onOrAbove itemFigure s (n .at) top) (turn side) ∙ sym (half-above g top (top-pieces (f .stood) x a)) ∙ ap (λ (i : ℕ). aboveAt other i ours x) (sym b))
 
+top-high : {w : Words} {st : List ℕ} {d : ℕ} {top : Place Item} {rest : List (Place Item)} → Stacks w st d (top ∷ rest) → 4096 < refOf (top .tree)
+top-high (pushed p s) = omega (arith, inner-high p, p .rep .root)
+
 module _ {ours other : Words} {side : Bool} {h k : Walk} {n : Half Item} (g : Fares other (not side) k n) where
   -- nothing to pop
-  bottom-by : {h′ : Walk} (t : Tree Item) (e : Option Item) (ps : List (Place Item)) (f : Fares ours side h (half t e ps)) → h .depth < 1 → Retreated ours side h h′ → Searches (leftOf side ours other) (rightOf side ours other) (paired side h′ k) (recede itemFigure (sideOf side) (half t e ps) n)
+  bottom-by : {h′ k′ : Walk} (t : Tree Item) (e : Option Item) (ps : List (Place Item)) (f : Fares ours side h (half t e ps)) (x : ℕ) → x ≡ topRef ps → x < 1 → Retreated ours side h h′ → Stays other k k′ → Searches (leftOf side ours other) (rightOf side ours other) (paired side h′ k′) (recede itemFigure (sideOf side) (half t e ps) n)
   unfolding recede
-  bottom-by t e [] f d a = paired-searches side (a .moved (f .stood)) (g .stood)
-  bottom-by t e (top ∷ rest) f d a = absurd (omega (arith, stacks-depth (f .stood .stacks)))
+  bottom-by t e [] f x q d a b = paired-searches side (a .moved (f .stood)) (b .moved (g .stood))
+  bottom-by t e (top ∷ rest) f x q d a b = absurd (omega (arith, q, top-high (f .stood .stacks)))
 
   -- a leaf pops
-  leaf-by : {h′ : Walk} (t : Tree Item) (e : Option Item) (ps : List (Place Item)) (f : Fares ours side h (half t e ps)) → 1 ≤ h .depth → h .at ≤ 4096 → Popped ours side h h′ → Searches (leftOf side ours other) (rightOf side ours other) (paired side h′ k) (recede itemFigure (sideOf side) (half t e ps) n)
+  leaf-by : {h′ k′ : Walk} (t : Tree Item) (e : Option Item) (ps : List (Place Item)) (f : Fares ours side h (half t e ps)) (x : ℕ) → x ≡ topRef ps → 1 ≤ x → h .at ≤ 4096 → Popped ours side h h′ → Stays other k k′ → Searches (leftOf side ours other) (rightOf side ours other) (paired side h′ k′) (recede itemFigure (sideOf side) (half t e ps) n)
   unfolding recede
-  leaf-by t e [] f d l a = absurd (omega (arith, stacks-depth (f .stood .stacks)))
-  leaf-by (leaf x) e (top ∷ rest) f d l a = paired-searches side (a .moved (f .stood)) (g .stood)
-  leaf-by (node x y) e (top ∷ rest) f d l a = absurd (omega (arith, inner-high (f .stood .here)))
+  leaf-by t e [] f x q d l a b = absurd (omega (arith, q))
+  leaf-by (leaf y) e (top ∷ rest) f x q d l a b = paired-searches side (a .moved (f .stood)) (b .moved (g .stood))
+  leaf-by (node y z) e (top ∷ rest) f x q d l a b = absurd (omega (arith, inner-high (f .stood .here)))
 
   -- an inner node goes by the second comparison
-  second-by : {r : Search} (t : Tree Item) (e : Option Item) (ps : List (Place Item)) (f : Fares ours side h (half t e ps)) → 1 ≤ h .depth → 4096 < h .at → (x p : ℕ) → x ≡ topRef ps → p ≡ pointSlot (n .at .tree) (n .stack) → (c : Case) → caseOf (aboveAt ours (x - 4096) other (k .at)) (aboveAt other p ours x) ≡ c → ((top : Place Item) (rest : List (Place Item)) → Fares ours side h (half t e (top ∷ rest)) → Searches (leftOf side ours other) (rightOf side ours other) r (second itemFigure (sideOf side) c (half t e (top ∷ rest)) n top rest)) → Searches (leftOf side ours other) (rightOf side ours other) r (recede itemFigure (sideOf side) (half t e ps) n)
+  second-by : {r : Search} (t : Tree Item) (e : Option Item) (ps : List (Place Item)) (f : Fares ours side h (half t e ps)) → 4096 < h .at → (x p : ℕ) → 1 ≤ x → x ≡ topRef ps → p ≡ pointSlot (n .at .tree) (n .stack) → (c : Case) → caseOf (aboveAt ours (x - 4096) other (k .at)) (aboveAt other p ours x) ≡ c → ((top : Place Item) (rest : List (Place Item)) → Fares ours side h (half t e (top ∷ rest)) → Searches (leftOf side ours other) (rightOf side ours other) r (second itemFigure (sideOf side) c (half t e (top ∷ rest)) n top rest)) → Searches (leftOf side ours other) (rightOf side ours other) r (recede itemFigure (sideOf side) (half t e ps) n)
   unfolding recede
-  second-by t e [] f d l x p a b c q s = absurd (omega (arith, stacks-depth (f .stood .stacks)))
-  second-by (leaf y) e (top ∷ rest) f d l x p a b c q s = absurd (omega (arith, leaf-low (f .stood .here)))
-  second-by (node y z) e (top ∷ rest) f d l x p a b c q s = rw (second-case x p f g a b ∙ q) (s top rest f)
+  second-by t e [] f l x p d a b c q s = absurd (omega (arith, a))
+  second-by (leaf y) e (top ∷ rest) f l x p d a b c q s = absurd (omega (arith, leaf-low (f .stood .here)))
+  second-by (node y z) e (top ∷ rest) f l x p d a b c q s = rw (second-case x p f g a b ∙ q) (s top rest f)
 
--- ---- each answer of the code, where ours recedes
+-- ---- each of the moves where ours recedes
 
-module _ {ours other : Words} {side : Bool} {h k h′ : Walk} {r : Search} where
-  pub receded-bottom : r ≡ paired side h′ k → Retreated ours side h h′ → h .depth < 1 → Receded ours other side h k r
-  receded-bottom e a d =
-      record {
-        going = going-paired side h′ k r e;
-        moved = λ {m} {n} f g. rw e (bottom-by g (m .at .tree) (m .at .edge) (m .stack) f d a);
-      }
+first-by : (ours other : Words) (x y z : ℕ) {b : Bool} → y ≡ x - 4096 → aboveAt ours y other z ≡ b → aboveAt ours (x - 4096) other z ≡ b
+first-by ours other x y z q e = ap (λ (i : ℕ). aboveAt ours i other z) (sym q) ∙ e
 
-  pub receded-leaf : r ≡ paired side h′ k → Popped ours side h h′ → 1 ≤ h .depth → h .at ≤ 4096 → Receded ours other side h k r
-  receded-leaf e a d l =
-      record {
-        going = going-paired side h′ k r e;
-        moved = λ {m} {n} f g. rw e (leaf-by g (m .at .tree) (m .at .edge) (m .stack) f d l a);
-      }
+module _ {ours other : Words} {side : Bool} {h k h′ k′ : Walk} (x : ℕ) (top : Topped h x) where
+  pub receded-bottom : x < 1 → Retreated ours side h h′ → Stays other k k′ → Receded ours other side h k h′ k′
+  receded-bottom d a b = record { moved = λ {m} {n} f g. bottom-by g (m .at .tree) (m .at .edge) (m .stack) f x (top .is (f .stood)) d a b }
 
-  module _ (x y : ℕ) (top : Topped h x) (at-top : y ≡ x - 4096) (deep : 1 ≤ h .depth) (inner : 4096 < h .at) where
-    pub receded-mine : r ≡ paired side h′ k → Popped ours side h h′ → aboveAt ours y other (k .at) ≡ true → Receded ours other side h k r
-    receded-mine e a b =
-        record {
-          going = going-paired side h′ k r e;
-          moved = λ {m} {n} f g.
-              rw e
-              (second-by g (m .at .tree) (m .at .edge) (m .stack) f deep inner x (pointSlot (n .at .tree) (n .stack)) (top .is (f .stood)) refl mine
-              (mine-case _ _ (ap (λ (i : ℕ). aboveAt ours i other (k .at)) (sym at-top) ∙ b))
-              (λ t rest f′. paired-searches side (a .moved (f′ .stood)) (g .stood)));
-        }
+  module _ (deep : 1 ≤ x) where
+    pub receded-leaf : h .at ≤ 4096 → Popped ours side h h′ → Stays other k k′ → Receded ours other side h k h′ k′
+    receded-leaf l a b = record { moved = λ {m} {n} f g. leaf-by g (m .at .tree) (m .at .edge) (m .stack) f x (top .is (f .stood)) deep l a b }
 
-    module _ {k′ : Walk} (p : ℕ) (point : Pointed k p) (clear : aboveAt ours y other (k .at) ≡ false) where
-      pub receded-theirs : r ≡ paired side h′ k′ → Retreated ours side h h′ → Retreated other (not side) k k′ → aboveAt other p ours x ≡ true → Receded ours other side h k r
-      receded-theirs e a a′ b =
+    module _ (inner : 4096 < h .at) (y : ℕ) (at-top : y ≡ x - 4096) where
+      pub receded-mine : Popped ours side h h′ → Stays other k k′ → aboveAt ours y other (k .at) ≡ true → Receded ours other side h k h′ k′
+      receded-mine a b e =
           record {
-            going = going-paired side h′ k′ r e;
             moved = λ {m} {n} f g.
-                rw e
-                (second-by g (m .at .tree) (m .at .edge) (m .stack) f deep inner x p (top .is (f .stood)) (point .is (g .stood)) theirs
-                (ap₂ caseOf (ap (λ (i : ℕ). aboveAt ours i other (k .at)) (sym at-top) ∙ clear) b)
-                (λ t rest f′. paired-searches side (a .moved (f′ .stood)) (rw (turn side) (a′ .moved (g .stood)))));
+                second-by g (m .at .tree) (m .at .edge) (m .stack) f inner x (pointSlot (n .at .tree) (n .stack)) deep (top .is (f .stood)) refl mine
+                (mine-case _ _ (first-by ours other x y (k .at) at-top e)) (λ t rest f′. paired-searches side (a .moved (f′ .stood)) (b .moved (g .stood)));
           }
 
-      pub receded-neither : r ≡ paired side h′ k′ → Retreated ours side h h′ → Advanced other (not side) k k′ → aboveAt other p ours x ≡ false → Receded ours other side h k r
-      receded-neither e a a′ b =
-          record {
-            going = going-paired side h′ k′ r e;
-            moved = λ {m} {n} f g.
-                rw e
-                (second-by g (m .at .tree) (m .at .edge) (m .stack) f deep inner x p (top .is (f .stood)) (point .is (g .stood)) neither
-                (ap₂ caseOf (ap (λ (i : ℕ). aboveAt ours i other (k .at)) (sym at-top) ∙ clear) b)
-                (λ t rest f′. paired-searches side (a .moved (f′ .stood)) (rw (turn side) (a′ .moved (g .stood) (roomy g)))));
-          }
+      module _ (p : ℕ) (point : Pointed k p) (clear : aboveAt ours y other (k .at) ≡ false) where
+        pub receded-theirs : Retreated ours side h h′ → Retreated other (not side) k k′ → aboveAt other p ours x ≡ true → Receded ours other side h k h′ k′
+        receded-theirs a b e =
+            record {
+              moved = λ {m} {n} f g.
+                  second-by g (m .at .tree) (m .at .edge) (m .stack) f inner x p deep (top .is (f .stood)) (point .is (g .stood)) theirs
+                  (ap₂ caseOf (first-by ours other x y (k .at) at-top clear) e) (λ t rest f′. paired-searches side (a .moved (f′ .stood)) (rw (turn side) (b .moved (g .stood))));
+            }
 
--- ---- each answer of the code's step
+        pub receded-neither : Retreated ours side h h′ → Advanced other (not side) k k′ → aboveAt other p ours x ≡ false → Receded ours other side h k h′ k′
+        receded-neither a b e =
+            record {
+              moved = λ {m} {n} f g.
+                  second-by g (m .at .tree) (m .at .edge) (m .stack) f inner x p deep (top .is (f .stood)) (point .is (g .stood)) neither
+                  (ap₂ caseOf (first-by ours other x y (k .at) at-top clear) e)
+                  (λ t rest f′. paired-searches side (a .moved (f′ .stood)) (rw (turn side) (b .moved (g .stood) (roomy g))));
+            }
+
+-- ---- each of the steps
 
 leaf-test : {w : Words} {x : ℕ} (t : Tree Item) → Pieces w x t → leb x 4096 ≡ isLeaf t
 leaf-test {x} (leaf a) p = le-leb x 4096 (leaf-low p)
@@ -220,26 +194,36 @@ module _ (wl wr : Words) (s : Search) where
   leaves-test {M} b e f g = sym (ap₂ _&&_ (leaf-test (M .u .at .tree) (f .stood .here)) (leaf-test (M .v .at .tree) (g .stood .here))) ∙ e
 
 module _ {wl wr : Words} {s r : Search} {p : ℕ} (pu : Pointed (uOf s) p) where
-  pub stepped-mine : aboveAt wl p wr (s .v) ≡ true → Receded wl wr false (uOf s) (vOf s) r → Stepped wl wr s r
-  stepped-mine a z = record { moved = λ f g. step-by wl wr s r mine (pu .is (f .stood)) refl (mine-case _ _ a) f g (z .going, z .moved f g) }
+  pub stepped-mine : aboveAt wl p wr (s .v) ≡ true → r .done ≡ false → Receded wl wr false (uOf s) (vOf s) (uOf r) (vOf r) → Stepped wl wr s r
+  stepped-mine a d z =
+      record {
+        moved = λ f g.
+            let q = z .moved f g in
+            step-by wl wr s r mine (pu .is (f .stood)) refl (mine-case _ _ a) f g (d, record { u = q .u; v = q .v });
+      }
 
   module _ {q : ℕ} (pv : Pointed (vOf s) q) (clear : aboveAt wl p wr (s .v) ≡ false) where
-    pub stepped-theirs : aboveAt wr q wl (s .u) ≡ true → Receded wr wl true (vOf s) (uOf s) r → Stepped wl wr s r
-    stepped-theirs a z =
-        record { moved = λ f g. step-by wl wr s r theirs (pu .is (f .stood)) (pv .is (g .stood)) (ap₂ caseOf clear a) f g (z .going, z .moved g f) }
-
-    pub stepped-done : aboveAt wr q wl (s .u) ≡ false → leb (s .u) 4096 && leb (s .v) 4096 ≡ true → r ≡ finished s → Stepped wl wr s r
-    stepped-done clear′ e a =
+    pub stepped-theirs : aboveAt wr q wl (s .u) ≡ true → r .done ≡ false → Receded wr wl true (vOf s) (uOf s) (vOf r) (uOf r) → Stepped wl wr s r
+    stepped-theirs a d z =
         record {
-          moved = λ {M} f g.
-              step-by wl wr s r neither (pu .is (f .stood)) (pv .is (g .stood)) (ap₂ caseOf clear clear′) f g
-              (rw (leaves-test wl wr s true e f g) (ap (λ (z : Search). z .done) a, ap (λ (z : Search). z .u) a, ap (λ (z : Search). z .v) a));
+          moved = λ f g.
+              let q = z .moved g f in
+              step-by wl wr s r theirs (pu .is (f .stood)) (pv .is (g .stood)) (ap₂ caseOf clear a) f g (d, record { u = q .u; v = q .v });
         }
 
-    pub stepped-on : {h k : Walk} → aboveAt wr q wl (s .u) ≡ false → leb (s .u) 4096 && leb (s .v) 4096 ≡ false → r ≡ paired false h k → Advanced wl false (uOf s) h → Advanced wr true (vOf s) k → Stepped wl wr s r
-    stepped-on {h} {k} clear′ e a b c =
-        record {
-          moved = λ {M} f g.
-              step-by wl wr s r neither (pu .is (f .stood)) (pv .is (g .stood)) (ap₂ caseOf clear clear′) f g
-              (rw (leaves-test wl wr s false e f g) (going-paired false h k r a, rw a (paired-searches false (b .moved (f .stood) (roomy f)) (c .moved (g .stood) (roomy g)))));
-        }
+    module _ (clear′ : aboveAt wr q wl (s .u) ≡ false) where
+      pub stepped-done : leb (s .u) 4096 && leb (s .v) 4096 ≡ true → r .done ≡ true → Stays wl (uOf s) (uOf r) → Stays wr (vOf s) (vOf r) → Stepped wl wr s r
+      stepped-done e d a b =
+          record {
+            moved = λ {M} f g.
+                step-by wl wr s r neither (pu .is (f .stood)) (pv .is (g .stood)) (ap₂ caseOf clear clear′) f g
+                (rw (leaves-test wl wr s true e f g) (d, a .at, b .at));
+          }
+
+      pub stepped-on : leb (s .u) 4096 && leb (s .v) 4096 ≡ false → r .done ≡ false → Advanced wl false (uOf s) (uOf r) → Advanced wr true (vOf s) (vOf r) → Stepped wl wr s r
+      stepped-on e d a b =
+          record {
+            moved = λ {M} f g.
+                step-by wl wr s r neither (pu .is (f .stood)) (pv .is (g .stood)) (ap₂ caseOf clear clear′) f g
+                (rw (leaves-test wl wr s false e f g) (d, record { u = a .moved (f .stood) (roomy f); v = b .moved (g .stood) (roomy g) }));
+          }

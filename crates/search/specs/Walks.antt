@@ -15,12 +15,17 @@ use Rattle.meeting.specs.Moves.{half}
 use Rattle.table.specs.Words.{Words}
 use Rattle.table.specs.Items.{Item}
 use Rattle.table.specs.Rep.{childAt, refOf}
-use Rattle.search.specs.declared.Walk.{Walk}
 use Rattle.search.specs.ItemLines.{itemFigure, point-above}
 use Rattle.search.specs.Prices.{aboveAt, above-missing}
 use Rattle.search.specs.Pieces.{Pieces, sideOf, pieces-away, pieces-toward, leaf-low, inner-high, seam-at, seam-of, seam-above}
 
 -- ---- the relation
+
+-- one side of a search: the node where it stands, and the nodes that it turned inward at
+pub record Walk : Type 0 where
+  pub at : ℕ
+  pub stack : List ℕ
+  pub depth : ℕ
 
 -- the first d words of the stack are the nodes pushed, the top last
 pub data Stacks (w : Words) (st : List ℕ) : ℕ → List (Place Item) → Type 0 where
@@ -46,7 +51,7 @@ stacks-depth empty = refl
 stacks-depth (pushed p s) = ap suc (stacks-depth s)
 
 -- a word at or above the depth is free
-stacks-set : {w : Words} {st : List ℕ} {d : ℕ} {ps : List (Place Item)} (k x : ℕ) → d ≤ k → Stacks w st d ps → Stacks w (set st k x) d ps
+pub stacks-set : {w : Words} {st : List ℕ} {d : ℕ} {ps : List (Place Item)} (k x : ℕ) → d ≤ k → Stacks w st d ps → Stacks w (set st k x) d ps
 stacks-set k x h empty = empty
 stacks-set {w} {st} k x h (pushed {d = d} {l} {r} p s) =
     pushed (subst (λ (z : ℕ). Pieces w z (node l r)) (sym (getD-set-other st k d x 0 (λ e. omega arith))) p) (stacks-set k x (omega arith) s)

@@ -2,20 +2,17 @@
 // Every function takes any words. Left is false, right is true; toward is the way to the other envelope, away the way to the outer end.
 ghost use mathlib.Core.Path.{_≡_};
 ghost use mathlib.Core.Bool.{_&&_};
-ghost use lib.Dec.{T, leb};
-ghost use lib.IntN.{_+ℤ_, _*ℤ_};
-ghost use Rattle.offers.specs.Sizes.{numeratorInRange, denominatorInRange};
-ghost use Rattle.search.specs.Prices.{bounded, rateAt, baseAt, numeratorAt, denominatorAt, priceIn, crossingPriceAt, atMostAt, keptIn, aboveAt};
-ghost use Rattle.search.specs.Moves.{Topped, Pointed, Retreated, Advanced, Popped};
-ghost use Rattle.search.specs.Steps.{paired, finished, Receded, Stepped};
+ghost use lib.Dec.{leb};
+ghost use Rattle.table.specs.Layout.{cap};
+ghost use Rattle.table.specs.Rep.{childAt};
+ghost use Rattle.search.specs.Prices.{rateAt, baseAt, numeratorAt, denominatorAt, crossingPriceAt, aboveAt};
+ghost use Rattle.search.specs.Moves.{Under, topWord, pointWord};
+ghost use Rattle.search.specs.Actions.{Retreats, Advances, Pops, Acts, sided};
+ghost use Rattle.search.specs.Steps.{Stepped};
+ghost use Rattle.search.specs.Choices.{Recedes, Chooses};
 ghost use Rattle.search.specs.Runs.{started, Meets};
 
-// One side of a search: the node where it stands, and the nodes that it turned inward at.
-pub struct Walk {
-    pub at: u32,
-    pub stack: [u32; 24],
-    pub depth: usize,
-}
+mod prices; // prices.rt: comparisons of a crossing with a local envelope
 
 // The state of a search: u and v with their stacks, and whether it is finished.
 pub struct Search {
@@ -36,50 +33,50 @@ pub struct Met {
     pub done: bool,
 }
 
-// A word from `low` to `high`, and 0 for any other.
-fn bounded(low: i64, high: i64, value: i64) -> i64
-    ensures { λ r. ⌜ r ≡ bounded low high value ⌝ }
-{
-    if value < low {
-        return 0;
-    }
-    if high < value {
-        return 0;
-    }
-    value
+// What a walk does in a step.
+enum Action {
+    Stay,
+    Retreat,
+    Advance,
+    Pop,
+}
+
+// What u and v do in a step, and whether it is the last.
+struct Move {
+    u: Action,
+    v: Action,
+    done: bool,
+}
+
+// Where a walk stands: its node, and how many nodes it pushed.
+struct Stand {
+    at: u32,
+    depth: usize,
 }
 
 pub fn rate(part: &[i64], slot: u32) -> i64
     ensures { λ r. ⌜ r ≡ rateAt (now (part .entry)) slot ⌝ }
 {
-    bounded(-100_000, 100_000, table::get(part, 1, slot))
+    prices::bounded(-100_000, 100_000, table::get(part, 1, slot))
 }
 
 pub fn base(part: &[i64], slot: u32) -> i64
     ensures { λ r. ⌜ r ≡ baseAt (now (part .entry)) slot ⌝ }
 {
-    bounded(-1_000_000_000, 1_000_000_000, table::get(part, 2, slot))
+    prices::bounded(-1_000_000_000, 1_000_000_000, table::get(part, 2, slot))
 }
 
 // The crossing with the next piece: where the words hold one, its numerator and its denominator.
 pub fn numerator(part: &[i64], slot: u32) -> i64
     ensures { λ r. ⌜ r ≡ numeratorAt (now (part .entry)) slot ⌝ }
 {
-    bounded(-2_000_000_000, 2_000_000_000, table::get(part, 6, slot))
+    prices::bounded(-2_000_000_000, 2_000_000_000, table::get(part, 6, slot))
 }
 
 pub fn denominator(part: &[i64], slot: u32) -> i64
     ensures { λ r. ⌜ r ≡ denominatorAt (now (part .entry)) slot ⌝ }
 {
-    bounded(0, 200_000, table::get(part, 7, slot))
-}
-
-// The price of a slot's line at the load n over d, times d.
-fn price(part: &[i64], slot: u32, n: i64, d: i64) -> i64
-    requires { ⌜ T (numeratorInRange n) × T (denominatorInRange d) ⌝ }
-    ensures { λ r. ⌜ r ≡ priceIn (now (part .entry)) slot n d ⌝ }
-{
-    base(part, slot) * d + rate(part, slot) * n
+    prices::bounded(0, 200_000, table::get(part, 7, slot))
 }
 
 // The price of a slot's line at the crossing that the slot keeps, times its denominator.
@@ -88,170 +85,180 @@ pub fn crossing_price(part: &[i64], slot: u32) -> i64
 {
     let n = numerator(part, slot);
     let d = denominator(part, slot);
-    price(part, slot, n, d)
+    let c = table::capacity(part);
+    prices::price(part, c, slot, n, d)
 }
 
-// The slot in which a node is kept.
-fn kept_in(x: u32) -> u32
-    ensures { λ r. ⌜ r ≡ keptIn x ⌝ }
-{
-    if x <= 4096 {
-        return x;
-    }
-    x - 4096
-}
-
-// Whether at the crossing that slot `p` keeps the line of slot `s` is at most the line of slot `p`.
-fn at_most(ours: &[i64], p: u32, other: &[i64], s: u32) -> bool
-    ensures { λ r. ⌜ r ≡ atMostAt (now (ours .entry)) p (now (other .entry)) s ⌝ }
-{
-    let n = numerator(ours, p);
-    let d = denominator(ours, p);
-    price(other, s, n, d) <= price(ours, p, n, d)
-}
-
-// Whether the crossing that slot `p` keeps is on or above the local envelope of node `x`. Slot 0 stands for a missing end.
 pub fn on_or_above(ours: &[i64], p: u32, other: &[i64], x: u32) -> bool
     ensures { λ r. ⌜ r ≡ aboveAt (now (ours .entry)) p (now (other .entry)) x ⌝ }
 {
-    if p < 1 {
-        return false;
-    }
-    let s = kept_in(x);
-    if at_most(ours, p, other, s) {
-        return true;
-    }
-    if x <= 4096 {
-        return false;
-    }
-    at_most(ours, p, other, table::link(other, 19, s))
+    prices::above(
+        ours,
+        table::capacity(ours),
+        p,
+        other,
+        table::capacity(other),
+        x,
+    )
 }
 
-// The node pushed last, and 0 where there is none.
-fn top(h: Walk) -> u32
-    ensures { λ r. ⌜ Topped h r ⌝ }
+// The place in a stack of the node pushed last, and some place where there is none.
+fn under(depth: usize) -> usize
+    ensures { λ r. ⌜ Under depth r ⌝ }
 {
-    let depth = h.depth;
-    let stack = h.stack;
     if depth < 1 {
         return 0;
     }
     if 24 < depth {
         return 0;
     }
-    stack[depth - 1]
+    depth - 1
+}
+
+// The node pushed last, and 0 where there is none; `word` is what stands at that place.
+fn top(depth: usize, word: u32) -> u32
+    ensures { λ r. ⌜ r ≡ topWord depth word ⌝ }
+{
+    if depth < 1 {
+        return 0;
+    }
+    word
 }
 
 // The slot that keeps the walk's point: an inner node's own, of a leaf that of the node pushed last.
-fn point(h: Walk) -> u32
-    ensures { λ r. ⌜ Pointed h r ⌝ }
+fn point(at: u32, top: u32) -> u32
+    ensures { λ r. ⌜ r ≡ pointWord at top ⌝ }
 {
-    let at = h.at;
     if at <= 4096 {
-        return table::inner_slot(top(h));
+        return table::inner_slot(top);
     }
     at - 4096
 }
 
-// An inner node goes away; a leaf stays.
-fn retreat(part: &[i64], side: bool, h: Walk) -> Walk
-    ensures { λ r. ⌜ Retreated (now (part .entry)) side h r ⌝ }
+fn child(part: &[i64], c: u32, side: bool, x: u32) -> u32
+    requires { ⌜ c ≡ cap (now part) ⌝ }
+    ensures { λ r. ⌜ r ≡ childAt (now (part .entry)) 0 side x ⌝ }
 {
-    let at = h.at;
-    let stack = h.stack;
+    prices::link(part, c, table::child_field(0, side), table::inner_slot(x))
+}
+
+// An inner node goes away; a leaf stays.
+fn retreat(part: &[i64], c: u32, side: bool, at: u32) -> u32
+    requires { ⌜ c ≡ cap (now part) ⌝ }
+    ensures { λ r. ⌜ Retreats (now (part .entry)) side at r ⌝ }
+{
     if at <= 4096 {
-        return h;
+        return at;
     }
-    Walk {
-        at: table::child(part, 0, side, at),
-        stack: stack,
-        depth: h.depth,
-    }
+    child(part, c, side, at)
 }
 
 // An inner node is pushed and goes toward; a leaf stays.
-fn advance(part: &[i64], side: bool, h: Walk) -> Walk
-    ensures { λ r. ⌜ Advanced (now (part .entry)) side h r ⌝ }
+fn advance(part: &[i64], c: u32, side: bool, at: u32, depth: usize) -> Stand
+    requires { ⌜ c ≡ cap (now part) ⌝ }
+    ensures { λ r. ⌜ Advances (now (part .entry)) side at depth r ⌝ }
 {
-    let at = h.at;
-    let depth = h.depth;
-    let mut stack = h.stack;
     if at <= 4096 {
-        return h;
+        return Stand {
+            at: at,
+            depth: depth,
+        };
     }
     if 24 <= depth {
-        return h;
+        return Stand {
+            at: at,
+            depth: depth,
+        };
     }
-    stack[depth] = at;
-    Walk {
-        at: table::child(part, 0, !side, at),
-        stack: stack,
+    Stand {
+        at: child(part, c, !side, at),
         depth: depth + 1,
     }
 }
 
 // The node pushed last is popped, and the walk goes to its child on the away side.
-fn pop(part: &[i64], side: bool, h: Walk) -> Walk
-    ensures { λ r. ⌜ Popped (now (part .entry)) side h r ⌝ }
+fn pop(part: &[i64], c: u32, side: bool, depth: usize, top: u32) -> Stand
+    requires { ⌜ c ≡ cap (now part) ⌝ }
+    ensures { λ r. ⌜ Pops (now (part .entry)) side depth top r ⌝ }
 {
-    let depth = h.depth;
-    let stack = h.stack;
     if depth < 1 {
-        return h;
+        return Stand {
+            at: top,
+            depth: depth,
+        };
     }
-    Walk {
-        at: table::child(part, 0, side, top(h)),
-        stack: stack,
+    Stand {
+        at: child(part, c, side, top),
         depth: depth - 1,
     }
 }
 
-// Two walks as a state, the first of the given side.
-fn pair(side: bool, h: Walk, k: Walk) -> Search
-    ensures { λ r. ⌜ r ≡ paired side h k ⌝ }
+// Where an action leads a walk.
+fn act(part: &[i64], c: u32, side: bool, action: Action, at: u32, depth: usize, top: u32) -> Stand
+    requires { ⌜ c ≡ cap (now part) ⌝ }
+    ensures { λ r. ⌜ Acts (now (part .entry)) side action at depth top r ⌝ }
 {
-    let hs = h.stack;
-    let ks = k.stack;
+    match action {
+        Action::Stay => Stand {
+            at: at,
+            depth: depth,
+        },
+        Action::Retreat => Stand {
+            at: retreat(part, c, side, at),
+            depth: depth,
+        },
+        Action::Advance => advance(part, c, side, at, depth),
+        Action::Pop => pop(part, c, side, depth, top),
+    }
+}
+
+// Two actions that do not end the search, the first of the given side.
+fn pair(side: bool, a: Action, b: Action) -> Move
+    ensures { λ r. ⌜ r ≡ sided side a b ⌝ }
+{
     if side {
-        return Search {
-            u: k.at,
-            v: h.at,
-            us: ks,
-            ud: k.depth,
-            vs: hs,
-            vd: h.depth,
+        return Move {
+            u: b,
+            v: a,
             done: false,
         };
     }
-    Search {
-        u: h.at,
-        v: k.at,
-        us: hs,
-        ud: h.depth,
-        vs: ks,
-        vd: k.depth,
+    Move {
+        u: a,
+        v: b,
         done: false,
     }
 }
 
-// Case 1 of the left side, and its mirror image, case 2, of the right: the point of `h` is on or above the other's local envelope.
-fn recede(ours: &[i64], other: &[i64], side: bool, h: Walk, k: Walk) -> Search
-    ensures { λ r. ⌜ Receded (now (ours .entry)) (now (other .entry)) side h k r ⌝ }
+// Case 1 of the left side, and its mirror image, case 2, of the right: our point is on or above the other's local envelope.
+// We stand at `x` and pushed `t` last; the other stands at `y`, and slot `p` keeps its point. `c` and `k` are the capacities.
+fn recede(
+    ours: &[i64],
+    c: u32,
+    other: &[i64],
+    k: u32,
+    side: bool,
+    x: u32,
+    t: u32,
+    y: u32,
+    p: u32,
+) -> Move
+    requires { ⌜ (c ≡ cap (now ours)) × (k ≡ cap (now other)) ⌝ }
+    ensures { λ r. ⌜ Recedes (now (ours .entry)) (now (other .entry)) side x t y p r ⌝ }
 {
-    if h.depth < 1 {
-        return pair(side, retreat(ours, side, h), k);
+    if t < 1 {
+        return pair(side, Action::Retreat, Action::Stay);
     }
-    if h.at <= 4096 {
-        return pair(side, pop(ours, side, h), k);
+    if x <= 4096 {
+        return pair(side, Action::Pop, Action::Stay);
     }
-    let t = top(h);
-    if on_or_above(ours, table::inner_slot(t), other, k.at) {
-        return pair(side, pop(ours, side, h), k);
+    if prices::above(ours, c, table::inner_slot(t), other, k, y) {
+        return pair(side, Action::Pop, Action::Stay);
     }
-    if on_or_above(other, point(k), ours, t) {
-        return pair(side, retreat(ours, side, h), retreat(other, !side, k));
+    if prices::above(other, k, p, ours, c, t) {
+        return pair(side, Action::Retreat, Action::Retreat);
     }
-    pair(side, retreat(ours, side, h), advance(other, !side, k))
+    pair(side, Action::Retreat, Action::Advance)
 }
 
 fn both_leaves(u: u32, v: u32) -> bool
@@ -263,39 +270,67 @@ fn both_leaves(u: u32, v: u32) -> bool
     false
 }
 
-fn finished(mut s: Search) -> Search
-    ensures { λ r. ⌜ r ≡ finished s ⌝ }
+// What a step does at u and v, whose stacks have `t` and `w` on top.
+fn choose(left: &[i64], c: u32, right: &[i64], k: u32, u: u32, t: u32, v: u32, w: u32) -> Move
+    requires { ⌜ (c ≡ cap (now left)) × (k ≡ cap (now right)) ⌝ }
+    ensures { λ r. ⌜ Chooses (now (left .entry)) (now (right .entry)) u t v w r ⌝ }
 {
-    s.done = true;
-    s
+    let p = point(u, t);
+    let q = point(v, w);
+    if prices::above(left, c, p, right, k, v) {
+        return recede(left, c, right, k, false, u, t, v, q);
+    }
+    if prices::above(right, k, q, left, c, u) {
+        return recede(right, k, left, c, true, v, w, u, p);
+    }
+    if both_leaves(u, v) {
+        return Move {
+            u: Action::Stay,
+            v: Action::Stay,
+            done: true,
+        };
+    }
+    Move {
+        u: Action::Advance,
+        v: Action::Advance,
+        done: false,
+    }
 }
 
-// One step of the search.
-fn step(left: &[i64], right: &[i64], s: Search) -> Search
+// One step of the search. Whatever the walks do, u and v are noted above their stacks' tops, where an advance finds them pushed:
+// so the stacks are written before the comparisons, and copied once.
+fn step(left: &[i64], c: u32, right: &[i64], k: u32, s: Search) -> Search
+    requires { ⌜ (c ≡ cap (now left)) × (k ≡ cap (now right)) ⌝ }
     ensures { λ r. ⌜ Stepped (now (left .entry)) (now (right .entry)) s r ⌝ }
 {
-    let us = s.us;
-    let vs = s.vs;
-    let u = Walk {
-        at: s.u,
-        stack: us,
-        depth: s.ud,
-    };
-    let v = Walk {
-        at: s.v,
-        stack: vs,
-        depth: s.vd,
-    };
-    if on_or_above(left, point(u), right, s.v) {
-        return recede(left, right, false, u, v);
+    let ud = s.ud;
+    let vd = s.vd;
+    let mut us = s.us;
+    let mut vs = s.vs;
+    let i = under(ud);
+    let j = under(vd);
+    let t = top(ud, us[i]);
+    let w = top(vd, vs[j]);
+    if ud < 24 {
+        us[ud] = s.u;
     }
-    if on_or_above(right, point(v), left, s.u) {
-        return recede(right, left, true, v, u);
+    if vd < 24 {
+        vs[vd] = s.v;
     }
-    if both_leaves(s.u, s.v) {
-        return finished(s);
+    let m = choose(left, c, right, k, s.u, t, s.v, w);
+    let by_u = m.u;
+    let by_v = m.v;
+    let a = act(left, c, false, by_u, s.u, ud, t);
+    let b = act(right, k, true, by_v, s.v, vd, w);
+    Search {
+        u: a.at,
+        v: b.at,
+        us: us,
+        ud: a.depth,
+        vs: vs,
+        vd: b.depth,
+        done: m.done,
     }
-    pair(false, advance(left, false, u), advance(right, true, v))
 }
 
 fn start(l: u32, r: u32) -> Search
@@ -316,10 +351,12 @@ fn start(l: u32, r: u32) -> Search
 pub fn meet(left: &[i64], right: &[i64], l: u32, r: u32) -> Met
     ensures { λ m. ⌜ Meets (now (left .entry)) (now (right .entry)) l r m ⌝ }
 {
+    let c = table::capacity(left);
+    let k = table::capacity(right);
     let mut s = start(l, r);
     let mut steps: u32 = 0;
     while steps < 145 {
-        s = step(left, right, s);
+        s = step(left, c, right, k, s);
         steps += 1;
         if s.done {
             return Met {

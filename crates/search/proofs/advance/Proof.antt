@@ -1,20 +1,14 @@
 -- `search::advance` meets its contract.
-use Rattle.search.specs.Moves.{advanced-leaf, advanced-full, advanced-node}
+use Rattle.search.specs.Actions.{advances-leaf, advances-full, advances-node}
 use borrow.Author.Needs.{needs}
 use Rattle.search.proofs.advance.Statement.{statement}
 use Rattle.search.proofs.advance.Tie as tie
 
 returns : tie.Need-returns
-returns c = advanced-leaf (c .if1 .taken)
+returns c = advances-leaf (c .if1 .taken)
 
 returns-2 : tie.Need-returns-2
-returns-2 c = advanced-full (c .before .if1 .left) (c .if2 .taken)
-
-mul-stack : tie.Need-mul-stack
-mul-stack c = search needs
-
-array-write-stack : tie.Need-array-write-stack
-array-write-stack c = search needs
+returns-2 c = advances-full (c .before .if1 .left) (c .if2 .taken)
 
 child-requires : tie.Need-child-requires
 child-requires c κs = search needs
@@ -23,9 +17,7 @@ add-t8 : tie.Need-add-t8
 add-t8 c = search needs
 
 returns-3 : tie.Need-returns-3
-returns-3 c = advanced-node (c .before .before .if1 .left) (c .before .if2 .left) (c .child .ensures)
+returns-3 c = advances-node (c .before .before .if1 .left) (c .before .if2 .left) (c .child .ensures)
 
 pub advance-spec : {M : Type 1} → statement M
-advance-spec =
-    tie.close
-    (tie.spec returns returns-2 mul-stack array-write-stack child-requires add-t8 returns-3)
+advance-spec = tie.close (tie.spec returns returns-2 child-requires add-t8 returns-3)

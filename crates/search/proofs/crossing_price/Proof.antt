@@ -2,7 +2,7 @@
 use mir.Facts.{toZ-ofZ}
 use mir.Syntax.{w64}
 use mir.Val.{SFits}
-use Rattle.search.specs.Prices.{crossing-ranged, crossing-price-is}
+use Rattle.search.specs.Prices.{crossing-priced, crossing-price-is}
 use borrow.Author.Needs.{needs}
 use Rattle.search.proofs.crossing_price.Statement.{statement}
 use Rattle.search.proofs.crossing_price.Tie as tie
@@ -13,18 +13,23 @@ numerator-requires c κs = search needs
 denominator-requires : tie.Need-denominator-requires
 denominator-requires c κs = search needs
 
+capacity-requires : tie.Need-capacity-requires
+capacity-requires c κs = search needs
+
 price-requires : tie.Need-price-requires
 price-requires c κs =
-    let a = c .before .before .args in
-    let fn : SFits w64 (c .before .numerator .result) = record { sfits = c .before .numerator .ok } in
-    let fd : SFits w64 (c .denominator .result) = record { sfits = c .denominator .ok } in
-    simp (toZ-ofZ, fn, fd) (crossing-ranged (a .part .now) (a .slot) _ _ (c .before .numerator .ensures) (c .denominator .ensures))
-
-returns : tie.Need-returns
-returns c =
     let a = c .before .before .before .args in
     let n = c .before .before .numerator in
     let d = c .before .denominator in
+    let fn : SFits w64 (n .result) = record { sfits = n .ok } in
+    let fd : SFits w64 (d .result) = record { sfits = d .ok } in
+    simp (toZ-ofZ, fn, fd) (crossing-priced (a .part .now) (a .slot) (a .part .now) (c .capacity .ensures) (n .ensures) (d .ensures))
+
+returns : tie.Need-returns
+returns c =
+    let a = c .before .before .before .before .args in
+    let n = c .before .before .before .numerator in
+    let d = c .before .before .denominator in
     let fn : SFits w64 (n .result) = record { sfits = n .ok } in
     let fd : SFits w64 (d .result) = record { sfits = d .ok } in
     let fp : SFits w64 (c .price .result) = record { sfits = c .price .ok } in
@@ -33,4 +38,4 @@ returns c =
 
 pub crossing-price-spec : {M : Type 1} → statement M
 crossing-price-spec =
-    tie.close (tie.spec numerator-requires denominator-requires price-requires returns)
+    tie.close (tie.spec numerator-requires denominator-requires capacity-requires price-requires returns)

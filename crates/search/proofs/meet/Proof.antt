@@ -7,10 +7,16 @@ use Rattle.search.proofs.meet.Statement.{statement}
 use Rattle.search.proofs.meet.Tie as tie
 
 abbrev Inv-loop : tie.InvT-loop
-Inv-loop left right l r s₀ steps₀ s steps = (steps ≤ 145) × Going left right l r s steps
+Inv-loop left right l r c k s₀ steps₀ s steps = (steps ≤ 145) × Going left right l r s steps
 
 abbrev μ-loop : tie.MeasureT-loop
-μ-loop left right l r s₀ steps₀ s steps = 145 - steps
+μ-loop left right l r c k s₀ steps₀ s steps = 145 - steps
+
+capacity-requires : tie.Need-capacity-requires Inv-loop μ-loop
+capacity-requires c κs = search needs
+
+capacity-requires-2 : tie.Need-capacity-requires-2 Inv-loop μ-loop
+capacity-requires-2 c κs = search needs
 
 start-requires : tie.Need-start-requires Inv-loop μ-loop
 start-requires c κs = search needs
@@ -42,6 +48,8 @@ meet-spec =
     (tie.spec
     Inv-loop
     μ-loop
+    capacity-requires
+    capacity-requires-2
     start-requires
     loop-holds
     step-requires

@@ -1,17 +1,17 @@
 -- `search::retreat` meets its contract.
-use Rattle.search.specs.Moves.{retreated-leaf, retreated-node}
+use Rattle.search.specs.Actions.{retreats-leaf, retreats-node}
 use borrow.Author.Needs.{needs}
 use Rattle.search.proofs.retreat.Statement.{statement}
 use Rattle.search.proofs.retreat.Tie as tie
 
 returns : tie.Need-returns
-returns c = retreated-leaf (c .if1 .taken)
+returns c = retreats-leaf (c .if1 .taken)
 
 child-requires : tie.Need-child-requires
 child-requires c κs = search needs
 
 returns-2 : tie.Need-returns-2
-returns-2 c = retreated-node (c .before .if1 .left) (c .child .ensures)
+returns-2 c = retreats-node (c .before .if1 .left) (c .child .ensures)
 
 pub retreat-spec : {M : Type 1} → statement M
 retreat-spec = tie.close (tie.spec returns child-requires returns-2)

@@ -1,9 +1,9 @@
--- `search::kept_in` meets its contract: by its test.
+-- `search::prices::kept_in` meets its contract: by its test.
 use mathlib.Core.Path.{sym}
 use borrow.Author.Needs.{needs}
 use Rattle.search.specs.Prices.{kept-leaf, kept-inner}
-use Rattle.search.proofs.kept_in.Statement.{statement}
-use Rattle.search.proofs.kept_in.Tie as tie
+use Rattle.search.proofs.prices.kept_in.Statement.{statement}
+use Rattle.search.proofs.prices.kept_in.Tie as tie
 
 returns : tie.Need-returns
 returns c = sym (kept-leaf _ (c .if1 .taken))

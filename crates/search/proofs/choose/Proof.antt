@@ -1,0 +1,58 @@
+-- `search::choose` meets its contract: each of its answers is one of the machine's cases.
+use mathlib.Core.Path.{sym, _∙_}
+use Rattle.search.specs.Choices.{chooses-mine, chooses-theirs, chooses-done, chooses-on}
+use borrow.Author.Needs.{needs}
+use Rattle.search.proofs.choose.Statement.{statement}
+use Rattle.search.proofs.choose.Tie as tie
+
+point-requires : tie.Need-point-requires
+point-requires c κs = search needs
+
+point-requires-2 : tie.Need-point-requires-2
+point-requires-2 c κs = search needs
+
+above-requires : tie.Need-above-requires
+above-requires c κs = search needs
+
+recede-requires : tie.Need-recede-requires
+recede-requires c κs = search needs
+
+returns : tie.Need-returns
+returns c = chooses-mine (c .before .before .before .before .point .ensures) (c .before .before .before .point2 .ensures) (sym (c .before .before .above .ensures) ∙ c .before .if1 .taken) (c .recede .ensures)
+
+above-requires-2 : tie.Need-above-requires-2
+above-requires-2 c κs = search needs
+
+recede-requires-2 : tie.Need-recede-requires-2
+recede-requires-2 c κs = search needs
+
+returns-2 : tie.Need-returns-2
+returns-2 c =
+    chooses-theirs (c .before .before .before .before .before .before .point .ensures) (c .before .before .before .before .before .point2 .ensures) (sym (c .before .before .before .before .above .ensures) ∙ c .before .before .before .if1 .left) (sym (c .before .before .above2 .ensures) ∙ c .before .if2 .taken) (c .recede2 .ensures)
+
+both-leaves-requires : tie.Need-both-leaves-requires
+both-leaves-requires c κs = search needs
+
+returns-3 : tie.Need-returns-3
+returns-3 c =
+    chooses-done (c .before .before .before .before .before .before .before .point .ensures) (c .before .before .before .before .before .before .point2 .ensures) (sym (c .before .before .before .before .before .above .ensures) ∙ c .before .before .before .before .if1 .left) (sym (c .before .before .before .above2 .ensures) ∙ c .before .before .if2 .left) (sym (c .before .both-leaves .ensures) ∙ c .if3 .taken)
+
+returns-4 : tie.Need-returns-4
+returns-4 c =
+    chooses-on (c .before .before .before .before .before .before .before .point .ensures) (c .before .before .before .before .before .before .point2 .ensures) (sym (c .before .before .before .before .before .above .ensures) ∙ c .before .before .before .before .if1 .left) (sym (c .before .before .before .above2 .ensures) ∙ c .before .before .if2 .left) (sym (c .before .both-leaves .ensures) ∙ c .if3 .left)
+
+pub choose-spec : {M : Type 1} → statement M
+choose-spec =
+    tie.close
+    (tie.spec
+    point-requires
+    point-requires-2
+    above-requires
+    recede-requires
+    returns
+    above-requires-2
+    recede-requires-2
+    returns-2
+    both-leaves-requires
+    returns-3
+    returns-4)

@@ -1,0 +1,24 @@
+-- `search::prices::numerator` meets its contract.
+use mathlib.Core.Path.{_∙_, ap}
+use mir.Facts.{toZ-ofZ}
+use mir.Syntax.{w64}
+use mir.Val.{SFits}
+use Rattle.search.specs.Prices.{bounded}
+use borrow.Author.Needs.{needs}
+use Rattle.search.proofs.prices.numerator.Statement.{statement}
+use Rattle.search.proofs.prices.numerator.Tie as tie
+
+read-requires : tie.Need-read-requires
+read-requires c κs = search needs
+
+bounded-requires : tie.Need-bounded-requires
+bounded-requires c κs = search needs
+
+returns : tie.Need-returns
+returns c =
+    let f : SFits w64 (c .before .read .result) = record { sfits = c .before .read .ok } in
+    let g : SFits w64 (c .bounded .result) = record { sfits = c .bounded .ok } in
+    simp (toZ-ofZ, g) ((simp (toZ-ofZ, f) at (c .bounded .ensures)) ∙ ap (bounded _ _) (c .before .read .ensures))
+
+pub numerator-spec : {M : Type 1} → statement M
+numerator-spec = tie.close (tie.spec read-requires bounded-requires returns)
