@@ -11,7 +11,7 @@ use Rattle.trees.specs.Tree.{leaves}
 use Rattle.trees.specs.Operations.{Part, partLeaves}
 use Rattle.dynamic.specs.OfferTree.{Held, heldShape}
 use Rattle.dynamic.specs.Valid.{bookLines}
-use Rattle.table.specs.Words.{Words, word, wset, wset-same, upTo}
+use Rattle.table.specs.Words.{Words, word, wset, wset-same}
 use Rattle.table.specs.Layout.{cap, cell, cset, cset-cap, cset-other, header-outside, header-cap, header-cell}
 use Rattle.table.specs.Items.{Item, In, at}
 use Rattle.table.specs.Rep.{Field, a-child, a-height, Within, within-cap, Only}
@@ -175,5 +175,5 @@ module _ {w w′ : Words} where
   free-agree g (free-more {s} {ss} low high zero next more) =
       free-more low (rw (g .room) high)
       (g .cells 0 s (inl refl, List·Memᴰ·head refl) ∙ zero)
-      (ap (upTo 8192) (g .cells 3 s (inr refl, List·Memᴰ·head refl)) ∙ next)
+      (g .cells 3 s (inr refl, List·Memᴰ·head refl) ∙ next)
       (free-agree (agree-less (λ f t d. (d .0, List·Memᴰ·tail (d .1))) g) more)

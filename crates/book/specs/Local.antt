@@ -11,7 +11,7 @@ use Rattle.trees.specs.Tree.{leaves}
 use Rattle.trees.specs.Operations.{Part, partLeaves}
 use Rattle.dynamic.specs.OfferTree.{Held, heldShape}
 use Rattle.dynamic.specs.Rearranged.{stored}
-use Rattle.table.specs.Words.{Words, word, word-out, upTo}
+use Rattle.table.specs.Words.{Words, word, word-out}
 use Rattle.table.specs.Layout.{cap, cap-of, cell, linkAt, place, place-high, Valid, valid?, spot, spot-of, spot-in, spot-out}
 use Rattle.table.specs.Items.{Item, Slots}
 use Rattle.update.specs.Stored.{HeldIn}
@@ -64,7 +64,7 @@ module _ {w w′ : Words} {c : ℕ} (fits : cap w ≡ c) (a : Alike c w w′) wh
 
   alike-free : {ss : List ℕ} → FreeChain w ss → FreeChain w′ ss
   alike-free free-none = free-none
-  alike-free (free-more {s} {ss} low high zero next rest) = free-more low (rw alike-cap high) (alike-cell 0 s ∙ zero) (ap (upTo 8192) (alike-cell 3 s) ∙ next) (alike-free rest)
+  alike-free (free-more {s} {ss} low high zero next rest) = free-more low (rw alike-cap high) (alike-cell 0 s ∙ zero) (alike-cell 3 s ∙ next) (alike-free rest)
 
 pub book-alike : {w w′ : Words} {c : ℕ} {held : Option (Held Item)} → Book w c held → Alike c w w′ → Book w′ c held
 book-alike {w} {w′} {c} {held} b a =

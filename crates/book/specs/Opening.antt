@@ -152,10 +152,10 @@ module _ {c : ℕ} {w w′ : Words} (b : Begun c w) (l : Laid c c w w′) where
   chain zero k low e = free-none
   chain (suc zero) k low e =
       free-more low (omega (arith, fits)) (l .number k low (omega arith))
-      (ap (upTo 8192) (l .end k low (omega arith) (omega arith)) ∙ upTo-in 8192 0 (omega arith)) free-none
+      (l .end k low (omega arith) (omega arith)) free-none
   chain (suc (suc n)) k low e =
       free-more low (omega (arith, fits)) (l .number k low (omega arith))
-      (ap (upTo 8192) (l .next k low (omega arith) (omega arith)) ∙ upTo-in 8192 (suc k) (omega (arith, b .high)))
+      (l .next k low (omega arith) (omega arith))
       (chain (suc n) (suc k) (omega arith) (omega arith))
 
   pub opened-book : Book w′ c none

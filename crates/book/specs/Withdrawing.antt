@@ -147,8 +147,8 @@ module _ {w w₁ w₂ w₃ w₄ w′ : Words} {number : ℤ} {c s root root′ x
   free-chain′ : FreeChain w′ (s ∷ b .free)
   free-chain′ =
       free-more slot-low (omega (arith, free-kept .room, slot-high)) (steps .freed .number)
-      (steps .freed .next ∙ ap (upTo 8192) (header-before 5 (omega arith) (omega arith) (omega arith) ∙ b .first-free)
-      ∙ upTo-in 8192 (head0 (b .free)) (omega (arith, chain-head (b .free-chain), cap-most w)))
+      (steps .freed .next
+      ∙ ap pos (ap (upTo 8192) (header-before 5 (omega arith) (omega arith) (omega arith) ∙ b .first-free) ∙ upTo-in 8192 (head0 (b .free)) (omega (arith, chain-head (b .free-chain), cap-most w))))
       (free-agree free-kept (b .free-chain))
 
   numbers-root′ : word w′ 4 ≡ pos (partRef numbers′)

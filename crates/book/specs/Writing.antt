@@ -13,9 +13,9 @@ use Rattle.integers.specs.Parts.{intRules, and-left, range-low}
 use Rattle.offers.specs.Offers.{Offer, numberInRange, rateInRange, baseInRange}
 use Rattle.dynamic.specs.OfferTree.{Held}
 use Rattle.dynamic.specs.Valid.{bookLines}
-use Rattle.table.specs.Words.{Words, word, wset, wset-other, upTo, upTo-in, upTo-most}
+use Rattle.table.specs.Words.{Words, word, wset, wset-other, upTo, upTo-in}
 use Rattle.table.specs.Layout.{cap, cap-most, cell, cset, linkAt, Valid, cset-same, cset-other, cset-rest, header-outside}
-use Rattle.table.specs.Free.{firstFree, given}
+use Rattle.table.specs.Free.{firstFree, given, free-link}
 use Rattle.table.specs.Items.{Item, In, at}
 use Rattle.table.specs.Threads.{Holds}
 use Rattle.update.specs.Form.{Book, FreeChain, free-more, head0}
@@ -36,7 +36,7 @@ pub record Filled (s : ℕ) (o : Offer) (w w′ : Words) : Type 0 where
 
 pub record Freed (s : ℕ) (w w′ : Words) : Type 0 where
   pub number : cell w′ 0 s ≡ pos 0
-  pub next : linkAt w′ 3 s ≡ upTo 8192 (word w 5)
+  pub next : cell w′ 3 s ≡ pos (firstFree w)
   pub first : word w′ 5 ≡ pos s
   pub header : (i : ℕ) → i < 64 → i ≢ 5 → word w′ i ≡ word w i
   pub agree : Agree (Elsewhere s) w w′
@@ -86,11 +86,11 @@ module _ (w : Words) (s : ℕ) (low : 1 ≤ s) (high : s ≤ cap w) where
           ∙ ap (λ (v : Words). word v i) e₃ ∙ cset-rest w₂ 1 s (o .rate) (header-outside w₂ h)
           ∙ ap (λ (v : Words). word v i) e₂ ∙ cset-rest w₁ 0 s (o .number) (header-outside w₁ h)
 
-  pub freed : {w₁ w₂ w₃ : Words} (z : ℤ) → w₁ ≡ cset w 0 s (pos 0) → upTo 8192 z ≡ upTo 8192 (word w 5) → w₂ ≡ cset w₁ 3 s z → w₃ ≡ wset w₂ 5 (pos s) → Freed s w w₃
-  freed {w₁} {w₂} {w₃} z e₁ ez e₂ e₃ =
+  freed : {w₁ w₂ w₃ : Words} → w₁ ≡ cset w 0 s (pos 0) → w₂ ≡ cset w₁ 3 s (pos (firstFree w)) → w₃ ≡ wset w₂ 5 (pos s) → Freed s w w₃
+  freed {w₁} {w₂} {w₃} e₁ e₂ e₃ =
       record {
         number = last 0 ∙ ap (at 0) e₂ ∙ cset-other w₁ 3 s z (λ q. omega (arith, q .0)) ∙ ap (at 0) e₁ ∙ cset-same (pos 0) (here w 0 (omega arith) refl);
-        next = ap (upTo 8192) (last 3 ∙ ap (at 3) e₂ ∙ cset-same z (here w₁ 3 (omega arith) (g₁ .room))) ∙ ez;
+        next = last 3 ∙ ap (at 3) e₂ ∙ cset-same z (here w₁ 3 (omega arith) (g₁ .room));
         first = ap (λ (v : Words). word v 5) e₃ ∙ header-set w₂ 5 (pos s) (omega (arith, g₂ .room)) (omega arith);
         header = λ i h d.
             ap (λ (v : Words). word v i) e₃ ∙ wset-other w₂ 5 i (pos s) d
@@ -101,6 +101,9 @@ module _ (w : Words) (s : ℕ) (low : 1 ≤ s) (high : s ≤ cap w) where
     where
       at : ℕ → Words → ℤ
       at f v = cell v f s
+
+      z : ℤ
+      z = pos (firstFree w)
 
       g₁ : Agree (Elsewhere s) w w₁
       g₁ = rw e₁ (agree-cset w 0 s (pos 0))
@@ -116,7 +119,7 @@ module _ (w : Words) (s : ℕ) (low : 1 ≤ s) (high : s ≤ cap w) where
 
   -- as the code gives it back
   pub freed-given : {w′ : Words} → w′ ≡ given w s → Freed s w w′
-  freed-given e = freed (pos (firstFree w)) refl (upTo-in 8192 (firstFree w) (upTo-most 8192 (word w 5))) refl e
+  freed-given e = freed refl refl e
 
 pub headed : (w : Words) → 1 ≤ cap w → {w₁ w₂ w₃ : Words} {x e n : ℕ} → w₁ ≡ wset w 1 (pos x) → w₂ ≡ wset w₁ 2 (pos e) → w₃ ≡ wset w₂ 3 (pos n) → Headed x e n w w₃
 headed w low {w₁} {w₂} {w₃} {x} {e} {n} e₁ e₂ e₃ =
@@ -180,7 +183,7 @@ first-free {w} {c} {s} {held} b room e = go (b .free) (b .first-free) (b .free-c
       record {
         low = omega (arith, same);
         high = omega (arith, same);
-        next = ap (linkAt w 3) same ∙ next;
+        next = ap (linkAt w 3) same ∙ free-link t more next;
         chain = more;
         other = λ u m d. rel-of-pairwise-cons apart ∣ m ∣₁ (sym (d ∙ same));
         apart = Pairwise·of-cons apart;

@@ -8,6 +8,7 @@ use Prim.Native.Nat.{ℕ, zero, suc, _+_, _-_, _≤_, _<_}
 use native.Mathlib.Omega.{arith}
 use lib.Dec.{T}
 use lib.ListN.{length, getD, length-append, List·getD-map}
+use lib.IntN.{pos}
 use lib.Seq.{append-snoc}
 use Rattle.lists.specs.Places.{sublist-mem}
 use Rattle.envelopes.specs.PseudoLines.{Figure, PseudoLines}
@@ -26,12 +27,12 @@ use Rattle.table.specs.Items.{Item}
 use Rattle.table.specs.Rep.{childAt, refOf}
 use Rattle.pieces.specs.Pieces.{items, item-laws, partRef}
 use Rattle.update.specs.Stored.{RestIn, Stored, stored-fork}
-use Rattle.update.specs.Lowering.{restAt}
 use Rattle.matching.specs.Stretches.{span, span-length, span-at, span-cut, span-cons, span-none}
 use Rattle.matching.specs.Laid.{itemAt, itemsAt, Laid, Children, laid-children}
 use Rattle.matching.specs.Tests.{Every}
 use Rattle.bridging.specs.Bridges.{Bridges}
-use Rattle.checking.specs.PieceTrees.{AllKnown, PieceTree}
+use Rattle.checking.specs.PieceTrees.{AllKnown}
+use Rattle.checking.specs.Rests.{RestTree}
 use Rattle.checking.specs.BridgeTests.{items-length, items-about, merged, bridges-merge, merge-bridges}
 use Rattle.checking.specs.Stands.{Stands, stands-left, stands-right, stands-known, Decorated, decorated-env, rest-is}
 
@@ -47,8 +48,8 @@ pub record Joins (w : Words) (x : ℕ) (xs : List ℕ) (at mid to i j : ℕ) : T
   pub u-first : Every (λ k. getD xs k 0 ≢ getD xs i 0) at i
   pub v-first : Every (λ k. getD xs k 0 ≢ getD xs j 0) mid j
   pub bridges : Bridges w xs at mid to i j
-  pub left-rest : PieceTree w (restAt w (childAt w 1 false x)) (span xs (suc i) mid)
-  pub right-rest : PieceTree w (restAt w (childAt w 1 true x)) (span xs mid j)
+  pub left-rest : RestTree w (childAt w 1 false x) (span xs (suc i) mid)
+  pub right-rest : RestTree w (childAt w 1 true x) (span xs mid j)
 
 -- ---- a list is cut in one way about a place
 
@@ -140,25 +141,25 @@ module _
       v : Item
       v = itemAt w (getD xs j 0)
 
-      left-rest-in : RestIn w (DL .offers) (J .left-rest .whole)
+      left-rest-in : RestIn w (DL .offers) (J .left-rest .tree .whole)
       left-rest-in =
           record {
-            root = sym (rest-is (DL .offers) (subst (Laid w 1 (childAt w 1 false x)) (sym (DL .shape-is)) (kids .left))) ∙ J .left-rest .root;
-            pieces = J .left-rest .pieces;
+            root = sym (rest-is (DL .offers) (subst (Laid w 1 (childAt w 1 false x)) (sym (DL .shape-is)) (kids .left))) ∙ J .left-rest .word ∙ ap pos (J .left-rest .tree .root);
+            pieces = J .left-rest .tree .pieces;
           }
 
-      right-rest-in : RestIn w (DR .offers) (J .right-rest .whole)
+      right-rest-in : RestIn w (DR .offers) (J .right-rest .tree .whole)
       right-rest-in =
           record {
-            root = sym (rest-is (DR .offers) (subst (Laid w 1 (childAt w 1 true x)) (sym (DR .shape-is)) (kids .right))) ∙ J .right-rest .root;
-            pieces = J .right-rest .pieces;
+            root = sym (rest-is (DR .offers) (subst (Laid w 1 (childAt w 1 true x)) (sym (DR .shape-is)) (kids .right))) ∙ J .right-rest .word ∙ ap pos (J .right-rest .tree .root);
+            pieces = J .right-rest .tree .pieces;
           }
 
       seam-at : last (shape (DL .offers)) .slot ≡ x - 4096
       seam-at = ap (λ (t : Tree Item). last t .slot) (DL .shape-is) ∙ sym (kids .seam)
 
       joint : OfferTree Item
-      joint = fork u v (DL .offers) (J .left-rest .whole) (J .right-rest .whole) (DR .offers)
+      joint = fork u v (DL .offers) (J .left-rest .tree .whole) (J .right-rest .tree .whole) (DR .offers)
 
       joint-stored : Stored w joint
       unfolding joint u v
@@ -173,14 +174,14 @@ module _
       joint-valid =
           valid-fork (itemsAt w (span xs at i)) (itemsAt w (span xs (suc j) to)) (sym (append-snoc (itemsAt w (span xs at i)) (itemAt w (getD xs i 0)) (itemAt w (getD xs j 0) ∷ itemsAt w (span xs (suc j) to))))
           (subst (Valid items (DL .offers))
-          (items-about w xs at mid i (J .left-low) (J .left-high) ∙ ap (λ (zs : List Item). itemsAt w (span xs at i) ++ itemAt w (getD xs i 0) ∷ zs) (sym (J .left-rest .over))
-          ∙ sym (append-snoc (itemsAt w (span xs at i)) (itemAt w (getD xs i 0)) (partLeaves (J .left-rest .whole))))
+          (items-about w xs at mid i (J .left-low) (J .left-high) ∙ ap (λ (zs : List Item). itemsAt w (span xs at i) ++ itemAt w (getD xs i 0) ∷ zs) (sym (J .left-rest .tree .over))
+          ∙ sym (append-snoc (itemsAt w (span xs at i)) (itemAt w (getD xs i 0)) (partLeaves (J .left-rest .tree .whole))))
           (DL .valid))
           (subst (Valid items (DR .offers))
-          (items-about w xs mid to j (J .right-low) (J .right-high) ∙ ap (λ (zs : List Item). zs ++ itemAt w (getD xs j 0) ∷ itemsAt w (span xs (suc j) to)) (sym (J .right-rest .over)))
+          (items-about w xs mid to j (J .right-low) (J .right-high) ∙ ap (λ (zs : List Item). zs ++ itemAt w (getD xs j 0) ∷ itemsAt w (span xs (suc j) to)) (sym (J .right-rest .tree .over)))
           (DR .valid))
-          (J .left-rest .balanced)
-          (J .right-rest .balanced)
+          (J .left-rest .tree .balanced)
+          (J .right-rest .tree .balanced)
           (subst (λ (t : Tree Item). Env items (leaves t) pieces) (ap₂ node (sym (DL .shape-is)) (sym (DR .shape-is)))
           (bridges-merge w xs at mid to (leaves l) (leaves r) (stands .ordered) (decorated-env DL) (decorated-env DR) joint-known upper lower i j (J .left-low) (J .left-high) (J .right-low) (J .right-high) (J .bridges)))
 
@@ -280,19 +281,15 @@ module _
                     (subst (Env items (leaves l ++ leaves r)) whole-is (subst (λ (t : Tree Item). Env items (leaves t) es) (ap₂ node el er) E));
                 left-rest =
                     record {
-                      whole = ql;
-                      root = rest-is ol (subst (Laid w 1 (childAt w 1 false x)) (sym el) (kids .left)) ∙ rl .root;
-                      over = sym (cl .back);
-                      pieces = rl .pieces;
-                      balanced = al;
+                      root = partRef ql;
+                      word = rest-is ol (subst (Laid w 1 (childAt w 1 false x)) (sym el) (kids .left)) ∙ rl .root;
+                      tree = record { whole = ql; root = refl; over = sym (cl .back); pieces = rl .pieces; balanced = al };
                     };
                 right-rest =
                     record {
-                      whole = qr;
-                      root = rest-is or (subst (Laid w 1 (childAt w 1 true x)) (sym er) (kids .right)) ∙ rr .root;
-                      over = sym (cr .front);
-                      pieces = rr .pieces;
-                      balanced = ar;
+                      root = partRef qr;
+                      word = rest-is or (subst (Laid w 1 (childAt w 1 true x)) (sym er) (kids .right)) ∙ rr .root;
+                      tree = record { whole = qr; root = refl; over = sym (cr .front); pieces = rr .pieces; balanced = ar };
                     };
               };
             }

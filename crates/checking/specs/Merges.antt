@@ -10,14 +10,14 @@ use lib.ListN.{length, getD}
 use Rattle.table.specs.Words.{Words}
 use Rattle.table.specs.Layout.{linkAt}
 use Rattle.table.specs.Rep.{childAt}
-use Rattle.update.specs.Lowering.{restAt}
 use Rattle.matching.specs.Stretches.{span, stretch-same, span-same, span-cut}
 use Rattle.matching.specs.Tests.{Decides, Every}
 use Rattle.matching.specs.Loops.{PlaceOf, Moved}
 use Rattle.matching.specs.Fills.{never}
 use Rattle.bridging.specs.Bridges.{Bridges, Ends}
 use Rattle.checking.specs.declared.Walked.{Walked}
-use Rattle.checking.specs.PieceTrees.{AllKnown, PieceTree, Matches, span-mem}
+use Rattle.checking.specs.PieceTrees.{AllKnown}
+use Rattle.checking.specs.Rests.{RestTree, Stays}
 use Rattle.checking.specs.Joints.{Joins}
 
 pub record Merges (w : Words) (x : ℕ) (xs xs′ : List ℕ) (at mid to : ℕ) (r : Walked) : Type 0 where
@@ -118,29 +118,29 @@ module _ {w : Words} {x at mid to i j : ℕ} {xs : List ℕ} (R : Right w x xs a
 -- what stays with the left child, over the array as it was then
 pub record RestLeft (w : Words) (x : ℕ) (xs xs₁ : List ℕ) (mid i : ℕ) (m : Bool) : Type 0 where
   pub upper : Upper xs xs₁
-  pub told : AllKnown w (span xs (suc i) mid) → Decides m (PieceTree w (restAt w (childAt w 1 false x)) (span xs (suc i) mid))
+  pub told : AllKnown w (span xs (suc i) mid) → Decides m (RestTree w (childAt w 1 false x) (span xs (suc i) mid))
 
 pub record RestRight (w : Words) (x : ℕ) (xs xs₂ : List ℕ) (mid j : ℕ) (m : Bool) : Type 0 where
   pub upper : Upper xs xs₂
-  pub told : AllKnown w (span xs mid j) → Decides m (PieceTree w (restAt w (childAt w 1 true x)) (span xs mid j))
+  pub told : AllKnown w (span xs mid j) → Decides m (RestTree w (childAt w 1 true x) (span xs mid j))
 
-pub rest-left : {w : Words} {x mid i l q : ℕ} {xs xs₁ : List ℕ} {m : Bool} → l ≡ childAt w 1 false x → q ≡ restAt w l → Matches w q xs xs₁ (i + 1) mid m → RestLeft w x xs xs₁ mid i m
-rest-left {w} {x} {mid} {i} {l} {q} {xs} {m} el eq M =
+pub rest-left : {w : Words} {x mid i l : ℕ} {xs xs₁ : List ℕ} {m : Bool} → l ≡ childAt w 1 false x → Stays w l xs xs₁ (i + 1) mid m → RestLeft w x xs xs₁ mid i m
+rest-left {w} {x} {mid} {i} {l} {xs} {m} el S =
     record {
-      upper = record { long = M .long; same = M .same };
+      upper = record { long = S .long; same = S .same };
       told =
           let e : i + 1 ≡ suc i = omega arith in
-          subst (λ (n : ℕ). AllKnown w (span xs (suc i) mid) → Decides m (PieceTree w n (span xs (suc i) mid))) (eq ∙ ap (restAt w) el)
-          (subst (λ (n : ℕ). AllKnown w (span xs n mid) → Decides m (PieceTree w q (span xs n mid))) e (M .told));
+          subst (λ (n : ℕ). AllKnown w (span xs (suc i) mid) → Decides m (RestTree w n (span xs (suc i) mid))) el
+          (subst (λ (n : ℕ). AllKnown w (span xs n mid) → Decides m (RestTree w l (span xs n mid))) e (S .told));
     }
 
-pub rest-right : {w : Words} {x mid j r q : ℕ} {xs xs₁ xs₂ : List ℕ} {m : Bool} → Upper xs xs₁ → j ≤ 4096 → r ≡ childAt w 1 true x → q ≡ restAt w r → Matches w q xs₁ xs₂ mid j m → RestRight w x xs xs₂ mid j m
-rest-right {w} {x} {mid} {j} {r} {q} {xs} {xs₁} {xs₂} {m} u h er eq M =
+pub rest-right : {w : Words} {x mid j r : ℕ} {xs xs₁ xs₂ : List ℕ} {m : Bool} → Upper xs xs₁ → j ≤ 4096 → r ≡ childAt w 1 true x → Stays w r xs₁ xs₂ mid j m → RestRight w x xs xs₂ mid j m
+rest-right {w} {x} {mid} {j} {r} {xs} {xs₁} {xs₂} {m} u h er S =
     record {
-      upper = record { long = M .long ∙ u .long; same = λ i k. M .same i k ∙ u .same i k };
+      upper = record { long = S .long ∙ u .long; same = λ i k. S .same i k ∙ u .same i k };
       told =
-          subst (λ (n : ℕ). AllKnown w (span xs mid j) → Decides m (PieceTree w n (span xs mid j))) (eq ∙ ap (restAt w) er)
-          (subst (λ (zs : List ℕ). AllKnown w zs → Decides m (PieceTree w q zs)) (span-same xs₁ xs mid j (λ i a b. u .same i (omega arith))) (M .told));
+          subst (λ (n : ℕ). AllKnown w (span xs mid j) → Decides m (RestTree w n (span xs mid j))) er
+          (subst (λ (zs : List ℕ). AllKnown w zs → Decides m (RestTree w r zs)) (span-same xs₁ xs mid j (λ i a b. u .same i (omega arith))) (S .told));
     }
 
 module _ {w : Words} {x at mid to i j : ℕ} {xs : List ℕ} (K : Middle w x xs at mid to i j) where

@@ -20,13 +20,13 @@ use Rattle.dynamic.specs.OfferTree.{OfferTree, single, fork, shape}
 use Rattle.dynamic.specs.Valid.{Valid}
 use Rattle.dynamic.specs.Lower.{valid-env}
 use Rattle.table.specs.Words.{Words}
-use Rattle.table.specs.Layout.{cap, cap-most, linkAt}
+use Rattle.table.specs.Layout.{cap, cap-most, cell}
 use Rattle.table.specs.Items.{Item, Apart, Slots}
 use Rattle.table.specs.Rep.{childAt, refOf}
 use Rattle.table.specs.Threads.{Held, Holds}
 use Rattle.pieces.specs.Pieces.{items, item-laws}
 use Rattle.update.specs.Stored.{Stored, nodeSlot, restField}
-use Rattle.update.specs.Lowering.{restAt}
+use Rattle.update.specs.Lowering.{restWord}
 use Rattle.matching.specs.Laid.{itemAt, itemsAt, Placed, AllPlaced, Laid, Children, laid-children}
 use Rattle.checking.specs.PieceTrees.{Known, AllKnown}
 
@@ -89,10 +89,10 @@ pub record Decorated (w : Words) (t : Tree Item) (es : List Item) : Type 0 where
 pub decorated-env : {w : Words} {t : Tree Item} {es : List Item} → Decorated w t es → Env items (leaves t) es
 decorated-env {es} d = subst (λ (u : Tree Item). Env items (leaves u) es) (d .shape-is) (valid-env items item-laws (d .valid))
 
--- the root of what stays with a node, by its field
-pub rest-is : {w : Words} (t : OfferTree Item) {x : ℕ} → Laid w 1 x (shape t) → restAt w x ≡ linkAt w (restField t) (nodeSlot t)
+-- the word of what stays with a node, by its field
+pub rest-is : {w : Words} (t : OfferTree Item) {x : ℕ} → Laid w 1 x (shape t) → restWord w x ≡ cell w (restField t) (nodeSlot t)
 rest-is {w} (single a) {x} h =
-    rw (le-ltb 4096 x (omega (arith, h .root, h .placed a (List·Memᴰ·head refl) .high, cap-most w))) (ap (linkAt w 21) (h .root))
+    rw (le-ltb 4096 x (omega (arith, h .root, h .placed a (List·Memᴰ·head refl) .high, cap-most w))) (ap (cell w 21) (h .root))
 rest-is {w} (fork u v l ql qr r) {x} h =
     let here : x - 4096 ≡ last (shape l) .slot = omega (arith, h .root) in
-    rw (lt-ltb 4096 x (omega (arith, h .root, h .placed (last (shape l)) (Memᴰ·append-left (leaves (shape r)) (last-leaf (shape l))) .low))) (ap (linkAt w 20) here)
+    rw (lt-ltb 4096 x (omega (arith, h .root, h .placed (last (shape l)) (Memᴰ·append-left (leaves (shape r)) (last-leaf (shape l))) .low))) (ap (cell w 20) here)

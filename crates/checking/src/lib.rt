@@ -2,9 +2,12 @@
 ghost use mathlib.Core.Path.{_≡_};
 ghost use Prim.Native.Nat.{ℕ, _≤_};
 ghost use lib.ListN.{length};
+ghost use lib.IntN.{pos};
 ghost use Rattle.table.specs.Words.{Words};
+ghost use Rattle.update.specs.Lowering.{restWord};
 ghost use Rattle.matching.specs.Tests.{Decides};
 ghost use Rattle.checking.specs.PieceTrees.{Matches};
+ghost use Rattle.checking.specs.Rests.{Stays};
 ghost use Rattle.checking.specs.Merges.{Two, Refuses, Merges};
 ghost use Rattle.checking.specs.OfferWalks.{Walks};
 ghost use Rattle.checking.specs.Headers.{Header};
@@ -44,6 +47,28 @@ fn matches(part: &[i64], q: u32, scratch: &mut [u32; 8192], from: usize, to: usi
     bridging::threaded(part, scratch, from, to)
 }
 
+// The word of what stays with node `n` is that number, and not only read as such.
+fn rest_tells(part: &[i64], n: u32, q: u32) -> bool
+    ensures { λ r. ⌜ Decides r (restWord (now (part .entry)) n ≡ pos q) ⌝ }
+{
+    if 4096 < n {
+        return matching::slot_tells(part, 20, table::inner_slot(n), q);
+    }
+    matching::slot_tells(part, 21, n, q)
+}
+
+// The slots from place `from` up to `to` stay with node `n`, in a piece tree.
+fn stays(part: &[i64], n: u32, scratch: &mut [u32; 8192], from: usize, to: usize) -> bool
+    requires { ⌜ (length (now scratch) ≡ 8192) × (from ≤ to) × (to ≤ 4096) ⌝ }
+    ensures { λ r. ⌜ Stays (now (part .entry)) n (now (scratch .entry)) (now (scratch .exit)) from to r ⌝ }
+{
+    let q = update::rest(part, n);
+    if !rest_tells(part, n, q) {
+        return false;
+    }
+    matches(part, q, scratch, from, to)
+}
+
 fn refused() -> Walked
     ensures { λ r. ⌜ Refuses r ⌝ }
 {
@@ -75,12 +100,10 @@ fn merge(
     if !bridging::bridges(part, scratch, at, mid, to, i, j) {
         return refused();
     }
-    let left = update::rest(part, table::child(part, 1, false, x));
-    if !matches(part, left, scratch, i + 1, mid) {
+    if !stays(part, table::child(part, 1, false, x), scratch, i + 1, mid) {
         return refused();
     }
-    let right = update::rest(part, table::child(part, 1, true, x));
-    if !matches(part, right, scratch, mid, j) {
+    if !stays(part, table::child(part, 1, true, x), scratch, mid, j) {
         return refused();
     }
     matching::shift(scratch, i + 1, j, to - j);

@@ -20,6 +20,13 @@ pub fn tells(part: &[i64], at: usize, number: u32) -> bool
     table::word_at(part, at) == number as i64
 }
 
+// .. and so a slot's field.
+pub fn slot_tells(part: &[i64], field: usize, slot: u32, number: u32) -> bool
+    ensures { λ r. ⌜ Decides r (cell (now (part .entry)) field slot ≡ pos number) ⌝ }
+{
+    table::is_equal(part, field, slot, number as i64)
+}
+
 // What a walk over a tree answers: whether it went through, the place behind the last leaf, and the tree's height.
 pub struct Filled {
     pub ok: bool,

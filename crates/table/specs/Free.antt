@@ -1,4 +1,5 @@
--- The free slots: a chain from word 5 on, each slot with number 0 in field 0 and the next one in field 3.
+-- The free slots: a chain from word 5 on, each slot with number 0 in field 0 and the next one in field 3: the word itself, so that the last has a 0
+-- there and no other word that is read as 0.
 use mathlib.Core.Path.{_≡_, refl, _∙_, ap}
 use mathlib.Core.Logic.{_≢_}
 use mathlib.Core.List.{List, [], _∷_, List·Memᴰ, List·Memᴰ·head, List·Memᴰ·tail}
@@ -16,7 +17,7 @@ head0 (s ∷ ss) = s
 
 pub data FreeChain (w : Words) : List ℕ → Type 0 where
   free-none : FreeChain w []
-  free-more : {s : ℕ} {ss : List ℕ} → 1 ≤ s → s ≤ cap w → cell w 0 s ≡ pos 0 → linkAt w 3 s ≡ head0 ss → FreeChain w ss → FreeChain w (s ∷ ss)
+  free-more : {s : ℕ} {ss : List ℕ} → 1 ≤ s → s ≤ cap w → cell w 0 s ≡ pos 0 → cell w 3 s ≡ pos (head0 ss) → FreeChain w ss → FreeChain w (s ∷ ss)
 
 -- the free slots are ss
 pub record FreeSlots (w : Words) (ss : List ℕ) : Type 0 where
@@ -27,11 +28,15 @@ pub head-most : {w : Words} (ss : List ℕ) → FreeChain w ss → head0 ss ≤ 
 head-most [] f = omega arith
 head-most {w} (s ∷ ss) (free-more l h z n f) = omega (arith, cap-most w)
 
+-- the word that leads on in a chain, read as a link
+pub free-link : {w : Words} {ss : List ℕ} (s : ℕ) → FreeChain w ss → cell w 3 s ≡ pos (head0 ss) → linkAt w 3 s ≡ head0 ss
+free-link {ss} s f n = ap (upTo 8192) n ∙ upTo-in 8192 (head0 ss) (omega (arith, head-most ss f))
+
 -- a chain whose slots were not touched
 pub chain-still : {w w′ : Words} {ss : List ℕ} → FreeChain w ss → cap w′ ≡ cap w → ((s : ℕ) → List·Memᴰ s ss → cell w′ 0 s ≡ cell w 0 s) → ((s : ℕ) → List·Memᴰ s ss → cell w′ 3 s ≡ cell w 3 s) → FreeChain w′ ss
 chain-still free-none c e d = free-none
 chain-still (free-more {s} l h z n f) c e d =
-    free-more l (omega (arith, c)) (e s (List·Memᴰ·head refl) ∙ z) (ap (upTo 8192) (d s (List·Memᴰ·head refl)) ∙ n) (chain-still f c (λ t m. e t (List·Memᴰ·tail m)) (λ t m. d t (List·Memᴰ·tail m)))
+    free-more l (omega (arith, c)) (e s (List·Memᴰ·head refl) ∙ z) (d s (List·Memᴰ·head refl) ∙ n) (chain-still f c (λ t m. e t (List·Memᴰ·tail m)) (λ t m. d t (List·Memᴰ·tail m)))
 
 -- ---- a slot is taken
 
@@ -54,7 +59,7 @@ took {w} {s} {ss} f = go (f .chain)
     go : FreeChain w (s ∷ ss) → FreeSlots (taken w) ss
     go (free-more l h z n g) =
         record {
-          first = wset-same w 5 _ (long w l h) ∙ ap pos (ap (linkAt w 3) (first-free f) ∙ n);
+          first = wset-same w 5 _ (long w l h) ∙ ap pos (ap (linkAt w 3) (first-free f) ∙ free-link s g n);
           chain = chain-still g (header-cap w 5 _ (omega arith) (omega arith)) (λ t m. header-cell w 5 _ (omega arith) (omega arith) 0 t) (λ t m. header-cell w 5 _ (omega arith) (omega arith) 3 t);
         }
 
@@ -104,11 +109,10 @@ gave {w} {s} {ss} f l h d =
         header-cell w₂ 5 (pos s) (omega arith) (omega arith) 0 s ∙ cset-other w₁ 3 s _ (λ e. omega (arith, e .0))
         ∙ cset-same (pos 0) (record { low = l; high = h; field = omega arith })
 
-    next : linkAt (given w s) 3 s ≡ head0 ss
+    next : cell (given w s) 3 s ≡ pos (head0 ss)
     next =
-        ap (upTo 8192)
-        (header-cell w₂ 5 (pos s) (omega arith) (omega arith) 3 s ∙ cset-same (pos (firstFree w)) (record { low = l; high = omega (arith, cset-cap w 0 s (pos 0)); field = omega arith }) ∙ ap pos (first-free f))
-        ∙ upTo-in 8192 (head0 ss) (omega (arith, head-most ss (f .chain)))
+        header-cell w₂ 5 (pos s) (omega arith) (omega arith) 3 s ∙ cset-same (pos (firstFree w)) (record { low = l; high = omega (arith, cset-cap w 0 s (pos 0)); field = omega arith })
+        ∙ ap pos (first-free f)
 
     rest : FreeChain (given w s) ss
     rest = chain-still (f .chain) (given-cap w s) (λ t m. given-cell w s 0 t (λ q. d t m (q .1)) (λ q. d t m (q .1))) (λ t m. given-cell w s 3 t (λ q. d t m (q .1)) (λ q. d t m (q .1)))

@@ -15,7 +15,7 @@ use Rattle.trees.specs.Tests.{eqZ-same, same-eqZ}
 use Rattle.lists.specs.Members.{pairs-cons}
 use Rattle.table.specs.Words.{Words, word, upTo, upTo-in}
 use Rattle.table.specs.Layout.{cap, cell, linkAt}
-use Rattle.table.specs.Free.{head0, FreeChain, free-none, free-more, head-most}
+use Rattle.table.specs.Free.{head0, FreeChain, free-none, free-more, head-most, free-link}
 use Rattle.matching.specs.Tests.{Decides, decides-no, decides-as, decides-by}
 use Rattle.matching.specs.Fills.{never}
 use Rattle.tallying.specs.Tallies.{Freely}
@@ -46,14 +46,15 @@ pub record Chained (w : Words) (s k : ℕ) : Type 0 where
 
 -- ---- one step along the chain
 
--- the first slot, and k behind it
+-- the first slot, the word that leads on, and k slots behind it
 record Headed (w : Words) (s k : ℕ) : Type 0 where
   head : IsFree w s
+  word : cell w 3 s ≡ pos (linkAt w 3 s)
   rest : Chained w (linkAt w 3 s) k
 
 module _ {w : Words} {s k : ℕ} where
-  chained-on : IsFree w s → Chained w (linkAt w 3 s) k → Chained w s (suc k)
-  chained-on f c = record { slots = s ∷ c .slots; first = refl; long = ap suc (c .long); chain = free-more (f .low) (f .high) (f .cleared) (c .first) (c .chain) }
+  chained-on : {t : ℕ} → IsFree w s → cell w 3 s ≡ pos t → Chained w t k → Chained w s (suc k)
+  chained-on f e c = record { slots = s ∷ c .slots; first = refl; long = ap suc (c .long); chain = free-more (f .low) (f .high) (f .cleared) (e ∙ ap pos (c .first)) (c .chain) }
 
   headed : Chained w s (suc k) → Headed w s k
   headed c = go (c .slots) (c .first) (c .long) (c .chain)
@@ -61,7 +62,12 @@ module _ {w : Words} {s k : ℕ} where
       go : (ss : List ℕ) → s ≡ head0 ss → length ss ≡ suc k → FreeChain w ss → Headed w s k
       go [] e n f = absurd (omega arith)
       go (t ∷ ss) e n (free-more l h z m f) =
-          rw e (record { head = record { low = l; high = h; cleared = z }; rest = record { slots = ss; first = m; long = omega arith; chain = f } })
+          rw e
+          (record {
+            head = record { low = l; high = h; cleared = z };
+            word = m ∙ ap pos (sym (free-link t f m));
+            rest = record { slots = ss; first = free-link t f m; long = omega arith; chain = f };
+          })
 
 -- ---- the loop
 
@@ -78,9 +84,17 @@ module _ {w : Words} {first count s k : ℕ} (g : Left w first count s k) where
     some : k ≡ suc (k - 1)
     some = omega arith
 
-    pub left-more : {t : ℕ} → b ≡ true → t ≡ linkAt w 3 s → Left w first count t (k - 1)
-    left-more e q =
-        rw q (record { there = λ c. headed (subst (Chained w s) some (g .there c)) .rest; back = λ c. g .back (subst (Chained w s) (sym some) (chained-on (d .sound e) c)) })
+    -- the next slot, read off the word as a link, and whether the word is that number
+    module _ {t : ℕ} {r : Bool} (q : t ≡ linkAt w 3 s) (exact : Decides r (cell w 3 s ≡ pos t)) where
+      pub left-more : b ≡ true → r ≡ true → Left w first count t (k - 1)
+      left-more e er =
+          record {
+            there = λ c. subst (λ (n : ℕ). Chained w n (k - 1)) (sym q) (headed (subst (Chained w s) some (g .there c)) .rest);
+            back = λ c. g .back (subst (Chained w s) (sym some) (chained-on (d .sound e) (exact .sound er) c));
+          }
+
+      pub left-other : r ≡ false → Decides false (Chained w first count)
+      left-other e = decides-no (λ c. never (exact .complete (headed (subst (Chained w s) some (g .there c)) .word ∙ ap pos (sym q))) e)
 
     pub left-not : b ≡ false → Decides false (Chained w first count)
     left-not e = decides-no (λ c. never (d .complete (headed (subst (Chained w s) some (g .there c)) .head)) e)
@@ -103,7 +117,7 @@ chain-length : {w : Words} {ss ts : List ℕ} → FreeChain w ss → FreeChain w
 chain-length free-none free-none e = refl
 chain-length free-none (free-more l h z n f) e = absurd (omega arith)
 chain-length (free-more l h z n f) free-none e = absurd (omega arith)
-chain-length {w} (free-more l h z n f) (free-more l′ h′ z′ n′ f′) e = ap suc (chain-length f f′ (sym n ∙ ap (linkAt w 3) e ∙ n′))
+chain-length {w} (free-more {s} l h z n f) (free-more {s = s′} l′ h′ z′ n′ f′) e = ap suc (chain-length f f′ (sym (free-link s f n) ∙ ap (linkAt w 3) e ∙ free-link s′ f′ n′))
 
 -- the chain from one of its slots on
 record Onward (w : Words) (s k : ℕ) : Type 0 where

@@ -21,7 +21,8 @@ fn is_free(part: &[i64], s: u32) -> bool
     table::is_equal(part, 0, s, 0)
 }
 
-// From `first` on, `count` free slots follow each other, and then 0.
+// From `first` on, `count` free slots follow each other, and then 0. Each link is compared with its word, since words outside their range are
+// read as 0 too.
 fn chained(part: &[i64], first: u32, count: u32) -> bool
     ensures { λ r. ⌜ Decides r (Chained (now (part .entry)) first count) ⌝ }
 {
@@ -31,7 +32,11 @@ fn chained(part: &[i64], first: u32, count: u32) -> bool
         if !is_free(part, s) {
             return false;
         }
-        s = table::link(part, 3, s);
+        let next = table::link(part, 3, s);
+        if !matching::slot_tells(part, 3, s, next) {
+            return false;
+        }
+        s = next;
         k -= 1;
     }
     s == 0

@@ -144,9 +144,9 @@ module _ {w w′ : Words} where
       holds-still h (λ s i. record { number = q .cells 0 s (omega arith) i; rate = q .cells 1 s (omega arith) i; base = q .cells 2 s (omega arith) i })
 
   pub rest-same : (t : OfferTree Item) {q : Part Item} → RestIn w t q → Same RestField (leaves (shape t)) w w′ → Same PieceField (partLeaves q) w w′ → RestIn w′ t q
-  rest-same (single a) {q} h rests pieces = record { root = same-link 21 rests (leaf-rest refl) (at (last-leaf (shape (single a))) refl) ∙ h .root; pieces = part-same q (h .pieces) pieces }
+  rest-same (single a) {q} h rests pieces = record { root = rests .cells 21 _ (leaf-rest refl) (at (last-leaf (shape (single a))) refl) ∙ h .root; pieces = part-same q (h .pieces) pieces }
   rest-same (fork u v l ql qr r) {q} h rests pieces =
-      record { root = same-link 20 rests (inner-rest refl) (in-left (leaves (shape r)) (at (last-leaf (shape l)) refl)) ∙ h .root; pieces = part-same q (h .pieces) pieces }
+      record { root = rests .cells 20 _ (inner-rest refl) (in-left (leaves (shape r)) (at (last-leaf (shape l)) refl)) ∙ h .root; pieces = part-same q (h .pieces) pieces }
 
   pub stored-same : {t : OfferTree Item} → Stored w t → Same RestField (leaves (shape t)) w w′ → Same PieceField (stored t) w w′ → Stored w′ t
   stored-same stored-single rests pieces = stored-single

@@ -17,7 +17,7 @@ use Rattle.table.specs.Words.{Words}
 use Rattle.table.specs.Layout.{cap, cap-most, cell, cset}
 use Rattle.table.specs.Items.{Item, at, slots-most}
 use Rattle.table.specs.Rep.{heightAt, refOf, nodeOn, Within, within-trans, within-cset}
-use Rattle.table.specs.Nodes.{ref-high, rep-height}
+use Rattle.table.specs.Nodes.{rep-height}
 use Rattle.shape.specs.Joining.{Joined}
 use Rattle.pieces.specs.Pieces.{items, rateOf, Standing, Catted, CutAt}
 use Rattle.update.specs.Stored.{HeldIn, Touched}
@@ -55,11 +55,6 @@ standing-low {w} {t} st = height-full (st .balanced) (omega (arith, slots-most (
 
 standing-height : {w : Words} {x : ℕ} {t : Tree Item} → Standing w x (some t) → heightAt w 0 x ≡ height t
 standing-height st = rep-height (record { kind = omega arith; root = st .root; slots = st .slots; tied = st .pieces .0 })
-
--- a piece tree's number is that of a node
-standing-small : {w : Words} {x : ℕ} (p : Part Item) → Standing w x p → x ≤ 8192
-standing-small none st = omega (arith, st .root)
-standing-small {w} (some t) st = omega (arith, st .root, ref-high t (st .slots) (cap-most w))
 
 -- ---- the calls in a row
 
@@ -147,8 +142,6 @@ module _
       wires : AfterWires (l .tree) (r .tree) w₂ w₇ x lb rf u v
       wires =
           after-wires given (calls .rest-left) (calls .rest-right) (calls .above) (calls .bridge-left) (calls .bridge-right) (
-            standing-small _ (cuts .left .back),
-            standing-small _ (cuts .right .front),
             omega (arith, at-u, front .slots .high (R .u-piece), cap-most w),
             omega (arith, at-v, back .slots .high (R .v-piece), cap-most w),
           )

@@ -1,7 +1,8 @@
 -- Raise in words, third part: the kept parts of both envelopes are put together, and the words hold the fork with its whole envelope.
-use mathlib.Core.Path.{_≡_, refl, _∙_}
+use mathlib.Core.Path.{_≡_, refl, _∙_, ap}
 use mathlib.Core.List.{_++_}
 use Prim.Native.Nat.{ℕ}
+use lib.IntN.{pos}
 use Rattle.trees.specs.Tree.{leaves, last}
 use Rattle.trees.specs.Leaves.{last-leaf}
 use Rattle.trees.specs.Operations.{Part, Cut, partLeaves, joinP}
@@ -9,7 +10,7 @@ use Rattle.dynamic.specs.OfferTree.{OfferTree, shape, Held, heldShape, bridged}
 use Rattle.dynamic.specs.Valid.{Whole}
 use Rattle.dynamic.specs.Rearranged.{stored}
 use Rattle.table.specs.Words.{Words}
-use Rattle.table.specs.Layout.{linkAt}
+use Rattle.table.specs.Layout.{cell}
 use Rattle.table.specs.Items.{Item, In, at}
 use Rattle.table.specs.Rep.{Within, within-trans}
 use Rattle.table.specs.Threads.{holds-join}
@@ -87,10 +88,10 @@ module _
         })
 
   -- a part of a whole that is not kept
-  rest-stored : {n : ℕ} {q : Part Item} (t : OfferTree Item) → linkAt w₂ (restField t) (nodeSlot t) ≡ n → Standing w₂ n q → Disjoint (partLeaves q) (partLeaves (c .front) ++ partLeaves (d .back)) → RestIn w₃ t q
+  rest-stored : {n : ℕ} {q : Part Item} (t : OfferTree Item) → cell w₂ (restField t) (nodeSlot t) ≡ pos n → Standing w₂ n q → Disjoint (partLeaves q) (partLeaves (c .front) ++ partLeaves (d .back)) → RestIn w₃ t q
   rest-stored {q} t at-node st apart =
       record {
-        root = same-link (restField t) (pieces-rests kept (leaves (shape t))) (rest-field t refl) (node-in t refl) ∙ at-node ∙ st .root;
+        root = pieces-rests kept (leaves (shape t)) .cells _ _ (rest-field t refl) (node-in t refl) ∙ at-node ∙ ap pos (st .root);
         pieces = part-same q (st .pieces) (pieces-else kept PieceField apart);
       }
 

@@ -95,8 +95,8 @@ module _ {w w′ : Words} where
       (stored-retold sr (record { cells = λ f s i. g .cells f s (below-right i) }) (same-inside (λ s i. in-right front (in-right (partLeaves qr) i)) pieces))
       (ap (upTo 8192) (g .cells 10 _ (tells-u refl refl)) ∙ eu)
       (ap (upTo 8192) (g .cells 11 _ (tells-v refl refl)) ∙ ev)
-      (record { root = ap (upTo 8192) (g .cells _ _ (rest-left refl refl)) ∙ rl .root; pieces = part-same ql (rl .pieces) (same-inside (λ s i. in-left back (in-left (stored l) i)) pieces) })
-      (record { root = ap (upTo 8192) (g .cells _ _ (rest-right refl refl)) ∙ rr .root; pieces = part-same qr (rr .pieces) (same-inside (λ s i. in-right front (in-left (stored r) i)) pieces) })
+      (record { root = g .cells _ _ (rest-left refl refl) ∙ rl .root; pieces = part-same ql (rl .pieces) (same-inside (λ s i. in-left back (in-left (stored l) i)) pieces) })
+      (record { root = g .cells _ _ (rest-right refl refl) ∙ rr .root; pieces = part-same qr (rr .pieces) (same-inside (λ s i. in-right front (in-left (stored r) i)) pieces) })
     where
       front : List Item
       front = partLeaves ql ++ stored l

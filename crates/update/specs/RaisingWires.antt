@@ -128,8 +128,8 @@ pub record AfterWires (l r : OfferTree Item) (w w′ : Words) (x a b u v : ℕ) 
   pub within : Within w w′
   pub root : x ≡ refOf (node (shape l) (shape r))
   pub tied : Tied w′ 1 (node (shape l) (shape r))
-  pub left-rest : linkAt w′ (restField l) (nodeSlot l) ≡ a
-  pub right-rest : linkAt w′ (restField r) (nodeSlot r) ≡ b
+  pub left-rest : cell w′ (restField l) (nodeSlot l) ≡ pos a
+  pub right-rest : cell w′ (restField r) (nodeSlot r) ≡ pos b
   pub left-end : linkAt w′ 10 (last (shape l) .slot) ≡ u
   pub right-end : linkAt w′ 11 (last (shape l) .slot) ≡ v
   pub only : Wired l r w w′
@@ -212,17 +212,17 @@ module _ {w w₂ w₃ w₄ w₅ : Words} {gap lx rx x a b u v : ℕ} {l r : Offe
       Joined (nodeOn false) 1 false gap lx rx w₂ w₃ x →
       w₄ ≡ cset w₃ 10 gap (pos u) →
       w₅ ≡ cset w₄ 11 gap (pos v) →
-      (a ≤ 8192) × (b ≤ 8192) × (u ≤ 8192) × (v ≤ 8192) →
+      (u ≤ 8192) × (v ≤ 8192) →
       AfterWires l r w w₅ x a b u v
   after-node joined eu ev small =
       record {
         within = within-trans within (within-trans (put-within pu) (put-within pv));
         root = made .rep .root;
         tied = tied-same (tied-same (made .rep .tied) (tree-kept pu (node-apart (bridge-u refl)) _)) (tree-kept pv (node-apart (bridge-v refl)) _);
-        left-rest = number (small .0) (kept l ∙ rests .left);
-        right-rest = number (small .1) (kept r ∙ rests .right);
-        left-end = number (small .2) (elsewhere pv (λ h. omega (arith, h .0)) ∙ here pu (valid 10 (omega arith) within));
-        right-end = number (small .3) (here pv (valid 11 (omega arith) (within-trans within (put-within pu))));
+        left-rest = kept l ∙ rests .left;
+        right-rest = kept r ∙ rests .right;
+        left-end = number (small .0) (elsewhere pv (λ h. omega (arith, h .0)) ∙ here pu (valid 10 (omega arith) within));
+        right-end = number (small .1) (here pv (valid 11 (omega arith) (within-trans within (put-within pu))));
         only = wired-trans (rests .only) (wired-trans (wired-only (made .only)) (wired-trans (put-wired pu (wires-u refl refl)) (put-wired pv (wires-v refl refl))));
       }
     where
@@ -270,6 +270,6 @@ pub after-wires :
     Joined (nodeOn false) 1 false gap lx rx w₂ w₃ x →
     w₄ ≡ cset w₃ 10 gap (pos u) →
     w₅ ≡ cset w₄ 11 gap (pos v) →
-    (a ≤ 8192) × (b ≤ 8192) × (u ≤ 8192) × (v ≤ 8192) →
+    (u ≤ 8192) × (v ≤ 8192) →
     AfterWires l r w w₅ x a b u v
 after-wires given set-left set-right = after-node given (after-rests given set-left set-right)

@@ -2,6 +2,7 @@
 use mathlib.Core.Path.{_≡_}
 use mathlib.Core.List.{List}
 use Prim.Native.Nat.{ℕ}
+use lib.IntN.{pos}
 use Rattle.trees.specs.Tree.{Tree, leaves, last}
 use Rattle.trees.specs.Operations.{Part}
 use Rattle.dynamic.specs.OfferTree.{OfferTree, single, fork, shape, Held, heldShape}
@@ -24,9 +25,9 @@ abbrev pub restField : OfferTree Item → ℕ
 restField (single a) = 21
 restField (fork u v l ql qr r) = 20
 
--- the part stays with the node
+-- the part stays with the node: the word itself is the number of its root, so that it is 0 where the part is empty, and no other word that is read as 0
 pub record RestIn (w : Words) (t : OfferTree Item) (q : Part Item) : Type 0 where
-  pub root : linkAt w (restField t) (nodeSlot t) ≡ partRef q
+  pub root : cell w (restField t) (nodeSlot t) ≡ pos (partRef q)
   pub pieces : PartIn w q
 
 pub data Stored (w : Words) : OfferTree Item → Type 0 where

@@ -46,35 +46,29 @@ returns-3 c = merges-no-bridge (right-place (left-place (c .before .before .befo
 child-requires : tie.Need-child-requires
 child-requires c κs = search needs
 
-rest-requires : tie.Need-rest-requires
-rest-requires c κs = search needs
+add-stays : tie.Need-add-stays
+add-stays c = search needs
 
-add-matches : tie.Need-add-matches
-add-matches c = search needs
-
-matches-requires : tie.Need-matches-requires
-matches-requires c κs = search needs
+stays-requires : tie.Need-stays-requires
+stays-requires c κs = search needs
 
 refused-requires-4 : tie.Need-refused-requires-4
 refused-requires-4 c κs = search needs
 
 returns-4 : tie.Need-returns-4
-returns-4 c = merges-no-left (middle (right-place (left-place (c .before .before .before .before .before .before .before .before .before .before .before .before .before .before .before .before .before .before .pre .1) (c .before .before .before .before .before .before .before .before .before .before .before .before .before .before .before .before .before .inner-slot .ensures) (c .before .before .before .before .before .before .before .before .before .before .before .before .before .before .before .link .ensures) (c .before .before .before .before .before .before .before .before .before .before .before .before .before .before .place .ensures)) (c .before .before .before .before .before .before .before .before .before .before .before .before .before .if1 .left) (c .before .before .before .before .before .before .before .before .before .before .before .before .before .before .before .before .before .inner-slot .ensures) (c .before .before .before .before .before .before .before .before .before .before .before .link2 .ensures) (c .before .before .before .before .before .before .before .before .before .before .place2 .ensures)) (c .before .before .before .before .before .before .before .before .before .if2 .left) (c .before .before .before .before .before .before .before .bridges .ensures) (not-false _ (c .before .before .before .before .before .before .if3 .left))) (rest-left (c .before .before .before .before .before .child .ensures) (c .before .before .before .before .rest .ensures) (c .before .before .matches .ensures)) (not-true _ (c .before .if4 .taken)) (c .refused4 .ensures)
+returns-4 c = merges-no-left (middle (right-place (left-place (c .before .before .before .before .before .before .before .before .before .before .before .before .before .before .before .before .before .pre .1) (c .before .before .before .before .before .before .before .before .before .before .before .before .before .before .before .before .inner-slot .ensures) (c .before .before .before .before .before .before .before .before .before .before .before .before .before .before .link .ensures) (c .before .before .before .before .before .before .before .before .before .before .before .before .before .place .ensures)) (c .before .before .before .before .before .before .before .before .before .before .before .before .if1 .left) (c .before .before .before .before .before .before .before .before .before .before .before .before .before .before .before .before .inner-slot .ensures) (c .before .before .before .before .before .before .before .before .before .before .link2 .ensures) (c .before .before .before .before .before .before .before .before .before .place2 .ensures)) (c .before .before .before .before .before .before .before .before .if2 .left) (c .before .before .before .before .before .before .bridges .ensures) (not-false _ (c .before .before .before .before .before .if3 .left))) (rest-left (c .before .before .before .before .child .ensures) (c .before .before .stays .ensures)) (not-true _ (c .before .if4 .taken)) (c .refused4 .ensures)
 
 child-requires-2 : tie.Need-child-requires-2
 child-requires-2 c κs = search needs
 
-rest-requires-2 : tie.Need-rest-requires-2
-rest-requires-2 c κs = search needs
-
-matches-requires-2 : tie.Need-matches-requires-2
-matches-requires-2 c κs = (c .before .before .before .before .matches .ensures .long ∙ c .before .before .before .before .before .before .before .before .before .before .before .before .before .before .before .before .before .before .before .before .pre .0, c .before .before .before .before .before .before .before .before .before .before .before .before .place2 .ensures .low, omega (arith, c .before .before .before .before .before .before .before .before .before .before .before .if2 .left, c .before .before .before .before .before .before .before .before .before .before .before .before .before .before .before .before .before .before .before .before .pre .1))
+stays-requires-2 : tie.Need-stays-requires-2
+stays-requires-2 c κs = (c .before .before .before .stays .ensures .long ∙ c .before .before .before .before .before .before .before .before .before .before .before .before .before .before .before .before .before .before .pre .0, c .before .before .before .before .before .before .before .before .before .before .place2 .ensures .low, omega (arith, c .before .before .before .before .before .before .before .before .before .if2 .left, c .before .before .before .before .before .before .before .before .before .before .before .before .before .before .before .before .before .before .pre .1))
 
 refused-requires-5 : tie.Need-refused-requires-5
 refused-requires-5 c κs = search needs
 
 returns-5 : tie.Need-returns-5
-returns-5 c = merges-no-right (middle (right-place (left-place (c .before .before .before .before .before .before .before .before .before .before .before .before .before .before .before .before .before .before .before .before .before .before .before .pre .1) (c .before .before .before .before .before .before .before .before .before .before .before .before .before .before .before .before .before .before .before .before .before .before .inner-slot .ensures) (c .before .before .before .before .before .before .before .before .before .before .before .before .before .before .before .before .before .before .before .before .link .ensures) (c .before .before .before .before .before .before .before .before .before .before .before .before .before .before .before .before .before .before .before .place .ensures)) (c .before .before .before .before .before .before .before .before .before .before .before .before .before .before .before .before .before .before .if1 .left) (c .before .before .before .before .before .before .before .before .before .before .before .before .before .before .before .before .before .before .before .before .before .before .inner-slot .ensures) (c .before .before .before .before .before .before .before .before .before .before .before .before .before .before .before .before .link2 .ensures) (c .before .before .before .before .before .before .before .before .before .before .before .before .before .before .before .place2 .ensures)) (c .before .before .before .before .before .before .before .before .before .before .before .before .before .before .if2 .left) (c .before .before .before .before .before .before .before .before .before .before .before .before .bridges .ensures) (not-false _ (c .before .before .before .before .before .before .before .before .before .before .before .if3 .left))) (rest-right ((rest-left (c .before .before .before .before .before .before .before .before .before .before .child .ensures) (c .before .before .before .before .before .before .before .before .before .rest .ensures) (c .before .before .before .before .before .before .before .matches .ensures)) .upper) (omega (arith, c .before .before .before .before .before .before .before .before .before .before .before .before .before .before .if2 .left, c .before .before .before .before .before .before .before .before .before .before .before .before .before .before .before .before .before .before .before .before .before .before .before .pre .1)) (c .before .before .before .before .before .child2 .ensures) (c .before .before .before .before .rest2 .ensures) (c .before .before .matches2 .ensures)) (not-true _ (c .before .if5 .taken)) (c .refused5 .ensures)
+returns-5 c = merges-no-right (middle (right-place (left-place (c .before .before .before .before .before .before .before .before .before .before .before .before .before .before .before .before .before .before .before .before .before .pre .1) (c .before .before .before .before .before .before .before .before .before .before .before .before .before .before .before .before .before .before .before .before .inner-slot .ensures) (c .before .before .before .before .before .before .before .before .before .before .before .before .before .before .before .before .before .before .link .ensures) (c .before .before .before .before .before .before .before .before .before .before .before .before .before .before .before .before .before .place .ensures)) (c .before .before .before .before .before .before .before .before .before .before .before .before .before .before .before .before .if1 .left) (c .before .before .before .before .before .before .before .before .before .before .before .before .before .before .before .before .before .before .before .before .inner-slot .ensures) (c .before .before .before .before .before .before .before .before .before .before .before .before .before .before .link2 .ensures) (c .before .before .before .before .before .before .before .before .before .before .before .before .before .place2 .ensures)) (c .before .before .before .before .before .before .before .before .before .before .before .before .if2 .left) (c .before .before .before .before .before .before .before .before .before .before .bridges .ensures) (not-false _ (c .before .before .before .before .before .before .before .before .before .if3 .left))) (rest-right ((rest-left (c .before .before .before .before .before .before .before .before .child .ensures) (c .before .before .before .before .before .before .stays .ensures)) .upper) (omega (arith, c .before .before .before .before .before .before .before .before .before .before .before .before .if2 .left, c .before .before .before .before .before .before .before .before .before .before .before .before .before .before .before .before .before .before .before .before .before .pre .1)) (c .before .before .before .before .child2 .ensures) (c .before .before .stays2 .ensures)) (not-true _ (c .before .if5 .taken)) (c .refused5 .ensures)
 
 add-shift : tie.Need-add-shift
 add-shift c = search needs
@@ -83,19 +77,19 @@ sub-shift : tie.Need-sub-shift
 sub-shift c = search needs
 
 shift-requires : tie.Need-shift-requires
-shift-requires c κs = (c .before .before .matches2 .ensures .long ∙ c .before .before .before .before .before .before .before .matches .ensures .long ∙ c .before .before .before .before .before .before .before .before .before .before .before .before .before .before .before .before .before .before .before .before .before .before .before .pre .0, omega (arith, c .before .before .before .before .before .before .before .before .before .before .before .before .before .before .before .before .before .before .if1 .left, c .before .before .before .before .before .before .before .before .before .before .before .before .before .before .before .place2 .ensures), omega (arith, c .before .before .before .before .before .before .before .before .before .before .before .before .before .before .if2 .left, c .before .before .before .before .before .before .before .before .before .before .before .before .before .before .before .before .before .before .before .before .before .before .before .pre .1))
+shift-requires c κs = (c .before .before .stays2 .ensures .long ∙ c .before .before .before .before .before .before .stays .ensures .long ∙ c .before .before .before .before .before .before .before .before .before .before .before .before .before .before .before .before .before .before .before .before .before .pre .0, omega (arith, c .before .before .before .before .before .before .before .before .before .before .before .before .before .before .before .before .if1 .left, c .before .before .before .before .before .before .before .before .before .before .before .before .before .place2 .ensures), omega (arith, c .before .before .before .before .before .before .before .before .before .before .before .before .if2 .left, c .before .before .before .before .before .before .before .before .before .before .before .before .before .before .before .before .before .before .before .before .before .pre .1))
 
-add-t19 : tie.Need-add-t19
-add-t19 c = search needs
+add-t17 : tie.Need-add-t17
+add-t17 c = search needs
 
-sub-t23 : tie.Need-sub-t23
-sub-t23 c = search needs
+sub-t21 : tie.Need-sub-t21
+sub-t21 c = search needs
 
-add-t24 : tie.Need-add-t24
-add-t24 c = omega (arith, c .before .before .before .before .before .before .before .before .before .before .before .before .before .before .before .before .before .before .before .if1 .left, c .before .before .before .before .before .before .before .before .before .before .before .before .before .before .before .before .place2 .ensures, c .before .before .before .before .before .before .before .before .before .before .before .before .before .before .before .if2 .left, c .before .before .before .before .before .before .before .before .before .before .before .before .before .before .before .before .before .before .before .before .before .before .before .before .pre .1)
+add-t22 : tie.Need-add-t22
+add-t22 c = omega (arith, c .before .before .before .before .before .before .before .before .before .before .before .before .before .before .before .before .before .if1 .left, c .before .before .before .before .before .before .before .before .before .before .before .before .before .before .place2 .ensures, c .before .before .before .before .before .before .before .before .before .before .before .before .before .if2 .left, c .before .before .before .before .before .before .before .before .before .before .before .before .before .before .before .before .before .before .before .before .before .before .pre .1)
 
 returns-6 : tie.Need-returns-6
-returns-6 c = merges-all (middle (right-place (left-place (c .before .before .before .before .before .before .before .before .before .before .before .before .before .before .before .before .before .before .before .before .before .before .before .before .pre .1) (c .before .before .before .before .before .before .before .before .before .before .before .before .before .before .before .before .before .before .before .before .before .before .before .inner-slot .ensures) (c .before .before .before .before .before .before .before .before .before .before .before .before .before .before .before .before .before .before .before .before .before .link .ensures) (c .before .before .before .before .before .before .before .before .before .before .before .before .before .before .before .before .before .before .before .before .place .ensures)) (c .before .before .before .before .before .before .before .before .before .before .before .before .before .before .before .before .before .before .before .if1 .left) (c .before .before .before .before .before .before .before .before .before .before .before .before .before .before .before .before .before .before .before .before .before .before .before .inner-slot .ensures) (c .before .before .before .before .before .before .before .before .before .before .before .before .before .before .before .before .before .link2 .ensures) (c .before .before .before .before .before .before .before .before .before .before .before .before .before .before .before .before .place2 .ensures)) (c .before .before .before .before .before .before .before .before .before .before .before .before .before .before .before .if2 .left) (c .before .before .before .before .before .before .before .before .before .before .before .before .before .bridges .ensures) (not-false _ (c .before .before .before .before .before .before .before .before .before .before .before .before .if3 .left))) (rest-left (c .before .before .before .before .before .before .before .before .before .before .before .child .ensures) (c .before .before .before .before .before .before .before .before .before .before .rest .ensures) (c .before .before .before .before .before .before .before .before .matches .ensures)) (not-false _ (c .before .before .before .before .before .before .before .if4 .left)) (rest-right ((rest-left (c .before .before .before .before .before .before .before .before .before .before .before .child .ensures) (c .before .before .before .before .before .before .before .before .before .before .rest .ensures) (c .before .before .before .before .before .before .before .before .matches .ensures)) .upper) (omega (arith, c .before .before .before .before .before .before .before .before .before .before .before .before .before .before .before .if2 .left, c .before .before .before .before .before .before .before .before .before .before .before .before .before .before .before .before .before .before .before .before .before .before .before .before .pre .1)) (c .before .before .before .before .before .before .child2 .ensures) (c .before .before .before .before .before .rest2 .ensures) (c .before .before .before .matches2 .ensures)) (not-false _ (c .before .before .if5 .left)) (c .shift .ensures)
+returns-6 c = merges-all (middle (right-place (left-place (c .before .before .before .before .before .before .before .before .before .before .before .before .before .before .before .before .before .before .before .before .before .before .pre .1) (c .before .before .before .before .before .before .before .before .before .before .before .before .before .before .before .before .before .before .before .before .before .inner-slot .ensures) (c .before .before .before .before .before .before .before .before .before .before .before .before .before .before .before .before .before .before .before .link .ensures) (c .before .before .before .before .before .before .before .before .before .before .before .before .before .before .before .before .before .before .place .ensures)) (c .before .before .before .before .before .before .before .before .before .before .before .before .before .before .before .before .before .if1 .left) (c .before .before .before .before .before .before .before .before .before .before .before .before .before .before .before .before .before .before .before .before .before .inner-slot .ensures) (c .before .before .before .before .before .before .before .before .before .before .before .before .before .before .before .link2 .ensures) (c .before .before .before .before .before .before .before .before .before .before .before .before .before .before .place2 .ensures)) (c .before .before .before .before .before .before .before .before .before .before .before .before .before .if2 .left) (c .before .before .before .before .before .before .before .before .before .before .before .bridges .ensures) (not-false _ (c .before .before .before .before .before .before .before .before .before .before .if3 .left))) (rest-left (c .before .before .before .before .before .before .before .before .before .child .ensures) (c .before .before .before .before .before .before .before .stays .ensures)) (not-false _ (c .before .before .before .before .before .before .if4 .left)) (rest-right ((rest-left (c .before .before .before .before .before .before .before .before .before .child .ensures) (c .before .before .before .before .before .before .before .stays .ensures)) .upper) (omega (arith, c .before .before .before .before .before .before .before .before .before .before .before .before .before .if2 .left, c .before .before .before .before .before .before .before .before .before .before .before .before .before .before .before .before .before .before .before .before .before .before .pre .1)) (c .before .before .before .before .before .child2 .ensures) (c .before .before .before .stays2 .ensures)) (not-false _ (c .before .before .if5 .left)) (c .shift .ensures)
 
 pub merge-spec : {M : Type 1} → statement M
 merge-spec =
@@ -114,20 +108,18 @@ merge-spec =
     refused-requires-3
     returns-3
     child-requires
-    rest-requires
-    add-matches
-    matches-requires
+    add-stays
+    stays-requires
     refused-requires-4
     returns-4
     child-requires-2
-    rest-requires-2
-    matches-requires-2
+    stays-requires-2
     refused-requires-5
     returns-5
     add-shift
     sub-shift
     shift-requires
-    add-t19
-    sub-t23
-    add-t24
+    add-t17
+    sub-t21
+    add-t22
     returns-6)

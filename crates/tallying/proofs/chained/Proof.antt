@@ -2,7 +2,7 @@
 use native.Mathlib.Omega.{arith}
 use borrow.Author.Needs.{needs}
 use borrow.Author.Tests.{not-true, not-false}
-use Rattle.tallying.specs.FreeChains.{Left, left-all, left-more, left-not, left-ends}
+use Rattle.tallying.specs.FreeChains.{Left, left-all, left-more, left-not, left-other, left-ends}
 use Rattle.tallying.proofs.chained.Statement.{statement}
 use Rattle.tallying.proofs.chained.Tie as tie
 
@@ -24,6 +24,12 @@ returns c = left-not (c .before .before .before .loop .inv) (c .before .before .
 link-requires : tie.Need-link-requires Inv-loop μ-loop
 link-requires c κs = search needs
 
+slot-tells-requires : tie.Need-slot-tells-requires Inv-loop μ-loop
+slot-tells-requires c κs = search needs
+
+returns-2 : tie.Need-returns-2 Inv-loop μ-loop
+returns-2 c = left-other (c .before .before .before .before .before .before .loop .inv) (c .before .before .before .before .before .loop-test .taken) (c .before .before .before .before .is-free .ensures) (c .before .before .link .ensures) (c .before .slot-tells .ensures) (not-true _ (c .if2 .taken))
+
 sub-k : tie.Need-sub-k Inv-loop μ-loop
 sub-k c = search needs
 
@@ -31,10 +37,10 @@ loop-less : tie.Need-loop-less Inv-loop μ-loop
 loop-less c = omega arith
 
 loop-again : tie.Need-loop-again Inv-loop μ-loop
-loop-again c = left-more (c .before .before .before .before .loop .inv) (c .before .before .before .loop-test .taken) (c .before .before .is-free .ensures) (not-false _ (c .before .if1 .left)) (c .link .ensures)
+loop-again c = left-more (c .before .before .before .before .before .before .loop .inv) (c .before .before .before .before .before .loop-test .taken) (c .before .before .before .before .is-free .ensures) (c .before .before .link .ensures) (c .before .slot-tells .ensures) (not-false _ (c .before .before .before .if1 .left)) (not-false _ (c .if2 .left))
 
-returns-2 : tie.Need-returns-2 Inv-loop μ-loop
-returns-2 c = left-ends (c .before .loop .inv) (c .loop-test .left)
+returns-3 : tie.Need-returns-3 Inv-loop μ-loop
+returns-3 c = left-ends (c .before .loop .inv) (c .loop-test .left)
 
 pub chained-spec : {M : Type 1} → statement M
 chained-spec =
@@ -46,7 +52,9 @@ chained-spec =
     is-free-requires
     returns
     link-requires
+    slot-tells-requires
+    returns-2
     sub-k
     loop-less
     loop-again
-    returns-2)
+    returns-3)
