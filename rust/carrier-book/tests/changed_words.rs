@@ -92,14 +92,8 @@ fn book(r: &mut Random, capacity: usize, lie: Lie, calls: usize) -> Vec<i64> {
     part
 }
 
-/// Whether the word tells the form the same. A link that may be missing is so where its word is 0 or no node's number.
-fn tells_the_same(what: &str, old: i64, word: i64) -> bool {
-    let may_be_missing = what.starts_with("stored part") || what == "link of the free chain";
-    word == old || may_be_missing && old == 0 && !(0..=8_192).contains(&word)
-}
-
-/// another word than `old`: near it, a node or a slot, or anything
-fn other(r: &mut Random, what: &str, old: i64, capacity: usize) -> i64 {
+/// another word than `old`: near it, a node or a slot, no node's number, or anything
+fn other(r: &mut Random, old: i64, capacity: usize) -> i64 {
     let c = capacity as i64;
     loop {
         let word = match r.within(0, 7) {
@@ -109,10 +103,10 @@ fn other(r: &mut Random, what: &str, old: i64, capacity: usize) -> i64 {
             3 => old.wrapping_add(1 << 32),
             4 => r.within(1, c),
             5 => 4_096 + r.within(1, c),
-            6 => r.pick(&[i64::MIN, i64::MAX, -1]),
+            6 => r.pick(&[i64::MIN, i64::MAX, -1, 8_193]),
             _ => r.word(),
         };
-        if !tells_the_same(what, old, word) {
+        if word != old {
             return word;
         }
     }
@@ -131,7 +125,7 @@ fn a_word_of_the_form() {
         for (at, what) in Used::of(&part.clone()).words {
             let old = part[at];
             for _ in 0..4 {
-                part[at] = other(r, what, old, capacity);
+                part[at] = other(r, old, capacity);
                 assert!(!lent::check(&part, 0), "seed {seed}, word {at} ({what}): {old} became {}", part[at]);
                 *seen.entry(what).or_default() += 1;
             }
@@ -144,6 +138,33 @@ fn a_word_of_the_form() {
     assert!(seen.values().all(|n| *n > 500), "{seen:?}");
 }
 
+/// An empty stored part and the end of the free chain are told by 0, and not by a word that is no node's number.
+#[test]
+fn a_word_that_is_no_link() {
+    let mut seen: BTreeMap<&str, usize> = BTreeMap::new();
+    for seed in 0..60 {
+        let r = &mut Random::new(85_000 + seed);
+        let capacity = r.pick(&[2, 3, 5, 16]);
+        let calls = r.within(0, 3 * capacity as i64) as usize;
+        let mut part = book(r, capacity, LIES[seed as usize % LIES.len()], calls);
+        for (at, what) in Used::of(&part.clone()).words {
+            if at < 64 || part[at] != 0 {
+                continue;
+            }
+            for word in [-1, 8_193, 9_000, 1 << 32, i64::MIN, i64::MAX] {
+                part[at] = word;
+                assert!(!lent::check(&part, 0), "seed {seed}, word {at} ({what}): 0 became {word}");
+            }
+            part[at] = 0;
+            *seen.entry(what).or_default() += 1;
+        }
+        assert!(lent::check(&part, 0));
+    }
+    for what in ["link of the free chain", "stored part of a leaf", "stored part of an inner node"] {
+        assert!(seen[what] > 20, "{seen:?}");
+    }
+}
+
 #[test]
 fn a_word_of_a_large_book() {
     let r = &mut Random::new(80_000);
@@ -153,7 +174,7 @@ fn a_word_of_a_large_book() {
     for _ in 0..400 {
         let (at, what) = r.pick(&used);
         let old = part[at];
-        part[at] = other(r, what, old, 4_096);
+        part[at] = other(r, old, 4_096);
         assert!(!lent::check(&part, 0), "word {at} ({what}): {old} became {}", part[at]);
         part[at] = old;
     }
