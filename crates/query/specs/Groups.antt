@@ -1,24 +1,21 @@
 -- The four words of an inner node of the pieces' tree lie side by side: left, right, numerator, denominator.
 use mathlib.Core.Path.{_≡_, refl, sym, _∙_, ap}
 use mathlib.Core.Bool.{Bool, true, false, not, cond}
-use Prim.Native.Nat.{ℕ, _+_, _*_, _/_, _-_, _≤_, _<_}
+use Prim.Native.Nat.{ℕ, _+_, _*_, _/_, _%_, _-_, _≤_, _<_}
 use native.Mathlib.Omega.{arith}
 use lib.ListN.{length, getD}
 use lib.IntN.{ℤ, pos, negsuc, negℤ}
 use borrow.Author.Tests.{le-leb, leb-false}
 use Rattle.integers.specs.Ring.{var, nat, _:+_, _:*_, by-eq}
 use Rattle.offers.specs.Offers.{between, within}
-use Rattle.table.specs.Words.{Words, word, word-out, upTo, upTo-in, upTo-over, upTo-below}
-use Rattle.table.specs.Layout.{cap, place, Valid, place-in, spot-in, spot-out, cell, linkAt}
+use Rattle.table.specs.Words.{Words, upTo, upTo-in, upTo-over, upTo-below}
+use Rattle.table.specs.Layout.{cap, Valid, cell, linkAt}
+use Rattle.table.specs.Cells.{cell-none, cell-inside, cell-there}
 use Rattle.table.specs.Rep.{childField}
 use Rattle.query.specs.Readings.{clamped, bounded-in, rightOf, Sided, childToward, priceIn}
 
-cell-out : {w : Words} {f s : ℕ} → ¬ Valid w f s → cell w f s ≡ pos 0
-unfolding cell
-cell-out {w} v = ap (word w) (spot-out v) ∙ word-out w _ (omega arith)
-
 link-out : {w : Words} {f s : ℕ} → ¬ Valid w f s → linkAt w f s ≡ 0
-link-out v = ap (upTo 8192) (cell-out v) ∙ upTo-in 8192 0 (omega arith)
+link-out v = ap (upTo 8192) (sym (cell-none v)) ∙ upTo-in 8192 0 (omega arith)
 
 -- ---- no node
 
@@ -54,19 +51,14 @@ module _ (w : Words) (c x : ℕ) (e : c ≡ cap w) (low : 4096 < x) (high : x �
   abbrev s : ℕ
   s = x - 4096
 
-  there : {f : ℕ} → f < 32 → Valid w f s
-  there h = record { low = omega arith; high = omega arith; field = h }
+  group-at : (f j : ℕ) → f ≡ 4 + j → j < 4 → group c x + j ≡ 64 + 4 * (f / 4 * (c + 1) + s) + f % 4
+  group-at f j d h = let p : f / 4 ≡ 1 = omega arith in omega (arith, ap (λ (k : ℕ). k * (c + 1)) p)
 
   pub group-in : (j : ℕ) → j < 4 → group c x + j < length w
-  unfolding place
-  group-in j h = omega (arith, place-in (there {f = 7} (omega arith)))
+  group-in j h = omega (arith, group-at (4 + j) j refl h, cell-inside w (4 + j) s c e (omega arith) (omega arith) (omega arith))
 
   group-cell : (f j : ℕ) → f ≡ 4 + j → j < 4 → getD w (group c x + j) (pos 0) ≡ cell w f s
-  unfolding cell word place
-  group-cell f j d h = ap (λ i. getD w i (pos 0)) at ∙ sym (ap (word w) (spot-in (there (omega arith))))
-    where
-      at : group c x + j ≡ place (cap w) f s
-      at = let p : f / 4 ≡ 1 = omega arith in omega (arith, ap (λ k. k * (cap w + 1)) p)
+  group-cell f j d h = ap (λ (i : ℕ). getD w i (pos 0)) (group-at f j d h) ∙ cell-there w f s c e (omega arith) (omega arith) (omega arith)
 
   -- the words of the group
   abbrev ourD : ℤ
@@ -97,23 +89,18 @@ module _ (w : Words) (c x : ℕ) (e : c ≡ cap w) (low : 4096 < x) (high : x �
 pub price-none : (w : Words) (c s : ℕ) (q : ℤ) → c ≡ cap w → ¬ ((1 ≤ s) × (s ≤ c)) → pos 0 ≡ priceIn w s q
 unfolding priceIn
 price-none w c s q e h =
-    rw (cell-out {f = 1} gone, cell-out {f = 2} gone, bounded-in (negℤ (pos 1_000_000_000)) (pos 1_000_000_000) (pos 0) tt, bounded-in (negℤ (pos 100_000)) (pos 100_000) (pos 0) tt)
+    rw (← cell-none {f = 1} gone, ← cell-none {f = 2} gone, bounded-in (negℤ (pos 1_000_000_000)) (pos 1_000_000_000) (pos 0) tt, bounded-in (negℤ (pos 100_000)) (pos 100_000) (pos 0) tt)
     (by-eq (nat 0) (nat 0 :+ nat 0 :* var (clamped 1_000_000 q)) (omega arith))
   where
     gone : {f : ℕ} → ¬ Valid w f s
     gone v = h (v .low, omega (arith, v .high))
 
 module _ (w : Words) (c s : ℕ) (e : c ≡ cap w) (low : 1 ≤ s) (high : s ≤ c) where
-  here : {f : ℕ} → f < 32 → Valid w f s
-  here h = record { low = low; high = omega arith; field = h }
+  data-at : (f : ℕ) → f < 4 → 64 + 4 * s + f ≡ 64 + 4 * (f / 4 * (c + 1) + s) + f % 4
+  data-at f h = let p : f / 4 ≡ 0 = omega arith in omega (arith, ap (λ (k : ℕ). k * (c + 1)) p)
 
   pub data-in : (f : ℕ) → f < 4 → 64 + 4 * s + f < length w
-  unfolding place
-  data-in f h = omega (arith, place-in (here {f = 4} (omega arith)))
+  data-in f h = omega (arith, data-at f h, cell-inside w f s c e low high (omega arith))
 
   pub data-cell : (f : ℕ) → f < 4 → getD w (64 + 4 * s + f) (pos 0) ≡ cell w f s
-  unfolding cell word place
-  data-cell f h = ap (λ i. getD w i (pos 0)) at ∙ sym (ap (word w) (spot-in (here (omega arith))))
-    where
-      at : 64 + 4 * s + f ≡ place (cap w) f s
-      at = let p : f / 4 ≡ 0 = omega arith in omega (arith, ap (λ k. k * (cap w + 1)) p)
+  data-cell f h = ap (λ (i : ℕ). getD w i (pos 0)) (data-at f h) ∙ cell-there w f s c e low high (omega arith)

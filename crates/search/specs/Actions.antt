@@ -1,10 +1,10 @@
 -- What an action makes of a walk whose node was noted above its stack's top.
 use Prim.Native.Nat.{ℕ, _+_, _-_, _≤_, _<_}
 use native.Mathlib.Omega.{arith}
-use mathlib.Core.Path.{_≡_, refl, sym, _∙_, ap}
+use mathlib.Core.Path.{_≡_, refl, _∙_}
 use mathlib.Core.Bool.{Bool, true, false, not}
-use mathlib.Core.List.{List, _∷_}
-use lib.ListN.{length, set, length-set}
+use mathlib.Core.List.{List}
+use lib.ListN.{set, length-set}
 use Rattle.meeting.specs.Machine.{Half}
 use Rattle.table.specs.Words.{Words}
 use Rattle.table.specs.Items.{Item}

@@ -1,6 +1,5 @@
 -- The search on the table: what the code's walks stand for, and that each of its steps is the machine's.
 pub mod ItemLines
-pub mod Cells
 pub mod Prices
 pub mod Pieces
 pub mod Walks

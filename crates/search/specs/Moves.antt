@@ -1,24 +1,24 @@
 -- What the code's functions on a walk are held to, and why each of their answers is right. A walk may hold anything: each promise is for a walk
 -- that stands for a half of the machine's state.
-use Prim.Native.Nat.{ℕ, zero, suc, _+_, _-_, _≤_, _<_}
+use Prim.Native.Nat.{ℕ, suc, _+_, _-_, _≤_, _<_}
 use native.Mathlib.Omega.{arith}
 use native.Mathlib.Decide.{decLe, decLt}
 use native.Mathlib.Numerals.{add-one}
 use mathlib.Core.Path.{_≡_, refl, sym, _∙_, ap, subst}
 use mathlib.Core.Bool.{Bool, not, cond}
-use mathlib.Core.List.{List, [], _∷_}
+use mathlib.Core.List.{List, _∷_}
 use mathlib.Core.Option.{Option}
 use lib.Dec.{leb, ltb}
 use borrow.Author.Tests.{le-leb, lt-leb, lt-ltb, le-ltb}
 use lib.ListN.{length, getD, set, length-set, List·getD-eq-default}
-use Rattle.trees.specs.Tree.{Tree, leaf, node, height, last}
+use Rattle.trees.specs.Tree.{Tree, leaf, node, height}
 use Rattle.meeting.specs.Machine.{Place, Half, advance, retreat, pop}
 use Rattle.meeting.specs.Moves.{half}
 use Rattle.table.specs.Words.{Words}
 use Rattle.table.specs.Items.{Item}
 use Rattle.table.specs.Rep.{childAt, refOf}
 use Rattle.search.specs.Pieces.{Pieces, sideOf, pieces-away, pieces-toward, leaf-low, inner-high, seam-at}
-use Rattle.search.specs.Walks.{Walk, Stacks, empty, pushed, Stood, stacks-depth, stacks-push, topRef, topSlot, pointSlot}
+use Rattle.search.specs.Walks.{Walk, Stacks, empty, pushed, Stood, stacks-depth, stacks-push, topRef, pointSlot}
 
 -- ---- the promises
 

@@ -1,15 +1,15 @@
 -- What a state of the code's search stands for, and that each of its steps is the machine's.
-use Prim.Native.Nat.{ℕ, suc, _+_, _-_, _≤_, _<_}
+use Prim.Native.Nat.{ℕ, _+_, _-_, _≤_, _<_}
 use native.Mathlib.Omega.{arith}
-use mathlib.Core.Path.{_≡_, refl, sym, _∙_, ap, ap₂, subst}
+use mathlib.Core.Path.{_≡_, refl, sym, _∙_, ap, ap₂}
 use mathlib.Core.Bool.{Bool, true, false, not, _&&_}
 use mathlib.Core.List.{List, [], _∷_}
 use mathlib.Core.Option.{Option, none, some}
 use lib.Dec.{leb}
 use lib.ListN.{length}
 use borrow.Author.Tests.{le-leb, lt-leb}
-use Rattle.trees.specs.Tree.{Tree, leaf, node, height, last}
-use Rattle.meeting.specs.Machine.{Side, opposite, isLeaf, Place, onOrAbove, Case, mine, theirs, neither, caseOf, compare, Half, State, pair, advance, retreat, pop, second, recedeBy, recede, advanceUnless, stepBy, step}
+use Rattle.trees.specs.Tree.{Tree, leaf, node, height}
+use Rattle.meeting.specs.Machine.{Side, opposite, isLeaf, Place, onOrAbove, Case, mine, theirs, neither, caseOf, compare, Half, State, pair, pop, second, recede, stepBy, step}
 use Rattle.meeting.specs.Moves.{half}
 use Rattle.table.specs.Words.{Words}
 use Rattle.table.specs.Items.{Item}
@@ -17,8 +17,8 @@ use Rattle.table.specs.Rep.{refOf}
 use Rattle.search.specs.declared.Search.{Search}
 use Rattle.search.specs.ItemLines.{itemFigure}
 use Rattle.search.specs.Prices.{aboveAt}
-use Rattle.search.specs.Pieces.{Pieces, sideOf, leaf-low, inner-high, seam-at}
-use Rattle.search.specs.Walks.{Walk, Stacks, empty, pushed, Stood, Fares, stacks-depth, topRef, pointSlot, node-above, half-above}
+use Rattle.search.specs.Pieces.{Pieces, sideOf, leaf-low, inner-high}
+use Rattle.search.specs.Walks.{Walk, Stacks, pushed, Stood, Fares, topRef, pointSlot, node-above, half-above}
 use Rattle.search.specs.Moves.{Topped, Pointed, Retreated, Advanced, Popped, top-pieces}
 use Rattle.search.specs.Actions.{Stays}
 

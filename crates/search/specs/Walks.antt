@@ -1,23 +1,22 @@
 -- What one walk of the code stands for: a half of the machine's state. Its moves are the machine's, and so is its point.
-use Prim.Native.Nat.{ℕ, zero, suc, _+_, _-_, _≤_, _<_}
+use Prim.Native.Nat.{ℕ, suc, _-_, _≤_, _<_}
 use native.Mathlib.Omega.{arith}
-use native.Mathlib.Numerals.{add-one}
 use mathlib.Core.Path.{_≡_, refl, sym, _∙_, ap, subst}
-use mathlib.Core.Bool.{Bool, true, false, not}
+use mathlib.Core.Bool.{Bool}
 use mathlib.Core.List.{List, [], _∷_}
 use mathlib.Core.Option.{Option}
-use lib.ListN.{length, getD, set, length-set}
+use lib.ListN.{length, getD, set}
 use lib.Seq.{getD-set-same, getD-set-other}
-use Rattle.trees.specs.Tree.{Tree, leaf, node, height, last}
-use Rattle.meeting.specs.Machine.{Side, Place, Half, Crossing, away, toward, crossingOnOrAbove, onOrAbove, advance, retreat, pop}
+use Rattle.trees.specs.Tree.{Tree, leaf, node, last}
+use Rattle.meeting.specs.Machine.{Side, Place, Half, Crossing, crossingOnOrAbove, onOrAbove}
 use Rattle.meeting.specs.Located.{Aim, Stands, leaf-point}
 use Rattle.meeting.specs.Moves.{half}
 use Rattle.table.specs.Words.{Words}
 use Rattle.table.specs.Items.{Item}
-use Rattle.table.specs.Rep.{childAt, refOf}
+use Rattle.table.specs.Rep.{refOf}
 use Rattle.search.specs.ItemLines.{itemFigure, point-above}
 use Rattle.search.specs.Prices.{aboveAt, above-missing}
-use Rattle.search.specs.Pieces.{Pieces, sideOf, pieces-away, pieces-toward, leaf-low, inner-high, seam-at, seam-of, seam-above}
+use Rattle.search.specs.Pieces.{Pieces, sideOf, seam-of, seam-above}
 
 -- ---- the relation
 

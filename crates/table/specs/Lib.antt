@@ -1,6 +1,7 @@
 -- The table: words, the places of the slots' fields, and trees kept in words.
 pub mod Words
 pub mod Layout
+pub mod Cells
 pub mod Items
 pub mod Rep
 pub mod Nodes

@@ -1,5 +1,5 @@
 -- `search::child` meets its contract.
-use mathlib.Core.Path.{_∙_, ap, ap₂}
+use mathlib.Core.Path.{_∙_, ap₂}
 use Rattle.table.specs.Layout.{linkAt}
 use borrow.Author.Needs.{needs}
 use Rattle.search.proofs.child.Statement.{statement}

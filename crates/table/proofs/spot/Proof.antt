@@ -1,16 +1,13 @@
 -- `table::spot` meets its contract. No step of the sum wraps, since the capacity is at most 4,096.
 use mathlib.Core.Path.{_≡_, _∙_, sym, ap}
 use Prim.Native.Nat.{ℕ, _+_, _*_, _/_, _%_, _≤_, _<_}
-use native.Mathlib.Nat.{mul-le-mul}
 use native.Mathlib.Omega.{arith}
 use Rattle.table.specs.Words.{Words}
+use Rattle.table.specs.Cells.{plane-low}
 use Rattle.table.specs.Layout.{cap, cap-cut, cap-whole, cap-most, spot, spot-in, spot-out, place}
 use borrow.Author.Needs.{needs}
 use Rattle.table.proofs.spot.Statement.{statement}
 use Rattle.table.proofs.spot.Tie as tie
-
-planes : (w : Words) (f c : ℕ) → c ≡ cap w → f < 32 → f / 4 * (c + 1) ≤ 28_679
-planes w f c e h = mul-le-mul {n₂ = 7} {m₂ = 4097} (omega arith) (omega (arith, cap-most w))
 
 found : (w : Words) (f s c : ℕ) → c ≡ cap w → 1 ≤ s → s ≤ c → f < 32 → 64 + 4 * (f / 4 * (c + 1) + s) + f % 4 ≡ spot w f s
 unfolding place
@@ -47,19 +44,19 @@ add-result : tie.Need-add-result
 add-result c = search needs
 
 mul-result : tie.Need-mul-result
-mul-result c = let e = cap-whole _ _ (c .before .before .before .before .number-at .ensures) (c .before .before .before .if1 .left) in omega (arith, planes _ _ _ e (c .if4 .left), cap-most (c .before .before .before .before .before .args .part .now), e)
+mul-result c = let e = cap-whole _ _ (c .before .before .before .before .number-at .ensures) (c .before .before .before .if1 .left) in omega (arith, plane-low (c .before .before .before .before .before .args .part .now) _ (c .before .before .before .before .before .args .slot) _ e (c .if4 .left), cap-most (c .before .before .before .before .before .args .part .now), e)
 
 add-result-2 : tie.Need-add-result-2
-add-result-2 c = let e = cap-whole _ _ (c .before .before .before .before .number-at .ensures) (c .before .before .before .if1 .left) in omega (arith, planes _ _ _ e (c .if4 .left), cap-most (c .before .before .before .before .before .args .part .now), e)
+add-result-2 c = let e = cap-whole _ _ (c .before .before .before .before .number-at .ensures) (c .before .before .before .if1 .left) in omega (arith, plane-low (c .before .before .before .before .before .args .part .now) _ (c .before .before .before .before .before .args .slot) _ e (c .if4 .left), cap-most (c .before .before .before .before .before .args .part .now), e)
 
 mul-result-2 : tie.Need-mul-result-2
-mul-result-2 c = let e = cap-whole _ _ (c .before .before .before .before .number-at .ensures) (c .before .before .before .if1 .left) in omega (arith, planes _ _ _ e (c .if4 .left), cap-most (c .before .before .before .before .before .args .part .now), e)
+mul-result-2 c = let e = cap-whole _ _ (c .before .before .before .before .number-at .ensures) (c .before .before .before .if1 .left) in omega (arith, plane-low (c .before .before .before .before .before .args .part .now) _ (c .before .before .before .before .before .args .slot) _ e (c .if4 .left), cap-most (c .before .before .before .before .before .args .part .now), e)
 
 add-result-3 : tie.Need-add-result-3
-add-result-3 c = let e = cap-whole _ _ (c .before .before .before .before .number-at .ensures) (c .before .before .before .if1 .left) in omega (arith, planes _ _ _ e (c .if4 .left), cap-most (c .before .before .before .before .before .args .part .now), e)
+add-result-3 c = let e = cap-whole _ _ (c .before .before .before .before .number-at .ensures) (c .before .before .before .if1 .left) in omega (arith, plane-low (c .before .before .before .before .before .args .part .now) _ (c .before .before .before .before .before .args .slot) _ e (c .if4 .left), cap-most (c .before .before .before .before .before .args .part .now), e)
 
 add-result-4 : tie.Need-add-result-4
-add-result-4 c = let e = cap-whole _ _ (c .before .before .before .before .number-at .ensures) (c .before .before .before .if1 .left) in omega (arith, planes _ _ _ e (c .if4 .left), cap-most (c .before .before .before .before .before .args .part .now), e)
+add-result-4 c = let e = cap-whole _ _ (c .before .before .before .before .number-at .ensures) (c .before .before .before .if1 .left) in omega (arith, plane-low (c .before .before .before .before .before .args .part .now) _ (c .before .before .before .before .before .args .slot) _ e (c .if4 .left), cap-most (c .before .before .before .before .before .args .part .now), e)
 
 returns-5 : tie.Need-returns-5
 returns-5 c = found _ _ _ _ (cap-whole _ _ (c .before .before .before .before .number-at .ensures) (c .before .before .before .if1 .left)) (c .before .before .if2 .left) (c .before .if3 .left) (c .if4 .left)

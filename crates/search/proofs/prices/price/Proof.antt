@@ -3,7 +3,6 @@ use mir.Facts.{toZ-ofZ}
 use mir.Syntax.{w64}
 use mir.Val.{SFits}
 use Rattle.search.specs.Prices.{base-product-fits, rate-product-fits, price-fits, price-is}
-use borrow.Author.Needs.{needs}
 use Rattle.search.proofs.prices.price.Statement.{statement}
 use Rattle.search.proofs.prices.price.Tie as tie
 

@@ -7,7 +7,7 @@ use mir.Facts.{toZ-ofZ}
 use mir.Syntax.{w64}
 use mir.Val.{SFits}
 use Rattle.table.specs.Layout.{cap-most}
-use Rattle.search.specs.Cells.{cell-none, plane-low, cell-inside, cell-there}
+use Rattle.table.specs.Cells.{cell-none, plane-low, cell-inside, cell-there}
 use borrow.Author.Needs.{needs}
 use Rattle.search.proofs.prices.read.Statement.{statement}
 use Rattle.search.proofs.prices.read.Tie as tie

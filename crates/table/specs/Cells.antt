@@ -1,12 +1,12 @@
 -- A slot's field read straight from the words, where the part's capacity c is known.
-use mathlib.Core.Path.{_≡_, refl, sym, _∙_, ap}
+use mathlib.Core.Path.{_≡_, sym, _∙_, ap}
 use Prim.Native.Nat.{ℕ, _+_, _*_, _/_, _%_, _≤_, _<_}
 use native.Mathlib.Nat.{mul-le-mul}
 use native.Mathlib.Omega.{arith}
 use lib.ListN.{length, getD}
 use lib.IntN.{pos}
 use Rattle.table.specs.Words.{Words, word, word-out}
 use Rattle.table.specs.Layout.{cap, cap-most, place, Valid, place-in, spot-in, spot-out, cell}
 
 -- the part has no such field
 pub cell-none : {w : Words} {f s : ℕ} → ¬ Valid w f s → pos 0 ≡ cell w f s
