@@ -1,13 +1,12 @@
 -- Raise in words: both envelopes are searched and cut, the rests, the node and its bridge are written, and the kept parts put together.
 use mathlib.Core.Path.{_≡_, refl, sym, _∙_, ap, subst}
 use mathlib.Core.Bool.{true, false}
-use mathlib.Core.Option.{none, some}
+use mathlib.Core.Option.{some}
 use mathlib.Core.List.{[], _∷_, _++_}
 use Prim.Native.Nat.{ℕ, _+_, _≤_}
 use native.Mathlib.Omega.{arith}
 use lib.IntN.{ℤ, pos}
 use Rattle.trees.specs.Tree.{Tree, node, height, leaves, first, Avl}
-use Rattle.trees.specs.Operations.{Part}
 use Rattle.trees.specs.Height.{height-full}
 use Rattle.meeting.specs.Machine.{Result, meet}
 use Rattle.meeting.specs.Meets.{FacingTrees}
