@@ -14,6 +14,7 @@ use Rattle.columns.specs.declared.Command.the-variants.{Post, Withdraw, Query, 
 use Rattle.columns.specs.Commands.{Parsed, parsed-unique, commandOf, command-parsed}
 use Rattle.columns.specs.Printed.{Answers}
 use Rattle.dynamic.specs.OfferTree.{Held}
+use Rattle.table.specs.Words.{word}
 use Rattle.table.specs.Items.{Item}
 use Rattle.update.specs.Form.{Book, plainOffers}
 use Rattle.book.specs.declared.Update.{Update}
@@ -69,12 +70,12 @@ command-is {line} p e = subst (Parsed line) e p
 
 pub counts-short : (line : List ℕ) (t : List ℤ) (out : List ℕ) → length out < most → Counts line t t out out 0
 counts-short line t out h =
-    record { short = λ _. (refl, refl, refl); within = omega arith; outside = untouched (capacityAt t 0) 0 t; obeys = λ g. absurd (omega arith) }
+    record { short = λ _. (refl, refl, refl); within = omega arith; outside = untouched (capacityAt t 0) 0 t; same-part = refl; obeys = λ g. absurd (omega arith) }
 
 -- lines of one command
 pub counts-alike : {line line′ : List ℕ} {t t′ : List ℤ} {out out′ : List ℕ} {n : ℕ} → commandOf line ≡ commandOf line′ → Counts line t t′ out out′ n → Counts line′ t t′ out out′ n
 counts-alike {t = t} {t′} {out} {out′} {n} e c =
-    record { short = c .short; within = c .within; outside = c .outside; obeys = λ h. subst (λ (m : Command). Obeys m t t′ out out′ n) e (c .obeys h) }
+    record { short = c .short; within = c .within; outside = c .outside; same-part = c .same-part; obeys = λ h. subst (λ (m : Command). Obeys m t t′ out out′ n) e (c .obeys h) }
 
 -- a post or a withdrawal
 updated : {t t′ : List ℤ} {out out′ : List ℕ} {n letter : ℕ} (k : Call) {u : Update} (held : Option (Held Item)) → Book (partOf t 0) capacity held → Roomy k → Updates k 0 t t′ u
@@ -88,19 +89,20 @@ left : {t t′ : List ℤ} {k : Call} {u : Update} → Updates k 0 t t′ u → 
 left u held book j e = let f = u .follows capacity held book in f .refusal j (f .answers ∙ e)
 
 module _ {line : List ℕ} {t : List ℤ} {out out′ : List ℕ} {n : ℕ} (long : most ≤ length out) where
-  by-command : {t′ : List ℤ} (m : Command) → Parsed line m → n ≤ length out → OnlyPart (capacityAt t 0) 0 t t′ → Obeys m t t′ out out′ n → Counts line t t′ out out′ n
-  by-command {t′} m p within outside o =
+  by-command : {t′ : List ℤ} (m : Command) → Parsed line m → n ≤ length out → OnlyPart (capacityAt t 0) 0 t t′ → word (partOf t′ 0) 0 ≡ word (partOf t 0) 0 → Obeys m t t′ out out′ n → Counts line t t′ out out′ n
+  by-command {t′} m p within outside same o =
       record {
         short = λ h. absurd (omega (arith, long));
         within = within;
         outside = outside;
+        same-part = same;
         obeys = λ _. subst (λ (m : Command). Obeys m t t′ out out′ n) (parsed-unique line m (commandOf line) p (command-parsed line)) o;
       }
 
   pub posted : {t′ : List ℤ} (number rate base : ℤ) {u : Update} → Parsed line (Post number rate base) → Updates (post number rate base) 0 t t′ u
       → Replies 80 number (updateAnswer u) out out′ n → Counts line t t′ out out′ n
   posted number rate base p u r =
-      by-command (Post number rate base) p (r .within) (u .outside)
+      by-command (Post number rate base) p (r .within) (u .outside) (u .same-part)
       (record {
         asks = λ no. absurd no;
         declined = λ z f. let d = u .declined z f in (d .1, refusing z (d .0) r);
@@ -111,7 +113,7 @@ module _ {line : List ℕ} {t : List ℤ} {out out′ : List ℕ} {n : ℕ} (lon
   pub withdrawn : {t′ : List ℤ} (number : ℤ) {u : Update} → Parsed line (Withdraw number) → Updates (withdraw number) 0 t t′ u
       → Replies 87 number (updateAnswer u) out out′ n → Counts line t t′ out out′ n
   withdrawn number p u r =
-      by-command (Withdraw number) p (r .within) (u .outside)
+      by-command (Withdraw number) p (r .within) (u .outside) (u .same-part)
       (record {
         asks = λ no. absurd no;
         declined = λ z f. let d = u .declined z f in (d .1, refusing z (d .0) r);
@@ -125,7 +127,7 @@ module _ {line : List ℕ} {t : List ℤ} {out out′ : List ℕ} {n : ℕ} (lon
       → ((held : Option (Held Item)) → Book (partOf t 0) capacity held → Prints (answered (letterOf m) (named m) (outcome (plainOf capacity held) m .answer)) out out′ n)
       → Counts line t t out out′ n
   asking m p within declined same prints =
-      by-command m p within (untouched (capacityAt t 0) 0 t)
+      by-command m p within (untouched (capacityAt t 0) 0 t) refl
       (record {
         asks = λ _. refl;
         declined = λ z f. (refl, declined z f);

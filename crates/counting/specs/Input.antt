@@ -11,7 +11,8 @@ use lib.Seq.{take-all, take-append-le, take-suc-set, length-take-le}
 use lib.IntN.{ℤ}
 use Rattle.columns.specs.Columns.{newline}
 use Rattle.columns.specs.Commands.{parsed-unique, commandOf, command-parsed, wrong-length}
-use Rattle.book.specs.Promises.{capacityAt, OnlyPart}
+use Rattle.table.specs.Words.{word}
+use Rattle.book.specs.Promises.{partOf, capacityAt, OnlyPart}
 use Rattle.counting.specs.declared.Line.{Line}
 use Rattle.counting.specs.Promises.{Counts}
 use Rattle.counting.specs.Answering.{untouched, counts-alike}
@@ -78,25 +79,28 @@ kept-command text = go (decLe (length text) 28)
 pub record CountsFront (bytes : List ℕ) (kept : ℕ) (t t′ : List ℤ) (out out′ : List ℕ) (n : ℕ) : Type 0 where
   pub within : n ≤ length out
   pub outside : OnlyPart (capacityAt t 0) 0 t t′
+  pub same-part : word (partOf t′ 0) 0 ≡ word (partOf t 0) 0
   pub counts : kept ≤ length bytes → Counts (take kept bytes) t t′ out out′ n
 
 -- the whole line is answered
 pub record CountsKept (line : Line) (t t′ : List ℤ) (out out′ : List ℕ) (n : ℕ) : Type 0 where
   pub within : n ≤ length out
   pub outside : OnlyPart (capacityAt t 0) 0 t t′
+  pub same-part : word (partOf t′ 0) 0 ≡ word (partOf t 0) 0
   pub counts : (text : List ℕ) → Keeps line text → Counts text t t′ out out′ n
 
 pub front-none : (bytes : List ℕ) (kept : ℕ) (t : List ℤ) (out : List ℕ) → length bytes < kept → CountsFront bytes kept t t out out 0
-front-none bytes kept t out h = record { within = omega arith; outside = untouched (capacityAt t 0) 0 t; counts = λ k. absurd (omega arith) }
+front-none bytes kept t out h = record { within = omega arith; outside = untouched (capacityAt t 0) 0 t; same-part = refl; counts = λ k. absurd (omega arith) }
 
 pub front-all : {bytes : List ℕ} {kept : ℕ} {t t′ : List ℤ} {out out′ : List ℕ} {n : ℕ} → Counts (take kept bytes) t t′ out out′ n → CountsFront bytes kept t t′ out out′ n
-front-all c = record { within = c .within; outside = c .outside; counts = λ k. c }
+front-all c = record { within = c .within; outside = c .outside; same-part = c .same-part; counts = λ k. c }
 
 pub counts-kept : {line : Line} {t t′ : List ℤ} {out out′ : List ℕ} {n : ℕ} → CountsFront (line .bytes) (line .length) t t′ out out′ n → CountsKept line t t′ out out′ n
 counts-kept c =
     record {
       within = c .within;
       outside = c .outside;
+      same-part = c .same-part;
       counts = λ text k. counts-alike (ap commandOf (k .front) ∙ kept-command text) (c .counts (omega (arith, k .room, k .few)));
     }
 
@@ -105,14 +109,15 @@ counts-kept c =
 pub record Feeds (byte : ℕ) (line line′ : Line) (t t′ : List ℤ) (out out′ : List ℕ) (n : ℕ) : Type 0 where
   pub within : n ≤ length out
   pub outside : OnlyPart (capacityAt t 0) 0 t t′
+  pub same-part : word (partOf t′ 0) 0 ≡ word (partOf t 0) 0
   pub grows : byte ≢ newline → Pushes line byte line′ × (t′ ≡ t) × (out′ ≡ out) × (n ≡ 0)
   pub ends : byte ≡ newline → Keeps line′ [] × CountsKept line t t′ out out′ n
 
 pub feeds-on : {byte : ℕ} {line line′ : Line} (t : List ℤ) (out : List ℕ) → byte ≢ newline → Pushes line byte line′ → Feeds byte line line′ t t out out 0
-feeds-on t out h p = record { within = omega arith; outside = untouched (capacityAt t 0) 0 t; grows = λ _. (p, refl, refl, refl); ends = λ e. absurd (h e) }
+feeds-on t out h p = record { within = omega arith; outside = untouched (capacityAt t 0) 0 t; same-part = refl; grows = λ _. (p, refl, refl, refl); ends = λ e. absurd (h e) }
 
 pub feeds-line : {byte : ℕ} {line line′ : Line} {t t′ : List ℤ} {out out′ : List ℕ} {n : ℕ} → byte ≡ newline → Keeps line′ [] → CountsKept line t t′ out out′ n → Feeds byte line line′ t t′ out out′ n
-feeds-line e k c = record { within = c .within; outside = c .outside; grows = λ h. absurd (h e); ends = λ _. (k, c) }
+feeds-line e k c = record { within = c .within; outside = c .outside; same-part = c .same-part; grows = λ h. absurd (h e); ends = λ _. (k, c) }
 
 -- ---- the end of the input
 
@@ -120,6 +125,7 @@ feeds-line e k c = record { within = c .within; outside = c .outside; grows = λ
 pub record Finishes (line : Line) (t t′ : List ℤ) (out out′ : List ℕ) (n : ℕ) : Type 0 where
   pub within : n ≤ length out
   pub outside : OnlyPart (capacityAt t 0) 0 t t′
+  pub same-part : word (partOf t′ 0) 0 ≡ word (partOf t 0) 0
   pub no-more : Keeps line [] → (t′ ≡ t) × (out′ ≡ out) × (n ≡ 0)
   pub last : (b : ℕ) (text : List ℕ) → Keeps line (b ∷ text) → Counts (b ∷ text) t t′ out out′ n
 
@@ -128,6 +134,7 @@ finishes-none t out e =
     record {
       within = omega arith;
       outside = untouched (capacityAt t 0) 0 t;
+      same-part = refl;
       no-more = λ _. (refl, refl, refl);
       last = λ b text k. absurd (omega (arith, kept-all k (omega arith)));
     }
@@ -137,6 +144,7 @@ finishes-line some c =
     record {
       within = c .within;
       outside = c .outside;
+      same-part = c .same-part;
       no-more = λ k. absurd (some (kept-length k));
       last = λ b text k. c .counts (b ∷ text) k;
     }

@@ -16,6 +16,7 @@ use Rattle.columns.specs.declared.Command.the-variants.{Post, Withdraw, Query, 
 use Rattle.columns.specs.Columns.{newline, answerLine}
 use Rattle.columns.specs.Commands.{commandOf}
 use Rattle.dynamic.specs.OfferTree.{Held}
+use Rattle.table.specs.Words.{word}
 use Rattle.table.specs.Items.{Item}
 use Rattle.update.specs.Form.{Book}
 use Rattle.book.specs.Promises.{partOf, capacityAt, plainOf, tableTrials, OnlyPart}
@@ -135,4 +136,6 @@ pub record Counts (line : List ℕ) (t t′ : List ℤ) (out out′ : List ℕ) 
   pub short : length out < most → (n ≡ 0) × (t′ ≡ t) × (out′ ≡ out)
   pub within : n ≤ length out
   pub outside : OnlyPart (capacityAt t 0) 0 t t′
+  -- so that the part is the same one from line to line
+  pub same-part : word (partOf t′ 0) 0 ≡ word (partOf t 0) 0
   pub obeys : most ≤ length out → Obeys (commandOf line) t t′ out out′ n
