@@ -15,6 +15,7 @@ use Rattle.columns.specs.Commands.{Parsed, parsed-unique, commandOf, command-pa
 use Rattle.columns.specs.Printed.{Answers}
 use Rattle.dynamic.specs.OfferTree.{Held}
 use Rattle.table.specs.Words.{word}
+use Rattle.table.specs.Layout.{cap-most}
 use Rattle.table.specs.Items.{Item}
 use Rattle.update.specs.Form.{Book, plainOffers}
 use Rattle.book.specs.declared.Update.{Update}
@@ -23,19 +24,19 @@ use Rattle.book.specs.declared.Listed.{Listed}
 use Rattle.book.specs.Promises.{partOf, capacityAt, plainOf, tableTrials, OnlyPart, Updates, Queries, Lists, updateAnswer, foundAnswer, listingAnswer}
 use Rattle.book.specs.Live.{book-sound}
 use Rattle.history.specs.Claim.{same-state, asked-state, listed-state}
-use Rattle.counting.specs.Promises.{capacity, room, answered, letterOf, named, outcome, Prints, most, Stands, Declines, Obeys, Counts}
+use Rattle.counting.specs.Promises.{room, answered, letterOf, named, outcome, Prints, most, Stands, Declines, Obeys, Counts}
 use Rattle.counting.specs.Replies.{Fits, Replies, refused-line}
 use Rattle.counting.specs.Fitting.{shown, Roomy, answer-fits, refusal-fits}
 
 -- ---- the lines of an answer are the plain book's
 
 -- where the answer is the plain book's
-plainly : {letter : ℕ} {a : Answer} {before after : List ℕ} {n : ℕ} {t : List ℤ} (k : Call) (held : Option (Held Item)) → Book (partOf t 0) capacity held → Roomy k
-    → a ≡ step (plainOf capacity held) k .answer → Replies letter (shown k) a before after n
-    → Prints (answered letter (shown k) (step (plainOf capacity held) k .answer)) before after n
-plainly {letter} {a} {before} {after} {n} k held book roomy e r =
+plainly : {letter : ℕ} {a : Answer} {before after : List ℕ} {n : ℕ} {t : List ℤ} (k : Call) (c : ℕ) (held : Option (Held Item)) → Book (partOf t 0) c held → Roomy k
+    → a ≡ step (plainOf c held) k .answer → Replies letter (shown k) a before after n
+    → Prints (answered letter (shown k) (step (plainOf c held) k .answer)) before after n
+plainly {letter} {a} {before} {after} {n} {t} k c held book roomy e r =
     subst (λ (x : Answer). Prints (answered letter (shown k) x) before after n) e
-    (r .prints (subst (Fits (shown k)) (sym e) (answer-fits capacity (plainOffers held) (omega arith) (book-sound book) k roomy)))
+    (r .prints (subst (Fits (shown k)) (sym e) (answer-fits c (plainOffers held) (omega (arith, book .capacity, cap-most (partOf t 0))) (book-sound book) k roomy)))
 
 -- where it is a refusal, whatever the words are
 refusing : {letter : ℕ} {number : ℤ} {a : Answer} {before after : List ℕ} {n : ℕ} (z : Cause) → a ≡ refused (causeNumber z) → Replies letter number a before after n
@@ -47,7 +48,7 @@ refusing {letter} {number} {before = before} {after} {n} z e r = subst (λ (x : 
 pub record ListsLines (t : List ℤ) (before after : List ℕ) (n : ℕ) : Type 0 where
   pub within : n ≤ length before
   pub declined : (z : Cause) → FirstOf (tableTrials t 0 (listing room)) z → Prints (answered 76 (pos 0) (refused (causeNumber z))) before after n
-  pub prints : (held : Option (Held Item)) → Book (partOf t 0) capacity held → Prints (answered 76 (pos 0) (step (plainOf capacity held) (listing room) .answer)) before after n
+  pub prints : (c : ℕ) (held : Option (Held Item)) → Book (partOf t 0) c held → Prints (answered 76 (pos 0) (step (plainOf c held) (listing room) .answer)) before after n
 
 pub lists-lines : {t pieces pieces′ : List ℤ} {before after : List ℕ} {n : ℕ} {l : Listed} → length pieces ≡ 192 → Lists 0 t pieces pieces′ l
     → Replies 76 (pos 0) (listingAnswer l pieces′) before after n → ListsLines t before after n
@@ -55,9 +56,9 @@ lists-lines {pieces = pieces} {pieces′} {before} {after} {n} e l r =
     record {
       within = r .within;
       declined = λ z f. refusing z (l .declined z f .0) r;
-      prints = λ held book.
-          subst (λ (m : ℕ). Prints (answered 76 (pos 0) (step (plainOf capacity held) (listing m) .answer)) before after n) e
-          (plainly (listing (length pieces)) held book e (l .answers capacity held book) r);
+      prints = λ c held book.
+          subst (λ (m : ℕ). Prints (answered 76 (pos 0) (step (plainOf c held) (listing m) .answer)) before after n) e
+          (plainly (listing (length pieces)) c held book e (l .answers c held book) r);
     }
 
 -- ---- one line
@@ -78,15 +79,15 @@ counts-alike {t = t} {t′} {out} {out′} {n} e c =
     record { short = c .short; within = c .within; outside = c .outside; same-part = c .same-part; obeys = λ h. subst (λ (m : Command). Obeys m t t′ out out′ n) e (c .obeys h) }
 
 -- a post or a withdrawal
-updated : {t t′ : List ℤ} {out out′ : List ℕ} {n letter : ℕ} (k : Call) {u : Update} (held : Option (Held Item)) → Book (partOf t 0) capacity held → Roomy k → Updates k 0 t t′ u
+updated : {t t′ : List ℤ} {out out′ : List ℕ} {n letter : ℕ} (k : Call) {u : Update} (c : ℕ) (held : Option (Held Item)) → Book (partOf t 0) c held → Roomy k → Updates k 0 t t′ u
     → Replies letter (shown k) (updateAnswer u) out out′ n
-    → Stands (record { state = step (plainOf capacity held) k .state; bytes = answered letter (shown k) (step (plainOf capacity held) k .answer) }) t′ out out′ n
-updated k held book roomy u r =
-    let f = u .follows capacity held book in
-    record { after = f .after; stands = f .stands; plain = sym (same-state capacity held (f .after) k (f .offers)); prints = plainly k held book roomy (f .answers) r }
+    → Stands c (record { state = step (plainOf c held) k .state; bytes = answered letter (shown k) (step (plainOf c held) k .answer) }) t′ out out′ n
+updated k c held book roomy u r =
+    let f = u .follows c held book in
+    record { after = f .after; stands = f .stands; plain = sym (same-state c held (f .after) k (f .offers)); prints = plainly k c held book roomy (f .answers) r }
 
-left : {t t′ : List ℤ} {k : Call} {u : Update} → Updates k 0 t t′ u → (held : Option (Held Item)) → Book (partOf t 0) capacity held → (j : ℕ) → step (plainOf capacity held) k .answer ≡ refused j → t′ ≡ t
-left u held book j e = let f = u .follows capacity held book in f .refusal j (f .answers ∙ e)
+left : {t t′ : List ℤ} {k : Call} {u : Update} → Updates k 0 t t′ u → (c : ℕ) (held : Option (Held Item)) → Book (partOf t 0) c held → (j : ℕ) → step (plainOf c held) k .answer ≡ refused j → t′ ≡ t
+left u c held book j e = let f = u .follows c held book in f .refusal j (f .answers ∙ e)
 
 module _ {line : List ℕ} {t : List ℤ} {out out′ : List ℕ} {n : ℕ} (long : most ≤ length out) where
   by-command : {t′ : List ℤ} (m : Command) → Parsed line m → n ≤ length out → OnlyPart (capacityAt t 0) 0 t t′ → word (partOf t′ 0) 0 ≡ word (partOf t 0) 0 → Obeys m t t′ out out′ n → Counts line t t′ out out′ n
@@ -107,7 +108,7 @@ module _ {line : List ℕ} {t : List ℤ} {out out′ : List ℕ} {n : ℕ} (lon
         asks = λ no. absurd no;
         declined = λ z f. let d = u .declined z f in (d .1, refusing z (d .0) r);
         refusal = left u;
-        follows = λ held book. updated (post number rate base) held book tt u r;
+        follows = λ c held book. updated (post number rate base) c held book tt u r;
       })
 
   pub withdrawn : {t′ : List ℤ} (number : ℤ) {u : Update} → Parsed line (Withdraw number) → Updates (withdraw number) 0 t t′ u
@@ -118,27 +119,27 @@ module _ {line : List ℕ} {t : List ℤ} {out out′ : List ℕ} {n : ℕ} (lon
         asks = λ no. absurd no;
         declined = λ z f. let d = u .declined z f in (d .1, refusing z (d .0) r);
         refusal = left u;
-        follows = λ held book. updated (withdraw number) held book tt u r;
+        follows = λ c held book. updated (withdraw number) c held book tt u r;
       })
 
   -- a line that only asks
   asking : (m : Command) → Parsed line m → n ≤ length out → ((z : Cause) → Declines t m z → Prints (answered (letterOf m) (named m) (refused (causeNumber z))) out out′ n)
       → ((s : State) → outcome s m .state ≡ s)
-      → ((held : Option (Held Item)) → Book (partOf t 0) capacity held → Prints (answered (letterOf m) (named m) (outcome (plainOf capacity held) m .answer)) out out′ n)
+      → ((c : ℕ) (held : Option (Held Item)) → Book (partOf t 0) c held → Prints (answered (letterOf m) (named m) (outcome (plainOf c held) m .answer)) out out′ n)
       → Counts line t t out out′ n
   asking m p within declined same prints =
       by-command m p within (untouched (capacityAt t 0) 0 t) refl
       (record {
         asks = λ _. refl;
         declined = λ z f. (refl, declined z f);
-        refusal = λ held book k e. refl;
-        follows = λ held book. record { after = held; stands = book; plain = sym (same (plainOf capacity held)); prints = prints held book };
+        refusal = λ c held book k e. refl;
+        follows = λ c held book. record { after = held; stands = book; plain = sym (same (plainOf c held)); prints = prints c held book };
       })
 
   pub asked : (load : ℤ) {f : Found} → Parsed line (Query load) → Queries load 0 t f → Replies 81 (pos 0) (foundAnswer f) out out′ n → Counts line t t out out′ n
   asked load p f r =
       asking (Query load) p (r .within) (λ z d. refusing z (f .declined z d) r) (λ s. asked-state s load)
-      (λ held book. plainly (query load) held book tt (f .answers capacity held book) r)
+      (λ c held book. plainly (query load) c held book tt (f .answers c held book) r)
 
   pub listed-all : Parsed line Listing → ListsLines t out out′ n → Counts line t t out out′ n
   listed-all p l = asking Listing p (l .within) (l .declined) (λ s. listed-state s room) (l .prints)
@@ -148,4 +149,4 @@ pub unread : {line : List ℕ} {t : List ℤ} {out out′ : List ℕ} → most �
 unread {out = out} {out′} long p a =
     let r : Replies 63 (pos 0) (refused 11) out out′ 39 = refused-line (omega arith) (pos 11) a in
     asking long Unreadable p (r .within) (λ z e. refusing z (ap (λ (c : Cause). refused (causeNumber c)) (sym e)) r) (λ s. refl)
-    (λ held book. r .prints (refusal-fits (pos 0) unreadableLine))
+    (λ c held book. r .prints (refusal-fits (pos 0) unreadableLine))

@@ -50,7 +50,7 @@ refusal-fits number c = (from-one c, fits-unsigned 3 (causeNumber c) (omega arit
 number-fits : (n : ℤ) → T (numberInRange n) → FitsIn 6 n
 number-fits n t = rw (number-is n t) (fits-unsigned 6 (natAbs n) (omega arith) (omega (arith, number-size n t)))
 
-count-fits : (n : ℕ) → n ≤ 64 → FitsIn 14 (pos n)
+count-fits : (n : ℕ) → n ≤ 4_096 → FitsIn 14 (pos n)
 count-fits n h = fits-unsigned 14 n (omega arith) (omega arith)
 
 size-fits : (z : ℤ) → natAbs z ≤ 101_000_000_000 → FitsIn 14 z
@@ -85,7 +85,7 @@ Roomy (withdraw n) = Unit {0}
 Roomy (query q) = Unit {0}
 Roomy (listing room) = room ≡ 192
 
-module _ (c : ℕ) (os : List Offer) (small : c ≤ 64) (sound : Sound (record { capacity = c; offers = os })) where
+module _ (c : ℕ) (os : List Offer) (small : c ≤ 4_096) (sound : Sound (record { capacity = c; offers = os })) where
   abbrev s : State
   s = record { capacity = c; offers = os }
 
@@ -109,4 +109,4 @@ module _ (c : ℕ) (os : List Offer) (small : c ≤ 64) (sound : Sound (record {
       go none (listing room) e roomy after =
           let m = nltb→le room (3 * length (envelope os)) (clear (trials s (listing room)) e .0) in
           let n : length (envelope os) ≤ 64 = omega arith in
-          (pieces-fit (envelope os) (λ o i. sound .ranged o (sublist-mem (keep-sublist _ os) i)), count-fits (length (envelope os)) n, n)
+          (pieces-fit (envelope os) (λ o i. sound .ranged o (sublist-mem (keep-sublist _ os) i)), count-fits (length (envelope os)) (omega arith), n)

@@ -1,5 +1,5 @@
 -- The counter (document 01, "The counter program"): what a line prints, and what it does to the plain book. The book stands at the table's
--- beginning with capacity 64, and a listing has room for 192 words.
+-- beginning, and a listing has room for 192 words. The program opens a book of capacity 64; a line is answered on one of any capacity.
 use mathlib.Core.Path.{_≡_}
 use mathlib.Core.List.{List, [], _∷_, _++_}
 use mathlib.Core.Option.{Option}
@@ -103,10 +103,10 @@ abbrev pub most : ℕ
 most = 2_535
 
 -- The part stands for the plain book after the line, and the line's bytes are printed.
-pub record Stands (o : Told) (t′ : List ℤ) (out out′ : List ℕ) (n : ℕ) : Type 0 where
+pub record Stands (c : ℕ) (o : Told) (t′ : List ℤ) (out out′ : List ℕ) (n : ℕ) : Type 0 where
   pub after : Option (Held Item)
-  pub stands : Book (partOf t′ 0) capacity after
-  pub plain : plainOf capacity after ≡ o .state
+  pub stands : Book (partOf t′ 0) c after
+  pub plain : plainOf c after ≡ o .state
   pub prints : Prints (o .bytes) out out′ n
 
 -- On words of any content: the causes that do not depend on the offers.
@@ -128,8 +128,8 @@ Asks Unreadable = Unit {0}
 pub record Obeys (m : Command) (t t′ : List ℤ) (out out′ : List ℕ) (n : ℕ) : Type 0 where
   pub asks : Asks m → t′ ≡ t
   pub declined : (z : Cause) → Declines t m z → (t′ ≡ t) × Prints (answered (letterOf m) (named m) (refused (causeNumber z))) out out′ n
-  pub refusal : (held : Option (Held Item)) → Book (partOf t 0) capacity held → (k : ℕ) → outcome (plainOf capacity held) m .answer ≡ refused k → t′ ≡ t
-  pub follows : (held : Option (Held Item)) → Book (partOf t 0) capacity held → Stands (commanded (plainOf capacity held) m) t′ out out′ n
+  pub refusal : (c : ℕ) (held : Option (Held Item)) → Book (partOf t 0) c held → (k : ℕ) → outcome (plainOf c held) m .answer ≡ refused k → t′ ≡ t
+  pub follows : (c : ℕ) (held : Option (Held Item)) → Book (partOf t 0) c held → Stands c (commanded (plainOf c held) m) t′ out out′ n
 
 -- An output that is too short for some line gets nothing, and the line is not answered.
 pub record Counts (line : List ℕ) (t t′ : List ℤ) (out out′ : List ℕ) (n : ℕ) : Type 0 where
