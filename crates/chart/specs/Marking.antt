@@ -44,7 +44,7 @@ use Rattle.book.specs.Parts.{whole-part, denied, no-form, no-book-cause}
 use Rattle.book.specs.Opens.{not-clear}
 use Rattle.book.specs.Rooted.{Root, bare, topped, Top, root-of}
 use Rattle.chart.specs.Promises.{marksBehind, marks, refusal, markTrials, markOf, plainMark, Marks}
-use Rattle.chart.specs.Rounded.{part-rounded}
+use Rattle.chart.specs.Rounded.{part-exact}
 use Rattle.chart.specs.Walks.{SlotOf}
 
 pub record PartMark (w : Words) (index : ℤ) (r : Mark) : Type 0 where
@@ -279,5 +279,5 @@ module _ (start : ℕ) (t : List ℤ) (index : ℤ) {no : Bool} (e : no ≡ noBo
       record {
         declined = λ z f. absurd (not-clear f (denied e d, tt));
         answers = here .answers;
-        rounded = λ c held b. part-rounded b index (here .answers c held b);
+        rounded = λ c held b. part-exact b;
       }

@@ -59,15 +59,26 @@ plainMark os index = markOf os index (declined (markTrials os index))
 
 -- ---- how exact it is
 
--- What a mark tells is a refusal, a rate that is exact as a double, or two quotients of numbers that are, each rounded once: at most half a unit off.
-pub data Rounded : Told → Type 0 where
-  no-mark : (c : Cause) → Rounded (refusal c)
-  at-end : (rate : ℤ) → Is (double rate) rate (pos 0) → Rounded (openEnd rate)
-  at-crossing : (n d p : ℤ) → T (divisible n d) → Quotient n d (quotient n d) → T (divisible p d) → Quotient p d (quotient p d) → Rounded (crossing n d p)
+-- A piece's rate is exact as a double.
+abbrev pub ExactEnd : Offer → Type 0
+ExactEnd own = Is (double (own .rate)) (own .rate) (pos 0)
+
+-- The numbers of a piece's crossing with the next are exact as doubles, and each quotient is rounded once: at most half a unit off.
+pub record ExactCrossing (own next : Offer) : Type 0 where
+  pub load-exact : T (divisible (crossingNumerator own next) (crossingDenominator own next))
+  pub load : Quotient (crossingNumerator own next) (crossingDenominator own next) (quotient (crossingNumerator own next) (crossingDenominator own next))
+  pub price-exact : T (divisible (scaledPrice own next) (crossingDenominator own next))
+  pub price : Quotient (scaledPrice own next) (crossingDenominator own next) (quotient (scaledPrice own next) (crossingDenominator own next))
+
+-- So it is of every piece of a listing, and of every two neighbours: the very numbers of its marks.
+abbrev pub Exact : List Offer → Type 0
+Exact [] = Unit {0}
+Exact (own ∷ []) = ExactEnd own
+Exact (own ∷ next ∷ es) = ExactEnd own × ExactCrossing own next × Exact (next ∷ es)
 
 -- ---- on a lent table
 
 pub record Marks (start : ℕ) (t : List ℤ) (index : ℤ) (r : Mark) : Type 0 where
   pub declined : (z : Cause) → FirstOf (noBookTrial t start ∷ []) z → told r ≡ refusal z
   pub answers : (c : ℕ) (held : Option (Held Item)) → Book (partOf t start) c held → told r ≡ plainMark (plainOffers held) index
-  pub rounded : (c : ℕ) (held : Option (Held Item)) → Book (partOf t start) c held → Rounded (told r)
+  pub rounded : (c : ℕ) (held : Option (Held Item)) → Book (partOf t start) c held → Exact (envelope (plainOffers held))

@@ -1,4 +1,5 @@
--- What is promised of printing, whatever the way. What a column gets that is too narrow for its number is free.
+-- What is promised of printing, whatever the way. What a column gets that is too narrow for its number is free; where one number of an
+-- answer's line does not fit, the whole line is free.
 use Prim.Native.Nat.{ℕ, _+_}
 use mathlib.Core.Path.{_≡_}
 use mathlib.Core.List.{List}
