@@ -238,67 +238,92 @@ fn bottom(os: &[i64; 192], i: usize, j: usize) -> i64 {
     scan::denominator(os, i, j)
 }
 
-fn piece_same(os: &[i64; 192], out: &[i64; 192], k: usize, i: usize, j: usize) -> bool {
-    if k > 63 {
-        return false;
+// The words of piece `k`, which is offer `i` with offer `j` as the next piece.
+fn put_piece(os: &[i64; 192], words: &mut [i64; 192], k: usize, i: usize, j: usize) {
+    if k < 64 {
+        words[3 * k] = scan::number(os, i);
+        words[3 * k + 1] = top(os, i, j);
+        words[3 * k + 2] = bottom(os, i, j);
     }
-    if out[3 * k] != scan::number(os, i) {
-        return false;
-    }
-    if out[3 * k + 1] != top(os, i, j) {
-        return false;
-    }
-    out[3 * k + 2] == bottom(os, i, j)
 }
 
-fn pieces_same(os: &[i64; 192], out: &[i64; 192], m: i64) -> bool {
+// Writes the words of all pieces and tells how many pieces there are.
+fn put_pieces(os: &[i64; 192], words: &mut [i64; 192]) -> usize {
     let mut i = scan::next_piece(os, 100_001);
     for k in 0..64 {
         if i > 63 {
-            return m == k as i64;
+            return k;
         }
         let j = scan::next_piece(os, scan::rate(os, i));
-        if !piece_same(os, out, k, i, j) {
-            return false;
-        }
+        put_piece(os, words, k, i, j);
         i = j;
     }
-    m == 64
+    64
 }
 
-fn listing_same(os: &[i64; 192], out: &[i64; 192], r: book::Listed) -> bool {
+fn word_same(out: &[i64], words: &[i64; 192], k: usize) -> bool {
+    if k > 191 {
+        return false;
+    }
+    if k >= out.len() {
+        return false;
+    }
+    out[k] == words[k]
+}
+
+// Every word of the output, to its end.
+fn all_same(out: &[i64], words: &[i64; 192]) -> bool {
+    for k in 0..out.len() {
+        if !word_same(out, words, k) {
+            return false;
+        }
+    }
+    true
+}
+
+fn count_same(n: i64, m: usize) -> bool {
+    if m > 64 {
+        return false;
+    }
+    n == m as i64
+}
+
+// Of an output that was all 7: with room for the pieces it has their words and still 7 behind them, without it is declined and all 7.
+fn listing_same(os: &[i64; 192], out: &[i64], r: book::Listed) -> bool {
+    let blank = [7i64; 192];
+    let mut words = [7i64; 192];
+    let m = put_pieces(os, &mut words);
     match r {
-        book::Listed::Pieces(m) => pieces_same(os, out, m),
-        book::Listed::Declined(_) => false,
+        book::Listed::Pieces(n) => {
+            if !count_same(n, m) {
+                return false;
+            }
+            if out.len() / 3 < m {
+                return false;
+            }
+            all_same(out, &words)
+        }
+        book::Listed::Declined(c) => {
+            if c != 10 {
+                return false;
+            }
+            if m <= out.len() / 3 {
+                return false;
+            }
+            all_same(out, &blank)
+        }
     }
 }
 
 pub fn listing(table: &[i64], start: usize, os: &[i64; 192], t: Tally) -> Tally {
-    let mut out = [0i64; 192];
+    let mut out = [7i64; 192];
     let r = book::listing(table, start, &mut out);
     counted(t, 0, 1, 0, listing_same(os, &out, r))
 }
 
-// An output that lacks a word for two pieces: two or more are declined, and the output stays.
-fn short_same(os: &[i64; 192], a: i64, r: book::Listed) -> bool {
-    let i = scan::next_piece(os, 100_001);
-    let j = scan::next_piece(os, scan::rate(os, i));
-    match r {
-        book::Listed::Pieces(_) => j > 63,
-        book::Listed::Declined(c) => {
-            if j > 63 {
-                return false;
-            }
-            if a != 7 {
-                return false;
-            }
-            c == 10
-        }
-    }
-}
-
+// An output that lacks a word for two pieces.
 pub fn short_listing(table: &[i64], start: usize, os: &[i64; 192], t: Tally) -> Tally {
     let mut out = [7i64; 5];
     let r = book::listing(table, start, &mut out);
-    counted(t, 0, 1, 0, short_same(os, out[0], r))
+    counted(t, 0, 1, 0, listing_same(os, &out, r))
 }

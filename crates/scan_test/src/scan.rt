@@ -1,5 +1,7 @@
 // Offers in a plain array, and what a scan of all of them answers. Slot i of 64 has its number at i, its rate at 64 + i and its base at
 // 128 + i; a number 0 is a vacant slot. Nothing here knows how a book works.
+ghost use mathlib.Core.Path.{_≡_};
+ghost use Rattle.query.specs.Readings.{bounded};
 
 pub fn number(os: &[i64; 192], i: usize) -> i64 {
     if i < 64 {
@@ -96,10 +98,23 @@ pub fn mixed(l: &[i64; 192], r: &[i64; 192]) -> bool {
 
 // ---- the cheapest
 
+// `value` where it is from `low` to `high`, and 0 for any other: no product of such values wraps.
+fn bounded(low: i64, high: i64, value: i64) -> i64
+    ensures { λ r. ⌜ r ≡ bounded low high value ⌝ }
+{
+    if value < low {
+        return 0;
+    }
+    if high < value {
+        return 0;
+    }
+    value
+}
+
 pub fn price(os: &[i64; 192], i: usize, load: i64) -> i64 {
-    let b = query::bounded(-1_000_000_000, 1_000_000_000, base(os, i));
-    let r = query::bounded(-100_000, 100_000, rate(os, i));
-    let q = query::bounded(-1_000_000, 1_000_000, load);
+    let b = bounded(-1_000_000_000, 1_000_000_000, base(os, i));
+    let r = bounded(-100_000, 100_000, rate(os, i));
+    let q = bounded(-1_000_000, 1_000_000, load);
     b + r * q
 }
 
@@ -138,23 +153,23 @@ pub fn cheapest(os: &[i64; 192], load: i64) -> usize {
 
 // The crossing of two offers, the one with the higher rate first: numerator and denominator.
 pub fn numerator(os: &[i64; 192], i: usize, j: usize) -> i64 {
-    let a = query::bounded(-1_000_000_000, 1_000_000_000, base(os, i));
-    let b = query::bounded(-1_000_000_000, 1_000_000_000, base(os, j));
+    let a = bounded(-1_000_000_000, 1_000_000_000, base(os, i));
+    let b = bounded(-1_000_000_000, 1_000_000_000, base(os, j));
     b - a
 }
 
 pub fn denominator(os: &[i64; 192], i: usize, j: usize) -> i64 {
-    let a = query::bounded(-100_000, 100_000, rate(os, i));
-    let b = query::bounded(-100_000, 100_000, rate(os, j));
+    let a = bounded(-100_000, 100_000, rate(os, i));
+    let b = bounded(-100_000, 100_000, rate(os, j));
     a - b
 }
 
 // The load n over d is less than the load m over e.
 fn is_less(n: i64, d: i64, m: i64, e: i64) -> bool {
-    let nn = query::bounded(-2_000_000_000, 2_000_000_000, n);
-    let mm = query::bounded(-2_000_000_000, 2_000_000_000, m);
-    let dd = query::bounded(-200_000, 200_000, d);
-    let ee = query::bounded(-200_000, 200_000, e);
+    let nn = bounded(-2_000_000_000, 2_000_000_000, n);
+    let mm = bounded(-2_000_000_000, 2_000_000_000, m);
+    let dd = bounded(-200_000, 200_000, d);
+    let ee = bounded(-200_000, 200_000, e);
     nn * ee < mm * dd
 }
 

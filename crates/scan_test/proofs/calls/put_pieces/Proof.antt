@@ -1,23 +1,20 @@
--- `scan_test::calls::pieces_same` is safe and ends: there are at most 64 pieces.
+-- `scan_test::calls::put_pieces` is safe and ends: there are at most 64 pieces.
 use Prim.Native.Nat.{_≤_, _-_}
 use borrow.Author.Needs.{needs}
-use Rattle.scan_test.proofs.calls.pieces_same.Statement.{statement}
-use Rattle.scan_test.proofs.calls.pieces_same.Tie as tie
+use Rattle.scan_test.proofs.calls.put_pieces.Statement.{statement}
+use Rattle.scan_test.proofs.calls.put_pieces.Tie as tie
 
 abbrev Inv-loop : tie.InvT-loop
-Inv-loop os out m i₀ k₀ i k = k ≤ 64
+Inv-loop os words₀ i₀ k₀ words i k = k ≤ 64
 
 abbrev μ-loop : tie.MeasureT-loop
-μ-loop os out m i₀ k₀ i k = 64 - k
+μ-loop os words₀ i₀ k₀ words i k = 64 - k
 
 next-piece-requires : tie.Need-next-piece-requires Inv-loop μ-loop
 next-piece-requires c κs = search needs
 
 loop-holds : tie.Need-loop-holds Inv-loop μ-loop
 loop-holds c = search needs
-
-cast-result : tie.Need-cast-result Inv-loop μ-loop
-cast-result c = search needs
 
 returns : tie.Need-returns Inv-loop μ-loop
 returns c = search needs
@@ -28,11 +25,8 @@ rate-requires c κs = search needs
 next-piece-requires-2 : tie.Need-next-piece-requires-2 Inv-loop μ-loop
 next-piece-requires-2 c κs = search needs
 
-piece-same-requires : tie.Need-piece-same-requires Inv-loop μ-loop
-piece-same-requires c κs = search needs
-
-returns-2 : tie.Need-returns-2 Inv-loop μ-loop
-returns-2 c = search needs
+put-piece-requires : tie.Need-put-piece-requires Inv-loop μ-loop
+put-piece-requires c κs = search needs
 
 add-k : tie.Need-add-k Inv-loop μ-loop
 add-k c = search needs
@@ -43,24 +37,22 @@ loop-less c = search needs
 loop-again : tie.Need-loop-again Inv-loop μ-loop
 loop-again c = search needs
 
-returns-3 : tie.Need-returns-3 Inv-loop μ-loop
-returns-3 c = search needs
+returns-2 : tie.Need-returns-2 Inv-loop μ-loop
+returns-2 c = search needs
 
-pub pieces-same-spec : {M : Type 1} → statement M
-pieces-same-spec =
+pub put-pieces-spec : {M : Type 1} → statement M
+put-pieces-spec =
     tie.close
     (tie.spec
     Inv-loop
     μ-loop
     next-piece-requires
     loop-holds
-    cast-result
     returns
     rate-requires
     next-piece-requires-2
-    piece-same-requires
-    returns-2
+    put-piece-requires
     add-k
     loop-less
     loop-again
-    returns-3)
+    returns-2)
