@@ -237,29 +237,24 @@ fn aims(queries: &[Row], updates: &[(Listed, Row)]) -> String {
     t
 }
 
-fn line<'a>(name: &'a str, colour: &'a str, rows: &[&Row], at: usize) -> Line<'a> {
-    Line { name, colour, points: rows.iter().map(|r| (r.offers as f64, r.times[at])).collect() }
+/// a line for each contender, in the order of a row's times
+fn panel<'a>(title: &'a str, rows: &[&Row], contenders: [(&'a str, &'a str); 3]) -> Panel<'a> {
+    let line =
+        |(at, (name, colour))| Line { name, colour, points: rows.iter().map(|r| (r.offers as f64, r.times[at])).collect() };
+    Panel { title, lines: contenders.into_iter().enumerate().map(line).collect() }
 }
 
 fn panels(queries: &[Row], updates: &[(Listed, Row)]) -> String {
+    let (blue, green, red, grey) = ("#1b6ca8", "#2e8b57", "#c0392b", "#7f8c8d");
     let queries: Vec<&Row> = queries.iter().collect();
     let updates: Vec<&Row> = updates.iter().filter(|r| r.0 == Listed::Half).map(|r| &r.1).collect();
-    let left = Panel {
-        title: "one query",
-        lines: vec![
-            line("book", "#1b6ca8", &queries, 0),
-            line("scan of all offers", "#c0392b", &queries, 1),
-            line("binary search in a sorted array", "#7f8c8d", &queries, 2),
-        ],
-    };
-    let right = Panel {
-        title: "one post or withdrawal",
-        lines: vec![
-            line("book", "#1b6ca8", &updates, 0),
-            line("Rust in the same layout", "#2e8b57", &updates, 1),
-            line("sorted array, rebuilt", "#c0392b", &updates, 2),
-        ],
-    };
+    let left =
+        panel("one query", &queries, [("book", blue), ("scan of all offers", red), ("binary search in a sorted array", grey)]);
+    let right = panel(
+        "one post or withdrawal",
+        &updates,
+        [("book", blue), ("Rust in the same layout", green), ("sorted array, rebuilt", red)],
+    );
     plot::draw(&[left, right])
 }
 

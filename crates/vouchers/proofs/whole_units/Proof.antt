@@ -1,5 +1,5 @@
 -- `vouchers::whole_units` meets its contract: half a unit is added on the price's own side, and the division cuts toward zero.
-use mathlib.Core.Path.{_≡_}
+use mathlib.Core.Path.{_≡_, sym, _∙_, ap, subst}
 use mathlib.Core.Bool.{true, false}
 use lib.Dec.{T, lit<}
 use lib.IntN.{ℤ, pos, _+ℤ_, _-ℤ_}
@@ -30,12 +30,12 @@ sub-result c = let p = c .before .args .price in rw (toZ-ofZ w64 p (c .before .f
 div-result : tie.Need-div-result
 div-result c =
     let s = c .before in
-    (lit< tt, rw (lowered (s .args .price) (s .fits .price) (s .pre) (c .if1 .taken)) (units-fit (s .args .price) (s .pre)))
+    (lit< tt, subst (SFits w64) (sym (lowered (s .args .price) (s .fits .price) (s .pre) (c .if1 .taken))) (units-fit (s .args .price) (s .pre)))
 
 returns : tie.Need-returns
 returns c =
     let s = c .before in
-    rw (lowered (s .args .price) (s .fits .price) (s .pre) (c .if1 .taken)) (returned (s .args .price) (s .fits .price) (s .pre))
+    ap (λ (z : ℤ). toZ w64 (ofZ w64 z)) (lowered (s .args .price) (s .fits .price) (s .pre) (c .if1 .taken)) ∙ returned (s .args .price) (s .fits .price) (s .pre)
 
 add-result : tie.Need-add-result
 add-result c = let p = c .before .args .price in rw (toZ-ofZ w64 p (c .before .fits .price)) (raised-fits p (c .before .pre))
@@ -43,12 +43,12 @@ add-result c = let p = c .before .args .price in rw (toZ-ofZ w64 p (c .before .f
 div-result-2 : tie.Need-div-result-2
 div-result-2 c =
     let s = c .before in
-    (lit< tt, rw (raised (s .args .price) (s .fits .price) (s .pre) (c .if1 .left)) (units-fit (s .args .price) (s .pre)))
+    (lit< tt, subst (SFits w64) (sym (raised (s .args .price) (s .fits .price) (s .pre) (c .if1 .left))) (units-fit (s .args .price) (s .pre)))
 
 returns-2 : tie.Need-returns-2
 returns-2 c =
     let s = c .before in
-    rw (raised (s .args .price) (s .fits .price) (s .pre) (c .if1 .left)) (returned (s .args .price) (s .fits .price) (s .pre))
+    ap (λ (z : ℤ). toZ w64 (ofZ w64 z)) (raised (s .args .price) (s .fits .price) (s .pre) (c .if1 .left)) ∙ returned (s .args .price) (s .fits .price) (s .pre)
 
 pub whole-units-spec : {M : Type 1} → statement M
 whole-units-spec = tie.close (tie.spec sub-result div-result returns add-result div-result-2 returns-2)
