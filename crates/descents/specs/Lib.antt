@@ -2,3 +2,4 @@
 pub mod Cuts
 pub mod Ends
 pub mod Finds
+pub mod Whole

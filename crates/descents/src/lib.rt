@@ -1,4 +1,6 @@
 // Ways down the trees of a table. Each goes at most `limit` levels, so that it ends on any words.
+ghost use mathlib.Core.Path.{_≡_};
+ghost use Rattle.table.specs.Layout.{cap};
 ghost use Rattle.descents.specs.Cuts.{Halving};
 ghost use Rattle.descents.specs.Ends.{Ended};
 ghost use Rattle.descents.specs.Finds.{Found};
@@ -9,12 +11,14 @@ pub struct Cut {
     pub back: u32,
 }
 
-// Cuts a tree behind its last leaf whose field is at least `least`, where these leaves stand in front.
-pub fn split(part: &mut [i64], tree: u8, field: usize, least: i64, x: u32, limit: u32) -> Cut
+// Cuts a tree behind its last leaf whose field is at least `least`, where these leaves stand in front. Where nothing is cut off, nothing is
+// written. `c` is the capacity.
+fn split_in(part: &mut [i64], c: u32, tree: u8, field: usize, least: i64, x: u32, limit: u32) -> Cut
+    requires { ⌜ c ≡ cap (now part) ⌝ }
     ensures { λ r. ⌜ Halving tree field least x limit (now (part .entry)) (now (part .exit)) (r .front) (r .back) ⌝ }
 {
     if x <= 4096 {
-        if table::at_least(part, field, x, least) {
+        if table::at_least_in(part, c, field, x, least) {
             return Cut { front: x, back: 0 };
         }
         return Cut { front: 0, back: x };
@@ -23,26 +27,42 @@ pub fn split(part: &mut [i64], tree: u8, field: usize, least: i64, x: u32, limit
         return Cut { front: 0, back: 0 };
     }
     let gap = table::inner_slot(x);
-    let l = table::child(part, tree, false, x);
-    let r = table::child(part, tree, true, x);
-    if table::at_least(part, field, gap, least) {
-        let c = split(part, tree, field, least, r, limit - 1);
-        let f = c.front;
-        let b = c.back;
+    if table::at_least_in(part, c, field, gap, least) {
+        let r = table::child_in(part, c, tree, true, x);
+        let d = split_in(part, c, tree, field, least, r, limit - 1);
+        let f = d.front;
+        let b = d.back;
+        if b == 0 {
+            return Cut { front: x, back: 0 };
+        }
+        let l = table::child(part, tree, false, x);
         let y = shape::join(part, tree, gap, l, f);
         return Cut { front: y, back: b };
     }
-    let c = split(part, tree, field, least, l, limit - 1);
-    let f = c.front;
-    let b = c.back;
+    let l = table::child_in(part, c, tree, false, x);
+    let r = table::child_in(part, c, tree, true, x);
+    let d = split_in(part, c, tree, field, least, l, limit - 1);
+    let f = d.front;
+    let b = d.back;
+    if f == 0 {
+        return Cut { front: 0, back: x };
+    }
     let y = shape::join(part, tree, gap, b, r);
     Cut { front: f, back: y }
+}
+
+pub fn split(part: &mut [i64], tree: u8, field: usize, least: i64, x: u32, limit: u32) -> Cut
+    ensures { λ r. ⌜ Halving tree field least x limit (now (part .entry)) (now (part .exit)) (r .front) (r .back) ⌝ }
+{
+    let c = table::capacity(part);
+    split_in(part, c, tree, field, least, x, limit)
 }
 
 // The first leaf of a balanced tree, or, on the other side, its last; 0 for an empty one.
 pub fn end(part: &[i64], tree: u8, side: bool, x: u32) -> u32
     ensures { λ r. ⌜ Ended (now (part .entry)) tree side x r ⌝ }
 {
+    let c = table::capacity(part);
     let mut y = x;
     let mut limit: u32 = 24;
     while y > 4096 {
@@ -50,7 +70,7 @@ pub fn end(part: &[i64], tree: u8, side: bool, x: u32) -> u32
             return 0;
         }
         limit -= 1;
-        y = table::child(part, tree, side, y);
+        y = table::child_in(part, c, tree, side, y);
     }
     y
 }

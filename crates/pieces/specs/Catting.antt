@@ -23,7 +23,7 @@ use Rattle.table.specs.Threads.{Held, Holds, Next, Threaded, SameOffer, SameThr
 use Rattle.shape.specs.Merge.{Merged}
 use Rattle.descents.specs.Ends.{Ended}
 use Rattle.search.specs.Prices.{rateAt, baseAt, bounded-in}
-use Rattle.pieces.specs.Pieces.{partRef, PartIn, PieceField, of-node, of-numerator, of-denominator, of-next, PiecesOnly, Standing, Beside, Catted}
+use Rattle.pieces.specs.Pieces.{partRef, PartIn, PieceField, of-node, of-numerator, of-denominator, of-next, PiecesOnly, Standing, Beside, Catted, SeamAt, Seamed}
 
 -- ---- nothing on one side
 
@@ -152,27 +152,17 @@ rate-read {w} {a} h = rw (h .rate) (bounded-in (negℤ (pos 100_000)) (pos 100_0
 base-read : {w : Words} {a : Item} → Held w a → baseAt w (a .slot) ≡ a .offer .base
 base-read {w} {a} h = rw (h .base) (bounded-in (negℤ (pos 1_000_000_000)) (pos 1_000_000_000) (a .offer .base) (base-of (a .offer) (h .ranged)))
 
--- the calls that put two trees together
-record Calls (l r s n : ℕ) (w w₃ : Words) : Type 0 where
-  left-end : Ended w 0 true l s
-  right-end : Ended w 0 false r n
-  wired : w₃ ≡ cset (cset (cset w 6 s (baseAt w n -ℤ baseAt w s)) 7 s (rateAt w s -ℤ rateAt w n)) 19 s (pos n)
-
 standing-rep : {w : Words} {x : ℕ} {t : Tree Item} → Standing w x (some t) → Rep w 0 x t
 standing-rep h = record { kind = omega arith; root = h .root; slots = h .slots; tied = h .pieces .0 }
 
-module _ {w w₃ : Words} {l r s n : ℕ} {tl tr′ : Tree Item} (c : Calls l r s n w w₃) (b : Beside w l r (some tl) (some tr′)) where
-  left-is : s ≡ last tl .slot
-  left-is = c .left-end .is tl (standing-rep (b .left)) (b .left .balanced)
-
-  right-is : n ≡ first tr′ .slot
-  right-is = c .right-end .is tr′ (standing-rep (b .right)) (b .right .balanced)
-
+module _
+    {w w₃ : Words} {l r s n : ℕ} {tl tr′ : Tree Item} (wired : w₃ ≡ cset (cset (cset w 6 s (baseAt w n -ℤ baseAt w s)) 7 s (rateAt w s -ℤ rateAt w n)) 19 s (pos n))
+    (left-is : s ≡ last tl .slot) (right-is : n ≡ first tr′ .slot) (b : Beside w l r (some tl) (some tr′)) where
   wired-is : w₃ ≡ threading w (last tl) (first tr′)
   wired-is =
       let p : Held w (last tl) = b .left .holds .held (last-leaf tl) in
       let q : Held w (first tr′) = b .right .holds .held (first-leaf tr′) in
-      c .wired ∙ rw (left-is, right-is, base-read p, base-read q, rate-read p, rate-read q) refl
+      wired ∙ rw (left-is, right-is, base-read p, base-read q, rate-read p, rate-read q) refl
 
   joined : {w₄ : Words} {x : ℕ} → Merged 0 s l r w₃ w₄ x → MadeP 0 (threading w (last tl) (first tr′)) w₄ x (some (join tl tr′))
   joined {w₄} {x} m = subst (λ (v : Words). Merged 0 s l r v w₄ x) wired-is m .made (some tl) (some tr′) (pair-threaded b) left-is (b .left .balanced) (b .right .balanced)
@@ -183,34 +173,45 @@ module _ {w w₃ : Words} {l r s n : ℕ} {tl tr′ : Tree Item} (c : Calls l r 
   cat-only : {w₄ : Words} {x : ℕ} → Merged 0 s l r w₃ w₄ x → PiecesOnly (leaves tl ++ leaves tr′) w w₄
   cat-only m = only-joined b (joined m)
 
--- The ends at the seam are found, the crossing and the next piece are written, and the trees are joined.
-pub catted :
-    {l r s n x : ℕ} {N D : ℤ} {w w₁ w₂ w₃ w₄ : Words} →
+-- The crossing and the next piece are written, and the trees are joined.
+pub seamed :
+    {l r s n x : ℕ} {N D : ℤ} {w w₃ w₄ : Words} →
     l ≢ 0 →
     r ≢ 0 →
-    Ended w 0 true l s →
-    Ended w 0 false r n →
     N ≡ baseAt w n -ℤ baseAt w s →
     D ≡ rateAt w s -ℤ rateAt w n →
-    w₁ ≡ cset w 6 s N →
-    w₂ ≡ cset w₁ 7 s D →
-    w₃ ≡ cset w₂ 19 s (pos n) →
+    w₃ ≡ cset (cset (cset w 6 s N) 7 s D) 19 s (pos n) →
     Merged 0 s l r w₃ w₄ x →
-    Catted l r w w₄ x
-catted {l} {r} {s} {n} {x} {N} {D} {w} {w₁} {w₂} {w₃} {w₄} nl nr es en eN eD e₁ e₂ e₃ m = record { within = within-trans written (m .within); root = root; only = only }
+    Seamed l r s n w w₄ x
+seamed {l} {r} {s} {n} {x} {N} {D} {w} {w₃} {w₄} nl nr eN eD e₃ m = record { within = within-trans written (m .within); root = root; only = only }
   where
     written : Within w w₃
-    written = subst (Within w) (sym e₃) (within-trans (subst (Within w) (sym e₂) (within-trans (subst (Within w) (sym e₁) (within-cset w 6 s N)) (within-cset w₁ 7 s D))) (within-cset w₂ 19 s (pos n)))
+    written = subst (Within w) (sym e₃) (within-trans (within-cset w 6 s N) (within-trans (within-cset (cset w 6 s N) 7 s D) (within-cset (cset (cset w 6 s N) 7 s D) 19 s (pos n))))
 
-    calls : Calls l r s n w w₃
-    calls = record { left-end = es; right-end = en; wired = e₃ ∙ rw (e₂, e₁, eN, eD) refl }
+    wired : w₃ ≡ cset (cset (cset w 6 s (baseAt w n -ℤ baseAt w s)) 7 s (rateAt w s -ℤ rateAt w n)) 19 s (pos n)
+    wired = e₃ ∙ rw (eN, eD) refl
 
-    root : (p q : Part Item) → Beside w l r p q → Standing w₄ x (joinP p q)
-    root none q b = absurd (nl (b .left .root))
-    root (some tl) none b = absurd (nr (b .right .root))
-    root (some tl) (some tr′) b = cat-root calls b m
+    root : (p q : Part Item) → Beside w l r p q → SeamAt s n p q → Standing w₄ x (joinP p q)
+    root none q b h = absurd (nl (b .left .root))
+    root (some tl) none b h = absurd (nr (b .right .root))
+    root (some tl) (some tr′) b h = cat-root wired (h .left-end tl refl) (h .right-end tr′ refl) b m
 
-    only : (p q : Part Item) → Beside w l r p q → PiecesOnly (partLeaves p ++ partLeaves q) w w₄
-    only none q b = absurd (nl (b .left .root))
-    only (some tl) none b = absurd (nr (b .right .root))
-    only (some tl) (some tr′) b = cat-only calls b m
+    only : (p q : Part Item) → Beside w l r p q → SeamAt s n p q → PiecesOnly (partLeaves p ++ partLeaves q) w w₄
+    only none q b h = absurd (nl (b .left .root))
+    only (some tl) none b h = absurd (nr (b .right .root))
+    only (some tl) (some tr′) b h = cat-only wired (h .left-end tl refl) (h .right-end tr′ refl) b m
+
+-- whoever knows the seam or not
+pub seamed-any : {l r s n x : ℕ} {w w′ : Words} → Catted l r w w′ x → Seamed l r s n w w′ x
+seamed-any c = record { within = c .within; root = λ p q b h. c .root p q b; only = λ p q b h. c .only p q b }
+
+-- the ends at the seam are found
+pub catted : {l r s n x : ℕ} {w w′ : Words} → Ended w 0 true l s → Ended w 0 false r n → Seamed l r s n w w′ x → Catted l r w w′ x
+catted {l} {r} {s} {n} {x} {w} {w′} es en m = record { within = m .within; root = λ p q b. m .root p q b (ends p q b); only = λ p q b. m .only p q b (ends p q b) }
+  where
+    ends : (p q : Part Item) → Beside w l r p q → SeamAt s n p q
+    ends p q b =
+        record {
+          left-end = λ t e. let h = subst (Standing w l) e (b .left) in es .is t (standing-rep h) (h .balanced);
+          right-end = λ t e. let h = subst (Standing w r) e (b .right) in en .is t (standing-rep h) (h .balanced);
+        }

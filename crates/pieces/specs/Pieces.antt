@@ -8,7 +8,7 @@ use Prim.Native.Nat.{ℕ}
 use lib.IntN.{ℤ}
 use lib.Signed.{leZ, ltZ}
 pub use Rattle.search.specs.ItemLines.{rateOf, baseOf, itemFigure as items, itemLaws as item-laws}
-use Rattle.trees.specs.Tree.{Tree, leaves}
+use Rattle.trees.specs.Tree.{Tree, leaves, first, last}
 use Rattle.trees.specs.Operations.{Part, Cut, partLeaves, joinP, splitP}
 use Rattle.trees.specs.Balanced.{AvlP}
 use Rattle.table.specs.Words.{Words}
@@ -62,6 +62,17 @@ pub record Catted (l r : ℕ) (w w′ : Words) (x : ℕ) : Type 0 where
   pub within : Within w w′
   pub root : (p q : Part Item) → Beside w l r p q → Standing w′ x (joinP p q)
   pub only : (p q : Part Item) → Beside w l r p q → PiecesOnly (partLeaves p ++ partLeaves q) w w′
+
+-- s is the slot of the last piece of p, n that of the first of q
+pub record SeamAt (s n : ℕ) (p q : Part Item) : Type 0 where
+  pub left-end : (t : Tree Item) → p ≡ some t → s ≡ last t .slot
+  pub right-end : (t : Tree Item) → q ≡ some t → n ≡ first t .slot
+
+-- put together by one who knows the seam
+pub record Seamed (l r s n : ℕ) (w w′ : Words) (x : ℕ) : Type 0 where
+  pub within : Within w w′
+  pub root : (p q : Part Item) → Beside w l r p q → SeamAt s n p q → Standing w′ x (joinP p q)
+  pub only : (p q : Part Item) → Beside w l r p q → SeamAt s n p q → PiecesOnly (partLeaves p ++ partLeaves q) w w′
 
 -- cut by rate: in front the pieces whose rate is at least that, or above it where the cut is strict
 abbrev pub inFront : Bool → ℤ → Item → Bool

@@ -1,6 +1,6 @@
 // Piece trees in the table: an envelope's pieces with their crossings, cut by rate and put together.
 ghost use mathlib.Core.Path.{_≡_};
-ghost use Rattle.pieces.specs.Pieces.{CutAt, Catted};
+ghost use Rattle.pieces.specs.Pieces.{CutAt, Catted, Seamed};
 ghost use Rattle.pieces.specs.Cutting.{leastRate};
 
 // The least rate in front of a cut: for a strict one a rate more. No offer's rate reaches a million.
@@ -24,7 +24,24 @@ pub fn cut(part: &mut [i64], strict: bool, rate: i64, x: u32) -> descents::Cut
     descents::split(part, 0, 1, least, x, 24)
 }
 
-// Puts two piece trees together, either of which may be empty, and keeps the crossing at the seam.
+// Puts two piece trees together, either of which may be empty, and keeps the crossing at the seam: `s` is the last piece of the left one,
+// `n` the first of the right one.
+pub fn cat_at(part: &mut [i64], l: u32, r: u32, s: u32, n: u32) -> u32
+    ensures { λ x. ⌜ Seamed l r s n (now (part .entry)) (now (part .exit)) x ⌝ }
+{
+    if l == 0 {
+        return r;
+    }
+    if r == 0 {
+        return l;
+    }
+    let numerator = search::base(part, n) - search::base(part, s);
+    let denominator = search::rate(part, s) - search::rate(part, n);
+    table::put_three(part, s, 6, numerator, 7, denominator, 19, n as i64);
+    shape::join(part, 0, s, l, r)
+}
+
+// The same, where the two pieces are not known.
 pub fn cat(part: &mut [i64], l: u32, r: u32) -> u32
     ensures { λ x. ⌜ Catted l r (now (part .entry)) (now (part .exit)) x ⌝ }
 {
@@ -36,10 +53,5 @@ pub fn cat(part: &mut [i64], l: u32, r: u32) -> u32
     }
     let s = descents::end(part, 0, true, l);
     let n = descents::end(part, 0, false, r);
-    let numerator = search::base(part, n) - search::base(part, s);
-    let denominator = search::rate(part, s) - search::rate(part, n);
-    table::put(part, 6, s, numerator);
-    table::put(part, 7, s, denominator);
-    table::put_link(part, 19, s, n);
-    shape::join(part, 0, s, l, r)
+    cat_at(part, l, r, s, n)
 }

@@ -16,6 +16,14 @@ pub record Joined (shape : Tree Item → Tree Item → Tree Item) (k : ℕ) (sid
   pub within : Within w w′
   pub made : (tp tq : Tree Item) → Pair w k side p q tp tq → gap ≡ seam side tp tq .slot → Made k w w′ x (shape tp tq)
 
+-- the same for a node of a given height, where it is the height of one over the two
+pub record Raised (k : ℕ) (side : Bool) (gap p q h : ℕ) (w w′ : Words) (x : ℕ) : Type 0 where
+  pub joined : h ≡ suc (max (heightAt w k p) (heightAt w k q)) → Joined (nodeOn side) k side gap p q w w′ x
+
+-- by the two heights as read
+pub raised : {k gap p q h hp hq x : ℕ} {side : Bool} {w w′ : Words} → hp ≡ heightAt w k p → hq ≡ heightAt w k q → h ≡ suc (max hp hq) → Raised k side gap p q h w w′ x → Joined (nodeOn side) k side gap p q w w′ x
+raised ep eq e r = r .joined (omega (arith, ep, eq, e))
+
 -- ---- a node
 
 -- a slot that no part has

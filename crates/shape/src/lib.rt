@@ -2,35 +2,37 @@
 ghost use mathlib.Core.Path.{_≡_};
 ghost use Prim.Native.Nat.{suc, max, _≤_};
 ghost use lib.Dec.{ltb};
-ghost use Rattle.table.specs.Rep.{heightAt, nodeOn};
+ghost use Rattle.table.specs.Layout.{cap};
+ghost use Rattle.table.specs.Rep.{nodeOn};
 ghost use Rattle.shape.specs.Sides.{rowOn, doubleOn, rotateOn, balanceOn};
-ghost use Rattle.shape.specs.Joining.{Joined};
+ghost use Rattle.shape.specs.Joining.{Joined, Raised};
 ghost use Rattle.shape.specs.Rows.{Rowed};
 ghost use Rattle.shape.specs.Splices.{Spliced, towersAt};
 ghost use Rattle.shape.specs.Merge.{Merged};
 
-// The height of a node over two.
-pub fn height_over(part: &[i64], tree: u8, p: u32, q: u32) -> u32
-    ensures { λ r. ⌜ r ≡ suc (max (heightAt (now (part .entry)) tree p) (heightAt (now (part .entry)) tree q)) ⌝ }
+// The height of a node over two trees of given heights.
+fn taller(hp: u32, hq: u32) -> u32
+    requires { ⌜ hp ≤ 8192 × hq ≤ 8192 ⌝ }
+    ensures { λ r. ⌜ r ≡ suc (max hp hq) ⌝ }
 {
-    let hp = table::height(part, tree, p);
-    let hq = table::height(part, tree, q);
     if hp < hq {
         return hq + 1;
     }
     hp + 1
 }
 
-// One node over two trees side by side, `p` on a side and `q` on the other, kept in the slot `gap` of the seam.
-pub fn make_node(part: &mut [i64], tree: u8, side: bool, gap: u32, p: u32, q: u32) -> u32
-    ensures { λ x. ⌜ Joined (nodeOn side) tree side gap p q (now (part .entry)) (now (part .exit)) x ⌝ }
+// One node of height `h` over two trees side by side, `p` on a side and `q` on the other, kept in the slot `gap` of the seam. `c` is the
+// capacity.
+fn set_node(part: &mut [i64], c: u32, tree: u8, side: bool, gap: u32, p: u32, q: u32, h: u32) -> u32
+    requires { ⌜ c ≡ cap (now part) ⌝ }
+    ensures { λ x. ⌜ Raised tree side gap p q h (now (part .entry)) (now (part .exit)) x ⌝ }
 {
     if gap > 4096 {
         return 0;
     }
-    let h = height_over(part, tree, p, q);
-    table::put_three(
+    table::put_three_in(
         part,
+        c,
         gap,
         table::child_field(tree, side),
         p as i64,
@@ -40,6 +42,16 @@ pub fn make_node(part: &mut [i64], tree: u8, side: bool, gap: u32, p: u32, q: u3
         h as i64,
     );
     4096 + gap
+}
+
+// The same, by the heights of the two.
+pub fn make_node(part: &mut [i64], tree: u8, side: bool, gap: u32, p: u32, q: u32) -> u32
+    ensures { λ x. ⌜ Joined (nodeOn side) tree side gap p q (now (part .entry)) (now (part .exit)) x ⌝ }
+{
+    let c = table::capacity(part);
+    let hp = table::height_in(part, c, tree, p);
+    let hq = table::height_in(part, c, tree, q);
+    set_node(part, c, tree, side, gap, p, q, taller(hp, hq))
 }
 
 // Three trees in a row: a node over the last two, and one over the first and that. `near` is the first seam's slot, `far` the second's.
@@ -98,19 +110,20 @@ pub fn rotate(part: &mut [i64], tree: u8, side: bool, gap: u32, p: u32, q: u32) 
     double(part, tree, side, near, gap, a, m, q)
 }
 
-// One tree of two side by side whose heights differ by at most 2.
-pub fn balance(part: &mut [i64], tree: u8, side: bool, gap: u32, p: u32, q: u32) -> u32
+// One tree of two side by side whose heights differ by at most 2. `c` is the capacity.
+fn balance(part: &mut [i64], c: u32, tree: u8, side: bool, gap: u32, p: u32, q: u32) -> u32
+    requires { ⌜ c ≡ cap (now part) ⌝ }
     ensures { λ x. ⌜ Joined (balanceOn side) tree side gap p q (now (part .entry)) (now (part .exit)) x ⌝ }
 {
-    let hp = table::height(part, tree, p);
-    let hq = table::height(part, tree, q);
+    let hp = table::height_in(part, c, tree, p);
+    let hq = table::height_in(part, c, tree, q);
     if hp > hq + 1 {
         return rotate(part, tree, side, gap, p, q);
     }
     if hq > hp + 1 {
         return rotate(part, tree, !side, gap, q, p);
     }
-    make_node(part, tree, side, gap, p, q)
+    set_node(part, c, tree, side, gap, p, q, taller(hp, hq))
 }
 
 // One height is more than one above another.
@@ -129,21 +142,33 @@ pub fn towers(part: &[i64], tree: u8, p: u32, q: u32) -> bool
     above(hp, table::height(part, tree, q))
 }
 
-// Joins two trees along the inner spine of `p`, as long as it towers over `q`. `limit` bounds the height of `p`.
-pub fn splice(part: &mut [i64], tree: u8, side: bool, gap: u32, p: u32, q: u32, limit: u32) -> u32
+// Joins two trees along the inner spine of `p`, as long as it towers over `q`. `limit` bounds the height of `p`, `c` is the capacity.
+fn splice(
+    part: &mut [i64],
+    c: u32,
+    tree: u8,
+    side: bool,
+    gap: u32,
+    p: u32,
+    q: u32,
+    limit: u32,
+) -> u32
+    requires { ⌜ c ≡ cap (now part) ⌝ }
     ensures { λ x. ⌜ Spliced tree side gap p q limit (now (part .entry)) (now (part .exit)) x ⌝ }
 {
     if limit == 0 {
         return make_node(part, tree, side, gap, p, q);
     }
-    if towers(part, tree, p, q) {
-        let a = table::child(part, tree, side, p);
-        let m = table::child(part, tree, !side, p);
+    let hp = table::height_in(part, c, tree, p);
+    let hq = table::height_in(part, c, tree, q);
+    if above(hp, hq) {
+        let a = table::child_in(part, c, tree, side, p);
+        let m = table::child_in(part, c, tree, !side, p);
         let g = table::inner_slot(p);
-        let y = splice(part, tree, side, gap, m, q, limit - 1);
-        return balance(part, tree, side, g, a, y);
+        let y = splice(part, c, tree, side, gap, m, q, limit - 1);
+        return balance(part, c, tree, side, g, a, y);
     }
-    make_node(part, tree, side, gap, p, q)
+    set_node(part, c, tree, side, gap, p, q, taller(hp, hq))
 }
 
 // Joins two balanced trees, either of which may be empty. `gap` is the slot of the last leaf of `l`.
@@ -156,13 +181,14 @@ pub fn join(part: &mut [i64], tree: u8, gap: u32, l: u32, r: u32) -> u32
     if r == 0 {
         return l;
     }
-    let hl = table::height(part, tree, l);
-    let hr = table::height(part, tree, r);
+    let c = table::capacity(part);
+    let hl = table::height_in(part, c, tree, l);
+    let hr = table::height_in(part, c, tree, r);
     if above(hl, hr) {
-        return splice(part, tree, false, gap, l, r, 24);
+        return splice(part, c, tree, false, gap, l, r, 24);
     }
     if above(hr, hl) {
-        return splice(part, tree, true, gap, r, l, 24);
+        return splice(part, c, tree, true, gap, r, l, 24);
     }
-    make_node(part, tree, false, gap, l, r)
+    set_node(part, c, tree, false, gap, l, r, taller(hl, hr))
 }

@@ -177,6 +177,89 @@ pub fn at_least(part: &[i64], field: usize, slot: u32, key: i64) -> bool
     key <= get(part, field, slot)
 }
 
+// A slot's field, as `get` reads it, where the part's capacity `c` is known: who reads many fields reads it once.
+pub fn get_in(part: &[i64], c: u32, field: usize, slot: u32) -> i64
+    requires { ⌜ c ≡ cap (now part) ⌝ }
+    ensures { λ r. ⌜ r ≡ cell (now (part .entry)) field slot ⌝ }
+{
+    if slot < 1 {
+        return 0;
+    }
+    if c < slot {
+        return 0;
+    }
+    if 32 <= field {
+        return 0;
+    }
+    part[64 + 4 * (field / 4 * (c as usize + 1) + slot as usize) + field % 4]
+}
+
+pub fn link_in(part: &[i64], c: u32, field: usize, slot: u32) -> u32
+    requires { ⌜ c ≡ cap (now part) ⌝ }
+    ensures { λ r. ⌜ r ≡ linkAt (now (part .entry)) field slot ⌝ }
+{
+    up_to(8192, get_in(part, c, field, slot))
+}
+
+pub fn child_in(part: &[i64], c: u32, tree: u8, side: bool, x: u32) -> u32
+    requires { ⌜ c ≡ cap (now part) ⌝ }
+    ensures { λ r. ⌜ r ≡ childAt (now (part .entry)) tree side x ⌝ }
+{
+    link_in(part, c, child_field(tree, side), inner_slot(x))
+}
+
+pub fn at_least_in(part: &[i64], c: u32, field: usize, slot: u32, key: i64) -> bool
+    requires { ⌜ c ≡ cap (now part) ⌝ }
+    ensures { λ r. ⌜ r ≡ leZ key (cell (now (part .entry)) field slot) ⌝ }
+{
+    key <= get_in(part, c, field, slot)
+}
+
+pub fn height_in(part: &[i64], c: u32, tree: u8, x: u32) -> u32
+    requires { ⌜ c ≡ cap (now part) ⌝ }
+    ensures { λ r. ⌜ r ≡ heightAt (now (part .entry)) tree x ⌝ }
+{
+    link_in(part, c, height_field(tree), inner_slot(x))
+}
+
+fn spot_in(part: &[i64], c: u32, field: usize, slot: u32) -> usize
+    requires { ⌜ c ≡ cap (now part) ⌝ }
+    ensures { λ r. ⌜ r ≡ spot (now (part .entry)) field slot ⌝ }
+{
+    if slot < 1 {
+        return part.len();
+    }
+    if c < slot {
+        return part.len();
+    }
+    if 32 <= field {
+        return part.len();
+    }
+    64 + 4 * (field / 4 * (c as usize + 1) + slot as usize) + field % 4
+}
+
+pub fn put_three_in(
+    part: &mut [i64],
+    c: u32,
+    slot: u32,
+    f: usize,
+    first: i64,
+    g: usize,
+    second: i64,
+    h: usize,
+    third: i64,
+)
+    requires { ⌜ c ≡ cap (now part) ⌝ }
+    ensures { λ _. ⌜ now (part .exit) ≡ cset (cset (cset (now (part .entry)) f slot first) g slot second) h slot third ⌝ }
+{
+    let x = spot_in(part, c, f, slot);
+    let y = spot_in(part, c, g, slot);
+    let z = spot_in(part, c, h, slot);
+    set_word(part, x, first);
+    set_word(part, y, second);
+    set_word(part, z, third);
+}
+
 // A slot's field is `key` or below.
 pub fn at_most(part: &[i64], field: usize, slot: u32, key: i64) -> bool
     ensures { λ r. ⌜ r ≡ leZ (cell (now (part .entry)) field slot) key ⌝ }

@@ -18,7 +18,7 @@ use Rattle.table.specs.Items.{Item, at, slots-most}
 use Rattle.table.specs.Rep.{heightAt, refOf, nodeOn, Within, within-trans, within-cset}
 use Rattle.table.specs.Nodes.{rep-height}
 use Rattle.shape.specs.Joining.{Joined}
-use Rattle.pieces.specs.Pieces.{items, rateOf, Standing, Catted, CutAt}
+use Rattle.pieces.specs.Pieces.{items, rateOf, Standing, SeamAt, Seamed, CutAt}
 use Rattle.update.specs.Stored.{HeldIn, Touched}
 use Rattle.update.specs.Steps.{Counted, MadeIn, Siblings, RaisedIn}
 use Rattle.update.specs.Frames.{tied-same, whole-standing, pieces-offers, pieces-tree, slots-within}
@@ -69,7 +69,7 @@ record Calls (gap lx le rx re : ℕ) (w w₁ w₂ w₃ w₄ w₅ w₆ w₇ w₈ 
   above : Joined (nodeOn false) 1 false gap lx rx w₄ w₅ x
   bridge-left : w₆ ≡ cset w₅ 10 gap (pos u)
   bridge-right : w₇ ≡ cset w₆ 11 gap (pos v)
-  cat : Catted lf rb w₇ w₈ e
+  cat : Seamed lf rb u v w₇ w₈ e
 
 -- what they make of two subtrees in hand
 record Raises (w w′ : Words) (x e s h : ℕ) (l r : Held Item) : Type 0 where
@@ -84,10 +84,10 @@ module _
       record {
         held =
             record {
-              held = subst (HeldIn w₈ x e) (sym (R .held)) (held-raised sib cuts wires (calls .cat) at-u at-v (subst (Whole items) (R .held) (R .whole)));
+              held = subst (HeldIn w₈ x e) (sym (R .held)) (held-raised sib cuts wires seam (calls .cat) at-u at-v (subst (Whole items) (R .held) (R .whole)));
               counted = subst (λ log. Counted log 1 s h) (sym (R .logged)) counted;
             };
-        touched = touched sib cuts wires (calls .cat);
+        touched = touched sib cuts wires seam (calls .cat);
       }
     where
       front : Standing w le (some (R .front))
@@ -127,6 +127,14 @@ module _
       cuts =
           after-cuts sib (subst (λ z. CutAt false z le w w₁ lf lb) by-u (calls .cut-left)) (subst (λ z. CutAt true z re w₁ w₂ rf rb) by-v (calls .cut-right))
 
+      -- the kept parts end at u and begin at v
+      seam : SeamAt u v (leftCut (R .u) l .front) (rightCut (R .v) r .back)
+      seam =
+          record {
+            left-end = λ t e. at-u ∙ ap (λ (i : Item). i .slot) (sym (R .u-last t e));
+            right-end = λ t e. at-v ∙ ap (λ (i : Item). i .slot) (sym (R .v-first t e));
+          }
+
       given : Unwired w₂ gap lx rx (l .tree) (r .tree)
       given =
           record {
@@ -159,7 +167,7 @@ pub raised :
     Joined (nodeOn false) 1 false gap lx rx w₄ w₅ x →
     w₆ ≡ cset w₅ 10 gap (pos u) →
     w₇ ≡ cset w₆ 11 gap (pos v) →
-    Catted lf rb w₇ w₈ e →
+    Seamed lf rb u v w₇ w₈ e →
     RaisedIn gap lx le rx re w w₈ x e 1 s h
 raised {gap} {lx} {le} {rx} {re} {u} {v} {lf} {lb} {rf} {rb} {x} {e} {s} {h} {w} {w₁} {w₂} {w₃} {w₄} {w₅} {w₆} {w₇} {w₈} {θ} {θ′} met heights rate-left cut-left rate-right cut-right rest-left rest-right above eu ev cat =
     record {

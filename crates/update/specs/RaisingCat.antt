@@ -14,7 +14,7 @@ use Rattle.table.specs.Layout.{cell}
 use Rattle.table.specs.Items.{Item, In, at}
 use Rattle.table.specs.Rep.{Within, within-trans}
 use Rattle.table.specs.Threads.{holds-join}
-use Rattle.pieces.specs.Pieces.{items, PieceField, PiecesOnly, Standing, Beside, Catted}
+use Rattle.pieces.specs.Pieces.{items, PieceField, PiecesOnly, Standing, Beside, SeamAt, Seamed}
 use Rattle.update.specs.Stored.{RestIn, Stored, stored-fork, HeldIn, Touched, nodeSlot, restField}
 use Rattle.update.specs.Steps.{Siblings}
 use Rattle.update.specs.Frames.{Inside, Disjoint, disjoint-across, bridge-u, bridge-v, same-link, tied-same, part-same, holds-same, held-slots, whole-inside, stored-inside, pieces-tree, pieces-rests, pieces-else, pieces-touched, slots-within, touched-offers, touched-trans, touched-more}
@@ -28,7 +28,7 @@ use Rattle.update.specs.RaisingWires.{Wires, left-untold, right-untold, 
 -- the words before the first cut, after the second, after the bridge, and at the end
 module _
     {w w₁ w₂ w₃ : Words} {gap lx le rx re lf lb rf rb x e mu mv : ℕ} {l r : Held Item} {c d : Cut Item} (sib : Siblings w gap lx le rx re l r)
-    (cuts : AfterCuts w w₁ l r c d lf lb rf rb) (wires : AfterWires (l .tree) (r .tree) w₁ w₂ x lb rf mu mv) (cat : Catted lf rb w₂ w₃ e) where
+    (cuts : AfterCuts w w₁ l r c d lf lb rf rb) (wires : AfterWires (l .tree) (r .tree) w₁ w₂ x lb rf mu mv) (seam : SeamAt mu mv (c .front) (d .back)) (cat : Seamed lf rb mu mv w₂ w₃ e) where
   -- no piece is written between
   left-halves : Halved w₂ lf lb (l .whole) c
   left-halves = halved-same (wires .within) (cuts .left) (touched-offers (wired-touched (wires .only)) _) (wired-pieces (wires .only) _)
@@ -44,7 +44,7 @@ module _
 
   -- the last change
   kept : PiecesOnly (partLeaves (c .front) ++ partLeaves (d .back)) w₂ w₃
-  kept = cat .only (c .front) (d .back) beside
+  kept = cat .only (c .front) (d .back) beside seam
 
   within : Within w w₃
   within = within-trans (cuts .within) (within-trans (wires .within) (cat .within))
@@ -98,7 +98,7 @@ module _
   -- ---- the fork
 
   whole-raised : Standing w₃ e (joinP (c .front) (d .back))
-  whole-raised = cat .root (c .front) (d .back) beside
+  whole-raised = cat .root (c .front) (d .back) beside seam
 
   front-apart : Disjoint (partLeaves (c .back)) (partLeaves (c .front) ++ partLeaves (d .back))
   front-apart = disjoint-turned (disjoint-join (partLeaves (c .front)) (left-halves .apart) (disjoint-turned (disjoint-both (left-halves .back-inside) (right-halves .back-inside) (wholes-apart sib))))

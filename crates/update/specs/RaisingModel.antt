@@ -1,21 +1,24 @@
 -- What raising two subtrees makes, said by cuts by rate as code makes them.
-use mathlib.Core.Path.{_≡_, refl, sym, ap, ap₂, subst, fun-ext}
+use mathlib.Core.Path.{_≡_, refl, sym, _∙_, ap, ap₂, subst, fun-ext}
 use mathlib.Core.Bool.{Bool, true, false, not}
 use mathlib.Core.Option.{none, some}
-use mathlib.Core.List.{List, [], _∷_, _++_, List·Memᴰ, List·Memᴰ·head, Memᴰ·append-right}
+use mathlib.Core.List.{List, [], _∷_, _++_, List·Memᴰ, List·Memᴰ·head, Memᴰ·append-right, reverse, reverse-append, head-eq-of-cons-eq}
 use native.Mathlib.Omega.{arith}
 use lib.Signed.{leZ, ltZ}
 use Rattle.integers.specs.Parts.{intRules, same-test}
 use Rattle.envelopes.specs.Envelope.{Ordered, Env}
-use Rattle.trees.specs.Tree.{Tree, node, leaves, first, Avl}
-use Rattle.trees.specs.Operations.{Part, Cut, split, splitP}
+use Rattle.envelopes.specs.EnvelopeLaws.{ordered-sublist}
+use Rattle.trees.specs.Tree.{Tree, node, leaves, first, last, mirror, Avl}
+use Rattle.trees.specs.Leaves.{leaves-first, leaves-mirror, first-mirror}
+use Rattle.trees.specs.Operations.{Part, Cut, partLeaves, split, splitP}
+use Rattle.trees.specs.Split.{Halves}
 use Rattle.meeting.specs.Machine.{meet}
 use Rattle.meeting.specs.Meets.{Met, limit, FacingTrees}
 use Rattle.dynamic.specs.OfferTree.{OfferTree, shape, Held, hold, heldShape, Made, bridged, raiseBy, raise}
 use Rattle.dynamic.specs.Valid.{Whole}
 use Rattle.dynamic.specs.Lower.{valid-env}
 use Rattle.dynamic.specs.Bridged.{Bridged, faces, search-bridges}
-use Rattle.dynamic.specs.Raise.{some-piece, whole-raise}
+use Rattle.dynamic.specs.Raise.{some-piece, whole-raise, split-behind, split-front}
 use Rattle.table.specs.Items.{Item}
 use Rattle.pieces.specs.Pieces.{items, item-laws, rateOf, inFront}
 
@@ -48,6 +51,8 @@ pub record Raising (l r : Held Item) (m : Made Item) : Type 0 where
   pub v : Item
   pub u-piece : List·Memᴰ u (leaves front)
   pub v-piece : List·Memᴰ v (leaves back)
+  pub u-last : (t : Tree Item) → leftCut u l .front ≡ some t → last t ≡ u
+  pub v-first : (t : Tree Item) → rightCut v r .back ≡ some t → first t ≡ v
   pub facing : FacingTrees items front back (first front)
   pub met : Met (limit front back) u v (meet items front back)
   pub logged : m .log ≡ record { front = front; back = back } ∷ []
@@ -56,6 +61,25 @@ pub record Raising (l r : Held Item) (m : Made Item) : Type 0 where
 
 among : {a b : Item} {zs : List Item} (xs ys : List Item) → a ≡ b → zs ≡ xs ++ b ∷ ys → List·Memᴰ a zs
 among {a} xs ys p e = subst (List·Memᴰ a) (sym e) (Memᴰ·append-right xs (List·Memᴰ·head p))
+
+-- ---- the ends at the seam
+
+last-of : (t : Tree Item) (xs : List Item) (a : Item) → leaves t ≡ xs ++ a ∷ [] → last t ≡ a
+last-of t xs a e = sym (first-mirror t) ∙ head-eq-of-cons-eq (sym (leaves-first (mirror t)) ∙ leaves-mirror t ∙ ap reverse e ∙ reverse-append xs (a ∷ []))
+
+module _ (a : Tree Item) (xs : List Item) (u : Item) (ys : List Item) (o : Ordered items (leaves a)) (e : leaves a ≡ xs ++ u ∷ ys) where
+  about : Ordered items (xs ++ u ∷ ys)
+  about = subst (Ordered items) e o
+
+  kept-last : (t : Tree Item) → split (inFront false (rateOf u)) a .front ≡ some t → last t ≡ u
+  kept-last t d =
+      let h : Halves (split (inFront false (rateOf u)) a) (xs ++ u ∷ []) ys = subst (λ (f : Item → Bool). Halves (split f a) (xs ++ u ∷ []) ys) (up-to-test u) (split-behind items item-laws xs u ys about a e) in
+      last-of t xs u (sym (ap partLeaves d) ∙ h .before)
+
+  kept-first : (t : Tree Item) → split (inFront true (rateOf u)) a .back ≡ some t → first t ≡ u
+  kept-first t d =
+      let h : Halves (split (inFront true (rateOf u)) a) xs (u ∷ ys) = subst (λ (f : Item → Bool). Halves (split f a) xs (u ∷ ys)) (before-test u) (split-front items item-laws xs u ys about a e) in
+      head-eq-of-cons-eq (sym (leaves-first t) ∙ sym (ap partLeaves d) ∙ h .after)
 
 module _ (l r : OfferTree Item) where
   parts : (p q : Part Item) → Whole items (hold l p) → Whole items (hold r q) → Ordered items (leaves (shape l) ++ leaves (shape r)) → Whole items (raiseBy items p q (hold l p) (hold r q) .held) → Raising (hold l p) (hold r q) (raiseBy items p q (hold l p) (hold r q))
@@ -79,6 +103,8 @@ module _ (l r : OfferTree Item) where
         v = v;
         u-piece = among (G .upTo) (G .beyond) p (G .left-pieces);
         v-piece = among (G .short) (G .from) q (G .right-pieces);
+        u-last = kept-last a (G .upTo) u (G .beyond) (ordered-sublist items (E .sub) (wl .ordered)) (rw p (G .left-pieces));
+        v-first = kept-first b (G .short) v (G .from) (ordered-sublist items (F .sub) (wr .ordered)) (rw q (G .right-pieces));
         facing = faces items item-laws (leaves (shape l)) (leaves (shape r)) o a b E F (first a);
         met = rw (p, q) (G .met);
         logged = refl;

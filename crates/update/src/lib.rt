@@ -102,7 +102,7 @@ fn raise(part: &mut [i64], gap: u32, lx: u32, le: u32, rx: u32, re: u32) -> Made
     let x = shape::make_node(part, 1, false, gap, lx, rx);
     table::put_link(part, 10, gap, m.u);
     table::put_link(part, 11, gap, m.v);
-    let e = pieces::cat(part, c.front, d.back);
+    let e = pieces::cat_at(part, c.front, d.back, m.u, m.v);
     Made {
         x: x,
         e: e,

@@ -6,10 +6,13 @@ use Rattle.descents.proofs.end.Statement.{statement}
 use Rattle.descents.proofs.end.Tie as tie
 
 abbrev Inv-loop : tie.InvT-loop
-Inv-loop part tree side x y₀ limit₀ y limit = Going part tree side x y limit
+Inv-loop part tree side x c y₀ limit₀ y limit = Going part tree side x y limit
 
 abbrev μ-loop : tie.MeasureT-loop
-μ-loop part tree side x y₀ limit₀ y limit = limit
+μ-loop part tree side x c y₀ limit₀ y limit = limit
+
+capacity-requires : tie.Need-capacity-requires Inv-loop μ-loop
+capacity-requires c κs = search needs
 
 loop-holds : tie.Need-loop-holds Inv-loop μ-loop
 loop-holds c = going-begins _ _ _ _
@@ -20,14 +23,14 @@ returns c = going-over (c .before .before .loop .inv) (c .before .loop-test .tak
 sub-limit : tie.Need-sub-limit Inv-loop μ-loop
 sub-limit c = omega arith
 
-child-requires : tie.Need-child-requires Inv-loop μ-loop
-child-requires c κs = search needs
+child-in-requires : tie.Need-child-in-requires Inv-loop μ-loop
+child-in-requires c κs = search needs
 
 loop-less : tie.Need-loop-less Inv-loop μ-loop
 loop-less c = omega arith
 
 loop-again : tie.Need-loop-again Inv-loop μ-loop
-loop-again c = going-on (c .before .before .before .loop .inv) (c .before .before .loop-test .taken) (c .child .ensures)
+loop-again c = going-on (c .before .before .before .loop .inv) (c .before .before .loop-test .taken) (c .child-in .ensures)
 
 returns-2 : tie.Need-returns-2 Inv-loop μ-loop
 returns-2 c = going-ends (c .before .loop .inv) (c .loop-test .left)
@@ -38,10 +41,11 @@ end-spec =
     (tie.spec
     Inv-loop
     μ-loop
+    capacity-requires
     loop-holds
     returns
     sub-limit
-    child-requires
+    child-in-requires
     loop-less
     loop-again
     returns-2)

@@ -1,23 +1,29 @@
 -- `shape::splice` meets its contract, by recursion on the limit.
 use borrow.Author.Needs.{needs}
 use native.Mathlib.Omega.{arith}
-use Rattle.shape.specs.Splices.{spliced-none, spliced-low, spliced}
+use mathlib.Core.Path.{sym, _∙_}
+use Rattle.table.specs.Rep.{height-read, within-cap}
+use Rattle.shape.specs.Joining.{raised}
+use Rattle.shape.specs.Splices.{spliced-none, spliced-low, spliced, towers-told}
 use Prim.Native.Nat.{ℕ, _<_}
 use borrow.Fn.Kinds.{In}
 use borrow.Fn.PlainCycle.{Measures, is, falls, and}
 use Rattle.shape.proofs.splice.Reads as splice
 use Rattle.shape.proofs.splice.Kinds as splice-kinds
 use Rattle.shape.proofs.+splice.Lts-splice as splice-lts
+use Rattle.shape.proofs.above.Reads as above-reads
 use Rattle.shape.proofs.balance.Reads as balance-reads
 use Rattle.shape.proofs.make_node.Reads as make-node-reads
-use Rattle.shape.proofs.towers.Reads as towers-reads
-use Rattle.table.proofs.child.Reads as child-reads
+use Rattle.shape.proofs.set_node.Reads as set-node-reads
+use Rattle.shape.proofs.taller.Reads as taller-reads
+use Rattle.table.proofs.child_in.Reads as child-in-reads
+use Rattle.table.proofs.height_in.Reads as height-in-reads
 use Rattle.table.proofs.inner_slot.Reads as inner-slot-reads
 use Rattle.shape.proofs.+splice.{statement}
 use Rattle.shape.proofs.+splice.Tie.{close}
 
 abbrev μ-splice : Measures 1 splice-kinds.ps ℕ
-μ-splice κs a = a .1 .1 .1 .1 .1 .1 .0
+μ-splice κs a = a .1 .1 .1 .1 .1 .1 .1 .0
 
 abbrev splice-at : ℕ → In 1 splice-kinds.ps
 splice-at t = and 1 splice-kinds.ps (is 1 splice-kinds.ps μ-splice t) splice.Pre
@@ -28,272 +34,437 @@ splice-below t = and 1 splice-kinds.ps (falls 1 splice-kinds.ps _<_ μ-splice t)
 splice-make-node-requires : (t : ℕ) → splice-lts.Need-make-node-requires (
   make-node-reads.Asked,
   make-node-reads.Learnt,
-  towers-reads.Asked,
-  towers-reads.Learnt,
-  child-reads.Asked,
-  child-reads.Learnt,
+  height-in-reads.Asked,
+  height-in-reads.Learnt,
+  above-reads.Asked,
+  above-reads.Learnt,
+  child-in-reads.Asked,
+  child-in-reads.Learnt,
   inner-slot-reads.Asked,
   inner-slot-reads.Learnt,
   splice-below t,
   splice.Post,
   balance-reads.Asked,
   balance-reads.Learnt,
+  taller-reads.Asked,
+  taller-reads.Learnt,
+  set-node-reads.Asked,
+  set-node-reads.Learnt,
 ) (splice-at t) splice.Post
 splice-make-node-requires t c κs = search needs
 
 splice-same-length : (t : ℕ) → splice-lts.Need-same-length (
   make-node-reads.Asked,
   make-node-reads.Learnt,
-  towers-reads.Asked,
-  towers-reads.Learnt,
-  child-reads.Asked,
-  child-reads.Learnt,
+  height-in-reads.Asked,
+  height-in-reads.Learnt,
+  above-reads.Asked,
+  above-reads.Learnt,
+  child-in-reads.Asked,
+  child-in-reads.Learnt,
   inner-slot-reads.Asked,
   inner-slot-reads.Learnt,
   splice-below t,
   splice.Post,
   balance-reads.Asked,
   balance-reads.Learnt,
+  taller-reads.Asked,
+  taller-reads.Learnt,
+  set-node-reads.Asked,
+  set-node-reads.Learnt,
 ) (splice-at t) splice.Post
 splice-same-length t c = search needs
 
 splice-returns : (t : ℕ) → splice-lts.Need-returns (
   make-node-reads.Asked,
   make-node-reads.Learnt,
-  towers-reads.Asked,
-  towers-reads.Learnt,
-  child-reads.Asked,
-  child-reads.Learnt,
+  height-in-reads.Asked,
+  height-in-reads.Learnt,
+  above-reads.Asked,
+  above-reads.Learnt,
+  child-in-reads.Asked,
+  child-in-reads.Learnt,
   inner-slot-reads.Asked,
   inner-slot-reads.Learnt,
   splice-below t,
   splice.Post,
   balance-reads.Asked,
   balance-reads.Learnt,
+  taller-reads.Asked,
+  taller-reads.Learnt,
+  set-node-reads.Asked,
+  set-node-reads.Learnt,
 ) (splice-at t) splice.Post
 splice-returns t c = spliced-none (c .before .before .before .if1 .taken) (c .before .make-node .ensures)
 
-splice-towers-requires : (t : ℕ) → splice-lts.Need-towers-requires (
+splice-height-in-requires : (t : ℕ) → splice-lts.Need-height-in-requires (
   make-node-reads.Asked,
   make-node-reads.Learnt,
-  towers-reads.Asked,
-  towers-reads.Learnt,
-  child-reads.Asked,
-  child-reads.Learnt,
+  height-in-reads.Asked,
+  height-in-reads.Learnt,
+  above-reads.Asked,
+  above-reads.Learnt,
+  child-in-reads.Asked,
+  child-in-reads.Learnt,
   inner-slot-reads.Asked,
   inner-slot-reads.Learnt,
   splice-below t,
   splice.Post,
   balance-reads.Asked,
   balance-reads.Learnt,
+  taller-reads.Asked,
+  taller-reads.Learnt,
+  set-node-reads.Asked,
+  set-node-reads.Learnt,
 ) (splice-at t) splice.Post
-splice-towers-requires t c κs = search needs
+splice-height-in-requires t c κs = c .before .before .pre .1
 
-splice-child-requires : (t : ℕ) → splice-lts.Need-child-requires (
+splice-height-in-requires-2 : (t : ℕ) → splice-lts.Need-height-in-requires-2 (
   make-node-reads.Asked,
   make-node-reads.Learnt,
-  towers-reads.Asked,
-  towers-reads.Learnt,
-  child-reads.Asked,
-  child-reads.Learnt,
+  height-in-reads.Asked,
+  height-in-reads.Learnt,
+  above-reads.Asked,
+  above-reads.Learnt,
+  child-in-reads.Asked,
+  child-in-reads.Learnt,
   inner-slot-reads.Asked,
   inner-slot-reads.Learnt,
   splice-below t,
   splice.Post,
   balance-reads.Asked,
   balance-reads.Learnt,
+  taller-reads.Asked,
+  taller-reads.Learnt,
+  set-node-reads.Asked,
+  set-node-reads.Learnt,
 ) (splice-at t) splice.Post
-splice-child-requires t c κs = search needs
+splice-height-in-requires-2 t c κs = c .before .before .before .before .pre .1
 
-splice-child-requires-2 : (t : ℕ) → splice-lts.Need-child-requires-2 (
+splice-above-requires : (t : ℕ) → splice-lts.Need-above-requires (
   make-node-reads.Asked,
   make-node-reads.Learnt,
-  towers-reads.Asked,
-  towers-reads.Learnt,
-  child-reads.Asked,
-  child-reads.Learnt,
+  height-in-reads.Asked,
+  height-in-reads.Learnt,
+  above-reads.Asked,
+  above-reads.Learnt,
+  child-in-reads.Asked,
+  child-in-reads.Learnt,
   inner-slot-reads.Asked,
   inner-slot-reads.Learnt,
   splice-below t,
   splice.Post,
   balance-reads.Asked,
   balance-reads.Learnt,
+  taller-reads.Asked,
+  taller-reads.Learnt,
+  set-node-reads.Asked,
+  set-node-reads.Learnt,
 ) (splice-at t) splice.Post
-splice-child-requires-2 t c κs = search needs
+splice-above-requires t c κs = omega (arith, height-read _ _ _ (c .height-in2 .ensures))
+
+splice-child-in-requires : (t : ℕ) → splice-lts.Need-child-in-requires (
+  make-node-reads.Asked,
+  make-node-reads.Learnt,
+  height-in-reads.Asked,
+  height-in-reads.Learnt,
+  above-reads.Asked,
+  above-reads.Learnt,
+  child-in-reads.Asked,
+  child-in-reads.Learnt,
+  inner-slot-reads.Asked,
+  inner-slot-reads.Learnt,
+  splice-below t,
+  splice.Post,
+  balance-reads.Asked,
+  balance-reads.Learnt,
+  taller-reads.Asked,
+  taller-reads.Learnt,
+  set-node-reads.Asked,
+  set-node-reads.Learnt,
+) (splice-at t) splice.Post
+splice-child-in-requires t c κs = c .before .before .before .before .before .before .before .before .pre .1
+
+splice-child-in-requires-2 : (t : ℕ) → splice-lts.Need-child-in-requires-2 (
+  make-node-reads.Asked,
+  make-node-reads.Learnt,
+  height-in-reads.Asked,
+  height-in-reads.Learnt,
+  above-reads.Asked,
+  above-reads.Learnt,
+  child-in-reads.Asked,
+  child-in-reads.Learnt,
+  inner-slot-reads.Asked,
+  inner-slot-reads.Learnt,
+  splice-below t,
+  splice.Post,
+  balance-reads.Asked,
+  balance-reads.Learnt,
+  taller-reads.Asked,
+  taller-reads.Learnt,
+  set-node-reads.Asked,
+  set-node-reads.Learnt,
+) (splice-at t) splice.Post
+splice-child-in-requires-2 t c κs = c .before .before .before .before .before .before .before .before .before .before .pre .1
 
 splice-inner-slot-requires : (t : ℕ) → splice-lts.Need-inner-slot-requires (
   make-node-reads.Asked,
   make-node-reads.Learnt,
-  towers-reads.Asked,
-  towers-reads.Learnt,
-  child-reads.Asked,
-  child-reads.Learnt,
+  height-in-reads.Asked,
+  height-in-reads.Learnt,
+  above-reads.Asked,
+  above-reads.Learnt,
+  child-in-reads.Asked,
+  child-in-reads.Learnt,
   inner-slot-reads.Asked,
   inner-slot-reads.Learnt,
   splice-below t,
   splice.Post,
   balance-reads.Asked,
   balance-reads.Learnt,
+  taller-reads.Asked,
+  taller-reads.Learnt,
+  set-node-reads.Asked,
+  set-node-reads.Learnt,
 ) (splice-at t) splice.Post
 splice-inner-slot-requires t c κs = search needs
 
 splice-sub-splice : (t : ℕ) → splice-lts.Need-sub-splice (
   make-node-reads.Asked,
   make-node-reads.Learnt,
-  towers-reads.Asked,
-  towers-reads.Learnt,
-  child-reads.Asked,
-  child-reads.Learnt,
+  height-in-reads.Asked,
+  height-in-reads.Learnt,
+  above-reads.Asked,
+  above-reads.Learnt,
+  child-in-reads.Asked,
+  child-in-reads.Learnt,
   inner-slot-reads.Asked,
   inner-slot-reads.Learnt,
   splice-below t,
   splice.Post,
   balance-reads.Asked,
   balance-reads.Learnt,
+  taller-reads.Asked,
+  taller-reads.Learnt,
+  set-node-reads.Asked,
+  set-node-reads.Learnt,
 ) (splice-at t) splice.Post
 splice-sub-splice t c = omega arith
 
 splice-splice-requires : (t : ℕ) → splice-lts.Need-splice-requires (
   make-node-reads.Asked,
   make-node-reads.Learnt,
-  towers-reads.Asked,
-  towers-reads.Learnt,
-  child-reads.Asked,
-  child-reads.Learnt,
+  height-in-reads.Asked,
+  height-in-reads.Learnt,
+  above-reads.Asked,
+  above-reads.Learnt,
+  child-in-reads.Asked,
+  child-in-reads.Learnt,
   inner-slot-reads.Asked,
   inner-slot-reads.Learnt,
   splice-below t,
   splice.Post,
   balance-reads.Asked,
   balance-reads.Learnt,
+  taller-reads.Asked,
+  taller-reads.Learnt,
+  set-node-reads.Asked,
+  set-node-reads.Learnt,
 ) (splice-at t) splice.Post
-splice-splice-requires t c κs = (omega (arith, c .before .before .before .before .before .before .before .before .before .before .pre .0), tt)
+splice-splice-requires t c κs = (omega (arith, c .before .before .before .before .before .before .before .before .before .before .before .before .before .pre .0), c .before .before .before .before .before .before .before .before .before .before .before .before .before .pre .1)
 
 splice-balance-requires : (t : ℕ) → splice-lts.Need-balance-requires (
   make-node-reads.Asked,
   make-node-reads.Learnt,
-  towers-reads.Asked,
-  towers-reads.Learnt,
-  child-reads.Asked,
-  child-reads.Learnt,
+  height-in-reads.Asked,
+  height-in-reads.Learnt,
+  above-reads.Asked,
+  above-reads.Learnt,
+  child-in-reads.Asked,
+  child-in-reads.Learnt,
   inner-slot-reads.Asked,
   inner-slot-reads.Learnt,
   splice-below t,
   splice.Post,
   balance-reads.Asked,
   balance-reads.Learnt,
+  taller-reads.Asked,
+  taller-reads.Learnt,
+  set-node-reads.Asked,
+  set-node-reads.Learnt,
 ) (splice-at t) splice.Post
-splice-balance-requires t c κs = search needs
+splice-balance-requires t c κs = c .before .before .before .before .before .before .before .before .before .before .before .before .before .before .before .before .pre .1 ∙ sym (within-cap (c .before .before .splice .ensures .within))
 
 splice-same-length-2 : (t : ℕ) → splice-lts.Need-same-length-2 (
   make-node-reads.Asked,
   make-node-reads.Learnt,
-  towers-reads.Asked,
-  towers-reads.Learnt,
-  child-reads.Asked,
-  child-reads.Learnt,
+  height-in-reads.Asked,
+  height-in-reads.Learnt,
+  above-reads.Asked,
+  above-reads.Learnt,
+  child-in-reads.Asked,
+  child-in-reads.Learnt,
   inner-slot-reads.Asked,
   inner-slot-reads.Learnt,
   splice-below t,
   splice.Post,
   balance-reads.Asked,
   balance-reads.Learnt,
+  taller-reads.Asked,
+  taller-reads.Learnt,
+  set-node-reads.Asked,
+  set-node-reads.Learnt,
 ) (splice-at t) splice.Post
 splice-same-length-2 t c = search needs
 
 splice-returns-2 : (t : ℕ) → splice-lts.Need-returns-2 (
   make-node-reads.Asked,
   make-node-reads.Learnt,
-  towers-reads.Asked,
-  towers-reads.Learnt,
-  child-reads.Asked,
-  child-reads.Learnt,
+  height-in-reads.Asked,
+  height-in-reads.Learnt,
+  above-reads.Asked,
+  above-reads.Learnt,
+  child-in-reads.Asked,
+  child-in-reads.Learnt,
   inner-slot-reads.Asked,
   inner-slot-reads.Learnt,
   splice-below t,
   splice.Post,
   balance-reads.Asked,
   balance-reads.Learnt,
+  taller-reads.Asked,
+  taller-reads.Learnt,
+  set-node-reads.Asked,
+  set-node-reads.Learnt,
 ) (splice-at t) splice.Post
-splice-returns-2 t c = spliced (c .before .before .before .before .before .before .before .before .before .before .before .before .towers .ensures) (c .before .before .before .before .before .before .before .before .before .before .before .if2 .taken) (c .before .before .before .before .before .before .before .before .before .child .ensures) (c .before .before .before .before .before .before .before .child2 .ensures) (c .before .before .before .before .before .before .inner-slot .ensures) (c .before .before .before .before .splice .ensures) (c .before .balance .ensures)
+splice-returns-2 t c = spliced (towers-told _ _ _ _ (c .before .before .before .before .before .before .before .before .before .before .before .before .before .before .before .height-in .ensures) (c .before .before .before .before .before .before .before .before .before .before .before .before .before .height-in2 .ensures) (c .before .before .before .before .before .before .before .before .before .before .before .before .above .ensures)) (c .before .before .before .before .before .before .before .before .before .before .before .if2 .taken) (c .before .before .before .before .before .before .before .before .before .child-in .ensures) (c .before .before .before .before .before .before .before .child-in2 .ensures) (c .before .before .before .before .before .before .inner-slot .ensures) (c .before .before .before .before .splice .ensures) (c .before .balance .ensures)
 
-splice-make-node-requires-2 : (t : ℕ) → splice-lts.Need-make-node-requires-2 (
+splice-taller-requires : (t : ℕ) → splice-lts.Need-taller-requires (
   make-node-reads.Asked,
   make-node-reads.Learnt,
-  towers-reads.Asked,
-  towers-reads.Learnt,
-  child-reads.Asked,
-  child-reads.Learnt,
+  height-in-reads.Asked,
+  height-in-reads.Learnt,
+  above-reads.Asked,
+  above-reads.Learnt,
+  child-in-reads.Asked,
+  child-in-reads.Learnt,
   inner-slot-reads.Asked,
   inner-slot-reads.Learnt,
   splice-below t,
   splice.Post,
   balance-reads.Asked,
   balance-reads.Learnt,
+  taller-reads.Asked,
+  taller-reads.Learnt,
+  set-node-reads.Asked,
+  set-node-reads.Learnt,
 ) (splice-at t) splice.Post
-splice-make-node-requires-2 t c κs = search needs
+splice-taller-requires t c κs = (omega (arith, height-read _ _ _ (c .before .before .before .before .before .height-in .ensures)), omega (arith, height-read _ _ _ (c .before .before .before .height-in2 .ensures)))
+
+splice-set-node-requires : (t : ℕ) → splice-lts.Need-set-node-requires (
+  make-node-reads.Asked,
+  make-node-reads.Learnt,
+  height-in-reads.Asked,
+  height-in-reads.Learnt,
+  above-reads.Asked,
+  above-reads.Learnt,
+  child-in-reads.Asked,
+  child-in-reads.Learnt,
+  inner-slot-reads.Asked,
+  inner-slot-reads.Learnt,
+  splice-below t,
+  splice.Post,
+  balance-reads.Asked,
+  balance-reads.Learnt,
+  taller-reads.Asked,
+  taller-reads.Learnt,
+  set-node-reads.Asked,
+  set-node-reads.Learnt,
+) (splice-at t) splice.Post
+splice-set-node-requires t c κs = c .before .before .before .before .before .before .before .before .before .pre .1
 
 splice-same-length-3 : (t : ℕ) → splice-lts.Need-same-length-3 (
   make-node-reads.Asked,
   make-node-reads.Learnt,
-  towers-reads.Asked,
-  towers-reads.Learnt,
-  child-reads.Asked,
-  child-reads.Learnt,
+  height-in-reads.Asked,
+  height-in-reads.Learnt,
+  above-reads.Asked,
+  above-reads.Learnt,
+  child-in-reads.Asked,
+  child-in-reads.Learnt,
   inner-slot-reads.Asked,
   inner-slot-reads.Learnt,
   splice-below t,
   splice.Post,
   balance-reads.Asked,
   balance-reads.Learnt,
+  taller-reads.Asked,
+  taller-reads.Learnt,
+  set-node-reads.Asked,
+  set-node-reads.Learnt,
 ) (splice-at t) splice.Post
 splice-same-length-3 t c = search needs
 
 splice-returns-3 : (t : ℕ) → splice-lts.Need-returns-3 (
   make-node-reads.Asked,
   make-node-reads.Learnt,
-  towers-reads.Asked,
-  towers-reads.Learnt,
-  child-reads.Asked,
-  child-reads.Learnt,
+  height-in-reads.Asked,
+  height-in-reads.Learnt,
+  above-reads.Asked,
+  above-reads.Learnt,
+  child-in-reads.Asked,
+  child-in-reads.Learnt,
   inner-slot-reads.Asked,
   inner-slot-reads.Learnt,
   splice-below t,
   splice.Post,
   balance-reads.Asked,
   balance-reads.Learnt,
+  taller-reads.Asked,
+  taller-reads.Learnt,
+  set-node-reads.Asked,
+  set-node-reads.Learnt,
 ) (splice-at t) splice.Post
-splice-returns-3 t c = spliced-low (c .before .before .before .before .towers .ensures) (c .before .before .before .if2 .left) (c .before .make-node2 .ensures)
+splice-returns-3 t c = spliced-low (towers-told _ _ _ _ (c .before .before .before .before .before .before .before .before .height-in .ensures) (c .before .before .before .before .before .before .height-in2 .ensures) (c .before .before .before .before .before .above .ensures)) (c .before .before .before .before .if2 .left) (raised (c .before .before .before .before .before .before .before .before .height-in .ensures) (c .before .before .before .before .before .before .height-in2 .ensures) (c .before .before .taller .ensures) (c .before .set-node .ensures))
 
 pub +splice-spec : {M : Type 1} → statement M
 +splice-spec = close μ-splice λ t. splice-lts.spec (
   make-node-reads.Asked,
   make-node-reads.Learnt,
-  towers-reads.Asked,
-  towers-reads.Learnt,
-  child-reads.Asked,
-  child-reads.Learnt,
+  height-in-reads.Asked,
+  height-in-reads.Learnt,
+  above-reads.Asked,
+  above-reads.Learnt,
+  child-in-reads.Asked,
+  child-in-reads.Learnt,
   inner-slot-reads.Asked,
   inner-slot-reads.Learnt,
   splice-below t,
   splice.Post,
   balance-reads.Asked,
   balance-reads.Learnt,
+  taller-reads.Asked,
+  taller-reads.Learnt,
+  set-node-reads.Asked,
+  set-node-reads.Learnt,
 )
     (splice-at t)
     splice.Post
     (splice-make-node-requires t)
     (splice-same-length t)
     (splice-returns t)
-    (splice-towers-requires t)
-    (splice-child-requires t)
-    (splice-child-requires-2 t)
+    (splice-height-in-requires t)
+    (splice-height-in-requires-2 t)
+    (splice-above-requires t)
+    (splice-child-in-requires t)
+    (splice-child-in-requires-2 t)
     (splice-inner-slot-requires t)
     (splice-sub-splice t)
     (splice-splice-requires t)
     (splice-balance-requires t)
     (splice-same-length-2 t)
     (splice-returns-2 t)
-    (splice-make-node-requires-2 t)
+    (splice-taller-requires t)
+    (splice-set-node-requires t)
     (splice-same-length-3 t)
     (splice-returns-3 t)

@@ -1,6 +1,7 @@
 -- `shape::join` meets its contract.
 use native.Mathlib.Omega.{arith}
 use Rattle.table.specs.Rep.{height-read}
+use Rattle.shape.specs.Joining.{raised}
 use Rattle.shape.specs.Splices.{towers-told}
 use Rattle.shape.specs.Merge.{merged-right, merged-left, merged-one, merged-other, merged-level}
 use borrow.Author.Needs.{needs}
@@ -13,14 +14,17 @@ returns c = merged-right (c .if1 .taken)
 returns-2 : tie.Need-returns-2
 returns-2 c = merged-left (c .if2 .taken)
 
-height-requires : tie.Need-height-requires
-height-requires c κs = search needs
+capacity-requires : tie.Need-capacity-requires
+capacity-requires c κs = search needs
 
-height-requires-2 : tie.Need-height-requires-2
-height-requires-2 c κs = search needs
+height-in-requires : tie.Need-height-in-requires
+height-in-requires c κs = search needs
+
+height-in-requires-2 : tie.Need-height-in-requires-2
+height-in-requires-2 c κs = search needs
 
 above-requires : tie.Need-above-requires
-above-requires c κs = omega (arith, height-read _ _ _ (c .height2 .ensures))
+above-requires c κs = omega (arith, height-read _ _ _ (c .height-in2 .ensures))
 
 splice-requires : tie.Need-splice-requires
 splice-requires c κs = search needs
@@ -29,10 +33,10 @@ same-length : tie.Need-same-length
 same-length c = search needs
 
 returns-3 : tie.Need-returns-3
-returns-3 c = merged-one (c .before .before .before .before .before .before .before .before .before .before .if1 .left) (c .before .before .before .before .before .before .before .before .before .if2 .left) (omega arith) (towers-told _ _ _ _ (c .before .before .before .before .before .before .before .height .ensures) (c .before .before .before .before .before .height2 .ensures) (c .before .before .before .before .above .ensures)) (c .before .before .before .if3 .taken) (c .before .splice .ensures)
+returns-3 c = merged-one (c .before .before .before .before .before .before .before .before .before .before .before .before .if1 .left) (c .before .before .before .before .before .before .before .before .before .before .before .if2 .left) (omega arith) (towers-told _ _ _ _ (c .before .before .before .before .before .before .before .height-in .ensures) (c .before .before .before .before .before .height-in2 .ensures) (c .before .before .before .before .above .ensures)) (c .before .before .before .if3 .taken) (c .before .splice .ensures)
 
 above-requires-2 : tie.Need-above-requires-2
-above-requires-2 c κs = omega (arith, height-read _ _ _ (c .before .before .before .before .height .ensures))
+above-requires-2 c κs = omega (arith, height-read _ _ _ (c .before .before .before .before .height-in .ensures))
 
 splice-requires-2 : tie.Need-splice-requires-2
 splice-requires-2 c κs = search needs
@@ -41,16 +45,19 @@ same-length-2 : tie.Need-same-length-2
 same-length-2 c = search needs
 
 returns-4 : tie.Need-returns-4
-returns-4 c = merged-other (c .before .before .before .before .before .before .before .before .before .before .before .before .if1 .left) (c .before .before .before .before .before .before .before .before .before .before .before .if2 .left) (omega arith) (towers-told _ _ _ _ (c .before .before .before .before .before .before .before .before .before .height .ensures) (c .before .before .before .before .before .before .before .height2 .ensures) (c .before .before .before .before .before .before .above .ensures)) (c .before .before .before .before .before .if3 .left) (towers-told _ _ _ _ (c .before .before .before .before .before .before .before .height2 .ensures) (c .before .before .before .before .before .before .before .before .before .height .ensures) (c .before .before .before .before .above2 .ensures)) (c .before .before .before .if4 .taken) (c .before .splice2 .ensures)
+returns-4 c = merged-other (c .before .before .before .before .before .before .before .before .before .before .before .before .before .before .if1 .left) (c .before .before .before .before .before .before .before .before .before .before .before .before .before .if2 .left) (omega arith) (towers-told _ _ _ _ (c .before .before .before .before .before .before .before .before .before .height-in .ensures) (c .before .before .before .before .before .before .before .height-in2 .ensures) (c .before .before .before .before .before .before .above .ensures)) (c .before .before .before .before .before .if3 .left) (towers-told _ _ _ _ (c .before .before .before .before .before .before .before .height-in2 .ensures) (c .before .before .before .before .before .before .before .before .before .height-in .ensures) (c .before .before .before .before .above2 .ensures)) (c .before .before .before .if4 .taken) (c .before .splice2 .ensures)
 
-make-node-requires : tie.Need-make-node-requires
-make-node-requires c κs = search needs
+taller-requires : tie.Need-taller-requires
+taller-requires c κs = (omega (arith, height-read _ _ _ (c .before .before .before .before .before .before .before .height-in .ensures)), omega (arith, height-read _ _ _ (c .before .before .before .before .before .height-in2 .ensures)))
+
+set-node-requires : tie.Need-set-node-requires
+set-node-requires c κs = search needs
 
 same-length-3 : tie.Need-same-length-3
 same-length-3 c = search needs
 
 returns-5 : tie.Need-returns-5
-returns-5 c = merged-level (c .before .before .before .before .before .before .before .before .before .before .before .before .if1 .left) (c .before .before .before .before .before .before .before .before .before .before .before .if2 .left) (towers-told _ _ _ _ (c .before .before .before .before .before .before .before .before .before .height .ensures) (c .before .before .before .before .before .before .before .height2 .ensures) (c .before .before .before .before .before .before .above .ensures)) (c .before .before .before .before .before .if3 .left) (towers-told _ _ _ _ (c .before .before .before .before .before .before .before .height2 .ensures) (c .before .before .before .before .before .before .before .before .before .height .ensures) (c .before .before .before .before .above2 .ensures)) (c .before .before .before .if4 .left) (c .before .make-node .ensures)
+returns-5 c = merged-level (c .before .before .before .before .before .before .before .before .before .before .before .before .before .before .before .if1 .left) (c .before .before .before .before .before .before .before .before .before .before .before .before .before .before .if2 .left) (towers-told _ _ _ _ (c .before .before .before .before .before .before .before .before .before .before .height-in .ensures) (c .before .before .before .before .before .before .before .before .height-in2 .ensures) (c .before .before .before .before .before .before .before .above .ensures)) (c .before .before .before .before .before .before .if3 .left) (towers-told _ _ _ _ (c .before .before .before .before .before .before .before .before .height-in2 .ensures) (c .before .before .before .before .before .before .before .before .before .before .height-in .ensures) (c .before .before .before .before .before .above2 .ensures)) (c .before .before .before .before .if4 .left) (raised (c .before .before .before .before .before .before .before .before .before .before .height-in .ensures) (c .before .before .before .before .before .before .before .before .height-in2 .ensures) (c .before .before .taller .ensures) (c .before .set-node .ensures))
 
 pub join-spec : {M : Type 1} → statement M
 join-spec =
@@ -58,8 +65,9 @@ join-spec =
     (tie.spec
     returns
     returns-2
-    height-requires
-    height-requires-2
+    capacity-requires
+    height-in-requires
+    height-in-requires-2
     above-requires
     splice-requires
     same-length
@@ -68,6 +76,7 @@ join-spec =
     splice-requires-2
     same-length-2
     returns-4
-    make-node-requires
+    taller-requires
+    set-node-requires
     same-length-3
     returns-5)

@@ -3,7 +3,7 @@ use Prim.Native.Nat.{_+_}
 use Rattle.table.specs.Rep.{height-read}
 use Rattle.update.specs.Raising.{raised}
 use Rattle.update.specs.RaisingSearch.{met-in}
-use mathlib.Core.Path.{ap₂}
+use mathlib.Core.Path.{_∙_, ap₂}
 use mir.Facts.{toZ-ofZ}
 use mir.Syntax.{w64}
 use mir.Val.{SFits}
@@ -51,17 +51,17 @@ put-link-requires c κs = search needs
 put-link-requires-2 : tie.Need-put-link-requires-2
 put-link-requires-2 c κs = search needs
 
-cat-requires : tie.Need-cat-requires
-cat-requires c κs = search needs
+cat-at-requires : tie.Need-cat-at-requires
+cat-at-requires c κs = search needs
 
 same-length : tie.Need-same-length
-same-length c = search needs
+same-length c = c .before .cat-at .kept .0 ∙ c .before .before .before .before .put-link2 .kept .0 ∙ c .before .before .before .before .before .before .before .put-link .kept .0 ∙ c .before .before .before .before .before .before .before .before .before .before .make-node .kept .0 ∙ c .before .before .before .before .before .before .before .before .before .before .before .before .before .set-rest2 .kept .0 ∙ c .before .before .before .before .before .before .before .before .before .before .before .before .before .before .before .before .set-rest .kept .0 ∙ c .before .before .before .before .before .before .before .before .before .before .before .before .before .before .before .before .before .before .before .cut2 .kept .0 ∙ c .before .before .before .before .before .before .before .before .before .before .before .before .before .before .before .before .before .before .before .before .before .before .before .before .cut .kept .0
 
 returns : tie.Need-returns
 returns c =
     let f : SFits w64 (c .before .before .before .before .before .before .before .before .before .before .before .before .before .before .before .before .before .before .before .before .before .before .before .before .before .before .get .result) = record { sfits = c .before .before .before .before .before .before .before .before .before .before .before .before .before .before .before .before .before .before .before .before .before .before .before .before .before .before .get .ok } in
     let g : SFits w64 (c .before .before .before .before .before .before .before .before .before .before .before .before .before .before .before .before .before .before .before .before .before .get2 .result) = record { sfits = c .before .before .before .before .before .before .before .before .before .before .before .before .before .before .before .before .before .before .before .before .before .get2 .ok } in
-    raised (met-in (c .before .before .before .before .before .before .before .before .before .before .before .before .before .before .before .before .before .before .before .before .before .before .before .before .before .before .before .before .before .before .before .before .meet .ensures)) (ap₂ _+_ (c .before .before .before .before .before .before .before .before .before .before .before .before .before .before .before .before .before .before .before .before .before .before .before .before .before .before .before .before .before .before .height .ensures) (c .before .before .before .before .before .before .before .before .before .before .before .before .before .before .before .before .before .before .before .before .before .before .before .before .before .before .before .before .height2 .ensures)) (c .before .before .before .before .before .before .before .before .before .before .before .before .before .before .before .before .before .before .before .before .before .before .before .before .before .before .get .ensures) (simp (toZ-ofZ, f) at (c .before .before .before .before .before .before .before .before .before .before .before .before .before .before .before .before .before .before .before .before .before .before .before .before .cut .ensures)) (c .before .before .before .before .before .before .before .before .before .before .before .before .before .before .before .before .before .before .before .before .before .get2 .ensures) (simp (toZ-ofZ, g) at (c .before .before .before .before .before .before .before .before .before .before .before .before .before .before .before .before .before .before .before .cut2 .ensures)) (c .before .before .before .before .before .before .before .before .before .before .before .before .before .before .before .before .set-rest .ensures) (c .before .before .before .before .before .before .before .before .before .before .before .before .before .set-rest2 .ensures) (c .before .before .before .before .before .before .before .before .before .before .make-node .ensures) (c .before .before .before .before .before .before .before .put-link .ensures) (c .before .before .before .before .put-link2 .ensures) (c .before .cat .ensures)
+    raised (met-in (c .before .before .before .before .before .before .before .before .before .before .before .before .before .before .before .before .before .before .before .before .before .before .before .before .before .before .before .before .before .before .before .before .meet .ensures)) (ap₂ _+_ (c .before .before .before .before .before .before .before .before .before .before .before .before .before .before .before .before .before .before .before .before .before .before .before .before .before .before .before .before .before .before .height .ensures) (c .before .before .before .before .before .before .before .before .before .before .before .before .before .before .before .before .before .before .before .before .before .before .before .before .before .before .before .before .height2 .ensures)) (c .before .before .before .before .before .before .before .before .before .before .before .before .before .before .before .before .before .before .before .before .before .before .before .before .before .before .get .ensures) (simp (toZ-ofZ, f) at (c .before .before .before .before .before .before .before .before .before .before .before .before .before .before .before .before .before .before .before .before .before .before .before .before .cut .ensures)) (c .before .before .before .before .before .before .before .before .before .before .before .before .before .before .before .before .before .before .before .before .before .get2 .ensures) (simp (toZ-ofZ, g) at (c .before .before .before .before .before .before .before .before .before .before .before .before .before .before .before .before .before .before .before .cut2 .ensures)) (c .before .before .before .before .before .before .before .before .before .before .before .before .before .before .before .before .set-rest .ensures) (c .before .before .before .before .before .before .before .before .before .before .before .before .before .set-rest2 .ensures) (c .before .before .before .before .before .before .before .before .before .before .make-node .ensures) (c .before .before .before .before .before .before .before .put-link .ensures) (c .before .before .before .before .put-link2 .ensures) (c .before .cat-at .ensures)
 
 pub raise-spec : {M : Type 1} → statement M
 raise-spec =
@@ -80,6 +80,6 @@ raise-spec =
     make-node-requires
     put-link-requires
     put-link-requires-2
-    cat-requires
+    cat-at-requires
     same-length
     returns)

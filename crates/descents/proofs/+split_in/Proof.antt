@@ -1,0 +1,489 @@
+-- `descents::split_in` meets its contract, by recursion on the limit.
+use borrow.Author.Needs.{needs}
+use native.Mathlib.Omega.{arith}
+use mathlib.Core.Bool.{true, false}
+use mir.Facts.{toZ-ofZ}
+use Rattle.descents.specs.Cuts.{halved-leaf, halved-over, whole-right, whole-left, halved-right, halved-left}
+use Prim.Native.Nat.{ℕ, _<_}
+use borrow.Fn.Kinds.{In}
+use borrow.Fn.PlainCycle.{Measures, is, falls, and}
+use Rattle.descents.proofs.split_in.Reads as split-in
+use Rattle.descents.proofs.split_in.Kinds as split-in-kinds
+use Rattle.descents.proofs.+split_in.Lts-split_in as split-in-lts
+use Rattle.shape.proofs.join.Reads as join-reads
+use Rattle.table.proofs.at_least_in.Reads as at-least-in-reads
+use Rattle.table.proofs.child.Reads as child-reads
+use Rattle.table.proofs.child_in.Reads as child-in-reads
+use Rattle.table.proofs.inner_slot.Reads as inner-slot-reads
+use Rattle.descents.proofs.+split_in.{statement}
+use Rattle.descents.proofs.+split_in.Tie.{close}
+
+abbrev μ-split-in : Measures 1 split-in-kinds.ps ℕ
+μ-split-in κs a = a .1 .1 .1 .1 .1 .1 .0
+
+abbrev split-in-at : ℕ → In 1 split-in-kinds.ps
+split-in-at t = and 1 split-in-kinds.ps (is 1 split-in-kinds.ps μ-split-in t) split-in.Pre
+
+abbrev split-in-below : ℕ → In 1 split-in-kinds.ps
+split-in-below t =
+    and 1 split-in-kinds.ps (falls 1 split-in-kinds.ps _<_ μ-split-in t) split-in.Pre
+
+split-in-at-least-in-requires : (t : ℕ) → split-in-lts.Need-at-least-in-requires (
+  at-least-in-reads.Asked,
+  at-least-in-reads.Learnt,
+  inner-slot-reads.Asked,
+  inner-slot-reads.Learnt,
+  child-in-reads.Asked,
+  child-in-reads.Learnt,
+  split-in-below t,
+  split-in.Post,
+  child-reads.Asked,
+  child-reads.Learnt,
+  join-reads.Asked,
+  join-reads.Learnt,
+) (split-in-at t) split-in.Post
+split-in-at-least-in-requires t c κs = c .before .before .pre .1
+
+split-in-same-length : (t : ℕ) → split-in-lts.Need-same-length (
+  at-least-in-reads.Asked,
+  at-least-in-reads.Learnt,
+  inner-slot-reads.Asked,
+  inner-slot-reads.Learnt,
+  child-in-reads.Asked,
+  child-in-reads.Learnt,
+  split-in-below t,
+  split-in.Post,
+  child-reads.Asked,
+  child-reads.Learnt,
+  join-reads.Asked,
+  join-reads.Learnt,
+) (split-in-at t) split-in.Post
+split-in-same-length t c = search needs
+
+split-in-returns : (t : ℕ) → split-in-lts.Need-returns (
+  at-least-in-reads.Asked,
+  at-least-in-reads.Learnt,
+  inner-slot-reads.Asked,
+  inner-slot-reads.Learnt,
+  child-in-reads.Asked,
+  child-in-reads.Learnt,
+  split-in-below t,
+  split-in.Post,
+  child-reads.Asked,
+  child-reads.Learnt,
+  join-reads.Asked,
+  join-reads.Learnt,
+) (split-in-at t) split-in.Post
+split-in-returns t c = halved-leaf _ true (c .before .before .before .if1 .taken) (simp (toZ-ofZ, c .before .before .before .before .fits .least) at (c .before .at-least-in .ensures)) (c .if2 .taken)
+
+split-in-same-length-2 : (t : ℕ) → split-in-lts.Need-same-length-2 (
+  at-least-in-reads.Asked,
+  at-least-in-reads.Learnt,
+  inner-slot-reads.Asked,
+  inner-slot-reads.Learnt,
+  child-in-reads.Asked,
+  child-in-reads.Learnt,
+  split-in-below t,
+  split-in.Post,
+  child-reads.Asked,
+  child-reads.Learnt,
+  join-reads.Asked,
+  join-reads.Learnt,
+) (split-in-at t) split-in.Post
+split-in-same-length-2 t c = search needs
+
+split-in-returns-2 : (t : ℕ) → split-in-lts.Need-returns-2 (
+  at-least-in-reads.Asked,
+  at-least-in-reads.Learnt,
+  inner-slot-reads.Asked,
+  inner-slot-reads.Learnt,
+  child-in-reads.Asked,
+  child-in-reads.Learnt,
+  split-in-below t,
+  split-in.Post,
+  child-reads.Asked,
+  child-reads.Learnt,
+  join-reads.Asked,
+  join-reads.Learnt,
+) (split-in-at t) split-in.Post
+split-in-returns-2 t c = halved-leaf _ false (c .before .before .before .if1 .taken) (simp (toZ-ofZ, c .before .before .before .before .fits .least) at (c .before .at-least-in .ensures)) (c .if2 .left)
+
+split-in-returns-3 : (t : ℕ) → split-in-lts.Need-returns-3 (
+  at-least-in-reads.Asked,
+  at-least-in-reads.Learnt,
+  inner-slot-reads.Asked,
+  inner-slot-reads.Learnt,
+  child-in-reads.Asked,
+  child-in-reads.Learnt,
+  split-in-below t,
+  split-in.Post,
+  child-reads.Asked,
+  child-reads.Learnt,
+  join-reads.Asked,
+  join-reads.Learnt,
+) (split-in-at t) split-in.Post
+split-in-returns-3 t c = halved-over _ (c .before .if1 .left) (c .if3 .taken)
+
+split-in-inner-slot-requires : (t : ℕ) → split-in-lts.Need-inner-slot-requires (
+  at-least-in-reads.Asked,
+  at-least-in-reads.Learnt,
+  inner-slot-reads.Asked,
+  inner-slot-reads.Learnt,
+  child-in-reads.Asked,
+  child-in-reads.Learnt,
+  split-in-below t,
+  split-in.Post,
+  child-reads.Asked,
+  child-reads.Learnt,
+  join-reads.Asked,
+  join-reads.Learnt,
+) (split-in-at t) split-in.Post
+split-in-inner-slot-requires t c κs = search needs
+
+split-in-at-least-in-requires-2 : (t : ℕ) → split-in-lts.Need-at-least-in-requires-2 (
+  at-least-in-reads.Asked,
+  at-least-in-reads.Learnt,
+  inner-slot-reads.Asked,
+  inner-slot-reads.Learnt,
+  child-in-reads.Asked,
+  child-in-reads.Learnt,
+  split-in-below t,
+  split-in.Post,
+  child-reads.Asked,
+  child-reads.Learnt,
+  join-reads.Asked,
+  join-reads.Learnt,
+) (split-in-at t) split-in.Post
+split-in-at-least-in-requires-2 t c κs = c .before .before .before .before .pre .1
+
+split-in-child-in-requires : (t : ℕ) → split-in-lts.Need-child-in-requires (
+  at-least-in-reads.Asked,
+  at-least-in-reads.Learnt,
+  inner-slot-reads.Asked,
+  inner-slot-reads.Learnt,
+  child-in-reads.Asked,
+  child-in-reads.Learnt,
+  split-in-below t,
+  split-in.Post,
+  child-reads.Asked,
+  child-reads.Learnt,
+  join-reads.Asked,
+  join-reads.Learnt,
+) (split-in-at t) split-in.Post
+split-in-child-in-requires t c κs = c .before .before .before .before .before .before .before .pre .1
+
+split-in-sub-split-in : (t : ℕ) → split-in-lts.Need-sub-split-in (
+  at-least-in-reads.Asked,
+  at-least-in-reads.Learnt,
+  inner-slot-reads.Asked,
+  inner-slot-reads.Learnt,
+  child-in-reads.Asked,
+  child-in-reads.Learnt,
+  split-in-below t,
+  split-in.Post,
+  child-reads.Asked,
+  child-reads.Learnt,
+  join-reads.Asked,
+  join-reads.Learnt,
+) (split-in-at t) split-in.Post
+split-in-sub-split-in t c = omega arith
+
+split-in-split-in-requires : (t : ℕ) → split-in-lts.Need-split-in-requires (
+  at-least-in-reads.Asked,
+  at-least-in-reads.Learnt,
+  inner-slot-reads.Asked,
+  inner-slot-reads.Learnt,
+  child-in-reads.Asked,
+  child-in-reads.Learnt,
+  split-in-below t,
+  split-in.Post,
+  child-reads.Asked,
+  child-reads.Learnt,
+  join-reads.Asked,
+  join-reads.Learnt,
+) (split-in-at t) split-in.Post
+split-in-split-in-requires t c κs = (omega (arith, c .before .before .before .before .before .before .before .before .before .pre .0), c .before .before .before .before .before .before .before .before .before .pre .1)
+
+split-in-same-length-3 : (t : ℕ) → split-in-lts.Need-same-length-3 (
+  at-least-in-reads.Asked,
+  at-least-in-reads.Learnt,
+  inner-slot-reads.Asked,
+  inner-slot-reads.Learnt,
+  child-in-reads.Asked,
+  child-in-reads.Learnt,
+  split-in-below t,
+  split-in.Post,
+  child-reads.Asked,
+  child-reads.Learnt,
+  join-reads.Asked,
+  join-reads.Learnt,
+) (split-in-at t) split-in.Post
+split-in-same-length-3 t c = search needs
+
+split-in-returns-4 : (t : ℕ) → split-in-lts.Need-returns-4 (
+  at-least-in-reads.Asked,
+  at-least-in-reads.Learnt,
+  inner-slot-reads.Asked,
+  inner-slot-reads.Learnt,
+  child-in-reads.Asked,
+  child-in-reads.Learnt,
+  split-in-below t,
+  split-in.Post,
+  child-reads.Asked,
+  child-reads.Learnt,
+  join-reads.Asked,
+  join-reads.Learnt,
+) (split-in-at t) split-in.Post
+split-in-returns-4 t c = whole-right _ (c .before .before .before .before .before .before .before .before .before .before .before .if1 .left) (c .before .before .before .before .before .before .before .before .before .inner-slot .ensures) (simp (toZ-ofZ, c .before .before .before .before .before .before .before .before .before .before .before .before .fits .least) at (c .before .before .before .before .before .before .before .at-least-in2 .ensures)) (c .before .before .before .before .before .before .if4 .taken) (c .before .before .before .before .child-in .ensures) (simp (toZ-ofZ, c .before .before .before .before .before .before .before .before .before .before .before .before .fits .least) at (c .before .before .split-in .ensures)) (c .if5 .taken)
+
+split-in-child-requires : (t : ℕ) → split-in-lts.Need-child-requires (
+  at-least-in-reads.Asked,
+  at-least-in-reads.Learnt,
+  inner-slot-reads.Asked,
+  inner-slot-reads.Learnt,
+  child-in-reads.Asked,
+  child-in-reads.Learnt,
+  split-in-below t,
+  split-in.Post,
+  child-reads.Asked,
+  child-reads.Learnt,
+  join-reads.Asked,
+  join-reads.Learnt,
+) (split-in-at t) split-in.Post
+split-in-child-requires t c κs = search needs
+
+split-in-join-requires : (t : ℕ) → split-in-lts.Need-join-requires (
+  at-least-in-reads.Asked,
+  at-least-in-reads.Learnt,
+  inner-slot-reads.Asked,
+  inner-slot-reads.Learnt,
+  child-in-reads.Asked,
+  child-in-reads.Learnt,
+  split-in-below t,
+  split-in.Post,
+  child-reads.Asked,
+  child-reads.Learnt,
+  join-reads.Asked,
+  join-reads.Learnt,
+) (split-in-at t) split-in.Post
+split-in-join-requires t c κs = search needs
+
+split-in-same-length-4 : (t : ℕ) → split-in-lts.Need-same-length-4 (
+  at-least-in-reads.Asked,
+  at-least-in-reads.Learnt,
+  inner-slot-reads.Asked,
+  inner-slot-reads.Learnt,
+  child-in-reads.Asked,
+  child-in-reads.Learnt,
+  split-in-below t,
+  split-in.Post,
+  child-reads.Asked,
+  child-reads.Learnt,
+  join-reads.Asked,
+  join-reads.Learnt,
+) (split-in-at t) split-in.Post
+split-in-same-length-4 t c = search needs
+
+split-in-returns-5 : (t : ℕ) → split-in-lts.Need-returns-5 (
+  at-least-in-reads.Asked,
+  at-least-in-reads.Learnt,
+  inner-slot-reads.Asked,
+  inner-slot-reads.Learnt,
+  child-in-reads.Asked,
+  child-in-reads.Learnt,
+  split-in-below t,
+  split-in.Post,
+  child-reads.Asked,
+  child-reads.Learnt,
+  join-reads.Asked,
+  join-reads.Learnt,
+) (split-in-at t) split-in.Post
+split-in-returns-5 t c = halved-right _ (c .before .before .before .before .before .before .before .before .before .before .before .before .before .before .before .before .if1 .left) (c .before .before .before .before .before .before .before .before .before .before .before .before .before .before .inner-slot .ensures) (simp (toZ-ofZ, c .before .before .before .before .before .before .before .before .before .before .before .before .before .before .before .before .before .fits .least) at (c .before .before .before .before .before .before .before .before .before .before .before .before .at-least-in2 .ensures)) (c .before .before .before .before .before .before .before .before .before .before .before .if4 .taken) (c .before .before .before .before .before .before .before .before .before .child-in .ensures) (simp (toZ-ofZ, c .before .before .before .before .before .before .before .before .before .before .before .before .before .before .before .before .before .fits .least) at (c .before .before .before .before .before .before .before .split-in .ensures)) (c .before .before .before .before .before .if5 .left) (c .before .before .before .child .ensures) (c .before .join .ensures)
+
+split-in-child-in-requires-2 : (t : ℕ) → split-in-lts.Need-child-in-requires-2 (
+  at-least-in-reads.Asked,
+  at-least-in-reads.Learnt,
+  inner-slot-reads.Asked,
+  inner-slot-reads.Learnt,
+  child-in-reads.Asked,
+  child-in-reads.Learnt,
+  split-in-below t,
+  split-in.Post,
+  child-reads.Asked,
+  child-reads.Learnt,
+  join-reads.Asked,
+  join-reads.Learnt,
+) (split-in-at t) split-in.Post
+split-in-child-in-requires-2 t c κs = c .before .before .before .before .before .before .before .pre .1
+
+split-in-child-in-requires-3 : (t : ℕ) → split-in-lts.Need-child-in-requires-3 (
+  at-least-in-reads.Asked,
+  at-least-in-reads.Learnt,
+  inner-slot-reads.Asked,
+  inner-slot-reads.Learnt,
+  child-in-reads.Asked,
+  child-in-reads.Learnt,
+  split-in-below t,
+  split-in.Post,
+  child-reads.Asked,
+  child-reads.Learnt,
+  join-reads.Asked,
+  join-reads.Learnt,
+) (split-in-at t) split-in.Post
+split-in-child-in-requires-3 t c κs = c .before .before .before .before .before .before .before .before .before .pre .1
+
+split-in-sub-split-in-2 : (t : ℕ) → split-in-lts.Need-sub-split-in-2 (
+  at-least-in-reads.Asked,
+  at-least-in-reads.Learnt,
+  inner-slot-reads.Asked,
+  inner-slot-reads.Learnt,
+  child-in-reads.Asked,
+  child-in-reads.Learnt,
+  split-in-below t,
+  split-in.Post,
+  child-reads.Asked,
+  child-reads.Learnt,
+  join-reads.Asked,
+  join-reads.Learnt,
+) (split-in-at t) split-in.Post
+split-in-sub-split-in-2 t c = omega arith
+
+split-in-split-in-requires-2 : (t : ℕ) → split-in-lts.Need-split-in-requires-2 (
+  at-least-in-reads.Asked,
+  at-least-in-reads.Learnt,
+  inner-slot-reads.Asked,
+  inner-slot-reads.Learnt,
+  child-in-reads.Asked,
+  child-in-reads.Learnt,
+  split-in-below t,
+  split-in.Post,
+  child-reads.Asked,
+  child-reads.Learnt,
+  join-reads.Asked,
+  join-reads.Learnt,
+) (split-in-at t) split-in.Post
+split-in-split-in-requires-2 t c κs = (omega (arith, c .before .before .before .before .before .before .before .before .before .before .before .pre .0), c .before .before .before .before .before .before .before .before .before .before .before .pre .1)
+
+split-in-same-length-5 : (t : ℕ) → split-in-lts.Need-same-length-5 (
+  at-least-in-reads.Asked,
+  at-least-in-reads.Learnt,
+  inner-slot-reads.Asked,
+  inner-slot-reads.Learnt,
+  child-in-reads.Asked,
+  child-in-reads.Learnt,
+  split-in-below t,
+  split-in.Post,
+  child-reads.Asked,
+  child-reads.Learnt,
+  join-reads.Asked,
+  join-reads.Learnt,
+) (split-in-at t) split-in.Post
+split-in-same-length-5 t c = search needs
+
+split-in-returns-6 : (t : ℕ) → split-in-lts.Need-returns-6 (
+  at-least-in-reads.Asked,
+  at-least-in-reads.Learnt,
+  inner-slot-reads.Asked,
+  inner-slot-reads.Learnt,
+  child-in-reads.Asked,
+  child-in-reads.Learnt,
+  split-in-below t,
+  split-in.Post,
+  child-reads.Asked,
+  child-reads.Learnt,
+  join-reads.Asked,
+  join-reads.Learnt,
+) (split-in-at t) split-in.Post
+split-in-returns-6 t c = whole-left _ (c .before .before .before .before .before .before .before .before .before .before .before .before .before .if1 .left) (c .before .before .before .before .before .before .before .before .before .before .before .inner-slot .ensures) (simp (toZ-ofZ, c .before .before .before .before .before .before .before .before .before .before .before .before .before .before .fits .least) at (c .before .before .before .before .before .before .before .before .before .at-least-in2 .ensures)) (c .before .before .before .before .before .before .before .before .if4 .left) (c .before .before .before .before .before .before .child-in2 .ensures) (simp (toZ-ofZ, c .before .before .before .before .before .before .before .before .before .before .before .before .before .before .fits .least) at (c .before .before .split-in2 .ensures)) (c .if6 .taken)
+
+split-in-join-requires-2 : (t : ℕ) → split-in-lts.Need-join-requires-2 (
+  at-least-in-reads.Asked,
+  at-least-in-reads.Learnt,
+  inner-slot-reads.Asked,
+  inner-slot-reads.Learnt,
+  child-in-reads.Asked,
+  child-in-reads.Learnt,
+  split-in-below t,
+  split-in.Post,
+  child-reads.Asked,
+  child-reads.Learnt,
+  join-reads.Asked,
+  join-reads.Learnt,
+) (split-in-at t) split-in.Post
+split-in-join-requires-2 t c κs = search needs
+
+split-in-same-length-6 : (t : ℕ) → split-in-lts.Need-same-length-6 (
+  at-least-in-reads.Asked,
+  at-least-in-reads.Learnt,
+  inner-slot-reads.Asked,
+  inner-slot-reads.Learnt,
+  child-in-reads.Asked,
+  child-in-reads.Learnt,
+  split-in-below t,
+  split-in.Post,
+  child-reads.Asked,
+  child-reads.Learnt,
+  join-reads.Asked,
+  join-reads.Learnt,
+) (split-in-at t) split-in.Post
+split-in-same-length-6 t c = search needs
+
+split-in-returns-7 : (t : ℕ) → split-in-lts.Need-returns-7 (
+  at-least-in-reads.Asked,
+  at-least-in-reads.Learnt,
+  inner-slot-reads.Asked,
+  inner-slot-reads.Learnt,
+  child-in-reads.Asked,
+  child-in-reads.Learnt,
+  split-in-below t,
+  split-in.Post,
+  child-reads.Asked,
+  child-reads.Learnt,
+  join-reads.Asked,
+  join-reads.Learnt,
+) (split-in-at t) split-in.Post
+split-in-returns-7 t c = halved-left _ (c .before .before .before .before .before .before .before .before .before .before .before .before .before .before .before .before .if1 .left) (c .before .before .before .before .before .before .before .before .before .before .before .before .before .before .inner-slot .ensures) (simp (toZ-ofZ, c .before .before .before .before .before .before .before .before .before .before .before .before .before .before .before .before .before .fits .least) at (c .before .before .before .before .before .before .before .before .before .before .before .before .at-least-in2 .ensures)) (c .before .before .before .before .before .before .before .before .before .before .before .if4 .left) (c .before .before .before .before .before .before .before .before .before .child-in2 .ensures) (c .before .before .before .before .before .before .before .child-in3 .ensures) (simp (toZ-ofZ, c .before .before .before .before .before .before .before .before .before .before .before .before .before .before .before .before .before .fits .least) at (c .before .before .before .before .before .split-in2 .ensures)) (c .before .before .before .if6 .left) (c .before .join2 .ensures)
+
+pub +split-in-spec : {M : Type 1} → statement M
++split-in-spec = close μ-split-in λ t. split-in-lts.spec (
+  at-least-in-reads.Asked,
+  at-least-in-reads.Learnt,
+  inner-slot-reads.Asked,
+  inner-slot-reads.Learnt,
+  child-in-reads.Asked,
+  child-in-reads.Learnt,
+  split-in-below t,
+  split-in.Post,
+  child-reads.Asked,
+  child-reads.Learnt,
+  join-reads.Asked,
+  join-reads.Learnt,
+)
+    (split-in-at t)
+    split-in.Post
+    (split-in-at-least-in-requires t)
+    (split-in-same-length t)
+    (split-in-returns t)
+    (split-in-same-length-2 t)
+    (split-in-returns-2 t)
+    (split-in-returns-3 t)
+    (split-in-inner-slot-requires t)
+    (split-in-at-least-in-requires-2 t)
+    (split-in-child-in-requires t)
+    (split-in-sub-split-in t)
+    (split-in-split-in-requires t)
+    (split-in-same-length-3 t)
+    (split-in-returns-4 t)
+    (split-in-child-requires t)
+    (split-in-join-requires t)
+    (split-in-same-length-4 t)
+    (split-in-returns-5 t)
+    (split-in-child-in-requires-2 t)
+    (split-in-child-in-requires-3 t)
+    (split-in-sub-split-in-2 t)
+    (split-in-split-in-requires-2 t)
+    (split-in-same-length-5 t)
+    (split-in-returns-6 t)
+    (split-in-join-requires-2 t)
+    (split-in-same-length-6 t)
+    (split-in-returns-7 t)
