@@ -11,7 +11,7 @@ use Rattle.dynamic.specs.Valid.{bookLines}
 use Rattle.table.specs.Words.{Words, word, upTo, upTo-in}
 use Rattle.table.specs.Layout.{cap, cap-most}
 use Rattle.table.specs.Items.{Item, Apart}
-use Rattle.update.specs.Form.{OffersIn, Book}
+use Rattle.form.specs.Form.{OffersIn, Book}
 use Rattle.matching.specs.Stretches.{span}
 use Rattle.matching.specs.Tests.{Decides, decides-no}
 use Rattle.matching.specs.Laid.{itemsAt, AllPlaced}

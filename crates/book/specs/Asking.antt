@@ -27,9 +27,9 @@ use Rattle.table.specs.Items.{Item}
 use Rattle.table.specs.Rep.{Rep}
 use Rattle.table.specs.Parts.{low}
 use Rattle.pieces.specs.Pieces.{items, item-laws, Standing, partRef}
-use Rattle.update.specs.Stored.{HeldIn}
-use Rattle.update.specs.Form.{Book, OffersIn, plainOffers}
-use Rattle.update.specs.Frames.{whole-standing}
+use Rattle.form.specs.Stored.{HeldIn}
+use Rattle.form.specs.Form.{Book, OffersIn, plainOffers}
+use Rattle.form.specs.Frames.{whole-standing}
 use Rattle.query.specs.Lookup.{lookup, lookup-leaf, LeafAt, leaf-mem}
 use Rattle.query.specs.Pieces.{Pieces, price-kept}
 use Rattle.query.specs.Readings.{priceIn}

@@ -16,7 +16,7 @@ use Rattle.table.specs.Free.{firstFree, taken, given}
 use Rattle.table.specs.Items.{Item}
 use Rattle.table.specs.Rep.{Within, within-cap}
 use Rattle.update.specs.Steps.{RemovedIn}
-use Rattle.update.specs.Form.{Book, plainOffers}
+use Rattle.form.specs.Form.{Book, plainOffers}
 use Rattle.numbers.specs.Numbers.{Added, Dropped}
 use Rattle.book.specs.Live.{live-slots}
 use Rattle.book.specs.Agree.{agree-header, header-kept}

@@ -16,7 +16,7 @@ use Rattle.dynamic.specs.Work.{Work, bookInners}
 use Rattle.dynamic.specs.Floors.{floor-old}
 use Rattle.table.specs.Items.{Item}
 use Rattle.pieces.specs.Pieces.{items}
-use Rattle.update.specs.Form.{Book, plainOffers}
+use Rattle.form.specs.Form.{Book, plainOffers}
 use Rattle.book.specs.declared.Update.{Update}
 use Rattle.book.specs.declared.Update.the-variants.{Done, Declined as UpdateDeclined}
 use Rattle.book.specs.Promises.{partOf, plainOf, updateAnswer, Counts, Follows}

@@ -21,7 +21,7 @@ use Rattle.table.specs.Layout.{cap, cap-most}
 use Rattle.table.specs.Items.{Item, Slots}
 use Rattle.table.specs.Threads.{Holds}
 use Rattle.pieces.specs.Pieces.{items}
-use Rattle.update.specs.Form.{Book, OffersIn, numberOf}
+use Rattle.form.specs.Form.{Book, OffersIn, numberOf}
 use Rattle.book.specs.Promises.{plainOf}
 
 abbrev pub offerOf : Item → Offer

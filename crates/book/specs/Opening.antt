@@ -14,7 +14,7 @@ use Rattle.lists.specs.Members.{pairs-cons}
 use Rattle.table.specs.Words.{Words, word, wset, wset-length, wset-same, wset-other, upTo, upTo-in}
 use Rattle.table.specs.Layout.{cap, fitting, cell, cset, Valid, cset-same, cset-other}
 use Rattle.table.specs.Rep.{Within, within-cap, within-refl, within-trans, within-cset}
-use Rattle.update.specs.Form.{Book, FreeChain, free-none, free-more, head0}
+use Rattle.form.specs.Form.{Book, FreeChain, free-none, free-more, head0}
 use Rattle.book.specs.Agree.{header-kept}
 
 -- ---- the header

@@ -19,7 +19,7 @@ use Rattle.plain.specs.Sound.{Clear}
 use Rattle.table.specs.Words.{Words, word, wset, upTo, wset-length, wset-other}
 use Rattle.table.specs.Layout.{cap, cset, beyond-outside}
 use Rattle.table.specs.Rep.{Within}
-use Rattle.update.specs.Form.{Book}
+use Rattle.form.specs.Form.{Book}
 use Rattle.book.specs.declared.Opening.{Opening}
 use Rattle.book.specs.declared.Opening.the-variants.{Opened, Declined}
 use Rattle.book.specs.Promises.{partOf, openingNumber, plainOpening, Opens, OnlyPart}

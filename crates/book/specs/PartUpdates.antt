@@ -20,7 +20,7 @@ use Rattle.table.specs.Items.{Item}
 use Rattle.table.specs.Rep.{Within, within-cap}
 use Rattle.descents.specs.Finds.{Found}
 use Rattle.update.specs.Steps.{RemovedIn}
-use Rattle.update.specs.Form.{Book, plainOffers}
+use Rattle.form.specs.Form.{Book, plainOffers}
 use Rattle.numbers.specs.Numbers.{FoundNumber, Added, Dropped}
 use Rattle.book.specs.Promises.{plainOf}
 use Rattle.book.specs.Sought.{number-sought, rate-sought, count-read}

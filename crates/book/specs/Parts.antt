@@ -22,7 +22,7 @@ use Rattle.dynamic.specs.OfferTree.{Held}
 use Rattle.table.specs.Words.{Words, word, upTo, upTo-in}
 use Rattle.table.specs.Layout.{cap, fitting}
 use Rattle.table.specs.Items.{Item}
-use Rattle.update.specs.Form.{Book}
+use Rattle.form.specs.Form.{Book}
 use Rattle.book.specs.Promises.{partOf, noBookTrial, OnlyPart}
 use Rattle.book.specs.Plainly.{cap-book, book-there}
 

@@ -26,7 +26,7 @@ use Rattle.table.specs.Words.{Words, word, upTo}
 use Rattle.table.specs.Layout.{cap, cap-most}
 use Rattle.table.specs.Items.{Item}
 use Rattle.pieces.specs.Pieces.{rateOf}
-use Rattle.update.specs.Form.{Book, numberOf, plainOffers}
+use Rattle.form.specs.Form.{Book, numberOf, plainOffers}
 use Rattle.book.specs.Promises.{partOf, plainOf, tableTrials}
 use Rattle.book.specs.Live.{offerOf, live-slots}
 use Rattle.book.specs.Sought.{Sought, sought-item, sought-none, keyed-any, keyed-none}

@@ -26,7 +26,7 @@ use Rattle.table.specs.Items.{Item, In, at, Slots}
 use Rattle.table.specs.Rep.{within-cap, Only}
 use Rattle.table.specs.Threads.{Held as HeldAt, Holds}
 use Rattle.pieces.specs.Pieces.{items, item-laws, rateOf, partRef}
-use Rattle.update.specs.Form.{Book, OffersIn, NumbersIn, numberOf, head0, plainOffers}
+use Rattle.form.specs.Form.{Book, OffersIn, NumbersIn, numberOf, head0, plainOffers}
 use Rattle.numbers.specs.Numbers.{NumbersAt, Added}
 use Rattle.book.specs.Live.{offerOf, live-slots, live-whole}
 use Rattle.book.specs.Sought.{Sought, sought-none, part-ref, numbers-at, offers-read, envelope-read, capacity-most, live-most}

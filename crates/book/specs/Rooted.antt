@@ -14,8 +14,8 @@ use Rattle.dynamic.specs.Raise.{some-piece}
 use Rattle.table.specs.Words.{Words, word, upTo}
 use Rattle.table.specs.Items.{Item}
 use Rattle.pieces.specs.Pieces.{items, item-laws, Standing}
-use Rattle.update.specs.Frames.{whole-standing}
-use Rattle.update.specs.Form.{Book, OffersIn, envelopeRef}
+use Rattle.form.specs.Frames.{whole-standing}
+use Rattle.form.specs.Form.{Book, OffersIn, envelopeRef}
 use Rattle.query.specs.Pieces.{Pieces}
 use Rattle.book.specs.Sought.{envelope-read}
 

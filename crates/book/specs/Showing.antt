@@ -19,7 +19,7 @@ use Rattle.dynamic.specs.Valid.{bookLines}
 use Rattle.table.specs.Words.{Words, word, upTo}
 use Rattle.table.specs.Items.{Item}
 use Rattle.pieces.specs.Pieces.{items}
-use Rattle.update.specs.Form.{Book}
+use Rattle.form.specs.Form.{Book}
 use Rattle.query.specs.Plain.{offerOf, listing-plain, listing-short}
 use Rattle.query.specs.Listing.{Written}
 use Rattle.book.specs.Promises.{partOf, plainOf, tableTrials, listingAnswer, writtenWords, Lists}

@@ -29,8 +29,8 @@ use Rattle.table.specs.Rep.{refOf}
 use Rattle.table.specs.Parts.{refOfP}
 use Rattle.descents.specs.Finds.{Found, foundAt}
 use Rattle.pieces.specs.Pieces.{rateOf, partRef}
-use Rattle.update.specs.Frames.{held-slots}
-use Rattle.update.specs.Form.{Book, OffersIn, numberOf, offersRef, envelopeRef}
+use Rattle.form.specs.Frames.{held-slots}
+use Rattle.form.specs.Form.{Book, OffersIn, numberOf, offersRef, envelopeRef}
 use Rattle.numbers.specs.Numbers.{NumbersAt, FoundNumber}
 use Rattle.book.specs.Live.{offerOf, live-slots, live-holds, ordered-pairs}
 

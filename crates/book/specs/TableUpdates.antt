@@ -17,7 +17,7 @@ use Rattle.dynamic.specs.OfferTree.{Held}
 use Rattle.table.specs.Words.{Words, word, upTo}
 use Rattle.table.specs.Layout.{cap}
 use Rattle.table.specs.Items.{Item}
-use Rattle.update.specs.Form.{Book, plainOffers}
+use Rattle.form.specs.Form.{Book, plainOffers}
 use Rattle.numbers.specs.Numbers.{FoundNumber}
 use Rattle.book.specs.declared.Update.{Update}
 use Rattle.book.specs.declared.Update.the-variants.{Done, Declined}

@@ -21,7 +21,7 @@ use Rattle.table.specs.Layout.{cap, cap-most}
 use Rattle.table.specs.Items.{Item, In, at}
 use Rattle.table.specs.Rep.{within-cap, Only}
 use Rattle.pieces.specs.Pieces.{items, item-laws, partRef}
-use Rattle.update.specs.Form.{Book, OffersIn, NumbersIn, FreeChain, free-none, free-more, numberOf, head0, plainOffers}
+use Rattle.form.specs.Form.{Book, OffersIn, NumbersIn, FreeChain, free-none, free-more, numberOf, head0, plainOffers}
 use Rattle.update.specs.Steps.{RemovedIn}
 use Rattle.numbers.specs.Numbers.{NumbersAt, Dropped}
 use Rattle.book.specs.Live.{offerOf, live-slots, live-holds, live-whole, whole-ordered, slot-tells, number-tells}

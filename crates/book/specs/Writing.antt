@@ -18,7 +18,7 @@ use Rattle.table.specs.Layout.{cap, cap-most, cell, cset, linkAt, Valid, cset-s
 use Rattle.table.specs.Free.{firstFree, given, free-link}
 use Rattle.table.specs.Items.{Item, In, at}
 use Rattle.table.specs.Threads.{Holds}
-use Rattle.update.specs.Form.{Book, FreeChain, free-more, head0}
+use Rattle.form.specs.Form.{Book, FreeChain, free-more, head0}
 use Rattle.book.specs.Live.{live-holds}
 use Rattle.book.specs.Agree.{Agree, Everywhere, Elsewhere, agree-trans, agree-less, agree-header, agree-cset, header-set}
 

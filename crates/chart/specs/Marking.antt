@@ -34,7 +34,7 @@ use Rattle.search.specs.ItemLines.{Falls}
 use Rattle.search.specs.Prices.{rateAt, numeratorAt, denominatorAt, crossingPriceAt}
 use Rattle.search.specs.Pieces.{read-rate, read-price, read-numerator, read-denominator}
 use Rattle.pieces.specs.Pieces.{items}
-use Rattle.update.specs.Form.{Book, plainOffers}
+use Rattle.form.specs.Form.{Book, plainOffers}
 use Rattle.query.specs.Pieces.{Pieces}
 use Rattle.query.specs.Plain.{offerOf, pieces-plain}
 use Rattle.query.specs.Counting.{Counted, Passed}

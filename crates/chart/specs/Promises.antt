@@ -17,7 +17,7 @@ use Rattle.marks.specs.Crossings.{scaledPrice}
 use Rattle.marks.specs.declared.Mark.{Mark}
 use Rattle.dynamic.specs.OfferTree.{Held}
 use Rattle.table.specs.Items.{Item}
-use Rattle.update.specs.Form.{Book, plainOffers}
+use Rattle.form.specs.Form.{Book, plainOffers}
 use Rattle.book.specs.Promises.{partOf, noBookTrial}
 
 -- ---- the marks of a listing

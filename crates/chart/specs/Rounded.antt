@@ -17,7 +17,7 @@ use Rattle.marks.specs.Crossings.{scaledPrice, load-divisible, price-divisible}
 use Rattle.dynamic.specs.OfferTree.{Held}
 use Rattle.table.specs.Words.{Words}
 use Rattle.table.specs.Items.{Item}
-use Rattle.update.specs.Form.{Book, plainOffers}
+use Rattle.form.specs.Form.{Book, plainOffers}
 use Rattle.book.specs.Live.{book-sound}
 use Rattle.book.specs.Promises.{plainOf}
 use Rattle.chart.specs.Promises.{ExactEnd, ExactCrossing, Exact}

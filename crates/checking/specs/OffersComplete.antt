@@ -19,8 +19,8 @@ use Rattle.table.specs.Items.{Item, Slots}
 use Rattle.table.specs.Rep.{refOf}
 use Rattle.table.specs.Threads.{Holds}
 use Rattle.pieces.specs.Pieces.{items, item-laws, partRef}
-use Rattle.update.specs.Stored.{HeldIn}
-use Rattle.update.specs.Form.{offersRef, envelopeRef, OffersIn}
+use Rattle.form.specs.Stored.{HeldIn}
+use Rattle.form.specs.Form.{offersRef, envelopeRef, OffersIn}
 use Rattle.matching.specs.Laid.{itemAt, AllPlaced}
 use Rattle.checking.specs.Stands.{Stands}
 use Rattle.checking.specs.Headers.{Header}

@@ -11,7 +11,7 @@ use Rattle.dynamic.specs.OfferTree.{Held}
 use Rattle.dynamic.specs.Valid.{bookLines}
 use Rattle.table.specs.Words.{Words, word}
 use Rattle.table.specs.Items.{Item}
-use Rattle.update.specs.Form.{offersRef, envelopeRef, OffersIn}
+use Rattle.form.specs.Form.{offersRef, envelopeRef, OffersIn}
 use Rattle.matching.specs.Stretches.{span}
 use Rattle.matching.specs.Tests.{Decides}
 use Rattle.matching.specs.Laid.{itemsAt}

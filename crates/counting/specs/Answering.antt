@@ -17,7 +17,7 @@ use Rattle.dynamic.specs.OfferTree.{Held}
 use Rattle.table.specs.Words.{word}
 use Rattle.table.specs.Layout.{cap-most}
 use Rattle.table.specs.Items.{Item}
-use Rattle.update.specs.Form.{Book, plainOffers}
+use Rattle.form.specs.Form.{Book, plainOffers}
 use Rattle.book.specs.declared.Update.{Update}
 use Rattle.book.specs.declared.Found.{Found}
 use Rattle.book.specs.declared.Listed.{Listed}

@@ -18,7 +18,7 @@ use Rattle.columns.specs.Commands.{commandOf}
 use Rattle.dynamic.specs.OfferTree.{Held}
 use Rattle.table.specs.Words.{word}
 use Rattle.table.specs.Items.{Item}
-use Rattle.update.specs.Form.{Book}
+use Rattle.form.specs.Form.{Book}
 use Rattle.book.specs.Promises.{partOf, capacityAt, plainOf, tableTrials, OnlyPart}
 
 -- ---- the plain counter

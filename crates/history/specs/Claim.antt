@@ -23,7 +23,7 @@ use Rattle.table.specs.Items.{Item}
 use Rattle.pieces.specs.Pieces.{items}
 use Rattle.book.specs.declared.Opening.{Opening}
 use Rattle.book.specs.declared.Opening.the-variants.{Opened}
-use Rattle.update.specs.Form.{Book, OffersIn, plainOffers}
+use Rattle.form.specs.Form.{Book, OffersIn, plainOffers}
 use Rattle.book.specs.Local.{book-alike}
 use Rattle.book.specs.Promises.{partOf, plainOf, Opens, Updates, Follows, Queries, Lists, Passes}
 use Rattle.history.specs.History.{Happens, by-post, by-withdraw, by-query, by-listing, History, finished, next, LowPairs, Kept, EachCall}

@@ -25,7 +25,7 @@ use Rattle.table.specs.Items.{Item}
 use Rattle.table.specs.Rep.{Rep}
 use Rattle.descents.specs.Ends.{Ended}
 use Rattle.pieces.specs.Pieces.{rateOf, items, item-laws}
-use Rattle.update.specs.Form.{Book, plainOffers}
+use Rattle.form.specs.Form.{Book, plainOffers}
 use Rattle.book.specs.Live.{offerOf}
 use Rattle.book.specs.Sought.{offers-read, not-any}
 

@@ -25,7 +25,7 @@ use Rattle.dynamic.specs.Bridged.{Bridged}
 use Rattle.table.specs.Words.{word}
 use Rattle.table.specs.Items.{Item}
 use Rattle.pieces.specs.Pieces.{items}
-use Rattle.update.specs.Form.{Book, numberOf, plainOffers}
+use Rattle.form.specs.Form.{Book, numberOf, plainOffers}
 use Rattle.book.specs.Promises.{partOf}
 use Rattle.meet.specs.declared.Met.{Met}
 use Rattle.meet.specs.declared.Met.the-variants.{Meeting, Declined}

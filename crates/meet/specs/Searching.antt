@@ -31,7 +31,7 @@ use Rattle.search.specs.declared.Met.{Met as Ended}
 use Rattle.search.specs.Runs.{Kept, Meets, Answers as SearchAnswers}
 use Rattle.pieces.specs.Pieces.{items, item-laws}
 use Rattle.query.specs.Plain.{offerOf, pieces-plain}
-use Rattle.update.specs.Form.{Book, numberOf, plainOffers}
+use Rattle.form.specs.Form.{Book, numberOf, plainOffers}
 use Rattle.book.specs.Sought.{count-read}
 use Rattle.book.specs.Parts.{said, denied, either-first, either-second, not-either}
 use Rattle.book.specs.Opens.{one-cause, not-clear}

@@ -23,7 +23,7 @@ use Rattle.table.specs.Layout.{cell, linkAt}
 use Rattle.table.specs.Items.{Item}
 use Rattle.table.specs.Threads.{Next, Threaded}
 use Rattle.descents.specs.Ends.{Ended}
-use Rattle.update.specs.Form.{Book, plainOffers}
+use Rattle.form.specs.Form.{Book, plainOffers}
 use Rattle.query.specs.Pieces.{Pieces}
 use Rattle.query.specs.Plain.{offerOf, pieces-plain}
 use Rattle.query.specs.Listing.{crossingWord}

@@ -14,7 +14,7 @@ use Rattle.trees.specs.Operations.{partLeaves}
 use Rattle.dynamic.specs.OfferTree.{Held}
 use Rattle.table.specs.Words.{Words}
 use Rattle.table.specs.Items.{Item}
-use Rattle.update.specs.Form.{Book, plainOffers}
+use Rattle.form.specs.Form.{Book, plainOffers}
 use Rattle.query.specs.Counting.{Passed}
 use Rattle.book.specs.Promises.{partOf, noBookTrial}
 use Rattle.reading.specs.declared.Handed.{Handed}

@@ -13,7 +13,7 @@ use Rattle.plain.specs.Rules.{FirstOf}
 use Rattle.plain.specs.Sound.{Clear}
 use Rattle.dynamic.specs.OfferTree.{Held}
 use Rattle.table.specs.Items.{Item}
-use Rattle.update.specs.Form.{Book}
+use Rattle.form.specs.Form.{Book}
 use Rattle.book.specs.declared.Opening.{Opening}
 use Rattle.book.specs.declared.Opening.the-variants.{Opened, Declined as OpeningDeclined}
 use Rattle.book.specs.Promises.{partOf, capacityAt, plainOf, Opens}

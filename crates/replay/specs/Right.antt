@@ -18,7 +18,7 @@ use Rattle.book.specs.declared.Listed.{Listed}
 use Rattle.book.specs.declared.Listed.the-variants.{Pieces, Declined as ListingDeclined}
 use Rattle.dynamic.specs.OfferTree.{Held}
 use Rattle.table.specs.Items.{Item}
-use Rattle.update.specs.Form.{Book}
+use Rattle.form.specs.Form.{Book}
 use Rattle.book.specs.Local.{book-alike}
 use Rattle.book.specs.Promises.{partOf, writtenWords, counted, updateAnswer, foundAnswer, listingAnswer}
 use Rattle.book.specs.Numbered.{numbered}

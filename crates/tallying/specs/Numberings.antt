@@ -17,7 +17,7 @@ use Rattle.table.specs.Layout.{cap-most}
 use Rattle.table.specs.Items.{Item, Apart}
 use Rattle.table.specs.Rep.{refOf}
 use Rattle.pieces.specs.Pieces.{partRef}
-use Rattle.update.specs.Form.{NumbersIn}
+use Rattle.form.specs.Form.{NumbersIn}
 use Rattle.matching.specs.Tests.{Decides}
 use Rattle.matching.specs.Stretches.{span-none}
 use Rattle.matching.specs.Laid.{itemsAt, AllPlaced}

@@ -12,7 +12,7 @@ use Rattle.table.specs.Layout.{cap}
 use Rattle.table.specs.Free.{head0, FreeChain}
 use Rattle.table.specs.Items.{Item, Apart}
 use Rattle.pieces.specs.Pieces.{partRef}
-use Rattle.update.specs.Form.{NumbersIn}
+use Rattle.form.specs.Form.{NumbersIn}
 use Rattle.matching.specs.Stretches.{span}
 use Rattle.matching.specs.Laid.{itemsAt, AllPlaced}
 

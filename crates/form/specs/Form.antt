@@ -4,25 +4,24 @@
 --     word 2   the root's envelope       word 5   the first free slot
 use mathlib.Core.Path.{_≡_}
 use mathlib.Core.Logic.{_≢_}
-use mathlib.Core.List.{List, [], _∷_, map, List·Memᴰ, Pairwise}
+use mathlib.Core.List.{List, map, List·Memᴰ, Pairwise}
 use mathlib.Core.Option.{Option, none, some}
 use Prim.Native.Nat.{ℕ, _+_, _≤_}
 use lib.ListN.{length}
 use lib.IntN.{ℤ, pos}
 use Rattle.offers.specs.Offers.{Offer}
-use Rattle.trees.specs.Tree.{Tree, leaves}
 use Rattle.trees.specs.Operations.{Part, partLeaves}
 use Rattle.trees.specs.Balanced.{AvlP}
 use Rattle.trees.specs.Order.{Falling}
 use Rattle.dynamic.specs.OfferTree.{Held, heldShape}
 use Rattle.dynamic.specs.Valid.{bookLines}
 use Rattle.table.specs.Words.{Words, word}
-use Rattle.table.specs.Layout.{cap, cell, linkAt}
+use Rattle.table.specs.Layout.{cap}
 pub use Rattle.table.specs.Free.{head0, FreeChain, free-none, free-more}
 use Rattle.table.specs.Items.{Item}
 use Rattle.table.specs.Rep.{refOf, Tied}
 use Rattle.pieces.specs.Pieces.{partRef}
-use Rattle.update.specs.Stored.{HeldIn}
+use Rattle.form.specs.Stored.{HeldIn}
 
 -- ---- the offers
 
