@@ -13,7 +13,7 @@ use lib.Signed.{ltZ}
 use Rattle.lists.specs.Tests.{any}
 use Rattle.offers.specs.Offers.{Offer}
 use Rattle.plain.specs.Causes.{Cause, noBook, bookEmpty, ratesNotApart, Trial, _when_, causeNumber}
-use Rattle.plain.specs.Book.{noBookAt, envelope}
+use Rattle.plain.specs.Book.{State, noBookAt, envelope}
 use Rattle.plain.specs.Rules.{FirstOf}
 use Rattle.plain.specs.Sound.{Clear}
 use Rattle.trees.specs.Tree.{Tree, height}
@@ -81,4 +81,4 @@ pub record Answers (held held′ : Option (Held Item)) (r : Met) : Type 0 where
 
 pub record MeetsBooks (t : List ℤ) (start : ℕ) (t′ : List ℤ) (start′ : ℕ) (r : Met) : Type 0 where
   pub declined : (z : Cause) → FirstOf (noBookTrials t start t′ start′) z → meetAnswer r ≡ refused (pos (causeNumber z))
-  pub answers : (c c′ : ℕ) (held held′ : Option (Held Item)) → Book (partOf t start) c held → Book (partOf t′ start′) c′ held′ → Answers held held′ r
+  pub answers : (s s′ : State) (held held′ : Option (Held Item)) → Book (partOf t start) s held → Book (partOf t′ start′) s′ held′ → Answers held held′ r
