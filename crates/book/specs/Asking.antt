@@ -37,7 +37,7 @@ use Rattle.book.specs.declared.Found.{Found}
 use Rattle.book.specs.declared.Found.the-variants.{Offer, Declined}
 use Rattle.plain.specs.Book.{noBookAt}
 use Rattle.plain.specs.Rules.{FirstOf}
-use Rattle.book.specs.Promises.{partOf, tableTrials, foundAnswer, Probes, ProbesIn, Queries}
+use Rattle.book.specs.Promises.{partOf, tableTrials, foundReturned, foundAnswer, Probes, ProbesIn, Queries}
 use Rattle.book.specs.Plainly.{table-declined}
 use Rattle.book.specs.Parts.{whole-part, said, denied}
 use Rattle.book.specs.Opens.{one-cause, not-clear}
@@ -47,7 +47,7 @@ use Rattle.book.specs.Sought.{count-read, envelope-read}
 -- a load in range, on words that stand for a plain book
 pub record Asks (q : ℤ) (w : Words) (r : Found) : Type 0 where
   pub answers : (plain : State) (held : Option (Held Item)) → Book w plain held → T (loadInRange q) → foundAnswer r ≡ step plain (query q) .answer
-  pub probes : (plain : State) (held : Option (Held Item)) → Book w plain held → T (loadInRange q) → Probes held r
+  pub probes : (plain : State) (held : Option (Held Item)) → Book w plain held → T (loadInRange q) → Probes held (foundReturned r .answer) (foundReturned r .beside)
 
 twice : (b : Bool) → T b → T (not (not b))
 twice true t = tt
@@ -57,7 +57,7 @@ pub asks-empty : {q : ℤ} {w : Words} {n : ℕ} → n ≡ upTo 8192 (word w 3) 
 asks-empty {q} {w} {n} e h =
     record {
       answers = λ plain held b t. sym (ap (λ (o : Outcome). o .answer) (step-declined plain (query q) bookEmpty (further (twice (loadInRange q) t) (at-once (le→leb (length (plain .offers)) 0 (omega (arith, e, h, count-read b, live-length b)))))));
-      probes = λ plain held b t. tt;
+      probes = λ plain held b t. refl;
     }
 
 -- what the code has read
@@ -108,7 +108,7 @@ module _ (plain : State) {q : ℤ} {w : Words} {root slot probes : ℕ} {number 
   answered e h (some g) b = some-piece g b (g .whole) refl
 
 pub asks-found : {q : ℤ} {w : Words} {n root slot probes : ℕ} {number price : ℤ} → n ≡ upTo 8192 (word w 3) → 1 ≤ n → Reads q w root slot probes number price → Asks q w (Offer number price (pos probes))
-asks-found e h f = record { answers = λ plain held b t. answered plain f t e h held b .0; probes = λ plain held b t. answered plain f t e h held b .1 }
+asks-found e h f = record { answers = λ plain held b t. answered plain f t e h held b .0; probes = λ plain held b t. (answered plain f t e h held b .1, refl) }
 
 -- ---- on the table
 
@@ -118,7 +118,7 @@ module _ (q : ℤ) (t : List ℤ) (start : ℕ) where
       record {
         declined = λ z g. ap refused (sym (one-cause f g));
         answers = λ plain held b. sym (ap (λ (o : Outcome). o .answer) (table-declined start t (query q) b f));
-        probes = λ plain held b. tt;
+        probes = λ plain held b. refl;
       }
 
   pub queries-none : {b : Bool} → b ≡ noBookAt (length t) start (word (partOf t start) 0) → b ≡ true → Queries q start t (Declined (pos 3))

@@ -1,6 +1,6 @@
 -- What a call's code has done, put together into what the call promises on a part that stands for a plain book.
 use mathlib.Core.Path.{_≡_, refl, sym, _∙_, ap, subst}
-use mathlib.Core.List.{List, [], List·Memᴰ·not-nil}
+use mathlib.Core.List.{List, [], _∷_, List·Memᴰ·not-nil}
 use mathlib.Core.Option.{Option}
 use Prim.Native.Nat.{ℕ, suc}
 use native.Mathlib.Omega.{arith}
@@ -17,7 +17,7 @@ use Rattle.pieces.specs.Pieces.{items}
 use Rattle.form.specs.Form.{Book}
 use Rattle.book.specs.declared.Update.{Update}
 use Rattle.book.specs.declared.Update.the-variants.{Done, Declined as UpdateDeclined}
-use Rattle.book.specs.Promises.{partOf, updateAnswer, Counts, Follows}
+use Rattle.book.specs.Promises.{partOf, updateReturned, updateAnswer, Counts, Follows}
 use Rattle.book.specs.Plainly.{refusing}
 use Rattle.book.specs.Posting.{Updated}
 
@@ -44,7 +44,7 @@ follows-declined start t k {plain} {m} {held} {t′} {r} b e er et =
       stands = subst (λ (o : Outcome). Book (partOf t′ start) (o .state) held) (sym e) (subst (λ (u : List ℤ). Book (partOf u start) plain held) (sym et) b);
       refusal = λ n d. et;
       work = idle-work held;
-      counts = subst (λ (u : Update). Counts u []) (sym er) refl;
+      counts = subst (λ (u : Update). Counts (updateReturned u .beside) []) (sym er) refl;
     }
 
 -- ---- an accepted one
@@ -65,7 +65,7 @@ done-follows start t q {t′ = t′} u e er =
       stands = subst (λ (o : Outcome). Book (partOf t′ start) (o .state) (u .after)) (sym e) (u .stands);
       refusal = λ m d. absurd (not-refused (sym (ap updateAnswer er) ∙ d));
       work = u .work;
-      counts = subst (λ (v : Update). Counts v (u .log)) (sym er) (ap pos (u .counts .searches), ap pos (u .counts .steps), ap pos (u .counts .heights));
+      counts = subst (λ (v : Update). Counts (updateReturned v .beside) (u .log)) (sym er) (λ i. pos (u .counts .searches i) ∷ pos (u .counts .steps i) ∷ pos (u .counts .heights i) ∷ []);
     }
 
 pub follows-posted :

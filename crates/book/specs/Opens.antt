@@ -21,7 +21,7 @@ use Rattle.table.specs.Layout.{cap, cset, beyond-outside}
 use Rattle.form.specs.Form.{Book}
 use Rattle.book.specs.declared.Opening.{Opening}
 use Rattle.book.specs.declared.Opening.the-variants.{Opened, Declined}
-use Rattle.book.specs.Promises.{partOf, openingNumber, plainOpening, Opens, OnlyPart}
+use Rattle.book.specs.Promises.{partOf, openingAnswer, plainOpening, Opens, OnlyPart}
 use Rattle.book.specs.Opening.{Begun, begun, begun-cap, Laid, laid-more, opened-book}
 use Rattle.book.specs.Parts.{Beyond, part-back, only-part, whole-part, lent-back, either-first, either-second, not-either, said, denied, told-is}
 
@@ -118,7 +118,7 @@ starts {c} {w} {w₀} {w′} low high room g l =
 
 module _ (c : ℤ) (start : ℕ) (t t′ : List ℤ) where
   opens-declined : {r : Opening} {k : Cause} → FirstOf (openTrials (length t) start c) k → r ≡ Declined (pos (causeNumber k)) → t′ ≡ t → Opens c start t t′ r
-  opens-declined {k = k} f er et = record { answers = ap openingNumber er ∙ ap (λ (d : Option Cause). plainOpening (openingBy c d)) (sym (declined-by (openTrials (length t) start c) k f)); declined = λ z g. (er ∙ ap (λ (n : ℕ). Declined (pos n)) (sym (one-cause f g)), et); accepted = λ g. absurd (not-clear f g) }
+  opens-declined {k = k} f er et = record { answers = ap openingAnswer er ∙ ap (λ (d : Option Cause). plainOpening (openingBy c d)) (sym (declined-by (openTrials (length t) start c) k f)); declined = λ z g. (er ∙ ap (λ (n : ℕ). Declined (pos n)) (sym (one-cause f g)), et); accepted = λ g. absurd (not-clear f g) }
 
   pub opens-range : {b : Bool} → b ≡ not (between (pos 1) (pos 4_096) c) → b ≡ true → t′ ≡ t → Opens c start t t′ (Declined (pos 1))
   opens-range e h et = opens-declined (at-once (said e h)) refl et

@@ -15,7 +15,7 @@ use Rattle.book.specs.declared.Update.{Update}
 use Rattle.book.specs.declared.Found.{Found}
 use Rattle.book.specs.declared.Listed.{Listed}
 use Rattle.book.specs.Local.{Alike}
-use Rattle.book.specs.Promises.{partOf, Updates, Follows, Queries, Probes, Lists, updateAnswer, foundAnswer, listingAnswer}
+use Rattle.book.specs.Promises.{partOf, Updates, Follows, Queries, Probes, Lists, updateAnswer, foundReturned, foundAnswer, listingAnswer}
 
 -- One call: the words before and after it, and its answer.
 pub data Happens (start : ℕ) (t : List ℤ) : Call → List ℤ → Answer → Type 0 where
@@ -43,7 +43,7 @@ LowPairs log = (p : Pair Item) → List·Memᴰ p log → (height (p .front) ≤
 abbrev pub Kept : (s : State) (start : ℕ) {t : List ℤ} {k : Call} {t′ : List ℤ} {a : Answer} → Happens start t k t′ a → (before after : Option (Held Item)) → Type 0
 Kept s start {t} {t′ = t′} (by-post n r b u p e) held held′ = (f : Follows (post n r b) s held start t t′ u) × (f .after ≡ held′) × LowPairs (f .log)
 Kept s start {t} {t′ = t′} (by-withdraw n u p e) held held′ = (f : Follows (withdraw n) s held start t t′ u) × (f .after ≡ held′) × LowPairs (f .log)
-Kept s start (by-query q f p d e) held held′ = Probes held f × (held ≡ held′)
+Kept s start (by-query q f p d e) held held′ = Probes held (foundReturned f .answer) (foundReturned f .beside) × (held ≡ held′)
 Kept s start (by-listing out out′ l p m d e) held held′ = held ≡ held′
 
 -- each on the plain book that the calls before it left
