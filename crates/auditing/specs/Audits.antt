@@ -6,66 +6,42 @@ use mathlib.Core.Option.{Option, none, some}
 use Prim.Native.Nat.{ℕ, _≤_, _<_}
 use native.Mathlib.Omega.{arith}
 use lib.ListN.{length}
+use Rattle.plain.specs.Book.{State}
 use Rattle.dynamic.specs.OfferTree.{Held}
 use Rattle.dynamic.specs.Valid.{bookLines}
 use Rattle.table.specs.Words.{Words, word, upTo, upTo-in}
 use Rattle.table.specs.Layout.{cap, cap-most}
 use Rattle.table.specs.Items.{Item, Apart}
-use Rattle.update.specs.Form.{OffersIn, Book}
+use Rattle.form.specs.Form.{OffersIn, Numbered, Freely, Book, BookStands, plainOffers}
 use Rattle.matching.specs.Stretches.{span}
 use Rattle.matching.specs.Tests.{Decides, decides-no}
 use Rattle.matching.specs.Laid.{itemsAt, AllPlaced}
 use Rattle.matching.specs.Fills.{never}
-use Rattle.checking.specs.OffersStand.{OffersStand, Offers}
+use Rattle.checking.specs.OffersStand.{OffersFound, Offers}
 use Rattle.checking.specs.OffersComplete.{holds-placed}
-use Rattle.tallying.specs.Tallies.{Freely, Numbered, Tallies}
-
-abbrev pub BookStands : Words → Type 0
-BookStands w = (c : ℕ) × (held : Option (Held Item)) × Book w c held
+use Rattle.tallying.specs.Tallies.{Tallies}
 
 -- ---- a book's parts
 
-module _ {w : Words} {c : ℕ} {held : Option (Held Item)} (b : Book w c held) where
+module _ {w : Words} {s : State} {held : Option (Held Item)} (b : Book w s held) where
   -- the live count reads as what it is
   book-count : {n : ℕ} → n ≡ upTo 4096 (word w 3) → length (bookLines held) ≡ n
-  book-count e = sym (e ∙ ap (upTo 4096) (b .live-count) ∙ upTo-in 4096 (length (bookLines held)) (omega (arith, b .slots-used, b .capacity, cap-most w)))
+  book-count e =
+      sym (e ∙ ap (upTo 4096) (b .offers .live-count) ∙ upTo-in 4096 (length (bookLines held)) (omega (arith, b .free .slots-used, cap-most w)))
 
-  book-offers : {n : ℕ} → n ≡ upTo 4096 (word w 3) → OffersStand w n
-  book-offers e =
-      record { held = held; offers-root = b .offers-root; envelope-root = b .envelope-root; live-count = b .live-count; count = book-count e; offers = b .offers }
+  book-offers : {n : ℕ} → n ≡ upTo 4096 (word w 3) → OffersFound w n
+  book-offers e = record { held = held; offers = b .offers; count = book-count e }
 
   book-free : {n : ℕ} → n ≡ upTo 4096 (word w 3) → Freely w n
-  book-free e =
-      record {
-        free = b .free;
-        first-free = b .first-free;
-        free-chain = b .free-chain;
-        free-apart = b .free-apart;
-        slots-used = omega (arith, b .slots-used, b .capacity, book-count e);
-      }
-
-  book-numbers : Numbered w (bookLines held)
-  book-numbers = record { numbers = b .numbers; numbers-root = b .numbers-root; numbers-in = b .numbers-in }
+  book-free e = subst (Freely w) (book-count e) (b .free)
 
 -- .. and back
-book-of : {w : Words} {n : ℕ} → 1 ≤ cap w → Freely w n → (s : OffersStand w n) → Numbered w (bookLines (s .held)) → Book w (cap w) (s .held)
-book-of {w} {n} h f s m =
-    record {
-      capacity = refl;
-      some-slot = h;
-      offers-root = s .offers-root;
-      envelope-root = s .envelope-root;
-      live-count = s .live-count;
-      offers = s .offers;
-      numbers = m .numbers;
-      numbers-root = m .numbers-root;
-      numbers-in = m .numbers-in;
-      free = f .free;
-      first-free = f .first-free;
-      free-chain = f .free-chain;
-      free-apart = f .free-apart;
-      slots-used = omega (arith, f .slots-used, s .count);
-    }
+book-of : {w : Words} {n : ℕ} → 1 ≤ cap w → Freely w n → (o : OffersFound w n) → Numbered w (bookLines (o .held)) → BookStands w
+book-of {w} {n} h f o m = (
+  record { capacity = cap w; offers = plainOffers (o .held) },
+  o .held,
+  record { capacity = refl; some-slot = h; offers = o .offers; numbers = m; free = subst (Freely w) (sym (o .count)) f; stands-for = refl },
+)
 
 -- the live items stand in slots of their own, which hold their offers
 offers-placed : {w : Words} (held : Option (Held Item)) → OffersIn w held → AllPlaced w (bookLines held)
@@ -93,20 +69,20 @@ module _ {w : Words} {n : ℕ} (e : n ≡ upTo 4096 (word w 3)) {f : Bool} (F : 
     unfolding book-offers
     audits-all {m} {xs₂} {r} em some-slot kf ko N = record { sound = found; complete = λ b. passes b }
       where
-        lines : (s : OffersStand w n) → bookLines (s .held) ≡ itemsAt w (span xs₁ 0 n)
+        lines : (s : OffersFound w n) → bookLines (s .held) ≡ itemsAt w (span xs₁ 0 n)
         lines s = sym (O .listed ko s)
 
-        placed : (s : OffersStand w n) → AllPlaced w (itemsAt w (span xs₁ 0 n))
-        placed s = subst (AllPlaced w) (lines s) (offers-placed (s .held) (s .offers))
+        placed : (s : OffersFound w n) → AllPlaced w (itemsAt w (span xs₁ 0 n))
+        placed s = subst (AllPlaced w) (lines s) (offers-placed (s .held) (s .offers .offers-in))
 
-        apart : (s : OffersStand w n) → Pairwise Apart (itemsAt w (span xs₁ 0 n))
-        apart s = subst (Pairwise Apart) (lines s) (offers-apart w (s .held) (s .offers))
+        apart : (s : OffersFound w n) → Pairwise Apart (itemsAt w (span xs₁ 0 n))
+        apart s = subst (Pairwise Apart) (lines s) (offers-apart w (s .held) (s .offers .offers-in))
 
         found : r ≡ true → BookStands w
         found k =
             let s = O .told .sound ko in
             let slot : 1 ≤ cap w = omega arith in
-            (cap w, s .held, book-of slot (F .sound kf) s (subst (Numbered w) (sym (lines s)) (N .sound (placed s) (apart s) k)))
+            book-of slot (F .sound kf) s (subst (Numbered w) (sym (lines s)) (N .sound (placed s) (apart s) k))
 
         passes : BookStands w → r ≡ true
-        passes b = let s = book-offers (b .2) e in N .complete (placed s) (apart s) (subst (Numbered w) (lines s) (book-numbers (b .2)))
+        passes b = let s = book-offers (b .2) e in N .complete (placed s) (apart s) (subst (Numbered w) (lines s) (b .2 .numbers))

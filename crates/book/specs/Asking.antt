@@ -1,17 +1,17 @@
 -- A query, step by step: what the code's parts promise, and put together.
 use mathlib.Core.Path.{_≡_, refl, sym, _∙_, ap, subst}
 use mathlib.Core.Bool.{Bool, true, false, not}
-use mathlib.Core.List.{List, [], _∷_, List·Memᴰ·not-nil}
+use mathlib.Core.List.{List}
 use mathlib.Core.Option.{Option, none, some}
-use Prim.Native.Nat.{ℕ, _+_, _-_, _≤_, _<_}
+use Prim.Native.Nat.{ℕ, _-_, _≤_, _<_}
 use native.Mathlib.Omega.{arith}
-use lib.ListN.{length, take, drop, length-map}
+use lib.ListN.{length, take, drop}
 use lib.Dec.{T, le→leb}
 use lib.IntN.{ℤ, pos, natAbs}
 use Rattle.lists.specs.Tests.{not-not}
 use Rattle.offers.specs.Offers.{loadInRange, priceAt}
 use Rattle.plain.specs.Causes.{Cause, bookEmpty, causeNumber}
-use Rattle.plain.specs.Book.{query, found, Answer, refused, Outcome, step}
+use Rattle.plain.specs.Book.{State, query, found, refused, Outcome, step}
 use Rattle.plain.specs.Rules.{at-once, further, step-declined}
 use Rattle.trees.specs.Tree.{Tree, leaves, first}
 use Rattle.trees.specs.Leaves.{first-leaf}
@@ -24,12 +24,10 @@ use Rattle.envelopes.specs.Small.{env-some}
 use Rattle.table.specs.Words.{Words, word, upTo}
 use Rattle.table.specs.Layout.{cell}
 use Rattle.table.specs.Items.{Item}
-use Rattle.table.specs.Rep.{Rep}
 use Rattle.table.specs.Parts.{low}
 use Rattle.pieces.specs.Pieces.{items, item-laws, Standing, partRef}
-use Rattle.update.specs.Stored.{HeldIn}
-use Rattle.update.specs.Form.{Book, OffersIn, plainOffers}
-use Rattle.update.specs.Frames.{whole-standing}
+use Rattle.form.specs.Form.{Book}
+use Rattle.form.specs.Frames.{whole-standing}
 use Rattle.query.specs.Lookup.{lookup, lookup-leaf, LeafAt, leaf-mem}
 use Rattle.query.specs.Pieces.{Pieces, price-kept}
 use Rattle.query.specs.Readings.{priceIn}
@@ -39,17 +37,17 @@ use Rattle.book.specs.declared.Found.{Found}
 use Rattle.book.specs.declared.Found.the-variants.{Offer, Declined}
 use Rattle.plain.specs.Book.{noBookAt}
 use Rattle.plain.specs.Rules.{FirstOf}
-use Rattle.book.specs.Promises.{partOf, plainOf, tableTrials, foundAnswer, Probes, ProbesIn, Queries}
+use Rattle.book.specs.Promises.{partOf, tableTrials, foundReturned, foundAnswer, Probes, ProbesIn, Queries}
 use Rattle.book.specs.Plainly.{table-declined}
 use Rattle.book.specs.Parts.{whole-part, said, denied}
 use Rattle.book.specs.Opens.{one-cause, not-clear}
-use Rattle.book.specs.Live.{offerOf, book-sound}
+use Rattle.book.specs.Live.{live-length, book-sound}
 use Rattle.book.specs.Sought.{count-read, envelope-read}
 
 -- a load in range, on words that stand for a plain book
 pub record Asks (q : ℤ) (w : Words) (r : Found) : Type 0 where
-  pub answers : (c : ℕ) (held : Option (Held Item)) → Book w c held → T (loadInRange q) → foundAnswer r ≡ step (plainOf c held) (query q) .answer
-  pub probes : (c : ℕ) (held : Option (Held Item)) → Book w c held → T (loadInRange q) → Probes held r
+  pub answers : (plain : State) (held : Option (Held Item)) → Book w plain held → T (loadInRange q) → foundAnswer r ≡ step plain (query q) .answer
+  pub probes : (plain : State) (held : Option (Held Item)) → Book w plain held → T (loadInRange q) → Probes held (foundReturned r .answer) (foundReturned r .beside)
 
 twice : (b : Bool) → T b → T (not (not b))
 twice true t = tt
@@ -58,8 +56,8 @@ twice false t = t
 pub asks-empty : {q : ℤ} {w : Words} {n : ℕ} → n ≡ upTo 8192 (word w 3) → n < 1 → Asks q w (Declined (pos 9))
 asks-empty {q} {w} {n} e h =
     record {
-      answers = λ c held b t. sym (ap (λ (o : Outcome). o .answer) (step-declined (plainOf c held) (query q) bookEmpty (further (twice (loadInRange q) t) (at-once (le→leb (length (plainOffers held)) 0 (omega (arith, e, h, count-read b, length-map (bookLines held) offerOf)))))));
-      probes = λ c held b t. tt;
+      answers = λ plain held b t. sym (ap (λ (o : Outcome). o .answer) (step-declined plain (query q) bookEmpty (further (twice (loadInRange q) t) (at-once (le→leb (length (plain .offers)) 0 (omega (arith, e, h, count-read b, live-length b)))))));
+      probes = λ plain held b t. refl;
     }
 
 -- what the code has read
@@ -69,16 +67,16 @@ pub record Reads (q : ℤ) (w : Words) (root slot probes : ℕ) (number price : 
   pub named : number ≡ cell w 0 slot
   pub priced : price ≡ priceIn w slot q
 
-abbrev pub Answered : (q number price : ℤ) (c probes : ℕ) → Option (Held Item) → Type 0
-Answered q number price c probes held = (found number price ≡ step (plainOf c held) (query q) .answer) × ProbesIn held number (pos probes)
+abbrev pub Answered : (q number price : ℤ) (plain : State) (probes : ℕ) → Option (Held Item) → Type 0
+Answered q number price plain probes held = (found number price ≡ step plain (query q) .answer) × ProbesIn held number (pos probes)
 
-module _ (c : ℕ) {q : ℤ} {w : Words} {root slot probes : ℕ} {number price : ℤ} (f : Reads q w root slot probes number price) (range : T (loadInRange q)) where
-  module _ (h : Held Item) (b : Book w c (some h)) where
+module _ (plain : State) {q : ℤ} {w : Words} {root slot probes : ℕ} {number price : ℤ} (f : Reads q w root slot probes number price) (range : T (loadInRange q)) where
+  module _ (h : Held Item) (b : Book w plain (some h)) where
     env : (t : Tree Item) → h .whole ≡ some t → Env items (bookLines (some h)) (leaves t)
-    env t e = subst (λ (p : Part Item). Env items (bookLines (some h)) (partLeaves p)) e (valid-env items item-laws (b .offers .right .valid))
+    env t e = subst (λ (p : Part Item). Env items (bookLines (some h)) (partLeaves p)) e (valid-env items item-laws (b .offers .offers-in .right .valid))
 
-    reached : (t : Tree Item) → h .whole ≡ some t → Answered q number price c probes (some h)
-    reached t e = (ap (λ (z : ℤ). found z price) number-is ∙ ap (found (a .offer .number)) price-is ∙ sym (lookup-plain t (plainOf c (some h)) q (book-sound b) refl (env t e) range), subst Leafy (sym e) (a, subst (λ (d : ℕ). LeafAt a d t) (sym (got .depth)) (lookup-leaf q t), sym number-is, refl))
+    reached : (t : Tree Item) → h .whole ≡ some t → Answered q number price plain probes (some h)
+    reached t e = (ap (λ (z : ℤ). found z price) number-is ∙ ap (found (a .offer .number)) price-is ∙ sym (lookup-plain t plain q (book-sound b) (sym (b .stands-for)) (env t e) range), subst Leafy (sym e) (a, subst (λ (d : ℕ). LeafAt a d t) (sym (got .depth)) (lookup-leaf q t), sym number-is, refl))
       where
         a : Item
         a = lookup q t .item
@@ -87,7 +85,7 @@ module _ (c : ℕ) {q : ℤ} {w : Words} {root slot probes : ℕ} {number price 
         Leafy p = elim p [ none ↦ ⊥ | some t ↦ (a : Item) × LeafAt a (natAbs (pos probes)) t × (a .offer .number ≡ number) × (pos probes ≡ pos (natAbs (pos probes))) ]
 
         stand : Standing w (partRef (some t)) (some t)
-        stand = subst (λ (p : Part Item). Standing w (partRef p) p) e (whole-standing (b .offers))
+        stand = subst (λ (p : Part Item). Standing w (partRef p) p) e (whole-standing (b .offers .offers-in))
 
         pieces : Pieces w root t
         pieces = record { rep = record { kind = omega arith; root = f .at-root ∙ envelope-read b ∙ ap partRef e; slots = stand .slots; tied = stand .pieces .0 }; thread = stand .pieces .1; holds = stand .holds }
@@ -101,16 +99,16 @@ module _ (c : ℕ) {q : ℤ} {w : Words} {root slot probes : ℕ} {number price 
         price-is : price ≡ priceAt (a .offer) q
         price-is = f .priced ∙ ap (λ (s : ℕ). priceIn w s q) (got .item) ∙ price-kept q (stand .holds .held (leaf-mem (lookup-leaf q t))) range
 
-    some-piece : (p : Part Item) → h .whole ≡ p → Answered q number price c probes (some h)
-    some-piece none e = let k = env-some items item-laws (subst (λ (p : Part Item). Env items (bookLines (some h)) (partLeaves p)) e (valid-env items item-laws (b .offers .right .valid))) (first (heldShape h)) (first-leaf (heldShape h)) in absurd (omega (arith, k))
+    some-piece : (p : Part Item) → h .whole ≡ p → Answered q number price plain probes (some h)
+    some-piece none e = let k = env-some items item-laws (subst (λ (p : Part Item). Env items (bookLines (some h)) (partLeaves p)) e (valid-env items item-laws (b .offers .offers-in .right .valid))) (first (heldShape h)) (first-leaf (heldShape h)) in absurd (omega (arith, k))
     some-piece (some t) e = reached t e
 
-  pub answered : {n : ℕ} → n ≡ upTo 8192 (word w 3) → 1 ≤ n → (held : Option (Held Item)) → Book w c held → Answered q number price c probes held
+  pub answered : {n : ℕ} → n ≡ upTo 8192 (word w 3) → 1 ≤ n → (held : Option (Held Item)) → Book w plain held → Answered q number price plain probes held
   answered e h none b = absurd (omega (arith, e, h, count-read b))
   answered e h (some g) b = some-piece g b (g .whole) refl
 
 pub asks-found : {q : ℤ} {w : Words} {n root slot probes : ℕ} {number price : ℤ} → n ≡ upTo 8192 (word w 3) → 1 ≤ n → Reads q w root slot probes number price → Asks q w (Offer number price (pos probes))
-asks-found e h f = record { answers = λ c held b t. answered c f t e h held b .0; probes = λ c held b t. answered c f t e h held b .1 }
+asks-found e h f = record { answers = λ plain held b t. answered plain f t e h held b .0; probes = λ plain held b t. (answered plain f t e h held b .1, refl) }
 
 -- ---- on the table
 
@@ -119,8 +117,8 @@ module _ (q : ℤ) (t : List ℤ) (start : ℕ) where
   queries-declined f =
       record {
         declined = λ z g. ap refused (sym (one-cause f g));
-        answers = λ c held b. sym (ap (λ (o : Outcome). o .answer) (table-declined start t (query q) b f));
-        probes = λ c held b. tt;
+        answers = λ plain held b. sym (ap (λ (o : Outcome). o .answer) (table-declined start t (query q) b f));
+        probes = λ plain held b. refl;
       }
 
   pub queries-none : {b : Bool} → b ≡ noBookAt (length t) start (word (partOf t start) 0) → b ≡ true → Queries q start t (Declined (pos 3))
@@ -134,8 +132,8 @@ module _ (q : ℤ) (t : List ℤ) (start : ℕ) where
     queries-asked h′ {r} a =
         record {
           declined = λ z g. absurd (not-clear g (denied e h, (denied e′ h′, tt)));
-          answers = λ c held b. asked .answers c held b range;
-          probes = λ c held b. asked .probes c held b range;
+          answers = λ plain held b. asked .answers plain held b range;
+          probes = λ plain held b. asked .probes plain held b range;
         }
       where
         range : T (loadInRange q)

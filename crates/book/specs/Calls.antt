@@ -7,7 +7,7 @@ use native.Mathlib.Omega.{arith}
 use lib.ListN.{length}
 use lib.IntN.{ℤ, pos}
 use Rattle.offers.specs.Offers.{Offer}
-use Rattle.plain.specs.Book.{join, leave}
+use Rattle.plain.specs.Book.{State, join, leave, holding}
 use Rattle.dynamic.specs.OfferTree.{Held}
 use Rattle.dynamic.specs.Valid.{bookLines}
 use Rattle.table.specs.Words.{Words, word, wset, wset-other, upTo}
@@ -16,7 +16,7 @@ use Rattle.table.specs.Free.{firstFree, taken, given}
 use Rattle.table.specs.Items.{Item}
 use Rattle.table.specs.Rep.{Within, within-cap}
 use Rattle.update.specs.Steps.{RemovedIn}
-use Rattle.update.specs.Form.{Book, plainOffers}
+use Rattle.form.specs.Form.{Book}
 use Rattle.numbers.specs.Numbers.{Added, Dropped}
 use Rattle.book.specs.Live.{live-slots}
 use Rattle.book.specs.Agree.{agree-header, header-kept}
@@ -51,7 +51,7 @@ joined-room : {s x e x′ e′ k st h : ℕ} {w w′ : Words} → Joined s x e w
 joined-room (joins-alone ex ew ex′ ee′ ek est eh) = ap cap ew
 joined-room (joins-among nz i) = within-cap (i .within)
 
-module _ {w v₁ v₂ v₃ w₁ w₂ w₃ w₄ u₁ u₂ w′ : Words} {c s root root′ x e x′ e′ n k st h : ℕ} {held : Option (Held Item)} (o : Offer) (b : Book w c held) (new : Postable o c (bookLines held)) (p : PostWrites o w v₁ v₂ v₃ w₁ w₂ w₃ w₄ u₁ u₂ w′ s root root′ x e x′ e′ n k st h) where
+module _ {w v₁ v₂ v₃ w₁ w₂ w₃ w₄ u₁ u₂ w′ : Words} {plain : State} {s root root′ x e x′ e′ n k st h : ℕ} {held : Option (Held Item)} (o : Offer) (b : Book w plain held) (new : Postable o (plain .capacity) (bookLines held)) (p : PostWrites o w v₁ v₂ v₃ w₁ w₂ w₃ w₄ u₁ u₂ w′ s root root′ x e x′ e′ n k st h) where
   post-steps : PostSteps o w w₁ w₂ w₃ w₄ w′ s root root′ x e x′ e′ n k st h
   post-steps =
       record {
@@ -72,7 +72,7 @@ module _ {w v₁ v₂ v₃ w₁ w₂ w₃ w₄ u₁ u₂ w′ : Words} {c s root
       fills : Filled s o w w₁
       fills = let f = first-free b (new .room) (p .slot) .1 in filled w s (f .low) (f .high) o (p .take ∙ ap (λ (i : ℕ). wset w 5 (pos (linkAt w 3 i))) (sym (p .slot))) (p .put-number) (p .put-rate) (p .put-base)
 
-  pub post-done : n ≡ suc (length (bookLines held)) → Updated w′ c held (join o (plainOffers held)) k st h
+  pub post-done : n ≡ suc (length (bookLines held)) → Updated w′ (holding plain (join o (plain .offers))) held k st h
   post-done count = posted-plain o b new post-steps count
 
 -- ---- withdraw
@@ -89,7 +89,7 @@ pub record WithdrawWrites (number : ℤ) (w w₁ w₂ w₃ u₁ u₂ w₄ w′ :
   pub set-count : w₄ ≡ wset u₂ 3 (pos n)
   pub give-back : w′ ≡ given w₄ s
 
-module _ {w w₁ w₂ w₃ u₁ u₂ w₄ w′ : Words} {number : ℤ} {c s root root′ x e x′ e′ n k st h : ℕ} {held : Option (Held Item)} (a : Item) (b : Book w c held) (live : LiveAt number s (bookLines held) a) (p : WithdrawWrites number w w₁ w₂ w₃ u₁ u₂ w₄ w′ s root root′ x e x′ e′ n k st h) where
+module _ {w w₁ w₂ w₃ u₁ u₂ w₄ w′ : Words} {number : ℤ} {plain : State} {s root root′ x e x′ e′ n k st h : ℕ} {held : Option (Held Item)} (a : Item) (b : Book w plain held) (live : LiveAt number s (bookLines held) a) (p : WithdrawWrites number w w₁ w₂ w₃ u₁ u₂ w₄ w′ s root root′ x e x′ e′ n k st h) where
   withdraw-steps : WithdrawSteps number w w₁ w₂ w₃ w₄ w′ s root root′ x e x′ e′ n k st h
   withdraw-steps =
       record {
@@ -102,8 +102,8 @@ module _ {w w₁ w₂ w₃ u₁ u₂ w₄ w′ : Words} {number : ℤ} {c s root
         headed = heads;
         freed =
             freed-given w₄ s
-            (omega (arith, live .slot, live-slots w held (b .offers) .low (live .member)))
-            (omega (arith, live .slot, live-slots w held (b .offers) .high (live .member), same, heads .agree .room))
+            (omega (arith, live .slot, live-slots w held (b .offers .offers-in) .low (live .member)))
+            (omega (arith, live .slot, live-slots w held (b .offers .offers-in) .high (live .member), same, heads .agree .room))
             (p .give-back);
       }
     where
@@ -113,11 +113,11 @@ module _ {w w₁ w₂ w₃ u₁ u₂ w₄ w′ : Words} {number : ℤ} {c s root
       heads : Headed x′ e′ n w₃ w₄
       heads = headed w₃ (omega (arith, b .some-slot, b .capacity, same)) (p .set-root) (p .set-envelope) (p .set-count)
 
-  pub withdraw-done : suc n ≡ length (bookLines held) → Updated w′ c held (leave number (plainOffers held)) k st h
+  pub withdraw-done : suc n ≡ length (bookLines held) → Updated w′ (holding plain (leave number (plain .offers))) held k st h
   withdraw-done count = withdrawn-plain a b live withdraw-steps count
 
   -- the count written is the plain book's
-  pub withdraw-count : suc n ≡ length (bookLines held) → n ≡ length (leave number (plainOffers held))
+  pub withdraw-count : suc n ≡ length (bookLines held) → n ≡ length (leave number (plain .offers))
   withdraw-count count = withdrawn-count a b live withdraw-steps count
 
 -- ---- the header on the way

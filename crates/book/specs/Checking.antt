@@ -9,7 +9,7 @@ use lib.IntN.{ℤ}
 use Rattle.plain.specs.Book.{noBookAt}
 use Rattle.table.specs.Words.{Words, word}
 use Rattle.matching.specs.Tests.{Decides}
-use Rattle.auditing.specs.Audits.{BookStands}
+use Rattle.form.specs.Form.{BookStands}
 use Rattle.book.specs.Promises.{partOf, Checks}
 use Rattle.book.specs.Plainly.{book-there}
 use Rattle.book.specs.Parts.{said, whole-part}

@@ -23,10 +23,10 @@ use Rattle.table.specs.Rep.{tied-leaf, Within, within-refl}
 use Rattle.table.specs.Nodes.{ref-low}
 use Rattle.table.specs.Threads.{Holds}
 use Rattle.pieces.specs.Pieces.{items, rateOf}
-use Rattle.update.specs.Stored.{HeldIn, stored-single, Touched}
-use Rattle.update.specs.Frames.{touched-refl}
+use Rattle.form.specs.Stored.{HeldIn, stored-single, Touched}
+use Rattle.form.specs.Frames.{touched-refl}
 use Rattle.update.specs.Steps.{Counted, Newcomer, InsertedIn}
-use Rattle.update.specs.Form.{OffersIn, offersRef, envelopeRef}
+use Rattle.form.specs.Form.{OffersIn, offersRef, envelopeRef}
 use Rattle.book.specs.Live.{offerOf}
 
 -- ---- an item placed in order, as the plain book joins its offer

@@ -24,9 +24,9 @@ use Rattle.table.specs.Words.{Words}
 use Rattle.table.specs.Items.{Item, Slots}
 use Rattle.table.specs.Rep.{Within}
 use Rattle.pieces.specs.Pieces.{items, item-laws}
-use Rattle.update.specs.Stored.{Touched}
+use Rattle.form.specs.Stored.{Touched}
 use Rattle.update.specs.Steps.{Counted, Leaver, LeftIn, RemovedIn}
-use Rattle.update.specs.Form.{OffersIn, offersRef, envelopeRef, numberOf}
+use Rattle.form.specs.Form.{OffersIn, offersRef, envelopeRef, numberOf}
 use Rattle.book.specs.Live.{offerOf}
 
 -- ---- the items but one

@@ -6,13 +6,14 @@ use mathlib.Core.List.{List, List·Memᴰ, List·Memᴰ·head, List·Memᴰ·tai
 use mathlib.Core.Option.{Option, none, some}
 use Prim.Native.Nat.{ℕ}
 use native.Mathlib.Omega.{arith}
-use lib.ListN.{length-map}
+use lib.ListN.{length, length-map}
 use lib.Dec.{T, T-prop}
 use Rattle.lists.specs.Members.{pairs-cons}
 use Rattle.integers.specs.Parts.{intRules}
 use Rattle.offers.specs.Offers.{Offer, offerInRange, precedes}
 use Rattle.envelopes.specs.PseudoLines.{Figure}
 use Rattle.envelopes.specs.Envelope.{Ordered, Ordered·nil, Ordered·cons}
+use Rattle.plain.specs.Book.{State}
 use Rattle.plain.specs.Sound.{Sound}
 use Rattle.dynamic.specs.OfferTree.{Held}
 use Rattle.dynamic.specs.Valid.{WholeBook, bookLines}
@@ -21,8 +22,7 @@ use Rattle.table.specs.Layout.{cap, cap-most}
 use Rattle.table.specs.Items.{Item, Slots}
 use Rattle.table.specs.Threads.{Holds}
 use Rattle.pieces.specs.Pieces.{items}
-use Rattle.update.specs.Form.{Book, OffersIn, numberOf}
-use Rattle.book.specs.Promises.{plainOf}
+use Rattle.form.specs.Form.{Book, OffersIn, numberOf}
 
 abbrev pub offerOf : Item → Offer
 offerOf a = a .offer
@@ -59,15 +59,15 @@ one-owner key p (List·Memᴰ·tail m) (List·Memᴰ·tail n) e = one-owner key 
 pub slot-tells : {c : ℕ} {xs : List Item} → Slots c xs → {a b : Item} → List·Memᴰ a xs → List·Memᴰ b xs → a .slot ≡ b .slot → a ≡ b
 slot-tells s m n e = one-owner (λ (a : Item). a .slot) (s .apart) m n e
 
-module _ {w : Words} {c : ℕ} {held : Option (Held Item)} (b : Book w c held) where
+module _ {w : Words} {plain : State} {held : Option (Held Item)} (b : Book w plain held) where
   -- a number tells the live item
   pub number-tells : {x y : Item} → List·Memᴰ x (bookLines held) → List·Memᴰ y (bookLines held) → numberOf x ≡ numberOf y → x ≡ y
-  number-tells m n e = one-owner numberOf (Pairwise·imp (λ x y t d. omega (arith, intRules)) (b .numbers-in .falling)) (b .numbers-in .all-there _ m) (b .numbers-in .all-there _ n) e
+  number-tells m n e = one-owner numberOf (Pairwise·imp (λ x y t d. omega (arith, intRules)) (b .numbers .numbers-in .falling)) (b .numbers .numbers-in .all-there _ m) (b .numbers .numbers-in .all-there _ n) e
 
   numbers-apart : Pairwise (λ x y. numberOf x ≢ numberOf y) (bookLines held)
   numbers-apart =
       Pairwise·imp-of-mem (λ x y m n d e. ∥∥₁-elim m (λ p q. absurd p) (λ i. ∥∥₁-elim n (λ p q. absurd p) (λ j. d (ap (λ (a : Item). a .slot) (number-tells i j e)))))
-      (live-slots w held (b .offers) .apart)
+      (live-slots w held (b .offers .offers-in) .apart)
 
 -- ---- the plain book
 
@@ -75,13 +75,22 @@ pub ordered-pairs : {S : Figure} {ls : List (S .Line)} → Ordered S ls → Pair
 ordered-pairs Ordered·nil = Pairwise·nil
 ordered-pairs {S} (Ordered·cons h o) = pairs-cons (λ a b. T-prop (S .before a b)) h (ordered-pairs o)
 
-pub book-sound : {w : Words} {c : ℕ} {held : Option (Held Item)} → Book w c held → Sound (plainOf c held)
-book-sound {w} {c} {held} b =
+-- it has as many offers as there are live items
+pub live-length : {w : Words} {plain : State} {held : Option (Held Item)} → Book w plain held → length (plain .offers) ≡ length (bookLines held)
+live-length {held} b = ap length (sym (b .stands-for)) ∙ length-map (bookLines held) offerOf
+
+pub book-sound : {w : Words} {plain : State} {held : Option (Held Item)} → Book w plain held → Sound plain
+book-sound {w} {plain} {held} b =
     record {
       capacity-low = b .some-slot;
       capacity-high = omega (arith, b .capacity, cap-most w);
-      ordered = Pairwise·map (λ x y. T-prop (precedes x y)) offerOf (λ x y t. t) (ordered-pairs (whole-ordered held (live-whole w held (b .offers))));
-      numbered = Pairwise·map (λ x y. ¬-prop) offerOf (λ x y d. d) (numbers-apart b);
-      ranged = λ o m. let (a, i, e) = Memᴰ·of-map offerOf (bookLines held) m in subst (λ (o : Offer). T (offerInRange o)) e (live-holds w held (b .offers) .held i .ranged);
-      fits = omega (arith, b .slots-used, length-map (bookLines held) offerOf);
+      ordered = subst (Pairwise (λ x y. T (precedes x y))) (b .stands-for) (Pairwise·map (λ x y. T-prop (precedes x y)) offerOf (λ x y t. t) (ordered-pairs (whole-ordered held (live-whole w held offers))));
+      numbered = subst (Pairwise (λ x y. x .number ≢ y .number)) (b .stands-for) (Pairwise·map (λ x y. ¬-prop) offerOf (λ x y d. d) (numbers-apart b));
+      ranged = λ o m.
+          let (a, i, e) = Memᴰ·of-map offerOf (bookLines held) (subst (List·Memᴰ o) (sym (b .stands-for)) m) in
+          subst (λ (o : Offer). T (offerInRange o)) e (live-holds w held offers .held i .ranged);
+      fits = omega (arith, b .free .slots-used, b .capacity, live-length b);
     }
+  where
+    offers : OffersIn w held
+    offers = b .offers .offers-in

@@ -1,22 +1,21 @@
 -- The form is a matter of the part's words alone: words past the part may change as they will.
-use mathlib.Core.Path.{_≡_, refl, sym, _∙_, ap}
-use mathlib.Core.List.{List, [], _∷_}
+use mathlib.Core.Path.{_≡_, sym, _∙_, ap}
+use mathlib.Core.List.{List}
 use mathlib.Core.Option.{Option, none, some}
-use Prim.Native.Nat.{ℕ, _+_, _*_, _<_, _≤_}
+use Prim.Native.Nat.{ℕ, _<_}
 use native.Mathlib.Omega.{arith}
 use lib.ListN.{length}
-use lib.IntN.{ℤ, pos}
-use Rattle.plain.specs.Book.{partLength}
-use Rattle.trees.specs.Tree.{leaves}
-use Rattle.trees.specs.Operations.{Part, partLeaves}
-use Rattle.dynamic.specs.OfferTree.{Held, heldShape}
+use Rattle.plain.specs.Book.{State, partLength}
+use Rattle.trees.specs.Operations.{Part}
+use Rattle.dynamic.specs.OfferTree.{Held}
+use Rattle.dynamic.specs.Valid.{bookLines}
 use Rattle.dynamic.specs.Rearranged.{stored}
 use Rattle.table.specs.Words.{Words, word, word-out}
-use Rattle.table.specs.Layout.{cap, cap-of, cell, linkAt, place, place-high, Valid, valid?, spot, spot-of, spot-in, spot-out}
+use Rattle.table.specs.Layout.{cap, cap-of, cell, place-high, Valid, valid?, spot, spot-of, spot-in, spot-out}
 use Rattle.table.specs.Items.{Item, Slots}
-use Rattle.update.specs.Stored.{HeldIn}
-use Rattle.update.specs.Frames.{Same, tied-same, part-same, holds-same, stored-same}
-use Rattle.update.specs.Form.{Book, OffersIn, NumbersIn, TiedPart, FreeChain, free-none, free-more, head0}
+use Rattle.form.specs.Stored.{HeldIn}
+use Rattle.form.specs.Frames.{Same, tied-same, part-same, holds-same, stored-same}
+use Rattle.form.specs.Form.{Book, OffersIn, OffersStand, Numbered, Freely, TiedPart, FreeChain, free-none, free-more}
 
 -- the same words in a part of capacity c
 pub record Alike (c : ℕ) (w w′ : Words) : Type 0 where
@@ -66,31 +65,50 @@ module _ {w w′ : Words} {c : ℕ} (fits : cap w ≡ c) (a : Alike c w w′) wh
   alike-free free-none = free-none
   alike-free (free-more {s} {ss} low high zero next rest) = free-more low (rw alike-cap high) (alike-cell 0 s ∙ zero) (alike-cell 3 s ∙ next) (alike-free rest)
 
-pub book-alike : {w w′ : Words} {c : ℕ} {held : Option (Held Item)} → Book w c held → Alike c w w′ → Book w′ c held
-book-alike {w} {w′} {c} {held} b a =
+pub book-alike : {w w′ : Words} {s : State} {held : Option (Held Item)} → Book w s held → Alike (s .capacity) w w′ → Book w′ s held
+book-alike {w} {w′} {s} {held} b a =
     record {
       capacity = alike-cap (b .capacity) a ∙ b .capacity;
       some-slot = b .some-slot;
-      offers-root = header 1 (omega arith) ∙ b .offers-root;
-      envelope-root = header 2 (omega arith) ∙ b .envelope-root;
-      live-count = header 3 (omega arith) ∙ b .live-count;
-      offers = alike-offers (b .capacity) a held (b .offers);
-      numbers = b .numbers;
-      numbers-root = header 4 (omega arith) ∙ b .numbers-root;
-      numbers-in =
+      offers =
           record {
-            tied = alike-tied (b .capacity) a (b .numbers) (b .numbers-in .tied);
-            balanced = b .numbers-in .balanced;
-            falling = b .numbers-in .falling;
-            all-live = b .numbers-in .all-live;
-            all-there = b .numbers-in .all-there;
+            offers-root = header 1 (omega arith) ∙ o .offers-root;
+            envelope-root = header 2 (omega arith) ∙ o .envelope-root;
+            live-count = header 3 (omega arith) ∙ o .live-count;
+            offers-in = alike-offers (b .capacity) a held (o .offers-in);
           };
-      free = b .free;
-      first-free = header 5 (omega arith) ∙ b .first-free;
-      free-chain = alike-free (b .capacity) a (b .free-chain);
-      free-apart = b .free-apart;
-      slots-used = b .slots-used;
+      numbers =
+          record {
+            numbers = n .numbers;
+            numbers-root = header 4 (omega arith) ∙ n .numbers-root;
+            numbers-in =
+                record {
+                  tied = alike-tied (b .capacity) a (n .numbers) (n .numbers-in .tied);
+                  balanced = n .numbers-in .balanced;
+                  falling = n .numbers-in .falling;
+                  all-live = n .numbers-in .all-live;
+                  all-there = n .numbers-in .all-there;
+                };
+          };
+      free =
+          record {
+            free = f .free;
+            first-free = header 5 (omega arith) ∙ f .first-free;
+            free-chain = alike-free (b .capacity) a (f .free-chain);
+            free-apart = f .free-apart;
+            slots-used = f .slots-used ∙ sym (alike-cap (b .capacity) a);
+          };
+      stands-for = b .stands-for;
     }
   where
     header : (i : ℕ) → i < 64 → word w′ i ≡ word w i
     header i h = a .words i (omega arith)
+
+    o : OffersStand w held
+    o = b .offers
+
+    n : Numbered w (bookLines held)
+    n = b .numbers
+
+    f : Freely w (length (bookLines held))
+    f = b .free

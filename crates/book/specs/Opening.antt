@@ -11,10 +11,11 @@ use lib.ListN.{length}
 use lib.IntN.{ℤ, pos}
 use borrow.Author.Tests.{le-leb}
 use Rattle.lists.specs.Members.{pairs-cons}
+use Rattle.plain.specs.Book.{opened}
 use Rattle.table.specs.Words.{Words, word, wset, wset-length, wset-same, wset-other, upTo, upTo-in}
 use Rattle.table.specs.Layout.{cap, fitting, cell, cset, Valid, cset-same, cset-other}
 use Rattle.table.specs.Rep.{Within, within-cap, within-refl, within-trans, within-cset}
-use Rattle.update.specs.Form.{Book, FreeChain, free-none, free-more, head0}
+use Rattle.form.specs.Form.{Book, FreeChain, free-none, free-more, head0}
 use Rattle.book.specs.Agree.{header-kept}
 
 -- ---- the header
@@ -158,21 +159,31 @@ module _ {c : ℕ} {w w′ : Words} (b : Begun c w) (l : Laid c c w w′) where
       (l .next k low (omega arith) (omega arith))
       (chain (suc n) (suc k) (omega arith) (omega arith))
 
-  pub opened-book : Book w′ c none
+  pub opened-book : Book w′ (opened (pos c)) none
   opened-book =
       record {
         capacity = fits;
         some-slot = b .low;
-        offers-root = header-kept (l .within) 1 (omega arith) ∙ b .offers-root;
-        envelope-root = header-kept (l .within) 2 (omega arith) ∙ b .envelope-root;
-        live-count = header-kept (l .within) 3 (omega arith) ∙ b .live-count;
-        offers = tt;
-        numbers = none;
-        numbers-root = header-kept (l .within) 4 (omega arith) ∙ b .numbers-root;
-        numbers-in = record { tied = tt; balanced = tt; falling = Pairwise·nil; all-live = λ a m. m; all-there = λ a m. m };
-        free = upward c 1;
-        first-free = header-kept (l .within) 5 (omega arith) ∙ b .first-free ∙ ap pos (sym (upward-head c 1 (b .low)));
-        free-chain = chain c 1 (omega arith) (omega arith);
-        free-apart = upward-apart c 1;
-        slots-used = omega (arith, upward-length c 1);
+        offers =
+            record {
+              offers-root = header-kept (l .within) 1 (omega arith) ∙ b .offers-root;
+              envelope-root = header-kept (l .within) 2 (omega arith) ∙ b .envelope-root;
+              live-count = header-kept (l .within) 3 (omega arith) ∙ b .live-count;
+              offers-in = tt;
+            };
+        numbers =
+            record {
+              numbers = none;
+              numbers-root = header-kept (l .within) 4 (omega arith) ∙ b .numbers-root;
+              numbers-in = record { tied = tt; balanced = tt; falling = Pairwise·nil; all-live = λ a m. m; all-there = λ a m. m };
+            };
+        free =
+            record {
+              free = upward c 1;
+              first-free = header-kept (l .within) 5 (omega arith) ∙ b .first-free ∙ ap pos (sym (upward-head c 1 (b .low)));
+              free-chain = chain c 1 (omega arith) (omega arith);
+              free-apart = upward-apart c 1;
+              slots-used = omega (arith, fits, upward-length c 1);
+            };
+        stands-for = refl;
       }

@@ -2,27 +2,26 @@
 use mathlib.Core.Path.{_≡_, refl, sym, _∙_, ap, subst}
 use mathlib.Core.Logic.{_≢_}
 use mathlib.Core.Bool.{Bool, true, false, not, _||_}
-use mathlib.Core.List.{List, [], _∷_, _++_}
+use mathlib.Core.List.{List, _++_}
 use mathlib.Core.Option.{Option, none, some}
-use Prim.Native.Nat.{ℕ, zero, suc, _+_, _*_, _-_, _≤_, _<_}
+use Prim.Native.Nat.{ℕ, suc, _+_, _*_, _-_, _≤_, _<_}
 use native.Mathlib.Omega.{arith}
-use lib.ListN.{length, take, drop, length-drop}
-use lib.Dec.{T, T-not, ltb, lt→ltb}
+use lib.ListN.{length, take, drop}
+use lib.Dec.{T, ltb, lt→ltb}
 use lib.Arith.{lt→nleb}
 use Rattle.lists.specs.Tests.{not-not}
 use lib.IntN.{ℤ, pos, natAbs}
 use Rattle.offers.specs.Offers.{between}
-use Rattle.plain.specs.Causes.{Cause, Trial, declined, causeNumber, capacityOutOfRange, tableTooShort}
-use Rattle.plain.specs.Book.{openTrials, openingBy, partLength}
+use Rattle.plain.specs.Causes.{Cause, Trial, declined, causeNumber}
+use Rattle.plain.specs.Book.{opened, openTrials, openingBy, partLength}
 use Rattle.plain.specs.Rules.{FirstOf, at-once, further, declined-by, not-declined}
 use Rattle.plain.specs.Sound.{Clear}
 use Rattle.table.specs.Words.{Words, word, wset, upTo, wset-length, wset-other}
 use Rattle.table.specs.Layout.{cap, cset, beyond-outside}
-use Rattle.table.specs.Rep.{Within}
-use Rattle.update.specs.Form.{Book}
+use Rattle.form.specs.Form.{Book}
 use Rattle.book.specs.declared.Opening.{Opening}
 use Rattle.book.specs.declared.Opening.the-variants.{Opened, Declined}
-use Rattle.book.specs.Promises.{partOf, openingNumber, plainOpening, Opens, OnlyPart}
+use Rattle.book.specs.Promises.{partOf, openingAnswer, plainOpening, Opens, OnlyPart}
 use Rattle.book.specs.Opening.{Begun, begun, begun-cap, Laid, laid-more, opened-book}
 use Rattle.book.specs.Parts.{Beyond, part-back, only-part, whole-part, lent-back, either-first, either-second, not-either, said, denied, told-is}
 
@@ -99,7 +98,7 @@ laying-last {c} {n} {w} {w₀} {w₁} {w₂} l h n₁ n₂ e₁ e₂ =
 -- ---- both, on a part
 
 pub record Starts (c : ℕ) (w w′ : Words) : Type 0 where
-  pub stands : Book w′ c none
+  pub stands : Book w′ (opened (pos c)) none
   pub beyond : Beyond c w w′
 
 pub starts : {c : ℕ} {w w₀ w′ : Words} → 1 ≤ c → c ≤ 4096 → 64 * (c + 1) ≤ length w → Heading c w w₀ → Lays c w₀ w′ → Starts c w w′
@@ -119,7 +118,7 @@ starts {c} {w} {w₀} {w′} low high room g l =
 
 module _ (c : ℤ) (start : ℕ) (t t′ : List ℤ) where
   opens-declined : {r : Opening} {k : Cause} → FirstOf (openTrials (length t) start c) k → r ≡ Declined (pos (causeNumber k)) → t′ ≡ t → Opens c start t t′ r
-  opens-declined {k = k} f er et = record { answers = ap openingNumber er ∙ ap (λ (d : Option Cause). plainOpening (openingBy c d)) (sym (declined-by (openTrials (length t) start c) k f)); declined = λ z g. (er ∙ ap (λ (n : ℕ). Declined (pos n)) (sym (one-cause f g)), et); accepted = λ g. absurd (not-clear f g) }
+  opens-declined {k = k} f er et = record { answers = ap openingAnswer er ∙ ap (λ (d : Option Cause). plainOpening (openingBy c d)) (sym (declined-by (openTrials (length t) start c) k f)); declined = λ z g. (er ∙ ap (λ (n : ℕ). Declined (pos n)) (sym (one-cause f g)), et); accepted = λ g. absurd (not-clear f g) }
 
   pub opens-range : {b : Bool} → b ≡ not (between (pos 1) (pos 4_096) c) → b ≡ true → t′ ≡ t → Opens c start t t′ (Declined (pos 1))
   opens-range e h et = opens-declined (at-once (said e h)) refl et
@@ -148,7 +147,7 @@ module _ (c : ℤ) (start : ℕ) (t t′ : List ℤ) where
         record {
           answers = ap (λ (d : Option Cause). plainOpening (openingBy c d)) (sym (not-declined (openTrials (length t) start c) clears));
           declined = λ z f. absurd (not-clear f clears);
-          accepted = λ k. (refl, subst (λ (m : ℕ). Book (partOf t′ start) m none) is-capacity (subst (λ (u : Words). Book u n none) (sym (part-back t start w′ back low)) (g .stands)), subst (λ (m : ℕ). OnlyPart m start t t′) is-capacity (only-part t start w′ back low (subst (λ (u : Words). Beyond n u w′) (whole-part t start) (g .beyond))));
+          accepted = λ k. (refl, subst (λ (m : ℕ). Book (partOf t′ start) (opened (pos m)) none) is-capacity (subst (λ (u : Words). Book u (opened (pos n)) none) (sym (part-back t start w′ back low)) (g .stands)), subst (λ (m : ℕ). OnlyPart m start t t′) is-capacity (only-part t start w′ back low (subst (λ (u : Words). Beyond n u w′) (whole-part t start) (g .beyond))));
         }
       where
         back : t′ ≡ take start t ++ w′

@@ -8,7 +8,7 @@ use native.Mathlib.Omega.{arith}
 use lib.ListN.{length}
 use lib.IntN.{ℤ, pos}
 use Rattle.plain.specs.Causes.{Cause, causeNumber}
-use Rattle.plain.specs.Book.{Call, post, withdraw, join, leave, rangeTrials, trials, step}
+use Rattle.plain.specs.Book.{State, Call, post, join, leave, rangeTrials, trials, holding, step}
 use Rattle.plain.specs.Rules.{FirstOf}
 use Rattle.plain.specs.Sound.{Clear}
 use Rattle.dynamic.specs.OfferTree.{Held}
@@ -20,9 +20,9 @@ use Rattle.table.specs.Items.{Item}
 use Rattle.table.specs.Rep.{Within, within-cap}
 use Rattle.descents.specs.Finds.{Found}
 use Rattle.update.specs.Steps.{RemovedIn}
-use Rattle.update.specs.Form.{Book, plainOffers}
+use Rattle.form.specs.Form.{Book}
 use Rattle.numbers.specs.Numbers.{FoundNumber, Added, Dropped}
-use Rattle.book.specs.Promises.{plainOf}
+use Rattle.book.specs.Live.{live-length}
 use Rattle.book.specs.Sought.{number-sought, rate-sought, count-read}
 use Rattle.book.specs.Plainly.{refusing, post-number-live, post-rate-live, post-full, post-clear}
 use Rattle.book.specs.Joining.{Joined, joins-alone, joins-among}
@@ -101,39 +101,39 @@ found-at {n} {w} {s} e f = subst (λ (i : ℕ). FoundNumber n i w s) e f
 
 -- the number of the cause for which a post in range is declined, or 0
 pub record PostCause (n r : ℤ) (w : Words) (m : ℕ) : Type 0 where
-  pub declines : (z : ℤ) (c : ℕ) (held : Option (Held Item)) → Book w c held → Clear (rangeTrials (post n r z)) → 0 < m → step (plainOf c held) (post n r z) ≡ refusing (plainOf c held) m
-  pub clears : (z : ℤ) (c : ℕ) (held : Option (Held Item)) → Book w c held → Clear (rangeTrials (post n r z)) → m ≤ 0 → Clear (trials (plainOf c held) (post n r z)) × Postable (record { number = n; rate = r; base = z }) c (bookLines held)
+  pub declines : (z : ℤ) (plain : State) (held : Option (Held Item)) → Book w plain held → Clear (rangeTrials (post n r z)) → 0 < m → step plain (post n r z) ≡ refusing plain m
+  pub clears : (z : ℤ) (plain : State) (held : Option (Held Item)) → Book w plain held → Clear (rangeTrials (post n r z)) → m ≤ 0 → Clear (trials plain (post n r z)) × Postable (record { number = n; rate = r; base = z }) (plain .capacity) (bookLines held)
 
 module _ (n r : ℤ) (w : Words) {root s : ℕ} (er : root ≡ upTo 8192 (word w 4)) (f : FoundNumber n root w s) where
   pub cause-number : 0 < s → PostCause n r w 5
   cause-number h =
       record {
-        declines = λ z c held b g q. post-number-live b n r z g (number-sought b f er) (λ e. omega (arith, e, h));
-        clears = λ z c held b g q. absurd (omega (arith, q));
+        declines = λ z plain held b g q. post-number-live b n r z g (number-sought b f er) (λ e. omega (arith, e, h));
+        clears = λ z plain held b g q. absurd (omega (arith, q));
       }
 
   module _ {x u : ℕ} (low : s ≤ 0) (ex : x ≡ upTo 8192 (word w 1)) (d : Found w 1 1 r x u) where
     pub cause-rate : 0 < u → PostCause n r w 6
     cause-rate h =
         record {
-          declines = λ z c held b g q. post-rate-live b n r z g (number-sought b f er) (omega (arith, low)) (rate-sought b d ex) (λ e. omega (arith, e, h));
-          clears = λ z c held b g q. absurd (omega (arith, q));
+          declines = λ z plain held b g q. post-rate-live b n r z g (number-sought b f er) (omega (arith, low)) (rate-sought b d ex) (λ e. omega (arith, e, h));
+          clears = λ z plain held b g q. absurd (omega (arith, q));
         }
 
     module _ {i m : ℕ} (least : u ≤ 0) (ei : i ≡ upTo 8192 (word w 3)) (em : m ≡ cap w) where
       pub cause-full : m ≤ i → PostCause n r w 7
       cause-full h =
           record {
-            declines = λ z c held b g q. post-full b n r z g (number-sought b f er) (omega (arith, low)) (rate-sought b d ex) (omega (arith, least)) (omega (arith, h, em, ei, b .capacity, count-read b));
-            clears = λ z c held b g q. absurd (omega (arith, q));
+            declines = λ z plain held b g q. post-full b n r z g (number-sought b f er) (omega (arith, low)) (rate-sought b d ex) (omega (arith, least)) (omega (arith, h, em, ei, b .capacity, count-read b));
+            clears = λ z plain held b g q. absurd (omega (arith, q));
           }
 
       pub cause-none : i < m → PostCause n r w 0
       cause-none h =
           record {
-            declines = λ z c held b g q. absurd (omega (arith, q));
-            clears = λ z c held b g q.
-                let room : length (bookLines held) < c = omega (arith, h, em, ei, b .capacity, count-read b) in (
+            declines = λ z plain held b g q. absurd (omega (arith, q));
+            clears = λ z plain held b g q.
+                let room : length (bookLines held) < plain .capacity = omega (arith, h, em, ei, b .capacity, count-read b) in (
                   post-clear b n r z g (number-sought b f er) (omega (arith, low)) (rate-sought b d ex) (omega (arith, least)) room,
                   postable n r z b g (number-sought b f er) (omega (arith, low)) (rate-sought b d ex) (omega (arith, least)) room,
                 );
@@ -143,8 +143,8 @@ module _ (n r : ℤ) (w : Words) {root s : ℕ} (er : root ≡ upTo 8192 (word w
 pub record PostDone (n r z : ℤ) (w w′ : Words) (m k st h : ℕ) : Type 0 where
   pub kept : Kept w w′
   pub done :
-      (c : ℕ) (held : Option (Held Item)) → Book w c held → Postable (record { number = n; rate = r; base = z }) c (bookLines held) →
-      Updated w′ c held (join (record { number = n; rate = r; base = z }) (plainOffers held)) k st h × (m ≡ suc (length (bookLines held)))
+      (plain : State) (held : Option (Held Item)) → Book w plain held → Postable (record { number = n; rate = r; base = z }) (plain .capacity) (bookLines held) →
+      Updated w′ (holding plain (join (record { number = n; rate = r; base = z }) (plain .offers))) held k st h × (m ≡ suc (length (plain .offers)))
 
 pub posted-part :
     (n r z : ℤ) {w w₁ w₂ w₃ w₄ w′ : Words} {s root root′ x e x′ e′ i m k st h : ℕ} →
@@ -155,11 +155,11 @@ pub posted-part :
 posted-part n r z {w} {w₁} {w₂} {w₃} {w₄} {w′} {s} {root} {root′} {x} {e} {x′} {e′} {i} {m} er ex ee ei es e₁ added e₃ joined em e′′ =
     record {
       kept = then (then (then (then (then (then (kept-filling n r z s w) (kept-same e₁)) (kept-within (added .within))) (then (kept-header w₂ 4 (pos root′) (omega arith) (omega arith)) (kept-same e₃))) (kept-joined joined)) (kept-rooting x′ e′ m w₄)) (kept-same e′′);
-      done = λ c held b new. (
+      done = λ plain held b new. (
         post-done (record { number = n; rate = r; base = z }) b new
             (record { slot = es; take = refl; put-number = refl; put-rate = refl; put-base = e₁; numbers-root = er; added = added; rooted = e₃; offers-root = ex; envelope-root = ee; joined = joined; set-root = refl; set-envelope = refl; set-count = e′′ })
             (omega (arith, em, ei, count-read b)),
-        omega (arith, em, ei, count-read b),
+        omega (arith, em, ei, count-read b, live-length b),
       );
     }
 
@@ -169,8 +169,8 @@ posted-part n r z {w} {w₁} {w₂} {w₃} {w₄} {w′} {s} {root} {root′} {x
 pub record WithdrawDone (n : ℤ) (s : ℕ) (w w′ : Words) (m k st h : ℕ) : Type 0 where
   pub kept : Kept w w′
   pub done :
-      (c : ℕ) (held : Option (Held Item)) → Book w c held → FoundNumber n (upTo 8192 (word w 4)) w s → 1 ≤ s →
-      Updated w′ c held (leave n (plainOffers held)) k st h × (m ≡ length (leave n (plainOffers held)))
+      (plain : State) (held : Option (Held Item)) → Book w plain held → FoundNumber n (upTo 8192 (word w 4)) w s → 1 ≤ s →
+      Updated w′ (holding plain (leave n (plain .offers))) held k st h × (m ≡ length (leave n (plain .offers)))
 
 some-live : (live : List Item) {a : Item} → List·Memᴰ a live → 1 ≤ length live
 some-live [] m = absurd (List·Memᴰ·not-nil m)
@@ -188,8 +188,8 @@ withdrawn-part n {w} {w₁} {w₂} {w₃} {w₄} {w′} {s} {root} {root′} {x}
       done = finish;
     }
   where
-    finish : (c : ℕ) (held : Option (Held Item)) → Book w c held → FoundNumber n (upTo 8192 (word w 4)) w s → 1 ≤ s → Updated w′ c held (leave n (plainOffers held)) k st h × (m ≡ length (leave n (plainOffers held)))
-    finish c held b f low =
+    finish : (plain : State) (held : Option (Held Item)) → Book w plain held → FoundNumber n (upTo 8192 (word w 4)) w s → 1 ≤ s → Updated w′ (holding plain (leave n (plain .offers))) held k st h × (m ≡ length (leave n (plain .offers)))
+    finish plain held b f low =
         let (a, live) = live-at (number-sought b f refl) (λ q. omega (arith, q, low)) in
         let writes : WithdrawWrites n w w₁ w₂ w₃ (wset w₃ 1 (pos x′)) (wset (wset w₃ 1 (pos x′)) 2 (pos e′)) w₄ w′ s root root′ x e x′ e′ m k st h = record { numbers-root = er; dropped = dropped; rooted = e₂; offers-root = ex; envelope-root = ee; removed = removed; set-root = refl; set-envelope = refl; set-count = e₄; give-back = e′′ } in
         let count : suc m ≡ length (bookLines held) = omega (arith, em, ei, count-read b, some-live (bookLines held) (live .member)) in

@@ -1,13 +1,13 @@
 -- A call's part of the table: lent from `start` on, and what it comes back as.
 use mathlib.Core.Path.{_≡_, refl, sym, _∙_, ap, subst}
-use mathlib.Core.Bool.{Bool, true, false, not, _&&_, _||_}
+use mathlib.Core.Bool.{Bool, true, false, not, _||_}
 use mathlib.Core.List.{List, [], _∷_, _++_}
 use mathlib.Core.Option.{Option}
-use Prim.Native.Nat.{ℕ, suc, _+_, _*_, _-_, _≤_, _<_}
+use Prim.Native.Nat.{ℕ, _+_, _*_, _-_, _≤_, _<_}
 use native.Mathlib.Omega.{arith}
-use lib.ListN.{length, take, drop, length-drop, length-append, getD, drop-of-length-le, take-append-drop}
+use lib.ListN.{length, take, drop, length-drop, length-append, drop-of-length-le, take-append-drop}
 use lib.Seq.{take-all, take-at, drop-at, drop-drop, length-take-le, ext-getD, getD-drop}
-use lib.Dec.{T, T-not, leb, ltb, lt→ltb, nltb→le}
+use lib.Dec.{T, T-not, ltb, lt→ltb, nltb→le}
 use lib.IntN.{ℤ, pos, negsuc, natAbs}
 use lib.Signed.{leZ}
 use borrow.Author.Tests.{le-leb}
@@ -16,13 +16,13 @@ use Rattle.lists.specs.Tests.{not-not}
 use Rattle.integers.specs.Parts.{intRules}
 use Rattle.offers.specs.Offers.{between}
 use Rattle.plain.specs.Causes.{Cause, causeNumber}
-use Rattle.plain.specs.Book.{noBookAt, partLength}
+use Rattle.plain.specs.Book.{State, noBookAt, partLength}
 use Rattle.plain.specs.Rules.{FirstOf, at-once, further}
 use Rattle.dynamic.specs.OfferTree.{Held}
 use Rattle.table.specs.Words.{Words, word, upTo, upTo-in}
 use Rattle.table.specs.Layout.{cap, fitting}
 use Rattle.table.specs.Items.{Item}
-use Rattle.update.specs.Form.{Book}
+use Rattle.form.specs.Form.{Book}
 use Rattle.book.specs.Promises.{partOf, noBookTrial, OnlyPart}
 use Rattle.book.specs.Plainly.{cap-book, book-there}
 
@@ -124,7 +124,7 @@ cap-none t start {n} e h = go (noBookAt (length t) start (word (partOf t start) 
 
 -- where there is none, no part has the form, and the number is 3
 module _ (t : List ℤ) (start : ℕ) {no : Bool} (e : no ≡ noBookAt (length t) start (word (partOf t start) 0)) (d : no ≡ true) where
-  pub no-form : {c : ℕ} {held : Option (Held Item)} → Book (partOf t start) c held → ⊥
+  pub no-form : {plain : State} {held : Option (Held Item)} → Book (partOf t start) plain held → ⊥
   no-form b = T-not (noBookAt (length t) start (word (partOf t start) 0)) (book-there start t b) (said e d)
 
 pub no-book-cause : (t : List ℤ) (start : ℕ) {z : Cause} → FirstOf (noBookTrial t start ∷ []) z → causeNumber z ≡ 3

@@ -6,7 +6,7 @@ use mathlib.Core.List.{List, [], _∷_, _++_}
 use mathlib.Core.Option.{Option}
 use Prim.Native.Nat.{ℕ, _+_, _*_, _-_, _≤_, _<_}
 use native.Mathlib.Omega.{arith}
-use lib.ListN.{length, length-drop, length-map}
+use lib.ListN.{length, length-drop}
 use lib.Dec.{T, T-not, not-T, leb, ltb, le→leb, ltb→lt}
 use lib.Arith.{lt→nleb}
 use lib.IntN.{ℤ, pos, negsuc}
@@ -15,7 +15,7 @@ use borrow.Author.Tests.{leb-true}
 use Rattle.lists.specs.Filter.{both}
 use Rattle.lists.specs.Tests.{any, not-not}
 use Rattle.integers.specs.Parts.{intRules}
-use Rattle.offers.specs.Offers.{between, offerInRange, numberInRange, rateInRange, baseInRange}
+use Rattle.offers.specs.Offers.{Offer, between, offerInRange, numberInRange, rateInRange, baseInRange}
 use Rattle.plain.specs.Causes.{Cause, Trial, causeNumber, numberLive, rateLive, bookFull, numberNotLive}
 use Rattle.plain.specs.Book.{State, Outcome, Call, post, withdraw, refused, hasNumber, hasRate, rangeTrials, bookTrials, trials, noBookAt, partLength, step}
 use Rattle.plain.specs.Sound.{Clear}
@@ -26,9 +26,9 @@ use Rattle.table.specs.Words.{Words, word, upTo}
 use Rattle.table.specs.Layout.{cap, cap-most}
 use Rattle.table.specs.Items.{Item}
 use Rattle.pieces.specs.Pieces.{rateOf}
-use Rattle.update.specs.Form.{Book, numberOf, plainOffers}
-use Rattle.book.specs.Promises.{partOf, plainOf, tableTrials}
-use Rattle.book.specs.Live.{offerOf, live-slots}
+use Rattle.form.specs.Form.{Book, numberOf}
+use Rattle.book.specs.Promises.{partOf, tableTrials}
+use Rattle.book.specs.Live.{live-slots, live-length}
 use Rattle.book.specs.Sought.{Sought, sought-item, sought-none, keyed-any, keyed-none}
 
 -- ---- trials one behind the other
@@ -58,46 +58,46 @@ refusing s n = record { state = s; answer = refused n }
 
 -- ---- on a part that stands for it
 
-module _ {w : Words} {c : ℕ} {held : Option (Held Item)} (b : Book w c held) where
-  is-live : {n : ℤ} {s : ℕ} → Sought numberOf n (bookLines held) s → s ≢ 0 → T (any (hasNumber n) (plainOffers held))
-  is-live {n} f h = let (a, m, e, d) = sought-item f h in keyed-any (λ o. o .number) n (bookLines held) m e
+module _ {w : Words} {plain : State} {held : Option (Held Item)} (b : Book w plain held) where
+  is-live : {n : ℤ} {s : ℕ} → Sought numberOf n (bookLines held) s → s ≢ 0 → T (any (hasNumber n) (plain .offers))
+  is-live {n} f h = let (a, m, e, d) = sought-item f h in subst (λ (os : List Offer). T (any (hasNumber n) os)) (b .stands-for) (keyed-any (λ o. o .number) n (bookLines held) m e)
 
-  not-live : {n : ℤ} {s : ℕ} → Sought numberOf n (bookLines held) s → s ≡ 0 → T (not (any (hasNumber n) (plainOffers held)))
-  not-live {n} f h = keyed-none (λ o. o .number) n (bookLines held) (sought-none (live-slots w held (b .offers)) f h)
+  not-live : {n : ℤ} {s : ℕ} → Sought numberOf n (bookLines held) s → s ≡ 0 → T (not (any (hasNumber n) (plain .offers)))
+  not-live {n} f h = subst (λ (os : List Offer). T (not (any (hasNumber n) os))) (b .stands-for) (keyed-none (λ o. o .number) n (bookLines held) (sought-none (live-slots w held (b .offers .offers-in)) f h))
 
-  rate-live : {r : ℤ} {s : ℕ} → Sought rateOf r (bookLines held) s → s ≢ 0 → T (any (hasRate r) (plainOffers held))
-  rate-live {r} f h = let (a, m, e, d) = sought-item f h in keyed-any (λ o. o .rate) r (bookLines held) m e
+  rate-live : {r : ℤ} {s : ℕ} → Sought rateOf r (bookLines held) s → s ≢ 0 → T (any (hasRate r) (plain .offers))
+  rate-live {r} f h = let (a, m, e, d) = sought-item f h in subst (λ (os : List Offer). T (any (hasRate r) os)) (b .stands-for) (keyed-any (λ o. o .rate) r (bookLines held) m e)
 
-  rate-not-live : {r : ℤ} {s : ℕ} → Sought rateOf r (bookLines held) s → s ≡ 0 → T (not (any (hasRate r) (plainOffers held)))
-  rate-not-live {r} f h = keyed-none (λ o. o .rate) r (bookLines held) (sought-none (live-slots w held (b .offers)) f h)
+  rate-not-live : {r : ℤ} {s : ℕ} → Sought rateOf r (bookLines held) s → s ≡ 0 → T (not (any (hasRate r) (plain .offers)))
+  rate-not-live {r} f h = subst (λ (os : List Offer). T (not (any (hasRate r) os))) (b .stands-for) (keyed-none (λ o. o .rate) r (bookLines held) (sought-none (live-slots w held (b .offers .offers-in)) f h))
 
   module _ (n r z : ℤ) {s : ℕ} (ranged : Clear (rangeTrials (post n r z))) (by-number : Sought numberOf n (bookLines held) s) where
-    pub post-number-live : s ≢ 0 → step (plainOf c held) (post n r z) ≡ refusing (plainOf c held) 5
-    post-number-live h = step-declined (plainOf c held) (post n r z) numberLive (first-behind (rangeTrials (post n r z)) ranged (at-once (is-live by-number h)))
+    pub post-number-live : s ≢ 0 → step plain (post n r z) ≡ refusing plain 5
+    post-number-live h = step-declined plain (post n r z) numberLive (first-behind (rangeTrials (post n r z)) ranged (at-once (is-live by-number h)))
 
     module _ {u : ℕ} (new : s ≡ 0) (by-rate : Sought rateOf r (bookLines held) u) where
-      pub post-rate-live : u ≢ 0 → step (plainOf c held) (post n r z) ≡ refusing (plainOf c held) 6
-      post-rate-live h = step-declined (plainOf c held) (post n r z) rateLive (first-behind (rangeTrials (post n r z)) ranged (further (not-live by-number new) (at-once (rate-live by-rate h))))
+      pub post-rate-live : u ≢ 0 → step plain (post n r z) ≡ refusing plain 6
+      post-rate-live h = step-declined plain (post n r z) rateLive (first-behind (rangeTrials (post n r z)) ranged (further (not-live by-number new) (at-once (rate-live by-rate h))))
 
-      pub post-full : u ≡ 0 → c ≤ length (bookLines held) → step (plainOf c held) (post n r z) ≡ refusing (plainOf c held) 7
+      pub post-full : u ≡ 0 → plain .capacity ≤ length (bookLines held) → step plain (post n r z) ≡ refusing plain 7
       post-full e h =
-          step-declined (plainOf c held) (post n r z) bookFull
+          step-declined plain (post n r z) bookFull
           (first-behind (rangeTrials (post n r z)) ranged
-          (further (not-live by-number new) (further (rate-not-live by-rate e) (at-once (le→leb c (length (plainOffers held)) (omega (arith, length-map (bookLines held) offerOf)))))))
+          (further (not-live by-number new) (further (rate-not-live by-rate e) (at-once (le→leb (plain .capacity) (length (plain .offers)) (omega (arith, live-length b)))))))
 
-      pub post-clear : u ≡ 0 → length (bookLines held) < c → Clear (trials (plainOf c held) (post n r z))
+      pub post-clear : u ≡ 0 → length (bookLines held) < plain .capacity → Clear (trials plain (post n r z))
       post-clear e h =
-          clear-append (rangeTrials (post n r z)) (bookTrials (plainOf c held) (post n r z)) ranged
-          (not-live by-number new, (rate-not-live by-rate e, (lt→nleb c (length (plainOffers held)) (omega (arith, length-map (bookLines held) offerOf)), tt)))
+          clear-append (rangeTrials (post n r z)) (bookTrials plain (post n r z)) ranged
+          (not-live by-number new, (rate-not-live by-rate e, (lt→nleb (plain .capacity) (length (plain .offers)) (omega (arith, live-length b)), tt)))
 
   module _ (n : ℤ) {s : ℕ} (ranged : Clear (rangeTrials (withdraw n))) (by-number : Sought numberOf n (bookLines held) s) where
-    pub withdraw-missing : s ≡ 0 → step (plainOf c held) (withdraw n) ≡ refusing (plainOf c held) 8
+    pub withdraw-missing : s ≡ 0 → step plain (withdraw n) ≡ refusing plain 8
     withdraw-missing h =
-        step-declined (plainOf c held) (withdraw n) numberNotLive
+        step-declined plain (withdraw n) numberNotLive
         (first-behind (rangeTrials (withdraw n)) ranged (at-once (not-live by-number h)))
 
-    pub withdraw-clear : s ≢ 0 → Clear (trials (plainOf c held) (withdraw n))
-    withdraw-clear h = clear-append (rangeTrials (withdraw n)) (bookTrials (plainOf c held) (withdraw n)) ranged (not-T (not (any (hasNumber n) (plainOffers held))) (λ t. T-not (any (hasNumber n) (plainOffers held)) t (is-live by-number h)), tt)
+    pub withdraw-clear : s ≢ 0 → Clear (trials plain (withdraw n))
+    withdraw-clear h = clear-append (rangeTrials (withdraw n)) (bookTrials plain (withdraw n)) ranged (not-T (not (any (hasNumber n) (plain .offers))) (λ t. T-not (any (hasNumber n) (plain .offers)) t (is-live by-number h)), tt)
 
 -- ---- a part that has the form is there
 
@@ -148,10 +148,10 @@ cap-book start t {c} e low = subst (λ (z : ℤ). T (not (noBookAt (length t) st
         (λ q. T-not (between (pos 1) (pos 4_096) (pos c)) q (both (leZ (pos 1) (pos c)) (leZ (pos c) (pos 4_096)) (omega (arith, intRules, low)) (omega (arith, intRules, high)))))
         (λ q. omega (arith, long, ltb→lt (length t - start) (partLength c) q))
 
-pub book-there : (start : ℕ) (t : List ℤ) {c : ℕ} {held : Option (Held Item)} → Book (partOf t start) c held → T (not (noBookAt (length t) start (word (partOf t start) 0)))
+pub book-there : (start : ℕ) (t : List ℤ) {plain : State} {held : Option (Held Item)} → Book (partOf t start) plain held → T (not (noBookAt (length t) start (word (partOf t start) 0)))
 book-there start t b = cap-book start t (b .capacity) (b .some-slot)
 
 -- so the trials on words of any content decide for the plain book
-pub table-declined : (start : ℕ) (t : List ℤ) (k : Call) {c : ℕ} {held : Option (Held Item)} {z : Cause} → Book (partOf t start) c held → FirstOf (tableTrials t start k) z → step (plainOf c held) k ≡ refusing (plainOf c held) (causeNumber z)
-table-declined start t k {c} {held} {z} b (at-once h) = absurd (T-not (noBookAt (length t) start (word (partOf t start) 0)) (book-there start t b) h)
-table-declined start t k {c} {held} {z} b (further h f) = step-declined (plainOf c held) k z (first-append (bookTrials (plainOf c held) k) f)
+pub table-declined : (start : ℕ) (t : List ℤ) (k : Call) {plain : State} {held : Option (Held Item)} {z : Cause} → Book (partOf t start) plain held → FirstOf (tableTrials t start k) z → step plain k ≡ refusing plain (causeNumber z)
+table-declined start t k {plain} {held} {z} b (at-once h) = absurd (T-not (noBookAt (length t) start (word (partOf t start) 0)) (book-there start t b) h)
+table-declined start t k {plain} {held} {z} b (further h f) = step-declined plain k z (first-append (bookTrials plain k) f)

@@ -11,7 +11,7 @@ use lib.Dec.{T}
 use lib.IntN.{ℤ, pos}
 use Rattle.lists.specs.Members.{pairs-cons}
 use Rattle.offers.specs.Offers.{Offer, offerInRange}
-use Rattle.plain.specs.Book.{post, join, rangeTrials}
+use Rattle.plain.specs.Book.{State, post, join, rangeTrials, holding}
 use Rattle.plain.specs.Sound.{Clear}
 use Rattle.trees.specs.Operations.{Part}
 use Rattle.dynamic.specs.OfferTree.{Held, Pair}
@@ -26,7 +26,7 @@ use Rattle.table.specs.Items.{Item, In, at, Slots}
 use Rattle.table.specs.Rep.{within-cap, Only}
 use Rattle.table.specs.Threads.{Held as HeldAt, Holds}
 use Rattle.pieces.specs.Pieces.{items, item-laws, rateOf, partRef}
-use Rattle.update.specs.Form.{Book, OffersIn, NumbersIn, numberOf, head0, plainOffers}
+use Rattle.form.specs.Form.{Book, OffersIn, NumbersIn, numberOf, head0}
 use Rattle.numbers.specs.Numbers.{NumbersAt, Added}
 use Rattle.book.specs.Live.{offerOf, live-slots, live-whole}
 use Rattle.book.specs.Sought.{Sought, sought-none, part-ref, numbers-at, offers-read, envelope-read, capacity-most, live-most}
@@ -36,12 +36,11 @@ use Rattle.book.specs.Writing.{Filled, Headed, FirstFree, first-free}
 use Rattle.book.specs.Counts.{Exact, counts-exact}
 use Rattle.book.specs.Joining.{placed-join, placed-length, in-placed, rate-new, Joined, JoinedIn, joins}
 
--- What an update gives in the end: the part stands for the offers `os`, with a log whose counts are k, st and h.
-pub record Updated (w′ : Words) (c : ℕ) (held : Option (Held Item)) (os : List Offer) (k st h : ℕ) : Type 0 where
+-- What an update gives in the end: the part stands for this plain book, with a log whose counts are k, st and h.
+pub record Updated (w′ : Words) (plain : State) (held : Option (Held Item)) (k st h : ℕ) : Type 0 where
   pub after : Option (Held Item)
   pub log : List (Pair Item)
-  pub stands : Book w′ c after
-  pub offers : plainOffers after ≡ os
+  pub stands : Book w′ plain after
   pub work : Work items held after log
   pub counts : Exact log k st h
 
@@ -66,14 +65,14 @@ pub record Postable (o : Offer) (c : ℕ) (live : List Item) : Type 0 where
 
 -- where the searches found nothing
 pub postable :
-    {w : Words} {c : ℕ} {held : Option (Held Item)} (n r z : ℤ) {s u : ℕ} → Book w c held → Clear (rangeTrials (post n r z)) →
-    Sought numberOf n (bookLines held) s → s ≡ 0 → Sought rateOf r (bookLines held) u → u ≡ 0 → length (bookLines held) < c →
-    Postable (record { number = n; rate = r; base = z }) c (bookLines held)
-postable {w} {held} n r z b ranged by-number es by-rate eu room =
+    {w : Words} {plain : State} {held : Option (Held Item)} (n r z : ℤ) {s u : ℕ} → Book w plain held → Clear (rangeTrials (post n r z)) →
+    Sought numberOf n (bookLines held) s → s ≡ 0 → Sought rateOf r (bookLines held) u → u ≡ 0 → length (bookLines held) < plain .capacity →
+    Postable (record { number = n; rate = r; base = z }) (plain .capacity) (bookLines held)
+postable {w} {held = held} n r z b ranged by-number es by-rate eu room =
     record {
       ranged = clear-offer n r z ranged;
-      number-new = sought-none (live-slots w held (b .offers)) by-number es;
-      rate-new = sought-none (live-slots w held (b .offers)) by-rate eu;
+      number-new = sought-none (live-slots w held (b .offers .offers-in)) by-number es;
+      rate-new = sought-none (live-slots w held (b .offers .offers-in)) by-rate eu;
       room = room;
     }
 
@@ -84,11 +83,11 @@ itemAt s o = record { slot = s; offer = o }
 abbrev pub afterPost : ℕ → Offer → Option (Held Item) → Option (Held Item)
 afterPost s o held = some (posted items (itemAt s o) held .held)
 
-module _ {w w₁ w₂ w₃ w₄ w′ : Words} {c s root root′ x e x′ e′ n k st h : ℕ} {held : Option (Held Item)} (o : Offer) (b : Book w c held) (new : Postable o c (bookLines held)) (steps : PostSteps o w w₁ w₂ w₃ w₄ w′ s root root′ x e x′ e′ n k st h) (count : n ≡ suc (length (bookLines held))) where
+module _ {w w₁ w₂ w₃ w₄ w′ : Words} {plain : State} {s root root′ x e x′ e′ n k st h : ℕ} {held : Option (Held Item)} (o : Offer) (b : Book w plain held) (new : Postable o (plain .capacity) (bookLines held)) (steps : PostSteps o w w₁ w₂ w₃ w₄ w′ s root root′ x e x′ e′ n k st h) (count : n ≡ suc (length (bookLines held))) where
   others : List ℕ
   others = first-free b (new .room) (steps .slot) .0
 
-  free : FirstFree w c (bookLines held) s others
+  free : FirstFree w (bookLines held) s others
   unfolding others
   free = first-free b (new .room) (steps .slot) .1
 
@@ -97,7 +96,7 @@ module _ {w w₁ w₂ w₃ w₄ w′ : Words} {c s root root′ x e x′ e′ n 
   not-there : (t : ℕ) → In t (bookLines held) → t ≢ s
   not-there t i d = free .not-live (subst (λ (u : ℕ). In u (bookLines held)) d i)
 
-  numbers₁ : NumbersAt w₁ root (bookLines held) (b .numbers)
+  numbers₁ : NumbersAt w₁ root (bookLines held) (b .numbers .numbers)
   numbers₁ = numbers-agree (agree-less (λ f t d. not-there t (d .1)) (steps .filled .agree)) (numbers-at b (steps .numbers-root))
 
   slots₁ : Slots (cap w₁) (itemAt s o ∷ bookLines held)
@@ -117,10 +116,10 @@ module _ {w w₁ w₂ w₃ w₄ w′ : Words} {c s root root′ x e x′ e′ n 
   -- ---- w₁ to w₃
 
   added₂ : (q : Part Item) × NumbersAt w₂ root′ (itemAt s o ∷ bookLines held) q
-  added₂ = steps .added .made (itemAt s o) (bookLines held) (b .numbers) numbers₁ refl slots₁ holds₁ (new .number-new)
+  added₂ = steps .added .made (itemAt s o) (bookLines held) (b .numbers .numbers) numbers₁ refl slots₁ holds₁ (new .number-new)
 
   only₂ : Only 2 (itemAt s o ∷ bookLines held) w₁ w₂
-  only₂ = steps .added .only (itemAt s o) (bookLines held) (b .numbers) numbers₁ refl slots₁ holds₁ (new .number-new)
+  only₂ = steps .added .only (itemAt s o) (bookLines held) (b .numbers .numbers) numbers₁ refl slots₁ holds₁ (new .number-new)
 
   numbers′ : Part Item
   numbers′ = added₂ .0
@@ -137,7 +136,7 @@ module _ {w w₁ w₂ w₃ w₄ w′ : Words} {c s root root′ x e x′ e′ n 
       offers-agree held
       (agree-trans (agree-less (λ f t d. not-there t (d .1)) (steps .filled .agree))
       (agree-trans (agree-only (steps .added .within) only₂ (offers-number (bookLines held))) (agree-less (λ f t d. tt) rooted₃)))
-      (b .offers)
+      (b .offers .offers-in)
 
   -- ---- w₃ to w₄
 
@@ -152,7 +151,7 @@ module _ {w w₁ w₂ w₃ w₄ w′ : Words} {c s root root′ x e x′ e′ n 
   -- ---- w₄ to w′
 
   lines : bookLines (afterPost s o held) ≡ placed items (itemAt s o) (bookLines held)
-  lines = posted-lines items item-laws (itemAt s o) held (live-whole w held (b .offers)) stands-new
+  lines = posted-lines items item-laws (itemAt s o) held (live-whole w held (b .offers .offers-in)) stands-new
 
   offers′ : OffersIn w′ (afterPost s o held)
   offers′ =
@@ -208,34 +207,38 @@ module _ {w w₁ w₂ w₃ w₄ w′ : Words} {c s root root′ x e x′ e′ n 
   more : length (bookLines (afterPost s o held)) ≡ suc (length (bookLines held))
   more = ap length lines ∙ placed-length (itemAt s o) (bookLines held)
 
-  pub posted-book : Book w′ c (afterPost s o held)
+  pub posted-book : Book w′ (holding plain (join o (plain .offers))) (afterPost s o held)
   posted-book =
       record {
         capacity = free-kept .room ∙ b .capacity;
         some-slot = b .some-slot;
-        offers-root = steps .headed .root ∙ ap pos (joined₄ .made .root);
-        envelope-root = steps .headed .envelope ∙ ap pos (joined₄ .made .envelope);
-        live-count = steps .headed .count ∙ ap pos (count ∙ sym more);
-        offers = offers′;
-        numbers = numbers′;
-        numbers-root = numbers-root′;
-        numbers-in = numbers-in′;
-        free = others;
-        first-free = first-free′;
-        free-chain = free-agree free-kept (free .chain);
-        free-apart = free .apart;
-        slots-used = omega (arith, free .count, more);
+        offers =
+            record {
+              offers-root = steps .headed .root ∙ ap pos (joined₄ .made .root);
+              envelope-root = steps .headed .envelope ∙ ap pos (joined₄ .made .envelope);
+              live-count = steps .headed .count ∙ ap pos (count ∙ sym more);
+              offers-in = offers′;
+            };
+        numbers = record { numbers = numbers′; numbers-root = numbers-root′; numbers-in = numbers-in′ };
+        free =
+            record {
+              free = others;
+              first-free = first-free′;
+              free-chain = free-agree free-kept (free .chain);
+              free-apart = free .apart;
+              slots-used = omega (arith, free .count, more, free-kept .room);
+            };
+        stands-for = ap (map offerOf) lines ∙ placed-join (itemAt s o) (bookLines held) ∙ ap (join o) (b .stands-for);
       }
 
   -- the part stands for the plain book after the post
-  pub posted-plain : Updated w′ c held (join o (plainOffers held)) k st h
+  pub posted-plain : Updated w′ (holding plain (join o (plain .offers))) held k st h
   posted-plain =
-      let done = posted-work items item-laws (itemAt s o) held (live-whole w held (b .offers)) stands-new in
+      let done = posted-work items item-laws (itemAt s o) held (live-whole w held (b .offers .offers-in)) stands-new in
       record {
         after = afterPost s o held;
         log = posted items (itemAt s o) held .log;
         stands = posted-book;
-        offers = ap (map offerOf) lines ∙ placed-join (itemAt s o) (bookLines held);
         work = done;
         counts = counts-exact (omega (arith, live-most b, capacity-most b)) (omega (arith, live-most posted-book, capacity-most posted-book)) done (joined₄ .counted);
       }

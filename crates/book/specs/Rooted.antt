@@ -5,6 +5,7 @@ use mathlib.Core.Option.{Option, none, some}
 use Prim.Native.Nat.{ℕ}
 use native.Mathlib.Omega.{arith}
 use Rattle.envelopes.specs.Envelope.{Env}
+use Rattle.plain.specs.Book.{State}
 use Rattle.trees.specs.Tree.{Tree, leaves, Avl}
 use Rattle.trees.specs.Operations.{Part, partLeaves}
 use Rattle.dynamic.specs.OfferTree.{Held, heldShape}
@@ -14,8 +15,8 @@ use Rattle.dynamic.specs.Raise.{some-piece}
 use Rattle.table.specs.Words.{Words, word, upTo}
 use Rattle.table.specs.Items.{Item}
 use Rattle.pieces.specs.Pieces.{items, item-laws, Standing}
-use Rattle.update.specs.Frames.{whole-standing}
-use Rattle.update.specs.Form.{Book, OffersIn, envelopeRef}
+use Rattle.form.specs.Frames.{whole-standing}
+use Rattle.form.specs.Form.{Book, OffersIn, envelopeRef}
 use Rattle.query.specs.Pieces.{Pieces}
 use Rattle.book.specs.Sought.{envelope-read}
 
@@ -39,8 +40,8 @@ top (some t) e s v =
       env = valid-env items item-laws v;
     })
 
-pub root-of : {w : Words} {c root : ℕ} {held : Option (Held Item)} → Book w c held → root ≡ upTo 8192 (word w 2) → Root w root held
-root-of {w} {c} {root} {held} b e = go held (b .offers) (e ∙ envelope-read b)
+pub root-of : {w : Words} {plain : State} {root : ℕ} {held : Option (Held Item)} → Book w plain held → root ≡ upTo 8192 (word w 2) → Root w root held
+root-of {w} {root = root} {held} b e = go held (b .offers .offers-in) (e ∙ envelope-read b)
   where
     go : (held : Option (Held Item)) → OffersIn w held → root ≡ envelopeRef held → Root w root held
     go none o d = bare d

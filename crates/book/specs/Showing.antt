@@ -11,7 +11,7 @@ use lib.IntN.{ℤ, pos}
 use Rattle.envelopes.specs.Envelope.{Ordered, Ordered·nil}
 use Rattle.envelopes.specs.Small.{env-nil}
 use Rattle.plain.specs.Causes.{noBook}
-use Rattle.plain.specs.Book.{listing, Outcome, listed, refused, pieceWords, noBookAt, step}
+use Rattle.plain.specs.Book.{State, listing, Outcome, listed, refused, pieceWords, noBookAt, step}
 use Rattle.plain.specs.Rules.{FirstOf, at-once, words-length}
 use Rattle.trees.specs.Tree.{leaves}
 use Rattle.dynamic.specs.OfferTree.{Held}
@@ -19,10 +19,10 @@ use Rattle.dynamic.specs.Valid.{bookLines}
 use Rattle.table.specs.Words.{Words, word, upTo}
 use Rattle.table.specs.Items.{Item}
 use Rattle.pieces.specs.Pieces.{items}
-use Rattle.update.specs.Form.{Book}
+use Rattle.form.specs.Form.{Book}
 use Rattle.query.specs.Plain.{offerOf, listing-plain, listing-short}
 use Rattle.query.specs.Listing.{Written}
-use Rattle.book.specs.Promises.{partOf, plainOf, tableTrials, listingAnswer, writtenWords, Lists}
+use Rattle.book.specs.Promises.{partOf, tableTrials, listingAnswer, writtenWords, Lists}
 use Rattle.book.specs.Live.{live-whole, whole-ordered}
 use Rattle.book.specs.Plainly.{table-declined}
 use Rattle.book.specs.Parts.{whole-part, said, denied}
@@ -36,8 +36,8 @@ use Rattle.book.specs.declared.Listed.the-variants.{Pieces, Declined}
 pub record Shown (w : Words) (out out′ : List ℤ) (r : Listed) : Type 0 where
   pub refusal : (z : ℤ) → r ≡ Declined z → out′ ≡ out
   pub long : length out′ ≡ length out
-  pub answers : (c : ℕ) (held : Option (Held Item)) → Book w c held → listingAnswer r out′ ≡ step (plainOf c held) (listing (length out)) .answer
-  pub later : (c : ℕ) (held : Option (Held Item)) → Book w c held → drop (writtenWords (listingAnswer r out′)) out′ ≡ drop (writtenWords (listingAnswer r out′)) out
+  pub answers : (plain : State) (held : Option (Held Item)) → Book w plain held → listingAnswer r out′ ≡ step plain (listing (length out)) .answer
+  pub later : (plain : State) (held : Option (Held Item)) → Book w plain held → drop (writtenWords (listingAnswer r out′)) out′ ≡ drop (writtenWords (listingAnswer r out′)) out
 
 -- the output begins with the words of these pieces, and goes on as before
 record Laid (n : ℕ) (out out′ : List ℤ) (es : List Item) : Type 0 where
@@ -62,30 +62,30 @@ module _ {n : ℕ} {out out′ : List ℤ} {es : List Item} (l : Laid n out out�
 pieces-declined : {m z : ℤ} → Pieces m ≡ Declined z → ⊥
 pieces-declined e = let x : _≡_ {A = ℕ} 0 1 = cc in omega arith
 
-book-ordered : {w : Words} {c : ℕ} {held : Option (Held Item)} → Book w c held → Ordered items (bookLines held)
-book-ordered {w} {c} {held} b = whole-ordered held (live-whole w held (b .offers))
+book-ordered : {w : Words} {plain : State} {held : Option (Held Item)} → Book w plain held → Ordered items (bookLines held)
+book-ordered {w} {held = held} b = whole-ordered held (live-whole w held (b .offers .offers-in))
 
 module _ {w : Words} {root n : ℕ} {out out′ : List ℤ} (e : root ≡ upTo 8192 (word w 2)) (k : Written w root out out′ n) where
   -- too short an output
   pub shown-short : length out < 3 * n → Shown w out out′ (Declined (pos 10))
-  shown-short h = record { refusal = λ z d. k .short h; long = k .long; answers = λ c held b. go c b (root-of b e); later = λ c held b. ap (drop 0) (k .short h) }
+  shown-short h = record { refusal = λ z d. k .short h; long = k .long; answers = λ plain held b. go plain b (root-of b e); later = λ plain held b. ap (drop 0) (k .short h) }
     where
-      go : (c : ℕ) {held : Option (Held Item)} → Book w c held → Root w root held → refused 10 ≡ step (plainOf c held) (listing (length out)) .answer
-      go c b (bare z) = absurd (omega (arith, k .counted .none z))
-      go c {held} b (topped t f p) = sym (listing-short (plainOf c held) refl (book-ordered b) (p .env) (length out) (omega (arith, k .counted .is t (p .pieces) (p .balanced))))
+      go : (plain : State) {held : Option (Held Item)} → Book w plain held → Root w root held → refused 10 ≡ step plain (listing (length out)) .answer
+      go plain b (bare z) = absurd (omega (arith, k .counted .none z))
+      go plain b (topped t f p) = sym (listing-short plain (sym (b .stands-for)) (book-ordered b) (p .env) (length out) (omega (arith, k .counted .is t (p .pieces) (p .balanced))))
 
   -- every piece
   pub shown-all : 3 * n ≤ length out → Shown w out out′ (Pieces (pos n))
-  shown-all h = record { refusal = λ z d. absurd (pieces-declined d); long = k .long; answers = λ c held b. go c b (root-of b e); later = λ c held b. behind (root-of b e) }
+  shown-all h = record { refusal = λ z d. absurd (pieces-declined d); long = k .long; answers = λ plain held b. go plain b (root-of b e); later = λ plain held b. behind (root-of b e) }
     where
       nothing : root ≡ 0 → Laid n out out′ []
       nothing z = record { count = k .counted .none z; words = k .none z ∙ ap (λ (m : ℕ). drop (3 * m) out) (sym (k .counted .none z)) }
 
-      go : (c : ℕ) {held : Option (Held Item)} → Book w c held → Root w root held → listed n (take (3 * n) out′) ≡ step (plainOf c held) (listing (length out)) .answer
-      go c {held} b (bare z) = laid-answer (nothing z) ∙ sym (listing-plain {ls = []} {es = []} (plainOf c none) refl Ordered·nil (env-nil items) (length out) (omega arith))
-      go c {held} b (topped t f p) =
+      go : (plain : State) {held : Option (Held Item)} → Book w plain held → Root w root held → listed n (take (3 * n) out′) ≡ step plain (listing (length out)) .answer
+      go plain b (bare z) = laid-answer (nothing z) ∙ sym (listing-plain {ls = []} {es = []} plain (sym (b .stands-for)) Ordered·nil (env-nil items) (length out) (omega arith))
+      go plain b (topped t f p) =
           let l : Laid n out out′ (leaves t) = record { count = k .counted .is t (p .pieces) (p .balanced); words = k .words t (p .pieces) (p .balanced) h } in
-          laid-answer l ∙ sym (listing-plain (plainOf c held) refl (book-ordered b) (p .env) (length out) (omega (arith, l .count)))
+          laid-answer l ∙ sym (listing-plain plain (sym (b .stands-for)) (book-ordered b) (p .env) (length out) (omega (arith, l .count)))
 
       behind : {held : Option (Held Item)} → Root w root held → drop (length (take (3 * n) out′)) out′ ≡ drop (length (take (3 * n) out′)) out
       behind (bare z) = laid-later {es = []} (nothing z)
@@ -100,8 +100,8 @@ module _ (start : ℕ) (t out : List ℤ) {no : Bool} (e : no ≡ noBookAt (leng
         declined = λ z g. (ap refused (sym (one-cause none-there g)), refl);
         refusal = λ z d. refl;
         long = refl;
-        answers = λ c held b. sym (ap (λ (o : Outcome). o .answer) (table-declined start t (listing (length out)) b none-there));
-        later = λ c held b. refl;
+        answers = λ plain held b. sym (ap (λ (o : Outcome). o .answer) (table-declined start t (listing (length out)) b none-there));
+        later = λ plain held b. refl;
       }
     where
       none-there : FirstOf (tableTrials t start (listing (length out))) noBook

@@ -12,7 +12,7 @@ use lib.IntN.{ℤ, pos}
 use Rattle.lists.specs.Filter.{every}
 use Rattle.lists.specs.Tests.{any, none-at}
 use Rattle.offers.specs.Offers.{Offer}
-use Rattle.plain.specs.Book.{equal}
+use Rattle.plain.specs.Book.{State, equal}
 use Rattle.plain.specs.Sound.{equal-eq, unequal}
 use Rattle.trees.specs.Tree.{Tree, leaf, node, leaves, last}
 use Rattle.trees.specs.Leaves.{last-leaf}
@@ -29,8 +29,8 @@ use Rattle.table.specs.Rep.{refOf}
 use Rattle.table.specs.Parts.{refOfP}
 use Rattle.descents.specs.Finds.{Found, foundAt}
 use Rattle.pieces.specs.Pieces.{rateOf, partRef}
-use Rattle.update.specs.Frames.{held-slots}
-use Rattle.update.specs.Form.{Book, OffersIn, numberOf, offersRef, envelopeRef}
+use Rattle.form.specs.Frames.{held-slots}
+use Rattle.form.specs.Form.{Book, OffersIn, numberOf, offersRef, envelopeRef}
 use Rattle.numbers.specs.Numbers.{NumbersAt, FoundNumber}
 use Rattle.book.specs.Live.{offerOf, live-slots, live-holds, ordered-pairs}
 
@@ -116,20 +116,20 @@ part-ref (some t) = refl
 read-word : {z : ℤ} {n : ℕ} → z ≡ pos n → n ≤ 8192 → upTo 8192 z ≡ n
 read-word {n} e h = ap (upTo 8192) e ∙ upTo-in 8192 n h
 
-module _ {w : Words} {c : ℕ} {held : Option (Held Item)} (b : Book w c held) where
-  pub live-most : length (bookLines held) ≤ c
-  live-most = omega (arith, b .slots-used)
+module _ {w : Words} {plain : State} {held : Option (Held Item)} (b : Book w plain held) where
+  pub live-most : length (bookLines held) ≤ plain .capacity
+  live-most = omega (arith, b .free .slots-used, b .capacity)
 
-  pub capacity-most : c ≤ 4096
+  pub capacity-most : plain .capacity ≤ 4096
   capacity-most = omega (arith, b .capacity, cap-most w)
 
   -- the live count
   pub count-read : upTo 8192 (word w 3) ≡ length (bookLines held)
-  count-read = read-word (b .live-count) (omega (arith, live-most, capacity-most))
+  count-read = read-word (b .offers .live-count) (omega (arith, live-most, capacity-most))
 
   -- the root of the offers
   pub offers-read : upTo 8192 (word w 1) ≡ offersRef held
-  offers-read = read-word (b .offers-root) (high held (b .offers))
+  offers-read = read-word (b .offers .offers-root) (high held (b .offers .offers-in))
     where
       high : (h : Option (Held Item)) → OffersIn w h → offersRef h ≤ 8192
       high none o = omega arith
@@ -137,21 +137,21 @@ module _ {w : Words} {c : ℕ} {held : Option (Held Item)} (b : Book w c held) w
 
   -- the root's envelope
   pub envelope-read : upTo 8192 (word w 2) ≡ envelopeRef held
-  envelope-read = read-word (b .envelope-root) (high held (b .offers))
+  envelope-read = read-word (b .offers .envelope-root) (high held (b .offers .offers-in))
     where
       high : (h : Option (Held Item)) → OffersIn w h → envelopeRef h ≤ 8192
       high none o = omega arith
       high (some h) o = rw (part-ref (h .whole)) (part-high (h .whole) (λ a m. held-slots o .high (Memᴰ·append-left (stored (h .tree)) m)) (cap-most w))
 
   -- the root of the numbers
-  pub numbers-read : upTo 8192 (word w 4) ≡ refOfP (b .numbers)
+  pub numbers-read : upTo 8192 (word w 4) ≡ refOfP (b .numbers .numbers)
   numbers-read =
-      read-word (b .numbers-root ∙ ap pos (part-ref (b .numbers)))
-      (part-high (b .numbers) (λ a m. live-slots w held (b .offers) .high (b .numbers-in .all-live a m)) (cap-most w))
+      read-word (b .numbers .numbers-root ∙ ap pos (part-ref (b .numbers .numbers)))
+      (part-high (b .numbers .numbers) (λ a m. live-slots w held (b .offers .offers-in) .high (b .numbers .numbers-in .all-live a m)) (cap-most w))
 
-  pub numbers-at : {root : ℕ} → root ≡ upTo 8192 (word w 4) → NumbersAt w root (bookLines held) (b .numbers)
+  pub numbers-at : {root : ℕ} → root ≡ upTo 8192 (word w 4) → NumbersAt w root (bookLines held) (b .numbers .numbers)
   numbers-at e =
-      record { root-is = e ∙ numbers-read; slots = live-slots w held (b .offers); holds = live-holds w held (b .offers); numbers = b .numbers-in }
+      record { root-is = e ∙ numbers-read; slots = live-slots w held (b .offers .offers-in); holds = live-holds w held (b .offers .offers-in); numbers = b .numbers .numbers-in }
 
   -- ---- the two searches
 
@@ -159,7 +159,7 @@ module _ {w : Words} {c : ℕ} {held : Option (Held Item)} (b : Book w c held) w
   number-sought {n} f e = sought-by (λ o. o .number) n (bookLines held) (f .found _ _ (numbers-at e)) (f .missing _ _ (numbers-at e))
 
   pub rate-sought : {r : ℤ} {x s : ℕ} → Found w 1 1 r x s → x ≡ upTo 8192 (word w 1) → Sought rateOf r (bookLines held) s
-  rate-sought {r} {x} {s} f e = go held (b .offers) (e ∙ offers-read)
+  rate-sought {r} {x} {s} f e = go held (b .offers .offers-in) (e ∙ offers-read)
     where
       go : (h : Option (Held Item)) → OffersIn w h → x ≡ offersRef h → Sought rateOf r (bookLines h) s
       go none o d = nowhere (λ a m. absurd (List·Memᴰ·not-nil m)) (f .nothing d)

@@ -7,21 +7,21 @@ use Prim.Native.Nat.{ℕ, _+_, _-_, _≤_, _<_}
 use native.Mathlib.Omega.{arith}
 use lib.ListN.{length, take, drop, length-drop}
 use lib.Dec.{T}
-use lib.IntN.{ℤ, pos, natAbs}
+use lib.IntN.{ℤ, pos}
 use Rattle.offers.specs.Offers.{numberInRange, rateInRange, baseInRange}
 use Rattle.plain.specs.Causes.{Cause, causeNumber, numberOutOfRange, rateOutOfRange, baseOutOfRange}
-use Rattle.plain.specs.Book.{Call, post, withdraw, refused, join, leave, noBookAt, partLength, step}
+use Rattle.plain.specs.Book.{State, Call, post, withdraw, refused, join, leave, noBookAt, partLength, holding, step}
 use Rattle.plain.specs.Rules.{FirstOf, at-once, further}
 use Rattle.plain.specs.Sound.{Clear}
 use Rattle.dynamic.specs.OfferTree.{Held}
 use Rattle.table.specs.Words.{Words, word, upTo}
 use Rattle.table.specs.Layout.{cap}
 use Rattle.table.specs.Items.{Item}
-use Rattle.update.specs.Form.{Book, plainOffers}
+use Rattle.form.specs.Form.{Book}
 use Rattle.numbers.specs.Numbers.{FoundNumber}
 use Rattle.book.specs.declared.Update.{Update}
 use Rattle.book.specs.declared.Update.the-variants.{Done, Declined}
-use Rattle.book.specs.Promises.{partOf, capacityAt, plainOf, tableTrials, updateAnswer, OnlyPart, Updates, Follows}
+use Rattle.book.specs.Promises.{partOf, capacityAt, tableTrials, updateAnswer, OnlyPart, Updates, Follows}
 use Rattle.book.specs.Sought.{number-sought}
 use Rattle.book.specs.Plainly.{refusing, cap-there, table-declined, withdraw-missing, withdraw-clear}
 use Rattle.book.specs.Following.{follows-declined, follows-posted, follows-withdrawn}
@@ -76,7 +76,7 @@ module _ (k : Call) (start : ℕ) (t t′ : List ℤ) where
         refusal = λ z d. et;
         outside = only-same et;
         same-part = ap (λ (u : List ℤ). word (partOf u start) 0) et;
-        follows = λ c held b. follows-declined start t k b (table-declined start t k b f) er et;
+        follows = λ plain held b. follows-declined start t k b (table-declined start t k b f) er et;
       }
 
   module _ {b : Bool} (e : b ≡ noBookAt (length t) start (word (partOf t start) 0)) where
@@ -92,7 +92,7 @@ module _ (k : Call) (start : ℕ) (t t′ : List ℤ) where
         clear = (denied e h, o .denies q)
 
         pub updates-refused :
-            {m : ℕ} {r : Update} → ((c : ℕ) (held : Option (Held Item)) → Book (lent t start) c held → step (plainOf c held) k ≡ refusing (plainOf c held) m) →
+            {m : ℕ} {r : Update} → ((plain : State) (held : Option (Held Item)) → Book (lent t start) plain held → step plain k ≡ refusing plain m) →
             r ≡ Declined (pos m) → t′ ≡ t → Updates k start t t′ r
         updates-refused f er et =
             record {
@@ -100,12 +100,12 @@ module _ (k : Call) (start : ℕ) (t t′ : List ℤ) where
               refusal = λ z d. et;
               outside = only-same et;
               same-part = ap (λ (u : List ℤ). word (partOf u start) 0) et;
-              follows = λ c held b. follows-declined start t k b (f c held (subst (λ (u : Words). Book u c held) (sym (whole-part t start)) b)) er et;
+              follows = λ plain held b. follows-declined start t k b (f plain held (subst (λ (u : Words). Book u plain held) (sym (whole-part t start)) b)) er et;
             }
 
         pub updates-done :
             {r : Update} {live searches steps heights : ℤ} → r ≡ Done live searches steps heights → (w′ : Words) → t′ ≡ take start t ++ (w′ ++ drop (length t - start) (drop start t)) → Kept (lent t start) w′ →
-            ((c : ℕ) (held : Option (Held Item)) → Book (lent t start) c held → partOf t′ start ≡ w′ → Follows k c held start t t′ r) →
+            ((plain : State) (held : Option (Held Item)) → Book (lent t start) plain held → partOf t′ start ≡ w′ → Follows k plain held start t t′ r) →
             Updates k start t t′ r
         updates-done er w′ et g f =
             record {
@@ -113,7 +113,7 @@ module _ (k : Call) (start : ℕ) (t t′ : List ℤ) where
               refusal = λ z d. absurd (done-declined (sym er ∙ d));
               outside = only-part t start w′ back low (record { long = kept .long; rest = λ i l. kept .rest i (omega (arith, l, book-cap t start (denied e h) .0)) });
               same-part = ap (λ (u : Words). word u 0) (part-back t start w′ back low) ∙ cap-there w′ (kept .room ∙ there .0) (there .1) .first ∙ sym (cap-there (partOf t start) (there .0) (there .1) .first);
-              follows = λ c held b. f c held (subst (λ (u : Words). Book u c held) (sym (whole-part t start)) b) (part-back t start w′ back low);
+              follows = λ plain held b. f plain held (subst (λ (u : Words). Book u plain held) (sym (whole-part t start)) b) (part-back t start w′ back low);
             }
           where
             there : (cap (partOf t start) ≡ capacityAt t start) × (1 ≤ capacityAt t start)
@@ -133,23 +133,23 @@ module _ (k : Call) (start : ℕ) (t t′ : List ℤ) where
 module _ (start : ℕ) (t t′ : List ℤ) {b d : Bool} (e : b ≡ noBookAt (length t) start (word (partOf t start) 0)) (h : b ≡ false) where
   module _ (n r z : ℤ) (o : OutOfRange (post n r z) d) (q : d ≡ false) {m : ℕ} (cause : PostCause n r (lent t start) m) where
     pub post-refused : {u : Update} → 0 < m → u ≡ Declined (pos m) → t′ ≡ t → Updates (post n r z) start t t′ u
-    post-refused l eu et = updates-refused (post n r z) start t t′ e h o q (λ c held b. cause .declines z c held b (o .denies q) l) eu et
+    post-refused l eu et = updates-refused (post n r z) start t t′ e h o q (λ plain held b. cause .declines z plain held b (o .denies q) l) eu et
 
     pub post-accepted : {i k st hs : ℕ} {u : Update} → m ≤ 0 → (w′ : Words) → PostDone n r z (lent t start) w′ i k st hs → u ≡ Done (pos i) (pos k) (pos st) (pos hs) → t′ ≡ take start t ++ (w′ ++ drop (length t - start) (drop start t)) → Updates (post n r z) start t t′ u
     post-accepted {i} {k} {st} {hs} l w′ g eu et =
         updates-done (post n r z) start t t′ e h o q eu w′ et (g .kept)
-        (λ c held b p.
-        let (clear, new) = cause .clears z c held b (o .denies q) l in
-        let (updated, count) = g .done c held b new in
-        follows-posted start t n r z clear (subst (λ (v : Words). Updated v c held (join (record { number = n; rate = r; base = z }) (plainOffers held)) k st hs) (sym p) updated) count eu)
+        (λ plain held b p.
+        let (clear, new) = cause .clears z plain held b (o .denies q) l in
+        let (updated, count) = g .done plain held b new in
+        follows-posted start t n r z clear (subst (λ (v : Words). Updated v (holding plain (join (record { number = n; rate = r; base = z }) (plain .offers))) held k st hs) (sym p) updated) count eu)
 
   module _ (n : ℤ) (o : OutOfRange (withdraw n) d) (q : d ≡ false) {s : ℕ} (f : FoundNumber n (upTo 8192 (word (lent t start) 4)) (lent t start) s) where
     pub withdraw-refused : s < 1 → t′ ≡ t → Updates (withdraw n) start t t′ (Declined (pos 8))
-    withdraw-refused l et = updates-refused (withdraw n) start t t′ e h o q (λ c held b. withdraw-missing b n (o .denies q) (number-sought b f refl) (omega (arith, l))) refl et
+    withdraw-refused l et = updates-refused (withdraw n) start t t′ e h o q (λ plain held b. withdraw-missing b n (o .denies q) (number-sought b f refl) (omega (arith, l))) refl et
 
     pub withdraw-accepted : {i k st hs : ℕ} {u : Update} → 1 ≤ s → (w′ : Words) → WithdrawDone n s (lent t start) w′ i k st hs → u ≡ Done (pos i) (pos k) (pos st) (pos hs) → t′ ≡ take start t ++ (w′ ++ drop (length t - start) (drop start t)) → Updates (withdraw n) start t t′ u
     withdraw-accepted {i} {k} {st} {hs} l w′ g eu et =
         updates-done (withdraw n) start t t′ e h o q eu w′ et (g .kept)
-        (λ c held b p.
-        let (updated, count) = g .done c held b f l in
-        follows-withdrawn start t n (withdraw-clear b n (o .denies q) (number-sought b f refl) (λ x. omega (arith, x, l))) (subst (λ (v : Words). Updated v c held (leave n (plainOffers held)) k st hs) (sym p) updated) count eu)
+        (λ plain held b p.
+        let (updated, count) = g .done plain held b f l in
+        follows-withdrawn start t n (withdraw-clear b n (o .denies q) (number-sought b f refl) (λ x. omega (arith, x, l))) (subst (λ (v : Words). Updated v (holding plain (leave n (plain .offers))) held k st hs) (sym p) updated) count eu)

@@ -9,7 +9,7 @@ use native.Mathlib.Omega.{arith}
 use lib.ListN.{length, length-map}
 use lib.IntN.{ℤ, pos}
 use Rattle.lists.specs.Members.{pairs-cons}
-use Rattle.plain.specs.Book.{leave}
+use Rattle.plain.specs.Book.{State, leave, holding}
 use Rattle.envelopes.specs.Envelope.{Ordered}
 use Rattle.trees.specs.Operations.{Part}
 use Rattle.dynamic.specs.OfferTree.{Held}
@@ -21,7 +21,7 @@ use Rattle.table.specs.Layout.{cap, cap-most}
 use Rattle.table.specs.Items.{Item, In, at}
 use Rattle.table.specs.Rep.{within-cap, Only}
 use Rattle.pieces.specs.Pieces.{items, item-laws, partRef}
-use Rattle.update.specs.Form.{Book, OffersIn, NumbersIn, FreeChain, free-none, free-more, numberOf, head0, plainOffers}
+use Rattle.form.specs.Form.{Book, OffersIn, NumbersIn, FreeChain, free-none, free-more, numberOf, head0, plainOffers}
 use Rattle.update.specs.Steps.{RemovedIn}
 use Rattle.numbers.specs.Numbers.{NumbersAt, Dropped}
 use Rattle.book.specs.Live.{offerOf, live-slots, live-holds, live-whole, whole-ordered, slot-tells, number-tells}
@@ -57,30 +57,30 @@ chain-head : {w : Words} {ss : List ℕ} → FreeChain w ss → head0 ss ≤ cap
 chain-head free-none = omega arith
 chain-head (free-more low high zero next more) = high
 
-module _ {w w₁ w₂ w₃ w₄ w′ : Words} {number : ℤ} {c s root root′ x e x′ e′ n k st h : ℕ} {held : Option (Held Item)} (a : Item) (b : Book w c held) (live : LiveAt number s (bookLines held) a) (steps : WithdrawSteps number w w₁ w₂ w₃ w₄ w′ s root root′ x e x′ e′ n k st h) (count : suc n ≡ length (bookLines held)) where
+module _ {w w₁ w₂ w₃ w₄ w′ : Words} {number : ℤ} {plain : State} {s root root′ x e x′ e′ n k st h : ℕ} {held : Option (Held Item)} (a : Item) (b : Book w plain held) (live : LiveAt number s (bookLines held) a) (steps : WithdrawSteps number w w₁ w₂ w₃ w₄ w′ s root root′ x e x′ e′ n k st h) (count : suc n ≡ length (bookLines held)) where
   ordered : Ordered items (bookLines held)
-  ordered = whole-ordered held (live-whole w held (b .offers))
+  ordered = whole-ordered held (live-whole w held (b .offers .offers-in))
 
   -- what is left has other slots
   not-there : (t : ℕ) → In t (without items a (bookLines held)) → t ≢ s
-  not-there t (at m d) q = without-other a (bookLines held) m (slot-tells (live-slots w held (b .offers)) (without-live a (bookLines held) m) (live .member) (sym d ∙ q ∙ live .slot))
+  not-there t (at m d) q = without-other a (bookLines held) m (slot-tells (live-slots w held (b .offers .offers-in)) (without-live a (bookLines held) m) (live .member) (sym d ∙ q ∙ live .slot))
 
   -- the free slots are others
-  not-free : (t : ℕ) → List·Memᴰ t (b .free) → t ≢ s
-  not-free t m d = free-not-live (b .free-chain) (live-holds w held (b .offers)) m (at (live .member) (d ∙ live .slot))
+  not-free : (t : ℕ) → List·Memᴰ t (b .free .free) → t ≢ s
+  not-free t m d = free-not-live (b .free .free-chain) (live-holds w held (b .offers .offers-in)) m (at (live .member) (d ∙ live .slot))
 
   -- ---- w to w₂
 
   dropped₁ : (q : Part Item) × NumbersAt w₁ root′ (without items a (bookLines held)) q
   dropped₁ =
-      steps .dropped .made a (bookLines held) (without items a (bookLines held)) (b .numbers) (numbers-at b (steps .numbers-root)) (live .member) (live .number-is)
+      steps .dropped .made a (bookLines held) (without items a (bookLines held)) (b .numbers .numbers) (numbers-at b (steps .numbers-root)) (live .member) (live .number-is)
       (λ y m. without-live a (bookLines held) m)
       (λ y m. without-other a (bookLines held) m)
       (λ y m d. in-without ordered (live .member) m d)
-      (without-slots a (bookLines held) (live-slots w held (b .offers)))
+      (without-slots a (bookLines held) (live-slots w held (b .offers .offers-in)))
 
   only₁ : Only 2 (bookLines held) w w₁
-  only₁ = steps .dropped .only (bookLines held) (b .numbers) (numbers-at b (steps .numbers-root))
+  only₁ = steps .dropped .only (bookLines held) (b .numbers .numbers) (numbers-at b (steps .numbers-root))
 
   numbers′ : Part Item
   numbers′ = dropped₁ .0
@@ -92,7 +92,7 @@ module _ {w w₁ w₂ w₃ w₄ w′ : Words} {number : ℤ} {c s root root′ x
   offers₂ =
       offers-agree held
       (agree-trans (agree-only (steps .dropped .within) only₁ (offers-number (bookLines held))) (agree-less (λ f t d. tt) rooted₂))
-      (b .offers)
+      (b .offers .offers-in)
 
   -- ---- w₂ to w₃
 
@@ -102,7 +102,7 @@ module _ {w w₁ w₂ w₃ w₄ w′ : Words} {number : ℤ} {c s root root′ x
   -- ---- w₃ to w′
 
   lines : bookLines (withdrawn items a held .rest) ≡ without items a (bookLines held)
-  lines = withdrawn-lines items item-laws a held (live-whole w held (b .offers)) (live .member)
+  lines = withdrawn-lines items item-laws a held (live-whole w held (b .offers .offers-in)) (live .member)
 
   offers′ : OffersIn w′ (withdrawn items a held .rest)
   offers′ =
@@ -122,18 +122,18 @@ module _ {w w₁ w₂ w₃ w₄ w′ : Words} {number : ℤ} {c s root root′ x
   numbers-in′ : NumbersIn w′ (bookLines (withdrawn items a held .rest)) numbers′
   numbers-in′ = rw lines (numbers-at′ .numbers)
 
-  free-kept : Agree (FreeHere (b .free)) w w′
+  free-kept : Agree (FreeHere (b .free .free)) w w′
   free-kept =
-      agree-trans (agree-only (steps .dropped .within) only₁ (free-number (b .free)))
+      agree-trans (agree-only (steps .dropped .within) only₁ (free-number (b .free .free)))
       (agree-trans (agree-less (λ f t d. tt) rooted₂)
-      (agree-trans (agree-touched (left₃ .within) (left₃ .touched) (free-envelope (b .free)))
+      (agree-trans (agree-touched (left₃ .within) (left₃ .touched) (free-envelope (b .free .free)))
       (agree-trans (agree-less (λ f t d. tt) (steps .headed .agree)) (agree-less (λ f t d. not-free t (d .1)) (steps .freed .agree)))))
 
   slot-low : 1 ≤ s
-  slot-low = omega (arith, live .slot, live-slots w held (b .offers) .low (live .member))
+  slot-low = omega (arith, live .slot, live-slots w held (b .offers .offers-in) .low (live .member))
 
   slot-high : s ≤ cap w
-  slot-high = omega (arith, live .slot, live-slots w held (b .offers) .high (live .member))
+  slot-high = omega (arith, live .slot, live-slots w held (b .offers .offers-in) .high (live .member))
 
   -- what the header held before
   header-before : (i : ℕ) → 4 ≤ i → i < 64 → i ≢ 4 → word w₄ i ≡ word w i
@@ -144,12 +144,12 @@ module _ {w w₁ w₂ w₃ w₄ w′ : Words} {number : ℤ} {c s root root′ x
       ∙ wset-other w₁ 4 i (pos root′) d
       ∙ header-kept (steps .dropped .within) i g
 
-  free-chain′ : FreeChain w′ (s ∷ b .free)
+  free-chain′ : FreeChain w′ (s ∷ b .free .free)
   free-chain′ =
       free-more slot-low (omega (arith, free-kept .room, slot-high)) (steps .freed .number)
       (steps .freed .next
-      ∙ ap pos (ap (upTo 8192) (header-before 5 (omega arith) (omega arith) (omega arith) ∙ b .first-free) ∙ upTo-in 8192 (head0 (b .free)) (omega (arith, chain-head (b .free-chain), cap-most w))))
-      (free-agree free-kept (b .free-chain))
+      ∙ ap pos (ap (upTo 8192) (header-before 5 (omega arith) (omega arith) (omega arith) ∙ b .free .first-free) ∙ upTo-in 8192 (head0 (b .free .free)) (omega (arith, chain-head (b .free .free-chain), cap-most w))))
+      (free-agree free-kept (b .free .free-chain))
 
   numbers-root′ : word w′ 4 ≡ pos (partRef numbers′)
   numbers-root′ =
@@ -163,41 +163,47 @@ module _ {w w₁ w₂ w₃ w₄ w′ : Words} {number : ℤ} {c s root root′ x
   fewer : length (bookLines held) ≡ suc (length (bookLines (withdrawn items a held .rest)))
   fewer = without-length ordered (live .member) ∙ ap (λ (l : List Item). suc (length l)) (sym lines)
 
-  pub withdrawn-book : Book w′ c (withdrawn items a held .rest)
+  left-offers : plainOffers (withdrawn items a held .rest) ≡ leave number (plain .offers)
+  left-offers =
+      ap (map offerOf) lines ∙ without-leave a number ordered (live .member) (live .number-is) (λ y m d. number-tells b m (live .member) d)
+      ∙ ap (leave number) (b .stands-for)
+
+  pub withdrawn-book : Book w′ (holding plain (leave number (plain .offers))) (withdrawn items a held .rest)
   withdrawn-book =
       record {
         capacity = free-kept .room ∙ b .capacity;
         some-slot = b .some-slot;
-        offers-root = steps .freed .header 1 (omega arith) (omega arith) ∙ steps .headed .root ∙ ap pos (left₃ .left .root);
-        envelope-root = steps .freed .header 2 (omega arith) (omega arith) ∙ steps .headed .envelope ∙ ap pos (left₃ .left .envelope);
-        live-count = steps .freed .header 3 (omega arith) (omega arith) ∙ steps .headed .count ∙ ap pos (omega (arith, fewer));
-        offers = offers′;
-        numbers = numbers′;
-        numbers-root = numbers-root′;
-        numbers-in = numbers-in′;
-        free = s ∷ b .free;
-        first-free = steps .freed .first;
-        free-chain = free-chain′;
-        free-apart = pairs-cons (λ p q. ¬-prop) (λ t m d. not-free t m (sym d)) (b .free-apart);
-        slots-used = omega (arith, fewer, b .slots-used);
+        offers =
+            record {
+              offers-root = steps .freed .header 1 (omega arith) (omega arith) ∙ steps .headed .root ∙ ap pos (left₃ .left .root);
+              envelope-root = steps .freed .header 2 (omega arith) (omega arith) ∙ steps .headed .envelope ∙ ap pos (left₃ .left .envelope);
+              live-count = steps .freed .header 3 (omega arith) (omega arith) ∙ steps .headed .count ∙ ap pos (omega (arith, fewer));
+              offers-in = offers′;
+            };
+        numbers = record { numbers = numbers′; numbers-root = numbers-root′; numbers-in = numbers-in′ };
+        free =
+            record {
+              free = s ∷ b .free .free;
+              first-free = steps .freed .first;
+              free-chain = free-chain′;
+              free-apart = pairs-cons (λ p q. ¬-prop) (λ t m d. not-free t m (sym d)) (b .free .free-apart);
+              slots-used = omega (arith, fewer, b .free .slots-used, free-kept .room);
+            };
+        stands-for = left-offers;
       }
 
-  plain′ : plainOffers (withdrawn items a held .rest) ≡ leave number (plainOffers held)
-  plain′ = ap (map offerOf) lines ∙ without-leave a number ordered (live .member) (live .number-is) (λ y m d. number-tells b m (live .member) d)
-
   -- the count written is the plain book's
-  pub withdrawn-count : n ≡ length (leave number (plainOffers held))
-  withdrawn-count = omega (arith, fewer, length-map (bookLines (withdrawn items a held .rest)) offerOf, ap length plain′)
+  pub withdrawn-count : n ≡ length (leave number (plain .offers))
+  withdrawn-count = omega (arith, fewer, length-map (bookLines (withdrawn items a held .rest)) offerOf, ap length left-offers)
 
   -- the part stands for the plain book after the withdrawal
-  pub withdrawn-plain : Updated w′ c held (leave number (plainOffers held)) k st h
+  pub withdrawn-plain : Updated w′ (holding plain (leave number (plain .offers))) held k st h
   withdrawn-plain =
-      let done = withdrawn-work items item-laws a held (live-whole w held (b .offers)) (live .member) in
+      let done = withdrawn-work items item-laws a held (live-whole w held (b .offers .offers-in)) (live .member) in
       record {
         after = withdrawn items a held .rest;
         log = withdrawn items a held .log;
         stands = withdrawn-book;
-        offers = plain′;
         work = done;
         counts = counts-exact (omega (arith, live-most b, capacity-most b)) (omega (arith, live-most withdrawn-book, capacity-most withdrawn-book)) done (left₃ .counted);
       }

@@ -13,12 +13,13 @@ use Rattle.integers.specs.Parts.{intRules, and-left, range-low}
 use Rattle.offers.specs.Offers.{Offer, numberInRange, rateInRange, baseInRange}
 use Rattle.dynamic.specs.OfferTree.{Held}
 use Rattle.dynamic.specs.Valid.{bookLines}
+use Rattle.plain.specs.Book.{State}
 use Rattle.table.specs.Words.{Words, word, wset, wset-other, upTo, upTo-in}
 use Rattle.table.specs.Layout.{cap, cap-most, cell, cset, linkAt, Valid, cset-same, cset-other, cset-rest, header-outside}
 use Rattle.table.specs.Free.{firstFree, given, free-link}
 use Rattle.table.specs.Items.{Item, In, at}
 use Rattle.table.specs.Threads.{Holds}
-use Rattle.update.specs.Form.{Book, FreeChain, free-more, head0}
+use Rattle.form.specs.Form.{Book, FreeChain, free-more, head0}
 use Rattle.book.specs.Live.{live-holds}
 use Rattle.book.specs.Agree.{Agree, Everywhere, Elsewhere, agree-trans, agree-less, agree-header, agree-cset, header-set}
 
@@ -146,14 +147,14 @@ headed w low {w₁} {w₂} {w₃} {x} {e} {n} e₁ e₂ e₃ =
 -- ---- the free slots of a book
 
 -- the first free slot, and those after it
-pub record FirstFree (w : Words) (c : ℕ) (live : List Item) (s : ℕ) (others : List ℕ) : Type 0 where
+pub record FirstFree (w : Words) (live : List Item) (s : ℕ) (others : List ℕ) : Type 0 where
   pub low : 1 ≤ s
   pub high : s ≤ cap w
   pub next : linkAt w 3 s ≡ head0 others
   pub chain : FreeChain w others
   pub other : (t : ℕ) → List·Memᴰ t others → t ≢ s
   pub apart : Pairwise (λ (a b : ℕ). a ≢ b) others
-  pub count : suc (length others) + length live ≡ c
+  pub count : suc (length others) + length live ≡ cap w
   pub not-live : In s live → ⊥
 
 -- a free slot has number 0, and no live item has
@@ -170,15 +171,19 @@ free-not-live {w} {live} {s} chain holds m (at {a} i e) = go chain m
     go (free-more low high zero next more) (List·Memᴰ·head d) = never (ap (cell w 0) (sym e ∙ d) ∙ zero)
     go (free-more low high zero next more) (List·Memᴰ·tail n) = go more n
 
-pub first-free : {w : Words} {c s : ℕ} {held : Option (Held Item)} → Book w c held → length (bookLines held) < c → s ≡ upTo 8192 (word w 5) → (others : List ℕ) × FirstFree w c (bookLines held) s others
-first-free {w} {c} {s} {held} b room e = go (b .free) (b .first-free) (b .free-chain) (b .free-apart) (b .slots-used) (λ t. free-not-live (b .free-chain) (live-holds w held (b .offers)))
+pub first-free :
+    {w : Words} {plain : State} {s : ℕ} {held : Option (Held Item)} → Book w plain held → length (bookLines held) < plain .capacity → s ≡ upTo 8192 (word w 5) →
+    (others : List ℕ) × FirstFree w (bookLines held) s others
+first-free {w} {s = s} {held} b room e =
+    let f = b .free in
+    go (f .free) (f .first-free) (f .free-chain) (f .free-apart) (f .slots-used) (omega (arith, room, b .capacity)) (λ t. free-not-live (f .free-chain) (live-holds w held (b .offers .offers-in)))
   where
     go :
-        (free : List ℕ) → word w 5 ≡ pos (head0 free) → FreeChain w free → Pairwise (λ (a b : ℕ). a ≢ b) free → length free + length (bookLines held) ≡ c →
+        (free : List ℕ) → word w 5 ≡ pos (head0 free) → FreeChain w free → Pairwise (λ (a b : ℕ). a ≢ b) free → length free + length (bookLines held) ≡ cap w → length (bookLines held) < cap w →
         ((t : ℕ) → List·Memᴰ t free → In t (bookLines held) → ⊥) →
-        (others : List ℕ) × FirstFree w c (bookLines held) s others
-    go [] f chain apart used no-one = absurd (omega arith)
-    go (t ∷ others) f (free-more low high zero next more) apart used no-one = (
+        (others : List ℕ) × FirstFree w (bookLines held) s others
+    go [] f chain apart used room no-one = absurd (omega arith)
+    go (t ∷ others) f (free-more low high zero next more) apart used room no-one = (
       others,
       record {
         low = omega (arith, same);

@@ -17,7 +17,7 @@ use Rattle.offers.specs.Offers.{Offer, between, crossingNumerator, crossingDeno
 use Rattle.envelopes.specs.Envelope.{Ordered}
 use Rattle.envelopes.specs.EnvelopeLaws.{ordered-sublist, ordered-right, ordered-head}
 use Rattle.plain.specs.Causes.{bookEmpty, noSuchMark}
-use Rattle.plain.specs.Book.{envelope, noBookAt}
+use Rattle.plain.specs.Book.{State, envelope, noBookAt}
 use Rattle.plain.specs.Rules.{at-once, further, declined-by, not-declined}
 use Rattle.marks.specs.Told.{Told, told, openEnd, crossing}
 use Rattle.marks.specs.Crossings.{scaledPrice}
@@ -34,7 +34,7 @@ use Rattle.search.specs.ItemLines.{Falls}
 use Rattle.search.specs.Prices.{rateAt, numeratorAt, denominatorAt, crossingPriceAt}
 use Rattle.search.specs.Pieces.{read-rate, read-price, read-numerator, read-denominator}
 use Rattle.pieces.specs.Pieces.{items}
-use Rattle.update.specs.Form.{Book, plainOffers}
+use Rattle.form.specs.Form.{Book, plainOffers}
 use Rattle.query.specs.Pieces.{Pieces}
 use Rattle.query.specs.Plain.{offerOf, pieces-plain}
 use Rattle.query.specs.Counting.{Counted, Passed}
@@ -48,7 +48,7 @@ use Rattle.chart.specs.Rounded.{part-exact}
 use Rattle.chart.specs.Walks.{SlotOf}
 
 pub record PartMark (w : Words) (index : ℤ) (r : Mark) : Type 0 where
-  pub answers : (c : ℕ) (held : Option (Held Item)) → Book w c held → told r ≡ plainMark (plainOffers held) index
+  pub answers : (s : State) (held : Option (Held Item)) → Book w s held → told r ≡ plainMark (plainOffers held) index
 
 -- the crossing that a slot keeps
 abbrev pub crossingAt : Words → ℕ → Told
@@ -159,7 +159,7 @@ module _ {w : Words} {root s n : ℕ} {t : Tree Item} (p : Pieces w root t) (k :
 module _ {w : Words} {root m : ℕ} (er : root ≡ upTo 8192 (word w 2)) (k : Counted w root m) where
   -- cause 9
   pub part-empty : (index : ℤ) → m < 1 → PartMark w index (Declined (pos 9))
-  part-empty index h = record { answers = λ c held b. go (root-of b er) }
+  part-empty index h = record { answers = λ s held b. go (root-of b er) }
     where
       go : {held : Option (Held Item)} → Root w root held → refusal bookEmpty ≡ plainMark (plainOffers held) index
       go (bare z) = refl
@@ -174,28 +174,28 @@ module _ {w : Words} {root m : ℕ} (er : root ≡ upTo 8192 (word w 2)) (k : Co
     ordered : Ordered items (leaves tree)
     live : T (not (leb (length (plainOffers (some h))) 0))
 
-  top-of : {c : ℕ} {h : Held Item} → Book w c (some h) → (t : Tree Item) → Top w root (leaves (heldShape h)) t → Topped h
-  top-of {c} {h} b t p =
+  top-of : {s : State} {h : Held Item} → Book w s (some h) → (t : Tree Item) → Top w root (leaves (heldShape h)) t → Topped h
+  top-of {s} {h} b t p =
       record {
         tree = t;
         top = p;
         shown = shown;
         many = ap length shown ∙ length-map (leaves t) offerOf ∙ sym (k .is t (p .pieces) (p .balanced));
-        ordered = ordered-sublist items (p .env .sub) (whole-ordered (some h) (live-whole w (some h) (b .offers)));
+        ordered = ordered-sublist items (p .env .sub) (whole-ordered (some h) (live-whole w (some h) (b .offers .offers-in)));
         live = lt→nleb (length (plainOffers (some h))) 0 (omega (arith, length-map (bookLines (some h)) offerOf, some-leaf (heldShape h)));
       }
     where
       shown : envelope (plainOffers (some h)) ≡ map offerOf (leaves t)
-      shown = sym (pieces-plain (bookLines (some h)) (leaves t) (whole-ordered (some h) (live-whole w (some h) (b .offers))) (p .env))
+      shown = sym (pieces-plain (bookLines (some h)) (leaves t) (whole-ordered (some h) (live-whole w (some h) (b .offers .offers-in))) (p .env))
 
   at-tree : {h : Held Item} (q : Topped h) → m ≡ length (leaves (q .tree))
   at-tree q = k .is (q .tree) (q .top .pieces) (q .top .balanced)
 
   -- an answer about a book with a piece
   by-top : {index : ℤ} {r : Mark} → 1 ≤ m → ((h : Held Item) → Topped h → told r ≡ plainMark (plainOffers (some h)) index) → PartMark w index r
-  by-top {index} {r} some-of-it f = record { answers = λ c held b. go b (root-of b er) }
+  by-top {index} {r} some-of-it f = record { answers = λ s held b. go b (root-of b er) }
     where
-      go : {c : ℕ} {held : Option (Held Item)} → Book w c held → Root w root held → told r ≡ plainMark (plainOffers held) index
+      go : {s : State} {held : Option (Held Item)} → Book w s held → Root w root held → told r ≡ plainMark (plainOffers held) index
       go b (bare z) = absurd (omega (arith, some-of-it, k .none z))
       go b (topped {h} t e p) = f h (top-of b t p)
 
@@ -269,8 +269,8 @@ module _ (start : ℕ) (t : List ℤ) (index : ℤ) {no : Bool} (e : no ≡ noBo
   mark-no-book d =
       record {
         declined = λ z g. ap refused (sym (no-book-cause t start g));
-        answers = λ c held b. absurd (no-form t start e d b);
-        rounded = λ c held b. absurd (no-form t start e d b);
+        answers = λ s held b. absurd (no-form t start e d b);
+        rounded = λ s held b. absurd (no-form t start e d b);
       }
 
   pub mark-there : {r : Mark} → no ≡ false → PartMark (take (length t - start) (drop start t)) index r → Marks start t index r
@@ -279,5 +279,5 @@ module _ (start : ℕ) (t : List ℤ) (index : ℤ) {no : Bool} (e : no ≡ noBo
       record {
         declined = λ z f. absurd (not-clear f (denied e d, tt));
         answers = here .answers;
-        rounded = λ c held b. part-exact b;
+        rounded = λ s held b. part-exact b;
       }

@@ -9,7 +9,7 @@ use lib.Dec.{T, leb}
 use lib.IntN.{ℤ, pos, natAbs}
 use Rattle.offers.specs.Offers.{Offer, between, crossingNumerator, crossingDenominator}
 use Rattle.plain.specs.Causes.{Cause, bookEmpty, noSuchMark, Trial, _when_, declined, causeNumber}
-use Rattle.plain.specs.Book.{envelope}
+use Rattle.plain.specs.Book.{State, envelope}
 use Rattle.plain.specs.Rules.{FirstOf}
 use Rattle.marks.specs.Quotient.{double, quotient, divisible, Is, Quotient}
 use Rattle.marks.specs.Told.{Told, told, openEnd, crossing}
@@ -17,7 +17,7 @@ use Rattle.marks.specs.Crossings.{scaledPrice}
 use Rattle.marks.specs.declared.Mark.{Mark}
 use Rattle.dynamic.specs.OfferTree.{Held}
 use Rattle.table.specs.Items.{Item}
-use Rattle.update.specs.Form.{Book, plainOffers}
+use Rattle.form.specs.Form.{Book, plainOffers}
 use Rattle.book.specs.Promises.{partOf, noBookTrial}
 
 -- ---- the marks of a listing
@@ -80,5 +80,5 @@ Exact (own ∷ next ∷ es) = ExactEnd own × ExactCrossing own next × Exact (n
 
 pub record Marks (start : ℕ) (t : List ℤ) (index : ℤ) (r : Mark) : Type 0 where
   pub declined : (z : Cause) → FirstOf (noBookTrial t start ∷ []) z → told r ≡ refusal z
-  pub answers : (c : ℕ) (held : Option (Held Item)) → Book (partOf t start) c held → told r ≡ plainMark (plainOffers held) index
-  pub rounded : (c : ℕ) (held : Option (Held Item)) → Book (partOf t start) c held → Exact (envelope (plainOffers held))
+  pub answers : (s : State) (held : Option (Held Item)) → Book (partOf t start) s held → told r ≡ plainMark (plainOffers held) index
+  pub rounded : (s : State) (held : Option (Held Item)) → Book (partOf t start) s held → Exact (envelope (plainOffers held))

@@ -1,5 +1,5 @@
 -- The numbers of a sound book's marks are exact as doubles.
-use mathlib.Core.Path.{refl}
+use mathlib.Core.Path.{refl, sym, subst}
 use mathlib.Core.List.{List, [], _∷_, List·Memᴰ, List·Memᴰ·head, List·Memᴰ·tail, Pairwise, Pairwise·of-cons, Pairwise·sublistᴰ, rel-of-pairwise-cons}
 use mathlib.Core.Option.{Option}
 use Prim.Native.Nat.{ℕ}
@@ -17,9 +17,8 @@ use Rattle.marks.specs.Crossings.{scaledPrice, load-divisible, price-divisible}
 use Rattle.dynamic.specs.OfferTree.{Held}
 use Rattle.table.specs.Words.{Words}
 use Rattle.table.specs.Items.{Item}
-use Rattle.update.specs.Form.{Book, plainOffers}
+use Rattle.form.specs.Form.{Book, plainOffers}
 use Rattle.book.specs.Live.{book-sound}
-use Rattle.book.specs.Promises.{plainOf}
 use Rattle.chart.specs.Promises.{ExactEnd, ExactCrossing, Exact}
 
 exact-end : (o : Offer) → T (offerInRange o) → ExactEnd o
@@ -47,5 +46,5 @@ pub sound-exact : (s : State) → Sound s → Exact (envelope (s .offers))
 sound-exact s h =
     exact-all (envelope (s .offers)) (λ o j. h .ranged o (sublist-mem (keep-sublist _ (s .offers)) j)) (Pairwise·sublistᴰ (keep-sublist _ (s .offers)) (h .ordered))
 
-pub part-exact : {w : Words} {c : ℕ} {held : Option (Held Item)} → Book w c held → Exact (envelope (plainOffers held))
-part-exact {c} {held} b = sound-exact (plainOf c held) (book-sound b)
+pub part-exact : {w : Words} {s : State} {held : Option (Held Item)} → Book w s held → Exact (envelope (plainOffers held))
+part-exact {s} {held} b = subst (λ (os : List Offer). Exact (envelope os)) (sym (b .stands-for)) (sound-exact s (book-sound b))

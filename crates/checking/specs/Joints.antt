@@ -26,7 +26,7 @@ use Rattle.table.specs.Layout.{linkAt}
 use Rattle.table.specs.Items.{Item}
 use Rattle.table.specs.Rep.{childAt, refOf}
 use Rattle.pieces.specs.Pieces.{items, item-laws, partRef}
-use Rattle.update.specs.Stored.{RestIn, Stored, stored-fork}
+use Rattle.form.specs.Stored.{RestIn, Stored, stored-fork}
 use Rattle.matching.specs.Stretches.{span, span-length, span-at, span-cut, span-cons, span-none}
 use Rattle.matching.specs.Laid.{itemAt, itemsAt, Laid, Children, laid-children}
 use Rattle.matching.specs.Tests.{Every}

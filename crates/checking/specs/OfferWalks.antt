@@ -15,7 +15,7 @@ use Rattle.table.specs.Words.{Words}
 use Rattle.table.specs.Items.{Item}
 use Rattle.table.specs.Rep.{childAt}
 use Rattle.pieces.specs.Pieces.{items}
-use Rattle.update.specs.Stored.{Stored, stored-single, stored-fork}
+use Rattle.form.specs.Stored.{Stored, stored-single, stored-fork}
 use Rattle.matching.specs.Stretches.{span, span-one, span-same, span-length}
 use Rattle.matching.specs.Laid.{itemAt, itemsAt, laid-leaf-low, laid-node-high}
 use Rattle.matching.specs.Fills.{never}

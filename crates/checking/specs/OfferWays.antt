@@ -16,7 +16,7 @@ use Rattle.matching.specs.Fills.{Fills, never}
 use Rattle.checking.specs.Headers.{Header}
 use Rattle.checking.specs.Orders.{StandsOver, Orders, stands-filled, filled-tree, filled-next, filled-items}
 use Rattle.checking.specs.Envelops.{Envelops}
-use Rattle.checking.specs.OffersStand.{OffersStand, OffersAt, Offers}
+use Rattle.checking.specs.OffersStand.{OffersFound, OffersAt, Offers}
 use Rattle.checking.specs.OffersSound.{offers-sound, offers-none-sound}
 use Rattle.checking.specs.OffersComplete.{offers-complete, offers-none-complete}
 
@@ -40,10 +40,10 @@ offers-none {w} {xs} {n} {r} e D = subst (λ (m : ℕ). Offers w xs xs m r) (sym
 -- ---- some offers
 
 module _ {w : Words} {n x e : ℕ} (some-live : n ≡ 0 → ⊥) (ex : x ≡ upTo 8192 (word w 1)) (ee : e ≡ upTo 8192 (word w 2)) where
-  at : (s : OffersStand w n) → OffersAt w x e n (bookLines (s .held))
+  at : (s : OffersFound w n) → OffersAt w x e n (bookLines (s .held))
   at s = offers-complete some-live ex ee s
 
-  offers-no : {xs xs′ : List ℕ} → length xs′ ≡ length xs → (OffersStand w n → ⊥) → Offers w xs xs′ n false
+  offers-no : {xs xs′ : List ℕ} → length xs′ ≡ length xs → (OffersFound w n → ⊥) → Offers w xs xs′ n false
   offers-no l f = record { long = l; told = decides-no f; listed = λ o s. absurd (f s) }
 
   module _ {h : Bool} (H : Decides h (Header w x e n)) where
@@ -70,12 +70,12 @@ module _ {w : Words} {n x e : ℕ} (some-live : n ≡ 0 → ⊥) (ex : x ≡ upT
             over : StandsOver w x n
             over = O .told .sound ob
 
-            found : OffersStand w n
+            found : OffersFound w n
             found =
                 offers-sound
                 (record { header = H .sound oh; tree = over .tree; stands = over .stands; lines-are = refl; count = over .count; enveloped = E .told (over .tree) (over .stands) .sound ov })
 
-            listed : f .ok ≡ true → (s : OffersStand w n) → itemsAt w (span xs₃ 0 n) ≡ bookLines (s .held)
+            listed : f .ok ≡ true → (s : OffersFound w n) → itemsAt w (span xs₃ 0 n) ≡ bookLines (s .held)
             listed o s =
                 let p : leaves (F .sound o .tree) ≡ bookLines (s .held) = ap leaves (filled-tree F o (at s .stands .laid)) ∙ at s .lines-are in
                 let q : f .next ≡ n = filled-next F o ∙ ap length p ∙ s .count in

@@ -19,13 +19,13 @@ use Rattle.table.specs.Items.{Item, Slots}
 use Rattle.table.specs.Rep.{refOf}
 use Rattle.table.specs.Threads.{Holds}
 use Rattle.pieces.specs.Pieces.{items, item-laws, partRef}
-use Rattle.update.specs.Stored.{HeldIn}
-use Rattle.update.specs.Form.{offersRef, envelopeRef, OffersIn}
+use Rattle.form.specs.Stored.{HeldIn}
+use Rattle.form.specs.Form.{offersRef, envelopeRef, OffersIn}
 use Rattle.matching.specs.Laid.{itemAt, AllPlaced}
 use Rattle.checking.specs.Stands.{Stands}
 use Rattle.checking.specs.Headers.{Header}
 use Rattle.checking.specs.Envelops.{Enveloped}
-use Rattle.checking.specs.OffersStand.{OffersStand, OffersAt}
+use Rattle.checking.specs.OffersStand.{OffersFound, OffersAt}
 
 -- ---- items whose slots hold their offers
 
@@ -79,8 +79,8 @@ module _ {w : Words} {x e : ℕ} {h : Held Item} (g : HeldIn w x e h) where
 reads : (w : Words) (i : ℕ) {x y : ℕ} → x ≡ upTo 8192 (word w i) → word w i ≡ pos y → y ≤ 8192 → x ≡ y
 reads w i {y = y} p q h = p ∙ ap (upTo 8192) q ∙ upTo-in 8192 y h
 
-pub offers-complete : {w : Words} {x e n : ℕ} → (n ≡ 0 → ⊥) → x ≡ upTo 8192 (word w 1) → e ≡ upTo 8192 (word w 2) → (s : OffersStand w n) → OffersAt w x e n (bookLines (s .held))
-offers-complete {w} {x} {e} {n} some-live ex ee s = go (s .held) (s .offers-root) (s .envelope-root) (s .live-count) (s .count) (s .offers)
+pub offers-complete : {w : Words} {x e n : ℕ} → (n ≡ 0 → ⊥) → x ≡ upTo 8192 (word w 1) → e ≡ upTo 8192 (word w 2) → (s : OffersFound w n) → OffersAt w x e n (bookLines (s .held))
+offers-complete {w} {x} {e} {n} some-live ex ee s = go (s .held) (s .offers .offers-root) (s .offers .envelope-root) (s .offers .live-count) (s .count) (s .offers .offers-in)
   where
     go :
         (o : Option (Held Item)) → word w 1 ≡ pos (offersRef o) → word w 2 ≡ pos (envelopeRef o) → word w 3 ≡ pos (length (bookLines o)) →
@@ -98,8 +98,8 @@ offers-complete {w} {x} {e} {n} some-live ex ee s = go (s .held) (s .offers-root
           enveloped = subst (λ (z : ℕ). Enveloped w z (heldShape h)) (sym pe) (held-enveloped g);
         }
 
-pub offers-none-complete : {w : Words} → OffersStand w 0 → Header w 0 0 0
-offers-none-complete {w} s = go (s .held) (s .offers-root) (s .envelope-root) (s .live-count) (s .count)
+pub offers-none-complete : {w : Words} → OffersFound w 0 → Header w 0 0 0
+offers-none-complete {w} s = go (s .held) (s .offers .offers-root) (s .offers .envelope-root) (s .offers .live-count) (s .count)
   where
     go : (o : Option (Held Item)) → word w 1 ≡ pos (offersRef o) → word w 2 ≡ pos (envelopeRef o) → word w 3 ≡ pos (length (bookLines o)) → length (bookLines o) ≡ 0 → Header w 0 0 0
     go none a b c d = record { offers-root = a; envelope-root = b; live-count = c }

@@ -14,10 +14,10 @@ use Rattle.table.specs.Words.{Words}
 use Rattle.table.specs.Items.{Item}
 use Rattle.table.specs.Rep.{refOf}
 use Rattle.pieces.specs.Pieces.{items, partRef, PartIn}
-use Rattle.update.specs.Stored.{Stored, HeldIn}
+use Rattle.form.specs.Stored.{Stored, HeldIn}
 use Rattle.checking.specs.Stands.{Stands, stands-slots, stands-holds, Decorated}
 use Rattle.checking.specs.Headers.{Header}
-use Rattle.checking.specs.OffersStand.{OffersStand, OffersAt}
+use Rattle.checking.specs.OffersStand.{OffersFound, OffersAt}
 
 -- the tree with its envelope
 abbrev with-whole : OfferTree Item → Part Item → Held Item
@@ -36,15 +36,18 @@ held-in s st va i b =
       right = record { ordered = s .ordered; valid = va; balanced = s .laid .balanced; balanced-whole = b };
     }
 
-pub offers-sound : {w : Words} {x e n : ℕ} {lines : List Item} → OffersAt w x e n lines → OffersStand w n
+pub offers-sound : {w : Words} {x e n : ℕ} {lines : List Item} → OffersAt w x e n lines → OffersFound w n
 offers-sound {w} {x} {e} {n} {lines} a =
     record {
       held = some (with-whole o p);
-      offers-root = a .header .offers-root ∙ ap pos (s .laid .root);
-      envelope-root = a .header .envelope-root ∙ ap pos (a .enveloped .root);
-      live-count = a .header .live-count ∙ ap pos (sym many);
+      offers =
+          record {
+            offers-root = a .header .offers-root ∙ ap pos (s .laid .root);
+            envelope-root = a .header .envelope-root ∙ ap pos (a .enveloped .root);
+            live-count = a .header .live-count ∙ ap pos (sym many);
+            offers-in = held-in s (d .stored) (d .valid) (a .enveloped .pieces) (a .enveloped .balanced);
+          };
       count = many;
-      offers = held-in s (d .stored) (d .valid) (a .enveloped .pieces) (a .enveloped .balanced);
     }
   where
     d : Decorated w (a .tree) (partLeaves (a .enveloped .whole))
@@ -62,5 +65,5 @@ offers-sound {w} {x} {e} {n} {lines} a =
     many : length (leaves (shape (d .offers))) ≡ n
     many = ap (λ (t : Tree Item). length (leaves t)) (d .shape-is) ∙ ap length (a .lines-are) ∙ a .count
 
-pub offers-none-sound : {w : Words} → Header w 0 0 0 → OffersStand w 0
-offers-none-sound h = record { held = none; offers-root = h .offers-root; envelope-root = h .envelope-root; live-count = h .live-count; count = refl; offers = tt }
+pub offers-none-sound : {w : Words} → Header w 0 0 0 → OffersFound w 0
+offers-none-sound h = record { held = none; offers = record { offers-root = h .offers-root; envelope-root = h .envelope-root; live-count = h .live-count; offers-in = tt }; count = refl }

@@ -11,7 +11,7 @@ use Rattle.dynamic.specs.OfferTree.{Held}
 use Rattle.dynamic.specs.Valid.{bookLines}
 use Rattle.table.specs.Words.{Words, word}
 use Rattle.table.specs.Items.{Item}
-use Rattle.update.specs.Form.{offersRef, envelopeRef, OffersIn}
+use Rattle.form.specs.Form.{OffersStand}
 use Rattle.matching.specs.Stretches.{span}
 use Rattle.matching.specs.Tests.{Decides}
 use Rattle.matching.specs.Laid.{itemsAt}
@@ -19,14 +19,11 @@ use Rattle.checking.specs.Stands.{Stands}
 use Rattle.checking.specs.Headers.{Header}
 use Rattle.checking.specs.Envelops.{Enveloped}
 
--- the header is right, and a tree of n offers with its envelopes stands there
-pub record OffersStand (w : Words) (n : ℕ) : Type 0 where
+-- a tree of n offers stands there
+pub record OffersFound (w : Words) (n : ℕ) : Type 0 where
   pub held : Option (Held Item)
-  pub offers-root : word w 1 ≡ pos (offersRef held)
-  pub envelope-root : word w 2 ≡ pos (envelopeRef held)
-  pub live-count : word w 3 ≡ pos (length (bookLines held))
+  pub offers : OffersStand w held
   pub count : length (bookLines held) ≡ n
-  pub offers : OffersIn w held
 
 -- where they are: the tree at node x with its envelopes, the whole one's pieces at node e
 pub record OffersAt (w : Words) (x e n : ℕ) (lines : List Item) : Type 0 where
@@ -39,6 +36,6 @@ pub record OffersAt (w : Words) (x e n : ℕ) (lines : List Item) : Type 0 where
 
 pub record Offers (w : Words) (xs xs′ : List ℕ) (n : ℕ) (r : Bool) : Type 0 where
   pub long : length xs′ ≡ length xs
-  pub told : Decides r (OffersStand w n)
+  pub told : Decides r (OffersFound w n)
   -- their slots stand from place 0 on
-  pub listed : r ≡ true → (s : OffersStand w n) → itemsAt w (span xs′ 0 n) ≡ bookLines (s .held)
+  pub listed : r ≡ true → (s : OffersFound w n) → itemsAt w (span xs′ 0 n) ≡ bookLines (s .held)

@@ -15,7 +15,7 @@ use Rattle.table.specs.Words.{Words, upTo, upTo-in}
 use Rattle.table.specs.Layout.{cap-most, cell}
 use Rattle.table.specs.Items.{Item}
 use Rattle.pieces.specs.Pieces.{partRef}
-use Rattle.update.specs.Lowering.{restWord, restAt}
+use Rattle.form.specs.RestWords.{restWord, restAt}
 use Rattle.matching.specs.Stretches.{span}
 use Rattle.matching.specs.Tests.{Decides, decides-no, decides-as}
 use Rattle.matching.specs.Laid.{itemsAt}

@@ -25,8 +25,8 @@ use Rattle.table.specs.Items.{Item, Apart, Slots}
 use Rattle.table.specs.Rep.{childAt, refOf}
 use Rattle.table.specs.Threads.{Held, Holds}
 use Rattle.pieces.specs.Pieces.{items, item-laws}
-use Rattle.update.specs.Stored.{Stored, nodeSlot, restField}
-use Rattle.update.specs.Lowering.{restWord}
+use Rattle.form.specs.Stored.{Stored, nodeSlot, restField}
+use Rattle.form.specs.RestWords.{restWord}
 use Rattle.matching.specs.Laid.{itemAt, itemsAt, Placed, AllPlaced, Laid, Children, laid-children}
 use Rattle.checking.specs.PieceTrees.{Known, AllKnown}
 

@@ -4,7 +4,7 @@ ghost use Prim.Native.Nat.{ℕ, _≤_};
 ghost use lib.ListN.{length};
 ghost use lib.IntN.{pos};
 ghost use Rattle.table.specs.Words.{Words};
-ghost use Rattle.update.specs.Lowering.{restWord};
+ghost use Rattle.form.specs.RestWords.{restWord};
 ghost use Rattle.matching.specs.Tests.{Decides};
 ghost use Rattle.checking.specs.PieceTrees.{Matches};
 ghost use Rattle.checking.specs.Rests.{Stays};
@@ -62,7 +62,7 @@ fn stays(part: &[i64], n: u32, scratch: &mut [u32; 8192], from: usize, to: usize
     requires { ⌜ (length (now scratch) ≡ 8192) × (from ≤ to) × (to ≤ 4096) ⌝ }
     ensures { λ r. ⌜ Stays (now (part .entry)) n (now (scratch .entry)) (now (scratch .exit)) from to r ⌝ }
 {
-    let q = update::rest(part, n);
+    let q = form::rest(part, n);
     if !rest_tells(part, n, q) {
         return false;
     }

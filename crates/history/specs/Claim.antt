@@ -2,10 +2,9 @@
 -- list of posts, withdrawals, queries and listings, refused ones among them: the part passes the check and stands for the plain book's offers,
 -- the answers in order are the plain book's, every tree is low, and each update has its list of searched pairs.
 use mathlib.Core.Path.{_≡_, refl, sym, _∙_, ap, subst}
-use mathlib.Core.List.{List, [], _∷_, List·Memᴰ, List·Memᴰ·head}
+use mathlib.Core.List.{List, _∷_, List·Memᴰ}
 use mathlib.Core.Option.{Option, none, some}
 use Prim.Native.Nat.{ℕ, _*_, _≤_}
-use native.Mathlib.Omega.{arith}
 use lib.ListN.{length}
 use lib.IntN.{ℤ, natAbs}
 use Rattle.integers.specs.Log.{B}
@@ -23,9 +22,9 @@ use Rattle.table.specs.Items.{Item}
 use Rattle.pieces.specs.Pieces.{items}
 use Rattle.book.specs.declared.Opening.{Opening}
 use Rattle.book.specs.declared.Opening.the-variants.{Opened}
-use Rattle.update.specs.Form.{Book, OffersIn, plainOffers}
-use Rattle.book.specs.Local.{book-alike}
-use Rattle.book.specs.Promises.{partOf, plainOf, Opens, Updates, Follows, Queries, Lists, Passes}
+use Rattle.form.specs.Form.{Book, OffersIn}
+use Rattle.book.specs.Local.{Alike, book-alike}
+use Rattle.book.specs.Promises.{partOf, Opens, Passes}
 use Rattle.history.specs.History.{Happens, by-post, by-withdraw, by-query, by-listing, History, finished, next, LowPairs, Kept, EachCall}
 
 -- ---- heights
@@ -48,17 +47,17 @@ low-pairs w p m = let s = w .searched p m in (log-height (s .left-balanced), log
 pub record Claim {c start : ℕ} {t : List ℤ} {ks : List Call} {as′ : List Answer} {t′ : List ℤ} (s : State) (before : Option (Held Item)) (h : History c start t ks as′ t′) : Type 0 where
   pub held : Option (Held Item)
   -- the part passes the check, and its leaves hold exactly the plain book's offers, in order
-  pub stands : Book (partOf t′ start) c held
-  pub offers : plainOffers held ≡ after s ks .offers
+  pub stands : Book (partOf t′ start) (after s ks) held
   -- refusals' numbers, live counts, prices, offers named, piece counts and words written
   pub told : as′ ≡ answers s ks
   pub low : Low held
-  pub low-numbers : partHeight (stands .numbers) ≤ 2 * B (length (partLeaves (stands .numbers)))
-  pub each : EachCall h before held
+  pub low-numbers : partHeight (stands .numbers .numbers) ≤ 2 * B (length (partLeaves (stands .numbers .numbers)))
+  pub each : EachCall s h before held
 
 -- ---- its proof
 
-step-capacity : (s : State) (k : Call) → step s k .state .capacity ≡ s .capacity
+-- a call leaves the capacity as it was
+pub step-capacity : (s : State) (k : Call) → step s k .state .capacity ≡ s .capacity
 step-capacity s k = go (declined (trials s k)) k
   where
     go : (d : Option Cause) (k : Call) → respond s k d .state .capacity ≡ s .capacity
@@ -67,10 +66,6 @@ step-capacity s k = go (declined (trials s k)) k
     go none (withdraw n) = refl
     go none (query q) = refl
     go none (listing room) = refl
-
--- the plain book after a call is the one that the part then stands for
-pub same-state : (c : ℕ) (held held′ : Option (Held Item)) (k : Call) → plainOffers held′ ≡ step (plainOf c held) k .state .offers → step (plainOf c held) k .state ≡ plainOf c held′
-same-state c held held′ k e = λ i. record { capacity = step-capacity (plainOf c held) k i; offers = sym e i }
 
 -- a query and a listing leave the plain book as it was
 pub asked-state : (s : State) (q : ℤ) → step s (query q) .state ≡ s
@@ -88,50 +83,61 @@ listed-state s room = go (declined (trials s (listing room)))
     go none = refl
 
 -- what one call does to a part that stands for a plain book
-pub record OneCall {start : ℕ} {t : List ℤ} {k : Call} {t′ : List ℤ} {a : Answer} (c : ℕ) (held : Option (Held Item)) (p : Happens start t k t′ a) : Type 0 where
+pub record OneCall {start : ℕ} {t : List ℤ} {k : Call} {t′ : List ℤ} {a : Answer} (s : State) (held : Option (Held Item)) (p : Happens start t k t′ a) : Type 0 where
   pub mid : Option (Held Item)
-  pub stands : Book (partOf t′ start) c mid
-  pub state : step (plainOf c held) k .state ≡ plainOf c mid
-  pub told : a ≡ step (plainOf c held) k .answer
-  pub kept : Kept c start p held mid
+  pub stands : Book (partOf t′ start) (step s k .state) mid
+  pub told : a ≡ step s k .answer
+  pub kept : Kept s start p held mid
 
-pub one-call : {start : ℕ} {t : List ℤ} {k : Call} {t′ : List ℤ} {a : Answer} (c : ℕ) (held : Option (Held Item)) (p : Happens start t k t′ a) → Book (partOf t start) c held → OneCall c held p
-one-call c held (by-post n r b u p e) book =
-    let f = p .follows c held book in
-    record { mid = f .after; stands = f .stands; state = same-state c held (f .after) (post n r b) (f .offers); told = e ∙ f .answers; kept = (f, refl, low-pairs (f .work)) }
-one-call c held (by-withdraw n u p e) book =
-    let f = p .follows c held book in
-    record { mid = f .after; stands = f .stands; state = same-state c held (f .after) (withdraw n) (f .offers); told = e ∙ f .answers; kept = (f, refl, low-pairs (f .work)) }
-one-call {start} c held (by-query q f p d e) book =
+-- a call that leaves the words and the plain book
+unmoved : (start : ℕ) {t t′ : List ℤ} {s s′ : State} {held : Option (Held Item)} → t′ ≡ t → s′ ≡ s → Book (partOf t start) s held → Book (partOf t′ start) s′ held
+unmoved start {t} {s′ = s′} {held} d e book = subst (λ (u : List ℤ). Book (partOf u start) s′ held) (sym d) (subst (λ (x : State). Book (partOf t start) x held) (sym e) book)
+
+pub one-call : {start : ℕ} {t : List ℤ} {k : Call} {t′ : List ℤ} {a : Answer} (s : State) (held : Option (Held Item)) (p : Happens start t k t′ a) → Book (partOf t start) s held → OneCall s held p
+one-call s held (by-post n r b u p e) book =
+    let f = p .follows s held book in
+    record { mid = f .after; stands = f .stands; told = e ∙ f .answers; kept = (f, refl, low-pairs (f .work)) }
+one-call s held (by-withdraw n u p e) book =
+    let f = p .follows s held book in
+    record { mid = f .after; stands = f .stands; told = e ∙ f .answers; kept = (f, refl, low-pairs (f .work)) }
+one-call {start} s held (by-query q f p d e) book =
     record {
       mid = held;
-      stands = subst (λ (t : List ℤ). Book (partOf t start) c held) (sym d) book;
-      state = asked-state (plainOf c held) q;
-      told = e ∙ p .answers c held book;
-      kept = (p .probes c held book, refl);
+      stands = unmoved start d (asked-state s q) book;
+      told = e ∙ p .answers s held book;
+      kept = (p .probes s held book, refl);
     }
-one-call {start} c held (by-listing {room} out out′ l p m d e) book =
+one-call {start} s held (by-listing {room} out out′ l p m d e) book =
     record {
       mid = held;
-      stands = subst (λ (t : List ℤ). Book (partOf t start) c held) (sym d) book;
-      state = listed-state (plainOf c held) room;
-      told = e ∙ p .answers c held book ∙ ap (λ (n : ℕ). step (plainOf c held) (listing n) .answer) (sym m);
+      stands = unmoved start d (listed-state s room) book;
+      told = e ∙ p .answers s held book ∙ ap (λ (n : ℕ). step s (listing n) .answer) (sym m);
       kept = refl;
     }
 
-pub from-book : {c start : ℕ} {t : List ℤ} {ks : List Call} {as′ : List Answer} {t′ : List ℤ} (h : History c start t ks as′ t′) (held : Option (Held Item)) → Book (partOf t start) c held → Claim (plainOf c held) held h
-from-book {start} {t} finished held book = record { held = held; stands = book; offers = refl; told = refl; low = low-trees (partOf t start) held (book .offers); low-numbers = log-heightP (book .numbers) (book .numbers-in .balanced); each = refl }
-from-book {c} {start} (next {k} {ks} alike p rest) held book =
-    let o = one-call c held p (book-alike book alike) in
-    onward o (from-book rest (o .mid) (o .stands))
+-- c is the plain book's capacity
+pub from-book :
+    {c start : ℕ} {t : List ℤ} {ks : List Call} {as′ : List Answer} {t′ : List ℤ} (h : History c start t ks as′ t′) (s : State) (held : Option (Held Item)) →
+    s .capacity ≡ c → Book (partOf t start) s held → Claim s held h
+from-book {start} {t} finished s held same book =
+    record {
+      held = held;
+      stands = book;
+      told = refl;
+      low = low-trees (partOf t start) held (book .offers .offers-in);
+      low-numbers = log-heightP (book .numbers .numbers) (book .numbers .numbers-in .balanced);
+      each = refl;
+    }
+from-book {c} {start} (next {t} {t₁} {k = k} alike p rest) s held same book =
+    let o = one-call s held p (book-alike book (subst (λ (n : ℕ). Alike n (partOf t start) (partOf t₁ start)) (sym same) alike)) in
+    onward o (from-book rest (step s k .state) (o .mid) (step-capacity s k ∙ same) (o .stands))
   where
-    onward : (o : OneCall c held p) → Claim (plainOf c (o .mid)) (o .mid) rest → Claim (plainOf c held) held (next alike p rest)
+    onward : (o : OneCall s held p) → Claim (step s k .state) (o .mid) rest → Claim s held (next alike p rest)
     onward o r =
         record {
           held = r .held;
           stands = r .stands;
-          offers = r .offers ∙ ap (λ (s : State). after s ks .offers) (sym (o .state));
-          told = λ i. o .told i ∷ (r .told ∙ ap (λ (s : State). answers s ks) (sym (o .state))) i;
+          told = λ i. o .told i ∷ r .told i;
           low = r .low;
           low-numbers = r .low-numbers;
           each = (o .mid, o .kept, r .each);
@@ -144,8 +150,8 @@ pub every-history :
     Clear (openTrials (length t) start c) →
     (h : History (natAbs c) start t₀ ks as′ t′) →
     (r ≡ Opened) × Claim (opened c) none h
-every-history c r p clear h = (p .accepted clear .0, from-book h none (p .accepted clear .1))
+every-history c r p clear h = (p .accepted clear .0, from-book h (opened c) none refl (p .accepted clear .1))
 
 -- so the part passes the check
 pub history-passes : {c start : ℕ} {t : List ℤ} {ks : List Call} {as′ : List Answer} {t′ : List ℤ} {s : State} {held : Option (Held Item)} {h : History c start t ks as′ t′} → Claim s held h → Passes start t′
-history-passes {c} q = (c, q .held, q .stands)
+history-passes {ks = ks} {s = s} q = (after s ks, q .held, q .stands)

@@ -2,21 +2,20 @@
 -- words outside the part, and nobody writes the part.
 use mathlib.Core.Path.{_≡_}
 use mathlib.Core.List.{List, [], _∷_, List·Memᴰ}
-use mathlib.Core.Option.{Option, none, some}
+use mathlib.Core.Option.{Option}
 use Prim.Native.Nat.{ℕ, _*_, _≤_}
 use lib.ListN.{length}
 use lib.IntN.{ℤ}
 use Rattle.integers.specs.Log.{B}
-use Rattle.plain.specs.Book.{State, Call, post, withdraw, query, listing, Answer, after, answers}
+use Rattle.plain.specs.Book.{State, Call, post, withdraw, query, listing, Answer, step}
 use Rattle.trees.specs.Tree.{height, leaves}
 use Rattle.dynamic.specs.OfferTree.{Held, Pair}
 use Rattle.table.specs.Items.{Item}
 use Rattle.book.specs.declared.Update.{Update}
 use Rattle.book.specs.declared.Found.{Found}
 use Rattle.book.specs.declared.Listed.{Listed}
-use Rattle.update.specs.Form.{Book, plainOffers}
 use Rattle.book.specs.Local.{Alike}
-use Rattle.book.specs.Promises.{partOf, Updates, Follows, Queries, Probes, Lists, updateAnswer, foundAnswer, listingAnswer, plainOf}
+use Rattle.book.specs.Promises.{partOf, Updates, Follows, Queries, Probes, Lists, updateAnswer, foundReturned, foundAnswer, listingAnswer}
 
 -- One call: the words before and after it, and its answer.
 pub data Happens (start : ℕ) (t : List ℤ) : Call → List ℤ → Answer → Type 0 where
@@ -41,12 +40,13 @@ LowPairs log = (p : Pair Item) → List·Memᴰ p log → (height (p .front) ≤
 
 -- What each call of a history is held to, from one offer tree to the next: an update's log of searched pairs with k, s, H and the floor,
 -- a query's probes.
-abbrev pub Kept : (c start : ℕ) {t : List ℤ} {k : Call} {t′ : List ℤ} {a : Answer} → Happens start t k t′ a → (before after : Option (Held Item)) → Type 0
-Kept c start {t} {t′ = t′} (by-post n r b u p e) held held′ = (f : Follows (post n r b) c held start t t′ u) × (f .after ≡ held′) × LowPairs (f .log)
-Kept c start {t} {t′ = t′} (by-withdraw n u p e) held held′ = (f : Follows (withdraw n) c held start t t′ u) × (f .after ≡ held′) × LowPairs (f .log)
-Kept c start (by-query q f p d e) held held′ = Probes held f × (held ≡ held′)
-Kept c start (by-listing out out′ l p m d e) held held′ = held ≡ held′
+abbrev pub Kept : (s : State) (start : ℕ) {t : List ℤ} {k : Call} {t′ : List ℤ} {a : Answer} → Happens start t k t′ a → (before after : Option (Held Item)) → Type 0
+Kept s start {t} {t′ = t′} (by-post n r b u p e) held held′ = (f : Follows (post n r b) s held start t t′ u) × (f .after ≡ held′) × LowPairs (f .log)
+Kept s start {t} {t′ = t′} (by-withdraw n u p e) held held′ = (f : Follows (withdraw n) s held start t t′ u) × (f .after ≡ held′) × LowPairs (f .log)
+Kept s start (by-query q f p d e) held held′ = Probes held (foundReturned f .answer) (foundReturned f .beside) × (held ≡ held′)
+Kept s start (by-listing out out′ l p m d e) held held′ = held ≡ held′
 
-abbrev pub EachCall : {c start : ℕ} {t : List ℤ} {ks : List Call} {as′ : List Answer} {t′ : List ℤ} → History c start t ks as′ t′ → (before after : Option (Held Item)) → Type 0
-EachCall finished held held′ = held ≡ held′
-EachCall {c} {start} (next q p rest) held held′ = (mid : Option (Held Item)) × Kept c start p held mid × EachCall rest mid held′
+-- each on the plain book that the calls before it left
+abbrev pub EachCall : {c start : ℕ} {t : List ℤ} {ks : List Call} {as′ : List Answer} {t′ : List ℤ} (s : State) → History c start t ks as′ t′ → (before after : Option (Held Item)) → Type 0
+EachCall s finished held held′ = held ≡ held′
+EachCall {start = start} s (next {k = k} q p rest) held held′ = (mid : Option (Held Item)) × Kept s start p held mid × EachCall (step s k .state) rest mid held′

@@ -14,6 +14,7 @@ use Rattle.integers.specs.Parts.{intRules}
 use Rattle.offers.specs.Offers.{Offer}
 use Rattle.envelopes.specs.Envelope.{Ordered}
 use Rattle.envelopes.specs.EnvelopeLaws.{ordered-left, ordered-apart}
+use Rattle.plain.specs.Book.{State}
 use Rattle.trees.specs.Tree.{Tree, leaf, node, leaves, first, last}
 use Rattle.trees.specs.Leaves.{first-leaf, last-leaf}
 use Rattle.dynamic.specs.OfferTree.{Held, heldShape}
@@ -25,7 +26,7 @@ use Rattle.table.specs.Items.{Item}
 use Rattle.table.specs.Rep.{Rep}
 use Rattle.descents.specs.Ends.{Ended}
 use Rattle.pieces.specs.Pieces.{rateOf, items, item-laws}
-use Rattle.update.specs.Form.{Book, plainOffers}
+use Rattle.form.specs.Form.{Book, plainOffers}
 use Rattle.book.specs.Live.{offerOf}
 use Rattle.book.specs.Sought.{offers-read, not-any}
 
@@ -35,8 +36,8 @@ AllBefore ls rs = (a b : Item) → List·Memᴰ a ls → List·Memᴰ b rs → T
 
 -- what the code's test says of two books that are not empty
 pub record SetsApart (w w′ : Words) (r : Bool) : Type 0 where
-  pub apart : r ≡ true → {c c′ : ℕ} {h h′ : Held Item} → Book w c (some h) → Book w′ c′ (some h′) → AllBefore (bookLines (some h)) (bookLines (some h′))
-  pub mixed : r ≡ false → {c c′ : ℕ} {h h′ : Held Item} → Book w c (some h) → Book w′ c′ (some h′) → T (any (λ a. any (λ b. not (ltZ (b .rate) (a .rate))) (plainOffers (some h′))) (plainOffers (some h)))
+  pub apart : r ≡ true → {s s′ : State} {h h′ : Held Item} → Book w s (some h) → Book w′ s′ (some h′) → AllBefore (bookLines (some h)) (bookLines (some h′))
+  pub mixed : r ≡ false → {s s′ : State} {h h′ : Held Item} → Book w s (some h) → Book w′ s′ (some h′) → T (any (λ a. any (λ b. not (ltZ (b .rate) (a .rate))) (plainOffers (some h′))) (plainOffers (some h)))
 
 -- ---- the ends decide
 
@@ -87,15 +88,15 @@ not-mixed ls rs h =
 
 -- ---- the ends that the code found
 
-module _ {w : Words} {c x : ℕ} {h : Held Item} (b : Book w c (some h)) (at-root : x ≡ upTo 8192 (word w 1)) where
+module _ {w : Words} {s : State} {x : ℕ} {h : Held Item} (b : Book w s (some h)) (at-root : x ≡ upTo 8192 (word w 1)) where
   offers-rep : Rep w 1 x (heldShape h)
-  offers-rep = record { kind = omega arith; root = at-root ∙ offers-read b; slots = b .offers .slots; tied = b .offers .tied }
+  offers-rep = record { kind = omega arith; root = at-root ∙ offers-read b; slots = b .offers .offers-in .slots; tied = b .offers .offers-in .tied }
 
   last-rate : {e : ℕ} → Ended w 1 true x e → cell w 1 e ≡ rateOf (last (heldShape h))
-  last-rate f = ap (cell w 1) (f .is (heldShape h) offers-rep (b .offers .right .balanced)) ∙ b .offers .kept .held (last-leaf (heldShape h)) .rate
+  last-rate f = ap (cell w 1) (f .is (heldShape h) offers-rep (b .offers .offers-in .right .balanced)) ∙ b .offers .offers-in .kept .held (last-leaf (heldShape h)) .rate
 
   first-rate : {e : ℕ} → Ended w 1 false x e → cell w 1 e ≡ rateOf (first (heldShape h))
-  first-rate f = ap (cell w 1) (f .is (heldShape h) offers-rep (b .offers .right .balanced)) ∙ b .offers .kept .held (first-leaf (heldShape h)) .rate
+  first-rate f = ap (cell w 1) (f .is (heldShape h) offers-rep (b .offers .offers-in .right .balanced)) ∙ b .offers .offers-in .kept .held (first-leaf (heldShape h)) .rate
 
 pub sets-apart :
     {w w′ : Words} {x y a b : ℕ} {rate : ℤ} {r : Bool} →
@@ -103,9 +104,9 @@ pub sets-apart :
     SetsApart w w′ r
 sets-apart {w} {w′} {x} {y} {a} {b} {rate} {r} ex ey ea eb er e =
     record {
-      apart = λ d {c} {c′} {h} {h′} p q. ends-decide (heldShape h) (heldShape h′) (p .offers .right .ordered) (q .offers .right .ordered) (subst T (sym d ∙ tested p q) tt);
-      mixed = λ d {c} {c′} {h} {h′} p q. some-mixed (bookLines (some h)) (bookLines (some h′)) (last-leaf (heldShape h)) (first-leaf (heldShape h′)) (subst (λ (z : Bool). T (not z)) (sym d ∙ tested p q) tt);
+      apart = λ d {s} {s′} {h} {h′} p q. ends-decide (heldShape h) (heldShape h′) (p .offers .offers-in .right .ordered) (q .offers .offers-in .right .ordered) (subst T (sym d ∙ tested p q) tt);
+      mixed = λ d {s} {s′} {h} {h′} p q. some-mixed (bookLines (some h)) (bookLines (some h′)) (last-leaf (heldShape h)) (first-leaf (heldShape h′)) (subst (λ (z : Bool). T (not z)) (sym d ∙ tested p q) tt);
     }
   where
-    tested : {c c′ : ℕ} {h h′ : Held Item} → Book w c (some h) → Book w′ c′ (some h′) → r ≡ items .before (last (heldShape h)) (first (heldShape h′))
+    tested : {s s′ : State} {h h′ : Held Item} → Book w s (some h) → Book w′ s′ (some h′) → r ≡ items .before (last (heldShape h)) (first (heldShape h′))
     tested p q = e ∙ ap₂ ltZ (er ∙ first-rate q ey eb) (last-rate p ex ea)

@@ -13,7 +13,7 @@ use lib.Signed.{ltZ}
 use Rattle.lists.specs.Tests.{any}
 use Rattle.offers.specs.Offers.{Offer}
 use Rattle.plain.specs.Causes.{Cause, noBook, bookEmpty, ratesNotApart, Trial, _when_, causeNumber}
-use Rattle.plain.specs.Book.{noBookAt, envelope}
+use Rattle.plain.specs.Book.{State, noBookAt, envelope}
 use Rattle.plain.specs.Rules.{FirstOf}
 use Rattle.plain.specs.Sound.{Clear}
 use Rattle.trees.specs.Tree.{Tree, height}
@@ -25,8 +25,8 @@ use Rattle.dynamic.specs.Bridged.{Bridged}
 use Rattle.table.specs.Words.{word}
 use Rattle.table.specs.Items.{Item}
 use Rattle.pieces.specs.Pieces.{items}
-use Rattle.update.specs.Form.{Book, numberOf, plainOffers}
-use Rattle.book.specs.Promises.{partOf}
+use Rattle.form.specs.Form.{Book, numberOf, plainOffers}
+use Rattle.book.specs.Promises.{partOf, rootPart}
 use Rattle.meet.specs.declared.Met.{Met}
 use Rattle.meet.specs.declared.Met.the-variants.{Meeting, Declined}
 
@@ -58,18 +58,13 @@ meetAnswer (Declined c) = refused c
 
 -- ---- the promise
 
--- the piece tree of the root's envelope
-abbrev pub rootPieces : Option (Held Item) → Part Item
-rootPieces none = none
-rootPieces (some h) = h .whole
-
 -- The machine ends, within 3 × (hl + hr) + 1 steps, at u and v of `bridged`; they, its steps and the heights are the answer. The left
 -- pieces up to u and the right ones from v are the envelope of both sets of offers: of the items (`bridged`) and of the plain offers.
 pub record Found (held held′ : Option (Held Item)) (r : Met) : Type 0 where
   pub left : Tree Item
   pub right : Tree Item
-  pub left-root : rootPieces held ≡ some left
-  pub right-root : rootPieces held′ ≡ some right
+  pub left-root : rootPart held ≡ some left
+  pub right-root : rootPart held′ ≡ some right
   pub bridged : Bridged items (bookLines held) (bookLines held′) left right
   pub answer : meetAnswer r ≡ met (numberOf (bridged .u)) (numberOf (bridged .v)) (pos (meet items left right .steps)) (pos (height left)) (pos (height right))
   pub plainly : envelope (plainOffers held ++ plainOffers held′) ≡ map (λ (a : Item). a .offer) (bridged .upTo ++ bridged .u ∷ bridged .v ∷ bridged .from)
@@ -81,4 +76,4 @@ pub record Answers (held held′ : Option (Held Item)) (r : Met) : Type 0 where
 
 pub record MeetsBooks (t : List ℤ) (start : ℕ) (t′ : List ℤ) (start′ : ℕ) (r : Met) : Type 0 where
   pub declined : (z : Cause) → FirstOf (noBookTrials t start t′ start′) z → meetAnswer r ≡ refused (pos (causeNumber z))
-  pub answers : (c c′ : ℕ) (held held′ : Option (Held Item)) → Book (partOf t start) c held → Book (partOf t′ start′) c′ held′ → Answers held held′ r
+  pub answers : (s s′ : State) (held held′ : Option (Held Item)) → Book (partOf t start) s held → Book (partOf t′ start′) s′ held′ → Answers held held′ r

@@ -14,7 +14,7 @@ use Rattle.lists.specs.Tests.{any}
 use Rattle.envelopes.specs.Envelope.{Ordered}
 use Rattle.envelopes.specs.EnvelopeLaws.{ordered-append}
 use Rattle.plain.specs.Causes.{Cause, causeNumber}
-use Rattle.plain.specs.Book.{envelope}
+use Rattle.plain.specs.Book.{State, envelope}
 use Rattle.plain.specs.Rules.{FirstOf, at-once, further}
 use Rattle.trees.specs.Tree.{Tree, leaves, first}
 use Rattle.meeting.specs.Machine.{meet}
@@ -31,7 +31,7 @@ use Rattle.search.specs.declared.Met.{Met as Ended}
 use Rattle.search.specs.Runs.{Kept, Meets, Answers as SearchAnswers}
 use Rattle.pieces.specs.Pieces.{items, item-laws}
 use Rattle.query.specs.Plain.{offerOf, pieces-plain}
-use Rattle.update.specs.Form.{Book, numberOf, plainOffers}
+use Rattle.form.specs.Form.{Book, numberOf, plainOffers}
 use Rattle.book.specs.Sought.{count-read}
 use Rattle.book.specs.Parts.{said, denied, either-first, either-second, not-either}
 use Rattle.book.specs.Opens.{one-cause, not-clear}
@@ -44,7 +44,7 @@ use Rattle.meet.specs.Apart.{AllBefore, SetsApart, not-mixed}
 -- ---- the search from the roots
 
 pub record Searches (w w′ : Words) (r : Met) : Type 0 where
-  pub finds : {c c′ : ℕ} {h h′ : Held Item} → Book w c (some h) → Book w′ c′ (some h′) → AllBefore (bookLines (some h)) (bookLines (some h′)) → Found (some h) (some h′) r
+  pub finds : {s s′ : State} {h h′ : Held Item} → Book w s (some h) → Book w′ s′ (some h′) → AllBefore (bookLines (some h)) (bookLines (some h′)) → Found (some h) (some h′) r
 
 -- what the code has read
 pub record Reads (w w′ : Words) (l r : ℕ) (m : Ended) (u v : ℤ) (hl hr : ℕ) : Type 0 where
@@ -90,9 +90,9 @@ module _ {w w′ : Words} {l r : ℕ} {m : Ended} {u v : ℤ} {hl hr : ℕ} (f :
   pub searches : Searches w w′ (Meeting u v (pos (m .steps)) (pos hl) (pos hr))
   searches = record { finds = λ b b′ apart. go b b′ apart (root-of b (f .left-root)) (root-of b′ (f .right-root)) }
     where
-      go : {c c′ : ℕ} {h h′ : Held Item} → Book w c (some h) → Book w′ c′ (some h′) → AllBefore (bookLines (some h)) (bookLines (some h′)) → Root w l (some h) → Root w′ r (some h′) → Found (some h) (some h′) (Meeting u v (pos (m .steps)) (pos hl) (pos hr))
+      go : {s s′ : State} {h h′ : Held Item} → Book w s (some h) → Book w′ s′ (some h′) → AllBefore (bookLines (some h)) (bookLines (some h′)) → Root w l (some h) → Root w′ r (some h′) → Found (some h) (some h′) (Meeting u v (pos (m .steps)) (pos hl) (pos hr))
       go {h = h} {h′ = h′} b b′ apart (topped tl d p) (topped tr e q) =
-          let o : Ordered items (leaves (heldShape h) ++ leaves (heldShape h′)) = ordered-append items (leaves (heldShape h)) (leaves (heldShape h′)) (b .offers .right .ordered) (b′ .offers .right .ordered) apart in
+          let o : Ordered items (leaves (heldShape h) ++ leaves (heldShape h′)) = ordered-append items (leaves (heldShape h)) (leaves (heldShape h′)) (b .offers .offers-in .right .ordered) (b′ .offers .offers-in .right .ordered) apart in
           record {
             left = tl;
             right = tr;
@@ -106,14 +106,14 @@ module _ {w w′ : Words} {l r : ℕ} {m : Ended} {u v : ℤ} {hl hr : ℕ} (f :
 -- ---- the trials
 
 pub record MeetsParts (w w′ : Words) (r : Met) : Type 0 where
-  pub answers : (c c′ : ℕ) (held held′ : Option (Held Item)) → Book w c held → Book w′ c′ held′ → Answers held held′ r
+  pub answers : (s s′ : State) (held held′ : Option (Held Item)) → Book w s held → Book w′ s′ held′ → Answers held held′ r
 
 -- declined by the first trial that applies
 declines : {held held′ : Option (Held Item)} {k : Cause} → FirstOf (meetTrials (plainOffers held) (plainOffers held′)) k → Answers held held′ (Declined (pos (causeNumber k)))
 declines f = record { declined = λ z g. ap (λ (n : ℕ). refused (pos n)) (sym (one-cause f g)); accepted = λ g. absurd (not-clear f g) }
 
 -- what the count says of a book
-module _ {w : Words} {c : ℕ} {held : Option (Held Item)} (b : Book w c held) {e : Bool} (t : e ≡ ltb (upTo 8192 (word w 3)) 1) where
+module _ {w : Words} {s : State} {held : Option (Held Item)} (b : Book w s held) {e : Bool} (t : e ≡ ltb (upTo 8192 (word w 3)) 1) where
   bare-book : e ≡ true → T (leb (length (plainOffers held)) 0)
   bare-book h = le→leb (length (plainOffers held)) 0 (omega (arith, ltb→lt (upTo 8192 (word w 3)) 1 (said t h), count-read b, length-map (bookLines held) offerOf))
 
@@ -125,28 +125,28 @@ module _ {w : Words} {c : ℕ} {held : Option (Held Item)} (b : Book w c held) {
 
 module _ {w w′ : Words} {e e′ : Bool} (t : e ≡ ltb (upTo 8192 (word w 3)) 1) (t′ : e′ ≡ ltb (upTo 8192 (word w′ 3)) 1) where
   pub second-empty : e′ ≡ true → MeetsParts w w′ (Declined (pos 9))
-  second-empty h = record { answers = λ c c′ held held′ b b′. declines (at-once (either-second (leb (length (plainOffers held)) 0) (leb (length (plainOffers held′)) 0) (bare-book b′ t′ h))) }
+  second-empty h = record { answers = λ s s′ held held′ b b′. declines (at-once (either-second (leb (length (plainOffers held)) 0) (leb (length (plainOffers held′)) 0) (bare-book b′ t′ h))) }
 
   module _ {d : Bool} (s : SetsApart w w′ d) (h : e ≡ false) (h′ : e′ ≡ false) where
-    neither-empty : {c c′ : ℕ} {held held′ : Option (Held Item)} → Book w c held → Book w′ c′ held′ → T (not (leb (length (plainOffers held)) 0 || leb (length (plainOffers held′)) 0))
+    neither-empty : {s s′ : State} {held held′ : Option (Held Item)} → Book w s held → Book w′ s′ held′ → T (not (leb (length (plainOffers held)) 0 || leb (length (plainOffers held′)) 0))
     neither-empty {held = held} {held′ = held′} b b′ = not-either (leb (length (plainOffers held)) 0) (leb (length (plainOffers held′)) 0) (live-book b t h) (live-book b′ t′ h′)
 
     pub not-apart : d ≡ false → MeetsParts w w′ (Declined (pos 12))
-    not-apart n = record { answers = λ c c′ held held′ b b′. go held held′ b b′ }
+    not-apart n = record { answers = λ s s′ held held′ b b′. go held held′ b b′ }
       where
-        go : {c c′ : ℕ} (held held′ : Option (Held Item)) → Book w c held → Book w′ c′ held′ → Answers held held′ (Declined (pos 12))
+        go : {s s′ : State} (held held′ : Option (Held Item)) → Book w s held → Book w′ s′ held′ → Answers held held′ (Declined (pos 12))
         go none held′ b b′ = absurd (omega (arith, some-offer b t h))
         go (some g) none b b′ = absurd (omega (arith, some-offer b′ t′ h′))
         go (some g) (some g′) b b′ = declines {held = some g} {held′ = some g′} (further (neither-empty b b′) (at-once (s .mixed n b b′)))
 
     pub apart-found : d ≡ true → {r : Met} → Searches w w′ r → MeetsParts w w′ r
-    apart-found n {r} f = record { answers = λ c c′ held held′ b b′. go held held′ b b′ }
+    apart-found n {r} f = record { answers = λ s s′ held held′ b b′. go held held′ b b′ }
       where
         -- all rates apart: the trial does not apply
-        clear : {c c′ : ℕ} (g g′ : Held Item) → Book w c (some g) → Book w′ c′ (some g′) → T (not (any (λ a. any (λ b. not (ltZ (b .rate) (a .rate))) (plainOffers (some g′))) (plainOffers (some g))))
+        clear : {s s′ : State} (g g′ : Held Item) → Book w s (some g) → Book w′ s′ (some g′) → T (not (any (λ a. any (λ b. not (ltZ (b .rate) (a .rate))) (plainOffers (some g′))) (plainOffers (some g))))
         clear g g′ b b′ = not-mixed (bookLines (some g)) (bookLines (some g′)) (s .apart n b b′)
 
-        go : {c c′ : ℕ} (held held′ : Option (Held Item)) → Book w c held → Book w′ c′ held′ → Answers held held′ r
+        go : {s s′ : State} (held held′ : Option (Held Item)) → Book w s held → Book w′ s′ held′ → Answers held held′ r
         go none held′ b b′ = absurd (omega (arith, some-offer b t h))
         go (some g) none b b′ = absurd (omega (arith, some-offer b′ t′ h′))
         go (some g) (some g′) b b′ =
@@ -156,4 +156,4 @@ module _ {w w′ : Words} {e e′ : Bool} (t : e ≡ ltb (upTo 8192 (word w 3)) 
             }
 
 pub first-empty : {w w′ : Words} {e : Bool} → e ≡ ltb (upTo 8192 (word w 3)) 1 → e ≡ true → MeetsParts w w′ (Declined (pos 9))
-first-empty t h = record { answers = λ c c′ held held′ b b′. declines (at-once (either-first (leb (length (plainOffers held)) 0) (leb (length (plainOffers held′)) 0) (bare-book b t h))) }
+first-empty t h = record { answers = λ s s′ held held′ b b′. declines (at-once (either-first (leb (length (plainOffers held)) 0) (leb (length (plainOffers held′)) 0) (bare-book b t h))) }

@@ -24,7 +24,7 @@ module _ (t : List ℤ) (start : ℕ) (t′ : List ℤ) (start′ : ℕ) {n : Bo
   first-missing e h =
       record {
         declined = λ z g. ap (λ (k : ℕ). refused (pos k)) (sym (one-cause none-there g));
-        answers = λ c c′ held held′ b b′. absurd (T-not (noBookAt (length t) start (word (partOf t start) 0)) (book-there start t b) (said e h));
+        answers = λ s s′ held held′ b b′. absurd (T-not (noBookAt (length t) start (word (partOf t start) 0)) (book-there start t b) (said e h));
       }
     where
       none-there : FirstOf (noBookTrials t start t′ start′) noBook
@@ -34,7 +34,7 @@ module _ (t : List ℤ) (start : ℕ) (t′ : List ℤ) (start′ : ℕ) {n : Bo
   second-missing e h =
       record {
         declined = λ z g. ap (λ (k : ℕ). refused (pos k)) (sym (one-cause none-there g));
-        answers = λ c c′ held held′ b b′. absurd (T-not (noBookAt (length t′) start′ (word (partOf t′ start′) 0)) (book-there start′ t′ b′) (said e h));
+        answers = λ s s′ held held′ b b′. absurd (T-not (noBookAt (length t′) start′ (word (partOf t′ start′) 0)) (book-there start′ t′ b′) (said e h));
       }
     where
       none-there : FirstOf (noBookTrials t start t′ start′) noBook

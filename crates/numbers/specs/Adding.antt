@@ -28,7 +28,7 @@ use Rattle.shape.specs.Merge.{Merged}
 use Rattle.descents.specs.Cuts.{from, Halving, Halved}
 use Rattle.descents.specs.Ends.{Ended}
 use Rattle.pieces.specs.Cutting.{splitP-leaves}
-use Rattle.update.specs.Form.{numberOf}
+use Rattle.form.specs.Form.{numberOf}
 use Rattle.numbers.specs.Numbers.{NumbersAt, Added}
 use Rattle.numbers.specs.Trees.{Among, among-in, among-holds, falling-slots, leaves-hold, numbers-rep, part-low, numbers-made, splitP-clean, seam-end, Beside, joined}
 

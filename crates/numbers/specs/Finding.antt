@@ -13,7 +13,7 @@ use Rattle.table.specs.Items.{Item}
 use Rattle.table.specs.Keys.{keyed-numbers}
 use Rattle.table.specs.Parts.{rep-some}
 use Rattle.descents.specs.Finds.{Found, foundAt}
-use Rattle.update.specs.Form.{numberOf}
+use Rattle.form.specs.Form.{numberOf}
 use Rattle.numbers.specs.Numbers.{NumbersAt, FoundNumber}
 use Rattle.numbers.specs.Trees.{numbers-rep, leaves-hold}
 

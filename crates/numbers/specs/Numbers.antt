@@ -11,7 +11,7 @@ use Rattle.table.specs.Items.{Item, Slots}
 use Rattle.table.specs.Rep.{Within, Only}
 use Rattle.table.specs.Parts.{refOfP}
 use Rattle.table.specs.Threads.{Holds}
-use Rattle.update.specs.Form.{NumbersIn, numberOf}
+use Rattle.form.specs.Form.{NumbersIn, numberOf}
 
 -- the tree of the live items' numbers, by its root
 pub record NumbersAt (w : Words) (root : ℕ) (live : List Item) (p : Part Item) : Type 0 where

@@ -140,14 +140,18 @@ openingBy c (some k) = declined-opening (causeNumber k)
 abbrev pub opening : (words start : ℕ) → ℤ → Opening
 opening words start c = openingBy c (declined (openTrials words start c))
 
+-- The book with other live offers.
+abbrev pub holding : State → List Offer → State
+holding s os = record { capacity = s .capacity; offers = os }
+
 -- What an accepted call does.
 abbrev pub accepted : State → Call → Outcome
 accepted s (post n r b) =
     let os = join (record { number = n; rate = r; base = b }) (s .offers) in
-    record { state = record { capacity = s .capacity; offers = os }; answer = live (length os) }
+    record { state = holding s os; answer = live (length os) }
 accepted s (withdraw n) =
     let os = leave n (s .offers) in
-    record { state = record { capacity = s .capacity; offers = os }; answer = live (length os) }
+    record { state = holding s os; answer = live (length os) }
 accepted s (query q) = record { state = s; answer = answerOf (s .offers) }
   where
     answerOf : List Offer → Answer

@@ -12,7 +12,7 @@ use lib.Arith.{lt→nleb}
 use lib.IntN.{ℤ, pos}
 use Rattle.offers.specs.Offers.{Offer, loadInRange, priceAt, crossingNumerator, crossingDenominator}
 use Rattle.plain.specs.Causes.{Cause, Trial, declined, causeNumber}
-use Rattle.plain.specs.Book.{State, Call, post, withdraw, query, listing, Answer, refused, live, found, listed, Outcome, join, leave, cheapest, envelope, pieceWords, trials, step, respond, accepted}
+use Rattle.plain.specs.Book.{holding, State, Call, post, withdraw, query, listing, Answer, refused, live, found, listed, Outcome, join, leave, cheapest, envelope, pieceWords, trials, step, respond, accepted}
 use Rattle.plain.specs.Sound.{Clear, clear, length-join}
 
 -- ---- the trials
@@ -52,10 +52,10 @@ module _ (s : State) where
   step-accepted k c = ap (respond s k) (not-declined (trials s k) c)
 
   -- one offer more, and the count says so
-  pub posts : (n r b : ℤ) → Clear (trials s (post n r b)) → step s (post n r b) ≡ record { state = record { capacity = s .capacity; offers = join (record { number = n; rate = r; base = b }) (s .offers) }; answer = live (suc (length (s .offers))) }
-  posts n r b c = step-accepted (post n r b) c ∙ ap (λ m. record { state = record { capacity = s .capacity; offers = join (record { number = n; rate = r; base = b }) (s .offers) }; answer = live m }) (length-join (record { number = n; rate = r; base = b }) (s .offers))
+  pub posts : (n r b : ℤ) → Clear (trials s (post n r b)) → step s (post n r b) ≡ record { state = holding s (join (record { number = n; rate = r; base = b }) (s .offers)); answer = live (suc (length (s .offers))) }
+  posts n r b c = step-accepted (post n r b) c ∙ ap (λ m. record { state = holding s (join (record { number = n; rate = r; base = b }) (s .offers)); answer = live m }) (length-join (record { number = n; rate = r; base = b }) (s .offers))
 
-  pub withdraws : (n : ℤ) → Clear (trials s (withdraw n)) → step s (withdraw n) ≡ record { state = record { capacity = s .capacity; offers = leave n (s .offers) }; answer = live (length (leave n (s .offers))) }
+  pub withdraws : (n : ℤ) → Clear (trials s (withdraw n)) → step s (withdraw n) ≡ record { state = holding s (leave n (s .offers)); answer = live (length (leave n (s .offers))) }
   withdraws n c = step-accepted (withdraw n) c
 
   pub lists : (room : ℕ) → Clear (trials s (listing room)) → step s (listing room) ≡ record { state = s; answer = listed (length (envelope (s .offers))) (pieceWords (envelope (s .offers))) }

@@ -10,7 +10,7 @@ use native.Mathlib.Omega.{arith}
 use lib.ListN.{length, take, drop, length-map, length-append, drop-of-length-le}
 use lib.IntN.{ℤ, pos}
 use Rattle.offers.specs.Offers.{Offer, crossingNumerator}
-use Rattle.plain.specs.Book.{envelope, pieceWords, noBookAt}
+use Rattle.plain.specs.Book.{State, envelope, pieceWords, noBookAt}
 use Rattle.plain.specs.Causes.{Cause}
 use Rattle.plain.specs.Rules.{FirstOf, words-length}
 use Rattle.trees.specs.Tree.{Tree, leaves, first, last}
@@ -23,7 +23,7 @@ use Rattle.table.specs.Layout.{cell, linkAt}
 use Rattle.table.specs.Items.{Item}
 use Rattle.table.specs.Threads.{Next, Threaded}
 use Rattle.descents.specs.Ends.{Ended}
-use Rattle.update.specs.Form.{Book, plainOffers}
+use Rattle.form.specs.Form.{Book, plainOffers}
 use Rattle.query.specs.Pieces.{Pieces}
 use Rattle.query.specs.Plain.{offerOf, pieces-plain}
 use Rattle.query.specs.Listing.{crossingWord}
@@ -41,7 +41,7 @@ pub record PartMoves (w : Words) (place r : ℕ) : Type 0 where
   pub on : (n : ℕ) → Before w n place → Before w (n + 1) r
 
 pub record PartHands (w : Words) (place : ℕ) (r : Handed) : Type 0 where
-  pub answers : (n : ℕ) → Before w n place → (c : ℕ) (held : Option (Held Item)) → Book w c held → told r ≡ listedAt (plainOffers held) n
+  pub answers : (n : ℕ) → Before w n place → (s : State) (held : Option (Held Item)) → Book w s held → told r ≡ listedAt (plainOffers held) n
 
 -- ---- what the root's envelope is
 
@@ -75,22 +75,22 @@ module _ {p : ℕ} (n : ℕ) {xs : List Item} (k : Passed p (n + 1) xs) where
 
 module _ {w : Words} {root : ℕ} (er : root ≡ upTo 8192 (word w 2)) where
   -- by cases of the root
-  by-root : (A : List Item → Type 0) {c : ℕ} {held : Option (Held Item)} → Book w c held → (root ≡ 0 → A []) → ((t : Tree Item) → Top w root (bookLines held) t → A (leaves t)) → A (rootPieces held)
-  by-root A {c} {held} b f g = go held (root-of b er) g
+  by-root : (A : List Item → Type 0) {s : State} {held : Option (Held Item)} → Book w s held → (root ≡ 0 → A []) → ((t : Tree Item) → Top w root (bookLines held) t → A (leaves t)) → A (rootPieces held)
+  by-root A {s} {held} b f g = go held (root-of b er) g
     where
       go : (held : Option (Held Item)) → Root w root held → ((t : Tree Item) → Top w root (bookLines held) t → A (leaves t)) → A (rootPieces held)
       go none (bare z) g = f z
       go (some h) (topped t e p) g = subst (λ (q : Part Item). A (partLeaves q)) (sym e) (g t p)
 
   pub first-begins : {r : ℕ} → Ended w 0 false root r → Before w 0 r
-  first-begins {r} e = record { stands = λ c held b. by-root (λ xs. PlaceOf xs 0 r) b (λ z. past-last (omega arith) (e .none z)) begin }
+  first-begins {r} e = record { stands = λ s held b. by-root (λ xs. PlaceOf xs 0 r) b (λ z. past-last (omega arith) (e .none z)) begin }
     where
       begin : {ls : List Item} (t : Tree Item) → Top w root ls t → PlaceOf (leaves t) 0 r
       begin t p = at-piece (record { seen = []; here = first t; ahead = rest t; split = leaves-first t; slot = e .is t (p .pieces .rep) (p .balanced); count = refl })
 
   -- a place that is none is past the last
-  none-past : {c n p : ℕ} {held : Option (Held Item)} → Book w c held → p < 1 → Before w n p → length (rootPieces held) ≤ n
-  none-past {c} {n} {p} {held} b h k = by-root (λ xs. PlaceOf xs n p → length xs ≤ n) b (λ z q. omega arith) over (k .stands c held b)
+  none-past : {s : State} {n p : ℕ} {held : Option (Held Item)} → Book w s held → p < 1 → Before w n p → length (rootPieces held) ≤ n
+  none-past {s} {n} {p} {held} b h k = by-root (λ xs. PlaceOf xs n p → length xs ≤ n) b (λ z q. omega arith) over (k .stands s held b)
     where
       over : {ls : List Item} (t : Tree Item) → Top w root ls t → PlaceOf (leaves t) n p → length (leaves t) ≤ n
       over t q (at-piece k) = absurd (omega (arith, h, some-slot (q .pieces) k))
@@ -98,14 +98,14 @@ module _ {w : Words} {root : ℕ} (er : root ≡ upTo 8192 (word w 2)) where
 
   module _ {z p : ℕ} (end : Ended w 0 true root z) where
     pub after-last : p ≡ z → PartMoves w p 0
-    after-last d = record { on = λ n k. record { stands = λ c held b. by-root (λ xs. PlaceOf xs n p → PlaceOf xs (n + 1) 0) b (λ y q. past-last (omega arith) refl) (over n) (k .stands c held b) } }
+    after-last d = record { on = λ n k. record { stands = λ s held b. by-root (λ xs. PlaceOf xs n p → PlaceOf xs (n + 1) 0) b (λ y q. past-last (omega arith) refl) (over n) (k .stands s held b) } }
       where
         over : (n : ℕ) {ls : List Item} (t : Tree Item) → Top w root ls t → PlaceOf (leaves t) n p → PlaceOf (leaves t) (n + 1) 0
         over n t q (at-piece k) = past-last (omega (arith, all-passed (q .pieces) (end .is t (q .pieces .rep) (q .balanced)) k d)) refl
         over n t q (past-last l e) = past-last (omega arith) refl
 
     pub after-next : {r : ℕ} → 1 ≤ p → p ≢ z → r ≡ linkAt w 19 p → PartMoves w p r
-    after-next {r} h d f = record { on = λ n k. record { stands = λ c held b. by-root (λ xs. PlaceOf xs n p → PlaceOf xs (n + 1) r) b (λ y q. nowhere n q) (over n) (k .stands c held b) } }
+    after-next {r} h d f = record { on = λ n k. record { stands = λ s held b. by-root (λ xs. PlaceOf xs n p → PlaceOf xs (n + 1) r) b (λ y q. nowhere n q) (over n) (k .stands s held b) } }
       where
         nowhere : (n : ℕ) → PlaceOf [] n p → PlaceOf [] (n + 1) r
         nowhere n (at-piece k) = absurd (no-piece k)
@@ -116,30 +116,30 @@ module _ {w : Words} {root : ℕ} (er : root ≡ upTo 8192 (word w 2)) where
         over n t q (past-last l e) = absurd (omega (arith, h, e))
 
 pub after-none : {w : Words} {p : ℕ} → p < 1 → PartMoves w p 0
-after-none {w} {p} h = record { on = λ n k. record { stands = λ c held b. past-last (omega (arith, none-past {w = w} {root = upTo 8192 (word w 2)} refl b h k)) refl } }
+after-none {w} {p} h = record { on = λ n k. record { stands = λ s held b. past-last (omega (arith, none-past {w = w} {root = upTo 8192 (word w 2)} refl b h k)) refl } }
 
 -- at the end a reading stays
 pub stays-past : {w : Words} {n p : ℕ} (m : ℕ) → n ≤ m → p < 1 → Before w n p → Before w m 0
-stays-past {w} {n} {p} m l h k = record { stands = λ c held b. past-last (omega (arith, none-past {w = w} {root = upTo 8192 (word w 2)} refl b h k)) refl }
+stays-past {w} {n} {p} m l h k = record { stands = λ s held b. past-last (omega (arith, none-past {w = w} {root = upTo 8192 (word w 2)} refl b h k)) refl }
 
 -- ---- handing out
 
 -- the plain listing is of those pieces
-listed-is : {w : Words} {c : ℕ} {held : Option (Held Item)} → Book w c held → envelope (plainOffers held) ≡ map offerOf (rootPieces held)
-listed-is {w} {c} {held} b = go held b (root-of {root = upTo 8192 (word w 2)} b refl)
+listed-is : {w : Words} {s : State} {held : Option (Held Item)} → Book w s held → envelope (plainOffers held) ≡ map offerOf (rootPieces held)
+listed-is {w} {s} {held} b = go held b (root-of {root = upTo 8192 (word w 2)} b refl)
   where
-    go : (held : Option (Held Item)) → Book w c held → Root w (upTo 8192 (word w 2)) held → envelope (plainOffers held) ≡ map offerOf (rootPieces held)
+    go : (held : Option (Held Item)) → Book w s held → Root w (upTo 8192 (word w 2)) held → envelope (plainOffers held) ≡ map offerOf (rootPieces held)
     go none b (bare z) = refl
     go (some h) b (topped t e p) =
         subst (λ (q : Part Item). envelope (plainOffers (some h)) ≡ map offerOf (partLeaves q)) (sym e)
-        (sym (pieces-plain (bookLines (some h)) (leaves t) (whole-ordered (some h) (live-whole w (some h) (b .offers))) (p .env)))
+        (sym (pieces-plain (bookLines (some h)) (leaves t) (whole-ordered (some h) (live-whole w (some h) (b .offers .offers-in))) (p .env)))
 
 -- past the last piece
 no-words : (es : List Offer) (n : ℕ) → length es ≤ n → take 3 (drop (3 * n) (pieceWords es)) ≡ []
 no-words es n h = ap (take 3) (drop-of-length-le (pieceWords es) {i = 3 * n} (omega (arith, words-length es)))
 
 pub hands-end : {w : Words} {p : ℕ} {r : Handed} → told r ≡ ended → p < 1 → PartHands w p r
-hands-end {w} {p} e h = record { answers = λ n k c held b. e ∙ ap pieceOf (sym (no-words (envelope (plainOffers held)) n (omega (arith, ap length (listed-is b), length-map (rootPieces held) offerOf, none-past {w = w} {root = upTo 8192 (word w 2)} refl b h k)))) }
+hands-end {w} {p} e h = record { answers = λ n k s held b. e ∙ ap pieceOf (sym (no-words (envelope (plainOffers held)) n (omega (arith, ap length (listed-is b), length-map (rootPieces held) offerOf, none-past {w = w} {root = upTo 8192 (word w 2)} refl b h k)))) }
 
 -- at a piece
 module _ {w : Words} {root z p : ℕ} {last : Bool} {number u v : ℤ} (er : root ≡ upTo 8192 (word w 2)) (end : Ended w 0 true root z) (low : 1 ≤ p)
@@ -165,7 +165,7 @@ module _ {w : Words} {root z p : ℕ} {last : Bool} {number u v : ℤ} (er : roo
     here-words = three last (k .ahead) refl (k .split) ∙ ap (take 3) (sym (words-at n k (k .ahead) (k .split)))
 
   pub hands-piece : PartHands w p (Piece number u v)
-  hands-piece = record { answers = λ n k c held b. ap pieceOf (words n (by-root er (λ xs. PlaceOf xs n p → number ∷ u ∷ v ∷ [] ≡ take 3 (drop (3 * n) (pieceWords (map offerOf xs)))) b (λ y q. nowhere n q) (over n) (k .stands c held b)) (listed-is b)) }
+  hands-piece = record { answers = λ n k s held b. ap pieceOf (words n (by-root er (λ xs. PlaceOf xs n p → number ∷ u ∷ v ∷ [] ≡ take 3 (drop (3 * n) (pieceWords (map offerOf xs)))) b (λ y q. nowhere n q) (over n) (k .stands s held b)) (listed-is b)) }
     where
       words : (n : ℕ) {os es : List Offer} → number ∷ u ∷ v ∷ [] ≡ take 3 (drop (3 * n) (pieceWords es)) → os ≡ es → number ∷ u ∷ v ∷ [] ≡ take 3 (drop (3 * n) (pieceWords os))
       words n e d = e ∙ ap (λ (l : List Offer). take 3 (drop (3 * n) (pieceWords l))) (sym d)
@@ -183,13 +183,13 @@ module _ {w : Words} {root z p : ℕ} {last : Bool} {number u v : ℤ} (er : roo
 module _ (start : ℕ) (t : List ℤ) {no : Bool} (e : no ≡ noBookAt (length t) start (word (partOf t start) 0)) where
   module _ (d : no ≡ true) where
     pub first-no-book : Starts start t 0
-    first-no-book = record { nowhere = λ z g. refl; before = record { stands = λ c held b. absurd (no-form t start e d b) } }
+    first-no-book = record { nowhere = λ z g. refl; before = record { stands = λ s held b. absurd (no-form t start e d b) } }
 
     pub after-no-book : (p : ℕ) → Moves start t p 0
-    after-no-book p = record { nowhere = λ z g. refl; on = λ n k. record { stands = λ c held b. absurd (no-form t start e d b) } }
+    after-no-book p = record { nowhere = λ z g. refl; on = λ n k. record { stands = λ s held b. absurd (no-form t start e d b) } }
 
     pub hands-no-book : (p : ℕ) → Hands start t p (Declined (pos 3))
-    hands-no-book p = record { declined = λ z g. ap (λ (n : ℕ). refused (pos n)) (sym (no-book-cause t start g)); answers = λ n k c held b. absurd (no-form t start e d b) }
+    hands-no-book p = record { declined = λ z g. ap (λ (n : ℕ). refused (pos n)) (sym (no-book-cause t start g)); answers = λ n k s held b. absurd (no-form t start e d b) }
 
   module _ (d : no ≡ false) where
     -- there is a book

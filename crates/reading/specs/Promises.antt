@@ -8,13 +8,13 @@ use lib.ListN.{length, take, drop, getD, drop-of-length-le}
 use lib.IntN.{ℤ, pos}
 use Rattle.offers.specs.Offers.{Offer, crossingNumerator, crossingDenominator}
 use Rattle.plain.specs.Causes.{Cause, causeNumber}
-use Rattle.plain.specs.Book.{envelope, pieceWords}
+use Rattle.plain.specs.Book.{State, envelope, pieceWords}
 use Rattle.plain.specs.Rules.{FirstOf, words-length}
 use Rattle.trees.specs.Operations.{partLeaves}
 use Rattle.dynamic.specs.OfferTree.{Held}
 use Rattle.table.specs.Words.{Words}
 use Rattle.table.specs.Items.{Item}
-use Rattle.update.specs.Form.{Book, plainOffers}
+use Rattle.form.specs.Form.{Book, plainOffers}
 use Rattle.query.specs.Counting.{Passed}
 use Rattle.book.specs.Promises.{partOf, noBookTrial}
 use Rattle.reading.specs.declared.Handed.{Handed}
@@ -90,7 +90,7 @@ pub data PlaceOf (xs : List Item) (n p : ℕ) : Type 0 where
 
 -- a reading at place p has handed out n pieces, or has come to the end
 pub record Before (w : Words) (n p : ℕ) : Type 0 where
-  pub stands : (c : ℕ) (held : Option (Held Item)) → Book w c held → PlaceOf (rootPieces held) n p
+  pub stands : (s : State) (held : Option (Held Item)) → Book w s held → PlaceOf (rootPieces held) n p
 
 -- ---- the promises
 
@@ -111,4 +111,4 @@ pub record Moves (start : ℕ) (t : List ℤ) (place r : ℕ) : Type 0 where
 -- what is handed out at a place
 pub record Hands (start : ℕ) (t : List ℤ) (place : ℕ) (r : Handed) : Type 0 where
   pub declined : (z : Cause) → FirstOf (noBookTrial t start ∷ []) z → told r ≡ refusal z
-  pub answers : (n : ℕ) → Before (partOf t start) n place → (c : ℕ) (held : Option (Held Item)) → Book (partOf t start) c held → told r ≡ listedAt (plainOffers held) n
+  pub answers : (n : ℕ) → Before (partOf t start) n place → (s : State) (held : Option (Held Item)) → Book (partOf t start) s held → told r ≡ listedAt (plainOffers held) n

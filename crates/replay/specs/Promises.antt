@@ -9,14 +9,14 @@ use lib.ListN.{length}
 use lib.Dec.{leb}
 use lib.IntN.{ℤ, pos, natAbs}
 use Rattle.plain.specs.Causes.{Cause, causeNumber}
-use Rattle.plain.specs.Book.{Call, Answer, opened, openTrials, answers}
+use Rattle.plain.specs.Book.{State, Call, Answer, opened, openTrials, answers}
 use Rattle.plain.specs.Rules.{FirstOf}
 use Rattle.plain.specs.Sound.{Clear}
 use Rattle.dynamic.specs.OfferTree.{Held}
 use Rattle.table.specs.Items.{Item}
-use Rattle.update.specs.Form.{Book}
+use Rattle.form.specs.Form.{Book}
 use Rattle.book.specs.declared.Opening.{Opening}
-use Rattle.book.specs.Promises.{partOf, capacityAt, plainOf, OnlyPart, Opens}
+use Rattle.book.specs.Promises.{partOf, capacityAt, OnlyPart, Opens}
 use Rattle.history.specs.History.{History}
 use Rattle.history.specs.Claim.{Claim}
 use Rattle.replay.specs.declared.Replayed.{Replayed}
@@ -56,9 +56,9 @@ pub record Resumes (start : ℕ) (t t′ calls out out′ : List ℤ) (r : Repla
   pub long : length out′ ≡ length out
   pub outside : OnlyPart (capacityAt t start) start t t′
   -- where the part passes the check
-  pub claim : (c : ℕ) (held : Option (Held Item)) → Book (partOf t start) c held → Claim (plainOf c held) held (made c .history)
-  pub right : (c : ℕ) (held : Option (Held Item)) → Book (partOf t start) c held → told (runnable calls (length out)) out′ ≡ answers (plainOf c held) (runnable calls (length out))
-  pub spares : (c : ℕ) (held : Option (Held Item)) → Book (partOf t start) c held → Spares (runnable calls (length out)) (answers (plainOf c held) (runnable calls (length out))) out out′
+  pub claim : (s : State) (held : Option (Held Item)) → Book (partOf t start) s held → Claim s held (made (s .capacity) .history)
+  pub right : (s : State) (held : Option (Held Item)) → Book (partOf t start) s held → told (runnable calls (length out)) out′ ≡ answers s (runnable calls (length out))
+  pub spares : (s : State) (held : Option (Held Item)) → Book (partOf t start) s held → Spares (runnable calls (length out)) (answers s (runnable calls (length out))) out out′
 
 -- After an accepted opening, with its answer and the words `t₀` that it left.
 pub record Begun (c : ℤ) (start : ℕ) (t t′ calls out out′ : List ℤ) (r : Replayed) : Type 0 where

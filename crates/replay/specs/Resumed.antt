@@ -8,15 +8,15 @@ use lib.ListN.{length}
 use lib.IntN.{ℤ, pos, natAbs}
 use borrow.Author.Tests.{le-leb, lt-leb}
 use Rattle.plain.specs.Causes.{Cause, causeNumber}
-use Rattle.plain.specs.Book.{Answer, openTrials}
+use Rattle.plain.specs.Book.{State, Answer, opened, openTrials}
 use Rattle.plain.specs.Rules.{FirstOf}
 use Rattle.plain.specs.Sound.{Clear}
 use Rattle.dynamic.specs.OfferTree.{Held}
 use Rattle.table.specs.Items.{Item}
-use Rattle.update.specs.Form.{Book}
+use Rattle.form.specs.Form.{Book}
 use Rattle.book.specs.declared.Opening.{Opening}
 use Rattle.book.specs.declared.Opening.the-variants.{Opened, Declined as OpeningDeclined}
-use Rattle.book.specs.Promises.{partOf, capacityAt, plainOf, Opens}
+use Rattle.book.specs.Promises.{partOf, capacityAt, Opens}
 use Rattle.book.specs.Plainly.{cap-there}
 use Rattle.history.specs.Claim.{from-book}
 use Rattle.replay.specs.declared.Replayed.{Replayed}
@@ -36,14 +36,15 @@ module _ {start : ℕ} {t t′ calls out out′ : List ℤ} {n : ℕ} (e : Ended
         made = e .made;
         long = e .long;
         outside = e .outside;
-        claim = λ c held b. from-book (e .made c .history) held b;
-        right = λ c held b.
-            let m = e .made c in
-            let k = from-book (m .history) held b .told in
-            told-right (m .history) out out′ (m .tells) (plainOf c held) k ∙ k;
-        spares = λ c held b.
-            let m = e .made c in
-            subst (λ (as′ : List Answer). Spares (runnable calls (length out)) as′ out out′) (from-book (m .history) held b .told) (spares-right (m .history) out out′ (m .tells) held b);
+        claim = λ s held b. from-book (e .made (s .capacity) .history) s held refl b;
+        right = λ s held b.
+            let m = e .made (s .capacity) in
+            let k = from-book (m .history) s held refl b .told in
+            told-right (m .history) out out′ (m .tells) s k ∙ k;
+        spares = λ s held b.
+            let m = e .made (s .capacity) in
+            subst (λ (as′ : List Answer). Spares (runnable calls (length out)) as′ out out′) (from-book (m .history) s held refl b .told)
+            (spares-right (m .history) out out′ (m .tells) s held refl b);
       }
 
   pub resumes-all : length calls ≤ 4 * n → Resumes start t t′ calls out out′ (Ran n)
@@ -55,7 +56,7 @@ module _ {start : ℕ} {t t′ calls out out′ : List ℤ} {n : ℕ} (e : Ended
 -- ---- from an opening on
 
 -- the first word of a book tells its capacity
-told-capacity : (start : ℕ) (t : List ℤ) {c : ℕ} {held : Option (Held Item)} → Book (partOf t start) c held → capacityAt t start ≡ c
+told-capacity : (start : ℕ) (t : List ℤ) {s : State} {held : Option (Held Item)} → Book (partOf t start) s held → capacityAt t start ≡ s .capacity
 told-capacity start t b = ap natAbs (cap-there (partOf t start) (b .capacity) (b .some-slot) .first)
 
 module _ {c : ℤ} {start : ℕ} {t t₀ : List ℤ} {o : Opening} (p : Opens c start t t₀ o) where
@@ -74,15 +75,15 @@ module _ {c : ℤ} {start : ℕ} {t t₀ : List ℤ} {o : Opening} (p : Opens c 
       is-open : (k : Cause) → FirstOf (openTrials (length t) start c) k → ⊥
       is-open k f = let q = p .declined k f .0 in let x : _≡_ {A = ℕ} 0 1 = cc in omega arith
 
-      goes : Book (partOf t₀ start) (natAbs c) none → Clear (openTrials (length t) start c) → Begun c start t t′ calls out out′ r
+      goes : Book (partOf t₀ start) (opened c) none → Clear (openTrials (length t) start c) → Begun c start t t′ calls out out′ r
       goes b clear =
           record {
             t₀ = t₀;
             opening = o;
             opens = p;
             resumes = s;
-            claim = s .claim (natAbs c) none b;
-            right = s .right (natAbs c) none b;
-            spares = s .spares (natAbs c) none b;
+            claim = s .claim (opened c) none b;
+            right = s .right (opened c) none b;
+            spares = s .spares (opened c) none b;
             outside = only-then (p .accepted clear .2) (told-capacity start t₀ b) (s .outside);
           }

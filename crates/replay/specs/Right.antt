@@ -18,12 +18,12 @@ use Rattle.book.specs.declared.Listed.{Listed}
 use Rattle.book.specs.declared.Listed.the-variants.{Pieces, Declined as ListingDeclined}
 use Rattle.dynamic.specs.OfferTree.{Held}
 use Rattle.table.specs.Items.{Item}
-use Rattle.update.specs.Form.{Book}
-use Rattle.book.specs.Local.{book-alike}
+use Rattle.form.specs.Form.{Book}
+use Rattle.book.specs.Local.{Alike, book-alike}
 use Rattle.book.specs.Promises.{partOf, writtenWords, counted, updateAnswer, foundAnswer, listingAnswer}
 use Rattle.book.specs.Numbered.{numbered}
 use Rattle.history.specs.History.{Happens, by-post, by-withdraw, by-query, by-listing, History, finished, next}
-use Rattle.history.specs.Claim.{one-call}
+use Rattle.history.specs.Claim.{step-capacity, one-call}
 use Rattle.replay.specs.Encoding.{stretch, updateWords, foundWords, listedWords, acceptedAnswer, answerOf, told, spared, Spares}
 use Rattle.replay.specs.Decoding.{same-is}
 use Rattle.replay.specs.Told.{TellsOne, Tells}
@@ -82,13 +82,13 @@ told-right (next {k} {ks} {a} {as′} alike p rest) ws ws′ (x, y) s e =
 -- ---- what is not written stays
 
 one-spares :
-    {c start : ℕ} {t : List ℤ} {k : Call} {t′ : List ℤ} {a : Answer} (p : Happens start t k t′ a) (ws ws′ : List ℤ) → TellsOne p ws ws′ →
-    (held : Option (Held Item)) → Book (partOf t start) c held → spared k a ws′ ≡ spared k a ws
-one-spares (by-post n r b u p e) ws ws′ w held book = refl
-one-spares (by-withdraw n u p e) ws ws′ w held book = refl
-one-spares (by-query q f p d e) ws ws′ w held book = refl
-one-spares {c} {a = a} (by-listing {room} out out′ l p m d e) ws ws′ (x, y, z) held book =
-    ap (λ (n : ℕ). drop n (take room (drop 5 ws′))) same ∙ ap (drop (writtenWords (listingAnswer l out′))) z ∙ p .later c held book
+    {start : ℕ} {t : List ℤ} {k : Call} {t′ : List ℤ} {a : Answer} (p : Happens start t k t′ a) (ws ws′ : List ℤ) → TellsOne p ws ws′ →
+    (s : State) (held : Option (Held Item)) → Book (partOf t start) s held → spared k a ws′ ≡ spared k a ws
+one-spares (by-post n r b u p e) ws ws′ w s held book = refl
+one-spares (by-withdraw n u p e) ws ws′ w s held book = refl
+one-spares (by-query q f p d e) ws ws′ w s held book = refl
+one-spares {a = a} (by-listing {room} out out′ l p m d e) ws ws′ (x, y, z) s held book =
+    ap (λ (n : ℕ). drop n (take room (drop 5 ws′))) same ∙ ap (drop (writtenWords (listingAnswer l out′))) z ∙ p .later s held book
     ∙ ap (drop (writtenWords (listingAnswer l out′))) (sym y) ∙ ap (λ (n : ℕ). drop n (take room (drop 5 ws))) (sym same)
   where
     same : writtenWords a ≡ writtenWords (listingAnswer l out′)
@@ -96,9 +96,9 @@ one-spares {c} {a = a} (by-listing {room} out out′ l p m d e) ws ws′ (x, y, 
 
 pub spares-right :
     {c start : ℕ} {t : List ℤ} {ks : List Call} {as′ : List Answer} {t′ : List ℤ} (h : History c start t ks as′ t′) (ws ws′ : List ℤ) → Tells h ws ws′ →
-    (held : Option (Held Item)) → Book (partOf t start) c held → Spares ks as′ ws ws′
-spares-right finished ws ws′ w held book = tt
-spares-right {c} (next {k} alike p rest) ws ws′ (x, y) held book =
-    let here = book-alike book alike in
-    let o = one-call c held p here in
-    (one-spares p ws ws′ x held here, spares-right rest (drop (stretch k) ws) (drop (stretch k) ws′) y (o .mid) (o .stands))
+    (s : State) (held : Option (Held Item)) → s .capacity ≡ c → Book (partOf t start) s held → Spares ks as′ ws ws′
+spares-right finished ws ws′ w s held same book = tt
+spares-right {start = start} (next {t} {t₁} {k = k} alike p rest) ws ws′ (x, y) s held same book =
+    let here = book-alike book (subst (λ (n : ℕ). Alike n (partOf t start) (partOf t₁ start)) (sym same) alike) in
+    let o = one-call s held p here in
+    (one-spares p ws ws′ x s held here, spares-right rest (drop (stretch k) ws) (drop (stretch k) ws′) y (step s k .state) (o .mid) (step-capacity s k ∙ same) (o .stands))

@@ -16,7 +16,7 @@ use Rattle.trees.specs.Order.{Falling}
 use Rattle.table.specs.Words.{Words}
 use Rattle.table.specs.Layout.{cell}
 use Rattle.table.specs.Items.{Item}
-use Rattle.update.specs.Form.{numberOf}
+use Rattle.form.specs.Form.{numberOf}
 use Rattle.matching.specs.Tests.{Every}
 use Rattle.matching.specs.Stretches.{stretch, span}
 use Rattle.matching.specs.Loops.{FallsHere}

@@ -18,7 +18,7 @@ use Rattle.table.specs.Layout.{cap, cell, linkAt}
 use Rattle.table.specs.Free.{head0, FreeChain, free-none, free-more, head-most, free-link}
 use Rattle.matching.specs.Tests.{Decides, decides-no, decides-as, decides-by}
 use Rattle.matching.specs.Fills.{never}
-use Rattle.tallying.specs.Tallies.{Freely}
+use Rattle.form.specs.Form.{Freely}
 
 -- a slot of the part, without an offer
 pub record IsFree (w : Words) (s : ℕ) : Type 0 where

@@ -12,7 +12,7 @@ use Rattle.trees.specs.Height.{height-full}
 use Rattle.trees.specs.Order.{Falling}
 use Rattle.table.specs.Words.{Words}
 use Rattle.table.specs.Items.{Item, Apart}
-use Rattle.update.specs.Form.{numberOf}
+use Rattle.form.specs.Form.{numberOf}
 use Rattle.matching.specs.declared.Filled.{Filled}
 use Rattle.matching.specs.Tests.{Decides, decides-no, Every}
 use Rattle.matching.specs.Stretches.{span, span-at, span-length}

@@ -17,12 +17,12 @@ use Rattle.table.specs.Layout.{cap-most}
 use Rattle.table.specs.Items.{Item, Apart}
 use Rattle.table.specs.Rep.{refOf}
 use Rattle.pieces.specs.Pieces.{partRef}
-use Rattle.update.specs.Form.{NumbersIn}
+use Rattle.form.specs.Form.{NumbersIn, Numbered}
 use Rattle.matching.specs.Tests.{Decides}
 use Rattle.matching.specs.Stretches.{span-none}
 use Rattle.matching.specs.Laid.{itemsAt, AllPlaced}
 use Rattle.matching.specs.Fills.{never}
-use Rattle.tallying.specs.Tallies.{Numbered, Tallies}
+use Rattle.tallying.specs.Tallies.{Tallies}
 use Rattle.tallying.specs.Distinct.{among-length}
 use Rattle.tallying.specs.NumberTrees.{liveAt, live-length, apart-distinct, NumberTree, Trees}
 

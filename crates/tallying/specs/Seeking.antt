@@ -22,7 +22,7 @@ use Rattle.table.specs.Items.{Item, Apart}
 use Rattle.table.specs.Keys.{Keyed}
 use Rattle.table.specs.Rep.{Rep}
 use Rattle.descents.specs.Finds.{Found, foundAt}
-use Rattle.update.specs.Form.{numberOf}
+use Rattle.form.specs.Form.{numberOf}
 use Rattle.matching.specs.Tests.{Decides, decides-no, decides-yes, Every, every-none, every-more, every-less}
 use Rattle.matching.specs.Fills.{never}
 use Rattle.matching.specs.Laid.{itemAt, Placed, Laid}

@@ -1,4 +1,4 @@
--- Parts of the form beside the offers: the free slots, and the tree of numbers over the live items.
+-- What the search for the tree of numbers tells.
 use mathlib.Core.Path.{_≡_}
 use mathlib.Core.Logic.{_≢_}
 use mathlib.Core.Bool.{Bool, true}
@@ -12,23 +12,9 @@ use Rattle.table.specs.Layout.{cap}
 use Rattle.table.specs.Free.{head0, FreeChain}
 use Rattle.table.specs.Items.{Item, Apart}
 use Rattle.pieces.specs.Pieces.{partRef}
-use Rattle.update.specs.Form.{NumbersIn}
+use Rattle.form.specs.Form.{Numbered}
 use Rattle.matching.specs.Stretches.{span}
 use Rattle.matching.specs.Laid.{itemsAt, AllPlaced}
-
--- the free slots, told beside n live ones
-pub record Freely (w : Words) (n : ℕ) : Type 0 where
-  pub free : List ℕ
-  pub first-free : word w 5 ≡ pos (head0 free)
-  pub free-chain : FreeChain w free
-  pub free-apart : Pairwise (λ (a b : ℕ). a ≢ b) free
-  pub slots-used : length free + n ≡ cap w
-
--- a tree of numbers over the live items
-pub record Numbered (w : Words) (live : List Item) : Type 0 where
-  pub numbers : Part Item
-  pub numbers-root : word w 4 ≡ pos (partRef numbers)
-  pub numbers-in : NumbersIn w live numbers
 
 -- the live items stand in the slots at places 0 up to n
 pub record Tallies (w : Words) (xs xs′ : List ℕ) (n : ℕ) (r : Bool) : Type 0 where

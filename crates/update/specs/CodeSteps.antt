@@ -4,24 +4,17 @@ use mathlib.Core.Bool.{Bool, true, false}
 use Prim.Native.Nat.{ℕ, _-_, _≤_, _<_}
 use native.Mathlib.Omega.{arith}
 use lib.IntN.{pos}
-use borrow.Author.Tests.{lt-ltb, le-ltb, ltb-true, ltb-false}
+use borrow.Author.Tests.{ltb-true, ltb-false}
 use Rattle.table.specs.Words.{Words}
-use Rattle.table.specs.Layout.{cset, linkAt}
+use Rattle.table.specs.Layout.{cset}
 use Rattle.shape.specs.Splices.{towersAt}
 use Rattle.update.specs.Steps.{LoweredIn, RaisedIn, RebalancedIn}
-use Rattle.update.specs.Lowering.{restAt}
 use Rattle.update.specs.RaisingRests.{RestSet}
 use Rattle.update.specs.Neighbours.{LoweredOn, lowered-left, lowered-right, RaisedOn, raised-left, raised-right}
 use Rattle.update.specs.Rotating.{RotatedIn}
 use Rattle.update.specs.Rebalancing.{rebalanced-level, rebalanced-left, rebalanced-right, RebalancedOn, rebalanced-on-left, rebalanced-on-right}
 
 -- ---- rests
-
-pub rest-of-inner : (w : Words) (n m r : ℕ) → 4096 < n → m ≡ n - 4096 → r ≡ linkAt w 20 m → r ≡ restAt w n
-rest-of-inner w n m r h d e = rw (lt-ltb 4096 n h) (e ∙ ap (linkAt w 20) d)
-
-pub rest-of-leaf : (w : Words) (n r : ℕ) → n ≤ 4096 → r ≡ linkAt w 21 n → r ≡ restAt w n
-rest-of-leaf w n r h e = rw (le-ltb 4096 n h) e
 
 pub set-of-leaf : {x q : ℕ} {w w′ : Words} → x ≤ 4096 → w′ ≡ cset w 21 x (pos q) → RestSet x q w w′
 set-of-leaf h e = record { of-leaf = λ _. e; of-inner = λ d. absurd (omega arith) }

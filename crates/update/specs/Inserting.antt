@@ -28,10 +28,10 @@ use Rattle.table.specs.Nodes.{on-across, in-one, in-other}
 use Rattle.table.specs.Parts.{low}
 use Rattle.table.specs.Threads.{Holds}
 use Rattle.pieces.specs.Pieces.{items, item-laws, rateOf}
-use Rattle.update.specs.Stored.{stored-single, HeldIn, Touched}
+use Rattle.form.specs.Stored.{stored-single, HeldIn, Touched}
 use Rattle.update.specs.Steps.{MadeIn, Near, Newcomer, InsertedIn}
-use Rattle.update.specs.Frames.{Inside, Disjoint, disjoint-across, holds-same, slots-rearranged, inside-rearranged, slots-within, touched-offers, held-still, touched-trans, touched-more}
-use Rattle.update.specs.Disjoint.{in-cases, inside-refl, inside-left, inside-right, inside-join, disjoint-both, disjoint-turned, slots-join}
+use Rattle.form.specs.Frames.{Inside, Disjoint, disjoint-across, holds-same, slots-rearranged, inside-rearranged, slots-within, touched-offers, held-still, touched-trans, touched-more}
+use Rattle.form.specs.Disjoint.{in-cases, inside-refl, inside-left, inside-right, inside-join, disjoint-both, disjoint-turned, slots-join}
 use Rattle.update.specs.Neighbours.{sideOf, inner-high, seam-rate, Neighbours, LoweredOn, RaisedOn, Opens, opens, Raises, raises}
 use Rattle.update.specs.Counting.{Counts, counted-two}
 use Rattle.update.specs.Rebalancing.{rebalanceOn, RebalancedOn}

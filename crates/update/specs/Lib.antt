@@ -1,9 +1,5 @@
 -- The tree of offers in words.
-pub mod Stored
-pub mod Form
 pub mod Steps
-pub mod Frames
-pub mod Disjoint
 pub mod Lowering
 pub mod RaisingModel
 pub mod RaisingRests

@@ -1,13 +1,10 @@
 -- Lower in words: cut the whole envelope behind the left child's last line, then give each child its rest back.
 use mathlib.Core.Path.{_≡_, refl, sym, _∙_, ap, subst}
-use mathlib.Core.Bool.{true, false, cond}
-use mathlib.Core.Option.{none, some}
+use mathlib.Core.Bool.{true, false}
 use mathlib.Core.List.{List, _∷_, _++_, List·Memᴰ·head, List·Memᴰ·tail, Memᴰ·append-left, Memᴰ·append-right}
-use Prim.Native.Nat.{ℕ, _+_, _-_, _≤_, _<_}
+use Prim.Native.Nat.{ℕ, _+_, _-_, _<_}
 use native.Mathlib.Omega.{arith}
-use lib.Dec.{ltb}
 use lib.IntN.{ℤ}
-use borrow.Author.Tests.{lt-ltb, le-ltb}
 use Rattle.trees.specs.Tree.{leaves, last}
 use Rattle.trees.specs.Leaves.{last-leaf, leaves-joinP}
 use Rattle.trees.specs.Operations.{Part, Cut, partLeaves, joinP, splitP}
@@ -17,42 +14,21 @@ use Rattle.dynamic.specs.Valid.{Whole}
 use Rattle.dynamic.specs.Lower.{LowersTo, whole-lower}
 use Rattle.dynamic.specs.Rearranged.{stored, rests}
 use Rattle.dynamic.specs.Heights.{trees-balanced}
-use Rattle.table.specs.Words.{Words, upTo, upTo-in}
+use Rattle.table.specs.Words.{Words}
 use Rattle.table.specs.Layout.{cap, cap-most, cell, linkAt}
 use Rattle.table.specs.Items.{Item, Slots, slots-left, slots-right}
 use Rattle.table.specs.Rep.{childAt, refOf, Tied, tied-node, Within, within-trans}
-use Rattle.table.specs.Nodes.{ref-high}
 use Rattle.table.specs.Threads.{Holds, holds-left, holds-right}
-use Rattle.pieces.specs.Pieces.{items, item-laws, rateOf, partRef, PieceField, PiecesOnly, Standing, Beside, Catted, inFront, CutAt}
-use Rattle.update.specs.Stored.{nodeSlot, restField, RestIn, Stored, stored-fork, HeldIn, Touched}
+use Rattle.pieces.specs.Pieces.{items, item-laws, rateOf, PieceField, PiecesOnly, Standing, Beside, Catted, inFront, CutAt}
+use Rattle.form.specs.Stored.{RestIn, Stored, stored-fork, HeldIn, Touched}
 use Rattle.update.specs.Steps.{LoweredIn}
-use Rattle.update.specs.Frames.{Disjoint, disjoint-across, tied-same, holds-same, rest-same, stored-same, held-slots, held-holds, whole-standing, whole-inside, stored-inside, pieces-offers, pieces-tree, pieces-rests, pieces-else, pieces-touched, slots-within, standing-still, pieces-trans, pieces-more, touched-more}
+use Rattle.form.specs.RestWords.{restAt, rest-at}
+use Rattle.form.specs.Frames.{Disjoint, disjoint-across, tied-same, holds-same, rest-same, stored-same, held-slots, held-holds, whole-standing, whole-inside, stored-inside, pieces-offers, pieces-tree, pieces-rests, pieces-else, pieces-touched, slots-within, standing-still, pieces-trans, pieces-more, touched-more}
 use Rattle.update.specs.RaisingModel.{up-to-test}
 use Rattle.update.specs.RaisingCuts.{Halved, halved}
-use Rattle.update.specs.Disjoint.{inside-refl, inside-left, inside-right, inside-join, disjoint-join, disjoint-turned, disjoint-both, slots-join}
+use Rattle.form.specs.Disjoint.{inside-refl, inside-left, inside-right, inside-join, disjoint-join, disjoint-turned, disjoint-both, slots-join}
 
 -- ---- what is read
-
--- the word that tells what stays with node n, and the root that is read off it
-abbrev pub restWord : Words → ℕ → ℤ
-restWord w n = cond (ltb 4096 n) (cell w 20 (n - 4096)) (cell w 21 n)
-
-abbrev pub restAt : Words → ℕ → ℕ
-restAt w n = upTo 8192 (restWord w n)
-
-rest-word : (w : Words) (t : OfferTree Item) → Slots (cap w) (leaves (shape t)) → restWord w (refOf (shape t)) ≡ cell w (restField t) (nodeSlot t)
-rest-word w (single a) s = rw (le-ltb 4096 (a .slot) (omega (arith, s .high (List·Memᴰ·head refl), cap-most w))) refl
-rest-word w (fork u v l ql qr r) s =
-    let here : 4096 + last (shape l) .slot - 4096 ≡ last (shape l) .slot = omega arith in
-    rw (lt-ltb 4096 (4096 + last (shape l) .slot) (omega (arith, s .low (Memᴰ·append-left (leaves (shape r)) (last-leaf (shape l)))))) (ap (cell w 20) here)
-
--- a piece tree's number is that of a node
-part-small : {c : ℕ} (q : Part Item) → Slots c (partLeaves q) → c ≤ 4096 → partRef q ≤ 8192
-part-small none s h = omega arith
-part-small (some t) s h = ref-high t s h
-
-rest-at : {w : Words} (t : OfferTree Item) (q : Part Item) → Slots (cap w) (leaves (shape t)) → Slots (cap w) (partLeaves q) → RestIn w t q → restAt w (refOf (shape t)) ≡ partRef q
-rest-at {w} t q s own h = ap (upTo 8192) (rest-word w t s ∙ h .root) ∙ upTo-in 8192 (partRef q) (part-small q own (cap-most w))
 
 -- a fork in hand: its children, its separator and what stays with the children
 pub record Forked (w : Words) (x : ℕ) (l r : OfferTree Item) (ql qr : Part Item) : Type 0 where

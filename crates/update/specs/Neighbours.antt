@@ -19,7 +19,7 @@ use Rattle.table.specs.Items.{Item, Slots}
 use Rattle.table.specs.Rep.{refOf, nodeOn, seam, heightAt, Rep, Within}
 use Rattle.table.specs.Nodes.{rep-height, ref-on, seam-in}
 use Rattle.pieces.specs.Pieces.{items, item-laws, rateOf}
-use Rattle.update.specs.Stored.{HeldIn, Touched}
+use Rattle.form.specs.Stored.{HeldIn, Touched}
 use Rattle.update.specs.Steps.{MadeIn, LoweredIn, Siblings, RaisedIn}
 
 -- ---- sides

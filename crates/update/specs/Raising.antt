@@ -19,9 +19,9 @@ use Rattle.table.specs.Rep.{heightAt, refOf, nodeOn, Within, within-trans, with
 use Rattle.table.specs.Nodes.{rep-height}
 use Rattle.shape.specs.Joining.{Joined}
 use Rattle.pieces.specs.Pieces.{items, rateOf, Standing, SeamAt, Seamed, CutAt}
-use Rattle.update.specs.Stored.{HeldIn, Touched}
+use Rattle.form.specs.Stored.{HeldIn, Touched}
 use Rattle.update.specs.Steps.{Counted, MadeIn, Siblings, RaisedIn}
-use Rattle.update.specs.Frames.{tied-same, whole-standing, pieces-offers, pieces-tree, slots-within}
+use Rattle.form.specs.Frames.{tied-same, whole-standing, pieces-offers, pieces-tree, slots-within}
 use Rattle.update.specs.RaisingModel.{Raising, raising, leftCut, rightCut}
 use Rattle.update.specs.RaisingRests.{RestSet, rest-within}
 use Rattle.update.specs.RaisingCuts.{AfterCuts, after-cuts}

@@ -15,10 +15,10 @@ use Rattle.table.specs.Items.{Item, In, at}
 use Rattle.table.specs.Rep.{Within, within-trans}
 use Rattle.table.specs.Threads.{holds-join}
 use Rattle.pieces.specs.Pieces.{items, PieceField, PiecesOnly, Standing, Beside, SeamAt, Seamed}
-use Rattle.update.specs.Stored.{RestIn, Stored, stored-fork, HeldIn, Touched, nodeSlot, restField}
+use Rattle.form.specs.Stored.{RestIn, Stored, stored-fork, HeldIn, Touched, nodeSlot, restField}
 use Rattle.update.specs.Steps.{Siblings}
-use Rattle.update.specs.Frames.{Inside, Disjoint, disjoint-across, bridge-u, bridge-v, same-link, tied-same, part-same, holds-same, held-slots, whole-inside, stored-inside, pieces-tree, pieces-rests, pieces-else, pieces-touched, slots-within, touched-offers, touched-trans, touched-more}
-use Rattle.update.specs.Disjoint.{inside-refl, inside-trans, inside-left, inside-right, inside-join, disjoint-both, disjoint-join, disjoint-turned, slots-join}
+use Rattle.form.specs.Frames.{Inside, Disjoint, disjoint-across, bridge-u, bridge-v, same-link, tied-same, part-same, holds-same, held-slots, whole-inside, stored-inside, pieces-tree, pieces-rests, pieces-else, pieces-touched, slots-within, touched-offers, touched-trans, touched-more}
+use Rattle.form.specs.Disjoint.{inside-refl, inside-trans, inside-left, inside-right, inside-join, disjoint-both, disjoint-join, disjoint-turned, slots-join}
 use Rattle.update.specs.RaisingRests.{Tells, tells-field, tells-in, rest-field, node-in, Retold, stored-retold}
 use Rattle.update.specs.RaisingCuts.{Halved, halved-same, wholes-apart, AfterCuts}
 use Rattle.update.specs.RaisingWires.{Wires, left-untold, right-untold, wired-touched, wired-pieces, AfterWires}

@@ -15,8 +15,8 @@ use Rattle.table.specs.Items.{Item, In, Slots}
 use Rattle.table.specs.Rep.{Within, within-trans}
 use Rattle.pieces.specs.Pieces.{PieceField, PiecesOnly, Standing, inFront, CutAt}
 use Rattle.update.specs.Steps.{Siblings}
-use Rattle.update.specs.Frames.{OfferField, Same, same-inside, Inside, Disjoint, disjoint-across, whole-inside, whole-standing, pieces-touched, standing-same, standing-still, pieces-trans, pieces-more}
-use Rattle.update.specs.Disjoint.{inside-left, inside-right, disjoint-both, disjoint-turned}
+use Rattle.form.specs.Frames.{OfferField, Same, same-inside, Inside, Disjoint, disjoint-across, whole-inside, whole-standing, pieces-touched, standing-same, standing-still, pieces-trans, pieces-more}
+use Rattle.form.specs.Disjoint.{inside-left, inside-right, disjoint-both, disjoint-turned}
 
 -- ---- one cut
 

@@ -17,8 +17,8 @@ use Rattle.table.specs.Layout.{cap, cap-most, cell, cset}
 use Rattle.table.specs.Items.{Item, In, at, in-left, in-right, Slots, slots-left, slots-across}
 use Rattle.table.specs.Rep.{refOf, Within, within-cset, Inner, of-root, of-left, of-right, inner-last}
 use Rattle.pieces.specs.Pieces.{PieceField}
-use Rattle.update.specs.Stored.{nodeSlot, restField, Stored, stored-single, stored-fork}
-use Rattle.update.specs.Frames.{RestField, bridge-u, bridge-v, inner-rest, leaf-rest, Same, same-inside, part-same}
+use Rattle.form.specs.Stored.{nodeSlot, restField, Stored, stored-single, stored-fork}
+use Rattle.form.specs.Frames.{RestField, bridge-u, bridge-v, inner-rest, leaf-rest, Same, same-inside, part-same}
 
 -- ---- the fields
 

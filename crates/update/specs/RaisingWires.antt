@@ -16,8 +16,8 @@ use Rattle.table.specs.Rep.{childField, Field, a-child, a-height, refOf, nodeOn
 use Rattle.table.specs.Nodes.{Made}
 use Rattle.shape.specs.Joining.{Joined}
 use Rattle.pieces.specs.Pieces.{PieceField}
-use Rattle.update.specs.Stored.{nodeSlot, restField, EnvelopeField, of-offers, Touched}
-use Rattle.update.specs.Frames.{RestField, bridge-u, bridge-v, inner-rest, leaf-rest, offers-apart, rests-apart, of-rest, Same, tied-same, slots-within}
+use Rattle.form.specs.Stored.{nodeSlot, restField, EnvelopeField, of-offers, Touched}
+use Rattle.form.specs.Frames.{RestField, bridge-u, bridge-v, inner-rest, leaf-rest, offers-apart, rests-apart, of-rest, Same, tied-same, slots-within}
 use Rattle.update.specs.RaisingRests.{Tells, tells-field, tells-in, tells-last, tells-own, rest-field, node-in, RestSet, rest-within, rest-written}
 
 -- ---- the fields

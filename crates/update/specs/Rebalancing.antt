@@ -13,7 +13,7 @@ use Rattle.table.specs.Words.{Words}
 use Rattle.table.specs.Items.{Item}
 use Rattle.table.specs.Rep.{nodeOn, heightAt, Within}
 use Rattle.pieces.specs.Pieces.{items}
-use Rattle.update.specs.Stored.{Touched}
+use Rattle.form.specs.Stored.{Touched}
 use Rattle.update.specs.Steps.{MadeIn, Siblings, RaisedIn, Near, RebalancedIn}
 use Rattle.update.specs.Neighbours.{held-height, Neighbours, siblings-left, siblings-right, neighbours-left, neighbours-right}
 use Rattle.update.specs.Rotating.{RotatedIn}

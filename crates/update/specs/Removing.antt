@@ -25,9 +25,9 @@ use Rattle.table.specs.Nodes.{ref-low, on-across, in-one}
 use Rattle.table.specs.Parts.{low}
 use Rattle.descents.specs.Ends.{Ended}
 use Rattle.pieces.specs.Pieces.{items, item-laws}
-use Rattle.update.specs.Stored.{HeldIn, Touched}
+use Rattle.form.specs.Stored.{HeldIn, Touched}
 use Rattle.update.specs.Steps.{Counted, MadeIn, Near, Leaver, LeftIn, RemovedIn}
-use Rattle.update.specs.Frames.{Inside, slots-within, held-still, touched-refl, touched-trans, touched-more}
+use Rattle.form.specs.Frames.{Inside, slots-within, held-still, touched-refl, touched-trans, touched-more}
 use Rattle.update.specs.Neighbours.{sideOf, held-rep, inner-high, seam-rate, Neighbours, LoweredOn, Opens, opens}
 use Rattle.update.specs.Counting.{Counts, counted-two}
 use Rattle.update.specs.Rebalancing.{rebalanceOn, RebalancedOn}

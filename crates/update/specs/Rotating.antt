@@ -17,9 +17,9 @@ use Rattle.table.specs.Rep.{nodeOn, seam, heightAt, Within, within-trans}
 use Rattle.table.specs.Nodes.{on-one, on-other, on-across, in-one, in-other, height-on}
 use Rattle.shape.specs.Sides.{rowOn, row-leaves, four-leaves, seam-first, seam-last}
 use Rattle.pieces.specs.Pieces.{items}
-use Rattle.update.specs.Stored.{HeldIn, Touched}
+use Rattle.form.specs.Stored.{HeldIn, Touched}
 use Rattle.update.specs.Steps.{Counted, MadeIn}
-use Rattle.update.specs.Frames.{slots-within, held-still, touched-trans, touched-more}
+use Rattle.form.specs.Frames.{slots-within, held-still, touched-trans, touched-more}
 use Rattle.update.specs.Neighbours.{sideOf, ordered-one, ordered-other, held-height, Neighbours, LoweredOn, RaisedOn, Opens, opens, Raises, raises}
 use Rattle.update.specs.Counting.{Counts, counted-two, counted-three}
 

@@ -17,7 +17,7 @@ use Rattle.table.specs.Items.{Item, Slots}
 use Rattle.table.specs.Rep.{Within}
 use Rattle.table.specs.Threads.{Holds}
 use Rattle.pieces.specs.Pieces.{items}
-use Rattle.update.specs.Stored.{HeldIn, Touched}
+use Rattle.form.specs.Stored.{HeldIn, Touched}
 
 -- k searches, s steps in all and H, as counted
 pub record Counted (log : List (Pair Item)) (k s h : ℕ) : Type 0 where

@@ -5,7 +5,6 @@ ghost use Prim.Native.Nat.{ℕ, _+_, _≤_};
 ghost use lib.Signed.{leZ, ltZ};
 ghost use Rattle.table.specs.Layout.{cell};
 ghost use Rattle.update.specs.Steps.{LoweredIn, RaisedIn, RebalancedIn, InsertedIn, RemovedIn};
-ghost use Rattle.update.specs.Lowering.{restAt};
 ghost use Rattle.update.specs.RaisingRests.{RestSet};
 ghost use Rattle.update.specs.Neighbours.{LoweredOn, RaisedOn};
 ghost use Rattle.update.specs.Counting.{Counts};
@@ -47,16 +46,6 @@ pub struct Count {
     pub h: u32,
 }
 
-// The root of the pieces that stay with node `n`.
-pub fn rest(part: &[i64], n: u32) -> u32
-    ensures { λ r. ⌜ r ≡ restAt (now (part .entry)) n ⌝ }
-{
-    if 4096 < n {
-        return table::link(part, 20, table::inner_slot(n));
-    }
-    table::link(part, 21, n)
-}
-
 fn set_rest(part: &mut [i64], x: u32, q: u32)
     ensures { λ _. ⌜ RestSet x q (now (part .entry)) (now (part .exit)) ⌝ }
 {
@@ -75,8 +64,8 @@ fn lower(part: &mut [i64], x: u32, e: u32) -> Lowered
     let r = table::child(part, 1, true, x);
     let rate = table::get(part, 1, table::inner_slot(x));
     let c = pieces::cut(part, false, rate, e);
-    let ql = rest(part, l);
-    let qr = rest(part, r);
+    let ql = form::rest(part, l);
+    let qr = form::rest(part, r);
     let le = pieces::cat(part, c.front, ql);
     let re = pieces::cat(part, qr, c.back);
     Lowered {

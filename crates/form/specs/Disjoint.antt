@@ -5,7 +5,7 @@ use mathlib.Core.HLevel.{¬-prop}
 use mathlib.Core.List.{List, _++_, List·Memᴰ·append-cases, pairwise-append}
 use Prim.Native.Nat.{ℕ, _≤_}
 use Rattle.table.specs.Items.{Item, In, at, in-left, in-right, Slots}
-use Rattle.update.specs.Frames.{Inside, Disjoint}
+use Rattle.form.specs.Frames.{Inside, Disjoint}
 
 pub in-cases : {s : ℕ} (xs : List Item) {ys : List Item} → In s (xs ++ ys) → In s xs ⊎ In s ys
 in-cases xs (at m e) = ⊎-elim (λ i. inl (at i e)) (λ i. inr (at i e)) (List·Memᴰ·append-cases xs m)

@@ -1,28 +1,28 @@
--- The form of a book's part, and the plain list that it stands for. The words are those from `start` on; the part is their first 64 × (c + 1).
+-- The form of a book's part, and the plain book that it stands for. The words are those from `start` on; the part is their first 64 × (c + 1).
 --     word 0   the capacity c            word 3   the live count
 --     word 1   the root of the offers    word 4   the root of the numbers
 --     word 2   the root's envelope       word 5   the first free slot
 use mathlib.Core.Path.{_≡_}
 use mathlib.Core.Logic.{_≢_}
-use mathlib.Core.List.{List, [], _∷_, map, List·Memᴰ, Pairwise}
+use mathlib.Core.List.{List, map, List·Memᴰ, Pairwise}
 use mathlib.Core.Option.{Option, none, some}
 use Prim.Native.Nat.{ℕ, _+_, _≤_}
 use lib.ListN.{length}
 use lib.IntN.{ℤ, pos}
 use Rattle.offers.specs.Offers.{Offer}
-use Rattle.trees.specs.Tree.{Tree, leaves}
+use Rattle.plain.specs.Book.{State}
 use Rattle.trees.specs.Operations.{Part, partLeaves}
 use Rattle.trees.specs.Balanced.{AvlP}
 use Rattle.trees.specs.Order.{Falling}
 use Rattle.dynamic.specs.OfferTree.{Held, heldShape}
 use Rattle.dynamic.specs.Valid.{bookLines}
 use Rattle.table.specs.Words.{Words, word}
-use Rattle.table.specs.Layout.{cap, cell, linkAt}
+use Rattle.table.specs.Layout.{cap}
 pub use Rattle.table.specs.Free.{head0, FreeChain, free-none, free-more}
 use Rattle.table.specs.Items.{Item}
 use Rattle.table.specs.Rep.{refOf, Tied}
 use Rattle.pieces.specs.Pieces.{partRef}
-use Rattle.update.specs.Stored.{HeldIn}
+use Rattle.form.specs.Stored.{HeldIn}
 
 -- ---- the offers
 
@@ -37,6 +37,13 @@ envelopeRef (some h) = partRef (h .whole)
 abbrev pub OffersIn : Words → Option (Held Item) → Type 0
 OffersIn w none = Unit {0}
 OffersIn w (some h) = HeldIn w (refOf (heldShape h)) (partRef (h .whole)) h
+
+-- the header tells the tree of offers, and that tree stands there with its envelopes
+pub record OffersStand (w : Words) (held : Option (Held Item)) : Type 0 where
+  pub offers-root : word w 1 ≡ pos (offersRef held)
+  pub envelope-root : word w 2 ≡ pos (envelopeRef held)
+  pub live-count : word w 3 ≡ pos (length (bookLines held))
+  pub offers-in : OffersIn w held
 
 -- ---- the numbers: a balanced tree of the live items by falling number
 
@@ -54,24 +61,36 @@ pub record NumbersIn (w : Words) (live : List Item) (numbers : Part Item) : Type
   pub all-live : (a : Item) → List·Memᴰ a (partLeaves numbers) → List·Memᴰ a live
   pub all-there : (a : Item) → List·Memᴰ a live → List·Memᴰ a (partLeaves numbers)
 
--- ---- the form
-
-pub record Book (w : Words) (c : ℕ) (held : Option (Held Item)) : Type 0 where
-  pub capacity : cap w ≡ c
-  pub some-slot : 1 ≤ c
-  pub offers-root : word w 1 ≡ pos (offersRef held)
-  pub envelope-root : word w 2 ≡ pos (envelopeRef held)
-  pub live-count : word w 3 ≡ pos (length (bookLines held))
-  pub offers : OffersIn w held
+-- a tree of numbers over the live items
+pub record Numbered (w : Words) (live : List Item) : Type 0 where
   pub numbers : Part Item
   pub numbers-root : word w 4 ≡ pos (partRef numbers)
-  pub numbers-in : NumbersIn w (bookLines held) numbers
+  pub numbers-in : NumbersIn w live numbers
+
+-- ---- the free slots: a chain that repeats none, told beside n live ones
+
+pub record Freely (w : Words) (n : ℕ) : Type 0 where
   pub free : List ℕ
   pub first-free : word w 5 ≡ pos (head0 free)
   pub free-chain : FreeChain w free
   pub free-apart : Pairwise (λ (a b : ℕ). a ≢ b) free
-  pub slots-used : length free + length (bookLines held) ≡ c
+  pub slots-used : length free + n ≡ cap w
+
+-- ---- the form
 
 -- the plain list: its leaves hold exactly those offers, in order
 abbrev pub plainOffers : Option (Held Item) → List Offer
 plainOffers held = map (λ (a : Item). a .offer) (bookLines held)
+
+-- The part has the form, with this tree of offers, and stands for this plain book. The check decides the three records in the middle.
+pub record Book (w : Words) (s : State) (held : Option (Held Item)) : Type 0 where
+  pub capacity : cap w ≡ s .capacity
+  pub some-slot : 1 ≤ s .capacity
+  pub offers : OffersStand w held
+  pub numbers : Numbered w (bookLines held)
+  pub free : Freely w (length (bookLines held))
+  pub stands-for : plainOffers held ≡ s .offers
+
+-- some plain book, then
+abbrev pub BookStands : Words → Type 0
+BookStands w = (s : State) × (held : Option (Held Item)) × Book w s held

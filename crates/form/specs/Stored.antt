@@ -3,14 +3,14 @@ use mathlib.Core.Path.{_≡_}
 use mathlib.Core.List.{List}
 use Prim.Native.Nat.{ℕ}
 use lib.IntN.{pos}
-use Rattle.trees.specs.Tree.{Tree, leaves, last}
+use Rattle.trees.specs.Tree.{leaves, last}
 use Rattle.trees.specs.Operations.{Part}
 use Rattle.dynamic.specs.OfferTree.{OfferTree, single, fork, shape, Held, heldShape}
 use Rattle.dynamic.specs.Valid.{Whole}
 use Rattle.table.specs.Words.{Words}
 use Rattle.table.specs.Layout.{cap, cell, linkAt}
 use Rattle.table.specs.Items.{Item, In, Slots}
-use Rattle.table.specs.Rep.{Field, refOf, Tied, Within}
+use Rattle.table.specs.Rep.{Field, refOf, Tied}
 use Rattle.table.specs.Threads.{Holds}
 use Rattle.pieces.specs.Pieces.{items, partRef, PartIn, PieceField}
 

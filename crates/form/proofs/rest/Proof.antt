@@ -1,8 +1,8 @@
--- `update::rest` meets its contract.
-use Rattle.update.specs.CodeSteps.{rest-of-inner, rest-of-leaf}
+-- `form::rest` meets its contract.
+use Rattle.form.specs.RestWords.{rest-of-inner, rest-of-leaf}
 use borrow.Author.Needs.{needs}
-use Rattle.update.proofs.rest.Statement.{statement}
-use Rattle.update.proofs.rest.Tie as tie
+use Rattle.form.proofs.rest.Statement.{statement}
+use Rattle.form.proofs.rest.Tie as tie
 
 inner-slot-requires : tie.Need-inner-slot-requires
 inner-slot-requires c κs = search needs

@@ -20,7 +20,7 @@ use Rattle.table.specs.Items.{Item, In, at, in-left, in-right, Slots, slots-lef
 use Rattle.table.specs.Rep.{childField, Field, a-child, a-height, Tied, tied-leaf, tied-node, Within, within-cap, Only}
 use Rattle.table.specs.Threads.{Holds, Threaded, holds-left, holds-still, threaded-still, leads-in}
 use Rattle.pieces.specs.Pieces.{items, PartIn, PieceField, of-node, of-numerator, of-denominator, of-next, PiecesOnly, Standing}
-use Rattle.update.specs.Stored.{RestIn, Stored, stored-single, stored-fork, HeldIn, EnvelopeField, of-pieces, of-offers, of-bridge-u, of-bridge-v, of-inner-rest, of-leaf-rest, Touched}
+use Rattle.form.specs.Stored.{RestIn, Stored, stored-single, stored-fork, HeldIn, EnvelopeField, of-pieces, of-offers, of-bridge-u, of-bridge-v, of-inner-rest, of-leaf-rest, Touched}
 
 -- ---- fields
 
