@@ -12,7 +12,7 @@ use Rattle.plain.specs.Rules.{FirstOf}
 use Rattle.columns.specs.declared.Command.{Command}
 use Rattle.columns.specs.declared.Command.the-variants.{Post, Withdraw, Query, List as Listing, Unreadable}
 use Rattle.columns.specs.Commands.{Parsed, parsed-unique, commandOf, command-parsed}
-use Rattle.columns.specs.Printed.{Answers}
+use Rattle.printing.specs.Printed.{Answers}
 use Rattle.dynamic.specs.OfferTree.{Held}
 use Rattle.table.specs.Words.{word}
 use Rattle.table.specs.Layout.{cap-most}

@@ -9,7 +9,7 @@ use native.Mathlib.Omega.{arith}
 use lib.ListN.{length, take, set, length-append, length-set}
 use lib.Seq.{take-all, take-append-le, take-suc-set, length-take-le}
 use lib.IntN.{ℤ}
-use Rattle.columns.specs.Columns.{newline}
+use Rattle.printing.specs.Texts.{newline}
 use Rattle.columns.specs.Commands.{parsed-unique, commandOf, command-parsed, wrong-length}
 use Rattle.table.specs.Words.{word}
 use Rattle.book.specs.Promises.{partOf, capacityAt, OnlyPart}

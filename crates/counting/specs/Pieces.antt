@@ -8,8 +8,8 @@ use lib.Seq.{take-all, drop-cons, drop-drop, take-add, length-take-le, take-at, 
 use lib.IntN.{ℤ, pos, negsuc}
 use Rattle.plain.specs.Book.{listed}
 use Rattle.table.specs.Words.{word, upTo, upTo-in, upTo-most}
-use Rattle.columns.specs.Columns.{FitsIn, answerLine}
-use Rattle.columns.specs.Printed.{Answers}
+use Rattle.printing.specs.Texts.{FitsIn, answerLine}
+use Rattle.printing.specs.Printed.{Answers}
 use Rattle.book.specs.Promises.{counted}
 use Rattle.counting.specs.Promises.{pieceLines, Prints}
 use Rattle.counting.specs.Replies.{PiecesFit, Replies, zero-fits, one-line}

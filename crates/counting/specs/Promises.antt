@@ -13,7 +13,7 @@ use Rattle.plain.specs.Book.{State, post, withdraw, query, listing, Answer, ref
 use Rattle.plain.specs.Rules.{FirstOf}
 use Rattle.columns.specs.declared.Command.{Command}
 use Rattle.columns.specs.declared.Command.the-variants.{Post, Withdraw, Query, List as Listing, Unreadable}
-use Rattle.columns.specs.Columns.{newline, answerLine}
+use Rattle.printing.specs.Texts.{newline, answerLine}
 use Rattle.columns.specs.Commands.{commandOf}
 use Rattle.dynamic.specs.OfferTree.{Held}
 use Rattle.table.specs.Words.{word}

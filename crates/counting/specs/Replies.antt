@@ -6,9 +6,9 @@ use native.Mathlib.Omega.{arith}
 use lib.ListN.{length, drop, length-append, take-append-drop}
 use lib.IntN.{ℤ, pos, negsuc}
 use Rattle.plain.specs.Book.{Answer, refused, live, found, listed}
-use Rattle.columns.specs.Columns.{decimal, numeral, digits, digitsWithin, FitsIn, answerLine}
-use Rattle.columns.specs.Justified.{justified-width}
-use Rattle.columns.specs.Printed.{Answers}
+use Rattle.printing.specs.Texts.{decimal, numeral, digits, digitsWithin, FitsIn, answerLine}
+use Rattle.printing.specs.Justified.{justified-width}
+use Rattle.printing.specs.Printed.{Answers}
 use Rattle.book.specs.Promises.{counted}
 use Rattle.counting.specs.Promises.{answered, Prints}
 

@@ -5,7 +5,8 @@ use Prim.Native.Nat.{ℕ}
 use native.Mathlib.Omega.{arith}
 use lib.IntN.{pos}
 use Rattle.plain.specs.Book.{State, Call, post, withdraw, query, listing, opened}
-use Rattle.columns.specs.Columns.{digitsWithin, digits, numeral, decimal, justified, lastColumns, lineOf, HasLine, answerLine}
+use Rattle.printing.specs.Texts.{digitsWithin, digits, numeral, decimal, justified, answerLine}
+use Rattle.columns.specs.Columns.{lastColumns, lineOf, HasLine}
 use Rattle.columns.specs.Commands.{asCommand, parsed, parsed-unique, commandOf, command-parsed}
 use Rattle.columns.specs.Samples.{bytes}
 use Rattle.counting.specs.Promises.{capacity, pieceLines, commanded, toldAll, linesFrom, output}

@@ -10,7 +10,7 @@ use lib.IntN.{ℤ, pos}
 use borrow.Author.Tests.{eq-eqb, ne-eqb}
 use Rattle.plain.specs.Book.{State, opened, openTrials}
 use Rattle.plain.specs.Sound.{Clear}
-use Rattle.columns.specs.Columns.{newline}
+use Rattle.printing.specs.Texts.{newline}
 use Rattle.dynamic.specs.OfferTree.{Held}
 use Rattle.table.specs.Items.{Item}
 use Rattle.update.specs.Form.{Book}

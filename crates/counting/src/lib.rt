@@ -29,11 +29,11 @@ fn update_line(out: &mut [u8], letter: u8, number: i64, update: Update) -> usize
             s: _,
             h: _,
         } => {
-            columns::answer_line(out, letter, 0, number, live, 0);
+            printing::answer_line(out, letter, 0, number, live, 0);
             return 39;
         }
         Update::Declined(cause) => {
-            columns::answer_line(out, letter, cause, 0, 0, 0);
+            printing::answer_line(out, letter, cause, 0, 0, 0);
             return 39;
         }
     }
@@ -50,11 +50,11 @@ fn found_line(out: &mut [u8], found: Found) -> usize
             price,
             probes: _,
         } => {
-            columns::answer_line(out, b'Q', 0, number, price, 0);
+            printing::answer_line(out, b'Q', 0, number, price, 0);
             return 39;
         }
         Found::Declined(cause) => {
-            columns::answer_line(out, b'Q', cause, 0, 0, 0);
+            printing::answer_line(out, b'Q', cause, 0, 0, 0);
             return 39;
         }
     }
@@ -69,7 +69,7 @@ fn piece_line(pieces: &[i64], i: usize, out: &mut [u8])
     let number = table::word_at(pieces, 3 * i);
     let numerator = table::word_at(pieces, 3 * i + 1);
     let denominator = table::word_at(pieces, 3 * i + 2);
-    columns::answer_line(&mut out[at..], b'E', 0, number, numerator, denominator);
+    printing::answer_line(&mut out[at..], b'E', 0, number, numerator, denominator);
 }
 
 // The lines of `count` pieces.
@@ -95,11 +95,11 @@ fn listed_lines(out: &mut [u8], listed: Listed, pieces: &[i64]) -> usize
             let words = 3 * n;
             let at = 39 * n;
             piece_lines(&pieces[..words], n, out);
-            columns::answer_line(&mut out[at..], b'L', 0, 0, m, 0);
+            printing::answer_line(&mut out[at..], b'L', 0, 0, m, 0);
             return at + 39;
         }
         Listed::Declined(cause) => {
-            columns::answer_line(out, b'L', cause, 0, 0, 0);
+            printing::answer_line(out, b'L', cause, 0, 0, 0);
             return 39;
         }
     }
@@ -140,7 +140,7 @@ pub fn answer(table: &mut [i64], line: &[u8], out: &mut [u8]) -> usize
             return list(table, out);
         }
         Command::Unreadable => {
-            columns::answer_line(out, b'?', 11, 0, 0, 0);
+            printing::answer_line(out, b'?', 11, 0, 0, 0);
             return 39;
         }
     }

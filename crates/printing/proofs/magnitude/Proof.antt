@@ -1,4 +1,4 @@
--- `columns::magnitude` meets its contract: one nearer to 0 a negative number's opposite fits too, and −2^63 needs that.
+-- `printing::magnitude` meets its contract: one nearer to 0 a negative number's opposite fits too, and −2^63 needs that.
 use mathlib.Core.Path.{_≡_, refl, ap, _∙_}
 use mathlib.Core.Bool.{true, false, true≢false}
 use Prim.Native.Nat.{ℕ, zero, suc, _+_}
@@ -11,8 +11,8 @@ use lib.Signed.{ltZ, nonNeg}
 use mir.Facts.{toZ-ofZ}
 use mir.Syntax.{w64}
 use mir.Val.{Fits, SFits}
-use Rattle.columns.proofs.magnitude.Statement.{statement}
-use Rattle.columns.proofs.magnitude.Tie as tie
+use Rattle.printing.proofs.magnitude.Statement.{statement}
+use Rattle.printing.proofs.magnitude.Tie as tie
 
 nearer : (n : ℕ) → negsuc n +ℤ pos 1 ≡ negℤ (pos n)
 nearer zero = refl

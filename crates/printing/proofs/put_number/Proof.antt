@@ -1,9 +1,9 @@
--- `columns::put_number` meets its contract.
+-- `printing::put_number` meets its contract.
 use borrow.Author.Needs.{needs}
 use mir.Facts.{toZ-ofZ}
-use Rattle.columns.specs.Printing.{puts-part}
-use Rattle.columns.proofs.put_number.Statement.{statement}
-use Rattle.columns.proofs.put_number.Tie as tie
+use Rattle.printing.specs.Printing.{puts-part}
+use Rattle.printing.proofs.put_number.Statement.{statement}
+use Rattle.printing.proofs.put_number.Tie as tie
 
 add-to : tie.Need-add-to
 add-to c = search needs

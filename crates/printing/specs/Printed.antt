@@ -5,7 +5,7 @@ use mathlib.Core.Path.{_≡_}
 use mathlib.Core.List.{List}
 use lib.ListN.{length, take, drop}
 use lib.IntN.{ℤ}
-use Rattle.columns.specs.Columns.{decimal, justified, FitsIn, answerLine}
+use Rattle.printing.specs.Texts.{decimal, justified, FitsIn, answerLine}
 
 -- A number fills a whole column.
 pub record Justifies (value : ℤ) (before after : List ℕ) : Type 0 where

@@ -14,7 +14,7 @@ use mir.Val.{SFits}
 use borrow.Author.Tests.{le-leb}
 use lib.Dec.{T}
 use Rattle.lists.specs.Filter.{every, both, one-of-both, other-of-both}
-use Rattle.columns.specs.Columns.{digit, minus, digitsWithin, digits, numeral, decimal, FitsIn}
+use Rattle.printing.specs.Texts.{digit, minus, digitsWithin, digits, numeral, decimal, FitsIn}
 
 -- ---- the two laws that the rest goes by
 

@@ -5,7 +5,7 @@ use mathlib.Core.List.{List, [], _∷_, _++_, append-assoc, append-nil}
 use native.Mathlib.Nat.{sub-zero}
 use native.Mathlib.Omega.{arith}
 use lib.ListN.{length, replicate, length-append, length-replicate}
-use Rattle.columns.specs.Columns.{space, justified}
+use Rattle.printing.specs.Texts.{space, justified}
 
 -- A text that fits is as wide as its column, and a longer one keeps its length.
 pub justified-length : (w : ℕ) (t : List ℕ) → length (justified w t) ≡ w - length t + length t

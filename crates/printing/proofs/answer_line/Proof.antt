@@ -1,12 +1,12 @@
--- `columns::answer_line` meets its contract: each call writes its columns and leaves the others.
+-- `printing::answer_line` meets its contract: each call writes its columns and leaves the others.
 use mathlib.Core.Path.{_≡_, _∙_}
 use native.Mathlib.Omega.{arith}
 use lib.ListN.{length, length-set}
 use mir.Facts.{toZ-ofZ}
 use borrow.Author.Needs.{needs}
-use Rattle.columns.specs.Printing.{answers}
-use Rattle.columns.proofs.answer_line.Statement.{statement}
-use Rattle.columns.proofs.answer_line.Tie as tie
+use Rattle.printing.specs.Printing.{answers}
+use Rattle.printing.proofs.answer_line.Statement.{statement}
+use Rattle.printing.proofs.answer_line.Tie as tie
 
 slice-write-out : tie.Need-slice-write-out
 slice-write-out c = search needs

@@ -1,10 +1,10 @@
--- `columns::fill` meets its contract. The loop's invariant: what is left of the text, justified, with the columns written after it, is the whole.
+-- `printing::fill` meets its contract. The loop's invariant: what is left of the text, justified, with the columns written after it, is the whole.
 use mathlib.Core.Path.{refl}
 use native.Mathlib.Omega.{arith}
 use borrow.Author.Needs.{needs}
-use Rattle.columns.specs.Printing.{Filling, filling-more, filling-done}
-use Rattle.columns.proofs.fill.Statement.{statement}
-use Rattle.columns.proofs.fill.Tie as tie
+use Rattle.printing.specs.Printing.{Filling, filling-more, filling-done}
+use Rattle.printing.proofs.fill.Statement.{statement}
+use Rattle.printing.proofs.fill.Tie as tie
 
 abbrev Inv-loop : tie.InvT-loop
 Inv-loop column₀ at number minus to₀ left₀ sign₀ column to left sign = Filling column₀ at number minus column to left sign

@@ -10,12 +10,12 @@ use lib.Seq.{take-add, take-suc-set, drop-drop, length-take-le, drop-cons, lt-le
 use lib.IntN.{ℤ, pos, negsuc, natAbs}
 use lib.Signed.{ltZ}
 use borrow.Author.Tests.{le-ltb}
-use Rattle.columns.specs.declared.Cut.{Cut}
-use Rattle.columns.specs.Columns.{minus, digit, digits, numeral, decimal, justified, FitsIn, newline, answerLine}
-use Rattle.columns.specs.Printed.{Justifies, Puts, Answers}
-use Rattle.columns.specs.Decimals.{digits-none, digits-more, decimal-some}
-use Rattle.columns.specs.Sections.{between, parts-left, parts-middle, parts-right}
-use Rattle.columns.specs.Justified.{justified-snoc, justified-blank, justified-none, justified-width}
+use Rattle.printing.specs.declared.Cut.{Cut}
+use Rattle.printing.specs.Texts.{minus, digit, digits, numeral, decimal, justified, FitsIn, newline, answerLine}
+use Rattle.printing.specs.Printed.{Justifies, Puts, Answers}
+use Rattle.printing.specs.Decimals.{digits-none, digits-more, decimal-some}
+use Rattle.printing.specs.Sections.{between, parts-left, parts-middle, parts-right}
+use Rattle.printing.specs.Justified.{justified-snoc, justified-blank, justified-none, justified-width}
 
 -- ---- a text that is still to be written: digits, with a minus before them or not
 

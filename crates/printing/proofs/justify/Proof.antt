@@ -1,12 +1,12 @@
--- `columns::justify` meets its contract: the last digit, and before it what is left of the text.
+-- `printing::justify` meets its contract: the last digit, and before it what is left of the text.
 use mathlib.Core.Path.{_∙_}
 use native.Mathlib.Omega.{arith}
 use lib.ListN.{length-set}
 use mir.Facts.{toZ-ofZ}
 use borrow.Author.Needs.{needs}
-use Rattle.columns.specs.Printing.{justifies-none, justifies-some}
-use Rattle.columns.proofs.justify.Statement.{statement}
-use Rattle.columns.proofs.justify.Tie as tie
+use Rattle.printing.specs.Printing.{justifies-none, justifies-some}
+use Rattle.printing.proofs.justify.Statement.{statement}
+use Rattle.printing.proofs.justify.Tie as tie
 
 returns : tie.Need-returns
 returns c = justifies-none _ _ _ (c .if1 .taken)

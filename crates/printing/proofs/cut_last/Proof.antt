@@ -1,8 +1,8 @@
--- `columns::cut_last` meets its contract: by what is left of the text.
+-- `printing::cut_last` meets its contract: by what is left of the text.
 use borrow.Author.Needs.{needs}
-use Rattle.columns.specs.Printing.{cuts-digit, cuts-minus, cuts-space}
-use Rattle.columns.proofs.cut_last.Statement.{statement}
-use Rattle.columns.proofs.cut_last.Tie as tie
+use Rattle.printing.specs.Printing.{cuts-digit, cuts-minus, cuts-space}
+use Rattle.printing.proofs.cut_last.Statement.{statement}
+use Rattle.printing.proofs.cut_last.Tie as tie
 
 cast-t5 : tie.Need-cast-t5
 cast-t5 c = search needs
