@@ -24,8 +24,9 @@ use Rattle.book.specs.declared.Listed.{Listed}
 use Rattle.book.specs.Promises.{partOf, capacityAt, plainOf, tableTrials, OnlyPart, Updates, Queries, Lists, updateAnswer, foundAnswer, listingAnswer}
 use Rattle.book.specs.Live.{book-sound}
 use Rattle.history.specs.Claim.{same-state, asked-state, listed-state}
-use Rattle.counting.specs.Promises.{room, answered, letterOf, named, outcome, Prints, most, Stands, Declines, Obeys, Counts}
-use Rattle.counting.specs.Replies.{Fits, Replies, refused-line}
+use Rattle.counting.specs.Promises.{room, letterOf, named, outcome, most, Stands, Declines, Obeys, Counts}
+use Rattle.replying.specs.Answered.{answered, Prints}
+use Rattle.replying.specs.Replies.{Fits, Replies, refused-line}
 use Rattle.counting.specs.Fitting.{shown, Roomy, answer-fits, refusal-fits}
 
 -- ---- the lines of an answer are the plain book's

@@ -19,7 +19,7 @@ use Rattle.plain.specs.QueryLaws.{cheapest-names}
 use Rattle.book.specs.Numbered.{from-one}
 use Rattle.printing.specs.Texts.{FitsIn}
 use Rattle.printing.specs.Decimals.{fits-column, fits-unsigned}
-use Rattle.counting.specs.Replies.{PiecesFit, Fits, zero-fits}
+use Rattle.replying.specs.Replies.{PiecesFit, Fits, zero-fits}
 
 -- ---- refusals
 
