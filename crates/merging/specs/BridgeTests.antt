@@ -22,7 +22,7 @@ use Rattle.matching.specs.Tests.{is-true, true-is}
 use Rattle.matching.specs.Fills.{never}
 use Rattle.bridging.specs.Gaps.{InRange, crossAt, cross-is}
 use Rattle.bridging.specs.Bridges.{Bridges, Ends}
-use Rattle.checking.specs.PieceTrees.{Known, AllKnown, span-mem}
+use Rattle.merging.specs.PieceTrees.{Known, AllKnown, span-mem}
 
 -- ---- the piece of a line, by its neighbours
 

@@ -1,11 +1,11 @@
--- `checking::merge` meets its contract.
+-- `merging::merge` meets its contract.
 use mathlib.Core.Path.{_∙_}
 use native.Mathlib.Omega.{arith}
 use borrow.Author.Needs.{needs}
 use borrow.Author.Tests.{not-true, not-false}
-use Rattle.checking.specs.Merges.{left-place, right-place, middle, merge-ends, merges-no-u, merges-no-v, merges-no-bridge, rest-left, rest-right, merges-no-left, merges-no-right, merges-all}
-use Rattle.checking.proofs.merge.Statement.{statement}
-use Rattle.checking.proofs.merge.Tie as tie
+use Rattle.merging.specs.Merges.{left-place, right-place, middle, merge-ends, merges-no-u, merges-no-v, merges-no-bridge, rest-left, rest-right, merges-no-left, merges-no-right, merges-all}
+use Rattle.merging.proofs.merge.Statement.{statement}
+use Rattle.merging.proofs.merge.Tie as tie
 
 inner-slot-requires : tie.Need-inner-slot-requires
 inner-slot-requires c κs = search needs

@@ -20,7 +20,7 @@ use Rattle.matching.specs.Stretches.{span}
 use Rattle.matching.specs.Tests.{Decides, decides-no, decides-as}
 use Rattle.matching.specs.Laid.{itemsAt}
 use Rattle.matching.specs.Fills.{never}
-use Rattle.checking.specs.PieceTrees.{AllKnown, known-placed, PieceTree, Matches}
+use Rattle.merging.specs.PieceTrees.{AllKnown, known-placed, PieceTree, Matches}
 
 -- ---- the word
 

@@ -1,9 +1,9 @@
--- `checking::matches` meets its contract.
+-- `merging::matches` meets its contract.
 use borrow.Author.Needs.{needs}
 use borrow.Author.Tests.{not-true, not-false}
-use Rattle.checking.specs.PieceTrees.{matches-none, matches-some, matches-not-filled, matches-not-long, matches-differ, matches-rest}
-use Rattle.checking.proofs.matches.Statement.{statement}
-use Rattle.checking.proofs.matches.Tie as tie
+use Rattle.merging.specs.PieceTrees.{matches-none, matches-some, matches-not-filled, matches-not-long, matches-differ, matches-rest}
+use Rattle.merging.proofs.matches.Statement.{statement}
+use Rattle.merging.proofs.matches.Tie as tie
 
 returns : tie.Need-returns
 returns c = matches-none (c .before .if1 .taken) (c .if2 .taken)

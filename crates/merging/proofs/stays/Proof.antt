@@ -1,9 +1,9 @@
--- `checking::stays` meets its contract.
+-- `merging::stays` meets its contract.
 use borrow.Author.Needs.{needs}
 use borrow.Author.Tests.{not-true, not-false}
-use Rattle.checking.specs.Rests.{stays-not, stays-rest}
-use Rattle.checking.proofs.stays.Statement.{statement}
-use Rattle.checking.proofs.stays.Tie as tie
+use Rattle.merging.specs.Rests.{stays-not, stays-rest}
+use Rattle.merging.proofs.stays.Statement.{statement}
+use Rattle.merging.proofs.stays.Tie as tie
 
 rest-requires : tie.Need-rest-requires
 rest-requires c κs = search needs

@@ -31,10 +31,10 @@ use Rattle.matching.specs.Stretches.{span, span-length, span-at, span-cut, span
 use Rattle.matching.specs.Laid.{itemAt, itemsAt, Laid, Children, laid-children}
 use Rattle.matching.specs.Tests.{Every}
 use Rattle.bridging.specs.Bridges.{Bridges}
-use Rattle.checking.specs.PieceTrees.{AllKnown}
-use Rattle.checking.specs.Rests.{RestTree}
-use Rattle.checking.specs.BridgeTests.{items-length, items-about, merged, bridges-merge, merge-bridges}
-use Rattle.checking.specs.Stands.{Stands, stands-left, stands-right, stands-known, Decorated, decorated-env, rest-is}
+use Rattle.merging.specs.PieceTrees.{AllKnown}
+use Rattle.merging.specs.Rests.{RestTree}
+use Rattle.merging.specs.BridgeTests.{items-length, items-about, merged, bridges-merge, merge-bridges}
+use Rattle.merging.specs.Stands.{Stands, stands-left, stands-right, stands-known, Decorated, decorated-env, rest-is}
 
 -- Node x of the offers joins the pieces between `at` and `mid` with those between `mid` and `to`: its bridge stands at places i and j, and
 -- the pieces behind the one and before the other stay with the children.

@@ -28,7 +28,7 @@ use Rattle.pieces.specs.Pieces.{items, item-laws}
 use Rattle.update.specs.Stored.{Stored, nodeSlot, restField}
 use Rattle.update.specs.Lowering.{restWord}
 use Rattle.matching.specs.Laid.{itemAt, itemsAt, Placed, AllPlaced, Laid, Children, laid-children}
-use Rattle.checking.specs.PieceTrees.{Known, AllKnown}
+use Rattle.merging.specs.PieceTrees.{Known, AllKnown}
 
 -- ---- shape, offers and order
 

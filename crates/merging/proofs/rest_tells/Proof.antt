@@ -1,8 +1,8 @@
--- `checking::rest_tells` meets its contract.
+-- `merging::rest_tells` meets its contract.
 use borrow.Author.Needs.{needs}
-use Rattle.checking.specs.Rests.{told-inner, told-leaf}
-use Rattle.checking.proofs.rest_tells.Statement.{statement}
-use Rattle.checking.proofs.rest_tells.Tie as tie
+use Rattle.merging.specs.Rests.{told-inner, told-leaf}
+use Rattle.merging.proofs.rest_tells.Statement.{statement}
+use Rattle.merging.proofs.rest_tells.Tie as tie
 
 inner-slot-requires : tie.Need-inner-slot-requires
 inner-slot-requires c κs = search needs

@@ -15,10 +15,10 @@ use Rattle.matching.specs.Tests.{Decides, Every}
 use Rattle.matching.specs.Loops.{PlaceOf, Moved}
 use Rattle.matching.specs.Fills.{never}
 use Rattle.bridging.specs.Bridges.{Bridges, Ends}
-use Rattle.checking.specs.declared.Walked.{Walked}
-use Rattle.checking.specs.PieceTrees.{AllKnown}
-use Rattle.checking.specs.Rests.{RestTree, Stays}
-use Rattle.checking.specs.Joints.{Joins}
+use Rattle.merging.specs.declared.Walked.{Walked}
+use Rattle.merging.specs.PieceTrees.{AllKnown}
+use Rattle.merging.specs.Rests.{RestTree, Stays}
+use Rattle.merging.specs.Joints.{Joins}
 
 pub record Merges (w : Words) (x : ℕ) (xs xs′ : List ℕ) (at mid to : ℕ) (r : Walked) : Type 0 where
   pub long : length xs′ ≡ length xs
