@@ -1,9 +1,9 @@
--- `pieces_demo::main` is safe and ends.
+-- `pieces_test::main` is safe and ends.
 use Prim.Native.Nat.{ℕ, _≤_, _-_}
 use native.Mathlib.Omega.{arith}
 use borrow.Author.Needs.{needs}
-use Rattle.pieces_demo.proofs.main.Statement.{statement}
-use Rattle.pieces_demo.proofs.main.Tie as tie
+use Rattle.pieces_test.proofs.main.Statement.{statement}
+use Rattle.pieces_test.proofs.main.Tie as tie
 
 abbrev Inv-loop : tie.InvT-loop
 Inv-loop l r front back y met prices₀ loads load₀ t21 t22 prices load = load ≤ 100

@@ -1,12 +1,12 @@
--- `pieces_demo::fill` is safe and ends: the loop's counter stays in its range.
+-- `pieces_test::fill` is safe and ends: the loop's counter stays in its range.
 use Prim.Native.Nat.{ℕ, _≤_, _<_, _-_, _+_}
 use mathlib.Core.Path.{_≡_, refl, _∙_}
 use mathlib.Core.Logic.{⊎-elim}
 use native.Mathlib.Omega.{arith}
 use borrow.Author.Needs.{needs}
 use lib.ListN.{length}
-use Rattle.pieces_demo.proofs.fill.Statement.{statement}
-use Rattle.pieces_demo.proofs.fill.Tie as tie
+use Rattle.pieces_test.proofs.fill.Statement.{statement}
+use Rattle.pieces_test.proofs.fill.Tie as tie
 
 abbrev Inv-loop : tie.InvT-loop
 Inv-loop part₀ all s₀ part s = (1 ≤ s) × (s ≤ 241) × (length part ≡ length part₀)

@@ -1,12 +1,12 @@
--- `pieces_demo::at_next` is safe and ends: the loop's counter stays in its range.
+-- `pieces_test::at_next` is safe and ends: the loop's counter stays in its range.
 use Prim.Native.Nat.{ℕ, _≤_, _<_, _-_, _+_}
 use mathlib.Core.Path.{_≡_, refl, _∙_}
 use mathlib.Core.Logic.{⊎-elim}
 use native.Mathlib.Omega.{arith}
 use borrow.Author.Needs.{needs}
 use lib.ListN.{length}
-use Rattle.pieces_demo.proofs.at_next.Statement.{statement}
-use Rattle.pieces_demo.proofs.at_next.Tie as tie
+use Rattle.pieces_test.proofs.at_next.Statement.{statement}
+use Rattle.pieces_test.proofs.at_next.Tie as tie
 
 abbrev Inv-loop : tie.InvT-loop
 Inv-loop prices₀ s₀ prices s = (1 ≤ s) × (s ≤ 241)
