@@ -17,9 +17,9 @@ use Rattle.matching.specs.Stretches.{span}
 use Rattle.matching.specs.Tests.{Decides, decides-no}
 use Rattle.matching.specs.Laid.{itemsAt}
 use Rattle.matching.specs.Fills.{never}
-use Rattle.checking.specs.declared.Walked.{Walked}
-use Rattle.checking.specs.PieceTrees.{AllKnown, PieceTree, Matches}
-use Rattle.checking.specs.Stands.{Stands, stands-known, Decorated, decorated-env}
+use Rattle.merging.specs.declared.Walked.{Walked}
+use Rattle.merging.specs.PieceTrees.{AllKnown, PieceTree, Matches}
+use Rattle.merging.specs.Stands.{Stands, stands-known, Decorated, decorated-env}
 use Rattle.checking.specs.OfferWalks.{Walks}
 use Rattle.checking.specs.Orders.{stands-most, stands-low}
 

@@ -1,10 +1,4 @@
 -- The check of a part: yes exactly when it has the form of a book.
-pub mod PieceTrees
-pub mod Rests
-pub mod BridgeTests
-pub mod Stands
-pub mod Joints
-pub mod Merges
 pub mod OfferWalks
 pub mod Headers
 pub mod Orders

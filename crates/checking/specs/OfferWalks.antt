@@ -19,11 +19,11 @@ use Rattle.form.specs.Stored.{Stored, stored-single, stored-fork}
 use Rattle.matching.specs.Stretches.{span, span-one, span-same, span-length}
 use Rattle.matching.specs.Laid.{itemAt, itemsAt, laid-leaf-low, laid-node-high}
 use Rattle.matching.specs.Fills.{never}
-use Rattle.checking.specs.declared.Walked.{Walked}
-use Rattle.checking.specs.BridgeTests.{items-length}
-use Rattle.checking.specs.Stands.{Stands, stands-left, stands-right, Decorated, decorated-env}
-use Rattle.checking.specs.Joints.{half-left, half-right, no-leaf, joint-known, joins-fork, Joined, decorated-joins}
-use Rattle.checking.specs.Merges.{Refuses, Two, Merges}
+use Rattle.merging.specs.declared.Walked.{Walked}
+use Rattle.merging.specs.BridgeTests.{items-length}
+use Rattle.merging.specs.Stands.{Stands, stands-left, stands-right, Decorated, decorated-env}
+use Rattle.merging.specs.Joints.{half-left, half-right, no-leaf, joint-known, joins-fork, Joined, decorated-joins}
+use Rattle.merging.specs.Merges.{Refuses, Two, Merges}
 
 -- Where the shape, the offers and the order of a subtree are known, the walk goes through exactly where envelopes are stored with it, and then
 -- its whole envelope stands from place `at` on.

@@ -22,7 +22,7 @@ use Rattle.pieces.specs.Pieces.{items, item-laws, partRef}
 use Rattle.form.specs.Stored.{HeldIn}
 use Rattle.form.specs.Form.{offersRef, envelopeRef, OffersIn}
 use Rattle.matching.specs.Laid.{itemAt, AllPlaced}
-use Rattle.checking.specs.Stands.{Stands}
+use Rattle.merging.specs.Stands.{Stands}
 use Rattle.checking.specs.Headers.{Header}
 use Rattle.checking.specs.Envelops.{Enveloped}
 use Rattle.checking.specs.OffersStand.{OffersFound, OffersAt}

@@ -15,7 +15,7 @@ use Rattle.table.specs.Items.{Item}
 use Rattle.table.specs.Rep.{refOf}
 use Rattle.pieces.specs.Pieces.{items, partRef, PartIn}
 use Rattle.form.specs.Stored.{Stored, HeldIn}
-use Rattle.checking.specs.Stands.{Stands, stands-slots, stands-holds, Decorated}
+use Rattle.merging.specs.Stands.{Stands, stands-slots, stands-holds, Decorated}
 use Rattle.checking.specs.Headers.{Header}
 use Rattle.checking.specs.OffersStand.{OffersFound, OffersAt}
 

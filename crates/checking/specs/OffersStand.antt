@@ -15,7 +15,7 @@ use Rattle.form.specs.Form.{OffersStand}
 use Rattle.matching.specs.Stretches.{span}
 use Rattle.matching.specs.Tests.{Decides}
 use Rattle.matching.specs.Laid.{itemsAt}
-use Rattle.checking.specs.Stands.{Stands}
+use Rattle.merging.specs.Stands.{Stands}
 use Rattle.checking.specs.Headers.{Header}
 use Rattle.checking.specs.Envelops.{Enveloped}
 

@@ -23,9 +23,9 @@ use Rattle.matching.specs.Loops.{FallsHere, RangedHere}
 use Rattle.matching.specs.Laid.{itemAt, itemsAt, items-back, Laid, laid-unique}
 use Rattle.matching.specs.Fills.{Fills, never}
 use Rattle.matching.specs.Walks.{written-length}
-use Rattle.checking.specs.PieceTrees.{span-mem}
-use Rattle.checking.specs.BridgeTests.{items-length}
-use Rattle.checking.specs.Stands.{AllRanged, Stands, stands-slots}
+use Rattle.merging.specs.PieceTrees.{span-mem}
+use Rattle.merging.specs.BridgeTests.{items-length}
+use Rattle.merging.specs.Stands.{AllRanged, Stands, stands-slots}
 
 -- ---- the order along a stretch
 

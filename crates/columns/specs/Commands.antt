@@ -14,10 +14,11 @@ use Rattle.columns.specs.declared.Command.{Command}
 use Rattle.columns.specs.declared.Command.the-variants.{Post, Withdraw, Query, List as Listing, Unreadable}
 use Rattle.columns.specs.declared.Field.{Field}
 use Rattle.columns.specs.declared.Field.the-variants.{Number, Bad}
-use Rattle.columns.specs.Columns.{space, decimal, FitsIn, lineOf, HasLine, IsLineOf}
+use Rattle.printing.specs.Texts.{space, decimal, FitsIn}
+use Rattle.columns.specs.Columns.{lineOf, HasLine, IsLineOf}
 use Rattle.columns.specs.Values.{told}
 use Rattle.columns.specs.Reading.{Holds, FieldRead, holds-told}
-use Rattle.columns.specs.Sections.{between}
+use Rattle.printing.specs.Sections.{between}
 use Rattle.columns.specs.Lines.{letter, Shape, PostColumns, LastColumns, line-shape, shape-line, line-length}
 
 -- The command of a call. A listing's room is no part of it.

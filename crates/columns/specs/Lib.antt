@@ -1,11 +1,7 @@
+-- The lines of the calls: what they say.
 pub mod Columns
-pub mod Commands
-pub mod Decimals
-pub mod Justified
-pub mod Lines
-pub mod Printed
-pub mod Printing
-pub mod Reading
-pub mod Samples
-pub mod Sections
 pub mod Values
+pub mod Reading
+pub mod Lines
+pub mod Commands
+pub mod Samples

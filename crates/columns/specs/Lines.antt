@@ -7,11 +7,12 @@ use lib.ListN.{length, getD, take, drop, replicate, length-append, length-drop}
 use lib.Seq.{take-at, drop-at, take-all, length-take-le}
 use lib.IntN.{ℤ, pos}
 use Rattle.plain.specs.Book.{Call, post, withdraw, query, listing}
-use Rattle.columns.specs.Columns.{space, decimal, justified, FitsIn, lastColumns, lineOf, HasLine, IsLineOf}
-use Rattle.columns.specs.Decimals.{fits-unsigned}
-use Rattle.columns.specs.Justified.{justified-width, justified-fits}
+use Rattle.printing.specs.Texts.{space, decimal, justified, FitsIn}
+use Rattle.columns.specs.Columns.{lastColumns, lineOf, HasLine, IsLineOf}
+use Rattle.printing.specs.Decimals.{fits-unsigned}
+use Rattle.printing.specs.Justified.{justified-width, justified-fits}
 use Rattle.columns.specs.Reading.{Holds}
-use Rattle.columns.specs.Sections.{between, parts-left, parts-middle, parts-right, two-parts, three-parts}
+use Rattle.printing.specs.Sections.{between, parts-left, parts-middle, parts-right, two-parts, three-parts}
 
 -- ---- the parts of a line
 

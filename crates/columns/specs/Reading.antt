@@ -9,11 +9,11 @@ use lib.Seq.{length-take-le, take-at}
 use lib.IntN.{ℤ}
 use Rattle.columns.specs.declared.Field.{Field}
 use Rattle.columns.specs.declared.Field.the-variants.{Number, Bad}
-use Rattle.columns.specs.Columns.{decimal, justified, FitsIn}
+use Rattle.printing.specs.Texts.{decimal, justified, FitsIn}
 use Rattle.columns.specs.Values.{told, told-justified, told-fits}
-use Rattle.columns.specs.Justified.{justified-length}
-use Rattle.columns.specs.Printed.{Justifies}
-use Rattle.columns.specs.Decimals.{decimal-some}
+use Rattle.printing.specs.Justified.{justified-length}
+use Rattle.printing.specs.Printed.{Justifies}
+use Rattle.printing.specs.Decimals.{decimal-some}
 
 -- The columns hold a number: its decimal text, justified to their width.
 abbrev pub Holds : List ℕ → ℤ → Type 0

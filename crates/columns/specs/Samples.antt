@@ -6,7 +6,8 @@ use mathlib.Core.Path.{_≡_, refl}
 use mathlib.Core.List.{List, [], _∷_}
 use lib.IntN.{pos, negsuc}
 use Rattle.plain.specs.Book.{post, withdraw, query, listing}
-use Rattle.columns.specs.Columns.{digitsWithin, digits, numeral, decimal, justified, lastColumns, lineOf, answerLine}
+use Rattle.printing.specs.Texts.{digitsWithin, digits, numeral, decimal, justified, answerLine}
+use Rattle.columns.specs.Columns.{lastColumns, lineOf}
 
 -- The bytes of a text of plain characters.
 abbrev pub bytesFrom : String → (at left : ℕ) → List ℕ

@@ -13,8 +13,8 @@ use lib.IntN.{ℤ, pos, negsuc, negℤ, _-ℤ_, +ℤ-idl}
 use lib.Dec.{T, leb, eqb, leb→le}
 use borrow.Author.Tests.{leb-true, eqb-true, ne-eqb, le-leb, lt-leb}
 use Rattle.lists.specs.Filter.{every, one-of-both, other-of-both}
-use Rattle.columns.specs.Columns.{space, minus, digit, digits, numeral, decimal, justified, FitsIn}
-use Rattle.columns.specs.Decimals.{isDigit, digit-is, along, numeral-length, numeral-characters}
+use Rattle.printing.specs.Texts.{space, minus, digit, digits, numeral, decimal, justified, FitsIn}
+use Rattle.printing.specs.Decimals.{isDigit, digit-is, along, numeral-length, numeral-characters}
 
 -- One more byte.
 unfoldable pub taken : ℕ → ℕ → ℕ

@@ -12,7 +12,7 @@ use Rattle.plain.specs.Rules.{FirstOf}
 use Rattle.columns.specs.declared.Command.{Command}
 use Rattle.columns.specs.declared.Command.the-variants.{Post, Withdraw, Query, List as Listing, Unreadable}
 use Rattle.columns.specs.Commands.{Parsed, parsed-unique, commandOf, command-parsed}
-use Rattle.columns.specs.Printed.{Answers}
+use Rattle.printing.specs.Printed.{Answers}
 use Rattle.dynamic.specs.OfferTree.{Held}
 use Rattle.table.specs.Words.{word}
 use Rattle.table.specs.Layout.{cap-most}
@@ -24,8 +24,9 @@ use Rattle.book.specs.declared.Listed.{Listed}
 use Rattle.book.specs.Promises.{partOf, capacityAt, tableTrials, OnlyPart, Updates, Queries, Lists, updateAnswer, foundAnswer, listingAnswer}
 use Rattle.book.specs.Live.{book-sound}
 use Rattle.history.specs.Claim.{asked-state, listed-state}
-use Rattle.counting.specs.Promises.{room, answered, letterOf, named, outcome, Prints, most, Stands, Declines, Obeys, Counts}
-use Rattle.counting.specs.Replies.{Fits, Replies, refused-line}
+use Rattle.counting.specs.Promises.{room, letterOf, named, outcome, most, Stands, Declines, Obeys, Counts}
+use Rattle.replying.specs.Answered.{answered, Prints}
+use Rattle.replying.specs.Replies.{Fits, Replies, refused-line}
 use Rattle.counting.specs.Fitting.{shown, Roomy, answer-fits, refusal-fits}
 
 -- ---- the lines of an answer are the plain book's

@@ -17,9 +17,9 @@ use Rattle.plain.specs.Book.{State, Call, post, withdraw, query, listing, refus
 use Rattle.plain.specs.Sound.{Sound, clear, step-sound}
 use Rattle.plain.specs.QueryLaws.{cheapest-names}
 use Rattle.book.specs.Numbered.{from-one}
-use Rattle.columns.specs.Columns.{FitsIn}
-use Rattle.columns.specs.Decimals.{fits-column, fits-unsigned}
-use Rattle.counting.specs.Replies.{PiecesFit, Fits, zero-fits}
+use Rattle.printing.specs.Texts.{FitsIn}
+use Rattle.printing.specs.Decimals.{fits-column, fits-unsigned}
+use Rattle.replying.specs.Replies.{PiecesFit, Fits, zero-fits}
 
 -- ---- refusals
 

@@ -5,15 +5,16 @@ use mathlib.Core.List.{List, [], _∷_, _++_}
 use mathlib.Core.Option.{Option}
 use mathlib.Core.Bool.{cond}
 use Prim.Native.Nat.{ℕ, _≤_, _<_}
-use lib.ListN.{length, drop}
+use lib.ListN.{length}
 use lib.Dec.{eqb}
 use lib.IntN.{ℤ, pos}
 use Rattle.plain.specs.Causes.{Cause, causeNumber, unreadableLine}
-use Rattle.plain.specs.Book.{State, post, withdraw, query, listing, Answer, refused, live, found, listed, Outcome, opened, step}
+use Rattle.plain.specs.Book.{State, post, withdraw, query, listing, refused, Outcome, opened, step}
 use Rattle.plain.specs.Rules.{FirstOf}
 use Rattle.columns.specs.declared.Command.{Command}
 use Rattle.columns.specs.declared.Command.the-variants.{Post, Withdraw, Query, List as Listing, Unreadable}
-use Rattle.columns.specs.Columns.{newline, answerLine}
+use Rattle.printing.specs.Texts.{newline}
+use Rattle.replying.specs.Answered.{answered, Prints}
 use Rattle.columns.specs.Commands.{commandOf}
 use Rattle.dynamic.specs.OfferTree.{Held}
 use Rattle.table.specs.Words.{word}
@@ -28,20 +29,6 @@ capacity = 64
 
 abbrev pub room : ℕ
 room = 192
-
--- a piece's line: its offer, and its crossing with the next
-unfoldable pub pieceLines : List ℤ → List ℕ
-pieceLines (number ∷ numerator ∷ denominator ∷ ws) = answerLine 69 (pos 0) number numerator denominator ++ pieceLines ws
-pieceLines (number ∷ numerator ∷ []) = []
-pieceLines (number ∷ []) = []
-pieceLines [] = []
-
--- What an answer prints: letter, refusal or 0, offer, value, second value. A post and a withdrawal show the number that they name.
-abbrev pub answered : (letter : ℕ) (number : ℤ) → Answer → List ℕ
-answered letter number (refused n) = answerLine letter (pos n) (pos 0) (pos 0) (pos 0)
-answered letter number (live n) = answerLine letter (pos 0) number (pos n) (pos 0)
-answered letter number (found offer price) = answerLine letter (pos 0) offer price (pos 0)
-answered letter number (listed m words) = pieceLines words ++ answerLine letter (pos 0) (pos 0) (pos m) (pos 0)
 
 -- The plain book after a line, and the bytes that the line prints.
 pub record Told : Type 0 where
@@ -92,11 +79,6 @@ abbrev pub output : List ℕ → List ℕ
 output input = toldAll (opened (pos capacity)) (linesFrom [] input)
 
 -- ---- the counter on words
-
--- A text stands in front, and the bytes behind it stay.
-pub record Prints (text before after : List ℕ) (n : ℕ) : Type 0 where
-  pub whole : after ≡ text ++ drop (length text) before
-  pub count : n ≡ length text
 
 -- The most that a line prints: 64 pieces and the listing's own line.
 abbrev pub most : ℕ

@@ -10,8 +10,8 @@ use borrow.Fn.PlainCycle.{Measures, is, falls, and}
 use Rattle.checking.proofs.walk.Reads as walk
 use Rattle.checking.proofs.walk.Kinds as walk-kinds
 use Rattle.checking.proofs.+walk.Lts-walk as walk-lts
-use Rattle.checking.proofs.merge.Reads as merge-reads
-use Rattle.checking.proofs.refused.Reads as refused-reads
+use Rattle.merging.proofs.merge.Reads as merge-reads
+use Rattle.merging.proofs.refused.Reads as refused-reads
 use Rattle.checking.proofs.single.Reads as single-reads
 use Rattle.table.proofs.child.Reads as child-reads
 use Rattle.checking.proofs.+walk.{statement}

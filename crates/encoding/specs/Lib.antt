@@ -1,0 +1,4 @@
+-- Calls and answers as words.
+pub mod Encoding
+pub mod Decoding
+pub mod Laws

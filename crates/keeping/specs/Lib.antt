@@ -1,0 +1,2 @@
+-- A line so far.
+pub mod Kept

@@ -1,0 +1,2 @@
+-- One encoded call, made.
+pub mod Told

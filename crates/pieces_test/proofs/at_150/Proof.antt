@@ -1,0 +1,74 @@
+-- `pieces_test::at_150` is safe and ends: the loop's counter stays in its range.
+use Prim.Native.Nat.{ℕ, _≤_, _<_, _-_, _+_}
+use mathlib.Core.Path.{_≡_, refl, _∙_}
+use mathlib.Core.Logic.{⊎-elim}
+use native.Mathlib.Omega.{arith}
+use borrow.Author.Needs.{needs}
+use lib.ListN.{length}
+use Rattle.pieces_test.proofs.at_150.Statement.{statement}
+use Rattle.pieces_test.proofs.at_150.Tie as tie
+
+abbrev Inv-loop : tie.InvT-loop
+Inv-loop prices₀ s₀ prices s = (1 ≤ s) × (s ≤ 241)
+
+abbrev μ-loop : tie.MeasureT-loop
+μ-loop prices₀ s₀ prices s = 241 - s
+
+loop-holds : tie.Need-loop-holds Inv-loop μ-loop
+loop-holds c = search needs
+
+cast-so-far : tie.Need-cast-so-far Inv-loop μ-loop
+cast-so-far c = search needs
+
+sub-so-far : tie.Need-sub-so-far Inv-loop μ-loop
+sub-so-far c = search needs
+
+mul-so-far : tie.Need-mul-so-far Inv-loop μ-loop
+mul-so-far c = search needs
+
+mul-wrapping-add-u32 : tie.Need-mul-wrapping-add-u32 Inv-loop μ-loop
+mul-wrapping-add-u32 c = search needs
+
+array-read-wrapping-add-u32 : tie.Need-array-read-wrapping-add-u32 Inv-loop μ-loop
+array-read-wrapping-add-u32 c = search needs
+
+wrapping-add-u32-requires : tie.Need-wrapping-add-u32-requires Inv-loop μ-loop
+wrapping-add-u32-requires c κs = search needs
+
+mul-prices : tie.Need-mul-prices Inv-loop μ-loop
+mul-prices c = search needs
+
+array-write-prices : tie.Need-array-write-prices Inv-loop μ-loop
+array-write-prices c = search needs
+
+add-s : tie.Need-add-s Inv-loop μ-loop
+add-s c = search needs
+
+loop-less : tie.Need-loop-less Inv-loop μ-loop
+loop-less c = search needs
+
+loop-again : tie.Need-loop-again Inv-loop μ-loop
+loop-again c = search needs
+
+returns : tie.Need-returns Inv-loop μ-loop
+returns c = search needs
+
+pub at-150-spec : {M : Type 1} → statement M
+at-150-spec =
+    tie.close
+    (tie.spec
+    Inv-loop
+    μ-loop
+    loop-holds
+    cast-so-far
+    sub-so-far
+    mul-so-far
+    mul-wrapping-add-u32
+    array-read-wrapping-add-u32
+    wrapping-add-u32-requires
+    mul-prices
+    array-write-prices
+    add-s
+    loop-less
+    loop-again
+    returns)

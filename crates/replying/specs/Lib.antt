@@ -1,0 +1,4 @@
+-- The lines of the answers.
+pub mod Answered
+pub mod Replies
+pub mod Pieces
