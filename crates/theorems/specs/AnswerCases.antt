@@ -72,11 +72,15 @@ plain-number s k zero e = absurd (numbered s k e)
 plain-number s k (suc n) e = omega arith
 
 module _ {start : ℕ} {t : List ℤ} {c : ℕ} {held : Option (Held Item)} (b : Book (partOf t start) c held) where
-  pub update-declined : {k : Call} {t′ : List ℤ} {r : Update} → Updates k start t t′ r → (n : ℕ) → step (plainOf c held) k .answer ≡ refused n → r ≡ UpdateDeclined (pos n)
+  pub update-declined :
+      {k : Call} {t′ : List ℤ} {r : Update} → Updates k start t t′ r → (n : ℕ) → step (plainOf c held) k .answer ≡ refused n →
+      r ≡ UpdateDeclined (pos n)
   update-declined {k} {r = r} p n e = update-refused r n (plain-number (plainOf c held) k n e) (p .follows c held b .answers ∙ e)
 
   pub query-declined : {q : ℤ} {r : Found} → Queries q start t r → (n : ℕ) → step (plainOf c held) (query q) .answer ≡ refused n → r ≡ FoundDeclined (pos n)
   query-declined {q} {r} p n e = query-refused r n (plain-number (plainOf c held) (query q) n e) (p .answers c held b ∙ e)
 
-  pub listing-declined : {out out′ : List ℤ} {r : Listed} → Lists start t out out′ r → (n : ℕ) → step (plainOf c held) (listing (length out)) .answer ≡ refused n → r ≡ ListingDeclined (pos n)
+  pub listing-declined :
+      {out out′ : List ℤ} {r : Listed} → Lists start t out out′ r → (n : ℕ) → step (plainOf c held) (listing (length out)) .answer ≡ refused n →
+      r ≡ ListingDeclined (pos n)
   listing-declined {out} {out′} {r} p n e = listing-refused r out′ n (plain-number (plainOf c held) (listing (length out)) n e) (p .answers c held b ∙ e)

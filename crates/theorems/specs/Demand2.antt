@@ -51,7 +51,9 @@ a-refusal (negsuc n) = (0, refl)
 query-accepted : (s : State) (q : ℤ) (n : ℕ) → Clear (trials s (query q)) → respond s (query q) none .answer ≡ refused n → ⊥
 query-accepted s q n k e = go (s .offers) k e
   where
-    go : (os : List PlainOffer) → Clear (trials (record { capacity = s .capacity; offers = os }) (query q)) → respond (record { capacity = s .capacity; offers = os }) (query q) none .answer ≡ refused n → ⊥
+    go :
+        (os : List PlainOffer) → Clear (trials (record { capacity = s .capacity; offers = os }) (query q)) →
+        respond (record { capacity = s .capacity; offers = os }) (query q) none .answer ≡ refused n → ⊥
     go [] (load, (empty, _)) d = empty
     go (o ∷ os) k d = let z : _≡_ {A = ℕ} 0 1 = cc in absurd (omega arith)
 
@@ -65,7 +67,9 @@ query-refuses s q z e = go (declined (trials s (query q))) refl e
 listing-refuses : (s : State) (room : ℕ) (z : ℤ) → counted refused z ≡ step s (listing room) .answer → Refuses (trials s (listing room)) z
 listing-refuses s room z e = go (declined (trials s (listing room))) refl e
   where
-    go : (d : Option Cause) → declined (trials s (listing room)) ≡ d → counted refused z ≡ respond s (listing room) d .answer → Refuses (trials s (listing room)) z
+    go :
+        (d : Option Cause) → declined (trials s (listing room)) ≡ d → counted refused z ≡ respond s (listing room) d .answer →
+        Refuses (trials s (listing room)) z
     go (some c) p a = (c, declined-first (trials s (listing room)) c p, refused-word z (causeNumber c) (from-one c) a)
     go none p a = let (n, b) = a-refusal z in let d : _≡_ {A = ℕ} 0 1 = cc in absurd (omega arith)
 

@@ -42,7 +42,9 @@ module _ (w : Words) where
   some-lie h E a m = h a (sublist-mem (E .sub) m)
 
   -- a part that is told by a word
-  same-rest : (q q′ : Part Item) {z z′ : ℤ} → AllLie w (partLeaves q) → AllLie w (partLeaves q′) → PartIn w q → PartIn w q′ → z ≡ pos (partRef q) → z′ ≡ pos (partRef q′) → z ≡ z′ → q ≡ q′
+  same-rest :
+      (q q′ : Part Item) {z z′ : ℤ} → AllLie w (partLeaves q) → AllLie w (partLeaves q′) → PartIn w q → PartIn w q′ → z ≡ pos (partRef q) →
+      z′ ≡ pos (partRef q′) → z ≡ z′ → q ≡ q′
   same-rest q q′ h h′ p p′ e e′ d = same-part 0 q q′ h h′ (pieces-tied q p) (pieces-tied q′ p′) (number-of e e′ d)
 
   pub same-offers :
@@ -50,12 +52,15 @@ module _ (w : Words) where
       Stored w t → Stored w t′ → Valid items t es → Valid items t′ es′ → refOf (shape t) ≡ refOf (shape t′) → t ≡ t′
   same-offers (single a) (single b) h h′ p p′ s s′ v v′ e = ap single (same-item (h a (List·Memᴰ·head refl) .held) (h′ b (List·Memᴰ·head refl) .held) e)
   same-offers (single a) (fork u v l ql qr r) h h′ p p′ s s′ y y′ e =
-      absurd (omega (arith, h a (List·Memᴰ·head refl) .high, cap-most w, h′ (last (shape l)) (Memᴰ·append-left (leaves (shape r)) (last-leaf (shape l))) .low, e))
+      absurd
+      (omega (arith, h a (List·Memᴰ·head refl) .high, cap-most w, h′ (last (shape l)) (Memᴰ·append-left (leaves (shape r)) (last-leaf (shape l))) .low, e))
   same-offers (fork u v l ql qr r) (single a) h h′ p p′ s s′ y y′ e =
-      absurd (omega (arith, h′ a (List·Memᴰ·head refl) .high, cap-most w, h (last (shape l)) (Memᴰ·append-left (leaves (shape r)) (last-leaf (shape l))) .low, e))
+      absurd
+      (omega (arith, h′ a (List·Memᴰ·head refl) .high, cap-most w, h (last (shape l)) (Memᴰ·append-left (leaves (shape r)) (last-leaf (shape l))) .low, e))
   same-offers
       (fork u v l ql qr r) (fork u′ v′ l′ ql′ qr′ r′) h h′ (tied-node pl pr el er eh) (tied-node pl′ pr′ el′ er′ eh′)
-      (stored-fork sl sr su sv kl kr) (stored-fork sl′ sr′ su′ sv′ kl′ kr′) (valid-fork up from d yl yr al ar E) (valid-fork up′ from′ d′ yl′ yr′ al′ ar′ E′) e =
+      (stored-fork sl sr su sv kl kr) (stored-fork sl′ sr′ su′ sv′ kl′ kr′) (valid-fork up from d yl yr al ar E)
+      (valid-fork up′ from′ d′ yl′ yr′ al′ ar′ E′) e =
       let seam : last (shape l) .slot ≡ last (shape l′) .slot = omega (arith, e) in
       let hl : AllLie w (leaves (shape l)) = λ a m. h a (Memᴰ·append-left (leaves (shape r)) m) in
       let hr : AllLie w (leaves (shape r)) = λ a m. h a (Memᴰ·append-right (leaves (shape l)) m) in
@@ -67,10 +72,18 @@ module _ (w : Words) where
       let gl′ = some-lie hl′ (valid-env items item-laws yl′) in
       let gr = some-lie hr (valid-env items item-laws yr) in
       let gr′ = some-lie hr′ (valid-env items item-laws yr′) in
-      let us : u ≡ u′ = same-item (gl u (last-kept up u (partLeaves ql)) .held) (gl′ u′ (last-kept up′ u′ (partLeaves ql′)) .held) (sym su ∙ ap (linkAt w 10) seam ∙ su′) in
-      let vs : v ≡ v′ = same-item (gr v (Memᴰ·append-right (partLeaves qr) (List·Memᴰ·head refl)) .held) (gr′ v′ (Memᴰ·append-right (partLeaves qr′) (List·Memᴰ·head refl)) .held) (sym sv ∙ ap (linkAt w 11) seam ∙ sv′) in
-      let qls : ql ≡ ql′ = same-rest ql ql′ (λ a m. gl a (Memᴰ·append-right (up ++ u ∷ []) m)) (λ a m. gl′ a (Memᴰ·append-right (up′ ++ u′ ∷ []) m)) (kl .pieces) (kl′ .pieces) (kl .root) (kl′ .root) (ap (λ t. cell w (restField t) (nodeSlot t)) lefts) in
-      let qrs : qr ≡ qr′ = same-rest qr qr′ (λ a m. gr a (Memᴰ·append-left (v ∷ from) m)) (λ a m. gr′ a (Memᴰ·append-left (v′ ∷ from′) m)) (kr .pieces) (kr′ .pieces) (kr .root) (kr′ .root) (ap (λ t. cell w (restField t) (nodeSlot t)) rights) in
+      let us : u ≡ u′ =
+      same-item (gl u (last-kept up u (partLeaves ql)) .held) (gl′ u′ (last-kept up′ u′ (partLeaves ql′)) .held)
+      (sym su ∙ ap (linkAt w 10) seam ∙ su′) in
+      let vs : v ≡ v′ =
+      same-item (gr v (Memᴰ·append-right (partLeaves qr) (List·Memᴰ·head refl)) .held)
+      (gr′ v′ (Memᴰ·append-right (partLeaves qr′) (List·Memᴰ·head refl)) .held) (sym sv ∙ ap (linkAt w 11) seam ∙ sv′) in
+      let qls : ql ≡ ql′ =
+      same-rest ql ql′ (λ a m. gl a (Memᴰ·append-right (up ++ u ∷ []) m)) (λ a m. gl′ a (Memᴰ·append-right (up′ ++ u′ ∷ []) m)) (kl .pieces)
+      (kl′ .pieces) (kl .root) (kl′ .root) (ap (λ t. cell w (restField t) (nodeSlot t)) lefts) in
+      let qrs : qr ≡ qr′ =
+      same-rest qr qr′ (λ a m. gr a (Memᴰ·append-left (v ∷ from) m)) (λ a m. gr′ a (Memᴰ·append-left (v′ ∷ from′) m)) (kr .pieces) (kr′ .pieces)
+      (kr .root) (kr′ .root) (ap (λ t. cell w (restField t) (nodeSlot t)) rights) in
       λ i. fork (us i) (vs i) (lefts i) (qls i) (qrs i) (rights i)
     where
       last-kept : (up : List Item) (u : Item) (q : List Item) → List·Memᴰ u ((up ++ u ∷ []) ++ q)
@@ -88,15 +101,19 @@ module _ (w : Words) where
 
       trees : h .tree ≡ h′ .tree
       trees =
-          same-offers (h .tree) (h′ .tree) lie lie′ (p .tied) (q .tied) (p .stored) (q .stored) (p .right .valid) (q .right .valid) (sym (p .root) ∙ d ∙ q .root)
+          same-offers (h .tree) (h′ .tree) lie lie′ (p .tied) (q .tied) (p .stored) (q .stored) (p .right .valid) (q .right .valid)
+          (sym (p .root) ∙ d ∙ q .root)
 
       wholes : h .whole ≡ h′ .whole
       wholes =
-          same-part 0 (h .whole) (h′ .whole) (some-lie lie (valid-env items item-laws (p .right .valid))) (some-lie lie′ (valid-env items item-laws (q .right .valid)))
+          same-part 0 (h .whole) (h′ .whole) (some-lie lie (valid-env items item-laws (p .right .valid)))
+          (some-lie lie′ (valid-env items item-laws (q .right .valid)))
           (pieces-tied (h .whole) (p .pieces)) (pieces-tied (h′ .whole) (q .pieces)) (sym (p .envelope) ∙ f ∙ q .envelope)
 
   -- and of a book, told by the two roots
-  pub same-book : (held held′ : Option (Held Item)) → OffersIn w held → OffersIn w held′ → offersRef held ≡ offersRef held′ → envelopeRef held ≡ envelopeRef held′ → held ≡ held′
+  pub same-book :
+      (held held′ : Option (Held Item)) → OffersIn w held → OffersIn w held′ → offersRef held ≡ offersRef held′ →
+      envelopeRef held ≡ envelopeRef held′ → held ≡ held′
   same-book none none p q d e = refl
   same-book none (some h) p q d e = absurd (some-root (shape (h .tree)) (all-lie (q .slots) (q .kept)) (sym d))
   same-book (some h) none p q d e = absurd (some-root (shape (h .tree)) (all-lie (p .slots) (p .kept)) d)

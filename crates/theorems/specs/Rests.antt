@@ -27,13 +27,16 @@ pub record Less (S : Figure) (lines whole parent stored : List (S .Line)) : Type
 abbrev pub EachLess : (S : Figure) → OfferTree (S .Line) → List (S .Line) → Type 0
 EachLess S (single a) es = Unit {0}
 EachLess S (fork u v l ql qr r) es =
-    (el er : List (S .Line)) × Less S (leaves (shape l)) el es (partLeaves ql) × Less S (leaves (shape r)) er es (partLeaves qr) × EachLess S l el × EachLess S r er
+    (el er : List (S .Line)) × Less S (leaves (shape l)) el es (partLeaves ql) × Less S (leaves (shape r)) er es (partLeaves qr) × EachLess S l el ×
+    EachLess S r er
 
 -- ---- its proof
 
 -- a child's envelope in two parts, one on the parent's and one not
 module _ (S : Figure) {lines parent whole kept rest : List (S .Line)} where
-  divides : ((e : S .Line) → List·Memᴰ e whole → List·Memᴰ e rest ⊎ List·Memᴰ e kept) → ((e : S .Line) → List·Memᴰ e kept → List·Memᴰ e parent) → ((e : S .Line) → List·Memᴰ e rest → ¬ List·Memᴰ e parent) → Sublistᴰ rest whole → Env S lines whole → Less S lines whole parent rest
+  divides :
+      ((e : S .Line) → List·Memᴰ e whole → List·Memᴰ e rest ⊎ List·Memᴰ e kept) → ((e : S .Line) → List·Memᴰ e kept → List·Memᴰ e parent) →
+      ((e : S .Line) → List·Memᴰ e rest → ¬ List·Memᴰ e parent) → Sublistᴰ rest whole → Env S lines whole → Less S lines whole parent rest
   divides part on off sub E =
       record {
         envelope = E;
@@ -61,7 +64,8 @@ module _ (S : Figure) (L : PseudoLines S) where
   once xs ys o e m n = L .before-irrefl e (ordered-apart S xs ys o e e m n)
 
   left-less :
-      (ls rs up rest back es : List (S .Line)) → Ordered S (ls ++ rs) → Env S ls (up ++ rest) → ((e : S .Line) → List·Memᴰ e back → List·Memᴰ e rs) → es ≡ up ++ back → Less S ls (up ++ rest) es rest
+      (ls rs up rest back es : List (S .Line)) → Ordered S (ls ++ rs) → Env S ls (up ++ rest) → ((e : S .Line) → List·Memᴰ e back → List·Memᴰ e rs) →
+      es ≡ up ++ back → Less S ls (up ++ rest) es rest
   left-less ls rs up rest back es o E inside d =
       divides S (λ e m. swap (List·Memᴰ·append-cases up m)) (λ e m. subst (List·Memᴰ e) (sym d) (Memᴰ·append-left back m)) off (behind up rest) E
     where
@@ -72,7 +76,8 @@ module _ (S : Figure) (L : PseudoLines S) where
           (List·Memᴰ·append-cases up (subst (List·Memᴰ e) d n))
 
   right-less :
-      (ls rs front rest from es : List (S .Line)) → Ordered S (ls ++ rs) → Env S rs (rest ++ from) → ((e : S .Line) → List·Memᴰ e front → List·Memᴰ e ls) → es ≡ front ++ from → Less S rs (rest ++ from) es rest
+      (ls rs front rest from es : List (S .Line)) → Ordered S (ls ++ rs) → Env S rs (rest ++ from) →
+      ((e : S .Line) → List·Memᴰ e front → List·Memᴰ e ls) → es ≡ front ++ from → Less S rs (rest ++ from) es rest
   right-less ls rs front rest from es o E inside d =
       divides S (λ e m. List·Memᴰ·append-cases rest m) (λ e m. subst (List·Memᴰ e) (sym d) (Memᴰ·append-right front m)) off (in-front rest from) E
     where

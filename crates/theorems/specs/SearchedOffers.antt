@@ -59,5 +59,8 @@ searched-lists {live} {p} o s =
     both = ordered-sublist items (s .sets) o
 
 -- every pair of an update's log
-pub follows-lists : {k : Call} {c : ℕ} {held : Option (Held Item)} {start : ℕ} {t t′ : List ℤ} {r : Update} (f : Follows k c held start t t′ r) → (p : Pair Item) → List·Memᴰ p (f .log) → PairLists (bookLines (f .after)) p
-follows-lists {start} {t′} f p m = searched-lists (whole-ordered (f .after) (live-whole (partOf t′ start) (f .after) (f .stands .offers))) (f .work .searched p m)
+pub follows-lists :
+    {k : Call} {c : ℕ} {held : Option (Held Item)} {start : ℕ} {t t′ : List ℤ} {r : Update} (f : Follows k c held start t t′ r) → (p : Pair Item) →
+    List·Memᴰ p (f .log) → PairLists (bookLines (f .after)) p
+follows-lists {start} {t′} f p m =
+    searched-lists (whole-ordered (f .after) (live-whole (partOf t′ start) (f .after) (f .stands .offers))) (f .work .searched p m)

@@ -64,7 +64,9 @@ some-root (leaf a) h e = omega (arith, h a (List·Memᴰ·head refl) .low, e)
 some-root (node l r) h e = omega (arith, e)
 
 -- also one that may be empty
-pub same-part : {w : Words} (k : ℕ) (p p′ : Part Item) → AllLie w (partLeaves p) → AllLie w (partLeaves p′) → TiedP w k p → TiedP w k p′ → refOfP p ≡ refOfP p′ → p ≡ p′
+pub same-part :
+    {w : Words} (k : ℕ) (p p′ : Part Item) → AllLie w (partLeaves p) → AllLie w (partLeaves p′) → TiedP w k p → TiedP w k p′ → refOfP p ≡ refOfP p′ →
+    p ≡ p′
 same-part k none none h h′ q q′ e = refl
 same-part k none (some t) h h′ q q′ e = absurd (some-root t h′ (sym e))
 same-part k (some t) none h h′ q q′ e = absurd (some-root t h e)
