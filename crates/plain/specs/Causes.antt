@@ -3,7 +3,8 @@
 use Prim.Native.Nat.{ℕ}
 use mathlib.Core.List.{List, [], _∷_}
 use mathlib.Core.Option.{Option, none, some}
-use mathlib.Core.Bool.{Bool, cond}
+use mathlib.Core.Bool.{Bool, not, cond}
+use lib.Dec.{T}
 
 pub data Cause : Type 0 where
   -- open
@@ -59,3 +60,13 @@ c when b = record { cause = c; applies = b }
 abbrev pub declined : List Trial → Option Cause
 declined [] = none
 declined (k ∷ ks) = cond (k .applies) (some (k .cause)) (declined ks)
+
+-- No trial applies.
+abbrev pub Clear : List Trial → Type 0
+Clear [] = Unit {0}
+Clear (k ∷ ks) = T (not (k .applies)) × Clear ks
+
+-- A cause declines exactly when its trial applies and none before it does (`Trials`).
+pub data FirstOf : List Trial → Cause → Type 0 where
+  at-once : {k : Trial} {ks : List Trial} → T (k .applies) → FirstOf (k ∷ ks) (k .cause)
+  further : {k : Trial} {ks : List Trial} {c : Cause} → T (not (k .applies)) → FirstOf ks c → FirstOf (k ∷ ks) c

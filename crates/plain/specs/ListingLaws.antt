@@ -14,13 +14,8 @@ use Rattle.offers.specs.Offers.{Offer, RationalLoad, priceTimesD, precedes, cro
 use Rattle.envelopes.specs.Envelope.{Ordered, Ordered·nil, Ordered·cons, Cheapest, Env, stays, listed}
 use Rattle.envelopes.specs.Listed.{listed-exact, listed-env}
 use Rattle.lines.specs.OfferLines.{offerFigure, offerLaws, crossing-test}
-use Rattle.plain.specs.Book.{State, envelope, turns}
-use Rattle.plain.specs.Sound.{Sound}
-
--- At the load, the offer is strictly cheaper than every other live offer.
-pub record CheaperThanAll (os : List Offer) (e : Offer) (x : RationalLoad) : Type 0 where
-  pub live : List·Memᴰ e os
-  pub cheaper : (o : Offer) → List·Memᴰ o os → o ≢ e → T (ltZ (priceTimesD e x) (priceTimesD o x))
+use Rattle.plain.specs.Book.{envelope, turns}
+pub use Rattle.plain.specs.Meaning.{CheaperThanAll}
 
 -- ---- the plain listing is the listing of the offers' lines
 
@@ -47,18 +42,21 @@ in-order (Pairwise·cons h p) = Ordered·cons (λ b m. h b ∣ m ∣₁) (in-ord
 
 -- ---- the listing is exact
 
-pub listing-exact : (s : State) → Sound s → (e : Offer) → List·Memᴰ e (envelope (s .offers)) ↔ ((x : RationalLoad) × CheaperThanAll (s .offers) e x)
-listing-exact s h e = rw (envelope-listed (s .offers)) (λ m. said (exact .0 m), λ w. exact .1 (meant w))
+pub listing-exact : (os : List Offer) → Pairwise (λ a b. T (precedes a b)) os → (e : Offer) → List·Memᴰ e (envelope os) ↔ ((x : RationalLoad) × CheaperThanAll os e x)
+listing-exact os h e = rw (envelope-listed os) (λ m. said (exact .0 m), λ w. exact .1 (meant w))
   where
-    exact : List·Memᴰ e (listed offerFigure (s .offers)) ↔ ((x : RationalLoad) × Cheapest offerFigure (s .offers) e x)
-    exact = listed-exact offerFigure offerLaws (s .offers) (in-order (h .ordered)) e
+    exact : List·Memᴰ e (listed offerFigure os) ↔ ((x : RationalLoad) × Cheapest offerFigure os e x)
+    exact = listed-exact offerFigure offerLaws os (in-order h) e
 
-    said : ((x : RationalLoad) × Cheapest offerFigure (s .offers) e x) → (x : RationalLoad) × CheaperThanAll (s .offers) e x
-    said w = (w .0, record { live = w .1 .one-of; cheaper = λ o m n. subst T (sym (lt-as-le (priceTimesD e (w .0)) (priceTimesD o (w .0)))) (not-T (leZ (priceTimesD o (w .0)) (priceTimesD e (w .0))) (w .1 .below o m n)) })
+    dearer : (o : Offer) (x : RationalLoad) → ltZ (priceTimesD e x) (priceTimesD o x) ≡ not (leZ (priceTimesD o x) (priceTimesD e x))
+    dearer o x = lt-as-le (priceTimesD e x) (priceTimesD o x)
 
-    meant : ((x : RationalLoad) × CheaperThanAll (s .offers) e x) → (x : RationalLoad) × Cheapest offerFigure (s .offers) e x
-    meant w = (w .0, record { one-of = w .1 .live; below = λ o m n. T-not (leZ (priceTimesD o (w .0)) (priceTimesD e (w .0))) (subst T (lt-as-le (priceTimesD e (w .0)) (priceTimesD o (w .0))) (w .1 .cheaper o m n)) })
+    said : ((x : RationalLoad) × Cheapest offerFigure os e x) → (x : RationalLoad) × CheaperThanAll os e x
+    said (x, w) = (x, record { live = w .one-of; cheaper = λ o m n. subst T (sym (dearer o x)) (not-T (leZ (priceTimesD o x) (priceTimesD e x)) (w .below o m n)) })
+
+    meant : ((x : RationalLoad) × CheaperThanAll os e x) → (x : RationalLoad) × Cheapest offerFigure os e x
+    meant (x, w) = (x, record { one-of = w .live; below = λ o m n. T-not (leZ (priceTimesD o x) (priceTimesD e x)) (subst T (dearer o x) (w .cheaper o m n)) })
 
 -- The listing is the lower envelope of the live offers.
-pub envelope-env : (s : State) → Sound s → Env offerFigure (s .offers) (envelope (s .offers))
-envelope-env s h = rw (envelope-listed (s .offers)) (listed-env offerFigure offerLaws (s .offers) (in-order (h .ordered)))
+pub envelope-env : (os : List Offer) → Pairwise (λ a b. T (precedes a b)) os → Env offerFigure os (envelope os)
+envelope-env os h = rw (envelope-listed os) (listed-env offerFigure offerLaws os (in-order h))

@@ -13,34 +13,10 @@ use lib.IntN.{ℤ, pos}
 use Rattle.offers.specs.Offers.{Offer, loadInRange, priceAt, crossingNumerator, crossingDenominator}
 use Rattle.plain.specs.Causes.{Cause, Trial, declined, causeNumber}
 use Rattle.plain.specs.Book.{holding, State, Call, post, withdraw, query, listing, Answer, refused, live, found, listed, Outcome, join, leave, cheapest, envelope, pieceWords, trials, step, respond, accepted}
-use Rattle.plain.specs.Sound.{Clear, clear, length-join}
-
--- ---- the trials
-
--- A cause declines exactly when its trial applies and none before it does.
-pub data FirstOf : List Trial → Cause → Type 0 where
-  at-once : {k : Trial} {ks : List Trial} → T (k .applies) → FirstOf (k ∷ ks) (k .cause)
-  further : {k : Trial} {ks : List Trial} {c : Cause} → T (not (k .applies)) → FirstOf ks c → FirstOf (k ∷ ks) c
-
-pub declined-by : (ks : List Trial) (c : Cause) → FirstOf ks c → declined ks ≡ some c
-declined-by (k ∷ ks) c (at-once t) = go (k .applies) t
-  where
-    go : (b : Bool) → T b → cond b (some (k .cause)) (declined ks) ≡ some (k .cause)
-    go true t = refl
-    go false t = absurd t
-declined-by (k ∷ ks) c (further t f) = go (k .applies) t (declined-by ks c f)
-  where
-    go : (b : Bool) → T (not b) → declined ks ≡ some c → cond b (some (k .cause)) (declined ks) ≡ some c
-    go true t e = absurd t
-    go false t e = e
-
-pub not-declined : (ks : List Trial) → Clear ks → declined ks ≡ none
-not-declined [] c = refl
-not-declined (k ∷ ks) (t, c) = go (k .applies) t (not-declined ks c)
-  where
-    go : (b : Bool) → T (not b) → declined ks ≡ none → cond b (some (k .cause)) (declined ks) ≡ none
-    go true t e = absurd t
-    go false t e = e
+pub use Rattle.plain.specs.Causes.{FirstOf, at-once, further, Clear}
+pub use Rattle.plain.specs.Trials.{declined-by, not-declined}
+use Rattle.plain.specs.Sound.{length-join}
+pub use Rattle.plain.specs.Meaning.{PieceAt}
 
 -- ---- what each call does
 
@@ -75,12 +51,6 @@ pub words-length : (es : List Offer) → length (pieceWords es) ≡ 3 * length e
 words-length [] = refl
 words-length (o ∷ []) = refl
 words-length (o ∷ p ∷ ps) = let e = words-length (p ∷ ps) in omega arith
-
--- number, numerator and denominator of piece i stand at 3 i, 3 i + 1 and 3 i + 2
-pub record PieceAt (ws : List ℤ) (i : ℕ) (number numerator denominator : ℤ) : Type 0 where
-  pub first : getD ws (3 * i) (pos 0) ≡ number
-  pub second : getD ws (3 * i + 1) (pos 0) ≡ numerator
-  pub third : getD ws (3 * i + 2) (pos 0) ≡ denominator
 
 later : {ws : List ℤ} {a b c n u v : ℤ} {i : ℕ} → PieceAt ws i n u v → PieceAt (a ∷ b ∷ c ∷ ws) (suc i) n u v
 later {ws} {a} {b} {c} {i} h = record { first = at (3 * suc i) (3 * i) (omega arith) ∙ h .first; second = at (3 * suc i + 1) (3 * i + 1) (omega arith) ∙ h .second; third = at (3 * suc i + 2) (3 * i + 2) (omega arith) ∙ h .third }

@@ -18,7 +18,9 @@ use Rattle.lists.specs.Places.{sublist-mem}
 use Rattle.lists.specs.Tests.{any, not-not, none-at}
 use Rattle.integers.specs.Parts.{intRules, le-or-lt, range-parts}
 use Rattle.offers.specs.Offers.{Offer, between, numberInRange, rateInRange, baseInRange, offerInRange, precedes}
-use Rattle.plain.specs.Causes.{Cause, Trial, declined, causeNumber}
+use Rattle.plain.specs.Causes.{Cause, declined, causeNumber}
+pub use Rattle.plain.specs.Causes.{Clear}
+pub use Rattle.plain.specs.Trials.{clear}
 use Rattle.plain.specs.Book.{State, Call, post, withdraw, query, listing, Answer, refused, live, found, listed, Outcome, equal, hasNumber, hasRate, join, leave, rangeTrials, bookTrials, trials, Opening, accepted-opening, opened, openingBy, opening, openTrials, accepted, respond, step, after}
 
 pub record Sound (s : State) : Type 0 where
@@ -28,20 +30,6 @@ pub record Sound (s : State) : Type 0 where
   pub numbered : Pairwise (λ a b. a .number ≢ b .number) (s .offers)
   pub ranged : (o : Offer) → List·Memᴰ o (s .offers) → T (offerInRange o)
   pub fits : length (s .offers) ≤ s .capacity
-
--- ---- a call that no check declines
-
-abbrev pub Clear : List Trial → Type 0
-Clear [] = Unit {0}
-Clear (k ∷ ks) = T (not (k .applies)) × Clear ks
-
-pub clear : (ks : List Trial) → declined ks ≡ none → Clear ks
-clear [] e = tt
-clear (k ∷ ks) e = go (k .applies) e (clear ks)
-  where
-    go : (b : Bool) → cond b (some (k .cause)) (declined ks) ≡ none → (declined ks ≡ none → Clear ks) → T (not b) × Clear ks
-    go true p rec = let z : _≡_ {A = ℕ} 0 1 = cc in absurd (omega arith)
-    go false p rec = (tt, rec p)
 
 -- ---- an offer joins
 

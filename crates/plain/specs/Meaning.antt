@@ -1,0 +1,48 @@
+-- What a query and a listing tell of a list of live offers, in the words of document 01 and with no way of computing it.
+-- `MeaningLaws` proves both of the plain book; `Demand2` (book) of the calls on a table.
+use mathlib.Core.Path.{_≡_}
+use mathlib.Core.Logic.{_≢_, _↔_}
+use mathlib.Core.List.{List, List·Memᴰ, Pairwise}
+use Prim.Native.Nat.{ℕ, suc, _+_, _*_, _<_}
+use lib.ListN.{length, getD}
+use lib.Dec.{T}
+use lib.IntN.{ℤ, pos}
+use lib.Signed.{leZ, ltZ}
+use Rattle.offers.specs.Offers.{Offer, RationalLoad, priceAt, priceTimesD, precedes, crossingNumerator, crossingDenominator}
+
+-- ---- a query
+
+-- The least price at the load, and the number of the first offer in order that has it.
+pub record Cheapest (os : List Offer) (q number price : ℤ) : Type 0 where
+  pub offer : Offer
+  pub live : List·Memᴰ offer os
+  pub named : number ≡ offer .number
+  pub priced : price ≡ priceAt offer q
+  pub least : (x : Offer) → List·Memᴰ x os → T (leZ price (priceAt x q))
+  pub first : (x : Offer) → List·Memᴰ x os → T (precedes x offer) → priceAt x q ≢ price
+
+-- ---- a listing
+
+-- At the load, the offer is strictly cheaper than every other live offer.
+pub record CheaperThanAll (os : List Offer) (e : Offer) (x : RationalLoad) : Type 0 where
+  pub live : List·Memᴰ e os
+  pub cheaper : (o : Offer) → List·Memᴰ o os → o ≢ e → T (ltZ (priceTimesD e x) (priceTimesD o x))
+
+-- Number, numerator and denominator of piece i stand at 3 i, 3 i + 1 and 3 i + 2.
+pub record PieceAt (ws : List ℤ) (i : ℕ) (number numerator denominator : ℤ) : Type 0 where
+  pub first : getD ws (3 * i) (pos 0) ≡ number
+  pub second : getD ws (3 * i + 1) (pos 0) ≡ numerator
+  pub third : getD ws (3 * i + 2) (pos 0) ≡ denominator
+
+-- The words of m pieces: in order, exactly the offers that at some rational load, of any size, are strictly cheaper than every other, each with
+-- its crossing with the next. The last carries 0 and 0. (`d` is read nowhere: it is what `getD` gives off the list.)
+pub record Listing (os : List Offer) (m : ℕ) (ws : List ℤ) : Type 0 where
+  pub pieces : List Offer
+  pub many : length pieces ≡ m
+  pub long : length ws ≡ 3 * m
+  pub in-order : Pairwise (λ a b. T (precedes a b)) pieces
+  pub exact : (e : Offer) → List·Memᴰ e pieces ↔ ((x : RationalLoad) × CheaperThanAll os e x)
+  pub inner :
+      (i : ℕ) (d : Offer) → suc i < m →
+      PieceAt ws i (getD pieces i d .number) (crossingNumerator (getD pieces i d) (getD pieces (suc i) d)) (crossingDenominator (getD pieces i d) (getD pieces (suc i) d))
+  pub last : (i : ℕ) (d : Offer) → suc i ≡ m → PieceAt ws i (getD pieces i d .number) (pos 0) (pos 0)

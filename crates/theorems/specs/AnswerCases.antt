@@ -1,0 +1,86 @@
+-- From an answer back to the enum's case: a refusal's number tells the declined case, and an accepted answer its case with all its values.
+-- (`refused 0` is no answer of the plain book, so a refusal is asked to be above 0.)
+use mathlib.Core.Path.{_≡_, sym, _∙_, ap}
+use mathlib.Core.List.{List}
+use mathlib.Core.Option.{Option}
+use Prim.Native.Nat.{ℕ, zero, suc, _*_, _≤_}
+use native.Mathlib.Omega.{arith}
+use lib.ListN.{length, take}
+use lib.IntN.{ℤ, pos, negsuc}
+use Rattle.plain.specs.Book.{State, Call, query, listing, refused, live, found, listed, step}
+use Rattle.dynamic.specs.OfferTree.{Held}
+use Rattle.table.specs.Items.{Item}
+use Rattle.update.specs.Form.{Book}
+use Rattle.book.specs.declared.Update.{Update}
+use Rattle.book.specs.declared.Update.the-variants.{Done, Declined as UpdateDeclined}
+use Rattle.book.specs.declared.Found.{Found}
+use Rattle.book.specs.declared.Found.the-variants.{Offer, Declined as FoundDeclined}
+use Rattle.book.specs.declared.Listed.{Listed}
+use Rattle.book.specs.declared.Listed.the-variants.{Pieces, Declined as ListingDeclined}
+use Rattle.book.specs.Promises.{partOf, plainOf, counted, updateAnswer, foundAnswer, listingAnswer, Updates, Queries, Lists}
+use Rattle.book.specs.Numbered.{numbered}
+
+-- a refusal told by a word is told by its number
+pub refused-word : (z : ℤ) (n : ℕ) → 1 ≤ n → counted refused z ≡ refused n → z ≡ pos n
+refused-word (pos m) n l e = let d : m ≡ n = cc in ap pos d
+refused-word (negsuc m) n l e = let d : 0 ≡ n = cc in absurd (omega arith)
+
+-- ---- post and withdraw
+
+pub update-refused : (r : Update) (n : ℕ) → 1 ≤ n → updateAnswer r ≡ refused n → r ≡ UpdateDeclined (pos n)
+update-refused (Done (pos m) k s h) n l e = let z : _≡_ {A = ℕ} 0 1 = cc in absurd (omega arith)
+update-refused (Done (negsuc m) k s h) n l e = let d : 0 ≡ n = cc in absurd (omega arith)
+update-refused (UpdateDeclined c) n l e = ap UpdateDeclined (refused-word c n l e)
+
+pub update-live : (r : Update) (n : ℕ) → updateAnswer r ≡ live n → (k s h : ℤ) × (r ≡ Done (pos n) k s h)
+update-live (Done (pos m) k s h) n e = let d : m ≡ n = cc in (k, s, h, ap (λ x. Done (pos x) k s h) d)
+update-live (Done (negsuc m) k s h) n e = let z : _≡_ {A = ℕ} 0 1 = cc in absurd (omega arith)
+update-live (UpdateDeclined (pos m)) n e = let z : _≡_ {A = ℕ} 0 1 = cc in absurd (omega arith)
+update-live (UpdateDeclined (negsuc m)) n e = let z : _≡_ {A = ℕ} 0 1 = cc in absurd (omega arith)
+
+-- ---- query
+
+pub query-refused : (r : Found) (n : ℕ) → 1 ≤ n → foundAnswer r ≡ refused n → r ≡ FoundDeclined (pos n)
+query-refused (Offer number price probes) n l e = let z : _≡_ {A = ℕ} 0 1 = cc in absurd (omega arith)
+query-refused (FoundDeclined c) n l e = ap FoundDeclined (refused-word c n l e)
+
+pub query-found : (r : Found) (number price : ℤ) → foundAnswer r ≡ found number price → (probes : ℤ) × (r ≡ Offer number price probes)
+query-found (Offer m p probes) number price e = let d : m ≡ number = cc in let f : p ≡ price = cc in (probes, λ i. Offer (d i) (f i) probes)
+query-found (FoundDeclined (pos m)) number price e = let z : _≡_ {A = ℕ} 0 1 = cc in absurd (omega arith)
+query-found (FoundDeclined (negsuc m)) number price e = let z : _≡_ {A = ℕ} 0 1 = cc in absurd (omega arith)
+
+-- ---- listing
+
+pub listing-refused : (r : Listed) (out : List ℤ) (n : ℕ) → 1 ≤ n → listingAnswer r out ≡ refused n → r ≡ ListingDeclined (pos n)
+listing-refused (Pieces (pos m)) out n l e = let z : _≡_ {A = ℕ} 0 1 = cc in absurd (omega arith)
+listing-refused (Pieces (negsuc m)) out n l e = let d : 0 ≡ n = cc in absurd (omega arith)
+listing-refused (ListingDeclined c) out n l e = ap ListingDeclined (refused-word c n l e)
+
+pub listing-listed : (r : Listed) (out : List ℤ) (n : ℕ) (ws : List ℤ) → listingAnswer r out ≡ listed n ws → (r ≡ Pieces (pos n)) × (ws ≡ take (3 * n) out)
+listing-listed (Pieces (pos m)) out n ws e =
+    let d : m ≡ n = cc in
+    let f : take (3 * m) out ≡ ws = cc in
+    (ap (λ x. Pieces (pos x)) d, sym f ∙ ap (λ x. take (3 * x) out) d)
+listing-listed (Pieces (negsuc m)) out n ws e = let z : _≡_ {A = ℕ} 0 1 = cc in absurd (omega arith)
+listing-listed (ListingDeclined (pos m)) out n ws e = let z : _≡_ {A = ℕ} 0 1 = cc in absurd (omega arith)
+listing-listed (ListingDeclined (negsuc m)) out n ws e = let z : _≡_ {A = ℕ} 0 1 = cc in absurd (omega arith)
+
+-- ---- on a book: where the plain book refuses, the call is declined with that number
+
+plain-number : (s : State) (k : Call) (n : ℕ) → step s k .answer ≡ refused n → 1 ≤ n
+plain-number s k zero e = absurd (numbered s k e)
+plain-number s k (suc n) e = omega arith
+
+module _ {start : ℕ} {t : List ℤ} {c : ℕ} {held : Option (Held Item)} (b : Book (partOf t start) c held) where
+  pub update-declined :
+      {k : Call} {t′ : List ℤ} {r : Update} → Updates k start t t′ r → (n : ℕ) → step (plainOf c held) k .answer ≡ refused n →
+      r ≡ UpdateDeclined (pos n)
+  update-declined {k} {r = r} p n e = update-refused r n (plain-number (plainOf c held) k n e) (p .follows c held b .answers ∙ e)
+
+  pub query-declined : {q : ℤ} {r : Found} → Queries q start t r → (n : ℕ) → step (plainOf c held) (query q) .answer ≡ refused n → r ≡ FoundDeclined (pos n)
+  query-declined {q} {r} p n e = query-refused r n (plain-number (plainOf c held) (query q) n e) (p .answers c held b ∙ e)
+
+  pub listing-declined :
+      {out out′ : List ℤ} {r : Listed} → Lists start t out out′ r → (n : ℕ) → step (plainOf c held) (listing (length out)) .answer ≡ refused n →
+      r ≡ ListingDeclined (pos n)
+  listing-declined {out} {out′} {r} p n e = listing-refused r out′ n (plain-number (plainOf c held) (listing (length out)) n e) (p .answers c held b ∙ e)

@@ -1,0 +1,83 @@
+-- `witness::six_calls` meets its contract: each call adds its promise, and `made` puts them together.
+use Rattle.witness.specs.Calls.{made}
+use mathlib.Core.Path.{refl}
+use borrow.Author.Needs.{needs}
+use Rattle.witness.proofs.six_calls.Statement.{statement}
+use Rattle.witness.proofs.six_calls.Tie as tie
+
+slice-aggregate-open : tie.Need-slice-aggregate-open
+slice-aggregate-open c = search needs
+
+open-requires : tie.Need-open-requires
+open-requires c κs = search needs
+
+slice-aggregate-post : tie.Need-slice-aggregate-post
+slice-aggregate-post c = search needs
+
+post-requires : tie.Need-post-requires
+post-requires c κs = search needs
+
+slice-aggregate-post-2 : tie.Need-slice-aggregate-post-2
+slice-aggregate-post-2 c = search needs
+
+post-requires-2 : tie.Need-post-requires-2
+post-requires-2 c κs = search needs
+
+slice-aggregate-query : tie.Need-slice-aggregate-query
+slice-aggregate-query c = search needs
+
+query-requires : tie.Need-query-requires
+query-requires c κs = search needs
+
+slice-aggregate-listing : tie.Need-slice-aggregate-listing
+slice-aggregate-listing c = search needs
+
+slice-aggregate-listing-2 : tie.Need-slice-aggregate-listing-2
+slice-aggregate-listing-2 c = search needs
+
+listing-requires : tie.Need-listing-requires
+listing-requires c κs = search needs
+
+slice-aggregate-withdraw : tie.Need-slice-aggregate-withdraw
+slice-aggregate-withdraw c = search needs
+
+withdraw-requires : tie.Need-withdraw-requires
+withdraw-requires c κs = search needs
+
+slice-aggregate-query-2 : tie.Need-slice-aggregate-query-2
+slice-aggregate-query-2 c = search needs
+
+query-requires-2 : tie.Need-query-requires-2
+query-requires-2 c κs = search needs
+
+returns : tie.Need-returns
+returns c =
+    let withdrawn = c .before .before .before in
+    let shown = withdrawn .before .before .before in
+    let asked = shown .before .before .before in
+    let second = asked .before .before .before in
+    let first = second .before .before .before in
+    let opened = first .before .before .before in
+    made refl refl (opened .«open» .ensures) (first .post .ensures) (second .post2 .ensures) (asked .query .ensures) (shown .listing .ensures)
+    (withdrawn .withdraw .ensures) (c .query2 .ensures)
+
+pub six-calls-spec : {M : Type 1} → statement M
+six-calls-spec =
+    tie.close
+    (tie.spec
+    slice-aggregate-open
+    open-requires
+    slice-aggregate-post
+    post-requires
+    slice-aggregate-post-2
+    post-requires-2
+    slice-aggregate-query
+    query-requires
+    slice-aggregate-listing
+    slice-aggregate-listing-2
+    listing-requires
+    slice-aggregate-withdraw
+    withdraw-requires
+    slice-aggregate-query-2
+    query-requires-2
+    returns)

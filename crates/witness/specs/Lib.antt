@@ -1,0 +1,3 @@
+-- A history that exists.
+pub mod Witness
+pub mod Calls
