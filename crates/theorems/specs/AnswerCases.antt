@@ -10,14 +10,14 @@ use lib.IntN.{ℤ, pos, negsuc}
 use Rattle.plain.specs.Book.{State, Call, query, listing, refused, live, found, listed, step}
 use Rattle.dynamic.specs.OfferTree.{Held}
 use Rattle.table.specs.Items.{Item}
-use Rattle.update.specs.Form.{Book}
+use Rattle.form.specs.Form.{Book}
 use Rattle.book.specs.declared.Update.{Update}
 use Rattle.book.specs.declared.Update.the-variants.{Done, Declined as UpdateDeclined}
 use Rattle.book.specs.declared.Found.{Found}
 use Rattle.book.specs.declared.Found.the-variants.{Offer, Declined as FoundDeclined}
 use Rattle.book.specs.declared.Listed.{Listed}
 use Rattle.book.specs.declared.Listed.the-variants.{Pieces, Declined as ListingDeclined}
-use Rattle.book.specs.Promises.{partOf, plainOf, counted, updateAnswer, foundAnswer, listingAnswer, Updates, Queries, Lists}
+use Rattle.book.specs.Promises.{partOf, counted, updateAnswer, foundAnswer, listingAnswer, Updates, Queries, Lists}
 use Rattle.book.specs.Numbered.{numbered}
 
 -- a refusal told by a word is told by its number
@@ -71,16 +71,16 @@ plain-number : (s : State) (k : Call) (n : ℕ) → step s k .answer ≡ refused
 plain-number s k zero e = absurd (numbered s k e)
 plain-number s k (suc n) e = omega arith
 
-module _ {start : ℕ} {t : List ℤ} {c : ℕ} {held : Option (Held Item)} (b : Book (partOf t start) c held) where
+module _ {start : ℕ} {t : List ℤ} {s : State} {held : Option (Held Item)} (b : Book (partOf t start) s held) where
   pub update-declined :
-      {k : Call} {t′ : List ℤ} {r : Update} → Updates k start t t′ r → (n : ℕ) → step (plainOf c held) k .answer ≡ refused n →
+      {k : Call} {t′ : List ℤ} {r : Update} → Updates k start t t′ r → (n : ℕ) → step s k .answer ≡ refused n →
       r ≡ UpdateDeclined (pos n)
-  update-declined {k} {r = r} p n e = update-refused r n (plain-number (plainOf c held) k n e) (p .follows c held b .answers ∙ e)
+  update-declined {k} {r = r} p n e = update-refused r n (plain-number s k n e) (p .follows s held b .answers ∙ e)
 
-  pub query-declined : {q : ℤ} {r : Found} → Queries q start t r → (n : ℕ) → step (plainOf c held) (query q) .answer ≡ refused n → r ≡ FoundDeclined (pos n)
-  query-declined {q} {r} p n e = query-refused r n (plain-number (plainOf c held) (query q) n e) (p .answers c held b ∙ e)
+  pub query-declined : {q : ℤ} {r : Found} → Queries q start t r → (n : ℕ) → step s (query q) .answer ≡ refused n → r ≡ FoundDeclined (pos n)
+  query-declined {q} {r} p n e = query-refused r n (plain-number s (query q) n e) (p .answers s held b ∙ e)
 
   pub listing-declined :
-      {out out′ : List ℤ} {r : Listed} → Lists start t out out′ r → (n : ℕ) → step (plainOf c held) (listing (length out)) .answer ≡ refused n →
+      {out out′ : List ℤ} {r : Listed} → Lists start t out out′ r → (n : ℕ) → step s (listing (length out)) .answer ≡ refused n →
       r ≡ ListingDeclined (pos n)
-  listing-declined {out} {out′} {r} p n e = listing-refused r out′ n (plain-number (plainOf c held) (listing (length out)) n e) (p .answers c held b ∙ e)
+  listing-declined {out} {out′} {r} p n e = listing-refused r out′ n (plain-number s (listing (length out)) n e) (p .answers s held b ∙ e)

@@ -15,12 +15,12 @@ use Rattle.plain.specs.Meaning.{Cheapest, Listing}
 use Rattle.plain.specs.MeaningLaws.{query-cheapest, listing-listing}
 use Rattle.dynamic.specs.OfferTree.{Held}
 use Rattle.table.specs.Items.{Item}
-use Rattle.update.specs.Form.{Book}
+use Rattle.form.specs.Form.{Book}
 use Rattle.book.specs.declared.Found.{Found}
 use Rattle.book.specs.declared.Found.the-variants.{Offer, Declined as FoundDeclined}
 use Rattle.book.specs.declared.Listed.{Listed}
 use Rattle.book.specs.declared.Listed.the-variants.{Pieces, Declined as ListingDeclined}
-use Rattle.book.specs.Promises.{partOf, plainOf, counted, foundAnswer, listingAnswer, Queries, Lists}
+use Rattle.book.specs.Promises.{partOf, counted, foundAnswer, listingAnswer, Queries, Lists}
 use Rattle.book.specs.Live.{book-sound}
 use Rattle.book.specs.Numbered.{from-one, numbered}
 use Rattle.theorems.specs.AnswerCases.{refused-word}
@@ -73,18 +73,18 @@ listing-refuses s room z e = go (declined (trials s (listing room))) refl e
     go (some c) p a = (c, declined-first (trials s (listing room)) c p, refused-word z (causeNumber c) (from-one c) a)
     go none p a = let (n, b) = a-refusal z in let d : _≡_ {A = ℕ} 0 1 = cc in absurd (omega arith)
 
-module _ {start : ℕ} {t : List ℤ} {c : ℕ} {held : Option (Held Item)} (b : Book (partOf t start) c held) where
-  pub query-tells : {q : ℤ} {r : Found} → Queries q start t r → QueryTells (plainOf c held) q r
-  query-tells {q} {r} p = go r (p .answers c held b)
+module _ {start : ℕ} {t : List ℤ} {s : State} {held : Option (Held Item)} (b : Book (partOf t start) s held) where
+  pub query-tells : {q : ℤ} {r : Found} → Queries q start t r → QueryTells s q r
+  query-tells {q} {r} p = go r (p .answers s held b)
     where
-      go : (r : Found) → foundAnswer r ≡ step (plainOf c held) (query q) .answer → QueryTells (plainOf c held) q r
-      go (Offer number price probes) e = query-cheapest (plainOf c held) q number price (book-sound b) (sym e)
-      go (FoundDeclined z) e = query-refuses (plainOf c held) q z e
+      go : (r : Found) → foundAnswer r ≡ step s (query q) .answer → QueryTells s q r
+      go (Offer number price probes) e = query-cheapest s q number price (book-sound b) (sym e)
+      go (FoundDeclined z) e = query-refuses s q z e
 
-  pub listing-tells : {out out′ : List ℤ} {r : Listed} → Lists start t out out′ r → ListingTells (plainOf c held) (length out) r out′
-  listing-tells {out} {out′} {r} p = go r (p .answers c held b)
+  pub listing-tells : {out out′ : List ℤ} {r : Listed} → Lists start t out out′ r → ListingTells s (length out) r out′
+  listing-tells {out} {out′} {r} p = go r (p .answers s held b)
     where
-      go : (r : Listed) → listingAnswer r out′ ≡ step (plainOf c held) (listing (length out)) .answer → ListingTells (plainOf c held) (length out) r out′
-      go (Pieces (pos n)) e = (n, refl, listing-listing (plainOf c held) (length out) n (take (3 * n) out′) (book-sound b) (sym e))
-      go (Pieces (negsuc n)) e = absurd (numbered (plainOf c held) (listing (length out)) (sym e))
-      go (ListingDeclined z) e = listing-refuses (plainOf c held) (length out) z e
+      go : (r : Listed) → listingAnswer r out′ ≡ step s (listing (length out)) .answer → ListingTells s (length out) r out′
+      go (Pieces (pos n)) e = (n, refl, listing-listing s (length out) n (take (3 * n) out′) (book-sound b) (sym e))
+      go (Pieces (negsuc n)) e = absurd (numbered s (listing (length out)) (sym e))
+      go (ListingDeclined z) e = listing-refuses s (length out) z e

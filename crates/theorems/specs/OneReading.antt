@@ -11,6 +11,7 @@ use Rattle.lists.specs.Places.{sublist-mem}
 use Rattle.trees.specs.Tree.{leaves, last}
 use Rattle.trees.specs.Leaves.{last-leaf}
 use Rattle.trees.specs.Operations.{Part, partLeaves}
+use Rattle.plain.specs.Book.{State}
 use Rattle.envelopes.specs.Envelope.{Env}
 use Rattle.dynamic.specs.OfferTree.{OfferTree, single, fork, shape, Held}
 use Rattle.dynamic.specs.Valid.{Valid, valid-fork}
@@ -21,9 +22,9 @@ use Rattle.table.specs.Items.{Item}
 use Rattle.table.specs.Rep.{childField, refOf, Tied, tied-node}
 use Rattle.table.specs.Parts.{TiedP}
 use Rattle.pieces.specs.Pieces.{items, item-laws, partRef, PartIn}
-use Rattle.update.specs.Stored.{nodeSlot, restField, Stored, stored-fork, HeldIn}
-use Rattle.update.specs.Form.{offersRef, envelopeRef, OffersIn, Book}
-use Rattle.book.specs.Promises.{plainOf, Passes}
+use Rattle.form.specs.Stored.{nodeSlot, restField, Stored, stored-fork, HeldIn}
+use Rattle.form.specs.Form.{offersRef, envelopeRef, OffersIn, plainOffers, Book}
+use Rattle.book.specs.Promises.{Passes}
 use Rattle.theorems.specs.Unique.{AllLie, all-lie, same-item, same-part, some-root}
 
 number-of : {m n : ℕ} {z z′ : ℤ} → z ≡ pos m → z′ ≡ pos n → z ≡ z′ → m ≡ n
@@ -121,12 +122,21 @@ module _ (w : Words) where
 
 -- ---- one capacity, one tree
 
-pub one-reading : {w : Words} {c c′ : ℕ} {held held′ : Option (Held Item)} → Book w c held → Book w c′ held′ → (c ≡ c′) × (held ≡ held′)
-one-reading {w} {held} {held′} b b′ = (
-  sym (b .capacity) ∙ b′ .capacity,
-  same-book w held held′ (b .offers) (b′ .offers) (number-of (b .offers-root) (b′ .offers-root) refl) (number-of (b .envelope-root) (b′ .envelope-root) refl),
-)
+pub one-reading : {w : Words} {s s′ : State} {held held′ : Option (Held Item)} → Book w s held → Book w s′ held′ → (s ≡ s′) × (held ≡ held′)
+one-reading {w} {s} {s′} {held} {held′} b b′ = (λ i. record { capacity = capacities i; offers = lists i }, trees)
+  where
+    trees : held ≡ held′
+    trees =
+        same-book w held held′ (b .offers .offers-in) (b′ .offers .offers-in)
+        (number-of (b .offers .offers-root) (b′ .offers .offers-root) refl)
+        (number-of (b .offers .envelope-root) (b′ .offers .envelope-root) refl)
+
+    capacities : s .capacity ≡ s′ .capacity
+    capacities = sym (b .capacity) ∙ b′ .capacity
+
+    lists : s .offers ≡ s′ .offers
+    lists = sym (b .stands-for) ∙ ap plainOffers trees ∙ b′ .stands-for
 
 -- so every promise that speaks of all plain books a table may stand for speaks of one
-pub passes-once : (start : ℕ) (t : List ℤ) (p q : Passes start t) → plainOf (p .0) (p .1) ≡ plainOf (q .0) (q .1)
-passes-once start t (c, held, b) (c′, held′, b′) = let (d, e) = one-reading b b′ in λ i. plainOf (d i) (e i)
+pub passes-once : (start : ℕ) (t : List ℤ) (p q : Passes start t) → p .0 ≡ q .0
+passes-once start t (s, held, b) (s′, held′, b′) = one-reading b b′ .0

@@ -10,7 +10,7 @@ use lib.IntN.{ℤ}
 use Rattle.offers.specs.Offers.{Offer, RationalLoad, precedes}
 use Rattle.envelopes.specs.Envelope.{Env, Ordered}
 use Rattle.envelopes.specs.EnvelopeLaws.{ordered-left, ordered-right, ordered-sublist}
-use Rattle.plain.specs.Book.{Call}
+use Rattle.plain.specs.Book.{State, Call}
 use Rattle.plain.specs.Meaning.{CheaperThanAll}
 use Rattle.plain.specs.ListingLaws.{listing-exact}
 use Rattle.trees.specs.Tree.{Tree, leaves}
@@ -60,7 +60,7 @@ searched-lists {live} {p} o s =
 
 -- every pair of an update's log
 pub follows-lists :
-    {k : Call} {c : ℕ} {held : Option (Held Item)} {start : ℕ} {t t′ : List ℤ} {r : Update} (f : Follows k c held start t t′ r) → (p : Pair Item) →
+    {k : Call} {s : State} {held : Option (Held Item)} {start : ℕ} {t t′ : List ℤ} {r : Update} (f : Follows k s held start t t′ r) → (p : Pair Item) →
     List·Memᴰ p (f .log) → PairLists (bookLines (f .after)) p
 follows-lists {start} {t′} f p m =
-    searched-lists (whole-ordered (f .after) (live-whole (partOf t′ start) (f .after) (f .stands .offers))) (f .work .searched p m)
+    searched-lists (whole-ordered (f .after) (live-whole (partOf t′ start) (f .after) (f .stands .offers .offers-in))) (f .work .searched p m)
