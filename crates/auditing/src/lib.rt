@@ -1,5 +1,5 @@
 // Whether a part has the form of a book: yes exactly where it has. Any words are safe.
-ghost use Rattle.matching.specs.Tests.{Decides};
+ghost use Rattle.matching.specs.Deciding.{Decides};
 ghost use Rattle.auditing.specs.Audits.{BookStands};
 
 // The free slots, then the offers with their envelopes, then the numbers over the slots that the offers left in the scratch array.

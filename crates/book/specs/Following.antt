@@ -17,10 +17,10 @@ use Rattle.dynamic.specs.Floors.{floor-old}
 use Rattle.table.specs.Items.{Item}
 use Rattle.pieces.specs.Pieces.{items}
 use Rattle.update.specs.Form.{Book, plainOffers}
+use Rattle.query.specs.Plain.{offerOf}
 use Rattle.book.specs.declared.Update.{Update}
 use Rattle.book.specs.declared.Update.the-variants.{Done, Declined as UpdateDeclined}
 use Rattle.book.specs.Promises.{partOf, plainOf, updateAnswer, Counts, Follows}
-use Rattle.book.specs.Live.{offerOf}
 use Rattle.book.specs.Plainly.{refusing}
 use Rattle.book.specs.Posting.{Updated}
 

@@ -14,9 +14,10 @@ use Rattle.dynamic.specs.Rearranged.{stored}
 use Rattle.table.specs.Words.{Words, word, word-out}
 use Rattle.table.specs.Layout.{cap, cap-of, cell, linkAt, place, place-high, Valid, valid?, spot, spot-of, spot-in, spot-out}
 use Rattle.table.specs.Items.{Item, Slots}
+use Rattle.table.specs.PartTrees.{TiedPart}
 use Rattle.update.specs.Stored.{HeldIn}
 use Rattle.update.specs.Frames.{Same, tied-same, part-same, holds-same, stored-same}
-use Rattle.update.specs.Form.{Book, OffersIn, NumbersIn, TiedPart, FreeChain, free-none, free-more, head0}
+use Rattle.update.specs.Form.{Book, OffersIn, NumbersIn, FreeChain, free-none, free-more, head0}
 
 -- the same words in a part of capacity c
 pub record Alike (c : ℕ) (w w′ : Words) : Type 0 where

@@ -18,7 +18,8 @@ use Rattle.table.specs.Layout.{cap, cap-most}
 use Rattle.table.specs.Items.{Item, Slots}
 use Rattle.table.specs.Rep.{refOf}
 use Rattle.table.specs.Threads.{Holds}
-use Rattle.pieces.specs.Pieces.{items, item-laws, partRef}
+use Rattle.table.specs.PartTrees.{partRef}
+use Rattle.pieces.specs.Pieces.{items, item-laws}
 use Rattle.update.specs.Stored.{HeldIn}
 use Rattle.update.specs.Form.{offersRef, envelopeRef, OffersIn}
 use Rattle.matching.specs.Laid.{itemAt, AllPlaced}

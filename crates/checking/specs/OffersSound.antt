@@ -13,7 +13,8 @@ use Rattle.dynamic.specs.Valid.{Valid}
 use Rattle.table.specs.Words.{Words}
 use Rattle.table.specs.Items.{Item}
 use Rattle.table.specs.Rep.{refOf}
-use Rattle.pieces.specs.Pieces.{items, partRef, PartIn}
+use Rattle.table.specs.PartTrees.{partRef}
+use Rattle.pieces.specs.Pieces.{items, PartIn}
 use Rattle.update.specs.Stored.{Stored, HeldIn}
 use Rattle.checking.specs.Stands.{Stands, stands-slots, stands-holds, Decorated}
 use Rattle.checking.specs.Headers.{Header}

@@ -59,17 +59,17 @@ meetAnswer (Declined c) = refused c
 -- ---- the promise
 
 -- the piece tree of the root's envelope
-abbrev pub rootPieces : Option (Held Item) → Part Item
-rootPieces none = none
-rootPieces (some h) = h .whole
+abbrev pub rootTree : Option (Held Item) → Part Item
+rootTree none = none
+rootTree (some h) = h .whole
 
 -- The machine ends, within 3 × (hl + hr) + 1 steps, at u and v of `bridged`; they, its steps and the heights are the answer. The left
 -- pieces up to u and the right ones from v are the envelope of both sets of offers: of the items (`bridged`) and of the plain offers.
 pub record Found (held held′ : Option (Held Item)) (r : Met) : Type 0 where
   pub left : Tree Item
   pub right : Tree Item
-  pub left-root : rootPieces held ≡ some left
-  pub right-root : rootPieces held′ ≡ some right
+  pub left-root : rootTree held ≡ some left
+  pub right-root : rootTree held′ ≡ some right
   pub bridged : Bridged items (bookLines held) (bookLines held′) left right
   pub answer : meetAnswer r ≡ met (numberOf (bridged .u)) (numberOf (bridged .v)) (pos (meet items left right .steps)) (pos (height left)) (pos (height right))
   pub plainly : envelope (plainOffers held ++ plainOffers held′) ≡ map (λ (a : Item). a .offer) (bridged .upTo ++ bridged .u ∷ bridged .v ∷ bridged .from)

@@ -11,7 +11,7 @@ use Rattle.table.specs.Words.{Words, word}
 use Rattle.table.specs.Layout.{cap}
 use Rattle.table.specs.Free.{head0, FreeChain}
 use Rattle.table.specs.Items.{Item, Apart}
-use Rattle.pieces.specs.Pieces.{partRef}
+use Rattle.table.specs.PartTrees.{partRef}
 use Rattle.update.specs.Form.{NumbersIn}
 use Rattle.matching.specs.Stretches.{span}
 use Rattle.matching.specs.Laid.{itemsAt, AllPlaced}

@@ -2,7 +2,7 @@
 ghost use mathlib.Core.Path.{_≡_};
 ghost use Prim.Native.Nat.{_≤_};
 ghost use lib.ListN.{length};
-ghost use Rattle.matching.specs.Tests.{Decides};
+ghost use Rattle.matching.specs.Deciding.{Decides};
 ghost use Rattle.tallying.specs.Tallies.{Freely, Tallies};
 ghost use Rattle.tallying.specs.FreeChains.{IsFree, Chained};
 ghost use Rattle.tallying.specs.Seeking.{Seeks, SeeksAll};

@@ -20,8 +20,8 @@ use Rattle.table.specs.Words.{Words, word}
 use Rattle.table.specs.Layout.{cap, cell, linkAt}
 pub use Rattle.table.specs.Free.{head0, FreeChain, free-none, free-more}
 use Rattle.table.specs.Items.{Item}
-use Rattle.table.specs.Rep.{refOf, Tied}
-use Rattle.pieces.specs.Pieces.{partRef}
+use Rattle.table.specs.Rep.{refOf}
+use Rattle.table.specs.PartTrees.{partRef, TiedPart}
 use Rattle.update.specs.Stored.{HeldIn}
 
 -- ---- the offers
@@ -42,10 +42,6 @@ OffersIn w (some h) = HeldIn w (refOf (heldShape h)) (partRef (h .whole)) h
 
 abbrev pub numberOf : Item → ℤ
 numberOf a = a .offer .number
-
-abbrev pub TiedPart : Words → ℕ → Part Item → Type 0
-TiedPart w k none = Unit {0}
-TiedPart w k (some t) = Tied w k t
 
 pub record NumbersIn (w : Words) (live : List Item) (numbers : Part Item) : Type 0 where
   pub tied : TiedPart w 2 numbers

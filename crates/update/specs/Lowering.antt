@@ -23,7 +23,8 @@ use Rattle.table.specs.Items.{Item, Slots, slots-left, slots-right}
 use Rattle.table.specs.Rep.{childAt, refOf, Tied, tied-node, Within, within-trans}
 use Rattle.table.specs.Nodes.{ref-high}
 use Rattle.table.specs.Threads.{Holds, holds-left, holds-right}
-use Rattle.pieces.specs.Pieces.{items, item-laws, rateOf, partRef, PieceField, PiecesOnly, Standing, Beside, Catted, inFront, CutAt}
+use Rattle.table.specs.PartTrees.{partRef}
+use Rattle.pieces.specs.Pieces.{items, item-laws, rateOf, PieceField, PiecesOnly, Standing, Beside, Catted, inFront, CutAt}
 use Rattle.update.specs.Stored.{nodeSlot, restField, RestIn, Stored, stored-fork, HeldIn, Touched}
 use Rattle.update.specs.Steps.{LoweredIn}
 use Rattle.update.specs.Frames.{Disjoint, disjoint-across, tied-same, holds-same, rest-same, stored-same, held-slots, held-holds, whole-standing, whole-inside, stored-inside, pieces-offers, pieces-tree, pieces-rests, pieces-else, pieces-touched, slots-within, standing-still, pieces-trans, pieces-more, touched-more}

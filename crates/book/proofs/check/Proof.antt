@@ -1,5 +1,5 @@
 -- `book::check` meets its contract.
-use Rattle.book.specs.Parts.{book-start}
+use Rattle.book.specs.LentPart.{book-start}
 use Rattle.book.specs.Checking.{checks-none, checks-part}
 use borrow.Author.Needs.{needs}
 use Rattle.book.proofs.check.Statement.{statement}

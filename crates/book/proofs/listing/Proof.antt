@@ -1,6 +1,6 @@
 -- `book::listing` meets its contract: by its guard, and then what the part shows.
 use native.Mathlib.Omega.{arith}
-use Rattle.book.specs.Parts.{book-start}
+use Rattle.book.specs.LentPart.{book-start}
 use Rattle.book.specs.Showing.{listing-no-book, listing-done}
 use borrow.Author.Needs.{needs}
 use Rattle.book.proofs.listing.Statement.{statement}

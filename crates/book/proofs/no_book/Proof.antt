@@ -1,6 +1,6 @@
 -- `book::no_book` meets its contract: by the capacity that the words from `start` on tell.
 use borrow.Author.Needs.{needs}
-use Rattle.book.specs.Parts.{beyond-none, cap-none, cap-some}
+use Rattle.book.specs.LentPart.{beyond-none, cap-none, cap-some}
 use Rattle.book.proofs.no_book.Statement.{statement}
 use Rattle.book.proofs.no_book.Tie as tie
 

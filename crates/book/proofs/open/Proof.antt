@@ -2,7 +2,7 @@
 use mathlib.Core.Path.{refl, ap}
 use mathlib.Core.List.{[]}
 use lib.ListN.{length, length-drop}
-use Rattle.book.specs.Parts.{whole-part}
+use Rattle.book.specs.LentPart.{whole-part}
 use native.Mathlib.Omega.{arith}
 use mir.Facts.{toZ-ofZ}
 use Rattle.table.specs.Words.{upTo-most}

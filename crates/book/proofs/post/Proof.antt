@@ -5,7 +5,8 @@ use lib.IntN.{pos}
 use mir.Facts.{toZ-ofZ, toZ-pos}
 use mir.Syntax.{w64}
 use mir.Val.{toZ}
-use Rattle.book.specs.TableUpdates.{start-in, updates-none, updates-range, post-refused, post-accepted}
+use Rattle.book.specs.TableUpdates.{updates-none, updates-range, post-refused, post-accepted}
+use Rattle.book.specs.LentPart.{book-start}
 use borrow.Author.Needs.{needs}
 use Rattle.book.proofs.post.Statement.{statement}
 use Rattle.book.proofs.post.Tie as tie
@@ -29,13 +30,13 @@ returns-2 : tie.Need-returns-2
 returns-2 c = updates-range _ _ _ _ (c .before .before .before .no-book .ensures) (c .before .before .if1 .left) (simp (toZ-ofZ, c .before .before .before .before .before .fits .number, c .before .before .before .before .before .fits .rate, c .before .before .before .before .before .fits .base) at (c .before .offer-outside .ensures)) (c .if2 .taken) refl
 
 mul-post-cause : tie.Need-mul-post-cause
-mul-post-cause c = omega (arith, start-in (c .before .before .before .before .before .args .table .now) (c .before .before .before .before .before .args .start) (c .before .before .before .no-book .ensures) (c .before .before .if1 .left))
+mul-post-cause c = omega (arith, book-start (c .before .before .before .before .before .args .table .now) (c .before .before .before .before .before .args .start) (c .before .before .before .no-book .ensures) (c .before .before .if1 .left))
 
 sub-post-cause : tie.Need-sub-post-cause
-sub-post-cause c = omega (arith, start-in (c .before .before .before .before .before .args .table .now) (c .before .before .before .before .before .args .start) (c .before .before .before .no-book .ensures) (c .before .before .if1 .left))
+sub-post-cause c = omega (arith, book-start (c .before .before .before .before .before .args .table .now) (c .before .before .before .before .before .args .start) (c .before .before .before .no-book .ensures) (c .before .before .if1 .left))
 
 part-post-cause-start : tie.Need-part-post-cause-start
-part-post-cause-start c = omega (arith, start-in (c .before .before .before .before .before .before .args .table .now) (c .before .before .before .before .before .before .args .start) (c .before .before .before .before .no-book .ensures) (c .before .before .before .if1 .left))
+part-post-cause-start c = omega (arith, book-start (c .before .before .before .before .before .before .args .table .now) (c .before .before .before .before .before .before .args .start) (c .before .before .before .before .no-book .ensures) (c .before .before .before .if1 .left))
 
 part-post-cause-end : tie.Need-part-post-cause-end
 part-post-cause-end c = search needs
@@ -55,13 +56,13 @@ returns-3 c =
     post-refused _ _ _ (c .before .before .before .before .before .before .before .no-book .ensures) (c .before .before .before .before .before .before .if1 .left) _ _ _ (simp (toZ-ofZ, c .before .before .before .before .before .before .before .before .before .fits .number, c .before .before .before .before .before .before .before .before .before .fits .rate, c .before .before .before .before .before .before .before .before .before .fits .base) at (c .before .before .before .before .before .offer-outside .ensures)) (c .before .before .before .before .if2 .left) (simp (toZ-ofZ, c .before .before .before .before .before .before .before .before .before .fits .number, c .before .before .before .before .before .before .before .before .before .fits .rate) at (c .before .post-cause .ensures)) (c .if3 .taken) (simp v refl) refl
 
 mul-post-part : tie.Need-mul-post-part
-mul-post-part c = omega (arith, start-in (c .before .before .before .before .before .before .before .before .before .args .table .now) (c .before .before .before .before .before .before .before .before .before .args .start) (c .before .before .before .before .before .before .before .no-book .ensures) (c .before .before .before .before .before .before .if1 .left))
+mul-post-part c = omega (arith, book-start (c .before .before .before .before .before .before .before .before .before .args .table .now) (c .before .before .before .before .before .before .before .before .before .args .start) (c .before .before .before .before .before .before .before .no-book .ensures) (c .before .before .before .before .before .before .if1 .left))
 
 sub-post-part : tie.Need-sub-post-part
-sub-post-part c = omega (arith, start-in (c .before .before .before .before .before .before .before .before .before .args .table .now) (c .before .before .before .before .before .before .before .before .before .args .start) (c .before .before .before .before .before .before .before .no-book .ensures) (c .before .before .before .before .before .before .if1 .left))
+sub-post-part c = omega (arith, book-start (c .before .before .before .before .before .before .before .before .before .args .table .now) (c .before .before .before .before .before .before .before .before .before .args .start) (c .before .before .before .before .before .before .before .no-book .ensures) (c .before .before .before .before .before .before .if1 .left))
 
 part-post-part-start : tie.Need-part-post-part-start
-part-post-part-start c = omega (arith, start-in (c .before .before .before .before .before .before .before .before .before .args .table .now) (c .before .before .before .before .before .before .before .before .before .args .start) (c .before .before .before .before .before .before .before .no-book .ensures) (c .before .before .before .before .before .before .if1 .left))
+part-post-part-start c = omega (arith, book-start (c .before .before .before .before .before .before .before .before .before .args .table .now) (c .before .before .before .before .before .before .before .before .before .args .start) (c .before .before .before .before .before .before .before .no-book .ensures) (c .before .before .before .before .before .before .if1 .left))
 
 part-post-part-end : tie.Need-part-post-part-end
 part-post-part-end c = search needs

@@ -1,6 +1,6 @@
 -- `book::query` meets its contract: by its guards, and then the answer on the part.
 use mir.Facts.{toZ-ofZ}
-use Rattle.book.specs.Parts.{book-start}
+use Rattle.book.specs.LentPart.{book-start}
 use Rattle.book.specs.Asking.{queries-none, queries-range, queries-asked}
 use borrow.Author.Needs.{needs}
 use Rattle.book.proofs.query.Statement.{statement}

@@ -2,7 +2,8 @@
 use mathlib.Core.Path.{refl}
 use native.Mathlib.Omega.{arith}
 use mir.Facts.{toZ-ofZ}
-use Rattle.book.specs.TableUpdates.{start-in, number-alone, updates-none, updates-range, withdraw-refused, withdraw-accepted}
+use Rattle.book.specs.TableUpdates.{number-alone, updates-none, updates-range, withdraw-refused, withdraw-accepted}
+use Rattle.book.specs.LentPart.{book-start}
 use borrow.Author.Needs.{needs}
 use Rattle.book.proofs.withdraw.Statement.{statement}
 use Rattle.book.proofs.withdraw.Tie as tie
@@ -26,13 +27,13 @@ returns-2 : tie.Need-returns-2
 returns-2 c = updates-range _ _ _ _ (c .before .before .before .no-book .ensures) (c .before .before .if1 .left) (number-alone _ (simp (toZ-ofZ, c .before .before .before .before .before .fits .number) at (c .before .outside .ensures))) (c .if2 .taken) refl
 
 mul-live-slot : tie.Need-mul-live-slot
-mul-live-slot c = omega (arith, start-in (c .before .before .before .before .before .args .table .now) (c .before .before .before .before .before .args .start) (c .before .before .before .no-book .ensures) (c .before .before .if1 .left))
+mul-live-slot c = omega (arith, book-start (c .before .before .before .before .before .args .table .now) (c .before .before .before .before .before .args .start) (c .before .before .before .no-book .ensures) (c .before .before .if1 .left))
 
 sub-live-slot : tie.Need-sub-live-slot
-sub-live-slot c = omega (arith, start-in (c .before .before .before .before .before .args .table .now) (c .before .before .before .before .before .args .start) (c .before .before .before .no-book .ensures) (c .before .before .if1 .left))
+sub-live-slot c = omega (arith, book-start (c .before .before .before .before .before .args .table .now) (c .before .before .before .before .before .args .start) (c .before .before .before .no-book .ensures) (c .before .before .if1 .left))
 
 part-live-slot-start : tie.Need-part-live-slot-start
-part-live-slot-start c = omega (arith, start-in (c .before .before .before .before .before .before .args .table .now) (c .before .before .before .before .before .before .args .start) (c .before .before .before .before .no-book .ensures) (c .before .before .before .if1 .left))
+part-live-slot-start c = omega (arith, book-start (c .before .before .before .before .before .before .args .table .now) (c .before .before .before .before .before .before .args .start) (c .before .before .before .before .no-book .ensures) (c .before .before .before .if1 .left))
 
 part-live-slot-end : tie.Need-part-live-slot-end
 part-live-slot-end c = search needs
@@ -47,13 +48,13 @@ returns-3 : tie.Need-returns-3
 returns-3 c = withdraw-refused _ _ _ (c .before .before .before .before .before .before .before .no-book .ensures) (c .before .before .before .before .before .before .if1 .left) _ (number-alone _ (simp (toZ-ofZ, c .before .before .before .before .before .before .before .before .before .fits .number) at (c .before .before .before .before .before .outside .ensures))) (c .before .before .before .before .if2 .left) (simp (toZ-ofZ, c .before .before .before .before .before .before .before .before .before .fits .number) at (c .before .live-slot .ensures)) (c .if3 .taken) refl
 
 mul-withdraw-part : tie.Need-mul-withdraw-part
-mul-withdraw-part c = omega (arith, start-in (c .before .before .before .before .before .before .before .before .before .args .table .now) (c .before .before .before .before .before .before .before .before .before .args .start) (c .before .before .before .before .before .before .before .no-book .ensures) (c .before .before .before .before .before .before .if1 .left))
+mul-withdraw-part c = omega (arith, book-start (c .before .before .before .before .before .before .before .before .before .args .table .now) (c .before .before .before .before .before .before .before .before .before .args .start) (c .before .before .before .before .before .before .before .no-book .ensures) (c .before .before .before .before .before .before .if1 .left))
 
 sub-withdraw-part : tie.Need-sub-withdraw-part
-sub-withdraw-part c = omega (arith, start-in (c .before .before .before .before .before .before .before .before .before .args .table .now) (c .before .before .before .before .before .before .before .before .before .args .start) (c .before .before .before .before .before .before .before .no-book .ensures) (c .before .before .before .before .before .before .if1 .left))
+sub-withdraw-part c = omega (arith, book-start (c .before .before .before .before .before .before .before .before .before .args .table .now) (c .before .before .before .before .before .before .before .before .before .args .start) (c .before .before .before .before .before .before .before .no-book .ensures) (c .before .before .before .before .before .before .if1 .left))
 
 part-withdraw-part-start : tie.Need-part-withdraw-part-start
-part-withdraw-part-start c = omega (arith, start-in (c .before .before .before .before .before .before .before .before .before .args .table .now) (c .before .before .before .before .before .before .before .before .before .args .start) (c .before .before .before .before .before .before .before .no-book .ensures) (c .before .before .before .before .before .before .if1 .left))
+part-withdraw-part-start c = omega (arith, book-start (c .before .before .before .before .before .before .before .before .before .args .table .now) (c .before .before .before .before .before .before .before .before .before .args .start) (c .before .before .before .before .before .before .before .no-book .ensures) (c .before .before .before .before .before .before .if1 .left))
 
 part-withdraw-part-end : tie.Need-part-withdraw-part-end
 part-withdraw-part-end c = search needs

@@ -2,7 +2,7 @@
 use mathlib.Core.Path.{_∙_, ap}
 use Prim.Native.Nat.{ℕ}
 use native.Mathlib.Omega.{arith}
-use Rattle.matching.specs.Tests.{decides-yes}
+use Rattle.matching.specs.Deciding.{decides-yes}
 use Rattle.bridging.specs.Gaps.{crossAt}
 use Rattle.bridging.specs.Bridges.{near-yes, near-below}
 use borrow.Author.Needs.{needs}

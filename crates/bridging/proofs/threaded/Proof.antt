@@ -4,7 +4,7 @@ use Prim.Native.Nat.{ℕ, _+_, _-_, _≤_, _<_}
 use native.Mathlib.Omega.{arith}
 use borrow.Author.Needs.{needs}
 use borrow.Author.Tests.{not-true, not-false}
-use Rattle.matching.specs.Tests.{every-more, every-less, decides-yes}
+use Rattle.matching.specs.Deciding.{every-more, every-less, decides-yes}
 use Rattle.bridging.specs.Bridges.{ThreadedTo, threaded-none, next-here, not-threaded}
 use Rattle.bridging.proofs.threaded.Statement.{statement}
 use Rattle.bridging.proofs.threaded.Tie as tie

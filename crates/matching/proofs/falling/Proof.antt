@@ -5,7 +5,7 @@ use Prim.Native.Nat.{ℕ, _+_, _-_, _≤_, _<_}
 use native.Mathlib.Omega.{arith}
 use borrow.Author.Needs.{needs}
 use borrow.Author.Tests.{not-true, not-false}
-use Rattle.matching.specs.Tests.{Every, every-none, every-more, every-less, decides-yes, decides-no}
+use Rattle.matching.specs.Deciding.{Every, every-none, every-more, every-less, decides-yes, decides-no}
 use Rattle.matching.specs.Loops.{FallsHere, falls-here, not-falls-here}
 use Rattle.matching.proofs.falling.Statement.{statement}
 use Rattle.matching.proofs.falling.Tie as tie

@@ -4,7 +4,7 @@ use mathlib.Core.Logic.{_≢_}
 use Prim.Native.Nat.{ℕ, _+_, _-_, _≤_, _<_}
 use native.Mathlib.Omega.{arith}
 use lib.ListN.{getD}
-use Rattle.matching.specs.Tests.{Every, every-none, every-more}
+use Rattle.matching.specs.Deciding.{Every, every-none, every-more}
 use Rattle.matching.specs.Loops.{place-none, place-here}
 use Rattle.matching.proofs.place.Statement.{statement}
 use Rattle.matching.proofs.place.Tie as tie

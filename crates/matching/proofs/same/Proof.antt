@@ -5,7 +5,7 @@ use Prim.Native.Nat.{ℕ, _+_, _-_, _≤_, _<_}
 use native.Mathlib.Omega.{arith}
 use lib.ListN.{getD}
 use borrow.Author.Needs.{needs}
-use Rattle.matching.specs.Tests.{Every, every-none, every-more, every-less, Agree, decides-yes, decides-no}
+use Rattle.matching.specs.Deciding.{Every, every-none, every-more, every-less, Agree, decides-yes, decides-no}
 use Rattle.matching.proofs.same.Statement.{statement}
 use Rattle.matching.proofs.same.Tie as tie
 

@@ -1,6 +1,6 @@
 -- `meet::meet` meets its contract: by its guards, and then the two parts.
 use native.Mathlib.Omega.{arith}
-use Rattle.book.specs.Parts.{book-start}
+use Rattle.book.specs.LentPart.{book-start}
 use Rattle.meet.specs.Tables.{first-missing, second-missing, both-there}
 use borrow.Author.Needs.{needs}
 use Rattle.meet.proofs.meet.Statement.{statement}

@@ -9,7 +9,7 @@ use mir.Val.{SFits, toZ, ofZ}
 use mir.ValLaws.{toZ-ofZ}
 use Rattle.offers.specs.Offers.{priceInRange}
 use Rattle.vouchers.specs.Rule.{voucherUnits}
-use Rattle.vouchers.specs.Steps.{lowered-fits, raised-fits, units-fit, lowered-is, raised-is}
+use Rattle.vouchers.specs.VoucherSteps.{lowered-fits, raised-fits, units-fit, lowered-is, raised-is}
 use Rattle.vouchers.proofs.whole_units.Statement.{statement}
 use Rattle.vouchers.proofs.whole_units.Tie as tie
 
