@@ -22,7 +22,9 @@ entry-requires : tie.Need-entry-requires Inv-loop μ-loop
 entry-requires c κs = omega arith
 
 returns : tie.Need-returns Inv-loop μ-loop
-returns c = place-here (c .before .before .before .loop .inv .0) (c .before .before .loop-test .taken) (sym (c .before .entry .ensures) ∙ c .if1 .taken) (c .before .before .before .loop .inv .2)
+returns c =
+    place-here (c .before .before .before .loop .inv .0) (c .before .before .loop-test .taken) (sym (c .before .entry .ensures) ∙ c .if1 .taken)
+    (c .before .before .before .loop .inv .2)
 
 add-i : tie.Need-add-i Inv-loop μ-loop
 add-i c = omega arith
