@@ -7,6 +7,7 @@ use Prim.Native.Nat.{ℕ, _≤_, _<_}
 use native.Mathlib.Omega.{arith}
 use lib.ListN.{length}
 use Rattle.plain.specs.Book.{State}
+use Rattle.lists.specs.Bools.{never}
 use Rattle.dynamic.specs.OfferTree.{Held}
 use Rattle.dynamic.specs.Valid.{bookLines}
 use Rattle.table.specs.Words.{Words, word, upTo, upTo-in}
@@ -14,9 +15,8 @@ use Rattle.table.specs.Layout.{cap, cap-most}
 use Rattle.table.specs.Items.{Item, Apart}
 use Rattle.form.specs.Form.{OffersIn, Numbered, Freely, Book, BookStands, plainOffers}
 use Rattle.matching.specs.Stretches.{span}
-use Rattle.matching.specs.Tests.{Decides, decides-no}
+use Rattle.matching.specs.Deciding.{Decides, decides-no}
 use Rattle.matching.specs.Laid.{itemsAt, AllPlaced}
-use Rattle.matching.specs.Fills.{never}
 use Rattle.checking.specs.OffersStand.{OffersFound, Offers}
 use Rattle.checking.specs.OffersComplete.{holds-placed}
 use Rattle.tallying.specs.Tallies.{Tallies}

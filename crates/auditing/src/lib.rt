@@ -1,6 +1,6 @@
 // Whether a part has the form of a book: yes exactly where it has. Any words are safe.
-ghost use Rattle.matching.specs.Tests.{Decides};
 ghost use Rattle.form.specs.Form.{BookStands};
+ghost use Rattle.matching.specs.Deciding.{Decides};
 
 // The free slots, then the offers with their envelopes, then the numbers over the slots that the offers left in the scratch array.
 pub fn book_stands(part: &[i64]) -> bool

@@ -15,6 +15,7 @@ use Rattle.table.specs.Words.{Words, word, wset, wset-same}
 use Rattle.table.specs.Layout.{cap, cell, cset, cset-cap, cset-other, header-outside, header-cap, header-cell}
 use Rattle.table.specs.Items.{Item, In, at}
 use Rattle.table.specs.Rep.{Field, a-child, a-height, Within, within-cap, Only}
+use Rattle.table.specs.PartTrees.{TiedPart}
 use Rattle.pieces.specs.Pieces.{of-node, of-numerator, of-denominator, of-next}
 use Rattle.form.specs.Stored.{HeldIn, EnvelopeField, of-pieces, of-offers, of-bridge-u, of-bridge-v, of-inner-rest, of-leaf-rest, Touched}
 use Rattle.form.specs.Frames.{OfferField, of-rest, Same, same-inside, tied-same, part-same, holds-same, stored-same, whole-inside, stored-inside}

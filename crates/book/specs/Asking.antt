@@ -8,7 +8,7 @@ use native.Mathlib.Omega.{arith}
 use lib.ListN.{length, take, drop}
 use lib.Dec.{T, le→leb}
 use lib.IntN.{ℤ, pos, natAbs}
-use Rattle.lists.specs.Tests.{not-not}
+use Rattle.lists.specs.Bools.{not-not, twice, said, denied}
 use Rattle.offers.specs.Offers.{loadInRange, priceAt}
 use Rattle.plain.specs.Causes.{Cause, bookEmpty, causeNumber}
 use Rattle.plain.specs.Book.{State, query, found, refused, Outcome, step}
@@ -24,22 +24,22 @@ use Rattle.envelopes.specs.Small.{env-some}
 use Rattle.table.specs.Words.{Words, word, upTo}
 use Rattle.table.specs.Layout.{cell}
 use Rattle.table.specs.Items.{Item}
-use Rattle.table.specs.Parts.{low}
-use Rattle.pieces.specs.Pieces.{items, item-laws, Standing, partRef}
+use Rattle.pieces.specs.Pieces.{items, item-laws, Standing}
 use Rattle.form.specs.Form.{Book}
 use Rattle.form.specs.Frames.{whole-standing}
+use Rattle.table.specs.PartTrees.{low, partRef}
 use Rattle.query.specs.Lookup.{lookup, lookup-leaf, LeafAt, leaf-mem}
-use Rattle.query.specs.Pieces.{Pieces, price-kept}
+use Rattle.query.specs.QueriedPieces.{Pieces, price-kept}
 use Rattle.query.specs.Readings.{priceIn}
 use Rattle.query.specs.Descent.{Descended, Finds}
-use Rattle.query.specs.Plain.{lookup-plain}
+use Rattle.query.specs.Plain.{lookup-plain, offerOf}
 use Rattle.book.specs.declared.Found.{Found}
 use Rattle.book.specs.declared.Found.the-variants.{Offer, Declined}
 use Rattle.plain.specs.Book.{noBookAt}
 use Rattle.plain.specs.Rules.{FirstOf}
 use Rattle.book.specs.Promises.{partOf, tableTrials, foundReturned, foundAnswer, Probes, ProbesIn, Queries}
 use Rattle.book.specs.Plainly.{table-declined}
-use Rattle.book.specs.Parts.{whole-part, said, denied}
+use Rattle.book.specs.LentPart.{whole-part}
 use Rattle.book.specs.Opens.{one-cause, not-clear}
 use Rattle.book.specs.Live.{live-length, book-sound}
 use Rattle.book.specs.Sought.{count-read, envelope-read}
@@ -48,10 +48,6 @@ use Rattle.book.specs.Sought.{count-read, envelope-read}
 pub record Asks (q : ℤ) (w : Words) (r : Found) : Type 0 where
   pub answers : (plain : State) (held : Option (Held Item)) → Book w plain held → T (loadInRange q) → foundAnswer r ≡ step plain (query q) .answer
   pub probes : (plain : State) (held : Option (Held Item)) → Book w plain held → T (loadInRange q) → Probes held (foundReturned r .answer) (foundReturned r .beside)
-
-twice : (b : Bool) → T b → T (not (not b))
-twice true t = tt
-twice false t = t
 
 pub asks-empty : {q : ℤ} {w : Words} {n : ℕ} → n ≡ upTo 8192 (word w 3) → n < 1 → Asks q w (Declined (pos 9))
 asks-empty {q} {w} {n} e h =

@@ -6,13 +6,14 @@ use Prim.Native.Nat.{ℕ, _-_}
 use lib.ListN.{length, take, drop}
 use lib.Dec.{T-not}
 use lib.IntN.{ℤ}
+use Rattle.lists.specs.Bools.{said}
 use Rattle.plain.specs.Book.{noBookAt}
 use Rattle.table.specs.Words.{Words, word}
-use Rattle.matching.specs.Tests.{Decides}
 use Rattle.form.specs.Form.{BookStands}
+use Rattle.matching.specs.Deciding.{Decides}
 use Rattle.book.specs.Promises.{partOf, Checks}
 use Rattle.book.specs.Plainly.{book-there}
-use Rattle.book.specs.Parts.{said, whole-part}
+use Rattle.book.specs.LentPart.{whole-part}
 
 module _ (t : List ℤ) (start : ℕ) where
   -- where there is no book for any call, none passes

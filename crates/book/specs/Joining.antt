@@ -27,7 +27,7 @@ use Rattle.form.specs.Stored.{HeldIn, stored-single, Touched}
 use Rattle.form.specs.Frames.{touched-refl}
 use Rattle.update.specs.Steps.{Counted, Newcomer, InsertedIn}
 use Rattle.form.specs.Form.{OffersIn, offersRef, envelopeRef}
-use Rattle.book.specs.Live.{offerOf}
+use Rattle.query.specs.Plain.{offerOf}
 
 -- ---- an item placed in order, as the plain book joins its offer
 

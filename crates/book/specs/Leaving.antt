@@ -10,16 +10,16 @@ use lib.Dec.{T, not-T}
 use lib.IntN.{ℤ}
 use Rattle.lists.specs.Filter.{keep, keep-sublist, keep-passes, keep-in, keep-map}
 use Rattle.lists.specs.Places.{sublist-mem}
-use Rattle.lists.specs.Tests.{same-test}
+use Rattle.lists.specs.Bools.{same-test, cond-yes, cond-no, or-left, or-right}
+use Rattle.integers.specs.Equal.{equal}
+use Rattle.integers.specs.Parts.{equal-eq, unequal}
 use Rattle.envelopes.specs.Envelope.{Ordered, Ordered·cons}
 use Rattle.envelopes.specs.EnvelopeLaws.{either-other, compare-lines}
-use Rattle.plain.specs.Book.{equal, hasNumber, leave}
-use Rattle.plain.specs.Sound.{equal-eq, unequal}
-use Rattle.trees.specs.Tests.{cond-yes, cond-no}
+use Rattle.plain.specs.Book.{hasNumber, leave}
 use Rattle.dynamic.specs.OfferTree.{Held}
 use Rattle.dynamic.specs.Updates.{withdrawn}
 use Rattle.dynamic.specs.Valid.{bookLines, without}
-use Rattle.dynamic.specs.Placed.{or-left, or-right, without-all}
+use Rattle.dynamic.specs.Placed.{without-all}
 use Rattle.table.specs.Words.{Words}
 use Rattle.table.specs.Items.{Item, Slots}
 use Rattle.table.specs.Rep.{Within}
@@ -27,7 +27,7 @@ use Rattle.pieces.specs.Pieces.{items, item-laws}
 use Rattle.form.specs.Stored.{Touched}
 use Rattle.update.specs.Steps.{Counted, Leaver, LeftIn, RemovedIn}
 use Rattle.form.specs.Form.{OffersIn, offersRef, envelopeRef, numberOf}
-use Rattle.book.specs.Live.{offerOf}
+use Rattle.query.specs.Plain.{offerOf}
 
 -- ---- the items but one
 
@@ -91,10 +91,9 @@ without-leave a n {ls} o m e tells =
   where
     same : (x : Item) → List·Memᴰ x ls → (items .before a x || items .before x a) ≡ not (equal (numberOf x) n)
     same x i =
-        same-test (items .before a x || items .before x a) (not (equal (numberOf x) n)) (
-          λ t. not-T (equal (numberOf x) n) (λ u. either-other items item-laws a x (either-side a x t) (tells x i (equal-eq (numberOf x) n u ∙ sym e))),
-          λ t. other-side o m i (λ d. unequal (numberOf x) n t (ap numberOf d ∙ e)),
-        )
+        same-test (items .before a x || items .before x a) (not (equal (numberOf x) n))
+        (λ t. not-T (equal (numberOf x) n) (λ u. either-other items item-laws a x (either-side a x t) (tells x i (equal-eq (numberOf x) n u ∙ sym e))))
+        (λ t. other-side o m i (λ d. unequal (numberOf x) n t (ap numberOf d ∙ e)))
 
 -- ---- the words
 

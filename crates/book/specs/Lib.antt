@@ -15,7 +15,7 @@ pub mod Withdrawing
 pub mod Opening
 pub mod Following
 pub mod Calls
-pub mod Parts
+pub mod LentPart
 pub mod Opens
 pub mod Asking
 pub mod Rooted

@@ -16,6 +16,7 @@ use Rattle.table.specs.Items.{Item, Slots}
 use Rattle.form.specs.Stored.{HeldIn}
 use Rattle.form.specs.Frames.{Same, tied-same, part-same, holds-same, stored-same}
 use Rattle.form.specs.Form.{Book, OffersIn, OffersStand, Numbered, Freely, TiedPart, FreeChain, free-none, free-more}
+use Rattle.table.specs.PartTrees.{TiedPart}
 
 -- the same words in a part of capacity c
 pub record Alike (c : ℕ) (w w′ : Words) : Type 0 where

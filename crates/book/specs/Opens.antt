@@ -9,8 +9,8 @@ use native.Mathlib.Omega.{arith}
 use lib.ListN.{length, take, drop}
 use lib.Dec.{T, ltb, lt→ltb}
 use lib.Arith.{lt→nleb}
-use Rattle.lists.specs.Tests.{not-not}
 use lib.IntN.{ℤ, pos, natAbs}
+use Rattle.lists.specs.Bools.{not-not, or-left, or-right, not-either, said, denied}
 use Rattle.offers.specs.Offers.{between}
 use Rattle.plain.specs.Causes.{Cause, Trial, declined, causeNumber}
 use Rattle.plain.specs.Book.{opened, openTrials, openingBy, partLength}
@@ -23,7 +23,7 @@ use Rattle.book.specs.declared.Opening.{Opening}
 use Rattle.book.specs.declared.Opening.the-variants.{Opened, Declined}
 use Rattle.book.specs.Promises.{partOf, openingAnswer, plainOpening, Opens, OnlyPart}
 use Rattle.book.specs.Opening.{Begun, begun, begun-cap, Laid, laid-more, opened-book}
-use Rattle.book.specs.Parts.{Beyond, part-back, only-part, whole-part, lent-back, either-first, either-second, not-either, said, denied, told-is}
+use Rattle.book.specs.LentPart.{Beyond, part-back, only-part, whole-part, lent-back, told-is}
 
 -- ---- one cause declines
 
@@ -127,7 +127,7 @@ module _ (c : ℤ) (start : ℕ) (t t′ : List ℤ) where
   opens-short e h s et = opens-declined (further (denied e h) (at-once s)) refl et
 
   pub opens-beyond : {b : Bool} → b ≡ not (between (pos 1) (pos 4_096) c) → b ≡ false → length t < start → t′ ≡ t → Opens c start t t′ (Declined (pos 2))
-  opens-beyond e h s et = opens-short e h (either-first (ltb (length t) start) (ltb (length t - start) (partLength (natAbs c))) (lt→ltb (length t) start s)) et
+  opens-beyond e h s et = opens-short e h (or-left (ltb (length t) start) (ltb (length t - start) (partLength (natAbs c))) (lt→ltb (length t) start s)) et
 
   module _ {b : Bool} {n : ℕ} (e : b ≡ not (between (pos 1) (pos 4_096) c)) (h : b ≡ false) (d : n ≡ upTo 4096 c) where
     ranged : T (between (pos 1) (pos 4_096) c)
@@ -140,7 +140,7 @@ module _ (c : ℤ) (start : ℕ) (t t′ : List ℤ) where
     capacity-span = let (p, q, r) = told-is c ranged in (omega (arith, is-capacity, q), omega (arith, is-capacity, r))
 
     pub opens-cut : length t - start < 64 * (n + 1) → t′ ≡ t → Opens c start t t′ (Declined (pos 2))
-    opens-cut s et = opens-short e h (either-second (ltb (length t) start) (ltb (length t - start) (partLength (natAbs c))) (lt→ltb (length t - start) (partLength (natAbs c)) (omega (arith, s, is-capacity)))) et
+    opens-cut s et = opens-short e h (or-right (ltb (length t) start) (ltb (length t - start) (partLength (natAbs c))) (lt→ltb (length t - start) (partLength (natAbs c)) (omega (arith, s, is-capacity)))) et
 
     pub opens-done : start ≤ length t → 64 * (n + 1) ≤ length t - start → (w′ : Words) → Starts n (take (length t - start) (drop start t)) w′ → t′ ≡ take start t ++ (w′ ++ drop (length t - start) (drop start t)) → Opens c start t t′ Opened
     opens-done low room w′ g et =

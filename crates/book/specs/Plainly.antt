@@ -12,8 +12,8 @@ use lib.Arith.{lt→nleb}
 use lib.IntN.{ℤ, pos, negsuc}
 use lib.Signed.{leZ}
 use borrow.Author.Tests.{leb-true}
-use Rattle.lists.specs.Filter.{both}
-use Rattle.lists.specs.Tests.{any, not-not}
+use Rattle.lists.specs.Tests.{any}
+use Rattle.lists.specs.Bools.{and-both, not-not, or-no}
 use Rattle.integers.specs.Parts.{intRules}
 use Rattle.offers.specs.Offers.{Offer, between, offerInRange, numberInRange, rateInRange, baseInRange}
 use Rattle.plain.specs.Causes.{Cause, Trial, causeNumber, numberLive, rateLive, bookFull, numberNotLive}
@@ -29,6 +29,7 @@ use Rattle.pieces.specs.Pieces.{rateOf}
 use Rattle.form.specs.Form.{Book, numberOf}
 use Rattle.book.specs.Promises.{partOf, tableTrials}
 use Rattle.book.specs.Live.{live-slots, live-length}
+use Rattle.query.specs.Plain.{offerOf}
 use Rattle.book.specs.Sought.{Sought, sought-item, sought-none, keyed-any, keyed-none}
 
 -- ---- trials one behind the other
@@ -48,8 +49,8 @@ clear-append (t ∷ ks) ls k l = (k .0, clear-append ks ls (k .1) l)
 -- a post in range is of an offer in range
 pub clear-offer : (n r z : ℤ) → Clear (rangeTrials (post n r z)) → T (offerInRange (record { number = n; rate = r; base = z }))
 clear-offer n r z k =
-    both (numberInRange n && rateInRange r) (baseInRange z)
-    (both (numberInRange n) (rateInRange r) (not-not (numberInRange n) (k .0)) (not-not (rateInRange r) (k .1 .0)))
+    and-both (numberInRange n && rateInRange r) (baseInRange z)
+    (and-both (numberInRange n) (rateInRange r) (not-not (numberInRange n) (k .0)) (not-not (rateInRange r) (k .1 .0)))
     (not-not (baseInRange z) (k .1 .1 .0))
 
 -- a declined call
@@ -123,10 +124,6 @@ cap-there w {c} e h = go (leb (64 * (upTo 4096 (word w 0) + 1)) (length w)) refl
     go true d k = record { first = upTo-above 4096 (word w 0) k h; room = omega (arith, k, leb-true (64 * (upTo 4096 (word w 0) + 1)) (length w) d) }
     go false d k = absurd (omega arith)
 
-or-no : (a b : Bool) → (T a → ⊥) → (T b → ⊥) → T (a || b) → ⊥
-or-no true b p q t = p t
-or-no false b p q t = q t
-
 -- cause 3 does not apply
 pub cap-book : (start : ℕ) (t : List ℤ) {c : ℕ} → cap (partOf t start) ≡ c → 1 ≤ c → T (not (noBookAt (length t) start (word (partOf t start) 0)))
 cap-book start t {c} e low = subst (λ (z : ℤ). T (not (noBookAt (length t) start z))) (sym (there .first)) (not-T (noBookAt (length t) start (pos c)) no-cause)
@@ -145,7 +142,7 @@ cap-book start t {c} e low = subst (λ (z : ℤ). T (not (noBookAt (length t) st
         or-no (ltb (length t) start || ltb (length t - start) 128 || not (between (pos 1) (pos 4_096) (pos c))) _
         (or-no (ltb (length t) start || ltb (length t - start) 128) _
         (or-no (ltb (length t) start) _ (λ q. omega (arith, long, ltb→lt (length t) start q)) (λ q. omega (arith, low, long, ltb→lt (length t - start) 128 q)))
-        (λ q. T-not (between (pos 1) (pos 4_096) (pos c)) q (both (leZ (pos 1) (pos c)) (leZ (pos c) (pos 4_096)) (omega (arith, intRules, low)) (omega (arith, intRules, high)))))
+        (λ q. T-not (between (pos 1) (pos 4_096) (pos c)) q (and-both (leZ (pos 1) (pos c)) (leZ (pos c) (pos 4_096)) (omega (arith, intRules, low)) (omega (arith, intRules, high)))))
         (λ q. omega (arith, long, ltb→lt (length t - start) (partLength c) q))
 
 pub book-there : (start : ℕ) (t : List ℤ) {plain : State} {held : Option (Held Item)} → Book (partOf t start) plain held → T (not (noBookAt (length t) start (word (partOf t start) 0)))

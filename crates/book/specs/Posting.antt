@@ -25,11 +25,13 @@ use Rattle.table.specs.Layout.{cap}
 use Rattle.table.specs.Items.{Item, In, at, Slots}
 use Rattle.table.specs.Rep.{within-cap, Only}
 use Rattle.table.specs.Threads.{Held as HeldAt, Holds}
-use Rattle.pieces.specs.Pieces.{items, item-laws, rateOf, partRef}
+use Rattle.pieces.specs.Pieces.{items, item-laws, rateOf}
 use Rattle.form.specs.Form.{Book, OffersIn, NumbersIn, numberOf, head0}
+use Rattle.table.specs.PartTrees.{partRef}
 use Rattle.numbers.specs.Numbers.{NumbersAt, Added}
-use Rattle.book.specs.Live.{offerOf, live-slots, live-whole}
-use Rattle.book.specs.Sought.{Sought, sought-none, part-ref, numbers-at, offers-read, envelope-read, capacity-most, live-most}
+use Rattle.query.specs.Plain.{offerOf}
+use Rattle.book.specs.Live.{live-slots, live-whole}
+use Rattle.book.specs.Sought.{Sought, sought-none, numbers-at, offers-read, envelope-read, capacity-most, live-most}
 use Rattle.book.specs.Plainly.{clear-offer}
 use Rattle.book.specs.Agree.{Agree, Everywhere, FreeHere, agree-trans, agree-less, agree-header, agree-only, agree-touched, header-kept, header-set, offers-number, numbers-envelope, free-number, free-envelope, held-agree, offers-agree, numbers-agree, free-agree}
 use Rattle.book.specs.Writing.{Filled, Headed, FirstFree, first-free}
@@ -192,7 +194,7 @@ module _ {w w₁ w₂ w₃ w₄ w′ : Words} {plain : State} {s root root′ x 
       ∙ header-kept (joined₄ .within) 4 (omega arith)
       ∙ ap (λ (v : Words). word v 4) (steps .rooted)
       ∙ header-set w₂ 4 (pos root′) (omega (arith, free .low, slots₁ .high (List·Memᴰ·head refl), within-cap (steps .added .within))) (omega arith)
-      ∙ ap pos (numbers-at′ .root-is ∙ sym (part-ref numbers′))
+      ∙ ap pos (numbers-at′ .root-is)
 
   first-free′ : word w′ 5 ≡ pos (head0 others)
   first-free′ =

@@ -17,7 +17,7 @@ use Rattle.table.specs.Items.{Item}
 use Rattle.pieces.specs.Pieces.{items, item-laws, Standing}
 use Rattle.form.specs.Frames.{whole-standing}
 use Rattle.form.specs.Form.{Book, OffersIn, envelopeRef}
-use Rattle.query.specs.Pieces.{Pieces}
+use Rattle.query.specs.QueriedPieces.{Pieces}
 use Rattle.book.specs.Sought.{envelope-read}
 
 -- the tree of the pieces of these lines

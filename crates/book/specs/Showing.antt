@@ -8,6 +8,7 @@ use native.Mathlib.Omega.{arith}
 use lib.ListN.{length, take, drop, length-map}
 use lib.Seq.{take-at, drop-at}
 use lib.IntN.{ℤ, pos}
+use Rattle.lists.specs.Bools.{said, denied}
 use Rattle.envelopes.specs.Envelope.{Ordered, Ordered·nil}
 use Rattle.envelopes.specs.Small.{env-nil}
 use Rattle.plain.specs.Causes.{noBook}
@@ -25,7 +26,7 @@ use Rattle.query.specs.Listing.{Written}
 use Rattle.book.specs.Promises.{partOf, tableTrials, listingAnswer, writtenWords, Lists}
 use Rattle.book.specs.Live.{live-whole, whole-ordered}
 use Rattle.book.specs.Plainly.{table-declined}
-use Rattle.book.specs.Parts.{whole-part, said, denied}
+use Rattle.book.specs.LentPart.{whole-part}
 use Rattle.book.specs.Rooted.{Root, bare, topped, root-of}
 use Rattle.book.specs.Opens.{one-cause, not-clear}
 use Rattle.book.specs.declared.Listed.{Listed}

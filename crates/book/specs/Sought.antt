@@ -11,9 +11,12 @@ use lib.Dec.{T, T-not, not-T}
 use lib.IntN.{ℤ, pos}
 use Rattle.lists.specs.Filter.{every}
 use Rattle.lists.specs.Tests.{any, none-at}
+use Rattle.lists.specs.Bools.{not-failed}
+use Rattle.integers.specs.Equal.{equal}
+use Rattle.integers.specs.Parts.{equal-eq, unequal}
 use Rattle.offers.specs.Offers.{Offer}
-use Rattle.plain.specs.Book.{State, equal}
-use Rattle.plain.specs.Sound.{equal-eq, unequal}
+use Rattle.plain.specs.Book.{State}
+use Rattle.envelopes.specs.EnvelopeLaws.{ordered-pairs}
 use Rattle.trees.specs.Tree.{Tree, leaf, node, leaves, last}
 use Rattle.trees.specs.Leaves.{last-leaf}
 use Rattle.trees.specs.Operations.{Part, partLeaves, find}
@@ -26,13 +29,14 @@ use Rattle.table.specs.Words.{Words, word, upTo, upTo-in}
 use Rattle.table.specs.Layout.{cap-most}
 use Rattle.table.specs.Items.{Item, Slots}
 use Rattle.table.specs.Rep.{refOf}
-use Rattle.table.specs.Parts.{refOfP}
+use Rattle.table.specs.PartTrees.{partRef}
 use Rattle.descents.specs.Finds.{Found, foundAt}
-use Rattle.pieces.specs.Pieces.{rateOf, partRef}
+use Rattle.pieces.specs.Pieces.{rateOf}
 use Rattle.form.specs.Frames.{held-slots}
 use Rattle.form.specs.Form.{Book, OffersIn, numberOf, offersRef, envelopeRef}
 use Rattle.numbers.specs.Numbers.{NumbersAt, FoundNumber}
-use Rattle.book.specs.Live.{offerOf, live-slots, live-holds, ordered-pairs}
+use Rattle.query.specs.Plain.{offerOf}
+use Rattle.book.specs.Live.{live-slots, live-holds}
 
 -- ---- some live offer has a key, or none has
 
@@ -50,11 +54,7 @@ module _ {A : Type 0} (test : A → Bool) where
 
 module _ (key : Offer → ℤ) (n : ℤ) (live : List Item) where
   pub keyed-any : {a : Item} → List·Memᴰ a live → key (a .offer) ≡ n → T (any (λ o. equal (key o) n) (map offerOf live))
-  keyed-any {a} m e = not-no (any (λ o. equal (key o) n) (map offerOf live)) (λ t. unequal (key (a .offer)) n (none-at (λ o. equal (key o) n) (map offerOf live) t (a .offer) (Memᴰ·map offerOf m)) e)
-    where
-      not-no : (b : Bool) → (T (not b) → ⊥) → T b
-      not-no true h = tt
-      not-no false h = absurd (h tt)
+  keyed-any {a} m e = not-failed (any (λ o. equal (key o) n) (map offerOf live)) (λ t. unequal (key (a .offer)) n (none-at (λ o. equal (key o) n) (map offerOf live) t (a .offer) (Memᴰ·map offerOf m)) e)
 
   pub keyed-none : ((a : Item) → List·Memᴰ a live → key (a .offer) ≢ n) → T (not (any (λ o. equal (key o) n) (map offerOf live)))
   keyed-none h = not-any (λ o. equal (key o) n) (map offerOf live) (λ o m. not-T (equal (key o) n) (λ t. let (a, i, e) = Memᴰ·of-map offerOf live m in h a i (ap key e ∙ equal-eq (key o) n t)))
@@ -105,13 +105,9 @@ refs-high : {c : ℕ} (t : Tree Item) → ((a : Item) → List·Memᴰ a (leaves
 refs-high (leaf a) h k = omega (arith, h a (List·Memᴰ·head refl))
 refs-high (node l r) h k = omega (arith, h (last l) (Memᴰ·append-left (leaves r) (last-leaf l)))
 
-part-high : {c : ℕ} (p : Part Item) → ((a : Item) → List·Memᴰ a (partLeaves p) → a .slot ≤ c) → c ≤ 4096 → refOfP p ≤ 8192
+part-high : {c : ℕ} (p : Part Item) → ((a : Item) → List·Memᴰ a (partLeaves p) → a .slot ≤ c) → c ≤ 4096 → partRef p ≤ 8192
 part-high none h k = omega arith
 part-high (some t) h k = refs-high t h k
-
-pub part-ref : (p : Part Item) → partRef p ≡ refOfP p
-part-ref none = refl
-part-ref (some t) = refl
 
 read-word : {z : ℤ} {n : ℕ} → z ≡ pos n → n ≤ 8192 → upTo 8192 z ≡ n
 read-word {n} e h = ap (upTo 8192) e ∙ upTo-in 8192 n h
@@ -141,12 +137,12 @@ module _ {w : Words} {plain : State} {held : Option (Held Item)} (b : Book w pla
     where
       high : (h : Option (Held Item)) → OffersIn w h → envelopeRef h ≤ 8192
       high none o = omega arith
-      high (some h) o = rw (part-ref (h .whole)) (part-high (h .whole) (λ a m. held-slots o .high (Memᴰ·append-left (stored (h .tree)) m)) (cap-most w))
+      high (some h) o = part-high (h .whole) (λ a m. held-slots o .high (Memᴰ·append-left (stored (h .tree)) m)) (cap-most w)
 
   -- the root of the numbers
-  pub numbers-read : upTo 8192 (word w 4) ≡ refOfP (b .numbers .numbers)
+  pub numbers-read : upTo 8192 (word w 4) ≡ partRef (b .numbers .numbers)
   numbers-read =
-      read-word (b .numbers .numbers-root ∙ ap pos (part-ref (b .numbers .numbers)))
+      read-word (b .numbers .numbers-root)
       (part-high (b .numbers .numbers) (λ a m. live-slots w held (b .offers .offers-in) .high (b .numbers .numbers-in .all-live a m)) (cap-most w))
 
   pub numbers-at : {root : ℕ} → root ≡ upTo 8192 (word w 4) → NumbersAt w root (bookLines held) (b .numbers .numbers)

@@ -5,9 +5,10 @@ use mathlib.Core.List.{List, _++_}
 use mathlib.Core.Option.{Option}
 use Prim.Native.Nat.{ℕ, _+_, _-_, _≤_, _<_}
 use native.Mathlib.Omega.{arith}
-use lib.ListN.{length, take, drop, length-drop}
+use lib.ListN.{length, take, drop}
 use lib.Dec.{T}
 use lib.IntN.{ℤ, pos}
+use Rattle.lists.specs.Bools.{said, denied}
 use Rattle.offers.specs.Offers.{numberInRange, rateInRange, baseInRange}
 use Rattle.plain.specs.Causes.{Cause, causeNumber, numberOutOfRange, rateOutOfRange, baseOutOfRange}
 use Rattle.plain.specs.Book.{State, Call, post, withdraw, refused, join, leave, noBookAt, partLength, holding, step}
@@ -25,7 +26,7 @@ use Rattle.book.specs.Promises.{partOf, capacityAt, tableTrials, updateA
 use Rattle.book.specs.Sought.{number-sought}
 use Rattle.book.specs.Plainly.{refusing, cap-there, table-declined, withdraw-missing, withdraw-clear}
 use Rattle.book.specs.Following.{follows-declined, follows-posted, follows-withdrawn}
-use Rattle.book.specs.Parts.{part-back, only-part, whole-part, lent-back, said, denied, book-cap}
+use Rattle.book.specs.LentPart.{part-back, only-part, whole-part, lent-back, book-cap, book-start}
 use Rattle.book.specs.Opens.{one-cause, not-clear}
 use Rattle.book.specs.Posting.{Updated}
 use Rattle.book.specs.PartUpdates.{OutOfRange, Kept, PostCause, PostDone, WithdrawDone}
@@ -51,12 +52,6 @@ pub number-alone : (n : ℤ) {b : Bool} → b ≡ not (numberInRange n) → OutO
 number-alone n e = record { says = λ q. (numberOutOfRange, at-once (said e q), refl); denies = λ q. (denied e q, tt) }
 
 -- ---- where there is a book
-
--- `start` lies in the table
-pub start-in : (t : List ℤ) (start : ℕ) {b : Bool} → b ≡ noBookAt (length t) start (word (partOf t start) 0) → b ≡ false → start ≤ length t
-start-in t start e h =
-    let (p, q) = book-cap t start (denied e h) in
-    omega (arith, q, cap-there (partOf t start) p q .room, length-drop start t)
 
 -- the words lent
 abbrev lent : List ℤ → ℕ → Words
@@ -123,7 +118,7 @@ module _ (k : Call) (start : ℕ) (t t′ : List ℤ) where
             back = lent-back t start w′ et
 
             low : start ≤ length t
-            low = start-in t start e h
+            low = book-start t start e h
 
             kept : Kept (partOf t start) w′
             kept = subst (λ (u : Words). Kept u w′) (whole-part t start) g

@@ -20,12 +20,14 @@ use Rattle.table.specs.Words.{Words, word, wset, wset-other, upTo, upTo-in}
 use Rattle.table.specs.Layout.{cap, cap-most}
 use Rattle.table.specs.Items.{Item, In, at}
 use Rattle.table.specs.Rep.{within-cap, Only}
-use Rattle.pieces.specs.Pieces.{items, item-laws, partRef}
+use Rattle.pieces.specs.Pieces.{items, item-laws}
 use Rattle.form.specs.Form.{Book, OffersIn, NumbersIn, FreeChain, free-none, free-more, numberOf, head0, plainOffers}
+use Rattle.table.specs.PartTrees.{partRef}
 use Rattle.update.specs.Steps.{RemovedIn}
 use Rattle.numbers.specs.Numbers.{NumbersAt, Dropped}
-use Rattle.book.specs.Live.{offerOf, live-slots, live-holds, live-whole, whole-ordered, slot-tells, number-tells}
-use Rattle.book.specs.Sought.{Sought, sought-item, part-ref, numbers-at, offers-read, envelope-read, capacity-most, live-most}
+use Rattle.query.specs.Plain.{offerOf}
+use Rattle.book.specs.Live.{live-slots, live-holds, live-whole, whole-ordered, slot-tells, number-tells}
+use Rattle.book.specs.Sought.{Sought, sought-item, numbers-at, offers-read, envelope-read, capacity-most, live-most}
 use Rattle.book.specs.Agree.{Agree, Everywhere, FreeHere, agree-trans, agree-less, agree-header, agree-only, agree-touched, header-kept, header-set, offers-number, numbers-envelope, free-number, free-envelope, offers-agree, numbers-agree, free-agree}
 use Rattle.book.specs.Writing.{Headed, Freed, free-not-live}
 use Rattle.book.specs.Counts.{counts-exact}
@@ -158,7 +160,7 @@ module _ {w w₁ w₂ w₃ w₄ w′ : Words} {number : ℤ} {plain : State} {s 
       ∙ header-kept (left₃ .within) 4 (omega arith)
       ∙ ap (λ (v : Words). word v 4) (steps .rooted)
       ∙ header-set w₁ 4 (pos root′) (omega (arith, slot-low, slot-high, within-cap (steps .dropped .within))) (omega arith)
-      ∙ ap pos (numbers-at′ .root-is ∙ sym (part-ref numbers′))
+      ∙ ap pos (numbers-at′ .root-is)
 
   fewer : length (bookLines held) ≡ suc (length (bookLines (withdrawn items a held .rest)))
   fewer = without-length ordered (live .member) ∙ ap (λ (l : List Item). suc (length l)) (sym lines)

@@ -9,7 +9,8 @@ use native.Mathlib.Omega.{arith}
 use lib.ListN.{length}
 use lib.Dec.{T}
 use lib.IntN.{ℤ, pos}
-use Rattle.integers.specs.Parts.{intRules, and-left, range-low}
+use Rattle.lists.specs.Bools.{and-left}
+use Rattle.integers.specs.Parts.{intRules, range-low}
 use Rattle.offers.specs.Offers.{Offer, numberInRange, rateInRange, baseInRange}
 use Rattle.dynamic.specs.OfferTree.{Held}
 use Rattle.dynamic.specs.Valid.{bookLines}

@@ -1,13 +1,12 @@
 // The carrier book in a lent table: open, post, withdraw, query, listing, check.
 ghost use mathlib.Core.Path.{_≡_};
-ghost use mathlib.Core.Bool.{not};
 ghost use Prim.Native.Nat.{_+_, _*_, _-_, _≤_};
 ghost use lib.ListN.{length};
-ghost use Rattle.offers.specs.Offers.{between};
 ghost use lib.IntN.{pos};
 ghost use Rattle.plain.specs.Book.{post, withdraw, noBookAt};
 ghost use Rattle.table.specs.Words.{word, upTo};
 ghost use Rattle.table.specs.Free.{firstFree};
+ghost use Rattle.descents.specs.Finds.{Found as FoundByKey};
 ghost use Rattle.numbers.specs.Numbers.{FoundNumber};
 ghost use Rattle.book.specs.declared.Update.the-variants.{Done};
 ghost use Rattle.book.specs.Promises.{partOf, Opens, Updates, Queries, Lists, Checks};
@@ -43,16 +42,6 @@ pub enum Found {
 pub enum Listed {
     Pieces(i64),
     Declined(i64),
-}
-
-// A value below the range's low end or above its high end.
-fn outside(low: i64, high: i64, value: i64) -> bool
-    ensures { λ r. ⌜ r ≡ not (between low high value) ⌝ }
-{
-    if value < low {
-        return true;
-    }
-    high < value
 }
 
 // There is no book at `start`: it lies beyond the table, or the words there tell no capacity that they have room for.
@@ -108,7 +97,7 @@ fn start_book(part: &mut [i64], capacity: u32)
 pub fn open(table: &mut [i64], start: usize, capacity: i64) -> Opening
     ensures { λ r. ⌜ Opens capacity start (now (table .entry)) (now (table .exit)) r ⌝ }
 {
-    if outside(1, 4096, capacity) {
+    if query::outside(1, 4096, capacity) {
         return Opening::Declined(1);
     }
     let c = table::up_to(4096, capacity);
@@ -146,13 +135,20 @@ fn done(live: u32, k: u32, s: u32, h: u32) -> Update
 fn offer_outside(number: i64, rate: i64, base: i64) -> bool
     ensures { λ r. ⌜ OutOfRange (post number rate base) r ⌝ }
 {
-    if outside(1, 9_999, number) {
+    if query::outside(1, 9_999, number) {
         return true;
     }
-    if outside(-100_000, 100_000, rate) {
+    if query::outside(-100_000, 100_000, rate) {
         return true;
     }
-    outside(-1_000_000_000, 1_000_000_000, base)
+    query::outside(-1_000_000_000, 1_000_000_000, base)
+}
+
+// The slot of the offer with that rate in the tree of offers, and 0 where there is none.
+fn find_rate(part: &[i64], root: u32, rate: i64) -> u32
+    ensures { λ r. ⌜ FoundByKey (now (part .entry)) 1 1 rate root r ⌝ }
+{
+    descents::find(part, 1, 1, rate, root)
 }
 
 // The cause for which a post in range is declined, or 0.
@@ -164,7 +160,7 @@ fn post_cause(part: &[i64], number: i64, rate: i64) -> u32
         return 5;
     }
     let x = table::number_at(part, 1, 8192);
-    if 0 < numbers::find_rate(part, x, rate) {
+    if 0 < find_rate(part, x, rate) {
         return 6;
     }
     let n = table::number_at(part, 3, 8192);
@@ -179,7 +175,7 @@ fn fill(part: &mut [i64], number: i64, rate: i64, base: i64) -> u32
     ensures is { λ s. ⌜ s ≡ firstFree (now (part .entry)) ⌝ }
     ensures words { λ s. ⌜ now (part .exit) ≡ filling number rate base s (now (part .entry)) ⌝ }
 {
-    let s = slots::take_slot(part);
+    let s = table::take_slot(part);
     table::put(part, 0, s, number);
     table::put(part, 1, s, rate);
     table::put(part, 2, s, base);
@@ -282,7 +278,7 @@ fn withdraw_part(part: &mut [i64], number: i64, s: u32) -> Told
     let rest = update::remove(part, x, e, s);
     let live = one_less(n);
     set_roots(part, rest.x, rest.e, live);
-    slots::give_slot(part, s);
+    table::give_slot(part, s);
     Told {
         live: live,
         k: rest.k,
@@ -298,7 +294,7 @@ pub fn withdraw(table: &mut [i64], start: usize, number: i64) -> Update
     if no_book(table, start) {
         return Update::Declined(3);
     }
-    if outside(1, 9_999, number) {
+    if query::outside(1, 9_999, number) {
         return Update::Declined(4);
     }
     let s = live_slot(&table[start..], number);
@@ -336,7 +332,7 @@ pub fn query(table: &[i64], start: usize, load: i64) -> Found
     if no_book(table, start) {
         return Found::Declined(3);
     }
-    if outside(-1_000_000, 1_000_000, load) {
+    if query::outside(-1_000_000, 1_000_000, load) {
         return Found::Declined(4);
     }
     ask(&table[start..], load)

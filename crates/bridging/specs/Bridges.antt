@@ -6,15 +6,15 @@ use Prim.Native.Nat.{ℕ, _+_, _-_, _≤_, _<_}
 use native.Mathlib.Omega.{arith}
 use lib.ListN.{getD}
 use lib.IntN.{ℤ, _-ℤ_}
+use Rattle.lists.specs.Bools.{never, passed, is-true}
+use Rattle.integers.specs.Equal.{equal}
+use Rattle.integers.specs.Parts.{equal-eq, equal-is}
 use Rattle.offers.specs.Offers.{crossingNumerator, crossingDenominator}
-use Rattle.trees.specs.Operations.{eqZ}
-use Rattle.trees.specs.Tests.{eqZ-same, same-eqZ}
 use Rattle.table.specs.Words.{Words}
 use Rattle.table.specs.Layout.{cell, linkAt}
 use Rattle.table.specs.Threads.{Next}
 use Rattle.matching.specs.Laid.{itemAt}
-use Rattle.matching.specs.Tests.{Decides, decides-yes, decides-no, Every, every-none, is-true, true-is}
-use Rattle.matching.specs.Fills.{never}
+use Rattle.matching.specs.Deciding.{Decides, decides-yes, decides-no, Every, every-none}
 use Rattle.matching.specs.Loops.{RangedHere, NextHere}
 use Rattle.bridging.specs.Gaps.{InRange, baseGap, rateGap, base-is, rate-is, crossAt}
 
@@ -54,20 +54,20 @@ module _ {w : Words} {a b : ℕ} where
   denominator-is : InRange w a → InRange w b → rateGap w a b ≡ crossingDenominator (itemAt w a .offer) (itemAt w b .offer)
   denominator-is ha hb = ap₂ _-ℤ_ (rate-is ha) (rate-is hb)
 
-  module _ {r : Bool} {n : ℤ} (en : n ≡ baseGap w a b) (er : r ≡ eqZ (cell w 6 a) n) where
+  module _ {r : Bool} {n : ℤ} (en : n ≡ baseGap w a b) (er : r ≡ equal (cell w 6 a) n) where
     pub follows-no-base : r ≡ false → Follows w a b false
-    follows-no-base e = record { told = λ ha hb. decides-no (λ p. never (er ∙ true-is (eqZ (cell w 6 a) n) (same-eqZ (cell w 6 a) n (p .numerator ∙ sym (numerator-is ha hb) ∙ sym en))) e) }
+    follows-no-base e = record { told = λ ha hb. decides-no (λ p. never (er ∙ is-true (equal (cell w 6 a) n) (equal-is (cell w 6 a) n (p .numerator ∙ sym (numerator-is ha hb) ∙ sym en))) e) }
 
-    pub follows-rest : {s : ℕ} {q : Bool} {d : ℤ} → s ≡ linkAt w 19 a → s ≡ b → r ≡ true → d ≡ rateGap w a b → q ≡ eqZ (cell w 7 a) d → Follows w a b q
+    pub follows-rest : {s : ℕ} {q : Bool} {d : ℤ} → s ≡ linkAt w 19 a → s ≡ b → r ≡ true → d ≡ rateGap w a b → q ≡ equal (cell w 7 a) d → Follows w a b q
     follows-rest {s} {q} {d} es e t ed eq =
         record {
           told = λ ha hb. record {
             sound = λ u. record {
               next = sym es ∙ e;
-              numerator = eqZ-same (cell w 6 a) n (is-true (eqZ (cell w 6 a) n) (sym er ∙ t)) ∙ en ∙ numerator-is ha hb;
-              denominator = eqZ-same (cell w 7 a) d (is-true (eqZ (cell w 7 a) d) (sym eq ∙ u)) ∙ ed ∙ denominator-is ha hb;
+              numerator = equal-eq (cell w 6 a) n (passed (sym er ∙ t)) ∙ en ∙ numerator-is ha hb;
+              denominator = equal-eq (cell w 7 a) d (passed (sym eq ∙ u)) ∙ ed ∙ denominator-is ha hb;
             };
-            complete = λ p. eq ∙ true-is (eqZ (cell w 7 a) d) (same-eqZ (cell w 7 a) d (p .denominator ∙ sym (denominator-is ha hb) ∙ sym ed));
+            complete = λ p. eq ∙ is-true (equal (cell w 7 a) d) (equal-is (cell w 7 a) d (p .denominator ∙ sym (denominator-is ha hb) ∙ sym ed));
           };
         }
 

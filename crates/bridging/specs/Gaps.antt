@@ -10,12 +10,13 @@ use mir.Syntax.{w64}
 use mir.Val.{SFits}
 use Rattle.offers.specs.Offers.{offerInRange, rateInRange, baseInRange}
 use Rattle.offers.specs.Sizes.{rate-of, base-of, numeratorInRange, denominatorInRange, base-gap-fits, base-gap-in-range, rate-gap-fits, rate-gap-in-range, cross-product-fits}
+use Rattle.offers.specs.Bounded.{bounded-in}
 use Rattle.envelopes.specs.PseudoLines.{Figure}
 use Rattle.lines.specs.Lines.{cross-left}
 use Rattle.table.specs.Words.{Words}
 use Rattle.table.specs.Layout.{cell}
 use Rattle.table.specs.Items.{Item}
-use Rattle.search.specs.Prices.{bounded-in, rateAt, baseAt, rate-ranged, base-ranged}
+use Rattle.search.specs.Prices.{rateAt, baseAt, rate-ranged, base-ranged}
 use Rattle.pieces.specs.Pieces.{items, rateOf, baseOf}
 use Rattle.matching.specs.Laid.{itemAt}
 

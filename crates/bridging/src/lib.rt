@@ -3,7 +3,7 @@ ghost use mathlib.Core.Path.{_≡_};
 ghost use mathlib.Core.Bool.{true, false};
 ghost use Prim.Native.Nat.{_+_, _-_, _≤_, _<_};
 ghost use lib.ListN.{getD};
-ghost use Rattle.matching.specs.Tests.{Decides};
+ghost use Rattle.matching.specs.Deciding.{Decides};
 ghost use Rattle.bridging.specs.Gaps.{baseGap, rateGap, crossAt};
 ghost use Rattle.bridging.specs.Bridges.{Bridges, Ends, Follows, Threads};
 

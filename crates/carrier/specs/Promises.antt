@@ -27,9 +27,9 @@ refusal cause = negℤ (pos (natAbs cause))
 abbrev pub tooShort : ℤ
 tooShort = negℤ (pos 100)
 
-abbrev pub openingNumber : Opening → ℤ
-openingNumber OpeningDone = pos 0
-openingNumber (OpeningDeclined cause) = refusal cause
+abbrev pub openedNumber : Opening → ℤ
+openedNumber OpeningDone = pos 0
+openedNumber (OpeningDeclined cause) = refusal cause
 
 abbrev pub updateNumber : Update → ℤ
 updateNumber (Done n k s h) = n
@@ -62,7 +62,7 @@ foundOf (FoundDeclined cause) = []
 pub record Opened (c : ℤ) (start : ℕ) (t t′ : List ℤ) (r : ℤ) : Type 0 where
   pub opening : Opening
   pub opens : Opens c start t t′ opening
-  pub number : r ≡ openingNumber opening
+  pub number : r ≡ openedNumber opening
 
 pub record Told (u : Update) (counts counts′ : List ℤ) (r : ℤ) : Type 0 where
   pub number : r ≡ updateNumber u

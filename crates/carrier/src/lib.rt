@@ -4,7 +4,7 @@ ghost use mathlib.Core.Path.{_≡_};
 ghost use Prim.Native.Nat.{_≤_};
 ghost use lib.ListN.{length};
 ghost use Rattle.plain.specs.Book.{post, withdraw};
-ghost use Rattle.carrier.specs.Promises.{refusal, openingNumber, listedNumber, Opened, Told, Named, Updated, Queried, Listing, Checked};
+ghost use Rattle.carrier.specs.Promises.{refusal, openedNumber, listedNumber, Opened, Told, Named, Updated, Queried, Listing, Checked};
 
 // A cause, below 0.
 fn below_zero(cause: i64) -> i64
@@ -18,7 +18,7 @@ fn below_zero(cause: i64) -> i64
 
 // An opening's answer.
 fn opening_number(o: book::Opening) -> i64
-    ensures { λ r. ⌜ r ≡ openingNumber o ⌝ }
+    ensures { λ r. ⌜ r ≡ openedNumber o ⌝ }
 {
     match o {
         book::Opening::Opened => 0,

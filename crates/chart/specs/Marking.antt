@@ -11,7 +11,7 @@ use lib.Dec.{T, T-not, not-T, leb}
 use lib.Arith.{lt→nleb}
 use lib.IntN.{ℤ, pos, negsuc}
 use lib.Signed.{leZ, ltZ}
-use Rattle.lists.specs.Filter.{both}
+use Rattle.lists.specs.Bools.{and-both, denied}
 use Rattle.integers.specs.Parts.{intRules, range-parts}
 use Rattle.offers.specs.Offers.{Offer, between, crossingNumerator, crossingDenominator}
 use Rattle.envelopes.specs.Envelope.{Ordered}
@@ -32,15 +32,15 @@ use Rattle.table.specs.Items.{Item}
 use Rattle.table.specs.Threads.{Held as InSlot, Next, Threaded}
 use Rattle.search.specs.ItemLines.{Falls}
 use Rattle.search.specs.Prices.{rateAt, numeratorAt, denominatorAt, crossingPriceAt}
-use Rattle.search.specs.Pieces.{read-rate, read-price, read-numerator, read-denominator}
+use Rattle.search.specs.SearchedPieces.{read-rate, read-price, read-numerator, read-denominator}
 use Rattle.pieces.specs.Pieces.{items}
 use Rattle.form.specs.Form.{Book, plainOffers}
-use Rattle.query.specs.Pieces.{Pieces}
+use Rattle.query.specs.QueriedPieces.{Pieces}
 use Rattle.query.specs.Plain.{offerOf, pieces-plain}
 use Rattle.query.specs.Counting.{Counted, Passed}
 use Rattle.book.specs.Live.{live-whole, whole-ordered}
 use Rattle.book.specs.Promises.{partOf}
-use Rattle.book.specs.Parts.{whole-part, denied, no-form, no-book-cause}
+use Rattle.book.specs.LentPart.{whole-part, no-form, no-book-cause}
 use Rattle.book.specs.Opens.{not-clear}
 use Rattle.book.specs.Rooted.{Root, bare, topped, Top, root-of}
 use Rattle.chart.specs.Promises.{marksBehind, marks, refusal, markTrials, markOf, plainMark, Marks}
@@ -212,7 +212,7 @@ module _ {w : Words} {root m : ℕ} (er : root ≡ upTo 8192 (word w 2)) (k : Co
       ∙ sym (ap (markOf (plainOffers (some h)) (pos n)) (not-declined (markTrials (plainOffers (some h)) (pos n)) (q .live, (not-T (not (between (pos 0) (pos (length (envelope (plainOffers (some h))))) (pos n))) (λ t. T-not (between (pos 0) (pos (length (envelope (plainOffers (some h))))) (pos n)) t inside), tt))))
     where
       inside : T (between (pos 0) (pos (length (envelope (plainOffers (some h))))) (pos n))
-      inside = both (leZ (pos 0) (pos n)) (leZ (pos n) (pos (length (envelope (plainOffers (some h)))))) (omega (arith, intRules)) (omega (arith, intRules, q .many))
+      inside = and-both (leZ (pos 0) (pos n)) (leZ (pos n) (pos (length (envelope (plainOffers (some h)))))) (omega (arith, intRules)) (omega (arith, intRules, q .many))
 
   module _ {s : ℕ} (f : 1 ≤ m) where
     -- mark 0

@@ -11,7 +11,7 @@ use Rattle.table.specs.Words.{Words}
 use Rattle.table.specs.Layout.{linkAt}
 use Rattle.table.specs.Items.{Item}
 use Rattle.descents.specs.Ends.{Ended}
-use Rattle.query.specs.Pieces.{Pieces}
+use Rattle.query.specs.QueriedPieces.{Pieces}
 use Rattle.query.specs.Counting.{Passed, follow}
 
 -- r is the slot of piece i, counted from 0

@@ -6,17 +6,18 @@ use Prim.Native.Nat.{ℕ}
 use native.Mathlib.Omega.{arith}
 use lib.ListN.{length}
 use Rattle.lists.specs.Places.{sublist-mem}
+use Rattle.lists.specs.Bools.{never}
 use Rattle.envelopes.specs.Query.{env-unique}
 use Rattle.trees.specs.Tree.{Tree, leaves}
 use Rattle.trees.specs.Operations.{Part, partLeaves}
 use Rattle.trees.specs.Balanced.{AvlP}
 use Rattle.table.specs.Words.{Words}
 use Rattle.table.specs.Items.{Item}
-use Rattle.pieces.specs.Pieces.{items, item-laws, partRef, PartIn}
+use Rattle.table.specs.PartTrees.{partRef}
+use Rattle.pieces.specs.Pieces.{items, item-laws, PartIn}
 use Rattle.matching.specs.Stretches.{span}
-use Rattle.matching.specs.Tests.{Decides, decides-no}
+use Rattle.matching.specs.Deciding.{Decides, decides-no}
 use Rattle.matching.specs.Laid.{itemsAt}
-use Rattle.matching.specs.Fills.{never}
 use Rattle.merging.specs.declared.Walked.{Walked}
 use Rattle.merging.specs.PieceTrees.{AllKnown, PieceTree, Matches}
 use Rattle.merging.specs.Stands.{Stands, stands-known, Decorated, decorated-env}

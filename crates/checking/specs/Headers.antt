@@ -3,9 +3,9 @@ use mathlib.Core.Path.{_≡_}
 use mathlib.Core.Bool.{Bool, true, false}
 use Prim.Native.Nat.{ℕ}
 use lib.IntN.{pos}
+use Rattle.lists.specs.Bools.{never}
 use Rattle.table.specs.Words.{Words, word}
-use Rattle.matching.specs.Tests.{Decides, decides-no, decides-as}
-use Rattle.matching.specs.Fills.{never}
+use Rattle.matching.specs.Deciding.{Decides, decides-no, decides-as}
 
 pub record Header (w : Words) (x e n : ℕ) : Type 0 where
   pub offers-root : word w 1 ≡ pos x

@@ -7,6 +7,7 @@ use native.Mathlib.Omega.{arith}
 use lib.ListN.{length, getD, set, length-set, length-append}
 use lib.Seq.{getD-set-same, getD-set-other}
 use Rattle.lists.specs.Members.{sub-length}
+use Rattle.lists.specs.Bools.{never}
 use Rattle.trees.specs.Tree.{Tree, leaf, node, height, leaves}
 use Rattle.trees.specs.Leaves.{some-leaf}
 use Rattle.dynamic.specs.OfferTree.{OfferTree, single, fork, shape}
@@ -18,7 +19,6 @@ use Rattle.pieces.specs.Pieces.{items}
 use Rattle.form.specs.Stored.{Stored, stored-single, stored-fork}
 use Rattle.matching.specs.Stretches.{span, span-one, span-same, span-length}
 use Rattle.matching.specs.Laid.{itemAt, itemsAt, laid-leaf-low, laid-node-high}
-use Rattle.matching.specs.Fills.{never}
 use Rattle.merging.specs.declared.Walked.{Walked}
 use Rattle.merging.specs.BridgeTests.{items-length}
 use Rattle.merging.specs.Stands.{Stands, stands-left, stands-right, Decorated, decorated-env}

@@ -5,14 +5,15 @@ use mathlib.Core.List.{List, [], _∷_}
 use Prim.Native.Nat.{ℕ, _-_}
 use native.Mathlib.Omega.{arith}
 use lib.ListN.{length}
+use Rattle.lists.specs.Bools.{never}
 use Rattle.trees.specs.Tree.{leaves}
 use Rattle.dynamic.specs.Valid.{bookLines}
 use Rattle.table.specs.Words.{Words, word, upTo}
 use Rattle.matching.specs.declared.Filled.{Filled}
 use Rattle.matching.specs.Stretches.{span, span-none}
-use Rattle.matching.specs.Tests.{Decides, decides-no, decides-as}
+use Rattle.matching.specs.Deciding.{Decides, decides-no, decides-as}
 use Rattle.matching.specs.Laid.{itemsAt}
-use Rattle.matching.specs.Fills.{Fills, never}
+use Rattle.matching.specs.Fills.{Fills}
 use Rattle.checking.specs.Headers.{Header}
 use Rattle.checking.specs.Orders.{StandsOver, Orders, stands-filled, filled-tree, filled-next, filled-items}
 use Rattle.checking.specs.Envelops.{Envelops}

@@ -18,9 +18,10 @@ use Rattle.table.specs.Layout.{cap, cap-most}
 use Rattle.table.specs.Items.{Item, Slots}
 use Rattle.table.specs.Rep.{refOf}
 use Rattle.table.specs.Threads.{Holds}
-use Rattle.pieces.specs.Pieces.{items, item-laws, partRef}
+use Rattle.pieces.specs.Pieces.{items, item-laws}
 use Rattle.form.specs.Stored.{HeldIn}
 use Rattle.form.specs.Form.{offersRef, envelopeRef, OffersIn}
+use Rattle.table.specs.PartTrees.{partRef}
 use Rattle.matching.specs.Laid.{itemAt, AllPlaced}
 use Rattle.merging.specs.Stands.{Stands}
 use Rattle.checking.specs.Headers.{Header}

@@ -13,9 +13,10 @@ use Rattle.dynamic.specs.Valid.{Valid}
 use Rattle.table.specs.Words.{Words}
 use Rattle.table.specs.Items.{Item}
 use Rattle.table.specs.Rep.{refOf}
-use Rattle.pieces.specs.Pieces.{items, partRef, PartIn}
+use Rattle.pieces.specs.Pieces.{items, PartIn}
 use Rattle.form.specs.Stored.{Stored, HeldIn}
 use Rattle.merging.specs.Stands.{Stands, stands-slots, stands-holds, Decorated}
+use Rattle.table.specs.PartTrees.{partRef}
 use Rattle.checking.specs.Headers.{Header}
 use Rattle.checking.specs.OffersStand.{OffersFound, OffersAt}
 

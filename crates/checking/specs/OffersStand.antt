@@ -13,7 +13,7 @@ use Rattle.table.specs.Words.{Words, word}
 use Rattle.table.specs.Items.{Item}
 use Rattle.form.specs.Form.{OffersStand}
 use Rattle.matching.specs.Stretches.{span}
-use Rattle.matching.specs.Tests.{Decides}
+use Rattle.matching.specs.Deciding.{Decides}
 use Rattle.matching.specs.Laid.{itemsAt}
 use Rattle.merging.specs.Stands.{Stands}
 use Rattle.checking.specs.Headers.{Header}

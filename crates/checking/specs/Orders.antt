@@ -7,6 +7,7 @@ use native.Mathlib.Omega.{arith}
 use native.Mathlib.Numerals.{add-one}
 use lib.Dec.{T}
 use lib.ListN.{length, getD, List·getD-map}
+use Rattle.lists.specs.Bools.{never}
 use Rattle.offers.specs.Offers.{offerInRange}
 use Rattle.envelopes.specs.Envelope.{Ordered, Ordered·nil, Ordered·cons}
 use Rattle.envelopes.specs.EnvelopeLaws.{ordered-at}
@@ -14,14 +15,14 @@ use Rattle.trees.specs.Tree.{Tree, leaves, height}
 use Rattle.table.specs.Words.{Words}
 use Rattle.table.specs.Layout.{cap, cap-most}
 use Rattle.table.specs.Items.{Item, slots-most}
-use Rattle.table.specs.Parts.{low}
+use Rattle.table.specs.PartTrees.{low}
 use Rattle.pieces.specs.Pieces.{items, item-laws}
 use Rattle.matching.specs.declared.Filled.{Filled}
 use Rattle.matching.specs.Stretches.{stretch, span, span-length, span-at}
-use Rattle.matching.specs.Tests.{Decides, decides-no, Every}
+use Rattle.matching.specs.Deciding.{Decides, decides-no, Every}
 use Rattle.matching.specs.Loops.{FallsHere, RangedHere}
 use Rattle.matching.specs.Laid.{itemAt, itemsAt, items-back, Laid, laid-unique}
-use Rattle.matching.specs.Fills.{Fills, never}
+use Rattle.matching.specs.Fills.{Fills}
 use Rattle.matching.specs.Walks.{written-length}
 use Rattle.merging.specs.PieceTrees.{span-mem}
 use Rattle.merging.specs.BridgeTests.{items-length}

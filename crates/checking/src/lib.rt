@@ -4,7 +4,7 @@ ghost use mathlib.Core.Path.{_≡_};
 ghost use Prim.Native.Nat.{ℕ, _≤_};
 ghost use lib.ListN.{length};
 ghost use Rattle.table.specs.Words.{Words};
-ghost use Rattle.matching.specs.Tests.{Decides};
+ghost use Rattle.matching.specs.Deciding.{Decides};
 ghost use Rattle.checking.specs.OfferWalks.{Walks};
 ghost use Rattle.checking.specs.Headers.{Header};
 ghost use Rattle.checking.specs.Orders.{Orders};
@@ -28,7 +28,7 @@ fn single(x: u32, scratch: &mut [u32; 8192], at: usize) -> Walked
 
 // Walks the offers from node `x` on: both children, then the merge of their envelopes. The whole envelope of `x` is left from place `at`
 // on; what stands before that is not touched. `limit` bounds the tree's height.
-pub fn walk(part: &[i64], x: u32, scratch: &mut [u32; 8192], at: usize, limit: u32) -> Walked
+fn walk(part: &[i64], x: u32, scratch: &mut [u32; 8192], at: usize, limit: u32) -> Walked
     requires { ⌜ length (now scratch) ≡ 8192 ⌝ }
     ensures { λ r. ⌜ Walks (now (part .entry)) x limit (now (scratch .entry)) (now (scratch .exit)) at r ⌝ }
 {

@@ -12,9 +12,10 @@ use native.Mathlib.Numerals.{add-one}
 use lib.IntN.{ℤ, pos, negsuc, negℤ, _-ℤ_, +ℤ-idl}
 use lib.Dec.{T, leb, eqb, leb→le}
 use borrow.Author.Tests.{leb-true, eqb-true, ne-eqb, le-leb, lt-leb}
-use Rattle.lists.specs.Filter.{every, one-of-both, other-of-both}
+use Rattle.lists.specs.Filter.{every}
 use Rattle.printing.specs.Texts.{space, minus, digit, digits, numeral, decimal, justified, FitsIn}
 use Rattle.printing.specs.Decimals.{isDigit, digit-is, along, numeral-length, numeral-characters}
+use Rattle.lists.specs.Bools.{and-left, and-right}
 
 -- One more byte.
 unfoldable pub taken : ℕ → ℕ → ℕ
@@ -71,7 +72,7 @@ minus-spaces (suc k) t = minus-spaces k t
 no-minus : (t : List ℕ) → T (every isDigit t) → hasMinus t ≡ false
 unfolding hasMinus
 no-minus [] h = refl
-no-minus (b ∷ t) h = rw (ne-eqb b minus (λ e. omega (arith, leb→le 48 b (one-of-both (leb 48 b) (leb b 57) (one-of-both (isDigit b) (every isDigit t) h))))) (no-minus t (other-of-both (isDigit b) (every isDigit t) h))
+no-minus (b ∷ t) h = rw (ne-eqb b minus (λ e. omega (arith, leb→le 48 b (and-left (leb 48 b) (leb b 57) (and-left (isDigit b) (every isDigit t) h))))) (no-minus t (and-right (isDigit b) (every isDigit t) h))
 
 minus-numeral : (n : ℕ) → hasMinus (numeral n) ≡ false
 minus-numeral n = no-minus (numeral n) (numeral-characters n)

@@ -9,7 +9,7 @@ use lib.Dec.{T, nltb→le}
 use lib.IntN.{ℤ, pos, natAbs}
 use Rattle.lists.specs.Filter.{keep-sublist}
 use Rattle.lists.specs.Places.{sublist-mem}
-use Rattle.lists.specs.Tests.{not-not}
+use Rattle.lists.specs.Bools.{not-not}
 use Rattle.offers.specs.Offers.{Offer, numberInRange, loadInRange, offerInRange, priceAt, crossingNumerator, crossingDenominator, precedes}
 use Rattle.offers.specs.Sizes.{number-of, rate-of, base-of, number-size, number-is, price-at-size, base-gap-size, rate-gap-size}
 use Rattle.plain.specs.Causes.{Cause, declined, causeNumber, capacityOutOfRange, tableTooShort, noBook, numberOutOfRange, rateOutOfRange, baseOutOfRange, loadOutOfRange, priceOutOfRange, numberLive, rateLive, bookFull, numberNotLive, bookEmpty, outputTooShort, unreadableLine, ratesNotApart, noSuchMark}

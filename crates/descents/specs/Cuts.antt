@@ -14,13 +14,13 @@ use Rattle.trees.specs.Operations.{Part, Cut, partLeaves, partHeight, joinP, sp
 use Rattle.trees.specs.Leaves.{leaves-joinP, last-leaf, same-last}
 use Rattle.trees.specs.Balanced.{AvlP}
 use Rattle.trees.specs.Split.{split-leaves, split-low}
-use Rattle.trees.specs.Steps.{split-right, split-left}
+use Rattle.trees.specs.TreeSteps.{split-right, split-left}
 use Rattle.table.specs.Words.{Words, upTo}
 use Rattle.table.specs.Layout.{cap, cell}
 use Rattle.table.specs.Items.{Item, In, at, in-left, in-right, Slots, slots-left, slots-right, slots-across}
 use Rattle.table.specs.Rep.{childField, childAt, Within, within-cap, within-refl, within-trans, Only, only-refl, only-trans, only-more, tied-still, inner-in}
 use Rattle.table.specs.Nodes.{Parents, parents, leaf-low, ref-low}
-use Rattle.table.specs.Parts.{RepP, rep-some, MadeP, repP-still, PairP, Seam}
+use Rattle.table.specs.PartTrees.{RepP, rep-some, MadeP, repP-still, PairP, Seam}
 use Rattle.table.specs.Keys.{Keyed, keyed-left, keyed-right}
 use Rattle.shape.specs.Merge.{Merged}
 use Rattle.descents.specs.Whole.{Whole, split-whole, not-left, not-right}

@@ -8,7 +8,7 @@ use Rattle.table.specs.Words.{Words}
 use Rattle.table.specs.Items.{Item, slots-left, slots-right}
 use Rattle.table.specs.Rep.{childAt, Rep}
 use Rattle.table.specs.Nodes.{parents, leaf-low}
-use Rattle.table.specs.Parts.{low}
+use Rattle.table.specs.PartTrees.{low}
 use Rattle.shape.specs.Splices.{inner-ref}
 
 abbrev pub endOf : Bool → Tree Item → Item

@@ -15,7 +15,7 @@ use Rattle.table.specs.Layout.{cell}
 use Rattle.table.specs.Items.{Item}
 use Rattle.table.specs.Rep.{childAt, Rep}
 use Rattle.table.specs.Nodes.{parents, leaf-low}
-use Rattle.table.specs.Parts.{low}
+use Rattle.table.specs.PartTrees.{low}
 use Rattle.table.specs.Keys.{Keyed, keyed-left, keyed-right}
 use Rattle.shape.specs.Splices.{inner-ref}
 use Rattle.descents.specs.Ends.{pick, down, down-low}

@@ -4,10 +4,10 @@ use mathlib.Core.Bool.{Bool}
 use mathlib.Core.Option.{none, some}
 use Prim.Native.Nat.{ℕ}
 use native.Mathlib.Omega.{arith}
+use Rattle.lists.specs.Bools.{cond-both}
 use Rattle.trees.specs.Tree.{Tree, leaf, node, last, Avl, avl-leaf, avl-node}
 use Rattle.trees.specs.Operations.{Part, Cut, joinP, split}
-use Rattle.trees.specs.Tests.{cond-both}
-use Rattle.trees.specs.Steps.{join-level}
+use Rattle.trees.specs.TreeSteps.{join-level}
 
 module _ {A : Type 0} where
   pub record Whole (t : Tree A) (c : Cut A) : Type 0 where

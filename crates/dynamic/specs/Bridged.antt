@@ -1,13 +1,14 @@
 -- Two trees whose leaves are envelopes that face each other: the search finds the lines between which the envelope of both is cut and joined.
-use Prim.Native.Nat.{ℕ, zero, suc, _-_, _<_}
+use Prim.Native.Nat.{ℕ, suc, _-_, _<_}
 use native.Mathlib.Omega.{arith}
-use mathlib.Core.Path.{_≡_, refl, sym, _∙_, ap}
+use mathlib.Core.Path.{_≡_, refl, sym, _∙_}
 use mathlib.Core.List.{List, _∷_, _++_, reverse}
 use lib.ListN.{length, getD, take, drop, length-drop}
 use lib.Seq.{split-at, length-take-le}
-use Rattle.lists.specs.Places.{mem-at, sublist-mem, getD-reverse-about}
+use Rattle.lists.specs.Places.{mem-at, sublist-mem, getD-reverse}
 use Rattle.envelopes.specs.PseudoLines.{Figure, PseudoLines, mirror}
-use Rattle.envelopes.specs.Bridge.{Chain, PastOuter, InPiece, Facing, Bridge}
+use Rattle.envelopes.specs.Bridge.{Chain, Facing}
+use Rattle.envelopes.specs.SameLines.{bridge-same}
 use Rattle.envelopes.specs.Envelope.{Ordered, Env}
 use Rattle.envelopes.specs.EnvelopeLaws.{ordered-apart}
 use Rattle.envelopes.specs.Exists.{bridge}
@@ -19,13 +20,6 @@ use Rattle.meeting.specs.Meets.{size, lineFrom, Met, limit, meets}
 
 -- ---- a chain counted from its last line
 
-getD-reverse : {A : Type 0} (l : List A) (j : ℕ) (d : A) → j < length l → getD (reverse l) j d ≡ getD l (length l - suc j) d
-getD-reverse l j d h =
-    let k : ℕ = length l - suc j in
-    let n : length (drop (suc k) l) ≡ j = length-drop (suc k) l ∙ omega arith in
-    ap (λ z. getD (reverse z) j d) (split-at l k d (omega arith)) ∙ ap (λ z. getD (reverse (take k l ++ getD l k d ∷ drop (suc k) l)) z d) (sym n)
-    ∙ getD-reverse-about (take k l) (getD l k d) (drop (suc k) l) d
-
 module _ (S : Figure) where
   chain-mirror : (a : ℕ → S .Line) (n : ℕ) → Chain S a n → Chain (mirror S) (λ i. a (n - suc i)) n
   chain-mirror a n K =
@@ -36,28 +30,6 @@ module _ (S : Figure) where
             let e : n - suc (suc i) ≡ suc k = omega arith in
             let f : n - suc i ≡ suc (suc k) = omega arith in
             rw (e, f) (K .turning k (omega arith));
-      }
-
-  past-same : (a b : ℕ → S .Line) (n : ℕ) → ((k : ℕ) → k < n → a k ≡ b k) → (i : ℕ) → i < n → (x : S .Point) → PastOuter S a i x → PastOuter S b i x
-  past-same a b n e zero h x p = p
-  past-same a b n e (suc i) h x p = rw (← e i (omega arith), ← e (suc i) h) p
-
-  piece-same : (a b : ℕ → S .Line) (n : ℕ) → ((k : ℕ) → k < n → a k ≡ b k) → (i : ℕ) (x : S .Point) → InPiece S a n i x → InPiece S b n i x
-  piece-same a b n e i x P =
-      record {
-        inside = P .inside;
-        outer = past-same a b n e i (P .inside) x (P .outer);
-        inner = λ q. rw (← e i (P .inside), ← e (suc i) q) (P .inner q);
-      }
-
-module _ (S : Figure) where
-  bridge-same :
-      (a : ℕ → S .Line) (m : ℕ) (b c : ℕ → S .Line) (n i j : ℕ) → ((k : ℕ) → k < n → b k ≡ c k) → Bridge S a m b n i j → Bridge S a m c n i j
-  bridge-same a m b c n i j e B =
-      let h : j < n = B .on-right .inside in
-      record {
-        on-left = rw (← e j h) (B .on-left);
-        on-right = rw (← e j h) (piece-same (mirror S) b c n e j (S .cross (a i) (b j)) (B .on-right));
       }
 
 -- The pieces of two trees about the lines that their search ends at: those up to u and from v are the envelope of both sets.
@@ -93,7 +65,7 @@ module _ (S : Figure) (L : PseudoLines S) (ls rs : List (S .Line)) (o : Ordered 
       let k : ℕ = size tr - suc j in
       let hi : i < size tl = G .on-left .inside in
       let hj : j < size tr = G .on-right .inside in
-      let H = bridge-same S a (size tl) c (λ t. getD (reverse (leaves tr)) t d) (size tr) i j (λ t h. sym (getD-reverse (leaves tr) t d h)) G in
+      let H = bridge-same S {b = a} {d = λ t. getD (reverse (leaves tr)) t d} (λ t h. refl) (λ t h. sym (getD-reverse (leaves tr) t d h)) G in
       record {
         u = a i;
         v = c j;

@@ -6,13 +6,13 @@ use mathlib.Core.Path.{_≡_, refl, _∙_}
 use mathlib.Core.List.{List, [], _∷_, _++_, List·Memᴰ·head, List·Memᴰ·not-nil, Memᴰ·append-right}
 use lib.ListN.{length, length-append}
 use lib.Seq.{append-snoc}
+use Rattle.lists.specs.Bools.{cond-both, cond-yes, cond-no}
 use Rattle.envelopes.specs.PseudoLines.{Figure, PseudoLines}
 use Rattle.envelopes.specs.Envelope.{Ordered, Ordered·nil, Ordered·cons}
 use Rattle.envelopes.specs.EnvelopeLaws.{ordered-left}
 use Rattle.trees.specs.Tree.{height, leaves, last, avl-leaf}
 use Rattle.trees.specs.Operations.{Part}
 use Rattle.trees.specs.Leaves.{last-leaf}
-use Rattle.trees.specs.Tests.{cond-both, cond-yes, cond-no}
 use Rattle.meeting.specs.Machine.{left}
 use Rattle.dynamic.specs.OfferTree.{OfferTree, single, fork, shape, Held, hold, alone, Made, made, andThen, lower, lowerTree, raise}
 use Rattle.dynamic.specs.Updates.{rebalance, insert}

@@ -17,4 +17,4 @@ pub mod Inserted
 pub mod Removed
 pub mod Updated
 pub mod Story
-pub mod Steps
+pub mod UpdateSteps

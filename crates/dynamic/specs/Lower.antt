@@ -1,45 +1,27 @@
 -- A valid tree's envelope is its lines' lower envelope, and the children of a whole subtree are whole again once it is lowered.
-use native.Mathlib.Omega.{arith}
 use mathlib.Core.Path.{_≡_, refl, sym, subst}
-use mathlib.Core.Logic.{_⊎_, inl, inr, ⊎-elim}
+use mathlib.Core.Logic.{_⊎_, inl, inr}
 use mathlib.Core.Bool.{not}
-use mathlib.Core.List.{List, [], _∷_, _++_, List·Memᴰ, List·Memᴰ·append-cases, List·Memᴰ·eq-of-singleton, Memᴰ·append-left, Memᴰ·append-right, Sublistᴰ·refl}
+use mathlib.Core.List.{List, [], _∷_, _++_, List·Memᴰ, Memᴰ·append-left, Memᴰ·append-right}
 use lib.Dec.{T, not-T, T-not}
 use Rattle.lists.specs.Places.{sublist-mem}
 use Rattle.envelopes.specs.PseudoLines.{Figure, PseudoLines}
-use Rattle.envelopes.specs.Crossing.{price-refl}
 use Rattle.envelopes.specs.Envelope.{Ordered, Env}
-use Rattle.envelopes.specs.EnvelopeLaws.{ordered-left, ordered-right, ordered-apart, not-both}
+use Rattle.envelopes.specs.EnvelopeLaws.{ordered-left, ordered-right, ordered-apart, not-both, ordered-pairs}
+use Rattle.envelopes.specs.Small.{env-one}
 use Rattle.trees.specs.Tree.{Tree, leaf, node, leaves, last, Avl, avl-node}
 use Rattle.trees.specs.Operations.{Part, Cut, partLeaves}
 use Rattle.trees.specs.Leaves.{leaves-joinP, last-leaf}
 use Rattle.trees.specs.Balanced.{AvlP, near-joinP}
 use Rattle.trees.specs.Split.{Halves, splitP-halves, splitP-low}
+use Rattle.trees.specs.Order.{up-to-last}
 use Rattle.dynamic.specs.OfferTree.{OfferTree, fork, shape, Held, hold, Lowered, cutBehind, lowerTree, lower}
 use Rattle.dynamic.specs.Valid.{Valid, valid-single, valid-fork, Whole}
 
 module _ (S : Figure) (L : PseudoLines S) where
-  -- one line is its own envelope
-  pub single-env : (a : S .Line) → Env S (a ∷ []) (a ∷ [])
-  single-env a =
-      record {
-        sub = Sublistᴰ·refl (a ∷ []);
-        chain = λ d. record { ordered = λ i h. absurd (omega arith); turning = λ i h. absurd (omega arith) };
-        low = λ x l m. (l, m, price-refl S L l x);
-      }
-
   pub valid-env : {t : OfferTree (S .Line)} {es : List (S .Line)} → Valid S t es → Env S (leaves (shape t)) es
-  valid-env (valid-single {a}) = single-env a
+  valid-env (valid-single {a}) = env-one S L a
   valid-env (valid-fork upTo from e vl vr al ar E) = E
-
-  -- of lines in order each is the last, or before it
-  pub up-to-last : (t : Tree (S .Line)) → Ordered S (leaves t) → (a : S .Line) → List·Memᴰ a (leaves t) → (a ≡ last t) ⊎ T (S .before a (last t))
-  up-to-last (leaf x) o a m = inl (List·Memᴰ·eq-of-singleton m)
-  up-to-last (node l r) o a m =
-      ⊎-elim
-      (λ k. inr (ordered-apart S (leaves l) (leaves r) o a (last r) k (last-leaf r)))
-      (λ k. up-to-last r (ordered-right S (leaves l) (leaves r) o) a k)
-      (List·Memᴰ·append-cases (leaves l) m)
 
   pub not-before : (a b : S .Line) → (b ≡ a) ⊎ T (S .before b a) → T (not (S .before a b))
   not-before a b (inl e) = not-T (S .before a b) (λ t. L .before-irrefl a (subst (λ (c : S .Line). T (S .before a c)) e t))
@@ -63,7 +45,7 @@ module _ (S : Figure) (L : PseudoLines S) where
       Halves (cutBehind S (last ls) e) xs ys
   cut-halves ls rs e xs ys o p f g =
       splitP-halves (λ x. not (S .before (last ls) x)) e xs ys p
-      (λ a m. not-before S L (last ls) a (up-to-last S L ls (ordered-left S (leaves ls) rs o) a (f a m)))
+      (λ a m. not-before S L (last ls) a (up-to-last ls (ordered-pairs (ordered-left S (leaves ls) rs o)) (f a m)))
       (λ a m. not-T (not (S .before (last ls) a)) (λ t. T-not (S .before (last ls) a) t (ordered-apart S (leaves ls) rs o (last ls) a (last-leaf ls) (g a m))))
 
   lower-valid :

@@ -5,13 +5,13 @@ use mathlib.Core.Bool.{Bool, true, false, not, _||_, cond}
 use mathlib.Core.List.{List, [], _∷_, _++_, List·Memᴰ, List·Memᴰ·head, List·Memᴰ·tail, List·Memᴰ·cases-cons, List·Memᴰ·not-nil}
 use lib.Dec.{T, T-not, not-T}
 use Rattle.lists.specs.Filter.{keep, keep-sublist}
+use Rattle.lists.specs.Bools.{or-cases, cond-both, cond-yes, cond-no}
 use Rattle.envelopes.specs.PseudoLines.{Figure, PseudoLines}
 use Rattle.envelopes.specs.Envelope.{Ordered, Ordered·nil, Ordered·cons}
-use Rattle.envelopes.specs.EnvelopeLaws.{ordered-head, ordered-tail, ordered-sublist}
+use Rattle.envelopes.specs.EnvelopeLaws.{ordered-head, ordered-tail, ordered-sublist, ordered-pairs}
 use Rattle.trees.specs.Tree.{Tree, leaves, last}
-use Rattle.trees.specs.Tests.{cond-both, cond-yes, cond-no}
+use Rattle.trees.specs.Order.{up-to-last}
 use Rattle.dynamic.specs.Valid.{placed, without}
-use Rattle.dynamic.specs.Lower.{up-to-last}
 
 module _ {A : Type 0} where
   keep-append : (p : A → Bool) (xs ys : List A) → keep p (xs ++ ys) ≡ keep p xs ++ keep p ys
@@ -25,13 +25,6 @@ module _ {A : Type 0} where
   keep-all : (p : A → Bool) (xs : List A) → ((a : A) → List·Memᴰ a xs → T (p a)) → keep p xs ≡ xs
   keep-all p [] h = refl
   keep-all p (x ∷ xs) h = cond-yes (p x) _ _ (h x (List·Memᴰ·head refl)) ∙ ap (λ l. x ∷ l) (keep-all p xs (λ a m. h a (List·Memᴰ·tail m)))
-
-pub or-left : (a b : Bool) → T a → T (a || b)
-or-left true b t = tt
-
-pub or-right : (a b : Bool) → T b → T (a || b)
-or-right true b t = tt
-or-right false b t = t
 
 module _ (S : Figure) (s : S .Line) where
   -- ---- place
@@ -95,11 +88,7 @@ module _ (S : Figure) (L : PseudoLines S) (s : S .Line) where
           (ordered-head S o b) (placed-mem S s ps b m)
 
   pub without-one : {a : S .Line} → s ≡ a → without S s (a ∷ []) ≡ []
-  without-one {a} e = subst (λ c. without S s (c ∷ []) ≡ []) e (cond-no (S .before s s || S .before s s) (s ∷ []) [] (not-T (S .before s s || S .before s s) (λ t. L .before-irrefl s (same (S .before s s) t))))
-    where
-      same : (b : Bool) → T (b || b) → T b
-      same true t = t
-      same false t = t
+  without-one {a} e = subst (λ c. without S s (c ∷ []) ≡ []) e (cond-no (S .before s s || S .before s s) (s ∷ []) [] (not-T (S .before s s || S .before s s) (λ t. L .before-irrefl s (⊎-elim (λ u. u) (λ u. u) (or-cases (S .before s s) (S .before s s) t)))))
 
   -- ---- the last line of a subtree decides for all
 
@@ -107,8 +96,8 @@ module _ (S : Figure) (L : PseudoLines S) (s : S .Line) where
   none-behind t o h x m =
       not-T (S .before s x)
       (λ u. T-not (S .before s (last t)) h
-      (⊎-elim (λ (e : x ≡ last t). subst (λ c. T (S .before s c)) e u) (λ v. L .before-trans s x (last t) u v) (up-to-last S L t o x m)))
+      (⊎-elim (λ (e : x ≡ last t). subst (λ c. T (S .before s c)) e u) (λ v. L .before-trans s x (last t) u v) (up-to-last t (ordered-pairs o) m)))
 
   pub all-before : (t : Tree (S .Line)) → Ordered S (leaves t) → T (S .before (last t) s) → (x : S .Line) → List·Memᴰ x (leaves t) → T (S .before x s)
   all-before t o h x m =
-      ⊎-elim (λ (e : x ≡ last t). subst (λ c. T (S .before c s)) (sym e) h) (λ v. L .before-trans x (last t) s v h) (up-to-last S L t o x m)
+      ⊎-elim (λ (e : x ≡ last t). subst (λ c. T (S .before c s)) (sym e) h) (λ v. L .before-trans x (last t) s v h) (up-to-last t (ordered-pairs o) m)

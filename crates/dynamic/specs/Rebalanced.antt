@@ -5,9 +5,9 @@ use mathlib.Core.Path.{_≡_, _∙_}
 use mathlib.Core.List.{List, [], _∷_, _++_, append-assoc}
 use lib.Dec.{leb, leb→le, nleb→lt, ltb→lt, nltb→le}
 use lib.ListN.{length, length-append}
+use Rattle.lists.specs.Bools.{cond-both}
 use Rattle.envelopes.specs.PseudoLines.{Figure, PseudoLines}
 use Rattle.trees.specs.Operations.{towers}
-use Rattle.trees.specs.Tests.{cond-both}
 use Rattle.meeting.specs.Machine.{Side, left, right}
 use Rattle.dynamic.specs.OfferTree.{Held, heldShape, Pair, Made, andThen, outer, inner, lower, raise, raiseOn}
 use Rattle.dynamic.specs.Updates.{rotate, rebalance}

@@ -10,13 +10,13 @@ use mathlib.Core.Option.{Option, none, some}
 use lib.Dec.{T, T-not}
 use lib.ListN.{length, length-append}
 use lib.Seq.{append-snoc}
+use Rattle.lists.specs.Bools.{cond-both, or-left, or-right}
 use Rattle.envelopes.specs.PseudoLines.{Figure, PseudoLines}
 use Rattle.envelopes.specs.Envelope.{Ordered}
 use Rattle.envelopes.specs.EnvelopeLaws.{ordered-left, ordered-apart}
 use Rattle.trees.specs.Tree.{height, leaves, last}
 use Rattle.trees.specs.Operations.{Part}
 use Rattle.trees.specs.Leaves.{last-leaf}
-use Rattle.trees.specs.Tests.{cond-both}
 use Rattle.meeting.specs.Machine.{left}
 use Rattle.dynamic.specs.OfferTree.{OfferTree, single, fork, shape, Held, hold, Pair, Made, lower, lowerTree}
 use Rattle.dynamic.specs.Updates.{Removed, rebalance, besideLeft, besideRight, remove}
@@ -26,7 +26,7 @@ use Rattle.dynamic.specs.Floors.{added-between}
 use Rattle.dynamic.specs.Forests.{rowOf, linesOf, lines-append, lines-left, lines-right, merged-here, merged-behind}
 use Rattle.dynamic.specs.Kept.{Kept, heldHeight, Above, above-turned, lowered-on, line-leaves}
 use Rattle.dynamic.specs.Rebalanced.{Balances, balances-turned, rebalanced}
-use Rattle.dynamic.specs.Placed.{or-left, or-right, without-append, without-all, without-one, all-before}
+use Rattle.dynamic.specs.Placed.{without-append, without-all, without-one, all-before}
 
 -- ---- heights: below h stand f and g, and f falls to k
 

@@ -1,6 +1,6 @@
 -- The code's reading of a call is the encoding's.
 use mathlib.Core.Path.{_≡_, refl, sym, _∙_, ap, subst}
-use mathlib.Core.Bool.{Bool, true, false, true≢false, _&&_, cond}
+use mathlib.Core.Bool.{Bool, true, false, true≢false, cond}
 use mathlib.Core.List.{List, [], _∷_, _++_}
 use mathlib.Core.Option.{Option, none, some}
 use Prim.Native.Nat.{ℕ, _+_, _*_, _-_, _^_, _≤_, _<_}
@@ -8,16 +8,18 @@ use native.Mathlib.Omega.{arith}
 use lib.ListN.{length, drop, getD}
 use lib.IntN.{ℤ, pos, negsuc, natAbs}
 use lib.Dec.{T, leb}
-use lib.Signed.{leZ, ltZ, nonNeg}
+use lib.Signed.{ltZ, nonNeg}
 use borrow.Author.Tests.{ltb-true}
 use mir.Syntax.{w64}
 use mir.Val.{Fits, SFits, toZ, ofZ}
 use mir.Facts.{toZ-ofZ, toZ-pos}
-use Rattle.integers.specs.Parts.{intRules}
-use Rattle.plain.specs.Book.{Call, post, withdraw, query, listing, equal}
+use Rattle.integers.specs.Parts.{equal-is, equal-eq}
+use Rattle.plain.specs.Book.{Call, post, withdraw, query, listing}
 use Rattle.encoding.specs.declared.Next.{Next}
 use Rattle.encoding.specs.declared.Next.the-variants.{Post, Withdraw, Query, Listing, Nothing}
 use Rattle.encoding.specs.Encoding.{listingOf, shortCall, callOf, nextCall, stretch, fitting, firstRun, runnable}
+use Rattle.lists.specs.Bools.{passed, is-true}
+use Rattle.integers.specs.Equal.{equal}
 
 -- the call that was read
 abbrev pub asked : Next → Option Call
@@ -30,19 +32,10 @@ asked Nothing = none
 -- ---- a word beside a number
 
 same-yes : (z : ℤ) → equal z z ≡ true
-same-yes z = both (leZ z z) (omega (arith, intRules))
-  where
-    both : (b : Bool) → T b → b && b ≡ true
-    both true t = refl
-    both false t = absurd t
+same-yes z = is-true (equal z z) (equal-is z z refl)
 
 pub same-is : (a b : ℤ) → equal a b ≡ true → a ≡ b
-same-is a b e = split (leZ a b) (leZ b a) e (λ h k. omega (arith, intRules, h, k))
-  where
-    split : (x y : Bool) → x && y ≡ true → (T x → T y → a ≡ b) → a ≡ b
-    split true true q f = f tt tt
-    split true false q f = absurd (true≢false (sym q))
-    split false y q f = absurd (true≢false (sym q))
+same-is a b e = equal-eq a b (passed e)
 
 pub is : {z : ℤ} {n : ℕ} → SFits w64 z → n < 2 ^ 63 → ofZ w64 z ≡ n → equal z (pos n) ≡ true
 is {z} {n} f h e = subst (λ (y : ℤ). equal z y ≡ true) (sym (toZ-ofZ f) ∙ ap (toZ w64) e ∙ toZ-pos w64 h) (same-yes z)

@@ -11,9 +11,10 @@ use lib.Seq.{take-add, drop-drop}
 use lib.IntN.{ℤ, pos, negsuc}
 use lib.Dec.{leb}
 use borrow.Author.Tests.{le-leb, leb-true}
-use Rattle.plain.specs.Book.{Call, post, withdraw, query, listing, equal}
+use Rattle.plain.specs.Book.{Call, post, withdraw, query, listing}
 use Rattle.encoding.specs.Encoding.{encode, encoded, listingOf, shortCall, callOf, nextCall, stretch, stretches, fitting, firstRun, runnable, Run}
 use Rattle.encoding.specs.Decoding.{same-is}
+use Rattle.integers.specs.Equal.{equal}
 
 -- ---- encoded and read again
 

@@ -1,13 +1,8 @@
 -- What the laws say of two or three lines at a point: prices in order, and the two sides of a crossing.
 use mathlib.Core.Logic.{⊎-elim}
-use mathlib.Core.Bool.{Bool}
 use lib.Dec.{T}
-use Rattle.lists.specs.Members.{T?}
+use Rattle.lists.specs.Bools.{not-refused}
 use Rattle.envelopes.specs.PseudoLines.{Figure, LeftOf, Below, PseudoLines}
-
--- A test that is not refused passes.
-pub not-refused : (b : Bool) → ¬ ¬ T b → T b
-not-refused b h = elim (T? b) [ yes t ↦ t | no f ↦ absurd (h f) ]
 
 module _ (S : Figure) (L : PseudoLines S) where
   pub price-refl : (a : S .Line) (x : S .Point) → T (S .atMost a a x)

@@ -3,12 +3,18 @@ use Prim.Native.Nat.{ℕ, zero, suc, _<_}
 use native.Mathlib.Nat.{not-suc-le-zero, le-of-suc-le-suc}
 use mathlib.Core.Path.{_≡_, refl, sym, subst, _∙_, ap₂}
 use mathlib.Core.Logic.{_⊎_, inl, inr, ⊎-elim, _≢_}
-use mathlib.Core.List.{List, [], _∷_, _++_, reverse, reverseAux, List·Memᴰ, List·Memᴰ·head, List·Memᴰ·tail, List·Memᴰ·cases-cons, List·Memᴰ·append-cases, List·Memᴰ·not-nil, Memᴰ·append-left, Memᴰ·append-right, Sublistᴰ, Sublistᴰ·slnil, Sublistᴰ·cons, Sublistᴰ·cons-cons}
-use lib.Dec.{T}
+use mathlib.Core.List.{List, [], _∷_, _++_, reverse, reverseAux, List·Memᴰ, List·Memᴰ·head, List·Memᴰ·tail, List·Memᴰ·cases-cons, List·Memᴰ·append-cases, List·Memᴰ·not-nil, Memᴰ·append-left, Memᴰ·append-right, Sublistᴰ, Sublistᴰ·slnil, Sublistᴰ·cons, Sublistᴰ·cons-cons, Pairwise, Pairwise·nil}
+use lib.Dec.{T, T-prop}
 use lib.ListN.{length, getD}
+use Rattle.lists.specs.Members.{pairs-cons}
 use Rattle.lists.specs.Places.{mem-at, sublist-mem}
 use Rattle.envelopes.specs.PseudoLines.{Figure, PseudoLines, mirror}
 use Rattle.envelopes.specs.Envelope.{Ordered, Ordered·nil, Ordered·cons}
+
+-- the order, as a relation of all pairs
+pub ordered-pairs : {S : Figure} {ls : List (S .Line)} → Ordered S ls → Pairwise (λ a b. T (S .before a b)) ls
+ordered-pairs Ordered·nil = Pairwise·nil
+ordered-pairs {S} (Ordered·cons h o) = pairs-cons (λ a b. T-prop (S .before a b)) h (ordered-pairs o)
 
 module _ (S : Figure) where
   pub ordered-head : {a : S .Line} {ls : List (S .Line)} → Ordered S (a ∷ ls) → (b : S .Line) → List·Memᴰ b ls → T (S .before a b)

@@ -7,8 +7,9 @@ use mathlib.Core.Bool.{Bool}
 use mathlib.Core.Logic.{_⊎_, inl, inr}
 use lib.Dec.{T}
 use Rattle.lists.specs.Members.{T?}
+use Rattle.lists.specs.Bools.{not-refused}
 use Rattle.envelopes.specs.PseudoLines.{Figure, Below, PseudoLines, mirror, mirror-laws}
-use Rattle.envelopes.specs.Crossing.{not-refused, below-le, upto-left-trans, below-left-of-cross, ge-cross-upto}
+use Rattle.envelopes.specs.Crossing.{below-le, upto-left-trans, below-left-of-cross, ge-cross-upto}
 use Rattle.envelopes.specs.Bridge.{PastOuter, Facing, Bridge}
 use Rattle.envelopes.specs.Chains.{turn-lowest-suc, piece-lowest}
 use Rattle.envelopes.specs.Bridges.{facing-mirror, bridge-mirror, bridge-lowest-right, ends-left, ends-right}

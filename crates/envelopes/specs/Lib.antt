@@ -11,6 +11,7 @@ pub mod Carried
 pub mod Small
 pub mod Bridge
 pub mod Chains
+pub mod SameLines
 pub mod Bridges
 pub mod Search
 pub mod Exists

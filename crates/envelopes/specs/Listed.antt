@@ -8,8 +8,9 @@ use mathlib.Core.List.{List, [], _∷_, List·Memᴰ, List·Memᴰ·head, List·
 use lib.Dec.{T, T-not, not-T}
 use lib.ListN.{length, getD}
 use Rattle.lists.specs.Members.{T?}
-use Rattle.lists.specs.Filter.{every, every-at, every-all, keep-sublist, keep-passes, keep-in, both, one-of-both, other-of-both}
+use Rattle.lists.specs.Filter.{every, every-at, every-all, keep-sublist, keep-passes, keep-in}
 use Rattle.lists.specs.Places.{all-cons, mem-at, sublist-mem}
+use Rattle.lists.specs.Bools.{and-both, and-left, and-right}
 use Rattle.envelopes.specs.PseudoLines.{Figure, LeftOf, PseudoLines, mirror, mirror-laws}
 use Rattle.envelopes.specs.Crossing.{price-refl, point-refl, below-le, left-upto-trans, upto-left-trans, left-trans, left-of-cross, right-of-cross, le-upto-cross, below-left-of-cross, below-right-of-cross}
 use Rattle.envelopes.specs.Bridge.{Chain}
@@ -37,16 +38,16 @@ module _ (S : Figure) where
       T-not (S .before a e && S .before e b && S .upTo (S .cross e b) (S .cross a e))
       (every-at (λ b. not (S .before a e && S .before e b && S .upTo (S .cross e b) (S .cross a e))) ls
       (every-at (λ a. every (λ b. not (S .before a e && S .before e b && S .upTo (S .cross e b) (S .cross a e))) ls) ls t a m) b n)
-      (both (S .before a e && S .before e b) (S .upTo (S .cross e b) (S .cross a e)) (both (S .before a e) (S .before e b) p q) u)
+      (and-both (S .before a e && S .before e b) (S .upTo (S .cross e b) (S .cross a e)) (and-both (S .before a e) (S .before e b) p q) u)
 
   pub stays-holds : (ls : List (S .Line)) (e : S .Line) → Stays S ls e → T (stays S ls e)
   stays-holds ls e h =
       every-all (λ a. every (λ b. not (S .before a e && S .before e b && S .upTo (S .cross e b) (S .cross a e))) ls) ls λ a m.
       every-all (λ b. not (S .before a e && S .before e b && S .upTo (S .cross e b) (S .cross a e))) ls λ b n.
       not-T (S .before a e && S .before e b && S .upTo (S .cross e b) (S .cross a e)) λ t.
-      let pq = one-of-both (S .before a e && S .before e b) (S .upTo (S .cross e b) (S .cross a e)) t in
-      h a b m n (one-of-both (S .before a e) (S .before e b) pq) (other-of-both (S .before a e) (S .before e b) pq)
-      (other-of-both (S .before a e && S .before e b) (S .upTo (S .cross e b) (S .cross a e)) t)
+      let pq = and-left (S .before a e && S .before e b) (S .upTo (S .cross e b) (S .cross a e)) t in
+      h a b m n (and-left (S .before a e) (S .before e b) pq) (and-right (S .before a e) (S .before e b) pq)
+      (and-right (S .before a e && S .before e b) (S .upTo (S .cross e b) (S .cross a e)) t)
 
   pub listed-sub : (ls : List (S .Line)) → Sublistᴰ (listed S ls) ls
   unfolding listed

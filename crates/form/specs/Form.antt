@@ -20,9 +20,9 @@ use Rattle.table.specs.Words.{Words, word}
 use Rattle.table.specs.Layout.{cap}
 pub use Rattle.table.specs.Free.{head0, FreeChain, free-none, free-more}
 use Rattle.table.specs.Items.{Item}
-use Rattle.table.specs.Rep.{refOf, Tied}
-use Rattle.pieces.specs.Pieces.{partRef}
+use Rattle.table.specs.Rep.{refOf}
 use Rattle.form.specs.Stored.{HeldIn}
+use Rattle.table.specs.PartTrees.{partRef, TiedPart}
 
 -- ---- the offers
 
@@ -49,10 +49,6 @@ pub record OffersStand (w : Words) (held : Option (Held Item)) : Type 0 where
 
 abbrev pub numberOf : Item → ℤ
 numberOf a = a .offer .number
-
-abbrev pub TiedPart : Words → ℕ → Part Item → Type 0
-TiedPart w k none = Unit {0}
-TiedPart w k (some t) = Tied w k t
 
 pub record NumbersIn (w : Words) (live : List Item) (numbers : Part Item) : Type 0 where
   pub tied : TiedPart w 2 numbers

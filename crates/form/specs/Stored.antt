@@ -12,7 +12,8 @@ use Rattle.table.specs.Layout.{cap, cell, linkAt}
 use Rattle.table.specs.Items.{Item, In, Slots}
 use Rattle.table.specs.Rep.{Field, refOf, Tied}
 use Rattle.table.specs.Threads.{Holds}
-use Rattle.pieces.specs.Pieces.{items, partRef, PartIn, PieceField}
+use Rattle.table.specs.PartTrees.{partRef}
+use Rattle.pieces.specs.Pieces.{items, PartIn, PieceField}
 
 -- ---- what is stored with the tree of offers
 

@@ -1,4 +1,5 @@
 -- Integers: order, ring and size reasoning.
+pub mod Equal
 pub mod Parts
 pub mod Ring
 pub mod Magnitude

@@ -10,7 +10,8 @@ use lib.IntN.{ℤ, pos, negsuc, negℤ, natAbs, _+ℤ_, _-ℤ_, _*ℤ_}
 use lib.Signed.{leZ, ltZ, mag}
 use mir.Syntax.{Width, w64}
 use mir.Val.{SFits, hbits}
-use Rattle.integers.specs.Parts.{P, N, intRules, natAbs-parts, natAbs-most, mag-natAbs, neg-P, neg-N, add-parts, sub-parts, mul-P, mul-N, within-parts, and-both}
+use Rattle.lists.specs.Bools.{and-both}
+use Rattle.integers.specs.Parts.{P, N, intRules, natAbs-parts, natAbs-most, mag-natAbs, neg-P, neg-N, add-parts, sub-parts, mul-P, mul-N, within-parts}
 use Rattle.integers.specs.Ring.{Ex, var, nat, neg, _:+_, _:-_, _:*_, ⟦_⟧}
 
 abbrev pub M : Ex → ℕ

@@ -5,7 +5,7 @@
 -- By hand go into its list: `no-le-parts a b h` for `h : ¬ T (leZ a b)`, `ne-parts a b h` for `h : a ≢ b`, `range-parts l z h t` for a range, and
 -- `add-parts a b`, `sub-parts a b`, `neg-parts a` where a sum, difference or negation, else one unknown, is to be taken apart. Products: Ring.
 -- Examples at the end.
-use mathlib.Core.Path.{_≡_, refl, sym, ap, ap₂, subst}
+use mathlib.Core.Path.{_≡_, refl, sym, ap, ap₂}
 use mathlib.Core.Logic.{_≢_, _⊎_, inl, inr, _↔_}
 use mathlib.Core.Bool.{Bool, true, false, not, cond, _&&_}
 use Prim.Native.Nat.{ℕ, zero, suc, _+_, _*_, _-_, _≤_, _<_}
@@ -14,6 +14,8 @@ use lib.Dec.{T, leb, ltb, leb→le, le→leb, ltb→lt, lt→ltb, nleb→lt, nlt
 use lib.Arith.{lt→nleb, le→nltb}
 use lib.IntN.{ℤ, pos, negsuc, negℤ, natAbs, subℕ, _+ℤ_, _-ℤ_, _*ℤ_}
 use lib.Signed.{leZ, ltZ, _≤ℤ_, _<ℤ_, mag}
+use Rattle.lists.specs.Bools.{passed, failed, is-true, is-false, either, and-both, and-left, and-right}
+use Rattle.integers.specs.Equal.{equal}
 
 -- the positive and the negative part: z is P z − N z
 abbrev pub P : ℤ → ℕ
@@ -148,31 +150,17 @@ parts-no-lt a b h = T-not (ltZ a b) (parts-nlt a b h)
 
 -- ---- the tests, as equations
 
-passed : (b : Bool) → b ≡ true → T b
-passed b e = subst T (sym e) tt
-
-failed : (b : Bool) → b ≡ false → T (not b)
-failed b e = subst (λ (x : Bool). T (not x)) (sym e) tt
-
-is-true : (b : Bool) → T b → b ≡ true
-is-true true t = refl
-is-true false t = absurd t
-
-is-false : (b : Bool) → T (not b) → b ≡ false
-is-false true t = absurd t
-is-false false t = refl
-
 pub le-true-parts : (a b : ℤ) → leZ a b ≡ true → P a + N b ≤ P b + N a
-le-true-parts a b e = le-parts a b (passed (leZ a b) e)
+le-true-parts a b e = le-parts a b (passed e)
 
 pub lt-true-parts : (a b : ℤ) → ltZ a b ≡ true → P a + N b < P b + N a
-lt-true-parts a b e = lt-parts a b (passed (ltZ a b) e)
+lt-true-parts a b e = lt-parts a b (passed e)
 
 pub le-false-parts : (a b : ℤ) → leZ a b ≡ false → P b + N a < P a + N b
-le-false-parts a b e = nle-parts a b (failed (leZ a b) e)
+le-false-parts a b e = nle-parts a b (failed e)
 
 pub lt-false-parts : (a b : ℤ) → ltZ a b ≡ false → P b + N a ≤ P a + N b
-lt-false-parts a b e = nlt-parts a b (failed (ltZ a b) e)
+lt-false-parts a b e = nlt-parts a b (failed e)
 
 pub parts-le-true : (a b : ℤ) → P a + N b ≤ P b + N a → leZ a b ≡ true
 parts-le-true a b h = is-true (leZ a b) (parts-le a b h)
@@ -216,18 +204,6 @@ parts-<ℤ a b h = record { lt = parts-lt a b h }
 
 -- ---- a range, as `T (leZ low z && leZ z high)`
 
-pub and-left : (a b : Bool) → T (a && b) → T a
-and-left true b t = tt
-and-left false b t = t
-
-pub and-right : (a b : Bool) → T (a && b) → T b
-and-right true b t = t
-and-right false b t = absurd t
-
-pub and-both : (a b : Bool) → T a → T b → T (a && b)
-and-both true b s t = t
-and-both false b s t = s
-
 pub range-low : (l z h : ℤ) → T (leZ l z && leZ z h) → P l + N z ≤ P z + N l
 range-low l z h t = le-parts l z (and-left (leZ l z) (leZ z h) t)
 
@@ -258,25 +234,28 @@ parts-unequal a b f = not-T (leZ a b && leZ b a) (λ t. f (equal-parts a b t))
 
 pub ruleset intRules = (le-parts, parts-le, lt-parts, parts-lt, nle-parts, parts-nle, nlt-parts, parts-nlt, le-true-parts, parts-le-true, lt-true-parts, parts-lt-true, le-false-parts, parts-le-false, lt-false-parts, parts-lt-false, eq-parts, parts-eq, ≤ℤ-parts, <ℤ-parts, parts-≤ℤ, parts-<ℤ, within-parts, equal-parts, parts-equal, unequal-parts, parts-unequal)
 
+-- what the test of equality says
+pub equal-is : (a b : ℤ) → a ≡ b → T (equal a b)
+equal-is a b e = parts-equal a b (eq-parts a b e)
+
+pub equal-eq : (a b : ℤ) → T (equal a b) → a ≡ b
+equal-eq a b t = parts-eq a b (equal-parts a b t)
+
+pub unequal : (a b : ℤ) → T (not (equal a b)) → a ≢ b
+unequal a b t e = T-not (equal a b) t (equal-is a b e)
+
 -- ---- which way it goes
 
--- two tests that pass together are one
-pub same-test : (b c : Bool) → (T b → T c) → (T c → T b) → b ≡ c
-same-test true true f g = refl
-same-test true false f g = absurd (f tt)
-same-test false true f g = absurd (g tt)
-same-test false false f g = refl
-
-by-test : (b : Bool) → T b ⊎ T (not b)
-by-test true = inl tt
-by-test false = inr tt
-
 pub le-or-lt : (a b : ℤ) → T (leZ a b) ⊎ T (ltZ b a)
-le-or-lt a b = go (by-test (leZ a b))
+le-or-lt a b = go (either (leZ a b))
   where
     go : T (leZ a b) ⊎ T (not (leZ a b)) → T (leZ a b) ⊎ T (ltZ b a)
     go (inl t) = inl t
     go (inr t) = inr (omega (arith, intRules))
+
+-- a difference is above 0
+pub gap-above : (a b : ℤ) → T (ltZ b a) → T (ltZ (pos 0) (a -ℤ b))
+gap-above a b h = omega (arith, intRules, sub-parts a b)
 
 pub le-total : (a b : ℤ) → T (leZ a b) ⊎ T (leZ b a)
 le-total a b = go (le-or-lt a b)

@@ -13,7 +13,8 @@ use native.Mathlib.Omega.{arith}
 use lib.Dec.{T}
 use lib.IntN.{ℤ, pos, negsuc, negℤ, _+ℤ_, _-ℤ_, _*ℤ_}
 use lib.Signed.{leZ, ltZ}
-use Rattle.integers.specs.Parts.{P, N, intRules, same-test, neg-P, neg-N, add-parts, sub-parts, mul-P, mul-N, le-parts, lt-parts, parts-le, parts-lt, eq-parts, parts-eq}
+use Rattle.lists.specs.Bools.{same-test}
+use Rattle.integers.specs.Parts.{P, N, intRules, neg-P, neg-N, add-parts, sub-parts, mul-P, mul-N, le-parts, lt-parts, parts-le, parts-lt, eq-parts, parts-eq}
 
 infixl 6 _:+_ _:-_
 infixl 7 _:*_

@@ -7,7 +7,8 @@ use Prim.Native.Nat.{pred}
 use native.Mathlib.Omega.{arith}
 use lib.IntN.{ℤ, negℤ, natAbs, _+ℤ_, _-ℤ_, _*ℤ_}
 use lib.Signed.{leZ, ltZ}
-use Rattle.integers.specs.Parts.{intRules, same-test, neg-parts}
+use Rattle.lists.specs.Bools.{same-test}
+use Rattle.integers.specs.Parts.{intRules, neg-parts}
 use Rattle.integers.specs.Ring.{Ex, var, neg, _:+_, _:-_, _:*_, by-eq, same-le}
 use Rattle.offers.specs.Offers.{RationalLoad, denominator}
 use Rattle.envelopes.specs.PseudoLines.{Figure, PseudoLines}

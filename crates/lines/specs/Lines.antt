@@ -6,7 +6,7 @@ use native.Mathlib.Omega.{arith}
 use lib.Dec.{T}
 use lib.IntN.{ℤ, pos, negsuc, natAbs, _+ℤ_, _-ℤ_, _*ℤ_}
 use lib.Signed.{leZ, ltZ}
-use Rattle.integers.specs.Parts.{intRules, le-total, trichotomy, sub-parts}
+use Rattle.integers.specs.Parts.{intRules, le-total, trichotomy, gap-above}
 use Rattle.integers.specs.Ring.{Ex, var, nat, _:+_, _:-_, _:*_, by-eq, same-le}
 use Rattle.offers.specs.Offers.{RationalLoad, denominator}
 use Rattle.envelopes.specs.PseudoLines.{Figure, PseudoLines}
@@ -44,9 +44,6 @@ module _ (b r b′ r′ : ℤ) (x : RationalLoad) where
       (by-eq (quoted (var b′) (var r′) :- quoted (var b) (var r)) (nat 0 :- quoted (var b :- var b′) (var r :- var r′)) (omega arith))
 
 -- ---- crossings
-
-pub gap-above : (r r′ : ℤ) → T (ltZ r′ r) → T (ltZ (pos 0) (r -ℤ r′))
-gap-above r r′ h = omega (arith, intRules, sub-parts r r′)
 
 -- a number above 0, by its predecessor
 above-is : (z : ℤ) → T (ltZ (pos 0) z) → pos (suc (pred (natAbs z))) ≡ z

@@ -4,15 +4,7 @@ use mathlib.Core.Logic.{_⊎_, inl, inr, ⊎-elim}
 use mathlib.Core.Bool.{Bool, true, false, _&&_, cond}
 use mathlib.Core.List.{List, map, [], _∷_, List·Memᴰ, List·Memᴰ·head, List·Memᴰ·tail, List·Memᴰ·cases-cons, Sublistᴰ, Sublistᴰ·slnil, Sublistᴰ·cons, Sublistᴰ·cons-cons}
 use lib.Dec.{T}
-
-pub both : (a b : Bool) → T a → T b → T (a && b)
-both true b p q = q
-
-pub one-of-both : (a b : Bool) → T (a && b) → T a
-one-of-both true b t = tt
-
-pub other-of-both : (a b : Bool) → T (a && b) → T b
-other-of-both true b t = t
+use Rattle.lists.specs.Bools.{and-both, and-left, and-right}
 
 module _ {A : Type 0} where
   abbrev pub every : (A → Bool) → List A → Bool
@@ -25,11 +17,11 @@ module _ {A : Type 0} where
 
   pub every-at : (p : A → Bool) (l : List A) → T (every p l) → (a : A) → List·Memᴰ a l → T (p a)
   every-at p (x ∷ xs) t a m =
-      ⊎-elim (λ (e : a ≡ x). subst (λ (y : A). T (p y)) (sym e) (one-of-both (p x) (every p xs) t)) (λ m′. every-at p xs (other-of-both (p x) (every p xs) t) a m′) (List·Memᴰ·cases-cons m)
+      ⊎-elim (λ (e : a ≡ x). subst (λ (y : A). T (p y)) (sym e) (and-left (p x) (every p xs) t)) (λ m′. every-at p xs (and-right (p x) (every p xs) t) a m′) (List·Memᴰ·cases-cons m)
 
   pub every-all : (p : A → Bool) (l : List A) → ((a : A) → List·Memᴰ a l → T (p a)) → T (every p l)
   every-all p [] h = tt
-  every-all p (x ∷ xs) h = both (p x) (every p xs) (h x (List·Memᴰ·head refl)) (every-all p xs (λ a m. h a (List·Memᴰ·tail m)))
+  every-all p (x ∷ xs) h = and-both (p x) (every p xs) (h x (List·Memᴰ·head refl)) (every-all p xs (λ a m. h a (List·Memᴰ·tail m)))
 
   pub keep-sublist : (p : A → Bool) (l : List A) → Sublistᴰ (keep p l) l
   keep-sublist p [] = Sublistᴰ·slnil

@@ -1,4 +1,5 @@
 -- Lists: what the toolchain's library lacks.
+pub mod Bools
 pub mod Filter
 pub mod Members
 pub mod Places

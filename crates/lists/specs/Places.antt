@@ -1,11 +1,12 @@
 -- Members, the places where they stand, sublists, and the list turned round.
-use Prim.Native.Nat.{ℕ, zero, suc, _<_, suc-le-suc, zero-le}
+use Prim.Native.Nat.{ℕ, zero, suc, _-_, _<_, suc-le-suc, zero-le}
 use native.Mathlib.Nat.{not-suc-le-zero, le-of-suc-le-suc}
+use native.Mathlib.Omega.{arith}
 use mathlib.Core.Path.{_≡_, refl, sym, ap, subst, _∙_}
 use mathlib.Core.Logic.{_⊎_, inl, inr, ⊎-elim}
 use mathlib.Core.List.{List, [], _∷_, _++_, reverse, reverseAux, reverse-append, reverse-cons, reverse-reverse, List·Memᴰ, List·Memᴰ·head, List·Memᴰ·tail, List·Memᴰ·cases-cons, List·Memᴰ·not-nil, Sublistᴰ, Sublistᴰ·slnil, Sublistᴰ·cons, Sublistᴰ·cons-cons}
-use lib.ListN.{length, getD, length-reverse}
-use lib.Seq.{append-snoc, getD-at}
+use lib.ListN.{length, getD, take, drop, length-drop, length-reverse}
+use lib.Seq.{append-snoc, getD-at, split-at}
 
 module _ {A : Type 0} where
   -- what holds of the first and of all later ones holds of all
@@ -45,6 +46,14 @@ module _ {A : Type 0} where
   -- counted from the last, that element stands after those behind it
   pub getD-reverse-about : (xs : List A) (y : A) (ys : List A) (d : A) → getD (reverse (xs ++ y ∷ ys)) (length ys) d ≡ y
   getD-reverse-about xs y ys d = ap (λ (r : List A). getD r (length ys) d) (reverse-about xs y ys) ∙ getD-at (reverse ys) y (reverse xs) d (length ys) (length-reverse ys)
+
+  -- counted from the last
+  pub getD-reverse : (l : List A) (j : ℕ) (d : A) → j < length l → getD (reverse l) j d ≡ getD l (length l - suc j) d
+  getD-reverse l j d h =
+      let k : ℕ = length l - suc j in
+      let n : length (drop (suc k) l) ≡ j = length-drop (suc k) l ∙ omega arith in
+      ap (λ z. getD (reverse z) j d) (split-at l k d (omega arith)) ∙ ap (λ z. getD (reverse (take k l ++ getD l k d ∷ drop (suc k) l)) z d) (sym n)
+      ∙ getD-reverse-about (take k l) (getD l k d) (drop (suc k) l) d
 
   pub getD-next : (xs : List A) (y z : A) (zs : List A) (d : A) → getD (xs ++ y ∷ z ∷ zs) (suc (length xs)) d ≡ z
   getD-next [] y z zs d = refl

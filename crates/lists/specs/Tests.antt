@@ -1,24 +1,9 @@
--- Tests that compute, and what a passed or a failed one says.
-use mathlib.Core.Path.{_≡_, refl}
-use mathlib.Core.Logic.{_⊎_, inl, inr, _↔_}
+-- Whether some element of a list passes a test.
 use mathlib.Core.List.{List, List·Memᴰ}
-use mathlib.Core.Bool.{Bool, true, false, not, _||_}
+use mathlib.Core.Bool.{Bool, not}
 use lib.Dec.{T}
 use Rattle.lists.specs.Filter.{every, every-at}
-
-pub either : (b : Bool) → T b ⊎ T (not b)
-either true = inl tt
-either false = inr tt
-
-pub not-not : (b : Bool) → T (not (not b)) → T b
-not-not true t = tt
-
--- two tests that pass together are one
-pub same-test : (a b : Bool) → T a ↔ T b → a ≡ b
-same-test true true e = refl
-same-test true false e = absurd (e .0 tt)
-same-test false true e = absurd (e .1 tt)
-same-test false false e = refl
+use Rattle.lists.specs.Bools.{not-not}
 
 module _ {A : Type 0} where
   -- some element passes the test

@@ -7,10 +7,11 @@ use lib.Dec.{T}
 use lib.IntN.{ℤ, pos, negsuc, negℤ, natAbs, _+ℤ_, _*ℤ_}
 use lib.Signed.{leZ}
 use lib.Ieee.{fin, div, ofInt}
-use Rattle.integers.specs.Parts.{intRules, natAbs-parts, and-both}
+use Rattle.lists.specs.Bools.{and-both}
+use Rattle.integers.specs.Parts.{intRules, natAbs-parts, gap-above}
 use Rattle.integers.specs.Magnitude.{natAbs-within}
 use Rattle.offers.specs.Offers.{Offer, offerInRange, precedes, between, crossingNumerator, crossingDenominator}
-use Rattle.offers.specs.Sizes.{rate-of, base-of, numeratorInRange, denominatorInRange, numerator-size, denominator-size, base-gap-in-range, rate-gap-in-range, rate-gap-above, scaled-price-size}
+use Rattle.offers.specs.Sizes.{rate-of, base-of, numeratorInRange, denominatorInRange, numerator-size, denominator-size, base-gap-in-range, rate-gap-in-range, scaled-price-size}
 use Rattle.marks.specs.Quotient.{exact, divisible, quotient, plusZero}
 
 -- the price of a piece at its crossing with the next, times the crossing's denominator
@@ -28,7 +29,7 @@ module _ (own next : Offer) (ho : T (offerInRange own)) (hn : T (offerInRange ne
   over-denominator : (n : ℤ) → natAbs n ≤ 2 ^ 53 → T (divisible n (crossingDenominator own next))
   over-denominator n h =
       let d = crossingDenominator own next in
-      let a = rate-gap-above (own .rate) (next .rate) before in
+      let a = gap-above (own .rate) (next .rate) before in
       let b = denominator-size d denominator-range in
       let k = natAbs-parts d in
       and-both (exact n) (between (pos 1) (pos (2 ^ 53)) d) (natAbs-within 9_007_199_254_740_991 n h)

@@ -16,7 +16,8 @@ use lib.Ieee.Exact.{HasValue, round-exact}
 use lib.Ieee.Order.{drop, kept}
 use lib.Ieee.Scale.{round-same, grid, overflow, normal-of-fraction}
 use lib.Ieee.Back.{round-whole, whole-unique}
-use Rattle.integers.specs.Parts.{P, N, and-left, and-right, range-parts}
+use Rattle.lists.specs.Bools.{and-left, and-right}
+use Rattle.integers.specs.Parts.{P, N, range-parts}
 use Rattle.integers.specs.Ring.{var, nat, _:-_, _:*_, parts}
 use Rattle.integers.specs.Magnitude.{natAbs-gap, within-natAbs, natAbs-within}
 use Rattle.integers.specs.Ranges.{too-low, too-high, in-range}

@@ -1,11 +1,12 @@
 -- A tree's leaves written into a scratch array, in order: what the walk promises, and the ways through its code.
 use mathlib.Core.Path.{_≡_, refl, sym, _∙_, ap, ap₂, subst}
-use mathlib.Core.Bool.{Bool, true, false, true≢false}
+use mathlib.Core.Bool.{true, false}
 use mathlib.Core.List.{List, [], _∷_, _++_, List·Memᴰ, List·Memᴰ·head, List·Memᴰ·eq-of-singleton}
 use Prim.Native.Nat.{ℕ, zero, suc, _+_, _-_, _≤_, _<_, max}
 use native.Mathlib.Omega.{arith}
 use lib.ListN.{length, getD, set, length-set, length-append}
 use lib.Seq.{getD-set-same, getD-set-other}
+use Rattle.lists.specs.Bools.{never}
 use Rattle.trees.specs.Tree.{Tree, leaf, node, height, leaves, last, Avl, avl-leaf}
 use Rattle.trees.specs.Leaves.{last-leaf, some-leaf, leaves-last, start}
 use Rattle.table.specs.Words.{Words}
@@ -31,9 +32,6 @@ pub record Fills (w : Words) (k x limit : ℕ) (xs xs′ : List ℕ) (at : ℕ) 
   pub inside : r .ok ≡ true → (at < r .next) × (r .next ≤ 8192)
   pub sound : r .ok ≡ true → Written w k x xs′ at (r .next) (r .height)
   pub complete : (t : Tree Item) → Laid w k x t → height t ≤ limit → at + length (leaves t) ≤ 8192 → r .ok ≡ true
-
-pub never : {b : Bool} → b ≡ true → b ≡ false → ⊥
-never p q = true≢false (sym p ∙ q)
 
 -- ---- no tree
 

@@ -1,5 +1,5 @@
 -- Trees of a part, read into a scratch array and compared with what stands there.
-pub mod Tests
+pub mod Deciding
 pub mod Stretches
 pub mod Laid
 pub mod Loops

@@ -10,12 +10,13 @@ use lib.Dec.{T}
 use lib.ListN.{length, getD, set, length-set}
 use lib.Seq.{getD-set-same, getD-set-other}
 use lib.Signed.{ltZ}
+use Rattle.lists.specs.Bools.{passed, is-true}
 use Rattle.offers.specs.Offers.{offerInRange}
 use Rattle.table.specs.Words.{Words}
 use Rattle.table.specs.Layout.{cell}
 use Rattle.table.specs.Threads.{Next}
 use Rattle.matching.specs.Laid.{itemAt}
-use Rattle.matching.specs.Tests.{Every, every-none, every-more, is-true, true-is}
+use Rattle.matching.specs.Deciding.{Every, every-none, every-more}
 
 -- a field falls from one entry's slot to the next one's
 pub record FallsHere (w : Words) (f : ℕ) (xs : List ℕ) (k : ℕ) : Type 0 where
@@ -83,14 +84,14 @@ moving-done h l g = record { long = g .so-far .long; front = g .so-far .front; m
 
 module _ {w : Words} {f k s t : ℕ} {xs : List ℕ} {b : Bool} (es : s ≡ getD xs k 0) (et : t ≡ getD xs (k + 1) 0) (eb : b ≡ ltZ (cell w f t) (cell w f s)) where
   pub falls-here : b ≡ true → FallsHere w f xs k
-  falls-here e = record { falls = rw (← es, ← et) (is-true _ (sym eb ∙ e)) }
+  falls-here e = record { falls = rw (← es, ← et) (passed (sym eb ∙ e)) }
 
   pub not-falls-here : b ≡ false → ¬ FallsHere w f xs k
-  not-falls-here e h = true≢false (sym (eb ∙ true-is _ (rw (es, et) (h .falls))) ∙ e)
+  not-falls-here e h = true≢false (sym (eb ∙ is-true _ (rw (es, et) (h .falls))) ∙ e)
 
 module _ {w : Words} {k s : ℕ} {xs : List ℕ} {b : Bool} (es : s ≡ getD xs k 0) (eb : b ≡ offerInRange (itemAt w s .offer)) where
   pub ranged-here : b ≡ true → RangedHere w xs k
-  ranged-here e = record { ranged = rw (← es) (is-true _ (sym eb ∙ e)) }
+  ranged-here e = record { ranged = rw (← es) (passed (sym eb ∙ e)) }
 
   pub not-ranged-here : b ≡ false → ¬ RangedHere w xs k
-  not-ranged-here e h = true≢false (sym (eb ∙ true-is _ (rw es (h .ranged))) ∙ e)
+  not-ranged-here e h = true≢false (sym (eb ∙ is-true _ (rw es (h .ranged))) ∙ e)

@@ -1,8 +1,9 @@
 -- Stretches of a scratch array: the numbers from one place up to another. Reading is total, so no bound on the array is asked.
-use mathlib.Core.Path.{_≡_, refl, sym, _∙_, ap, ap₂}
-use mathlib.Core.List.{List, [], _∷_, _++_, map, List·Memᴰ, List·Memᴰ·head, List·Memᴰ·tail}
+use mathlib.Core.Path.{_≡_, refl, sym, _∙_, ap, ap₂, subst}
+use mathlib.Core.List.{List, [], _∷_, _++_, map, List·Memᴰ, List·Memᴰ·head, List·Memᴰ·tail, IsChain, IsChain·nil, IsChain·singleton, IsChain·cons-cons}
 use Prim.Native.Nat.{ℕ, zero, suc, _+_, _-_, _≤_, _<_}
-use native.Mathlib.Decide.{decLe}
+use native.Mathlib.Decide.{decLe, ℕ-discrete}
+use native.Mathlib.Numerals.{add-one}
 use native.Mathlib.Omega.{arith}
 use lib.ListN.{length, getD, take, drop}
 
@@ -81,3 +82,30 @@ module _ (xs : List ℕ) where
 -- two arrays that agree there
 pub span-same : (xs ys : List ℕ) (a b : ℕ) → ((i : ℕ) → a ≤ i → i < b → getD xs i 0 ≡ getD ys i 0) → span xs a b ≡ span ys a b
 span-same xs ys a b f = stretch-same xs ys a a (b - a) (λ k h. f (a + k) (omega arith) (omega arith))
+
+-- ---- a relation of each place and the next is a chain of what stands there
+
+module _ {A : Type 0} (R : A → A → Type 0) (f : ℕ → A) (xs : List ℕ) where
+  chain-stretch : (a n : ℕ) → ((k : ℕ) → a ≤ k → k + 1 < a + n → R (f (getD xs k 0)) (f (getD xs (k + 1) 0))) → IsChain R (map f (stretch xs a n))
+  unfolding stretch
+  chain-stretch a zero h = IsChain·nil
+  chain-stretch a (suc zero) h = IsChain·singleton (f (getD xs a 0))
+  chain-stretch a (suc (suc n)) h =
+      IsChain·cons-cons (subst (λ (i : ℕ). R (f (getD xs a 0)) (f (getD xs i 0))) (add-one a) (h a (omega arith) (omega arith)))
+      (chain-stretch (suc a) (suc n) (λ k l m. h k (omega arith) (omega arith)))
+
+  stretch-chain : (a n : ℕ) → IsChain R (map f (stretch xs a n)) → (k : ℕ) → a ≤ k → k + 1 < a + n → R (f (getD xs k 0)) (f (getD xs (k + 1) 0))
+  unfolding stretch
+  stretch-chain a zero c k l m = absurd (omega arith)
+  stretch-chain a (suc zero) c k l m = absurd (omega arith)
+  stretch-chain a (suc (suc n)) (IsChain·cons-cons p c) k l m = go (ℕ-discrete k a) (stretch-chain (suc a) (suc n) c)
+    where
+      go : Dec (k ≡ a) → ((k : ℕ) → suc a ≤ k → k + 1 < suc a + suc n → R (f (getD xs k 0)) (f (getD xs (k + 1) 0))) → R (f (getD xs k 0)) (f (getD xs (k + 1) 0))
+      go (yes e) h = rw e (subst (λ (i : ℕ). R (f (getD xs a 0)) (f (getD xs i 0))) (sym (add-one a)) p)
+      go (no e) h = h k (omega arith) (omega arith)
+
+  pub chain-span : (a b : ℕ) → ((k : ℕ) → a ≤ k → k < b - 1 → R (f (getD xs k 0)) (f (getD xs (k + 1) 0))) → IsChain R (map f (span xs a b))
+  chain-span a b h = chain-stretch a (b - a) (λ k l m. h k l (omega arith))
+
+  pub span-chain : (a b : ℕ) → IsChain R (map f (span xs a b)) → (k : ℕ) → a ≤ k → k < b - 1 → R (f (getD xs k 0)) (f (getD xs (k + 1) 0))
+  span-chain a b c k l m = stretch-chain a (b - a) c k l (omega arith)

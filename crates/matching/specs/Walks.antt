@@ -6,6 +6,7 @@ use Prim.Native.Nat.{ℕ, zero, suc, _+_, _-_, _≤_, _<_, max}
 use native.Mathlib.Omega.{arith}
 use lib.ListN.{length, getD, length-append}
 use lib.Seq.{getD-at}
+use Rattle.lists.specs.Bools.{never}
 use Rattle.trees.specs.Tree.{Tree, leaf, node, height, leaves, last}
 use Rattle.trees.specs.Leaves.{some-leaf, leaves-last, start}
 use Rattle.table.specs.Words.{Words}
@@ -14,7 +15,7 @@ use Rattle.table.specs.Rep.{childAt}
 use Rattle.matching.specs.declared.Filled.{Filled}
 use Rattle.matching.specs.Stretches.{span, span-cut, span-same, span-length, span-at}
 use Rattle.matching.specs.Laid.{slotsOf, slots-append, slots-length, Laid, laid-leaf-low, Children, laid-children, laid-node, laid-unique}
-use Rattle.matching.specs.Fills.{Written, Fills, never, NoTree, Fails, fills-not, fills-none, Levelled, Ended, Covers}
+use Rattle.matching.specs.Fills.{Written, Fills, NoTree, Fails, fills-not, fills-none, Levelled, Ended, Covers}
 
 -- ---- what was written
 

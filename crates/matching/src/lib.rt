@@ -8,7 +8,7 @@ ghost use lib.Signed.{ltZ};
 ghost use Rattle.offers.specs.Offers.{between, offerInRange};
 ghost use Rattle.table.specs.Words.{word};
 ghost use Rattle.table.specs.Layout.{cell};
-ghost use Rattle.matching.specs.Tests.{Decides, Every, Agree};
+ghost use Rattle.matching.specs.Deciding.{Decides, Every, Agree};
 ghost use Rattle.matching.specs.Laid.{itemAt};
 ghost use Rattle.matching.specs.Loops.{FallsHere, RangedHere, NextHere, PlaceOf, Moved};
 ghost use Rattle.matching.specs.Fills.{Fails, Fills, Ended, Covers};
@@ -227,14 +227,11 @@ pub fn falling(part: &[i64], field: usize, scratch: &[u32; 8192], from: usize, t
 fn within(part: &[i64], field: usize, slot: u32, low: i64, high: i64) -> bool
     ensures { λ r. ⌜ r ≡ between low high (cell (now (part .entry)) field slot) ⌝ }
 {
-    if !table::at_least(part, field, slot, low) {
-        return false;
-    }
-    table::at_most(part, field, slot, high)
+    table::at_least(part, field, slot, low) && table::at_most(part, field, slot, high)
 }
 
 // A slot's offer is in range.
-pub fn ranged(part: &[i64], slot: u32) -> bool
+fn ranged(part: &[i64], slot: u32) -> bool
     ensures { λ r. ⌜ r ≡ offerInRange (itemAt (now (part .entry)) slot .offer) ⌝ }
 {
     if !within(part, 0, slot, 1, 9_999) {

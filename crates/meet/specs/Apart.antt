@@ -10,24 +10,25 @@ use lib.Dec.{T, T-not}
 use lib.IntN.{ℤ}
 use lib.Signed.{ltZ}
 use Rattle.lists.specs.Tests.{any, none-at}
+use Rattle.lists.specs.Bools.{not-failed, twice}
 use Rattle.integers.specs.Parts.{intRules}
 use Rattle.offers.specs.Offers.{Offer}
 use Rattle.envelopes.specs.Envelope.{Ordered}
-use Rattle.envelopes.specs.EnvelopeLaws.{ordered-left, ordered-apart}
+use Rattle.envelopes.specs.EnvelopeLaws.{ordered-left, ordered-apart, ordered-pairs}
 use Rattle.plain.specs.Book.{State}
 use Rattle.trees.specs.Tree.{Tree, leaf, node, leaves, first, last}
 use Rattle.trees.specs.Leaves.{first-leaf, last-leaf}
+use Rattle.trees.specs.Order.{up-to-last}
 use Rattle.dynamic.specs.OfferTree.{Held, heldShape}
 use Rattle.dynamic.specs.Valid.{bookLines}
-use Rattle.dynamic.specs.Lower.{up-to-last}
 use Rattle.table.specs.Words.{Words, word, upTo}
 use Rattle.table.specs.Layout.{cell}
 use Rattle.table.specs.Items.{Item}
 use Rattle.table.specs.Rep.{Rep}
 use Rattle.descents.specs.Ends.{Ended}
-use Rattle.pieces.specs.Pieces.{rateOf, items, item-laws}
+use Rattle.pieces.specs.Pieces.{rateOf, items}
 use Rattle.form.specs.Form.{Book, plainOffers}
-use Rattle.book.specs.Live.{offerOf}
+use Rattle.query.specs.Plain.{offerOf}
 use Rattle.book.specs.Sought.{offers-read, not-any}
 
 -- every line of the one before every line of the other
@@ -48,7 +49,7 @@ from-first (node l r) o a m =
     ⊎-elim (λ k. from-first l (ordered-left items (leaves l) (leaves r) o) a k) (λ k. inr (ordered-apart items (leaves l) (leaves r) o (first l) a (first-leaf l) k)) (List·Memᴰ·append-cases (leaves l) m)
 
 ends-decide : (s t : Tree Item) → Ordered items (leaves s) → Ordered items (leaves t) → T (items .before (last s) (first t)) → AllBefore (leaves s) (leaves t)
-ends-decide s t o p h a b m n = go (up-to-last items item-laws s o a m) (from-first t p b n)
+ends-decide s t o p h a b m n = go (up-to-last s (ordered-pairs o) m) (from-first t p b n)
   where
     go : (a ≡ last s) ⊎ T (items .before a (last s)) → (b ≡ first t) ⊎ T (items .before (first t) b) → T (items .before a b)
     go (inl d) (inl e) = subst (λ (x : Item). T (items .before x b)) (sym d) (subst (λ (x : Item). T (items .before (last s) x)) (sym e) h)
@@ -59,7 +60,7 @@ ends-decide s t o p h a b m n = go (up-to-last items item-laws s o a m) (from-fi
 -- a pair that is not in order is found by the trial
 some-mixed : (ls rs : List Item) {a b : Item} → List·Memᴰ a ls → List·Memᴰ b rs → T (not (items .before a b)) → T (any (λ x. any (λ y. not (ltZ (y .rate) (x .rate))) (map offerOf rs)) (map offerOf ls))
 some-mixed ls rs {a} {b} m n t =
-    passes (any (λ x. any (λ y. not (ltZ (y .rate) (x .rate))) os′) os)
+    not-failed (any (λ x. any (λ y. not (ltZ (y .rate) (x .rate))) os′) os)
     (λ k. T-not (any (λ y. not (ltZ (y .rate) (rateOf a))) os′) (none-at (λ x. any (λ y. not (ltZ (y .rate) (x .rate))) os′) os k (a .offer) (Memᴰ·map offerOf m)) inner)
   where
     os : List Offer
@@ -68,12 +69,8 @@ some-mixed ls rs {a} {b} m n t =
     os′ : List Offer
     os′ = map offerOf rs
 
-    passes : (x : Bool) → (T (not x) → ⊥) → T x
-    passes true f = tt
-    passes false f = absurd (f tt)
-
     inner : T (any (λ y. not (ltZ (y .rate) (rateOf a))) os′)
-    inner = passes (any (λ y. not (ltZ (y .rate) (rateOf a))) os′) (λ k. T-not (not (ltZ (rateOf b) (rateOf a))) (none-at (λ y. not (ltZ (y .rate) (rateOf a))) os′ k (b .offer) (Memᴰ·map offerOf n)) t)
+    inner = not-failed (any (λ y. not (ltZ (y .rate) (rateOf a))) os′) (λ k. T-not (not (ltZ (rateOf b) (rateOf a))) (none-at (λ y. not (ltZ (y .rate) (rateOf a))) os′ k (b .offer) (Memᴰ·map offerOf n)) t)
 
 -- and where every line of the one is before every line of the other there is none
 pub not-mixed : (ls rs : List Item) → AllBefore ls rs → T (not (any (λ x. any (λ y. not (ltZ (y .rate) (x .rate))) (map offerOf rs)) (map offerOf ls)))
@@ -81,10 +78,6 @@ not-mixed ls rs h =
     not-any (λ x. any (λ y. not (ltZ (y .rate) (x .rate))) (map offerOf rs)) (map offerOf ls)
     (λ o m. not-any (λ y. not (ltZ (y .rate) (o .rate))) (map offerOf rs)
     (λ p n. let (a, i, d) = Memᴰ·of-map offerOf ls m in let (b, j, e) = Memᴰ·of-map offerOf rs n in twice (ltZ (p .rate) (o .rate)) (subst (λ (z : Offer). T (ltZ (p .rate) (z .rate))) d (subst (λ (z : Offer). T (ltZ (z .rate) (rateOf a))) e (h a b i j)))))
-  where
-    twice : (b : Bool) → T b → T (not (not b))
-    twice true t = tt
-    twice false t = t
 
 -- ---- the ends that the code found
 

@@ -11,6 +11,7 @@ use lib.ListN.{length, length-map}
 use lib.IntN.{ℤ, pos}
 use lib.Signed.{ltZ}
 use Rattle.lists.specs.Tests.{any}
+use Rattle.lists.specs.Bools.{or-left, or-right, not-either, said, denied}
 use Rattle.envelopes.specs.Envelope.{Ordered}
 use Rattle.envelopes.specs.EnvelopeLaws.{ordered-append}
 use Rattle.plain.specs.Causes.{Cause, causeNumber}
@@ -26,14 +27,13 @@ use Rattle.table.specs.Layout.{cell}
 use Rattle.table.specs.Items.{Item}
 use Rattle.table.specs.Rep.{refOf, heightAt}
 use Rattle.table.specs.Nodes.{rep-height}
-use Rattle.table.specs.Parts.{low}
+use Rattle.table.specs.PartTrees.{low}
 use Rattle.search.specs.declared.Met.{Met as Ended}
 use Rattle.search.specs.Runs.{Kept, Meets, Answers as SearchAnswers}
 use Rattle.pieces.specs.Pieces.{items, item-laws}
 use Rattle.query.specs.Plain.{offerOf, pieces-plain}
 use Rattle.form.specs.Form.{Book, numberOf, plainOffers}
 use Rattle.book.specs.Sought.{count-read}
-use Rattle.book.specs.Parts.{said, denied, either-first, either-second, not-either}
 use Rattle.book.specs.Opens.{one-cause, not-clear}
 use Rattle.book.specs.Rooted.{Root, topped, Top, root-of}
 use Rattle.meet.specs.declared.Met.{Met}
@@ -125,7 +125,7 @@ module _ {w : Words} {s : State} {held : Option (Held Item)} (b : Book w s held)
 
 module _ {w w′ : Words} {e e′ : Bool} (t : e ≡ ltb (upTo 8192 (word w 3)) 1) (t′ : e′ ≡ ltb (upTo 8192 (word w′ 3)) 1) where
   pub second-empty : e′ ≡ true → MeetsParts w w′ (Declined (pos 9))
-  second-empty h = record { answers = λ s s′ held held′ b b′. declines (at-once (either-second (leb (length (plainOffers held)) 0) (leb (length (plainOffers held′)) 0) (bare-book b′ t′ h))) }
+  second-empty h = record { answers = λ s s′ held held′ b b′. declines (at-once (or-right (leb (length (plainOffers held)) 0) (leb (length (plainOffers held′)) 0) (bare-book b′ t′ h))) }
 
   module _ {d : Bool} (s : SetsApart w w′ d) (h : e ≡ false) (h′ : e′ ≡ false) where
     neither-empty : {s s′ : State} {held held′ : Option (Held Item)} → Book w s held → Book w′ s′ held′ → T (not (leb (length (plainOffers held)) 0 || leb (length (plainOffers held′)) 0))
@@ -156,4 +156,4 @@ module _ {w w′ : Words} {e e′ : Bool} (t : e ≡ ltb (upTo 8192 (word w 3)) 
             }
 
 pub first-empty : {w w′ : Words} {e : Bool} → e ≡ ltb (upTo 8192 (word w 3)) 1 → e ≡ true → MeetsParts w w′ (Declined (pos 9))
-first-empty t h = record { answers = λ s s′ held held′ b b′. declines (at-once (either-first (leb (length (plainOffers held)) 0) (leb (length (plainOffers held′)) 0) (bare-book b t h))) }
+first-empty t h = record { answers = λ s s′ held held′ b b′. declines (at-once (or-left (leb (length (plainOffers held)) 0) (leb (length (plainOffers held′)) 0) (bare-book b t h))) }

@@ -6,13 +6,14 @@ use Prim.Native.Nat.{ℕ, _-_}
 use lib.ListN.{length, take, drop}
 use lib.Dec.{T-not}
 use lib.IntN.{ℤ, pos}
+use Rattle.lists.specs.Bools.{or-left, or-right, not-either, said, denied}
 use Rattle.plain.specs.Causes.{noBook}
 use Rattle.plain.specs.Book.{noBookAt}
 use Rattle.plain.specs.Rules.{FirstOf, at-once}
 use Rattle.table.specs.Words.{Words, word}
 use Rattle.book.specs.Promises.{partOf}
 use Rattle.book.specs.Plainly.{book-there}
-use Rattle.book.specs.Parts.{whole-part, said, denied, either-first, either-second, not-either}
+use Rattle.book.specs.LentPart.{whole-part}
 use Rattle.book.specs.Opens.{one-cause, not-clear}
 use Rattle.meet.specs.declared.Met.{Met}
 use Rattle.meet.specs.declared.Met.the-variants.{Declined}
@@ -28,7 +29,7 @@ module _ (t : List ℤ) (start : ℕ) (t′ : List ℤ) (start′ : ℕ) {n : Bo
       }
     where
       none-there : FirstOf (noBookTrials t start t′ start′) noBook
-      none-there = at-once (either-first (noBookAt (length t) start (word (partOf t start) 0)) (noBookAt (length t′) start′ (word (partOf t′ start′) 0)) (said e h))
+      none-there = at-once (or-left (noBookAt (length t) start (word (partOf t start) 0)) (noBookAt (length t′) start′ (word (partOf t′ start′) 0)) (said e h))
 
   pub second-missing : n ≡ noBookAt (length t′) start′ (word (partOf t′ start′) 0) → n ≡ true → MeetsBooks t start t′ start′ (Declined (pos 3))
   second-missing e h =
@@ -38,7 +39,7 @@ module _ (t : List ℤ) (start : ℕ) (t′ : List ℤ) (start′ : ℕ) {n : Bo
       }
     where
       none-there : FirstOf (noBookTrials t start t′ start′) noBook
-      none-there = at-once (either-second (noBookAt (length t) start (word (partOf t start) 0)) (noBookAt (length t′) start′ (word (partOf t′ start′) 0)) (said e h))
+      none-there = at-once (or-right (noBookAt (length t) start (word (partOf t start) 0)) (noBookAt (length t′) start′ (word (partOf t′ start′) 0)) (said e h))
 
   module _ {n′ : Bool} (e : n ≡ noBookAt (length t) start (word (partOf t start) 0)) (h : n ≡ false) (e′ : n′ ≡ noBookAt (length t′) start′ (word (partOf t′ start′) 0)) (h′ : n′ ≡ false) where
     pub both-there : {r : Met} → MeetsParts (take (length t - start) (drop start t)) (take (length t′ - start′) (drop start′ t′)) r → MeetsBooks t start t′ start′ r

@@ -2,7 +2,7 @@
 pub mod Machine
 pub mod Located
 pub mod Moves
-pub mod Tests
+pub mod Comparisons
 pub mod Verdicts
 pub mod Search
 pub mod Meets

@@ -21,7 +21,7 @@ pub data Reaches (S : Figure) (s : State (S .Line)) : ℕ → State (S .Line) �
 
 module _ {A : Type 0} where
   -- k more steps
-  abbrev later : ℕ → Result A → Result A
+  abbrev pub later : ℕ → Result A → Result A
   later k r = record { finished = r .finished; u = r .u; v = r .v; steps = k + r .steps }
 
   later-none : (r : Result A) → r ≡ later 0 r

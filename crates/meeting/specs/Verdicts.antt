@@ -8,7 +8,7 @@ use Rattle.envelopes.specs.PseudoLines.{Figure}
 use Rattle.envelopes.specs.Bridge.{Kind, leafy, Local, One, Two, Facts}
 use Rattle.meeting.specs.Machine.{Side, left, right, opposite, Place, onOrAbove, Case, mine, theirs, neither, caseOf, compare}
 use Rattle.meeting.specs.Located.{kind, rank, Located, Aim}
-use Rattle.meeting.specs.Tests.{Above, above-left, above-right, test}
+use Rattle.meeting.specs.Comparisons.{Above, above-left, above-right, test}
 
 -- The five facts, of the left lines a and the right lines c, each from its outer end, and their bridge (i, j).
 abbrev pub FactsOf : (S : Figure) (a : ℕ → S .Line) (m : ℕ) (c : ℕ → S .Line) (n i j : ℕ) → Type 0

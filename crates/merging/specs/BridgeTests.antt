@@ -6,11 +6,12 @@ use mathlib.Core.List.{List, [], _∷_, _++_, map, map-append, reverse, List·Me
 use Prim.Native.Nat.{ℕ, zero, suc, _+_, _-_, _≤_, _<_}
 use native.Mathlib.Omega.{arith}
 use lib.Dec.{T}
-use lib.ListN.{length, getD, take, drop, length-drop, List·getD-map}
-use lib.Seq.{split-at}
-use Rattle.lists.specs.Places.{getD-reverse-about}
+use lib.ListN.{length, getD, List·getD-map}
+use Rattle.lists.specs.Places.{getD-reverse}
+use Rattle.lists.specs.Bools.{never, passed, is-true}
 use Rattle.envelopes.specs.PseudoLines.{Figure, LeftOf, mirror}
-use Rattle.envelopes.specs.Bridge.{PastOuter, InPiece, Bridge, Facing}
+use Rattle.envelopes.specs.Bridge.{InPiece, Bridge, Facing}
+use Rattle.envelopes.specs.SameLines.{bridge-same}
 use Rattle.envelopes.specs.Envelope.{Ordered, Env}
 use Rattle.envelopes.specs.Merge.{env-facing, merge-split}
 use Rattle.table.specs.Words.{Words}
@@ -18,8 +19,6 @@ use Rattle.table.specs.Items.{Item}
 use Rattle.pieces.specs.Pieces.{items, item-laws}
 use Rattle.matching.specs.Stretches.{span, span-length, span-at, span-cut, span-cons}
 use Rattle.matching.specs.Laid.{itemAt, itemsAt}
-use Rattle.matching.specs.Tests.{is-true, true-is}
-use Rattle.matching.specs.Fills.{never}
 use Rattle.bridging.specs.Gaps.{InRange, crossAt, cross-is}
 use Rattle.bridging.specs.Bridges.{Bridges, Ends}
 use Rattle.merging.specs.PieceTrees.{Known, AllKnown, span-mem}
@@ -34,27 +33,6 @@ module _ (S : Figure) (a : ℕ → S .Line) (n : ℕ) (x : S .Point) where
   pub piece-outer : (i : ℕ) → InPiece S a n i x → (k : ℕ) → suc k ≡ i → LeftOf S (S .cross (a k) (a i)) x
   piece-outer zero p k e = absurd (omega arith)
   piece-outer (suc i) p k e = let q : k ≡ i = omega arith in rw q (p .outer)
-
--- the same piece of lines that are the same
-in-piece-same : (S : Figure) {a b : ℕ → S .Line} {n i : ℕ} {x : S .Point} → ((k : ℕ) → k < n → a k ≡ b k) → InPiece S a n i x → InPiece S b n i x
-in-piece-same S {a} {b} {n} {i} {x} e p =
-    piece-by S b n x i (p .inside) (λ k d. rw (← e k (omega (arith, p .inside)), ← e i (p .inside)) (piece-outer S a n x i p k d))
-    (λ h. rw (← e i (p .inside), ← e (suc i) h) (p .inner h))
-
-bridge-same : (S : Figure) {a b c d : ℕ → S .Line} {m n i j : ℕ} → ((k : ℕ) → k < m → a k ≡ b k) → ((k : ℕ) → k < n → c k ≡ d k) → Bridge S a m c n i j → Bridge S b m d n i j
-bridge-same S {a} {b} {c} {d} {m} {n} {i} {j} e f B =
-    record {
-      on-left = rw (← e i (B .on-left .inside), ← f j (B .on-right .inside)) (in-piece-same S e (B .on-left));
-      on-right = rw (← e i (B .on-left .inside), ← f j (B .on-right .inside)) (in-piece-same (mirror S) f (B .on-right));
-    }
-
--- counted from the last
-counted-back : {A : Type 0} (l : List A) (j : ℕ) (d : A) → j < length l → getD (reverse l) j d ≡ getD l (length l - suc j) d
-counted-back l j d h =
-    let k : ℕ = length l - suc j in
-    let n : length (drop (suc k) l) ≡ j = length-drop (suc k) l ∙ omega arith in
-    ap (λ z. getD (reverse z) j d) (split-at l k d (omega arith)) ∙ ap (λ z. getD (reverse (take k l ++ getD l k d ∷ drop (suc k) l)) z d) (sym n)
-    ∙ getD-reverse-about (take k l) (getD l k d) (drop (suc k) l) d
 
 -- ---- the lines of two stretches
 
@@ -83,7 +61,7 @@ module _ (w : Words) (xs : List ℕ) (a b : ℕ) where
   behind-is k h =
       let n : length (itemsAt w (span xs a b)) ≡ b - a = items-length w (span xs a b) ∙ span-length xs a b in
       let p : a + (length (itemsAt w (span xs a b)) - suc k) ≡ b - suc k = omega arith in
-      counted-back (itemsAt w (span xs a b)) k (itemAt w 0) h
+      getD-reverse (itemsAt w (span xs a b)) k (itemAt w 0) h
       ∙ ahead-is (length (itemsAt w (span xs a b)) - suc k) (omega arith)
       ∙ ap (λ (i : ℕ). itemAt w (getD xs i 0)) p
 
@@ -91,13 +69,13 @@ module _ (w : Words) (xs : List ℕ) (a b : ℕ) where
 
 module _ {b c : Bool} (e : b ≡ c) where
   of-false : b ≡ false → ¬ T c
-  of-false d t = never (e ∙ true-is c t) d
+  of-false d t = never (e ∙ is-true c t) d
 
   of-true : b ≡ true → T c
-  of-true d = is-true c (sym e ∙ d)
+  of-true d = passed (sym e ∙ d)
 
   to-true : T c → b ≡ true
-  to-true t = e ∙ true-is c t
+  to-true t = e ∙ is-true c t
 
 to-false : {b c : Bool} → b ≡ c → ¬ T c → b ≡ false
 to-false {b = false} e f = refl

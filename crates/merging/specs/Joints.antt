@@ -25,11 +25,12 @@ use Rattle.table.specs.Words.{Words}
 use Rattle.table.specs.Layout.{linkAt}
 use Rattle.table.specs.Items.{Item}
 use Rattle.table.specs.Rep.{childAt, refOf}
-use Rattle.pieces.specs.Pieces.{items, item-laws, partRef}
+use Rattle.pieces.specs.Pieces.{items, item-laws}
 use Rattle.form.specs.Stored.{RestIn, Stored, stored-fork}
+use Rattle.table.specs.PartTrees.{partRef}
 use Rattle.matching.specs.Stretches.{span, span-length, span-at, span-cut, span-cons, span-none}
 use Rattle.matching.specs.Laid.{itemAt, itemsAt, Laid, Children, laid-children}
-use Rattle.matching.specs.Tests.{Every}
+use Rattle.matching.specs.Deciding.{Every}
 use Rattle.bridging.specs.Bridges.{Bridges}
 use Rattle.merging.specs.PieceTrees.{AllKnown}
 use Rattle.merging.specs.Rests.{RestTree}

@@ -7,13 +7,13 @@ use Prim.Native.Nat.{ℕ, zero, suc, _+_, _-_, _≤_, _<_}
 use native.Mathlib.Decide.{decLt}
 use native.Mathlib.Omega.{arith}
 use lib.ListN.{length, getD}
+use Rattle.lists.specs.Bools.{never}
 use Rattle.table.specs.Words.{Words}
 use Rattle.table.specs.Layout.{linkAt}
 use Rattle.table.specs.Rep.{childAt}
 use Rattle.matching.specs.Stretches.{span, stretch-same, span-same, span-cut}
-use Rattle.matching.specs.Tests.{Decides, Every}
+use Rattle.matching.specs.Deciding.{Decides, Every}
 use Rattle.matching.specs.Loops.{PlaceOf, Moved}
-use Rattle.matching.specs.Fills.{never}
 use Rattle.bridging.specs.Bridges.{Bridges, Ends}
 use Rattle.merging.specs.declared.Walked.{Walked}
 use Rattle.merging.specs.PieceTrees.{AllKnown}

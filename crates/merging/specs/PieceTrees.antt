@@ -1,13 +1,12 @@
 -- A piece tree over a stretch of slots: the ways through the code that looks for one.
 use mathlib.Core.Path.{_≡_, refl, sym, _∙_, ap, ap₂, subst}
 use mathlib.Core.Bool.{Bool, true, false}
-use mathlib.Core.List.{List, [], _∷_, _++_, map, List·Memᴰ, List·Memᴰ·head, List·Memᴰ·tail, IsChain, IsChain·nil, IsChain·singleton, IsChain·cons-cons}
+use mathlib.Core.List.{List, [], _∷_, _++_, map, List·Memᴰ, List·Memᴰ·head, List·Memᴰ·tail}
 use mathlib.Core.Option.{Option, none, some}
 use Prim.Native.Nat.{ℕ, zero, suc, _+_, _-_, _≤_, _<_}
-use native.Mathlib.Decide.{ℕ-discrete}
 use native.Mathlib.Omega.{arith}
-use native.Mathlib.Numerals.{add-one}
 use lib.ListN.{length, getD}
+use Rattle.lists.specs.Bools.{never}
 use Rattle.trees.specs.Tree.{Tree, leaf, node, height, leaves, Avl}
 use Rattle.trees.specs.Leaves.{last-leaf, some-leaf}
 use Rattle.trees.specs.Operations.{Part, partLeaves}
@@ -18,13 +17,14 @@ use Rattle.table.specs.Layout.{cap}
 use Rattle.table.specs.Items.{Item}
 use Rattle.table.specs.Rep.{refOf, Tied}
 use Rattle.table.specs.Threads.{Next, Threaded}
-use Rattle.pieces.specs.Pieces.{partRef, PartIn}
+use Rattle.table.specs.PartTrees.{partRef}
+use Rattle.pieces.specs.Pieces.{PartIn}
 use Rattle.matching.specs.declared.Filled.{Filled}
-use Rattle.matching.specs.Stretches.{stretch, span, stretch-same, stretch-agrees, span-same, span-length, span-none}
-use Rattle.matching.specs.Tests.{Decides, decides-yes, decides-no, Every, Agree}
+use Rattle.matching.specs.Stretches.{stretch, span, chain-span, span-chain, stretch-same, stretch-agrees, span-same, span-length, span-none}
+use Rattle.matching.specs.Deciding.{Decides, decides-yes, decides-no, Every, Agree}
 use Rattle.matching.specs.Loops.{RangedHere, NextHere}
 use Rattle.matching.specs.Laid.{itemAt, itemsAt, slotsOf, items-back, slots-back, slots-length, Placed, placed-at, AllPlaced, Laid, laid-unique, laid-node-high}
-use Rattle.matching.specs.Fills.{Written, Fills, never}
+use Rattle.matching.specs.Fills.{Written, Fills}
 use Rattle.matching.specs.Walks.{written-length}
 use Rattle.bridging.specs.Gaps.{InRange}
 use Rattle.bridging.specs.Bridges.{Threads}
@@ -60,29 +60,11 @@ known-ranged {w} {xs} {a} {b} h = record { at = λ k l m. record { ranged = h (g
 -- ---- the thread along a stretch
 
 module _ {w : Words} {xs : List ℕ} where
-  chain-stretch : (a n : ℕ) → ((k : ℕ) → a ≤ k → k + 1 < a + n → NextHere w xs k) → Threaded w (itemsAt w (stretch xs a n))
-  unfolding stretch
-  chain-stretch a zero f = IsChain·nil
-  chain-stretch a (suc zero) f = IsChain·singleton (itemAt w (getD xs a 0))
-  chain-stretch a (suc (suc n)) f =
-      IsChain·cons-cons (subst (λ (i : ℕ). Next w (itemAt w (getD xs a 0)) (itemAt w (getD xs i 0))) (add-one a) (f a (omega arith) (omega arith) .next))
-      (chain-stretch (suc a) (suc n) (λ k l m. f k (omega arith) (omega arith)))
+  pub threaded-span : (a b : ℕ) → Every (NextHere w xs) a (b - 1) → Threaded w (itemsAt w (span xs a b))
+  threaded-span a b e = chain-span (Next w) (itemAt w) xs a b (λ k l m. e .at k l m .next)
 
-  stretch-chain : (a n : ℕ) → Threaded w (itemsAt w (stretch xs a n)) → (k : ℕ) → a ≤ k → k + 1 < a + n → NextHere w xs k
-  unfolding stretch
-  stretch-chain a zero c k l m = absurd (omega arith)
-  stretch-chain a (suc zero) c k l m = absurd (omega arith)
-  stretch-chain a (suc (suc n)) (IsChain·cons-cons p c) k l m = go (ℕ-discrete k a) (stretch-chain (suc a) (suc n) c)
-    where
-      go : Dec (k ≡ a) → ((k : ℕ) → suc a ≤ k → k + 1 < suc a + suc n → NextHere w xs k) → NextHere w xs k
-      go (yes e) f = rw e (record { next = subst (λ (i : ℕ). Next w (itemAt w (getD xs a 0)) (itemAt w (getD xs i 0))) (sym (add-one a)) p })
-      go (no e) f = f k (omega arith) (omega arith)
-
-  pub chain-span : (a b : ℕ) → Every (NextHere w xs) a (b - 1) → Threaded w (itemsAt w (span xs a b))
-  chain-span a b e = chain-stretch a (b - a) (λ k l m. e .at k l (omega arith))
-
-  pub span-chain : (a b : ℕ) → Threaded w (itemsAt w (span xs a b)) → Every (NextHere w xs) a (b - 1)
-  span-chain a b c = record { at = λ k l m. stretch-chain a (b - a) c k l (omega arith) }
+  pub span-threaded : (a b : ℕ) → Threaded w (itemsAt w (span xs a b)) → Every (NextHere w xs) a (b - 1)
+  span-threaded a b c = record { at = λ k l m. record { next = span-chain (Next w) (itemAt w) xs a b c k l m } }
 
 -- ---- a piece tree over slots
 
@@ -215,8 +197,8 @@ module _ {w : Words} {q from to : ℕ} {xs xs′ : List ℕ} {f : Filled} (d : q
                 tree = F .sound ok .tree;
                 laid = F .sound ok .laid;
                 over = over;
-                threaded = subst (Threaded w) (ap (itemsAt w) stretch-still ∙ sym over) (chain-span from to (threads known .sound u));
+                threaded = subst (Threaded w) (ap (itemsAt w) stretch-still ∙ sym over) (threaded-span from to (threads known .sound u));
               })
 
           links : AllKnown w (span xs from to) → OverSlots w q (span xs from to) → Every (NextHere w xs′) from (to - 1)
-          links known o = span-chain from to (subst (Threaded w) (o .over ∙ ap (itemsAt w) (sym stretch-still)) (o .threaded))
+          links known o = span-threaded from to (subst (Threaded w) (o .over ∙ ap (itemsAt w) (sym stretch-still)) (o .threaded))

@@ -8,18 +8,18 @@ use native.Mathlib.Omega.{arith}
 use lib.ListN.{length, getD}
 use lib.IntN.{pos}
 use borrow.Author.Tests.{le-ltb, lt-ltb}
+use Rattle.lists.specs.Bools.{never}
 use Rattle.trees.specs.Tree.{leaf, node, leaves, last}
 use Rattle.trees.specs.Leaves.{last-leaf}
 use Rattle.trees.specs.Operations.{Part, partLeaves}
 use Rattle.table.specs.Words.{Words, upTo, upTo-in}
 use Rattle.table.specs.Layout.{cap-most, cell}
 use Rattle.table.specs.Items.{Item}
-use Rattle.pieces.specs.Pieces.{partRef}
 use Rattle.form.specs.RestWords.{restWord, restAt}
+use Rattle.table.specs.PartTrees.{partRef}
 use Rattle.matching.specs.Stretches.{span}
-use Rattle.matching.specs.Tests.{Decides, decides-no, decides-as}
+use Rattle.matching.specs.Deciding.{Decides, decides-no, decides-as}
 use Rattle.matching.specs.Laid.{itemsAt}
-use Rattle.matching.specs.Fills.{never}
 use Rattle.merging.specs.PieceTrees.{AllKnown, known-placed, PieceTree, Matches}
 
 -- ---- the word

@@ -9,7 +9,7 @@ use native.Mathlib.Omega.{arith}
 use lib.Dec.{T, T-prop}
 use lib.IntN.{ℤ}
 use lib.Signed.{leZ, ltZ}
-use Rattle.lists.specs.Members.{pairs-cons}
+use Rattle.lists.specs.Members.{pairs-cons, Among}
 use Rattle.integers.specs.Parts.{intRules, ne-parts}
 use Rattle.trees.specs.Tree.{Tree, leaf, avl-leaf}
 use Rattle.trees.specs.Leaves.{leaves-joinP, last-join}
@@ -22,7 +22,7 @@ use Rattle.table.specs.Layout.{cap, cell}
 use Rattle.table.specs.Items.{Item, Slots, slots-left, slots-right, slots-across}
 use Rattle.table.specs.Rep.{Within, within-cap, within-trans, Only, only-trans, only-more, tied-leaf}
 use Rattle.table.specs.Keys.{keyed-numbers}
-use Rattle.table.specs.Parts.{RepP, MadeP, Seam, repP-still}
+use Rattle.table.specs.PartTrees.{RepP, MadeP, Seam, repP-still}
 use Rattle.table.specs.Threads.{Holds}
 use Rattle.shape.specs.Merge.{Merged}
 use Rattle.descents.specs.Cuts.{from, Halving, Halved}
@@ -30,7 +30,7 @@ use Rattle.descents.specs.Ends.{Ended}
 use Rattle.pieces.specs.Cutting.{splitP-leaves}
 use Rattle.form.specs.Form.{numberOf}
 use Rattle.numbers.specs.Numbers.{NumbersAt, Added}
-use Rattle.numbers.specs.Trees.{Among, among-in, among-holds, falling-slots, leaves-hold, numbers-rep, part-low, numbers-made, splitP-clean, seam-end, Beside, joined}
+use Rattle.numbers.specs.Trees.{among-in, among-holds, falling-slots, leaves-hold, numbers-rep, part-low, numbers-made, splitP-clean, seam-end, Beside, joined}
 
 -- ---- lists
 

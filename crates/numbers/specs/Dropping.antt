@@ -10,19 +10,20 @@ use lib.Dec.{T}
 use lib.IntN.{ℤ, pos, _+ℤ_}
 use lib.Signed.{leZ, ltZ}
 use Rattle.lists.specs.Places.{sublist-mem}
+use Rattle.lists.specs.Members.{Among}
 use Rattle.integers.specs.Parts.{intRules, add-parts, range-parts}
 use Rattle.offers.specs.Sizes.{number-of}
 use Rattle.trees.specs.Leaves.{leaves-joinP}
 use Rattle.trees.specs.Operations.{Part, Cut, partLeaves, joinP, splitP}
 use Rattle.trees.specs.Balanced.{AvlP, near-joinP}
-use Rattle.trees.specs.Order.{Falling, falling-turning, parted}
+use Rattle.trees.specs.Order.{Falling, falling-turning, parted, falling-one}
 use Rattle.trees.specs.Split.{Clean, splitP-low}
 use Rattle.table.specs.Words.{Words}
 use Rattle.table.specs.Layout.{cap}
 use Rattle.table.specs.Items.{Item, Slots, slots-across}
 use Rattle.table.specs.Rep.{Within, within-cap, within-trans, Only, only-trans, only-more}
 use Rattle.table.specs.Keys.{keyed-numbers}
-use Rattle.table.specs.Parts.{RepP, MadeP, repP-still}
+use Rattle.table.specs.PartTrees.{RepP, MadeP, repP-still}
 use Rattle.table.specs.Threads.{Holds, holds-still, only-offer}
 use Rattle.shape.specs.Merge.{Merged}
 use Rattle.descents.specs.Cuts.{from, Halving, Halved}
@@ -31,7 +32,7 @@ use Rattle.pieces.specs.Cutting.{splitP-leaves}
 use Rattle.form.specs.Form.{numberOf}
 use Rattle.numbers.specs.Numbers.{NumbersAt, Dropped}
 use Rattle.numbers.specs.Above.{leastAbove, above-more}
-use Rattle.numbers.specs.Trees.{Among, among-in, among-holds, falling-one, falling-slots, leaves-hold, numbers-rep, part-low, numbers-made, splitP-clean, seam-end, Beside, joined}
+use Rattle.numbers.specs.Trees.{among-in, among-holds, falling-slots, leaves-hold, numbers-rep, part-low, numbers-made, splitP-clean, seam-end, Beside, joined}
 
 -- ---- the cut above an item's number
 

@@ -11,7 +11,7 @@ use Rattle.trees.specs.Find.{find-complete, none-find}
 use Rattle.table.specs.Words.{Words}
 use Rattle.table.specs.Items.{Item}
 use Rattle.table.specs.Keys.{keyed-numbers}
-use Rattle.table.specs.Parts.{rep-some}
+use Rattle.table.specs.PartTrees.{rep-some}
 use Rattle.descents.specs.Finds.{Found, foundAt}
 use Rattle.form.specs.Form.{numberOf}
 use Rattle.numbers.specs.Numbers.{NumbersAt, FoundNumber}

@@ -9,13 +9,13 @@ use Rattle.table.specs.Words.{Words, word}
 use Rattle.table.specs.Layout.{cap, cell}
 use Rattle.table.specs.Items.{Item, Slots}
 use Rattle.table.specs.Rep.{Within, Only}
-use Rattle.table.specs.Parts.{refOfP}
+use Rattle.table.specs.PartTrees.{partRef}
 use Rattle.table.specs.Threads.{Holds}
 use Rattle.form.specs.Form.{NumbersIn, numberOf}
 
 -- the tree of the live items' numbers, by its root
 pub record NumbersAt (w : Words) (root : ℕ) (live : List Item) (p : Part Item) : Type 0 where
-  pub root-is : root ≡ refOfP p
+  pub root-is : root ≡ partRef p
   pub slots : Slots (cap w) live
   pub holds : Holds w live
   pub numbers : NumbersIn w live p

@@ -3,13 +3,14 @@ use mathlib.Core.Bool.{Bool, true, false}
 use mathlib.Core.Path.{_≡_, refl, sym, _∙_, ap}
 use mathlib.Core.Logic.{_≢_, ∥∥₁-elim}
 use mathlib.Core.HLevel.{¬-prop}
-use mathlib.Core.List.{List, [], _∷_, _++_, List·Memᴰ, Pairwise, Pairwise·imp-of-mem, Pairwise·of-cons, rel-of-pairwise-cons, List·Memᴰ·head, List·Memᴰ·tail}
+use mathlib.Core.List.{List, [], _∷_, _++_, List·Memᴰ, Pairwise, Pairwise·imp-of-mem}
 use mathlib.Core.Option.{Option, none, some}
 use Prim.Native.Nat.{ℕ, _≤_}
 use native.Mathlib.Omega.{arith}
 use lib.Dec.{T}
 use lib.IntN.{ℤ}
 use lib.Signed.{ltZ}
+use Rattle.lists.specs.Members.{Among}
 use Rattle.integers.specs.Parts.{intRules}
 use Rattle.trees.specs.Tree.{Tree, leaves}
 use Rattle.trees.specs.Operations.{Part, partLeaves, partHeight, joinP, splitP}
@@ -20,7 +21,7 @@ use Rattle.table.specs.Words.{Words}
 use Rattle.table.specs.Layout.{cap, cell}
 use Rattle.table.specs.Items.{Item, In, at, Slots, Apart}
 use Rattle.table.specs.Rep.{Within, within-cap, Only}
-use Rattle.table.specs.Parts.{TiedP, RepP, rep-some, MadeP, PairP, Seam, low}
+use Rattle.table.specs.PartTrees.{RepP, rep-some, MadeP, PairP, Seam, low}
 use Rattle.table.specs.Threads.{Holds, holds-still, only-offer}
 use Rattle.shape.specs.Merge.{Merged}
 use Rattle.descents.specs.Ends.{Ended}
@@ -29,28 +30,11 @@ use Rattle.numbers.specs.Numbers.{NumbersAt}
 
 -- ---- lists of items
 
--- every item of xs is one of ys
-abbrev pub Among : List Item → List Item → Type 0
-Among xs ys = (a : Item) → List·Memᴰ a xs → List·Memᴰ a ys
-
 pub among-in : {xs ys : List Item} → Among xs ys → (s : ℕ) → In s xs → In s ys
 among-in f s (at m e) = at (f _ m) e
 
 pub among-holds : {w : Words} {xs ys : List Item} → Among xs ys → Holds w ys → Holds w xs
 among-holds f h = record { held = λ {a} m. h .held (f a m) }
-
--- where keys fall, a key tells its owner
-pub falling-one : {A : Type 0} (key : A → ℤ) {xs : List A} → Falling key xs → {a b : A} → List·Memᴰ a xs → List·Memᴰ b xs → key a ≡ key b → a ≡ b
-falling-one key p (List·Memᴰ·head d) (List·Memᴰ·head f) e = d ∙ sym f
-falling-one key p (List·Memᴰ·head {x} d) (List·Memᴰ·tail n) e = absurd (below (ap key d) e (rel-of-pairwise-cons p ∣ n ∣₁))
-  where
-    below : {k l m : ℤ} → k ≡ m → k ≡ l → T (ltZ l m) → ⊥
-    below q r t = omega (arith, intRules)
-falling-one key p (List·Memᴰ·tail m) (List·Memᴰ·head f) e = absurd (below (ap key f) e (rel-of-pairwise-cons p ∣ m ∣₁))
-  where
-    below : {k l m : ℤ} → l ≡ m → k ≡ l → T (ltZ k m) → ⊥
-    below q r t = omega (arith, intRules)
-falling-one key p (List·Memᴰ·tail m) (List·Memᴰ·tail n) e = falling-one key (Pairwise·of-cons p) m n e
 
 -- items with falling numbers, each in the slot that holds its number, are in slots apart
 pub falling-slots : {w : Words} {c : ℕ} {xs ys : List Item} → Among xs ys → Slots c ys → Holds w xs → Falling numberOf xs → Slots c xs
@@ -64,14 +48,6 @@ falling-slots {w} {c} {xs} f s h p = record { low = λ {a} m. s .low (f a m); hi
 
 -- ---- the tree
 
-tied-part : (w : Words) (p : Part Item) → TiedPart w 2 p → TiedP w 2 p
-tied-part w none t = tt
-tied-part w (some u) t = t
-
-part-tied : (w : Words) (p : Part Item) → TiedP w 2 p → TiedPart w 2 p
-part-tied w none t = tt
-part-tied w (some u) t = t
-
 module _ {w : Words} {root : ℕ} {live : List Item} (p : Part Item) (n : NumbersAt w root live p) where
   pub leaves-hold : Holds w (partLeaves p)
   leaves-hold = among-holds (n .numbers .all-live) (n .holds)
@@ -82,7 +58,7 @@ module _ {w : Words} {root : ℕ} {live : List Item} (p : Part Item) (n : Number
         kind = omega arith;
         root = n .root-is;
         slots = falling-slots (n .numbers .all-live) (n .slots) leaves-hold (n .numbers .falling);
-        tied = tied-part w p (n .numbers .tied);
+        tied = n .numbers .tied;
       }
 
 -- a balanced tree in a table is low
@@ -108,7 +84,7 @@ numbers-made {w′} {q} r g o s h a f i j =
       root-is = r .root;
       slots = rw (within-cap g) s;
       holds = holds-still h (λ s i. only-offer o s);
-      numbers = record { tied = part-tied w′ q (r .tied); balanced = a; falling = f; all-live = i; all-there = j };
+      numbers = record { tied = r .tied; balanced = a; falling = f; all-live = i; all-there = j };
     }
 
 -- ---- a cut

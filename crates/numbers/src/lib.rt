@@ -1,6 +1,5 @@
 // The tree of the live items' numbers: find, add and drop an item by its number. Numbers fall from left to right.
 ghost use mathlib.Core.Path.{_≡_};
-ghost use Rattle.descents.specs.Finds.{Found};
 ghost use Rattle.numbers.specs.Numbers.{FoundNumber, Added, Dropped};
 ghost use Rattle.numbers.specs.Above.{leastAbove};
 
@@ -9,13 +8,6 @@ pub fn find(part: &[i64], root: u32, number: i64) -> u32
     ensures { λ r. ⌜ FoundNumber number root (now (part .entry)) r ⌝ }
 {
     descents::find(part, 2, 0, number, root)
-}
-
-// The slot of the offer with that rate in the tree of offers, and 0 where there is none.
-pub fn find_rate(part: &[i64], root: u32, rate: i64) -> u32
-    ensures { λ r. ⌜ Found (now (part .entry)) 1 1 rate root r ⌝ }
-{
-    descents::find(part, 1, 1, rate, root)
 }
 
 // Adds the item in slot `s`, whose number no item of the tree has.

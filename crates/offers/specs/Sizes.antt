@@ -6,10 +6,11 @@ use mathlib.Core.Path.{_≡_, refl}
 use mathlib.Core.Bool.{Bool, _&&_}
 use lib.Dec.{T}
 use lib.IntN.{ℤ, pos, negsuc, natAbs, _+ℤ_, _-ℤ_, _*ℤ_}
-use lib.Signed.{leZ, ltZ}
+use lib.Signed.{leZ}
 use mir.Syntax.{w64}
 use mir.Val.{SFits}
-use Rattle.integers.specs.Parts.{intRules, and-left, and-right, and-both, range-parts, sub-parts}
+use Rattle.lists.specs.Bools.{and-left, and-right, and-both}
+use Rattle.integers.specs.Parts.{range-parts}
 use Rattle.integers.specs.Magnitude.{natAbs-add, natAbs-sub, natAbs-mul, fits, within-natAbs, natAbs-within}
 use Rattle.offers.specs.Offers.{Offer, within, numberInRange, rateInRange, baseInRange, loadInRange, priceInRange, offerInRange}
 
@@ -108,10 +109,6 @@ module _ (r r′ : ℤ) (hr : T (rateInRange r)) (hr′ : T (rateInRange r′)) 
 
   pub rate-gap-in-range : T (denominatorInRange (r -ℤ r′))
   rate-gap-in-range = natAbs-within 199_999 (r -ℤ r′) rate-gap-size
-
--- own rate − next rate is above 0 where own is before next
-pub rate-gap-above : (r r′ : ℤ) → T (ltZ r′ r) → T (ltZ (pos 0) (r -ℤ r′))
-rate-gap-above r r′ h = omega (arith, intRules, sub-parts r r′)
 
 -- ---- the price of a line at a crossing, times its denominator
 

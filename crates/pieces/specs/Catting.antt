@@ -9,6 +9,7 @@ use native.Mathlib.Omega.{arith}
 use lib.IntN.{ℤ, pos, negℤ, _-ℤ_}
 use Rattle.offers.specs.Offers.{crossingNumerator, crossingDenominator}
 use Rattle.offers.specs.Sizes.{rate-of, base-of}
+use Rattle.offers.specs.Bounded.{bounded-in}
 use Rattle.trees.specs.Tree.{Tree, leaf, node, leaves, first, last, Avl}
 use Rattle.trees.specs.Leaves.{leaves-join, first-leaf, last-leaf}
 use Rattle.trees.specs.Operations.{Part, partLeaves, join, joinP}
@@ -18,12 +19,12 @@ use Rattle.table.specs.Layout.{cap, cap-most, cell, cset, linkAt, cset-cap, cse
 use Rattle.table.specs.Items.{Item, In, at, in-left, in-right, Slots, slots-left, slots-right, slots-across}
 use Rattle.table.specs.Rep.{Field, a-child, a-height, childField, heightField, refOf, Tied, tied-leaf, tied-node, Rep, Within, within-cap, within-refl, within-trans, within-cset, Only}
 use Rattle.table.specs.Nodes.{ref-low}
-use Rattle.table.specs.Parts.{refOfP, RepP, MadeP, PairP}
+use Rattle.table.specs.PartTrees.{partRef, RepP, MadeP, PairP}
 use Rattle.table.specs.Threads.{Held, Holds, Next, Threaded, SameOffer, SameThread, Leads, leads-in, leads-last, chain-join, holds-still, holds-join, threaded-still, only-offer, only-thread, cset-offer, cset-thread, threading, threading-next}
 use Rattle.shape.specs.Merge.{Merged}
 use Rattle.descents.specs.Ends.{Ended}
-use Rattle.search.specs.Prices.{rateAt, baseAt, bounded-in}
-use Rattle.pieces.specs.Pieces.{partRef, PartIn, PieceField, of-node, of-numerator, of-denominator, of-next, PiecesOnly, Standing, Beside, Catted, SeamAt, Seamed}
+use Rattle.search.specs.Prices.{rateAt, baseAt}
+use Rattle.pieces.specs.Pieces.{PartIn, PieceField, of-node, of-numerator, of-denominator, of-next, PiecesOnly, Standing, Beside, Catted, SeamAt, Seamed}
 
 -- ---- nothing on one side
 

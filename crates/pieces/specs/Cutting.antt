@@ -8,7 +8,8 @@ use native.Mathlib.Omega.{arith}
 use lib.Dec.{T}
 use lib.IntN.{ℤ, pos, _+ℤ_}
 use lib.Signed.{leZ, ltZ}
-use Rattle.integers.specs.Parts.{intRules, add-parts, same-test}
+use Rattle.lists.specs.Bools.{same-test}
+use Rattle.integers.specs.Parts.{intRules, add-parts}
 use Rattle.offers.specs.Offers.{offerInRange, rateInRange}
 use Rattle.offers.specs.Sizes.{rate-of}
 use Rattle.trees.specs.Tree.{Tree, leaf, node, leaves, first, last}
@@ -21,7 +22,7 @@ use Rattle.table.specs.Layout.{cap, cell}
 use Rattle.table.specs.Items.{Item, In}
 use Rattle.table.specs.Rep.{Only}
 use Rattle.table.specs.Keys.{Keyed}
-use Rattle.table.specs.Parts.{refOfP, TiedP, RepP, low}
+use Rattle.table.specs.PartTrees.{TiedPart, RepP, low}
 use Rattle.table.specs.Threads.{Held, Holds, Threaded, holds-left, holds-right, holds-still, threaded-left, threaded-right, threaded-still, only-offer, only-thread}
 use Rattle.descents.specs.Cuts.{from, Halving, Halved}
 use Rattle.pieces.specs.Pieces.{rateOf, PartIn, PieceField, of-node, PiecesOnly, Standing, inFront, CutAt}
@@ -69,7 +70,7 @@ same-cut true rate a h = go (ltZ rate (pos 1_000_000)) (λ t. t) (λ t. t)
 
 -- ---- the parts of a cut stand
 
-part-in : {w : Words} (p : Part Item) → TiedP w 0 p → Threaded w (partLeaves p) → PartIn w p
+part-in : {w : Words} (p : Part Item) → TiedPart w 0 p → Threaded w (partLeaves p) → PartIn w p
 part-in none t h = tt
 part-in (some u) t h = (t, h)
 

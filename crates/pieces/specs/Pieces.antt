@@ -15,13 +15,10 @@ use Rattle.table.specs.Words.{Words}
 use Rattle.table.specs.Layout.{cap, cell}
 use Rattle.table.specs.Items.{Item, In, Slots}
 use Rattle.table.specs.Rep.{Field, Tied, Within}
-use Rattle.table.specs.Parts.{refOfP}
+use Rattle.table.specs.PartTrees.{partRef}
 use Rattle.table.specs.Threads.{Holds, Threaded}
 
 -- ---- piece trees that may be empty
-
-abbrev pub partRef : Part Item → ℕ
-partRef p = refOfP p
 
 -- its nodes, and the thread along its leaves
 abbrev pub PartIn : Words → Part Item → Type 0

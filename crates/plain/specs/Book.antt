@@ -7,9 +7,10 @@ use mathlib.Core.Bool.{Bool, not, _&&_, _||_, cond}
 use lib.ListN.{length}
 use lib.Dec.{leb, ltb}
 use lib.IntN.{ℤ, pos, natAbs, _*ℤ_}
-use lib.Signed.{leZ, ltZ}
+use lib.Signed.{ltZ}
 use Rattle.lists.specs.Filter.{every, keep}
 use Rattle.lists.specs.Tests.{any}
+use Rattle.integers.specs.Equal.{equal}
 use Rattle.offers.specs.Offers.{Offer, between, numberInRange, rateInRange, baseInRange, loadInRange, priceAt, precedes, crossingNumerator, crossingDenominator}
 use Rattle.plain.specs.Causes.{Cause, Trial, _when_, declined, causeNumber, capacityOutOfRange, tableTooShort, numberOutOfRange, rateOutOfRange, baseOutOfRange, loadOutOfRange, numberLive, rateLive, bookFull, numberNotLive, bookEmpty, outputTooShort}
 
@@ -42,9 +43,6 @@ pub record Outcome : Type 0 where
   pub answer : Answer
 
 -- ---- parts of the rules
-
-abbrev pub equal : ℤ → ℤ → Bool
-equal a b = leZ a b && leZ b a
 
 abbrev pub hasNumber : ℤ → Offer → Bool
 hasNumber n o = equal (o .number) n

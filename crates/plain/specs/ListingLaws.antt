@@ -8,7 +8,7 @@ use lib.Dec.{T, not-T, T-not}
 use lib.IntN.{ℤ, _*ℤ_}
 use lib.Signed.{leZ, ltZ}
 use Rattle.lists.specs.Filter.{every, keep}
-use Rattle.lists.specs.Tests.{same-test}
+use Rattle.lists.specs.Bools.{same-test}
 use Rattle.integers.specs.Parts.{intRules}
 use Rattle.offers.specs.Offers.{Offer, RationalLoad, priceTimesD, precedes, crossingNumerator, crossingDenominator}
 use Rattle.envelopes.specs.Envelope.{Ordered, Ordered·nil, Ordered·cons, Cheapest, Env, stays, listed}
@@ -20,7 +20,7 @@ pub use Rattle.plain.specs.Meaning.{CheaperThanAll}
 -- ---- the plain listing is the listing of the offers' lines
 
 lt-as-le : (a b : ℤ) → ltZ a b ≡ not (leZ b a)
-lt-as-le a b = same-test (ltZ a b) (not (leZ b a)) (λ t. omega (arith, intRules), λ t. omega (arith, intRules))
+lt-as-le a b = same-test (ltZ a b) (not (leZ b a)) (λ t. omega (arith, intRules)) (λ t. omega (arith, intRules))
 
 as-one-test : (p q t u : Bool) → (T p → T q → t ≡ not u) → (not (p && q) || t) ≡ not (p && q && u)
 as-one-test true true t u f = f tt tt

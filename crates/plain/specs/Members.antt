@@ -7,9 +7,11 @@ use lib.Dec.{T, not-T}
 use lib.IntN.{ℤ}
 use Rattle.lists.specs.Filter.{keep-passes, keep-in, keep-sublist}
 use Rattle.lists.specs.Places.{sublist-mem}
+use Rattle.integers.specs.Equal.{equal}
+use Rattle.integers.specs.Parts.{unequal, equal-eq}
 use Rattle.offers.specs.Offers.{Offer, precedes}
-use Rattle.plain.specs.Book.{join, leave, equal, hasNumber}
-use Rattle.plain.specs.Sound.{mem-join, unequal, equal-eq}
+use Rattle.plain.specs.Book.{join, leave, hasNumber}
+use Rattle.plain.specs.Sound.{mem-join}
 
 in-join : (o : Offer) {x : Offer} (os : List Offer) → (x ≡ o) ⊎ List·Memᴰ x os → List·Memᴰ x (join o os)
 in-join o [] (inl e) = List·Memᴰ·head e

@@ -10,6 +10,7 @@ use lib.ListN.{length, getD}
 use lib.Dec.{T}
 use lib.Arith.{lt→nleb}
 use lib.IntN.{ℤ, pos}
+use Rattle.lists.specs.Bools.{twice}
 use Rattle.offers.specs.Offers.{Offer, loadInRange, priceAt, crossingNumerator, crossingDenominator}
 use Rattle.plain.specs.Causes.{Cause, Trial, declined, causeNumber}
 use Rattle.plain.specs.Book.{holding, State, Call, post, withdraw, query, listing, Answer, refused, live, found, listed, Outcome, join, leave, cheapest, envelope, pieceWords, trials, step, respond, accepted}
@@ -40,10 +41,6 @@ module _ (s : State) where
 -- a book with an offer answers a load in range
 pub finds : (c : ℕ) (o : Offer) (os : List Offer) (q : ℤ) → T (loadInRange q) → step (record { capacity = c; offers = o ∷ os }) (query q) ≡ record { state = record { capacity = c; offers = o ∷ os }; answer = found (cheapest q o os .number) (priceAt (cheapest q o os) q) }
 finds c o os q t = step-accepted (record { capacity = c; offers = o ∷ os }) (query q) (twice (loadInRange q) t, (lt→nleb (suc (length os)) 0 (omega arith), tt))
-  where
-    twice : (b : Bool) → T b → T (not (not b))
-    twice true t = tt
-    twice false t = t
 
 -- ---- a listing's words
 

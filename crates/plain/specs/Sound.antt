@@ -9,19 +9,21 @@ use mathlib.Core.Bool.{Bool, true, false, not, _&&_, cond}
 use Prim.Native.Nat.{ℕ, suc, _≤_}
 use native.Mathlib.Omega.{arith}
 use lib.ListN.{length}
-use lib.Dec.{T, T-prop, T-not, leb, nleb→lt}
+use lib.Dec.{T, T-prop, leb, nleb→lt}
 use lib.IntN.{ℤ, pos, negsuc}
-use lib.Signed.{leZ, ltZ}
-use Rattle.lists.specs.Filter.{both, one-of-both, other-of-both, keep-sublist}
+use lib.Signed.{ltZ}
+use Rattle.lists.specs.Filter.{keep-sublist}
 use Rattle.lists.specs.Members.{sub-length, pairs-cons}
 use Rattle.lists.specs.Places.{sublist-mem}
-use Rattle.lists.specs.Tests.{any, not-not, none-at}
-use Rattle.integers.specs.Parts.{intRules, le-or-lt, range-parts}
+use Rattle.lists.specs.Tests.{any, none-at}
+use Rattle.lists.specs.Bools.{and-both, not-not}
+use Rattle.integers.specs.Parts.{intRules, le-or-lt, range-parts, unequal}
+use Rattle.integers.specs.Equal.{equal}
 use Rattle.offers.specs.Offers.{Offer, between, numberInRange, rateInRange, baseInRange, offerInRange, precedes}
 use Rattle.plain.specs.Causes.{Cause, declined, causeNumber}
 pub use Rattle.plain.specs.Causes.{Clear}
 pub use Rattle.plain.specs.Trials.{clear}
-use Rattle.plain.specs.Book.{State, Call, post, withdraw, query, listing, Answer, refused, live, found, listed, Outcome, equal, hasNumber, hasRate, join, leave, rangeTrials, bookTrials, trials, Opening, accepted-opening, opened, openingBy, opening, openTrials, accepted, respond, step, after}
+use Rattle.plain.specs.Book.{State, Call, post, withdraw, query, listing, Answer, refused, live, found, listed, Outcome, hasNumber, hasRate, join, leave, rangeTrials, bookTrials, trials, Opening, accepted-opening, opened, openingBy, opening, openTrials, accepted, respond, step, after}
 
 pub record Sound (s : State) : Type 0 where
   pub capacity-low : 1 ≤ s .capacity
@@ -72,15 +74,6 @@ join-pairs {R} prop o (x ∷ xs) p h f g = go (precedes o x) (λ t. t) (λ t. t)
 
 -- ---- what equality of numbers or rates says
 
-equal-is : (a b : ℤ) → a ≡ b → T (equal a b)
-equal-is a b e = both (leZ a b) (leZ b a) (omega (arith, intRules)) (omega (arith, intRules))
-
-pub equal-eq : (a b : ℤ) → T (equal a b) → a ≡ b
-equal-eq a b t = let p = one-of-both (leZ a b) (leZ b a) t in let q = other-of-both (leZ a b) (leZ b a) t in omega (arith, intRules)
-
-pub unequal : (a b : ℤ) → T (not (equal a b)) → a ≢ b
-unequal a b t e = T-not (equal a b) t (equal-is a b e)
-
 other-rate : (a b : Offer) → T (not (equal (a .rate) (b .rate))) → T (not (precedes b a)) → T (precedes a b)
 other-rate a b ne t = ⊎-elim (λ h. absurd (unequal (a .rate) (b .rate) ne (omega (arith, intRules)))) (λ h. h) (le-or-lt (a .rate) (b .rate))
 
@@ -104,7 +97,7 @@ post-sound s n r b h (cn, (cr, (cb, (live-n, (live-r, (full, _)))))) =
     o = record { number = n; rate = r; base = b }
 
     inRange : T (offerInRange o)
-    inRange = both (numberInRange n && rateInRange r) (baseInRange b) (both (numberInRange n) (rateInRange r) (not-not (numberInRange n) cn) (not-not (rateInRange r) cr)) (not-not (baseInRange b) cb)
+    inRange = and-both (numberInRange n && rateInRange r) (baseInRange b) (and-both (numberInRange n) (rateInRange r) (not-not (numberInRange n) cn) (not-not (rateInRange r) cr)) (not-not (baseInRange b) cb)
 
 withdraw-sound : (s : State) (n : ℤ) → Sound s → Sound (accepted s (withdraw n) .state)
 withdraw-sound s n h =

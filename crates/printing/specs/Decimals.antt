@@ -13,8 +13,9 @@ use mir.Syntax.{w64}
 use mir.Val.{SFits}
 use borrow.Author.Tests.{le-leb}
 use lib.Dec.{T}
-use Rattle.lists.specs.Filter.{every, both, one-of-both, other-of-both}
+use Rattle.lists.specs.Filter.{every}
 use Rattle.printing.specs.Texts.{digit, minus, digitsWithin, digits, numeral, decimal, FitsIn}
+use Rattle.lists.specs.Bools.{or-left, and-both, and-left, and-right}
 
 -- ---- the two laws that the rest goes by
 
@@ -66,8 +67,8 @@ digit-is d h = rw (le-leb 48 (48 + d) (omega arith), le-leb (48 + d) 57 (omega a
 every-snoc : (t : List ℕ) (b : ℕ) → T (every isDigit t) → isDigit b ≡ true → T (every isDigit (t ++ b ∷ []))
 every-snoc [] b h e = rw e tt
 every-snoc (c ∷ t) b h e =
-    both (isDigit c) (every isDigit (t ++ b ∷ [])) (one-of-both (isDigit c) (every isDigit t) h)
-    (every-snoc t b (other-of-both (isDigit c) (every isDigit t) h) e)
+    and-both (isDigit c) (every isDigit (t ++ b ∷ [])) (and-left (isDigit c) (every isDigit t) h)
+    (every-snoc t b (and-right (isDigit c) (every isDigit t) h) e)
 
 pub digits-characters : (n : ℕ) → T (every isDigit (digits n))
 digits-characters n = along (λ _ t. T (every isDigit t)) tt (λ m t _ h. every-snoc t _ h (digit-is (m % 10) (omega arith))) n
@@ -83,11 +84,8 @@ isDecimal b = isDigit b || eqb b minus
 digits-decimal : (t : List ℕ) → T (every isDigit t) → T (every isDecimal t)
 digits-decimal [] h = tt
 digits-decimal (b ∷ t) h =
-    both (isDecimal b) (every isDecimal t) (left (isDigit b) (one-of-both (isDigit b) (every isDigit t) h))
-    (digits-decimal t (other-of-both (isDigit b) (every isDigit t) h))
-  where
-    left : (x : Bool) → T x → T (x || eqb b minus)
-    left true h = tt
+    and-both (isDecimal b) (every isDecimal t) (or-left (isDigit b) (eqb b minus) (and-left (isDigit b) (every isDigit t) h))
+    (digits-decimal t (and-right (isDigit b) (every isDigit t) h))
 
 pub decimal-characters : (z : ℤ) → T (every isDecimal (decimal z))
 unfolding decimal

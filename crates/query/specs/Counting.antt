@@ -16,7 +16,7 @@ use Rattle.table.specs.Layout.{cap, cap-most, linkAt}
 use Rattle.table.specs.Items.{Item, at, Slots, slots-across, slots-most}
 use Rattle.table.specs.Threads.{Next, Threaded}
 use Rattle.descents.specs.Ends.{endOf, Ended}
-use Rattle.query.specs.Pieces.{Pieces}
+use Rattle.query.specs.QueriedPieces.{Pieces}
 
 -- the promise: how many pieces a balanced tree has, 0 for none
 pub record Counted (w : Words) (root r : ℕ) : Type 0 where

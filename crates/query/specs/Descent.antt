@@ -12,7 +12,7 @@ use Rattle.table.specs.Items.{Item}
 use Rattle.table.specs.Nodes.{ref-low}
 use Rattle.query.specs.Lookup.{atOrLeft, deeper, lookup, lookup-left, lookup-right}
 use Rattle.query.specs.Readings.{towardAt}
-use Rattle.query.specs.Pieces.{Pieces, Opened, opened, at-leaf}
+use Rattle.query.specs.QueriedPieces.{Pieces, Opened, opened, at-leaf}
 
 -- what a query on t finds
 pub record Finds (q : ℤ) (t : Tree Item) (slot probes : ℕ) : Type 0 where

@@ -6,13 +6,15 @@ use native.Mathlib.Omega.{arith}
 use lib.ListN.{length, getD}
 use lib.IntN.{ℤ, pos, negsuc, negℤ}
 use borrow.Author.Tests.{le-leb, leb-false}
+use Rattle.lists.specs.Bools.{is-false, failed, passed, not-not, is-true}
 use Rattle.integers.specs.Ring.{var, nat, _:+_, _:*_, by-eq}
 use Rattle.offers.specs.Offers.{between, within}
+use Rattle.offers.specs.Bounded.{bounded-in}
 use Rattle.table.specs.Words.{Words, upTo, upTo-in, upTo-over, upTo-below}
 use Rattle.table.specs.Layout.{cap, Valid, cell, linkAt}
 use Rattle.table.specs.Cells.{cell-none, cell-inside, cell-there}
 use Rattle.table.specs.Rep.{childField}
-use Rattle.query.specs.Readings.{clamped, bounded-in, rightOf, Sided, childToward, priceIn}
+use Rattle.query.specs.Readings.{clamped, rightOf, Sided, childToward, priceIn}
 
 link-out : {w : Words} {f s : ℕ} → ¬ Valid w f s → linkAt w f s ≡ 0
 link-out v = ap (upTo 8192) (sym (cell-none v)) ∙ upTo-in 8192 0 (omega arith)
@@ -33,14 +35,6 @@ off-slot w c s q e h = go (within 200_000 (cell w 7 s)) (link-out (λ v. h (v .l
 -- where the group of inner node x begins, c being the capacity
 abbrev pub group : ℕ → ℕ → ℕ
 group c x = 4 * (c + 1 + x) - 16_320
-
-true-is : (b : Bool) → not b ≡ false → b ≡ true
-true-is true e = refl
-true-is false e = sym e
-
-false-is : (b : Bool) → not b ≡ true → b ≡ false
-false-is true e = sym e
-false-is false e = refl
 
 -- no number of a node
 no-link : (z : ℤ) → between (pos 0) (pos 8192) z ≡ false → upTo 8192 z ≡ 0
@@ -70,19 +64,19 @@ module _ (w : Words) (c x : ℕ) (e : c ≡ cap w) (low : 4096 < x) (high : x �
   -- a denominator out of range
   pub off-steep : (q : ℤ) → not (within 200_000 ourD) ≡ true → 0 ≡ childToward w s q
   unfolding childToward
-  off-steep q d = rw (← group-cell 7 3 (omega arith) (omega arith), false-is (within 200_000 ourD) d)
+  off-steep q d = rw (← group-cell 7 3 (omega arith) (omega arith), is-false (within 200_000 ourD) (passed d))
 
   module _ {q : ℤ} {side : ℕ} (t : Sided q ourN ourD side) (d : not (within 200_000 ourD) ≡ false) where
     -- the child's word
     pub toward-there : upTo 8192 (getD w (group c x + side) (pos 0)) ≡ childToward w s q
     unfolding childToward
     toward-there =
-        rw (← group-cell 7 3 (omega arith) (omega arith), ← group-cell 6 2 (omega arith) (omega arith), true-is (within 200_000 ourD) d)
+        rw (← group-cell 7 3 (omega arith) (omega arith), ← group-cell 6 2 (omega arith) (omega arith), is-true (within 200_000 ourD) (not-not (within 200_000 ourD) (failed d)))
         (ap (upTo 8192) (group-cell (childField 0 (rightOf q ourN ourD)) side (omega (arith, t .told)) (omega (arith, t .low))))
 
     -- it is no number of a node
     pub off-wild : not (between (pos 0) (pos 8192) (getD w (group c x + side) (pos 0))) ≡ true → 0 ≡ childToward w s q
-    off-wild g = sym (no-link _ (false-is _ g)) ∙ toward-there
+    off-wild g = sym (no-link _ (is-false _ (passed g))) ∙ toward-there
 
 -- ---- a slot's number, rate and base lie side by side too
 

@@ -4,7 +4,7 @@ pub mod Answer
 pub mod Plain
 pub mod Readings
 pub mod Groups
-pub mod Pieces
+pub mod QueriedPieces
 pub mod Descent
 pub mod Counting
 pub mod Listing

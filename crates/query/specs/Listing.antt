@@ -17,7 +17,7 @@ use Rattle.table.specs.Items.{Item}
 use Rattle.table.specs.Threads.{Holds, holds-right, Threaded}
 use Rattle.descents.specs.Ends.{Ended}
 use Rattle.query.specs.Plain.{offerOf}
-use Rattle.query.specs.Pieces.{Pieces}
+use Rattle.query.specs.QueriedPieces.{Pieces}
 use Rattle.query.specs.Counting.{Counted}
 
 -- the promise: the count; where the output is too short, all of it stays; else the pieces' words, and later ones stay

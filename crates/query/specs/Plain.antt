@@ -9,6 +9,7 @@ use borrow.Author.Tests.{lt-leb, le-ltb, lt-ltb}
 use lib.IntN.{ℤ}
 use lib.Signed.{leZ}
 use lib.ListN.{length, length-map}
+use Rattle.lists.specs.Bools.{is-true}
 use Rattle.integers.specs.Parts.{intRules, le-or-lt}
 use Rattle.offers.specs.Offers.{Offer, priceAt, precedes, loadInRange}
 use Rattle.envelopes.specs.Envelope.{Ordered, Env, First}
@@ -25,7 +26,6 @@ use Rattle.plain.specs.ListingLaws.{in-order, envelope-listed}
 use Rattle.trees.specs.Tree.{Tree, leaves}
 use Rattle.table.specs.Items.{Item}
 use Rattle.pieces.specs.Pieces.{rateOf, baseOf, items, item-laws}
-use Rattle.query.specs.Readings.{true-is}
 use Rattle.query.specs.Lookup.{lookup}
 use Rattle.query.specs.Answer.{lookup-first}
 
@@ -71,7 +71,7 @@ lookup-plain {ls} t s q h e E r = go (s .offers) e (h .ordered)
 
     go : (os : List Offer) → os ≡ map offerOf ls → Pairwise (λ a b. T (precedes a b)) os → step (record { capacity = s .capacity; offers = os }) (query q) .answer ≡ found (z .offer .number) (priceAt (z .offer) q)
     go [] d p = absurd (List·Memᴰ·not-nil (subst (List·Memᴰ (z .offer)) (sym d) (names .live)))
-    go (o ∷ os) d p = rw (true-is (loadInRange q) r, lt-leb (length (o ∷ os)) 0 (omega arith)) (ap (λ (x : Offer). found (x .number) (priceAt x q)) (same d p))
+    go (o ∷ os) d p = rw (is-true (loadInRange q) r, lt-leb (length (o ∷ os)) 0 (omega arith)) (ap (λ (x : Offer). found (x .number) (priceAt x q)) (same d p))
 
 -- ---- a listing
 

@@ -1,56 +1,24 @@
 -- What the code reads of a part, whatever its words are: numbers are brought into the ranges that pieces keep, so that no product wraps.
-use mathlib.Core.Path.{_≡_, refl}
+use mathlib.Core.Path.{_≡_}
 use mathlib.Core.Bool.{Bool, true, false, not, cond}
 use Prim.Native.Nat.{ℕ, zero, suc, _*_, _-_, _≤_}
 use native.Mathlib.Nat.{mul-le-mul}
 use native.Mathlib.Omega.{arith}
 use lib.Dec.{T}
 use lib.IntN.{ℤ, pos, negℤ, natAbs, _+ℤ_, _*ℤ_}
-use lib.Signed.{leZ, ltZ}
+use lib.Signed.{leZ}
 use Rattle.integers.specs.Magnitude.{natAbs-mul, within-natAbs}
-use Rattle.integers.specs.Parts.{intRules, range-parts, and-both}
-use Rattle.offers.specs.Offers.{between, within}
+use Rattle.offers.specs.Offers.{within}
+use Rattle.offers.specs.Bounded.{bounded}
 use Rattle.table.specs.Words.{Words}
 use Rattle.table.specs.Layout.{cell, linkAt}
 use Rattle.table.specs.Rep.{bit, childField}
 use Rattle.query.specs.declared.Step.{Step}
 use Rattle.query.specs.declared.Step.the-variants.{To, Off}
 
--- the number itself where it is from `low` to `high`, and 0 for any other
-unfoldable pub bounded : ℤ → ℤ → ℤ → ℤ
-bounded low high z = cond (between low high z) z (pos 0)
-
 -- from −n to n
 abbrev pub clamped : ℕ → ℤ → ℤ
 clamped n z = bounded (negℤ (pos n)) (pos n) z
-
-pub bounded-in : (low high z : ℤ) → T (between low high z) → bounded low high z ≡ z
-unfolding bounded
-bounded-in low high z t = go (between low high z) t
-  where
-    go : (b : Bool) → T b → cond b z (pos 0) ≡ z
-    go true t = refl
-    go false t = absurd t
-
--- a test that passes, and one that fails
-pub true-is : (b : Bool) → T b → b ≡ true
-true-is true t = refl
-true-is false t = absurd t
-
-no-test : (b : Bool) → ¬ T b → b ≡ false
-no-test true f = absurd (f tt)
-no-test false f = refl
-
-pub bounded-below : (low high z : ℤ) → ltZ z low ≡ true → bounded low high z ≡ pos 0
-unfolding bounded
-bounded-below low high z e = rw (no-test (between low high z) (λ t. omega (arith, intRules, range-parts low z high t)))
-
-pub bounded-above : (low high z : ℤ) → ltZ high z ≡ true → bounded low high z ≡ pos 0
-unfolding bounded
-bounded-above low high z e = rw (no-test (between low high z) (λ t. omega (arith, intRules, range-parts low z high t)))
-
-pub bounded-both : (low high z : ℤ) → ltZ z low ≡ false → ltZ high z ≡ false → bounded low high z ≡ z
-bounded-both low high z e d = bounded-in low high z (and-both (leZ low z) (leZ z high) (omega (arith, intRules)) (omega (arith, intRules)))
 
 pub clamped-size : (n : ℕ) (z : ℤ) → natAbs (clamped (suc n) z) ≤ suc n
 unfolding bounded

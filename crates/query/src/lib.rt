@@ -3,14 +3,15 @@ ghost use mathlib.Core.Path.{_≡_};
 ghost use mathlib.Core.Bool.{not};
 ghost use Prim.Native.Nat.{_≤_};
 ghost use Rattle.offers.specs.Offers.{between};
+ghost use Rattle.offers.specs.Bounded.{bounded};
 ghost use Rattle.table.specs.Layout.{cap};
-ghost use Rattle.query.specs.Readings.{bounded, Sided, childOf, towardAt, priceIn};
+ghost use Rattle.query.specs.Readings.{Sided, childOf, towardAt, priceIn};
 ghost use Rattle.query.specs.Descent.{Descended};
 ghost use Rattle.query.specs.Counting.{Counted};
 ghost use Rattle.query.specs.Listing.{crossingWord, pieceAt, Written};
 
 // `value` where it is from `low` to `high`, and 0 for any other.
-pub fn bounded(low: i64, high: i64, value: i64) -> i64
+fn bounded(low: i64, high: i64, value: i64) -> i64
     ensures { λ r. ⌜ r ≡ bounded low high value ⌝ }
 {
     if value < low {
@@ -23,13 +24,10 @@ pub fn bounded(low: i64, high: i64, value: i64) -> i64
 }
 
 // Whether `value` is below `low` or above `high`.
-fn outside(low: i64, high: i64, value: i64) -> bool
+pub fn outside(low: i64, high: i64, value: i64) -> bool
     ensures { λ r. ⌜ r ≡ not (between low high value) ⌝ }
 {
-    if value < low {
-        return true;
-    }
-    high < value
+    value < low || high < value
 }
 
 // 0 where the load is at or left of the crossing n / d, and 1 right of it.

@@ -1,4 +1,4 @@
 -- A reading of a book's pieces.
 pub mod Promises
-pub mod Parts
-pub mod Steps
+pub mod PartReading
+pub mod ReadingSteps

@@ -3,8 +3,8 @@
 ghost use mathlib.Core.Path.{_≡_};
 ghost use Prim.Native.Nat.{_+_};
 ghost use Rattle.reading.specs.Promises.{Before, Starts, Hands, Moves};
-ghost use Rattle.reading.specs.Parts.{PartMoves, PartHands};
-ghost use Rattle.reading.specs.Steps.{Begins, Advances, HandsAt};
+ghost use Rattle.reading.specs.PartReading.{PartMoves, PartHands};
+ghost use Rattle.reading.specs.ReadingSteps.{Begins, Advances, HandsAt};
 ghost use Rattle.book.specs.Promises.{partOf};
 
 pub struct Reading<'a> {

@@ -9,7 +9,8 @@ use native.Mathlib.Omega.{arith}
 use lib.ListN.{take, drop, getD}
 use lib.Seq.{getD-take}
 use lib.IntN.{ℤ, pos, negsuc}
-use Rattle.plain.specs.Book.{State, Call, post, withdraw, query, listing, Answer, refused, live, found, listed, equal, step, answers}
+use Rattle.integers.specs.Equal.{equal}
+use Rattle.plain.specs.Book.{State, Call, post, withdraw, query, listing, Answer, refused, live, found, listed, step, answers}
 use Rattle.book.specs.declared.Update.{Update}
 use Rattle.book.specs.declared.Update.the-variants.{Done, Declined as UpdateDeclined}
 use Rattle.book.specs.declared.Found.{Found}

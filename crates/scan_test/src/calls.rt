@@ -9,7 +9,7 @@ pub struct Tally {
     pub differences: u32,
 }
 
-pub fn nothing() -> Tally {
+pub(crate) fn nothing() -> Tally {
     Tally {
         calls: 0,
         queries: 0,
@@ -27,7 +27,7 @@ fn differing(n: u32, same: bool) -> u32 {
 }
 
 // One call more, of which so many queries, listings and meetings.
-pub fn counted(t: Tally, queries: u32, listings: u32, meetings: u32, same: bool) -> Tally {
+pub(crate) fn counted(t: Tally, queries: u32, listings: u32, meetings: u32, same: bool) -> Tally {
     Tally {
         calls: std::num::wrapping_add_u32(t.calls, 1),
         queries: std::num::wrapping_add_u32(t.queries, queries),
@@ -52,7 +52,7 @@ fn opening_same(r: book::Opening, cause: i64) -> bool {
 }
 
 // An opening that is to be declined for that cause; 0 for none.
-pub fn open(table: &mut [i64], start: usize, room: i64, cause: i64, t: Tally) -> Tally {
+pub(crate) fn open(table: &mut [i64], start: usize, room: i64, cause: i64, t: Tally) -> Tally {
     let r = book::open(table, start, room);
     counted(t, 0, 0, 0, opening_same(r, cause))
 }
@@ -116,7 +116,7 @@ fn update_same(r: book::Update, cause: i64, live: u32) -> bool {
     }
 }
 
-pub fn post(
+pub(crate) fn post(
     table: &mut [i64],
     start: usize,
     os: &mut [i64; 192],
@@ -149,7 +149,7 @@ fn leave(os: &mut [i64; 192], cause: i64, number: i64) {
     }
 }
 
-pub fn withdraw(
+pub(crate) fn withdraw(
     table: &mut [i64],
     start: usize,
     os: &mut [i64; 192],
@@ -200,7 +200,7 @@ fn found_same(os: &[i64; 192], load: i64, r: book::Found) -> bool {
     }
 }
 
-pub fn query(table: &[i64], start: usize, os: &[i64; 192], load: i64, t: Tally) -> Tally {
+pub(crate) fn query(table: &[i64], start: usize, os: &[i64; 192], load: i64, t: Tally) -> Tally {
     let r = book::query(table, start, load);
     counted(t, 1, 0, 0, found_same(os, load, r))
 }
@@ -217,7 +217,7 @@ fn is_no_book(r: book::Found) -> bool {
 }
 
 // At `start` there is no book.
-pub fn no_query(table: &[i64], start: usize, t: Tally) -> Tally {
+pub(crate) fn no_query(table: &[i64], start: usize, t: Tally) -> Tally {
     counted(t, 1, 0, 0, is_no_book(book::query(table, start, 5)))
 }
 
@@ -315,14 +315,14 @@ fn listing_same(os: &[i64; 192], out: &[i64], r: book::Listed) -> bool {
     }
 }
 
-pub fn listing(table: &[i64], start: usize, os: &[i64; 192], t: Tally) -> Tally {
+pub(crate) fn listing(table: &[i64], start: usize, os: &[i64; 192], t: Tally) -> Tally {
     let mut out = [7i64; 192];
     let r = book::listing(table, start, &mut out);
     counted(t, 0, 1, 0, listing_same(os, &out, r))
 }
 
 // An output that lacks a word for two pieces.
-pub fn short_listing(table: &[i64], start: usize, os: &[i64; 192], t: Tally) -> Tally {
+pub(crate) fn short_listing(table: &[i64], start: usize, os: &[i64; 192], t: Tally) -> Tally {
     let mut out = [7i64; 5];
     let r = book::listing(table, start, &mut out);
     counted(t, 0, 1, 0, listing_same(os, &out, r))

@@ -13,7 +13,7 @@ pub struct Offer {
     pub base: i64,
 }
 
-pub fn first() -> Maker {
+pub(crate) fn first() -> Maker {
     Maker {
         i: 0,
         square: 0,
@@ -21,7 +21,7 @@ pub fn first() -> Maker {
     }
 }
 
-pub fn next(m: Maker) -> Maker {
+pub(crate) fn next(m: Maker) -> Maker {
     let odd = std::num::wrapping_add_u32(m.i, std::num::wrapping_add_u32(m.i, 1));
     Maker {
         i: std::num::wrapping_add_u32(m.i, 1),
@@ -30,7 +30,7 @@ pub fn next(m: Maker) -> Maker {
     }
 }
 
-pub fn less(a: u32, b: u32) -> i64 {
+pub(crate) fn less(a: u32, b: u32) -> i64 {
     a as i64 - b as i64
 }
 
@@ -71,14 +71,14 @@ fn base(kind: u32, m: Maker) -> i64 {
 }
 
 // Number i + 1; those of kind 6 are above 100.
-pub fn number(kind: u32, i: u32) -> i64 {
+pub(crate) fn number(kind: u32, i: u32) -> i64 {
     if kind == 6 {
         return less(101 + i % 64, 0);
     }
     less(1 + i % 64, 0)
 }
 
-pub fn made(kind: u32, m: Maker) -> Offer {
+pub(crate) fn made(kind: u32, m: Maker) -> Offer {
     let n = number(kind, m.i);
     let r = rate(kind, m);
     let b = base(kind, m);
@@ -90,7 +90,7 @@ pub fn made(kind: u32, m: Maker) -> Offer {
 }
 
 // The loads of a sweep: 81 in a row, the ends of the range, and one beyond each.
-pub fn load(kind: u32, j: u32) -> i64 {
+pub(crate) fn load(kind: u32, j: u32) -> i64 {
     match j {
         81 => 1_000_000,
         82 => -1_000_000,

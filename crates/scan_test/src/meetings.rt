@@ -81,7 +81,7 @@ fn meeting_same(cause: i64, all: &[i64; 192], m: meet::Met) -> bool {
 }
 
 // The book at `from` with offers `l` and the one at `to` with offers `r`.
-pub fn meeting(
+pub(crate) fn meeting(
     table: &[i64],
     from: usize,
     l: &[i64; 192],
@@ -108,7 +108,7 @@ fn is_no_pair(m: meet::Met) -> bool {
 }
 
 // At `to` there is no book.
-pub fn no_meeting(table: &[i64], from: usize, to: usize, t: Tally) -> Tally {
+pub(crate) fn no_meeting(table: &[i64], from: usize, to: usize, t: Tally) -> Tally {
     let a = counted(t, 0, 0, 1, is_no_pair(meet::meet(table, from, table, to)));
     counted(a, 0, 0, 1, is_no_pair(meet::meet(table, to, table, from)))
 }

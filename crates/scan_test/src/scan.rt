@@ -1,30 +1,30 @@
 // Offers in a plain array, and what a scan of all of them answers. Slot i of 64 has its number at i, its rate at 64 + i and its base at
 // 128 + i; a number 0 is a vacant slot. Nothing here knows how a book works.
 ghost use mathlib.Core.Path.{_≡_};
-ghost use Rattle.query.specs.Readings.{bounded};
+ghost use Rattle.offers.specs.Bounded.{bounded};
 
-pub fn number(os: &[i64; 192], i: usize) -> i64 {
+pub(crate) fn number(os: &[i64; 192], i: usize) -> i64 {
     if i < 64 {
         return os[i];
     }
     0
 }
 
-pub fn rate(os: &[i64; 192], i: usize) -> i64 {
+pub(crate) fn rate(os: &[i64; 192], i: usize) -> i64 {
     if i < 64 {
         return os[64 + i];
     }
     0
 }
 
-pub fn base(os: &[i64; 192], i: usize) -> i64 {
+pub(crate) fn base(os: &[i64; 192], i: usize) -> i64 {
     if i < 64 {
         return os[128 + i];
     }
     0
 }
 
-pub fn put(os: &mut [i64; 192], i: usize, number: i64, rate: i64, base: i64) {
+pub(crate) fn put(os: &mut [i64; 192], i: usize, number: i64, rate: i64, base: i64) {
     if i < 64 {
         os[i] = number;
         os[64 + i] = rate;
@@ -37,7 +37,7 @@ fn is_live(os: &[i64; 192], i: usize) -> bool {
 }
 
 // The slot with that number, or 64; of number 0 the first vacant one.
-pub fn with_number(os: &[i64; 192], sought: i64) -> usize {
+pub(crate) fn with_number(os: &[i64; 192], sought: i64) -> usize {
     for i in 0..64 {
         if number(os, i) == sought {
             return i;
@@ -46,7 +46,7 @@ pub fn with_number(os: &[i64; 192], sought: i64) -> usize {
     64
 }
 
-pub fn has_rate(os: &[i64; 192], sought: i64) -> bool {
+pub(crate) fn has_rate(os: &[i64; 192], sought: i64) -> bool {
     for i in 0..64 {
         if is_live(os, i) {
             if rate(os, i) == sought {
@@ -64,7 +64,7 @@ fn one_more(os: &[i64; 192], i: usize, n: u32) -> u32 {
     n
 }
 
-pub fn count(os: &[i64; 192]) -> u32 {
+pub(crate) fn count(os: &[i64; 192]) -> u32 {
     let mut n: u32 = 0;
     for i in 0..64 {
         n = one_more(os, i, n);
@@ -85,7 +85,7 @@ fn reaches(r: &[i64; 192], least: i64) -> bool {
 }
 
 // Some rate of `l` is not above some rate of `r`.
-pub fn mixed(l: &[i64; 192], r: &[i64; 192]) -> bool {
+pub(crate) fn mixed(l: &[i64; 192], r: &[i64; 192]) -> bool {
     for i in 0..64 {
         if is_live(l, i) {
             if reaches(r, rate(l, i)) {
@@ -111,7 +111,7 @@ fn bounded(low: i64, high: i64, value: i64) -> i64
     value
 }
 
-pub fn price(os: &[i64; 192], i: usize, load: i64) -> i64 {
+pub(crate) fn price(os: &[i64; 192], i: usize, load: i64) -> i64 {
     let b = bounded(-1_000_000_000, 1_000_000_000, base(os, i));
     let r = bounded(-100_000, 100_000, rate(os, i));
     let q = bounded(-1_000_000, 1_000_000, load);
@@ -141,7 +141,7 @@ fn cheaper(os: &[i64; 192], load: i64, best: usize, i: usize) -> usize {
 }
 
 // The slot of the offer that a query names, or 64 where none is live.
-pub fn cheapest(os: &[i64; 192], load: i64) -> usize {
+pub(crate) fn cheapest(os: &[i64; 192], load: i64) -> usize {
     let mut best: usize = 64;
     for i in 0..64 {
         best = cheaper(os, load, best, i);
@@ -152,13 +152,13 @@ pub fn cheapest(os: &[i64; 192], load: i64) -> usize {
 // ---- the pieces
 
 // The crossing of two offers, the one with the higher rate first: numerator and denominator.
-pub fn numerator(os: &[i64; 192], i: usize, j: usize) -> i64 {
+pub(crate) fn numerator(os: &[i64; 192], i: usize, j: usize) -> i64 {
     let a = bounded(-1_000_000_000, 1_000_000_000, base(os, i));
     let b = bounded(-1_000_000_000, 1_000_000_000, base(os, j));
     b - a
 }
 
-pub fn denominator(os: &[i64; 192], i: usize, j: usize) -> i64 {
+pub(crate) fn denominator(os: &[i64; 192], i: usize, j: usize) -> i64 {
     let a = bounded(-100_000, 100_000, rate(os, i));
     let b = bounded(-100_000, 100_000, rate(os, j));
     a - b
@@ -265,7 +265,7 @@ fn higher(os: &[i64; 192], below: i64, best: usize, i: usize) -> usize {
 }
 
 // The piece with the highest rate below `below`, or 64.
-pub fn next_piece(os: &[i64; 192], below: i64) -> usize {
+pub(crate) fn next_piece(os: &[i64; 192], below: i64) -> usize {
     let mut best: usize = 64;
     for i in 0..64 {
         best = higher(os, below, best, i);

@@ -17,7 +17,7 @@ use Rattle.meeting.specs.Moves.{half}
 use Rattle.table.specs.Words.{Words}
 use Rattle.table.specs.Items.{Item}
 use Rattle.table.specs.Rep.{childAt, refOf}
-use Rattle.search.specs.Pieces.{Pieces, sideOf, pieces-away, pieces-toward, leaf-low, inner-high, seam-at}
+use Rattle.search.specs.SearchedPieces.{Pieces, sideOf, pieces-away, pieces-toward, leaf-low, inner-high, seam-at}
 use Rattle.search.specs.Walks.{Walk, Stacks, empty, pushed, Stood, stacks-depth, stacks-push, topRef, pointSlot}
 
 -- ---- the promises

@@ -20,6 +20,7 @@ use Rattle.meeting.specs.Moves.{half, owes-root}
 use Rattle.meeting.specs.Verdicts.{Meeting, aim}
 use Rattle.meeting.specs.Search.{Sound, potential, Stepped as Progress, step-sound}
 use Rattle.meeting.specs.Meets.{size, lineFrom, limit, spans-tree, root-stands}
+use Rattle.meeting.specs.Reach.{later}
 use Rattle.table.specs.Words.{Words}
 use Rattle.table.specs.Items.{Item}
 use Rattle.table.specs.Rep.{Rep, refOf}
@@ -27,9 +28,9 @@ use Rattle.table.specs.Threads.{Holds, Threaded}
 use Rattle.search.specs.declared.Search.{Search}
 use Rattle.search.specs.declared.Met.{Met}
 use Rattle.search.specs.ItemLines.{itemFigure, itemLaws, Falls}
-use Rattle.search.specs.Pieces.{Pieces}
+use Rattle.search.specs.SearchedPieces.{Pieces}
 use Rattle.search.specs.Walks.{empty, Stood, Fares}
-use Rattle.search.specs.Steps.{uOf, vOf, Searches, After, Stepped}
+use Rattle.search.specs.SearchSteps.{uOf, vOf, Searches, After, Stepped}
 
 -- ---- what the search is given
 
@@ -97,11 +98,7 @@ module _ {wl wr : Words} {x y : ℕ} {tl tr : Tree Item} (F : Faced wl wr x y tl
 -- ---- the search under way
 
 module _ {A : Type 0} where
-  -- so many steps more
-  abbrev pub counting : ℕ → Result A → Result A
-  counting k r = record { finished = r .finished; u = r .u; v = r .v; steps = k + r .steps }
-
-  stepped-as : (r : Result A) (k : ℕ) (z : Result A) → r .finished ≡ z .finished → r .u ≡ z .u → r .v ≡ z .v → r .steps ≡ k + z .steps → r ≡ counting k z
+  stepped-as : (r : Result A) (k : ℕ) (z : Result A) → r .finished ≡ z .finished → r .u ≡ z .u → r .v ≡ z .v → r .steps ≡ k + z .steps → r ≡ later k z
   stepped-as r k z a b c d = λ i. record { finished = a i; u = b i; v = c i; steps = d i }
 
 -- k steps are done: the state stands for the machine's, which is sound and has more steps left than it owes
@@ -115,7 +112,7 @@ pub record Underway (wl wr : Words) (tl tr : Tree Item) (s : Search) (k : ℕ) :
   pub sound : Sound meeting left (state .u) (state .v)
   pub owed : potential sound < left-over
   pub stood : Searches wl wr s state
-  pub same : meet itemFigure tl tr ≡ counting k (run itemFigure left-over state)
+  pub same : meet itemFigure tl tr ≡ later k (run itemFigure left-over state)
 
 -- what the loop keeps
 pub record Going (wl wr : Words) (x y : ℕ) (s : Search) (k : ℕ) : Type 0 where
@@ -191,11 +188,11 @@ module _ {wl wr : Words} {tl tr : Tree Item} {s : Search} {k : ℕ} (g : Underwa
   fares-v = record { aim = g .meeting .rightAim; low = g .right-tall; stands = g .sound .them; stood = g .stood .v }
 
   -- one step of the machine is one of the steps that are left
-  turned-by : {r : Search} (n : ℕ) → n + k ≡ limit tl tr → potential (g .sound) < n → meet itemFigure tl tr ≡ counting k (run itemFigure n (g .state)) → (o : Option (State Item)) → step itemFigure (g .state) ≡ o → Progress (g .meeting) (g .sound) o → After wl wr s r o → Turned wl wr tl tr r (k + 1)
+  turned-by : {r : Search} (n : ℕ) → n + k ≡ limit tl tr → potential (g .sound) < n → meet itemFigure tl tr ≡ later k (run itemFigure n (g .state)) → (o : Option (State Item)) → step itemFigure (g .state) ≡ o → Progress (g .meeting) (g .sound) o → After wl wr s r o → Turned wl wr tl tr r (k + 1)
   unfolding run ended counted
   turned-by zero b p e o q z a = absurd (omega arith)
   turned-by {r} (suc n) b p e none q z a =
-      let f : meet itemFigure tl tr ≡ counting k (ended true (g .state) 1) = e ∙ ap (λ (o : Option (State Item)). counting k (elim o [ none ↦ ended true (g .state) 1 | some s′ ↦ counted (run itemFigure n s′) ])) q in
+      let f : meet itemFigure tl tr ≡ later k (ended true (g .state) 1) = e ∙ ap (λ (o : Option (State Item)). later k (elim o [ none ↦ ended true (g .state) 1 | some s′ ↦ counted (run itemFigure n s′) ])) q in
       inl (
         a .0,
         record {
@@ -211,7 +208,7 @@ module _ {wl wr : Words} {tl tr : Tree Item} {s : Search} {k : ℕ} (g : Underwa
         },
       )
   turned-by {r} (suc n) b p e (some s′) q (j, less) a =
-      let f : meet itemFigure tl tr ≡ counting k (counted (run itemFigure n s′)) = e ∙ ap (λ (o : Option (State Item)). counting k (elim o [ none ↦ ended true (g .state) 1 | some s′ ↦ counted (run itemFigure n s′) ])) q in
+      let f : meet itemFigure tl tr ≡ later k (counted (run itemFigure n s′)) = e ∙ ap (λ (o : Option (State Item)). later k (elim o [ none ↦ ended true (g .state) 1 | some s′ ↦ counted (run itemFigure n s′) ])) q in
       inr (
         a .0,
         record {
@@ -224,7 +221,7 @@ module _ {wl wr : Words} {tl tr : Tree Item} {s : Search} {k : ℕ} (g : Underwa
           sound = j;
           owed = omega arith;
           stood = a .1;
-          same = f ∙ stepped-as (counting k (counted (run itemFigure n s′))) (k + 1) (run itemFigure n s′) refl refl refl (omega arith);
+          same = f ∙ stepped-as (later k (counted (run itemFigure n s′))) (k + 1) (run itemFigure n s′) refl refl refl (omega arith);
         },
       )
 

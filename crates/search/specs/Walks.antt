@@ -16,7 +16,7 @@ use Rattle.table.specs.Items.{Item}
 use Rattle.table.specs.Rep.{refOf}
 use Rattle.search.specs.ItemLines.{itemFigure, point-above}
 use Rattle.search.specs.Prices.{aboveAt, above-missing}
-use Rattle.search.specs.Pieces.{Pieces, sideOf, seam-of, seam-above}
+use Rattle.search.specs.SearchedPieces.{Pieces, sideOf, seam-of, seam-above}
 
 -- ---- the relation
 

@@ -5,10 +5,10 @@ ghost use mathlib.Core.Bool.{_&&_};
 ghost use lib.Dec.{leb};
 ghost use Rattle.table.specs.Layout.{cap};
 ghost use Rattle.table.specs.Rep.{childAt};
-ghost use Rattle.search.specs.Prices.{rateAt, baseAt, numeratorAt, denominatorAt, crossingPriceAt, aboveAt};
+ghost use Rattle.search.specs.Prices.{rateAt, baseAt, numeratorAt, denominatorAt, crossingPriceAt};
 ghost use Rattle.search.specs.Moves.{Under, topWord, pointWord};
 ghost use Rattle.search.specs.Actions.{Retreats, Advances, Pops, Acts, sided};
-ghost use Rattle.search.specs.Steps.{Stepped};
+ghost use Rattle.search.specs.SearchSteps.{Stepped};
 ghost use Rattle.search.specs.Choices.{Recedes, Chooses};
 ghost use Rattle.search.specs.Runs.{started, Meets};
 
@@ -87,19 +87,6 @@ pub fn crossing_price(part: &[i64], slot: u32) -> i64
     let d = denominator(part, slot);
     let c = table::capacity(part);
     prices::price(part, c, slot, n, d)
-}
-
-pub fn on_or_above(ours: &[i64], p: u32, other: &[i64], x: u32) -> bool
-    ensures { λ r. ⌜ r ≡ aboveAt (now (ours .entry)) p (now (other .entry)) x ⌝ }
-{
-    prices::above(
-        ours,
-        table::capacity(ours),
-        p,
-        other,
-        table::capacity(other),
-        x,
-    )
 }
 
 // The place in a stack of the node pushed last, and some place where there is none.
@@ -264,10 +251,7 @@ fn recede(
 fn both_leaves(u: u32, v: u32) -> bool
     ensures { λ r. ⌜ r ≡ leb u 4096 && leb v 4096 ⌝ }
 {
-    if u <= 4096 {
-        return v <= 4096;
-    }
-    false
+    u <= 4096 && v <= 4096
 }
 
 // What a step does at u and v, whose stacks have `t` and `w` on top.

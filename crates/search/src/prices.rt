@@ -1,7 +1,8 @@
 // What a comparison reads and computes, safe whatever the words are. `c` is a part's capacity, which is read once for a whole search.
 ghost use mathlib.Core.Path.{_≡_};
+ghost use Rattle.offers.specs.Bounded.{bounded};
 ghost use Rattle.table.specs.Layout.{cap, cell, linkAt};
-ghost use Rattle.search.specs.Prices.{bounded, rateAt, baseAt, numeratorAt, denominatorAt, Priced, priceIn, keptIn, aboveAt};
+ghost use Rattle.search.specs.Prices.{rateAt, baseAt, numeratorAt, denominatorAt, Priced, priceIn, keptIn, aboveAt};
 
 // A word from `low` to `high`, and 0 for any other.
 pub(crate) fn bounded(low: i64, high: i64, value: i64) -> i64

@@ -55,16 +55,7 @@ pub fn make_node(part: &mut [i64], tree: u8, side: bool, gap: u32, p: u32, q: u3
 }
 
 // Three trees in a row: a node over the last two, and one over the first and that. `near` is the first seam's slot, `far` the second's.
-pub fn hang(
-    part: &mut [i64],
-    tree: u8,
-    side: bool,
-    near: u32,
-    far: u32,
-    p: u32,
-    m: u32,
-    q: u32,
-) -> u32
+fn hang(part: &mut [i64], tree: u8, side: bool, near: u32, far: u32, p: u32, m: u32, q: u32) -> u32
     ensures { λ x. ⌜ Rowed (rowOn side) tree side near far p m q (now (part .entry)) (now (part .exit)) x ⌝ }
 {
     let y = make_node(part, tree, side, far, m, q);
@@ -72,7 +63,7 @@ pub fn hang(
 }
 
 // The double rotation: the middle one of three trees in a row comes up between the others.
-pub fn double(
+fn double(
     part: &mut [i64],
     tree: u8,
     side: bool,
@@ -95,7 +86,7 @@ pub fn double(
 }
 
 // A rotation away from the side on which `p`, the higher tree, stands.
-pub fn rotate(part: &mut [i64], tree: u8, side: bool, gap: u32, p: u32, q: u32) -> u32
+fn rotate(part: &mut [i64], tree: u8, side: bool, gap: u32, p: u32, q: u32) -> u32
     ensures { λ x. ⌜ Joined (rotateOn side) tree side gap p q (now (part .entry)) (now (part .exit)) x ⌝ }
 {
     if p <= 4096 {

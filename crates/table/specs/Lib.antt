@@ -6,6 +6,6 @@ pub mod Items
 pub mod Rep
 pub mod Nodes
 pub mod Threads
-pub mod Parts
+pub mod PartTrees
 pub mod Keys
 pub mod Free

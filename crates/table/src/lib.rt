@@ -6,6 +6,7 @@ ghost use lib.IntN.{pos};
 ghost use lib.Signed.{leZ, ltZ};
 ghost use Rattle.table.specs.Words.{word, wset, upTo};
 ghost use Rattle.table.specs.Layout.{cap, spot, cell, cset, linkAt};
+ghost use Rattle.table.specs.Free.{firstFree, taken, given};
 ghost use Rattle.table.specs.Rep.{childField, heightField, childAt, heightAt};
 
 // Word `at`, and 0 past the end.
@@ -61,7 +62,7 @@ pub fn capacity(part: &[i64]) -> u32
 
 // The place of a slot's field, and the end of the words where the part has no such field. The tests are those of `capacity`, each with an
 // end of its own, which costs a reader less than a capacity made 0.
-pub fn spot(part: &[i64], field: usize, slot: u32) -> usize
+fn spot(part: &[i64], field: usize, slot: u32) -> usize
     ensures { λ r. ⌜ r ≡ spot (now (part .entry)) field slot ⌝ }
 {
     let c = number_at(part, 0, 4096);
@@ -278,10 +279,7 @@ pub fn is_above(part: &[i64], field: usize, slot: u32, key: i64) -> bool
 pub fn is_equal(part: &[i64], field: usize, slot: u32, key: i64) -> bool
     ensures { λ r. ⌜ r ≡ leZ (cell (now (part .entry)) field slot) key && leZ key (cell (now (part .entry)) field slot) ⌝ }
 {
-    if at_most(part, field, slot, key) {
-        return at_least(part, field, slot, key);
-    }
-    false
+    at_most(part, field, slot, key) && at_least(part, field, slot, key)
 }
 
 // Puts a number into word `at`, and does nothing past the end.
@@ -289,4 +287,25 @@ pub fn set_number(part: &mut [i64], at: usize, value: u32)
     ensures { λ _. ⌜ now (part .exit) ≡ wset (now (part .entry)) at (pos value) ⌝ }
 {
     set_word(part, at, value as i64);
+}
+
+// Takes the first free slot off the chain; 0 where there is none.
+pub fn take_slot(part: &mut [i64]) -> u32
+    ensures is { λ s. ⌜ s ≡ firstFree (now (part .entry)) ⌝ }
+    ensures words { λ s. ⌜ now (part .exit) ≡ taken (now (part .entry)) ⌝ }
+{
+    let s = number_at(part, 5, 8192);
+    let next = link(part, 3, s);
+    set_number(part, 5, next);
+    s
+}
+
+// Gives a slot back: its number becomes 0, and it goes to the front of the chain.
+pub fn give_slot(part: &mut [i64], slot: u32)
+    ensures { λ _. ⌜ now (part .exit) ≡ given (now (part .entry)) slot ⌝ }
+{
+    let next = number_at(part, 5, 8192);
+    put_link(part, 0, slot, 0);
+    put_link(part, 3, slot, next);
+    set_number(part, 5, slot);
 }

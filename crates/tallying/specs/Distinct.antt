@@ -5,14 +5,11 @@ use mathlib.Core.List.{List, [], _∷_, List·Memᴰ, List·Memᴰ·head, List·
 use Prim.Native.Nat.{suc, _≤_}
 use native.Mathlib.Omega.{arith}
 use lib.ListN.{length}
+use Rattle.lists.specs.Members.{Among}
 
 module _ {A : Type 0} where
   abbrev pub Distinct : List A → Type 0
   Distinct = Pairwise (λ (a b : A). a ≢ b)
-
-  -- every member of xs is one of ys
-  abbrev pub Among : List A → List A → Type 0
-  Among xs ys = (a : A) → List·Memᴰ a xs → List·Memᴰ a ys
 
   -- ys with one member taken out
   record Without (a : A) (ys : List A) : Type 0 where

@@ -11,14 +11,14 @@ use lib.IntN.{pos}
 use lib.Signed.{leZ}
 use lib.Dec.{eqb}
 use borrow.Author.Tests.{eqb-true, eq-eqb}
-use Rattle.trees.specs.Tests.{eqZ-same, same-eqZ}
+use Rattle.lists.specs.Bools.{never}
 use Rattle.lists.specs.Members.{pairs-cons}
+use Rattle.integers.specs.Parts.{equal-eq, equal-is}
 use Rattle.table.specs.Words.{Words, word, upTo, upTo-in}
 use Rattle.table.specs.Layout.{cap, cell, linkAt}
 use Rattle.table.specs.Free.{head0, FreeChain, free-none, free-more, head-most, free-link}
-use Rattle.matching.specs.Tests.{Decides, decides-no, decides-as, decides-by}
-use Rattle.matching.specs.Fills.{never}
 use Rattle.form.specs.Form.{Freely}
+use Rattle.matching.specs.Deciding.{Decides, decides-no, decides-as, decides-by}
 
 -- a slot of the part, without an offer
 pub record IsFree (w : Words) (s : ℕ) : Type 0 where
@@ -35,7 +35,7 @@ module _ {w : Words} {s : ℕ} where
 
   pub free-by : {c : ℕ} {r : Bool} → 1 ≤ s → c ≡ cap w → s ≤ c → r ≡ leZ (cell w 0 s) (pos 0) && leZ (pos 0) (cell w 0 s) → Decides r (IsFree w s)
   free-by l e h eb =
-      decides-as (λ t. record { low = l; high = omega arith; cleared = eqZ-same (cell w 0 s) (pos 0) t }) (λ f. same-eqZ (cell w 0 s) (pos 0) (f .cleared)) (decides-by eb)
+      decides-as (λ t. record { low = l; high = omega arith; cleared = equal-eq (cell w 0 s) (pos 0) t }) (λ f. equal-is (cell w 0 s) (pos 0) (f .cleared)) (decides-by eb)
 
 -- k free slots from slot s on, and then 0
 pub record Chained (w : Words) (s k : ℕ) : Type 0 where

@@ -7,6 +7,8 @@ use native.Mathlib.Decide.{ℕ-discrete}
 use native.Mathlib.Omega.{arith}
 use lib.ListN.{length, getD}
 use Rattle.lists.specs.Places.{mem-at, place-of}
+use Rattle.lists.specs.Bools.{never}
+use Rattle.lists.specs.Members.{Among}
 use Rattle.trees.specs.Tree.{Tree, leaves}
 use Rattle.trees.specs.Height.{height-full}
 use Rattle.trees.specs.Order.{Falling}
@@ -14,13 +16,13 @@ use Rattle.table.specs.Words.{Words}
 use Rattle.table.specs.Items.{Item, Apart}
 use Rattle.form.specs.Form.{numberOf}
 use Rattle.matching.specs.declared.Filled.{Filled}
-use Rattle.matching.specs.Tests.{Decides, decides-no, Every}
+use Rattle.matching.specs.Deciding.{Decides, decides-no, Every}
 use Rattle.matching.specs.Stretches.{span, span-at, span-length}
 use Rattle.matching.specs.Loops.{FallsHere}
 use Rattle.matching.specs.Laid.{itemAt, itemsAt, items-back, slots-back, slots-length, AllPlaced, Laid, laid-unique}
-use Rattle.matching.specs.Fills.{Fills, never}
+use Rattle.matching.specs.Fills.{Fills}
 use Rattle.matching.specs.Walks.{written-length}
-use Rattle.tallying.specs.Distinct.{Distinct, Among, among-length, among-all}
+use Rattle.tallying.specs.Distinct.{Distinct, among-length, among-all}
 use Rattle.tallying.specs.Falls.{falling-span, span-falling}
 use Rattle.tallying.specs.Seeking.{placed-one, falling-differ, HasHere, SeeksAll}
 

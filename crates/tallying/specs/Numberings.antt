@@ -9,6 +9,7 @@ use lib.Dec.{eqb}
 use lib.IntN.{pos}
 use lib.ListN.{length}
 use borrow.Author.Tests.{eqb-true, eq-eqb}
+use Rattle.lists.specs.Bools.{never}
 use Rattle.trees.specs.Tree.{Tree, leaf, node, leaves, last}
 use Rattle.trees.specs.Leaves.{last-leaf}
 use Rattle.trees.specs.Operations.{Part}
@@ -16,12 +17,11 @@ use Rattle.table.specs.Words.{Words, word, upTo, upTo-in}
 use Rattle.table.specs.Layout.{cap-most}
 use Rattle.table.specs.Items.{Item, Apart}
 use Rattle.table.specs.Rep.{refOf}
-use Rattle.pieces.specs.Pieces.{partRef}
 use Rattle.form.specs.Form.{NumbersIn, Numbered}
-use Rattle.matching.specs.Tests.{Decides}
+use Rattle.table.specs.PartTrees.{partRef}
+use Rattle.matching.specs.Deciding.{Decides}
 use Rattle.matching.specs.Stretches.{span-none}
 use Rattle.matching.specs.Laid.{itemsAt, AllPlaced}
-use Rattle.matching.specs.Fills.{never}
 use Rattle.tallying.specs.Tallies.{Tallies}
 use Rattle.tallying.specs.Distinct.{among-length}
 use Rattle.tallying.specs.NumberTrees.{liveAt, live-length, apart-distinct, NumberTree, Trees}

@@ -11,6 +11,7 @@ use lib.IntN.{ℤ}
 use lib.ListN.{getD}
 use lib.Signed.{ltZ}
 use borrow.Author.Tests.{eqb-true, eq-eqb}
+use Rattle.lists.specs.Bools.{never}
 use Rattle.integers.specs.Parts.{intRules}
 use Rattle.trees.specs.Tree.{Tree, leaves}
 use Rattle.trees.specs.Operations.{find}
@@ -23,8 +24,7 @@ use Rattle.table.specs.Keys.{Keyed}
 use Rattle.table.specs.Rep.{Rep}
 use Rattle.descents.specs.Finds.{Found, foundAt}
 use Rattle.form.specs.Form.{numberOf}
-use Rattle.matching.specs.Tests.{Decides, decides-no, decides-yes, Every, every-none, every-more, every-less}
-use Rattle.matching.specs.Fills.{never}
+use Rattle.matching.specs.Deciding.{Decides, decides-no, decides-yes, Every, every-none, every-more, every-less}
 use Rattle.matching.specs.Laid.{itemAt, Placed, Laid}
 
 -- two items that are in one slot are one

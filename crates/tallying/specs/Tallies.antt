@@ -11,8 +11,8 @@ use Rattle.table.specs.Words.{Words, word}
 use Rattle.table.specs.Layout.{cap}
 use Rattle.table.specs.Free.{head0, FreeChain}
 use Rattle.table.specs.Items.{Item, Apart}
-use Rattle.pieces.specs.Pieces.{partRef}
 use Rattle.form.specs.Form.{Numbered}
+use Rattle.table.specs.PartTrees.{partRef}
 use Rattle.matching.specs.Stretches.{span}
 use Rattle.matching.specs.Laid.{itemsAt, AllPlaced}
 

@@ -2,9 +2,9 @@
 ghost use mathlib.Core.Path.{_≡_};
 ghost use Prim.Native.Nat.{_≤_};
 ghost use lib.ListN.{length};
-ghost use Rattle.matching.specs.Tests.{Decides};
 ghost use Rattle.form.specs.Form.{Freely};
 ghost use Rattle.tallying.specs.Tallies.{Tallies};
+ghost use Rattle.matching.specs.Deciding.{Decides};
 ghost use Rattle.tallying.specs.FreeChains.{IsFree, Chained};
 ghost use Rattle.tallying.specs.Seeking.{Seeks, SeeksAll};
 ghost use Rattle.tallying.specs.NumberTrees.{Trees};

@@ -7,10 +7,11 @@ use native.Mathlib.Nat.{max-comm}
 use native.Mathlib.Decide.{decLe}
 use native.Mathlib.Omega.{arith}
 use lib.Dec.{T, leb, ltb→lt, nltb→le, leb→le, nleb→lt}
+use Rattle.lists.specs.Bools.{cond-both}
 use Rattle.trees.specs.Tree.{Tree, leaf, node, height, mirror, Avl, avl-node}
 use Rattle.trees.specs.Operations.{Part, towers, doubleRight, rotateRight, rotateLeft, balance, joinR, joinL, join, partHeight, joinP}
-use Rattle.trees.specs.Tests.{cond-both, by-heights}
-use Rattle.trees.specs.Steps.{balance-level}
+use Rattle.trees.specs.ByHeights.{by-heights}
+use Rattle.trees.specs.TreeSteps.{balance-level}
 use Rattle.trees.specs.Mirror.{height-mirror, avl-mirror, avl-unmirror, mirror-rotateLeft, mirror-joinL}
 
 module _ {A : Type 0} where

@@ -8,11 +8,12 @@ use native.Mathlib.Omega.{arith}
 use lib.Dec.{T}
 use lib.IntN.{ℤ}
 use lib.Signed.{ltZ, leZ}
-use Rattle.integers.specs.Parts.{intRules}
+use Rattle.lists.specs.Bools.{cond-both}
+use Rattle.integers.specs.Parts.{intRules, equal-eq}
+use Rattle.integers.specs.Equal.{equal}
 use Rattle.trees.specs.Tree.{Tree, leaf, node, leaves, last}
-use Rattle.trees.specs.Operations.{eqZ, find}
-use Rattle.trees.specs.Tests.{cond-both, eqZ-same}
-use Rattle.trees.specs.Steps.{find-here}
+use Rattle.trees.specs.Operations.{find}
+use Rattle.trees.specs.TreeSteps.{find-here}
 use Rattle.trees.specs.Leaves.{last-leaf}
 use Rattle.trees.specs.Order.{Falling, parted, last-lowest}
 
@@ -24,10 +25,10 @@ module _ {A : Type 0} (key : A → ℤ) (k : ℤ) where
 
   pub find-sound : (t : Tree A) {a : A} → find key k t ≡ some a → Keyed (leaves t) a
   unfolding find
-  find-sound (leaf x) {a} = cond-both (λ o. o ≡ some a → Keyed (x ∷ []) a) (eqZ (key x) k) here (λ t e. absurd (Option·none-ne-some a e))
+  find-sound (leaf x) {a} = cond-both (λ o. o ≡ some a → Keyed (x ∷ []) a) (equal (key x) k) here (λ t e. absurd (Option·none-ne-some a e))
     where
-      here : T (eqZ (key x) k) → some x ≡ some a → Keyed (x ∷ []) a
-      here t e = let one = Option·some-injective x a e in record { inside = List·Memᴰ·head (sym one); keyed = sym (ap key one) ∙ eqZ-same (key x) k t }
+      here : T (equal (key x) k) → some x ≡ some a → Keyed (x ∷ []) a
+      here t e = let one = Option·some-injective x a e in record { inside = List·Memᴰ·head (sym one); keyed = sym (ap key one) ∙ equal-eq (key x) k t }
   find-sound (node l r) {a} =
       cond-both (λ o. o ≡ some a → Keyed (leaves l ++ leaves r) a) (ltZ k (key (last l)))
       (λ t e. let f = find-sound r e in record { inside = Memᴰ·append-right (leaves l) (f .inside); keyed = f .keyed })

@@ -6,9 +6,10 @@ use Prim.Native.Nat.{_≤_}
 use native.Mathlib.Omega.{arith}
 use lib.Dec.{leb}
 use lib.ListN.{length}
+use Rattle.lists.specs.Bools.{cond-both}
 use Rattle.trees.specs.Tree.{Tree, leaf, node, height, leaves, first, last, mirror}
 use Rattle.trees.specs.Operations.{Part, towers, doubleRight, doubleLeft, rotateRight, rotateLeft, balance, joinR, joinL, join, partLeaves, joinP}
-use Rattle.trees.specs.Tests.{cond-both, by-heights}
+use Rattle.trees.specs.ByHeights.{by-heights}
 
 module _ {A : Type 0} where
   leaves-doubleRight : (a m r : Tree A) → leaves (doubleRight a m r) ≡ leaves a ++ (leaves m ++ leaves r)

@@ -1,10 +1,10 @@
 -- Balanced trees whose leaves carry the items.
 pub mod Tree
 pub mod Operations
-pub mod Tests
+pub mod ByHeights
 pub mod Leaves
 pub mod Mirror
-pub mod Steps
+pub mod TreeSteps
 pub mod Balanced
 pub mod Order
 pub mod Split

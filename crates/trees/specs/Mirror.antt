@@ -5,9 +5,9 @@ use Prim.Native.Nat.{suc}
 use native.Mathlib.Nat.{max-comm}
 use native.Mathlib.Omega.{arith}
 use lib.Dec.{T, leb, ltb→lt}
+use Rattle.lists.specs.Bools.{cond-map, cond-swap}
 use Rattle.trees.specs.Tree.{Tree, leaf, node, height, mirror, Avl, avl-leaf, avl-node}
 use Rattle.trees.specs.Operations.{towers, doubleRight, doubleLeft, rotateRight, rotateLeft, balance, joinR, joinL, join}
-use Rattle.trees.specs.Tests.{cond-map, cond-swap}
 
 module _ {A : Type 0} where
   pub mirror-mirror : (t : Tree A) → mirror (mirror t) ≡ t

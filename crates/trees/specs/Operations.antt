@@ -1,17 +1,14 @@
 -- The operations on trees, step for step as a program makes them: a test on heights is a Bool, and each function recurs on one tree.
 -- Where a clause is marked as idle, no tree that the tests let through comes there; it only makes the function total.
-use mathlib.Core.Bool.{Bool, cond, _&&_}
+use mathlib.Core.Bool.{Bool, cond}
 use mathlib.Core.List.{List, []}
 use mathlib.Core.Option.{Option, none, some}
 use Prim.Native.Nat.{ℕ, zero, suc}
 use lib.Dec.{leb, ltb}
 use lib.IntN.{ℤ}
-use lib.Signed.{ltZ, leZ}
+use lib.Signed.{ltZ}
+use Rattle.integers.specs.Equal.{equal}
 use Rattle.trees.specs.Tree.{Tree, leaf, node, height, leaves, last}
-
--- two integers are one
-abbrev pub eqZ : ℤ → ℤ → Bool
-eqZ a b = leZ a b && leZ b a
 
 -- A tree that may be empty.
 abbrev pub Part : Type 0 → Type 0
@@ -107,5 +104,5 @@ module _ {A : Type 0} where
   -- ---- find a leaf by its key, keys falling from left to right
 
   unfoldable pub find : (A → ℤ) → ℤ → Tree A → Option A
-  find key k (leaf x) = cond (eqZ (key x) k) (some x) none
+  find key k (leaf x) = cond (equal (key x) k) (some x) none
   find key k (node l r) = cond (ltZ k (key (last l))) (find key k r) (find key k l)

@@ -8,7 +8,7 @@ use native.Mathlib.Omega.{arith}
 use lib.Dec.{T, T-not, T-prop}
 use lib.IntN.{ℤ}
 use lib.Signed.{ltZ, leZ}
-use Rattle.lists.specs.Members.{pairs-cons}
+use Rattle.lists.specs.Members.{pairs-cons, one-owner}
 use Rattle.integers.specs.Parts.{intRules}
 use Rattle.trees.specs.Tree.{Tree, leaf, node, leaves, last}
 use Rattle.trees.specs.Leaves.{last-leaf}
@@ -77,6 +77,10 @@ module _ {A : Type 0} where
   last-lowest key t p {a} m =
       ⊎-elim (λ (e : a ≡ last t). let k : key a ≡ key (last t) = ap key e in omega (arith, intRules)) (λ (h : T (ltZ (key (last t)) (key a))). omega (arith, intRules))
       (up-to-last t p m)
+
+  -- where keys fall, a key tells its owner
+  pub falling-one : (key : A → ℤ) {xs : List A} → Falling key xs → {a b : A} → List·Memᴰ a xs → List·Memᴰ b xs → key a ≡ key b → a ≡ b
+  falling-one key p = one-owner key (Pairwise·imp (λ a b h e. omega (arith, intRules)) p)
 
   -- ---- a list is cut in one way only
 

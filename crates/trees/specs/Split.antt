@@ -7,9 +7,9 @@ use mathlib.Core.List.{List, [], _∷_, _++_, append-assoc, List·Memᴰ}
 use Prim.Native.Nat.{ℕ, zero, _≤_}
 use native.Mathlib.Omega.{arith}
 use lib.Dec.{T, not-T, T-not}
+use Rattle.lists.specs.Bools.{cond-both}
 use Rattle.trees.specs.Tree.{Tree, leaf, node, height, leaves, last, Avl, avl-leaf, avl-node}
 use Rattle.trees.specs.Operations.{Part, Cut, partLeaves, partHeight, joinP, split, splitP}
-use Rattle.trees.specs.Tests.{cond-both}
 use Rattle.trees.specs.Leaves.{leaves-joinP, last-leaf}
 use Rattle.trees.specs.Balanced.{AvlP, near-joinP}
 use Rattle.trees.specs.Order.{Turning, All, None, all-one, all-append, halves-turning, parted, up-to-last, one-cut}

@@ -8,7 +8,8 @@ use native.Mathlib.Omega.{arith}
 use lib.Dec.{T}
 use lib.IntN.{ℤ}
 use lib.Signed.{leZ, ltZ}
-use Rattle.integers.specs.Parts.{intRules, same-test}
+use Rattle.lists.specs.Bools.{same-test}
+use Rattle.integers.specs.Parts.{intRules}
 use Rattle.envelopes.specs.Envelope.{Ordered, Ordered·nil, Ordered·cons}
 use Rattle.trees.specs.Tree.{Tree, leaf, leaves}
 use Rattle.trees.specs.Leaves.{last-leaf}
@@ -19,13 +20,13 @@ use Rattle.dynamic.specs.Valid.{placed}
 use Rattle.dynamic.specs.Kept.{heldHeight}
 use Rattle.dynamic.specs.Placed.{New, placed-ordered}
 use Rattle.dynamic.specs.Inserted.{alone-whole}
-use Rattle.dynamic.specs.Steps.{Gains, insert-whole}
+use Rattle.dynamic.specs.UpdateSteps.{Gains, insert-whole}
 use Rattle.table.specs.Words.{Words}
 use Rattle.table.specs.Layout.{cap, cell}
 use Rattle.table.specs.Items.{Item, In, Slots, slots-left}
 use Rattle.table.specs.Rep.{nodeOn, seam, tied-leaf, Within, within-refl, within-trans}
 use Rattle.table.specs.Nodes.{on-across, in-one, in-other}
-use Rattle.table.specs.Parts.{low}
+use Rattle.table.specs.PartTrees.{low}
 use Rattle.table.specs.Threads.{Holds}
 use Rattle.pieces.specs.Pieces.{items, item-laws, rateOf}
 use Rattle.form.specs.Stored.{stored-single, HeldIn, Touched}

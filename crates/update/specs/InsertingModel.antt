@@ -6,17 +6,17 @@ use mathlib.Core.List.{List, [], _∷_, _++_, List·Memᴰ, List·Memᴰ·tail, 
 use Prim.Native.Nat.{_≤_}
 use native.Mathlib.Omega.{arith}
 use lib.Dec.{T}
+use Rattle.lists.specs.Bools.{cond-both, failed, passed}
 use Rattle.envelopes.specs.PseudoLines.{Figure, PseudoLines}
 use Rattle.envelopes.specs.Envelope.{Ordered}
-use Rattle.envelopes.specs.EnvelopeLaws.{not-both}
+use Rattle.envelopes.specs.EnvelopeLaws.{not-both, ordered-pairs}
 use Rattle.trees.specs.Tree.{Tree, height, leaves, last}
 use Rattle.trees.specs.Leaves.{last-leaf}
 use Rattle.trees.specs.Operations.{Part}
-use Rattle.trees.specs.Tests.{cond-both}
+use Rattle.trees.specs.Order.{up-to-last}
 use Rattle.dynamic.specs.OfferTree.{OfferTree, single, fork, shape, Held, hold, alone, heldShape, andThen, outer, inner, lower, lowerTree, raiseOn}
 use Rattle.dynamic.specs.Updates.{insert}
 use Rattle.dynamic.specs.Valid.{placed}
-use Rattle.dynamic.specs.Lower.{up-to-last}
 use Rattle.dynamic.specs.Rearranged.{rearranged-mem}
 use Rattle.dynamic.specs.Kept.{heldHeight}
 use Rattle.dynamic.specs.Placed.{placed-left, placed-right, none-behind}
@@ -43,7 +43,7 @@ pub placed-last :
     leaves t′ ≡ placed S s (leaves t) →
     T (S .before s (last t)) →
     last t′ ≡ last t
-placed-last S L s t t′ o o′ e b = ⊎-elim sym (λ after. absurd (beyond after (List·Memᴰ·cases-cons old))) (up-to-last S L t′ o′ (last t) there)
+placed-last S L s t t′ o o′ e b = ⊎-elim sym (λ after. absurd (beyond after (List·Memᴰ·cases-cons old))) (up-to-last t′ (ordered-pairs o′) there)
   where
     there : List·Memᴰ (last t) (leaves t′)
     there = subst (List·Memᴰ (last t)) (sym e) (rearranged-mem (Permᴰ·symm (placed-rearranged S s (leaves t))) (List·Memᴰ·tail (last-leaf t)))
@@ -53,7 +53,7 @@ placed-last S L s t t′ o o′ e b = ⊎-elim sym (λ after. absurd (beyond aft
 
     beyond : T (S .before (last t) (last t′)) → (last t′ ≡ s) ⊎ List·Memᴰ (last t′) (leaves t) → ⊥
     beyond after (inl d) = not-both S L (last t) s (subst (λ c. T (S .before (last t) c)) d after) b
-    beyond after (inr m) = ⊎-elim (λ d. L .before-irrefl (last t) (subst (λ c. T (S .before (last t) c)) d after)) (λ u. not-both S L (last t) (last t′) after u) (up-to-last S L t o (last t′) m)
+    beyond after (inr m) = ⊎-elim (λ d. L .before-irrefl (last t) (subst (λ c. T (S .before (last t) c)) d after)) (λ u. not-both S L (last t) (last t′) after u) (up-to-last t (ordered-pairs o) m)
 
 -- ---- which way
 
@@ -98,12 +98,6 @@ insert-on side a h high d = go side (h .tree) (h .whole) high d
     go true (fork u v l ql qr r) p high d = insert-fork a true u v l r ql qr p d
 
 -- ---- the row that it leaves: G is O with the line placed
-
-passed : {b : Bool} → b ≡ true → T b
-passed e = subst T (sym e) tt
-
-failed : {b : Bool} → b ≡ false → T (not b)
-failed e = subst (λ b. T (not b)) (sym e) tt
 
 module _ (a : Item) (O I G : Tree Item) (lines : leaves G ≡ placed items a (leaves O)) where
   pub grown-row :

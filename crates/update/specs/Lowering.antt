@@ -21,6 +21,7 @@ use Rattle.table.specs.Rep.{childAt, refOf, Tied, tied-node, Within, within-tra
 use Rattle.table.specs.Threads.{Holds, holds-left, holds-right}
 use Rattle.pieces.specs.Pieces.{items, item-laws, rateOf, PieceField, PiecesOnly, Standing, Beside, Catted, inFront, CutAt}
 use Rattle.form.specs.Stored.{RestIn, Stored, stored-fork, HeldIn, Touched}
+use Rattle.table.specs.PartTrees.{partRef}
 use Rattle.update.specs.Steps.{LoweredIn}
 use Rattle.form.specs.RestWords.{restAt, rest-at}
 use Rattle.form.specs.Frames.{Disjoint, disjoint-across, tied-same, holds-same, rest-same, stored-same, held-slots, held-holds, whole-standing, whole-inside, stored-inside, pieces-offers, pieces-tree, pieces-rests, pieces-else, pieces-touched, slots-within, standing-still, pieces-trans, pieces-more, touched-more}

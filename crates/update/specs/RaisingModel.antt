@@ -5,7 +5,8 @@ use mathlib.Core.Option.{none, some}
 use mathlib.Core.List.{List, [], _∷_, _++_, List·Memᴰ, List·Memᴰ·head, Memᴰ·append-right, reverse, reverse-append, head-eq-of-cons-eq}
 use native.Mathlib.Omega.{arith}
 use lib.Signed.{leZ, ltZ}
-use Rattle.integers.specs.Parts.{intRules, same-test}
+use Rattle.lists.specs.Bools.{same-test}
+use Rattle.integers.specs.Parts.{intRules}
 use Rattle.envelopes.specs.Envelope.{Ordered, Env}
 use Rattle.envelopes.specs.EnvelopeLaws.{ordered-sublist}
 use Rattle.trees.specs.Tree.{Tree, node, leaves, first, last, mirror, Avl}

@@ -16,13 +16,13 @@ use Rattle.trees.specs.Operations.{Part}
 use Rattle.dynamic.specs.OfferTree.{OfferTree, single, fork, shape, Held, hold, heldShape, Pair, outer, inner, lower}
 use Rattle.dynamic.specs.Updates.{Removed, remove}
 use Rattle.dynamic.specs.Kept.{heldHeight}
-use Rattle.dynamic.specs.Steps.{Loses, remove-whole}
+use Rattle.dynamic.specs.UpdateSteps.{Loses, remove-whole}
 use Rattle.table.specs.Words.{Words}
 use Rattle.table.specs.Layout.{cap, cell}
 use Rattle.table.specs.Items.{Item, In, at, Slots}
 use Rattle.table.specs.Rep.{nodeOn, seam, Rep, Within, within-refl, within-trans}
 use Rattle.table.specs.Nodes.{ref-low, on-across, in-one}
-use Rattle.table.specs.Parts.{low}
+use Rattle.table.specs.PartTrees.{low}
 use Rattle.descents.specs.Ends.{Ended}
 use Rattle.pieces.specs.Pieces.{items, item-laws}
 use Rattle.form.specs.Stored.{HeldIn, Touched}

@@ -3,4 +3,4 @@ pub mod Rule
 pub mod RuleLaws
 pub mod Told
 pub mod Span
-pub mod Steps
+pub mod VoucherSteps

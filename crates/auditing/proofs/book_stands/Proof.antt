@@ -26,16 +26,31 @@ offers-requires : tie.Need-offers-requires
 offers-requires c κs = search needs
 
 returns-3 : tie.Need-returns-3
-returns-3 c = audits-no-offers (c .before .before .before .before .before .number-at .ensures) (c .before .before .before .before .free-slots .ensures) (c .before .offers .ensures) (not-true _ (c .if3 .taken))
+returns-3 c =
+    let at-free-slots = c .before .before .before .before in
+    let at-number-at = at-free-slots .before in
+    audits-no-offers (at-number-at .number-at .ensures) (at-free-slots .free-slots .ensures) (c .before .offers .ensures) (not-true _ (c .if3 .taken))
 
 cast-numbers : tie.Need-cast-numbers
 cast-numbers c = search needs
 
 numbers-requires : tie.Need-numbers-requires
-numbers-requires c κs = (search needs, omega (arith, c .before .before .before .before .before .before .number-at .ensures, upTo-most 4096 (word (c .before .before .before .before .before .before .before .before .before .args .part .now) 3)))
+numbers-requires c κs =
+    let at-number-at = c .before .before .before .before .before .before in
+    let entry = at-number-at .before .before .before in
+    (search needs, omega (arith, at-number-at .number-at .ensures, upTo-most 4096 (word (entry .args .part .now) 3)))
 
 returns-4 : tie.Need-returns-4
-returns-4 c = audits-all (c .before .before .before .before .before .before .before .number-at .ensures) (c .before .before .before .before .before .before .free-slots .ensures) (c .before .before .before .offers .ensures) (c .before .before .before .before .before .before .before .before .before .capacity .ensures) (λ h. omega (arith, h, c .before .before .before .before .before .before .before .before .if1 .left)) (not-false _ (c .before .before .before .before .before .if2 .left)) (not-false _ (c .before .before .if3 .left)) (c .numbers .ensures)
+returns-4 c =
+    let at-if3 = c .before .before in
+    let at-offers = at-if3 .before in
+    let at-if2 = at-offers .before .before in
+    let at-free-slots = at-if2 .before in
+    let at-number-at = at-free-slots .before in
+    let at-if1 = at-number-at .before in
+    let at-capacity = at-if1 .before in
+    audits-all (at-number-at .number-at .ensures) (at-free-slots .free-slots .ensures) (at-offers .offers .ensures) (at-capacity .capacity .ensures)
+    (λ h. omega (arith, h, at-if1 .if1 .left)) (not-false _ (at-if2 .if2 .left)) (not-false _ (at-if3 .if3 .left)) (c .numbers .ensures)
 
 pub book-stands-spec : {M : Type 1} → statement M
 book-stands-spec =

@@ -33,12 +33,23 @@ cast-t11 c = search needs
 
 returns-2 : tie.Need-returns-2
 returns-2 c =
-    let f = c .before .before .before .before .before .before .fits .load in
+    let at-descend = c .before .before in
+    let at-number-at2 = at-descend .before in
+    let at-if1 = at-number-at2 .before in
+    let at-number-at = at-if1 .before in
+    let entry = at-number-at .before in
+    let f = entry .fits .load in
     let g : SFits w64 (c .before .get .result) = record { sfits = c .before .get .ok } in
     let h : SFits w64 (c .price .result) = record { sfits = c .price .ok } in
-    let v : toZ w64 (c .before .before .descend .result .probes) ≡ pos (c .before .before .descend .result .probes) = toZ-pos w64 (omega (arith, cast-t11 c)) in
+    let v : toZ w64 (at-descend .descend .result .probes) ≡ pos (at-descend .descend .result .probes) = toZ-pos w64 (omega (arith, cast-t11 c)) in
     simp (toZ-ofZ, g, h, v)
-    (asks-found (c .before .before .before .before .before .number-at .ensures) (c .before .before .before .before .if1 .left) (record { at-root = c .before .before .before .number-at2 .ensures; down = simp (toZ-ofZ, f) at (c .before .before .descend .ensures); named = c .before .get .ensures; priced = simp (toZ-ofZ, f) at (c .price .ensures) }))
+    (asks-found (at-number-at .number-at .ensures) (at-if1 .if1 .left)
+    (record {
+      at-root = at-number-at2 .number-at2 .ensures;
+      down = simp (toZ-ofZ, f) at (at-descend .descend .ensures);
+      named = c .before .get .ensures;
+      priced = simp (toZ-ofZ, f) at (c .price .ensures);
+    }))
 
 pub ask-spec : {M : Type 1} → statement M
 ask-spec =

@@ -1,5 +1,5 @@
 -- `book::check` meets its contract.
-use Rattle.book.specs.Parts.{book-start}
+use Rattle.book.specs.LentPart.{book-start}
 use Rattle.book.specs.Checking.{checks-none, checks-part}
 use borrow.Author.Needs.{needs}
 use Rattle.book.proofs.check.Statement.{statement}
@@ -12,13 +12,16 @@ returns : tie.Need-returns
 returns c = checks-none (c .before .before .args .table .now) (c .before .before .args .start) (c .before .no-book .ensures) (c .if1 .taken)
 
 mul-book-stands : tie.Need-mul-book-stands
-mul-book-stands c = let h = book-start (c .before .before .args .table .now) (c .before .before .args .start) (c .before .no-book .ensures) (c .if1 .left) in search needs
+mul-book-stands c =
+    let h = book-start (c .before .before .args .table .now) (c .before .before .args .start) (c .before .no-book .ensures) (c .if1 .left) in search needs
 
 sub-book-stands : tie.Need-sub-book-stands
-sub-book-stands c = let h = book-start (c .before .before .args .table .now) (c .before .before .args .start) (c .before .no-book .ensures) (c .if1 .left) in search needs
+sub-book-stands c =
+    let h = book-start (c .before .before .args .table .now) (c .before .before .args .start) (c .before .no-book .ensures) (c .if1 .left) in search needs
 
 part-book-stands-start : tie.Need-part-book-stands-start
-part-book-stands-start c = let h = book-start (c .before .before .args .table .now) (c .before .before .args .start) (c .before .no-book .ensures) (c .if1 .left) in search needs
+part-book-stands-start c =
+    let h = book-start (c .before .before .args .table .now) (c .before .before .args .start) (c .before .no-book .ensures) (c .if1 .left) in search needs
 
 part-book-stands-end : tie.Need-part-book-stands-end
 part-book-stands-end c = search needs

@@ -21,7 +21,15 @@ same-length : tie.Need-same-length
 same-length c = search needs
 
 returns : tie.Need-returns
-returns c = (c .before .before .before .before .before .before .before .before .before .before .take-slot .ensures .0, filled-in _ _ _ _ _ (c .before .before .before .before .before .before .before .before .before .before .take-slot .ensures .1) (simp (toZ-ofZ, c .before .before .before .before .before .before .before .before .before .before .before .before .fits .number) at (c .before .before .before .before .before .before .before .put .ensures)) (simp (toZ-ofZ, c .before .before .before .before .before .before .before .before .before .before .before .before .fits .rate) at (c .before .before .before .before .put2 .ensures)) (simp (toZ-ofZ, c .before .before .before .before .before .before .before .before .before .before .before .before .fits .base) at (c .before .put3 .ensures)))
+returns c =
+    let at-put2 = c .before .before .before .before in
+    let at-put = at-put2 .before .before .before in
+    let at-take-slot = at-put .before .before .before in
+    let entry = at-take-slot .before .before in (
+      at-take-slot .take-slot .ensures .0,
+      filled-in _ _ _ _ _ (at-take-slot .take-slot .ensures .1) (simp (toZ-ofZ, entry .fits .number) at (at-put .put .ensures))
+          (simp (toZ-ofZ, entry .fits .rate) at (at-put2 .put2 .ensures)) (simp (toZ-ofZ, entry .fits .base) at (c .before .put3 .ensures)),
+    )
 
 pub fill-spec : {M : Type 1} → statement M
 fill-spec =

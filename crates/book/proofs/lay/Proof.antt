@@ -36,7 +36,12 @@ loop-less : tie.Need-loop-less Inv-loop μ-loop
 loop-less c = omega arith
 
 loop-again : tie.Need-loop-again Inv-loop μ-loop
-loop-again c = laying-more (c .before .before .before .before .before .before .before .loop .inv) (omega arith) (omega (arith, c .before .before .before .before .before .before .loop-test .taken)) (omega arith) (c .before .before .before .before .put-link .kept .0) (c .before .put-link2 .kept .0) (c .before .before .before .before .put-link .ensures) (c .before .put-link2 .ensures)
+loop-again c =
+    let at-put-link = c .before .before .before .before in
+    let at-loop-test = at-put-link .before .before in
+    let at-loop = at-loop-test .before in
+    laying-more (at-loop .loop .inv) (omega arith) (omega (arith, at-loop-test .loop-test .taken)) (omega arith) (at-put-link .put-link .kept .0)
+    (c .before .put-link2 .kept .0) (at-put-link .put-link .ensures) (c .before .put-link2 .ensures)
 
 put-link-requires-3 : tie.Need-put-link-requires-3 Inv-loop μ-loop
 put-link-requires-3 c κs = search needs
@@ -45,10 +50,18 @@ put-link-requires-4 : tie.Need-put-link-requires-4 Inv-loop μ-loop
 put-link-requires-4 c κs = search needs
 
 same-length : tie.Need-same-length Inv-loop μ-loop
-same-length c = c .before .put-link4 .kept .0 ∙ c .before .before .before .before .put-link3 .kept .0 ∙ c .before .before .before .before .before .before .before .loop .inv .long
+same-length c =
+    let at-put-link3 = c .before .before .before .before in
+    let at-loop = at-put-link3 .before .before .before in
+    c .before .put-link4 .kept .0 ∙ at-put-link3 .put-link3 .kept .0 ∙ at-loop .loop .inv .long
 
 returns : tie.Need-returns Inv-loop μ-loop
-returns c = laying-last (c .before .before .before .before .before .before .before .loop .inv) (omega (arith, c .before .before .before .before .before .before .loop-test .left)) (c .before .before .before .before .put-link3 .kept .0) (c .before .put-link4 .kept .0) (c .before .before .before .before .put-link3 .ensures) (c .before .put-link4 .ensures)
+returns c =
+    let at-put-link3 = c .before .before .before .before in
+    let at-loop-test = at-put-link3 .before .before in
+    let at-loop = at-loop-test .before in
+    laying-last (at-loop .loop .inv) (omega (arith, at-loop-test .loop-test .left)) (at-put-link3 .put-link3 .kept .0) (c .before .put-link4 .kept .0)
+    (at-put-link3 .put-link3 .ensures) (c .before .put-link4 .ensures)
 
 pub lay-spec : {M : Type 1} → statement M
 lay-spec =

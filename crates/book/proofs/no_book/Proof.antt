@@ -1,6 +1,6 @@
 -- `book::no_book` meets its contract: by the capacity that the words from `start` on tell.
 use borrow.Author.Needs.{needs}
-use Rattle.book.specs.Parts.{beyond-none, cap-none, cap-some}
+use Rattle.book.specs.LentPart.{beyond-none, cap-none, cap-some}
 use Rattle.book.proofs.no_book.Statement.{statement}
 use Rattle.book.proofs.no_book.Tie as tie
 
@@ -23,10 +23,14 @@ capacity-requires : tie.Need-capacity-requires
 capacity-requires c κs = search needs
 
 returns-2 : tie.Need-returns-2
-returns-2 c = cap-none (c .before .before .before .before .args .table .now) (c .before .before .before .before .args .start) (c .before .capacity .ensures) (c .if2 .taken)
+returns-2 c =
+    let entry = c .before .before .before .before in
+    cap-none (entry .args .table .now) (entry .args .start) (c .before .capacity .ensures) (c .if2 .taken)
 
 returns-3 : tie.Need-returns-3
-returns-3 c = cap-some (c .before .before .before .before .args .table .now) (c .before .before .before .before .args .start) (c .before .capacity .ensures) (c .if2 .left)
+returns-3 c =
+    let entry = c .before .before .before .before in
+    cap-some (entry .args .table .now) (entry .args .start) (c .before .capacity .ensures) (c .if2 .left)
 
 pub no-book-spec : {M : Type 1} → statement M
 no-book-spec =

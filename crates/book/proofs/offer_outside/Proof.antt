@@ -15,13 +15,25 @@ outside-requires-2 : tie.Need-outside-requires-2
 outside-requires-2 c κs = search needs
 
 returns-2 : tie.Need-returns-2
-returns-2 c = rate-out _ _ _ (simp (toZ-ofZ, c .before .before .before .before .fits .number) at (c .before .before .before .outside .ensures)) (c .before .before .if1 .left) (simp (toZ-ofZ, c .before .before .before .before .fits .rate) at (c .before .outside2 .ensures)) (c .if2 .taken)
+returns-2 c =
+    let at-if1 = c .before .before in
+    let at-outside = at-if1 .before in
+    let entry = at-outside .before in
+    rate-out _ _ _ (simp (toZ-ofZ, entry .fits .number) at (at-outside .outside .ensures)) (at-if1 .if1 .left)
+    (simp (toZ-ofZ, entry .fits .rate) at (c .before .outside2 .ensures)) (c .if2 .taken)
 
 outside-requires-3 : tie.Need-outside-requires-3
 outside-requires-3 c κs = search needs
 
 returns-3 : tie.Need-returns-3
-returns-3 c = base-out _ _ _ (simp (toZ-ofZ, c .before .before .before .before .before .fits .number) at (c .before .before .before .before .outside .ensures)) (c .before .before .before .if1 .left) (simp (toZ-ofZ, c .before .before .before .before .before .fits .rate) at (c .before .before .outside2 .ensures)) (c .before .if2 .left) (simp (toZ-ofZ, c .before .before .before .before .before .fits .base) at (c .outside3 .ensures))
+returns-3 c =
+    let at-outside2 = c .before .before in
+    let at-if1 = at-outside2 .before in
+    let at-outside = at-if1 .before in
+    let entry = at-outside .before in
+    base-out _ _ _ (simp (toZ-ofZ, entry .fits .number) at (at-outside .outside .ensures)) (at-if1 .if1 .left)
+    (simp (toZ-ofZ, entry .fits .rate) at (at-outside2 .outside2 .ensures)) (c .before .if2 .left)
+    (simp (toZ-ofZ, entry .fits .base) at (c .outside3 .ensures))
 
 pub offer-outside-spec : {M : Type 1} → statement M
 offer-outside-spec =

@@ -2,7 +2,7 @@
 use mathlib.Core.Path.{refl, ap}
 use mathlib.Core.List.{[]}
 use lib.ListN.{length, length-drop}
-use Rattle.book.specs.Parts.{whole-part}
+use Rattle.book.specs.LentPart.{whole-part}
 use native.Mathlib.Omega.{arith}
 use mir.Facts.{toZ-ofZ}
 use Rattle.table.specs.Words.{upTo-most}
@@ -21,7 +21,11 @@ up-to-requires : tie.Need-up-to-requires
 up-to-requires c κs = search needs
 
 returns-2 : tie.Need-returns-2
-returns-2 c = opens-beyond _ _ _ _ (simp (toZ-ofZ, c .before .before .before .before .fits .capacity) at (c .before .before .before .outside .ensures)) (c .before .before .if1 .left) (c .if2 .taken) refl
+returns-2 c =
+    let at-if1 = c .before .before in
+    let at-outside = at-if1 .before in
+    let entry = at-outside .before in
+    opens-beyond _ _ _ _ (simp (toZ-ofZ, entry .fits .capacity) at (at-outside .outside .ensures)) (at-if1 .if1 .left) (c .if2 .taken) refl
 
 sub-if3 : tie.Need-sub-if3
 sub-if3 c = search needs
@@ -36,7 +40,13 @@ mul-if3 : tie.Need-mul-if3
 mul-if3 c = search needs
 
 returns-3 : tie.Need-returns-3
-returns-3 c = opens-cut _ _ _ _ (simp (toZ-ofZ, c .before .before .before .before .before .fits .capacity) at (c .before .before .before .before .outside .ensures)) (c .before .before .before .if1 .left) (simp (toZ-ofZ, c .before .before .before .before .before .fits .capacity) at (c .before .before .up-to .ensures)) (c .if3 .taken) refl
+returns-3 c =
+    let at-up-to = c .before .before in
+    let at-if1 = at-up-to .before in
+    let at-outside = at-if1 .before in
+    let entry = at-outside .before in
+    opens-cut _ _ _ _ (simp (toZ-ofZ, entry .fits .capacity) at (at-outside .outside .ensures)) (at-if1 .if1 .left)
+    (simp (toZ-ofZ, entry .fits .capacity) at (at-up-to .up-to .ensures)) (c .if3 .taken) refl
 
 mul-start-book : tie.Need-mul-start-book
 mul-start-book c = search needs
@@ -52,14 +62,38 @@ part-start-book-end c = search needs
 
 start-book-requires : tie.Need-start-book-requires
 start-book-requires c κs =
-    let s = capacity-span (c .before .before .before .before .before .before .args .capacity) 0 [] [] (simp (toZ-ofZ, c .before .before .before .before .before .before .fits .capacity) at (c .before .before .before .before .before .outside .ensures)) (c .before .before .before .before .if1 .left) (simp (toZ-ofZ, c .before .before .before .before .before .before .fits .capacity) at (c .before .before .before .up-to .ensures)) in
-    (s .0, s .1, omega (arith, c .before .before .if2 .left, c .before .if3 .left, length-drop (c .before .before .before .before .before .before .args .start) (c .before .before .before .before .before .before .args .table .now), ap length (whole-part (c .before .before .before .before .before .before .args .table .now) (c .before .before .before .before .before .before .args .start))))
+    let at-if2 = c .before .before in
+    let at-up-to = at-if2 .before in
+    let at-if1 = at-up-to .before in
+    let at-outside = at-if1 .before in
+    let entry = at-outside .before in
+    let s =
+    capacity-span (entry .args .capacity) 0 [] [] (simp (toZ-ofZ, entry .fits .capacity) at (at-outside .outside .ensures)) (at-if1 .if1 .left)
+    (simp (toZ-ofZ, entry .fits .capacity) at (at-up-to .up-to .ensures)) in (
+      s .0,
+      s .1,
+      omega (
+        arith,
+        at-if2 .if2 .left,
+        c .before .if3 .left,
+        length-drop (entry .args .start) (entry .args .table .now),
+        ap length (whole-part (entry .args .table .now) (entry .args .start)),
+      ),
+    )
 
 same-length : tie.Need-same-length
 same-length c = search needs
 
 returns-4 : tie.Need-returns-4
-returns-4 c = opens-done _ _ _ _ (simp (toZ-ofZ, c .before .before .before .before .before .before .before .before .fits .capacity) at (c .before .before .before .before .before .before .before .outside .ensures)) (c .before .before .before .before .before .before .if1 .left) (simp (toZ-ofZ, c .before .before .before .before .before .before .before .before .fits .capacity) at (c .before .before .before .before .before .up-to .ensures)) (c .before .before .before .before .if2 .left) (c .before .before .before .if3 .left) _ (c .before .start-book .ensures) refl
+returns-4 c =
+    let at-if3 = c .before .before .before in
+    let at-if2 = at-if3 .before in
+    let at-up-to = at-if2 .before in
+    let at-if1 = at-up-to .before in
+    let at-outside = at-if1 .before in
+    let entry = at-outside .before in
+    opens-done _ _ _ _ (simp (toZ-ofZ, entry .fits .capacity) at (at-outside .outside .ensures)) (at-if1 .if1 .left)
+    (simp (toZ-ofZ, entry .fits .capacity) at (at-up-to .up-to .ensures)) (at-if2 .if2 .left) (at-if3 .if3 .left) _ (c .before .start-book .ensures) refl
 
 pub open-spec : {M : Type 1} → statement M
 open-spec =

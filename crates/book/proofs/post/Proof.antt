@@ -5,7 +5,8 @@ use lib.IntN.{pos}
 use mir.Facts.{toZ-ofZ, toZ-pos}
 use mir.Syntax.{w64}
 use mir.Val.{toZ}
-use Rattle.book.specs.TableUpdates.{start-in, updates-none, updates-range, post-refused, post-accepted}
+use Rattle.book.specs.TableUpdates.{updates-none, updates-range, post-refused, post-accepted}
+use Rattle.book.specs.LentPart.{book-start}
 use borrow.Author.Needs.{needs}
 use Rattle.book.proofs.post.Statement.{statement}
 use Rattle.book.proofs.post.Tie as tie
@@ -26,16 +27,33 @@ same-length-2 : tie.Need-same-length-2
 same-length-2 c = search needs
 
 returns-2 : tie.Need-returns-2
-returns-2 c = updates-range _ _ _ _ (c .before .before .before .no-book .ensures) (c .before .before .if1 .left) (simp (toZ-ofZ, c .before .before .before .before .before .fits .number, c .before .before .before .before .before .fits .rate, c .before .before .before .before .before .fits .base) at (c .before .offer-outside .ensures)) (c .if2 .taken) refl
+returns-2 c =
+    let at-if1 = c .before .before in
+    let at-no-book = at-if1 .before in
+    let entry = at-no-book .before .before in
+    updates-range _ _ _ _ (at-no-book .no-book .ensures) (at-if1 .if1 .left)
+    (simp (toZ-ofZ, entry .fits .number, entry .fits .rate, entry .fits .base) at (c .before .offer-outside .ensures)) (c .if2 .taken) refl
 
 mul-post-cause : tie.Need-mul-post-cause
-mul-post-cause c = omega (arith, start-in (c .before .before .before .before .before .args .table .now) (c .before .before .before .before .before .args .start) (c .before .before .before .no-book .ensures) (c .before .before .if1 .left))
+mul-post-cause c =
+    let at-if1 = c .before .before in
+    let at-no-book = at-if1 .before in
+    let entry = at-no-book .before .before in
+    omega (arith, book-start (entry .args .table .now) (entry .args .start) (at-no-book .no-book .ensures) (at-if1 .if1 .left))
 
 sub-post-cause : tie.Need-sub-post-cause
-sub-post-cause c = omega (arith, start-in (c .before .before .before .before .before .args .table .now) (c .before .before .before .before .before .args .start) (c .before .before .before .no-book .ensures) (c .before .before .if1 .left))
+sub-post-cause c =
+    let at-if1 = c .before .before in
+    let at-no-book = at-if1 .before in
+    let entry = at-no-book .before .before in
+    omega (arith, book-start (entry .args .table .now) (entry .args .start) (at-no-book .no-book .ensures) (at-if1 .if1 .left))
 
 part-post-cause-start : tie.Need-part-post-cause-start
-part-post-cause-start c = omega (arith, start-in (c .before .before .before .before .before .before .args .table .now) (c .before .before .before .before .before .before .args .start) (c .before .before .before .before .no-book .ensures) (c .before .before .before .if1 .left))
+part-post-cause-start c =
+    let at-if1 = c .before .before .before in
+    let at-no-book = at-if1 .before in
+    let entry = at-no-book .before .before in
+    omega (arith, book-start (entry .args .table .now) (entry .args .start) (at-no-book .no-book .ensures) (at-if1 .if1 .left))
 
 part-post-cause-end : tie.Need-part-post-cause-end
 part-post-cause-end c = search needs
@@ -51,17 +69,36 @@ same-length-3 c = search needs
 
 returns-3 : tie.Need-returns-3
 returns-3 c =
+    let at-if2 = c .before .before .before .before in
+    let at-offer-outside = at-if2 .before in
+    let at-if1 = at-offer-outside .before in
+    let at-no-book = at-if1 .before in
+    let entry = at-no-book .before .before in
     let v : toZ w64 (c .before .post-cause .result) ≡ pos (c .before .post-cause .result) = toZ-pos w64 (omega (arith, c .before .post-cause .ok)) in
-    post-refused _ _ _ (c .before .before .before .before .before .before .before .no-book .ensures) (c .before .before .before .before .before .before .if1 .left) _ _ _ (simp (toZ-ofZ, c .before .before .before .before .before .before .before .before .before .fits .number, c .before .before .before .before .before .before .before .before .before .fits .rate, c .before .before .before .before .before .before .before .before .before .fits .base) at (c .before .before .before .before .before .offer-outside .ensures)) (c .before .before .before .before .if2 .left) (simp (toZ-ofZ, c .before .before .before .before .before .before .before .before .before .fits .number, c .before .before .before .before .before .before .before .before .before .fits .rate) at (c .before .post-cause .ensures)) (c .if3 .taken) (simp v refl) refl
+    post-refused _ _ _ (at-no-book .no-book .ensures) (at-if1 .if1 .left) _ _ _
+    (simp (toZ-ofZ, entry .fits .number, entry .fits .rate, entry .fits .base) at (at-offer-outside .offer-outside .ensures)) (at-if2 .if2 .left)
+    (simp (toZ-ofZ, entry .fits .number, entry .fits .rate) at (c .before .post-cause .ensures)) (c .if3 .taken) (simp v refl) refl
 
 mul-post-part : tie.Need-mul-post-part
-mul-post-part c = omega (arith, start-in (c .before .before .before .before .before .before .before .before .before .args .table .now) (c .before .before .before .before .before .before .before .before .before .args .start) (c .before .before .before .before .before .before .before .no-book .ensures) (c .before .before .before .before .before .before .if1 .left))
+mul-post-part c =
+    let at-if1 = c .before .before .before .before .before .before in
+    let at-no-book = at-if1 .before in
+    let entry = at-no-book .before .before in
+    omega (arith, book-start (entry .args .table .now) (entry .args .start) (at-no-book .no-book .ensures) (at-if1 .if1 .left))
 
 sub-post-part : tie.Need-sub-post-part
-sub-post-part c = omega (arith, start-in (c .before .before .before .before .before .before .before .before .before .args .table .now) (c .before .before .before .before .before .before .before .before .before .args .start) (c .before .before .before .before .before .before .before .no-book .ensures) (c .before .before .before .before .before .before .if1 .left))
+sub-post-part c =
+    let at-if1 = c .before .before .before .before .before .before in
+    let at-no-book = at-if1 .before in
+    let entry = at-no-book .before .before in
+    omega (arith, book-start (entry .args .table .now) (entry .args .start) (at-no-book .no-book .ensures) (at-if1 .if1 .left))
 
 part-post-part-start : tie.Need-part-post-part-start
-part-post-part-start c = omega (arith, start-in (c .before .before .before .before .before .before .before .before .before .args .table .now) (c .before .before .before .before .before .before .before .before .before .args .start) (c .before .before .before .before .before .before .before .no-book .ensures) (c .before .before .before .before .before .before .if1 .left))
+part-post-part-start c =
+    let at-if1 = c .before .before .before .before .before .before in
+    let at-no-book = at-if1 .before in
+    let entry = at-no-book .before .before in
+    omega (arith, book-start (entry .args .table .now) (entry .args .start) (at-no-book .no-book .ensures) (at-if1 .if1 .left))
 
 part-post-part-end : tie.Need-part-post-part-end
 part-post-part-end c = search needs
@@ -77,8 +114,19 @@ same-length-4 c = search needs
 
 returns-4 : tie.Need-returns-4
 returns-4 c =
-    let f = c .before .before .before .before .before .before .before .before .before .before .before .before .before .fits in
-    post-accepted _ _ _ (c .before .before .before .before .before .before .before .before .before .before .before .no-book .ensures) (c .before .before .before .before .before .before .before .before .before .before .if1 .left) _ _ _ (simp (toZ-ofZ, c .before .before .before .before .before .before .before .before .before .before .before .before .before .fits .number, c .before .before .before .before .before .before .before .before .before .before .before .before .before .fits .rate, c .before .before .before .before .before .before .before .before .before .before .before .before .before .fits .base) at (c .before .before .before .before .before .before .before .before .before .offer-outside .ensures)) (c .before .before .before .before .before .before .before .before .if2 .left) (simp (toZ-ofZ, c .before .before .before .before .before .before .before .before .before .before .before .before .before .fits .number, c .before .before .before .before .before .before .before .before .before .before .before .before .before .fits .rate) at (c .before .before .before .before .before .post-cause .ensures)) (c .before .before .before .before .if3 .left) _ (simp (toZ-ofZ, f .number, f .rate, f .base) at (c .before .before .post-part .ensures)) (c .done .ensures) refl
+    let at-post-part = c .before .before in
+    let at-if3 = at-post-part .before .before in
+    let at-post-cause = at-if3 .before in
+    let at-if2 = at-post-cause .before .before .before in
+    let at-offer-outside = at-if2 .before in
+    let at-if1 = at-offer-outside .before in
+    let at-no-book = at-if1 .before in
+    let entry = at-no-book .before .before in
+    let f = entry .fits in
+    post-accepted _ _ _ (at-no-book .no-book .ensures) (at-if1 .if1 .left) _ _ _
+    (simp (toZ-ofZ, entry .fits .number, entry .fits .rate, entry .fits .base) at (at-offer-outside .offer-outside .ensures)) (at-if2 .if2 .left)
+    (simp (toZ-ofZ, entry .fits .number, entry .fits .rate) at (at-post-cause .post-cause .ensures)) (at-if3 .if3 .left) _
+    (simp (toZ-ofZ, f .number, f .rate, f .base) at (at-post-part .post-part .ensures)) (c .done .ensures) refl
 
 pub post-spec : {M : Type 1} → statement M
 post-spec =

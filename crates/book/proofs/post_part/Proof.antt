@@ -31,7 +31,9 @@ join-in-requires : tie.Need-join-in-requires
 join-in-requires c κs = search needs
 
 add-live : tie.Need-add-live
-add-live c = omega (arith, read-most _ (c .before .before .before .before .before .before .before .before .before .before .before .before .number-at4 .ensures))
+add-live c =
+    let at-number-at4 = c .before .before .before .before .before .before .before .before .before .before .before .before in
+    omega (arith, read-most _ (at-number-at4 .number-at4 .ensures))
 
 set-roots-requires : tie.Need-set-roots-requires
 set-roots-requires c κs = search needs
@@ -41,10 +43,19 @@ same-length c = search needs
 
 returns : tie.Need-returns
 returns c =
-    let f = c .before .before .before .before .before .before .before .before .before .before .before .before .before .before .before .before .before .before .before .before .before .before .before .fits in
-    posted-part _ _ _ (c .before .before .before .before .before .before .before .before .before .before .before .before .before .before .before .before .before .before .before .before .before .number-at .ensures) (c .before .before .before .before .before .before .before .before .before .before .before .before .before .before .before .before .before .before .before .number-at2 .ensures) (c .before .before .before .before .before .before .before .before .before .before .before .before .before .before .before .before .before .number-at3 .ensures) (c .before .before .before .before .before .before .before .before .before .before .before .before .before .before .before .number-at4 .ensures) (c .before .before .before .before .before .before .before .before .before .before .before .before .before .fill .ensures .0)
-    (simp (toZ-ofZ, f .number, f .rate, f .base) at (c .before .before .before .before .before .before .before .before .before .before .before .before .before .fill .ensures .1))
-    (c .before .before .before .before .before .before .before .before .before .before .add .ensures) (c .before .before .before .before .before .before .before .set-number .ensures) (c .before .before .before .before .join-in .ensures) (omega arith) (c .before .set-roots .ensures)
+    let at-join-in = c .before .before .before .before in
+    let at-set-number = at-join-in .before .before .before in
+    let at-add = at-set-number .before .before .before in
+    let at-fill = at-add .before .before .before in
+    let at-number-at4 = at-fill .before .before in
+    let at-number-at3 = at-number-at4 .before .before in
+    let at-number-at2 = at-number-at3 .before .before in
+    let at-number-at = at-number-at2 .before .before in
+    let entry = at-number-at .before .before in
+    let f = entry .fits in
+    posted-part _ _ _ (at-number-at .number-at .ensures) (at-number-at2 .number-at2 .ensures) (at-number-at3 .number-at3 .ensures)
+    (at-number-at4 .number-at4 .ensures) (at-fill .fill .ensures .0) (simp (toZ-ofZ, f .number, f .rate, f .base) at (at-fill .fill .ensures .1))
+    (at-add .add .ensures) (at-set-number .set-number .ensures) (at-join-in .join-in .ensures) (omega arith) (c .before .set-roots .ensures)
 
 pub post-part-spec : {M : Type 1} → statement M
 post-part-spec =

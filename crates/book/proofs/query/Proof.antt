@@ -1,6 +1,6 @@
 -- `book::query` meets its contract: by its guards, and then the answer on the part.
 use mir.Facts.{toZ-ofZ}
-use Rattle.book.specs.Parts.{book-start}
+use Rattle.book.specs.LentPart.{book-start}
 use Rattle.book.specs.Asking.{queries-none, queries-range, queries-asked}
 use borrow.Author.Needs.{needs}
 use Rattle.book.proofs.query.Statement.{statement}
@@ -10,22 +10,41 @@ no-book-requires : tie.Need-no-book-requires
 no-book-requires c κs = search needs
 
 returns : tie.Need-returns
-returns c = queries-none (c .before .before .args .load) (c .before .before .args .table .now) (c .before .before .args .start) (c .before .no-book .ensures) (c .if1 .taken)
+returns c =
+    queries-none (c .before .before .args .load) (c .before .before .args .table .now) (c .before .before .args .start) (c .before .no-book .ensures)
+    (c .if1 .taken)
 
 outside-requires : tie.Need-outside-requires
 outside-requires c κs = search needs
 
 returns-2 : tie.Need-returns-2
-returns-2 c = queries-range (c .before .before .before .before .args .load) (c .before .before .before .before .args .table .now) (c .before .before .before .before .args .start) (c .before .before .before .no-book .ensures) (c .before .before .if1 .left) (simp (toZ-ofZ, c .before .before .before .before .fits .load) at (c .before .outside .ensures)) (c .if2 .taken)
+returns-2 c =
+    let at-if1 = c .before .before in
+    let at-no-book = at-if1 .before in
+    let entry = at-no-book .before in
+    queries-range (entry .args .load) (entry .args .table .now) (entry .args .start) (at-no-book .no-book .ensures) (at-if1 .if1 .left)
+    (simp (toZ-ofZ, entry .fits .load) at (c .before .outside .ensures)) (c .if2 .taken)
 
 mul-ask : tie.Need-mul-ask
-mul-ask c = let h = book-start (c .before .before .before .before .args .table .now) (c .before .before .before .before .args .start) (c .before .before .before .no-book .ensures) (c .before .before .if1 .left) in search needs
+mul-ask c =
+    let at-if1 = c .before .before in
+    let at-no-book = at-if1 .before in
+    let entry = at-no-book .before in
+    let h = book-start (entry .args .table .now) (entry .args .start) (at-no-book .no-book .ensures) (at-if1 .if1 .left) in search needs
 
 sub-ask : tie.Need-sub-ask
-sub-ask c = let h = book-start (c .before .before .before .before .args .table .now) (c .before .before .before .before .args .start) (c .before .before .before .no-book .ensures) (c .before .before .if1 .left) in search needs
+sub-ask c =
+    let at-if1 = c .before .before in
+    let at-no-book = at-if1 .before in
+    let entry = at-no-book .before in
+    let h = book-start (entry .args .table .now) (entry .args .start) (at-no-book .no-book .ensures) (at-if1 .if1 .left) in search needs
 
 part-ask-start : tie.Need-part-ask-start
-part-ask-start c = let h = book-start (c .before .before .before .before .args .table .now) (c .before .before .before .before .args .start) (c .before .before .before .no-book .ensures) (c .before .before .if1 .left) in search needs
+part-ask-start c =
+    let at-if1 = c .before .before in
+    let at-no-book = at-if1 .before in
+    let entry = at-no-book .before in
+    let h = book-start (entry .args .table .now) (entry .args .start) (at-no-book .no-book .ensures) (at-if1 .if1 .left) in search needs
 
 part-ask-end : tie.Need-part-ask-end
 part-ask-end c = search needs
@@ -34,7 +53,14 @@ ask-requires : tie.Need-ask-requires
 ask-requires c κs = search needs
 
 returns-3 : tie.Need-returns-3
-returns-3 c = queries-asked (c .before .before .before .before .before .before .args .load) (c .before .before .before .before .before .before .args .table .now) (c .before .before .before .before .before .before .args .start) (c .before .before .before .before .before .no-book .ensures) (c .before .before .before .before .if1 .left) (simp (toZ-ofZ, c .before .before .before .before .before .before .fits .load) at (c .before .before .before .outside .ensures)) (c .before .before .if2 .left) (simp (toZ-ofZ, c .before .before .before .before .before .before .fits .load) at (c .ask .ensures))
+returns-3 c =
+    let at-if2 = c .before .before in
+    let at-outside = at-if2 .before in
+    let at-if1 = at-outside .before in
+    let at-no-book = at-if1 .before in
+    let entry = at-no-book .before in
+    queries-asked (entry .args .load) (entry .args .table .now) (entry .args .start) (at-no-book .no-book .ensures) (at-if1 .if1 .left)
+    (simp (toZ-ofZ, entry .fits .load) at (at-outside .outside .ensures)) (at-if2 .if2 .left) (simp (toZ-ofZ, entry .fits .load) at (c .ask .ensures))
 
 pub query-spec : {M : Type 1} → statement M
 query-spec =

@@ -17,7 +17,10 @@ same-length : tie.Need-same-length
 same-length c = search needs
 
 returns : tie.Need-returns
-returns c = rooted-in _ _ _ _ (c .before .before .before .before .before .before .before .set-number .ensures) (c .before .before .before .before .set-number2 .ensures) (c .before .set-number3 .ensures)
+returns c =
+    let at-set-number2 = c .before .before .before .before in
+    let at-set-number = at-set-number2 .before .before .before in
+    rooted-in _ _ _ _ (at-set-number .set-number .ensures) (at-set-number2 .set-number2 .ensures) (c .before .set-number3 .ensures)
 
 pub set-roots-spec : {M : Type 1} → statement M
 set-roots-spec =

@@ -36,8 +36,10 @@ same-length-2 c = search needs
 
 returns-2 : tie.Need-returns-2
 returns-2 c =
-    let n : toZ w64 (c .before .before .write .result) ≡ pos (c .before .before .write .result) = toZ-pos w64 (omega (arith, c .before .before .write .ensures .counted .few)) in
-    simp n (shown-all (c .before .before .before .before .number-at .ensures) (c .before .before .write .ensures) (c .if1 .left))
+    let at-write = c .before .before in
+    let at-number-at = at-write .before .before in
+    let n : toZ w64 (at-write .write .result) ≡ pos (at-write .write .result) = toZ-pos w64 (omega (arith, at-write .write .ensures .counted .few)) in
+    simp n (shown-all (at-number-at .number-at .ensures) (at-write .write .ensures) (c .if1 .left))
 
 pub show-spec : {M : Type 1} → statement M
 show-spec =

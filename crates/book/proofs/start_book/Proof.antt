@@ -14,7 +14,10 @@ same-length : tie.Need-same-length
 same-length c = search needs
 
 returns : tie.Need-returns
-returns c = let p = c .before .before .before .before .before .before .pre in starts (p .0) (p .1) (p .2) (c .before .before .before .before .begin .ensures) (c .before .lay .ensures)
+returns c =
+    let at-begin = c .before .before .before .before in
+    let entry = at-begin .before .before in
+    let p = entry .pre in starts (p .0) (p .1) (p .2) (at-begin .begin .ensures) (c .before .lay .ensures)
 
 pub start-book-spec : {M : Type 1} → statement M
 start-book-spec = tie.close (tie.spec begin-requires lay-requires same-length returns)

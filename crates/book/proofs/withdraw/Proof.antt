@@ -2,7 +2,8 @@
 use mathlib.Core.Path.{refl}
 use native.Mathlib.Omega.{arith}
 use mir.Facts.{toZ-ofZ}
-use Rattle.book.specs.TableUpdates.{start-in, number-alone, updates-none, updates-range, withdraw-refused, withdraw-accepted}
+use Rattle.book.specs.TableUpdates.{number-alone, updates-none, updates-range, withdraw-refused, withdraw-accepted}
+use Rattle.book.specs.LentPart.{book-start}
 use borrow.Author.Needs.{needs}
 use Rattle.book.proofs.withdraw.Statement.{statement}
 use Rattle.book.proofs.withdraw.Tie as tie
@@ -23,16 +24,33 @@ same-length-2 : tie.Need-same-length-2
 same-length-2 c = search needs
 
 returns-2 : tie.Need-returns-2
-returns-2 c = updates-range _ _ _ _ (c .before .before .before .no-book .ensures) (c .before .before .if1 .left) (number-alone _ (simp (toZ-ofZ, c .before .before .before .before .before .fits .number) at (c .before .outside .ensures))) (c .if2 .taken) refl
+returns-2 c =
+    let at-if1 = c .before .before in
+    let at-no-book = at-if1 .before in
+    let entry = at-no-book .before .before in
+    updates-range _ _ _ _ (at-no-book .no-book .ensures) (at-if1 .if1 .left)
+    (number-alone _ (simp (toZ-ofZ, entry .fits .number) at (c .before .outside .ensures))) (c .if2 .taken) refl
 
 mul-live-slot : tie.Need-mul-live-slot
-mul-live-slot c = omega (arith, start-in (c .before .before .before .before .before .args .table .now) (c .before .before .before .before .before .args .start) (c .before .before .before .no-book .ensures) (c .before .before .if1 .left))
+mul-live-slot c =
+    let at-if1 = c .before .before in
+    let at-no-book = at-if1 .before in
+    let entry = at-no-book .before .before in
+    omega (arith, book-start (entry .args .table .now) (entry .args .start) (at-no-book .no-book .ensures) (at-if1 .if1 .left))
 
 sub-live-slot : tie.Need-sub-live-slot
-sub-live-slot c = omega (arith, start-in (c .before .before .before .before .before .args .table .now) (c .before .before .before .before .before .args .start) (c .before .before .before .no-book .ensures) (c .before .before .if1 .left))
+sub-live-slot c =
+    let at-if1 = c .before .before in
+    let at-no-book = at-if1 .before in
+    let entry = at-no-book .before .before in
+    omega (arith, book-start (entry .args .table .now) (entry .args .start) (at-no-book .no-book .ensures) (at-if1 .if1 .left))
 
 part-live-slot-start : tie.Need-part-live-slot-start
-part-live-slot-start c = omega (arith, start-in (c .before .before .before .before .before .before .args .table .now) (c .before .before .before .before .before .before .args .start) (c .before .before .before .before .no-book .ensures) (c .before .before .before .if1 .left))
+part-live-slot-start c =
+    let at-if1 = c .before .before .before in
+    let at-no-book = at-if1 .before in
+    let entry = at-no-book .before .before in
+    omega (arith, book-start (entry .args .table .now) (entry .args .start) (at-no-book .no-book .ensures) (at-if1 .if1 .left))
 
 part-live-slot-end : tie.Need-part-live-slot-end
 part-live-slot-end c = search needs
@@ -44,16 +62,36 @@ same-length-3 : tie.Need-same-length-3
 same-length-3 c = search needs
 
 returns-3 : tie.Need-returns-3
-returns-3 c = withdraw-refused _ _ _ (c .before .before .before .before .before .before .before .no-book .ensures) (c .before .before .before .before .before .before .if1 .left) _ (number-alone _ (simp (toZ-ofZ, c .before .before .before .before .before .before .before .before .before .fits .number) at (c .before .before .before .before .before .outside .ensures))) (c .before .before .before .before .if2 .left) (simp (toZ-ofZ, c .before .before .before .before .before .before .before .before .before .fits .number) at (c .before .live-slot .ensures)) (c .if3 .taken) refl
+returns-3 c =
+    let at-if2 = c .before .before .before .before in
+    let at-outside = at-if2 .before in
+    let at-if1 = at-outside .before in
+    let at-no-book = at-if1 .before in
+    let entry = at-no-book .before .before in
+    withdraw-refused _ _ _ (at-no-book .no-book .ensures) (at-if1 .if1 .left) _
+    (number-alone _ (simp (toZ-ofZ, entry .fits .number) at (at-outside .outside .ensures))) (at-if2 .if2 .left)
+    (simp (toZ-ofZ, entry .fits .number) at (c .before .live-slot .ensures)) (c .if3 .taken) refl
 
 mul-withdraw-part : tie.Need-mul-withdraw-part
-mul-withdraw-part c = omega (arith, start-in (c .before .before .before .before .before .before .before .before .before .args .table .now) (c .before .before .before .before .before .before .before .before .before .args .start) (c .before .before .before .before .before .before .before .no-book .ensures) (c .before .before .before .before .before .before .if1 .left))
+mul-withdraw-part c =
+    let at-if1 = c .before .before .before .before .before .before in
+    let at-no-book = at-if1 .before in
+    let entry = at-no-book .before .before in
+    omega (arith, book-start (entry .args .table .now) (entry .args .start) (at-no-book .no-book .ensures) (at-if1 .if1 .left))
 
 sub-withdraw-part : tie.Need-sub-withdraw-part
-sub-withdraw-part c = omega (arith, start-in (c .before .before .before .before .before .before .before .before .before .args .table .now) (c .before .before .before .before .before .before .before .before .before .args .start) (c .before .before .before .before .before .before .before .no-book .ensures) (c .before .before .before .before .before .before .if1 .left))
+sub-withdraw-part c =
+    let at-if1 = c .before .before .before .before .before .before in
+    let at-no-book = at-if1 .before in
+    let entry = at-no-book .before .before in
+    omega (arith, book-start (entry .args .table .now) (entry .args .start) (at-no-book .no-book .ensures) (at-if1 .if1 .left))
 
 part-withdraw-part-start : tie.Need-part-withdraw-part-start
-part-withdraw-part-start c = omega (arith, start-in (c .before .before .before .before .before .before .before .before .before .args .table .now) (c .before .before .before .before .before .before .before .before .before .args .start) (c .before .before .before .before .before .before .before .no-book .ensures) (c .before .before .before .before .before .before .if1 .left))
+part-withdraw-part-start c =
+    let at-if1 = c .before .before .before .before .before .before in
+    let at-no-book = at-if1 .before in
+    let entry = at-no-book .before .before in
+    omega (arith, book-start (entry .args .table .now) (entry .args .start) (at-no-book .no-book .ensures) (at-if1 .if1 .left))
 
 part-withdraw-part-end : tie.Need-part-withdraw-part-end
 part-withdraw-part-end c = search needs
@@ -68,7 +106,19 @@ same-length-4 : tie.Need-same-length-4
 same-length-4 c = search needs
 
 returns-4 : tie.Need-returns-4
-returns-4 c = withdraw-accepted _ _ _ (c .before .before .before .before .before .before .before .before .before .before .before .no-book .ensures) (c .before .before .before .before .before .before .before .before .before .before .if1 .left) _ (number-alone _ (simp (toZ-ofZ, c .before .before .before .before .before .before .before .before .before .before .before .before .before .fits .number) at (c .before .before .before .before .before .before .before .before .before .outside .ensures))) (c .before .before .before .before .before .before .before .before .if2 .left) (simp (toZ-ofZ, c .before .before .before .before .before .before .before .before .before .before .before .before .before .fits .number) at (c .before .before .before .before .before .live-slot .ensures)) (c .before .before .before .before .if3 .left) _ (simp (toZ-ofZ, c .before .before .before .before .before .before .before .before .before .before .before .before .before .fits .number) at (c .before .before .withdraw-part .ensures)) (c .done .ensures) refl
+returns-4 c =
+    let at-withdraw-part = c .before .before in
+    let at-if3 = at-withdraw-part .before .before in
+    let at-live-slot = at-if3 .before in
+    let at-if2 = at-live-slot .before .before .before in
+    let at-outside = at-if2 .before in
+    let at-if1 = at-outside .before in
+    let at-no-book = at-if1 .before in
+    let entry = at-no-book .before .before in
+    withdraw-accepted _ _ _ (at-no-book .no-book .ensures) (at-if1 .if1 .left) _
+    (number-alone _ (simp (toZ-ofZ, entry .fits .number) at (at-outside .outside .ensures))) (at-if2 .if2 .left)
+    (simp (toZ-ofZ, entry .fits .number) at (at-live-slot .live-slot .ensures)) (at-if3 .if3 .left) _
+    (simp (toZ-ofZ, entry .fits .number) at (at-withdraw-part .withdraw-part .ensures)) (c .done .ensures) refl
 
 pub withdraw-spec : {M : Type 1} → statement M
 withdraw-spec =

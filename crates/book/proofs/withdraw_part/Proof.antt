@@ -39,7 +39,20 @@ same-length : tie.Need-same-length
 same-length c = search needs
 
 returns : tie.Need-returns
-returns c = withdrawn-part _ (c .before .before .before .before .before .before .before .before .before .before .before .before .before .before .before .before .before .before .before .before .before .before .number-at .ensures) (c .before .before .before .before .before .before .before .before .before .before .before .before .before .before .before .before .before .before .before .before .number-at2 .ensures) (c .before .before .before .before .before .before .before .before .before .before .before .before .before .before .before .before .before .before .number-at3 .ensures) (c .before .before .before .before .before .before .before .before .before .before .before .before .before .before .before .before .number-at4 .ensures) (simp (toZ-ofZ, c .before .before .before .before .before .before .before .before .before .before .before .before .before .before .before .before .before .before .before .before .before .before .before .before .fits .number) at (c .before .before .before .before .before .before .before .before .before .before .before .before .before .before .drop-number .ensures)) (c .before .before .before .before .before .before .before .before .before .before .before .set-number .ensures) (c .before .before .before .before .before .before .before .before .remove .ensures) (c .before .before .before .before .before .before .one-less .ensures) (c .before .before .before .before .set-roots .ensures) (c .before .give-slot .ensures)
+returns c =
+    let at-set-roots = c .before .before .before .before in
+    let at-one-less = at-set-roots .before .before in
+    let at-remove = at-one-less .before .before in
+    let at-set-number = at-remove .before .before .before in
+    let at-drop-number = at-set-number .before .before .before in
+    let at-number-at4 = at-drop-number .before .before in
+    let at-number-at3 = at-number-at4 .before .before in
+    let at-number-at2 = at-number-at3 .before .before in
+    let at-number-at = at-number-at2 .before .before in
+    let entry = at-number-at .before .before in
+    withdrawn-part _ (at-number-at .number-at .ensures) (at-number-at2 .number-at2 .ensures) (at-number-at3 .number-at3 .ensures)
+    (at-number-at4 .number-at4 .ensures) (simp (toZ-ofZ, entry .fits .number) at (at-drop-number .drop-number .ensures)) (at-set-number .set-number .ensures)
+    (at-remove .remove .ensures) (at-one-less .one-less .ensures) (at-set-roots .set-roots .ensures) (c .before .give-slot .ensures)
 
 pub withdraw-part-spec : {M : Type 1} → statement M
 withdraw-part-spec =

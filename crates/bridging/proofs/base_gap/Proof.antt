@@ -16,10 +16,20 @@ base-requires-2 : tie.Need-base-requires-2
 base-requires-2 c κs = search needs
 
 sub-result : tie.Need-sub-result
-sub-result c = let p : SFits w64 (c .before .base .result) = record { sfits = c .before .base .ok } in let q : SFits w64 (c .base2 .result) = record { sfits = c .base2 .ok } in simp (toZ-ofZ, p, q) (bases-safe (c .before .before .args .part .now) (c .before .before .args .a) (c .before .before .args .b) (c .before .base .ensures) (c .base2 .ensures))
+sub-result c =
+    let p : SFits w64 (c .before .base .result) = record { sfits = c .before .base .ok } in
+    let q : SFits w64 (c .base2 .result) = record { sfits = c .base2 .ok } in
+    simp (toZ-ofZ, p, q)
+    (bases-safe (c .before .before .args .part .now) (c .before .before .args .a) (c .before .before .args .b) (c .before .base .ensures) (c .base2 .ensures))
 
 returns : tie.Need-returns
-returns c = let p : SFits w64 (c .before .base .result) = record { sfits = c .before .base .ok } in let q : SFits w64 (c .base2 .result) = record { sfits = c .base2 .ok } in let z = bases-safe (c .before .before .args .part .now) (c .before .before .args .a) (c .before .before .args .b) (c .before .base .ensures) (c .base2 .ensures) in simp (toZ-ofZ, p, q, z) (ap₂ _-ℤ_ (c .before .base .ensures) (c .base2 .ensures))
+returns c =
+    let p : SFits w64 (c .before .base .result) = record { sfits = c .before .base .ok } in
+    let q : SFits w64 (c .base2 .result) = record { sfits = c .base2 .ok } in
+    let z =
+    bases-safe (c .before .before .args .part .now) (c .before .before .args .a) (c .before .before .args .b) (c .before .base .ensures)
+    (c .base2 .ensures) in
+    simp (toZ-ofZ, p, q, z) (ap₂ _-ℤ_ (c .before .base .ensures) (c .base2 .ensures))
 
 pub base-gap-spec : {M : Type 1} → statement M
 base-gap-spec = tie.close (tie.spec base-requires base-requires-2 sub-result returns)

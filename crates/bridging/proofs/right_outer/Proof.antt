@@ -2,7 +2,7 @@
 use mathlib.Core.Path.{_∙_, ap}
 use Prim.Native.Nat.{ℕ}
 use native.Mathlib.Omega.{arith}
-use Rattle.matching.specs.Tests.{decides-yes}
+use Rattle.matching.specs.Deciding.{decides-yes}
 use Rattle.bridging.specs.Gaps.{crossAt}
 use Rattle.bridging.specs.Bridges.{near-yes, near-above}
 use borrow.Author.Needs.{needs}
@@ -25,10 +25,23 @@ crosses-requires : tie.Need-crosses-requires
 crosses-requires c κs = search needs
 
 returns-2 : tie.Need-returns-2
-returns-2 c = near-above (c .before .crosses .ensures ∙ ap (λ (s : ℕ). crossAt (c .before .before .before .before .args .part .now) (c .before .before .before .before .args .v) s (c .before .before .before .before .args .u) (c .before .before .before .before .args .v)) (c .before .before .entry .ensures)) (c .if2 .taken) (c .before .before .before .if1 .left)
+returns-2 c =
+    let entry′ = c .before .before in
+    let at-if1 = entry′ .before in
+    let entry′′ = at-if1 .before in
+    near-above
+    (c .before .crosses .ensures
+    ∙ ap (λ (s : ℕ). crossAt (entry′′ .args .part .now) (entry′′ .args .v) s (entry′′ .args .u) (entry′′ .args .v)) (entry′ .entry .ensures))
+    (c .if2 .taken) (at-if1 .if1 .left)
 
 returns-3 : tie.Need-returns-3
-returns-3 c = near-yes (c .before .crosses .ensures ∙ ap (λ (s : ℕ). crossAt (c .before .before .before .before .args .part .now) (c .before .before .before .before .args .v) s (c .before .before .before .before .args .u) (c .before .before .before .before .args .v)) (c .before .before .entry .ensures)) (c .if2 .left)
+returns-3 c =
+    let entry′ = c .before .before in
+    let entry′′ = entry′ .before .before in
+    near-yes
+    (c .before .crosses .ensures
+    ∙ ap (λ (s : ℕ). crossAt (entry′′ .args .part .now) (entry′′ .args .v) s (entry′′ .args .u) (entry′′ .args .v)) (entry′ .entry .ensures))
+    (c .if2 .left)
 
 pub right-outer-spec : {M : Type 1} → statement M
 right-outer-spec =

@@ -4,7 +4,7 @@ use Prim.Native.Nat.{ℕ, _+_, _-_, _≤_, _<_}
 use native.Mathlib.Omega.{arith}
 use borrow.Author.Needs.{needs}
 use borrow.Author.Tests.{not-true, not-false}
-use Rattle.matching.specs.Tests.{every-more, every-less, decides-yes}
+use Rattle.matching.specs.Deciding.{every-more, every-less, decides-yes}
 use Rattle.bridging.specs.Bridges.{ThreadedTo, threaded-none, next-here, not-threaded}
 use Rattle.bridging.proofs.threaded.Statement.{statement}
 use Rattle.bridging.proofs.threaded.Tie as tie
@@ -34,7 +34,13 @@ follows-requires : tie.Need-follows-requires Inv-loop μ-loop
 follows-requires c κs = search needs
 
 returns : tie.Need-returns Inv-loop μ-loop
-returns c = not-threaded (c .before .before .before .before .before .loop .inv .0) (c .before .before .before .before .loop-test .taken) (c .before .before .before .entry .ensures) (c .before .before .entry2 .ensures) (c .before .follows .ensures) (not-true _ (c .if1 .taken))
+returns c =
+    let at-entry2 = c .before .before in
+    let entry′ = at-entry2 .before in
+    let at-loop-test = entry′ .before in
+    let at-loop = at-loop-test .before in
+    not-threaded (at-loop .loop .inv .0) (at-loop-test .loop-test .taken) (entry′ .entry .ensures) (at-entry2 .entry2 .ensures) (c .before .follows .ensures)
+    (not-true _ (c .if1 .taken))
 
 add-i : tie.Need-add-i Inv-loop μ-loop
 add-i c = omega arith
@@ -43,7 +49,18 @@ loop-less : tie.Need-loop-less Inv-loop μ-loop
 loop-less c = omega arith
 
 loop-again : tie.Need-loop-again Inv-loop μ-loop
-loop-again c = (omega arith, omega arith, λ h. every-more (c .before .before .before .before .before .loop .inv .2 h) (next-here (c .before .before .before .before .before .loop .inv .0) (c .before .before .before .before .loop-test .taken) (c .before .before .before .entry .ensures) (c .before .before .entry2 .ensures) (c .before .follows .ensures) (not-false _ (c .if1 .left)) h))
+loop-again c =
+    let at-entry2 = c .before .before in
+    let entry′ = at-entry2 .before in
+    let at-loop-test = entry′ .before in
+    let at-loop = at-loop-test .before in (
+      omega arith,
+      omega arith,
+      λ h.
+          every-more (at-loop .loop .inv .2 h)
+          (next-here (at-loop .loop .inv .0) (at-loop-test .loop-test .taken) (entry′ .entry .ensures) (at-entry2 .entry2 .ensures)
+          (c .before .follows .ensures) (not-false _ (c .if1 .left)) h),
+    )
 
 returns-2 : tie.Need-returns-2 Inv-loop μ-loop
 returns-2 c = record { told = λ h. decides-yes (every-less (omega arith) (c .before .loop .inv .2 h)) }

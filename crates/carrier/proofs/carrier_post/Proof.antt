@@ -24,8 +24,13 @@ same-length-2 c = search needs
 
 returns-2 : tie.Need-returns-2
 returns-2 c =
+    let at-post = c .before .before .before .before in
+    let at-if1 = at-post .before .before in
+    let entry = at-if1 .before in
     let r : SFits w64 (c .before .tell .result) = record { sfits = c .before .tell .ok } in
-    simp (toZ-ofZ, r) (updated-long _ _ _ _ _ _ _ _ (c .before .before .before .before .before .before .if1 .left) (simp (toZ-ofZ, c .before .before .before .before .before .before .before .fits .number, c .before .before .before .before .before .before .before .fits .rate, c .before .before .before .before .before .before .before .fits .base) at (c .before .before .before .before .post .ensures)) (c .before .tell .ensures))
+    simp (toZ-ofZ, r)
+    (updated-long _ _ _ _ _ _ _ _ (at-if1 .if1 .left) (simp (toZ-ofZ, entry .fits .number, entry .fits .rate, entry .fits .base) at (at-post .post .ensures))
+    (c .before .tell .ensures))
 
 pub carrier-post-spec : {M : Type 1} → statement M
 carrier-post-spec =

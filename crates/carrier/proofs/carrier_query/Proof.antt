@@ -21,8 +21,12 @@ same-length c = search needs
 
 returns-2 : tie.Need-returns-2
 returns-2 c =
+    let at-query = c .before .before .before in
+    let at-if1 = at-query .before in
+    let entry = at-if1 .before in
     let r : SFits w64 (c .before .name .result) = record { sfits = c .before .name .ok } in
-    simp (toZ-ofZ, r) (queried-long _ _ _ _ _ _ _ (c .before .before .before .before .if1 .left) (simp (toZ-ofZ, c .before .before .before .before .before .fits .load) at (c .before .before .before .query .ensures)) (c .before .name .ensures))
+    simp (toZ-ofZ, r)
+    (queried-long _ _ _ _ _ _ _ (at-if1 .if1 .left) (simp (toZ-ofZ, entry .fits .load) at (at-query .query .ensures)) (c .before .name .ensures))
 
 pub carrier-query-spec : {M : Type 1} → statement M
 carrier-query-spec =

@@ -24,8 +24,12 @@ same-length-2 c = search needs
 
 returns-2 : tie.Need-returns-2
 returns-2 c =
+    let at-withdraw = c .before .before .before .before in
+    let at-if1 = at-withdraw .before .before in
+    let entry = at-if1 .before in
     let r : SFits w64 (c .before .tell .result) = record { sfits = c .before .tell .ok } in
-    simp (toZ-ofZ, r) (updated-long _ _ _ _ _ _ _ _ (c .before .before .before .before .before .before .if1 .left) (simp (toZ-ofZ, c .before .before .before .before .before .before .before .fits .number) at (c .before .before .before .before .withdraw .ensures)) (c .before .tell .ensures))
+    simp (toZ-ofZ, r)
+    (updated-long _ _ _ _ _ _ _ _ (at-if1 .if1 .left) (simp (toZ-ofZ, entry .fits .number) at (at-withdraw .withdraw .ensures)) (c .before .tell .ensures))
 
 pub carrier-withdraw-spec : {M : Type 1} → statement M
 carrier-withdraw-spec =

@@ -59,14 +59,24 @@ open-end-requires c κs = search needs
 
 returns-4 : tie.Need-returns-4
 returns-4 c =
-    let s = c .before .before .before .before .before .before .before .before .before .before in
-    let m = c .before .before .before .before .before .before .before .before .count in
+    let at-slot-of = c .before .before in
+    let at-if4 = at-slot-of .before in
+    let at-up-to = at-if4 .before in
+    let at-if3 = at-up-to .before in
+    let at-if2 = at-if3 .before in
+    let at-if1 = at-if2 .before in
+    let at-count = at-if1 .before in
+    let at-number-at = at-count .before in
+    let s = at-number-at .before in
+    let m = at-count .count in
     let e : toZ w64 (m .result) ≡ pos (m .result) = toZ-pos w64 (omega (arith, m .ensures .few)) in
-    let j = index-there (s .args .index) (simp (toZ-ofZ, s .fits .index) at (c .before .before .before .before .before .before .if2 .left)) (simp (toZ-ofZ, s .fits .index, e) at (c .before .before .before .before .before .if3 .left)) (m .ensures .few) (simp (toZ-ofZ, s .fits .index) at (c .before .before .before .before .up-to .ensures)) in
+    let j =
+    index-there (s .args .index) (simp (toZ-ofZ, s .fits .index) at (at-if2 .if2 .left)) (simp (toZ-ofZ, s .fits .index, e) at (at-if3 .if3 .left))
+    (m .ensures .few) (simp (toZ-ofZ, s .fits .index) at (at-up-to .up-to .ensures)) in
     let f : SFits w64 (c .before .rate .result) = record { sfits = c .before .rate .ok } in
-    let i : s .args .index ≡ pos 0 = j .0 ∙ ap pos (first (c .before .before .before .if4 .taken)) in
+    let i : s .args .index ≡ pos 0 = j .0 ∙ ap pos (first (at-if4 .if4 .taken)) in
     subst (λ (z : ℤ). PartMark (s .args .part .now) z (c .open-end .result)) (sym i)
-    (part-first (c .before .before .before .before .before .before .before .before .before .number-at .ensures) (m .ensures) (c .before .before .before .before .before .before .before .if1 .left) (c .before .before .slot-of .ensures)
+    (part-first (at-number-at .number-at .ensures) (m .ensures) (at-if1 .if1 .left) (at-slot-of .slot-of .ensures)
     ((simp (toZ-ofZ, f) at (c .open-end .ensures)) ∙ ap openEnd (c .before .rate .ensures)))
 
 slot-of-requires-2 : tie.Need-slot-of-requires-2
@@ -80,27 +90,48 @@ open-end-requires-2 c κs = search needs
 
 returns-5 : tie.Need-returns-5
 returns-5 c =
-    let s = c .before .before .before .before .before .before .before .before .before .before .before in
-    let m = c .before .before .before .before .before .before .before .before .before .count in
+    let at-if5 = c .before .before in
+    let at-slot-of2 = at-if5 .before in
+    let at-if4 = at-slot-of2 .before in
+    let at-up-to = at-if4 .before in
+    let at-if3 = at-up-to .before in
+    let at-if2 = at-if3 .before in
+    let at-if1 = at-if2 .before in
+    let at-count = at-if1 .before in
+    let at-number-at = at-count .before in
+    let s = at-number-at .before in
+    let m = at-count .count in
     let e : toZ w64 (m .result) ≡ pos (m .result) = toZ-pos w64 (omega (arith, m .ensures .few)) in
-    let j = index-there (s .args .index) (simp (toZ-ofZ, s .fits .index) at (c .before .before .before .before .before .before .before .if2 .left)) (simp (toZ-ofZ, s .fits .index, e) at (c .before .before .before .before .before .before .if3 .left)) (m .ensures .few) (simp (toZ-ofZ, s .fits .index) at (c .before .before .before .before .before .up-to .ensures)) in
+    let j =
+    index-there (s .args .index) (simp (toZ-ofZ, s .fits .index) at (at-if2 .if2 .left)) (simp (toZ-ofZ, s .fits .index, e) at (at-if3 .if3 .left))
+    (m .ensures .few) (simp (toZ-ofZ, s .fits .index) at (at-up-to .up-to .ensures)) in
     let f : SFits w64 (c .before .rate2 .result) = record { sfits = c .before .rate2 .ok } in
     subst (λ (z : ℤ). PartMark (s .args .part .now) z (c .open-end2 .result)) (sym (j .0))
-    (part-last (c .before .before .before .before .before .before .before .before .before .before .number-at .ensures) (m .ensures) (c .before .before .before .before .before .before .before .before .if1 .left) (c .before .before .before .before .before .up-to .result) (c .before .before .before .before .if4 .left) (c .before .before .before .slot-of2 .ensures) (c .before .before .if5 .taken)
-    ((simp (toZ-ofZ, f) at (c .open-end2 .ensures)) ∙ ap openEnd (c .before .rate2 .ensures)))
+    (part-last (at-number-at .number-at .ensures) (m .ensures) (at-if1 .if1 .left) (at-up-to .up-to .result) (at-if4 .if4 .left) (at-slot-of2 .slot-of2 .ensures)
+    (at-if5 .if5 .taken) ((simp (toZ-ofZ, f) at (c .open-end2 .ensures)) ∙ ap openEnd (c .before .rate2 .ensures)))
 
 crossing-at-requires : tie.Need-crossing-at-requires
 crossing-at-requires c κs = search needs
 
 returns-6 : tie.Need-returns-6
 returns-6 c =
-    let s = c .before .before .before .before .before .before .before .before .before .before in
-    let m = c .before .before .before .before .before .before .before .before .count in
+    let at-slot-of2 = c .before .before in
+    let at-if4 = at-slot-of2 .before in
+    let at-up-to = at-if4 .before in
+    let at-if3 = at-up-to .before in
+    let at-if2 = at-if3 .before in
+    let at-if1 = at-if2 .before in
+    let at-count = at-if1 .before in
+    let at-number-at = at-count .before in
+    let s = at-number-at .before in
+    let m = at-count .count in
     let e : toZ w64 (m .result) ≡ pos (m .result) = toZ-pos w64 (omega (arith, m .ensures .few)) in
-    let j = index-there (s .args .index) (simp (toZ-ofZ, s .fits .index) at (c .before .before .before .before .before .before .if2 .left)) (simp (toZ-ofZ, s .fits .index, e) at (c .before .before .before .before .before .if3 .left)) (m .ensures .few) (simp (toZ-ofZ, s .fits .index) at (c .before .before .before .before .up-to .ensures)) in
+    let j =
+    index-there (s .args .index) (simp (toZ-ofZ, s .fits .index) at (at-if2 .if2 .left)) (simp (toZ-ofZ, s .fits .index, e) at (at-if3 .if3 .left))
+    (m .ensures .few) (simp (toZ-ofZ, s .fits .index) at (at-up-to .up-to .ensures)) in
     subst (λ (z : ℤ). PartMark (s .args .part .now) z (c .crossing-at .result)) (sym (j .0))
-    (part-inner (c .before .before .before .before .before .before .before .before .before .number-at .ensures) (m .ensures) (c .before .before .before .before .before .before .before .if1 .left) (c .before .before .before .before .up-to .result) (c .before .before .before .if4 .left) (c .before .before .slot-of2 .ensures) (below (j .1) (c .before .if5 .left))
-    (c .crossing-at .ensures))
+    (part-inner (at-number-at .number-at .ensures) (m .ensures) (at-if1 .if1 .left) (at-up-to .up-to .result) (at-if4 .if4 .left) (at-slot-of2 .slot-of2 .ensures)
+    (below (j .1) (c .before .if5 .left)) (c .crossing-at .ensures))
 
 pub part-mark-spec : {M : Type 1} → statement M
 part-mark-spec =

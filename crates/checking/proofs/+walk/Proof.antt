@@ -136,7 +136,12 @@ walk-returns-3 : (t : ℕ) → walk-lts.Need-returns-3 (
   merge-reads.Asked,
   merge-reads.Learnt,
 ) (walk-at t) walk.Post
-walk-returns-3 t c = walks-left-not (c .before .before .before .before .before .before .if1 .left) (c .before .before .before .before .before .if2 .left) (walks-as (c .before .before .before .before .child .ensures) (c .before .before .walk .ensures)) (not-true _ (c .if3 .taken))
+walk-returns-3 t c =
+    let at-walk = c .before .before in
+    let at-child = at-walk .before .before in
+    let at-if2 = at-child .before in
+    let at-if1 = at-if2 .before in
+    walks-left-not (at-if1 .if1 .left) (at-if2 .if2 .left) (walks-as (at-child .child .ensures) (at-walk .walk .ensures)) (not-true _ (c .if3 .taken))
 
 walk-child-requires-2 : (t : ℕ) → walk-lts.Need-child-requires-2 (
   single-reads.Asked,
@@ -178,7 +183,10 @@ walk-walk-requires-2 : (t : ℕ) → walk-lts.Need-walk-requires-2 (
   merge-reads.Asked,
   merge-reads.Learnt,
 ) (walk-at t) walk.Post
-walk-walk-requires-2 t c κs = (omega (arith, c .before .before .before .before .before .before .before .before .before .pre .0), c .before .before .before .before .walk .ensures .long ∙ c .before .before .before .before .before .before .before .before .before .pre .1)
+walk-walk-requires-2 t c κs =
+    let at-walk = c .before .before .before .before in
+    let entry = at-walk .before .before .before .before .before in
+    (omega (arith, entry .pre .0), at-walk .walk .ensures .long ∙ entry .pre .1)
 
 walk-returns-4 : (t : ℕ) → walk-lts.Need-returns-4 (
   single-reads.Asked,
@@ -192,7 +200,16 @@ walk-returns-4 : (t : ℕ) → walk-lts.Need-returns-4 (
   merge-reads.Asked,
   merge-reads.Learnt,
 ) (walk-at t) walk.Post
-walk-returns-4 t c = walks-right-not (c .before .before .before .before .before .before .before .before .before .before .before .if1 .left) (c .before .before .before .before .before .before .before .before .before .before .if2 .left) (walks-as (c .before .before .before .before .before .before .before .before .before .child .ensures) (c .before .before .before .before .before .before .before .walk .ensures)) (not-false _ (c .before .before .before .before .before .if3 .left)) (walks-as (c .before .before .before .before .child2 .ensures) (c .before .before .walk2 .ensures)) (not-true _ (c .if4 .taken))
+walk-returns-4 t c =
+    let at-walk2 = c .before .before in
+    let at-child2 = at-walk2 .before .before in
+    let at-if3 = at-child2 .before in
+    let at-walk = at-if3 .before .before in
+    let at-child = at-walk .before .before in
+    let at-if2 = at-child .before in
+    let at-if1 = at-if2 .before in
+    walks-right-not (at-if1 .if1 .left) (at-if2 .if2 .left) (walks-as (at-child .child .ensures) (at-walk .walk .ensures)) (not-false _ (at-if3 .if3 .left))
+    (walks-as (at-child2 .child2 .ensures) (at-walk2 .walk2 .ensures)) (not-true _ (c .if4 .taken))
 
 walk-merge-requires : (t : ℕ) → walk-lts.Need-merge-requires (
   single-reads.Asked,
@@ -206,7 +223,19 @@ walk-merge-requires : (t : ℕ) → walk-lts.Need-merge-requires (
   merge-reads.Asked,
   merge-reads.Learnt,
 ) (walk-at t) walk.Post
-walk-merge-requires t c κs = (c .before .before .before .walk2 .ensures .long ∙ c .before .before .before .before .before .before .before .before .walk .ensures .long ∙ c .before .before .before .before .before .before .before .before .before .before .before .before .before .pre .1, walked-two (c .before .before .before .before .before .before .before .before .before .before .before .before .if1 .left) (c .before .before .before .before .before .before .before .before .before .before .before .if2 .left) (walks-as (c .before .before .before .before .before .before .before .before .before .before .child .ensures) (c .before .before .before .before .before .before .before .before .walk .ensures)) (not-false _ (c .before .before .before .before .before .before .if3 .left)) (walks-as (c .before .before .before .before .before .child2 .ensures) (c .before .before .before .walk2 .ensures)) (not-false _ (c .before .if4 .left)))
+walk-merge-requires t c κs =
+    let at-walk2 = c .before .before .before in
+    let at-child2 = at-walk2 .before .before in
+    let at-if3 = at-child2 .before in
+    let at-walk = at-if3 .before .before in
+    let at-child = at-walk .before .before in
+    let at-if2 = at-child .before in
+    let at-if1 = at-if2 .before in
+    let entry = at-if1 .before in (
+      at-walk2 .walk2 .ensures .long ∙ at-walk .walk .ensures .long ∙ entry .pre .1,
+      walked-two (at-if1 .if1 .left) (at-if2 .if2 .left) (walks-as (at-child .child .ensures) (at-walk .walk .ensures)) (not-false _ (at-if3 .if3 .left))
+          (walks-as (at-child2 .child2 .ensures) (at-walk2 .walk2 .ensures)) (not-false _ (c .before .if4 .left)),
+    )
 
 walk-returns-5 : (t : ℕ) → walk-lts.Need-returns-5 (
   single-reads.Asked,
@@ -220,7 +249,17 @@ walk-returns-5 : (t : ℕ) → walk-lts.Need-returns-5 (
   merge-reads.Asked,
   merge-reads.Learnt,
 ) (walk-at t) walk.Post
-walk-returns-5 t c = walks-node (c .before .before .before .before .before .before .before .before .before .before .before .before .before .if1 .left) (c .before .before .before .before .before .before .before .before .before .before .before .before .if2 .left) (walks-as (c .before .before .before .before .before .before .before .before .before .before .before .child .ensures) (c .before .before .before .before .before .before .before .before .before .walk .ensures)) (not-false _ (c .before .before .before .before .before .before .before .if3 .left)) (walks-as (c .before .before .before .before .before .before .child2 .ensures) (c .before .before .before .before .walk2 .ensures)) (not-false _ (c .before .before .if4 .left)) (c .merge .ensures)
+walk-returns-5 t c =
+    let at-if4 = c .before .before in
+    let at-walk2 = at-if4 .before .before in
+    let at-child2 = at-walk2 .before .before in
+    let at-if3 = at-child2 .before in
+    let at-walk = at-if3 .before .before in
+    let at-child = at-walk .before .before in
+    let at-if2 = at-child .before in
+    let at-if1 = at-if2 .before in
+    walks-node (at-if1 .if1 .left) (at-if2 .if2 .left) (walks-as (at-child .child .ensures) (at-walk .walk .ensures)) (not-false _ (at-if3 .if3 .left))
+    (walks-as (at-child2 .child2 .ensures) (at-walk2 .walk2 .ensures)) (not-false _ (at-if4 .if4 .left)) (c .merge .ensures)
 
 pub +walk-spec : {M : Type 1} → statement M
 +walk-spec = close μ-walk λ t. walk-lts.spec (

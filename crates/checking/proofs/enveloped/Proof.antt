@@ -14,7 +14,10 @@ returns : tie.Need-returns
 returns c = envelops-not (c .before .before .walk .ensures) (not-true _ (c .if1 .taken))
 
 matches-requires : tie.Need-matches-requires
-matches-requires c κs = (c .before .before .before .walk .ensures .long ∙ c .before .before .before .before .before .pre, omega arith, c .before .before .before .walk .ensures .inside (not-false _ (c .before .if1 .left)) .1)
+matches-requires c κs =
+    let at-walk = c .before .before .before in
+    let entry = at-walk .before .before in
+    (at-walk .walk .ensures .long ∙ entry .pre, omega arith, at-walk .walk .ensures .inside (not-false _ (c .before .if1 .left)) .1)
 
 returns-2 : tie.Need-returns-2
 returns-2 c = envelops-rest (c .before .before .before .before .walk .ensures) (not-false _ (c .before .before .if1 .left)) (c .matches .ensures)

@@ -21,7 +21,12 @@ tells-requires-3 : tie.Need-tells-requires-3
 tells-requires-3 c κs = search needs
 
 returns-3 : tie.Need-returns-3
-returns-3 c = header-all (c .before .before .before .before .tells .ensures) (not-false _ (c .before .before .before .if1 .left)) (c .before .before .tells2 .ensures) (not-false _ (c .before .if2 .left)) (c .tells3 .ensures)
+returns-3 c =
+    let at-tells2 = c .before .before in
+    let at-if1 = at-tells2 .before in
+    let at-tells = at-if1 .before in
+    header-all (at-tells .tells .ensures) (not-false _ (at-if1 .if1 .left)) (at-tells2 .tells2 .ensures) (not-false _ (c .before .if2 .left))
+    (c .tells3 .ensures)
 
 pub header-spec : {M : Type 1} → statement M
 header-spec =

@@ -21,25 +21,55 @@ header-requires-2 : tie.Need-header-requires-2
 header-requires-2 c κs = search needs
 
 returns-2 : tie.Need-returns-2
-returns-2 c = offers-no-header (c .before .before .before .before .if1 .left) (c .before .before .before .number-at .ensures) (c .before .before .number-at2 .ensures) (c .before .header2 .ensures) (not-true _ (c .if2 .taken))
+returns-2 c =
+    let at-number-at2 = c .before .before in
+    let at-number-at = at-number-at2 .before in
+    let at-if1 = at-number-at .before in
+    offers-no-header (at-if1 .if1 .left) (at-number-at .number-at .ensures) (at-number-at2 .number-at2 .ensures) (c .before .header2 .ensures)
+    (not-true _ (c .if2 .taken))
 
 ordered-requires : tie.Need-ordered-requires
 ordered-requires c κs = search needs
 
 returns-3 : tie.Need-returns-3
-returns-3 c = offers-no-order (c .before .before .before .before .before .before .before .if1 .left) (c .before .before .before .before .before .before .number-at .ensures) (c .before .before .before .before .before .number-at2 .ensures) (c .before .before .before .before .header2 .ensures) (c .before .ordered .ensures) (not-true _ (c .if3 .taken))
+returns-3 c =
+    let at-header2 = c .before .before .before .before in
+    let at-number-at2 = at-header2 .before in
+    let at-number-at = at-number-at2 .before in
+    let at-if1 = at-number-at .before in
+    offers-no-order (at-if1 .if1 .left) (at-number-at .number-at .ensures) (at-number-at2 .number-at2 .ensures) (at-header2 .header2 .ensures)
+    (c .before .ordered .ensures) (not-true _ (c .if3 .taken))
 
 enveloped-requires : tie.Need-enveloped-requires
 enveloped-requires c κs = search needs
 
 returns-4 : tie.Need-returns-4
-returns-4 c = offers-no-envelope (c .before .before .before .before .before .before .before .before .before .before .if1 .left) (c .before .before .before .before .before .before .before .before .before .number-at .ensures) (c .before .before .before .before .before .before .before .before .number-at2 .ensures) (c .before .before .before .before .before .before .before .header2 .ensures) (c .before .before .before .before .ordered .ensures) (c .before .enveloped .ensures) (not-true _ (c .if4 .taken))
+returns-4 c =
+    let at-ordered = c .before .before .before .before in
+    let at-header2 = at-ordered .before .before .before in
+    let at-number-at2 = at-header2 .before in
+    let at-number-at = at-number-at2 .before in
+    let at-if1 = at-number-at .before in
+    offers-no-envelope (at-if1 .if1 .left) (at-number-at .number-at .ensures) (at-number-at2 .number-at2 .ensures) (at-header2 .header2 .ensures)
+    (at-ordered .ordered .ensures) (c .before .enveloped .ensures) (not-true _ (c .if4 .taken))
 
 fill-requires : tie.Need-fill-requires
 fill-requires c κs = search needs
 
 returns-5 : tie.Need-returns-5
-returns-5 c = offers-all (c .before .before .before .before .before .before .before .before .before .before .before .before .if1 .left) (c .before .before .before .before .before .before .before .before .before .before .before .number-at .ensures) (c .before .before .before .before .before .before .before .before .before .before .number-at2 .ensures) (c .before .before .before .before .before .before .before .before .before .header2 .ensures) (c .before .before .before .before .before .before .ordered .ensures) (c .before .before .before .enveloped .ensures) (not-false _ (c .before .before .before .before .before .before .before .before .if2 .left)) (not-false _ (c .before .before .before .before .before .if3 .left)) (not-false _ (c .before .before .if4 .left)) (c .fill .ensures)
+returns-5 c =
+    let at-if4 = c .before .before in
+    let at-enveloped = at-if4 .before in
+    let at-if3 = at-enveloped .before .before in
+    let at-ordered = at-if3 .before in
+    let at-if2 = at-ordered .before .before in
+    let at-header2 = at-if2 .before in
+    let at-number-at2 = at-header2 .before in
+    let at-number-at = at-number-at2 .before in
+    let at-if1 = at-number-at .before in
+    offers-all (at-if1 .if1 .left) (at-number-at .number-at .ensures) (at-number-at2 .number-at2 .ensures) (at-header2 .header2 .ensures)
+    (at-ordered .ordered .ensures) (at-enveloped .enveloped .ensures) (not-false _ (at-if2 .if2 .left)) (not-false _ (at-if3 .if3 .left))
+    (not-false _ (at-if4 .if4 .left)) (c .fill .ensures)
 
 pub offers-spec : {M : Type 1} → statement M
 offers-spec =

@@ -19,13 +19,28 @@ all-ranged-requires : tie.Need-all-ranged-requires
 all-ranged-requires c κs = (omega arith, c .before .before .before .before .fill .ensures .inside (not-false _ (c .before .before .if1 .left)) .1)
 
 returns-3 : tie.Need-returns-3
-returns-3 c = orders-not-ranged (c .before .before .before .before .before .before .fill .ensures) (not-false _ (c .before .before .before .before .if1 .left)) (c .before .before .before .if2 .left) (c .before .all-ranged .ensures) (not-true _ (c .if3 .taken))
+returns-3 c =
+    let at-if2 = c .before .before .before in
+    let at-if1 = at-if2 .before in
+    let at-fill = at-if1 .before .before in
+    orders-not-ranged (at-fill .fill .ensures) (not-false _ (at-if1 .if1 .left)) (at-if2 .if2 .left) (c .before .all-ranged .ensures)
+    (not-true _ (c .if3 .taken))
 
 falling-requires : tie.Need-falling-requires
-falling-requires c κs = (omega arith, c .before .before .before .before .before .before .before .fill .ensures .inside (not-false _ (c .before .before .before .before .before .if1 .left)) .1)
+falling-requires c κs =
+    let at-if1 = c .before .before .before .before .before in
+    let at-fill = at-if1 .before .before in
+    (omega arith, at-fill .fill .ensures .inside (not-false _ (at-if1 .if1 .left)) .1)
 
 returns-4 : tie.Need-returns-4
-returns-4 c = orders-rest (c .before .before .before .before .before .before .before .before .fill .ensures) (not-false _ (c .before .before .before .before .before .before .if1 .left)) (c .before .before .before .before .before .if2 .left) (c .before .before .before .all-ranged .ensures) (not-false _ (c .before .before .if3 .left)) (c .falling .ensures)
+returns-4 c =
+    let at-if3 = c .before .before in
+    let at-all-ranged = at-if3 .before in
+    let at-if2 = at-all-ranged .before .before in
+    let at-if1 = at-if2 .before in
+    let at-fill = at-if1 .before .before in
+    orders-rest (at-fill .fill .ensures) (not-false _ (at-if1 .if1 .left)) (at-if2 .if2 .left) (at-all-ranged .all-ranged .ensures)
+    (not-false _ (at-if3 .if3 .left)) (c .falling .ensures)
 
 pub ordered-spec : {M : Type 1} → statement M
 ordered-spec =

@@ -21,10 +21,16 @@ read-block-requires : tie.Need-read-block-requires Inv-loop μ-loop
 read-block-requires c κs = tt
 
 same-length : tie.Need-same-length Inv-loop μ-loop
-same-length c = c .before .before .before .before .before .before .read-block .kept .0 ∙ c .before .before .before .before .before .before .before .before .before .before .loop .inv .0
+same-length c =
+    let at-read-block = c .before .before .before .before .before .before in
+    let at-loop = at-read-block .before .before .before .before in
+    at-read-block .read-block .kept .0 ∙ at-loop .loop .inv .0
 
 same-length-2 : tie.Need-same-length-2 Inv-loop μ-loop
-same-length-2 c = c .before .before .before .before .before .before .read-block .kept .1 .1 .0 ∙ c .before .before .before .before .before .before .before .before .before .before .loop .inv .1
+same-length-2 c =
+    let at-read-block = c .before .before .before .before .before .before in
+    let at-loop = at-read-block .before .before .before .before in
+    at-read-block .read-block .kept .1 .1 .0 ∙ at-loop .loop .inv .1
 
 returns : tie.Need-returns Inv-loop μ-loop
 returns c = tt
@@ -36,7 +42,10 @@ loop-less : tie.Need-loop-less Inv-loop μ-loop
 loop-less c = omega arith
 
 loop-again : tie.Need-loop-again Inv-loop μ-loop
-loop-again c = (c .before .before .before .before .before .before .read-block .kept .0 ∙ c .before .before .before .before .before .before .before .before .before .before .loop .inv .0, c .before .before .before .before .before .before .read-block .kept .1 .1 .0 ∙ c .before .before .before .before .before .before .before .before .before .before .loop .inv .1)
+loop-again c =
+    let at-read-block = c .before .before .before .before .before .before in
+    let at-loop = at-read-block .before .before .before .before in
+    (at-read-block .read-block .kept .0 ∙ at-loop .loop .inv .0, at-read-block .read-block .kept .1 .1 .0 ∙ at-loop .loop .inv .1)
 
 same-length-3 : tie.Need-same-length-3 Inv-loop μ-loop
 same-length-3 c = c .before .loop .inv .0

@@ -28,7 +28,10 @@ loop-less : tie.Need-loop-less Inv-loop μ-loop
 loop-less c = omega arith
 
 loop-again : tie.Need-loop-again Inv-loop μ-loop
-loop-again c = (c .before .before .before .take-byte .kept .0 ∙ c .before .before .before .before .before .before .before .before .loop .inv .0, c .before .before .before .take-byte .kept .1 .1 .1 .0 ∙ c .before .before .before .before .before .before .before .before .loop .inv .1)
+loop-again c =
+    let at-take-byte = c .before .before .before in
+    let at-loop = at-take-byte .before .before .before .before .before in
+    (at-take-byte .take-byte .kept .0 ∙ at-loop .loop .inv .0, at-take-byte .take-byte .kept .1 .1 .1 .0 ∙ at-loop .loop .inv .1)
 
 same-length : tie.Need-same-length Inv-loop μ-loop
 same-length c = c .before .loop .inv .0

@@ -13,7 +13,9 @@ slice-reshare-prefix-write-all : tie.Need-slice-reshare-prefix-write-all
 slice-reshare-prefix-write-all c = search needs
 
 slice-aggregate-write-all : tie.Need-slice-aggregate-write-all
-slice-aggregate-write-all c = sym (length-take-le _ (c .before .before .before .before .feed .last .1 .1 .1 .0) (omega (arith, c .before .before .before .before .feed .ensures .within, c .before .before .before .before .feed .kept .1 .1 .1 .0)))
+slice-aggregate-write-all c =
+    let at-feed = c .before .before .before .before in
+    sym (length-take-le _ (at-feed .feed .last .1 .1 .1 .0) (omega (arith, at-feed .feed .ensures .within, at-feed .feed .kept .1 .1 .1 .0)))
 
 write-all-requires : tie.Need-write-all-requires
 write-all-requires c κs = search needs

@@ -13,7 +13,9 @@ slice-reshare-prefix-write-all : tie.Need-slice-reshare-prefix-write-all
 slice-reshare-prefix-write-all c = search needs
 
 slice-aggregate-write-all : tie.Need-slice-aggregate-write-all
-slice-aggregate-write-all c = sym (length-take-le _ (c .before .before .before .before .finish .last .1 .1 .0) (omega (arith, c .before .before .before .before .finish .ensures .within, c .before .before .before .before .finish .kept .1 .1 .0)))
+slice-aggregate-write-all c =
+    let at-finish = c .before .before .before .before in
+    sym (length-take-le _ (at-finish .finish .last .1 .1 .0) (omega (arith, at-finish .finish .ensures .within, at-finish .finish .kept .1 .1 .0)))
 
 write-all-requires : tie.Need-write-all-requires
 write-all-requires c κs = search needs

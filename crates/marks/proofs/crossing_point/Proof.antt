@@ -32,8 +32,12 @@ returns c =
     let s = c .before .before .before in
     let d = passed (s .args .d) (c .before .before .to-double .result) (s .fits .d) (c .before .before .to-double .ensures) in
     record {
-      load = divided (s .args .n) (s .args .d) (c .before .to-double2 .result) (c .before .before .to-double .result) (passed (s .args .n) (c .before .to-double2 .result) (s .fits .n) (c .before .to-double2 .ensures)) d;
-      price = divided (s .args .p) (s .args .d) (c .to-double3 .result) (c .before .before .to-double .result) (passed (s .args .p) (c .to-double3 .result) (s .fits .p) (c .to-double3 .ensures)) d;
+      load =
+          divided (s .args .n) (s .args .d) (c .before .to-double2 .result) (c .before .before .to-double .result)
+          (passed (s .args .n) (c .before .to-double2 .result) (s .fits .n) (c .before .to-double2 .ensures)) d;
+      price =
+          divided (s .args .p) (s .args .d) (c .to-double3 .result) (c .before .before .to-double .result)
+          (passed (s .args .p) (c .to-double3 .result) (s .fits .p) (c .to-double3 .ensures)) d;
     }
 
 pub crossing-point-spec : {M : Type 1} → statement M

@@ -137,7 +137,12 @@ fill-returns-3 : (t : ℕ) → fill-lts.Need-returns-3 (
   cover-reads.Asked,
   cover-reads.Learnt,
 ) (fill-at t) fill.Post
-fill-returns-3 t c = fills-left-not (c .before .before .before .before .before .before .if1 .left) (c .before .before .before .before .before .if2 .left) (fills-as (c .before .before .before .before .child .ensures) (c .before .before .fill .ensures)) (not-true _ (c .if3 .taken))
+fill-returns-3 t c =
+    let at-fill = c .before .before in
+    let at-child = at-fill .before .before in
+    let at-if2 = at-child .before in
+    let at-if1 = at-if2 .before in
+    fills-left-not (at-if1 .if1 .left) (at-if2 .if2 .left) (fills-as (at-child .child .ensures) (at-fill .fill .ensures)) (not-true _ (c .if3 .taken))
 
 fill-child-requires-2 : (t : ℕ) → fill-lts.Need-child-requires-2 (
   fill-leaf-reads.Asked,
@@ -179,7 +184,10 @@ fill-fill-requires-2 : (t : ℕ) → fill-lts.Need-fill-requires-2 (
   cover-reads.Asked,
   cover-reads.Learnt,
 ) (fill-at t) fill.Post
-fill-fill-requires-2 t c κs = (omega (arith, c .before .before .before .before .before .before .before .before .before .pre .0), c .before .before .before .before .fill .ensures .long ∙ c .before .before .before .before .before .before .before .before .before .pre .1)
+fill-fill-requires-2 t c κs =
+    let at-fill = c .before .before .before .before in
+    let entry = at-fill .before .before .before .before .before in
+    (omega (arith, entry .pre .0), at-fill .fill .ensures .long ∙ entry .pre .1)
 
 fill-returns-4 : (t : ℕ) → fill-lts.Need-returns-4 (
   fill-leaf-reads.Asked,
@@ -193,7 +201,16 @@ fill-returns-4 : (t : ℕ) → fill-lts.Need-returns-4 (
   cover-reads.Asked,
   cover-reads.Learnt,
 ) (fill-at t) fill.Post
-fill-returns-4 t c = fills-right-not (c .before .before .before .before .before .before .before .before .before .before .before .if1 .left) (c .before .before .before .before .before .before .before .before .before .before .if2 .left) (fills-as (c .before .before .before .before .before .before .before .before .before .child .ensures) (c .before .before .before .before .before .before .before .fill .ensures)) (not-false _ (c .before .before .before .before .before .if3 .left)) (fills-as (c .before .before .before .before .child2 .ensures) (c .before .before .fill2 .ensures)) (not-true _ (c .if4 .taken))
+fill-returns-4 t c =
+    let at-fill2 = c .before .before in
+    let at-child2 = at-fill2 .before .before in
+    let at-if3 = at-child2 .before in
+    let at-fill = at-if3 .before .before in
+    let at-child = at-fill .before .before in
+    let at-if2 = at-child .before in
+    let at-if1 = at-if2 .before in
+    fills-right-not (at-if1 .if1 .left) (at-if2 .if2 .left) (fills-as (at-child .child .ensures) (at-fill .fill .ensures)) (not-false _ (at-if3 .if3 .left))
+    (fills-as (at-child2 .child2 .ensures) (at-fill2 .fill2 .ensures)) (not-true _ (c .if4 .taken))
 
 fill-cover-requires : (t : ℕ) → fill-lts.Need-cover-requires (
   fill-leaf-reads.Asked,
@@ -207,7 +224,16 @@ fill-cover-requires : (t : ℕ) → fill-lts.Need-cover-requires (
   cover-reads.Asked,
   cover-reads.Learnt,
 ) (fill-at t) fill.Post
-fill-cover-requires t c κs = ended (c .before .before .before .before .before .before .before .before .before .before .before .before .if1 .left) (c .before .before .before .before .before .before .before .before .before .before .before .if2 .left) (fills-as (c .before .before .before .before .before .before .before .before .before .before .child .ensures) (c .before .before .before .before .before .before .before .before .fill .ensures)) (not-false _ (c .before .before .before .before .before .before .if3 .left)) (fills-as (c .before .before .before .before .before .child2 .ensures) (c .before .before .before .fill2 .ensures)) (not-false _ (c .before .if4 .left))
+fill-cover-requires t c κs =
+    let at-fill2 = c .before .before .before in
+    let at-child2 = at-fill2 .before .before in
+    let at-if3 = at-child2 .before in
+    let at-fill = at-if3 .before .before in
+    let at-child = at-fill .before .before in
+    let at-if2 = at-child .before in
+    let at-if1 = at-if2 .before in
+    ended (at-if1 .if1 .left) (at-if2 .if2 .left) (fills-as (at-child .child .ensures) (at-fill .fill .ensures)) (not-false _ (at-if3 .if3 .left))
+    (fills-as (at-child2 .child2 .ensures) (at-fill2 .fill2 .ensures)) (not-false _ (c .before .if4 .left))
 
 fill-returns-5 : (t : ℕ) → fill-lts.Need-returns-5 (
   fill-leaf-reads.Asked,
@@ -221,7 +247,17 @@ fill-returns-5 : (t : ℕ) → fill-lts.Need-returns-5 (
   cover-reads.Asked,
   cover-reads.Learnt,
 ) (fill-at t) fill.Post
-fill-returns-5 t c = fills-node (c .before .before .before .before .before .before .before .before .before .before .before .before .before .if1 .left) (c .before .before .before .before .before .before .before .before .before .before .before .before .if2 .left) (fills-as (c .before .before .before .before .before .before .before .before .before .before .before .child .ensures) (c .before .before .before .before .before .before .before .before .before .fill .ensures)) (not-false _ (c .before .before .before .before .before .before .before .if3 .left)) (fills-as (c .before .before .before .before .before .before .child2 .ensures) (c .before .before .before .before .fill2 .ensures)) (not-false _ (c .before .before .if4 .left)) (c .cover .ensures)
+fill-returns-5 t c =
+    let at-if4 = c .before .before in
+    let at-fill2 = at-if4 .before .before in
+    let at-child2 = at-fill2 .before .before in
+    let at-if3 = at-child2 .before in
+    let at-fill = at-if3 .before .before in
+    let at-child = at-fill .before .before in
+    let at-if2 = at-child .before in
+    let at-if1 = at-if2 .before in
+    fills-node (at-if1 .if1 .left) (at-if2 .if2 .left) (fills-as (at-child .child .ensures) (at-fill .fill .ensures)) (not-false _ (at-if3 .if3 .left))
+    (fills-as (at-child2 .child2 .ensures) (at-fill2 .fill2 .ensures)) (not-false _ (at-if4 .if4 .left)) (c .cover .ensures)
 
 pub +fill-spec : {M : Type 1} → statement M
 +fill-spec = close μ-fill λ t. fill-lts.spec (

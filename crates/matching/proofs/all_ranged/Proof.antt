@@ -5,7 +5,7 @@ use Prim.Native.Nat.{ℕ, _+_, _-_, _≤_, _<_}
 use native.Mathlib.Omega.{arith}
 use borrow.Author.Needs.{needs}
 use borrow.Author.Tests.{not-true, not-false}
-use Rattle.matching.specs.Tests.{Every, every-none, every-more, every-less, decides-yes, decides-no}
+use Rattle.matching.specs.Deciding.{Every, every-none, every-more, every-less, decides-yes, decides-no}
 use Rattle.matching.specs.Loops.{RangedHere, ranged-here, not-ranged-here}
 use Rattle.matching.proofs.all_ranged.Statement.{statement}
 use Rattle.matching.proofs.all_ranged.Tie as tie
@@ -26,7 +26,13 @@ ranged-requires : tie.Need-ranged-requires Inv-loop μ-loop
 ranged-requires c κs = search needs
 
 returns : tie.Need-returns Inv-loop μ-loop
-returns c = decides-no (λ p. not-ranged-here (c .before .before .entry .ensures) (c .before .ranged .ensures) (not-true _ (c .if1 .taken)) (p .at (c .before .before .before .before .loop .i) (c .before .before .before .before .loop .inv .0) (c .before .before .before .loop-test .taken)))
+returns c =
+    let entry′ = c .before .before in
+    let at-loop-test = entry′ .before in
+    let at-loop = at-loop-test .before in
+    decides-no
+    (λ p. not-ranged-here (entry′ .entry .ensures) (c .before .ranged .ensures) (not-true _ (c .if1 .taken))
+    (p .at (at-loop .loop .i) (at-loop .loop .inv .0) (at-loop-test .loop-test .taken)))
 
 add-i : tie.Need-add-i Inv-loop μ-loop
 add-i c = omega arith
@@ -35,7 +41,13 @@ loop-less : tie.Need-loop-less Inv-loop μ-loop
 loop-less c = omega arith
 
 loop-again : tie.Need-loop-again Inv-loop μ-loop
-loop-again c = (omega arith, omega arith, every-more (c .before .before .before .before .loop .inv .2) (ranged-here (c .before .before .entry .ensures) (c .before .ranged .ensures) (not-false _ (c .if1 .left))))
+loop-again c =
+    let entry′ = c .before .before in
+    let at-loop = entry′ .before .before in (
+      omega arith,
+      omega arith,
+      every-more (at-loop .loop .inv .2) (ranged-here (entry′ .entry .ensures) (c .before .ranged .ensures) (not-false _ (c .if1 .left))),
+    )
 
 returns-2 : tie.Need-returns-2 Inv-loop μ-loop
 returns-2 c = decides-yes (every-less (c .loop-test .left) (c .before .loop .inv .2))

@@ -19,7 +19,9 @@ nothing-requires : tie.Need-nothing-requires
 nothing-requires c κs = search needs
 
 returns : tie.Need-returns
-returns c = covers-not (c .nothing .ensures) (λ p. c .before .if1 .taken (c .before .before .before .entry .ensures ∙ p .seam ∙ sym (c .before .before .inner-slot .ensures)))
+returns c =
+    covers-not (c .nothing .ensures)
+    (λ p. c .before .if1 .taken (c .before .before .before .entry .ensures ∙ p .seam ∙ sym (c .before .before .inner-slot .ensures)))
 
 add-if2 : tie.Need-add-if2
 add-if2 c = search needs
@@ -49,10 +51,20 @@ nothing-requires-4 : tie.Need-nothing-requires-4
 nothing-requires-4 c κs = search needs
 
 returns-4 : tie.Need-returns-4
-returns-4 c = covers-not (c .nothing4 .ensures) (λ p. c .before .if4 .taken (c .before .before .before .height .ensures ∙ p .stored ∙ sym (c .before .before .height-over .ensures)))
+returns-4 c =
+    covers-not (c .nothing4 .ensures)
+    (λ p. c .before .if4 .taken (c .before .before .before .height .ensures ∙ p .stored ∙ sym (c .before .before .height-over .ensures)))
 
 returns-5 : tie.Need-returns-5
-returns-5 c = covers (c .before .before .before .before .before .before .inner-slot .ensures) (sym (c .before .before .before .before .before .before .before .entry .ensures) ∙ c .before .before .before .before .before .if1 .left) (c .before .before .before .before .if2 .left) (c .before .before .before .if3 .left) (c .before .before .height .ensures) (c .before .height-over .ensures) (c .if4 .left)
+returns-5 c =
+    let at-height = c .before .before in
+    let at-if3 = at-height .before in
+    let at-if2 = at-if3 .before in
+    let at-if1 = at-if2 .before in
+    let at-inner-slot = at-if1 .before in
+    let entry′ = at-inner-slot .before in
+    covers (at-inner-slot .inner-slot .ensures) (sym (entry′ .entry .ensures) ∙ at-if1 .if1 .left) (at-if2 .if2 .left) (at-if3 .if3 .left)
+    (at-height .height .ensures) (c .before .height-over .ensures) (c .if4 .left)
 
 pub cover-spec : {M : Type 1} → statement M
 cover-spec =

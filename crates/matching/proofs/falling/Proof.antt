@@ -5,7 +5,7 @@ use Prim.Native.Nat.{ℕ, _+_, _-_, _≤_, _<_}
 use native.Mathlib.Omega.{arith}
 use borrow.Author.Needs.{needs}
 use borrow.Author.Tests.{not-true, not-false}
-use Rattle.matching.specs.Tests.{Every, every-none, every-more, every-less, decides-yes, decides-no}
+use Rattle.matching.specs.Deciding.{Every, every-none, every-more, every-less, decides-yes, decides-no}
 use Rattle.matching.specs.Loops.{FallsHere, falls-here, not-falls-here}
 use Rattle.matching.proofs.falling.Statement.{statement}
 use Rattle.matching.proofs.falling.Tie as tie
@@ -35,7 +35,13 @@ falls-requires : tie.Need-falls-requires Inv-loop μ-loop
 falls-requires c κs = search needs
 
 returns : tie.Need-returns Inv-loop μ-loop
-returns c = decides-no (λ p. not-falls-here (c .before .before .before .entry .ensures) (c .before .before .entry2 .ensures) (c .before .falls .ensures) (not-true _ (c .if1 .taken)) (p .at (c .before .before .before .before .before .loop .i) (c .before .before .before .before .before .loop .inv .0) (omega arith)))
+returns c =
+    let at-entry2 = c .before .before in
+    let entry′ = at-entry2 .before in
+    let at-loop = entry′ .before .before in
+    decides-no
+    (λ p. not-falls-here (entry′ .entry .ensures) (at-entry2 .entry2 .ensures) (c .before .falls .ensures) (not-true _ (c .if1 .taken))
+    (p .at (at-loop .loop .i) (at-loop .loop .inv .0) (omega arith)))
 
 add-i : tie.Need-add-i Inv-loop μ-loop
 add-i c = omega arith
@@ -44,7 +50,15 @@ loop-less : tie.Need-loop-less Inv-loop μ-loop
 loop-less c = omega arith
 
 loop-again : tie.Need-loop-again Inv-loop μ-loop
-loop-again c = (omega arith, omega arith, every-more (c .before .before .before .before .before .loop .inv .2) (falls-here (c .before .before .before .entry .ensures) (c .before .before .entry2 .ensures) (c .before .falls .ensures) (not-false _ (c .if1 .left))))
+loop-again c =
+    let at-entry2 = c .before .before in
+    let entry′ = at-entry2 .before in
+    let at-loop = entry′ .before .before in (
+      omega arith,
+      omega arith,
+      every-more (at-loop .loop .inv .2)
+          (falls-here (entry′ .entry .ensures) (at-entry2 .entry2 .ensures) (c .before .falls .ensures) (not-false _ (c .if1 .left))),
+    )
 
 returns-2 : tie.Need-returns-2 Inv-loop μ-loop
 returns-2 c = decides-yes (every-less (omega arith) (c .before .loop .inv .2))

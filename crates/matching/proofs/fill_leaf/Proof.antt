@@ -35,7 +35,11 @@ add-t7 : tie.Need-add-t7
 add-t7 c = search needs
 
 returns-4 : tie.Need-returns-4
-returns-4 c = λ h. fills-leaf h (c .before .before .before .before .pre) (c .before .before .before .if1 .left) (c .before .before .capacity .ensures) (c .before .if2 .left) (c .if3 .left)
+returns-4 c =
+    let at-capacity = c .before .before in
+    let at-if1 = at-capacity .before in
+    let entry = at-if1 .before in
+    λ h. fills-leaf h (entry .pre) (at-if1 .if1 .left) (at-capacity .capacity .ensures) (c .before .if2 .left) (c .if3 .left)
 
 pub fill-leaf-spec : {M : Type 1} → statement M
 fill-leaf-spec =

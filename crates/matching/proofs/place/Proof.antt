@@ -4,7 +4,7 @@ use mathlib.Core.Logic.{_≢_}
 use Prim.Native.Nat.{ℕ, _+_, _-_, _≤_, _<_}
 use native.Mathlib.Omega.{arith}
 use lib.ListN.{getD}
-use Rattle.matching.specs.Tests.{Every, every-none, every-more}
+use Rattle.matching.specs.Deciding.{Every, every-none, every-more}
 use Rattle.matching.specs.Loops.{place-none, place-here}
 use Rattle.matching.proofs.place.Statement.{statement}
 use Rattle.matching.proofs.place.Tie as tie
@@ -22,7 +22,9 @@ entry-requires : tie.Need-entry-requires Inv-loop μ-loop
 entry-requires c κs = omega arith
 
 returns : tie.Need-returns Inv-loop μ-loop
-returns c = place-here (c .before .before .before .loop .inv .0) (c .before .before .loop-test .taken) (sym (c .before .entry .ensures) ∙ c .if1 .taken) (c .before .before .before .loop .inv .2)
+returns c =
+    place-here (c .before .before .before .loop .inv .0) (c .before .before .loop-test .taken) (sym (c .before .entry .ensures) ∙ c .if1 .taken)
+    (c .before .before .before .loop .inv .2)
 
 add-i : tie.Need-add-i Inv-loop μ-loop
 add-i c = omega arith

@@ -5,7 +5,7 @@ use Prim.Native.Nat.{ℕ, _+_, _-_, _≤_, _<_}
 use native.Mathlib.Omega.{arith}
 use lib.ListN.{getD}
 use borrow.Author.Needs.{needs}
-use Rattle.matching.specs.Tests.{Every, every-none, every-more, every-less, Agree, decides-yes, decides-no}
+use Rattle.matching.specs.Deciding.{Every, every-none, every-more, every-less, Agree, decides-yes, decides-no}
 use Rattle.matching.proofs.same.Statement.{statement}
 use Rattle.matching.proofs.same.Tie as tie
 
@@ -31,7 +31,12 @@ entry-requires-2 : tie.Need-entry-requires-2 Inv-loop μ-loop
 entry-requires-2 c κs = omega arith
 
 returns : tie.Need-returns Inv-loop μ-loop
-returns c = decides-no (λ p. c .if1 .taken (c .before .before .entry .ensures ∙ p .at (c .before .before .before .before .loop .k) (omega arith) (c .before .before .before .loop-test .taken) ∙ sym (c .before .entry2 .ensures)))
+returns c =
+    let entry′ = c .before .before in
+    let at-loop-test = entry′ .before in
+    let at-loop = at-loop-test .before in
+    decides-no
+    (λ p. c .if1 .taken (entry′ .entry .ensures ∙ p .at (at-loop .loop .k) (omega arith) (at-loop-test .loop-test .taken) ∙ sym (c .before .entry2 .ensures)))
 
 add-k : tie.Need-add-k Inv-loop μ-loop
 add-k c = omega arith
@@ -40,7 +45,10 @@ loop-less : tie.Need-loop-less Inv-loop μ-loop
 loop-less c = omega arith
 
 loop-again : tie.Need-loop-again Inv-loop μ-loop
-loop-again c = (omega arith, every-more (c .before .before .before .before .loop .inv .1) (sym (c .before .before .entry .ensures) ∙ c .if1 .left ∙ c .before .entry2 .ensures))
+loop-again c =
+    let entry′ = c .before .before in
+    let at-loop = entry′ .before .before in
+    (omega arith, every-more (at-loop .loop .inv .1) (sym (entry′ .entry .ensures) ∙ c .if1 .left ∙ c .before .entry2 .ensures))
 
 returns-2 : tie.Need-returns-2 Inv-loop μ-loop
 returns-2 c = decides-yes (every-less (c .loop-test .left) (c .before .loop .inv .1))

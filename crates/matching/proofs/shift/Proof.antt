@@ -38,7 +38,10 @@ loop-less : tie.Need-loop-less Inv-loop μ-loop
 loop-less c = omega arith
 
 loop-again : tie.Need-loop-again Inv-loop μ-loop
-loop-again c = (omega arith, moving-more (c .before .before .before .before .pre .1) (omega (arith, c .before .before .before .before .pre)) (c .before .before .before .loop .inv .1) (c .entry .ensures))
+loop-again c =
+    let at-loop = c .before .before .before in
+    let entry′ = at-loop .before in
+    (omega arith, moving-more (entry′ .pre .1) (omega (arith, entry′ .pre)) (at-loop .loop .inv .1) (c .entry .ensures))
 
 returns : tie.Need-returns Inv-loop μ-loop
 returns c = moving-done (c .loop-test .left) (c .before .loop .inv .0) (c .before .loop .inv .1)

@@ -9,13 +9,13 @@ use mir.Val.{Fits, toZ}
 use mir.Syntax.{w32, w64}
 use mir.Facts.{toZ-pos}
 use borrow.Author.Needs.{needs}
-use Rattle.trees.specs.Tests.{eqZ-same, same-eqZ}
-use Rattle.matching.specs.Tests.{Decides, decides-as, decides-by}
+use Rattle.integers.specs.Parts.{equal-eq, equal-is}
+use Rattle.matching.specs.Deciding.{Decides, decides-as, decides-by}
 use Rattle.matching.proofs.slot_tells.Statement.{statement}
 use Rattle.matching.proofs.slot_tells.Tie as tie
 
 told : {z : ℤ} {n : ℕ} {r : Bool} → Fits w32 n → r ≡ leZ z (toZ w64 n) && leZ (toZ w64 n) z → Decides r (z ≡ pos n)
-told {z} {n} f e = decides-as (λ t. eqZ-same z (toZ w64 n) t ∙ same) (λ q. same-eqZ z (toZ w64 n) (q ∙ sym same)) (decides-by e)
+told {z} {n} f e = decides-as (λ t. equal-eq z (toZ w64 n) t ∙ same) (λ q. equal-is z (toZ w64 n) (q ∙ sym same)) (decides-by e)
   where
     same : toZ w64 n ≡ pos n
     same = toZ-pos w64 (omega (arith, f .fits))

@@ -9,7 +9,7 @@ use mir.Syntax.{w32, w64}
 use mir.Facts.{toZ-ofZ, toZ-pos}
 use borrow.Author.Needs.{needs}
 use borrow.Author.Tests.{eqb-true, eq-eqb}
-use Rattle.matching.specs.Tests.{Decides}
+use Rattle.matching.specs.Deciding.{Decides}
 use Rattle.matching.proofs.tells.Statement.{statement}
 use Rattle.matching.proofs.tells.Tie as tie
 

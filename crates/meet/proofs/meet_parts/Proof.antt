@@ -23,10 +23,23 @@ search-roots-requires : tie.Need-search-roots-requires
 search-roots-requires c κs = search needs
 
 returns-3 : tie.Need-returns-3
-returns-3 c = apart-found (c .before .before .before .before .before .before .is-empty .ensures) (c .before .before .before .before .is-empty2 .ensures) (c .before .before .stand-apart .ensures) (c .before .before .before .before .before .if1 .left) (c .before .before .before .if2 .left) (c .before .if3 .taken) (c .search-roots .ensures)
+returns-3 c =
+    let at-stand-apart = c .before .before in
+    let at-if2 = at-stand-apart .before in
+    let at-is-empty2 = at-if2 .before in
+    let at-if1 = at-is-empty2 .before in
+    let at-is-empty = at-if1 .before in
+    apart-found (at-is-empty .is-empty .ensures) (at-is-empty2 .is-empty2 .ensures) (at-stand-apart .stand-apart .ensures) (at-if1 .if1 .left)
+    (at-if2 .if2 .left) (c .before .if3 .taken) (c .search-roots .ensures)
 
 returns-4 : tie.Need-returns-4
-returns-4 c = not-apart (c .before .before .before .before .before .is-empty .ensures) (c .before .before .before .is-empty2 .ensures) (c .before .stand-apart .ensures) (c .before .before .before .before .if1 .left) (c .before .before .if2 .left) (c .if3 .left)
+returns-4 c =
+    let at-if2 = c .before .before in
+    let at-is-empty2 = at-if2 .before in
+    let at-if1 = at-is-empty2 .before in
+    let at-is-empty = at-if1 .before in
+    not-apart (at-is-empty .is-empty .ensures) (at-is-empty2 .is-empty2 .ensures) (c .before .stand-apart .ensures) (at-if1 .if1 .left) (at-if2 .if2 .left)
+    (c .if3 .left)
 
 pub meet-parts-spec : {M : Type 1} → statement M
 meet-parts-spec =

@@ -42,20 +42,26 @@ cast-t12 c = search needs
 
 returns : tie.Need-returns
 returns c =
-    let g : SFits w64 (c .before .before .before .before .get .result) = record { sfits = c .before .before .before .before .get .ok } in
-    let g′ : SFits w64 (c .before .before .before .get2 .result) = record { sfits = c .before .before .before .get2 .ok } in
-    let s : toZ w64 (c .before .before .before .before .before .meet .result .steps) ≡ pos (c .before .before .before .before .before .meet .result .steps) = toZ-pos w64 (omega (arith, cast-t10 c)) in
-    let a : toZ w64 (c .before .before .height .result) ≡ pos (c .before .before .height .result) = toZ-pos w64 (omega (arith, cast-t11 c)) in
+    let at-height = c .before .before in
+    let at-get2 = at-height .before in
+    let at-get = at-get2 .before in
+    let at-meet = at-get .before in
+    let at-number-at2 = at-meet .before in
+    let at-number-at = at-number-at2 .before in
+    let g : SFits w64 (at-get .get .result) = record { sfits = at-get .get .ok } in
+    let g′ : SFits w64 (at-get2 .get2 .result) = record { sfits = at-get2 .get2 .ok } in
+    let s : toZ w64 (at-meet .meet .result .steps) ≡ pos (at-meet .meet .result .steps) = toZ-pos w64 (omega (arith, cast-t10 c)) in
+    let a : toZ w64 (at-height .height .result) ≡ pos (at-height .height .result) = toZ-pos w64 (omega (arith, cast-t11 c)) in
     let d : toZ w64 (c .before .height2 .result) ≡ pos (c .before .height2 .result) = toZ-pos w64 (omega (arith, cast-t12 c)) in
     simp (toZ-ofZ, g, g′, s, a, d)
     (searches
     (record {
-      left-root = c .before .before .before .before .before .before .before .number-at .ensures;
-      right-root = c .before .before .before .before .before .before .number-at2 .ensures;
-      searched = c .before .before .before .before .before .meet .ensures;
-      left-number = c .before .before .before .before .get .ensures;
-      right-number = c .before .before .before .get2 .ensures;
-      left-height = c .before .before .height .ensures;
+      left-root = at-number-at .number-at .ensures;
+      right-root = at-number-at2 .number-at2 .ensures;
+      searched = at-meet .meet .ensures;
+      left-number = at-get .get .ensures;
+      right-number = at-get2 .get2 .ensures;
+      left-height = at-height .height .ensures;
       right-height = c .before .height2 .ensures;
     }))
 

@@ -27,8 +27,13 @@ is-above-requires c κs = search needs
 
 returns : tie.Need-returns
 returns c =
+    let at-end2 = c .before .before in
+    let at-end = at-end2 .before in
+    let at-number-at2 = at-end .before in
+    let at-number-at = at-number-at2 .before in
     let g : SFits w64 (c .before .get .result) = record { sfits = c .before .get .ok } in
-    sets-apart (c .before .before .before .before .before .number-at .ensures) (c .before .before .before .before .number-at2 .ensures) (c .before .before .before .end .ensures) (c .before .before .end2 .ensures) (c .before .get .ensures) (simp (toZ-ofZ, g) at (c .is-above .ensures))
+    sets-apart (at-number-at .number-at .ensures) (at-number-at2 .number-at2 .ensures) (at-end .end .ensures) (at-end2 .end2 .ensures)
+    (c .before .get .ensures) (simp (toZ-ofZ, g) at (c .is-above .ensures))
 
 pub stand-apart-spec : {M : Type 1} → statement M
 stand-apart-spec =

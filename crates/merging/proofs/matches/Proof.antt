@@ -15,7 +15,11 @@ fill-requires : tie.Need-fill-requires
 fill-requires c κs = search needs
 
 returns-3 : tie.Need-returns-3
-returns-3 c = matches-not-filled (c .before .before .before .before .if1 .left) (c .before .before .before .before .before .pre .1) (c .before .before .before .before .before .pre .2) (c .before .before .fill .ensures) (not-true _ (c .if3 .taken))
+returns-3 c =
+    let at-fill = c .before .before in
+    let at-if1 = at-fill .before .before in
+    let entry = at-if1 .before in
+    matches-not-filled (at-if1 .if1 .left) (entry .pre .1) (entry .pre .2) (at-fill .fill .ensures) (not-true _ (c .if3 .taken))
 
 sub-if4 : tie.Need-sub-if4
 sub-if4 c = search needs
@@ -24,7 +28,11 @@ add-if4 : tie.Need-add-if4
 add-if4 c = search needs
 
 returns-4 : tie.Need-returns-4
-returns-4 c = matches-not-long (c .before .before .before .before .before .if1 .left) (c .before .before .before .before .before .before .pre .1) (c .before .before .before .before .before .before .pre .2) (c .before .before .before .fill .ensures) (not-false _ (c .before .if3 .left)) (c .if4 .taken)
+returns-4 c =
+    let at-fill = c .before .before .before in
+    let at-if1 = at-fill .before .before in
+    let entry = at-if1 .before in
+    matches-not-long (at-if1 .if1 .left) (entry .pre .1) (entry .pre .2) (at-fill .fill .ensures) (not-false _ (c .before .if3 .left)) (c .if4 .taken)
 
 sub-same : tie.Need-sub-same
 sub-same c = search needs
@@ -33,13 +41,29 @@ same-requires : tie.Need-same-requires
 same-requires c κs = search needs
 
 returns-5 : tie.Need-returns-5
-returns-5 c = matches-differ (c .before .before .before .before .before .before .before .before .if1 .left) (c .before .before .before .before .before .before .before .before .before .pre .1) (c .before .before .before .before .before .before .before .before .before .pre .2) (c .before .before .before .before .before .before .fill .ensures) (not-false _ (c .before .before .before .before .if3 .left)) (c .before .before .before .if4 .left) (c .before .same .ensures) (not-true _ (c .if5 .taken))
+returns-5 c =
+    let at-if4 = c .before .before .before in
+    let at-if3 = at-if4 .before in
+    let at-fill = at-if3 .before .before in
+    let at-if1 = at-fill .before .before in
+    let entry = at-if1 .before in
+    matches-differ (at-if1 .if1 .left) (entry .pre .1) (entry .pre .2) (at-fill .fill .ensures) (not-false _ (at-if3 .if3 .left)) (at-if4 .if4 .left)
+    (c .before .same .ensures) (not-true _ (c .if5 .taken))
 
 threaded-requires : tie.Need-threaded-requires
 threaded-requires c κs = search needs
 
 returns-6 : tie.Need-returns-6
-returns-6 c = matches-rest (c .before .before .before .before .before .before .before .before .before .before .if1 .left) (c .before .before .before .before .before .before .before .before .before .before .before .pre .1) (c .before .before .before .before .before .before .before .before .before .before .before .pre .2) (c .before .before .before .before .before .before .before .before .fill .ensures) (not-false _ (c .before .before .before .before .before .before .if3 .left)) (c .before .before .before .before .before .if4 .left) (c .before .before .before .same .ensures) (not-false _ (c .before .before .if5 .left)) (c .threaded .ensures)
+returns-6 c =
+    let at-if5 = c .before .before in
+    let at-same = at-if5 .before in
+    let at-if4 = at-same .before .before in
+    let at-if3 = at-if4 .before in
+    let at-fill = at-if3 .before .before in
+    let at-if1 = at-fill .before .before in
+    let entry = at-if1 .before in
+    matches-rest (at-if1 .if1 .left) (entry .pre .1) (entry .pre .2) (at-fill .fill .ensures) (not-false _ (at-if3 .if3 .left)) (at-if4 .if4 .left)
+    (at-same .same .ensures) (not-false _ (at-if5 .if5 .left)) (c .threaded .ensures)
 
 pub matches-spec : {M : Type 1} → statement M
 matches-spec =

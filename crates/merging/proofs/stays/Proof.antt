@@ -18,7 +18,11 @@ matches-requires : tie.Need-matches-requires
 matches-requires c κs = search needs
 
 returns-2 : tie.Need-returns-2
-returns-2 c = stays-rest (c .before .before .before .before .rest .ensures) (c .before .before .before .rest-tells .ensures) (not-false _ (c .before .before .if1 .left)) (c .matches .ensures)
+returns-2 c =
+    let at-if1 = c .before .before in
+    let at-rest-tells = at-if1 .before in
+    let at-rest = at-rest-tells .before in
+    stays-rest (at-rest .rest .ensures) (at-rest-tells .rest-tells .ensures) (not-false _ (at-if1 .if1 .left)) (c .matches .ensures)
 
 pub stays-spec : {M : Type 1} → statement M
 stays-spec =

@@ -27,8 +27,12 @@ same-length c = search needs
 
 returns : tie.Need-returns
 returns c =
-    let f : SFits w64 (c .before .before .before .before .before .before .before .before .before .before .before .get .result) = record { sfits = c .before .before .before .before .before .before .before .before .before .before .before .get .ok } in
-    added (c .before .before .before .before .before .before .before .before .before .before .before .get .ensures) (simp (toZ-ofZ, f) at (c .before .before .before .before .before .before .before .before .before .split .ensures)) (c .before .before .before .before .before .before .end .ensures) (c .before .before .before .before .join .ensures) (c .before .join2 .ensures)
+    let at-join = c .before .before .before .before in
+    let at-end = at-join .before .before in
+    let at-split = at-end .before .before .before in
+    let at-get = at-split .before .before in
+    let f : SFits w64 (at-get .get .result) = record { sfits = at-get .get .ok } in
+    added (at-get .get .ensures) (simp (toZ-ofZ, f) at (at-split .split .ensures)) (at-end .end .ensures) (at-join .join .ensures) (c .before .join2 .ensures)
 
 pub add-spec : {M : Type 1} → statement M
 add-spec =

@@ -27,9 +27,15 @@ same-length c = search needs
 
 returns : tie.Need-returns
 returns c =
-    let f = c .before .before .before .before .before .before .before .before .before .before .before .before .fits .number in
-    let g : SFits w64 (c .before .before .before .before .before .before .before .before .before .before .before .least-above .result) = record { sfits = c .before .before .before .before .before .before .before .before .before .before .before .least-above .ok } in
-    dropped (simp (toZ-ofZ, f) at (c .before .before .before .before .before .before .before .before .before .before .before .least-above .ensures)) (simp (toZ-ofZ, g) at (c .before .before .before .before .before .before .before .before .before .split .ensures)) (simp (toZ-ofZ, f) at (c .before .before .before .before .before .before .split2 .ensures)) (c .before .before .before .end .ensures) (c .before .join .ensures)
+    let at-end = c .before .before .before in
+    let at-split2 = at-end .before .before .before in
+    let at-split = at-split2 .before .before .before in
+    let at-least-above = at-split .before .before in
+    let entry = at-least-above .before in
+    let f = entry .fits .number in
+    let g : SFits w64 (at-least-above .least-above .result) = record { sfits = at-least-above .least-above .ok } in
+    dropped (simp (toZ-ofZ, f) at (at-least-above .least-above .ensures)) (simp (toZ-ofZ, g) at (at-split .split .ensures))
+    (simp (toZ-ofZ, f) at (at-split2 .split2 .ensures)) (at-end .end .ensures) (c .before .join .ensures)
 
 pub drop-number-spec : {M : Type 1} → statement M
 drop-number-spec =

@@ -55,16 +55,26 @@ same-length c = search needs
 
 returns-3 : tie.Need-returns-3
 returns-3 c =
-    let a = c .before .before .before .before .before .before .before .before .before .before .before .before .before .before .before .before .args in
+    let at-put-three = c .before .before .before .before in
+    let at-rate2 = at-put-three .before .before in
+    let at-rate = at-rate2 .before .before in
+    let at-base2 = at-rate .before .before in
+    let at-base = at-base2 .before .before in
+    let at-if2 = at-base .before .before in
+    let at-if1 = at-if2 .before in
+    let entry = at-if1 .before in
+    let a = entry .args in
     let w = a .part .now in
-    let f : SFits w64 (c .before .before .before .before .before .before .before .before .before .before .base2 .result) = record { sfits = c .before .before .before .before .before .before .before .before .before .before .base2 .ok } in
-    let g : SFits w64 (c .before .before .before .before .before .before .before .before .before .before .before .before .base .result) = record { sfits = c .before .before .before .before .before .before .before .before .before .before .before .before .base .ok } in
-    let f₂ : SFits w64 (c .before .before .before .before .before .before .before .before .rate .result) = record { sfits = c .before .before .before .before .before .before .before .before .rate .ok } in
-    let g₂ : SFits w64 (c .before .before .before .before .before .before .rate2 .result) = record { sfits = c .before .before .before .before .before .before .rate2 .ok } in
-    let k = numerator-fits w (a .s) (a .n) _ _ (c .before .before .before .before .before .before .before .before .before .before .base2 .ensures) (c .before .before .before .before .before .before .before .before .before .before .before .before .base .ensures) in
-    let k₂ = denominator-fits w (a .s) (a .n) _ _ (c .before .before .before .before .before .before .before .before .rate .ensures) (c .before .before .before .before .before .before .rate2 .ensures) in
-    let vn : toZ w64 (a .n) ≡ pos (a .n) = toZ-pos w64 (omega (arith, c .before .before .before .before .before .before .before .before .before .before .before .before .before .before .before .before .fits .n)) in
-    seamed (c .before .before .before .before .before .before .before .before .before .before .before .before .before .before .before .if1 .left) (c .before .before .before .before .before .before .before .before .before .before .before .before .before .before .if2 .left) (ap₂ _-ℤ_ (c .before .before .before .before .before .before .before .before .before .before .before .before .base .ensures) (c .before .before .before .before .before .before .before .before .before .before .base2 .ensures)) (ap₂ _-ℤ_ (c .before .before .before .before .before .before .before .before .rate .ensures) (c .before .before .before .before .before .before .rate2 .ensures)) (simp (toZ-ofZ, f, g, k, f₂, g₂, k₂, vn) at (c .before .before .before .before .put-three .ensures)) (c .before .join .ensures)
+    let f : SFits w64 (at-base2 .base2 .result) = record { sfits = at-base2 .base2 .ok } in
+    let g : SFits w64 (at-base .base .result) = record { sfits = at-base .base .ok } in
+    let f₂ : SFits w64 (at-rate .rate .result) = record { sfits = at-rate .rate .ok } in
+    let g₂ : SFits w64 (at-rate2 .rate2 .result) = record { sfits = at-rate2 .rate2 .ok } in
+    let k = numerator-fits w (a .s) (a .n) _ _ (at-base2 .base2 .ensures) (at-base .base .ensures) in
+    let k₂ = denominator-fits w (a .s) (a .n) _ _ (at-rate .rate .ensures) (at-rate2 .rate2 .ensures) in
+    let vn : toZ w64 (a .n) ≡ pos (a .n) = toZ-pos w64 (omega (arith, entry .fits .n)) in
+    seamed (at-if1 .if1 .left) (at-if2 .if2 .left) (ap₂ _-ℤ_ (at-base .base .ensures) (at-base2 .base2 .ensures))
+    (ap₂ _-ℤ_ (at-rate .rate .ensures) (at-rate2 .rate2 .ensures)) (simp (toZ-ofZ, f, g, k, f₂, g₂, k₂, vn) at (at-put-three .put-three .ensures))
+    (c .before .join .ensures)
 
 pub cat-at-spec : {M : Type 1} → statement M
 cat-at-spec =

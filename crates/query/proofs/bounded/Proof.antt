@@ -1,21 +1,23 @@
 -- `query::bounded` meets its contract.
-use mathlib.Core.Path.{_≡_, sym}
+use mathlib.Core.Path.{_≡_}
 use mir.Facts.{toZ-ofZ}
-use Rattle.query.specs.Readings.{bounded-below, bounded-above, bounded-both}
+use Rattle.offers.specs.Bounded.{bounded-below, bounded-over, bounded-inside}
 use Rattle.query.proofs.bounded.Statement.{statement}
 use Rattle.query.proofs.bounded.Tie as tie
 
 returns : tie.Need-returns
-returns c = let f = c .before .fits in sym (bounded-below _ _ _ (simp (toZ-ofZ, f .low, f .value) at (c .if1 .taken)))
+returns c = let f = c .before .fits in bounded-below _ _ _ (simp (toZ-ofZ, f .low, f .value) at (c .if1 .taken))
 
 returns-2 : tie.Need-returns-2
-returns-2 c = let f = c .before .before .fits in sym (bounded-above _ _ _ (simp (toZ-ofZ, f .high, f .value) at (c .if2 .taken)))
+returns-2 c =
+    let f = c .before .before .fits in
+    bounded-over _ _ _ (simp (toZ-ofZ, f .low, f .value) at (c .before .if1 .left)) (simp (toZ-ofZ, f .high, f .value) at (c .if2 .taken))
 
 returns-3 : tie.Need-returns-3
 returns-3 c =
     let f = c .before .before .fits in
     simp (toZ-ofZ, f .value)
-    (sym (bounded-both _ _ _ (simp (toZ-ofZ, f .low, f .value) at (c .before .if1 .left)) (simp (toZ-ofZ, f .high, f .value) at (c .if2 .left))))
+    (bounded-inside _ _ _ (simp (toZ-ofZ, f .low, f .value) at (c .before .if1 .left)) (simp (toZ-ofZ, f .high, f .value) at (c .if2 .left)))
 
 pub bounded-spec : {M : Type 1} → statement M
 bounded-spec = tie.close (tie.spec returns returns-2 returns-3)

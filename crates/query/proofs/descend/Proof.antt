@@ -31,7 +31,10 @@ loop-holds : tie.Need-loop-holds Inv-loop μ-loop
 loop-holds c = ongoing-start _ _ _
 
 returns : tie.Need-returns Inv-loop μ-loop
-returns c = simp (toZ-ofZ, c .before .before .before .before .fits .load) at (ongoing-limit (c .before .before .loop .inv) (c .before .loop-test .taken) (c .if1 .taken) 0 (c .before .before .loop .probes))
+returns c =
+    let at-loop = c .before .before in
+    let entry = at-loop .before .before in
+    simp (toZ-ofZ, entry .fits .load) at (ongoing-limit (at-loop .loop .inv) (c .before .loop-test .taken) (c .if1 .taken) 0 (at-loop .loop .probes))
 
 toward-requires : tie.Need-toward-requires Inv-loop μ-loop
 toward-requires c κs = c .before .before .before .capacity .ensures
@@ -44,8 +47,13 @@ enum-told c = search needs
 
 returns-2 : tie.Need-returns-2 Inv-loop μ-loop
 returns-2 c =
-    simp (toZ-ofZ, c .before .before .before .before .before .before .before .fits .load) at
-    (ongoing-off (c .before .before .before .before .before .loop .inv) (c .before .before .before .before .loop-test .taken) (sym (ap childOf (c .enum-told .given .1)) ∙ c .before .before .toward .ensures) 0 (c .before .before .before .before .before .loop .probes))
+    let at-toward = c .before .before in
+    let at-loop-test = at-toward .before .before in
+    let at-loop = at-loop-test .before in
+    let entry = at-loop .before .before in
+    simp (toZ-ofZ, entry .fits .load) at
+    (ongoing-off (at-loop .loop .inv) (at-loop-test .loop-test .taken) (sym (ap childOf (c .enum-told .given .1)) ∙ at-toward .toward .ensures) 0
+    (at-loop .loop .probes))
 
 add-probes : tie.Need-add-probes Inv-loop μ-loop
 add-probes c = omega arith
@@ -54,7 +62,11 @@ loop-less : tie.Need-loop-less Inv-loop μ-loop
 loop-less c = omega arith
 
 loop-again : tie.Need-loop-again Inv-loop μ-loop
-loop-again c = ongoing-step (c .before .before .before .before .before .before .loop .inv) (c .before .before .before .before .before .loop-test .taken) (sym (ap childOf (c .before .step .given .1)) ∙ c .before .before .before .toward .ensures)
+loop-again c =
+    let at-toward = c .before .before .before in
+    let at-loop-test = at-toward .before .before in
+    let at-loop = at-loop-test .before in
+    ongoing-step (at-loop .loop .inv) (at-loop-test .loop-test .taken) (sym (ap childOf (c .before .step .given .1)) ∙ at-toward .toward .ensures)
 
 cast-t9 : tie.Need-cast-t9 Inv-loop μ-loop
 cast-t9 c = omega arith

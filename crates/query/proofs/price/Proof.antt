@@ -69,7 +69,11 @@ mul-bounded-2 : tie.Need-mul-bounded-2
 mul-bounded-2 c = search needs
 
 shared-slice-copy-out-bounded-2 : tie.Need-shared-slice-copy-out-bounded-2
-shared-slice-copy-out-bounded-2 c = data-in _ _ _ (c .before .before .before .before .capacity .ensures) (c .before .before .before .if1 .left) (c .before .before .if2 .left) 1 (omega arith)
+shared-slice-copy-out-bounded-2 c =
+    let at-if2 = c .before .before in
+    let at-if1 = at-if2 .before in
+    let at-capacity = at-if1 .before in
+    data-in _ _ _ (at-capacity .capacity .ensures) (at-if1 .if1 .left) (at-if2 .if2 .left) 1 (omega arith)
 
 bounded-requires-2 : tie.Need-bounded-requires-2
 bounded-requires-2 c κs = search needs
@@ -93,23 +97,27 @@ add-result c =
 
 returns-3 : tie.Need-returns-3
 returns-3 c =
-    let w = c .before .before .before .before .before .before .before .before .args .part .now in
-    let at = 64 + 4 * c .before .before .before .before .before .before .before .before .args .slot in
-    let x : SFits w64 (getD w (at + 2) (pos 0)) = record { sfits = c .before .before .before .before .bounded-arg .given } in
-    let y : SFits w64 (getD w (at + 1) (pos 0)) = record { sfits = c .before .before .bounded-arg2 .given } in
-    let b : SFits w64 (c .before .before .before .bounded .result) = record { sfits = c .before .before .before .bounded .ok } in
+    let at-bounded-arg2 = c .before .before in
+    let at-bounded = at-bounded-arg2 .before in
+    let at-bounded-arg = at-bounded .before in
+    let at-if2 = at-bounded-arg .before in
+    let at-if1 = at-if2 .before in
+    let at-capacity = at-if1 .before in
+    let entry = at-capacity .before in
+    let w = entry .args .part .now in
+    let at = 64 + 4 * entry .args .slot in
+    let x : SFits w64 (getD w (at + 2) (pos 0)) = record { sfits = at-bounded-arg .bounded-arg .given } in
+    let y : SFits w64 (getD w (at + 1) (pos 0)) = record { sfits = at-bounded-arg2 .bounded-arg2 .given } in
+    let b : SFits w64 (at-bounded .bounded .result) = record { sfits = at-bounded .bounded .ok } in
     let r : SFits w64 (c .before .bounded2 .result) = record { sfits = c .before .bounded2 .ok } in
     let l : SFits w64 (c .bounded3 .result) = record { sfits = c .bounded3 .ok } in
-    let p = product-fits _ _ _ (c .before .before .before .bounded .ensures) (c .before .bounded2 .ensures) (c .bounded3 .ensures) in
-    let s = sum-fits _ _ _ (c .before .before .before .bounded .ensures) (c .before .bounded2 .ensures) (c .bounded3 .ensures) in
+    let p = product-fits _ _ _ (at-bounded .bounded .ensures) (c .before .bounded2 .ensures) (c .bounded3 .ensures) in
+    let s = sum-fits _ _ _ (at-bounded .bounded .ensures) (c .before .bounded2 .ensures) (c .bounded3 .ensures) in
     simp (toZ-ofZ, b, r, l, p, s)
-    (told _ _ _
-    (simp (toZ-ofZ, x) at (c .before .before .before .bounded .ensures))
-    (simp (toZ-ofZ, y) at (c .before .bounded2 .ensures))
-    (simp (toZ-ofZ, c .before .before .before .before .before .before .before .before .fits .load) at (c .bounded3 .ensures))
-    _ _
-    (data-cell _ _ _ (c .before .before .before .before .before .before .before .capacity .ensures) (c .before .before .before .before .before .before .if1 .left) (c .before .before .before .before .before .if2 .left) 2 (omega arith))
-    (data-cell _ _ _ (c .before .before .before .before .before .before .before .capacity .ensures) (c .before .before .before .before .before .before .if1 .left) (c .before .before .before .before .before .if2 .left) 1 (omega arith)))
+    (told _ _ _ (simp (toZ-ofZ, x) at (at-bounded .bounded .ensures)) (simp (toZ-ofZ, y) at (c .before .bounded2 .ensures))
+    (simp (toZ-ofZ, entry .fits .load) at (c .bounded3 .ensures)) _ _
+    (data-cell _ _ _ (at-capacity .capacity .ensures) (at-if1 .if1 .left) (at-if2 .if2 .left) 2 (omega arith))
+    (data-cell _ _ _ (at-capacity .capacity .ensures) (at-if1 .if1 .left) (at-if2 .if2 .left) 1 (omega arith)))
 
 pub price-spec : {M : Type 1} → statement M
 price-spec =

@@ -41,12 +41,17 @@ same-length c = search needs
 
 returns : tie.Need-returns
 returns c =
-    let x : SFits w64 (c .before .before .before .before .before .before .before .before .before .before .get .result) = record { sfits = c .before .before .before .before .before .before .before .before .before .before .get .ok } in
-    let y : SFits w64 (c .before .before .before .before .before .before .crossing-word .result) = record { sfits = c .before .before .before .before .before .before .crossing-word .ok } in
-    let z : SFits w64 (c .before .before .crossing-word2 .result) = record { sfits = c .before .before .crossing-word2 .ok } in
-    piece-put _ _ (c .before .before .before .before .before .before .before .before .before .before .before .before .args .last) _ _ (c .before .before .before .before .before .before .before .before .before .before .get .ensures) (c .before .before .before .before .before .before .crossing-word .ensures) (c .before .before .crossing-word2 .ensures)
-    (simp (toZ-ofZ, x) at (c .before .before .before .before .before .before .before .before .before .set-word .ensures))
-    (simp (toZ-ofZ, y) at (c .before .before .before .before .before .set-word2 .ensures))
+    let at-crossing-word2 = c .before .before in
+    let at-set-word2 = at-crossing-word2 .before .before .before in
+    let at-crossing-word = at-set-word2 .before in
+    let at-set-word = at-crossing-word .before .before .before in
+    let at-get = at-set-word .before in
+    let entry = at-get .before .before in
+    let x : SFits w64 (at-get .get .result) = record { sfits = at-get .get .ok } in
+    let y : SFits w64 (at-crossing-word .crossing-word .result) = record { sfits = at-crossing-word .crossing-word .ok } in
+    let z : SFits w64 (at-crossing-word2 .crossing-word2 .result) = record { sfits = at-crossing-word2 .crossing-word2 .ok } in
+    piece-put _ _ (entry .args .last) _ _ (at-get .get .ensures) (at-crossing-word .crossing-word .ensures) (at-crossing-word2 .crossing-word2 .ensures)
+    (simp (toZ-ofZ, x) at (at-set-word .set-word .ensures)) (simp (toZ-ofZ, y) at (at-set-word2 .set-word2 .ensures))
     (simp (toZ-ofZ, z) at (c .before .set-word3 .ensures))
 
 pub put-piece-spec : {M : Type 1} → statement M

@@ -42,15 +42,21 @@ returns : tie.Need-returns
 returns c =
     let f : SFits w64 (c .before .before .bounded .result) = record { sfits = c .before .before .bounded .ok } in
     let g : SFits w64 (c .before .bounded2 .result) = record { sfits = c .before .bounded2 .ok } in
-    let h : SFits w64 (c .before .before .bounded .result *ℤ c .before .bounded2 .result) = fits _ (omega (arith, clamped-product 999_999 199_999 _ _ (c .before .before .bounded .ensures) (c .before .bounded2 .ensures))) in
-    left _ _ _ (simp (toZ-ofZ, c .before .before .before .fits .load) at (c .before .before .bounded .ensures)) (simp (toZ-ofZ, c .before .before .before .fits .d) at (c .before .bounded2 .ensures)) (simp (toZ-ofZ, f, g, h, c .before .before .before .fits .n) at (c .if1 .taken))
+    let h : SFits w64 (c .before .before .bounded .result *ℤ c .before .bounded2 .result) =
+    fits _ (omega (arith, clamped-product 999_999 199_999 _ _ (c .before .before .bounded .ensures) (c .before .bounded2 .ensures))) in
+    left _ _ _ (simp (toZ-ofZ, c .before .before .before .fits .load) at (c .before .before .bounded .ensures))
+    (simp (toZ-ofZ, c .before .before .before .fits .d) at (c .before .bounded2 .ensures))
+    (simp (toZ-ofZ, f, g, h, c .before .before .before .fits .n) at (c .if1 .taken))
 
 returns-2 : tie.Need-returns-2
 returns-2 c =
     let f : SFits w64 (c .before .before .bounded .result) = record { sfits = c .before .before .bounded .ok } in
     let g : SFits w64 (c .before .bounded2 .result) = record { sfits = c .before .bounded2 .ok } in
-    let h : SFits w64 (c .before .before .bounded .result *ℤ c .before .bounded2 .result) = fits _ (omega (arith, clamped-product 999_999 199_999 _ _ (c .before .before .bounded .ensures) (c .before .bounded2 .ensures))) in
-    right _ _ _ (simp (toZ-ofZ, c .before .before .before .fits .load) at (c .before .before .bounded .ensures)) (simp (toZ-ofZ, c .before .before .before .fits .d) at (c .before .bounded2 .ensures)) (simp (toZ-ofZ, f, g, h, c .before .before .before .fits .n) at (c .if1 .left))
+    let h : SFits w64 (c .before .before .bounded .result *ℤ c .before .bounded2 .result) =
+    fits _ (omega (arith, clamped-product 999_999 199_999 _ _ (c .before .before .bounded .ensures) (c .before .bounded2 .ensures))) in
+    right _ _ _ (simp (toZ-ofZ, c .before .before .before .fits .load) at (c .before .before .bounded .ensures))
+    (simp (toZ-ofZ, c .before .before .before .fits .d) at (c .before .bounded2 .ensures))
+    (simp (toZ-ofZ, f, g, h, c .before .before .before .fits .n) at (c .if1 .left))
 
 pub side-of-spec : {M : Type 1} → statement M
 side-of-spec = tie.close (tie.spec bounded-requires bounded-requires-2 mul-if1 returns returns-2)

@@ -53,10 +53,14 @@ outside-requires c κs = search needs
 
 returns-3 : tie.Need-returns-3
 returns-3 c =
-    let w = c .before .before .before .before .before .args .part .now in
-    let at = group (c .before .before .before .before .before .args .c) (c .before .before .before .before .before .args .x) in
-    let d : SFits w64 (getD w (at + 3) (pos 0)) = record { sfits = c .before .before .d .given } in
-    off-steep _ _ _ (c .before .before .before .before .before .pre) (c .before .before .before .before .if1 .left) (c .before .before .before .if2 .left) _ (sym (simp (toZ-ofZ, d) at (c .before .outside .ensures)) ∙ c .if3 .taken)
+    let at-d = c .before .before in
+    let at-if2 = at-d .before in
+    let at-if1 = at-if2 .before in
+    let entry = at-if1 .before in
+    let w = entry .args .part .now in
+    let at = group (entry .args .c) (entry .args .x) in
+    let d : SFits w64 (getD w (at + 3) (pos 0)) = record { sfits = at-d .d .given } in
+    off-steep _ _ _ (entry .pre) (at-if1 .if1 .left) (at-if2 .if2 .left) _ (sym (simp (toZ-ofZ, d) at (c .before .outside .ensures)) ∙ c .if3 .taken)
 
 add-side-of : tie.Need-add-side-of
 add-side-of c = omega (arith, cap-most (c .before .before .before .before .before .args .part .now))
@@ -65,33 +69,53 @@ mul-side-of : tie.Need-mul-side-of
 mul-side-of c = omega (arith, cap-most (c .before .before .before .before .before .args .part .now))
 
 shared-slice-copy-out-side-of : tie.Need-shared-slice-copy-out-side-of
-shared-slice-copy-out-side-of c = group-in _ _ _ (c .before .before .before .before .before .pre) (c .before .before .before .before .if1 .left) (c .before .before .before .if2 .left) 2 (omega arith)
+shared-slice-copy-out-side-of c =
+    let at-if2 = c .before .before .before in
+    let at-if1 = at-if2 .before in
+    let entry = at-if1 .before in
+    group-in _ _ _ (entry .pre) (at-if1 .if1 .left) (at-if2 .if2 .left) 2 (omega arith)
 
 side-of-requires : tie.Need-side-of-requires
 side-of-requires c κs = search needs
 
 add-z : tie.Need-add-z
-add-z c = omega (arith, cap-most (c .before .before .before .before .before .before .before .args .part .now))
+add-z c =
+    let entry = c .before .before .before .before .before .before .before in
+    omega (arith, cap-most (entry .args .part .now))
 
 mul-z : tie.Need-mul-z
-mul-z c = omega (arith, cap-most (c .before .before .before .before .before .before .before .args .part .now))
+mul-z c =
+    let entry = c .before .before .before .before .before .before .before in
+    omega (arith, cap-most (entry .args .part .now))
 
 shared-slice-copy-out-z : tie.Need-shared-slice-copy-out-z
-shared-slice-copy-out-z c = group-in _ _ _ (c .before .before .before .before .before .before .before .pre) (c .before .before .before .before .before .before .if1 .left) (c .before .before .before .before .before .if2 .left) _ (omega (arith, c .side-of .ensures .low))
+shared-slice-copy-out-z c =
+    let at-if2 = c .before .before .before .before .before in
+    let at-if1 = at-if2 .before in
+    let entry = at-if1 .before in
+    group-in _ _ _ (entry .pre) (at-if1 .if1 .left) (at-if2 .if2 .left) _ (omega (arith, c .side-of .ensures .low))
 
 outside-requires-2 : tie.Need-outside-requires-2
 outside-requires-2 c κs = search needs
 
 returns-4 : tie.Need-returns-4
 returns-4 c =
-    let w = c .before .before .before .before .before .before .before .before .before .before .args .part .now in
-    let at = group (c .before .before .before .before .before .before .before .before .before .before .args .c) (c .before .before .before .before .before .before .before .before .before .before .args .x) in
-    let d : SFits w64 (getD w (at + 3) (pos 0)) = record { sfits = c .before .before .before .before .before .before .before .d .given } in
-    let n : SFits w64 (getD w (at + 2) (pos 0)) = record { sfits = c .before .before .before .before .side-of-arg .given } in
-    let z : SFits w64 (getD w (at + c .before .before .before .side-of .result) (pos 0)) = record { sfits = c .before .before .z .given } in
-    off-wild _ _ _ (c .before .before .before .before .before .before .before .before .before .before .pre) (c .before .before .before .before .before .before .before .before .before .if1 .left) (c .before .before .before .before .before .before .before .before .if2 .left)
-    (simp (toZ-ofZ, n, d, c .before .before .before .before .before .before .before .before .before .before .fits .load) at (c .before .before .before .side-of .ensures))
-    (sym (simp (toZ-ofZ, d) at (c .before .before .before .before .before .before .outside .ensures)) ∙ c .before .before .before .before .before .if3 .left)
+    let at-z = c .before .before in
+    let at-side-of = at-z .before in
+    let at-side-of-arg = at-side-of .before in
+    let at-if3 = at-side-of-arg .before in
+    let at-outside = at-if3 .before in
+    let at-d = at-outside .before in
+    let at-if2 = at-d .before in
+    let at-if1 = at-if2 .before in
+    let entry = at-if1 .before in
+    let w = entry .args .part .now in
+    let at = group (entry .args .c) (entry .args .x) in
+    let d : SFits w64 (getD w (at + 3) (pos 0)) = record { sfits = at-d .d .given } in
+    let n : SFits w64 (getD w (at + 2) (pos 0)) = record { sfits = at-side-of-arg .side-of-arg .given } in
+    let z : SFits w64 (getD w (at + at-side-of .side-of .result) (pos 0)) = record { sfits = at-z .z .given } in
+    off-wild _ _ _ (entry .pre) (at-if1 .if1 .left) (at-if2 .if2 .left) (simp (toZ-ofZ, n, d, entry .fits .load) at (at-side-of .side-of .ensures))
+    (sym (simp (toZ-ofZ, d) at (at-outside .outside .ensures)) ∙ at-if3 .if3 .left)
     (sym (simp (toZ-ofZ, z) at (c .before .outside2 .ensures)) ∙ c .if4 .taken)
 
 up-to-requires : tie.Need-up-to-requires
@@ -102,15 +126,23 @@ cast-t10 c = search needs
 
 returns-5 : tie.Need-returns-5
 returns-5 c =
-    let w = c .before .before .before .before .before .before .before .before .before .before .before .args .part .now in
-    let at = group (c .before .before .before .before .before .before .before .before .before .before .before .args .c) (c .before .before .before .before .before .before .before .before .before .before .before .args .x) in
-    let d : SFits w64 (getD w (at + 3) (pos 0)) = record { sfits = c .before .before .before .before .before .before .before .before .d .given } in
-    let n : SFits w64 (getD w (at + 2) (pos 0)) = record { sfits = c .before .before .before .before .before .side-of-arg .given } in
-    let z : SFits w64 (getD w (at + c .before .before .before .before .side-of .result) (pos 0)) = record { sfits = c .before .before .before .z .given } in
+    let at-z = c .before .before .before in
+    let at-side-of = at-z .before in
+    let at-side-of-arg = at-side-of .before in
+    let at-if3 = at-side-of-arg .before in
+    let at-outside = at-if3 .before in
+    let at-d = at-outside .before in
+    let at-if2 = at-d .before in
+    let at-if1 = at-if2 .before in
+    let entry = at-if1 .before in
+    let w = entry .args .part .now in
+    let at = group (entry .args .c) (entry .args .x) in
+    let d : SFits w64 (getD w (at + 3) (pos 0)) = record { sfits = at-d .d .given } in
+    let n : SFits w64 (getD w (at + 2) (pos 0)) = record { sfits = at-side-of-arg .side-of-arg .given } in
+    let z : SFits w64 (getD w (at + at-side-of .side-of .result) (pos 0)) = record { sfits = at-z .z .given } in
     (simp (toZ-ofZ, z) at (c .up-to .ensures))
-    ∙ toward-there _ _ _ (c .before .before .before .before .before .before .before .before .before .before .before .pre) (c .before .before .before .before .before .before .before .before .before .before .if1 .left) (c .before .before .before .before .before .before .before .before .before .if2 .left)
-    (simp (toZ-ofZ, n, d, c .before .before .before .before .before .before .before .before .before .before .before .fits .load) at (c .before .before .before .before .side-of .ensures))
-    (sym (simp (toZ-ofZ, d) at (c .before .before .before .before .before .before .before .outside .ensures)) ∙ c .before .before .before .before .before .before .if3 .left)
+    ∙ toward-there _ _ _ (entry .pre) (at-if1 .if1 .left) (at-if2 .if2 .left) (simp (toZ-ofZ, n, d, entry .fits .load) at (at-side-of .side-of .ensures))
+    (sym (simp (toZ-ofZ, d) at (at-outside .outside .ensures)) ∙ at-if3 .if3 .left)
 
 pub toward-spec : {M : Type 1} → statement M
 toward-spec =

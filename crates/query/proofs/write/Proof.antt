@@ -54,26 +54,33 @@ link-requires : tie.Need-link-requires Inv-loop μ-loop
 link-requires c κs = search needs
 
 add-i : tie.Need-add-i Inv-loop μ-loop
-add-i c = omega (arith, c .before .before .before .before .before .before .before .before .count .ensures .few)
+add-i c =
+    let at-count = c .before .before .before .before .before .before .before .before in
+    omega (arith, at-count .count .ensures .few)
 
 loop-less : tie.Need-loop-less Inv-loop μ-loop
 loop-less c = omega arith
 
 loop-again : tie.Need-loop-again Inv-loop μ-loop
 loop-again c =
-    let i = c .before .before .before .before .before .loop .i in
-    let n = c .before .before .before .before .before .before .before .before .count .result in
-    writing-goes-on (c .before .before .before .before .before .before .before .before .count .ensures) (c .before .before .before .before .before .before .before .if1 .left) (eqb (i + 1) n) (c .before .before .before .before .before .loop .inv) (c .before .before .before .before .loop-test .taken)
-    (λ q. omega (arith, eqb-true (i + 1) n q))
-    (λ q. omega (arith, eqb-false (i + 1) n q))
-    (c .before .before .put-piece .ensures)
-    (c .link .ensures)
+    let at-put-piece = c .before .before in
+    let at-loop-test = at-put-piece .before .before in
+    let at-loop = at-loop-test .before in
+    let at-if1 = at-loop .before .before in
+    let at-count = at-if1 .before in
+    let i = at-loop .loop .i in
+    let n = at-count .count .result in
+    writing-goes-on (at-count .count .ensures) (at-if1 .if1 .left) (eqb (i + 1) n) (at-loop .loop .inv) (at-loop-test .loop-test .taken)
+    (λ q. omega (arith, eqb-true (i + 1) n q)) (λ q. omega (arith, eqb-false (i + 1) n q)) (at-put-piece .put-piece .ensures) (c .link .ensures)
 
 same-length : tie.Need-same-length Inv-loop μ-loop
 same-length c = c .before .loop .inv .long
 
 returns-2 : tie.Need-returns-2 Inv-loop μ-loop
-returns-2 c = writing-ends (c .before .before .before .before .count .ensures) (c .before .before .before .if1 .left) (c .before .loop .inv) (c .loop-test .left)
+returns-2 c =
+    let at-if1 = c .before .before .before in
+    let at-count = at-if1 .before in
+    writing-ends (at-count .count .ensures) (at-if1 .if1 .left) (c .before .loop .inv) (c .loop-test .left)
 
 pub write-spec : {M : Type 1} → statement M
 write-spec =

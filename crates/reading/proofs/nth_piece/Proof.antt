@@ -42,7 +42,7 @@ use denote.Exit.{yes}
 use denote.Triple.Clauses.{ensured, lasts}
 use Rattle.book.specs.Promises.{partOf}
 use Rattle.reading.specs.Promises.{Before, Hands}
-use Rattle.reading.specs.Steps.{HandsAt, hands-at}
+use Rattle.reading.specs.ReadingSteps.{HandsAt, hands-at}
 use Rattle.reading.specs.declared.Reading.{Reading}
 use Rattle.reading.specs.declared.Handed.{Handed}
 use Rattle.reading.proofs.Reading as T

@@ -2,7 +2,7 @@
 use Prim.Native.Nat.{_-_}
 use native.Mathlib.Omega.{arith}
 use Rattle.book.specs.Promises.{partOf}
-use Rattle.reading.specs.Parts.{Nearing, nearing-begins, nearing-on, nearing-past, nearing-ends}
+use Rattle.reading.specs.PartReading.{Nearing, nearing-begins, nearing-on, nearing-past, nearing-ends}
 use borrow.Author.Needs.{needs}
 use Rattle.reading.proofs.nth_place.Statement.{statement}
 use Rattle.reading.proofs.nth_place.Tie as tie

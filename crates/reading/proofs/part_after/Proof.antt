@@ -1,5 +1,5 @@
 -- `reading::part_after` meets its contract: past the last piece there is none, and any other leads to the next.
-use Rattle.reading.specs.Parts.{after-none, after-last, after-next}
+use Rattle.reading.specs.PartReading.{after-none, after-last, after-next}
 use borrow.Author.Needs.{needs}
 use Rattle.reading.proofs.part_after.Statement.{statement}
 use Rattle.reading.proofs.part_after.Tie as tie

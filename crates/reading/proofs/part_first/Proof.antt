@@ -1,5 +1,5 @@
 -- `reading::part_first` meets its contract: the first piece is the tree's first leaf.
-use Rattle.reading.specs.Parts.{first-begins}
+use Rattle.reading.specs.PartReading.{first-begins}
 use borrow.Author.Needs.{needs}
 use Rattle.reading.proofs.part_first.Statement.{statement}
 use Rattle.reading.proofs.part_first.Tie as tie

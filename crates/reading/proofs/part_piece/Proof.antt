@@ -4,7 +4,7 @@ use mir.Syntax.{w64}
 use mir.Val.{SFits}
 use mir.Facts.{toZ-ofZ}
 use borrow.Author.Tests.{eqb-true, eqb-false}
-use Rattle.reading.specs.Parts.{hands-end, hands-piece}
+use Rattle.reading.specs.PartReading.{hands-end, hands-piece}
 use borrow.Author.Needs.{needs}
 use Rattle.reading.proofs.part_piece.Statement.{statement}
 use Rattle.reading.proofs.part_piece.Tie as tie

@@ -1,7 +1,7 @@
 -- `reading::piece_at` meets its contract: by its guard, and then what stands in the part.
 use native.Mathlib.Omega.{arith}
-use Rattle.book.specs.Parts.{book-start}
-use Rattle.reading.specs.Parts.{hands-no-book, hands-there}
+use Rattle.book.specs.LentPart.{book-start}
+use Rattle.reading.specs.PartReading.{hands-no-book, hands-there}
 use borrow.Author.Needs.{needs}
 use Rattle.reading.proofs.piece_at.Statement.{statement}
 use Rattle.reading.proofs.piece_at.Tie as tie

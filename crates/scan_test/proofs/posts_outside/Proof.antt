@@ -23,7 +23,14 @@ post-requires-6 : tie.Need-post-requires-6
 post-requires-6 c κs = search needs
 
 same-length : tie.Need-same-length
-same-length c = c .before .post6 .kept .0 ∙ c .before .before .before .before .before .post5 .kept .0 ∙ c .before .before .before .before .before .before .before .before .before .post4 .kept .0 ∙ c .before .before .before .before .before .before .before .before .before .before .before .before .before .post3 .kept .0 ∙ c .before .before .before .before .before .before .before .before .before .before .before .before .before .before .before .before .before .post2 .kept .0 ∙ c .before .before .before .before .before .before .before .before .before .before .before .before .before .before .before .before .before .before .before .before .before .post .kept .0
+same-length c =
+    let at-post5 = c .before .before .before .before .before in
+    let at-post4 = at-post5 .before .before .before .before in
+    let at-post3 = at-post4 .before .before .before .before in
+    let at-post2 = at-post3 .before .before .before .before in
+    let at-post = at-post2 .before .before .before .before in
+    c .before .post6 .kept .0 ∙ at-post5 .post5 .kept .0 ∙ at-post4 .post4 .kept .0 ∙ at-post3 .post3 .kept .0 ∙ at-post2 .post2 .kept .0
+    ∙ at-post .post .kept .0
 
 returns : tie.Need-returns
 returns c = search needs

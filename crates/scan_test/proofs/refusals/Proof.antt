@@ -23,7 +23,14 @@ withdraw-requires-3 : tie.Need-withdraw-requires-3
 withdraw-requires-3 c κs = search needs
 
 same-length : tie.Need-same-length
-same-length c = c .before .withdraw3 .kept .0 ∙ c .before .before .before .before .before .withdraw2 .kept .0 ∙ c .before .before .before .before .before .before .before .before .before .withdraw .kept .0 ∙ c .before .before .before .before .before .before .before .before .before .before .before .before .before .post2 .kept .0 ∙ c .before .before .before .before .before .before .before .before .before .before .before .before .before .before .before .before .before .post .kept .0 ∙ c .before .before .before .before .before .before .before .before .before .before .before .before .before .before .before .before .before .before .before .before .before .posts-outside .kept .0
+same-length c =
+    let at-withdraw2 = c .before .before .before .before .before in
+    let at-withdraw = at-withdraw2 .before .before .before .before in
+    let at-post2 = at-withdraw .before .before .before .before in
+    let at-post = at-post2 .before .before .before .before in
+    let at-posts-outside = at-post .before .before .before .before in
+    c .before .withdraw3 .kept .0 ∙ at-withdraw2 .withdraw2 .kept .0 ∙ at-withdraw .withdraw .kept .0 ∙ at-post2 .post2 .kept .0 ∙ at-post .post .kept .0
+    ∙ at-posts-outside .posts-outside .kept .0
 
 returns : tie.Need-returns
 returns c = search needs

@@ -32,7 +32,15 @@ summary-requires : tie.Need-summary-requires
 summary-requires c κs = search needs
 
 same-length : tie.Need-same-length
-same-length c = c .before .before .drain2 .kept .0 ∙ c .before .before .before .before .before .before .fill2 .kept .0 ∙ c .before .before .before .before .before .before .before .before .before .before .drain .kept .0 ∙ c .before .before .before .before .before .before .before .before .before .before .before .before .before .before .refusals .kept .0 ∙ c .before .before .before .before .before .before .before .before .before .before .before .before .before .before .before .before .before .before .fill .kept .0 ∙ c .before .before .before .before .before .before .before .before .before .before .before .before .before .before .before .before .before .before .before .before .before .before .«open» .kept .0
+same-length c =
+    let at-drain2 = c .before .before in
+    let at-fill2 = at-drain2 .before .before .before .before in
+    let at-drain = at-fill2 .before .before .before .before in
+    let at-refusals = at-drain .before .before .before .before in
+    let at-fill = at-refusals .before .before .before .before in
+    let at-open = at-fill .before .before .before .before in
+    at-drain2 .drain2 .kept .0 ∙ at-fill2 .fill2 .kept .0 ∙ at-drain .drain .kept .0 ∙ at-refusals .refusals .kept .0 ∙ at-fill .fill .kept .0
+    ∙ at-open .«open» .kept .0
 
 returns : tie.Need-returns
 returns c = search needs

@@ -35,7 +35,15 @@ summary-requires : tie.Need-summary-requires
 summary-requires c κs = search needs
 
 same-length : tie.Need-same-length
-same-length c = c .before .before .before .before .open6 .kept .0 ∙ c .before .before .before .before .before .before .before .before .before .open5 .kept .0 ∙ c .before .before .before .before .before .before .before .before .before .before .before .before .open4 .kept .0 ∙ c .before .before .before .before .before .before .before .before .before .before .before .before .before .before .before .open3 .kept .0 ∙ c .before .before .before .before .before .before .before .before .before .before .before .before .before .before .before .before .before .before .open2 .kept .0 ∙ c .before .before .before .before .before .before .before .before .before .before .before .before .before .before .before .before .before .before .before .before .before .«open» .kept .0
+same-length c =
+    let at-open6 = c .before .before .before .before in
+    let at-open5 = at-open6 .before .before .before .before .before in
+    let at-open4 = at-open5 .before .before .before in
+    let at-open3 = at-open4 .before .before .before in
+    let at-open2 = at-open3 .before .before .before in
+    let at-open = at-open2 .before .before .before in
+    at-open6 .open6 .kept .0 ∙ at-open5 .open5 .kept .0 ∙ at-open4 .open4 .kept .0 ∙ at-open3 .open3 .kept .0 ∙ at-open2 .open2 .kept .0
+    ∙ at-open .«open» .kept .0
 
 returns : tie.Need-returns
 returns c = search needs

@@ -47,7 +47,14 @@ summary-requires : tie.Need-summary-requires
 summary-requires c κs = search needs
 
 same-length : tie.Need-same-length
-same-length c = c .before .before .shrink .kept .0 ∙ c .before .before .before .before .before .before .before .before .before .before .before .before .before .before .before .before .before .before .before .before .before .before .before .fill2 .kept .0 ∙ c .before .before .before .before .before .before .before .before .before .before .before .before .before .before .before .before .before .before .before .before .before .before .before .before .before .before .before .before .before .before .before .fill .kept .0 ∙ c .before .before .before .before .before .before .before .before .before .before .before .before .before .before .before .before .before .before .before .before .before .before .before .before .before .before .before .before .before .before .before .before .before .before .before .before .before .before .before .open2 .kept .0 ∙ c .before .before .before .before .before .before .before .before .before .before .before .before .before .before .before .before .before .before .before .before .before .before .before .before .before .before .before .before .before .before .before .before .before .before .before .before .before .before .before .before .before .before .«open» .kept .0
+same-length c =
+    let at-shrink = c .before .before in
+    let ten-before = at-shrink .before .before .before .before .before .before .before .before .before .before in
+    let at-fill2 = ten-before .before .before .before .before .before .before .before .before .before .before .before in
+    let at-fill = at-fill2 .before .before .before .before .before .before .before .before in
+    let at-open2 = at-fill .before .before .before .before .before .before .before .before in
+    let at-open = at-open2 .before .before .before in
+    at-shrink .shrink .kept .0 ∙ at-fill2 .fill2 .kept .0 ∙ at-fill .fill .kept .0 ∙ at-open2 .open2 .kept .0 ∙ at-open .«open» .kept .0
 
 returns : tie.Need-returns
 returns c = search needs

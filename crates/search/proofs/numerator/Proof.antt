@@ -4,7 +4,7 @@ use mir.Facts.{toZ-ofZ}
 use mir.Syntax.{w64}
 use mir.Val.{SFits}
 use borrow.Author.Needs.{needs}
-use Rattle.search.specs.Prices.{bounded}
+use Rattle.offers.specs.Bounded.{bounded}
 use Rattle.search.proofs.numerator.Statement.{statement}
 use Rattle.search.proofs.numerator.Tie as tie
 

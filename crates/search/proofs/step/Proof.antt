@@ -3,7 +3,7 @@ use mathlib.Core.Path.{refl}
 use mathlib.Core.Logic.{⊎-elim}
 use Rattle.search.specs.Moves.{topped-by}
 use Rattle.search.specs.Actions.{noted-by, full-by}
-use Rattle.search.specs.Steps.{uOf, vOf}
+use Rattle.search.specs.SearchSteps.{uOf, vOf}
 use borrow.Author.Needs.{needs}
 use Rattle.search.proofs.step.Statement.{statement}
 use Rattle.search.proofs.step.Tie as tie

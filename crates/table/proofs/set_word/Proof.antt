@@ -1,3 +1,4 @@
+-- `table::set_word` meets its contract.
 use mathlib.Core.Path.{sym}
 use borrow.Author.Needs.{needs}
 use Rattle.table.specs.Words.{wset, wset-out}
@@ -6,24 +7,19 @@ use Rattle.table.proofs.set_word.Tie as tie
 use Rattle.table.proofs.set_word.Reads as reads
 use Rattle.table.proofs.set_word.Lts as lts
 
--- src/lib.rt:22:9
 mul-value : tie.Need-mul-value
 mul-value c = search needs
 
--- src/lib.rt:22:9
 slice-set-from-value : tie.Need-slice-set-from-value
 slice-set-from-value c = search needs
 
--- src/lib.rt:18:1
 same-length : tie.Need-same-length
 same-length c = search needs
 
--- src/lib.rt:18:1
 returns : tie.Need-returns
 unfolding wset
 returns c = search needs
 
--- src/lib.rt:18:1
 returns-2 : tie.Need-returns-2
 returns-2 c = sym (wset-out _ _ _ (c .if1 .left))
 

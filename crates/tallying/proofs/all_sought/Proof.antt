@@ -23,7 +23,8 @@ sought-requires : tie.Need-sought-requires Inv-loop μ-loop
 sought-requires c κs = search needs
 
 returns : tie.Need-returns Inv-loop μ-loop
-returns c = sought-not _ (c .before .before .before .loop-test .taken) (c .before .before .entry .ensures) (c .before .sought .ensures) (not-true _ (c .if1 .taken))
+returns c =
+    sought-not _ (c .before .before .before .loop-test .taken) (c .before .before .entry .ensures) (c .before .sought .ensures) (not-true _ (c .if1 .taken))
 
 add-i : tie.Need-add-i Inv-loop μ-loop
 add-i c = omega arith
@@ -32,7 +33,13 @@ loop-less : tie.Need-loop-less Inv-loop μ-loop
 loop-less c = omega arith
 
 loop-again : tie.Need-loop-again Inv-loop μ-loop
-loop-again c = (omega arith, sought-more _ (c .before .before .before .loop-test .taken) (c .before .before .entry .ensures) (c .before .sought .ensures) (c .before .before .before .before .loop .inv .1) (not-false _ (c .if1 .left)))
+loop-again c =
+    let entry′ = c .before .before in
+    let at-loop-test = entry′ .before in
+    let at-loop = at-loop-test .before in (
+      omega arith,
+      sought-more _ (at-loop-test .loop-test .taken) (entry′ .entry .ensures) (c .before .sought .ensures) (at-loop .loop .inv .1) (not-false _ (c .if1 .left)),
+    )
 
 returns-2 : tie.Need-returns-2 Inv-loop μ-loop
 returns-2 c = sought-all (c .loop-test .left) (c .before .loop .inv .1)

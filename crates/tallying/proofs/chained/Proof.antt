@@ -28,7 +28,13 @@ slot-tells-requires : tie.Need-slot-tells-requires Inv-loop μ-loop
 slot-tells-requires c κs = search needs
 
 returns-2 : tie.Need-returns-2 Inv-loop μ-loop
-returns-2 c = left-other (c .before .before .before .before .before .before .loop .inv) (c .before .before .before .before .before .loop-test .taken) (c .before .before .before .before .is-free .ensures) (c .before .before .link .ensures) (c .before .slot-tells .ensures) (not-true _ (c .if2 .taken))
+returns-2 c =
+    let at-link = c .before .before in
+    let at-is-free = at-link .before .before in
+    let at-loop-test = at-is-free .before in
+    let at-loop = at-loop-test .before in
+    left-other (at-loop .loop .inv) (at-loop-test .loop-test .taken) (at-is-free .is-free .ensures) (at-link .link .ensures) (c .before .slot-tells .ensures)
+    (not-true _ (c .if2 .taken))
 
 sub-k : tie.Need-sub-k Inv-loop μ-loop
 sub-k c = search needs
@@ -37,7 +43,14 @@ loop-less : tie.Need-loop-less Inv-loop μ-loop
 loop-less c = omega arith
 
 loop-again : tie.Need-loop-again Inv-loop μ-loop
-loop-again c = left-more (c .before .before .before .before .before .before .loop .inv) (c .before .before .before .before .before .loop-test .taken) (c .before .before .before .before .is-free .ensures) (c .before .before .link .ensures) (c .before .slot-tells .ensures) (not-false _ (c .before .before .before .if1 .left)) (not-false _ (c .if2 .left))
+loop-again c =
+    let at-link = c .before .before in
+    let at-if1 = at-link .before in
+    let at-is-free = at-if1 .before in
+    let at-loop-test = at-is-free .before in
+    let at-loop = at-loop-test .before in
+    left-more (at-loop .loop .inv) (at-loop-test .loop-test .taken) (at-is-free .is-free .ensures) (at-link .link .ensures) (c .before .slot-tells .ensures)
+    (not-false _ (at-if1 .if1 .left)) (not-false _ (c .if2 .left))
 
 returns-3 : tie.Need-returns-3 Inv-loop μ-loop
 returns-3 c = left-ends (c .before .loop .inv) (c .loop-test .left)

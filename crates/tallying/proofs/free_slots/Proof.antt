@@ -18,13 +18,24 @@ tells-requires : tie.Need-tells-requires
 tells-requires c κs = search needs
 
 returns-2 : tie.Need-returns-2
-returns-2 c = freely-told (c .before .before .before .before .capacity .ensures) (c .before .before .before .if1 .left) (c .before .before .number-at .ensures) (c .before .tells .ensures) (not-true _ (c .if2 .taken))
+returns-2 c =
+    let at-number-at = c .before .before in
+    let at-if1 = at-number-at .before in
+    let at-capacity = at-if1 .before in
+    freely-told (at-capacity .capacity .ensures) (at-if1 .if1 .left) (at-number-at .number-at .ensures) (c .before .tells .ensures)
+    (not-true _ (c .if2 .taken))
 
 chained-requires : tie.Need-chained-requires
 chained-requires c κs = search needs
 
 returns-3 : tie.Need-returns-3
-returns-3 c = freely-chained (c .before .before .before .before .before .capacity .ensures) (c .before .before .before .before .if1 .left) (c .before .before .before .number-at .ensures) (c .before .before .tells .ensures) (not-false _ (c .before .if2 .left)) (c .chained .ensures)
+returns-3 c =
+    let at-tells = c .before .before in
+    let at-number-at = at-tells .before in
+    let at-if1 = at-number-at .before in
+    let at-capacity = at-if1 .before in
+    freely-chained (at-capacity .capacity .ensures) (at-if1 .if1 .left) (at-number-at .number-at .ensures) (at-tells .tells .ensures)
+    (not-false _ (c .before .if2 .left)) (c .chained .ensures)
 
 pub free-slots-spec : {M : Type 1} → statement M
 free-slots-spec =

@@ -15,19 +15,34 @@ add-if2 : tie.Need-add-if2
 add-if2 c = search needs
 
 returns-2 : tie.Need-returns-2
-returns-2 c = trees-not-long (c .before .before .before .before .before .pre .1) (c .before .before .before .fill .ensures) (not-false _ (c .before .if1 .left)) (c .if2 .taken)
+returns-2 c =
+    let at-fill = c .before .before .before in
+    let entry = at-fill .before .before in
+    trees-not-long (entry .pre .1) (at-fill .fill .ensures) (not-false _ (c .before .if1 .left)) (c .if2 .taken)
 
 falling-requires : tie.Need-falling-requires
 falling-requires c κs = search needs
 
 returns-3 : tie.Need-returns-3
-returns-3 c = trees-not-falling (c .before .before .before .before .before .before .before .before .pre .1) (c .before .before .before .before .before .before .fill .ensures) (not-false _ (c .before .before .before .before .if1 .left)) (c .before .falling .ensures) (not-true _ (c .if3 .taken))
+returns-3 c =
+    let at-if1 = c .before .before .before .before in
+    let at-fill = at-if1 .before .before in
+    let entry = at-fill .before .before in
+    trees-not-falling (entry .pre .1) (at-fill .fill .ensures) (not-false _ (at-if1 .if1 .left)) (c .before .falling .ensures) (not-true _ (c .if3 .taken))
 
 all-sought-requires : tie.Need-all-sought-requires
 all-sought-requires c κs = search needs
 
 returns-4 : tie.Need-returns-4
-returns-4 c = trees-rest (c .before .before .before .before .before .before .before .before .before .before .pre .1) (c .before .before .before .before .before .before .before .before .fill .ensures) (not-false _ (c .before .before .before .before .before .before .if1 .left)) (c .before .before .before .falling .ensures) (not-false _ (c .before .before .if3 .left)) (c .before .before .before .before .before .if2 .left) (c .all-sought .ensures)
+returns-4 c =
+    let at-if3 = c .before .before in
+    let at-falling = at-if3 .before in
+    let at-if2 = at-falling .before .before in
+    let at-if1 = at-if2 .before in
+    let at-fill = at-if1 .before .before in
+    let entry = at-fill .before .before in
+    trees-rest (entry .pre .1) (at-fill .fill .ensures) (not-false _ (at-if1 .if1 .left)) (at-falling .falling .ensures) (not-false _ (at-if3 .if3 .left))
+    (at-if2 .if2 .left) (c .all-sought .ensures)
 
 pub number-tree-spec : {M : Type 1} → statement M
 number-tree-spec =

@@ -15,13 +15,19 @@ returns : tie.Need-returns
 returns c = tallies-told (c .before .before .number-at .ensures) (c .before .tells .ensures) (not-true _ (c .if1 .taken))
 
 returns-2 : tie.Need-returns-2
-returns-2 c = tallies-none (c .before .before .before .number-at .ensures) (c .before .before .tells .ensures) (not-false _ (c .before .if1 .left)) (c .if2 .taken)
+returns-2 c =
+    tallies-none (c .before .before .before .number-at .ensures) (c .before .before .tells .ensures) (not-false _ (c .before .if1 .left)) (c .if2 .taken)
 
 number-tree-requires : tie.Need-number-tree-requires
 number-tree-requires c κs = search needs
 
 returns-3 : tie.Need-returns-3
-returns-3 c = tallies-tree (c .before .before .before .before .before .number-at .ensures) (c .before .before .before .before .tells .ensures) (not-false _ (c .before .before .before .if1 .left)) (c .before .before .if2 .left) (c .number-tree .ensures)
+returns-3 c =
+    let at-if2 = c .before .before in
+    let at-if1 = at-if2 .before in
+    let at-tells = at-if1 .before in
+    let at-number-at = at-tells .before in
+    tallies-tree (at-number-at .number-at .ensures) (at-tells .tells .ensures) (not-false _ (at-if1 .if1 .left)) (at-if2 .if2 .left) (c .number-tree .ensures)
 
 pub numbers-spec : {M : Type 1} → statement M
 numbers-spec =

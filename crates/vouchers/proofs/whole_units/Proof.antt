@@ -9,7 +9,7 @@ use mir.Val.{SFits, toZ, ofZ}
 use mir.ValLaws.{toZ-ofZ}
 use Rattle.offers.specs.Offers.{priceInRange}
 use Rattle.vouchers.specs.Rule.{voucherUnits}
-use Rattle.vouchers.specs.Steps.{lowered-fits, raised-fits, units-fit, lowered-is, raised-is}
+use Rattle.vouchers.specs.VoucherSteps.{lowered-fits, raised-fits, units-fit, lowered-is, raised-is}
 use Rattle.vouchers.proofs.whole_units.Statement.{statement}
 use Rattle.vouchers.proofs.whole_units.Tie as tie
 
@@ -35,7 +35,8 @@ div-result c =
 returns : tie.Need-returns
 returns c =
     let s = c .before in
-    ap (λ (z : ℤ). toZ w64 (ofZ w64 z)) (lowered (s .args .price) (s .fits .price) (s .pre) (c .if1 .taken)) ∙ returned (s .args .price) (s .fits .price) (s .pre)
+    ap (λ (z : ℤ). toZ w64 (ofZ w64 z)) (lowered (s .args .price) (s .fits .price) (s .pre) (c .if1 .taken))
+    ∙ returned (s .args .price) (s .fits .price) (s .pre)
 
 add-result : tie.Need-add-result
 add-result c = let p = c .before .args .price in rw (toZ-ofZ w64 p (c .before .fits .price)) (raised-fits p (c .before .pre))

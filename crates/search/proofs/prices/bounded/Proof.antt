@@ -1,6 +1,6 @@
 -- `search::prices::bounded` meets its contract: by its two tests.
 use mir.Facts.{toZ-ofZ}
-use Rattle.search.specs.Prices.{bounded-below, bounded-over, bounded-inside}
+use Rattle.offers.specs.Bounded.{bounded-below, bounded-over, bounded-inside}
 use Rattle.search.proofs.prices.bounded.Statement.{statement}
 use Rattle.search.proofs.prices.bounded.Tie as tie
 

@@ -3,8 +3,8 @@ use mathlib.Core.Path.{_∙_, ap}
 use mir.Facts.{toZ-ofZ}
 use mir.Syntax.{w64}
 use mir.Val.{SFits}
-use Rattle.search.specs.Prices.{bounded}
 use borrow.Author.Needs.{needs}
+use Rattle.offers.specs.Bounded.{bounded}
 use Rattle.search.proofs.prices.denominator.Statement.{statement}
 use Rattle.search.proofs.prices.denominator.Tie as tie
 

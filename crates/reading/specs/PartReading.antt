@@ -9,6 +9,7 @@ use Prim.Native.Nat.{ℕ, suc, _+_, _*_, _-_, _≤_, _<_}
 use native.Mathlib.Omega.{arith}
 use lib.ListN.{length, take, drop, length-map, length-append, drop-of-length-le}
 use lib.IntN.{ℤ, pos}
+use Rattle.lists.specs.Bools.{denied}
 use Rattle.offers.specs.Offers.{Offer, crossingNumerator}
 use Rattle.plain.specs.Book.{State, envelope, pieceWords, noBookAt}
 use Rattle.plain.specs.Causes.{Cause}
@@ -24,13 +25,13 @@ use Rattle.table.specs.Items.{Item}
 use Rattle.table.specs.Threads.{Next, Threaded}
 use Rattle.descents.specs.Ends.{Ended}
 use Rattle.form.specs.Form.{Book, plainOffers}
-use Rattle.query.specs.Pieces.{Pieces}
+use Rattle.query.specs.QueriedPieces.{Pieces}
 use Rattle.query.specs.Plain.{offerOf, pieces-plain}
 use Rattle.query.specs.Listing.{crossingWord}
 use Rattle.query.specs.Counting.{Passed, all-passed, not-all, go-on}
 use Rattle.book.specs.Live.{live-whole, whole-ordered}
 use Rattle.book.specs.Promises.{partOf, noBookTrial}
-use Rattle.book.specs.Parts.{whole-part, denied, no-form, no-book-cause}
+use Rattle.book.specs.LentPart.{whole-part, no-form, no-book-cause}
 use Rattle.book.specs.Opens.{not-clear}
 use Rattle.book.specs.Rooted.{Root, bare, topped, Top, root-of}
 use Rattle.reading.specs.declared.Handed.{Handed}

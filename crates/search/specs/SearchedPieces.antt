@@ -8,9 +8,11 @@ use mathlib.Mathlib.Data.List.Chain.{IsChain·left-of-append, IsChain·right-of-
 use lib.Dec.{T}
 use lib.IntN.{ℤ, pos, negℤ, _+ℤ_, _-ℤ_, _*ℤ_}
 use lib.Signed.{leZ, ltZ}
-use Rattle.integers.specs.Parts.{intRules, and-both, and-right}
+use Rattle.lists.specs.Bools.{and-both, and-right}
+use Rattle.integers.specs.Parts.{intRules, gap-above}
 use Rattle.offers.specs.Offers.{between, rateInRange, baseInRange, offerInRange, crossingNumerator, crossingDenominator}
-use Rattle.offers.specs.Sizes.{rate-of, base-of, base-gap-in-range, rate-gap-in-range, rate-gap-above}
+use Rattle.offers.specs.Sizes.{rate-of, base-of, base-gap-in-range, rate-gap-in-range}
+use Rattle.offers.specs.Bounded.{bounded, bounded-in}
 use Rattle.trees.specs.Tree.{Tree, leaf, node, leaves, first, last}
 use Rattle.trees.specs.Leaves.{first-leaf, last-leaf}
 use Rattle.meeting.specs.Machine.{Side, left, right, away, toward, localAtMost}
@@ -20,7 +22,7 @@ use Rattle.table.specs.Items.{Item, Slots, slots-left, slots-right}
 use Rattle.table.specs.Rep.{childAt, refOf, Tied, tied-leaf, tied-node, Rep}
 use Rattle.table.specs.Threads.{Held, Holds, holds-left, holds-right, Next, Threaded, chain-seam}
 use Rattle.search.specs.ItemLines.{itemFigure, rateOf, baseOf, Falls, scaled, price-test}
-use Rattle.search.specs.Prices.{bounded, bounded-in, rateAt, baseAt, numeratorAt, denominatorAt, priceIn, atMostAt, keptIn, kept-leaf, kept-inner, aboveAt, above-one, above-two}
+use Rattle.search.specs.Prices.{rateAt, baseAt, numeratorAt, denominatorAt, priceIn, atMostAt, keptIn, kept-leaf, kept-inner, aboveAt, above-one, above-two}
 
 -- node x is the root of a tree of pieces
 pub record Pieces (w : Words) (x : ℕ) (t : Tree Item) : Type 0 where
@@ -101,7 +103,7 @@ module _ {w : Words} {a b : Item} (h : Held w a) (k : Held w b) (n : Next w a b)
   gap-ranged : T (between (pos 0) (pos 200_000) (rateOf a -ℤ rateOf b))
   gap-ranged =
       let g : ℤ = rateOf a -ℤ rateOf b in
-      and-both (leZ (pos 0) g) (leZ g (pos 200_000)) (above (rate-gap-above (rateOf a) (rateOf b) f))
+      and-both (leZ (pos 0) g) (leZ g (pos 200_000)) (above (gap-above (rateOf a) (rateOf b) f))
       (and-right (leZ (negℤ (pos 200_000)) g) (leZ g (pos 200_000)) (rate-gap-in-range (rateOf a) (rateOf b) (rate-of (a .offer) (h .ranged)) (rate-of (b .offer) (k .ranged))))
     where
       above : T (ltZ (pos 0) (rateOf a -ℤ rateOf b)) → T (leZ (pos 0) (rateOf a -ℤ rateOf b))

@@ -1,13 +1,13 @@
--- `slots::take_slot` meets its contract.
+-- `table::take_slot` meets its contract.
 use mathlib.Core.Path.{_≡_, _∙_, ap}
 use Prim.Native.Nat.{ℕ}
 use lib.IntN.{pos}
 use Rattle.table.specs.Words.{Words, wset}
 use Rattle.table.specs.Layout.{linkAt}
 use Rattle.table.specs.Free.{firstFree, taken}
 use borrow.Author.Needs.{needs}
-use Rattle.slots.proofs.take_slot.Statement.{statement}
-use Rattle.slots.proofs.take_slot.Tie as tie
+use Rattle.table.proofs.take_slot.Statement.{statement}
+use Rattle.table.proofs.take_slot.Tie as tie
 
 words : (w w′ : Words) (s next : ℕ) → s ≡ firstFree w → next ≡ linkAt w 3 s → w′ ≡ wset w 5 (pos next) → w′ ≡ taken w
 words w w′ s next e d h = h ∙ ap (λ (n : ℕ). wset w 5 (pos n)) (d ∙ ap (linkAt w 3) e)

@@ -9,9 +9,11 @@ use lib.Arith.{le→nltb, lt→nleb}
 use lib.Dec.{T, not-T, leb, le→leb, lt→ltb}
 use lib.IntN.{ℤ}
 use lib.Signed.{ltZ}
+use Rattle.lists.specs.Bools.{cond-yes, cond-no, cond-again}
+use Rattle.integers.specs.Equal.{equal}
+use Rattle.integers.specs.Parts.{equal-eq, equal-is}
 use Rattle.trees.specs.Tree.{Tree, leaf, node, height, last, mirror, Avl, avl-node}
-use Rattle.trees.specs.Operations.{eqZ, towers, doubleRight, doubleLeft, rotateRight, rotateLeft, balance, joinR, joinL, join, split, afterLeft, beforeRight, allFront, allBack, find}
-use Rattle.trees.specs.Tests.{eqZ-same, same-eqZ, cond-yes, cond-no, cond-again}
+use Rattle.trees.specs.Operations.{towers, doubleRight, doubleLeft, rotateRight, rotateLeft, balance, joinR, joinL, join, split, afterLeft, beforeRight, allFront, allBack, find}
 use Rattle.trees.specs.Mirror.{mirror-injective, height-mirror, avl-mirror, mirror-balance, mirror-joinL, mirror-join}
 
 module _ {A : Type 0} where
@@ -109,8 +111,8 @@ module _ {A : Type 0} where
 
     pub find-here : (x : A) → key x ≡ k → find key k (leaf x) ≡ some x
     unfolding find
-    find-here x e = cond-yes (eqZ (key x) k) _ _ (same-eqZ (key x) k e)
+    find-here x e = cond-yes (equal (key x) k) _ _ (equal-is (key x) k e)
 
     pub find-miss : (x : A) → key x ≢ k → find key k (leaf x) ≡ none
     unfolding find
-    find-miss x n = cond-no (eqZ (key x) k) _ _ (not-T (eqZ (key x) k) (λ t. n (eqZ-same (key x) k t)))
+    find-miss x n = cond-no (equal (key x) k) _ _ (not-T (equal (key x) k) (λ t. n (equal-eq (key x) k t)))

@@ -17,7 +17,7 @@ use Rattle.table.specs.Rep.{refOf}
 use Rattle.search.specs.declared.Search.{Search}
 use Rattle.search.specs.ItemLines.{itemFigure}
 use Rattle.search.specs.Prices.{aboveAt}
-use Rattle.search.specs.Pieces.{Pieces, sideOf, leaf-low, inner-high}
+use Rattle.search.specs.SearchedPieces.{Pieces, sideOf, leaf-low, inner-high}
 use Rattle.search.specs.Walks.{Walk, Stacks, pushed, Stood, Fares, topRef, pointSlot, node-above, half-above}
 use Rattle.search.specs.Moves.{Topped, Pointed, Retreated, Advanced, Popped, top-pieces}
 use Rattle.search.specs.Actions.{Stays}

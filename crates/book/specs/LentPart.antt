@@ -1,5 +1,5 @@
 -- A call's part of the table: lent from `start` on, and what it comes back as.
-use mathlib.Core.Path.{_≡_, refl, sym, _∙_, ap, subst}
+use mathlib.Core.Path.{_≡_, refl, sym, _∙_, ap}
 use mathlib.Core.Bool.{Bool, true, false, not, _||_}
 use mathlib.Core.List.{List, [], _∷_, _++_}
 use mathlib.Core.Option.{Option}
@@ -11,8 +11,7 @@ use lib.Dec.{T, T-not, ltb, lt→ltb, nltb→le}
 use lib.IntN.{ℤ, pos, negsuc, natAbs}
 use lib.Signed.{leZ}
 use borrow.Author.Tests.{le-leb}
-use Rattle.lists.specs.Filter.{one-of-both, other-of-both}
-use Rattle.lists.specs.Tests.{not-not}
+use Rattle.lists.specs.Bools.{and-left, and-right, not-not, is-true, neither, is-false, or-left, denied, said}
 use Rattle.integers.specs.Parts.{intRules}
 use Rattle.offers.specs.Offers.{between}
 use Rattle.plain.specs.Causes.{Cause, causeNumber}
@@ -26,39 +25,6 @@ use Rattle.form.specs.Form.{Book}
 use Rattle.book.specs.Promises.{partOf, noBookTrial, OnlyPart}
 use Rattle.book.specs.Plainly.{cap-book, book-there}
 
--- ---- truths as values
-
-pub yes-is : (b : Bool) → T b → true ≡ b
-yes-is true t = refl
-yes-is false t = absurd t
-
-pub no-is : (b : Bool) → T (not b) → false ≡ b
-no-is true t = absurd t
-no-is false t = refl
-
-pub said : {b b′ : Bool} → b ≡ b′ → b ≡ true → T b′
-said {b} {b′} e t = subst T (sym t ∙ e) tt
-
-pub denied : {b b′ : Bool} → b ≡ b′ → b ≡ false → T (not b′)
-denied {b} {b′} e t = subst (λ (x : Bool). T (not x)) (sym t ∙ e) tt
-
--- neither of two
-neither : (a b : Bool) → T (not (a || b)) → T (not a) × T (not b)
-neither true b t = absurd t
-neither false b t = (tt, t)
-
-pub not-either : (a b : Bool) → T (not a) → T (not b) → T (not (a || b))
-not-either true b s t = absurd s
-not-either false b s t = t
-
-pub either-first : (a b : Bool) → T a → T (a || b)
-either-first true b t = tt
-either-first false b t = absurd t
-
-pub either-second : (a b : Bool) → T b → T (a || b)
-either-second true b t = tt
-either-second false b t = t
-
 -- ---- whether there is a book
 
 module _ (t : List ℤ) (start : ℕ) where
@@ -68,24 +34,24 @@ module _ (t : List ℤ) (start : ℕ) where
 
   pub beyond-none : length t < start → true ≡ noBookAt (length t) start (word (partOf t start) 0)
   beyond-none h =
-      yes-is (noBookAt (length t) start z)
-      (either-first (ltb (length t) start || ltb (length t - start) 128 || not (between (pos 1) (pos 4_096) z)) (ltb (length t - start) (partLength (natAbs z)))
-      (either-first (ltb (length t) start || ltb (length t - start) 128) (not (between (pos 1) (pos 4_096) z))
-      (either-first (ltb (length t) start) (ltb (length t - start) 128) (lt→ltb (length t) start h))))
+      sym (is-true (noBookAt (length t) start z)
+      (or-left (ltb (length t) start || ltb (length t - start) 128 || not (between (pos 1) (pos 4_096) z)) (ltb (length t - start) (partLength (natAbs z)))
+      (or-left (ltb (length t) start || ltb (length t - start) 128) (not (between (pos 1) (pos 4_096) z))
+      (or-left (ltb (length t) start) (ltb (length t - start) 128) (lt→ltb (length t) start h)))))
     where
       z : ℤ
       z = word (partOf t start) 0
 
   pub cap-some : {n : ℕ} → n ≡ cap (take (length t - start) (drop start t)) → 1 ≤ n → false ≡ noBookAt (length t) start (word (partOf t start) 0)
-  cap-some e h = no-is (noBookAt (length t) start (word (partOf t start) 0)) (cap-book start t (ap cap (sym whole-part) ∙ sym e) h)
+  cap-some e h = sym (is-false (noBookAt (length t) start (word (partOf t start) 0)) (cap-book start t (ap cap (sym whole-part) ∙ sym e) h))
 
 -- a word in range, as a number
 pub told-is : (z : ℤ) → T (between (pos 1) (pos 4_096) z) → (upTo 4096 z ≡ natAbs z) × (1 ≤ natAbs z) × (natAbs z ≤ 4096)
 told-is (pos n) t =
-    let low = one-of-both (leZ (pos 1) (pos n)) (leZ (pos n) (pos 4_096)) t in
-    let high = other-of-both (leZ (pos 1) (pos n)) (leZ (pos n) (pos 4_096)) t in
+    let low = and-left (leZ (pos 1) (pos n)) (leZ (pos n) (pos 4_096)) t in
+    let high = and-right (leZ (pos 1) (pos n)) (leZ (pos n) (pos 4_096)) t in
     (upTo-in 4096 n (omega (arith, intRules, high)), omega (arith, intRules, low), omega (arith, intRules, high))
-told-is (negsuc n) t = absurd (one-of-both (leZ (pos 1) (negsuc n)) (leZ (negsuc n) (pos 4_096)) t)
+told-is (negsuc n) t = absurd (and-left (leZ (pos 1) (negsuc n)) (leZ (negsuc n) (pos 4_096)) t)
 
 -- where there is a book, its part begins within the table
 pub book-start : (t : List ℤ) (start : ℕ) {b : Bool} → b ≡ noBookAt (length t) start (word (partOf t start) 0) → b ≡ false → start ≤ length t

@@ -6,8 +6,10 @@ use Prim.Native.Nat.{ℕ, _-_, _≤_, _<_}
 use native.Mathlib.Omega.{arith}
 use lib.Dec.{T}
 use lib.IntN.{ℤ}
+use Rattle.lists.specs.Bools.{is-true}
 use Rattle.offers.specs.Offers.{loadInRange, rateInRange, priceAt, crossingDenominator}
 use Rattle.offers.specs.Sizes.{rate-of, base-of, denominatorInRange, rate-gap-in-range}
+use Rattle.offers.specs.Bounded.{bounded-in}
 use Rattle.trees.specs.Tree.{Tree, leaf, node, leaves, first, last}
 use Rattle.trees.specs.Leaves.{first-leaf, last-leaf}
 use Rattle.table.specs.Words.{Words}
@@ -16,7 +18,7 @@ use Rattle.table.specs.Items.{Item, slots-left, slots-right}
 use Rattle.table.specs.Rep.{childField, refOf, Tied, tied-node, Rep}
 use Rattle.table.specs.Threads.{Held, Holds, holds-left, holds-right, Threaded, threaded-left, threaded-right, chain-seam}
 use Rattle.query.specs.Lookup.{atOrLeft}
-use Rattle.query.specs.Readings.{true-is, bounded-in, rightOf, childToward, towardAt, priceIn}
+use Rattle.query.specs.Readings.{rightOf, childToward, towardAt, priceIn}
 
 pub record Pieces (w : Words) (x : ℕ) (t : Tree Item) : Type 0 where
   pub rep : Rep w 0 x t
@@ -47,7 +49,7 @@ seam-toward : {w : Words} {x : ℕ} {l r : Tree Item} (q : ℤ) → Pieces w x (
 unfolding childToward rightOf
 seam-toward {w} {x} {l} {r} q p h =
     let n = chain-seam l r (p .thread) in
-    rw (n .numerator, n .denominator, true-is (denominatorInRange d) near, bounded-in _ _ q h, bounded-in _ _ d near)
+    rw (n .numerator, n .denominator, is-true (denominatorInRange d) near, bounded-in _ _ q h, bounded-in _ _ d near)
   where
     d : ℤ
     d = crossingDenominator (last l .offer) (first r .offer)

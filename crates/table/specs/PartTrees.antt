@@ -13,19 +13,19 @@ use Rattle.table.specs.Items.{Item, In, Slots, slots-most}
 use Rattle.table.specs.Rep.{refOf, Tied, tied-still, Rep, Within, within-cap, Only, inner-in}
 use Rattle.table.specs.Nodes.{Made}
 
-abbrev pub refOfP : Part Item → ℕ
-refOfP none = 0
-refOfP (some t) = refOf t
+abbrev pub partRef : Part Item → ℕ
+partRef none = 0
+partRef (some t) = refOf t
 
-abbrev pub TiedP : Words → ℕ → Part Item → Type 0
-TiedP w k none = Unit {0}
-TiedP w k (some t) = Tied w k t
+abbrev pub TiedPart : Words → ℕ → Part Item → Type 0
+TiedPart w k none = Unit {0}
+TiedPart w k (some t) = Tied w k t
 
 pub record RepP (w : Words) (k x : ℕ) (p : Part Item) : Type 0 where
   pub kind : k ≤ 2
-  pub root : x ≡ refOfP p
+  pub root : x ≡ partRef p
   pub slots : Slots (cap w) (partLeaves p)
-  pub tied : TiedP w k p
+  pub tied : TiedPart w k p
 
 -- x is the root of p, and nothing but nodes of p was written
 pub record MadeP (k : ℕ) (w w′ : Words) (x : ℕ) (p : Part Item) : Type 0 where
@@ -38,7 +38,7 @@ made-some m = record { rep = record { kind = m .rep .kind; root = m .rep .root; 
 pub rep-some : {w : Words} {k x : ℕ} {t : Tree Item} → RepP w k x (some t) → Rep w k x t
 rep-some r = record { kind = r .kind; root = r .root; slots = r .slots; tied = r .tied }
 
-pub tiedP-still : {k : ℕ} {xs : List Item} {w w′ : Words} (p : Part Item) → TiedP w k p → Only k xs w w′ → ((s : ℕ) → In s xs → In s (partLeaves p) → ⊥) → TiedP w′ k p
+pub tiedP-still : {k : ℕ} {xs : List Item} {w w′ : Words} (p : Part Item) → TiedPart w k p → Only k xs w w′ → ((s : ℕ) → In s xs → In s (partLeaves p) → ⊥) → TiedPart w′ k p
 tiedP-still none t g d = tt
 tiedP-still (some u) t g d = tied-still t g (λ s i j. d s j (inner-in i))
 
@@ -54,11 +54,11 @@ low w {t} s a = height-full a (omega (arith, slots-most (cap w) (leaves t) s, ca
 
 pub record PairP (w : Words) (k l r : ℕ) (pl pr : Part Item) : Type 0 where
   pub kind : k ≤ 2
-  pub left : l ≡ refOfP pl
-  pub right : r ≡ refOfP pr
+  pub left : l ≡ partRef pl
+  pub right : r ≡ partRef pr
   pub slots : Slots (cap w) (partLeaves pl ++ partLeaves pr)
-  pub tied-left : TiedP w k pl
-  pub tied-right : TiedP w k pr
+  pub tied-left : TiedPart w k pl
+  pub tied-right : TiedPart w k pr
 
 -- the slot of the seam, where there is one
 abbrev pub Seam : ℕ → Part Item → Part Item → Type 0

@@ -7,6 +7,7 @@ use native.Mathlib.Decide.{decLt}
 use native.Mathlib.Omega.{arith}
 use lib.Dec.{T}
 use lib.ListN.{getD}
+use Rattle.lists.specs.Bools.{is-true, passed}
 
 -- the answer is yes exactly where P holds
 pub record Decides (b : Bool) (P : Type 0) : Type 0 where
@@ -23,18 +24,11 @@ decides-no f = record { sound = λ e. absurd (true≢false (sym e)); complete = 
 pub decides-as : {b : Bool} {P Q : Type 0} → (P → Q) → (Q → P) → Decides b P → Decides b Q
 decides-as f g d = record { sound = λ e. f (d .sound e); complete = λ q. d .complete (g q) }
 
-pub is-true : (b : Bool) → b ≡ true → T b
-is-true true e = tt
-is-true false e = absurd (true≢false (sym e))
-
-pub true-is : (b : Bool) → T b → b ≡ true
-true-is true t = refl
-
 pub decides-test : (b : Bool) → Decides b (T b)
-decides-test b = record { sound = is-true b; complete = true-is b }
+decides-test b = record { sound = passed; complete = is-true b }
 
 pub decides-by : {a b : Bool} → a ≡ b → Decides a (T b)
-decides-by {a} {b} e = record { sound = λ q. is-true b (sym e ∙ q); complete = λ t. e ∙ true-is b t }
+decides-by {a} {b} e = record { sound = λ q. passed (sym e ∙ q); complete = λ t. e ∙ is-true b t }
 
 -- ---- every place
 

@@ -1,8 +1,8 @@
--- `numbers::find_rate` meets its contract, which is that of the search.
+-- `book::find_rate` meets its contract, which is that of the search.
 use borrow.Author.Needs.{needs}
 use mir.Facts.{toZ-ofZ}
-use Rattle.numbers.proofs.find_rate.Statement.{statement}
-use Rattle.numbers.proofs.find_rate.Tie as tie
+use Rattle.book.proofs.find_rate.Statement.{statement}
+use Rattle.book.proofs.find_rate.Tie as tie
 
 find-requires : tie.Need-find-requires
 find-requires c κs = search needs

@@ -1,10 +1,11 @@
 -- The search's comparison of two places is the comparison of their ranks that the five facts speak of.
 use Prim.Native.Nat.{ℕ, zero, suc}
 use mathlib.Core.Path.{_≡_, refl, sym, _∙_, ap, subst}
-use mathlib.Core.Bool.{Bool, true, false, _||_}
+use mathlib.Core.Bool.{Bool, _||_}
 use mathlib.Core.Logic.{_↔_, Iff·trans, _⊎_, inl, inr, ⊎-elim, ⊎-swap}
 use mathlib.Core.Option.{some}
 use lib.Dec.{T}
+use Rattle.lists.specs.Bools.{or-cases, or-right, or-left}
 use Rattle.envelopes.specs.PseudoLines.{Figure, mirror}
 use Rattle.envelopes.specs.Bridge.{Kind, inner, Local, OnOrAbove}
 use Rattle.trees.specs.Tree.{Tree, node, first, last}
@@ -12,8 +13,7 @@ use Rattle.meeting.specs.Machine.{Side, left, right, away, toward, neare
 use Rattle.meeting.specs.Located.{Spans, one, two, edgeOf, kind, rank, farthest-at, nearest-at, Located}
 
 either : (b c : Bool) → T (b || c) ↔ (T b ⊎ T c)
-either true c = ((λ w. inl tt), λ w. tt)
-either false c = ((λ w. inr w), λ w. ⊎-elim (λ z. absurd z) (λ z. z) w)
+either b c = (or-cases b c, ⊎-elim (or-left b c) (or-right b c))
 
 module _ (S : Figure) where
   -- the point with i lines on its outer side is on or above one of the lines

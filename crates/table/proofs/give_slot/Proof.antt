@@ -1,13 +1,13 @@
--- `slots::give_slot` meets its contract.
+-- `table::give_slot` meets its contract.
 use mathlib.Core.Path.{_≡_, _∙_, ap}
 use Prim.Native.Nat.{ℕ}
 use lib.IntN.{pos}
 use Rattle.table.specs.Words.{Words, wset}
 use Rattle.table.specs.Layout.{cset}
 use Rattle.table.specs.Free.{firstFree, given}
 use borrow.Author.Needs.{needs}
-use Rattle.slots.proofs.give_slot.Statement.{statement}
-use Rattle.slots.proofs.give_slot.Tie as tie
+use Rattle.table.proofs.give_slot.Statement.{statement}
+use Rattle.table.proofs.give_slot.Tie as tie
 
 words : (w w₁ w₂ w₃ : Words) (s next : ℕ) → next ≡ firstFree w → w₁ ≡ cset w 0 s (pos 0) → w₂ ≡ cset w₁ 3 s (pos next) → w₃ ≡ wset w₂ 5 (pos s) → w₃ ≡ given w s
 words w w₁ w₂ w₃ s next e a b c =
