@@ -19,7 +19,7 @@ use Rattle.table.specs.PartTrees.{TiedPart}
 use Rattle.pieces.specs.Pieces.{of-node, of-numerator, of-denominator, of-next}
 use Rattle.form.specs.Stored.{HeldIn, EnvelopeField, of-pieces, of-offers, of-bridge-u, of-bridge-v, of-inner-rest, of-leaf-rest, Touched}
 use Rattle.form.specs.Frames.{OfferField, of-rest, Same, same-inside, tied-same, part-same, holds-same, stored-same, whole-inside, stored-inside}
-use Rattle.form.specs.Form.{OffersIn, TiedPart, FreeChain, free-none, free-more}
+use Rattle.form.specs.Form.{OffersIn, FreeChain, free-none, free-more}
 use Rattle.numbers.specs.Numbers.{NumbersAt}
 use Rattle.book.specs.Plainly.{cap-there}
 

@@ -15,7 +15,7 @@ use Rattle.table.specs.Layout.{cap, cap-of, cell, place-high, Valid, valid?, sp
 use Rattle.table.specs.Items.{Item, Slots}
 use Rattle.form.specs.Stored.{HeldIn}
 use Rattle.form.specs.Frames.{Same, tied-same, part-same, holds-same, stored-same}
-use Rattle.form.specs.Form.{Book, OffersIn, OffersStand, Numbered, Freely, TiedPart, FreeChain, free-none, free-more}
+use Rattle.form.specs.Form.{Book, OffersIn, OffersStand, Numbered, Freely, FreeChain, free-none, free-more}
 use Rattle.table.specs.PartTrees.{TiedPart}
 
 -- the same words in a part of capacity c

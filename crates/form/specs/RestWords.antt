@@ -17,7 +17,7 @@ use Rattle.table.specs.Layout.{cap, cap-most, cell, linkAt}
 use Rattle.table.specs.Items.{Item, Slots}
 use Rattle.table.specs.Rep.{refOf}
 use Rattle.table.specs.Nodes.{ref-high}
-use Rattle.pieces.specs.Pieces.{partRef}
+use Rattle.table.specs.PartTrees.{partRef}
 use Rattle.form.specs.Stored.{nodeSlot, restField, RestIn}
 
 -- the word that tells what stays with node n, and the root that is read off it

@@ -4,7 +4,7 @@ ghost use Prim.Native.Nat.{_≤_};
 ghost use lib.ListN.{length};
 ghost use lib.IntN.{pos};
 ghost use Rattle.form.specs.RestWords.{restWord};
-ghost use Rattle.matching.specs.Tests.{Decides};
+ghost use Rattle.matching.specs.Deciding.{Decides};
 ghost use Rattle.merging.specs.PieceTrees.{Matches};
 ghost use Rattle.merging.specs.Rests.{Stays};
 ghost use Rattle.merging.specs.Merges.{Two, Refuses, Merges};

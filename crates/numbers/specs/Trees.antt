@@ -25,7 +25,7 @@ use Rattle.table.specs.PartTrees.{RepP, rep-some, MadeP, PairP, Seam, low}
 use Rattle.table.specs.Threads.{Holds, holds-still, only-offer}
 use Rattle.shape.specs.Merge.{Merged}
 use Rattle.descents.specs.Ends.{Ended}
-use Rattle.form.specs.Form.{NumbersIn, TiedPart, numberOf}
+use Rattle.form.specs.Form.{NumbersIn, numberOf}
 use Rattle.numbers.specs.Numbers.{NumbersAt}
 
 -- ---- lists of items

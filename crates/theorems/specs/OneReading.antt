@@ -20,8 +20,8 @@ use Rattle.table.specs.Words.{Words, word}
 use Rattle.table.specs.Layout.{cap-most, cell, linkAt}
 use Rattle.table.specs.Items.{Item}
 use Rattle.table.specs.Rep.{childField, refOf, Tied, tied-node}
-use Rattle.table.specs.Parts.{TiedP}
-use Rattle.pieces.specs.Pieces.{items, item-laws, partRef, PartIn}
+use Rattle.table.specs.PartTrees.{partRef, TiedPart}
+use Rattle.pieces.specs.Pieces.{items, item-laws, PartIn}
 use Rattle.form.specs.Stored.{nodeSlot, restField, Stored, stored-fork, HeldIn}
 use Rattle.form.specs.Form.{offersRef, envelopeRef, OffersIn, plainOffers, Book}
 use Rattle.book.specs.Promises.{Passes}
@@ -34,7 +34,7 @@ number-of {m} {n} p q e = same (sym p ∙ e ∙ q)
     same d = cc
 
 module _ (w : Words) where
-  pieces-tied : (q : Part Item) → PartIn w q → TiedP w 0 q
+  pieces-tied : (q : Part Item) → PartIn w q → TiedPart w 0 q
   pieces-tied none p = tt
   pieces-tied (some t) p = p .0
 

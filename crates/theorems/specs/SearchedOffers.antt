@@ -9,7 +9,7 @@ use lib.Dec.{T-prop}
 use lib.IntN.{ℤ}
 use Rattle.offers.specs.Offers.{Offer, RationalLoad, precedes}
 use Rattle.envelopes.specs.Envelope.{Env, Ordered}
-use Rattle.envelopes.specs.EnvelopeLaws.{ordered-left, ordered-right, ordered-sublist}
+use Rattle.envelopes.specs.EnvelopeLaws.{ordered-left, ordered-pairs, ordered-right, ordered-sublist}
 use Rattle.plain.specs.Book.{State, Call}
 use Rattle.plain.specs.Meaning.{CheaperThanAll}
 use Rattle.plain.specs.ListingLaws.{listing-exact}
@@ -22,7 +22,7 @@ use Rattle.pieces.specs.Pieces.{items}
 use Rattle.query.specs.Plain.{offerOf, pieces-plain}
 use Rattle.book.specs.declared.Update.{Update}
 use Rattle.book.specs.Promises.{partOf, Follows}
-use Rattle.book.specs.Live.{live-whole, whole-ordered, ordered-pairs}
+use Rattle.book.specs.Live.{live-whole, whole-ordered}
 
 -- ---- the statement
 

@@ -12,7 +12,7 @@ use Rattle.table.specs.Words.{Words}
 use Rattle.table.specs.Layout.{cap, cap-most, cell, linkAt}
 use Rattle.table.specs.Items.{Item, Slots}
 use Rattle.table.specs.Rep.{childField, refOf, Tied, tied-node}
-use Rattle.table.specs.Parts.{refOfP, TiedP}
+use Rattle.table.specs.PartTrees.{partRef, TiedPart}
 use Rattle.table.specs.Threads.{Held, Holds}
 
 -- an item whose slot is one of the part's and holds its offer
@@ -65,7 +65,7 @@ some-root (node l r) h e = omega (arith, e)
 
 -- also one that may be empty
 pub same-part :
-    {w : Words} (k : ℕ) (p p′ : Part Item) → AllLie w (partLeaves p) → AllLie w (partLeaves p′) → TiedP w k p → TiedP w k p′ → refOfP p ≡ refOfP p′ →
+    {w : Words} (k : ℕ) (p p′ : Part Item) → AllLie w (partLeaves p) → AllLie w (partLeaves p′) → TiedPart w k p → TiedPart w k p′ → partRef p ≡ partRef p′ →
     p ≡ p′
 same-part k none none h h′ q q′ e = refl
 same-part k none (some t) h h′ q q′ e = absurd (some-root t h′ (sym e))
