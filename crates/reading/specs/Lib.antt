@@ -1,4 +1,3 @@
 -- A reading of a book's pieces.
 pub mod Promises
 pub mod PartReading
-pub mod ReadingSteps

@@ -1,11 +1,11 @@
--- `reading::nth_place` meets its contract. The loop's invariant: i places were passed.
+-- `stepping::nth_place` meets its contract. The loop's invariant: i places were passed.
 use Prim.Native.Nat.{_-_}
 use native.Mathlib.Omega.{arith}
 use Rattle.book.specs.Promises.{partOf}
 use Rattle.reading.specs.PartReading.{Nearing, nearing-begins, nearing-on, nearing-past, nearing-ends}
 use borrow.Author.Needs.{needs}
-use Rattle.reading.proofs.nth_place.Statement.{statement}
-use Rattle.reading.proofs.nth_place.Tie as tie
+use Rattle.stepping.proofs.nth_place.Statement.{statement}
+use Rattle.stepping.proofs.nth_place.Tie as tie
 
 abbrev Inv-loop : tie.InvT-loop
 Inv-loop table start n place₀ i₀ place i = Nearing (partOf table start) n place i

@@ -13,9 +13,9 @@ use Rattle.dynamic.specs.OfferTree.{Held}
 use Rattle.table.specs.Items.{Item}
 use Rattle.form.specs.Form.{Book, plainOffers}
 use Rattle.book.specs.Promises.{partOf, noBookTrial}
-use Rattle.reading.specs.declared.Reading.{Reading}
+use Rattle.stepping.specs.declared.Reading.{Reading}
 use Rattle.reading.specs.declared.Handed.{Handed}
 use Rattle.reading.specs.Promises.{told, refusal, listedAt, Before, Nowhere, Starts, Moves, Hands}
 
 -- a reading of that table and `start`, before the first piece
 pub record Begins (table : RefT (List ℤ)) (start : ℕ) (r : Reading) : Type 0 where

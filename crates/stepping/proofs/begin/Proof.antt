@@ -1,4 +1,4 @@
--- `reading::begin` meets its contract: a walk of its MIR, by hand. `first_place` is called on the slice and the number, and the struct is made of both and what it returns.
+-- `stepping::begin` meets its contract: a walk of its MIR, by hand. `first_place` is called on the slice and the number, and the struct is made of both and what it returns.
 -- A `&[i64]` is Copy, so what it owns is had as often as it is asked for: by the callee, for table at exit, and inside the result.
 use mathlib.Core.Path.{refl, ap}
 use Prim.Native.Nat.{ℕ, _<_, _^_}
@@ -38,18 +38,18 @@ use denote.Triple.Table.{entered, cited}
 use denote.Triple.Walked.{says, Stays, stay-none, stay-none-slice, walkOf, goes-none, goes-none-slice, Walks, ends-at, walked, walk-meets}
 use denote.Exit.{yes}
 use denote.Triple.Clauses.{ensured, lasts}
 use Rattle.reading.specs.Promises.{Starts}
-use Rattle.reading.specs.declared.Reading.{Reading}
-use Rattle.reading.proofs.Reading as T
-use Rattle.reading.proofs.Reading.Laws as T′
+use Rattle.stepping.specs.declared.Reading.{Reading}
+use Rattle.stepping.proofs.Reading as T
+use Rattle.stepping.proofs.Reading.Laws as T′
 use Rattle.reading.proofs.first_place as at
 use Rattle.reading.proofs.first_place.Symbol as at-def
 use Rattle.reading.proofs.first_place.Symbol.{name as #reading·first-place}
 use Rattle.reading.proofs.first_place.Met as at-thm
-use Rattle.reading.proofs.begin.Key.{name as #reading·begin}
-use Rattle.reading.proofs.begin as begin
-use Rattle.reading.proofs.begin.Statement as stated
-use Rattle.reading.proofs.begin.Code as code
+use Rattle.stepping.proofs.begin.Key.{name as #stepping·begin}
+use Rattle.stepping.proofs.begin as begin
+use Rattle.stepping.proofs.begin.Statement as stated
+use Rattle.stepping.proofs.begin.Code as code
 
 abbrev stayed : Stays (begin.ended .signature .params) (begin.ended .kept)
 stayed = (stay-none-slice (0 ∷ []) tt (plain (λ _. i64)) yes, (stay-none (λ _. usize) yes, tt))
@@ -142,6 +142,6 @@ pub begin-spec : {M : Type 1} → stated.statement M
 unfolding code.routine tablesOf
 begin-spec 𝓤 H 𝓜 𝓖 𝓡 =
     entered 𝓤 H (tripleOf 𝓤 H (𝓖 .A) begin.signature (begin.spec 𝓤 H (𝓖 .A) (𝓜 .mem) (𝓡 .run)))
-    (tables 𝓤 H 𝓜 𝓡 code.env .C) (tables 𝓤 H 𝓜 𝓡 code.env .Λ) #reading·begin code.function (code.unfolded 𝓤 H 𝓜 𝓡)
+    (tables 𝓤 H 𝓜 𝓡 code.env .C) (tables 𝓤 H 𝓜 𝓡 code.env .Λ) #stepping·begin code.function (code.unfolded 𝓤 H 𝓜 𝓡)
     (begin-meets 𝓤 H (𝓖 .A) (givenOf 𝓤 H 𝓜 𝓖) (𝓜 .mem) (𝓡 .run) (tablesOf 𝓤 H 𝓜 (tables 𝓤 H 𝓜 𝓡 code.env))
     (cited 𝓤 H (FirstPlace 𝓤 H (𝓖 .A) (𝓜 .mem) (𝓡 .run)) 𝓜 𝓡 code.env #reading·first-place at-def.routine code.calls-reading·first-place (at-thm.met 𝓤 H 𝓜 𝓖 𝓡)))

@@ -1,4 +1,4 @@
--- `reading::advance` meets its contract: a walk of its MIR, by hand. The struct is taken apart, `place_after` is called on the slice and the two numbers, and a struct is made of the same slice and start and the new place.
+-- `stepping::advance` meets its contract: a walk of its MIR, by hand. The struct is taken apart, `place_after` is called on the slice and the two numbers, and a struct is made of the same slice and start and the new place.
 -- The struct is Copy: what it owns is had twice, one copy is kept whole, and of the other what table owns goes to the callee. At exit the copy kept is had twice again: once for the parameter, and once, with the new place's facts in the old one's, for the result.
 use mathlib.Core.Path.{_≡_, refl, ap}
 use Prim.Native.Nat.{ℕ, _<_, _^_}
@@ -42,18 +42,18 @@ use denote.Triple.Table.{entered, cited}
 use denote.Triple.Walked.{says, Stays, stay-none, walkOf, goes-none, Walks, ends-at, walked, walk-meets}
 use denote.Exit.{yes}
 use denote.Triple.Clauses.{ensured, lasts}
 use Rattle.reading.specs.Promises.{Moves}
-use Rattle.reading.specs.declared.Reading.{Reading}
-use Rattle.reading.proofs.Reading as T
-use Rattle.reading.proofs.Reading.Laws as T′
+use Rattle.stepping.specs.declared.Reading.{Reading}
+use Rattle.stepping.proofs.Reading as T
+use Rattle.stepping.proofs.Reading.Laws as T′
 use Rattle.reading.proofs.place_after as at
 use Rattle.reading.proofs.place_after.Symbol as at-def
 use Rattle.reading.proofs.place_after.Symbol.{name as #reading·place-after}
 use Rattle.reading.proofs.place_after.Met as at-thm
-use Rattle.reading.proofs.advance.Key.{name as #reading·advance}
-use Rattle.reading.proofs.advance as advance
-use Rattle.reading.proofs.advance.Statement as stated
-use Rattle.reading.proofs.advance.Code as code
+use Rattle.stepping.proofs.advance.Key.{name as #stepping·advance}
+use Rattle.stepping.proofs.advance as advance
+use Rattle.stepping.proofs.advance.Statement as stated
+use Rattle.stepping.proofs.advance.Code as code
 
 -- the struct's type, over the signature's lifetimes
 abbrev B : Lfts 1 → RattleType
@@ -169,6 +169,6 @@ pub advance-spec : {M : Type 1} → stated.statement M
 unfolding code.routine tablesOf
 advance-spec 𝓤 H 𝓜 𝓖 𝓡 =
     entered 𝓤 H (tripleOf 𝓤 H (𝓖 .A) advance.signature (advance.spec 𝓤 H (𝓖 .A) (𝓜 .mem) (𝓡 .run)))
-    (tables 𝓤 H 𝓜 𝓡 code.env .C) (tables 𝓤 H 𝓜 𝓡 code.env .Λ) #reading·advance code.function (code.unfolded 𝓤 H 𝓜 𝓡)
+    (tables 𝓤 H 𝓜 𝓡 code.env .C) (tables 𝓤 H 𝓜 𝓡 code.env .Λ) #stepping·advance code.function (code.unfolded 𝓤 H 𝓜 𝓡)
     (advance-meets 𝓤 H (𝓖 .A) (givenOf 𝓤 H 𝓜 𝓖) (𝓜 .mem) (𝓡 .run) (tablesOf 𝓤 H 𝓜 (tables 𝓤 H 𝓜 𝓡 code.env))
     (cited 𝓤 H (PlaceAfter 𝓤 H (𝓖 .A) (𝓜 .mem) (𝓡 .run)) 𝓜 𝓡 code.env #reading·place-after at-def.routine code.calls-reading·place-after (at-thm.met 𝓤 H 𝓜 𝓖 𝓡)))

@@ -1,4 +1,4 @@
--- `reading::piece` meets its contract: a walk of its MIR, by hand. The struct is taken apart, and `piece_at` is called on the slice and the two numbers.
+-- `stepping::piece` meets its contract: a walk of its MIR, by hand. The struct is taken apart, and `piece_at` is called on the slice and the two numbers.
 -- The struct is Copy: what it owns is had twice, one copy is kept whole for the exit, and of the other what table owns goes to the callee, beside the lifetime's token, which comes back.
 use mathlib.Core.Path.{_≡_, refl}
 use Prim.Native.Nat.{_<_, _^_}
@@ -42,21 +42,21 @@ use denote.Triple.Table.{entered, cited}
 use denote.Triple.Walked.{says, Stays, stay-none, walkOf, goes-none, Walks, ends-at, walked, walk-meets}
 use denote.Exit.{yes}
 use denote.Triple.Clauses.{ensured, lasts}
 use Rattle.reading.specs.Promises.{Hands}
-use Rattle.reading.specs.declared.Reading.{Reading}
+use Rattle.stepping.specs.declared.Reading.{Reading}
 use Rattle.reading.specs.declared.Handed.{Handed}
-use Rattle.reading.proofs.Reading as T
-use Rattle.reading.proofs.Reading.Laws as T′
+use Rattle.stepping.proofs.Reading as T
+use Rattle.stepping.proofs.Reading.Laws as T′
 use Rattle.reading.proofs.Handed as S
 use Rattle.reading.proofs.Handed.Laws as S′
 use Rattle.reading.proofs.piece_at as at
 use Rattle.reading.proofs.piece_at.Symbol as at-def
 use Rattle.reading.proofs.piece_at.Symbol.{name as #reading·piece-at}
 use Rattle.reading.proofs.piece_at.Met as at-thm
-use Rattle.reading.proofs.piece.Key.{name as #reading·piece}
-use Rattle.reading.proofs.piece as piece
-use Rattle.reading.proofs.piece.Statement as stated
-use Rattle.reading.proofs.piece.Code as code
+use Rattle.stepping.proofs.piece.Key.{name as #stepping·piece}
+use Rattle.stepping.proofs.piece as piece
+use Rattle.stepping.proofs.piece.Statement as stated
+use Rattle.stepping.proofs.piece.Code as code
 
 -- the struct's type, over the signature's lifetimes
 abbrev B : Lfts 1 → RattleType
@@ -161,6 +161,6 @@ pub piece-spec : {M : Type 1} → stated.statement M
 unfolding code.routine tablesOf
 piece-spec 𝓤 H 𝓜 𝓖 𝓡 =
     entered 𝓤 H (tripleOf 𝓤 H (𝓖 .A) piece.signature (piece.spec 𝓤 H (𝓖 .A) (𝓜 .mem) (𝓡 .run)))
-    (tables 𝓤 H 𝓜 𝓡 code.env .C) (tables 𝓤 H 𝓜 𝓡 code.env .Λ) #reading·piece code.function (code.unfolded 𝓤 H 𝓜 𝓡)
+    (tables 𝓤 H 𝓜 𝓡 code.env .C) (tables 𝓤 H 𝓜 𝓡 code.env .Λ) #stepping·piece code.function (code.unfolded 𝓤 H 𝓜 𝓡)
     (piece-meets 𝓤 H (𝓖 .A) (givenOf 𝓤 H 𝓜 𝓖) (𝓜 .mem) (𝓡 .run) (tablesOf 𝓤 H 𝓜 (tables 𝓤 H 𝓜 𝓡 code.env))
     (cited 𝓤 H (PieceAt 𝓤 H (𝓖 .A) (𝓜 .mem) (𝓡 .run)) 𝓜 𝓡 code.env #reading·piece-at at-def.routine code.calls-reading·piece-at (at-thm.met 𝓤 H 𝓜 𝓖 𝓡)))

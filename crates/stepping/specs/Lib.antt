@@ -1,0 +1,2 @@
+-- A reading, step by step.
+pub mod ReadingSteps
