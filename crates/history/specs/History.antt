@@ -1,5 +1,5 @@
--- A list of calls on one table (document 01, demand 3). Each call is told by its function's own promise; between two calls anybody may write
--- words outside the part, and nobody writes the part.
+-- A list of calls on one table, and the claim about it (document 01, demand 3). Each call is told by its function's own promise; between two calls
+-- anybody may write words outside the part, and nobody writes the part.
 use mathlib.Core.Path.{_≡_}
 use mathlib.Core.List.{List, [], _∷_, List·Memᴰ}
 use mathlib.Core.Option.{Option, none, some}
@@ -9,7 +9,9 @@ use lib.IntN.{ℤ}
 use Rattle.integers.specs.Log.{B}
 use Rattle.plain.specs.Book.{State, Call, post, withdraw, query, listing, Answer, after, answers}
 use Rattle.trees.specs.Tree.{height, leaves}
-use Rattle.dynamic.specs.OfferTree.{Held, Pair}
+use Rattle.trees.specs.Operations.{Part, partLeaves, partHeight}
+use Rattle.dynamic.specs.OfferTree.{Held, heldShape, Pair}
+use Rattle.dynamic.specs.Rearranged.{pieceTrees}
 use Rattle.table.specs.Items.{Item}
 use Rattle.book.specs.declared.Update.{Update}
 use Rattle.book.specs.declared.Found.{Found}
@@ -50,3 +52,23 @@ Kept c start (by-listing out out′ l p m d e) held held′ = held ≡ held′
 abbrev pub EachCall : {c start : ℕ} {t : List ℤ} {ks : List Call} {as′ : List Answer} {t′ : List ℤ} → History c start t ks as′ t′ → (before after : Option (Held Item)) → Type 0
 EachCall finished held held′ = held ≡ held′
 EachCall {c} {start} (next q p rest) held held′ = (mid : Option (Held Item)) × Kept c start p held mid × EachCall rest mid held′
+
+-- ---- demand 3: one claim about a whole list of calls
+
+-- every tree of a book is at most 2 × B(n) high over its n leaves
+abbrev pub Low : Option (Held Item) → Type 0
+Low none = Unit {0}
+Low (some h) = (height (heldShape h) ≤ 2 * B (length (leaves (heldShape h)))) × ((p : Part Item) → List·Memᴰ p (pieceTrees h) → partHeight p ≤ 2 * B (length (partLeaves p)))
+
+-- The part passes the check and stands for the plain book's offers, the answers in order are the plain book's, every tree is low, and each update
+-- has its list of searched pairs. `every-history` (Claim) proves it from an accepted opening on.
+pub record Claim {c start : ℕ} {t : List ℤ} {ks : List Call} {as′ : List Answer} {t′ : List ℤ} (s : State) (before : Option (Held Item)) (h : History c start t ks as′ t′) : Type 0 where
+  pub held : Option (Held Item)
+  -- the part passes the check, and its leaves hold exactly the plain book's offers, in order
+  pub stands : Book (partOf t′ start) c held
+  pub offers : plainOffers held ≡ after s ks .offers
+  -- refusals' numbers, live counts, prices, offers named, piece counts and words written
+  pub told : as′ ≡ answers s ks
+  pub low : Low held
+  pub low-numbers : partHeight (stands .numbers) ≤ 2 * B (length (partLeaves (stands .numbers)))
+  pub each : EachCall h before held

@@ -1,4 +1,5 @@
 -- A reading of a book's pieces.
 pub mod Promises
+pub mod ListedLaws
 pub mod Parts
 pub mod Steps

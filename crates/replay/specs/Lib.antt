@@ -2,6 +2,7 @@
 pub mod Encoding
 pub mod Decoding
 pub mod Laws
+pub mod Telling
 pub mod Told
 pub mod Right
 pub mod Promises
