@@ -1,4 +1,5 @@
--- Two trees whose leaves are envelopes that face each other: the search finds the lines between which the envelope of both is cut and joined.
+-- Two trees whose leaves are envelopes that face each other (`Bridged`, in SearchEnd): the search finds the lines between which the envelope of both is cut
+-- and joined.
 use Prim.Native.Nat.{ℕ, suc, _-_, _<_}
 use native.Mathlib.Omega.{arith}
 use mathlib.Core.Path.{_≡_, refl, sym, _∙_}
@@ -15,8 +16,9 @@ use Rattle.envelopes.specs.Exists.{bridge}
 use Rattle.envelopes.specs.Merge.{merge-split}
 use Rattle.trees.specs.Tree.{Tree, leaves, first}
 use Rattle.trees.specs.Leaves.{some-leaf}
-use Rattle.meeting.specs.Machine.{left, right, meet}
-use Rattle.meeting.specs.Meets.{size, lineFrom, Met, limit, meets}
+use Rattle.meeting.specs.Machine.{left, right}
+use Rattle.meeting.specs.Meets.{size, lineFrom, meets}
+pub use Rattle.dynamic.specs.SearchEnd.{Bridged}
 
 -- ---- a chain counted from its last line
 
@@ -31,19 +33,6 @@ module _ (S : Figure) where
             let f : n - suc i ≡ suc (suc k) = omega arith in
             rw (e, f) (K .turning k (omega arith));
       }
-
--- The pieces of two trees about the lines that their search ends at: those up to u and from v are the envelope of both sets.
-pub record Bridged (S : Figure) (ls rs : List (S .Line)) (tl tr : Tree (S .Line)) : Type 0 where
-  pub u : S .Line
-  pub v : S .Line
-  pub upTo : List (S .Line)
-  pub beyond : List (S .Line)
-  pub short : List (S .Line)
-  pub from : List (S .Line)
-  pub left-pieces : leaves tl ≡ upTo ++ u ∷ beyond
-  pub right-pieces : leaves tr ≡ short ++ v ∷ from
-  pub merged : Env S (ls ++ rs) (upTo ++ u ∷ v ∷ from)
-  pub met : Met (limit tl tr) u v (meet S tl tr)
 
 module _ (S : Figure) (L : PseudoLines S) (ls rs : List (S .Line)) (o : Ordered S (ls ++ rs)) (tl tr : Tree (S .Line)) (E : Env S ls (leaves tl)) (F : Env S rs (leaves tr)) where
   pub faces : (d : S .Line) → Facing S (lineFrom left tl d) (size tl) (lineFrom right tr d) (size tr)

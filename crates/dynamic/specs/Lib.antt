@@ -1,4 +1,5 @@
 -- The dynamic envelope: the tree of offers with its stored parts, post and withdraw as functions on trees.
+pub mod SearchEnd
 pub mod Bridged
 pub mod Lower
 pub mod Raise

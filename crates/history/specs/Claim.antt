@@ -1,6 +1,5 @@
--- Demand 3: one claim about a whole list of calls. From an accepted opening, whatever the capacity, the start and the words were, and after any
--- list of posts, withdrawals, queries and listings, refused ones among them: the part passes the check and stands for the plain book's offers,
--- the answers in order are the plain book's, every tree is low, and each update has its list of searched pairs.
+-- The proof of the claim about a history (`Claim`, in History): from an accepted opening, whatever the capacity, the start and the words were, and
+-- after any list of posts, withdrawals, queries and listings, refused ones among them.
 use mathlib.Core.Path.{_≡_, refl, sym, _∙_, ap, subst}
 use mathlib.Core.List.{List, _∷_, List·Memᴰ}
 use mathlib.Core.Option.{Option, none, some}
@@ -26,13 +25,9 @@ use Rattle.form.specs.Form.{Book, OffersIn}
 use Rattle.book.specs.Local.{Alike, book-alike}
 use Rattle.book.specs.Promises.{partOf, Opens, Passes}
 use Rattle.history.specs.History.{Happens, by-post, by-withdraw, by-query, by-listing, History, finished, next, LowPairs, Kept, EachCall}
+pub use Rattle.history.specs.History.{Low, Claim}
 
 -- ---- heights
-
--- every tree of a book is at most 2 × B(n) high over its n leaves
-abbrev pub Low : Option (Held Item) → Type 0
-Low none = Unit {0}
-Low (some h) = (height (heldShape h) ≤ 2 * B (length (leaves (heldShape h)))) × ((p : Part Item) → List·Memᴰ p (pieceTrees h) → partHeight p ≤ 2 * B (length (partLeaves p)))
 
 pub low-trees : (w : List ℤ) (held : Option (Held Item)) → OffersIn w held → Low held
 low-trees w none o = tt
@@ -41,18 +36,6 @@ low-trees w (some h) o = (offers-height items (o .right), piece-height items (o 
 -- so is every tree that went into a search
 pub low-pairs : {before after : Option (Held Item)} {log : List (Pair Item)} → Work items before after log → LowPairs log
 low-pairs w p m = let s = w .searched p m in (log-height (s .left-balanced), log-height (s .right-balanced))
-
--- ---- the claim
-
-pub record Claim {c start : ℕ} {t : List ℤ} {ks : List Call} {as′ : List Answer} {t′ : List ℤ} (s : State) (before : Option (Held Item)) (h : History c start t ks as′ t′) : Type 0 where
-  pub held : Option (Held Item)
-  -- the part passes the check, and its leaves hold exactly the plain book's offers, in order
-  pub stands : Book (partOf t′ start) (after s ks) held
-  -- refusals' numbers, live counts, prices, offers named, piece counts and words written
-  pub told : as′ ≡ answers s ks
-  pub low : Low held
-  pub low-numbers : partHeight (stands .numbers .numbers) ≤ 2 * B (length (partLeaves (stands .numbers .numbers)))
-  pub each : EachCall s h before held
 
 -- ---- its proof
 

@@ -1,19 +1,22 @@
--- A list of calls on one table (document 01, demand 3). Each call is told by its function's own promise; between two calls anybody may write
--- words outside the part, and nobody writes the part.
+-- A list of calls on one table, and the claim about it (document 01, demand 3). Each call is told by its function's own promise; between two calls
+-- anybody may write words outside the part, and nobody writes the part.
 use mathlib.Core.Path.{_≡_}
 use mathlib.Core.List.{List, [], _∷_, List·Memᴰ}
-use mathlib.Core.Option.{Option}
+use mathlib.Core.Option.{Option, none, some}
 use Prim.Native.Nat.{ℕ, _*_, _≤_}
 use lib.ListN.{length}
 use lib.IntN.{ℤ}
 use Rattle.integers.specs.Log.{B}
-use Rattle.plain.specs.Book.{State, Call, post, withdraw, query, listing, Answer, step}
+use Rattle.plain.specs.Book.{State, Call, post, withdraw, query, listing, Answer, step, after, answers}
 use Rattle.trees.specs.Tree.{height, leaves}
-use Rattle.dynamic.specs.OfferTree.{Held, Pair}
+use Rattle.trees.specs.Operations.{Part, partLeaves, partHeight}
+use Rattle.dynamic.specs.OfferTree.{Held, heldShape, Pair}
+use Rattle.dynamic.specs.Rearranged.{pieceTrees}
 use Rattle.table.specs.Items.{Item}
 use Rattle.book.specs.declared.Update.{Update}
 use Rattle.book.specs.declared.Found.{Found}
 use Rattle.book.specs.declared.Listed.{Listed}
+use Rattle.form.specs.Form.{Book}
 use Rattle.book.specs.Local.{Alike}
 use Rattle.book.specs.Promises.{partOf, Updates, Follows, Queries, Probes, Lists, updateAnswer, foundReturned, foundAnswer, listingAnswer}
 
@@ -50,3 +53,22 @@ Kept s start (by-listing out out′ l p m d e) held held′ = held ≡ held′
 abbrev pub EachCall : {c start : ℕ} {t : List ℤ} {ks : List Call} {as′ : List Answer} {t′ : List ℤ} (s : State) → History c start t ks as′ t′ → (before after : Option (Held Item)) → Type 0
 EachCall s finished held held′ = held ≡ held′
 EachCall {start = start} s (next {k = k} q p rest) held held′ = (mid : Option (Held Item)) × Kept s start p held mid × EachCall (step s k .state) rest mid held′
+
+-- ---- demand 3: one claim about a whole list of calls
+
+-- every tree of a book is at most 2 × B(n) high over its n leaves
+abbrev pub Low : Option (Held Item) → Type 0
+Low none = Unit {0}
+Low (some h) = (height (heldShape h) ≤ 2 * B (length (leaves (heldShape h)))) × ((p : Part Item) → List·Memᴰ p (pieceTrees h) → partHeight p ≤ 2 * B (length (partLeaves p)))
+
+-- The part passes the check and stands for the plain book's offers, the answers in order are the plain book's, every tree is low, and each update
+-- has its list of searched pairs. `every-history` (Claim) proves it from an accepted opening on.
+pub record Claim {c start : ℕ} {t : List ℤ} {ks : List Call} {as′ : List Answer} {t′ : List ℤ} (s : State) (before : Option (Held Item)) (h : History c start t ks as′ t′) : Type 0 where
+  pub held : Option (Held Item)
+  -- the part passes the check, and its leaves hold exactly the plain book's offers, in order
+  pub stands : Book (partOf t′ start) (after s ks) held
+  -- refusals' numbers, live counts, prices, offers named, piece counts and words written
+  pub told : as′ ≡ answers s ks
+  pub low : Low held
+  pub low-numbers : partHeight (stands .numbers .numbers) ≤ 2 * B (length (partLeaves (stands .numbers .numbers)))
+  pub each : EachCall s h before held

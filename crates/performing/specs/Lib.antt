@@ -1,2 +1,3 @@
 -- One encoded call, made.
+pub mod Telling
 pub mod Told

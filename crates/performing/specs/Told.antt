@@ -1,13 +1,13 @@
 -- A run's answers, beside the history that it is: the words of each are the encoding of the very value that its call returned.
 use mathlib.Core.Path.{_≡_, refl, sym, _∙_, ap, subst}
-use mathlib.Core.Bool.{Bool, true, false, true≢false}
-use mathlib.Core.List.{List, [], _∷_, _++_}
+use mathlib.Core.Bool.{true, false, true≢false}
+use mathlib.Core.List.{List, _++_}
 use mathlib.Core.Option.{Option, none, some}
-use Prim.Native.Nat.{ℕ, _+_, _*_, _-_, _≤_, _<_}
+use Prim.Native.Nat.{ℕ, _+_, _-_, _≤_, _<_}
 use native.Mathlib.Omega.{arith}
-use lib.ListN.{length, take, drop, length-append, length-take, length-drop}
+use lib.ListN.{length, take, drop, length-append, length-drop}
 use lib.Seq.{take-at, drop-at, drop-drop, length-take-le}
-use lib.IntN.{ℤ, pos}
+use lib.IntN.{ℤ}
 use lib.Dec.{leb}
 use borrow.Author.Tests.{leb-true}
 use Rattle.plain.specs.Book.{Call, post, withdraw, query, listing, Answer}
@@ -18,20 +18,9 @@ use Rattle.book.specs.declared.Found.the-variants.{Offer, Declined as FoundDecl
 use Rattle.book.specs.declared.Listed.{Listed}
 use Rattle.book.specs.declared.Listed.the-variants.{Pieces, Declined as ListingDeclined}
 use Rattle.book.specs.Promises.{Updates, Queries, Lists, updateAnswer, foundAnswer, listingAnswer}
-use Rattle.history.specs.History.{Happens, by-post, by-withdraw, by-query, by-listing, History, finished, next}
+use Rattle.history.specs.History.{Happens, by-post, by-withdraw, by-query, by-listing, next}
 use Rattle.encoding.specs.Encoding.{nextCall, stretch, fitting, updateWords, foundWords, listedWords}
-
--- One call's words, `ws` before it and `ws′` after it. A listing's output is the stretch behind the five words.
-abbrev pub TellsOne : {start : ℕ} {t : List ℤ} {k : Call} {t′ : List ℤ} {a : Answer} → Happens start t k t′ a → (ws ws′ : List ℤ) → Type 0
-TellsOne (by-post n r b u p e) ws ws′ = take 5 ws′ ≡ updateWords u
-TellsOne (by-withdraw n u p e) ws ws′ = take 5 ws′ ≡ updateWords u
-TellsOne (by-query q f p d e) ws ws′ = take 5 ws′ ≡ foundWords f
-TellsOne (by-listing {room} out out′ l p m d e) ws ws′ = (take 5 ws′ ≡ listedWords l) × (take room (drop 5 ws) ≡ out) × (take room (drop 5 ws′) ≡ out′)
-
--- The words of a whole history: one stretch behind the other, and what is behind the last stays.
-abbrev pub Tells : {c start : ℕ} {t : List ℤ} {ks : List Call} {as′ : List Answer} {t′ : List ℤ} → History c start t ks as′ t′ → (ws ws′ : List ℤ) → Type 0
-Tells finished ws ws′ = ws′ ≡ ws
-Tells (next {k} alike p rest) ws ws′ = TellsOne p ws ws′ × Tells rest (drop (stretch k) ws) (drop (stretch k) ws′)
+pub use Rattle.performing.specs.Telling.{TellsOne, Tells}
 
 -- ---- one call
 

@@ -1,12 +1,23 @@
 -- The plain book: what every history of calls is compared with.
+-- statement: when a call is declined
 pub mod Causes
+-- lemmas: what a list of trials decides: no cause exactly when none applies, and a cause exactly when it is the first that applies
 pub mod Trials
+-- statement: the plain book: a capacity and a list of live offers in order, fed the calls' arguments, an output's length with them
 pub mod Book
+-- statement: what a query and a listing tell of a list of live offers, in the words of document 01 and with no way of computing it
 pub mod Meaning
+-- lemmas: "Prices to prove": ten cases, each through the calls of a freshly opened book of capacity 64, as one table that the checker computes
 pub mod Cases
+-- lemmas: what holds of the plain book after every list of calls
 pub mod Sound
+-- lemmas: who is live after a post and after a withdrawal
 pub mod Members
+-- lemmas: the plain book's calls, one by one: which trial declines, and what an accepted call answers and leaves
 pub mod Rules
+-- lemmas: a query's price is the least over all live offers, and the offer that it names has the highest rate among those at that price
 pub mod QueryLaws
+-- lemmas: the listing names an offer exactly when at some rational load, of any size, it is strictly cheaper than every other live offer
 pub mod ListingLaws
+-- lemmas: the plain book's query and listing tell what `Meaning` says, whatever calls made its offers
 pub mod MeaningLaws

@@ -44,5 +44,6 @@ pub record Listing (os : List Offer) (m : ℕ) (ws : List ℤ) : Type 0 where
   pub exact : (e : Offer) → List·Memᴰ e pieces ↔ ((x : RationalLoad) × CheaperThanAll os e x)
   pub inner :
       (i : ℕ) (d : Offer) → suc i < m →
-      PieceAt ws i (getD pieces i d .number) (crossingNumerator (getD pieces i d) (getD pieces (suc i) d)) (crossingDenominator (getD pieces i d) (getD pieces (suc i) d))
+      PieceAt ws i (getD pieces i d .number) (crossingNumerator (getD pieces i d) (getD pieces (suc i) d))
+      (crossingDenominator (getD pieces i d) (getD pieces (suc i) d))
   pub last : (i : ℕ) (d : Offer) → suc i ≡ m → PieceAt ws i (getD pieces i d .number) (pos 0) (pos 0)

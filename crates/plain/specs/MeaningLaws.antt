@@ -1,21 +1,20 @@
 -- The plain book's query and listing tell what `Meaning` says, whatever calls made its offers.
-use mathlib.Core.Path.{_≡_, refl, sym, _∙_, subst, ap}
+use mathlib.Core.Path.{_≡_, refl}
 use mathlib.Core.Logic.{_≢_}
-use mathlib.Core.List.{List, [], _∷_, List·Memᴰ, Pairwise, Pairwise·sublistᴰ}
+use mathlib.Core.List.{List, List·Memᴰ, Pairwise, Pairwise·sublistᴰ}
 use mathlib.Core.Option.{Option, none, some}
-use Prim.Native.Nat.{ℕ, suc, _*_, _<_}
+use Prim.Native.Nat.{ℕ}
 use native.Mathlib.Omega.{arith}
 use lib.ListN.{length}
 use lib.Dec.{T}
 use lib.IntN.{ℤ}
-use lib.Signed.{leZ}
 use Rattle.lists.specs.Filter.{keep-sublist}
 use Rattle.integers.specs.Parts.{intRules}
 use Rattle.offers.specs.Offers.{Offer, priceAt, precedes}
 use Rattle.plain.specs.Causes.{Cause, declined}
-use Rattle.plain.specs.Book.{State, Call, query, listing, Answer, refused, found, listed, envelope, pieceWords, respond, trials, step}
+use Rattle.plain.specs.Book.{State, query, listing, found, listed, envelope, pieceWords, respond, trials, step}
 use Rattle.plain.specs.Sound.{Sound}
-use Rattle.plain.specs.Meaning.{Cheapest, Listing, PieceAt}
+use Rattle.plain.specs.Meaning.{Cheapest, Listing}
 use Rattle.plain.specs.Rules.{words-length, words-inner, words-last}
 use Rattle.plain.specs.QueryLaws.{Names, query-names}
 use Rattle.plain.specs.ListingLaws.{listing-exact}

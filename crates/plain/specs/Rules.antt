@@ -1,10 +1,8 @@
 -- The plain book's calls, one by one: which trial declines, and what an accepted call answers and leaves.
-use mathlib.Core.Path.{_≡_, refl, sym, _∙_, subst, ap}
-use mathlib.Core.Logic.{_↔_}
-use mathlib.Core.List.{List, [], _∷_, _++_}
-use mathlib.Core.Option.{Option, none, some}
-use mathlib.Core.Bool.{Bool, true, false, not, cond}
-use Prim.Native.Nat.{ℕ, zero, suc, _+_, _*_, _<_, _≤_}
+use mathlib.Core.Path.{_≡_, refl, _∙_, ap}
+use mathlib.Core.List.{List, [], _∷_}
+use mathlib.Core.Bool.{Bool, true, false, not}
+use Prim.Native.Nat.{ℕ, zero, suc, _+_, _*_, _<_}
 use native.Mathlib.Omega.{arith}
 use lib.ListN.{length, getD}
 use lib.Dec.{T}
@@ -12,8 +10,8 @@ use lib.Arith.{lt→nleb}
 use lib.IntN.{ℤ, pos}
 use Rattle.lists.specs.Bools.{twice}
 use Rattle.offers.specs.Offers.{Offer, loadInRange, priceAt, crossingNumerator, crossingDenominator}
-use Rattle.plain.specs.Causes.{Cause, Trial, declined, causeNumber}
-use Rattle.plain.specs.Book.{holding, State, Call, post, withdraw, query, listing, Answer, refused, live, found, listed, Outcome, join, leave, cheapest, envelope, pieceWords, trials, step, respond, accepted}
+use Rattle.plain.specs.Causes.{Cause, causeNumber}
+use Rattle.plain.specs.Book.{holding, State, Call, post, withdraw, query, listing, refused, live, found, listed, join, leave, cheapest, envelope, pieceWords, trials, step, respond, accepted}
 pub use Rattle.plain.specs.Causes.{FirstOf, at-once, further, Clear}
 pub use Rattle.plain.specs.Trials.{declined-by, not-declined}
 use Rattle.plain.specs.Sound.{length-join}

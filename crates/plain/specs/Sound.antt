@@ -1,17 +1,16 @@
 -- What holds of the plain book after every list of calls: its offers stand by falling rate, no two with one number or one rate,
 -- each in range, at most c of them; and a refused call changes nothing.
-use mathlib.Core.Path.{_≡_, refl, sym, _∙_, subst, ap}
+use mathlib.Core.Path.{_≡_, refl, sym, subst, ap}
 use mathlib.Core.Logic.{_⊎_, inl, inr, ⊎-elim, _≢_}
 use mathlib.Core.HLevel.{¬-prop}
-use mathlib.Core.List.{List, [], _∷_, _++_, List·Memᴰ, List·Memᴰ·head, List·Memᴰ·tail, List·Memᴰ·cases-cons, Pairwise, Pairwise·nil, Pairwise·cons, Pairwise·of-cons, rel-of-pairwise-cons, Pairwise·sublistᴰ, Sublistᴰ}
+use mathlib.Core.List.{List, [], _∷_, List·Memᴰ, List·Memᴰ·head, List·Memᴰ·tail, List·Memᴰ·cases-cons, Pairwise, Pairwise·nil, Pairwise·of-cons, rel-of-pairwise-cons, Pairwise·sublistᴰ, Sublistᴰ}
 use mathlib.Core.Option.{Option, none, some}
 use mathlib.Core.Bool.{Bool, true, false, not, _&&_, cond}
 use Prim.Native.Nat.{ℕ, suc, _≤_}
 use native.Mathlib.Omega.{arith}
 use lib.ListN.{length}
-use lib.Dec.{T, T-prop, leb, nleb→lt}
+use lib.Dec.{T, T-prop, nleb→lt}
 use lib.IntN.{ℤ, pos, negsuc}
-use lib.Signed.{ltZ}
 use Rattle.lists.specs.Filter.{keep-sublist}
 use Rattle.lists.specs.Members.{sub-length, pairs-cons}
 use Rattle.lists.specs.Places.{sublist-mem}
@@ -20,10 +19,10 @@ use Rattle.lists.specs.Bools.{and-both, not-not}
 use Rattle.integers.specs.Parts.{intRules, le-or-lt, range-parts, unequal}
 use Rattle.integers.specs.Equal.{equal}
 use Rattle.offers.specs.Offers.{Offer, between, numberInRange, rateInRange, baseInRange, offerInRange, precedes}
-use Rattle.plain.specs.Causes.{Cause, declined, causeNumber}
+use Rattle.plain.specs.Causes.{Cause, declined}
 pub use Rattle.plain.specs.Causes.{Clear}
 pub use Rattle.plain.specs.Trials.{clear}
-use Rattle.plain.specs.Book.{State, Call, post, withdraw, query, listing, Answer, refused, live, found, listed, Outcome, hasNumber, hasRate, join, leave, rangeTrials, bookTrials, trials, Opening, accepted-opening, opened, openingBy, opening, openTrials, accepted, respond, step, after}
+use Rattle.plain.specs.Book.{State, Call, post, withdraw, query, listing, refused, hasNumber, hasRate, join, leave, trials, accepted-opening, opened, openingBy, opening, openTrials, accepted, respond, step, after}
 
 pub record Sound (s : State) : Type 0 where
   pub capacity-low : 1 ≤ s .capacity

@@ -1,7 +1,7 @@
 -- What a list of trials decides: no cause exactly when none applies, and a cause exactly when it is the first that applies.
-use mathlib.Core.Path.{_≡_, refl, sym, subst}
+use mathlib.Core.Path.{_≡_, refl, subst}
 use mathlib.Core.List.{List, [], _∷_}
-use mathlib.Core.Option.{Option, none, some}
+use mathlib.Core.Option.{none, some}
 use mathlib.Core.Bool.{Bool, true, false, not, cond}
 use Prim.Native.Nat.{ℕ}
 use native.Mathlib.Omega.{arith}
@@ -45,6 +45,8 @@ pub declined-first : (ks : List Trial) (c : Cause) → declined ks ≡ some c �
 declined-first [] c e = let z : _≡_ {A = ℕ} 0 1 = cc in absurd (omega arith)
 declined-first (k ∷ ks) c e = go (k .applies) (λ t. t) (λ t. t) e (declined-first ks c)
   where
-    go : (b : Bool) → (T b → T (k .applies)) → (T (not b) → T (not (k .applies))) → cond b (some (k .cause)) (declined ks) ≡ some c → (declined ks ≡ some c → FirstOf ks c) → FirstOf (k ∷ ks) c
+    go :
+        (b : Bool) → (T b → T (k .applies)) → (T (not b) → T (not (k .applies))) → cond b (some (k .cause)) (declined ks) ≡ some c →
+        (declined ks ≡ some c → FirstOf ks c) → FirstOf (k ∷ ks) c
     go true yes-is no-is p rec = let same : k .cause ≡ c = cc in subst (FirstOf (k ∷ ks)) same (at-once (yes-is tt))
     go false yes-is no-is p rec = further (no-is tt) (rec p)

@@ -1,7 +1,7 @@
 -- From an answer back to the enum's case: a refusal's number tells the declined case, and an accepted answer its case with all its values.
 -- (`refused 0` is no answer of the plain book, so a refusal is asked to be above 0.)
 use mathlib.Core.Path.{_≡_, sym, _∙_, ap}
-use mathlib.Core.List.{List}
+use mathlib.Core.List.{List, [], _∷_}
 use mathlib.Core.Option.{Option}
 use Prim.Native.Nat.{ℕ, zero, suc, _*_, _≤_}
 use native.Mathlib.Omega.{arith}
@@ -17,7 +17,7 @@ use Rattle.book.specs.declared.Found.{Found}
 use Rattle.book.specs.declared.Found.the-variants.{Offer, Declined as FoundDeclined}
 use Rattle.book.specs.declared.Listed.{Listed}
 use Rattle.book.specs.declared.Listed.the-variants.{Pieces, Declined as ListingDeclined}
-use Rattle.book.specs.Promises.{partOf, counted, updateAnswer, foundAnswer, listingAnswer, Updates, Queries, Lists}
+use Rattle.book.specs.Promises.{partOf, counted, Returned, updateReturned, foundReturned, updateAnswer, foundAnswer, listingAnswer, Updates, Queries, Lists}
 use Rattle.book.specs.Numbered.{numbered}
 
 -- a refusal told by a word is told by its number
@@ -38,6 +38,16 @@ update-live (Done (negsuc m) k s h) n e = let z : _≡_ {A = ℕ} 0 1 = cc in ab
 update-live (UpdateDeclined (pos m)) n e = let z : _≡_ {A = ℕ} 0 1 = cc in absurd (omega arith)
 update-live (UpdateDeclined (negsuc m)) n e = let z : _≡_ {A = ℕ} 0 1 = cc in absurd (omega arith)
 
+-- all that it returned tells the case with all its values
+pub update-returned : (r : Update) (n : ℕ) (k s h : ℤ) → updateReturned r ≡ record { answer = live n; beside = k ∷ s ∷ h ∷ [] } → r ≡ Done (pos n) k s h
+update-returned r n k s h e = go (update-live r n (ap (λ (x : Returned). x .answer) e))
+  where
+    values : (k′ s′ h′ : ℤ) → k′ ∷ s′ ∷ h′ ∷ [] ≡ k ∷ s ∷ h ∷ [] → Done (pos n) k′ s′ h′ ≡ Done (pos n) k s h
+    values k′ s′ h′ d = let a : k′ ≡ k = cc in let b : s′ ≡ s = cc in let c : h′ ≡ h = cc in λ i. Done (pos n) (a i) (b i) (c i)
+
+    go : (k′ s′ h′ : ℤ) × (r ≡ Done (pos n) k′ s′ h′) → r ≡ Done (pos n) k s h
+    go (k′, s′, h′, f) = f ∙ values k′ s′ h′ (sym (ap (λ (x : Update). updateReturned x .beside) f) ∙ ap (λ (x : Returned). x .beside) e)
+
 -- ---- query
 
 pub query-refused : (r : Found) (n : ℕ) → 1 ≤ n → foundAnswer r ≡ refused n → r ≡ FoundDeclined (pos n)
@@ -48,6 +58,17 @@ pub query-found : (r : Found) (number price : ℤ) → foundAnswer r ≡ found n
 query-found (Offer m p probes) number price e = let d : m ≡ number = cc in let f : p ≡ price = cc in (probes, λ i. Offer (d i) (f i) probes)
 query-found (FoundDeclined (pos m)) number price e = let z : _≡_ {A = ℕ} 0 1 = cc in absurd (omega arith)
 query-found (FoundDeclined (negsuc m)) number price e = let z : _≡_ {A = ℕ} 0 1 = cc in absurd (omega arith)
+
+pub query-returned :
+    (r : Found) (number price probes : ℤ) → foundReturned r ≡ record { answer = found number price; beside = probes ∷ [] } →
+    r ≡ Offer number price probes
+query-returned r number price probes e = go (query-found r number price (ap (λ (x : Returned). x .answer) e))
+  where
+    value : (p : ℤ) → p ∷ [] ≡ probes ∷ [] → Offer number price p ≡ Offer number price probes
+    value p d = let a : p ≡ probes = cc in λ i. Offer number price (a i)
+
+    go : (p : ℤ) × (r ≡ Offer number price p) → r ≡ Offer number price probes
+    go (p, f) = f ∙ value p (sym (ap (λ (x : Found). foundReturned x .beside) f) ∙ ap (λ (x : Returned). x .beside) e)
 
 -- ---- listing
 

@@ -8,10 +8,10 @@ use Prim.Native.Nat.{ℕ}
 use native.Mathlib.Omega.{arith}
 use lib.IntN.{ℤ, pos}
 use Rattle.lists.specs.Places.{sublist-mem}
+use Rattle.plain.specs.Book.{State}
 use Rattle.trees.specs.Tree.{leaves, last}
 use Rattle.trees.specs.Leaves.{last-leaf}
 use Rattle.trees.specs.Operations.{Part, partLeaves}
-use Rattle.plain.specs.Book.{State}
 use Rattle.envelopes.specs.Envelope.{Env}
 use Rattle.dynamic.specs.OfferTree.{OfferTree, single, fork, shape, Held}
 use Rattle.dynamic.specs.Valid.{Valid, valid-fork}
@@ -23,7 +23,7 @@ use Rattle.table.specs.Rep.{childField, refOf, Tied, tied-node}
 use Rattle.table.specs.PartTrees.{partRef, TiedPart}
 use Rattle.pieces.specs.Pieces.{items, item-laws, PartIn}
 use Rattle.form.specs.Stored.{nodeSlot, restField, Stored, stored-fork, HeldIn}
-use Rattle.form.specs.Form.{offersRef, envelopeRef, OffersIn, plainOffers, Book}
+use Rattle.form.specs.Form.{offersRef, envelopeRef, OffersIn, OffersStand, plainOffers, Book}
 use Rattle.book.specs.Promises.{Passes}
 use Rattle.theorems.specs.Unique.{AllLie, all-lie, same-item, same-part, some-root}
 
@@ -120,16 +120,21 @@ module _ (w : Words) where
   same-book (some h) none p q d e = absurd (some-root (shape (h .tree)) (all-lie (p .slots) (p .kept)) d)
   same-book (some h) (some h′) p q d e = ap some (same-held p q d e)
 
--- ---- one capacity, one tree
+-- ---- one plain book, one tree
 
 pub one-reading : {w : Words} {s s′ : State} {held held′ : Option (Held Item)} → Book w s held → Book w s′ held′ → (s ≡ s′) × (held ≡ held′)
 one-reading {w} {s} {s′} {held} {held′} b b′ = (λ i. record { capacity = capacities i; offers = lists i }, trees)
   where
+    o : OffersStand w held
+    o = b .offers
+
+    o′ : OffersStand w held′
+    o′ = b′ .offers
+
     trees : held ≡ held′
     trees =
-        same-book w held held′ (b .offers .offers-in) (b′ .offers .offers-in)
-        (number-of (b .offers .offers-root) (b′ .offers .offers-root) refl)
-        (number-of (b .offers .envelope-root) (b′ .offers .envelope-root) refl)
+        same-book w held held′ (o .offers-in) (o′ .offers-in) (number-of (o .offers-root) (o′ .offers-root) refl)
+        (number-of (o .envelope-root) (o′ .envelope-root) refl)
 
     capacities : s .capacity ≡ s′ .capacity
     capacities = sym (b .capacity) ∙ b′ .capacity

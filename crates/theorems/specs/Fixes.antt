@@ -1,0 +1,77 @@
+-- The sentences of demand 2 fix the answers: of offers in order, one number and price at a load, and one listing, word for word.
+use mathlib.Core.Path.{_≡_, sym, _∙_, ap, subst}
+use mathlib.Core.Logic.{⊎-elim}
+use mathlib.Core.List.{List, Pairwise}
+use Prim.Native.Nat.{ℕ, zero, suc, _+_, _*_, _/_, _%_, _<_}
+use native.Mathlib.Decide.{decLt}
+use native.Mathlib.Omega.{arith}
+use lib.Dec.{T}
+use lib.ListN.{length, getD}
+use lib.Seq.{ext-getD}
+use lib.IntN.{ℤ, pos}
+use Rattle.integers.specs.Parts.{intRules}
+use Rattle.offers.specs.Offers.{Offer, precedes, crossingNumerator, crossingDenominator}
+use Rattle.envelopes.specs.EnvelopeLaws.{compare-lines, same-members}
+use Rattle.lines.specs.OfferLines.{offerFigure, offerLaws}
+use Rattle.plain.specs.Meaning.{Cheapest, PieceAt, Listing}
+use Rattle.plain.specs.ListingLaws.{in-order}
+
+-- ---- a query
+
+pub cheapest-once : {os : List Offer} {q n p n′ p′ : ℤ} → Pairwise (λ a b. T (precedes a b)) os → Cheapest os q n p → Cheapest os q n′ p′ → (n ≡ n′) × (p ≡ p′)
+cheapest-once {os} {q} {n} {p} {n′} {p′} h a b = (a .named ∙ ap (λ (o : Offer). o .number) same ∙ sym (b .named), price)
+  where
+    price : p ≡ p′
+    price = let i = a .least (b .offer) (b .live) in let j = b .least (a .offer) (a .live) in let e = a .priced in let f = b .priced in omega (arith, intRules)
+
+    same : a .offer ≡ b .offer
+    same =
+        ⊎-elim (λ e. e)
+        (⊎-elim (λ t. absurd (b .first (a .offer) (a .live) t (sym (a .priced) ∙ price)))
+        (λ t. absurd (a .first (b .offer) (b .live) t (sym (b .priced) ∙ sym price))))
+        (compare-lines offerFigure offerLaws (in-order h) (a .live) (b .live))
+
+-- ---- a listing
+
+-- three words of two pieces
+same-piece :
+    {ws ws′ : List ℤ} {i : ℕ} {n u v : ℤ} → PieceAt ws i n u v → PieceAt ws′ i n u v → (r : ℕ) → r < 3 →
+    getD ws (3 * i + r) (pos 0) ≡ getD ws′ (3 * i + r) (pos 0)
+same-piece {ws} {ws′} {i} a b zero h = let e : 3 * i + 0 ≡ 3 * i = omega arith in rw e (a .first ∙ sym (b .first))
+same-piece a b (suc zero) h = a .second ∙ sym (b .second)
+same-piece a b (suc (suc zero)) h = a .third ∙ sym (b .third)
+same-piece a b (suc (suc (suc r))) h = absurd (omega arith)
+
+pub listing-once : {os : List Offer} {m m′ : ℕ} {ws ws′ : List ℤ} → Listing os m ws → Listing os m′ ws′ → (m ≡ m′) × (ws ≡ ws′)
+listing-once {os} {m} {m′} {ws} {ws′} a b = (many, ext-getD (pos 0) ws ws′ (omega (arith, a .long, b .long, many)) word-at)
+  where
+    same : a .pieces ≡ b .pieces
+    same =
+        same-members offerFigure offerLaws (a .pieces) (b .pieces) (in-order (a .in-order)) (in-order (b .in-order))
+        (λ e k. b .exact e .1 (a .exact e .0 k)) (λ e k. a .exact e .1 (b .exact e .0 k))
+
+    d : Offer
+    d = record { number = pos 0; rate = pos 0; base = pos 0 }
+
+    Inner : ℕ → List Offer → Type 0
+    Inner i es =
+        PieceAt ws′ i (getD es i d .number) (crossingNumerator (getD es i d) (getD es (suc i) d)) (crossingDenominator (getD es i d) (getD es (suc i) d))
+
+    Last : ℕ → List Offer → Type 0
+    Last i es = PieceAt ws′ i (getD es i d .number) (pos 0) (pos 0)
+
+    many : m ≡ m′
+    many = sym (a .many) ∙ ap length same ∙ b .many
+
+    piece-at : (i : ℕ) → i < m → (n u v : ℤ) × PieceAt ws i n u v × PieceAt ws′ i n u v
+    piece-at i h = go (decLt (suc i) m)
+      where
+        go : Dec (suc i < m) → (n u v : ℤ) × PieceAt ws i n u v × PieceAt ws′ i n u v
+        go (yes k) = (_, _, _, a .inner i d k, subst (Inner i) (sym same) (b .inner i d (omega (arith, many))))
+        go (no k) = (_, _, _, a .last i d (omega arith), subst (Last i) (sym same) (b .last i d (omega (arith, many))))
+
+    word-at : (j : ℕ) → j < length ws → getD ws j (pos 0) ≡ getD ws′ j (pos 0)
+    word-at j h =
+        let e : j ≡ 3 * (j / 3) + j % 3 = omega arith in
+        let (n, u, v, x, y) = piece-at (j / 3) (omega (arith, a .long)) in
+        rw e (same-piece x y (j % 3) (omega arith))
