@@ -18,8 +18,8 @@ use Rattle.form.specs.Form.{Book}
 use Rattle.book.specs.declared.Update.{Update}
 use Rattle.book.specs.declared.Update.the-variants.{Done, Declined as UpdateDeclined}
 use Rattle.book.specs.Promises.{partOf, updateReturned, updateAnswer, Counts, Follows}
-use Rattle.book.specs.Plainly.{refusing}
-use Rattle.book.specs.Posting.{Updated}
+use Rattle.filing.specs.Declining.{refusing}
+use Rattle.filing.specs.Posting.{Updated}
 
 -- ---- a declined call
 

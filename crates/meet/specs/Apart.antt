@@ -27,8 +27,8 @@ use Rattle.table.specs.Rep.{Rep}
 use Rattle.descents.specs.Ends.{Ended}
 use Rattle.pieces.specs.Pieces.{rateOf, items, item-laws}
 use Rattle.form.specs.Form.{Book, plainOffers}
-use Rattle.book.specs.Live.{offerOf}
-use Rattle.book.specs.Sought.{offers-read, not-any}
+use Rattle.form.specs.Live.{offerOf}
+use Rattle.filing.specs.Sought.{offers-read, not-any}
 
 -- every line of the one before every line of the other
 abbrev pub AllBefore : (ls rs : List Item) → Type 0

@@ -28,7 +28,7 @@ use Rattle.query.specs.Pieces.{Pieces}
 use Rattle.query.specs.Plain.{offerOf, pieces-plain}
 use Rattle.query.specs.Listing.{crossingWord}
 use Rattle.query.specs.Counting.{Passed, all-passed, not-all, go-on}
-use Rattle.book.specs.Live.{live-whole, whole-ordered}
+use Rattle.form.specs.Live.{live-whole, whole-ordered}
 use Rattle.book.specs.Promises.{partOf, noBookTrial}
 use Rattle.book.specs.Parts.{whole-part, denied, no-form, no-book-cause}
 use Rattle.book.specs.Opens.{not-clear}

@@ -11,7 +11,7 @@ use lib.IntN.{ℤ, pos, natAbs}
 use borrow.Author.Tests.{leb-true}
 use Rattle.plain.specs.Book.{Call, post, withdraw, query, listing, Answer, partLength}
 use Rattle.book.specs.Promises.{partOf, capacityAt, OnlyPart}
-use Rattle.book.specs.Local.{Alike}
+use Rattle.form.specs.Local.{Alike}
 use Rattle.book.specs.Parts.{whole-part, lent-back}
 use Rattle.history.specs.History.{Happens, by-post, by-withdraw, by-query, by-listing, History, finished, next}
 use Rattle.replay.specs.Encoding.{nextCall, stretch, fitting, runnable}

@@ -1,0 +1,70 @@
+-- `filing::lay` meets its contract. The loop's invariant: the slots up to `n` are laid.
+use mathlib.Core.Path.{refl, _∙_}
+use Prim.Native.Nat.{_-_}
+use native.Mathlib.Omega.{arith}
+use borrow.Author.Needs.{needs}
+use Rattle.filing.specs.Opening.{laid-none}
+use Rattle.filing.specs.Starting.{Laying, laying-more, laying-last}
+use Rattle.filing.proofs.lay.Statement.{statement}
+use Rattle.filing.proofs.lay.Tie as tie
+
+abbrev Inv-loop : tie.InvT-loop
+Inv-loop part₀ capacity n₀ part n = Laying capacity n part₀ part
+
+abbrev μ-loop : tie.MeasureT-loop
+μ-loop part₀ capacity n₀ part n = capacity - n
+
+loop-holds : tie.Need-loop-holds Inv-loop μ-loop
+loop-holds c = record { long = refl; few = omega arith; lays = λ fits. laid-none _ _ }
+
+add-loop : tie.Need-add-loop Inv-loop μ-loop
+add-loop c = omega arith
+
+add-n : tie.Need-add-n Inv-loop μ-loop
+add-n c = omega arith
+
+put-link-requires : tie.Need-put-link-requires Inv-loop μ-loop
+put-link-requires c κs = search needs
+
+add-put-link : tie.Need-add-put-link Inv-loop μ-loop
+add-put-link c = omega arith
+
+put-link-requires-2 : tie.Need-put-link-requires-2 Inv-loop μ-loop
+put-link-requires-2 c κs = search needs
+
+loop-less : tie.Need-loop-less Inv-loop μ-loop
+loop-less c = omega arith
+
+loop-again : tie.Need-loop-again Inv-loop μ-loop
+loop-again c = laying-more (c .before .before .before .before .before .before .before .loop .inv) (omega arith) (omega (arith, c .before .before .before .before .before .before .loop-test .taken)) (omega arith) (c .before .before .before .before .put-link .kept .0) (c .before .put-link2 .kept .0) (c .before .before .before .before .put-link .ensures) (c .before .put-link2 .ensures)
+
+put-link-requires-3 : tie.Need-put-link-requires-3 Inv-loop μ-loop
+put-link-requires-3 c κs = search needs
+
+put-link-requires-4 : tie.Need-put-link-requires-4 Inv-loop μ-loop
+put-link-requires-4 c κs = search needs
+
+same-length : tie.Need-same-length Inv-loop μ-loop
+same-length c = c .before .put-link4 .kept .0 ∙ c .before .before .before .before .put-link3 .kept .0 ∙ c .before .before .before .before .before .before .before .loop .inv .long
+
+returns : tie.Need-returns Inv-loop μ-loop
+returns c = laying-last (c .before .before .before .before .before .before .before .loop .inv) (omega (arith, c .before .before .before .before .before .before .loop-test .left)) (c .before .before .before .before .put-link3 .kept .0) (c .before .put-link4 .kept .0) (c .before .before .before .before .put-link3 .ensures) (c .before .put-link4 .ensures)
+
+pub lay-spec : {M : Type 1} → statement M
+lay-spec =
+    tie.close
+    (tie.spec
+    Inv-loop
+    μ-loop
+    loop-holds
+    add-loop
+    add-n
+    put-link-requires
+    add-put-link
+    put-link-requires-2
+    loop-less
+    loop-again
+    put-link-requires-3
+    put-link-requires-4
+    same-length
+    returns)
