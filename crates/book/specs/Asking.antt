@@ -41,8 +41,8 @@ use Rattle.book.specs.Promises.{partOf, tableTrials, foundReturned, foun
 use Rattle.book.specs.Plainly.{table-declined}
 use Rattle.book.specs.LentPart.{whole-part}
 use Rattle.book.specs.Opens.{one-cause, not-clear}
-use Rattle.book.specs.Live.{live-length, book-sound}
-use Rattle.book.specs.Sought.{count-read, envelope-read}
+use Rattle.form.specs.Live.{live-length, book-sound}
+use Rattle.filing.specs.Sought.{count-read, envelope-read}
 
 -- a load in range, on words that stand for a plain book
 pub record Asks (q : ℤ) (w : Words) (r : Found) : Type 0 where

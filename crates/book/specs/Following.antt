@@ -15,12 +15,12 @@ use Rattle.dynamic.specs.Floors.{floor-old}
 use Rattle.table.specs.Items.{Item}
 use Rattle.pieces.specs.Pieces.{items}
 use Rattle.form.specs.Form.{Book}
-use Rattle.query.specs.Plain.{offerOf}
+use Rattle.table.specs.Items.{offerOf}
 use Rattle.book.specs.declared.Update.{Update}
 use Rattle.book.specs.declared.Update.the-variants.{Done, Declined as UpdateDeclined}
 use Rattle.book.specs.Promises.{partOf, updateReturned, updateAnswer, Counts, Follows}
-use Rattle.book.specs.Plainly.{refusing}
-use Rattle.book.specs.Posting.{Updated}
+use Rattle.filing.specs.Declining.{refusing}
+use Rattle.filing.specs.Posting.{Updated}
 
 -- ---- a declined call
 

@@ -22,6 +22,7 @@ use Rattle.table.specs.Words.{Words, word, upTo, upTo-in}
 use Rattle.table.specs.Layout.{cap, fitting}
 use Rattle.table.specs.Items.{Item}
 use Rattle.form.specs.Form.{Book}
+use Rattle.filing.specs.Starting.{Beyond}
 use Rattle.book.specs.Promises.{partOf, noBookTrial, OnlyPart}
 use Rattle.book.specs.Plainly.{cap-book, book-there}
 
@@ -98,14 +99,6 @@ no-book-cause t start (at-once h) = refl
 no-book-cause t start (further h f) = elim f [ ]
 
 -- ---- the table when the part comes back
-
--- what a call leaves of the words lent to it: as many, and those past a part of capacity c as they were
-pub record Beyond (c : ℕ) (w w′ : Words) : Type 0 where
-  pub long : length w′ ≡ length w
-  pub rest : (i : ℕ) → partLength c ≤ i → word w′ i ≡ word w i
-
-pub beyond-refl : (c : ℕ) (w : Words) → Beyond c w w
-beyond-refl c w = record { long = refl; rest = λ i h. refl }
 
 beyond-drop : {c : ℕ} {w w′ : Words} → Beyond c w w′ → drop (partLength c) w′ ≡ drop (partLength c) w
 unfolding word

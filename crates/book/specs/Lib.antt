@@ -1,25 +1,12 @@
 -- The book in a lent table.
-pub mod Local
 pub mod Promises
 pub mod Numbered
-pub mod Live
-pub mod Sought
 pub mod Plainly
-pub mod Agree
-pub mod Writing
-pub mod Counts
-pub mod Joining
-pub mod Posting
-pub mod Leaving
-pub mod Withdrawing
-pub mod Opening
 pub mod Following
-pub mod Calls
 pub mod LentPart
 pub mod Opens
 pub mod Asking
 pub mod Rooted
 pub mod Showing
-pub mod PartUpdates
 pub mod TableUpdates
 pub mod Checking

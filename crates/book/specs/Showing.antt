@@ -24,7 +24,7 @@ use Rattle.form.specs.Form.{Book}
 use Rattle.query.specs.Plain.{offerOf, listing-plain, listing-short}
 use Rattle.query.specs.Listing.{Written}
 use Rattle.book.specs.Promises.{partOf, tableTrials, listingAnswer, writtenWords, Lists}
-use Rattle.book.specs.Live.{live-whole, whole-ordered}
+use Rattle.form.specs.Live.{live-whole, whole-ordered}
 use Rattle.book.specs.Plainly.{table-declined}
 use Rattle.book.specs.LentPart.{whole-part}
 use Rattle.book.specs.Rooted.{Root, bare, topped, root-of}

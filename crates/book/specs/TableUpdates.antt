@@ -23,13 +23,15 @@ use Rattle.numbers.specs.Numbers.{FoundNumber}
 use Rattle.book.specs.declared.Update.{Update}
 use Rattle.book.specs.declared.Update.the-variants.{Done, Declined}
 use Rattle.book.specs.Promises.{partOf, capacityAt, tableTrials, updateAnswer, OnlyPart, Updates, Follows}
-use Rattle.book.specs.Sought.{number-sought}
-use Rattle.book.specs.Plainly.{refusing, cap-there, table-declined, withdraw-missing, withdraw-clear}
+use Rattle.filing.specs.Sought.{number-sought}
+use Rattle.filing.specs.Declining.{refusing, withdraw-missing, withdraw-clear}
+use Rattle.form.specs.There.{cap-there}
+use Rattle.book.specs.Plainly.{table-declined}
 use Rattle.book.specs.Following.{follows-declined, follows-posted, follows-withdrawn}
 use Rattle.book.specs.LentPart.{part-back, only-part, whole-part, lent-back, book-cap, book-start}
 use Rattle.book.specs.Opens.{one-cause, not-clear}
-use Rattle.book.specs.Posting.{Updated}
-use Rattle.book.specs.PartUpdates.{OutOfRange, Kept, PostCause, PostDone, WithdrawDone}
+use Rattle.filing.specs.Posting.{Updated}
+use Rattle.filing.specs.PartUpdates.{OutOfRange, Kept, PostCause, PostDone, WithdrawDone}
 
 -- ---- the ranges, as the code tests them
 

@@ -38,7 +38,7 @@ use Rattle.form.specs.Form.{Book, plainOffers}
 use Rattle.query.specs.QueriedPieces.{Pieces}
 use Rattle.query.specs.Plain.{offerOf, pieces-plain}
 use Rattle.query.specs.Counting.{Counted, Passed}
-use Rattle.book.specs.Live.{live-whole, whole-ordered}
+use Rattle.form.specs.Live.{live-whole, whole-ordered}
 use Rattle.book.specs.Promises.{partOf}
 use Rattle.book.specs.LentPart.{whole-part, no-form, no-book-cause}
 use Rattle.book.specs.Opens.{not-clear}

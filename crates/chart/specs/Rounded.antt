@@ -18,7 +18,7 @@ use Rattle.dynamic.specs.OfferTree.{Held}
 use Rattle.table.specs.Words.{Words}
 use Rattle.table.specs.Items.{Item}
 use Rattle.form.specs.Form.{Book, plainOffers}
-use Rattle.book.specs.Live.{book-sound}
+use Rattle.form.specs.Live.{book-sound}
 use Rattle.chart.specs.Promises.{ExactEnd, ExactCrossing, Exact}
 
 exact-end : (o : Offer) → T (offerInRange o) → ExactEnd o

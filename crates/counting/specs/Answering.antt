@@ -22,7 +22,7 @@ use Rattle.book.specs.declared.Update.{Update}
 use Rattle.book.specs.declared.Found.{Found}
 use Rattle.book.specs.declared.Listed.{Listed}
 use Rattle.book.specs.Promises.{partOf, capacityAt, tableTrials, OnlyPart, Updates, Queries, Lists, updateAnswer, foundAnswer, listingAnswer}
-use Rattle.book.specs.Live.{book-sound}
+use Rattle.form.specs.Live.{book-sound}
 use Rattle.history.specs.Claim.{asked-state, listed-state}
 use Rattle.counting.specs.Promises.{room, letterOf, named, outcome, most, Stands, Declines, Obeys, Counts}
 use Rattle.replying.specs.Answered.{answered, Prints}

@@ -9,3 +9,9 @@ pub mod RestWords
 pub mod Frames
 -- lists of items that share no slot
 pub mod Disjoint
+-- where there is a slot, the first word is the capacity
+pub mod There
+-- the form of a part is a matter of its own words
+pub mod Local
+-- what the form says of the live items; the plain book is sound
+pub mod Live

@@ -22,7 +22,7 @@ use Rattle.pieces.specs.Pieces.{items}
 use Rattle.book.specs.declared.Opening.{Opening}
 use Rattle.book.specs.declared.Opening.the-variants.{Opened}
 use Rattle.form.specs.Form.{Book, OffersIn}
-use Rattle.book.specs.Local.{Alike, book-alike}
+use Rattle.form.specs.Local.{Alike, book-alike}
 use Rattle.book.specs.Promises.{partOf, Opens, Passes}
 use Rattle.history.specs.History.{Happens, by-post, by-withdraw, by-query, by-listing, History, finished, next, LowPairs, Kept, EachCall}
 pub use Rattle.history.specs.History.{Low, Claim}

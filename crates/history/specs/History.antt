@@ -17,7 +17,7 @@ use Rattle.book.specs.declared.Update.{Update}
 use Rattle.book.specs.declared.Found.{Found}
 use Rattle.book.specs.declared.Listed.{Listed}
 use Rattle.form.specs.Form.{Book}
-use Rattle.book.specs.Local.{Alike}
+use Rattle.form.specs.Local.{Alike}
 use Rattle.book.specs.Promises.{partOf, Updates, Follows, Queries, Probes, Lists, updateAnswer, foundReturned, foundAnswer, listingAnswer}
 
 -- One call: the words before and after it, and its answer.

@@ -33,7 +33,7 @@ use Rattle.search.specs.Runs.{Kept, Meets, Answers as SearchAnswers}
 use Rattle.pieces.specs.Pieces.{items, item-laws}
 use Rattle.query.specs.Plain.{offerOf, pieces-plain}
 use Rattle.form.specs.Form.{Book, numberOf, plainOffers}
-use Rattle.book.specs.Sought.{count-read}
+use Rattle.filing.specs.Sought.{count-read}
 use Rattle.book.specs.Opens.{one-cause, not-clear}
 use Rattle.book.specs.Rooted.{Root, topped, Top, root-of}
 use Rattle.meet.specs.declared.Met.{Met}

@@ -25,12 +25,10 @@ use Rattle.plain.specs.QueryLaws.{Names, cheapest-names}
 use Rattle.plain.specs.ListingLaws.{in-order, envelope-listed}
 use Rattle.trees.specs.Tree.{Tree, leaves}
 use Rattle.table.specs.Items.{Item}
+pub use Rattle.table.specs.Items.{offerOf}
 use Rattle.pieces.specs.Pieces.{rateOf, baseOf, items, item-laws}
 use Rattle.query.specs.Lookup.{lookup}
 use Rattle.query.specs.Answer.{lookup-first}
-
-abbrev pub offerOf : Item → Offer
-offerOf a = a .offer
 
 -- ---- a query
 

@@ -17,7 +17,7 @@ use Rattle.form.specs.Form.{Book}
 use Rattle.book.specs.declared.Opening.{Opening}
 use Rattle.book.specs.declared.Opening.the-variants.{Opened, Declined as OpeningDeclined}
 use Rattle.book.specs.Promises.{partOf, capacityAt, Opens}
-use Rattle.book.specs.Plainly.{cap-there}
+use Rattle.form.specs.There.{cap-there}
 use Rattle.history.specs.Claim.{from-book}
 use Rattle.replay.specs.declared.Replayed.{Replayed}
 use Rattle.replay.specs.declared.Replayed.the-variants.{Ran, Stopped}

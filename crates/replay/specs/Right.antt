@@ -20,7 +20,7 @@ use Rattle.book.specs.declared.Listed.the-variants.{Pieces, Declined as Listing
 use Rattle.dynamic.specs.OfferTree.{Held}
 use Rattle.table.specs.Items.{Item}
 use Rattle.form.specs.Form.{Book}
-use Rattle.book.specs.Local.{Alike, book-alike}
+use Rattle.form.specs.Local.{Alike, book-alike}
 use Rattle.book.specs.Promises.{partOf, writtenWords, counted, updateAnswer, foundAnswer, listingAnswer}
 use Rattle.book.specs.Numbered.{numbered}
 use Rattle.history.specs.History.{Happens, by-post, by-withdraw, by-query, by-listing, History, finished, next}

@@ -11,8 +11,8 @@ use lib.IntN.{ℤ, pos, natAbs}
 use borrow.Author.Tests.{leb-true}
 use Rattle.plain.specs.Book.{Call, post, withdraw, query, listing, Answer, partLength}
 use Rattle.book.specs.Promises.{partOf, capacityAt, OnlyPart}
-use Rattle.book.specs.Local.{Alike}
 use Rattle.book.specs.LentPart.{whole-part, lent-back}
+use Rattle.form.specs.Local.{Alike}
 use Rattle.history.specs.History.{Happens, by-post, by-withdraw, by-query, by-listing, History, finished, next}
 use Rattle.encoding.specs.Encoding.{nextCall, stretch, fitting, runnable}
 use Rattle.encoding.specs.Decoding.{runnable-none, runnable-next, next-words}

@@ -16,6 +16,9 @@ pub record Item : Type 0 where
   pub slot : ℕ
   pub offer : Offer
 
+abbrev pub offerOf : Item → Offer
+offerOf a = a .offer
+
 abbrev slotOf : Item → ℕ
 slotOf a = a .slot
 

@@ -21,7 +21,7 @@ use Rattle.book.specs.declared.Found.the-variants.{Offer, Declined as FoundDecl
 use Rattle.book.specs.declared.Listed.{Listed}
 use Rattle.book.specs.declared.Listed.the-variants.{Pieces, Declined as ListingDeclined}
 use Rattle.book.specs.Promises.{partOf, counted, foundAnswer, listingAnswer, Queries, Lists}
-use Rattle.book.specs.Live.{book-sound}
+use Rattle.form.specs.Live.{book-sound}
 use Rattle.book.specs.Numbered.{from-one, numbered}
 use Rattle.theorems.specs.AnswerCases.{refused-word}
 

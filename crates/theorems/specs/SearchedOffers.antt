@@ -22,7 +22,7 @@ use Rattle.pieces.specs.Pieces.{items}
 use Rattle.query.specs.Plain.{offerOf, pieces-plain}
 use Rattle.book.specs.declared.Update.{Update}
 use Rattle.book.specs.Promises.{partOf, Follows}
-use Rattle.book.specs.Live.{live-whole, whole-ordered}
+use Rattle.form.specs.Live.{live-whole, whole-ordered}
 
 -- ---- the statement
 

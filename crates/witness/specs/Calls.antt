@@ -11,7 +11,7 @@ use Rattle.book.specs.declared.Opening.the-variants.{Opened}
 use Rattle.book.specs.declared.Update.{Update}
 use Rattle.book.specs.declared.Found.{Found}
 use Rattle.book.specs.declared.Listed.{Listed}
-use Rattle.book.specs.Local.{Alike}
+use Rattle.form.specs.Local.{Alike}
 use Rattle.book.specs.Promises.{partOf, Opens, Updates, Queries, Lists, updateAnswer, foundAnswer, listingAnswer}
 use Rattle.history.specs.History.{by-post, by-withdraw, by-query, by-listing, History, finished, next}
 use Rattle.history.specs.Claim.{Claim, every-history}

@@ -1,0 +1,131 @@
+-- The writes of a post and of a withdrawal, each as the code makes it, in the order of the code.
+use mathlib.Core.Path.{_≡_, sym, _∙_, ap}
+use mathlib.Core.Logic.{_≢_}
+use mathlib.Core.Option.{Option}
+use Prim.Native.Nat.{ℕ, suc, _<_}
+use native.Mathlib.Omega.{arith}
+use lib.ListN.{length}
+use lib.IntN.{ℤ, pos}
+use Rattle.offers.specs.Offers.{Offer}
+use Rattle.plain.specs.Book.{State, join, leave, holding}
+use Rattle.dynamic.specs.OfferTree.{Held}
+use Rattle.dynamic.specs.Valid.{bookLines}
+use Rattle.table.specs.Words.{Words, word, wset, wset-other, upTo}
+use Rattle.table.specs.Layout.{cap, cset, linkAt}
+use Rattle.table.specs.Free.{firstFree, taken, given}
+use Rattle.table.specs.Items.{Item}
+use Rattle.table.specs.Rep.{Within, within-cap}
+use Rattle.update.specs.Steps.{RemovedIn}
+use Rattle.form.specs.Form.{Book}
+use Rattle.numbers.specs.Numbers.{Added, Dropped}
+use Rattle.form.specs.Live.{live-slots}
+use Rattle.filing.specs.Agree.{agree-header, header-kept}
+use Rattle.filing.specs.Writing.{filled, freed-given, headed, first-free, Filled, Headed}
+use Rattle.filing.specs.Joining.{Joined, joins-alone, joins-among}
+use Rattle.filing.specs.Posting.{Updated, PostSteps, Postable, posted-plain}
+use Rattle.filing.specs.Withdrawing.{WithdrawSteps, LiveAt, withdrawn-plain, withdrawn-count}
+
+-- the root of the numbers is set
+root-room : (w : Words) (z : ℤ) {w′ : Words} → w′ ≡ wset w 4 z → cap w′ ≡ cap w
+root-room w z e = ap cap e ∙ agree-header w 4 z (omega arith) (omega arith) .room
+
+-- ---- post
+
+pub record PostWrites (o : Offer) (w v₁ v₂ v₃ w₁ w₂ w₃ w₄ u₁ u₂ w′ : Words) (s root root′ x e x′ e′ n k st h : ℕ) : Type 0 where
+  pub slot : s ≡ firstFree w
+  pub take : v₁ ≡ taken w
+  pub put-number : v₂ ≡ cset v₁ 0 s (o .number)
+  pub put-rate : v₃ ≡ cset v₂ 1 s (o .rate)
+  pub put-base : w₁ ≡ cset v₃ 2 s (o .base)
+  pub numbers-root : root ≡ upTo 8192 (word w 4)
+  pub added : Added s root w₁ w₂ root′
+  pub rooted : w₃ ≡ wset w₂ 4 (pos root′)
+  pub offers-root : x ≡ upTo 8192 (word w 1)
+  pub envelope-root : e ≡ upTo 8192 (word w 2)
+  pub joined : Joined s x e w₃ w₄ x′ e′ k st h
+  pub set-root : u₁ ≡ wset w₄ 1 (pos x′)
+  pub set-envelope : u₂ ≡ wset u₁ 2 (pos e′)
+  pub set-count : w′ ≡ wset u₂ 3 (pos n)
+
+joined-room : {s x e x′ e′ k st h : ℕ} {w w′ : Words} → Joined s x e w w′ x′ e′ k st h → cap w′ ≡ cap w
+joined-room (joins-alone ex ew ex′ ee′ ek est eh) = ap cap ew
+joined-room (joins-among nz i) = within-cap (i .within)
+
+module _ {w v₁ v₂ v₃ w₁ w₂ w₃ w₄ u₁ u₂ w′ : Words} {plain : State} {s root root′ x e x′ e′ n k st h : ℕ} {held : Option (Held Item)} (o : Offer) (b : Book w plain held) (new : Postable o (plain .capacity) (bookLines held)) (p : PostWrites o w v₁ v₂ v₃ w₁ w₂ w₃ w₄ u₁ u₂ w′ s root root′ x e x′ e′ n k st h) where
+  post-steps : PostSteps o w w₁ w₂ w₃ w₄ w′ s root root′ x e x′ e′ n k st h
+  post-steps =
+      record {
+        slot = p .slot;
+        filled = fills;
+        numbers-root = p .numbers-root;
+        added = p .added;
+        rooted = p .rooted;
+        offers-root = p .offers-root;
+        envelope-root = p .envelope-root;
+        joined = p .joined;
+        headed =
+            headed w₄
+            (omega (arith, b .some-slot, b .capacity, fills .agree .room, within-cap (p .added .within), root-room w₂ (pos root′) (p .rooted), joined-room (p .joined)))
+            (p .set-root) (p .set-envelope) (p .set-count);
+      }
+    where
+      fills : Filled s o w w₁
+      fills = let f = first-free b (new .room) (p .slot) .1 in filled w s (f .low) (f .high) o (p .take ∙ ap (λ (i : ℕ). wset w 5 (pos (linkAt w 3 i))) (sym (p .slot))) (p .put-number) (p .put-rate) (p .put-base)
+
+  pub post-done : n ≡ suc (length (bookLines held)) → Updated w′ (holding plain (join o (plain .offers))) held k st h
+  post-done count = posted-plain o b new post-steps count
+
+-- ---- withdraw
+
+pub record WithdrawWrites (number : ℤ) (w w₁ w₂ w₃ u₁ u₂ w₄ w′ : Words) (s root root′ x e x′ e′ n k st h : ℕ) : Type 0 where
+  pub numbers-root : root ≡ upTo 8192 (word w 4)
+  pub dropped : Dropped number root w w₁ root′
+  pub rooted : w₂ ≡ wset w₁ 4 (pos root′)
+  pub offers-root : x ≡ upTo 8192 (word w 1)
+  pub envelope-root : e ≡ upTo 8192 (word w 2)
+  pub removed : RemovedIn s x e w₂ w₃ x′ e′ k st h
+  pub set-root : u₁ ≡ wset w₃ 1 (pos x′)
+  pub set-envelope : u₂ ≡ wset u₁ 2 (pos e′)
+  pub set-count : w₄ ≡ wset u₂ 3 (pos n)
+  pub give-back : w′ ≡ given w₄ s
+
+module _ {w w₁ w₂ w₃ u₁ u₂ w₄ w′ : Words} {number : ℤ} {plain : State} {s root root′ x e x′ e′ n k st h : ℕ} {held : Option (Held Item)} (a : Item) (b : Book w plain held) (live : LiveAt number s (bookLines held) a) (p : WithdrawWrites number w w₁ w₂ w₃ u₁ u₂ w₄ w′ s root root′ x e x′ e′ n k st h) where
+  withdraw-steps : WithdrawSteps number w w₁ w₂ w₃ w₄ w′ s root root′ x e x′ e′ n k st h
+  withdraw-steps =
+      record {
+        numbers-root = p .numbers-root;
+        dropped = p .dropped;
+        rooted = p .rooted;
+        offers-root = p .offers-root;
+        envelope-root = p .envelope-root;
+        removed = p .removed;
+        headed = heads;
+        freed =
+            freed-given w₄ s
+            (omega (arith, live .slot, live-slots w held (b .offers .offers-in) .low (live .member)))
+            (omega (arith, live .slot, live-slots w held (b .offers .offers-in) .high (live .member), same, heads .agree .room))
+            (p .give-back);
+      }
+    where
+      same : cap w₃ ≡ cap w
+      same = within-cap (p .removed .within) ∙ root-room w₁ (pos root′) (p .rooted) ∙ within-cap (p .dropped .within)
+
+      heads : Headed x′ e′ n w₃ w₄
+      heads = headed w₃ (omega (arith, b .some-slot, b .capacity, same)) (p .set-root) (p .set-envelope) (p .set-count)
+
+  pub withdraw-done : suc n ≡ length (bookLines held) → Updated w′ (holding plain (leave number (plain .offers))) held k st h
+  withdraw-done count = withdrawn-plain a b live withdraw-steps count
+
+  -- the count written is the plain book's
+  pub withdraw-count : suc n ≡ length (bookLines held) → n ≡ length (leave number (plain .offers))
+  withdraw-count count = withdrawn-count a b live withdraw-steps count
+
+-- ---- the header on the way
+
+-- after a slot was filled and its number added
+pub post-header : {s : ℕ} {o : Offer} {w w₁ w₂ w₃ : Words} (z : ℤ) → Filled s o w w₁ → Within w₁ w₂ → w₃ ≡ wset w₂ 4 z → (i : ℕ) → i < 64 → i ≢ 4 → i ≢ 5 → word w₃ i ≡ word w i
+post-header {w₂} z f g e i h d d′ = ap (λ (v : Words). word v i) e ∙ wset-other w₂ 4 i z d ∙ header-kept g i h ∙ f .header i h d′
+
+-- after a number was dropped and its item removed
+pub withdraw-header : {w w₁ w₂ w₃ : Words} (z : ℤ) → Within w w₁ → w₂ ≡ wset w₁ 4 z → Within w₂ w₃ → (i : ℕ) → i < 64 → i ≢ 4 → word w₃ i ≡ word w i
+withdraw-header {w₁} z f e g i h d = header-kept g i h ∙ ap (λ (v : Words). word v i) e ∙ wset-other w₁ 4 i z d ∙ header-kept f i h

@@ -1,0 +1,196 @@
+-- A post and a withdrawal on the words lent from a book's start on: what the code's parts promise of them, and put together.
+use mathlib.Core.Path.{_≡_, refl, _∙_, ap, subst}
+use mathlib.Core.Bool.{Bool, true, false}
+use mathlib.Core.List.{List, [], _∷_, List·Memᴰ, List·Memᴰ·not-nil}
+use mathlib.Core.Option.{Option}
+use Prim.Native.Nat.{ℕ, suc, _+_, _*_, _-_, _≤_, _<_}
+use native.Mathlib.Omega.{arith}
+use lib.ListN.{length}
+use lib.IntN.{ℤ, pos}
+use Rattle.plain.specs.Causes.{Cause, causeNumber}
+use Rattle.plain.specs.Book.{State, Call, post, join, leave, rangeTrials, trials, holding, step}
+use Rattle.plain.specs.Rules.{FirstOf}
+use Rattle.plain.specs.Sound.{Clear}
+use Rattle.dynamic.specs.OfferTree.{Held}
+use Rattle.dynamic.specs.Valid.{bookLines}
+use Rattle.table.specs.Words.{Words, word, wset, wset-length, wset-other, upTo, upTo-most}
+use Rattle.table.specs.Layout.{cap, cset, cset-length, cset-cap, cset-rest, header-cap, beyond-outside}
+use Rattle.table.specs.Free.{firstFree, taken, given}
+use Rattle.table.specs.Items.{Item}
+use Rattle.table.specs.Rep.{Within, within-cap}
+use Rattle.descents.specs.Finds.{Found}
+use Rattle.update.specs.Steps.{RemovedIn}
+use Rattle.form.specs.Form.{Book}
+use Rattle.numbers.specs.Numbers.{FoundNumber, Added, Dropped}
+use Rattle.form.specs.Live.{live-length}
+use Rattle.filing.specs.Sought.{number-sought, rate-sought, count-read}
+use Rattle.filing.specs.Declining.{refusing, post-number-live, post-rate-live, post-full, post-clear}
+use Rattle.filing.specs.Joining.{Joined, joins-alone, joins-among}
+use Rattle.filing.specs.Posting.{Updated, Postable, postable}
+use Rattle.filing.specs.Withdrawing.{live-at}
+use Rattle.filing.specs.Calls.{WithdrawWrites, post-done, withdraw-done, withdraw-count}
+
+-- ---- the ranges
+
+-- whether a call's values are out of range; each such cause has number 4
+pub record OutOfRange (k : Call) (b : Bool) : Type 0 where
+  pub says : b ≡ true → (z : Cause) × FirstOf (rangeTrials k) z × (causeNumber z ≡ 4)
+  pub denies : b ≡ false → Clear (rangeTrials k)
+
+-- ---- words past the part stay
+
+pub record Kept (w w′ : Words) : Type 0 where
+  pub long : length w′ ≡ length w
+  pub room : cap w′ ≡ cap w
+  pub rest : (i : ℕ) → 64 * (cap w + 1) ≤ i → word w′ i ≡ word w i
+
+then : {w w′ w″ : Words} → Kept w w′ → Kept w′ w″ → Kept w w″
+then f g = record { long = g .long ∙ f .long; room = g .room ∙ f .room; rest = λ i h. g .rest i (omega (arith, h, f .room)) ∙ f .rest i h }
+
+kept-same : {w w′ : Words} → w′ ≡ w → Kept w w′
+kept-same e = record { long = ap length e; room = ap cap e; rest = λ i h. ap (λ (v : Words). word v i) e }
+
+kept-header : (w : Words) (i : ℕ) (z : ℤ) → 1 ≤ i → i < 64 → Kept w (wset w i z)
+kept-header w i z low high = record { long = wset-length w i z; room = header-cap w i z low high; rest = λ j h. wset-other w i j z (λ e. omega (arith, e, high, h)) }
+
+kept-cell : (w : Words) (f s : ℕ) (z : ℤ) → Kept w (cset w f s z)
+kept-cell w f s z = record { long = cset-length w f s z; room = cset-cap w f s z; rest = λ i h. cset-rest w f s z (beyond-outside w h) }
+
+kept-within : {w w′ : Words} → Within w w′ → Kept w w′
+kept-within {w} g = record { long = g .long; room = within-cap g; rest = λ i h. g .rest i (beyond-outside w h) }
+
+kept-joined : {s x e x′ e′ k st h : ℕ} {w w′ : Words} → Joined s x e w w′ x′ e′ k st h → Kept w w′
+kept-joined (joins-alone ex ew ex′ ee′ ek est eh) = kept-same ew
+kept-joined (joins-among nz i) = kept-within (i .within)
+
+-- ---- what the small steps write
+
+-- an offer's three fields in a slot that was taken
+abbrev pub filling : ℤ → ℤ → ℤ → ℕ → Words → Words
+filling n r z s w = cset (cset (cset (taken w) 0 s n) 1 s r) 2 s z
+
+kept-filling : (n r z : ℤ) (s : ℕ) (w : Words) → Kept w (filling n r z s w)
+kept-filling n r z s w =
+    then (then (then (kept-header w 5 _ (omega arith) (omega arith)) (kept-cell (taken w) 0 s n)) (kept-cell (cset (taken w) 0 s n) 1 s r)) (kept-cell (cset (cset (taken w) 0 s n) 1 s r) 2 s z)
+
+-- the roots and the live count
+abbrev pub rooting : ℕ → ℕ → ℕ → Words → Words
+rooting x e n w = wset (wset (wset w 1 (pos x)) 2 (pos e)) 3 (pos n)
+
+kept-rooting : (x e n : ℕ) (w : Words) → Kept w (rooting x e n w)
+kept-rooting x e n w =
+    then (then (kept-header w 1 (pos x) (omega arith) (omega arith)) (kept-header (wset w 1 (pos x)) 2 (pos e) (omega arith) (omega arith))) (kept-header (wset (wset w 1 (pos x)) 2 (pos e)) 3 (pos n) (omega arith) (omega arith))
+
+kept-given : (w : Words) (s : ℕ) → Kept w (given w s)
+kept-given w s =
+    then (then (kept-cell w 0 s (pos 0)) (kept-cell (cset w 0 s (pos 0)) 3 s (pos (firstFree w)))) (kept-header (cset (cset w 0 s (pos 0)) 3 s (pos (firstFree w))) 5 (pos s) (omega arith) (omega arith))
+
+pub filled-in : (n r z : ℤ) (w : Words) (s : ℕ) {w₁ w₂ w₃ w₄ : Words} → w₁ ≡ taken w → w₂ ≡ cset w₁ 0 s n → w₃ ≡ cset w₂ 1 s r → w₄ ≡ cset w₃ 2 s z → w₄ ≡ filling n r z s w
+filled-in n r z w s e₁ e₂ e₃ e₄ = e₄ ∙ ap (λ (v : Words). cset v 2 s z) (e₃ ∙ ap (λ (v : Words). cset v 1 s r) (e₂ ∙ ap (λ (v : Words). cset v 0 s n) e₁))
+
+pub rooted-in : (w : Words) (x e n : ℕ) {w₁ w₂ w₃ : Words} → w₁ ≡ wset w 1 (pos x) → w₂ ≡ wset w₁ 2 (pos e) → w₃ ≡ wset w₂ 3 (pos n) → w₃ ≡ rooting x e n w
+rooted-in w x e n e₁ e₂ e₃ = e₃ ∙ ap (λ (v : Words). wset v 3 (pos n)) (e₂ ∙ ap (λ (v : Words). wset v 2 (pos e)) e₁)
+
+pub read-most : (z : ℤ) {n : ℕ} → n ≡ upTo 8192 z → n ≤ 8192
+read-most z e = omega (arith, e, upTo-most 8192 z)
+
+pub found-at : {n : ℤ} {w : Words} {root s : ℕ} → root ≡ upTo 8192 (word w 4) → FoundNumber n root w s → FoundNumber n (upTo 8192 (word w 4)) w s
+found-at {n} {w} {s} e f = subst (λ (i : ℕ). FoundNumber n i w s) e f
+
+-- ---- post
+
+-- the number of the cause for which a post in range is declined, or 0
+pub record PostCause (n r : ℤ) (w : Words) (m : ℕ) : Type 0 where
+  pub declines : (z : ℤ) (plain : State) (held : Option (Held Item)) → Book w plain held → Clear (rangeTrials (post n r z)) → 0 < m → step plain (post n r z) ≡ refusing plain m
+  pub clears : (z : ℤ) (plain : State) (held : Option (Held Item)) → Book w plain held → Clear (rangeTrials (post n r z)) → m ≤ 0 → Clear (trials plain (post n r z)) × Postable (record { number = n; rate = r; base = z }) (plain .capacity) (bookLines held)
+
+module _ (n r : ℤ) (w : Words) {root s : ℕ} (er : root ≡ upTo 8192 (word w 4)) (f : FoundNumber n root w s) where
+  pub cause-number : 0 < s → PostCause n r w 5
+  cause-number h =
+      record {
+        declines = λ z plain held b g q. post-number-live b n r z g (number-sought b f er) (λ e. omega (arith, e, h));
+        clears = λ z plain held b g q. absurd (omega (arith, q));
+      }
+
+  module _ {x u : ℕ} (low : s ≤ 0) (ex : x ≡ upTo 8192 (word w 1)) (d : Found w 1 1 r x u) where
+    pub cause-rate : 0 < u → PostCause n r w 6
+    cause-rate h =
+        record {
+          declines = λ z plain held b g q. post-rate-live b n r z g (number-sought b f er) (omega (arith, low)) (rate-sought b d ex) (λ e. omega (arith, e, h));
+          clears = λ z plain held b g q. absurd (omega (arith, q));
+        }
+
+    module _ {i m : ℕ} (least : u ≤ 0) (ei : i ≡ upTo 8192 (word w 3)) (em : m ≡ cap w) where
+      pub cause-full : m ≤ i → PostCause n r w 7
+      cause-full h =
+          record {
+            declines = λ z plain held b g q. post-full b n r z g (number-sought b f er) (omega (arith, low)) (rate-sought b d ex) (omega (arith, least)) (omega (arith, h, em, ei, b .capacity, count-read b));
+            clears = λ z plain held b g q. absurd (omega (arith, q));
+          }
+
+      pub cause-none : i < m → PostCause n r w 0
+      cause-none h =
+          record {
+            declines = λ z plain held b g q. absurd (omega (arith, q));
+            clears = λ z plain held b g q.
+                let room : length (bookLines held) < plain .capacity = omega (arith, h, em, ei, b .capacity, count-read b) in (
+                  post-clear b n r z g (number-sought b f er) (omega (arith, low)) (rate-sought b d ex) (omega (arith, least)) room,
+                  postable n r z b g (number-sought b f er) (omega (arith, low)) (rate-sought b d ex) (omega (arith, least)) room,
+                );
+          }
+
+-- a post that is not declined: m offers are live after it
+pub record PostDone (n r z : ℤ) (w w′ : Words) (m k st h : ℕ) : Type 0 where
+  pub kept : Kept w w′
+  pub done :
+      (plain : State) (held : Option (Held Item)) → Book w plain held → Postable (record { number = n; rate = r; base = z }) (plain .capacity) (bookLines held) →
+      Updated w′ (holding plain (join (record { number = n; rate = r; base = z }) (plain .offers))) held k st h × (m ≡ suc (length (plain .offers)))
+
+pub posted-part :
+    (n r z : ℤ) {w w₁ w₂ w₃ w₄ w′ : Words} {s root root′ x e x′ e′ i m k st h : ℕ} →
+    root ≡ upTo 8192 (word w 4) → x ≡ upTo 8192 (word w 1) → e ≡ upTo 8192 (word w 2) → i ≡ upTo 8192 (word w 3) →
+    s ≡ firstFree w → w₁ ≡ filling n r z s w → Added s root w₁ w₂ root′ → w₃ ≡ wset w₂ 4 (pos root′) → Joined s x e w₃ w₄ x′ e′ k st h →
+    m ≡ suc i → w′ ≡ rooting x′ e′ m w₄ →
+    PostDone n r z w w′ m k st h
+posted-part n r z {w} {w₁} {w₂} {w₃} {w₄} {w′} {s} {root} {root′} {x} {e} {x′} {e′} {i} {m} er ex ee ei es e₁ added e₃ joined em e′′ =
+    record {
+      kept = then (then (then (then (then (then (kept-filling n r z s w) (kept-same e₁)) (kept-within (added .within))) (then (kept-header w₂ 4 (pos root′) (omega arith) (omega arith)) (kept-same e₃))) (kept-joined joined)) (kept-rooting x′ e′ m w₄)) (kept-same e′′);
+      done = λ plain held b new. (
+        post-done (record { number = n; rate = r; base = z }) b new
+            (record { slot = es; take = refl; put-number = refl; put-rate = refl; put-base = e₁; numbers-root = er; added = added; rooted = e₃; offers-root = ex; envelope-root = ee; joined = joined; set-root = refl; set-envelope = refl; set-count = e′′ })
+            (omega (arith, em, ei, count-read b)),
+        omega (arith, em, ei, count-read b, live-length b),
+      );
+    }
+
+-- ---- withdraw
+
+-- a withdrawal that is not declined, of the live offer in slot s
+pub record WithdrawDone (n : ℤ) (s : ℕ) (w w′ : Words) (m k st h : ℕ) : Type 0 where
+  pub kept : Kept w w′
+  pub done :
+      (plain : State) (held : Option (Held Item)) → Book w plain held → FoundNumber n (upTo 8192 (word w 4)) w s → 1 ≤ s →
+      Updated w′ (holding plain (leave n (plain .offers))) held k st h × (m ≡ length (leave n (plain .offers)))
+
+some-live : (live : List Item) {a : Item} → List·Memᴰ a live → 1 ≤ length live
+some-live [] m = absurd (List·Memᴰ·not-nil m)
+some-live (x ∷ xs) m = omega arith
+
+pub withdrawn-part :
+    (n : ℤ) {w w₁ w₂ w₃ w₄ w′ : Words} {s root root′ x e x′ e′ i m k st h : ℕ} →
+    root ≡ upTo 8192 (word w 4) → x ≡ upTo 8192 (word w 1) → e ≡ upTo 8192 (word w 2) → i ≡ upTo 8192 (word w 3) →
+    Dropped n root w w₁ root′ → w₂ ≡ wset w₁ 4 (pos root′) → RemovedIn s x e w₂ w₃ x′ e′ k st h →
+    m ≡ i - 1 → w₄ ≡ rooting x′ e′ m w₃ → w′ ≡ given w₄ s →
+    WithdrawDone n s w w′ m k st h
+withdrawn-part n {w} {w₁} {w₂} {w₃} {w₄} {w′} {s} {root} {root′} {x} {e} {x′} {e′} {i} {m} {k} {st} {h} er ex ee ei dropped e₂ removed em e₄ e′′ =
+    record {
+      kept = then (then (then (then (then (then (kept-within (dropped .within)) (then (kept-header w₁ 4 (pos root′) (omega arith) (omega arith)) (kept-same e₂))) (kept-within (removed .within))) (kept-rooting x′ e′ m w₃)) (kept-same e₄)) (kept-given w₄ s)) (kept-same e′′);
+      done = finish;
+    }
+  where
+    finish : (plain : State) (held : Option (Held Item)) → Book w plain held → FoundNumber n (upTo 8192 (word w 4)) w s → 1 ≤ s → Updated w′ (holding plain (leave n (plain .offers))) held k st h × (m ≡ length (leave n (plain .offers)))
+    finish plain held b f low =
+        let (a, live) = live-at (number-sought b f refl) (λ q. omega (arith, q, low)) in
+        let writes : WithdrawWrites n w w₁ w₂ w₃ (wset w₃ 1 (pos x′)) (wset (wset w₃ 1 (pos x′)) 2 (pos e′)) w₄ w′ s root root′ x e x′ e′ m k st h = record { numbers-root = er; dropped = dropped; rooted = e₂; offers-root = ex; envelope-root = ee; removed = removed; set-root = refl; set-envelope = refl; set-count = e₄; give-back = e′′ } in
+        let count : suc m ≡ length (bookLines held) = omega (arith, em, ei, count-read b, some-live (bookLines held) (live .member)) in
+        (withdraw-done a b live writes count, withdraw-count a b live writes count)

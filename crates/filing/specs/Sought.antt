@@ -1,0 +1,173 @@
+-- What the searches for a number and for a rate tell of the live items.
+use mathlib.Core.Path.{_≡_, refl, sym, _∙_, ap, subst}
+use mathlib.Core.Logic.{_≢_}
+use mathlib.Core.Bool.{Bool, true, false, not, _&&_}
+use mathlib.Core.List.{List, [], _∷_, map, List·Memᴰ, List·Memᴰ·head, List·Memᴰ·tail, List·Memᴰ·not-nil, Memᴰ·append-left, Memᴰ·map, Memᴰ·of-map}
+use mathlib.Core.Option.{Option, none, some}
+use Prim.Native.Nat.{ℕ, _≤_}
+use native.Mathlib.Omega.{arith}
+use lib.ListN.{length}
+use lib.Dec.{T, T-not, not-T}
+use lib.IntN.{ℤ, pos}
+use Rattle.lists.specs.Filter.{every}
+use Rattle.lists.specs.Tests.{any, none-at}
+use Rattle.lists.specs.Bools.{not-failed}
+use Rattle.integers.specs.Equal.{equal}
+use Rattle.integers.specs.Parts.{equal-eq, unequal}
+use Rattle.offers.specs.Offers.{Offer}
+use Rattle.plain.specs.Book.{State}
+use Rattle.envelopes.specs.EnvelopeLaws.{ordered-pairs}
+use Rattle.trees.specs.Tree.{Tree, leaf, node, leaves, last}
+use Rattle.trees.specs.Leaves.{last-leaf}
+use Rattle.trees.specs.Operations.{Part, partLeaves, find}
+use Rattle.trees.specs.Order.{Falling}
+use Rattle.trees.specs.Find.{find-complete, none-find}
+use Rattle.dynamic.specs.OfferTree.{Held, heldShape}
+use Rattle.dynamic.specs.Valid.{bookLines}
+use Rattle.dynamic.specs.Rearranged.{stored}
+use Rattle.table.specs.Words.{Words, word, upTo, upTo-in}
+use Rattle.table.specs.Layout.{cap-most}
+use Rattle.table.specs.Items.{Item, Slots}
+use Rattle.table.specs.Rep.{refOf}
+use Rattle.table.specs.PartTrees.{partRef}
+use Rattle.descents.specs.Finds.{Found, foundAt}
+use Rattle.pieces.specs.Pieces.{rateOf}
+use Rattle.form.specs.Frames.{held-slots}
+use Rattle.form.specs.Form.{Book, OffersIn, numberOf, offersRef, envelopeRef}
+use Rattle.numbers.specs.Numbers.{NumbersAt, FoundNumber}
+use Rattle.table.specs.Items.{offerOf}
+use Rattle.form.specs.Live.{live-slots, live-holds}
+
+-- ---- some live offer has a key, or none has
+
+module _ {A : Type 0} (test : A → Bool) where
+  pub any-some : (os : List A) → T (any test os) → (o : A) × List·Memᴰ o os × T (test o)
+  any-some [] t = absurd t
+  any-some (x ∷ xs) t = go (test x) refl t (any-some xs)
+    where
+      go : (b : Bool) → test x ≡ b → T (not (not b && every (λ o. not (test o)) xs)) → (T (any test xs) → (o : A) × List·Memᴰ o xs × T (test o)) → (o : A) × List·Memᴰ o (x ∷ xs) × T (test o)
+      go true e t rec = (x, List·Memᴰ·head refl, subst T (sym e) tt)
+      go false e t rec = let (o, m, u) = rec t in (o, List·Memᴰ·tail m, u)
+
+  pub not-any : (os : List A) → ((o : A) → List·Memᴰ o os → T (not (test o))) → T (not (any test os))
+  not-any os h = not-T (any test os) (λ t. let (o, m, u) = any-some os t in T-not (test o) (h o m) u)
+
+module _ (key : Offer → ℤ) (n : ℤ) (live : List Item) where
+  pub keyed-any : {a : Item} → List·Memᴰ a live → key (a .offer) ≡ n → T (any (λ o. equal (key o) n) (map offerOf live))
+  keyed-any {a} m e = not-failed (any (λ o. equal (key o) n) (map offerOf live)) (λ t. unequal (key (a .offer)) n (none-at (λ o. equal (key o) n) (map offerOf live) t (a .offer) (Memᴰ·map offerOf m)) e)
+
+  pub keyed-none : ((a : Item) → List·Memᴰ a live → key (a .offer) ≢ n) → T (not (any (λ o. equal (key o) n) (map offerOf live)))
+  keyed-none h = not-any (λ o. equal (key o) n) (map offerOf live) (λ o m. not-T (equal (key o) n) (λ t. let (a, i, e) = Memᴰ·of-map offerOf live m in h a i (ap key e ∙ equal-eq (key o) n t)))
+
+-- ---- what a search told
+
+-- the slot of the live item with that key, or 0 where there is none
+pub data Sought (key : Item → ℤ) (n : ℤ) (live : List Item) (s : ℕ) : Type 0 where
+  at-item : {a : Item} → List·Memᴰ a live → key a ≡ n → s ≡ a .slot → Sought key n live s
+  nowhere : ((a : Item) → List·Memᴰ a live → key a ≢ n) → s ≡ 0 → Sought key n live s
+
+module _ {key : Item → ℤ} {n : ℤ} {live : List Item} {s : ℕ} where
+  pub sought-item : Sought key n live s → s ≢ 0 → (a : Item) × List·Memᴰ a live × (key a ≡ n) × (s ≡ a .slot)
+  sought-item (at-item {a} m e d) h = (a, m, e, d)
+  sought-item (nowhere no-one d) h = absurd (h d)
+
+  pub sought-none : {c : ℕ} → Slots c live → Sought key n live s → s ≡ 0 → (a : Item) → List·Memᴰ a live → key a ≢ n
+  sought-none g (at-item m e d) h = absurd (omega (arith, g .low m))
+  sought-none g (nowhere no-one d) h = no-one
+
+-- a search that finds each live item, and nothing where there is none, told one of the two
+pub sought-by :
+    (key : Offer → ℤ) (n : ℤ) (live : List Item) {s : ℕ} →
+    ((a : Item) → List·Memᴰ a live → key (a .offer) ≡ n → s ≡ a .slot) →
+    (((a : Item) → List·Memᴰ a live → key (a .offer) ≢ n) → s ≡ 0) →
+    Sought (λ a. key (a .offer)) n live s
+sought-by key n live {s} found missing = go (any (λ o. equal (key o) n) (map offerOf live)) (λ t. t) (λ t. t)
+  where
+    here : T (any (λ o. equal (key o) n) (map offerOf live)) → Sought (λ a. key (a .offer)) n live s
+    here t =
+        let (o, m, u) = any-some (λ o. equal (key o) n) (map offerOf live) t in
+        let (a, i, e) = Memᴰ·of-map offerOf live m in
+        let k : key (a .offer) ≡ n = ap key e ∙ equal-eq (key o) n u in
+        at-item i k (found a i k)
+
+    gone : T (not (any (λ o. equal (key o) n) (map offerOf live))) → Sought (λ a. key (a .offer)) n live s
+    gone t =
+        let no-one : (a : Item) → List·Memᴰ a live → key (a .offer) ≢ n = λ a m. unequal (key (a .offer)) n (none-at (λ o. equal (key o) n) (map offerOf live) t (a .offer) (Memᴰ·map offerOf m)) in
+        nowhere no-one (missing no-one)
+
+    go : (b : Bool) → (T b → T (any (λ o. equal (key o) n) (map offerOf live))) → (T (not b) → T (not (any (λ o. equal (key o) n) (map offerOf live)))) → Sought (λ a. key (a .offer)) n live s
+    go true f g = here (f tt)
+    go false f g = gone (g tt)
+
+-- ---- the header's words as numbers
+
+refs-high : {c : ℕ} (t : Tree Item) → ((a : Item) → List·Memᴰ a (leaves t) → a .slot ≤ c) → c ≤ 4096 → refOf t ≤ 8192
+refs-high (leaf a) h k = omega (arith, h a (List·Memᴰ·head refl))
+refs-high (node l r) h k = omega (arith, h (last l) (Memᴰ·append-left (leaves r) (last-leaf l)))
+
+part-high : {c : ℕ} (p : Part Item) → ((a : Item) → List·Memᴰ a (partLeaves p) → a .slot ≤ c) → c ≤ 4096 → partRef p ≤ 8192
+part-high none h k = omega arith
+part-high (some t) h k = refs-high t h k
+
+read-word : {z : ℤ} {n : ℕ} → z ≡ pos n → n ≤ 8192 → upTo 8192 z ≡ n
+read-word {n} e h = ap (upTo 8192) e ∙ upTo-in 8192 n h
+
+module _ {w : Words} {plain : State} {held : Option (Held Item)} (b : Book w plain held) where
+  pub live-most : length (bookLines held) ≤ plain .capacity
+  live-most = omega (arith, b .free .slots-used, b .capacity)
+
+  pub capacity-most : plain .capacity ≤ 4096
+  capacity-most = omega (arith, b .capacity, cap-most w)
+
+  -- the live count
+  pub count-read : upTo 8192 (word w 3) ≡ length (bookLines held)
+  count-read = read-word (b .offers .live-count) (omega (arith, live-most, capacity-most))
+
+  -- the root of the offers
+  pub offers-read : upTo 8192 (word w 1) ≡ offersRef held
+  offers-read = read-word (b .offers .offers-root) (high held (b .offers .offers-in))
+    where
+      high : (h : Option (Held Item)) → OffersIn w h → offersRef h ≤ 8192
+      high none o = omega arith
+      high (some h) o = refs-high (heldShape h) (λ a m. o .slots .high m) (cap-most w)
+
+  -- the root's envelope
+  pub envelope-read : upTo 8192 (word w 2) ≡ envelopeRef held
+  envelope-read = read-word (b .offers .envelope-root) (high held (b .offers .offers-in))
+    where
+      high : (h : Option (Held Item)) → OffersIn w h → envelopeRef h ≤ 8192
+      high none o = omega arith
+      high (some h) o = part-high (h .whole) (λ a m. held-slots o .high (Memᴰ·append-left (stored (h .tree)) m)) (cap-most w)
+
+  -- the root of the numbers
+  pub numbers-read : upTo 8192 (word w 4) ≡ partRef (b .numbers .numbers)
+  numbers-read =
+      read-word (b .numbers .numbers-root)
+      (part-high (b .numbers .numbers) (λ a m. live-slots w held (b .offers .offers-in) .high (b .numbers .numbers-in .all-live a m)) (cap-most w))
+
+  pub numbers-at : {root : ℕ} → root ≡ upTo 8192 (word w 4) → NumbersAt w root (bookLines held) (b .numbers .numbers)
+  numbers-at e =
+      record { root-is = e ∙ numbers-read; slots = live-slots w held (b .offers .offers-in); holds = live-holds w held (b .offers .offers-in); numbers = b .numbers .numbers-in }
+
+  -- ---- the two searches
+
+  pub number-sought : {n : ℤ} {root s : ℕ} → FoundNumber n root w s → root ≡ upTo 8192 (word w 4) → Sought numberOf n (bookLines held) s
+  number-sought {n} f e = sought-by (λ o. o .number) n (bookLines held) (f .found _ _ (numbers-at e)) (f .missing _ _ (numbers-at e))
+
+  pub rate-sought : {r : ℤ} {x s : ℕ} → Found w 1 1 r x s → x ≡ upTo 8192 (word w 1) → Sought rateOf r (bookLines held) s
+  rate-sought {r} {x} {s} f e = go held (b .offers .offers-in) (e ∙ offers-read)
+    where
+      go : (h : Option (Held Item)) → OffersIn w h → x ≡ offersRef h → Sought rateOf r (bookLines h) s
+      go none o d = nowhere (λ a m. absurd (List·Memᴰ·not-nil m)) (f .nothing d)
+      go (some h) o d =
+          sought-by (λ p. p .rate) r (leaves (heldShape h))
+          (λ a m k. result ∙ ap foundAt (find-complete rateOf r (heldShape h) falls (record { inside = m; keyed = k })))
+          (λ no-one. result ∙ ap foundAt (none-find rateOf r (heldShape h) (λ a q. no-one a (q .inside) (q .keyed))))
+        where
+          falls : Falling rateOf (leaves (heldShape h))
+          falls = ordered-pairs (o .right .ordered)
+
+          result : s ≡ foundAt (find rateOf r (heldShape h))
+          result =
+              f .is (heldShape h) rateOf (record { kind = omega arith; root = d; slots = o .slots; tied = o .tied }) (o .right .balanced)
+              (record { read = λ m. o .kept .held m .rate })

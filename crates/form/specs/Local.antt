@@ -1,0 +1,115 @@
+-- The form is a matter of the part's words alone: words past the part may change as they will.
+use mathlib.Core.Path.{_≡_, sym, _∙_, ap}
+use mathlib.Core.List.{List}
+use mathlib.Core.Option.{Option, none, some}
+use Prim.Native.Nat.{ℕ, _<_}
+use native.Mathlib.Omega.{arith}
+use lib.ListN.{length}
+use Rattle.plain.specs.Book.{State, partLength}
+use Rattle.trees.specs.Operations.{Part}
+use Rattle.dynamic.specs.OfferTree.{Held}
+use Rattle.dynamic.specs.Valid.{bookLines}
+use Rattle.dynamic.specs.Rearranged.{stored}
+use Rattle.table.specs.Words.{Words, word, word-out}
+use Rattle.table.specs.Layout.{cap, cap-of, cell, place-high, Valid, valid?, spot, spot-of, spot-in, spot-out}
+use Rattle.table.specs.Items.{Item, Slots}
+use Rattle.table.specs.PartTrees.{TiedPart}
+use Rattle.form.specs.Stored.{HeldIn}
+use Rattle.form.specs.Frames.{Same, tied-same, part-same, holds-same, stored-same}
+use Rattle.form.specs.Form.{Book, OffersIn, OffersStand, Numbered, Freely, FreeChain, free-none, free-more}
+
+-- the same words in a part of capacity c
+pub record Alike (c : ℕ) (w w′ : Words) : Type 0 where
+  pub long : length w′ ≡ length w
+  pub words : (i : ℕ) → i < partLength c → word w′ i ≡ word w i
+
+module _ {w w′ : Words} {c : ℕ} (fits : cap w ≡ c) (a : Alike c w w′) where
+  pub alike-cap : cap w′ ≡ cap w
+  alike-cap = cap-of w w′ (a .long) (a .words 0 (omega arith))
+
+  pub alike-cell : (f s : ℕ) → cell w′ f s ≡ cell w f s
+  unfolding cell
+  alike-cell f s = ap (word w′) (spot-of w w′ f s (a .long) alike-cap) ∙ go (valid? w f s)
+    where
+      go : Dec (Valid w f s) → word w′ (spot w f s) ≡ word w (spot w f s)
+      go (yes v) = a .words (spot w f s) (omega (arith, spot-in v, place-high v))
+      go (no v) = word-out w′ (spot w f s) (omega (arith, spot-out v, a .long)) ∙ sym (word-out w (spot w f s) (omega (arith, spot-out v)))
+
+  alike-same : (F : ℕ → Type 0) (xs : List Item) → Same F xs w w′
+  alike-same F xs = record { cells = λ f s p i. alike-cell f s }
+
+  alike-slots : {xs : List Item} → Slots (cap w) xs → Slots (cap w′) xs
+  alike-slots {xs} s = rw alike-cap s
+
+  alike-held : {x e : ℕ} (h : Held Item) → HeldIn w x e h → HeldIn w′ x e h
+  alike-held h i =
+      record {
+        root = i .root;
+        envelope = i .envelope;
+        slots = alike-slots (i .slots);
+        kept = holds-same (i .kept) (alike-same _ _);
+        tied = tied-same (i .tied) (alike-same _ _);
+        stored = stored-same (i .stored) (alike-same _ _) (alike-same _ _);
+        pieces = part-same (h .whole) (i .pieces) (alike-same _ _);
+        right = i .right;
+      }
+
+  alike-offers : (held : Option (Held Item)) → OffersIn w held → OffersIn w′ held
+  alike-offers none o = tt
+  alike-offers (some h) o = alike-held h o
+
+  alike-tied : (p : Part Item) → TiedPart w 2 p → TiedPart w′ 2 p
+  alike-tied none t = tt
+  alike-tied (some u) t = tied-same t (alike-same _ _)
+
+  alike-free : {ss : List ℕ} → FreeChain w ss → FreeChain w′ ss
+  alike-free free-none = free-none
+  alike-free (free-more {s} {ss} low high zero next rest) = free-more low (rw alike-cap high) (alike-cell 0 s ∙ zero) (alike-cell 3 s ∙ next) (alike-free rest)
+
+pub book-alike : {w w′ : Words} {s : State} {held : Option (Held Item)} → Book w s held → Alike (s .capacity) w w′ → Book w′ s held
+book-alike {w} {w′} {s} {held} b a =
+    record {
+      capacity = alike-cap (b .capacity) a ∙ b .capacity;
+      some-slot = b .some-slot;
+      offers =
+          record {
+            offers-root = header 1 (omega arith) ∙ o .offers-root;
+            envelope-root = header 2 (omega arith) ∙ o .envelope-root;
+            live-count = header 3 (omega arith) ∙ o .live-count;
+            offers-in = alike-offers (b .capacity) a held (o .offers-in);
+          };
+      numbers =
+          record {
+            numbers = n .numbers;
+            numbers-root = header 4 (omega arith) ∙ n .numbers-root;
+            numbers-in =
+                record {
+                  tied = alike-tied (b .capacity) a (n .numbers) (n .numbers-in .tied);
+                  balanced = n .numbers-in .balanced;
+                  falling = n .numbers-in .falling;
+                  all-live = n .numbers-in .all-live;
+                  all-there = n .numbers-in .all-there;
+                };
+          };
+      free =
+          record {
+            free = f .free;
+            first-free = header 5 (omega arith) ∙ f .first-free;
+            free-chain = alike-free (b .capacity) a (f .free-chain);
+            free-apart = f .free-apart;
+            slots-used = f .slots-used ∙ sym (alike-cap (b .capacity) a);
+          };
+      stands-for = b .stands-for;
+    }
+  where
+    header : (i : ℕ) → i < 64 → word w′ i ≡ word w i
+    header i h = a .words i (omega arith)
+
+    o : OffersStand w held
+    o = b .offers
+
+    n : Numbered w (bookLines held)
+    n = b .numbers
+
+    f : Freely w (length (bookLines held))
+    f = b .free
