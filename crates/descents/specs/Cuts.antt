@@ -45,6 +45,10 @@ pub record Halving (k f : ℕ) (least : ℤ) (x limit : ℕ) (w w′ : Words) (y
 empty : {w : Words} {k : ℕ} → k ≤ 2 → RepP w k 0 none
 empty h = record { kind = h; root = refl; slots = record { low = λ m. elim m [ ]; high = λ m. elim m [ ]; apart = Pairwise·nil }; tied = tt }
 
+-- a capacity that is known stays known
+pub still-known : {c : ℕ} {w w′ : Words} → c ≡ cap w → Within w w′ → c ≡ cap w′
+still-known e h = e ∙ sym (within-cap h)
+
 -- ---- a leaf, or nothing
 
 pub halved-leaf : {k f x limit : ℕ} {b : Bool} {w : Words} (least : ℤ) (d : Bool) → x ≤ 4096 → b ≡ leZ least (cell w f x) → b ≡ d → Halving k f least x limit w w (cond d x 0) (cond d 0 x)

@@ -13,7 +13,15 @@ pub struct Cut {
 
 // Cuts a tree behind its last leaf whose field is at least `least`, where these leaves stand in front. Where nothing is cut off, nothing is
 // written. `c` is the capacity.
-fn split_in(part: &mut [i64], c: u32, tree: u8, field: usize, least: i64, x: u32, limit: u32) -> Cut
+pub fn split_in(
+    part: &mut [i64],
+    c: u32,
+    tree: u8,
+    field: usize,
+    least: i64,
+    x: u32,
+    limit: u32,
+) -> Cut
     requires { ⌜ c ≡ cap (now part) ⌝ }
     ensures { λ r. ⌜ Halving tree field least x limit (now (part .entry)) (now (part .exit)) (r .front) (r .back) ⌝ }
 {
@@ -35,8 +43,8 @@ fn split_in(part: &mut [i64], c: u32, tree: u8, field: usize, least: i64, x: u32
         if b == 0 {
             return Cut { front: x, back: 0 };
         }
-        let l = table::child(part, tree, false, x);
-        let y = shape::join(part, tree, gap, l, f);
+        let l = table::child_in(part, c, tree, false, x);
+        let y = shape::join_in(part, c, tree, gap, l, f);
         return Cut { front: y, back: b };
     }
     let l = table::child_in(part, c, tree, false, x);
@@ -47,7 +55,7 @@ fn split_in(part: &mut [i64], c: u32, tree: u8, field: usize, least: i64, x: u32
     if f == 0 {
         return Cut { front: 0, back: x };
     }
-    let y = shape::join(part, tree, gap, b, r);
+    let y = shape::join_in(part, c, tree, gap, b, r);
     Cut { front: f, back: y }
 }
 
@@ -58,11 +66,11 @@ pub fn split(part: &mut [i64], tree: u8, field: usize, least: i64, x: u32, limit
     split_in(part, c, tree, field, least, x, limit)
 }
 
-// The first leaf of a balanced tree, or, on the other side, its last; 0 for an empty one.
-pub fn end(part: &[i64], tree: u8, side: bool, x: u32) -> u32
+// The first leaf of a balanced tree, or, on the other side, its last; 0 for an empty one. `c` is the capacity.
+pub fn end_in(part: &[i64], c: u32, tree: u8, side: bool, x: u32) -> u32
+    requires { ⌜ c ≡ cap (now part) ⌝ }
     ensures { λ r. ⌜ Ended (now (part .entry)) tree side x r ⌝ }
 {
-    let c = table::capacity(part);
     let mut y = x;
     let mut limit: u32 = 24;
     while y > 4096 {
@@ -73,6 +81,12 @@ pub fn end(part: &[i64], tree: u8, side: bool, x: u32) -> u32
         y = table::child_in(part, c, tree, side, y);
     }
     y
+}
+
+pub fn end(part: &[i64], tree: u8, side: bool, x: u32) -> u32
+    ensures { λ r. ⌜ Ended (now (part .entry)) tree side x r ⌝ }
+{
+    end_in(part, table::capacity(part), tree, side, x)
 }
 
 // The leaf of a balanced tree whose field is `key`, where fields fall from left to right; 0 where there is none.

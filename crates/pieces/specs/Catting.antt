@@ -54,6 +54,11 @@ catted-left {l} {r} {w} e =
 
 -- ---- what writing a thread leaves
 
+-- the capacity
+pub threaded-known : {c : ℕ} {w′ : Words} (w : Words) (f g h s : ℕ) (x y z : ℤ) → c ≡ cap w → w′ ≡ cset (cset (cset w f s x) g s y) h s z → c ≡ cap w′
+threaded-known w f g h s x y z e d =
+    e ∙ sym (ap cap d ∙ cset-cap (cset (cset w f s x) g s y) h s z ∙ cset-cap (cset w f s x) g s y ∙ cset-cap w f s x)
+
 tied-other : {k f : ℕ} {w : Words} {t : Tree Item} (s : ℕ) (z : ℤ) → ¬ Field k f → Tied w k t → Tied (cset w f s z) k t
 tied-other s z n tied-leaf = tied-leaf
 tied-other {k} {f} {w} s z n (tied-node {l} {r} ol or el er eh) = tied-node (tied-other s z n ol) (tied-other s z n or) (same (a-child false refl) ∙ el) (same (a-child true refl) ∙ er) (same (a-height refl) ∙ eh)

@@ -1,5 +1,6 @@
 // Piece trees in the table: an envelope's pieces with their crossings, cut by rate and put together.
 ghost use mathlib.Core.Path.{_≡_};
+ghost use Rattle.table.specs.Layout.{cap};
 ghost use Rattle.pieces.specs.Pieces.{CutAt, Catted, Seamed};
 ghost use Rattle.pieces.specs.Cutting.{leastRate};
 
@@ -16,17 +17,26 @@ fn least_rate(strict: bool, rate: i64) -> i64
     rate
 }
 
-// Cuts a piece tree by rate: in front the pieces whose rate is at least `rate`, or above it where the cut is strict.
-pub fn cut(part: &mut [i64], strict: bool, rate: i64, x: u32) -> descents::Cut
+// Cuts a piece tree by rate: in front the pieces whose rate is at least `rate`, or above it where the cut is strict. `c` is the capacity.
+pub fn cut_in(part: &mut [i64], c: u32, strict: bool, rate: i64, x: u32) -> descents::Cut
+    requires { ⌜ c ≡ cap (now part) ⌝ }
     ensures { λ r. ⌜ CutAt strict rate x (now (part .entry)) (now (part .exit)) (r .front) (r .back) ⌝ }
 {
     let least = least_rate(strict, rate);
-    descents::split(part, 0, 1, least, x, 24)
+    descents::split_in(part, c, 0, 1, least, x, 24)
+}
+
+pub fn cut(part: &mut [i64], strict: bool, rate: i64, x: u32) -> descents::Cut
+    ensures { λ r. ⌜ CutAt strict rate x (now (part .entry)) (now (part .exit)) (r .front) (r .back) ⌝ }
+{
+    let c = table::capacity(part);
+    cut_in(part, c, strict, rate, x)
 }
 
 // Puts two piece trees together, either of which may be empty, and keeps the crossing at the seam: `s` is the last piece of the left one,
-// `n` the first of the right one.
-pub fn cat_at(part: &mut [i64], l: u32, r: u32, s: u32, n: u32) -> u32
+// `n` the first of the right one. `c` is the capacity.
+pub fn cat_at(part: &mut [i64], c: u32, l: u32, r: u32, s: u32, n: u32) -> u32
+    requires { ⌜ c ≡ cap (now part) ⌝ }
     ensures { λ x. ⌜ Seamed l r s n (now (part .entry)) (now (part .exit)) x ⌝ }
 {
     if l == 0 {
@@ -35,14 +45,15 @@ pub fn cat_at(part: &mut [i64], l: u32, r: u32, s: u32, n: u32) -> u32
     if r == 0 {
         return l;
     }
-    let numerator = search::base(part, n) - search::base(part, s);
-    let denominator = search::rate(part, s) - search::rate(part, n);
-    table::put_three(part, s, 6, numerator, 7, denominator, 19, n as i64);
-    shape::join(part, 0, s, l, r)
+    let numerator = search::prices::base_in(part, c, n) - search::prices::base_in(part, c, s);
+    let denominator = search::prices::rate_in(part, c, s) - search::prices::rate_in(part, c, n);
+    table::put_three_in(part, c, s, 6, numerator, 7, denominator, 19, n as i64);
+    shape::join_in(part, c, 0, s, l, r)
 }
 
 // The same, where the two pieces are not known.
-pub fn cat(part: &mut [i64], l: u32, r: u32) -> u32
+pub fn cat_in(part: &mut [i64], c: u32, l: u32, r: u32) -> u32
+    requires { ⌜ c ≡ cap (now part) ⌝ }
     ensures { λ x. ⌜ Catted l r (now (part .entry)) (now (part .exit)) x ⌝ }
 {
     if l == 0 {
@@ -51,7 +62,14 @@ pub fn cat(part: &mut [i64], l: u32, r: u32) -> u32
     if r == 0 {
         return l;
     }
-    let s = descents::end(part, 0, true, l);
-    let n = descents::end(part, 0, false, r);
-    cat_at(part, l, r, s, n)
+    let s = descents::end_in(part, c, 0, true, l);
+    let n = descents::end_in(part, c, 0, false, r);
+    cat_at(part, c, l, r, s, n)
+}
+
+pub fn cat(part: &mut [i64], l: u32, r: u32) -> u32
+    ensures { λ x. ⌜ Catted l r (now (part .entry)) (now (part .exit)) x ⌝ }
+{
+    let c = table::capacity(part);
+    cat_in(part, c, l, r)
 }

@@ -4,7 +4,6 @@ ghost use mathlib.Core.Path.{_≡_};
 ghost use mathlib.Core.Bool.{_&&_};
 ghost use lib.Dec.{leb};
 ghost use Rattle.table.specs.Layout.{cap};
-ghost use Rattle.table.specs.Rep.{childAt};
 ghost use Rattle.search.specs.Prices.{rateAt, baseAt, numeratorAt, denominatorAt, crossingPriceAt};
 ghost use Rattle.search.specs.Moves.{Under, topWord, pointWord};
 ghost use Rattle.search.specs.Actions.{Retreats, Advances, Pops, Acts, sided};
@@ -12,7 +11,7 @@ ghost use Rattle.search.specs.SearchSteps.{Stepped};
 ghost use Rattle.search.specs.Choices.{Recedes, Chooses};
 ghost use Rattle.search.specs.Runs.{started, Meets};
 
-mod prices; // prices.rt: comparisons of a crossing with a local envelope
+pub mod prices; // prices.rt: comparisons of a crossing with a local envelope
 
 // The state of a search: u and v with their stacks, and whether it is finished.
 pub struct Search {
@@ -122,13 +121,6 @@ fn point(at: u32, top: u32) -> u32
     at - 4096
 }
 
-fn child(part: &[i64], c: u32, side: bool, x: u32) -> u32
-    requires { ⌜ c ≡ cap (now part) ⌝ }
-    ensures { λ r. ⌜ r ≡ childAt (now (part .entry)) 0 side x ⌝ }
-{
-    prices::link(part, c, table::child_field(0, side), table::inner_slot(x))
-}
-
 // An inner node goes away; a leaf stays.
 fn retreat(part: &[i64], c: u32, side: bool, at: u32) -> u32
     requires { ⌜ c ≡ cap (now part) ⌝ }
@@ -137,7 +129,7 @@ fn retreat(part: &[i64], c: u32, side: bool, at: u32) -> u32
     if at <= 4096 {
         return at;
     }
-    child(part, c, side, at)
+    table::child_in(part, c, 0, side, at)
 }
 
 // An inner node is pushed and goes toward; a leaf stays.
@@ -158,7 +150,7 @@ fn advance(part: &[i64], c: u32, side: bool, at: u32, depth: usize) -> Stand
         };
     }
     Stand {
-        at: child(part, c, !side, at),
+        at: table::child_in(part, c, 0, !side, at),
         depth: depth + 1,
     }
 }
@@ -175,7 +167,7 @@ fn pop(part: &[i64], c: u32, side: bool, depth: usize, top: u32) -> Stand
         };
     }
     Stand {
-        at: child(part, c, side, top),
+        at: table::child_in(part, c, 0, side, top),
         depth: depth - 1,
     }
 }

@@ -1,7 +1,7 @@
 // What a comparison reads and computes, safe whatever the words are. `c` is a part's capacity, which is read once for a whole search.
 ghost use mathlib.Core.Path.{_≡_};
 ghost use Rattle.offers.specs.Bounded.{bounded};
-ghost use Rattle.table.specs.Layout.{cap, cell, linkAt};
+ghost use Rattle.table.specs.Layout.{cap};
 ghost use Rattle.search.specs.Prices.{rateAt, baseAt, numeratorAt, denominatorAt, Priced, priceIn, keptIn, aboveAt};
 
 // A word from `low` to `high`, and 0 for any other.
@@ -17,42 +17,22 @@ pub(crate) fn bounded(low: i64, high: i64, value: i64) -> i64
     value
 }
 
-// A slot's field, as `table::get` reads it.
-fn read(part: &[i64], c: u32, field: usize, slot: u32) -> i64
-    requires { ⌜ c ≡ cap (now part) ⌝ }
-    ensures { λ r. ⌜ r ≡ cell (now (part .entry)) field slot ⌝ }
-{
-    if slot < 1 {
-        return 0;
-    }
-    if c < slot {
-        return 0;
-    }
-    if 32 <= field {
-        return 0;
-    }
-    part[64 + 4 * (field / 4 * (c as usize + 1) + slot as usize) + field % 4]
-}
-
-pub(crate) fn link(part: &[i64], c: u32, field: usize, slot: u32) -> u32
-    requires { ⌜ c ≡ cap (now part) ⌝ }
-    ensures { λ r. ⌜ r ≡ linkAt (now (part .entry)) field slot ⌝ }
-{
-    table::up_to(8192, read(part, c, field, slot))
-}
-
-fn rate_in(part: &[i64], c: u32, slot: u32) -> i64
+pub fn rate_in(part: &[i64], c: u32, slot: u32) -> i64
     requires { ⌜ c ≡ cap (now part) ⌝ }
     ensures { λ r. ⌜ r ≡ rateAt (now (part .entry)) slot ⌝ }
 {
-    bounded(-100_000, 100_000, read(part, c, 1, slot))
+    bounded(-100_000, 100_000, table::get_in(part, c, 1, slot))
 }
 
-fn base_in(part: &[i64], c: u32, slot: u32) -> i64
+pub fn base_in(part: &[i64], c: u32, slot: u32) -> i64
     requires { ⌜ c ≡ cap (now part) ⌝ }
     ensures { λ r. ⌜ r ≡ baseAt (now (part .entry)) slot ⌝ }
 {
-    bounded(-1_000_000_000, 1_000_000_000, read(part, c, 2, slot))
+    bounded(
+        -1_000_000_000,
+        1_000_000_000,
+        table::get_in(part, c, 2, slot),
+    )
 }
 
 // The crossing with the next piece.
@@ -60,14 +40,18 @@ fn numerator(part: &[i64], c: u32, slot: u32) -> i64
     requires { ⌜ c ≡ cap (now part) ⌝ }
     ensures { λ r. ⌜ r ≡ numeratorAt (now (part .entry)) slot ⌝ }
 {
-    bounded(-2_000_000_000, 2_000_000_000, read(part, c, 6, slot))
+    bounded(
+        -2_000_000_000,
+        2_000_000_000,
+        table::get_in(part, c, 6, slot),
+    )
 }
 
 fn denominator(part: &[i64], c: u32, slot: u32) -> i64
     requires { ⌜ c ≡ cap (now part) ⌝ }
     ensures { λ r. ⌜ r ≡ denominatorAt (now (part .entry)) slot ⌝ }
 {
-    bounded(0, 200_000, read(part, c, 7, slot))
+    bounded(0, 200_000, table::get_in(part, c, 7, slot))
 }
 
 // The price of a slot's line at the load n over d, times d.
@@ -107,5 +91,5 @@ pub(crate) fn above(ours: &[i64], c: u32, p: u32, other: &[i64], k: u32, x: u32)
     if x <= 4096 {
         return false;
     }
-    price(other, k, link(other, k, 19, s), n, d) <= y
+    price(other, k, table::link_in(other, k, 19, s), n, d) <= y
 }

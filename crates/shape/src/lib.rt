@@ -45,13 +45,20 @@ fn set_node(part: &mut [i64], c: u32, tree: u8, side: bool, gap: u32, p: u32, q:
 }
 
 // The same, by the heights of the two.
+pub fn make_node_in(part: &mut [i64], c: u32, tree: u8, side: bool, gap: u32, p: u32, q: u32) -> u32
+    requires { ⌜ c ≡ cap (now part) ⌝ }
+    ensures { λ x. ⌜ Joined (nodeOn side) tree side gap p q (now (part .entry)) (now (part .exit)) x ⌝ }
+{
+    let hp = table::height_in(part, c, tree, p);
+    let hq = table::height_in(part, c, tree, q);
+    set_node(part, c, tree, side, gap, p, q, taller(hp, hq))
+}
+
 pub fn make_node(part: &mut [i64], tree: u8, side: bool, gap: u32, p: u32, q: u32) -> u32
     ensures { λ x. ⌜ Joined (nodeOn side) tree side gap p q (now (part .entry)) (now (part .exit)) x ⌝ }
 {
     let c = table::capacity(part);
-    let hp = table::height_in(part, c, tree, p);
-    let hq = table::height_in(part, c, tree, q);
-    set_node(part, c, tree, side, gap, p, q, taller(hp, hq))
+    make_node_in(part, c, tree, side, gap, p, q)
 }
 
 // Three trees in a row: a node over the last two, and one over the first and that. `near` is the first seam's slot, `far` the second's.
@@ -118,7 +125,7 @@ fn balance(part: &mut [i64], c: u32, tree: u8, side: bool, gap: u32, p: u32, q: 
 }
 
 // One height is more than one above another.
-fn above(h: u32, other: u32) -> bool
+pub fn above(h: u32, other: u32) -> bool
     requires { ⌜ other ≤ 8192 ⌝ }
     ensures { λ r. ⌜ r ≡ ltb (suc other) h ⌝ }
 {
@@ -162,8 +169,9 @@ fn splice(
     set_node(part, c, tree, side, gap, p, q, taller(hp, hq))
 }
 
-// Joins two balanced trees, either of which may be empty. `gap` is the slot of the last leaf of `l`.
-pub fn join(part: &mut [i64], tree: u8, gap: u32, l: u32, r: u32) -> u32
+// Joins two balanced trees, either of which may be empty. `gap` is the slot of the last leaf of `l`, `c` the capacity.
+pub fn join_in(part: &mut [i64], c: u32, tree: u8, gap: u32, l: u32, r: u32) -> u32
+    requires { ⌜ c ≡ cap (now part) ⌝ }
     ensures { λ x. ⌜ Merged tree gap l r (now (part .entry)) (now (part .exit)) x ⌝ }
 {
     if l == 0 {
@@ -172,7 +180,6 @@ pub fn join(part: &mut [i64], tree: u8, gap: u32, l: u32, r: u32) -> u32
     if r == 0 {
         return l;
     }
-    let c = table::capacity(part);
     let hl = table::height_in(part, c, tree, l);
     let hr = table::height_in(part, c, tree, r);
     if above(hl, hr) {
@@ -182,4 +189,11 @@ pub fn join(part: &mut [i64], tree: u8, gap: u32, l: u32, r: u32) -> u32
         return splice(part, c, tree, true, gap, r, l, 24);
     }
     set_node(part, c, tree, false, gap, l, r, taller(hl, hr))
+}
+
+pub fn join(part: &mut [i64], tree: u8, gap: u32, l: u32, r: u32) -> u32
+    ensures { λ x. ⌜ Merged tree gap l r (now (part .entry)) (now (part .exit)) x ⌝ }
+{
+    let c = table::capacity(part);
+    join_in(part, c, tree, gap, l, r)
 }

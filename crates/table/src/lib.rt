@@ -5,8 +5,9 @@ ghost use Prim.Native.Nat.{_-_};
 ghost use lib.IntN.{pos};
 ghost use lib.Signed.{leZ, ltZ};
 ghost use Rattle.table.specs.Words.{word, wset, upTo};
-ghost use Rattle.table.specs.Layout.{cap, spot, cell, cset, linkAt};
+ghost use Rattle.table.specs.Layout.{cap, spot, cell, cset, linkAt, place};
 ghost use Rattle.table.specs.Free.{firstFree, taken, given};
+ghost use Rattle.table.specs.Cells.{Placed};
 ghost use Rattle.table.specs.Rep.{childField, heightField, childAt, heightAt};
 
 // Word `at`, and 0 past the end.
@@ -60,6 +61,14 @@ pub fn capacity(part: &[i64]) -> u32
     told
 }
 
+// The place of a slot's field in a part of capacity `c`: the one formula of the layout.
+fn address(c: u32, field: usize, slot: u32) -> usize
+    requires { ⌜ Placed c field slot ⌝ }
+    ensures { λ r. ⌜ r ≡ place c field slot ⌝ }
+{
+    64 + 4 * (field / 4 * (c as usize + 1) + slot as usize) + field % 4
+}
+
 // The place of a slot's field, and the end of the words where the part has no such field. The tests are those of `capacity`, each with an
 // end of its own, which costs a reader less than a capacity made 0.
 fn spot(part: &[i64], field: usize, slot: u32) -> usize
@@ -78,7 +87,7 @@ fn spot(part: &[i64], field: usize, slot: u32) -> usize
     if 32 <= field {
         return part.len();
     }
-    64 + 4 * (field / 4 * (c as usize + 1) + slot as usize) + field % 4
+    address(c, field, slot)
 }
 
 // A slot's field, and 0 where the part has none such.
@@ -178,6 +187,23 @@ pub fn at_least(part: &[i64], field: usize, slot: u32, key: i64) -> bool
     key <= get(part, field, slot)
 }
 
+// The same where the part's capacity `c` is known.
+fn spot_in(part: &[i64], c: u32, field: usize, slot: u32) -> usize
+    requires { ⌜ c ≡ cap (now part) ⌝ }
+    ensures { λ r. ⌜ r ≡ spot (now (part .entry)) field slot ⌝ }
+{
+    if slot < 1 {
+        return part.len();
+    }
+    if c < slot {
+        return part.len();
+    }
+    if 32 <= field {
+        return part.len();
+    }
+    address(c, field, slot)
+}
+
 // A slot's field, as `get` reads it, where the part's capacity `c` is known: who reads many fields reads it once.
 pub fn get_in(part: &[i64], c: u32, field: usize, slot: u32) -> i64
     requires { ⌜ c ≡ cap (now part) ⌝ }
@@ -192,7 +218,8 @@ pub fn get_in(part: &[i64], c: u32, field: usize, slot: u32) -> i64
     if 32 <= field {
         return 0;
     }
-    part[64 + 4 * (field / 4 * (c as usize + 1) + slot as usize) + field % 4]
+    let at = address(c, field, slot);
+    part[at]
 }
 
 pub fn link_in(part: &[i64], c: u32, field: usize, slot: u32) -> u32
@@ -223,20 +250,13 @@ pub fn height_in(part: &[i64], c: u32, tree: u8, x: u32) -> u32
     link_in(part, c, height_field(tree), inner_slot(x))
 }
 
-fn spot_in(part: &[i64], c: u32, field: usize, slot: u32) -> usize
+// Puts a node's number into a slot's field.
+pub fn put_link_in(part: &mut [i64], c: u32, field: usize, slot: u32, value: u32)
     requires { ⌜ c ≡ cap (now part) ⌝ }
-    ensures { λ r. ⌜ r ≡ spot (now (part .entry)) field slot ⌝ }
+    ensures { λ _. ⌜ now (part .exit) ≡ cset (now (part .entry)) field slot (pos value) ⌝ }
 {
-    if slot < 1 {
-        return part.len();
-    }
-    if c < slot {
-        return part.len();
-    }
-    if 32 <= field {
-        return part.len();
-    }
-    64 + 4 * (field / 4 * (c as usize + 1) + slot as usize) + field % 4
+    let at = spot_in(part, c, field, slot);
+    set_word(part, at, value as i64);
 }
 
 pub fn put_three_in(

@@ -3,16 +3,21 @@ use mathlib.Core.Path.{_≡_, sym, _∙_, ap, subst}
 use mathlib.Core.Bool.{Bool, true, false}
 use Prim.Native.Nat.{ℕ, _-_, _≤_, _<_}
 use native.Mathlib.Omega.{arith}
-use lib.IntN.{pos}
+use lib.IntN.{pos, ℤ}
 use borrow.Author.Tests.{ltb-true, ltb-false}
 use Rattle.table.specs.Words.{Words}
-use Rattle.table.specs.Layout.{cset}
+use Rattle.table.specs.Layout.{cset, cap, cset-cap}
 use Rattle.shape.specs.Splices.{towersAt}
 use Rattle.update.specs.Steps.{LoweredIn, RaisedIn, RebalancedIn}
 use Rattle.update.specs.RaisingRests.{RestSet}
 use Rattle.update.specs.Neighbours.{LoweredOn, lowered-left, lowered-right, RaisedOn, raised-left, raised-right}
 use Rattle.update.specs.Rotating.{RotatedIn}
 use Rattle.update.specs.Rebalancing.{rebalanced-level, rebalanced-left, rebalanced-right, RebalancedOn, rebalanced-on-left, rebalanced-on-right}
+
+-- ---- the capacity stays known
+
+pub still-put : {k : ℕ} {w′ : Words} (w : Words) (f s : ℕ) (z : ℤ) → k ≡ cap w → w′ ≡ cset w f s z → k ≡ cap w′
+still-put w f s z e d = e ∙ sym (ap cap d ∙ cset-cap w f s z)
 
 -- ---- rests
 

@@ -3,7 +3,7 @@
 ghost use mathlib.Core.Path.{_≡_};
 ghost use Prim.Native.Nat.{ℕ, _+_, _≤_};
 ghost use lib.Signed.{leZ, ltZ};
-ghost use Rattle.table.specs.Layout.{cell};
+ghost use Rattle.table.specs.Layout.{cap, cell};
 ghost use Rattle.update.specs.Steps.{LoweredIn, RaisedIn, RebalancedIn, InsertedIn, RemovedIn};
 ghost use Rattle.update.specs.RaisingRests.{RestSet};
 ghost use Rattle.update.specs.Neighbours.{LoweredOn, RaisedOn};
@@ -46,28 +46,31 @@ pub struct Count {
     pub h: u32,
 }
 
-fn set_rest(part: &mut [i64], x: u32, q: u32)
+fn set_rest(part: &mut [i64], c: u32, x: u32, q: u32)
+    requires { ⌜ c ≡ cap (now part) ⌝ }
     ensures { λ _. ⌜ RestSet x q (now (part .entry)) (now (part .exit)) ⌝ }
 {
     if x <= 4096 {
-        table::put_link(part, 21, x, q);
+        table::put_link_in(part, c, 21, x, q);
         return;
     }
-    table::put_link(part, 20, table::inner_slot(x), q);
+    table::put_link_in(part, c, 20, table::inner_slot(x), q);
 }
 
-// Takes inner node `x` apart: its envelope `e` is cut behind the left child's last line, and each child gets its rest back.
+// Takes inner node `x` apart: its envelope `e` is cut behind the left child's last line, and each child gets its rest back. No step changes
+// the capacity, so that it is read once.
 fn lower(part: &mut [i64], x: u32, e: u32) -> Lowered
     ensures { λ r. ⌜ LoweredIn x e (now (part .entry)) (now (part .exit)) (r .lx) (r .le) (r .rx) (r .re) ⌝ }
 {
-    let l = table::child(part, 1, false, x);
-    let r = table::child(part, 1, true, x);
-    let rate = table::get(part, 1, table::inner_slot(x));
-    let c = pieces::cut(part, false, rate, e);
-    let ql = form::rest(part, l);
-    let qr = form::rest(part, r);
-    let le = pieces::cat(part, c.front, ql);
-    let re = pieces::cat(part, qr, c.back);
+    let k = table::capacity(part);
+    let l = table::child_in(part, k, 1, false, x);
+    let r = table::child_in(part, k, 1, true, x);
+    let rate = table::get_in(part, k, 1, table::inner_slot(x));
+    let c = pieces::cut_in(part, k, false, rate, e);
+    let ql = form::rest_in(part, k, l);
+    let qr = form::rest_in(part, k, r);
+    let le = pieces::cat_in(part, k, c.front, ql);
+    let re = pieces::cat_in(part, k, qr, c.back);
     Lowered {
         lx: l,
         le: le,
@@ -81,17 +84,18 @@ fn raise(part: &mut [i64], gap: u32, lx: u32, le: u32, rx: u32, re: u32) -> Made
     ensures { λ r. ⌜ RaisedIn gap lx le rx re (now (part .entry)) (now (part .exit)) (r .x) (r .e) (r .k) (r .s) (r .h) ⌝ }
 {
     let m = search::meet(part, part, le, re);
-    let h = table::height(part, 0, le) + table::height(part, 0, re);
-    let rate = table::get(part, 1, m.u);
-    let c = pieces::cut(part, false, rate, le);
-    let other = table::get(part, 1, m.v);
-    let d = pieces::cut(part, true, other, re);
-    set_rest(part, lx, c.back);
-    set_rest(part, rx, d.front);
-    let x = shape::make_node(part, 1, false, gap, lx, rx);
-    table::put_link(part, 10, gap, m.u);
-    table::put_link(part, 11, gap, m.v);
-    let e = pieces::cat_at(part, c.front, d.back, m.u, m.v);
+    let k = table::capacity(part);
+    let h = table::height_in(part, k, 0, le) + table::height_in(part, k, 0, re);
+    let rate = table::get_in(part, k, 1, m.u);
+    let c = pieces::cut_in(part, k, false, rate, le);
+    let other = table::get_in(part, k, 1, m.v);
+    let d = pieces::cut_in(part, k, true, other, re);
+    set_rest(part, k, lx, c.back);
+    set_rest(part, k, rx, d.front);
+    let x = shape::make_node_in(part, k, 1, false, gap, lx, rx);
+    table::put_link_in(part, k, 10, gap, m.u);
+    table::put_link_in(part, k, 11, gap, m.v);
+    let e = pieces::cat_at(part, k, c.front, d.back, m.u, m.v);
     Made {
         x: x,
         e: e,
@@ -188,10 +192,13 @@ fn rotate(part: &mut [i64], side: bool, gap: u32, tx: u32, te: u32, sx: u32, se:
 fn rebalance(part: &mut [i64], gap: u32, lx: u32, le: u32, rx: u32, re: u32) -> Made
     ensures { λ r. ⌜ RebalancedIn gap lx le rx re (now (part .entry)) (now (part .exit)) (r .x) (r .e) (r .k) (r .s) (r .h) ⌝ }
 {
-    if shape::towers(part, 1, lx, rx) {
+    let c = table::capacity(part);
+    let hl = table::height_in(part, c, 1, lx);
+    let hr = table::height_in(part, c, 1, rx);
+    if shape::above(hl, hr) {
         return rotate(part, false, gap, lx, le, rx, re);
     }
-    if shape::towers(part, 1, rx, lx) {
+    if shape::above(hr, hl) {
         return rotate(part, true, gap, rx, re, lx, le);
     }
     raise(part, gap, lx, le, rx, re)

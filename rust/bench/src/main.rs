@@ -1,7 +1,9 @@
 //! Times of the proved book against a scan, sorted arrays and plain Rust in the same layout; medians of five runs. It prints
 //! the tables; with the word `record` it also puts them into docs/BENCHMARKS.md, between its two marks, and draws docs/benchmarks.svg.
+//! With the word `instructions` it counts an update's instructions instead, and puts their tables between two other marks.
 //! Run it in release.
 mod arrays;
+mod counted;
 mod plot;
 mod same_layout;
 
@@ -22,6 +24,14 @@ enum Listed {
     All,
     Half,
     Few,
+}
+
+impl Listed {
+    const KINDS: [Listed; 3] = [Listed::All, Listed::Half, Listed::Few];
+
+    fn name(self) -> &'static str {
+        ["all", "half", "few"][self as usize]
+    }
 }
 
 struct Random(u64);
@@ -155,14 +165,19 @@ fn sum(loads: &[i64], answer: impl Fn(i64) -> (i64, i64)) -> i64 {
     })
 }
 
+/// random offers, each to be withdrawn and posted back
+fn chosen(offers: &[Offer]) -> Vec<Offer> {
+    let mut r = Random(9);
+    (0..UPDATES / 2).map(|_| offers[r.within(0, offers.len() as i64 - 1) as usize]).collect()
+}
+
 /// book, plain Rust in the same layout, sorted array with its envelope rebuilt; a turn is one withdrawal or one post
 fn updates(n: usize, listed: Listed) -> Case {
     let offers = offers(n, listed);
     let (mut book, mut plain) = books(&offers);
     let mut sorted = arrays::Sorted::of(&offers);
     let pieces = sorted.envelope.len();
-    let mut r = Random(9);
-    let chosen: Vec<Offer> = (0..UPDATES / 2).map(|_| offers[r.within(0, n as i64 - 1) as usize]).collect();
+    let chosen = chosen(&offers);
     let run = move || {
         let of_book = timed(UPDATES, || {
             for o in &chosen {
@@ -212,7 +227,7 @@ fn update_table(rows: &[(Listed, Row)]) -> String {
     for (listed, r) in rows.iter().filter(|r| IN_TABLES.contains(&r.1.offers)) {
         let [book, plain, rebuild] = r.times;
         let least = rows.iter().find(|other| other.0 == *listed).map_or(book, |other| other.1.times[0]);
-        let name = ["all", "half", "few"][*listed as usize];
+        let name = listed.name();
         write!(t, "| {name} | {} | {} | {:.2} | {:.2} ", r.offers, r.pieces, book / 1e3, plain / 1e3).unwrap();
         writeln!(t, "| **{:.2}** | {:.2} | **{:.2}** | {:.1} |", book / plain, rebuild / 1e3, rebuild / book, book / least)
             .unwrap();
@@ -258,30 +273,46 @@ fn panels(queries: &[Row], updates: &[(Listed, Row)]) -> String {
     plot::draw(&[left, right])
 }
 
-/// puts the tables between the marks of docs/BENCHMARKS.md
-fn write_tables(page: &str, tables: &str) -> String {
-    const MARKS: [&str; 2] = ["<!-- tables -->\n", "<!-- end of tables -->"];
-    let begin = page.find(MARKS[0]).expect("the first mark") + MARKS[0].len();
-    let end = page.find(MARKS[1]).expect("the second mark");
-    format!("{}{tables}{}", &page[..begin], &page[end..])
+const DOCS: &str = concat!(env!("CARGO_MANIFEST_DIR"), "/../../docs/");
+
+/// puts tables between their two marks in docs/BENCHMARKS.md
+fn record(name: &str, tables: &str) {
+    let file = format!("{DOCS}BENCHMARKS.md");
+    let page = std::fs::read_to_string(&file).unwrap();
+    let marks = [format!("<!-- {name} -->\n"), format!("<!-- end of {name} -->")];
+    let begin = page.find(&marks[0]).expect("the first mark") + marks[0].len();
+    let end = page.find(&marks[1]).expect("the second mark");
+    std::fs::write(file, format!("{}{tables}{}", &page[..begin], &page[end..])).unwrap();
 }
 
-fn record(tables: &str, plot: &str) {
-    let docs = concat!(env!("CARGO_MANIFEST_DIR"), "/../../docs/");
-    let page = std::fs::read_to_string(format!("{docs}BENCHMARKS.md")).unwrap();
-    std::fs::write(format!("{docs}BENCHMARKS.md"), write_tables(&page, tables)).unwrap();
-    std::fs::write(format!("{docs}benchmarks.svg"), plot).unwrap();
-}
-
-fn main() {
+fn times(recorded: bool) {
     let asked = medians(SIZES.iter().map(|n| queries(*n)).collect());
-    let kinds: Vec<(Listed, usize)> =
-        [Listed::All, Listed::Half, Listed::Few].iter().flat_map(|k| SIZES.map(|n| (*k, n))).collect();
+    let kinds: Vec<(Listed, usize)> = Listed::KINDS.iter().flat_map(|k| SIZES.map(|n| (*k, n))).collect();
     let rows = medians(kinds.iter().map(|(k, n)| updates(*n, *k)).collect());
     let updated: Vec<(Listed, Row)> = kinds.iter().map(|k| k.0).zip(rows).collect();
     let tables = format!("\n{}\n{}\n{}\n", query_table(&asked), update_table(&updated), aims(&asked, &updated));
     print!("{tables}");
-    if std::env::args().any(|word| word == "record") {
-        record(&tables, &panels(&asked, &updated));
+    if recorded {
+        record("tables", &tables);
+        std::fs::write(format!("{DOCS}benchmarks.svg"), panels(&asked, &updated)).unwrap();
+    }
+}
+
+fn main() {
+    let words: Vec<String> = std::env::args().skip(1).collect();
+    let words: Vec<&str> = words.iter().map(String::as_str).collect();
+    match words[..] {
+        [] => times(false),
+        ["record"] => times(true),
+        ["instructions"] => {
+            let tables = counted::tables();
+            print!("{tables}");
+            record("instructions", &tables);
+        }
+        ["count", n, kind] => {
+            let listed = Listed::KINDS.into_iter().find(|k| k.name() == kind).expect("all, half or few");
+            counted::run(n.parse().expect("a number of offers"), listed);
+        }
+        _ => panic!("no word, `record` or `instructions`"),
     }
 }

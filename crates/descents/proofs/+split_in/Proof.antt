@@ -3,16 +3,15 @@ use borrow.Author.Needs.{needs}
 use native.Mathlib.Omega.{arith}
 use mathlib.Core.Bool.{true, false}
 use mir.Facts.{toZ-ofZ}
-use Rattle.descents.specs.Cuts.{halved-leaf, halved-over, whole-right, whole-left, halved-right, halved-left}
+use Rattle.descents.specs.Cuts.{still-known, halved-leaf, halved-over, whole-right, whole-left, halved-right, halved-left}
 use Prim.Native.Nat.{ℕ, _<_}
 use borrow.Fn.Kinds.{In}
 use borrow.Fn.PlainCycle.{Measures, is, falls, and}
 use Rattle.descents.proofs.split_in.Reads as split-in
 use Rattle.descents.proofs.split_in.Kinds as split-in-kinds
 use Rattle.descents.proofs.+split_in.Lts-split_in as split-in-lts
-use Rattle.shape.proofs.join.Reads as join-reads
+use Rattle.shape.proofs.join_in.Reads as join-in-reads
 use Rattle.table.proofs.at_least_in.Reads as at-least-in-reads
-use Rattle.table.proofs.child.Reads as child-reads
 use Rattle.table.proofs.child_in.Reads as child-in-reads
 use Rattle.table.proofs.inner_slot.Reads as inner-slot-reads
 use Rattle.descents.proofs.+split_in.{statement}
@@ -37,10 +36,8 @@ split-in-at-least-in-requires : (t : ℕ) → split-in-lts.Need-at-least-in-requ
   child-in-reads.Learnt,
   split-in-below t,
   split-in.Post,
-  child-reads.Asked,
-  child-reads.Learnt,
-  join-reads.Asked,
-  join-reads.Learnt,
+  join-in-reads.Asked,
+  join-in-reads.Learnt,
 ) (split-in-at t) split-in.Post
 split-in-at-least-in-requires t c κs = c .before .before .pre .1
 
@@ -53,10 +50,8 @@ split-in-same-length : (t : ℕ) → split-in-lts.Need-same-length (
   child-in-reads.Learnt,
   split-in-below t,
   split-in.Post,
-  child-reads.Asked,
-  child-reads.Learnt,
-  join-reads.Asked,
-  join-reads.Learnt,
+  join-in-reads.Asked,
+  join-in-reads.Learnt,
 ) (split-in-at t) split-in.Post
 split-in-same-length t c = search needs
 
@@ -69,12 +64,12 @@ split-in-returns : (t : ℕ) → split-in-lts.Need-returns (
   child-in-reads.Learnt,
   split-in-below t,
   split-in.Post,
-  child-reads.Asked,
-  child-reads.Learnt,
-  join-reads.Asked,
-  join-reads.Learnt,
+  join-in-reads.Asked,
+  join-in-reads.Learnt,
 ) (split-in-at t) split-in.Post
-split-in-returns t c = halved-leaf _ true (c .before .before .before .if1 .taken) (simp (toZ-ofZ, c .before .before .before .before .fits .least) at (c .before .at-least-in .ensures)) (c .if2 .taken)
+split-in-returns t c =
+    let entry = c .before .before .before .before in
+    halved-leaf _ true (c .before .before .before .if1 .taken) (simp (toZ-ofZ, entry .fits .least) at (c .before .at-least-in .ensures)) (c .if2 .taken)
 
 split-in-same-length-2 : (t : ℕ) → split-in-lts.Need-same-length-2 (
   at-least-in-reads.Asked,
@@ -85,10 +80,8 @@ split-in-same-length-2 : (t : ℕ) → split-in-lts.Need-same-length-2 (
   child-in-reads.Learnt,
   split-in-below t,
   split-in.Post,
-  child-reads.Asked,
-  child-reads.Learnt,
-  join-reads.Asked,
-  join-reads.Learnt,
+  join-in-reads.Asked,
+  join-in-reads.Learnt,
 ) (split-in-at t) split-in.Post
 split-in-same-length-2 t c = search needs
 
@@ -101,12 +94,12 @@ split-in-returns-2 : (t : ℕ) → split-in-lts.Need-returns-2 (
   child-in-reads.Learnt,
   split-in-below t,
   split-in.Post,
-  child-reads.Asked,
-  child-reads.Learnt,
-  join-reads.Asked,
-  join-reads.Learnt,
+  join-in-reads.Asked,
+  join-in-reads.Learnt,
 ) (split-in-at t) split-in.Post
-split-in-returns-2 t c = halved-leaf _ false (c .before .before .before .if1 .taken) (simp (toZ-ofZ, c .before .before .before .before .fits .least) at (c .before .at-least-in .ensures)) (c .if2 .left)
+split-in-returns-2 t c =
+    let entry = c .before .before .before .before in
+    halved-leaf _ false (c .before .before .before .if1 .taken) (simp (toZ-ofZ, entry .fits .least) at (c .before .at-least-in .ensures)) (c .if2 .left)
 
 split-in-returns-3 : (t : ℕ) → split-in-lts.Need-returns-3 (
   at-least-in-reads.Asked,
@@ -117,10 +110,8 @@ split-in-returns-3 : (t : ℕ) → split-in-lts.Need-returns-3 (
   child-in-reads.Learnt,
   split-in-below t,
   split-in.Post,
-  child-reads.Asked,
-  child-reads.Learnt,
-  join-reads.Asked,
-  join-reads.Learnt,
+  join-in-reads.Asked,
+  join-in-reads.Learnt,
 ) (split-in-at t) split-in.Post
 split-in-returns-3 t c = halved-over _ (c .before .if1 .left) (c .if3 .taken)
 
@@ -133,10 +124,8 @@ split-in-inner-slot-requires : (t : ℕ) → split-in-lts.Need-inner-slot-requir
   child-in-reads.Learnt,
   split-in-below t,
   split-in.Post,
-  child-reads.Asked,
-  child-reads.Learnt,
-  join-reads.Asked,
-  join-reads.Learnt,
+  join-in-reads.Asked,
+  join-in-reads.Learnt,
 ) (split-in-at t) split-in.Post
 split-in-inner-slot-requires t c κs = search needs
 
@@ -149,10 +138,8 @@ split-in-at-least-in-requires-2 : (t : ℕ) → split-in-lts.Need-at-least-in-re
   child-in-reads.Learnt,
   split-in-below t,
   split-in.Post,
-  child-reads.Asked,
-  child-reads.Learnt,
-  join-reads.Asked,
-  join-reads.Learnt,
+  join-in-reads.Asked,
+  join-in-reads.Learnt,
 ) (split-in-at t) split-in.Post
 split-in-at-least-in-requires-2 t c κs = c .before .before .before .before .pre .1
 
@@ -165,10 +152,8 @@ split-in-child-in-requires : (t : ℕ) → split-in-lts.Need-child-in-requires (
   child-in-reads.Learnt,
   split-in-below t,
   split-in.Post,
-  child-reads.Asked,
-  child-reads.Learnt,
-  join-reads.Asked,
-  join-reads.Learnt,
+  join-in-reads.Asked,
+  join-in-reads.Learnt,
 ) (split-in-at t) split-in.Post
 split-in-child-in-requires t c κs = c .before .before .before .before .before .before .before .pre .1
 
@@ -181,10 +166,8 @@ split-in-sub-split-in : (t : ℕ) → split-in-lts.Need-sub-split-in (
   child-in-reads.Learnt,
   split-in-below t,
   split-in.Post,
-  child-reads.Asked,
-  child-reads.Learnt,
-  join-reads.Asked,
-  join-reads.Learnt,
+  join-in-reads.Asked,
+  join-in-reads.Learnt,
 ) (split-in-at t) split-in.Post
 split-in-sub-split-in t c = omega arith
 
@@ -197,12 +180,10 @@ split-in-split-in-requires : (t : ℕ) → split-in-lts.Need-split-in-requires (
   child-in-reads.Learnt,
   split-in-below t,
   split-in.Post,
-  child-reads.Asked,
-  child-reads.Learnt,
-  join-reads.Asked,
-  join-reads.Learnt,
+  join-in-reads.Asked,
+  join-in-reads.Learnt,
 ) (split-in-at t) split-in.Post
-split-in-split-in-requires t c κs = (omega (arith, c .before .before .before .before .before .before .before .before .before .pre .0), c .before .before .before .before .before .before .before .before .before .pre .1)
+split-in-split-in-requires t c κs = let entry = c .before .before .before .before .before .before .before .before .before in (omega (arith, entry .pre .0), entry .pre .1)
 
 split-in-same-length-3 : (t : ℕ) → split-in-lts.Need-same-length-3 (
   at-least-in-reads.Asked,
@@ -213,10 +194,8 @@ split-in-same-length-3 : (t : ℕ) → split-in-lts.Need-same-length-3 (
   child-in-reads.Learnt,
   split-in-below t,
   split-in.Post,
-  child-reads.Asked,
-  child-reads.Learnt,
-  join-reads.Asked,
-  join-reads.Learnt,
+  join-in-reads.Asked,
+  join-in-reads.Learnt,
 ) (split-in-at t) split-in.Post
 split-in-same-length-3 t c = search needs
 
@@ -229,14 +208,19 @@ split-in-returns-4 : (t : ℕ) → split-in-lts.Need-returns-4 (
   child-in-reads.Learnt,
   split-in-below t,
   split-in.Post,
-  child-reads.Asked,
-  child-reads.Learnt,
-  join-reads.Asked,
-  join-reads.Learnt,
+  join-in-reads.Asked,
+  join-in-reads.Learnt,
 ) (split-in-at t) split-in.Post
-split-in-returns-4 t c = whole-right _ (c .before .before .before .before .before .before .before .before .before .before .before .if1 .left) (c .before .before .before .before .before .before .before .before .before .inner-slot .ensures) (simp (toZ-ofZ, c .before .before .before .before .before .before .before .before .before .before .before .before .fits .least) at (c .before .before .before .before .before .before .before .at-least-in2 .ensures)) (c .before .before .before .before .before .before .if4 .taken) (c .before .before .before .before .child-in .ensures) (simp (toZ-ofZ, c .before .before .before .before .before .before .before .before .before .before .before .before .fits .least) at (c .before .before .split-in .ensures)) (c .if5 .taken)
+split-in-returns-4 t c =
+    let turned = c .before .before .before .before .before .before in
+    let tested = c .before .before .before .before .before .before .before in
+    let inner = c .before .before .before .before .before .before .before .before .before .before .before in
+    let entry = inner .before in
+    whole-right _ (inner .if1 .left) (tested .before .before .inner-slot .ensures) (simp (toZ-ofZ, entry .fits .least) at (tested .at-least-in2 .ensures))
+    (turned .if4 .taken) (c .before .before .before .before .child-in .ensures)
+    (simp (toZ-ofZ, entry .fits .least) at (c .before .before .split-in .ensures)) (c .if5 .taken)
 
-split-in-child-requires : (t : ℕ) → split-in-lts.Need-child-requires (
+split-in-child-in-requires-2 : (t : ℕ) → split-in-lts.Need-child-in-requires-2 (
   at-least-in-reads.Asked,
   at-least-in-reads.Learnt,
   inner-slot-reads.Asked,
@@ -245,14 +229,12 @@ split-in-child-requires : (t : ℕ) → split-in-lts.Need-child-requires (
   child-in-reads.Learnt,
   split-in-below t,
   split-in.Post,
-  child-reads.Asked,
-  child-reads.Learnt,
-  join-reads.Asked,
-  join-reads.Learnt,
+  join-in-reads.Asked,
+  join-in-reads.Learnt,
 ) (split-in-at t) split-in.Post
-split-in-child-requires t c κs = search needs
+split-in-child-in-requires-2 t c κs = still-known (c .before .before .before .before .before .before .before .before .before .before .before .before .before .pre .1) (c .before .before .before .split-in .ensures .within)
 
-split-in-join-requires : (t : ℕ) → split-in-lts.Need-join-requires (
+split-in-join-in-requires : (t : ℕ) → split-in-lts.Need-join-in-requires (
   at-least-in-reads.Asked,
   at-least-in-reads.Learnt,
   inner-slot-reads.Asked,
@@ -261,12 +243,10 @@ split-in-join-requires : (t : ℕ) → split-in-lts.Need-join-requires (
   child-in-reads.Learnt,
   split-in-below t,
   split-in.Post,
-  child-reads.Asked,
-  child-reads.Learnt,
-  join-reads.Asked,
-  join-reads.Learnt,
+  join-in-reads.Asked,
+  join-in-reads.Learnt,
 ) (split-in-at t) split-in.Post
-split-in-join-requires t c κs = search needs
+split-in-join-in-requires t c κs = still-known (c .before .before .before .before .before .before .before .before .before .before .before .before .before .before .before .pre .1) (c .before .before .before .before .before .split-in .ensures .within)
 
 split-in-same-length-4 : (t : ℕ) → split-in-lts.Need-same-length-4 (
   at-least-in-reads.Asked,
@@ -277,10 +257,8 @@ split-in-same-length-4 : (t : ℕ) → split-in-lts.Need-same-length-4 (
   child-in-reads.Learnt,
   split-in-below t,
   split-in.Post,
-  child-reads.Asked,
-  child-reads.Learnt,
-  join-reads.Asked,
-  join-reads.Learnt,
+  join-in-reads.Asked,
+  join-in-reads.Learnt,
 ) (split-in-at t) split-in.Post
 split-in-same-length-4 t c = search needs
 
@@ -293,28 +271,18 @@ split-in-returns-5 : (t : ℕ) → split-in-lts.Need-returns-5 (
   child-in-reads.Learnt,
   split-in-below t,
   split-in.Post,
-  child-reads.Asked,
-  child-reads.Learnt,
-  join-reads.Asked,
-  join-reads.Learnt,
+  join-in-reads.Asked,
+  join-in-reads.Learnt,
 ) (split-in-at t) split-in.Post
-split-in-returns-5 t c = halved-right _ (c .before .before .before .before .before .before .before .before .before .before .before .before .before .before .before .before .if1 .left) (c .before .before .before .before .before .before .before .before .before .before .before .before .before .before .inner-slot .ensures) (simp (toZ-ofZ, c .before .before .before .before .before .before .before .before .before .before .before .before .before .before .before .before .before .fits .least) at (c .before .before .before .before .before .before .before .before .before .before .before .before .at-least-in2 .ensures)) (c .before .before .before .before .before .before .before .before .before .before .before .if4 .taken) (c .before .before .before .before .before .before .before .before .before .child-in .ensures) (simp (toZ-ofZ, c .before .before .before .before .before .before .before .before .before .before .before .before .before .before .before .before .before .fits .least) at (c .before .before .before .before .before .before .before .split-in .ensures)) (c .before .before .before .before .before .if5 .left) (c .before .before .before .child .ensures) (c .before .join .ensures)
-
-split-in-child-in-requires-2 : (t : ℕ) → split-in-lts.Need-child-in-requires-2 (
-  at-least-in-reads.Asked,
-  at-least-in-reads.Learnt,
-  inner-slot-reads.Asked,
-  inner-slot-reads.Learnt,
-  child-in-reads.Asked,
-  child-in-reads.Learnt,
-  split-in-below t,
-  split-in.Post,
-  child-reads.Asked,
-  child-reads.Learnt,
-  join-reads.Asked,
-  join-reads.Learnt,
-) (split-in-at t) split-in.Post
-split-in-child-in-requires-2 t c κs = c .before .before .before .before .before .before .before .pre .1
+split-in-returns-5 t c =
+    let below = c .before .before .before .before .before .before .before in
+    let turned = below .before .before .before .before in
+    let tested = turned .before in
+    let inner = tested .before .before .before .before in
+    let entry = inner .before in
+    halved-right _ (inner .if1 .left) (tested .before .before .inner-slot .ensures) (simp (toZ-ofZ, entry .fits .least) at (tested .at-least-in2 .ensures))
+    (turned .if4 .taken) (below .before .before .child-in .ensures) (simp (toZ-ofZ, entry .fits .least) at (below .split-in .ensures))
+    (c .before .before .before .before .before .if5 .left) (c .before .before .before .child-in2 .ensures) (c .before .join-in .ensures)
 
 split-in-child-in-requires-3 : (t : ℕ) → split-in-lts.Need-child-in-requires-3 (
   at-least-in-reads.Asked,
@@ -325,12 +293,24 @@ split-in-child-in-requires-3 : (t : ℕ) → split-in-lts.Need-child-in-requires
   child-in-reads.Learnt,
   split-in-below t,
   split-in.Post,
-  child-reads.Asked,
-  child-reads.Learnt,
-  join-reads.Asked,
-  join-reads.Learnt,
+  join-in-reads.Asked,
+  join-in-reads.Learnt,
 ) (split-in-at t) split-in.Post
-split-in-child-in-requires-3 t c κs = c .before .before .before .before .before .before .before .before .before .pre .1
+split-in-child-in-requires-3 t c κs = c .before .before .before .before .before .before .before .pre .1
+
+split-in-child-in-requires-4 : (t : ℕ) → split-in-lts.Need-child-in-requires-4 (
+  at-least-in-reads.Asked,
+  at-least-in-reads.Learnt,
+  inner-slot-reads.Asked,
+  inner-slot-reads.Learnt,
+  child-in-reads.Asked,
+  child-in-reads.Learnt,
+  split-in-below t,
+  split-in.Post,
+  join-in-reads.Asked,
+  join-in-reads.Learnt,
+) (split-in-at t) split-in.Post
+split-in-child-in-requires-4 t c κs = c .before .before .before .before .before .before .before .before .before .pre .1
 
 split-in-sub-split-in-2 : (t : ℕ) → split-in-lts.Need-sub-split-in-2 (
   at-least-in-reads.Asked,
@@ -341,10 +321,8 @@ split-in-sub-split-in-2 : (t : ℕ) → split-in-lts.Need-sub-split-in-2 (
   child-in-reads.Learnt,
   split-in-below t,
   split-in.Post,
-  child-reads.Asked,
-  child-reads.Learnt,
-  join-reads.Asked,
-  join-reads.Learnt,
+  join-in-reads.Asked,
+  join-in-reads.Learnt,
 ) (split-in-at t) split-in.Post
 split-in-sub-split-in-2 t c = omega arith
 
@@ -357,12 +335,10 @@ split-in-split-in-requires-2 : (t : ℕ) → split-in-lts.Need-split-in-requires
   child-in-reads.Learnt,
   split-in-below t,
   split-in.Post,
-  child-reads.Asked,
-  child-reads.Learnt,
-  join-reads.Asked,
-  join-reads.Learnt,
+  join-in-reads.Asked,
+  join-in-reads.Learnt,
 ) (split-in-at t) split-in.Post
-split-in-split-in-requires-2 t c κs = (omega (arith, c .before .before .before .before .before .before .before .before .before .before .before .pre .0), c .before .before .before .before .before .before .before .before .before .before .before .pre .1)
+split-in-split-in-requires-2 t c κs = let entry = c .before .before .before .before .before .before .before .before .before .before .before in (omega (arith, entry .pre .0), entry .pre .1)
 
 split-in-same-length-5 : (t : ℕ) → split-in-lts.Need-same-length-5 (
   at-least-in-reads.Asked,
@@ -373,10 +349,8 @@ split-in-same-length-5 : (t : ℕ) → split-in-lts.Need-same-length-5 (
   child-in-reads.Learnt,
   split-in-below t,
   split-in.Post,
-  child-reads.Asked,
-  child-reads.Learnt,
-  join-reads.Asked,
-  join-reads.Learnt,
+  join-in-reads.Asked,
+  join-in-reads.Learnt,
 ) (split-in-at t) split-in.Post
 split-in-same-length-5 t c = search needs
 
@@ -389,14 +363,19 @@ split-in-returns-6 : (t : ℕ) → split-in-lts.Need-returns-6 (
   child-in-reads.Learnt,
   split-in-below t,
   split-in.Post,
-  child-reads.Asked,
-  child-reads.Learnt,
-  join-reads.Asked,
-  join-reads.Learnt,
+  join-in-reads.Asked,
+  join-in-reads.Learnt,
 ) (split-in-at t) split-in.Post
-split-in-returns-6 t c = whole-left _ (c .before .before .before .before .before .before .before .before .before .before .before .before .before .if1 .left) (c .before .before .before .before .before .before .before .before .before .before .before .inner-slot .ensures) (simp (toZ-ofZ, c .before .before .before .before .before .before .before .before .before .before .before .before .before .before .fits .least) at (c .before .before .before .before .before .before .before .before .before .at-least-in2 .ensures)) (c .before .before .before .before .before .before .before .before .if4 .left) (c .before .before .before .before .before .before .child-in2 .ensures) (simp (toZ-ofZ, c .before .before .before .before .before .before .before .before .before .before .before .before .before .before .fits .least) at (c .before .before .split-in2 .ensures)) (c .if6 .taken)
+split-in-returns-6 t c =
+    let turned = c .before .before .before .before .before .before .before .before in
+    let tested = turned .before in
+    let inner = tested .before .before .before .before in
+    let entry = inner .before in
+    whole-left _ (inner .if1 .left) (tested .before .before .inner-slot .ensures) (simp (toZ-ofZ, entry .fits .least) at (tested .at-least-in2 .ensures))
+    (turned .if4 .left) (c .before .before .before .before .before .before .child-in3 .ensures)
+    (simp (toZ-ofZ, entry .fits .least) at (c .before .before .split-in2 .ensures)) (c .if6 .taken)
 
-split-in-join-requires-2 : (t : ℕ) → split-in-lts.Need-join-requires-2 (
+split-in-join-in-requires-2 : (t : ℕ) → split-in-lts.Need-join-in-requires-2 (
   at-least-in-reads.Asked,
   at-least-in-reads.Learnt,
   inner-slot-reads.Asked,
@@ -405,12 +384,10 @@ split-in-join-requires-2 : (t : ℕ) → split-in-lts.Need-join-requires-2 (
   child-in-reads.Learnt,
   split-in-below t,
   split-in.Post,
-  child-reads.Asked,
-  child-reads.Learnt,
-  join-reads.Asked,
-  join-reads.Learnt,
+  join-in-reads.Asked,
+  join-in-reads.Learnt,
 ) (split-in-at t) split-in.Post
-split-in-join-requires-2 t c κs = search needs
+split-in-join-in-requires-2 t c κs = still-known (c .before .before .before .before .before .before .before .before .before .before .before .before .before .before .before .pre .1) (c .before .before .before .split-in2 .ensures .within)
 
 split-in-same-length-6 : (t : ℕ) → split-in-lts.Need-same-length-6 (
   at-least-in-reads.Asked,
@@ -421,10 +398,8 @@ split-in-same-length-6 : (t : ℕ) → split-in-lts.Need-same-length-6 (
   child-in-reads.Learnt,
   split-in-below t,
   split-in.Post,
-  child-reads.Asked,
-  child-reads.Learnt,
-  join-reads.Asked,
-  join-reads.Learnt,
+  join-in-reads.Asked,
+  join-in-reads.Learnt,
 ) (split-in-at t) split-in.Post
 split-in-same-length-6 t c = search needs
 
@@ -437,12 +412,19 @@ split-in-returns-7 : (t : ℕ) → split-in-lts.Need-returns-7 (
   child-in-reads.Learnt,
   split-in-below t,
   split-in.Post,
-  child-reads.Asked,
-  child-reads.Learnt,
-  join-reads.Asked,
-  join-reads.Learnt,
+  join-in-reads.Asked,
+  join-in-reads.Learnt,
 ) (split-in-at t) split-in.Post
-split-in-returns-7 t c = halved-left _ (c .before .before .before .before .before .before .before .before .before .before .before .before .before .before .before .before .if1 .left) (c .before .before .before .before .before .before .before .before .before .before .before .before .before .before .inner-slot .ensures) (simp (toZ-ofZ, c .before .before .before .before .before .before .before .before .before .before .before .before .before .before .before .before .before .fits .least) at (c .before .before .before .before .before .before .before .before .before .before .before .before .at-least-in2 .ensures)) (c .before .before .before .before .before .before .before .before .before .before .before .if4 .left) (c .before .before .before .before .before .before .before .before .before .child-in2 .ensures) (c .before .before .before .before .before .before .before .child-in3 .ensures) (simp (toZ-ofZ, c .before .before .before .before .before .before .before .before .before .before .before .before .before .before .before .before .before .fits .least) at (c .before .before .before .before .before .split-in2 .ensures)) (c .before .before .before .if6 .left) (c .before .join2 .ensures)
+split-in-returns-7 t c =
+    let below = c .before .before .before .before .before in
+    let left = below .before .before .before .before in
+    let turned = left .before .before in
+    let tested = turned .before in
+    let inner = tested .before .before .before .before in
+    let entry = inner .before in
+    halved-left _ (inner .if1 .left) (tested .before .before .inner-slot .ensures) (simp (toZ-ofZ, entry .fits .least) at (tested .at-least-in2 .ensures))
+    (turned .if4 .left) (left .child-in3 .ensures) (below .before .before .child-in4 .ensures) (simp (toZ-ofZ, entry .fits .least) at (below .split-in2 .ensures))
+    (c .before .before .before .if6 .left) (c .before .join-in2 .ensures)
 
 pub +split-in-spec : {M : Type 1} → statement M
 +split-in-spec = close μ-split-in λ t. split-in-lts.spec (
@@ -454,10 +436,8 @@ pub +split-in-spec : {M : Type 1} → statement M
   child-in-reads.Learnt,
   split-in-below t,
   split-in.Post,
-  child-reads.Asked,
-  child-reads.Learnt,
-  join-reads.Asked,
-  join-reads.Learnt,
+  join-in-reads.Asked,
+  join-in-reads.Learnt,
 )
     (split-in-at t)
     split-in.Post
@@ -474,16 +454,16 @@ pub +split-in-spec : {M : Type 1} → statement M
     (split-in-split-in-requires t)
     (split-in-same-length-3 t)
     (split-in-returns-4 t)
-    (split-in-child-requires t)
-    (split-in-join-requires t)
+    (split-in-child-in-requires-2 t)
+    (split-in-join-in-requires t)
     (split-in-same-length-4 t)
     (split-in-returns-5 t)
-    (split-in-child-in-requires-2 t)
     (split-in-child-in-requires-3 t)
+    (split-in-child-in-requires-4 t)
     (split-in-sub-split-in-2 t)
     (split-in-split-in-requires-2 t)
     (split-in-same-length-5 t)
     (split-in-returns-6 t)
-    (split-in-join-requires-2 t)
+    (split-in-join-in-requires-2 t)
     (split-in-same-length-6 t)
     (split-in-returns-7 t)

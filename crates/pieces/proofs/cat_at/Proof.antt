@@ -1,5 +1,5 @@
 -- `pieces::cat_at` meets its contract.
-use Rattle.pieces.specs.Catting.{catted-right, catted-left, seamed-any, seamed}
+use Rattle.pieces.specs.Catting.{threaded-known, catted-right, catted-left, seamed-any, seamed}
 use Rattle.pieces.specs.LeastRate.{numerator-fits, denominator-fits}
 use native.Mathlib.Omega.{arith}
 use lib.IntN.{pos, _-ℤ_}
@@ -17,64 +17,65 @@ returns c = seamed-any (catted-right (c .if1 .taken))
 returns-2 : tie.Need-returns-2
 returns-2 c = seamed-any (catted-left (c .if2 .taken))
 
-base-requires : tie.Need-base-requires
-base-requires c κs = search needs
+base-in-requires : tie.Need-base-in-requires
+base-in-requires c κs = search needs
 
-base-requires-2 : tie.Need-base-requires-2
-base-requires-2 c κs = search needs
+base-in-requires-2 : tie.Need-base-in-requires-2
+base-in-requires-2 c κs = search needs
 
 sub-numerator : tie.Need-sub-numerator
 sub-numerator c =
-    let f : SFits w64 (c .base2 .result) = record { sfits = c .base2 .ok } in
-    let g : SFits w64 (c .before .before .base .result) = record { sfits = c .before .before .base .ok } in
-    simp (toZ-ofZ, f, g) (numerator-fits _ _ _ _ _ (c .base2 .ensures) (c .before .before .base .ensures))
+    let f : SFits w64 (c .base-in2 .result) = record { sfits = c .base-in2 .ok } in
+    let g : SFits w64 (c .before .before .base-in .result) = record { sfits = c .before .before .base-in .ok } in
+    simp (toZ-ofZ, f, g) (numerator-fits _ _ _ _ _ (c .base-in2 .ensures) (c .before .before .base-in .ensures))
 
-rate-requires : tie.Need-rate-requires
-rate-requires c κs = search needs
+rate-in-requires : tie.Need-rate-in-requires
+rate-in-requires c κs = search needs
 
-rate-requires-2 : tie.Need-rate-requires-2
-rate-requires-2 c κs = search needs
+rate-in-requires-2 : tie.Need-rate-in-requires-2
+rate-in-requires-2 c κs = search needs
 
 sub-denominator : tie.Need-sub-denominator
 sub-denominator c =
-    let f : SFits w64 (c .before .before .rate .result) = record { sfits = c .before .before .rate .ok } in
-    let g : SFits w64 (c .rate2 .result) = record { sfits = c .rate2 .ok } in
-    simp (toZ-ofZ, f, g) (denominator-fits _ _ _ _ _ (c .before .before .rate .ensures) (c .rate2 .ensures))
+    let f : SFits w64 (c .before .before .rate-in .result) = record { sfits = c .before .before .rate-in .ok } in
+    let g : SFits w64 (c .rate-in2 .result) = record { sfits = c .rate-in2 .ok } in
+    simp (toZ-ofZ, f, g) (denominator-fits _ _ _ _ _ (c .before .before .rate-in .ensures) (c .rate-in2 .ensures))
 
-cast-put-three : tie.Need-cast-put-three
-cast-put-three c = search needs
+cast-put-three-in : tie.Need-cast-put-three-in
+cast-put-three-in c = search needs
 
-put-three-requires : tie.Need-put-three-requires
-put-three-requires c κs = search needs
+put-three-in-requires : tie.Need-put-three-in-requires
+put-three-in-requires c κs = search needs
 
-join-requires : tie.Need-join-requires
-join-requires c κs = search needs
+join-in-requires : tie.Need-join-in-requires
+join-in-requires c κs =
+    threaded-known _ _ _ _ _ _ _ _ (c .before .before .before .before .before .before .before .before .before .before .before .before .before .before .pre)
+    (c .before .before .put-three-in .ensures)
 
 same-length : tie.Need-same-length
 same-length c = search needs
 
 returns-3 : tie.Need-returns-3
 returns-3 c =
-    let at-put-three = c .before .before .before .before in
-    let at-rate2 = at-put-three .before .before in
-    let at-rate = at-rate2 .before .before in
-    let at-base2 = at-rate .before .before in
-    let at-base = at-base2 .before .before in
-    let at-if2 = at-base .before .before in
-    let at-if1 = at-if2 .before in
-    let entry = at-if1 .before in
+    let written = c .before .before .before .before in
+    let rate-n = written .before .before in
+    let rate-s = rate-n .before .before in
+    let base-s = rate-s .before .before in
+    let base-n = base-s .before .before in
+    let both = base-n .before .before in
+    let entry = both .before .before in
     let a = entry .args in
     let w = a .part .now in
-    let f : SFits w64 (at-base2 .base2 .result) = record { sfits = at-base2 .base2 .ok } in
-    let g : SFits w64 (at-base .base .result) = record { sfits = at-base .base .ok } in
-    let f₂ : SFits w64 (at-rate .rate .result) = record { sfits = at-rate .rate .ok } in
-    let g₂ : SFits w64 (at-rate2 .rate2 .result) = record { sfits = at-rate2 .rate2 .ok } in
-    let k = numerator-fits w (a .s) (a .n) _ _ (at-base2 .base2 .ensures) (at-base .base .ensures) in
-    let k₂ = denominator-fits w (a .s) (a .n) _ _ (at-rate .rate .ensures) (at-rate2 .rate2 .ensures) in
+    let f : SFits w64 (base-s .base-in2 .result) = record { sfits = base-s .base-in2 .ok } in
+    let g : SFits w64 (base-n .base-in .result) = record { sfits = base-n .base-in .ok } in
+    let f₂ : SFits w64 (rate-s .rate-in .result) = record { sfits = rate-s .rate-in .ok } in
+    let g₂ : SFits w64 (rate-n .rate-in2 .result) = record { sfits = rate-n .rate-in2 .ok } in
+    let k = numerator-fits w (a .s) (a .n) _ _ (base-s .base-in2 .ensures) (base-n .base-in .ensures) in
+    let k₂ = denominator-fits w (a .s) (a .n) _ _ (rate-s .rate-in .ensures) (rate-n .rate-in2 .ensures) in
     let vn : toZ w64 (a .n) ≡ pos (a .n) = toZ-pos w64 (omega (arith, entry .fits .n)) in
-    seamed (at-if1 .if1 .left) (at-if2 .if2 .left) (ap₂ _-ℤ_ (at-base .base .ensures) (at-base2 .base2 .ensures))
-    (ap₂ _-ℤ_ (at-rate .rate .ensures) (at-rate2 .rate2 .ensures)) (simp (toZ-ofZ, f, g, k, f₂, g₂, k₂, vn) at (at-put-three .put-three .ensures))
-    (c .before .join .ensures)
+    seamed (both .before .if1 .left) (both .if2 .left) (ap₂ _-ℤ_ (base-n .base-in .ensures) (base-s .base-in2 .ensures))
+    (ap₂ _-ℤ_ (rate-s .rate-in .ensures) (rate-n .rate-in2 .ensures)) (simp (toZ-ofZ, f, g, k, f₂, g₂, k₂, vn) at (written .put-three-in .ensures))
+    (c .before .join-in .ensures)
 
 pub cat-at-spec : {M : Type 1} → statement M
 cat-at-spec =
@@ -82,14 +83,14 @@ cat-at-spec =
     (tie.spec
     returns
     returns-2
-    base-requires
-    base-requires-2
+    base-in-requires
+    base-in-requires-2
     sub-numerator
-    rate-requires
-    rate-requires-2
+    rate-in-requires
+    rate-in-requires-2
     sub-denominator
-    cast-put-three
-    put-three-requires
-    join-requires
+    cast-put-three-in
+    put-three-in-requires
+    join-in-requires
     same-length
     returns-3)

@@ -7,11 +7,11 @@ use Rattle.search.proofs.retreat.Tie as tie
 returns : tie.Need-returns
 returns c = retreats-leaf (c .if1 .taken)
 
-child-requires : tie.Need-child-requires
-child-requires c κs = search needs
+child-in-requires : tie.Need-child-in-requires
+child-in-requires c κs = search needs
 
 returns-2 : tie.Need-returns-2
-returns-2 c = retreats-node (c .before .if1 .left) (c .child .ensures)
+returns-2 c = retreats-node (c .before .if1 .left) (c .child-in .ensures)
 
 pub retreat-spec : {M : Type 1} → statement M
-retreat-spec = tie.close (tie.spec returns child-requires returns-2)
+retreat-spec = tie.close (tie.spec returns child-in-requires returns-2)

@@ -1,5 +1,6 @@
 -- `update::lower` meets its contract.
 use Rattle.table.specs.Layout.{cell}
+use Rattle.descents.specs.Cuts.{still-known}
 use Rattle.update.specs.Lowering.{lowered}
 use mathlib.Core.Path.{_∙_, ap}
 use mir.Facts.{toZ-ofZ}
@@ -9,53 +10,79 @@ use borrow.Author.Needs.{needs}
 use Rattle.update.proofs.lower.Statement.{statement}
 use Rattle.update.proofs.lower.Tie as tie
 
-child-requires : tie.Need-child-requires
-child-requires c κs = search needs
+capacity-requires : tie.Need-capacity-requires
+capacity-requires c κs = search needs
 
-child-requires-2 : tie.Need-child-requires-2
-child-requires-2 c κs = search needs
+child-in-requires : tie.Need-child-in-requires
+child-in-requires c κs = search needs
+
+child-in-requires-2 : tie.Need-child-in-requires-2
+child-in-requires-2 c κs = search needs
 
 inner-slot-requires : tie.Need-inner-slot-requires
 inner-slot-requires c κs = search needs
 
-get-requires : tie.Need-get-requires
-get-requires c κs = search needs
+get-in-requires : tie.Need-get-in-requires
+get-in-requires c κs = search needs
 
-cut-requires : tie.Need-cut-requires
-cut-requires c κs = search needs
+cut-in-requires : tie.Need-cut-in-requires
+cut-in-requires c κs = search needs
 
-rest-requires : tie.Need-rest-requires
-rest-requires c κs = search needs
+rest-in-requires : tie.Need-rest-in-requires
+rest-in-requires c κs =
+    let severed = c .before .before in
+    let known = severed .before .before .before .before .before .before .before .before .before in
+    still-known (known .capacity .ensures) (severed .cut-in .ensures .within)
 
-rest-requires-2 : tie.Need-rest-requires-2
-rest-requires-2 c κs = search needs
+rest-in-requires-2 : tie.Need-rest-in-requires-2
+rest-in-requires-2 c κs =
+    let severed = c .before .before .before .before in
+    let known = severed .before .before .before .before .before .before .before .before .before in
+    still-known (known .capacity .ensures) (severed .cut-in .ensures .within)
 
-cat-requires : tie.Need-cat-requires
-cat-requires c κs = search needs
+cat-in-requires : tie.Need-cat-in-requires
+cat-in-requires c κs =
+    let severed = c .before .before .before .before .before .before in
+    let known = severed .before .before .before .before .before .before .before .before .before in
+    still-known (known .capacity .ensures) (severed .cut-in .ensures .within)
 
-cat-requires-2 : tie.Need-cat-requires-2
-cat-requires-2 c κs = search needs
+cat-in-requires-2 : tie.Need-cat-in-requires-2
+cat-in-requires-2 c κs =
+    let left = c .before .before in
+    let severed = left .before .before .before .before .before .before .before in
+    let known = severed .before .before .before .before .before .before .before .before .before in
+    still-known (still-known (known .capacity .ensures) (severed .cut-in .ensures .within)) (left .cat-in .ensures .within)
 
 same-length : tie.Need-same-length
 same-length c = search needs
 
 returns : tie.Need-returns
 returns c =
-    let f : SFits w64 (c .before .before .before .before .before .before .before .before .before .before .before .before .before .get .result) = record { sfits = c .before .before .before .before .before .before .before .before .before .before .before .before .before .get .ok } in
-    lowered (c .before .before .before .before .before .before .before .before .before .before .before .before .before .before .before .before .before .before .child .ensures) (c .before .before .before .before .before .before .before .before .before .before .before .before .before .before .before .before .child2 .ensures) (c .before .before .before .before .before .before .before .before .before .before .before .before .before .get .ensures ∙ ap (cell _ 1) (c .before .before .before .before .before .before .before .before .before .before .before .before .before .before .inner-slot .ensures)) (simp (toZ-ofZ, f) at (c .before .before .before .before .before .before .before .before .before .before .before .cut .ensures)) (c .before .before .before .before .before .before .before .before .rest .ensures) (c .before .before .before .before .before .before .rest2 .ensures) (c .before .before .before .before .cat .ensures) (c .before .cat2 .ensures)
+    let left-put = c .before .before .before .before in
+    let right-rest = left-put .before .before in
+    let left-rest = right-rest .before .before in
+    let severed = left-rest .before .before .before in
+    let rated = severed .before .before in
+    let right = rated .before .before .before in
+    let left = right .before .before in
+    let f : SFits w64 (rated .get-in .result) = record { sfits = rated .get-in .ok } in
+    lowered (left .child-in .ensures) (right .child-in2 .ensures) (rated .get-in .ensures ∙ ap (cell _ 1) (rated .before .inner-slot .ensures))
+    (simp (toZ-ofZ, f) at (severed .cut-in .ensures)) (left-rest .rest-in .ensures) (right-rest .rest-in2 .ensures) (left-put .cat-in .ensures)
+    (c .before .cat-in2 .ensures)
 
 pub lower-spec : {M : Type 1} → statement M
 lower-spec =
     tie.close
     (tie.spec
-    child-requires
-    child-requires-2
+    capacity-requires
+    child-in-requires
+    child-in-requires-2
     inner-slot-requires
-    get-requires
-    cut-requires
-    rest-requires
-    rest-requires-2
-    cat-requires
-    cat-requires-2
+    get-in-requires
+    cut-in-requires
+    rest-in-requires
+    rest-in-requires-2
+    cat-in-requires
+    cat-in-requires-2
     same-length
     returns)

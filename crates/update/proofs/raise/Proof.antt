@@ -1,7 +1,10 @@
 -- `update::raise` meets its contract.
 use Prim.Native.Nat.{_+_}
 use Rattle.table.specs.Rep.{height-read}
+use Rattle.descents.specs.Cuts.{still-known}
+use Rattle.update.specs.CodeSteps.{still-put}
 use Rattle.update.specs.Raising.{raised}
+use Rattle.update.specs.RaisingRests.{rest-within}
 use Rattle.update.specs.RaisingSearch.{met-in}
 use mathlib.Core.Path.{_∙_, ap₂}
 use mir.Facts.{toZ-ofZ}
@@ -15,71 +18,156 @@ use Rattle.update.proofs.raise.Tie as tie
 meet-requires : tie.Need-meet-requires
 meet-requires c κs = search needs
 
-height-requires : tie.Need-height-requires
-height-requires c κs = search needs
+capacity-requires : tie.Need-capacity-requires
+capacity-requires c κs = search needs
 
-height-requires-2 : tie.Need-height-requires-2
-height-requires-2 c κs = search needs
+height-in-requires : tie.Need-height-in-requires
+height-in-requires c κs = search needs
+
+height-in-requires-2 : tie.Need-height-in-requires-2
+height-in-requires-2 c κs = search needs
 
 add-h : tie.Need-add-h
-add-h c = omega (arith, height-read _ 0 (c .before .before .before .before .before .before .args .le) (c .before .before .height .ensures), height-read _ 0 (c .before .before .before .before .before .before .args .re) (c .height2 .ensures))
+add-h c =
+    let left = c .before .before in
+    let entry = left .before .before .before .before .before .before in
+    omega (arith, height-read _ 0 (entry .args .le) (left .height-in .ensures), height-read _ 0 (entry .args .re) (c .height-in2 .ensures))
 
-get-requires : tie.Need-get-requires
-get-requires c κs = search needs
+get-in-requires : tie.Need-get-in-requires
+get-in-requires c κs = search needs
 
-cut-requires : tie.Need-cut-requires
-cut-requires c κs = search needs
+cut-in-requires : tie.Need-cut-in-requires
+cut-in-requires c κs = search needs
 
-get-requires-2 : tie.Need-get-requires-2
-get-requires-2 c κs = search needs
+get-in-requires-2 : tie.Need-get-in-requires-2
+get-in-requires-2 c κs =
+    let left-cut = c .before .before in
+    let known = left-cut .before .before .before .before .before .before .before .before in
+    still-known (known .capacity .ensures) (left-cut .cut-in .ensures .within)
 
-cut-requires-2 : tie.Need-cut-requires-2
-cut-requires-2 c κs = search needs
+cut-in-requires-2 : tie.Need-cut-in-requires-2
+cut-in-requires-2 c κs =
+    let left-cut = c .before .before .before .before in
+    let known = left-cut .before .before .before .before .before .before .before .before in
+    still-known (known .capacity .ensures) (left-cut .cut-in .ensures .within)
 
 set-rest-requires : tie.Need-set-rest-requires
-set-rest-requires c κs = search needs
+set-rest-requires c κs =
+    let right-cut = c .before .before in
+    let left-cut = right-cut .before .before .before .before .before in
+    let known = left-cut .before .before .before .before .before .before .before .before in
+    still-known (still-known (known .capacity .ensures) (left-cut .cut-in .ensures .within)) (right-cut .cut-in2 .ensures .within)
 
 set-rest-requires-2 : tie.Need-set-rest-requires-2
-set-rest-requires-2 c κs = search needs
+set-rest-requires-2 c κs =
+    let left-kept = c .before .before in
+    let right-cut = left-kept .before .before .before in
+    let left-cut = right-cut .before .before .before .before .before in
+    let known = left-cut .before .before .before .before .before .before .before .before in
+    let after-cuts = still-known (still-known (known .capacity .ensures) (left-cut .cut-in .ensures .within)) (right-cut .cut-in2 .ensures .within) in
+    still-known (after-cuts) (rest-within (left-kept .set-rest .ensures))
 
-make-node-requires : tie.Need-make-node-requires
-make-node-requires c κs = search needs
+make-node-in-requires : tie.Need-make-node-in-requires
+make-node-in-requires c κs =
+    let right-kept = c .before .before in
+    let left-kept = right-kept .before .before .before in
+    let right-cut = left-kept .before .before .before in
+    let left-cut = right-cut .before .before .before .before .before in
+    let known = left-cut .before .before .before .before .before .before .before .before in
+    let after-cuts = still-known (still-known (known .capacity .ensures) (left-cut .cut-in .ensures .within)) (right-cut .cut-in2 .ensures .within) in
+    still-known (still-known (after-cuts) (rest-within (left-kept .set-rest .ensures))) (rest-within (right-kept .set-rest2 .ensures))
 
-put-link-requires : tie.Need-put-link-requires
-put-link-requires c κs = search needs
+put-link-in-requires : tie.Need-put-link-in-requires
+put-link-in-requires c κs =
+    let made = c .before .before in
+    let right-kept = made .before .before .before in
+    let left-kept = right-kept .before .before .before in
+    let right-cut = left-kept .before .before .before in
+    let left-cut = right-cut .before .before .before .before .before in
+    let known = left-cut .before .before .before .before .before .before .before .before in
+    let after-cuts = still-known (still-known (known .capacity .ensures) (left-cut .cut-in .ensures .within)) (right-cut .cut-in2 .ensures .within) in
+    let after-rests = still-known (still-known (after-cuts) (rest-within (left-kept .set-rest .ensures))) (rest-within (right-kept .set-rest2 .ensures)) in
+    still-known (after-rests) (made .make-node-in .ensures .within)
 
-put-link-requires-2 : tie.Need-put-link-requires-2
-put-link-requires-2 c κs = search needs
+put-link-in-requires-2 : tie.Need-put-link-in-requires-2
+put-link-in-requires-2 c κs =
+    let linked-u = c .before .before in
+    let made = linked-u .before .before .before in
+    let right-kept = made .before .before .before in
+    let left-kept = right-kept .before .before .before in
+    let right-cut = left-kept .before .before .before in
+    let left-cut = right-cut .before .before .before .before .before in
+    let known = left-cut .before .before .before .before .before .before .before .before in
+    let after-cuts = still-known (still-known (known .capacity .ensures) (left-cut .cut-in .ensures .within)) (right-cut .cut-in2 .ensures .within) in
+    let after-rests = still-known (still-known (after-cuts) (rest-within (left-kept .set-rest .ensures))) (rest-within (right-kept .set-rest2 .ensures)) in
+    still-put _ _ _ _ (still-known (after-rests) (made .make-node-in .ensures .within)) (linked-u .put-link-in .ensures)
 
 cat-at-requires : tie.Need-cat-at-requires
-cat-at-requires c κs = search needs
+cat-at-requires c κs =
+    let linked-v = c .before .before in
+    let linked-u = linked-v .before .before .before in
+    let made = linked-u .before .before .before in
+    let right-kept = made .before .before .before in
+    let left-kept = right-kept .before .before .before in
+    let right-cut = left-kept .before .before .before in
+    let left-cut = right-cut .before .before .before .before .before in
+    let known = left-cut .before .before .before .before .before .before .before .before in
+    let after-cuts = still-known (still-known (known .capacity .ensures) (left-cut .cut-in .ensures .within)) (right-cut .cut-in2 .ensures .within) in
+    let after-rests = still-known (still-known (after-cuts) (rest-within (left-kept .set-rest .ensures))) (rest-within (right-kept .set-rest2 .ensures)) in
+    let after-u = still-put _ _ _ _ (still-known (after-rests) (made .make-node-in .ensures .within)) (linked-u .put-link-in .ensures) in
+    still-put _ _ _ _ after-u (linked-v .put-link-in2 .ensures)
 
 same-length : tie.Need-same-length
-same-length c = c .before .cat-at .kept .0 ∙ c .before .before .before .before .put-link2 .kept .0 ∙ c .before .before .before .before .before .before .before .put-link .kept .0 ∙ c .before .before .before .before .before .before .before .before .before .before .make-node .kept .0 ∙ c .before .before .before .before .before .before .before .before .before .before .before .before .before .set-rest2 .kept .0 ∙ c .before .before .before .before .before .before .before .before .before .before .before .before .before .before .before .before .set-rest .kept .0 ∙ c .before .before .before .before .before .before .before .before .before .before .before .before .before .before .before .before .before .before .before .cut2 .kept .0 ∙ c .before .before .before .before .before .before .before .before .before .before .before .before .before .before .before .before .before .before .before .before .before .before .before .before .cut .kept .0
+same-length c =
+    let linked-v = c .before .before .before .before in
+    let linked-u = linked-v .before .before .before in
+    let made = linked-u .before .before .before in
+    let right-kept = made .before .before .before in
+    let left-kept = right-kept .before .before .before in
+    let right-cut = left-kept .before .before .before in
+    let left-cut = right-cut .before .before .before .before .before in
+    c .before .cat-at .kept .0 ∙ linked-v .put-link-in2 .kept .0 ∙ linked-u .put-link-in .kept .0 ∙ made .make-node-in .kept .0
+    ∙ right-kept .set-rest2 .kept .0 ∙ left-kept .set-rest .kept .0 ∙ right-cut .cut-in2 .kept .0 ∙ left-cut .cut-in .kept .0
 
 returns : tie.Need-returns
 returns c =
-    let f : SFits w64 (c .before .before .before .before .before .before .before .before .before .before .before .before .before .before .before .before .before .before .before .before .before .before .before .before .before .before .get .result) = record { sfits = c .before .before .before .before .before .before .before .before .before .before .before .before .before .before .before .before .before .before .before .before .before .before .before .before .before .before .get .ok } in
-    let g : SFits w64 (c .before .before .before .before .before .before .before .before .before .before .before .before .before .before .before .before .before .before .before .before .before .get2 .result) = record { sfits = c .before .before .before .before .before .before .before .before .before .before .before .before .before .before .before .before .before .before .before .before .before .get2 .ok } in
-    raised (met-in (c .before .before .before .before .before .before .before .before .before .before .before .before .before .before .before .before .before .before .before .before .before .before .before .before .before .before .before .before .before .before .before .before .meet .ensures)) (ap₂ _+_ (c .before .before .before .before .before .before .before .before .before .before .before .before .before .before .before .before .before .before .before .before .before .before .before .before .before .before .before .before .before .before .height .ensures) (c .before .before .before .before .before .before .before .before .before .before .before .before .before .before .before .before .before .before .before .before .before .before .before .before .before .before .before .before .height2 .ensures)) (c .before .before .before .before .before .before .before .before .before .before .before .before .before .before .before .before .before .before .before .before .before .before .before .before .before .before .get .ensures) (simp (toZ-ofZ, f) at (c .before .before .before .before .before .before .before .before .before .before .before .before .before .before .before .before .before .before .before .before .before .before .before .before .cut .ensures)) (c .before .before .before .before .before .before .before .before .before .before .before .before .before .before .before .before .before .before .before .before .before .get2 .ensures) (simp (toZ-ofZ, g) at (c .before .before .before .before .before .before .before .before .before .before .before .before .before .before .before .before .before .before .before .cut2 .ensures)) (c .before .before .before .before .before .before .before .before .before .before .before .before .before .before .before .before .set-rest .ensures) (c .before .before .before .before .before .before .before .before .before .before .before .before .before .set-rest2 .ensures) (c .before .before .before .before .before .before .before .before .before .before .make-node .ensures) (c .before .before .before .before .before .before .before .put-link .ensures) (c .before .before .before .before .put-link2 .ensures) (c .before .cat-at .ensures)
+    let linked-v = c .before .before .before .before in
+    let linked-u = linked-v .before .before .before in
+    let made = linked-u .before .before .before in
+    let right-kept = made .before .before .before in
+    let left-kept = right-kept .before .before .before in
+    let right-cut = left-kept .before .before .before in
+    let rated-v = right-cut .before .before in
+    let left-cut = rated-v .before .before .before in
+    let rated-u = left-cut .before .before in
+    let tall-right = rated-u .before .before in
+    let tall-left = tall-right .before .before in
+    let met = tall-left .before .before .before .before in
+    let f : SFits w64 (rated-u .get-in .result) = record { sfits = rated-u .get-in .ok } in
+    let g : SFits w64 (rated-v .get-in2 .result) = record { sfits = rated-v .get-in2 .ok } in
+    raised (met-in (met .meet .ensures)) (ap₂ _+_ (tall-left .height-in .ensures) (tall-right .height-in2 .ensures)) (rated-u .get-in .ensures)
+    (simp (toZ-ofZ, f) at (left-cut .cut-in .ensures)) (rated-v .get-in2 .ensures) (simp (toZ-ofZ, g) at (right-cut .cut-in2 .ensures))
+    (left-kept .set-rest .ensures) (right-kept .set-rest2 .ensures) (made .make-node-in .ensures) (linked-u .put-link-in .ensures)
+    (linked-v .put-link-in2 .ensures) (c .before .cat-at .ensures)
 
 pub raise-spec : {M : Type 1} → statement M
 raise-spec =
     tie.close
     (tie.spec
     meet-requires
-    height-requires
-    height-requires-2
+    capacity-requires
+    height-in-requires
+    height-in-requires-2
     add-h
-    get-requires
-    cut-requires
-    get-requires-2
-    cut-requires-2
+    get-in-requires
+    cut-in-requires
+    get-in-requires-2
+    cut-in-requires-2
     set-rest-requires
     set-rest-requires-2
-    make-node-requires
-    put-link-requires
-    put-link-requires-2
+    make-node-in-requires
+    put-link-in-requires
+    put-link-in-requires-2
     cat-at-requires
     same-length
     returns)

@@ -1,11 +1,23 @@
 -- `update::rebalance` meets its contract.
+use native.Mathlib.Omega.{arith}
+use Rattle.table.specs.Rep.{height-read}
+use Rattle.shape.specs.Splices.{towers-told}
 use Rattle.update.specs.CodeSteps.{tall-left, tall-right, none-tall}
 use borrow.Author.Needs.{needs}
 use Rattle.update.proofs.rebalance.Statement.{statement}
 use Rattle.update.proofs.rebalance.Tie as tie
 
-towers-requires : tie.Need-towers-requires
-towers-requires c κs = search needs
+capacity-requires : tie.Need-capacity-requires
+capacity-requires c κs = search needs
+
+height-in-requires : tie.Need-height-in-requires
+height-in-requires c κs = search needs
+
+height-in-requires-2 : tie.Need-height-in-requires-2
+height-in-requires-2 c κs = search needs
+
+above-requires : tie.Need-above-requires
+above-requires c κs = omega (arith, height-read _ 1 (c .before .before .before .before .before .before .args .rx) (c .height-in2 .ensures))
 
 rotate-requires : tie.Need-rotate-requires
 rotate-requires c κs = search needs
@@ -14,10 +26,17 @@ same-length : tie.Need-same-length
 same-length c = search needs
 
 returns : tie.Need-returns
-returns c = tall-left (c .before .before .before .before .towers .ensures) (c .before .before .before .if1 .taken) (c .before .rotate .ensures)
+returns c =
+    let right = c .before .before .before .before .before in
+    let left = right .before .before in
+    let a = left .before .before .before .before .args in
+    tall-left (towers-told _ 1 (a .lx) (a .rx) (left .height-in .ensures) (right .height-in2 .ensures) (c .before .before .before .before .above .ensures))
+    (c .before .before .before .if1 .taken) (c .before .rotate .ensures)
 
-towers-requires-2 : tie.Need-towers-requires-2
-towers-requires-2 c κs = search needs
+above-requires-2 : tie.Need-above-requires-2
+above-requires-2 c κs =
+    let left = c .before .before .before .before in
+    omega (arith, height-read _ 1 (left .before .before .before .before .args .lx) (left .height-in .ensures))
 
 rotate-requires-2 : tie.Need-rotate-requires-2
 rotate-requires-2 c κs = search needs
@@ -26,7 +45,12 @@ same-length-2 : tie.Need-same-length-2
 same-length-2 c = search needs
 
 returns-2 : tie.Need-returns-2
-returns-2 c = tall-right (c .before .before .before .before .towers2 .ensures) (c .before .before .before .if2 .taken) (c .before .rotate2 .ensures)
+returns-2 c =
+    let right = c .before .before .before .before .before .before .before in
+    let left = right .before .before in
+    let a = left .before .before .before .before .args in
+    tall-right (towers-told _ 1 (a .rx) (a .lx) (right .height-in2 .ensures) (left .height-in .ensures) (c .before .before .before .before .above2 .ensures))
+    (c .before .before .before .if2 .taken) (c .before .rotate2 .ensures)
 
 raise-requires : tie.Need-raise-requires
 raise-requires c κs = search needs
@@ -35,17 +59,28 @@ same-length-3 : tie.Need-same-length-3
 same-length-3 c = search needs
 
 returns-3 : tie.Need-returns-3
-returns-3 c = none-tall (c .before .before .before .before .before .before .before .towers .ensures) (c .before .before .before .before .before .before .if1 .left) (c .before .before .before .before .towers2 .ensures) (c .before .before .before .if2 .left) (c .before .raise .ensures)
+returns-3 c =
+    let right-low = c .before .before .before in
+    let left-low = right-low .before .before in
+    let right = left-low .before .before in
+    let left = right .before .before in
+    let a = left .before .before .before .before .args in
+    none-tall (towers-told _ 1 (a .lx) (a .rx) (left .height-in .ensures) (right .height-in2 .ensures) (left-low .before .above .ensures)) (left-low .if1 .left)
+    (towers-told _ 1 (a .rx) (a .lx) (right .height-in2 .ensures) (left .height-in .ensures) (right-low .before .above2 .ensures)) (right-low .if2 .left)
+    (c .before .raise .ensures)
 
 pub rebalance-spec : {M : Type 1} → statement M
 rebalance-spec =
     tie.close
     (tie.spec
-    towers-requires
+    capacity-requires
+    height-in-requires
+    height-in-requires-2
+    above-requires
     rotate-requires
     same-length
     returns
-    towers-requires-2
+    above-requires-2
     rotate-requires-2
     same-length-2
     returns-2

@@ -4,35 +4,35 @@ use borrow.Author.Needs.{needs}
 use Rattle.update.proofs.set_rest.Statement.{statement}
 use Rattle.update.proofs.set_rest.Tie as tie
 
-put-link-requires : tie.Need-put-link-requires
-put-link-requires c κs = search needs
+put-link-in-requires : tie.Need-put-link-in-requires
+put-link-in-requires c κs = search needs
 
 same-length : tie.Need-same-length
 same-length c = search needs
 
 returns : tie.Need-returns
-returns c = set-of-leaf (c .before .before .before .if1 .taken) (c .before .put-link .ensures)
+returns c = set-of-leaf (c .before .before .before .if1 .taken) (c .before .put-link-in .ensures)
 
 inner-slot-requires : tie.Need-inner-slot-requires
 inner-slot-requires c κs = search needs
 
-put-link-requires-2 : tie.Need-put-link-requires-2
-put-link-requires-2 c κs = search needs
+put-link-in-requires-2 : tie.Need-put-link-in-requires-2
+put-link-in-requires-2 c κs = search needs
 
 same-length-2 : tie.Need-same-length-2
 same-length-2 c = search needs
 
 returns-2 : tie.Need-returns-2
-returns-2 c = set-of-inner (c .before .before .before .before .if1 .left) (c .before .before .inner-slot .ensures) (c .before .put-link2 .ensures)
+returns-2 c = set-of-inner (c .before .before .before .before .if1 .left) (c .before .before .inner-slot .ensures) (c .before .put-link-in2 .ensures)
 
 pub set-rest-spec : {M : Type 1} → statement M
 set-rest-spec =
     tie.close
     (tie.spec
-    put-link-requires
+    put-link-in-requires
     same-length
     returns
     inner-slot-requires
-    put-link-requires-2
+    put-link-in-requires-2
     same-length-2
     returns-2)

@@ -83,7 +83,7 @@ impl Book {
         let x = self.node(OFFERS, gap, l.x, r.x);
         self.put(1 + OFFERS, gap, 2, u as i64);
         self.put(1 + OFFERS, gap, 3, v as i64);
-        Held { x, e: self.cat(front, back) }
+        Held { x, e: self.cat_at(front, back, u, v) }
     }
 
     fn raise_on(&mut self, side: usize, gap: usize, p: Held, q: Held, counts: &mut Counts) -> Held {

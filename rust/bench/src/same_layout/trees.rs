@@ -102,7 +102,7 @@ impl Book {
         }
     }
 
-    /// cuts a tree behind its last leaf whose key is at least `least`
+    /// cuts a tree behind its last leaf whose key is at least `least`; where nothing is cut off, nothing is written
     pub(super) fn split(&mut self, tree: usize, key: usize, x: usize, least: i64) -> (usize, usize) {
         let slot = slot_of(x);
         let in_front = self.get(DATA, slot, key) >= least;
@@ -112,9 +112,15 @@ impl Book {
         let (l, r) = (self.child(tree, x, 0), self.child(tree, x, 1));
         if in_front {
             let (front, back) = self.split(tree, key, r, least);
+            if back == 0 {
+                return (x, 0);
+            }
             (self.join(tree, slot, l, front), back)
         } else {
             let (front, back) = self.split(tree, key, l, least);
+            if front == 0 {
+                return (0, x);
+            }
             (front, self.join(tree, slot, back, r))
         }
     }
@@ -152,6 +158,14 @@ impl Book {
             return l + r;
         }
         let (s, n) = (self.end(PIECES, 1, l), self.end(PIECES, 0, r));
+        self.cat_at(l, r, s, n)
+    }
+
+    /// the same, where the last piece of `l` and the first of `r` are known
+    pub(super) fn cat_at(&mut self, l: usize, r: usize, s: usize, n: usize) -> usize {
+        if l == 0 || r == 0 {
+            return l + r;
+        }
         let numerator = self.get(DATA, n, BASE) - self.get(DATA, s, BASE);
         let denominator = self.get(DATA, s, RATE) - self.get(DATA, n, RATE);
         self.put(PIECE, s, 2, numerator);

@@ -63,8 +63,8 @@ returns-3 c =
     (simp (toZ-ofZ, fn, fd) at (c .before .before .before .before .price .ensures)) (c .before .before .before .kept-in .ensures) (simp (toZ-ofZ, fn, fd) at (c .before .before .price2 .ensures))
     (simp (toZ-ofZ, fy, fz) at (c .before .if2 .left)) (c .if3 .taken)
 
-link-requires : tie.Need-link-requires
-link-requires c κs = c .before .before .before .before .before .before .before .before .pre .1
+link-in-requires : tie.Need-link-in-requires
+link-in-requires c κs = c .before .before .before .before .before .before .before .before .pre .1
 
 price-requires-3 : tie.Need-price-requires-3
 price-requires-3 c κs =
@@ -88,7 +88,7 @@ returns-4 c =
     simp (toZ-ofZ, fy, ft)
     (above-second (a .ours .now) (a .p) (a .other .now) (a .x) (c .before .before .before .before .before .before .before .before .before .if1 .left) (n .ensures) (d .ensures)
     (simp (toZ-ofZ, fn, fd) at (c .before .before .before .before .before .before .price .ensures)) (c .before .before .before .before .before .kept-in .ensures) (simp (toZ-ofZ, fn, fd) at (c .before .before .before .before .price2 .ensures))
-    (simp (toZ-ofZ, fy, fz) at (c .before .before .before .if2 .left)) (c .before .before .if3 .left) (c .before .link .ensures) (simp (toZ-ofZ, fn, fd) at (c .price3 .ensures)))
+    (simp (toZ-ofZ, fy, fz) at (c .before .before .before .if2 .left)) (c .before .before .if3 .left) (c .before .link-in .ensures) (simp (toZ-ofZ, fn, fd) at (c .price3 .ensures)))
 
 pub above-spec : {M : Type 1} → statement M
 above-spec =
@@ -102,6 +102,6 @@ above-spec =
     price-requires-2
     returns-2
     returns-3
-    link-requires
+    link-in-requires
     price-requires-3
     returns-4)

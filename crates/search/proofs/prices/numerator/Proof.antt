@@ -8,17 +8,17 @@ use Rattle.offers.specs.Bounded.{bounded}
 use Rattle.search.proofs.prices.numerator.Statement.{statement}
 use Rattle.search.proofs.prices.numerator.Tie as tie
 
-read-requires : tie.Need-read-requires
-read-requires c κs = search needs
+get-in-requires : tie.Need-get-in-requires
+get-in-requires c κs = search needs
 
 bounded-requires : tie.Need-bounded-requires
 bounded-requires c κs = search needs
 
 returns : tie.Need-returns
 returns c =
-    let f : SFits w64 (c .before .read .result) = record { sfits = c .before .read .ok } in
+    let f : SFits w64 (c .before .get-in .result) = record { sfits = c .before .get-in .ok } in
     let g : SFits w64 (c .bounded .result) = record { sfits = c .bounded .ok } in
-    simp (toZ-ofZ, g) ((simp (toZ-ofZ, f) at (c .bounded .ensures)) ∙ ap (bounded _ _) (c .before .read .ensures))
+    simp (toZ-ofZ, g) ((simp (toZ-ofZ, f) at (c .bounded .ensures)) ∙ ap (bounded _ _) (c .before .get-in .ensures))
 
 pub numerator-spec : {M : Type 1} → statement M
-numerator-spec = tie.close (tie.spec read-requires bounded-requires returns)
+numerator-spec = tie.close (tie.spec get-in-requires bounded-requires returns)

@@ -1,18 +1,15 @@
--- `descents::end` meets its contract. The invariant: the node that is reached has the same leaf at its end, and is at most `limit` high.
+-- `descents::end_in` meets its contract. The invariant: the node that is reached has the same leaf at its end, and is at most `limit` high.
 use borrow.Author.Needs.{needs}
 use native.Mathlib.Omega.{arith}
 use Rattle.descents.specs.Ends.{Going, going-begins, going-on, going-over, going-ends}
-use Rattle.descents.proofs.end.Statement.{statement}
-use Rattle.descents.proofs.end.Tie as tie
+use Rattle.descents.proofs.end_in.Statement.{statement}
+use Rattle.descents.proofs.end_in.Tie as tie
 
 abbrev Inv-loop : tie.InvT-loop
-Inv-loop part tree side x c y₀ limit₀ y limit = Going part tree side x y limit
+Inv-loop part c tree side x y₀ limit₀ y limit = Going part tree side x y limit
 
 abbrev μ-loop : tie.MeasureT-loop
-μ-loop part tree side x c y₀ limit₀ y limit = limit
-
-capacity-requires : tie.Need-capacity-requires Inv-loop μ-loop
-capacity-requires c κs = search needs
+μ-loop part c tree side x y₀ limit₀ y limit = limit
 
 loop-holds : tie.Need-loop-holds Inv-loop μ-loop
 loop-holds c = going-begins _ _ _ _
@@ -35,13 +32,12 @@ loop-again c = going-on (c .before .before .before .loop .inv) (c .before .befor
 returns-2 : tie.Need-returns-2 Inv-loop μ-loop
 returns-2 c = going-ends (c .before .loop .inv) (c .loop-test .left)
 
-pub end-spec : {M : Type 1} → statement M
-end-spec =
+pub end-in-spec : {M : Type 1} → statement M
+end-in-spec =
     tie.close
     (tie.spec
     Inv-loop
     μ-loop
-    capacity-requires
     loop-holds
     returns
     sub-limit

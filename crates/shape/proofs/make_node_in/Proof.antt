@@ -1,13 +1,10 @@
--- `shape::make_node` meets its contract.
+-- `shape::make_node_in` meets its contract.
 use native.Mathlib.Omega.{arith}
 use Rattle.table.specs.Rep.{height-read}
 use Rattle.shape.specs.Joining.{raised}
 use borrow.Author.Needs.{needs}
-use Rattle.shape.proofs.make_node.Statement.{statement}
-use Rattle.shape.proofs.make_node.Tie as tie
-
-capacity-requires : tie.Need-capacity-requires
-capacity-requires c κs = search needs
+use Rattle.shape.proofs.make_node_in.Statement.{statement}
+use Rattle.shape.proofs.make_node_in.Tie as tie
 
 height-in-requires : tie.Need-height-in-requires
 height-in-requires c κs = search needs
@@ -25,13 +22,14 @@ same-length : tie.Need-same-length
 same-length c = search needs
 
 returns : tie.Need-returns
-returns c = raised (c .before .before .before .before .before .before .height-in .ensures) (c .before .before .before .before .height-in2 .ensures) (c .before .before .taller .ensures) (c .before .set-node .ensures)
+returns c =
+    let heights = c .before .before .before .before in
+    raised (heights .before .before .height-in .ensures) (heights .height-in2 .ensures) (c .before .before .taller .ensures) (c .before .set-node .ensures)
 
-pub make-node-spec : {M : Type 1} → statement M
-make-node-spec =
+pub make-node-in-spec : {M : Type 1} → statement M
+make-node-in-spec =
     tie.close
     (tie.spec
-    capacity-requires
     height-in-requires
     height-in-requires-2
     taller-requires
