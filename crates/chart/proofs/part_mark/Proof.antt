@@ -8,6 +8,7 @@ use mir.Facts.{toZ-ofZ, toZ-pos}
 use mir.Syntax.{w64}
 use mir.Val.{SFits, toZ}
 use Rattle.marks.specs.Told.{openEnd}
+use Rattle.chart.specs.declared.Marked.the-variants.{Mark}
 use Rattle.chart.specs.Marking.{PartMark, part-empty, part-outside, part-first, part-last, part-inner, index-below, index-above, index-there}
 use borrow.Author.Needs.{needs}
 use Rattle.chart.proofs.part_mark.Statement.{statement}
@@ -65,7 +66,7 @@ returns-4 c =
     let j = index-there (s .args .index) (simp (toZ-ofZ, s .fits .index) at (c .before .before .before .before .before .before .if2 .left)) (simp (toZ-ofZ, s .fits .index, e) at (c .before .before .before .before .before .if3 .left)) (m .ensures .few) (simp (toZ-ofZ, s .fits .index) at (c .before .before .before .before .up-to .ensures)) in
     let f : SFits w64 (c .before .rate .result) = record { sfits = c .before .rate .ok } in
     let i : s .args .index ≡ pos 0 = j .0 ∙ ap pos (first (c .before .before .before .if4 .taken)) in
-    subst (λ (z : ℤ). PartMark (s .args .part .now) z (c .open-end .result)) (sym i)
+    subst (λ (z : ℤ). PartMark (s .args .part .now) z (Mark (c .open-end .result))) (sym i)
     (part-first (c .before .before .before .before .before .before .before .before .before .number-at .ensures) (m .ensures) (c .before .before .before .before .before .before .before .if1 .left) (c .before .before .slot-of .ensures)
     ((simp (toZ-ofZ, f) at (c .open-end .ensures)) ∙ ap openEnd (c .before .rate .ensures)))
 
@@ -85,7 +86,7 @@ returns-5 c =
     let e : toZ w64 (m .result) ≡ pos (m .result) = toZ-pos w64 (omega (arith, m .ensures .few)) in
     let j = index-there (s .args .index) (simp (toZ-ofZ, s .fits .index) at (c .before .before .before .before .before .before .before .if2 .left)) (simp (toZ-ofZ, s .fits .index, e) at (c .before .before .before .before .before .before .if3 .left)) (m .ensures .few) (simp (toZ-ofZ, s .fits .index) at (c .before .before .before .before .before .up-to .ensures)) in
     let f : SFits w64 (c .before .rate2 .result) = record { sfits = c .before .rate2 .ok } in
-    subst (λ (z : ℤ). PartMark (s .args .part .now) z (c .open-end2 .result)) (sym (j .0))
+    subst (λ (z : ℤ). PartMark (s .args .part .now) z (Mark (c .open-end2 .result))) (sym (j .0))
     (part-last (c .before .before .before .before .before .before .before .before .before .before .number-at .ensures) (m .ensures) (c .before .before .before .before .before .before .before .before .if1 .left) (c .before .before .before .before .before .up-to .result) (c .before .before .before .before .if4 .left) (c .before .before .before .slot-of2 .ensures) (c .before .before .if5 .taken)
     ((simp (toZ-ofZ, f) at (c .open-end2 .ensures)) ∙ ap openEnd (c .before .rate2 .ensures)))
 
@@ -98,7 +99,7 @@ returns-6 c =
     let m = c .before .before .before .before .before .before .before .before .count in
     let e : toZ w64 (m .result) ≡ pos (m .result) = toZ-pos w64 (omega (arith, m .ensures .few)) in
     let j = index-there (s .args .index) (simp (toZ-ofZ, s .fits .index) at (c .before .before .before .before .before .before .if2 .left)) (simp (toZ-ofZ, s .fits .index, e) at (c .before .before .before .before .before .if3 .left)) (m .ensures .few) (simp (toZ-ofZ, s .fits .index) at (c .before .before .before .before .up-to .ensures)) in
-    subst (λ (z : ℤ). PartMark (s .args .part .now) z (c .crossing-at .result)) (sym (j .0))
+    subst (λ (z : ℤ). PartMark (s .args .part .now) z (Mark (c .crossing-at .result))) (sym (j .0))
     (part-inner (c .before .before .before .before .before .before .before .before .before .number-at .ensures) (m .ensures) (c .before .before .before .before .before .before .before .if1 .left) (c .before .before .before .before .up-to .result) (c .before .before .before .if4 .left) (c .before .before .slot-of2 .ensures) (below (j .1) (c .before .if5 .left))
     (c .crossing-at .ensures))
 
