@@ -17,8 +17,9 @@ same-length c = search needs
 
 returns : tie.Need-returns
 returns c =
+    let s = c .before .before .before .before in
     let r : SFits w64 (c .opening-number .result) = record { sfits = c .opening-number .ok } in
-    simp (toZ-ofZ, r) (record { opening = c .before .before .«open» .result; opens = simp (toZ-ofZ, c .before .before .before .before .fits .capacity) at (c .before .before .«open» .ensures); number = c .opening-number .ensures })
+    simp (toZ-ofZ, r) (record { opening = c .before .before .«open» .result; opens = simp (toZ-ofZ, s .fits .capacity) at (c .before .before .«open» .ensures); number = c .opening-number .ensures })
 
 pub carrier-open-spec : {M : Type 1} → statement M
 carrier-open-spec = tie.close (tie.spec open-requires opening-number-requires same-length returns)
