@@ -147,9 +147,8 @@ pub fn meet(first: &[i64], first_start: usize, second: &[i64], second_start: usi
     let mut met = [0i64; 4];
     let (one, two) = (first.as_ptr(), second.as_ptr());
     // SAFETY: each pointer and length are those of one slice; only `met` is written.
-    let answer = unsafe {
-        raw::carrier_meet(one, first.len(), first_start, two, second.len(), second_start, met.as_mut_ptr(), met.len())
-    };
+    let answer =
+        unsafe { raw::carrier_meet(one, first.len(), first_start, two, second.len(), second_start, met.as_mut_ptr(), met.len()) };
     let u = told(answer)?;
     let [v, steps, hl, hr] = met;
     Ok(Meeting { u, v, steps, hl, hr })
