@@ -14,7 +14,8 @@ use Rattle.plain.specs.Book.{Call}
 use Rattle.book.specs.Promises.{Updates, Checks}
 use Rattle.book.specs.declared.Update.{Update}
 use Rattle.reading.specs.Promises.{told}
-use Rattle.answers.specs.Promises.{refusal, tooShort, over, Tells, Lent, updateNumber, countsOf, Updated, Checked, placeOf, placeNumber, pieceOf, Step, Steps, Pieced}
+use Rattle.answers.specs.Promises.{refusal, tooShort, over, Tells, Lent, updateNumber, countsOf, Updated, Checked}
+use Rattle.answers.specs.Promises.{placeOf, placeNumber, pieceOf, Step, Steps, Pieced}
 
 -- ---- a cause, below 0
 
@@ -74,22 +75,25 @@ module _ {A B : Type 0} (room : ℕ) (Keeps : B → Type 0) (numberOf : B → �
   pub lent-short : {out : List A} → length out < room → Lent room Keeps numberOf valuesOf out out tooShort
   lent-short h = record { short = λ _. (refl, refl); long = λ g. absurd (omega arith) }
 
-  pub lent-long : {out out′ : List A} {r : ℤ} → room ≤ length out → (b : B) → Keeps b → Tells (numberOf b) (valuesOf b) out out′ r → Lent room Keeps numberOf valuesOf out out′ r
+  pub lent-long : {out out′ : List A} {r : ℤ} → room ≤ length out → (b : B) → Keeps b → Tells (numberOf b) (valuesOf b) out out′ r
+      → Lent room Keeps numberOf valuesOf out out′ r
   lent-long h b p q = record { short = λ g. absurd (omega arith); long = λ _. (b, p, q) }
 
 module _ (k : Call) (start : ℕ) (t : List ℤ) where
   pub updated-short : {counts : List ℤ} → length counts < 3 → Updated k start t t counts counts tooShort
   updated-short h = record { lent = lent-short 3 (Updates k start t t) updateNumber countsOf h; still = λ _. refl }
 
-  pub updated-long : {t′ counts counts′ : List ℤ} {r : ℤ} → 3 ≤ length counts → (u : Update) → Updates k start t t′ u → Tells (updateNumber u) (countsOf u) counts counts′ r → Updated k start t t′ counts counts′ r
+  pub updated-long : {t′ counts counts′ : List ℤ} {r : ℤ} → 3 ≤ length counts → (u : Update) → Updates k start t t′ u
+      → Tells (updateNumber u) (countsOf u) counts counts′ r → Updated k start t t′ counts counts′ r
   updated-long {t′} h u p q = record { lent = lent-long 3 (Updates k start t t′) updateNumber countsOf h u p q; still = λ g. absurd (omega arith) }
 
 -- ---- a reading's step
 
-pub pieced-long : (start : ℕ) (t : List ℤ) (place : ℤ) {out out′ : List ℤ} {r : ℤ} {at : ℕ} → at ≡ placeOf place → 3 ≤ length out → (s : Step) → Steps start t at s
-    → Tells (placeNumber (s .next) (told (s .handed))) (pieceOf (told (s .handed))) out out′ r → Pieced start t place out out′ r
+pub pieced-long : (start : ℕ) (t : List ℤ) (place : ℤ) {out out′ : List ℤ} {r : ℤ} {at : ℕ} → at ≡ placeOf place → 3 ≤ length out
+    → (s : Step) → Steps start t at s → Tells (placeNumber (s .next) (told (s .handed))) (pieceOf (told (s .handed))) out out′ r → Pieced start t place out out′ r
 pieced-long start t place e h s p q =
-    lent-long 3 (Steps start t (placeOf place)) (λ x. placeNumber (x .next) (told (x .handed))) (λ x. pieceOf (told (x .handed))) h s (subst (λ (i : ℕ). Steps start t i s) e p) q
+    lent-long 3 (Steps start t (placeOf place)) (λ x. placeNumber (x .next) (told (x .handed))) (λ x. pieceOf (told (x .handed))) h s
+    (subst (λ (i : ℕ). Steps start t i s) e p) q
 
 -- ---- a check's answer
 

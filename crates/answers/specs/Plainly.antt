@@ -35,7 +35,8 @@ use Rattle.chart.specs.Promises.{told as markTold, plainMark}
 use Rattle.vouchers.specs.Told.{told as voucherTold, due}
 use Rattle.reading.specs.Promises.{told as pieceTold, pieceOf as handedOf, listedAt, rootPieces, PlaceOf, at-piece, past-last, Before}
 use Rattle.reading.specs.Parts.{none-past, listed-is}
-use Rattle.answers.specs.Promises.{refusal, updateNumber, foundNumber, listedNumber, meetNumber, markNumber, placeNumber, metOf, pieceOf, over, Updated, Queried, Listing, MetBooks, MarkAsked, Vouchered, Begun, Step, Steps, Pieced, placeOf}
+use Rattle.answers.specs.Promises.{refusal, updateNumber, foundNumber, listedNumber, meetNumber, markNumber, placeNumber, metOf, pieceOf, over}
+use Rattle.answers.specs.Promises.{Updated, Queried, Listing, MetBooks, MarkAsked, Vouchered, Begun, Step, Steps, Pieced, placeOf}
 
 -- an answer of the plain book as one number
 abbrev pub answerNumber : Answer → ℤ
@@ -79,7 +80,8 @@ module _ {start : ℕ} {t : List ℤ} (c : ℕ) (held : Option (Held Item)) (boo
       p .number ∙ listed-number (p .listed) out′ _ (numbered (plainOf c held) (listing (length out))) (p .lists .answers c held book)
 
   pub marked-plainly : {index : ℤ} {mark mark′ : List Float} {r : ℤ} → MarkAsked start t index mark mark′ r → 2 ≤ length mark
-      → (r ≡ markNumber (plainMark (plainOffers held) index .number) (plainMark (plainOffers held) index .values)) × (mark′ ≡ over (plainMark (plainOffers held) index .values) mark)
+      → (r ≡ markNumber (plainMark (plainOffers held) index .number) (plainMark (plainOffers held) index .values))
+      × (mark′ ≡ over (plainMark (plainOffers held) index .values) mark)
   marked-plainly {mark} p h =
       let q = p .long h in
       let e = q .1 .answers c held book in
@@ -99,9 +101,11 @@ pub record MetAt (held held′ : Option (Held Item)) (out out′ : List ℤ) (r 
   pub m : Met
   pub found : MeetsAt held held′ m
   pub number : r ≡ numberOf (found .bridged .u)
-  pub words : out′ ≡ numberOf (found .bridged .v) ∷ pos (meet items (found .left) (found .right) .steps) ∷ pos (height (found .left)) ∷ pos (height (found .right)) ∷ drop 4 out
+  pub words :
+      out′ ≡ numberOf (found .bridged .v) ∷ pos (meet items (found .left) (found .right) .steps) ∷ pos (height (found .left)) ∷ pos (height (found .right)) ∷ drop 4 out
 
-module _ {t t′ : List ℤ} {start start′ : ℕ} (c c′ : ℕ) (held held′ : Option (Held Item)) (book : Book (partOf t start) c held) (book′ : Book (partOf t′ start′) c′ held′)
+module _ {t t′ : List ℤ} {start start′ : ℕ} (c c′ : ℕ) (held held′ : Option (Held Item))
+    (book : Book (partOf t start) c held) (book′ : Book (partOf t′ start′) c′ held′)
     {out out′ : List ℤ} {r : ℤ} (p : MetBooks t start t′ start′ out out′ r) (room : 4 ≤ length out) where
   pub met-declined : (z : Cause) → FirstOf (meetTrials (plainOffers held) (plainOffers held′)) z → (r ≡ negℤ (pos (causeNumber z))) × (out′ ≡ out)
   met-declined z f =
@@ -148,13 +152,15 @@ module _ {start : ℕ} {t : List ℤ} (c : ℕ) (held : Option (Held Item)) (boo
 
   stands : {n : ℕ} {r : ℤ} → ReadTo start t n r → Stands start t n r
   stands (begun {r} b) =
-      stood 0 0 (b .place) (omega (arith, b .small)) (b .number ∙ ap (placeNumber (b .place)) (b .hands .answers 0 (b .starts .before) c held book)) (b .starts .before)
+      stood 0 0 (b .place) (omega (arith, b .small))
+      (b .number ∙ ap (placeNumber (b .place)) (b .hands .answers 0 (b .starts .before) c held book)) (b .starts .before)
   stands (onward {n} {r} {r′} m p h) =
       let k = stands m in
       let q = p .long h in
       let s = q .0 in
       let j : Steps start t (k .place) s = subst (λ (i : ℕ). Steps start t i s) (k .back) (q .1) in
-      stood (suc n) n (s .next) (omega (arith, j .small)) (q .2 .number ∙ ap (placeNumber (s .next)) (j .hands .answers n (k .before) c held book))
+      stood (suc n) n (s .next) (omega (arith, j .small))
+      (q .2 .number ∙ ap (placeNumber (s .next)) (j .hands .answers n (k .before) c held book))
       (subst (λ (i : ℕ). Before (partOf t start) i (s .next)) (add-one n) (j .moves .on n (k .before)))
 
   -- after n steps the next writes the n-th three words of the plain listing, and none past the last

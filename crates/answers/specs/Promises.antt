@@ -101,7 +101,8 @@ pub record Tells {A : Type 0} (n : ℤ) (values out out′ : List A) (r : ℤ) :
 -- ---- a call that tells its answer
 
 -- The call keeps its promise with some answer, which is told. Where the output has fewer words than `room`, and there alone, it is not made.
-pub record Lent {A B : Type 0} (room : ℕ) (Keeps : B → Type 0) (numberOf : B → ℤ) (valuesOf : B → List A) (out out′ : List A) (r : ℤ) : Type 0 where
+pub record Lent {A B : Type 0} (room : ℕ) (Keeps : B → Type 0) (numberOf : B → ℤ) (valuesOf : B → List A)
+    (out out′ : List A) (r : ℤ) : Type 0 where
   pub short : length out < room → (r ≡ tooShort) × (out′ ≡ out)
   pub long : room ≤ length out → (b : B) × Keeps b × Tells (numberOf b) (valuesOf b) out out′ r
 
@@ -139,15 +140,18 @@ pub record Checked (start : ℕ) (t : List ℤ) (r : ℤ) : Type 0 where
 
 -- v's offer, the steps and the two heights go with u's offer
 abbrev pub MetBooks : (t : List ℤ) (start : ℕ) (t′ : List ℤ) (start′ : ℕ) (out out′ : List ℤ) (r : ℤ) → Type 0
-MetBooks t start t′ start′ out out′ r = Lent 4 (MeetsBooks t start t′ start′) (λ m. meetNumber (meetAnswer m)) (λ m. metOf (meetAnswer m)) out out′ r
+MetBooks t start t′ start′ out out′ r =
+    Lent 4 (MeetsBooks t start t′ start′) (λ m. meetNumber (meetAnswer m)) (λ m. metOf (meetAnswer m)) out out′ r
 
 -- a mark's values go with it: an open end's rate, or a crossing's load and price
 abbrev pub MarkAsked : (start : ℕ) (t : List ℤ) (index : ℤ) (mark mark′ : List Float) (r : ℤ) → Type 0
-MarkAsked start t index mark mark′ r = Lent 2 (Marks start t index) (λ m. markNumber (markTold m .number) (markTold m .values)) (λ m. markTold m .values) mark mark′ r
+MarkAsked start t index mark mark′ r =
+    Lent 2 (Marks start t index) (λ m. markNumber (markTold m .number) (markTold m .values)) (λ m. markTold m .values) mark mark′ r
 
 -- the units go with it
 abbrev pub Vouchered : (price : ℤ) (units units′ : List ℤ) (r : ℤ) → Type 0
-Vouchered price units units′ r = Lent 1 (λ (v : Voucher). voucherTold v ≡ due price) (λ v. refusal (voucherTold v .number)) (λ v. voucherTold v .values) units units′ r
+Vouchered price units units′ r =
+    Lent 1 (λ (v : Voucher). voucherTold v ≡ due price) (λ v. refusal (voucherTold v .number)) (λ v. voucherTold v .values) units units′ r
 
 -- ---- a reading, whose place goes from call to call as a word
 
@@ -176,4 +180,5 @@ pub record Steps (start : ℕ) (t : List ℤ) (place : ℕ) (s : Step) : Type 0 
 
 -- the piece's three words go with the place of the next
 abbrev pub Pieced : (start : ℕ) (t : List ℤ) (place : ℤ) (out out′ : List ℤ) (r : ℤ) → Type 0
-Pieced start t place out out′ r = Lent 3 (Steps start t (placeOf place)) (λ s. placeNumber (s .next) (pieceTold (s .handed))) (λ s. pieceOf (pieceTold (s .handed))) out out′ r
+Pieced start t place out out′ r =
+    Lent 3 (Steps start t (placeOf place)) (λ s. placeNumber (s .next) (pieceTold (s .handed))) (λ s. pieceOf (pieceTold (s .handed))) out out′ r

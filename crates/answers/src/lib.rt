@@ -3,7 +3,8 @@
 ghost use mathlib.Core.Path.{_≡_};
 ghost use Prim.Native.Nat.{_≤_};
 ghost use lib.ListN.{length};
-ghost use Rattle.answers.specs.Promises.{refusal, openingNumber, updateNumber, foundNumber, listedNumber, meetNumber, markNumber, placeNumber, countsOf, foundOf, metOf, pieceOf, Tells};
+ghost use Rattle.answers.specs.Promises.{refusal, openingNumber, updateNumber, foundNumber, listedNumber, meetNumber};
+ghost use Rattle.answers.specs.Promises.{markNumber, placeNumber, countsOf, foundOf, metOf, pieceOf, Tells};
 ghost use Rattle.meet.specs.Promises.{meetAnswer};
 ghost use Rattle.chart.specs.Promises.{told as markTold};
 ghost use Rattle.vouchers.specs.Told.{told as voucherTold};

@@ -32,7 +32,8 @@ returns c =
     let n : SFits w64 (c .before .f .given .0 .0) = record { sfits = c .known-told .given .0 .1 } in
     let p : SFits w64 (c .before .f .given .0 .1 .0) = record { sfits = c .known-told .given .1 .0 .1 } in
     let d : SFits w64 (c .before .f .given .0 .1 .1 .0) = record { sfits = c .known-told .given .1 .1 .0 .1 } in
-    simp (toZ-ofZ, n, p, d) (tells foundNumber foundOf (c .before .f .given .1) refl (two (c .before .before .before .args .found .now) _ _ (c .before .before .before .pre)))
+    simp (toZ-ofZ, n, p, d)
+    (tells foundNumber foundOf (c .before .f .given .1) refl (two (c .before .before .before .args .found .now) _ _ (c .before .before .before .pre)))
 
 returns-2 : tie.Need-returns-2
 returns-2 c =

@@ -42,7 +42,8 @@ returns : tie.Need-returns
 returns c =
     let s = c .before .before .before .before .before .before .before in
     let l = s .args .mark .now in
-    tells (λ m. markNumber (told m .number) (told m .values)) (λ m. told m .values) (c .before .before .before .before .m .given .1 ∙ ap Mark (c .before .shown .given .1)) refl (one l _ (longer l (s .pre)))
+    tells (λ m. markNumber (told m .number) (told m .values)) (λ m. told m .values)
+    (c .before .before .before .before .m .given .1 ∙ ap Mark (c .before .shown .given .1)) refl (one l _ (longer l (s .pre)))
 
 same-length-2 : tie.Need-same-length-2
 same-length-2 c = search needs
@@ -51,13 +52,16 @@ returns-2 : tie.Need-returns-2
 returns-2 c =
     let s = c .before .before .before .before .before .before .before in
     let l = s .args .mark .now in
-    tells (λ m. markNumber (told m .number) (told m .values)) (λ m. told m .values) (c .before .before .before .before .m .given .1 ∙ ap Mark (c .before .shown2 .given .1)) refl (two l _ _ (s .pre))
+    tells (λ m. markNumber (told m .number) (told m .values)) (λ m. told m .values)
+    (c .before .before .before .before .m .given .1 ∙ ap Mark (c .before .shown2 .given .1)) refl (two l _ _ (s .pre))
 
 returns-3 : tie.Need-returns-3
 returns-3 c =
     let r : SFits w64 (c .below-zero .result) = record { sfits = c .below-zero .ok } in
     let z : SFits w64 (c .before .before .m2 .given .0 .0) = record { sfits = c .before .known-told4 .given .0 .1 } in
-    simp (toZ-ofZ, r) (tells (λ m. markNumber (told m .number) (told m .values)) (λ m. told m .values) (c .before .before .m2 .given .1) (simp (toZ-ofZ, z) at (c .below-zero .ensures)) refl)
+    simp (toZ-ofZ, r)
+    (tells (λ m. markNumber (told m .number) (told m .values)) (λ m. told m .values)
+    (c .before .before .m2 .given .1) (simp (toZ-ofZ, z) at (c .below-zero .ensures)) refl)
 
 pub tell-mark-spec : {M : Type 1} → statement M
 tell-mark-spec =

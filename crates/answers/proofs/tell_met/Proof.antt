@@ -43,13 +43,17 @@ returns c =
     let s : SFits w64 (c .before .m .given .0 .1 .1 .0) = record { sfits = c .known-told .given .1 .1 .0 .1 } in
     let x : SFits w64 (c .before .m .given .0 .1 .1 .1 .0) = record { sfits = c .known-told .given .1 .1 .1 .0 .1 } in
     let y : SFits w64 (c .before .m .given .0 .1 .1 .1 .1 .0) = record { sfits = c .known-told .given .1 .1 .1 .1 .0 .1 } in
-    simp (toZ-ofZ, u, v, s, x, y) (tells (λ m. meetNumber (meetAnswer m)) (λ m. metOf (meetAnswer m)) (c .before .m .given .1) refl (four (c .before .before .before .args .met .now) _ _ _ _ (c .before .before .before .pre)))
+    simp (toZ-ofZ, u, v, s, x, y)
+    (tells (λ m. meetNumber (meetAnswer m)) (λ m. metOf (meetAnswer m))
+    (c .before .m .given .1) refl (four (c .before .before .before .args .met .now) _ _ _ _ (c .before .before .before .pre)))
 
 returns-2 : tie.Need-returns-2
 returns-2 c =
     let r : SFits w64 (c .below-zero .result) = record { sfits = c .below-zero .ok } in
     let z : SFits w64 (c .before .before .m2 .given .0 .0) = record { sfits = c .before .known-told2 .given .0 .1 } in
-    simp (toZ-ofZ, r) (tells (λ m. meetNumber (meetAnswer m)) (λ m. metOf (meetAnswer m)) (c .before .before .m2 .given .1) (simp (toZ-ofZ, z) at (c .below-zero .ensures)) refl)
+    simp (toZ-ofZ, r)
+    (tells (λ m. meetNumber (meetAnswer m)) (λ m. metOf (meetAnswer m))
+    (c .before .before .m2 .given .1) (simp (toZ-ofZ, z) at (c .below-zero .ensures)) refl)
 
 pub tell-met-spec : {M : Type 1} → statement M
 tell-met-spec =

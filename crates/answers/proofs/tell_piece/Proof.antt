@@ -49,7 +49,9 @@ returns c =
     let n : SFits w64 (c .before .h .given .0 .0) = record { sfits = c .known-told .given .0 .1 } in
     let u : SFits w64 (c .before .h .given .0 .1 .0) = record { sfits = c .known-told .given .1 .0 .1 } in
     let d : SFits w64 (c .before .h .given .0 .1 .1 .0) = record { sfits = c .known-told .given .1 .1 .0 .1 } in
-    simp (toZ-ofZ, n, u, d) (tells (λ h. placeNumber (s .args .next) (told h)) (λ h. pieceOf (told h)) (c .before .h .given .1) (toZ-pos w64 (omega (arith, s .fits .next))) (three (s .args .piece .now) _ _ _ (s .pre)))
+    simp (toZ-ofZ, n, u, d)
+    (tells (λ h. placeNumber (s .args .next) (told h)) (λ h. pieceOf (told h))
+    (c .before .h .given .1) (toZ-pos w64 (omega (arith, s .fits .next))) (three (s .args .piece .now) _ _ _ (s .pre)))
 
 returns-2 : tie.Need-returns-2
 returns-2 c =
@@ -61,7 +63,9 @@ returns-3 c =
     let s = c .before .before .before .before in
     let r : SFits w64 (c .below-zero .result) = record { sfits = c .below-zero .ok } in
     let z : SFits w64 (c .before .before .h2 .given .0 .0) = record { sfits = c .before .known-told2 .given .0 .1 } in
-    simp (toZ-ofZ, r) (tells (λ h. placeNumber (s .args .next) (told h)) (λ h. pieceOf (told h)) (c .before .before .h2 .given .1) (simp (toZ-ofZ, z) at (c .below-zero .ensures)) refl)
+    simp (toZ-ofZ, r)
+    (tells (λ h. placeNumber (s .args .next) (told h)) (λ h. pieceOf (told h))
+    (c .before .before .h2 .given .1) (simp (toZ-ofZ, z) at (c .below-zero .ensures)) refl)
 
 pub tell-piece-spec : {M : Type 1} → statement M
 tell-piece-spec =

@@ -38,7 +38,9 @@ returns c =
     let k : SFits w64 (c .before .u .given .0 .1 .0) = record { sfits = c .known-told .given .1 .0 .1 } in
     let s : SFits w64 (c .before .u .given .0 .1 .1 .0) = record { sfits = c .known-told .given .1 .1 .0 .1 } in
     let h : SFits w64 (c .before .u .given .0 .1 .1 .1 .0) = record { sfits = c .known-told .given .1 .1 .1 .0 .1 } in
-    simp (toZ-ofZ, n, k, s, h) (tells updateNumber countsOf (c .before .u .given .1) refl (three (c .before .before .before .args .counts .now) _ _ _ (c .before .before .before .pre)))
+    simp (toZ-ofZ, n, k, s, h)
+    (tells updateNumber countsOf
+    (c .before .u .given .1) refl (three (c .before .before .before .args .counts .now) _ _ _ (c .before .before .before .pre)))
 
 returns-2 : tie.Need-returns-2
 returns-2 c =

@@ -28,13 +28,17 @@ same-length c = search needs
 returns : tie.Need-returns
 returns c =
     let u : SFits w64 (c .before .v .given .0 .0) = record { sfits = c .known-told .given .0 .1 } in
-    simp (toZ-ofZ, u) (tells (λ v. refusal (told v .number)) (λ v. told v .values) (c .before .v .given .1) refl (one (c .before .before .before .args .units .now) _ (c .before .before .before .pre)))
+    simp (toZ-ofZ, u)
+    (tells (λ v. refusal (told v .number)) (λ v. told v .values)
+    (c .before .v .given .1) refl (one (c .before .before .before .args .units .now) _ (c .before .before .before .pre)))
 
 returns-2 : tie.Need-returns-2
 returns-2 c =
     let r : SFits w64 (c .below-zero .result) = record { sfits = c .below-zero .ok } in
     let z : SFits w64 (c .before .before .v2 .given .0 .0) = record { sfits = c .before .known-told2 .given .0 .1 } in
-    simp (toZ-ofZ, r) (tells (λ v. refusal (told v .number)) (λ v. told v .values) (c .before .before .v2 .given .1) (simp (toZ-ofZ, z) at (c .below-zero .ensures)) refl)
+    simp (toZ-ofZ, r)
+    (tells (λ v. refusal (told v .number)) (λ v. told v .values)
+    (c .before .before .v2 .given .1) (simp (toZ-ofZ, z) at (c .below-zero .ensures)) refl)
 
 pub tell-voucher-spec : {M : Type 1} → statement M
 tell-voucher-spec =

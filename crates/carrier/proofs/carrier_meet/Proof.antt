@@ -21,8 +21,11 @@ same-length c = search needs
 
 returns-2 : tie.Need-returns-2
 returns-2 c =
-    let r : SFits w64 (c .before .tell-met .result) = record { sfits = c .before .tell-met .ok } in
-    simp (toZ-ofZ, r) (lent-long _ _ _ _ (c .before .before .before .before .if1 .left) _ (c .before .before .before .meet .ensures) (c .before .tell-met .ensures))
+    let h = c .before .before .before .before .if1 .left in
+    let a = c .before .before .before .meet in
+    let t = c .before .tell-met in
+    let r : SFits w64 (t .result) = record { sfits = t .ok } in
+    simp (toZ-ofZ, r) (lent-long _ _ _ _ h (a .result) (a .ensures) (t .ensures))
 
 pub carrier-meet-spec : {M : Type 1} → statement M
 carrier-meet-spec =

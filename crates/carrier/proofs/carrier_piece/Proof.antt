@@ -3,6 +3,7 @@ use native.Mathlib.Omega.{arith}
 use mir.Syntax.{w64}
 use mir.Val.{SFits}
 use mir.Facts.{toZ-ofZ}
+use Rattle.answers.specs.Promises.{Step}
 use Rattle.answers.specs.Answers.{lent-short, pieced-long}
 use borrow.Author.Needs.{needs}
 use Rattle.carrier.proofs.carrier_piece.Statement.{statement}
@@ -29,9 +30,15 @@ same-length c = search needs
 returns-2 : tie.Need-returns-2
 returns-2 c =
     let s = c .before .before .before .before .before .before .before in
+    let h = c .before .before .before .before .before .before .if1 .left in
+    let e = c .before .before .before .before .before .up-to .ensures in
     let q = c .before .before .before .before .place-after in
-    let r : SFits w64 (c .before .tell-piece .result) = record { sfits = c .before .tell-piece .ok } in
-    simp (toZ-ofZ, r) (pieced-long _ _ (s .args .place) (simp (toZ-ofZ, s .fits .place) at (c .before .before .before .before .before .up-to .ensures)) (c .before .before .before .before .before .before .if1 .left) (record { handed = c .before .before .before .piece-at .result; next = q .result }) (record { small = omega (arith, q .ok); hands = c .before .before .before .piece-at .ensures; moves = q .ensures }) (c .before .tell-piece .ensures))
+    let a = c .before .before .before .piece-at in
+    let t = c .before .tell-piece in
+    let r : SFits w64 (t .result) = record { sfits = t .ok } in
+    let k : Step = record { handed = a .result; next = q .result } in
+    simp (toZ-ofZ, r)
+    (pieced-long _ _ (s .args .place) (simp (toZ-ofZ, s .fits .place) at e) h k (record { small = omega (arith, q .ok); hands = a .ensures; moves = q .ensures }) (t .ensures))
 
 pub carrier-piece-spec : {M : Type 1} → statement M
 carrier-piece-spec =

@@ -25,8 +25,11 @@ same-length-2 c = search needs
 returns-2 : tie.Need-returns-2
 returns-2 c =
     let s = c .before .before .before .before .before .before .before in
-    let r : SFits w64 (c .before .tell-update .result) = record { sfits = c .before .tell-update .ok } in
-    simp (toZ-ofZ, r) (updated-long _ _ _ (c .before .before .before .before .before .before .if1 .left) _ (simp (toZ-ofZ, s .fits .number, s .fits .rate, s .fits .base) at (c .before .before .before .before .post .ensures)) (c .before .tell-update .ensures))
+    let h = c .before .before .before .before .before .before .if1 .left in
+    let a = c .before .before .before .before .post .ensures in
+    let t = c .before .tell-update in
+    let r : SFits w64 (t .result) = record { sfits = t .ok } in
+    simp (toZ-ofZ, r) (updated-long _ _ _ h _ (simp (toZ-ofZ, s .fits .number, s .fits .rate, s .fits .base) at a) (t .ensures))
 
 pub carrier-post-spec : {M : Type 1} → statement M
 carrier-post-spec =

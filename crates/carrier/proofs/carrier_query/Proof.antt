@@ -22,8 +22,11 @@ same-length c = search needs
 returns-2 : tie.Need-returns-2
 returns-2 c =
     let s = c .before .before .before .before .before in
-    let r : SFits w64 (c .before .tell-found .result) = record { sfits = c .before .tell-found .ok } in
-    simp (toZ-ofZ, r) (lent-long _ _ _ _ (c .before .before .before .before .if1 .left) _ (simp (toZ-ofZ, s .fits .load) at (c .before .before .before .query .ensures)) (c .before .tell-found .ensures))
+    let h = c .before .before .before .before .if1 .left in
+    let a = c .before .before .before .query in
+    let t = c .before .tell-found in
+    let r : SFits w64 (t .result) = record { sfits = t .ok } in
+    simp (toZ-ofZ, r) (lent-long _ _ _ _ h (a .result) (simp (toZ-ofZ, s .fits .load) at (a .ensures)) (t .ensures))
 
 pub carrier-query-spec : {M : Type 1} → statement M
 carrier-query-spec =

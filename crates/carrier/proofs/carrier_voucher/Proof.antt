@@ -22,8 +22,11 @@ same-length c = search needs
 returns-2 : tie.Need-returns-2
 returns-2 c =
     let s = c .before .before .before .before .before in
-    let r : SFits w64 (c .before .tell-voucher .result) = record { sfits = c .before .tell-voucher .ok } in
-    simp (toZ-ofZ, r) (lent-long _ _ _ _ (c .before .before .before .before .if1 .left) (c .before .before .before .voucher-price .result) (simp (toZ-ofZ, s .fits .price) at (c .before .before .before .voucher-price .ensures)) (c .before .tell-voucher .ensures))
+    let h = c .before .before .before .before .if1 .left in
+    let a = c .before .before .before .voucher-price in
+    let t = c .before .tell-voucher in
+    let r : SFits w64 (t .result) = record { sfits = t .ok } in
+    simp (toZ-ofZ, r) (lent-long _ _ _ _ h (a .result) (simp (toZ-ofZ, s .fits .price) at (a .ensures)) (t .ensures))
 
 pub carrier-voucher-spec : {M : Type 1} → statement M
 carrier-voucher-spec =
