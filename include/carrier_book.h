@@ -1,13 +1,14 @@
 /* The carrier book: a dynamic lower envelope of carriers' offers, kept in a table of signed 64-bit words that the caller lends.
  *
- * Link with libcarrier.a, which `rt staticlib carrier` writes to target/staticlib (x86-64 Linux).
+ * Link with libcarrier.a, which `rt staticlib carrier` writes to target/staticlib (x86-64 Linux). `bash include/install PREFIX` puts this
+ * header, the archive and a file for pkg-config under a prefix.
  *
  * An offer has a number (1 to 9,999), a rate in cents per kilogram (-100,000 to 100,000) and a base in cents (-1,000,000,000 to
  * 1,000,000,000). Its price at a load of q kilograms (-1,000,000 to 1,000,000) is base + rate * q. No two live offers have equal
  * numbers or equal rates.
  *
  * Every array is passed as a pointer to its first word and its length in words, so that no call can step outside it. The pointer is
- * not null, also where the length is 0. The arrays of one call do not overlap. A book occupies CARRIER_WORDS(capacity) words of its
+ * not null, also where the length is 0. What a call writes overlaps no other array of the call. A book occupies CARRIER_WORDS(capacity) words of its
  * table, from `start` on; no call writes a word outside that part, and nothing else may write inside it. There is no
  * other state: a book may be copied, moved or stored as words, and calls on different tables may run at the same time.
  *
@@ -31,23 +32,29 @@ extern "C" {
 /* How many words a book of that capacity takes. */
 #define CARRIER_WORDS(capacity) (64 * ((size_t)(capacity) + 1))
 
-/* How many words an array has to have: `counts` of a post or a withdrawal, `found` of a query, `out` of a listing a piece. */
+/* How many words an array has to have: `counts` of a post or a withdrawal, `found` of a query, `out` of a listing a piece, `met` of a
+ * meeting, `mark` of a chart mark, `units` of a voucher, `piece` of a reading. Longer ones keep their later words. */
 #define CARRIER_COUNTS_WORDS 3
 #define CARRIER_FOUND_WORDS 2
 #define CARRIER_PIECE_WORDS 3
+#define CARRIER_MET_WORDS 4
+#define CARRIER_MARK_WORDS 2
+#define CARRIER_UNITS_WORDS 1
 
 /* Why a call was declined. */
 #define CARRIER_CAPACITY (-1)         /* open: the capacity is not in 1 to 4,096 */
 #define CARRIER_NO_ROOM (-2)          /* open: fewer words than the book takes from `start` on */
 #define CARRIER_NO_BOOK (-3)          /* all but open: there is no book at `start`, or its part is cut short */
-#define CARRIER_OUT_OF_RANGE (-4)     /* post, withdraw, query: number, rate, base or load out of range */
+#define CARRIER_OUT_OF_RANGE (-4)     /* post, withdraw, query, voucher: number, rate, base, load or price out of range */
 #define CARRIER_NUMBER_LIVE (-5)      /* post: a live offer has that number */
 #define CARRIER_RATE_LIVE (-6)        /* post: a live offer has that rate */
 #define CARRIER_FULL (-7)             /* post: as many offers are live as the capacity tells */
 #define CARRIER_NOT_LIVE (-8)         /* withdraw: no live offer has that number */
-#define CARRIER_EMPTY (-9)            /* query: no offer is live */
+#define CARRIER_EMPTY (-9)            /* query, mark, meet: no offer is live */
 #define CARRIER_OUTPUT_TOO_SHORT (-10) /* listing: `out` is shorter than three words a piece */
-#define CARRIER_ARRAY_TOO_SHORT (-100) /* `counts` has fewer than 3 words, or `found` fewer than 2; tried before all others */
+#define CARRIER_RATES_NOT_APART (-12)  /* meet: some rate of the first book is not above some rate of the second */
+#define CARRIER_NO_SUCH_MARK (-13)     /* mark: the index is not in 0 to m, for m pieces */
+#define CARRIER_ARRAY_TOO_SHORT (-100) /* an array has fewer words than listed above; tried before all others */
 
 /* Opens an empty book at `start`, whatever the words there were. Returns 0. */
 int64_t carrier_open(int64_t *table, size_t words, size_t start, int64_t capacity);
@@ -72,6 +79,40 @@ int64_t carrier_listing(const int64_t *table, size_t words, size_t start, int64_
 /* Returns 1 where the words from `start` on are a book in every particular, with every envelope right, and 0 where they are not.
  * It reads the whole part: meant for tables that come from elsewhere. */
 int64_t carrier_check(const int64_t *table, size_t words, size_t start);
+
+/* The meeting of two books, every rate of the first above every rate of the second: their envelope together is the first's pieces up
+ * to u and the second's from v. Returns u's offer. Writes v's offer, the steps of the search, and the heights of the first and of the
+ * second tree of pieces to met[0] to met[3]. The two tables may be one. */
+int64_t carrier_meet(const int64_t *first, size_t first_words, size_t first_start, const int64_t *second, size_t second_words,
+                     size_t second_start, int64_t *met, size_t met_words);
+
+/* What carrier_mark returns. */
+#define CARRIER_OPEN_END 0
+#define CARRIER_CROSSING 1
+
+/* Chart mark `index` of a listing of m pieces, 0 to m. Returns CARRIER_OPEN_END for the marks 0 and m, and writes the rate of the first
+ * or the last piece to mark[0]. Returns CARRIER_CROSSING for a mark i between, and writes the load and the price at which the pieces
+ * i and i + 1, counted from 1, cross to mark[0] and mark[1]: each a quotient of two exact doubles, rounded once. */
+int64_t carrier_mark(const int64_t *table, size_t words, size_t start, int64_t index, double *mark, size_t mark_words);
+
+/* A price (-101,000,000,000 to 101,000,000,000 cents) in whole units of 100 cents, half away from zero. Returns 0, and writes the
+ * units to units[0]. */
+int64_t carrier_voucher(int64_t price, int64_t *units, size_t units_words);
+
+/* A reading hands out the pieces one at a time, as carrier_listing writes them:
+ *
+ *     int64_t piece[CARRIER_PIECE_WORDS];
+ *     int64_t place = carrier_begin(table, words, start);
+ *     while (place > 0) {
+ *         place = carrier_piece(table, words, start, place, piece, CARRIER_PIECE_WORDS);
+ *         .. piece[0], piece[1] and piece[2] are the next piece ..
+ *     }
+ *
+ * carrier_begin returns the place of the first piece, and 0 where there is none. carrier_piece writes the three words of the piece at
+ * a place and returns the place of the next, 0 past the last; at a place that is none it writes nothing. A place means something for
+ * the table as it was when the place was given. On words that are no book a reading may go on without end. */
+int64_t carrier_begin(const int64_t *table, size_t words, size_t start);
+int64_t carrier_piece(const int64_t *table, size_t words, size_t start, int64_t place, int64_t *piece, size_t piece_words);
 
 #ifdef __cplusplus
 }

@@ -1,82 +1,13 @@
 // The carrier book for Rust and C: a slice is a pointer and a length there. Every answer is one number, a refusal its cause below 0.
 // Rust's rules hold of what is lent: a pointer is aligned and not null, and what is written overlaps nothing else that is lent.
-ghost use mathlib.Core.Path.{_≡_};
-ghost use Prim.Native.Nat.{_≤_};
-ghost use lib.ListN.{length};
-ghost use Rattle.plain.specs.Book.{post, withdraw};
-ghost use Rattle.carrier.specs.Promises.{refusal, openedNumber, listedNumber, Opened, Told, Named, Updated, Queried, Listing, Checked};
-
-// A cause, below 0.
-fn below_zero(cause: i64) -> i64
-    ensures { λ r. ⌜ r ≡ refusal cause ⌝ }
-{
-    if 0 < cause {
-        return -cause;
-    }
-    cause
-}
-
-// An opening's answer.
-fn opening_number(o: book::Opening) -> i64
-    ensures { λ r. ⌜ r ≡ openedNumber o ⌝ }
-{
-    match o {
-        book::Opening::Opened => 0,
-        book::Opening::Declined(cause) => below_zero(cause),
-    }
-}
-
-// An update's answer; k, s and H go into `counts`.
-fn tell(u: book::Update, counts: &mut [i64]) -> i64
-    requires { ⌜ 3 ≤ length (now counts) ⌝ }
-    ensures { λ r. ⌜ Told u (now (counts .entry)) (now (counts .exit)) r ⌝ }
-{
-    match u {
-        book::Update::Done { live, k, s, h } => {
-            counts[0] = k;
-            counts[1] = s;
-            counts[2] = h;
-            live
-        }
-        book::Update::Declined(cause) => below_zero(cause),
-    }
-}
-
-// A query's answer; the price and the probes go into `found`.
-fn name(f: book::Found, found: &mut [i64]) -> i64
-    requires { ⌜ 2 ≤ length (now found) ⌝ }
-    ensures { λ r. ⌜ Named f (now (found .entry)) (now (found .exit)) r ⌝ }
-{
-    match f {
-        book::Found::Offer {
-            number,
-            price,
-            probes,
-        } => {
-            found[0] = price;
-            found[1] = probes;
-            number
-        }
-        book::Found::Declined(cause) => below_zero(cause),
-    }
-}
-
-// A listing's answer.
-fn listed_number(l: book::Listed) -> i64
-    ensures { λ r. ⌜ r ≡ listedNumber l ⌝ }
-{
-    match l {
-        book::Listed::Pieces(n) => n,
-        book::Listed::Declined(cause) => below_zero(cause),
-    }
-}
+ghost use Rattle.answers.specs.Promises.{Opened, Posted, Withdrawn, Queried, Listing, Checked, MetBooks, MarkAsked, Vouchered, Begun, Pieced};
 
 // Opens an empty book at `start`: 0.
 #[no_mangle]
 pub extern "C" fn carrier_open(table: &mut [i64], start: usize, capacity: i64) -> i64
     ensures { λ r. ⌜ Opened capacity start (now (table .entry)) (now (table .exit)) r ⌝ }
 {
-    opening_number(book::open(table, start, capacity))
+    answers::opening_number(book::open(table, start, capacity))
 }
 
 // Posts an offer: the live count, and k, s and H in `counts`.
@@ -89,12 +20,12 @@ pub extern "C" fn carrier_post(
     base: i64,
     counts: &mut [i64],
 ) -> i64
-    ensures { λ r. ⌜ Updated (post number rate base) start (now (table .entry)) (now (table .exit)) (now (counts .entry)) (now (counts .exit)) r ⌝ }
+    ensures { λ r. ⌜ Posted number rate base start (now (table .entry)) (now (table .exit)) (now (counts .entry)) (now (counts .exit)) r ⌝ }
 {
     if counts.len() < 3 {
         return -100;
     }
-    tell(book::post(table, start, number, rate, base), counts)
+    answers::tell_update(book::post(table, start, number, rate, base), counts)
 }
 
 // Withdraws an offer: the live count, and k, s and H in `counts`.
@@ -105,12 +36,12 @@ pub extern "C" fn carrier_withdraw(
     number: i64,
     counts: &mut [i64],
 ) -> i64
-    ensures { λ r. ⌜ Updated (withdraw number) start (now (table .entry)) (now (table .exit)) (now (counts .entry)) (now (counts .exit)) r ⌝ }
+    ensures { λ r. ⌜ Withdrawn number start (now (table .entry)) (now (table .exit)) (now (counts .entry)) (now (counts .exit)) r ⌝ }
 {
     if counts.len() < 3 {
         return -100;
     }
-    tell(book::withdraw(table, start, number), counts)
+    answers::tell_update(book::withdraw(table, start, number), counts)
 }
 
 // The cheapest offer at a load: its number, and its price and the probes in `found`.
@@ -121,7 +52,7 @@ pub extern "C" fn carrier_query(table: &[i64], start: usize, load: i64, found: &
     if found.len() < 2 {
         return -100;
     }
-    name(book::query(table, start, load), found)
+    answers::tell_found(book::query(table, start, load), found)
 }
 
 // Writes the pieces, three words each: how many.
@@ -129,7 +60,7 @@ pub extern "C" fn carrier_query(table: &[i64], start: usize, load: i64, found: &
 pub extern "C" fn carrier_listing(table: &[i64], start: usize, out: &mut [i64]) -> i64
     ensures { λ r. ⌜ Listing start (now (table .entry)) (now (out .entry)) (now (out .exit)) r ⌝ }
 {
-    listed_number(book::listing(table, start, out))
+    answers::listed_number(book::listing(table, start, out))
 }
 
 // Whether the words from `start` on pass the check: 1 or 0.
@@ -141,4 +72,65 @@ pub extern "C" fn carrier_check(table: &[i64], start: usize) -> i64
         return 1;
     }
     0
+}
+
+// The meeting of two books, the first's rates above the second's: u's offer, and v's offer, the steps and both heights in `met`.
+#[no_mangle]
+pub extern "C" fn carrier_meet(
+    first: &[i64],
+    first_start: usize,
+    second: &[i64],
+    second_start: usize,
+    met: &mut [i64],
+) -> i64
+    ensures { λ r. ⌜ MetBooks (now (first .entry)) «first_start» (now (second .entry)) «second_start» (now (met .entry)) (now (met .exit)) r ⌝ }
+{
+    if met.len() < 4 {
+        return -100;
+    }
+    answers::tell_met(meet::meet(first, first_start, second, second_start), met)
+}
+
+// Chart mark `index`: 0 for an open end, with its rate in `mark`, and 1 for a crossing, with its load and price.
+#[no_mangle]
+pub extern "C" fn carrier_mark(table: &[i64], start: usize, index: i64, mark: &mut [f64]) -> i64
+    ensures { λ r. ⌜ MarkAsked start (now (table .entry)) index (now (mark .entry)) (now (mark .exit)) r ⌝ }
+{
+    if mark.len() < 2 {
+        return -100;
+    }
+    answers::tell_mark(chart::mark(table, start, index), mark)
+}
+
+// A price in whole units of 100 cents: 0, and the units in `units`.
+#[no_mangle]
+pub extern "C" fn carrier_voucher(price: i64, units: &mut [i64]) -> i64
+    ensures { λ r. ⌜ Vouchered price (now (units .entry)) (now (units .exit)) r ⌝ }
+{
+    if units.len() < 1 {
+        return -100;
+    }
+    answers::tell_voucher(vouchers::voucher_price(price), units)
+}
+
+// The place of the first piece, from which a reading goes on by carrier_piece; 0 where there is none.
+#[no_mangle]
+pub extern "C" fn carrier_begin(table: &[i64], start: usize) -> i64
+    ensures { λ r. ⌜ Begun start (now (table .entry)) r ⌝ }
+{
+    let place = reading::first_place(table, start);
+    answers::place_number(reading::piece_at(table, start, place), place)
+}
+
+// Hands out the piece at a place: the place of the next, 0 past the last, and the piece's three words in `piece`.
+#[no_mangle]
+pub extern "C" fn carrier_piece(table: &[i64], start: usize, place: i64, piece: &mut [i64]) -> i64
+    ensures { λ r. ⌜ Pieced start (now (table .entry)) place (now (piece .entry)) (now (piece .exit)) r ⌝ }
+{
+    if piece.len() < 3 {
+        return -100;
+    }
+    let at = table::up_to(4_294_967_295, place);
+    let next = reading::place_after(table, start, at);
+    answers::tell_piece(reading::piece_at(table, start, at), next, piece)
 }

@@ -19,10 +19,8 @@ use Rattle.envelopes.specs.EnvelopeLaws.{ordered-sublist, ordered-right, ordere
 use Rattle.plain.specs.Causes.{bookEmpty, noSuchMark}
 use Rattle.plain.specs.Book.{State, envelope, noBookAt}
 use Rattle.plain.specs.Rules.{at-once, further, declined-by, not-declined}
-use Rattle.marks.specs.Told.{Told, told, openEnd, crossing}
+use Rattle.marks.specs.Told.{Told, openEnd, crossing}
 use Rattle.marks.specs.Crossings.{scaledPrice}
-use Rattle.marks.specs.declared.Mark.{Mark}
-use Rattle.marks.specs.declared.Mark.the-variants.{Declined}
 use Rattle.trees.specs.Tree.{Tree, leaves}
 use Rattle.trees.specs.Leaves.{some-leaf}
 use Rattle.dynamic.specs.OfferTree.{Held, heldShape}
@@ -43,11 +41,13 @@ use Rattle.book.specs.Promises.{partOf}
 use Rattle.book.specs.LentPart.{whole-part, no-form, no-book-cause}
 use Rattle.book.specs.Opens.{not-clear}
 use Rattle.book.specs.Rooted.{Root, bare, topped, Top, root-of}
-use Rattle.chart.specs.Promises.{marksBehind, marks, refusal, markTrials, markOf, plainMark, Marks}
+use Rattle.chart.specs.declared.Marked.{Marked}
+use Rattle.chart.specs.declared.Marked.the-variants.{Declined}
+use Rattle.chart.specs.Promises.{marksBehind, marks, refusal, markTrials, markOf, plainMark, told, Marks}
 use Rattle.chart.specs.Rounded.{part-exact}
 use Rattle.chart.specs.Walks.{SlotOf}
 
-pub record PartMark (w : Words) (index : ℤ) (r : Mark) : Type 0 where
+pub record PartMark (w : Words) (index : ℤ) (r : Marked) : Type 0 where
   pub answers : (s : State) (held : Option (Held Item)) → Book w s held → told r ≡ plainMark (plainOffers held) index
 
 -- the crossing that a slot keeps
@@ -192,7 +192,7 @@ module _ {w : Words} {root m : ℕ} (er : root ≡ upTo 8192 (word w 2)) (k : Co
   at-tree q = k .is (q .tree) (q .top .pieces) (q .top .balanced)
 
   -- an answer about a book with a piece
-  by-top : {index : ℤ} {r : Mark} → 1 ≤ m → ((h : Held Item) → Topped h → told r ≡ plainMark (plainOffers (some h)) index) → PartMark w index r
+  by-top : {index : ℤ} {r : Marked} → 1 ≤ m → ((h : Held Item) → Topped h → told r ≡ plainMark (plainOffers (some h)) index) → PartMark w index r
   by-top {index} {r} some-of-it f = record { answers = λ s held b. go b (root-of b er) }
     where
       go : {s : State} {held : Option (Held Item)} → Book w s held → Root w root held → told r ≡ plainMark (plainOffers held) index
@@ -216,7 +216,7 @@ module _ {w : Words} {root m : ℕ} (er : root ≡ upTo 8192 (word w 2)) (k : Co
 
   module _ {s : ℕ} (f : 1 ≤ m) where
     -- mark 0
-    pub part-first : {r : Mark} → SlotOf w root 0 s → told r ≡ openEnd (rateAt w s) → PartMark w (pos 0) r
+    pub part-first : {r : Marked} → SlotOf w root 0 s → told r ≡ openEnd (rateAt w s) → PartMark w (pos 0) r
     part-first h e =
         by-top f (λ g q.
         let a = h .is (q .tree) (q .top .pieces) (q .top .balanced) (omega (arith, f, at-tree q)) in
@@ -229,14 +229,14 @@ module _ {w : Words} {root m : ℕ} (er : root ≡ upTo 8192 (word w 2)) (k : Co
           subst (λ (n : ℕ). Passed s n (leaves (q .tree))) e (h .is (q .tree) (q .top .pieces) (q .top .balanced) (omega (arith, low, l, at-tree q)))
 
       -- mark m
-      pub part-last : {r : Mark} → i ≡ m → told r ≡ openEnd (rateAt w s) → PartMark w (pos i) r
+      pub part-last : {r : Marked} → i ≡ m → told r ≡ openEnd (rateAt w s) → PartMark w (pos i) r
       part-last d e =
           by-top f (λ g q.
           let a = here-of (omega arith) q in
           e ∙ ap openEnd (rate-here (q .top .pieces) a) ∙ sym (mark-last a (d ∙ at-tree q) (refusal noSuchMark)) ∙ accepted i (omega arith) g q)
 
       -- a mark between
-      pub part-inner : {r : Mark} → i < m → told r ≡ crossingAt w s → PartMark w (pos i) r
+      pub part-inner : {r : Marked} → i < m → told r ≡ crossingAt w s → PartMark w (pos i) r
       part-inner d e =
           by-top f (λ g q.
           let a = here-of (omega arith) q in
@@ -273,7 +273,7 @@ module _ (start : ℕ) (t : List ℤ) (index : ℤ) {no : Bool} (e : no ≡ noBo
         rounded = λ s held b. absurd (no-form t start e d b);
       }
 
-  pub mark-there : {r : Mark} → no ≡ false → PartMark (take (length t - start) (drop start t)) index r → Marks start t index r
+  pub mark-there : {r : Marked} → no ≡ false → PartMark (take (length t - start) (drop start t)) index r → Marks start t index r
   mark-there {r} d k =
       let here : PartMark (partOf t start) index r = subst (λ (w : Words). PartMark w index r) (whole-part t start) k in
       record {

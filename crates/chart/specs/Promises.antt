@@ -12,13 +12,14 @@ use Rattle.plain.specs.Causes.{Cause, bookEmpty, noSuchMark, Trial, _when_, dec
 use Rattle.plain.specs.Book.{State, envelope}
 use Rattle.plain.specs.Rules.{FirstOf}
 use Rattle.marks.specs.Quotient.{double, quotient, divisible, Is, Quotient}
-use Rattle.marks.specs.Told.{Told, told, openEnd, crossing}
+use Rattle.marks.specs.Told.{Told, told as markTold, openEnd, crossing}
 use Rattle.marks.specs.Crossings.{scaledPrice}
-use Rattle.marks.specs.declared.Mark.{Mark}
 use Rattle.dynamic.specs.OfferTree.{Held}
 use Rattle.table.specs.Items.{Item}
 use Rattle.form.specs.Form.{Book, plainOffers}
 use Rattle.book.specs.Promises.{partOf, noBookTrial}
+use Rattle.chart.specs.declared.Marked.{Marked}
+use Rattle.chart.specs.declared.Marked.the-variants.{Mark, Declined}
 
 -- ---- the marks of a listing
 
@@ -78,7 +79,12 @@ Exact (own ∷ next ∷ es) = ExactEnd own × ExactCrossing own next × Exact (n
 
 -- ---- on a lent table
 
-pub record Marks (start : ℕ) (t : List ℤ) (index : ℤ) (r : Mark) : Type 0 where
+-- an answer in document 01's number and values: a mark's own, or the number of the cause alone
+abbrev pub told : Marked → Told
+told (Mark m) = markTold m
+told (Declined k) = record { number = k; values = [] }
+
+pub record Marks (start : ℕ) (t : List ℤ) (index : ℤ) (r : Marked) : Type 0 where
   pub declined : (z : Cause) → FirstOf (noBookTrial t start ∷ []) z → told r ≡ refusal z
   pub answers : (s : State) (held : Option (Held Item)) → Book (partOf t start) s held → told r ≡ plainMark (plainOffers held) index
   pub rounded : (s : State) (held : Option (Held Item)) → Book (partOf t start) s held → Exact (envelope (plainOffers held))

@@ -5,6 +5,12 @@ ghost use Rattle.chart.specs.Promises.{Marks};
 ghost use Rattle.chart.specs.Walks.{SlotOf};
 ghost use Rattle.chart.specs.Marking.{crossingAt, PartMark};
 
+// What asking for a mark answers: the mark, or the number of the cause for which it was declined.
+pub enum Marked {
+    Mark(marks::Mark),
+    Declined(i64),
+}
+
 // The slot of piece `i`, counted from 0: along the thread from the first.
 fn slot_of(part: &[i64], root: u32, i: u32) -> u32
     ensures { λ r. ⌜ SlotOf (now (part .entry)) root i r ⌝ }
@@ -29,37 +35,37 @@ fn crossing_at(part: &[i64], slot: u32) -> marks::Mark
 }
 
 // A mark of a part.
-fn part_mark(part: &[i64], index: i64) -> marks::Mark
+fn part_mark(part: &[i64], index: i64) -> Marked
     ensures { λ r. ⌜ PartMark (now (part .entry)) index r ⌝ }
 {
     let root = table::number_at(part, 2, 8192);
     let m = query::count(part, root);
     if m < 1 {
-        return marks::Mark::Declined(9);
+        return Marked::Declined(9);
     }
     if index < 0 {
-        return marks::Mark::Declined(13);
+        return Marked::Declined(13);
     }
     if (m as i64) < index {
-        return marks::Mark::Declined(13);
+        return Marked::Declined(13);
     }
     let i = table::up_to(4096, index);
     if i < 1 {
-        return marks::open_end(search::rate(part, slot_of(part, root, 0)));
+        return Marked::Mark(marks::open_end(search::rate(part, slot_of(part, root, 0))));
     }
     let s = slot_of(part, root, i - 1);
     if i == m {
-        return marks::open_end(search::rate(part, s));
+        return Marked::Mark(marks::open_end(search::rate(part, s)));
     }
-    crossing_at(part, s)
+    Marked::Mark(crossing_at(part, s))
 }
 
 // Mark `index` of the book at `start`: of m pieces, 0 and m are the open ends, and those between are crossings.
-pub fn mark(table: &[i64], start: usize, index: i64) -> marks::Mark
+pub fn mark(table: &[i64], start: usize, index: i64) -> Marked
     ensures { λ r. ⌜ Marks start (now (table .entry)) index r ⌝ }
 {
     if book::no_book(table, start) {
-        return marks::Mark::Declined(3);
+        return Marked::Declined(3);
     }
     part_mark(&table[start..], index)
 }

@@ -5,17 +5,20 @@ use lib.Ieee.{Float}
 use Rattle.marks.specs.Quotient.{double, quotient, Quotient}
 use Rattle.marks.specs.declared.Point.{Point}
 use Rattle.marks.specs.declared.Mark.{Mark}
-use Rattle.marks.specs.declared.Mark.the-variants.{OpenEnd, Crossing, Declined}
+use Rattle.marks.specs.declared.Mark.the-variants.{OpenEnd, Crossing}
 
--- the number of the cause for declining, 0 where there is none, and the values
+-- the number of the cause for declining, 0 where there is none as of every mark, and the values
 pub record Told : Type 0 where
   pub number : ℤ
   pub values : List Float
 
+-- a point's load and price
+abbrev pub atPoint : Point → Told
+atPoint p = record { number = pos 0; values = p .load ∷ p .price ∷ [] }
+
 abbrev pub told : Mark → Told
 told (OpenEnd rate) = record { number = pos 0; values = rate ∷ [] }
-told (Crossing p) = record { number = pos 0; values = p .load ∷ p .price ∷ [] }
-told (Declined k) = record { number = k; values = [] }
+told (Crossing p) = atPoint p
 
 -- an open end, with its rate
 abbrev pub openEnd : ℤ → Told

@@ -1,7 +1,7 @@
 // Chart marks: the doubles of open ends and crossings.
 ghost use mathlib.Core.Path.{_≡_};
 ghost use Rattle.marks.specs.Quotient.{Doubled};
-ghost use Rattle.marks.specs.Told.{told, openEnd, crossing, PointOf};
+ghost use Rattle.marks.specs.Told.{told, atPoint, openEnd, crossing, PointOf};
 
 // Where two pieces cross.
 pub struct Point {
@@ -13,8 +13,6 @@ pub enum Mark {
     // An end of the chart, with its piece's rate.
     OpenEnd(f64),
     Crossing(Point),
-    // The number of the cause.
-    Declined(i64),
 }
 
 // An integer as a double: exact up to 2^53 either way. Further out, where the doubles have gaps, it is 0.
@@ -46,8 +44,15 @@ pub fn open_end(rate: i64) -> Mark
     Mark::OpenEnd(to_double(rate))
 }
 
+// The mark of a point.
+pub fn point_mark(point: Point) -> Mark
+    ensures { λ r. ⌜ told r ≡ atPoint point ⌝ }
+{
+    Mark::Crossing(point)
+}
+
 pub fn crossing(n: i64, d: i64, p: i64) -> Mark
     ensures { λ r. ⌜ told r ≡ crossing n d p ⌝ }
 {
-    Mark::Crossing(crossing_point(n, d, p))
+    point_mark(crossing_point(n, d, p))
 }

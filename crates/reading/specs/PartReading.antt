@@ -90,7 +90,7 @@ module _ {w : Words} {root : ℕ} (er : root ≡ upTo 8192 (word w 2)) where
       begin t p = at-piece (record { seen = []; here = first t; ahead = rest t; split = leaves-first t; slot = e .is t (p .pieces .rep) (p .balanced); count = refl })
 
   -- a place that is none is past the last
-  none-past : {s : State} {n p : ℕ} {held : Option (Held Item)} → Book w s held → p < 1 → Before w n p → length (rootPieces held) ≤ n
+  pub none-past : {s : State} {n p : ℕ} {held : Option (Held Item)} → Book w s held → p < 1 → Before w n p → length (rootPieces held) ≤ n
   none-past {s} {n} {p} {held} b h k = by-root (λ xs. PlaceOf xs n p → length xs ≤ n) b (λ z q. omega arith) over (k .stands s held b)
     where
       over : {ls : List Item} (t : Tree Item) → Top w root ls t → PlaceOf (leaves t) n p → length (leaves t) ≤ n
@@ -126,7 +126,7 @@ stays-past {w} {n} {p} m l h k = record { stands = λ s held b. past-last (omega
 -- ---- handing out
 
 -- the plain listing is of those pieces
-listed-is : {w : Words} {s : State} {held : Option (Held Item)} → Book w s held → envelope (plainOffers held) ≡ map offerOf (rootPieces held)
+pub listed-is : {w : Words} {s : State} {held : Option (Held Item)} → Book w s held → envelope (plainOffers held) ≡ map offerOf (rootPieces held)
 listed-is {w} {s} {held} b = go held b (root-of {root = upTo 8192 (word w 2)} b refl)
   where
     go : (held : Option (Held Item)) → Book w s held → Root w (upTo 8192 (word w 2)) held → envelope (plainOffers held) ≡ map offerOf (rootPieces held)

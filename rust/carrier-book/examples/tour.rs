@@ -1,4 +1,4 @@
-use carrier_book::{Book, Declined};
+use carrier_book::{voucher_price, Book, Declined, Mark};
 
 fn main() -> Result<(), Declined> {
     let mut book = Book::new(64)?;
@@ -6,10 +6,24 @@ fn main() -> Result<(), Declined> {
     book.post(2, 1, 10)?;
     let found = book.query(5)?;
     println!("offer {} at {} cents", found.number, found.price);
-    for piece in book.listing() {
+    for piece in book.pieces() {
         println!("offer {} up to {}/{}", piece.number, piece.numerator, piece.denominator);
     }
+    for mark in book.marks() {
+        match mark {
+            Mark::OpenEnd(rate) => println!("an open end at the rate {rate}"),
+            Mark::Crossing(point) => println!("a crossing at load {} for {} cents", point.load, point.price),
+        }
+    }
+    let mut others = Book::new(64)?;
+    others.post(7, -1, 100)?;
+    let meeting = book.meet(&others)?;
+    println!("offer {}, and then offer {} of the others", meeting.u, meeting.v);
+    println!("{} cents are {} units", 150, voucher_price(150)?);
     book.withdraw(1)?;
     println!("then offer {}", book.query(5)?.number);
+    let copy = Book::try_from(book.as_words().to_vec())?;
+    println!("{copy:?}");
+    println!("{}", copy.mark(9).unwrap_err());
     Ok(())
 }

@@ -14,9 +14,9 @@
 //! assert_eq!(table[..10], [-1; 10]);
 //! # Ok::<(), carrier_book::Declined>(())
 //! ```
-use crate::{raw, Declined, Found, Update};
+use crate::{raw, Declined, Found, Mark, Marks, Meeting, Pieces, Point, Update};
 
-fn told(answer: i64) -> Result<i64, Declined> {
+pub(crate) fn told(answer: i64) -> Result<i64, Declined> {
     if answer < 0 {
         return Err(Declined::from_number(answer.wrapping_neg()));
     }
@@ -31,12 +31,28 @@ fn update(call: impl FnOnce(*mut i64, usize) -> i64) -> Result<Update, Declined>
 }
 
 /// Opens an empty book at `start`, whatever the words there were.
+///
+/// ```
+/// use carrier_book::{lent, words, Declined};
+/// let mut table = vec![7; words(2)];
+/// lent::open(&mut table, 0, 2)?;
+/// assert_eq!(lent::open(&mut table, 1, 2), Err(Declined::NoRoom));
+/// # Ok::<(), Declined>(())
+/// ```
 pub fn open(table: &mut [i64], start: usize, capacity: i64) -> Result<(), Declined> {
     // SAFETY: the pointer and the length are those of one slice.
     told(unsafe { raw::carrier_open(table.as_mut_ptr(), table.len(), start, capacity) }).map(|_| ())
 }
 
 /// Posts an offer.
+///
+/// ```
+/// use carrier_book::{lent, words};
+/// let mut table = vec![0; words(2)];
+/// lent::open(&mut table, 0, 2)?;
+/// assert_eq!(lent::post(&mut table, 0, 1, 3, 0)?.live, 1);
+/// # Ok::<(), carrier_book::Declined>(())
+/// ```
 pub fn post(table: &mut [i64], start: usize, number: i64, rate: i64, base: i64) -> Result<Update, Declined> {
     let (words, length) = (table.as_mut_ptr(), table.len());
     // SAFETY: each pointer and length are those of one slice, and `counts` is a local of its own.
@@ -44,6 +60,15 @@ pub fn post(table: &mut [i64], start: usize, number: i64, rate: i64, base: i64) 
 }
 
 /// Withdraws the live offer with that number.
+///
+/// ```
+/// use carrier_book::{lent, words};
+/// let mut table = vec![0; words(2)];
+/// lent::open(&mut table, 0, 2)?;
+/// lent::post(&mut table, 0, 1, 3, 0)?;
+/// assert_eq!(lent::withdraw(&mut table, 0, 1)?.live, 0);
+/// # Ok::<(), carrier_book::Declined>(())
+/// ```
 pub fn withdraw(table: &mut [i64], start: usize, number: i64) -> Result<Update, Declined> {
     let (words, length) = (table.as_mut_ptr(), table.len());
     // SAFETY: as in `post`.
@@ -51,6 +76,15 @@ pub fn withdraw(table: &mut [i64], start: usize, number: i64) -> Result<Update, 
 }
 
 /// The cheapest live offer at a load; of several, the one with the highest rate.
+///
+/// ```
+/// use carrier_book::{lent, words};
+/// let mut table = vec![0; words(2)];
+/// lent::open(&mut table, 0, 2)?;
+/// lent::post(&mut table, 0, 1, 3, 0)?;
+/// assert_eq!(lent::query(&table, 0, 5)?.price, 15);
+/// # Ok::<(), carrier_book::Declined>(())
+/// ```
 #[inline]
 pub fn query(table: &[i64], start: usize, load: i64) -> Result<Found, Declined> {
     let mut found = [0i64; 2];
@@ -62,13 +96,110 @@ pub fn query(table: &[i64], start: usize, load: i64) -> Result<Found, Declined> 
 }
 
 /// Writes the pieces into `out`, three words each as in [`Piece`](crate::Piece), and returns their count. Later words stay.
+///
+/// ```
+/// use carrier_book::{lent, words};
+/// let mut table = vec![0; words(2)];
+/// lent::open(&mut table, 0, 2)?;
+/// lent::post(&mut table, 0, 1, 3, 0)?;
+/// let mut out = [-7; 4];
+/// assert_eq!(lent::listing(&table, 0, &mut out)?, 1);
+/// assert_eq!(out, [1, 0, 0, -7]);
+/// # Ok::<(), carrier_book::Declined>(())
+/// ```
 pub fn listing(table: &[i64], start: usize, out: &mut [i64]) -> Result<usize, Declined> {
     // SAFETY: each pointer and length are those of one slice, and a `&mut` slice overlaps no other; only `out` is written.
     let answer = unsafe { raw::carrier_listing(table.as_ptr(), table.len(), start, out.as_mut_ptr(), out.len()) };
     told(answer).map(|pieces| pieces as usize)
 }
 
+/// A reading of the pieces: the same ones, one at a time. On words that are no book it ends after at most 4,096 of them.
+///
+/// ```
+/// use carrier_book::{lent, words, Declined};
+/// let mut table = vec![0; words(2)];
+/// assert_eq!(lent::pieces(&table, 0).unwrap_err(), Declined::NoBook);
+/// lent::open(&mut table, 0, 2)?;
+/// lent::post(&mut table, 0, 1, 3, 0)?;
+/// assert_eq!(lent::pieces(&table, 0)?.map(|piece| piece.number).collect::<Vec<_>>(), [1]);
+/// # Ok::<(), Declined>(())
+/// ```
+pub fn pieces(table: &[i64], start: usize) -> Result<Pieces<'_>, Declined> {
+    Pieces::begin(table, start)
+}
+
+/// The meeting of the book at `first_start` with the book at `second_start`, whose rates are all below the first's. The two tables
+/// may be one.
+///
+/// ```
+/// use carrier_book::{lent, words};
+/// let second = words(2);
+/// let mut table = vec![0; 2 * words(2)];
+/// lent::open(&mut table, 0, 2)?;
+/// lent::open(&mut table, second, 2)?;
+/// lent::post(&mut table, 0, 1, 3, 0)?;
+/// lent::post(&mut table, second, 1, 1, 10)?;
+/// let meeting = lent::meet(&table, 0, &table, second)?;
+/// assert_eq!((meeting.u, meeting.v, meeting.steps), (1, 1, 1));
+/// # Ok::<(), carrier_book::Declined>(())
+/// ```
+pub fn meet(first: &[i64], first_start: usize, second: &[i64], second_start: usize) -> Result<Meeting, Declined> {
+    let mut met = [0i64; 4];
+    let (one, two) = (first.as_ptr(), second.as_ptr());
+    // SAFETY: each pointer and length are those of one slice; only `met` is written.
+    let answer =
+        unsafe { raw::carrier_meet(one, first.len(), first_start, two, second.len(), second_start, met.as_mut_ptr(), met.len()) };
+    let u = told(answer)?;
+    let [v, steps, hl, hr] = met;
+    Ok(Meeting { u, v, steps, hl, hr })
+}
+
+/// Chart mark `index`, from 0 to the number of pieces.
+///
+/// ```
+/// use carrier_book::{lent, words, Declined, Mark};
+/// let mut table = vec![0; words(2)];
+/// lent::open(&mut table, 0, 2)?;
+/// assert_eq!(lent::mark(&table, 0, 0), Err(Declined::Empty));
+/// lent::post(&mut table, 0, 1, 3, 0)?;
+/// assert_eq!(lent::mark(&table, 0, 1)?, Mark::OpenEnd(3.0));
+/// # Ok::<(), Declined>(())
+/// ```
+pub fn mark(table: &[i64], start: usize, index: i64) -> Result<Mark, Declined> {
+    let mut mark = [0f64; 2];
+    // SAFETY: each pointer and length are those of one slice; only `mark` is written.
+    let answer = unsafe { raw::carrier_mark(table.as_ptr(), table.len(), start, index, mark.as_mut_ptr(), mark.len()) };
+    let [load, price] = mark;
+    Ok(match told(answer)? {
+        0 => Mark::OpenEnd(load),
+        _ => Mark::Crossing(Point { load, price }),
+    })
+}
+
+/// All chart marks in order; none where a mark is declined.
+///
+/// ```
+/// use carrier_book::{lent, words, Mark};
+/// let mut table = vec![0; words(2)];
+/// lent::open(&mut table, 0, 2)?;
+/// lent::post(&mut table, 0, 1, 3, 0)?;
+/// assert_eq!(lent::marks(&table, 0).collect::<Vec<_>>(), [Mark::OpenEnd(3.0); 2]);
+/// # Ok::<(), carrier_book::Declined>(())
+/// ```
+pub fn marks(table: &[i64], start: usize) -> Marks<'_> {
+    Marks::begin(table, start)
+}
+
 /// Whether the words from `start` on are a book in every particular, with every envelope right.
+///
+/// ```
+/// use carrier_book::{lent, words};
+/// let mut table = vec![0; words(2)];
+/// assert!(!lent::check(&table, 0));
+/// lent::open(&mut table, 0, 2)?;
+/// assert!(lent::check(&table, 0));
+/// # Ok::<(), carrier_book::Declined>(())
+/// ```
 pub fn check(table: &[i64], start: usize) -> bool {
     // SAFETY: the pointer and the length are those of one slice; nothing is written.
     unsafe { raw::carrier_check(table.as_ptr(), table.len(), start) == 1 }

@@ -51,8 +51,9 @@ fn causes_in_order() {
     assert_eq!(lent::listing(b.as_words(), 0, &mut [0; 5]), Err(Declined::OutputTooShort));
     assert_eq!(Book::new(0).unwrap_err(), Declined::Capacity);
     assert_eq!(Book::new(4_097).unwrap_err(), Declined::Capacity);
-    for number in 1..=10 {
+    for number in 1..=13 {
         assert_eq!(Declined::from_number(number).number(), number);
+        assert_eq!(Declined::from_number(number) == Declined::Other(number), number == 11);
     }
 }
 
@@ -126,6 +127,8 @@ fn a_book_is_its_words() {
     assert_eq!(asked(&b, 6), (1, 18));
     let again = Book::from_words(b.as_words().to_vec()).unwrap();
     assert_eq!(pieces(&again), pieces(&b));
+    assert_eq!(pieces(&Book::try_from(b.as_words().to_vec()).unwrap()), pieces(&b));
+    assert_eq!(Book::try_from(b.as_words()[1..].to_vec()).unwrap_err(), Declined::NoBook);
     assert!(Book::from_words(vec![]).is_none());
     assert!(Book::from_words([b.as_words(), &[0]].concat()).is_none());
 }

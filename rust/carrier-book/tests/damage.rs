@@ -48,6 +48,7 @@ fn wild(r: &mut Random, capacity: usize) -> i64 {
 /// All calls on a part, with what must hold on any words.
 fn calls(r: &mut Random, table: &mut [i64], capacity: usize, rounds: usize) {
     let end = EDGE + words(capacity);
+    let other = &book(r, 3, 9);
     for _ in 0..rounds {
         let lie = r.pick(&LIES);
         let o = offer(r, lie, capacity as i64);
@@ -60,6 +61,14 @@ fn calls(r: &mut Random, table: &mut [i64], capacity: usize, rounds: usize) {
         assert!(out[..EDGE].iter().chain(&out[room..]).all(|w| *w == MARK));
         lent::query(table, EDGE, r.within(-1_000_000, 1_000_000)).ok();
         lent::check(table, EDGE);
+        lent::mark(table, EDGE, r.within(0, capacity as i64)).ok();
+        assert!(lent::pieces(table, EDGE).unwrap().count() <= 4_096);
+        if rounds < 20 || r.one_in(10) {
+            assert!(lent::marks(table, EDGE).take(100).count() <= 4_097);
+        }
+        lent::meet(table, EDGE, table, EDGE).ok();
+        lent::meet(table, EDGE, other, 0).ok();
+        lent::meet(other, 0, table, EDGE).ok();
         // causes before any word of the part is trusted
         assert_eq!(lent::post(table, EDGE, 10_000, 0, 0), Err(Declined::OutOfRange));
         assert_eq!(lent::withdraw(table, EDGE, 0), Err(Declined::OutOfRange));
@@ -134,6 +143,11 @@ fn no_book() {
         assert_eq!(lent::withdraw(&mut table, start, 0), Err(Declined::NoBook));
         assert_eq!(lent::query(&table, start, i64::MAX), Err(Declined::NoBook));
         assert_eq!(lent::listing(&table, start, &mut []), Err(Declined::NoBook));
+        assert_eq!(lent::mark(&table, start, -1), Err(Declined::NoBook));
+        assert_eq!(lent::pieces(&table, start).unwrap_err(), Declined::NoBook);
+        assert_eq!(lent::marks(&table, start).next(), None);
+        assert_eq!(lent::meet(&table, start, &whole, 0), Err(Declined::NoBook));
+        assert_eq!(lent::meet(&whole, 0, &table, start), Err(Declined::NoBook));
         assert!(table == before);
     }
 }

@@ -76,6 +76,8 @@ impl Pair {
         let mut exact = vec![-7; expected.len()];
         assert_eq!(lent::listing(&self.table, self.start, &mut exact), Ok(expected.len() / 3));
         assert_eq!(exact, expected);
+        let read = lent::pieces(&self.table, self.start).unwrap();
+        assert!(read.flat_map(|p| [p.number, p.numerator, p.denominator]).eq(expected.iter().copied()));
         if let Some(short) = expected.len().checked_sub(1) {
             let mut out = vec![-7; short];
             assert_eq!(lent::listing(&self.table, self.start, &mut out), Err(Declined::OutputTooShort));

@@ -1,5 +1,5 @@
 -- `carrier::carrier_check` meets its contract: yes is 1 and no is 0.
-use Rattle.carrier.specs.Answers.{checked-yes, checked-no}
+use Rattle.answers.specs.Answers.{checked-yes, checked-no}
 use borrow.Author.Needs.{needs}
 use Rattle.carrier.proofs.carrier_check.Statement.{statement}
 use Rattle.carrier.proofs.carrier_check.Tie as tie

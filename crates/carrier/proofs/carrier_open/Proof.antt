@@ -17,14 +17,11 @@ same-length c = search needs
 
 returns : tie.Need-returns
 returns c =
-    let entry = c .before .before .before .before in
-    let r : SFits w64 (c .opening-number .result) = record { sfits = c .opening-number .ok } in
-    simp (toZ-ofZ, r)
-    (record {
-      opening = c .before .before .«open» .result;
-      opens = simp (toZ-ofZ, entry .fits .capacity) at (c .before .before .«open» .ensures);
-      number = c .opening-number .ensures;
-    })
+    let s = c .before .before .before .before in
+    let o = c .before .before .«open» in
+    let t = c .opening-number in
+    let r : SFits w64 (t .result) = record { sfits = t .ok } in
+    simp (toZ-ofZ, r) (record { opening = o .result; opens = simp (toZ-ofZ, s .fits .capacity) at (o .ensures); number = t .ensures })
 
 pub carrier-open-spec : {M : Type 1} → statement M
 carrier-open-spec = tie.close (tie.spec open-requires opening-number-requires same-length returns)

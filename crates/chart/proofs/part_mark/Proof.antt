@@ -8,6 +8,7 @@ use mir.Facts.{toZ-ofZ, toZ-pos}
 use mir.Syntax.{w64}
 use mir.Val.{SFits, toZ}
 use Rattle.marks.specs.Told.{openEnd}
+use Rattle.chart.specs.declared.Marked.the-variants.{Mark}
 use Rattle.chart.specs.Marking.{PartMark, part-empty, part-outside, part-first, part-last, part-inner, index-below, index-above, index-there}
 use borrow.Author.Needs.{needs}
 use Rattle.chart.proofs.part_mark.Statement.{statement}
@@ -75,7 +76,7 @@ returns-4 c =
     (m .ensures .few) (simp (toZ-ofZ, s .fits .index) at (at-up-to .up-to .ensures)) in
     let f : SFits w64 (c .before .rate .result) = record { sfits = c .before .rate .ok } in
     let i : s .args .index ≡ pos 0 = j .0 ∙ ap pos (first (at-if4 .if4 .taken)) in
-    subst (λ (z : ℤ). PartMark (s .args .part .now) z (c .open-end .result)) (sym i)
+    subst (λ (z : ℤ). PartMark (s .args .part .now) z (Mark (c .open-end .result))) (sym i)
     (part-first (at-number-at .number-at .ensures) (m .ensures) (at-if1 .if1 .left) (at-slot-of .slot-of .ensures)
     ((simp (toZ-ofZ, f) at (c .open-end .ensures)) ∙ ap openEnd (c .before .rate .ensures)))
 
@@ -106,7 +107,7 @@ returns-5 c =
     index-there (s .args .index) (simp (toZ-ofZ, s .fits .index) at (at-if2 .if2 .left)) (simp (toZ-ofZ, s .fits .index, e) at (at-if3 .if3 .left))
     (m .ensures .few) (simp (toZ-ofZ, s .fits .index) at (at-up-to .up-to .ensures)) in
     let f : SFits w64 (c .before .rate2 .result) = record { sfits = c .before .rate2 .ok } in
-    subst (λ (z : ℤ). PartMark (s .args .part .now) z (c .open-end2 .result)) (sym (j .0))
+    subst (λ (z : ℤ). PartMark (s .args .part .now) z (Mark (c .open-end2 .result))) (sym (j .0))
     (part-last (at-number-at .number-at .ensures) (m .ensures) (at-if1 .if1 .left) (at-up-to .up-to .result) (at-if4 .if4 .left) (at-slot-of2 .slot-of2 .ensures)
     (at-if5 .if5 .taken) ((simp (toZ-ofZ, f) at (c .open-end2 .ensures)) ∙ ap openEnd (c .before .rate2 .ensures)))
 
@@ -129,7 +130,7 @@ returns-6 c =
     let j =
     index-there (s .args .index) (simp (toZ-ofZ, s .fits .index) at (at-if2 .if2 .left)) (simp (toZ-ofZ, s .fits .index, e) at (at-if3 .if3 .left))
     (m .ensures .few) (simp (toZ-ofZ, s .fits .index) at (at-up-to .up-to .ensures)) in
-    subst (λ (z : ℤ). PartMark (s .args .part .now) z (c .crossing-at .result)) (sym (j .0))
+    subst (λ (z : ℤ). PartMark (s .args .part .now) z (Mark (c .crossing-at .result))) (sym (j .0))
     (part-inner (at-number-at .number-at .ensures) (m .ensures) (at-if1 .if1 .left) (at-up-to .up-to .result) (at-if4 .if4 .left) (at-slot-of2 .slot-of2 .ensures)
     (below (j .1) (c .before .if5 .left)) (c .crossing-at .ensures))
 

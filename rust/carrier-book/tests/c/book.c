@@ -11,6 +11,9 @@
 
 static int64_t table[WORDS];
 
+/* a second book, of lower rates */
+static int64_t second[CARRIER_WORDS(1)];
+
 #define EXPECT(claim)                                                        \
     do {                                                                     \
         if (!(claim)) {                                                      \
@@ -35,6 +38,56 @@ static int64_t query(int64_t load, int64_t *price) {
     int64_t number = carrier_query(table, WORDS, START, load, found, CARRIER_FOUND_WORDS);
     *price = found[0];
     return number;
+}
+
+/* the reading hands out what the listing writes */
+static void reading(const int64_t *pieces, size_t count) {
+    int64_t piece[CARRIER_PIECE_WORDS];
+    int64_t place = carrier_begin(table, WORDS, START);
+    size_t i;
+    for (i = 0; i < count; i++) {
+        EXPECT(place > 0);
+        place = carrier_piece(table, WORDS, START, place, piece, CARRIER_PIECE_WORDS);
+        EXPECT(memcmp(piece, pieces + CARRIER_PIECE_WORDS * i, sizeof piece) == 0);
+    }
+    EXPECT(place == 0);
+    EXPECT(carrier_piece(table, WORDS, START, 0, piece, CARRIER_PIECE_WORDS) == 0);
+    EXPECT(carrier_begin(table, WORDS, WORDS + 1) == CARRIER_NO_BOOK);
+    EXPECT(carrier_piece(table, WORDS, START, 1, piece, 2) == CARRIER_ARRAY_TOO_SHORT);
+}
+
+/* of the pieces (3, 0), (1, 10) and (0, 40) */
+static void marks(void) {
+    double mark[CARRIER_MARK_WORDS] = {7, 7};
+    EXPECT(carrier_mark(table, WORDS, START, 0, mark, 2) == CARRIER_OPEN_END && mark[0] == 3 && mark[1] == 7);
+    EXPECT(carrier_mark(table, WORDS, START, 1, mark, 2) == CARRIER_CROSSING && mark[0] == 5 && mark[1] == 15);
+    EXPECT(carrier_mark(table, WORDS, START, 2, mark, 2) == CARRIER_CROSSING && mark[0] == 30 && mark[1] == 40);
+    EXPECT(carrier_mark(table, WORDS, START, 3, mark, 2) == CARRIER_OPEN_END && mark[0] == 0);
+    EXPECT(carrier_mark(table, WORDS, START, 4, mark, 2) == CARRIER_NO_SUCH_MARK);
+    EXPECT(carrier_mark(table, WORDS, START, 1, mark, 1) == CARRIER_ARRAY_TOO_SHORT);
+    EXPECT(mark[0] == 0 && mark[1] == 40);
+}
+
+/* with a book that has the offer 8 at the rate -1 and the base 100: it takes over from offer 3 */
+static void meeting(void) {
+    int64_t counts[CARRIER_COUNTS_WORDS];
+    int64_t met[CARRIER_MET_WORDS];
+    size_t words = CARRIER_WORDS(1);
+    EXPECT(carrier_open(second, words, 0, 1) == 0);
+    EXPECT(carrier_meet(table, WORDS, START, second, words, 0, met, CARRIER_MET_WORDS) == CARRIER_EMPTY);
+    EXPECT(carrier_post(second, words, 0, 8, -1, 100, counts, CARRIER_COUNTS_WORDS) == 1);
+    EXPECT(carrier_meet(table, WORDS, START, second, words, 0, met, CARRIER_MET_WORDS) == 3);
+    EXPECT(met[0] == 8 && met[1] >= 1 && met[1] <= 3 * (met[2] + met[3]) + 1 && met[2] == 2 && met[3] == 0);
+    EXPECT(carrier_meet(second, words, 0, table, WORDS, START, met, CARRIER_MET_WORDS) == CARRIER_RATES_NOT_APART);
+    EXPECT(carrier_meet(table, WORDS, START, second, words, 0, met, 3) == CARRIER_ARRAY_TOO_SHORT);
+}
+
+static void vouchers(void) {
+    int64_t units[2] = {0, -77};
+    EXPECT(carrier_voucher(149, units, CARRIER_UNITS_WORDS) == 0 && units[0] == 1);
+    EXPECT(carrier_voucher(-150, units, 2) == 0 && units[0] == -2 && units[1] == -77);
+    EXPECT(carrier_voucher(INT64_MAX, units, 2) == CARRIER_OUT_OF_RANGE && units[0] == -2);
+    EXPECT(carrier_voucher(150, units, 0) == CARRIER_ARRAY_TOO_SHORT && units[0] == -2);
 }
 
 static void edges_are_kept(void) {
@@ -77,6 +130,10 @@ int main(void) {
     EXPECT(query(31, &price) == 3 && price == 40);
     EXPECT(carrier_listing(table, WORDS, START, out, 9) == 3);
     EXPECT(memcmp(out, pieces, sizeof pieces) == 0);
+    reading(pieces, 3);
+    marks();
+    meeting();
+    vouchers();
     refusals();
     EXPECT(withdraw(1) == 2);
     EXPECT(query(5, &price) == 2 && price == 15);

@@ -1,5 +1,6 @@
 //! A scan of all offers, written from the requirements alone, and numbers that are the same in every run.
 #![allow(dead_code)]
+pub mod exact;
 
 /// xorshift64*
 pub struct Random(u64);

@@ -1,4 +1,0 @@
--- The book's calls for Rust and C.
-pub mod Promises
-pub mod Answers
-pub mod Plainly
