@@ -4,4 +4,5 @@ pub mod Trees
 pub mod Finding
 pub mod Adding
 pub mod Above
+pub mod Thinning
 pub mod Dropping

@@ -1,7 +1,9 @@
 // The tree of the live items' numbers: find, add and drop an item by its number. Numbers fall from left to right.
 ghost use mathlib.Core.Path.{_≡_};
+ghost use Rattle.table.specs.Layout.{cap};
 ghost use Rattle.numbers.specs.Numbers.{FoundNumber, Added, Dropped};
 ghost use Rattle.numbers.specs.Above.{leastAbove};
+ghost use Rattle.numbers.specs.Thinning.{Thinned};
 
 // The slot of the live item with that number, and 0 where there is none.
 pub fn find(part: &[i64], root: u32, number: i64) -> u32
@@ -33,16 +35,35 @@ fn least_above(number: i64) -> i64
     1_000_000
 }
 
+// Drops the leaf at which the way down ends: it goes right where the seam's number is `least` or more. 0 where none is left. The tree is at
+// most `limit` high, and `c` is the capacity.
+fn drop_below(part: &mut [i64], c: u32, least: i64, x: u32, limit: u32) -> u32
+    requires { ⌜ c ≡ cap (now part) ⌝ }
+    ensures { λ r. ⌜ Thinned least x limit (now (part .entry)) (now (part .exit)) r ⌝ }
+{
+    if x <= 4096 {
+        return 0;
+    }
+    if limit == 0 {
+        return 0;
+    }
+    let gap = table::inner_slot(x);
+    let l = table::child_in(part, c, 2, false, x);
+    let r = table::child_in(part, c, 2, true, x);
+    if table::at_least_in(part, c, 0, gap, least) {
+        let y = drop_below(part, c, least, r, limit - 1);
+        return shape::join_in(part, c, 2, gap, l, y);
+    }
+    let y = drop_below(part, c, least, l, limit - 1);
+    let last = descents::end_in(part, c, 2, true, y);
+    shape::join_in(part, c, 2, last, y, r)
+}
+
 // Drops the item with that number, and keeps the others.
 pub fn drop_number(part: &mut [i64], root: u32, number: i64) -> u32
     ensures { λ r. ⌜ Dropped number root (now (part .entry)) (now (part .exit)) r ⌝ }
 {
     let least = least_above(number);
-    let c = descents::split(part, 2, 0, least, root, 24);
-    let f = c.front;
-    let below = c.back;
-    let d = descents::split(part, 2, 0, number, below, 24);
-    let b = d.back;
-    let gap = descents::end(part, 2, true, f);
-    shape::join(part, 2, gap, f, b)
+    let c = table::capacity(part);
+    drop_below(part, c, least, root, 24)
 }

@@ -11,7 +11,7 @@ use Rattle.integers.specs.Ring.{var, nat, _:+_, _:*_, by-eq}
 use Rattle.offers.specs.Offers.{between, within}
 use Rattle.offers.specs.Bounded.{bounded-in}
 use Rattle.table.specs.Words.{Words, upTo, upTo-in, upTo-over, upTo-below}
-use Rattle.table.specs.Layout.{cap, Valid, cell, linkAt}
+use Rattle.table.specs.Layout.{cap, place, Valid, cell, linkAt}
 use Rattle.table.specs.Cells.{cell-none, cell-inside, cell-there}
 use Rattle.table.specs.Rep.{childField}
 use Rattle.query.specs.Readings.{clamped, rightOf, Sided, childToward, priceIn}
@@ -45,14 +45,15 @@ module _ (w : Words) (c x : ℕ) (e : c ≡ cap w) (low : 4096 < x) (high : x �
   abbrev s : ℕ
   s = x - 4096
 
-  group-at : (f j : ℕ) → f ≡ 4 + j → j < 4 → group c x + j ≡ 64 + 4 * (f / 4 * (c + 1) + s) + f % 4
+  group-at : (f j : ℕ) → f ≡ 4 + j → j < 4 → group c x + j ≡ place c f s
+  unfolding place
   group-at f j d h = let p : f / 4 ≡ 1 = omega arith in omega (arith, ap (λ (k : ℕ). k * (c + 1)) p)
 
   pub group-in : (j : ℕ) → j < 4 → group c x + j < length w
-  group-in j h = omega (arith, group-at (4 + j) j refl h, cell-inside w (4 + j) s c e (omega arith) (omega arith) (omega arith))
+  group-in j h = cell-inside w (4 + j) s c e (omega arith) (omega arith) (omega arith) (group-at (4 + j) j refl h)
 
   group-cell : (f j : ℕ) → f ≡ 4 + j → j < 4 → getD w (group c x + j) (pos 0) ≡ cell w f s
-  group-cell f j d h = ap (λ (i : ℕ). getD w i (pos 0)) (group-at f j d h) ∙ cell-there w f s c e (omega arith) (omega arith) (omega arith)
+  group-cell f j d h = cell-there w f s c e (omega arith) (omega arith) (omega arith) (group-at f j d h)
 
   -- the words of the group
   abbrev ourD : ℤ
@@ -90,11 +91,12 @@ price-none w c s q e h =
     gone v = h (v .low, omega (arith, v .high))
 
 module _ (w : Words) (c s : ℕ) (e : c ≡ cap w) (low : 1 ≤ s) (high : s ≤ c) where
-  data-at : (f : ℕ) → f < 4 → 64 + 4 * s + f ≡ 64 + 4 * (f / 4 * (c + 1) + s) + f % 4
+  data-at : (f : ℕ) → f < 4 → 64 + 4 * s + f ≡ place c f s
+  unfolding place
   data-at f h = let p : f / 4 ≡ 0 = omega arith in omega (arith, ap (λ (k : ℕ). k * (c + 1)) p)
 
   pub data-in : (f : ℕ) → f < 4 → 64 + 4 * s + f < length w
-  data-in f h = omega (arith, data-at f h, cell-inside w f s c e low high (omega arith))
+  data-in f h = cell-inside w f s c e high (omega arith) low (data-at f h)
 
   pub data-cell : (f : ℕ) → f < 4 → getD w (64 + 4 * s + f) (pos 0) ≡ cell w f s
-  data-cell f h = ap (λ (i : ℕ). getD w i (pos 0)) (data-at f h) ∙ cell-there w f s c e low high (omega arith)
+  data-cell f h = cell-there w f s c e high (omega arith) low (data-at f h)

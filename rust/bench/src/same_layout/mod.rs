@@ -198,10 +198,7 @@ impl Book {
         if slot == 0 {
             return Err(8);
         }
-        let (front, rest) = self.split_numbers(root, number + 1);
-        let (_, back) = self.split_numbers(rest, number);
-        let gap = self.end(NUMBERS, 1, front);
-        self.words[4] = self.join(NUMBERS, gap, front, back) as i64;
+        self.words[4] = self.drop(NUMBERS, NUMBER, root, number) as i64;
         let mut counts = Counts::default();
         let held = self.remove(self.held(), slot, &mut counts);
         self.finish(held, self.words[3] - 1);

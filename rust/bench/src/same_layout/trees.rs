@@ -125,6 +125,21 @@ impl Book {
         }
     }
 
+    /// drops the leaf with that key; 0 where none is left
+    pub(super) fn drop(&mut self, tree: usize, key: usize, x: usize, value: i64) -> usize {
+        if x <= INNER {
+            return 0;
+        }
+        let (l, r) = (self.child(tree, x, 0), self.child(tree, x, 1));
+        if value < self.get(DATA, x - INNER, key) {
+            let y = self.drop(tree, key, r, value);
+            return self.join(tree, x - INNER, l, y);
+        }
+        let y = self.drop(tree, key, l, value);
+        let gap = self.end(tree, 1, y);
+        self.join(tree, gap, y, r)
+    }
+
     pub(super) fn cut(&mut self, e: usize, least: i64) -> (usize, usize) {
         if e == 0 {
             return (0, 0);

@@ -1,0 +1,217 @@
+-- A leaf dropped on the way to a number: the way goes right of every leaf whose number is `least` or more.
+use mathlib.Core.Path.{_≡_, refl, sym, _∙_, ap, subst}
+use mathlib.Core.Logic.{_≢_, ⊎-elim}
+use mathlib.Core.Bool.{Bool, true, false, not}
+use mathlib.Core.List.{List, [], _∷_, _++_, List·Memᴰ, List·Memᴰ·head, List·Memᴰ·append-cases, List·Memᴰ·cases-cons, Memᴰ·append-left, Memᴰ·append-right, Sublistᴰ, Sublistᴰ·append, Sublistᴰ·refl, Sublistᴰ·nil-sublist, Pairwise·sublistᴰ, Pairwise·nil}
+use mathlib.Core.Option.{Option, none, some}
+use Prim.Native.Nat.{ℕ, _-_, _≤_, _<_}
+use native.Mathlib.Omega.{arith}
+use lib.Dec.{T}
+use lib.IntN.{ℤ, pos, _+ℤ_}
+use lib.Signed.{leZ, ltZ}
+use Rattle.lists.specs.Members.{Among}
+use Rattle.lists.specs.Places.{sublist-mem}
+use Rattle.integers.specs.Parts.{intRules, add-parts}
+use Rattle.trees.specs.Tree.{Tree, leaf, node, height, leaves, last, Avl, avl-node}
+use Rattle.trees.specs.Leaves.{leaves-joinP, last-leaf}
+use Rattle.trees.specs.Operations.{Part, partLeaves, partHeight, joinP}
+use Rattle.trees.specs.Balanced.{AvlP, near-joinP}
+use Rattle.trees.specs.Order.{Falling, parted, last-lowest}
+use Rattle.table.specs.Words.{Words}
+use Rattle.table.specs.Layout.{cap, cell}
+use Rattle.table.specs.Items.{Item, In, Slots, in-left, in-right, slots-left, slots-right, slots-across}
+use Rattle.table.specs.Rep.{childAt, Within, within-cap, within-refl, within-trans, Only, only-refl, only-trans, only-more}
+use Rattle.table.specs.Nodes.{Parents, parents, leaf-low, ref-low}
+use Rattle.table.specs.PartTrees.{RepP, rep-some, MadeP, Seam, repP-still}
+use Rattle.table.specs.Keys.{Keyed, keyed-left, keyed-right}
+use Rattle.shape.specs.Merge.{Merged}
+use Rattle.descents.specs.Ends.{Ended}
+use Rattle.form.specs.Form.{numberOf}
+use Rattle.numbers.specs.Trees.{among-in, seam-end, Beside, joined}
+
+-- what is left of p, with root y: fewer leaves in the same order; of an item just below `least`, none but it is gone
+pub record Thin (least : ℤ) (w w′ : Words) (y : ℕ) (p : Part Item) : Type 0 where
+  pub left : Part Item
+  pub rep : RepP w′ 2 y left
+  pub balanced : AvlP left
+  pub only : Only 2 (partLeaves p) w w′
+  pub fewer : Sublistᴰ (partLeaves left) (partLeaves p)
+  pub gone : Falling numberOf (partLeaves p) → (a : Item) → List·Memᴰ a (partLeaves p) → numberOf a +ℤ pos 1 ≡ least → (b : Item) → List·Memᴰ b (partLeaves left) → b ≢ a
+  pub kept : Falling numberOf (partLeaves p) → (a : Item) → List·Memᴰ a (partLeaves p) → numberOf a +ℤ pos 1 ≡ least → (b : Item) → List·Memᴰ b (partLeaves p) → b ≢ a → List·Memᴰ b (partLeaves left)
+
+pub record Thinned (least : ℤ) (x limit : ℕ) (w w′ : Words) (y : ℕ) : Type 0 where
+  pub within : Within w w′
+  pub made : (p : Part Item) → RepP w 2 x p → AvlP p → partHeight p ≤ limit → Keyed w 0 numberOf (partLeaves p) → Thin least w w′ y p
+
+-- ---- a leaf, or nothing
+
+empty : (w : Words) → RepP w 2 0 none
+empty w = record { kind = omega arith; root = refl; slots = record { low = λ m. elim m [ ]; high = λ m. elim m [ ]; apart = Pairwise·nil }; tied = tt }
+
+one : {a i : Item} → List·Memᴰ a (i ∷ []) → a ≡ i
+one m = ⊎-elim (λ (e : _). e) (λ n. elim n [ ]) (List·Memᴰ·cases-cons m)
+
+pub thinned-leaf : {x limit : ℕ} {w : Words} (least : ℤ) → x ≤ 4096 → Thinned least x limit w w 0
+thinned-leaf {x} {limit} {w} least h = record { within = within-refl w; made = made }
+  where
+    made : (p : Part Item) → RepP w 2 x p → AvlP p → partHeight p ≤ limit → Keyed w 0 numberOf (partLeaves p) → Thin least w w 0 p
+    made none r a n k = record { left = none; rep = empty w; balanced = tt; only = only-refl 2 [] w; fewer = Sublistᴰ·refl []; gone = λ f a m. elim m [ ]; kept = λ f a m. elim m [ ] }
+    made (some (leaf i)) r a n k =
+        record { left = none; rep = empty w; balanced = tt; only = only-refl 2 (i ∷ []) w; fewer = Sublistᴰ·nil-sublist (i ∷ []); gone = λ f a m e b z. elim z [ ]; kept = λ f a m e b z d. absurd (d (one z ∙ sym (one m))) }
+    made (some (node s t)) r a n k = absurd (omega (arith, h, r .root, slots-left (leaves t) (r .slots) .low (last-leaf s)))
+
+-- only an inner node has such a number
+at-node : {x limit y : ℕ} {w w′ : Words} (least : ℤ) → 4096 < x → Within w w′
+    → ((s t : Tree Item) → RepP w 2 x (some (node s t)) → Avl (node s t) → height (node s t) ≤ limit → Keyed w 0 numberOf (leaves s ++ leaves t) → Thin least w w′ y (some (node s t)))
+    → Thinned least x limit w w′ y
+at-node {x} {limit} {y} {w} {w′} least h g step = record { within = g; made = made }
+  where
+    made : (p : Part Item) → RepP w 2 x p → AvlP p → partHeight p ≤ limit → Keyed w 0 numberOf (partLeaves p) → Thin least w w′ y p
+    made none r a n k = absurd (omega (arith, h, r .root))
+    made (some (leaf i)) r a n k = absurd (omega (arith, h, leaf-low (rep-some r)))
+    made (some (node s t)) r a n k = step s t r a n k
+
+pub thinned-over : {x limit : ℕ} {w : Words} (least : ℤ) → 4096 < x → limit ≡ 0 → Thinned least x limit w w 0
+thinned-over {w} least h e = at-node least h (within-refl w) (λ s t r a n k. absurd (omega (arith, n, e)))
+
+-- ---- a child is thinned
+
+fewer-slots : {c : ℕ} {xs ys : List Item} → Sublistᴰ xs ys → Slots c ys → Slots c xs
+fewer-slots l s = record { low = λ m. s .low (sublist-mem l m); high = λ m. s .high (sublist-mem l m); apart = Pairwise·sublistᴰ l (s .apart) }
+
+fewer-in : {xs ys : List Item} → Sublistᴰ xs ys → (s : ℕ) → In s xs → In s ys
+fewer-in l = among-in (λ a m. sublist-mem l m)
+
+seam-node : (g : ℕ) (t : Tree Item) (q : Part Item) → g ≡ last t .slot → Seam g (some t) q
+seam-node g t none e = tt
+seam-node g t (some u) e = e
+
+-- what the test tells of the seam
+seam-test : {w : Words} {x g : ℕ} {b : Bool} {s t : Tree Item} (least : ℤ) → g ≡ x - 4096 → b ≡ leZ least (cell w 0 g) → RepP w 2 x (some (node s t)) → Keyed w 0 numberOf (leaves s ++ leaves t) → b ≡ leZ least (numberOf (last s))
+seam-test {w} {s} {t} least eg eb rep q =
+    eb ∙ ap (leZ least) (ap (cell w 0) (eg ∙ parents (rep-some rep) .seam-at) ∙ q .read (Memᴰ·append-left (leaves t) (last-leaf s)))
+
+module _ {x limit g l r y z : ℕ} {b : Bool} {w w₁ w₂ : Words} (least : ℤ) (inner : 4096 < x) (eg : g ≡ x - 4096) (eb : b ≡ leZ least (cell w 0 g)) (el : l ≡ childAt w 2 false x) (er : r ≡ childAt w 2 true x) where
+  pub thinned-right : b ≡ true → Thinned least r (limit - 1) w w₁ y → Merged 2 g l y w₁ w₂ z → Thinned least x limit w w₂ z
+  thinned-right e rec j = at-node least inner (within-trans (rec .within) (j .within)) step
+    where
+      step : (s t : Tree Item) → RepP w 2 x (some (node s t)) → Avl (node s t) → height (node s t) ≤ limit → Keyed w 0 numberOf (leaves s ++ leaves t) → Thin least w w₂ z (some (node s t))
+      step s t rep (avl-node a₁ a₂ h₁ h₂) n q =
+          record {
+            left = joinP (some s) (c .left);
+            rep = m .rep;
+            balanced = near-joinP (some s) (c .left) a₁ (c .balanced) .avl;
+            only = only-trans (only-more (λ i v. in-right (leaves s) v) (c .only)) (only-more (λ i v. fewer-in fewer i v) (m .only));
+            fewer = fewer;
+            gone = λ f a i d v k. gone f a i d v (rw (← same) k);
+            kept = λ f a i d v k h. rw same (kept f a i d v k h);
+          }
+        where
+          o : Parents w 2 x s t
+          o = parents (rep-some rep)
+
+          c : Thin least w w₁ y (some t)
+          c = rec .made (some t) (record { kind = rep .kind; root = er ∙ o .right-at; slots = slots-right (leaves s) (rep .slots); tied = o .tied-right }) a₂ (omega (arith, n)) (keyed-right (leaves s) q)
+
+          same : partLeaves (joinP (some s) (c .left)) ≡ leaves s ++ partLeaves (c .left)
+          same = leaves-joinP (some s) (c .left)
+
+          fewer-both : Sublistᴰ (leaves s ++ partLeaves (c .left)) (leaves s ++ leaves t)
+          fewer-both = Sublistᴰ·append (Sublistᴰ·refl (leaves s)) (c .fewer)
+
+          fewer : Sublistᴰ (partLeaves (joinP (some s) (c .left))) (leaves s ++ leaves t)
+          fewer = rw same fewer-both
+
+          m : MadeP 2 w₁ w₂ z (joinP (some s) (c .left))
+          m =
+              joined j (seam-node g s (c .left) (eg ∙ o .seam-at))
+              (record {
+                left = repP-still (some s) (record { kind = rep .kind; root = el ∙ o .left-at; slots = slots-left (leaves t) (rep .slots); tied = o .tied-left }) (rec .within) (c .only) (λ i u v. slots-across (leaves s) (rep .slots) v u);
+                right = c .rep;
+                slots = rw (within-cap (rec .within)) (fewer-slots fewer-both (rep .slots));
+                balanced-left = a₁;
+                balanced-right = c .balanced;
+              })
+
+          passes : T (leZ least (numberOf (last s)))
+          passes = subst T (sym e ∙ seam-test least eg eb rep q) tt
+
+          -- the item is not in front of the seam
+          behind : Falling numberOf (leaves s ++ leaves t) → (a : Item) → numberOf a +ℤ pos 1 ≡ least → List·Memᴰ a (leaves s) → ⊥
+          behind f a d i =
+              let low = last-lowest numberOf s (parted (leaves s) f .left) i in
+              let z = passes in
+              omega (arith, intRules, add-parts (numberOf a) (pos 1))
+
+          there : Falling numberOf (leaves s ++ leaves t) → (a : Item) → numberOf a +ℤ pos 1 ≡ least → List·Memᴰ a (leaves s ++ leaves t) → List·Memᴰ a (leaves t)
+          there f a d i = ⊎-elim (λ j. absurd (behind f a d j)) (λ j. j) (List·Memᴰ·append-cases (leaves s) i)
+
+          gone : Falling numberOf (leaves s ++ leaves t) → (a : Item) → List·Memᴰ a (leaves s ++ leaves t) → numberOf a +ℤ pos 1 ≡ least → (v : Item) → List·Memᴰ v (leaves s ++ partLeaves (c .left)) → v ≢ a
+          gone f a i d v k h =
+              ⊎-elim (λ j. behind f a d (subst (λ (u : Item). List·Memᴰ u (leaves s)) h j)) (λ j. c .gone (parted (leaves s) f .right) a (there f a d i) d v j h) (List·Memᴰ·append-cases (leaves s) k)
+
+          kept : Falling numberOf (leaves s ++ leaves t) → (a : Item) → List·Memᴰ a (leaves s ++ leaves t) → numberOf a +ℤ pos 1 ≡ least → (v : Item) → List·Memᴰ v (leaves s ++ leaves t) → v ≢ a → List·Memᴰ v (leaves s ++ partLeaves (c .left))
+          kept f a i d v k h =
+              ⊎-elim (λ j. Memᴰ·append-left (partLeaves (c .left)) j) (λ j. Memᴰ·append-right (leaves s) (c .kept (parted (leaves s) f .right) a (there f a d i) d v j h)) (List·Memᴰ·append-cases (leaves s) k)
+
+  pub thinned-left : {p : ℕ} → b ≡ false → Thinned least l (limit - 1) w w₁ y → Ended w₁ 2 true y p → Merged 2 p y r w₁ w₂ z → Thinned least x limit w w₂ z
+  thinned-left {p} e rec end j = at-node least inner (within-trans (rec .within) (j .within)) step
+    where
+      step : (s t : Tree Item) → RepP w 2 x (some (node s t)) → Avl (node s t) → height (node s t) ≤ limit → Keyed w 0 numberOf (leaves s ++ leaves t) → Thin least w w₂ z (some (node s t))
+      step s t rep (avl-node a₁ a₂ h₁ h₂) n q =
+          record {
+            left = joinP (c .left) (some t);
+            rep = m .rep;
+            balanced = near-joinP (c .left) (some t) (c .balanced) a₂ .avl;
+            only = only-trans (only-more (λ i v. in-left (leaves t) v) (c .only)) (only-more (λ i v. fewer-in fewer i v) (m .only));
+            fewer = fewer;
+            gone = λ f a i d v k. gone f a i d v (rw (← same) k);
+            kept = λ f a i d v k h. rw same (kept f a i d v k h);
+          }
+        where
+          o : Parents w 2 x s t
+          o = parents (rep-some rep)
+
+          c : Thin least w w₁ y (some s)
+          c = rec .made (some s) (record { kind = rep .kind; root = el ∙ o .left-at; slots = slots-left (leaves t) (rep .slots); tied = o .tied-left }) a₁ (omega (arith, n)) (keyed-left (leaves t) q)
+
+          same : partLeaves (joinP (c .left) (some t)) ≡ partLeaves (c .left) ++ leaves t
+          same = leaves-joinP (c .left) (some t)
+
+          fewer-both : Sublistᴰ (partLeaves (c .left) ++ leaves t) (leaves s ++ leaves t)
+          fewer-both = Sublistᴰ·append (c .fewer) (Sublistᴰ·refl (leaves t))
+
+          fewer : Sublistᴰ (partLeaves (joinP (c .left) (some t))) (leaves s ++ leaves t)
+          fewer = rw same fewer-both
+
+          m : MadeP 2 w₁ w₂ z (joinP (c .left) (some t))
+          m =
+              joined j (seam-end (c .left) (some t) end (c .rep) (c .balanced))
+              (record {
+                left = c .rep;
+                right = repP-still (some t) (record { kind = rep .kind; root = er ∙ o .right-at; slots = slots-right (leaves s) (rep .slots); tied = o .tied-right }) (rec .within) (c .only) (λ i u v. slots-across (leaves s) (rep .slots) u v);
+                slots = rw (within-cap (rec .within)) (fewer-slots fewer-both (rep .slots));
+                balanced-left = c .balanced;
+                balanced-right = a₂;
+              })
+
+          fails : T (not (leZ least (numberOf (last s))))
+          fails = subst (λ d. T (not d)) (sym e ∙ seam-test least eg eb rep q) tt
+
+          -- the item is not behind the seam
+          before : Falling numberOf (leaves s ++ leaves t) → (a : Item) → numberOf a +ℤ pos 1 ≡ least → List·Memᴰ a (leaves t) → ⊥
+          before f a d i =
+              let low = parted (leaves s) f .across (last-leaf s) i in
+              let z = fails in
+              omega (arith, intRules, add-parts (numberOf a) (pos 1))
+
+          there : Falling numberOf (leaves s ++ leaves t) → (a : Item) → numberOf a +ℤ pos 1 ≡ least → List·Memᴰ a (leaves s ++ leaves t) → List·Memᴰ a (leaves s)
+          there f a d i = ⊎-elim (λ j. j) (λ j. absurd (before f a d j)) (List·Memᴰ·append-cases (leaves s) i)
+
+          gone : Falling numberOf (leaves s ++ leaves t) → (a : Item) → List·Memᴰ a (leaves s ++ leaves t) → numberOf a +ℤ pos 1 ≡ least → (v : Item) → List·Memᴰ v (partLeaves (c .left) ++ leaves t) → v ≢ a
+          gone f a i d v k h =
+              ⊎-elim (λ j. c .gone (parted (leaves s) f .left) a (there f a d i) d v j h) (λ j. before f a d (subst (λ (u : Item). List·Memᴰ u (leaves t)) h j)) (List·Memᴰ·append-cases (partLeaves (c .left)) k)
+
+          kept : Falling numberOf (leaves s ++ leaves t) → (a : Item) → List·Memᴰ a (leaves s ++ leaves t) → numberOf a +ℤ pos 1 ≡ least → (v : Item) → List·Memᴰ v (leaves s ++ leaves t) → v ≢ a → List·Memᴰ v (partLeaves (c .left) ++ leaves t)
+          kept f a i d v k h =
+              ⊎-elim (λ j. Memᴰ·append-left (leaves t) (c .kept (parted (leaves s) f .left) a (there f a d i) d v j h)) (λ j. Memᴰ·append-right (partLeaves (c .left)) j) (List·Memᴰ·append-cases (leaves s) k)
