@@ -1,5 +1,5 @@
 -- What a part's form says of its live items; and the plain book that it stands for is sound.
-use mathlib.Core.Path.{_≡_, ap, subst}
+use mathlib.Core.Path.{_≡_, ap, subst, sym, _∙_}
 use mathlib.Core.Logic.{_≢_, ∥∥₁-elim}
 use mathlib.Core.HLevel.{¬-prop}
 use mathlib.Core.List.{List, List·Memᴰ, Memᴰ·of-map, Pairwise, Pairwise·nil, Pairwise·map, Pairwise·imp, Pairwise·imp-of-mem}
