@@ -16,6 +16,7 @@ use Rattle.plain.specs.Sound.{Clear}
 use Rattle.trees.specs.Tree.{height}
 use Rattle.meeting.specs.Machine.{meet}
 use Rattle.dynamic.specs.OfferTree.{Held}
+use Rattle.table.specs.Fields.{envelopeRootWord, mostNodes}
 use Rattle.table.specs.Words.{Words, word, upTo, upTo-in}
 use Rattle.table.specs.Items.{Item, offerOf}
 use Rattle.pieces.specs.Pieces.{items}
@@ -184,4 +185,4 @@ module _ {start : ℕ} {t : List ℤ} (plain : State) (held : Option (Held Item)
       let k = stands m in
       let z : k .place ≡ 0 = sym (k .back) ∙ ap placeOf e ∙ upTo-in 4_294_967_295 0 (omega arith) in
       let w : Words = partOf t start in
-      omega (arith, many book, none-past {w = w} {root = upTo 8192 (word w 2)} refl book (omega arith) (k .before))
+      omega (arith, many book, none-past {w = w} {root = upTo mostNodes (word w envelopeRootWord)} refl book (omega arith) (k .before))

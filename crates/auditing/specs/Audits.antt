@@ -10,6 +10,7 @@ use Rattle.plain.specs.Book.{State}
 use Rattle.lists.specs.Bools.{never}
 use Rattle.dynamic.specs.OfferTree.{Held}
 use Rattle.dynamic.specs.Valid.{bookLines}
+use Rattle.table.specs.Fields.{liveCountWord, mostSlots}
 use Rattle.table.specs.Words.{Words, word, upTo, upTo-in}
 use Rattle.table.specs.Layout.{cap, cap-most}
 use Rattle.table.specs.Items.{Item, Apart}
@@ -25,14 +26,14 @@ use Rattle.tallying.specs.Tallies.{Tallies}
 
 module _ {w : Words} {s : State} {held : Option (Held Item)} (b : Book w s held) where
   -- the live count reads as what it is
-  book-count : {n : ℕ} → n ≡ upTo 4096 (word w 3) → length (bookLines held) ≡ n
+  book-count : {n : ℕ} → n ≡ upTo mostSlots (word w liveCountWord) → length (bookLines held) ≡ n
   book-count e =
-      sym (e ∙ ap (upTo 4096) (b .offers .live-count) ∙ upTo-in 4096 (length (bookLines held)) (omega (arith, b .free .slots-used, cap-most w)))
+      sym (e ∙ ap (upTo mostSlots) (b .offers .live-count) ∙ upTo-in mostSlots (length (bookLines held)) (omega (arith, b .free .slots-used, cap-most w)))
 
-  book-offers : {n : ℕ} → n ≡ upTo 4096 (word w 3) → OffersFound w n
+  book-offers : {n : ℕ} → n ≡ upTo mostSlots (word w liveCountWord) → OffersFound w n
   book-offers e = record { held = held; offers = b .offers; count = book-count e }
 
-  book-free : {n : ℕ} → n ≡ upTo 4096 (word w 3) → Freely w n
+  book-free : {n : ℕ} → n ≡ upTo mostSlots (word w liveCountWord) → Freely w n
   book-free e = subst (Freely w) (book-count e) (b .free)
 
 -- .. and back
@@ -57,7 +58,7 @@ offers-apart w (some h) g = g .slots .apart
 pub audits-no-slot : {w : Words} {m : ℕ} → m ≡ cap w → m < 1 → Decides false (BookStands w)
 audits-no-slot e h = decides-no (λ b. omega (arith, b .2 .some-slot, b .2 .capacity))
 
-module _ {w : Words} {n : ℕ} (e : n ≡ upTo 4096 (word w 3)) {f : Bool} (F : Decides f (Freely w n)) where
+module _ {w : Words} {n : ℕ} (e : n ≡ upTo mostSlots (word w liveCountWord)) {f : Bool} (F : Decides f (Freely w n)) where
   pub audits-no-free : f ≡ false → Decides false (BookStands w)
   audits-no-free k = decides-no (λ b. never (F .complete (book-free (b .2) e)) k)
 

@@ -9,11 +9,11 @@ pub fn book_stands(part: &[i64]) -> bool
     if table::capacity(part) < 1 {
         return false;
     }
-    let n = table::number_at(part, 3, 4096);
+    let n = table::number_at(part, table::LIVE_COUNT, table::MOST_SLOTS);
     if !tallying::free_slots(part, n) {
         return false;
     }
-    let mut scratch = [0; 8192];
+    let mut scratch = [0; matching::SCRATCH];
     if !checking::offers(part, &mut scratch, n) {
         return false;
     }

@@ -21,6 +21,7 @@ use Rattle.dynamic.specs.Valid.{bookLines}
 use Rattle.dynamic.specs.Lower.{valid-env}
 use Rattle.envelopes.specs.Envelope.{Env}
 use Rattle.envelopes.specs.Small.{env-some}
+use Rattle.table.specs.Fields.{capacityWord, envelopeRootWord, liveCountWord, mostNodes, numberField}
 use Rattle.table.specs.Words.{Words, word, upTo}
 use Rattle.table.specs.Layout.{cell}
 use Rattle.table.specs.Items.{Item}
@@ -49,7 +50,7 @@ pub record Asks (q : ℤ) (w : Words) (r : Found) : Type 0 where
   pub answers : (plain : State) (held : Option (Held Item)) → Book w plain held → T (loadInRange q) → foundAnswer r ≡ step plain (query q) .answer
   pub probes : (plain : State) (held : Option (Held Item)) → Book w plain held → T (loadInRange q) → Probes held (foundReturned r .answer) (foundReturned r .beside)
 
-pub asks-empty : {q : ℤ} {w : Words} {n : ℕ} → n ≡ upTo 8192 (word w 3) → n < 1 → Asks q w (Declined (pos 9))
+pub asks-empty : {q : ℤ} {w : Words} {n : ℕ} → n ≡ upTo mostNodes (word w liveCountWord) → n < 1 → Asks q w (Declined (pos 9))
 asks-empty {q} {w} {n} e h =
     record {
       answers = λ plain held b t. sym (ap (λ (o : Outcome). o .answer) (step-declined plain (query q) bookEmpty (further (twice (loadInRange q) t) (at-once (le→leb (length (plain .offers)) 0 (omega (arith, e, h, count-read b, live-length b)))))));
@@ -58,9 +59,9 @@ asks-empty {q} {w} {n} e h =
 
 -- what the code has read
 pub record Reads (q : ℤ) (w : Words) (root slot probes : ℕ) (number price : ℤ) : Type 0 where
-  pub at-root : root ≡ upTo 8192 (word w 2)
+  pub at-root : root ≡ upTo mostNodes (word w envelopeRootWord)
   pub down : Descended w root q slot probes
-  pub named : number ≡ cell w 0 slot
+  pub named : number ≡ cell w numberField slot
   pub priced : price ≡ priceIn w slot q
 
 abbrev pub Answered : (q number price : ℤ) (plain : State) (probes : ℕ) → Option (Held Item) → Type 0
@@ -90,7 +91,7 @@ module _ (plain : State) {q : ℤ} {w : Words} {root slot probes : ℕ} {number 
         got = f .down .finds t pieces (low w (stand .slots) (stand .balanced)) range
 
         number-is : number ≡ a .offer .number
-        number-is = f .named ∙ ap (cell w 0) (got .item) ∙ stand .holds .held (leaf-mem (lookup-leaf q t)) .number
+        number-is = f .named ∙ ap (cell w numberField) (got .item) ∙ stand .holds .held (leaf-mem (lookup-leaf q t)) .number
 
         price-is : price ≡ priceAt (a .offer) q
         price-is = f .priced ∙ ap (λ (s : ℕ). priceIn w s q) (got .item) ∙ price-kept q (stand .holds .held (leaf-mem (lookup-leaf q t))) range
@@ -99,11 +100,11 @@ module _ (plain : State) {q : ℤ} {w : Words} {root slot probes : ℕ} {number 
     some-piece none e = let k = env-some items item-laws (subst (λ (p : Part Item). Env items (bookLines (some h)) (partLeaves p)) e (valid-env items item-laws (b .offers .offers-in .right .valid))) (first (heldShape h)) (first-leaf (heldShape h)) in absurd (omega (arith, k))
     some-piece (some t) e = reached t e
 
-  pub answered : {n : ℕ} → n ≡ upTo 8192 (word w 3) → 1 ≤ n → (held : Option (Held Item)) → Book w plain held → Answered q number price plain probes held
+  pub answered : {n : ℕ} → n ≡ upTo mostNodes (word w liveCountWord) → 1 ≤ n → (held : Option (Held Item)) → Book w plain held → Answered q number price plain probes held
   answered e h none b = absurd (omega (arith, e, h, count-read b))
   answered e h (some g) b = some-piece g b (g .whole) refl
 
-pub asks-found : {q : ℤ} {w : Words} {n root slot probes : ℕ} {number price : ℤ} → n ≡ upTo 8192 (word w 3) → 1 ≤ n → Reads q w root slot probes number price → Asks q w (Offer number price (pos probes))
+pub asks-found : {q : ℤ} {w : Words} {n root slot probes : ℕ} {number price : ℤ} → n ≡ upTo mostNodes (word w liveCountWord) → 1 ≤ n → Reads q w root slot probes number price → Asks q w (Offer number price (pos probes))
 asks-found e h f = record { answers = λ plain held b t. answered plain f t e h held b .0; probes = λ plain held b t. (answered plain f t e h held b .1, refl) }
 
 -- ---- on the table
@@ -117,10 +118,10 @@ module _ (q : ℤ) (t : List ℤ) (start : ℕ) where
         probes = λ plain held b. refl;
       }
 
-  pub queries-none : {b : Bool} → b ≡ noBookAt (length t) start (word (partOf t start) 0) → b ≡ true → Queries q start t (Declined (pos 3))
+  pub queries-none : {b : Bool} → b ≡ noBookAt (length t) start (word (partOf t start) capacityWord) → b ≡ true → Queries q start t (Declined (pos 3))
   queries-none e h = queries-declined (at-once (said e h))
 
-  module _ {b d : Bool} (e : b ≡ noBookAt (length t) start (word (partOf t start) 0)) (h : b ≡ false) (e′ : d ≡ not (loadInRange q)) where
+  module _ {b d : Bool} (e : b ≡ noBookAt (length t) start (word (partOf t start) capacityWord)) (h : b ≡ false) (e′ : d ≡ not (loadInRange q)) where
     pub queries-range : d ≡ true → Queries q start t (Declined (pos 4))
     queries-range h′ = queries-declined (further (denied e h) (at-once (said e′ h′)))
 

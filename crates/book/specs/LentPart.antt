@@ -18,6 +18,7 @@ use Rattle.plain.specs.Causes.{Cause, causeNumber}
 use Rattle.plain.specs.Book.{State, noBookAt, partLength}
 use Rattle.plain.specs.Rules.{FirstOf, at-once, further}
 use Rattle.dynamic.specs.OfferTree.{Held}
+use Rattle.table.specs.Fields.{capacityWord, mostSlots}
 use Rattle.table.specs.Words.{Words, word, upTo, upTo-in}
 use Rattle.table.specs.Layout.{cap, fitting}
 use Rattle.table.specs.Items.{Item}
@@ -33,66 +34,66 @@ module _ (t : List ℤ) (start : ℕ) where
   pub whole-part : take (length t - start) (drop start t) ≡ partOf t start
   whole-part = take-all (length t - start) (drop start t) (omega (arith, length-drop start t))
 
-  pub beyond-none : length t < start → true ≡ noBookAt (length t) start (word (partOf t start) 0)
+  pub beyond-none : length t < start → true ≡ noBookAt (length t) start (word (partOf t start) capacityWord)
   beyond-none h =
       sym (is-true (noBookAt (length t) start z)
-      (or-left (ltb (length t) start || ltb (length t - start) 128 || not (between (pos 1) (pos 4_096) z)) (ltb (length t - start) (partLength (natAbs z)))
-      (or-left (ltb (length t) start || ltb (length t - start) 128) (not (between (pos 1) (pos 4_096) z))
+      (or-left (ltb (length t) start || ltb (length t - start) 128 || not (between (pos 1) (pos mostSlots) z)) (ltb (length t - start) (partLength (natAbs z)))
+      (or-left (ltb (length t) start || ltb (length t - start) 128) (not (between (pos 1) (pos mostSlots) z))
       (or-left (ltb (length t) start) (ltb (length t - start) 128) (lt→ltb (length t) start h)))))
     where
       z : ℤ
-      z = word (partOf t start) 0
+      z = word (partOf t start) capacityWord
 
-  pub cap-some : {n : ℕ} → n ≡ cap (take (length t - start) (drop start t)) → 1 ≤ n → false ≡ noBookAt (length t) start (word (partOf t start) 0)
-  cap-some e h = sym (is-false (noBookAt (length t) start (word (partOf t start) 0)) (cap-book start t (ap cap (sym whole-part) ∙ sym e) h))
+  pub cap-some : {n : ℕ} → n ≡ cap (take (length t - start) (drop start t)) → 1 ≤ n → false ≡ noBookAt (length t) start (word (partOf t start) capacityWord)
+  cap-some e h = sym (is-false (noBookAt (length t) start (word (partOf t start) capacityWord)) (cap-book start t (ap cap (sym whole-part) ∙ sym e) h))
 
 -- a word in range, as a number
-pub told-is : (z : ℤ) → T (between (pos 1) (pos 4_096) z) → (upTo 4096 z ≡ natAbs z) × (1 ≤ natAbs z) × (natAbs z ≤ 4096)
+pub told-is : (z : ℤ) → T (between (pos 1) (pos mostSlots) z) → (upTo mostSlots z ≡ natAbs z) × (1 ≤ natAbs z) × (natAbs z ≤ mostSlots)
 told-is (pos n) t =
-    let low = and-left (leZ (pos 1) (pos n)) (leZ (pos n) (pos 4_096)) t in
-    let high = and-right (leZ (pos 1) (pos n)) (leZ (pos n) (pos 4_096)) t in
-    (upTo-in 4096 n (omega (arith, intRules, high)), omega (arith, intRules, low), omega (arith, intRules, high))
-told-is (negsuc n) t = absurd (and-left (leZ (pos 1) (negsuc n)) (leZ (negsuc n) (pos 4_096)) t)
+    let low = and-left (leZ (pos 1) (pos n)) (leZ (pos n) (pos mostSlots)) t in
+    let high = and-right (leZ (pos 1) (pos n)) (leZ (pos n) (pos mostSlots)) t in
+    (upTo-in mostSlots n (omega (arith, intRules, high)), omega (arith, intRules, low), omega (arith, intRules, high))
+told-is (negsuc n) t = absurd (and-left (leZ (pos 1) (negsuc n)) (leZ (negsuc n) (pos mostSlots)) t)
 
 -- where there is a book, its part begins within the table
-pub book-start : (t : List ℤ) (start : ℕ) {b : Bool} → b ≡ noBookAt (length t) start (word (partOf t start) 0) → b ≡ false → start ≤ length t
-book-start t start e h = go (word (partOf t start) 0) (denied e h)
+pub book-start : (t : List ℤ) (start : ℕ) {b : Bool} → b ≡ noBookAt (length t) start (word (partOf t start) capacityWord) → b ≡ false → start ≤ length t
+book-start t start e h = go (word (partOf t start) capacityWord) (denied e h)
   where
     go : (z : ℤ) → T (not (noBookAt (length t) start z)) → start ≤ length t
     go z k =
-        let x = neither (ltb (length t) start || ltb (length t - start) 128 || not (between (pos 1) (pos 4_096) z)) (ltb (length t - start) (partLength (natAbs z))) k in
-        let y = neither (ltb (length t) start || ltb (length t - start) 128) (not (between (pos 1) (pos 4_096) z)) (x .0) in
+        let x = neither (ltb (length t) start || ltb (length t - start) 128 || not (between (pos 1) (pos mostSlots) z)) (ltb (length t - start) (partLength (natAbs z))) k in
+        let y = neither (ltb (length t) start || ltb (length t - start) 128) (not (between (pos 1) (pos mostSlots) z)) (x .0) in
         nltb→le (length t) start (neither (ltb (length t) start) (ltb (length t - start) 128) (y .0) .0)
 
 -- the capacity told, where the first word is in range and its part is not cut short
-capacity-is : (w : Words) (z : ℤ) → word w 0 ≡ z → T (between (pos 1) (pos 4_096) z) → partLength (natAbs z) ≤ length w → (cap w ≡ natAbs z) × (1 ≤ natAbs z)
+capacity-is : (w : Words) (z : ℤ) → word w capacityWord ≡ z → T (between (pos 1) (pos mostSlots) z) → partLength (natAbs z) ≤ length w → (cap w ≡ natAbs z) × (1 ≤ natAbs z)
 unfolding cap
 capacity-is w z e t h =
     let (a, b, d) = told-is z t in
-    (ap (fitting (length w)) (ap (upTo 4096) e ∙ a) ∙ rw (le-leb (64 * (natAbs z + 1)) (length w) h), b)
+    (ap (fitting (length w)) (ap (upTo mostSlots) e ∙ a) ∙ rw (le-leb (64 * (natAbs z + 1)) (length w) h), b)
 
 -- where there is a book, the first word is the capacity
-pub book-cap : (t : List ℤ) (start : ℕ) → T (not (noBookAt (length t) start (word (partOf t start) 0))) → (cap (partOf t start) ≡ natAbs (word (partOf t start) 0)) × (1 ≤ natAbs (word (partOf t start) 0))
-book-cap t start h = go (word (partOf t start) 0) refl h
+pub book-cap : (t : List ℤ) (start : ℕ) → T (not (noBookAt (length t) start (word (partOf t start) capacityWord))) → (cap (partOf t start) ≡ natAbs (word (partOf t start) capacityWord)) × (1 ≤ natAbs (word (partOf t start) capacityWord))
+book-cap t start h = go (word (partOf t start) capacityWord) refl h
   where
-    go : (z : ℤ) → word (partOf t start) 0 ≡ z → T (not (noBookAt (length t) start z)) → (cap (partOf t start) ≡ natAbs z) × (1 ≤ natAbs z)
+    go : (z : ℤ) → word (partOf t start) capacityWord ≡ z → T (not (noBookAt (length t) start z)) → (cap (partOf t start) ≡ natAbs z) × (1 ≤ natAbs z)
     go z e k =
-        let x = neither (ltb (length t) start || ltb (length t - start) 128 || not (between (pos 1) (pos 4_096) z)) (ltb (length t - start) (partLength (natAbs z))) k in
-        let y = neither (ltb (length t) start || ltb (length t - start) 128) (not (between (pos 1) (pos 4_096) z)) (x .0) in
-        capacity-is (partOf t start) z e (not-not (between (pos 1) (pos 4_096) z) (y .1))
+        let x = neither (ltb (length t) start || ltb (length t - start) 128 || not (between (pos 1) (pos mostSlots) z)) (ltb (length t - start) (partLength (natAbs z))) k in
+        let y = neither (ltb (length t) start || ltb (length t - start) 128) (not (between (pos 1) (pos mostSlots) z)) (x .0) in
+        capacity-is (partOf t start) z e (not-not (between (pos 1) (pos mostSlots) z) (y .1))
         (omega (arith, length-drop start t, nltb→le (length t - start) (partLength (natAbs z)) (x .1)))
 
-pub cap-none : (t : List ℤ) (start : ℕ) {n : ℕ} → n ≡ cap (take (length t - start) (drop start t)) → n < 1 → true ≡ noBookAt (length t) start (word (partOf t start) 0)
-cap-none t start {n} e h = go (noBookAt (length t) start (word (partOf t start) 0)) (book-cap t start)
+pub cap-none : (t : List ℤ) (start : ℕ) {n : ℕ} → n ≡ cap (take (length t - start) (drop start t)) → n < 1 → true ≡ noBookAt (length t) start (word (partOf t start) capacityWord)
+cap-none t start {n} e h = go (noBookAt (length t) start (word (partOf t start) capacityWord)) (book-cap t start)
   where
-    go : (b : Bool) → (T (not b) → (cap (partOf t start) ≡ natAbs (word (partOf t start) 0)) × (1 ≤ natAbs (word (partOf t start) 0))) → true ≡ b
+    go : (b : Bool) → (T (not b) → (cap (partOf t start) ≡ natAbs (word (partOf t start) capacityWord)) × (1 ≤ natAbs (word (partOf t start) capacityWord))) → true ≡ b
     go true f = refl
     go false f = let (p, q) = f tt in absurd (omega (arith, p, q, e, ap cap (whole-part t start)))
 
 -- where there is none, no part has the form, and the number is 3
-module _ (t : List ℤ) (start : ℕ) {no : Bool} (e : no ≡ noBookAt (length t) start (word (partOf t start) 0)) (d : no ≡ true) where
+module _ (t : List ℤ) (start : ℕ) {no : Bool} (e : no ≡ noBookAt (length t) start (word (partOf t start) capacityWord)) (d : no ≡ true) where
   pub no-form : {plain : State} {held : Option (Held Item)} → Book (partOf t start) plain held → ⊥
-  no-form b = T-not (noBookAt (length t) start (word (partOf t start) 0)) (book-there start t b) (said e d)
+  no-form b = T-not (noBookAt (length t) start (word (partOf t start) capacityWord)) (book-there start t b) (said e d)
 
 pub no-book-cause : (t : List ℤ) (start : ℕ) {z : Cause} → FirstOf (noBookTrial t start ∷ []) z → causeNumber z ≡ 3
 no-book-cause t start (at-once h) = refl

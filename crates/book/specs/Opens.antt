@@ -15,6 +15,7 @@ use Rattle.plain.specs.Causes.{Cause, Trial, declined, causeNumber}
 use Rattle.plain.specs.Book.{opened, openTrials, openingBy, partLength}
 use Rattle.plain.specs.Rules.{FirstOf, at-once, further, declined-by, not-declined}
 use Rattle.plain.specs.Sound.{Clear}
+use Rattle.table.specs.Fields.{mostSlots}
 use Rattle.table.specs.Words.{Words, upTo}
 use Rattle.form.specs.Form.{Book}
 use Rattle.book.specs.declared.Opening.{Opening}
@@ -47,23 +48,23 @@ module _ (c : ℤ) (start : ℕ) (t t′ : List ℤ) where
   opens-declined : {r : Opening} {k : Cause} → FirstOf (openTrials (length t) start c) k → r ≡ Declined (pos (causeNumber k)) → t′ ≡ t → Opens c start t t′ r
   opens-declined {k = k} f er et = record { answers = ap openingAnswer er ∙ ap (λ (d : Option Cause). plainOpening (openingBy c d)) (sym (declined-by (openTrials (length t) start c) k f)); declined = λ z g. (er ∙ ap (λ (n : ℕ). Declined (pos n)) (sym (one-cause f g)), et); accepted = λ g. absurd (not-clear f g) }
 
-  pub opens-range : {b : Bool} → b ≡ not (between (pos 1) (pos 4_096) c) → b ≡ true → t′ ≡ t → Opens c start t t′ (Declined (pos 1))
+  pub opens-range : {b : Bool} → b ≡ not (between (pos 1) (pos mostSlots) c) → b ≡ true → t′ ≡ t → Opens c start t t′ (Declined (pos 1))
   opens-range e h et = opens-declined (at-once (said e h)) refl et
 
-  opens-short : {b : Bool} → b ≡ not (between (pos 1) (pos 4_096) c) → b ≡ false → T (ltb (length t) start || ltb (length t - start) (partLength (natAbs c))) → t′ ≡ t → Opens c start t t′ (Declined (pos 2))
+  opens-short : {b : Bool} → b ≡ not (between (pos 1) (pos mostSlots) c) → b ≡ false → T (ltb (length t) start || ltb (length t - start) (partLength (natAbs c))) → t′ ≡ t → Opens c start t t′ (Declined (pos 2))
   opens-short e h s et = opens-declined (further (denied e h) (at-once s)) refl et
 
-  pub opens-beyond : {b : Bool} → b ≡ not (between (pos 1) (pos 4_096) c) → b ≡ false → length t < start → t′ ≡ t → Opens c start t t′ (Declined (pos 2))
+  pub opens-beyond : {b : Bool} → b ≡ not (between (pos 1) (pos mostSlots) c) → b ≡ false → length t < start → t′ ≡ t → Opens c start t t′ (Declined (pos 2))
   opens-beyond e h s et = opens-short e h (or-left (ltb (length t) start) (ltb (length t - start) (partLength (natAbs c))) (lt→ltb (length t) start s)) et
 
-  module _ {b : Bool} {n : ℕ} (e : b ≡ not (between (pos 1) (pos 4_096) c)) (h : b ≡ false) (d : n ≡ upTo 4096 c) where
-    ranged : T (between (pos 1) (pos 4_096) c)
-    ranged = not-not (between (pos 1) (pos 4_096) c) (denied e h)
+  module _ {b : Bool} {n : ℕ} (e : b ≡ not (between (pos 1) (pos mostSlots) c)) (h : b ≡ false) (d : n ≡ upTo mostSlots c) where
+    ranged : T (between (pos 1) (pos mostSlots) c)
+    ranged = not-not (between (pos 1) (pos mostSlots) c) (denied e h)
 
     is-capacity : n ≡ natAbs c
     is-capacity = d ∙ told-is c ranged .0
 
-    pub capacity-span : (1 ≤ n) × (n ≤ 4096)
+    pub capacity-span : (1 ≤ n) × (n ≤ mostSlots)
     capacity-span = let (p, q, r) = told-is c ranged in (omega (arith, is-capacity, q), omega (arith, is-capacity, r))
 
     pub opens-cut : length t - start < 64 * (n + 1) → t′ ≡ t → Opens c start t t′ (Declined (pos 2))

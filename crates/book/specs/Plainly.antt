@@ -16,6 +16,7 @@ use Rattle.plain.specs.Causes.{Cause, causeNumber}
 use Rattle.plain.specs.Book.{State, Call, bookTrials, noBookAt, partLength, step}
 use Rattle.plain.specs.Rules.{FirstOf, at-once, further, step-declined}
 use Rattle.dynamic.specs.OfferTree.{Held}
+use Rattle.table.specs.Fields.{capacityWord, mostSlots}
 use Rattle.table.specs.Words.{word}
 use Rattle.table.specs.Layout.{cap, cap-most}
 use Rattle.table.specs.Items.{Item}
@@ -27,13 +28,13 @@ use Rattle.book.specs.Promises.{partOf, tableTrials}
 -- ---- a part that has the form is there
 
 -- cause 3 does not apply
-pub cap-book : (start : ℕ) (t : List ℤ) {c : ℕ} → cap (partOf t start) ≡ c → 1 ≤ c → T (not (noBookAt (length t) start (word (partOf t start) 0)))
+pub cap-book : (start : ℕ) (t : List ℤ) {c : ℕ} → cap (partOf t start) ≡ c → 1 ≤ c → T (not (noBookAt (length t) start (word (partOf t start) capacityWord)))
 cap-book start t {c} e low = subst (λ (z : ℤ). T (not (noBookAt (length t) start z))) (sym (there .first)) (not-T (noBookAt (length t) start (pos c)) no-cause)
   where
     there : There (partOf t start) c
     there = cap-there (partOf t start) e low
 
-    high : c ≤ 4096
+    high : c ≤ mostSlots
     high = omega (arith, e, cap-most (partOf t start))
 
     long : 64 * (c + 1) ≤ length t - start
@@ -41,16 +42,16 @@ cap-book start t {c} e low = subst (λ (z : ℤ). T (not (noBookAt (length t) st
 
     no-cause : T (noBookAt (length t) start (pos c)) → ⊥
     no-cause =
-        or-no (ltb (length t) start || ltb (length t - start) 128 || not (between (pos 1) (pos 4_096) (pos c))) _
+        or-no (ltb (length t) start || ltb (length t - start) 128 || not (between (pos 1) (pos mostSlots) (pos c))) _
         (or-no (ltb (length t) start || ltb (length t - start) 128) _
         (or-no (ltb (length t) start) _ (λ q. omega (arith, long, ltb→lt (length t) start q)) (λ q. omega (arith, low, long, ltb→lt (length t - start) 128 q)))
-        (λ q. T-not (between (pos 1) (pos 4_096) (pos c)) q (and-both (leZ (pos 1) (pos c)) (leZ (pos c) (pos 4_096)) (omega (arith, intRules, low)) (omega (arith, intRules, high)))))
+        (λ q. T-not (between (pos 1) (pos mostSlots) (pos c)) q (and-both (leZ (pos 1) (pos c)) (leZ (pos c) (pos mostSlots)) (omega (arith, intRules, low)) (omega (arith, intRules, high)))))
         (λ q. omega (arith, long, ltb→lt (length t - start) (partLength c) q))
 
-pub book-there : (start : ℕ) (t : List ℤ) {plain : State} {held : Option (Held Item)} → Book (partOf t start) plain held → T (not (noBookAt (length t) start (word (partOf t start) 0)))
+pub book-there : (start : ℕ) (t : List ℤ) {plain : State} {held : Option (Held Item)} → Book (partOf t start) plain held → T (not (noBookAt (length t) start (word (partOf t start) capacityWord)))
 book-there start t b = cap-book start t (b .capacity) (b .some-slot)
 
 -- so the trials on words of any content decide for the plain book
 pub table-declined : (start : ℕ) (t : List ℤ) (k : Call) {plain : State} {held : Option (Held Item)} {z : Cause} → Book (partOf t start) plain held → FirstOf (tableTrials t start k) z → step plain k ≡ refusing plain (causeNumber z)
-table-declined start t k {plain} {held} {z} b (at-once h) = absurd (T-not (noBookAt (length t) start (word (partOf t start) 0)) (book-there start t b) h)
+table-declined start t k {plain} {held} {z} b (at-once h) = absurd (T-not (noBookAt (length t) start (word (partOf t start) capacityWord)) (book-there start t b) h)
 table-declined start t k {plain} {held} {z} b (further h f) = step-declined plain k z (first-append (bookTrials plain k) f)

@@ -15,6 +15,7 @@ use Rattle.plain.specs.Sound.{Clear}
 use Rattle.trees.specs.Operations.{Part}
 use Rattle.dynamic.specs.OfferTree.{Held, Pair}
 use Rattle.dynamic.specs.Work.{Work, stepsOf, heightsOf}
+use Rattle.table.specs.Fields.{capacityWord}
 use Rattle.table.specs.Words.{Words, word}
 use Rattle.table.specs.Items.{Item}
 use Rattle.pieces.specs.Pieces.{items}
@@ -36,7 +37,7 @@ partOf t start = drop start t
 
 -- the first word there, as a capacity
 abbrev pub capacityAt : List ℤ → ℕ → ℕ
-capacityAt t start = natAbs (word (partOf t start) 0)
+capacityAt t start = natAbs (word (partOf t start) capacityWord)
 
 -- no word outside the part of capacity c has changed
 pub record OnlyPart (c start : ℕ) (t t′ : List ℤ) : Type 0 where
@@ -48,7 +49,7 @@ pub record OnlyPart (c start : ℕ) (t t′ : List ℤ) : Type 0 where
 
 -- every call's but open's
 abbrev pub noBookTrial : List ℤ → ℕ → Trial
-noBookTrial t start = noBook when noBookAt (length t) start (word (partOf t start) 0)
+noBookTrial t start = noBook when noBookAt (length t) start (word (partOf t start) capacityWord)
 
 abbrev pub tableTrials : List ℤ → ℕ → Call → List Trial
 tableTrials t start k = noBookTrial t start ∷ rangeTrials k
@@ -131,7 +132,7 @@ pub record Updates (k : Call) (start : ℕ) (t t′ : List ℤ) (r : Update) : T
   pub refusal : (z : ℤ) → r ≡ UpdateDeclined z → t′ ≡ t
   pub outside : OnlyPart (capacityAt t start) start t t′
   -- nor does the part's length change
-  pub same-part : word (partOf t′ start) 0 ≡ word (partOf t start) 0
+  pub same-part : word (partOf t′ start) capacityWord ≡ word (partOf t start) capacityWord
   pub follows : (s : State) (held : Option (Held Item)) → Book (partOf t start) s held → Follows k s held start t t′ r
 
 -- ---- query

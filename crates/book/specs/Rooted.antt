@@ -12,6 +12,7 @@ use Rattle.dynamic.specs.OfferTree.{Held, heldShape}
 use Rattle.dynamic.specs.Valid.{Valid}
 use Rattle.dynamic.specs.Lower.{valid-env}
 use Rattle.dynamic.specs.Raise.{some-piece}
+use Rattle.table.specs.Fields.{envelopeRootWord, mostNodes}
 use Rattle.table.specs.Words.{Words, word, upTo}
 use Rattle.table.specs.Items.{Item}
 use Rattle.pieces.specs.Pieces.{items, item-laws, Standing}
@@ -40,7 +41,7 @@ top (some t) e s v =
       env = valid-env items item-laws v;
     })
 
-pub root-of : {w : Words} {plain : State} {root : ℕ} {held : Option (Held Item)} → Book w plain held → root ≡ upTo 8192 (word w 2) → Root w root held
+pub root-of : {w : Words} {plain : State} {root : ℕ} {held : Option (Held Item)} → Book w plain held → root ≡ upTo mostNodes (word w envelopeRootWord) → Root w root held
 root-of {w} {root = root} {held} b e = go held (b .offers .offers-in) (e ∙ envelope-read b)
   where
     go : (held : Option (Held Item)) → OffersIn w held → root ≡ envelopeRef held → Root w root held

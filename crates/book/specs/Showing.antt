@@ -17,6 +17,7 @@ use Rattle.plain.specs.Rules.{FirstOf, at-once, words-length}
 use Rattle.trees.specs.Tree.{leaves}
 use Rattle.dynamic.specs.OfferTree.{Held}
 use Rattle.dynamic.specs.Valid.{bookLines}
+use Rattle.table.specs.Fields.{capacityWord, envelopeRootWord, mostNodes}
 use Rattle.table.specs.Words.{Words, word, upTo}
 use Rattle.table.specs.Items.{Item}
 use Rattle.pieces.specs.Pieces.{items}
@@ -66,7 +67,7 @@ pieces-declined e = let x : _≡_ {A = ℕ} 0 1 = cc in omega arith
 book-ordered : {w : Words} {plain : State} {held : Option (Held Item)} → Book w plain held → Ordered items (bookLines held)
 book-ordered {w} {held = held} b = whole-ordered held (live-whole w held (b .offers .offers-in))
 
-module _ {w : Words} {root n : ℕ} {out out′ : List ℤ} (e : root ≡ upTo 8192 (word w 2)) (k : Written w root out out′ n) where
+module _ {w : Words} {root n : ℕ} {out out′ : List ℤ} (e : root ≡ upTo mostNodes (word w envelopeRootWord)) (k : Written w root out out′ n) where
   -- too short an output
   pub shown-short : length out < 3 * n → Shown w out out′ (Declined (pos 10))
   shown-short h = record { refusal = λ z d. k .short h; long = k .long; answers = λ plain held b. go plain b (root-of b e); later = λ plain held b. ap (drop 0) (k .short h) }
@@ -94,7 +95,7 @@ module _ {w : Words} {root n : ℕ} {out out′ : List ℤ} (e : root ≡ upTo 8
 
 -- ---- on a table
 
-module _ (start : ℕ) (t out : List ℤ) {no : Bool} (e : no ≡ noBookAt (length t) start (word (partOf t start) 0)) where
+module _ (start : ℕ) (t out : List ℤ) {no : Bool} (e : no ≡ noBookAt (length t) start (word (partOf t start) capacityWord)) where
   pub listing-no-book : no ≡ true → Lists start t out out (Declined (pos 3))
   listing-no-book d =
       record {

@@ -15,6 +15,7 @@ use Rattle.plain.specs.Book.{State, Call, post, withdraw, refused, join, leave,
 use Rattle.plain.specs.Rules.{FirstOf, at-once, further}
 use Rattle.plain.specs.Sound.{Clear}
 use Rattle.dynamic.specs.OfferTree.{Held}
+use Rattle.table.specs.Fields.{capacityWord, mostNodes, numbersRootWord}
 use Rattle.table.specs.Words.{Words, word, upTo}
 use Rattle.table.specs.Layout.{cap}
 use Rattle.table.specs.Items.{Item}
@@ -72,11 +73,11 @@ module _ (k : Call) (start : ℕ) (t t′ : List ℤ) where
         declined = λ z g. (ap updateAnswer er ∙ ap refused (sym (one-cause f g)), et);
         refusal = λ z d. et;
         outside = only-same et;
-        same-part = ap (λ (u : List ℤ). word (partOf u start) 0) et;
+        same-part = ap (λ (u : List ℤ). word (partOf u start) capacityWord) et;
         follows = λ plain held b. follows-declined start t k b (table-declined start t k b f) er et;
       }
 
-  module _ {b : Bool} (e : b ≡ noBookAt (length t) start (word (partOf t start) 0)) where
+  module _ {b : Bool} (e : b ≡ noBookAt (length t) start (word (partOf t start) capacityWord)) where
     pub updates-none : b ≡ true → t′ ≡ t → Updates k start t t′ (Declined (pos 3))
     updates-none h et = updates-declined (at-once (said e h)) refl et
 
@@ -96,7 +97,7 @@ module _ (k : Call) (start : ℕ) (t t′ : List ℤ) where
               declined = λ z g. absurd (not-clear g clear);
               refusal = λ z d. et;
               outside = only-same et;
-              same-part = ap (λ (u : List ℤ). word (partOf u start) 0) et;
+              same-part = ap (λ (u : List ℤ). word (partOf u start) capacityWord) et;
               follows = λ plain held b. follows-declined start t k b (f plain held (subst (λ (u : Words). Book u plain held) (sym (whole-part t start)) b)) er et;
             }
 
@@ -109,7 +110,7 @@ module _ (k : Call) (start : ℕ) (t t′ : List ℤ) where
               declined = λ z g. absurd (not-clear g clear);
               refusal = λ z d. absurd (done-declined (sym er ∙ d));
               outside = only-part t start w′ back low (record { long = kept .long; rest = λ i l. kept .rest i (omega (arith, l, book-cap t start (denied e h) .0)) });
-              same-part = ap (λ (u : Words). word u 0) (part-back t start w′ back low) ∙ cap-there w′ (kept .room ∙ there .0) (there .1) .first ∙ sym (cap-there (partOf t start) (there .0) (there .1) .first);
+              same-part = ap (λ (u : Words). word u capacityWord) (part-back t start w′ back low) ∙ cap-there w′ (kept .room ∙ there .0) (there .1) .first ∙ sym (cap-there (partOf t start) (there .0) (there .1) .first);
               follows = λ plain held b. f plain held (subst (λ (u : Words). Book u plain held) (sym (whole-part t start)) b) (part-back t start w′ back low);
             }
           where
@@ -127,7 +128,7 @@ module _ (k : Call) (start : ℕ) (t t′ : List ℤ) where
 
 -- ---- the two calls
 
-module _ (start : ℕ) (t t′ : List ℤ) {b d : Bool} (e : b ≡ noBookAt (length t) start (word (partOf t start) 0)) (h : b ≡ false) where
+module _ (start : ℕ) (t t′ : List ℤ) {b d : Bool} (e : b ≡ noBookAt (length t) start (word (partOf t start) capacityWord)) (h : b ≡ false) where
   module _ (n r z : ℤ) (o : OutOfRange (post n r z) d) (q : d ≡ false) {m : ℕ} (cause : PostCause n r (lent t start) m) where
     pub post-refused : {u : Update} → 0 < m → u ≡ Declined (pos m) → t′ ≡ t → Updates (post n r z) start t t′ u
     post-refused l eu et = updates-refused (post n r z) start t t′ e h o q (λ plain held b. cause .declines z plain held b (o .denies q) l) eu et
@@ -140,7 +141,7 @@ module _ (start : ℕ) (t t′ : List ℤ) {b d : Bool} (e : b ≡ noBookAt (len
         let (updated, count) = g .done plain held b new in
         follows-posted start t n r z clear (subst (λ (v : Words). Updated v (holding plain (join (record { number = n; rate = r; base = z }) (plain .offers))) held k st hs) (sym p) updated) count eu)
 
-  module _ (n : ℤ) (o : OutOfRange (withdraw n) d) (q : d ≡ false) {s : ℕ} (f : FoundNumber n (upTo 8192 (word (lent t start) 4)) (lent t start) s) where
+  module _ (n : ℤ) (o : OutOfRange (withdraw n) d) (q : d ≡ false) {s : ℕ} (f : FoundNumber n (upTo mostNodes (word (lent t start) numbersRootWord)) (lent t start) s) where
     pub withdraw-refused : s < 1 → t′ ≡ t → Updates (withdraw n) start t t′ (Declined (pos 8))
     withdraw-refused l et = updates-refused (withdraw n) start t t′ e h o q (λ plain held b. withdraw-missing b n (o .denies q) (number-sought b f refl) (omega (arith, l))) refl et
 

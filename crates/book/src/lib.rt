@@ -3,12 +3,15 @@ ghost use mathlib.Core.Path.{_≡_};
 ghost use lib.ListN.{length};
 ghost use lib.IntN.{pos};
 ghost use Rattle.plain.specs.Book.{post, withdraw, noBookAt};
+ghost use Rattle.table.specs.Fields.{capacityWord};
 ghost use Rattle.table.specs.Words.{word};
 ghost use Rattle.book.specs.declared.Update.the-variants.{Done};
 ghost use Rattle.book.specs.Promises.{partOf, Opens, Updates, Queries, Lists, Checks};
 ghost use Rattle.book.specs.Asking.{Asks};
 ghost use Rattle.filing.specs.PartUpdates.{OutOfRange};
 ghost use Rattle.book.specs.Showing.{Shown};
+
+const MOST_CAPACITY: i64 = table::MOST_SLOTS as i64;
 
 // What opening answers: the book is empty and open, or the number of the cause for which it was declined.
 pub enum Opening {
@@ -40,7 +43,7 @@ pub enum Listed {
 
 // There is no book at `start`: it lies beyond the table, or the words there tell no capacity that they have room for.
 pub fn no_book(table: &[i64], start: usize) -> bool
-    ensures { λ r. ⌜ r ≡ noBookAt (length (now (table .entry))) start (word (partOf (now (table .entry)) start) 0) ⌝ }
+    ensures { λ r. ⌜ r ≡ noBookAt (length (now (table .entry))) start (word (partOf (now (table .entry)) start) capacityWord) ⌝ }
 {
     if table.len() < start {
         return true;
@@ -55,10 +58,10 @@ pub fn no_book(table: &[i64], start: usize) -> bool
 pub fn open(table: &mut [i64], start: usize, capacity: i64) -> Opening
     ensures { λ r. ⌜ Opens capacity start (now (table .entry)) (now (table .exit)) r ⌝ }
 {
-    if query::outside(1, 4096, capacity) {
+    if query::outside(1, MOST_CAPACITY, capacity) {
         return Opening::Declined(1);
     }
-    let c = table::up_to(4096, capacity);
+    let c = table::up_to(table::MOST_SLOTS, capacity);
     if table.len() < start {
         return Opening::Declined(2);
     }
@@ -134,14 +137,14 @@ pub fn withdraw(table: &mut [i64], start: usize, number: i64) -> Update
 fn ask(part: &[i64], load: i64) -> Found
     ensures { λ r. ⌜ Asks load (now (part .entry)) r ⌝ }
 {
-    if table::number_at(part, 3, 8192) < 1 {
+    if table::number_at(part, table::LIVE_COUNT, table::MOST_NODES) < 1 {
         return Found::Declined(9);
     }
-    let root = table::number_at(part, 2, 8192);
+    let root = table::number_at(part, table::ENVELOPE_ROOT, table::MOST_NODES);
     let p = query::descend(part, root, load);
     let slot = p.slot;
     let probes = p.probes;
-    let number = table::get(part, 0, slot);
+    let number = table::get(part, table::NUMBER, slot);
     let price = query::price(part, slot, load);
     Found::Offer {
         number: number,
@@ -168,7 +171,7 @@ fn show(part: &[i64], out: &mut [i64]) -> Listed
     ensures { λ r. ⌜ Shown (now (part .entry)) (now (out .entry)) (now (out .exit)) r ⌝ }
 {
     let room = out.len();
-    let root = table::number_at(part, 2, 8192);
+    let root = table::number_at(part, table::ENVELOPE_ROOT, table::MOST_NODES);
     let n = query::write(part, root, out);
     if room < 3 * (n as usize) {
         return Listed::Declined(10);

@@ -10,6 +10,7 @@ use Rattle.lists.specs.Bools.{never, passed, is-true}
 use Rattle.integers.specs.Equal.{equal}
 use Rattle.integers.specs.Parts.{equal-eq, equal-is}
 use Rattle.offers.specs.Offers.{crossingNumerator, crossingDenominator}
+use Rattle.table.specs.Fields.{denominatorField, mostNodes, nextPieceField, numeratorField}
 use Rattle.table.specs.Words.{Words}
 use Rattle.table.specs.Layout.{cell, linkAt}
 use Rattle.table.specs.Threads.{Next}
@@ -32,7 +33,7 @@ pub record Ends (from mid to i j : ℕ) : Type 0 where
   pub left-high : i < mid
   pub right-low : mid ≤ j
   pub right-high : j < to
-  pub room : to ≤ 8192
+  pub room : to ≤ mostNodes
 
 -- a slot threaded to another
 pub record Follows (w : Words) (a b : ℕ) (r : Bool) : Type 0 where
@@ -45,7 +46,7 @@ pub record Threads (w : Words) (xs : List ℕ) (from to : ℕ) (r : Bool) : Type
 -- ---- a thread, by its three tests
 
 module _ {w : Words} {a b : ℕ} where
-  pub follows-no-link : {s : ℕ} → s ≡ linkAt w 19 a → (s ≡ b → ⊥) → Follows w a b false
+  pub follows-no-link : {s : ℕ} → s ≡ linkAt w nextPieceField a → (s ≡ b → ⊥) → Follows w a b false
   follows-no-link e n = record { told = λ ha hb. decides-no (λ p. n (e ∙ p .next)) }
 
   numerator-is : InRange w a → InRange w b → baseGap w a b ≡ crossingNumerator (itemAt w a .offer) (itemAt w b .offer)
@@ -54,20 +55,20 @@ module _ {w : Words} {a b : ℕ} where
   denominator-is : InRange w a → InRange w b → rateGap w a b ≡ crossingDenominator (itemAt w a .offer) (itemAt w b .offer)
   denominator-is ha hb = ap₂ _-ℤ_ (rate-is ha) (rate-is hb)
 
-  module _ {r : Bool} {n : ℤ} (en : n ≡ baseGap w a b) (er : r ≡ equal (cell w 6 a) n) where
+  module _ {r : Bool} {n : ℤ} (en : n ≡ baseGap w a b) (er : r ≡ equal (cell w numeratorField a) n) where
     pub follows-no-base : r ≡ false → Follows w a b false
-    follows-no-base e = record { told = λ ha hb. decides-no (λ p. never (er ∙ is-true (equal (cell w 6 a) n) (equal-is (cell w 6 a) n (p .numerator ∙ sym (numerator-is ha hb) ∙ sym en))) e) }
+    follows-no-base e = record { told = λ ha hb. decides-no (λ p. never (er ∙ is-true (equal (cell w numeratorField a) n) (equal-is (cell w numeratorField a) n (p .numerator ∙ sym (numerator-is ha hb) ∙ sym en))) e) }
 
-    pub follows-rest : {s : ℕ} {q : Bool} {d : ℤ} → s ≡ linkAt w 19 a → s ≡ b → r ≡ true → d ≡ rateGap w a b → q ≡ equal (cell w 7 a) d → Follows w a b q
+    pub follows-rest : {s : ℕ} {q : Bool} {d : ℤ} → s ≡ linkAt w nextPieceField a → s ≡ b → r ≡ true → d ≡ rateGap w a b → q ≡ equal (cell w denominatorField a) d → Follows w a b q
     follows-rest {s} {q} {d} es e t ed eq =
         record {
           told = λ ha hb. record {
             sound = λ u. record {
               next = sym es ∙ e;
-              numerator = equal-eq (cell w 6 a) n (passed (sym er ∙ t)) ∙ en ∙ numerator-is ha hb;
-              denominator = equal-eq (cell w 7 a) d (passed (sym eq ∙ u)) ∙ ed ∙ denominator-is ha hb;
+              numerator = equal-eq (cell w numeratorField a) n (passed (sym er ∙ t)) ∙ en ∙ numerator-is ha hb;
+              denominator = equal-eq (cell w denominatorField a) d (passed (sym eq ∙ u)) ∙ ed ∙ denominator-is ha hb;
             };
-            complete = λ p. eq ∙ is-true (equal (cell w 7 a) d) (equal-is (cell w 7 a) d (p .denominator ∙ sym (denominator-is ha hb) ∙ sym ed));
+            complete = λ p. eq ∙ is-true (equal (cell w denominatorField a) d) (equal-is (cell w denominatorField a) d (p .denominator ∙ sym (denominator-is ha hb) ∙ sym ed));
           };
         }
 

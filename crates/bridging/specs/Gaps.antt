@@ -13,6 +13,7 @@ use Rattle.offers.specs.Sizes.{rate-of, base-of, numeratorInRange, denominatorI
 use Rattle.offers.specs.Bounded.{bounded-in}
 use Rattle.envelopes.specs.PseudoLines.{Figure}
 use Rattle.lines.specs.Lines.{cross-left}
+use Rattle.table.specs.Fields.{baseField, rateField}
 use Rattle.table.specs.Words.{Words}
 use Rattle.table.specs.Layout.{cell}
 use Rattle.table.specs.Items.{Item}
@@ -26,10 +27,10 @@ pub record InRange (w : Words) (s : ℕ) : Type 0 where
 
 module _ {w : Words} {s : ℕ} (h : InRange w s) where
   pub rate-is : rateAt w s ≡ rateOf (itemAt w s)
-  rate-is = bounded-in (negℤ (pos 100_000)) (pos 100_000) (cell w 1 s) (rate-of (itemAt w s .offer) (h .ranged))
+  rate-is = bounded-in (negℤ (pos 100_000)) (pos 100_000) (cell w rateField s) (rate-of (itemAt w s .offer) (h .ranged))
 
   pub base-is : baseAt w s ≡ baseOf (itemAt w s)
-  base-is = bounded-in (negℤ (pos 1_000_000_000)) (pos 1_000_000_000) (cell w 2 s) (base-of (itemAt w s .offer) (h .ranged))
+  base-is = bounded-in (negℤ (pos 1_000_000_000)) (pos 1_000_000_000) (cell w baseField s) (base-of (itemAt w s .offer) (h .ranged))
 
 -- ---- numerator and denominator of a crossing
 

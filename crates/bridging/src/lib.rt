@@ -6,6 +6,7 @@ ghost use lib.ListN.{getD};
 ghost use Rattle.matching.specs.Deciding.{Decides};
 ghost use Rattle.bridging.specs.Gaps.{baseGap, rateGap, crossAt};
 ghost use Rattle.bridging.specs.Bridges.{Bridges, Ends, Follows, Threads};
+ghost use Rattle.table.specs.Fields.{mostNodes};
 
 // The numerator of the crossing of the lines in two slots.
 fn base_gap(part: &[i64], a: u32, b: u32) -> i64
@@ -25,18 +26,18 @@ fn rate_gap(part: &[i64], a: u32, b: u32) -> i64
 fn follows(part: &[i64], a: u32, b: u32) -> bool
     ensures { λ r. ⌜ Follows (now (part .entry)) a b r ⌝ }
 {
-    if table::link(part, 19, a) != b {
+    if table::link(part, table::NEXT_PIECE, a) != b {
         return false;
     }
-    if !table::is_equal(part, 6, a, base_gap(part, a, b)) {
+    if !table::is_equal(part, table::NUMERATOR, a, base_gap(part, a, b)) {
         return false;
     }
-    table::is_equal(part, 7, a, rate_gap(part, a, b))
+    table::is_equal(part, table::DENOMINATOR, a, rate_gap(part, a, b))
 }
 
 // The slots from place `from` up to `to` lead each to the next.
-pub fn threaded(part: &[i64], scratch: &[u32; 8192], from: usize, to: usize) -> bool
-    requires { ⌜ (from ≤ to) × (to ≤ 8192) ⌝ }
+pub fn threaded(part: &[i64], scratch: &[u32; matching::SCRATCH], from: usize, to: usize) -> bool
+    requires { ⌜ (from ≤ to) × (to ≤ mostNodes) ⌝ }
     ensures { λ r. ⌜ Threads (now (part .entry)) (now (scratch .entry)) from to r ⌝ }
 {
     let mut i = from;
@@ -61,8 +62,15 @@ fn crosses(part: &[i64], a: u32, b: u32, c: u32, d: u32) -> bool
 }
 
 // The crossing of `u` and `v` is strictly right of that of the slot before place `i` and `u`, if there is one from `from` on.
-fn left_outer(part: &[i64], scratch: &[u32; 8192], from: usize, i: usize, u: u32, v: u32) -> bool
-    requires { ⌜ i < 8192 ⌝ }
+fn left_outer(
+    part: &[i64],
+    scratch: &[u32; matching::SCRATCH],
+    from: usize,
+    i: usize,
+    u: u32,
+    v: u32,
+) -> bool
+    requires { ⌜ i < mostNodes ⌝ }
     ensures { λ r. ⌜ Decides r (from < i → crossAt (now (part .entry)) u v (getD (now (scratch .entry)) (i - 1) 0) u ≡ false) ⌝ }
 {
     if i <= from {
@@ -75,8 +83,15 @@ fn left_outer(part: &[i64], scratch: &[u32; 8192], from: usize, i: usize, u: u32
 }
 
 // It is at that of `u` and the slot behind place `i` or left of it, if there is one before `to`.
-fn left_inner(part: &[i64], scratch: &[u32; 8192], i: usize, to: usize, u: u32, v: u32) -> bool
-    requires { ⌜ (i < 8192) × (to ≤ 8192) ⌝ }
+fn left_inner(
+    part: &[i64],
+    scratch: &[u32; matching::SCRATCH],
+    i: usize,
+    to: usize,
+    u: u32,
+    v: u32,
+) -> bool
+    requires { ⌜ (i < mostNodes) × (to ≤ mostNodes) ⌝ }
     ensures { λ r. ⌜ Decides r (i + 1 < to → crossAt (now (part .entry)) u v u (getD (now (scratch .entry)) (i + 1) 0) ≡ true) ⌝ }
 {
     if to <= i + 1 {
@@ -89,8 +104,15 @@ fn left_inner(part: &[i64], scratch: &[u32; 8192], i: usize, to: usize, u: u32, 
 }
 
 // It is at that of the slot before place `j` and `v` or right of it, if there is one from `from` on.
-fn right_inner(part: &[i64], scratch: &[u32; 8192], from: usize, j: usize, u: u32, v: u32) -> bool
-    requires { ⌜ j < 8192 ⌝ }
+fn right_inner(
+    part: &[i64],
+    scratch: &[u32; matching::SCRATCH],
+    from: usize,
+    j: usize,
+    u: u32,
+    v: u32,
+) -> bool
+    requires { ⌜ j < mostNodes ⌝ }
     ensures { λ r. ⌜ Decides r (from < j → crossAt (now (part .entry)) (getD (now (scratch .entry)) (j - 1) 0) v u v ≡ true) ⌝ }
 {
     if j <= from {
@@ -103,8 +125,15 @@ fn right_inner(part: &[i64], scratch: &[u32; 8192], from: usize, j: usize, u: u3
 }
 
 // It is strictly left of that of `v` and the slot behind place `j`, if there is one before `to`.
-fn right_outer(part: &[i64], scratch: &[u32; 8192], j: usize, to: usize, u: u32, v: u32) -> bool
-    requires { ⌜ (j < 8192) × (to ≤ 8192) ⌝ }
+fn right_outer(
+    part: &[i64],
+    scratch: &[u32; matching::SCRATCH],
+    j: usize,
+    to: usize,
+    u: u32,
+    v: u32,
+) -> bool
+    requires { ⌜ (j < mostNodes) × (to ≤ mostNodes) ⌝ }
     ensures { λ r. ⌜ Decides r (j + 1 < to → crossAt (now (part .entry)) v (getD (now (scratch .entry)) (j + 1) 0) u v ≡ false) ⌝ }
 {
     if to <= j + 1 {
@@ -119,7 +148,7 @@ fn right_outer(part: &[i64], scratch: &[u32; 8192], j: usize, to: usize, u: u32,
 // The slots at places `i` and `j` bridge the stretches from `from` up to `mid` and from there up to `to`.
 pub fn bridges(
     part: &[i64],
-    scratch: &[u32; 8192],
+    scratch: &[u32; matching::SCRATCH],
     from: usize,
     mid: usize,
     to: usize,

@@ -25,6 +25,7 @@ use Rattle.trees.specs.Tree.{Tree, leaves}
 use Rattle.trees.specs.Leaves.{some-leaf}
 use Rattle.dynamic.specs.OfferTree.{Held, heldShape}
 use Rattle.dynamic.specs.Valid.{bookLines}
+use Rattle.table.specs.Fields.{capacityWord, envelopeRootWord, mostNodes, mostSlots}
 use Rattle.table.specs.Words.{Words, word, upTo, upTo-in}
 use Rattle.table.specs.Items.{Item}
 use Rattle.table.specs.Threads.{Held as InSlot, Next, Threaded}
@@ -156,7 +157,7 @@ module _ {w : Words} {root s n : ℕ} {t : Tree Item} (p : Pieces w root t) (k :
 
 -- ---- the answers
 
-module _ {w : Words} {root m : ℕ} (er : root ≡ upTo 8192 (word w 2)) (k : Counted w root m) where
+module _ {w : Words} {root m : ℕ} (er : root ≡ upTo mostNodes (word w envelopeRootWord)) (k : Counted w root m) where
   -- cause 9
   pub part-empty : (index : ℤ) → m < 1 → PartMark w index (Declined (pos 9))
   part-empty index h = record { answers = λ s held b. go (root-of b er) }
@@ -252,10 +253,10 @@ index-below index m h = not-T (between (pos 0) (pos m) index) (λ t. omega (arit
 pub index-above : (index : ℤ) (m : ℕ) → ltZ (pos m) index ≡ true → T (not (between (pos 0) (pos m) index))
 index-above index m h = not-T (between (pos 0) (pos m) index) (λ t. omega (arith, intRules, range-parts (pos 0) index (pos m) t))
 
-pub index-there : (index : ℤ) {i m : ℕ} → ltZ index (pos 0) ≡ false → ltZ (pos m) index ≡ false → m ≤ 4096 → i ≡ upTo 4096 index → (index ≡ pos i) × (i ≤ m)
+pub index-there : (index : ℤ) {i m : ℕ} → ltZ index (pos 0) ≡ false → ltZ (pos m) index ≡ false → m ≤ mostSlots → i ≡ upTo mostSlots index → (index ≡ pos i) × (i ≤ m)
 index-there (pos n) {i} {m} a b h e =
     let l : n ≤ m = omega (arith, intRules) in
-    let u : i ≡ n = e ∙ upTo-in 4096 n (omega arith) in
+    let u : i ≡ n = e ∙ upTo-in mostSlots n (omega arith) in
     (ap pos (sym u), omega arith)
 index-there (negsuc n) a b h e = absurd (omega (arith, intRules))
 
@@ -264,7 +265,7 @@ index-there (negsuc n) a b h e = absurd (omega (arith, intRules))
 abbrev refused : ℕ → Told
 refused n = record { number = pos n; values = [] }
 
-module _ (start : ℕ) (t : List ℤ) (index : ℤ) {no : Bool} (e : no ≡ noBookAt (length t) start (word (partOf t start) 0)) where
+module _ (start : ℕ) (t : List ℤ) (index : ℤ) {no : Bool} (e : no ≡ noBookAt (length t) start (word (partOf t start) capacityWord)) where
   pub mark-no-book : no ≡ true → Marks start t index (Declined (pos 3))
   mark-no-book d =
       record {

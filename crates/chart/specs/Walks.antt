@@ -7,6 +7,7 @@ use native.Mathlib.Omega.{arith}
 use lib.ListN.{length}
 use Rattle.trees.specs.Tree.{Tree, leaves, first, Avl}
 use Rattle.trees.specs.Leaves.{rest, leaves-first}
+use Rattle.table.specs.Fields.{nextPieceField, pieceTree}
 use Rattle.table.specs.Words.{Words}
 use Rattle.table.specs.Layout.{linkAt}
 use Rattle.table.specs.Items.{Item}
@@ -23,14 +24,14 @@ pub record Going (w : Words) (root i s k : ℕ) : Type 0 where
   pub within : k ≤ i
   pub here : SlotOf w root k s
 
-pub going-begins : {w : Words} {root s : ℕ} (i : ℕ) → Ended w 0 false root s → Going w root i s 0
+pub going-begins : {w : Words} {root s : ℕ} (i : ℕ) → Ended w pieceTree false root s → Going w root i s 0
 going-begins i e =
     record {
       within = omega arith;
       here = record { is = λ t p a h. record { seen = []; here = first t; ahead = rest t; split = leaves-first t; slot = e .is t (p .rep) a; count = refl } };
     }
 
-pub going-on : {w : Words} {root i s s′ k : ℕ} → Going w root i s k → k < i → s′ ≡ linkAt w 19 s → Going w root i s′ (k + 1)
+pub going-on : {w : Words} {root i s s′ k : ℕ} → Going w root i s k → k < i → s′ ≡ linkAt w nextPieceField s → Going w root i s′ (k + 1)
 going-on {k} g h e =
     record {
       within = omega arith;

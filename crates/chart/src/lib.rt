@@ -15,10 +15,10 @@ pub enum Marked {
 fn slot_of(part: &[i64], root: u32, i: u32) -> u32
     ensures { λ r. ⌜ SlotOf (now (part .entry)) root i r ⌝ }
 {
-    let mut s = descents::end(part, 0, false, root);
+    let mut s = descents::end(part, table::PIECES, false, root);
     let mut k: u32 = 0;
     while k < i {
-        s = table::link(part, 19, s);
+        s = table::link(part, table::NEXT_PIECE, s);
         k += 1;
     }
     s
@@ -38,7 +38,7 @@ fn crossing_at(part: &[i64], slot: u32) -> marks::Mark
 fn part_mark(part: &[i64], index: i64) -> Marked
     ensures { λ r. ⌜ PartMark (now (part .entry)) index r ⌝ }
 {
-    let root = table::number_at(part, 2, 8192);
+    let root = table::number_at(part, table::ENVELOPE_ROOT, table::MOST_NODES);
     let m = query::count(part, root);
     if m < 1 {
         return Marked::Declined(9);
@@ -49,7 +49,7 @@ fn part_mark(part: &[i64], index: i64) -> Marked
     if (m as i64) < index {
         return Marked::Declined(13);
     }
-    let i = table::up_to(4096, index);
+    let i = table::up_to(table::MOST_SLOTS, index);
     if i < 1 {
         return Marked::Mark(marks::open_end(search::rate(part, slot_of(part, root, 0))));
     }

@@ -8,6 +8,7 @@ use lib.ListN.{length}
 use Rattle.lists.specs.Bools.{never}
 use Rattle.trees.specs.Tree.{leaves}
 use Rattle.dynamic.specs.Valid.{bookLines}
+use Rattle.table.specs.Fields.{envelopeRootWord, mostNodes, offersRootWord}
 use Rattle.table.specs.Words.{Words, word, upTo}
 use Rattle.matching.specs.declared.Filled.{Filled}
 use Rattle.matching.specs.Stretches.{span, span-none}
@@ -40,7 +41,7 @@ offers-none {w} {xs} {n} {r} e D = subst (λ (m : ℕ). Offers w xs xs m r) (sym
 
 -- ---- some offers
 
-module _ {w : Words} {n x e : ℕ} (some-live : n ≡ 0 → ⊥) (ex : x ≡ upTo 8192 (word w 1)) (ee : e ≡ upTo 8192 (word w 2)) where
+module _ {w : Words} {n x e : ℕ} (some-live : n ≡ 0 → ⊥) (ex : x ≡ upTo mostNodes (word w offersRootWord)) (ee : e ≡ upTo mostNodes (word w envelopeRootWord)) where
   at : (s : OffersFound w n) → OffersAt w x e n (bookLines (s .held))
   at s = offers-complete some-live ex ee s
 

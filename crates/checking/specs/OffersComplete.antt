@@ -13,6 +13,7 @@ use Rattle.trees.specs.Operations.{Part, partLeaves}
 use Rattle.dynamic.specs.OfferTree.{Held, heldShape}
 use Rattle.dynamic.specs.Valid.{bookLines}
 use Rattle.dynamic.specs.Lower.{valid-env}
+use Rattle.table.specs.Fields.{envelopeRootWord, liveCountWord, mostNodes, mostSlots, offersRootWord}
 use Rattle.table.specs.Words.{Words, word, upTo, upTo-in}
 use Rattle.table.specs.Layout.{cap, cap-most}
 use Rattle.table.specs.Items.{Item, Slots}
@@ -38,18 +39,18 @@ holds-placed {w} s h a m = record { low = s .low m; high = s .high m; is = is }
 
 -- ---- the numbers of nodes
 
-ref-most : (t : Tree Item) → ((a : Item) → List·Memᴰ a (leaves t) → a .slot ≤ 4096) → refOf t ≤ 8192
+ref-most : (t : Tree Item) → ((a : Item) → List·Memᴰ a (leaves t) → a .slot ≤ mostSlots) → refOf t ≤ mostNodes
 ref-most (leaf a) h = omega (arith, h a (List·Memᴰ·head refl))
 ref-most (node l r) h = omega (arith, h (last l) (Memᴰ·append-left (leaves r) (last-leaf l)))
 
-part-most : (p : Part Item) → ((a : Item) → List·Memᴰ a (partLeaves p) → a .slot ≤ 4096) → partRef p ≤ 8192
+part-most : (p : Part Item) → ((a : Item) → List·Memᴰ a (partLeaves p) → a .slot ≤ mostSlots) → partRef p ≤ mostNodes
 part-most none h = omega arith
 part-most (some t) h = ref-most t h
 
 -- ---- the offers
 
 module _ {w : Words} {x e : ℕ} {h : Held Item} (g : HeldIn w x e h) where
-  slot-most : (a : Item) → List·Memᴰ a (leaves (heldShape h)) → a .slot ≤ 4096
+  slot-most : (a : Item) → List·Memᴰ a (leaves (heldShape h)) → a .slot ≤ mostSlots
   slot-most a m = omega (arith, g .slots .high m, cap-most w)
 
   held-stands : Stands w x (heldShape h)
@@ -70,21 +71,21 @@ module _ {w : Words} {x e : ℕ} {h : Held Item} (g : HeldIn w x e h) where
         balanced = g .right .balanced-whole;
       }
 
-  held-root-most : x ≤ 8192
+  held-root-most : x ≤ mostNodes
   held-root-most = omega (arith, g .root, ref-most (heldShape h) slot-most)
 
-  held-envelope-most : e ≤ 8192
+  held-envelope-most : e ≤ mostNodes
   held-envelope-most = omega (arith, g .envelope, part-most (h .whole) (λ a m. slot-most a (sublist-mem (valid-env items item-laws (g .right .valid) .sub) m)))
 
 -- a word that is a number reads as it
-reads : (w : Words) (i : ℕ) {x y : ℕ} → x ≡ upTo 8192 (word w i) → word w i ≡ pos y → y ≤ 8192 → x ≡ y
-reads w i {y = y} p q h = p ∙ ap (upTo 8192) q ∙ upTo-in 8192 y h
+reads : (w : Words) (i : ℕ) {x y : ℕ} → x ≡ upTo mostNodes (word w i) → word w i ≡ pos y → y ≤ mostNodes → x ≡ y
+reads w i {y = y} p q h = p ∙ ap (upTo mostNodes) q ∙ upTo-in mostNodes y h
 
-pub offers-complete : {w : Words} {x e n : ℕ} → (n ≡ 0 → ⊥) → x ≡ upTo 8192 (word w 1) → e ≡ upTo 8192 (word w 2) → (s : OffersFound w n) → OffersAt w x e n (bookLines (s .held))
+pub offers-complete : {w : Words} {x e n : ℕ} → (n ≡ 0 → ⊥) → x ≡ upTo mostNodes (word w offersRootWord) → e ≡ upTo mostNodes (word w envelopeRootWord) → (s : OffersFound w n) → OffersAt w x e n (bookLines (s .held))
 offers-complete {w} {x} {e} {n} some-live ex ee s = go (s .held) (s .offers .offers-root) (s .offers .envelope-root) (s .offers .live-count) (s .count) (s .offers .offers-in)
   where
     go :
-        (o : Option (Held Item)) → word w 1 ≡ pos (offersRef o) → word w 2 ≡ pos (envelopeRef o) → word w 3 ≡ pos (length (bookLines o)) →
+        (o : Option (Held Item)) → word w offersRootWord ≡ pos (offersRef o) → word w envelopeRootWord ≡ pos (envelopeRef o) → word w liveCountWord ≡ pos (length (bookLines o)) →
         length (bookLines o) ≡ n → OffersIn w o → OffersAt w x e n (bookLines o)
     go none a b c d g = absurd (some-live (sym d))
     go (some h) a b c d g =
@@ -102,6 +103,6 @@ offers-complete {w} {x} {e} {n} some-live ex ee s = go (s .held) (s .offers .off
 pub offers-none-complete : {w : Words} → OffersFound w 0 → Header w 0 0 0
 offers-none-complete {w} s = go (s .held) (s .offers .offers-root) (s .offers .envelope-root) (s .offers .live-count) (s .count)
   where
-    go : (o : Option (Held Item)) → word w 1 ≡ pos (offersRef o) → word w 2 ≡ pos (envelopeRef o) → word w 3 ≡ pos (length (bookLines o)) → length (bookLines o) ≡ 0 → Header w 0 0 0
+    go : (o : Option (Held Item)) → word w offersRootWord ≡ pos (offersRef o) → word w envelopeRootWord ≡ pos (envelopeRef o) → word w liveCountWord ≡ pos (length (bookLines o)) → length (bookLines o) ≡ 0 → Header w 0 0 0
     go none a b c d = record { offers-root = a; envelope-root = b; live-count = c }
     go (some h) a b c d = absurd (omega (arith, some-leaf (heldShape h)))

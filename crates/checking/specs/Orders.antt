@@ -12,6 +12,7 @@ use Rattle.offers.specs.Offers.{offerInRange}
 use Rattle.envelopes.specs.Envelope.{Ordered, Ordered·nil, Ordered·cons}
 use Rattle.envelopes.specs.EnvelopeLaws.{ordered-at}
 use Rattle.trees.specs.Tree.{Tree, leaves, height}
+use Rattle.table.specs.Fields.{mostSlots}
 use Rattle.table.specs.Words.{Words}
 use Rattle.table.specs.Layout.{cap, cap-most}
 use Rattle.table.specs.Items.{Item, slots-most}
@@ -93,7 +94,7 @@ pub record Orders (w : Words) (x : ℕ) (xs xs′ : List ℕ) (n : ℕ) (r : Boo
 
 -- it is no larger than a part
 module _ {w : Words} {x : ℕ} {t : Tree Item} (s : Stands w x t) where
-  pub stands-most : length (leaves t) ≤ 4096
+  pub stands-most : length (leaves t) ≤ mostSlots
   stands-most = omega (arith, slots-most (cap w) (leaves t) (stands-slots s), cap-most w)
 
   pub stands-low : height t ≤ 24

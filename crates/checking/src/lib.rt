@@ -3,6 +3,7 @@ use merging::Walked;
 ghost use mathlib.Core.Path.{_≡_};
 ghost use Prim.Native.Nat.{ℕ, _≤_};
 ghost use lib.ListN.{length};
+ghost use Rattle.table.specs.Fields.{mostNodes, mostSlots};
 ghost use Rattle.table.specs.Words.{Words};
 ghost use Rattle.matching.specs.Deciding.{Decides};
 ghost use Rattle.checking.specs.OfferWalks.{Walks};
@@ -12,11 +13,11 @@ ghost use Rattle.checking.specs.Envelops.{Envelops};
 ghost use Rattle.checking.specs.OffersStand.{Offers};
 
 // The envelope of leaf `x` is its own line.
-fn single(x: u32, scratch: &mut [u32; 8192], at: usize) -> Walked
-    requires { ⌜ length (now scratch) ≡ 8192 ⌝ }
-    ensures { λ r. ⌜ (x ≤ 4096 → (w : Words) (limit : ℕ) → Walks w x limit (now (scratch .entry)) (now (scratch .exit)) at r) ⌝ }
+fn single(x: u32, scratch: &mut [u32; matching::SCRATCH], at: usize) -> Walked
+    requires { ⌜ length (now scratch) ≡ mostNodes ⌝ }
+    ensures { λ r. ⌜ (x ≤ mostSlots → (w : Words) (limit : ℕ) → Walks w x limit (now (scratch .entry)) (now (scratch .exit)) at r) ⌝ }
 {
-    if 4096 <= at {
+    if matching::SECOND_HALF <= at {
         return merging::refused();
     }
     scratch[at] = x;
@@ -28,11 +29,17 @@ fn single(x: u32, scratch: &mut [u32; 8192], at: usize) -> Walked
 
 // Walks the offers from node `x` on: both children, then the merge of their envelopes. The whole envelope of `x` is left from place `at`
 // on; what stands before that is not touched. `limit` bounds the tree's height.
-fn walk(part: &[i64], x: u32, scratch: &mut [u32; 8192], at: usize, limit: u32) -> Walked
-    requires { ⌜ length (now scratch) ≡ 8192 ⌝ }
+fn walk(
+    part: &[i64],
+    x: u32,
+    scratch: &mut [u32; matching::SCRATCH],
+    at: usize,
+    limit: u32,
+) -> Walked
+    requires { ⌜ length (now scratch) ≡ mostNodes ⌝ }
     ensures { λ r. ⌜ Walks (now (part .entry)) x limit (now (scratch .entry)) (now (scratch .exit)) at r ⌝ }
 {
-    if x <= 4096 {
+    if x <= table::MOST_SLOTS {
         return single(x, scratch, at);
     }
     if limit == 0 {
@@ -40,7 +47,7 @@ fn walk(part: &[i64], x: u32, scratch: &mut [u32; 8192], at: usize, limit: u32) 
     }
     let a = walk(
         part,
-        table::child(part, 1, false, x),
+        table::child(part, table::OFFERS, false, x),
         scratch,
         at,
         limit - 1,
@@ -51,7 +58,7 @@ fn walk(part: &[i64], x: u32, scratch: &mut [u32; 8192], at: usize, limit: u32) 
     let mid = a.next;
     let b = walk(
         part,
-        table::child(part, 1, true, x),
+        table::child(part, table::OFFERS, true, x),
         scratch,
         mid,
         limit - 1,
@@ -66,21 +73,21 @@ fn walk(part: &[i64], x: u32, scratch: &mut [u32; 8192], at: usize, limit: u32) 
 fn header(part: &[i64], x: u32, e: u32, n: u32) -> bool
     ensures { λ r. ⌜ Decides r (Header (now (part .entry)) x e n) ⌝ }
 {
-    if !matching::tells(part, 1, x) {
+    if !matching::tells(part, table::OFFERS_ROOT, x) {
         return false;
     }
-    if !matching::tells(part, 2, e) {
+    if !matching::tells(part, table::ENVELOPE_ROOT, e) {
         return false;
     }
-    matching::tells(part, 3, n)
+    matching::tells(part, table::LIVE_COUNT, n)
 }
 
 // The tree of offers from node `x` on has `n` leaves, with offers in range whose rates fall. Their slots are left from place 0 on.
-fn ordered(part: &[i64], x: u32, scratch: &mut [u32; 8192], n: u32) -> bool
-    requires { ⌜ length (now scratch) ≡ 8192 ⌝ }
+fn ordered(part: &[i64], x: u32, scratch: &mut [u32; matching::SCRATCH], n: u32) -> bool
+    requires { ⌜ length (now scratch) ≡ mostNodes ⌝ }
     ensures { λ r. ⌜ Orders (now (part .entry)) x (now (scratch .entry)) (now (scratch .exit)) n r ⌝ }
 {
-    let f = matching::fill(part, 1, x, scratch, 0, 24);
+    let f = matching::fill(part, table::OFFERS, x, scratch, 0, table::MOST_LEVELS);
     if !f.ok {
         return false;
     }
@@ -91,15 +98,15 @@ fn ordered(part: &[i64], x: u32, scratch: &mut [u32; 8192], n: u32) -> bool
     if !matching::all_ranged(part, scratch, 0, next) {
         return false;
     }
-    matching::falling(part, 1, scratch, 0, next)
+    matching::falling(part, table::RATE, scratch, 0, next)
 }
 
 // Envelopes are stored with the tree of offers from node `x` on, and node `e` of the pieces is the root of the whole one.
-fn enveloped(part: &[i64], x: u32, e: u32, scratch: &mut [u32; 8192]) -> bool
-    requires { ⌜ length (now scratch) ≡ 8192 ⌝ }
+fn enveloped(part: &[i64], x: u32, e: u32, scratch: &mut [u32; matching::SCRATCH]) -> bool
+    requires { ⌜ length (now scratch) ≡ mostNodes ⌝ }
     ensures { λ r. ⌜ Envelops (now (part .entry)) x e (now (scratch .entry)) (now (scratch .exit)) r ⌝ }
 {
-    let a = walk(part, x, scratch, 0, 24);
+    let a = walk(part, x, scratch, 0, table::MOST_LEVELS);
     if !a.ok {
         return false;
     }
@@ -108,15 +115,15 @@ fn enveloped(part: &[i64], x: u32, e: u32, scratch: &mut [u32; 8192]) -> bool
 }
 
 // The offers of a part, `n` of them, with their envelopes. The slots of the offers are left in order from place 0 on.
-pub fn offers(part: &[i64], scratch: &mut [u32; 8192], n: u32) -> bool
-    requires { ⌜ length (now scratch) ≡ 8192 ⌝ }
+pub fn offers(part: &[i64], scratch: &mut [u32; matching::SCRATCH], n: u32) -> bool
+    requires { ⌜ length (now scratch) ≡ mostNodes ⌝ }
     ensures { λ r. ⌜ Offers (now (part .entry)) (now (scratch .entry)) (now (scratch .exit)) n r ⌝ }
 {
     if n == 0 {
         return header(part, 0, 0, 0);
     }
-    let x = table::number_at(part, 1, 8192);
-    let e = table::number_at(part, 2, 8192);
+    let x = table::number_at(part, table::OFFERS_ROOT, table::MOST_NODES);
+    let e = table::number_at(part, table::ENVELOPE_ROOT, table::MOST_NODES);
     if !header(part, x, e, n) {
         return false;
     }
@@ -127,6 +134,6 @@ pub fn offers(part: &[i64], scratch: &mut [u32; 8192], n: u32) -> bool
         return false;
     }
     // the walk wrote over the slots
-    let f = matching::fill(part, 1, x, scratch, 0, 24);
+    let f = matching::fill(part, table::OFFERS, x, scratch, 0, table::MOST_LEVELS);
     f.ok
 }

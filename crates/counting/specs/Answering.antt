@@ -14,6 +14,7 @@ use Rattle.columns.specs.declared.Command.the-variants.{Post, Withdraw, Query, 
 use Rattle.columns.specs.Commands.{Parsed, parsed-unique, commandOf, command-parsed}
 use Rattle.printing.specs.Printed.{Answers}
 use Rattle.dynamic.specs.OfferTree.{Held}
+use Rattle.table.specs.Fields.{capacityWord}
 use Rattle.table.specs.Words.{word}
 use Rattle.table.specs.Layout.{cap-most}
 use Rattle.table.specs.Items.{Item}
@@ -91,7 +92,7 @@ left : {t t′ : List ℤ} {k : Call} {u : Update} → Updates k 0 t t′ u → 
 left u s held book j e = let f = u .follows s held book in f .refusal j (f .answers ∙ e)
 
 module _ {line : List ℕ} {t : List ℤ} {out out′ : List ℕ} {n : ℕ} (long : most ≤ length out) where
-  by-command : {t′ : List ℤ} (m : Command) → Parsed line m → n ≤ length out → OnlyPart (capacityAt t 0) 0 t t′ → word (partOf t′ 0) 0 ≡ word (partOf t 0) 0 → Obeys m t t′ out out′ n → Counts line t t′ out out′ n
+  by-command : {t′ : List ℤ} (m : Command) → Parsed line m → n ≤ length out → OnlyPart (capacityAt t 0) 0 t t′ → word (partOf t′ 0) capacityWord ≡ word (partOf t 0) capacityWord → Obeys m t t′ out out′ n → Counts line t t′ out out′ n
   by-command {t′} m p within outside same o =
       record {
         short = λ h. absurd (omega (arith, long));

@@ -20,6 +20,7 @@ use Rattle.book.specs.Numbered.{from-one}
 use Rattle.printing.specs.Texts.{FitsIn}
 use Rattle.printing.specs.Decimals.{fits-column, fits-unsigned}
 use Rattle.replying.specs.Replies.{PiecesFit, Fits, zero-fits}
+use Rattle.table.specs.Fields.{mostSlots}
 
 -- ---- refusals
 
@@ -50,7 +51,7 @@ refusal-fits number c = (from-one c, fits-unsigned 3 (causeNumber c) (omega arit
 number-fits : (n : ℤ) → T (numberInRange n) → FitsIn 6 n
 number-fits n t = rw (number-is n t) (fits-unsigned 6 (natAbs n) (omega arith) (omega (arith, number-size n t)))
 
-count-fits : (n : ℕ) → n ≤ 4_096 → FitsIn 14 (pos n)
+count-fits : (n : ℕ) → n ≤ mostSlots → FitsIn 14 (pos n)
 count-fits n h = fits-unsigned 14 n (omega arith) (omega arith)
 
 size-fits : (z : ℤ) → natAbs z ≤ 101_000_000_000 → FitsIn 14 z
@@ -85,7 +86,7 @@ Roomy (withdraw n) = Unit {0}
 Roomy (query q) = Unit {0}
 Roomy (listing room) = room ≡ 192
 
-module _ (c : ℕ) (os : List Offer) (small : c ≤ 4_096) (sound : Sound (record { capacity = c; offers = os })) where
+module _ (c : ℕ) (os : List Offer) (small : c ≤ mostSlots) (sound : Sound (record { capacity = c; offers = os })) where
   abbrev s : State
   s = record { capacity = c; offers = os }
 

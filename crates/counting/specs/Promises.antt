@@ -17,6 +17,7 @@ use Rattle.printing.specs.Texts.{newline}
 use Rattle.replying.specs.Answered.{answered, Prints}
 use Rattle.columns.specs.Commands.{commandOf}
 use Rattle.dynamic.specs.OfferTree.{Held}
+use Rattle.table.specs.Fields.{capacityWord}
 use Rattle.table.specs.Words.{word}
 use Rattle.table.specs.Items.{Item}
 use Rattle.form.specs.Form.{Book}
@@ -118,5 +119,5 @@ pub record Counts (line : List ℕ) (t t′ : List ℤ) (out out′ : List ℕ) 
   pub within : n ≤ length out
   pub outside : OnlyPart (capacityAt t 0) 0 t t′
   -- so that the part is the same one from line to line
-  pub same-part : word (partOf t′ 0) 0 ≡ word (partOf t 0) 0
+  pub same-part : word (partOf t′ 0) capacityWord ≡ word (partOf t 0) capacityWord
   pub obeys : most ≤ length out → Obeys (commandOf line) t t′ out out′ n

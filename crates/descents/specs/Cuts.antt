@@ -15,6 +15,7 @@ use Rattle.trees.specs.Leaves.{leaves-joinP, last-leaf, same-last}
 use Rattle.trees.specs.Balanced.{AvlP}
 use Rattle.trees.specs.Split.{split-leaves, split-low}
 use Rattle.trees.specs.TreeSteps.{split-right, split-left}
+use Rattle.table.specs.Fields.{mostNodes, mostSlots}
 use Rattle.table.specs.Words.{Words, upTo}
 use Rattle.table.specs.Layout.{cap, cell}
 use Rattle.table.specs.Items.{Item, In, at, in-left, in-right, Slots, slots-left, slots-right, slots-across}
@@ -51,7 +52,7 @@ still-known e h = e ∙ sym (within-cap h)
 
 -- ---- a leaf, or nothing
 
-pub halved-leaf : {k f x limit : ℕ} {b : Bool} {w : Words} (least : ℤ) (d : Bool) → x ≤ 4096 → b ≡ leZ least (cell w f x) → b ≡ d → Halving k f least x limit w w (cond d x 0) (cond d 0 x)
+pub halved-leaf : {k f x limit : ℕ} {b : Bool} {w : Words} (least : ℤ) (d : Bool) → x ≤ mostSlots → b ≡ leZ least (cell w f x) → b ≡ d → Halving k f least x limit w w (cond d x 0) (cond d 0 x)
 unfolding split splitP
 halved-leaf {k} {f} {x} {limit} {b} {w} least d h e g = record { within = within-refl w; made = made }
   where
@@ -90,7 +91,7 @@ seam-right g none (some u) s t e d = d ∙ ap (λ (i : Item). i .slot) (sym (sam
 seam-right g (some v) (some u) s t e d = d ∙ ap (λ (i : Item). i .slot) (sym (same-last (node v u) s e))
 
 -- only an inner node has such a number
-at-node : {k f x limit y z : ℕ} {w w′ : Words} (least : ℤ) → 4096 < x → Within w w′
+at-node : {k f x limit y z : ℕ} {w w′ : Words} (least : ℤ) → mostSlots < x → Within w w′
     → ((s t : Tree Item) (key : Item → ℤ) → RepP w k x (some (node s t)) → Avl (node s t) → height (node s t) ≤ limit → Keyed w f key (leaves s ++ leaves t)
     → Halved k w w′ y z (leaves s ++ leaves t) (split (from key least) (node s t)))
     → Halving k f least x limit w w′ y z
@@ -103,11 +104,11 @@ at-node {k} {f} {x} {limit} {y} {z} {w} {w′} least h g step = record { within 
     made (some (node s t)) key r a n q = step s t key r a n q
 
 -- the limit is used up
-pub halved-over : {k f x limit y z : ℕ} {w : Words} (least : ℤ) → 4096 < x → limit ≡ 0 → Halving k f least x limit w w y z
+pub halved-over : {k f x limit y z : ℕ} {w : Words} (least : ℤ) → mostSlots < x → limit ≡ 0 → Halving k f least x limit w w y z
 halved-over {w} least h e = at-node least h (within-refl w) (λ s t key r a n q. absurd (omega (arith, n, e)))
 
 -- what the test tells of the seam
-seam-test : {w : Words} {k f x g : ℕ} {b : Bool} {s t : Tree Item} {key : Item → ℤ} (least : ℤ) → g ≡ x - 4096 → b ≡ leZ least (cell w f g) → RepP w k x (some (node s t)) → Keyed w f key (leaves s ++ leaves t) → b ≡ from key least (last s)
+seam-test : {w : Words} {k f x g : ℕ} {b : Bool} {s t : Tree Item} {key : Item → ℤ} (least : ℤ) → g ≡ x - mostSlots → b ≡ leZ least (cell w f g) → RepP w k x (some (node s t)) → Keyed w f key (leaves s ++ leaves t) → b ≡ from key least (last s)
 seam-test {w} {f} {s} {t} least eg eb rep q =
     eb ∙ ap (leZ least) (ap (cell w f) (eg ∙ parents (rep-some rep) .seam-at) ∙ q .read (Memᴰ·append-left (leaves t) (last-leaf s)))
 
@@ -144,7 +145,7 @@ whole-back : {w : Words} {k x : ℕ} {c : Cut Item} {t : Tree Item} → Whole t 
 whole-back {w} {k} {x} {c} {t} h e r =
     record { front = subst (RepP w k 0) (sym e) (empty (r .kind)); back = subst (RepP w k x) (sym (h .back e)) r; only = only-refl k (leaves t) w; all-front = λ d. refl; all-back = λ d. refl }
 
-module _ {k f x limit g r y z : ℕ} {b : Bool} {w w₁ : Words} (least : ℤ) (inner : 4096 < x) (eg : g ≡ x - 4096) (eb : b ≡ leZ least (cell w f g)) where
+module _ {k f x limit g r y z : ℕ} {b : Bool} {w w₁ : Words} (least : ℤ) (inner : mostSlots < x) (eg : g ≡ x - mostSlots) (eb : b ≡ leZ least (cell w f g)) where
   pub whole-right : b ≡ true → r ≡ childAt w k true x → Halving k f least r (limit - 1) w w₁ y z → z ≡ 0 → Halving k f least x limit w w₁ x 0
   whole-right e er rec ez = at-node least inner (rec .within) step
     where
@@ -190,7 +191,7 @@ module _ {k f x limit g r y z : ℕ} {b : Bool} {w w₁ : Words} (least : ℤ) (
 
 -- ---- a node is cut through
 
-module _ {k f x limit g l r y z v : ℕ} {b : Bool} {w w₁ w₂ : Words} (least : ℤ) (inner : 4096 < x) (eg : g ≡ x - 4096) (eb : b ≡ leZ least (cell w f g)) where
+module _ {k f x limit g l r y z v : ℕ} {b : Bool} {w w₁ w₂ : Words} (least : ℤ) (inner : mostSlots < x) (eg : g ≡ x - mostSlots) (eb : b ≡ leZ least (cell w f g)) where
   pub halved-right : b ≡ true → r ≡ childAt w k true x → Halving k f least r (limit - 1) w w₁ y z → z ≢ 0 → l ≡ childAt w₁ k false x → Merged k g l y w₁ w₂ v → Halving k f least x limit w w₂ v z
   unfolding split splitP
   halved-right e er rec nz el j = at-node least inner (within-trans (rec .within) (j .within)) step
@@ -220,7 +221,7 @@ module _ {k f x limit g l r y z v : ℕ} {b : Bool} {w w₁ w₂ : Words} (least
 
           -- the node itself was not touched
           same : childAt w₁ k false x ≡ childAt w k false x
-          same = ap (upTo 8192) (cut .only .cells (childField k false) (x - 4096) (λ h. slots-across (leaves s) (rep .slots) (at (last-leaf s) (o .seam-at)) (h .1)))
+          same = ap (upTo mostNodes) (cut .only .cells (childField k false) (x - mostSlots) (λ h. slots-across (leaves s) (rep .slots) (at (last-leaf s) (o .seam-at)) (h .1)))
 
           pair : PairP w₁ k l y (some s) (c .front)
           pair =

@@ -4,6 +4,7 @@ use mathlib.Core.Bool.{Bool, true, false}
 use Prim.Native.Nat.{ℕ, suc, _-_, _≤_, _<_}
 use native.Mathlib.Omega.{arith}
 use Rattle.trees.specs.Tree.{Tree, leaf, node, height, leaves, first, last, Avl}
+use Rattle.table.specs.Fields.{mostSlots}
 use Rattle.table.specs.Words.{Words}
 use Rattle.table.specs.Items.{Item, slots-left, slots-right}
 use Rattle.table.specs.Rep.{childAt, Rep}
@@ -53,7 +54,7 @@ down-end : (side : Bool) (l r : Tree Item) → endOf side (pick side l r) ≡ en
 down-end false l r = refl
 down-end true l r = refl
 
-pub going-on : {w : Words} {k x y limit z : ℕ} {side : Bool} → Going w k side x y limit → 4096 < y → z ≡ childAt w k side y → Going w k side x z (limit - 1)
+pub going-on : {w : Words} {k x y limit z : ℕ} {side : Bool} → Going w k side x y limit → mostSlots < y → z ≡ childAt w k side y → Going w k side x z (limit - 1)
 going-on {w} {k} {x} {y} {limit} {z} {side} g h e = record { is = λ t r a. step t (g .is t r a .here) (g .is t r a .rep) (g .is t r a .same) (g .is t r a .high); none = λ d. absurd (omega (arith, h, g .none d)) }
   where
     step : (t u : Tree Item) → Rep w k y u → endOf side u ≡ endOf side t → height u ≤ limit → Nearer w k side z (limit - 1) t
@@ -62,7 +63,7 @@ going-on {w} {k} {x} {y} {limit} {z} {side} g h e = record { is = λ t r a. step
         record { here = pick side l s; rep = down side r e; same = down-end side l s ∙ d; high = omega (arith, n, down-low side l s) }
 
 -- the limit is used up, which no balanced tree comes to
-pub going-over : {w : Words} {k x y limit r : ℕ} {side : Bool} → Going w k side x y limit → 4096 < y → limit ≡ 0 → Ended w k side x r
+pub going-over : {w : Words} {k x y limit r : ℕ} {side : Bool} → Going w k side x y limit → mostSlots < y → limit ≡ 0 → Ended w k side x r
 going-over {w} {k} {x} {y} {limit} {r} {side} g h e = record { is = λ t q a. absurd (tall (g .is t q a .here) (g .is t q a .rep) (g .is t q a .high)); none = λ d. absurd (omega (arith, h, g .none d)) }
   where
     tall : (u : Tree Item) → Rep w k y u → height u ≤ limit → ⊥
@@ -73,7 +74,7 @@ end-leaf : (side : Bool) (a : Item) → endOf side (leaf a) ≡ a
 end-leaf false a = refl
 end-leaf true a = refl
 
-pub going-ends : {w : Words} {k x y limit : ℕ} {side : Bool} → Going w k side x y limit → y ≤ 4096 → Ended w k side x y
+pub going-ends : {w : Words} {k x y limit : ℕ} {side : Bool} → Going w k side x y limit → y ≤ mostSlots → Ended w k side x y
 going-ends {w} {k} {x} {y} {limit} {side} g h = record { is = λ t q a. stop t (g .is t q a .here) (g .is t q a .rep) (g .is t q a .same); none = g .none }
   where
     stop : (t u : Tree Item) → Rep w k y u → endOf side u ≡ endOf side t → y ≡ endOf side t .slot

@@ -10,6 +10,7 @@ use lib.Signed.{leZ, ltZ}
 use Rattle.trees.specs.Tree.{Tree, leaf, node, height, leaves, last, Avl}
 use Rattle.trees.specs.Operations.{find}
 use Rattle.trees.specs.Leaves.{last-leaf}
+use Rattle.table.specs.Fields.{mostSlots}
 use Rattle.table.specs.Words.{Words}
 use Rattle.table.specs.Layout.{cell}
 use Rattle.table.specs.Items.{Item}
@@ -55,7 +56,7 @@ unfolding find
 down-find key sought true l r e = ap (λ c. cond c (find key sought r) (find key sought l)) e
 down-find key sought false l r e = ap (λ c. cond c (find key sought r) (find key sought l)) e
 
-pub looking-on : {w : Words} {k f x y limit g z : ℕ} {b : Bool} (sought : ℤ) → Looking w k f sought x y limit → 4096 < y → g ≡ y - 4096 → b ≡ ltZ sought (cell w f g) → z ≡ childAt w k b y
+pub looking-on : {w : Words} {k f x y limit g z : ℕ} {b : Bool} (sought : ℤ) → Looking w k f sought x y limit → mostSlots < y → g ≡ y - mostSlots → b ≡ ltZ sought (cell w f g) → z ≡ childAt w k b y
     → Looking w k f sought x z (limit - 1)
 looking-on {w} {k} {f} {x} {y} {limit} {g} {z} {b} sought j h eg eb e =
     record {
@@ -77,7 +78,7 @@ looking-on {w} {k} {f} {x} {y} {limit} {g} {z} {b} sought j h eg eb e =
         told : b ≡ ltZ sought (key (last l))
         told = eb ∙ ap (ltZ sought) (ap (cell w f) (eg ∙ parents r .seam-at) ∙ q .read (Memᴰ·append-left (leaves s) (last-leaf l)))
 
-pub looking-over : {w : Words} {k f x y limit r : ℕ} {sought : ℤ} → Looking w k f sought x y limit → 4096 < y → limit ≡ 0 → Found w k f sought x r
+pub looking-over : {w : Words} {k f x y limit r : ℕ} {sought : ℤ} → Looking w k f sought x y limit → mostSlots < y → limit ≡ 0 → Found w k f sought x r
 looking-over {w} {k} {f} {x} {y} {limit} j h e =
     record { is = λ t key r a q. absurd (tall (j .is t key r a q .here) (j .is t key r a q .rep) (j .is t key r a q .high)); nothing = λ d. absurd (omega (arith, h, j .nothing d)) }
   where
@@ -85,7 +86,7 @@ looking-over {w} {k} {f} {x} {y} {limit} j h e =
     tall (leaf a) q n = omega (arith, h, leaf-low q)
     tall (node l s) q n = omega (arith, n, e)
 
-pub looking-ends : {w : Words} {k f x y limit : ℕ} {b : Bool} (sought : ℤ) (d : Bool) → Looking w k f sought x y limit → y ≤ 4096 → b ≡ leZ (cell w f y) sought && leZ sought (cell w f y) → b ≡ d
+pub looking-ends : {w : Words} {k f x y limit : ℕ} {b : Bool} (sought : ℤ) (d : Bool) → Looking w k f sought x y limit → y ≤ mostSlots → b ≡ leZ (cell w f y) sought && leZ sought (cell w f y) → b ≡ d
     → Found w k f sought x (cond d y 0)
 unfolding find
 looking-ends {w} {k} {f} {x} {y} {limit} {b} sought d j h eb e =

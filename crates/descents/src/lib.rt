@@ -25,7 +25,7 @@ pub fn split_in(
     requires { ⌜ c ≡ cap (now part) ⌝ }
     ensures { λ r. ⌜ Halving tree field least x limit (now (part .entry)) (now (part .exit)) (r .front) (r .back) ⌝ }
 {
-    if x <= 4096 {
+    if x <= table::MOST_SLOTS {
         if table::at_least_in(part, c, field, x, least) {
             return Cut { front: x, back: 0 };
         }
@@ -73,7 +73,7 @@ pub fn end_in(part: &[i64], c: u32, tree: u8, side: bool, x: u32) -> u32
 {
     let mut y = x;
     let mut limit: u32 = 24;
-    while y > 4096 {
+    while y > table::MOST_SLOTS {
         if limit == 0 {
             return 0;
         }
@@ -95,7 +95,7 @@ pub fn find(part: &[i64], tree: u8, field: usize, key: i64, x: u32) -> u32
 {
     let mut y = x;
     let mut limit: u32 = 24;
-    while y > 4096 {
+    while y > table::MOST_SLOTS {
         if limit == 0 {
             return 0;
         }

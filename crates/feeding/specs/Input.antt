@@ -10,6 +10,7 @@ use lib.Seq.{take-all, length-take-le}
 use lib.IntN.{ℤ}
 use Rattle.printing.specs.Texts.{newline}
 use Rattle.columns.specs.Commands.{parsed-unique, commandOf, command-parsed, wrong-length}
+use Rattle.table.specs.Fields.{capacityWord}
 use Rattle.table.specs.Words.{word}
 use Rattle.book.specs.Promises.{partOf, capacityAt, OnlyPart}
 use Rattle.keeping.specs.declared.Line.{Line}
@@ -33,14 +34,14 @@ kept-command text = go (decLe (length text) 28)
 pub record CountsFront (bytes : List ℕ) (kept : ℕ) (t t′ : List ℤ) (out out′ : List ℕ) (n : ℕ) : Type 0 where
   pub within : n ≤ length out
   pub outside : OnlyPart (capacityAt t 0) 0 t t′
-  pub same-part : word (partOf t′ 0) 0 ≡ word (partOf t 0) 0
+  pub same-part : word (partOf t′ 0) capacityWord ≡ word (partOf t 0) capacityWord
   pub counts : kept ≤ length bytes → Counts (take kept bytes) t t′ out out′ n
 
 -- the whole line is answered
 pub record CountsKept (line : Line) (t t′ : List ℤ) (out out′ : List ℕ) (n : ℕ) : Type 0 where
   pub within : n ≤ length out
   pub outside : OnlyPart (capacityAt t 0) 0 t t′
-  pub same-part : word (partOf t′ 0) 0 ≡ word (partOf t 0) 0
+  pub same-part : word (partOf t′ 0) capacityWord ≡ word (partOf t 0) capacityWord
   pub counts : (text : List ℕ) → Keeps line text → Counts text t t′ out out′ n
 
 pub front-none : (bytes : List ℕ) (kept : ℕ) (t : List ℤ) (out : List ℕ) → length bytes < kept → CountsFront bytes kept t t out out 0
@@ -63,7 +64,7 @@ counts-kept c =
 pub record Feeds (byte : ℕ) (line line′ : Line) (t t′ : List ℤ) (out out′ : List ℕ) (n : ℕ) : Type 0 where
   pub within : n ≤ length out
   pub outside : OnlyPart (capacityAt t 0) 0 t t′
-  pub same-part : word (partOf t′ 0) 0 ≡ word (partOf t 0) 0
+  pub same-part : word (partOf t′ 0) capacityWord ≡ word (partOf t 0) capacityWord
   pub grows : byte ≢ newline → Pushes line byte line′ × (t′ ≡ t) × (out′ ≡ out) × (n ≡ 0)
   pub ends : byte ≡ newline → Keeps line′ [] × CountsKept line t t′ out out′ n
 
@@ -79,7 +80,7 @@ feeds-line e k c = record { within = c .within; outside = c .outside; same-part 
 pub record Finishes (line : Line) (t t′ : List ℤ) (out out′ : List ℕ) (n : ℕ) : Type 0 where
   pub within : n ≤ length out
   pub outside : OnlyPart (capacityAt t 0) 0 t t′
-  pub same-part : word (partOf t′ 0) 0 ≡ word (partOf t 0) 0
+  pub same-part : word (partOf t′ 0) capacityWord ≡ word (partOf t 0) capacityWord
   pub no-more : Keeps line [] → (t′ ≡ t) × (out′ ≡ out) × (n ≡ 0)
   pub last : (b : ℕ) (text : List ℕ) → Keeps line (b ∷ text) → Counts (b ∷ text) t t′ out out′ n
 

@@ -11,6 +11,7 @@ use Rattle.trees.specs.Tree.{leaves}
 use Rattle.trees.specs.Operations.{Part, partLeaves}
 use Rattle.dynamic.specs.OfferTree.{Held, heldShape}
 use Rattle.dynamic.specs.Valid.{bookLines}
+use Rattle.table.specs.Fields.{numberTree}
 use Rattle.table.specs.Words.{Words, word, wset, wset-same}
 use Rattle.table.specs.Layout.{cap, cell, cset, cset-cap, cset-other, header-outside, header-cap, header-cell}
 use Rattle.table.specs.Items.{Item, In, at}
@@ -47,7 +48,7 @@ of-envelope (of-bridge-v e) = omega arith
 of-envelope (of-inner-rest e) = omega arith
 of-envelope (of-leaf-rest e) = omega arith
 
-number-field : {f : ℕ} → Field 2 f → (12 ≤ f) × (EnvelopeField f → ⊥)
+number-field : {f : ℕ} → Field numberTree f → (12 ≤ f) × (EnvelopeField f → ⊥)
 number-field (a-child false e) = (omega arith, λ p. of-envelope p .no-left e)
 number-field (a-child true e) = (omega arith, λ p. of-envelope p .no-right e)
 number-field (a-height e) = (omega arith, λ p. of-envelope p .no-height e)
@@ -79,7 +80,7 @@ pub agree-cset : (w : Words) (f s : ℕ) (z : ℤ) → Agree (Elsewhere s) w (cs
 agree-cset w f s z = record { room = cset-cap w f s z; cells = λ g t d. cset-other w f s z (λ e. d (e .1)) }
 
 -- nodes of the numbers; fields of envelopes
-pub agree-only : {D : ℕ → ℕ → Type 0} {xs : List Item} {w w′ : Words} → Within w w′ → Only 2 xs w w′ → ((f s : ℕ) → D f s → Field 2 f → ⊥) → Agree D w w′
+pub agree-only : {D : ℕ → ℕ → Type 0} {xs : List Item} {w w′ : Words} → Within w w′ → Only numberTree xs w w′ → ((f s : ℕ) → D f s → Field numberTree f → ⊥) → Agree D w w′
 agree-only g h no-number = record { room = within-cap g; cells = λ f s d. h .cells f s (λ q. no-number f s d (q .0)) }
 
 pub agree-touched : {D : ℕ → ℕ → Type 0} {xs : List Item} {w w′ : Words} → Within w w′ → Touched xs w w′ → ((f s : ℕ) → D f s → EnvelopeField f → ⊥) → Agree D w w′
@@ -101,13 +102,13 @@ OffersHere xs f s = (OfferField f ⊎ EnvelopeField f) × In s xs
 
 -- the offers of these items, and the tree of their numbers
 abbrev pub NumbersHere : List Item → ℕ → ℕ → Type 0
-NumbersHere xs f s = (OfferField f ⊎ Field 2 f) × In s xs
+NumbersHere xs f s = (OfferField f ⊎ Field numberTree f) × In s xs
 
 -- the chain of these free slots
 abbrev pub FreeHere : List ℕ → ℕ → ℕ → Type 0
 FreeHere ss f s = ((f ≡ 0) ⊎ (f ≡ 3)) × List·Memᴰ s ss
 
-pub offers-number : (xs : List Item) (f s : ℕ) → OffersHere xs f s → Field 2 f → ⊥
+pub offers-number : (xs : List Item) (f s : ℕ) → OffersHere xs f s → Field numberTree f → ⊥
 offers-number xs f s (inl h, i) n = omega (arith, number-field n .0)
 offers-number xs f s (inr h, i) n = number-field n .1 h
 
@@ -119,7 +120,7 @@ free-low : (ss : List ℕ) (f s : ℕ) → FreeHere ss f s → f ≤ 3
 free-low ss f s (inl e, i) = omega arith
 free-low ss f s (inr e, i) = omega arith
 
-pub free-number : (ss : List ℕ) (f s : ℕ) → FreeHere ss f s → Field 2 f → ⊥
+pub free-number : (ss : List ℕ) (f s : ℕ) → FreeHere ss f s → Field numberTree f → ⊥
 free-number ss f s h n = omega (arith, free-low ss f s h, number-field n .0)
 
 pub free-envelope : (ss : List ℕ) (f s : ℕ) → FreeHere ss f s → EnvelopeField f → ⊥
@@ -167,7 +168,7 @@ module _ {w w′ : Words} where
       inside : (s : ℕ) → In s (partLeaves p) → In s live
       inside s (at m e) = at (n .numbers .all-live _ m) e
 
-      tied : (p : Part Item) → TiedPart w 2 p → Same (Field 2) (partLeaves p) w w′ → TiedPart w′ 2 p
+      tied : (p : Part Item) → TiedPart w numberTree p → Same (Field numberTree) (partLeaves p) w w′ → TiedPart w′ numberTree p
       tied none t q = tt
       tied (some u) t q = tied-same t q
 

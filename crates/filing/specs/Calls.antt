@@ -10,6 +10,7 @@ use Rattle.offers.specs.Offers.{Offer}
 use Rattle.plain.specs.Book.{State, join, leave, holding}
 use Rattle.dynamic.specs.OfferTree.{Held}
 use Rattle.dynamic.specs.Valid.{bookLines}
+use Rattle.table.specs.Fields.{baseField, envelopeRootWord, firstFreeWord, liveCountWord, mostNodes, nextFreeField, numberField, numbersRootWord, offersRootWord, rateField}
 use Rattle.table.specs.Words.{Words, word, wset, wset-other, upTo}
 use Rattle.table.specs.Layout.{cap, cset, linkAt}
 use Rattle.table.specs.Free.{firstFree, taken, given}
@@ -26,7 +27,7 @@ use Rattle.filing.specs.Posting.{Updated, PostSteps, Postable, posted-pl
 use Rattle.filing.specs.Withdrawing.{WithdrawSteps, LiveAt, withdrawn-plain, withdrawn-count}
 
 -- the root of the numbers is set
-root-room : (w : Words) (z : ℤ) {w′ : Words} → w′ ≡ wset w 4 z → cap w′ ≡ cap w
+root-room : (w : Words) (z : ℤ) {w′ : Words} → w′ ≡ wset w numbersRootWord z → cap w′ ≡ cap w
 root-room w z e = ap cap e ∙ agree-header w 4 z (omega arith) (omega arith) .room
 
 -- ---- post
@@ -34,18 +35,18 @@ root-room w z e = ap cap e ∙ agree-header w 4 z (omega arith) (omega arith) .r
 pub record PostWrites (o : Offer) (w v₁ v₂ v₃ w₁ w₂ w₃ w₄ u₁ u₂ w′ : Words) (s root root′ x e x′ e′ n k st h : ℕ) : Type 0 where
   pub slot : s ≡ firstFree w
   pub take : v₁ ≡ taken w
-  pub put-number : v₂ ≡ cset v₁ 0 s (o .number)
-  pub put-rate : v₃ ≡ cset v₂ 1 s (o .rate)
-  pub put-base : w₁ ≡ cset v₃ 2 s (o .base)
-  pub numbers-root : root ≡ upTo 8192 (word w 4)
+  pub put-number : v₂ ≡ cset v₁ numberField s (o .number)
+  pub put-rate : v₃ ≡ cset v₂ rateField s (o .rate)
+  pub put-base : w₁ ≡ cset v₃ baseField s (o .base)
+  pub numbers-root : root ≡ upTo mostNodes (word w numbersRootWord)
   pub added : Added s root w₁ w₂ root′
-  pub rooted : w₃ ≡ wset w₂ 4 (pos root′)
-  pub offers-root : x ≡ upTo 8192 (word w 1)
-  pub envelope-root : e ≡ upTo 8192 (word w 2)
+  pub rooted : w₃ ≡ wset w₂ numbersRootWord (pos root′)
+  pub offers-root : x ≡ upTo mostNodes (word w offersRootWord)
+  pub envelope-root : e ≡ upTo mostNodes (word w envelopeRootWord)
   pub joined : Joined s x e w₃ w₄ x′ e′ k st h
-  pub set-root : u₁ ≡ wset w₄ 1 (pos x′)
-  pub set-envelope : u₂ ≡ wset u₁ 2 (pos e′)
-  pub set-count : w′ ≡ wset u₂ 3 (pos n)
+  pub set-root : u₁ ≡ wset w₄ offersRootWord (pos x′)
+  pub set-envelope : u₂ ≡ wset u₁ envelopeRootWord (pos e′)
+  pub set-count : w′ ≡ wset u₂ liveCountWord (pos n)
 
 joined-room : {s x e x′ e′ k st h : ℕ} {w w′ : Words} → Joined s x e w w′ x′ e′ k st h → cap w′ ≡ cap w
 joined-room (joins-alone ex ew ex′ ee′ ek est eh) = ap cap ew
@@ -70,7 +71,7 @@ module _ {w v₁ v₂ v₃ w₁ w₂ w₃ w₄ u₁ u₂ w′ : Words} {plain : 
       }
     where
       fills : Filled s o w w₁
-      fills = let f = first-free b (new .room) (p .slot) .1 in filled w s (f .low) (f .high) o (p .take ∙ ap (λ (i : ℕ). wset w 5 (pos (linkAt w 3 i))) (sym (p .slot))) (p .put-number) (p .put-rate) (p .put-base)
+      fills = let f = first-free b (new .room) (p .slot) .1 in filled w s (f .low) (f .high) o (p .take ∙ ap (λ (i : ℕ). wset w firstFreeWord (pos (linkAt w nextFreeField i))) (sym (p .slot))) (p .put-number) (p .put-rate) (p .put-base)
 
   pub post-done : n ≡ suc (length (bookLines held)) → Updated w′ (holding plain (join o (plain .offers))) held k st h
   post-done count = posted-plain o b new post-steps count
@@ -78,15 +79,15 @@ module _ {w v₁ v₂ v₃ w₁ w₂ w₃ w₄ u₁ u₂ w′ : Words} {plain : 
 -- ---- withdraw
 
 pub record WithdrawWrites (number : ℤ) (w w₁ w₂ w₃ u₁ u₂ w₄ w′ : Words) (s root root′ x e x′ e′ n k st h : ℕ) : Type 0 where
-  pub numbers-root : root ≡ upTo 8192 (word w 4)
+  pub numbers-root : root ≡ upTo mostNodes (word w numbersRootWord)
   pub dropped : Dropped number root w w₁ root′
-  pub rooted : w₂ ≡ wset w₁ 4 (pos root′)
-  pub offers-root : x ≡ upTo 8192 (word w 1)
-  pub envelope-root : e ≡ upTo 8192 (word w 2)
+  pub rooted : w₂ ≡ wset w₁ numbersRootWord (pos root′)
+  pub offers-root : x ≡ upTo mostNodes (word w offersRootWord)
+  pub envelope-root : e ≡ upTo mostNodes (word w envelopeRootWord)
   pub removed : RemovedIn s x e w₂ w₃ x′ e′ k st h
-  pub set-root : u₁ ≡ wset w₃ 1 (pos x′)
-  pub set-envelope : u₂ ≡ wset u₁ 2 (pos e′)
-  pub set-count : w₄ ≡ wset u₂ 3 (pos n)
+  pub set-root : u₁ ≡ wset w₃ offersRootWord (pos x′)
+  pub set-envelope : u₂ ≡ wset u₁ envelopeRootWord (pos e′)
+  pub set-count : w₄ ≡ wset u₂ liveCountWord (pos n)
   pub give-back : w′ ≡ given w₄ s
 
 module _ {w w₁ w₂ w₃ u₁ u₂ w₄ w′ : Words} {number : ℤ} {plain : State} {s root root′ x e x′ e′ n k st h : ℕ} {held : Option (Held Item)} (a : Item) (b : Book w plain held) (live : LiveAt number s (bookLines held) a) (p : WithdrawWrites number w w₁ w₂ w₃ u₁ u₂ w₄ w′ s root root′ x e x′ e′ n k st h) where
@@ -123,9 +124,9 @@ module _ {w w₁ w₂ w₃ u₁ u₂ w₄ w′ : Words} {number : ℤ} {plain : 
 -- ---- the header on the way
 
 -- after a slot was filled and its number added
-pub post-header : {s : ℕ} {o : Offer} {w w₁ w₂ w₃ : Words} (z : ℤ) → Filled s o w w₁ → Within w₁ w₂ → w₃ ≡ wset w₂ 4 z → (i : ℕ) → i < 64 → i ≢ 4 → i ≢ 5 → word w₃ i ≡ word w i
+pub post-header : {s : ℕ} {o : Offer} {w w₁ w₂ w₃ : Words} (z : ℤ) → Filled s o w w₁ → Within w₁ w₂ → w₃ ≡ wset w₂ numbersRootWord z → (i : ℕ) → i < 64 → i ≢ 4 → i ≢ 5 → word w₃ i ≡ word w i
 post-header {w₂} z f g e i h d d′ = ap (λ (v : Words). word v i) e ∙ wset-other w₂ 4 i z d ∙ header-kept g i h ∙ f .header i h d′
 
 -- after a number was dropped and its item removed
-pub withdraw-header : {w w₁ w₂ w₃ : Words} (z : ℤ) → Within w w₁ → w₂ ≡ wset w₁ 4 z → Within w₂ w₃ → (i : ℕ) → i < 64 → i ≢ 4 → word w₃ i ≡ word w i
+pub withdraw-header : {w w₁ w₂ w₃ : Words} (z : ℤ) → Within w w₁ → w₂ ≡ wset w₁ numbersRootWord z → Within w₂ w₃ → (i : ℕ) → i < 64 → i ≢ 4 → word w₃ i ≡ word w i
 withdraw-header {w₁} z f e g i h d = header-kept g i h ∙ ap (λ (v : Words). word v i) e ∙ wset-other w₁ 4 i z d ∙ header-kept f i h

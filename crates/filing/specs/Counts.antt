@@ -12,6 +12,7 @@ use Rattle.trees.specs.Height.{height-full}
 use Rattle.dynamic.specs.OfferTree.{Held, Pair}
 use Rattle.dynamic.specs.Valid.{bookLines}
 use Rattle.dynamic.specs.Work.{Work, Searched, stepsOf, heightsOf}
+use Rattle.table.specs.Fields.{mostSlots}
 use Rattle.table.specs.Items.{Item}
 use Rattle.pieces.specs.Pieces.{items}
 use Rattle.update.specs.Steps.{Counted}
@@ -25,7 +26,7 @@ record Low (p : Pair Item) : Type 0 where
   front : height (p .front) ≤ 24
   back : height (p .back) ≤ 24
 
-searched-low : {live : List Item} {p : Pair Item} → length live ≤ 4096 → Searched items live p → Low p
+searched-low : {live : List Item} {p : Pair Item} → length live ≤ mostSlots → Searched items live p → Low p
 searched-low h s =
     let sets = sub-length (s .sets) in
     let both = length-append (s .left-set) (s .right-set) in
@@ -40,7 +41,7 @@ heights-few (p ∷ ps) h =
     let l = h p (List·Memᴰ·head refl) in
     omega (arith, l .front, l .back, heights-few ps (λ q m. h q (List·Memᴰ·tail m)))
 
-module _ {before after : Option (Held Item)} {log : List (Pair Item)} (few : length (bookLines before) ≤ 4096) (few′ : length (bookLines after) ≤ 4096) (work : Work items before after log) where
+module _ {before after : Option (Held Item)} {log : List (Pair Item)} (few : length (bookLines before) ≤ mostSlots) (few′ : length (bookLines after) ≤ mostSlots) (work : Work items before after log) where
   pub searches-most : length log ≤ 100
   searches-most = omega (arith, work .few-searches, B-full {n = max (length (bookLines before)) (length (bookLines after))} (omega arith))
 

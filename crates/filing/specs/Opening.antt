@@ -12,6 +12,7 @@ use lib.IntN.{ℤ, pos}
 use borrow.Author.Tests.{le-leb}
 use Rattle.lists.specs.Members.{pairs-cons}
 use Rattle.plain.specs.Book.{opened}
+use Rattle.table.specs.Fields.{capacityWord, envelopeRootWord, firstFreeWord, liveCountWord, mostSlots, nextFreeField, numberField, numbersRootWord, offersRootWord}
 use Rattle.table.specs.Words.{Words, word, wset, wset-length, wset-same, wset-other, upTo, upTo-in}
 use Rattle.table.specs.Layout.{cap, fitting, cell, cset, Valid, cset-same, cset-other}
 use Rattle.table.specs.Rep.{Within, within-cap, within-refl, within-trans, within-cset}
@@ -22,14 +23,14 @@ use Rattle.filing.specs.Agree.{header-kept}
 
 pub record Begun (c : ℕ) (w : Words) : Type 0 where
   pub low : 1 ≤ c
-  pub high : c ≤ 4096
+  pub high : c ≤ mostSlots
   pub room : 64 * (c + 1) ≤ length w
-  pub first : word w 0 ≡ pos c
-  pub offers-root : word w 1 ≡ pos 0
-  pub envelope-root : word w 2 ≡ pos 0
-  pub live-count : word w 3 ≡ pos 0
-  pub numbers-root : word w 4 ≡ pos 0
-  pub first-free : word w 5 ≡ pos 1
+  pub first : word w capacityWord ≡ pos c
+  pub offers-root : word w offersRootWord ≡ pos 0
+  pub envelope-root : word w envelopeRootWord ≡ pos 0
+  pub live-count : word w liveCountWord ≡ pos 0
+  pub numbers-root : word w numbersRootWord ≡ pos 0
+  pub first-free : word w firstFreeWord ≡ pos 1
 
 -- one word written
 record Written (i : ℕ) (z : ℤ) (w w′ : Words) : Type 0 where
@@ -46,8 +47,8 @@ written w i z e =
     }
 
 pub begun :
-    (w : Words) {w₀ w₁ w₂ w₃ w₄ w₅ : Words} {c : ℕ} → 1 ≤ c → c ≤ 4096 → 64 * (c + 1) ≤ length w →
-    w₀ ≡ wset w 0 (pos c) → w₁ ≡ wset w₀ 1 (pos 0) → w₂ ≡ wset w₁ 2 (pos 0) → w₃ ≡ wset w₂ 3 (pos 0) → w₄ ≡ wset w₃ 4 (pos 0) → w₅ ≡ wset w₄ 5 (pos 1) →
+    (w : Words) {w₀ w₁ w₂ w₃ w₄ w₅ : Words} {c : ℕ} → 1 ≤ c → c ≤ mostSlots → 64 * (c + 1) ≤ length w →
+    w₀ ≡ wset w capacityWord (pos c) → w₁ ≡ wset w₀ offersRootWord (pos 0) → w₂ ≡ wset w₁ envelopeRootWord (pos 0) → w₃ ≡ wset w₂ liveCountWord (pos 0) → w₄ ≡ wset w₃ numbersRootWord (pos 0) → w₅ ≡ wset w₄ firstFreeWord (pos 1) →
     Begun c w₅
 begun w {w₀} {w₁} {w₂} {w₃} {w₄} {w₅} {c} low high room e₀ e₁ e₂ e₃ e₄ e₅ =
     let s₀ = written w 0 (pos c) e₀ in
@@ -70,30 +71,30 @@ begun w {w₀} {w₁} {w₂} {w₃} {w₄} {w₅} {c} low high room e₀ e₁ e�
 
 pub begun-cap : {c : ℕ} {w : Words} → Begun c w → cap w ≡ c
 unfolding cap
-begun-cap {c} {w} b = ap (fitting (length w)) (ap (upTo 4096) (b .first) ∙ upTo-in 4096 c (b .high)) ∙ rw (le-leb (64 * (c + 1)) (length w) (b .room))
+begun-cap {c} {w} b = ap (fitting (length w)) (ap (upTo mostSlots) (b .first) ∙ upTo-in mostSlots c (b .high)) ∙ rw (le-leb (64 * (c + 1)) (length w) (b .room))
 
 -- ---- the slots, one after another
 
 -- slots 1 to n are free, each followed by the next, and the last of all by none
 pub record Laid (c n : ℕ) (w w′ : Words) : Type 0 where
   pub within : Within w w′
-  pub number : (s : ℕ) → 1 ≤ s → s ≤ n → cell w′ 0 s ≡ pos 0
-  pub next : (s : ℕ) → 1 ≤ s → s ≤ n → s < c → cell w′ 3 s ≡ pos (suc s)
-  pub end : (s : ℕ) → 1 ≤ s → s ≤ n → s ≡ c → cell w′ 3 s ≡ pos 0
+  pub number : (s : ℕ) → 1 ≤ s → s ≤ n → cell w′ numberField s ≡ pos 0
+  pub next : (s : ℕ) → 1 ≤ s → s ≤ n → s < c → cell w′ nextFreeField s ≡ pos (suc s)
+  pub end : (s : ℕ) → 1 ≤ s → s ≤ n → s ≡ c → cell w′ nextFreeField s ≡ pos 0
 
 pub laid-none : (c : ℕ) (w : Words) → Laid c 0 w w
 laid-none c w = record { within = within-refl w; number = λ s l h. absurd (omega arith); next = λ s l h k. absurd (omega arith); end = λ s l h k. absurd (omega arith) }
 
 pub laid-more :
     {c n m : ℕ} {w w₀ w₁ w₂ : Words} → cap w ≡ c → Laid c n w w₀ → n < c →
-    w₁ ≡ cset w₀ 0 (suc n) (pos 0) → w₂ ≡ cset w₁ 3 (suc n) (pos m) → (suc n < c → m ≡ suc (suc n)) → (suc n ≡ c → m ≡ 0) →
+    w₁ ≡ cset w₀ numberField (suc n) (pos 0) → w₂ ≡ cset w₁ nextFreeField (suc n) (pos m) → (suc n < c → m ≡ suc (suc n)) → (suc n ≡ c → m ≡ 0) →
     Laid c (suc n) w w₂
 laid-more {c} {n} {m} {w} {w₀} {w₁} {w₂} fits l h e₁ e₂ inner last =
     record {
       within = within-trans (l .within) (within-trans to₁ to₂);
-      number = λ s low high. by s (decLe s n) (λ k. old 0 s k ∙ l .number s low k) (λ d. ap (cell w₂ 0) d ∙ new₀) high;
-      next = λ s low high k. by s (decLe s n) (λ q. old 3 s q ∙ l .next s low q k) (λ d. ap (cell w₂ 3) d ∙ new₃ ∙ ap pos (inner (omega arith) ∙ ap suc (sym d))) high;
-      end = λ s low high k. by s (decLe s n) (λ q. absurd (omega arith)) (λ d. ap (cell w₂ 3) d ∙ new₃ ∙ ap pos (last (sym d ∙ k))) high;
+      number = λ s low high. by s (decLe s n) (λ k. old 0 s k ∙ l .number s low k) (λ d. ap (cell w₂ numberField) d ∙ new₀) high;
+      next = λ s low high k. by s (decLe s n) (λ q. old 3 s q ∙ l .next s low q k) (λ d. ap (cell w₂ nextFreeField) d ∙ new₃ ∙ ap pos (inner (omega arith) ∙ ap suc (sym d))) high;
+      end = λ s low high k. by s (decLe s n) (λ q. absurd (omega arith)) (λ d. ap (cell w₂ nextFreeField) d ∙ new₃ ∙ ap pos (last (sym d ∙ k))) high;
     }
   where
     by : {X : Type 0} (s : ℕ) → Dec (s ≤ n) → (s ≤ n → X) → (s ≡ suc n → X) → s ≤ suc n → X
@@ -114,13 +115,13 @@ laid-more {c} {n} {m} {w} {w₀} {w₁} {w₂} fits l h e₁ e₂ inner last =
         ap (λ (v : Words). cell v f s) e₂ ∙ cset-other w₁ 3 (suc n) (pos m) (λ q. omega (arith, q .1))
         ∙ ap (λ (v : Words). cell v f s) e₁ ∙ cset-other w₀ 0 (suc n) (pos 0) (λ q. omega (arith, q .1))
 
-    new₀ : cell w₂ 0 (suc n) ≡ pos 0
+    new₀ : cell w₂ numberField (suc n) ≡ pos 0
     new₀ =
-        ap (λ (v : Words). cell v 0 (suc n)) e₂ ∙ cset-other w₁ 3 (suc n) (pos m) (λ q. omega (arith, q .0))
-        ∙ ap (λ (v : Words). cell v 0 (suc n)) e₁ ∙ cset-same (pos 0) (here w₀ 0 (omega arith) (within-cap (l .within)))
+        ap (λ (v : Words). cell v numberField (suc n)) e₂ ∙ cset-other w₁ 3 (suc n) (pos m) (λ q. omega (arith, q .0))
+        ∙ ap (λ (v : Words). cell v numberField (suc n)) e₁ ∙ cset-same (pos 0) (here w₀ 0 (omega arith) (within-cap (l .within)))
 
-    new₃ : cell w₂ 3 (suc n) ≡ pos m
-    new₃ = ap (λ (v : Words). cell v 3 (suc n)) e₂ ∙ cset-same (pos m) (here w₁ 3 (omega arith) (within-cap to₁ ∙ within-cap (l .within)))
+    new₃ : cell w₂ nextFreeField (suc n) ≡ pos m
+    new₃ = ap (λ (v : Words). cell v nextFreeField (suc n)) e₂ ∙ cset-same (pos m) (here w₁ 3 (omega arith) (within-cap to₁ ∙ within-cap (l .within)))
 
 -- ---- the chain of all slots
 

@@ -13,6 +13,7 @@ use Rattle.plain.specs.Rules.{FirstOf}
 use Rattle.plain.specs.Sound.{Clear}
 use Rattle.dynamic.specs.OfferTree.{Held}
 use Rattle.dynamic.specs.Valid.{bookLines}
+use Rattle.table.specs.Fields.{baseField, envelopeRootWord, liveCountWord, mostNodes, nextFreeField, numberField, numbersRootWord, offerTree, offersRootWord, rateField}
 use Rattle.table.specs.Words.{Words, word, wset, wset-length, wset-other, upTo, upTo-most}
 use Rattle.table.specs.Layout.{cap, cset, cset-length, cset-cap, cset-rest, header-cap, beyond-outside}
 use Rattle.table.specs.Free.{firstFree, taken, given}
@@ -67,34 +68,34 @@ kept-joined (joins-among nz i) = kept-within (i .within)
 
 -- an offer's three fields in a slot that was taken
 abbrev pub filling : ℤ → ℤ → ℤ → ℕ → Words → Words
-filling n r z s w = cset (cset (cset (taken w) 0 s n) 1 s r) 2 s z
+filling n r z s w = cset (cset (cset (taken w) numberField s n) rateField s r) baseField s z
 
 kept-filling : (n r z : ℤ) (s : ℕ) (w : Words) → Kept w (filling n r z s w)
 kept-filling n r z s w =
-    then (then (then (kept-header w 5 _ (omega arith) (omega arith)) (kept-cell (taken w) 0 s n)) (kept-cell (cset (taken w) 0 s n) 1 s r)) (kept-cell (cset (cset (taken w) 0 s n) 1 s r) 2 s z)
+    then (then (then (kept-header w 5 _ (omega arith) (omega arith)) (kept-cell (taken w) 0 s n)) (kept-cell (cset (taken w) numberField s n) 1 s r)) (kept-cell (cset (cset (taken w) numberField s n) rateField s r) 2 s z)
 
 -- the roots and the live count
 abbrev pub rooting : ℕ → ℕ → ℕ → Words → Words
-rooting x e n w = wset (wset (wset w 1 (pos x)) 2 (pos e)) 3 (pos n)
+rooting x e n w = wset (wset (wset w offersRootWord (pos x)) envelopeRootWord (pos e)) liveCountWord (pos n)
 
 kept-rooting : (x e n : ℕ) (w : Words) → Kept w (rooting x e n w)
 kept-rooting x e n w =
-    then (then (kept-header w 1 (pos x) (omega arith) (omega arith)) (kept-header (wset w 1 (pos x)) 2 (pos e) (omega arith) (omega arith))) (kept-header (wset (wset w 1 (pos x)) 2 (pos e)) 3 (pos n) (omega arith) (omega arith))
+    then (then (kept-header w 1 (pos x) (omega arith) (omega arith)) (kept-header (wset w offersRootWord (pos x)) 2 (pos e) (omega arith) (omega arith))) (kept-header (wset (wset w offersRootWord (pos x)) envelopeRootWord (pos e)) 3 (pos n) (omega arith) (omega arith))
 
 kept-given : (w : Words) (s : ℕ) → Kept w (given w s)
 kept-given w s =
-    then (then (kept-cell w 0 s (pos 0)) (kept-cell (cset w 0 s (pos 0)) 3 s (pos (firstFree w)))) (kept-header (cset (cset w 0 s (pos 0)) 3 s (pos (firstFree w))) 5 (pos s) (omega arith) (omega arith))
+    then (then (kept-cell w 0 s (pos 0)) (kept-cell (cset w numberField s (pos 0)) 3 s (pos (firstFree w)))) (kept-header (cset (cset w numberField s (pos 0)) nextFreeField s (pos (firstFree w))) 5 (pos s) (omega arith) (omega arith))
 
-pub filled-in : (n r z : ℤ) (w : Words) (s : ℕ) {w₁ w₂ w₃ w₄ : Words} → w₁ ≡ taken w → w₂ ≡ cset w₁ 0 s n → w₃ ≡ cset w₂ 1 s r → w₄ ≡ cset w₃ 2 s z → w₄ ≡ filling n r z s w
-filled-in n r z w s e₁ e₂ e₃ e₄ = e₄ ∙ ap (λ (v : Words). cset v 2 s z) (e₃ ∙ ap (λ (v : Words). cset v 1 s r) (e₂ ∙ ap (λ (v : Words). cset v 0 s n) e₁))
+pub filled-in : (n r z : ℤ) (w : Words) (s : ℕ) {w₁ w₂ w₃ w₄ : Words} → w₁ ≡ taken w → w₂ ≡ cset w₁ numberField s n → w₃ ≡ cset w₂ rateField s r → w₄ ≡ cset w₃ baseField s z → w₄ ≡ filling n r z s w
+filled-in n r z w s e₁ e₂ e₃ e₄ = e₄ ∙ ap (λ (v : Words). cset v baseField s z) (e₃ ∙ ap (λ (v : Words). cset v rateField s r) (e₂ ∙ ap (λ (v : Words). cset v numberField s n) e₁))
 
-pub rooted-in : (w : Words) (x e n : ℕ) {w₁ w₂ w₃ : Words} → w₁ ≡ wset w 1 (pos x) → w₂ ≡ wset w₁ 2 (pos e) → w₃ ≡ wset w₂ 3 (pos n) → w₃ ≡ rooting x e n w
-rooted-in w x e n e₁ e₂ e₃ = e₃ ∙ ap (λ (v : Words). wset v 3 (pos n)) (e₂ ∙ ap (λ (v : Words). wset v 2 (pos e)) e₁)
+pub rooted-in : (w : Words) (x e n : ℕ) {w₁ w₂ w₃ : Words} → w₁ ≡ wset w offersRootWord (pos x) → w₂ ≡ wset w₁ envelopeRootWord (pos e) → w₃ ≡ wset w₂ liveCountWord (pos n) → w₃ ≡ rooting x e n w
+rooted-in w x e n e₁ e₂ e₃ = e₃ ∙ ap (λ (v : Words). wset v liveCountWord (pos n)) (e₂ ∙ ap (λ (v : Words). wset v envelopeRootWord (pos e)) e₁)
 
-pub read-most : (z : ℤ) {n : ℕ} → n ≡ upTo 8192 z → n ≤ 8192
-read-most z e = omega (arith, e, upTo-most 8192 z)
+pub read-most : (z : ℤ) {n : ℕ} → n ≡ upTo mostNodes z → n ≤ mostNodes
+read-most z e = omega (arith, e, upTo-most mostNodes z)
 
-pub found-at : {n : ℤ} {w : Words} {root s : ℕ} → root ≡ upTo 8192 (word w 4) → FoundNumber n root w s → FoundNumber n (upTo 8192 (word w 4)) w s
+pub found-at : {n : ℤ} {w : Words} {root s : ℕ} → root ≡ upTo mostNodes (word w numbersRootWord) → FoundNumber n root w s → FoundNumber n (upTo mostNodes (word w numbersRootWord)) w s
 found-at {n} {w} {s} e f = subst (λ (i : ℕ). FoundNumber n i w s) e f
 
 -- ---- post
@@ -104,7 +105,7 @@ pub record PostCause (n r : ℤ) (w : Words) (m : ℕ) : Type 0 where
   pub declines : (z : ℤ) (plain : State) (held : Option (Held Item)) → Book w plain held → Clear (rangeTrials (post n r z)) → 0 < m → step plain (post n r z) ≡ refusing plain m
   pub clears : (z : ℤ) (plain : State) (held : Option (Held Item)) → Book w plain held → Clear (rangeTrials (post n r z)) → m ≤ 0 → Clear (trials plain (post n r z)) × Postable (record { number = n; rate = r; base = z }) (plain .capacity) (bookLines held)
 
-module _ (n r : ℤ) (w : Words) {root s : ℕ} (er : root ≡ upTo 8192 (word w 4)) (f : FoundNumber n root w s) where
+module _ (n r : ℤ) (w : Words) {root s : ℕ} (er : root ≡ upTo mostNodes (word w numbersRootWord)) (f : FoundNumber n root w s) where
   pub cause-number : 0 < s → PostCause n r w 5
   cause-number h =
       record {
@@ -112,7 +113,7 @@ module _ (n r : ℤ) (w : Words) {root s : ℕ} (er : root ≡ upTo 8192 (word w
         clears = λ z plain held b g q. absurd (omega (arith, q));
       }
 
-  module _ {x u : ℕ} (low : s ≤ 0) (ex : x ≡ upTo 8192 (word w 1)) (d : Found w 1 1 r x u) where
+  module _ {x u : ℕ} (low : s ≤ 0) (ex : x ≡ upTo mostNodes (word w offersRootWord)) (d : Found w offerTree rateField r x u) where
     pub cause-rate : 0 < u → PostCause n r w 6
     cause-rate h =
         record {
@@ -120,7 +121,7 @@ module _ (n r : ℤ) (w : Words) {root s : ℕ} (er : root ≡ upTo 8192 (word w
           clears = λ z plain held b g q. absurd (omega (arith, q));
         }
 
-    module _ {i m : ℕ} (least : u ≤ 0) (ei : i ≡ upTo 8192 (word w 3)) (em : m ≡ cap w) where
+    module _ {i m : ℕ} (least : u ≤ 0) (ei : i ≡ upTo mostNodes (word w liveCountWord)) (em : m ≡ cap w) where
       pub cause-full : m ≤ i → PostCause n r w 7
       cause-full h =
           record {
@@ -148,8 +149,8 @@ pub record PostDone (n r z : ℤ) (w w′ : Words) (m k st h : ℕ) : Type 0 whe
 
 pub posted-part :
     (n r z : ℤ) {w w₁ w₂ w₃ w₄ w′ : Words} {s root root′ x e x′ e′ i m k st h : ℕ} →
-    root ≡ upTo 8192 (word w 4) → x ≡ upTo 8192 (word w 1) → e ≡ upTo 8192 (word w 2) → i ≡ upTo 8192 (word w 3) →
-    s ≡ firstFree w → w₁ ≡ filling n r z s w → Added s root w₁ w₂ root′ → w₃ ≡ wset w₂ 4 (pos root′) → Joined s x e w₃ w₄ x′ e′ k st h →
+    root ≡ upTo mostNodes (word w numbersRootWord) → x ≡ upTo mostNodes (word w offersRootWord) → e ≡ upTo mostNodes (word w envelopeRootWord) → i ≡ upTo mostNodes (word w liveCountWord) →
+    s ≡ firstFree w → w₁ ≡ filling n r z s w → Added s root w₁ w₂ root′ → w₃ ≡ wset w₂ numbersRootWord (pos root′) → Joined s x e w₃ w₄ x′ e′ k st h →
     m ≡ suc i → w′ ≡ rooting x′ e′ m w₄ →
     PostDone n r z w w′ m k st h
 posted-part n r z {w} {w₁} {w₂} {w₃} {w₄} {w′} {s} {root} {root′} {x} {e} {x′} {e′} {i} {m} er ex ee ei es e₁ added e₃ joined em e′′ =
@@ -169,7 +170,7 @@ posted-part n r z {w} {w₁} {w₂} {w₃} {w₄} {w′} {s} {root} {root′} {x
 pub record WithdrawDone (n : ℤ) (s : ℕ) (w w′ : Words) (m k st h : ℕ) : Type 0 where
   pub kept : Kept w w′
   pub done :
-      (plain : State) (held : Option (Held Item)) → Book w plain held → FoundNumber n (upTo 8192 (word w 4)) w s → 1 ≤ s →
+      (plain : State) (held : Option (Held Item)) → Book w plain held → FoundNumber n (upTo mostNodes (word w numbersRootWord)) w s → 1 ≤ s →
       Updated w′ (holding plain (leave n (plain .offers))) held k st h × (m ≡ length (leave n (plain .offers)))
 
 some-live : (live : List Item) {a : Item} → List·Memᴰ a live → 1 ≤ length live
@@ -178,8 +179,8 @@ some-live (x ∷ xs) m = omega arith
 
 pub withdrawn-part :
     (n : ℤ) {w w₁ w₂ w₃ w₄ w′ : Words} {s root root′ x e x′ e′ i m k st h : ℕ} →
-    root ≡ upTo 8192 (word w 4) → x ≡ upTo 8192 (word w 1) → e ≡ upTo 8192 (word w 2) → i ≡ upTo 8192 (word w 3) →
-    Dropped n root w w₁ root′ → w₂ ≡ wset w₁ 4 (pos root′) → RemovedIn s x e w₂ w₃ x′ e′ k st h →
+    root ≡ upTo mostNodes (word w numbersRootWord) → x ≡ upTo mostNodes (word w offersRootWord) → e ≡ upTo mostNodes (word w envelopeRootWord) → i ≡ upTo mostNodes (word w liveCountWord) →
+    Dropped n root w w₁ root′ → w₂ ≡ wset w₁ numbersRootWord (pos root′) → RemovedIn s x e w₂ w₃ x′ e′ k st h →
     m ≡ i - 1 → w₄ ≡ rooting x′ e′ m w₃ → w′ ≡ given w₄ s →
     WithdrawDone n s w w′ m k st h
 withdrawn-part n {w} {w₁} {w₂} {w₃} {w₄} {w′} {s} {root} {root′} {x} {e} {x′} {e′} {i} {m} {k} {st} {h} er ex ee ei dropped e₂ removed em e₄ e′′ =
@@ -188,9 +189,9 @@ withdrawn-part n {w} {w₁} {w₂} {w₃} {w₄} {w′} {s} {root} {root′} {x}
       done = finish;
     }
   where
-    finish : (plain : State) (held : Option (Held Item)) → Book w plain held → FoundNumber n (upTo 8192 (word w 4)) w s → 1 ≤ s → Updated w′ (holding plain (leave n (plain .offers))) held k st h × (m ≡ length (leave n (plain .offers)))
+    finish : (plain : State) (held : Option (Held Item)) → Book w plain held → FoundNumber n (upTo mostNodes (word w numbersRootWord)) w s → 1 ≤ s → Updated w′ (holding plain (leave n (plain .offers))) held k st h × (m ≡ length (leave n (plain .offers)))
     finish plain held b f low =
         let (a, live) = live-at (number-sought b f refl) (λ q. omega (arith, q, low)) in
-        let writes : WithdrawWrites n w w₁ w₂ w₃ (wset w₃ 1 (pos x′)) (wset (wset w₃ 1 (pos x′)) 2 (pos e′)) w₄ w′ s root root′ x e x′ e′ m k st h = record { numbers-root = er; dropped = dropped; rooted = e₂; offers-root = ex; envelope-root = ee; removed = removed; set-root = refl; set-envelope = refl; set-count = e₄; give-back = e′′ } in
+        let writes : WithdrawWrites n w w₁ w₂ w₃ (wset w₃ offersRootWord (pos x′)) (wset (wset w₃ offersRootWord (pos x′)) envelopeRootWord (pos e′)) w₄ w′ s root root′ x e x′ e′ m k st h = record { numbers-root = er; dropped = dropped; rooted = e₂; offers-root = ex; envelope-root = ee; removed = removed; set-root = refl; set-envelope = refl; set-count = e₄; give-back = e′′ } in
         let count : suc m ≡ length (bookLines held) = omega (arith, em, ei, count-read b, some-live (bookLines held) (live .member)) in
         (withdraw-done a b live writes count, withdraw-count a b live writes count)

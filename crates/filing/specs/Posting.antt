@@ -20,6 +20,7 @@ use Rattle.dynamic.specs.Valid.{bookLines, placed}
 use Rattle.dynamic.specs.Placed.{New, placed-mem}
 use Rattle.dynamic.specs.Updated.{posted-lines, posted-work}
 use Rattle.dynamic.specs.Work.{Work}
+use Rattle.table.specs.Fields.{envelopeRootWord, firstFreeWord, mostNodes, numberTree, numbersRootWord, offersRootWord}
 use Rattle.table.specs.Words.{Words, word, wset, wset-other, upTo}
 use Rattle.table.specs.Layout.{cap}
 use Rattle.table.specs.Items.{Item, In, at, Slots}
@@ -48,13 +49,13 @@ pub record Updated (w′ : Words) (plain : State) (held : Option (Held Item)) (k
 
 -- The steps of a post: a slot filled, its number added, the item joined, the roots and the count set.
 pub record PostSteps (o : Offer) (w w₁ w₂ w₃ w₄ w′ : Words) (s root root′ x e x′ e′ n k st h : ℕ) : Type 0 where
-  pub slot : s ≡ upTo 8192 (word w 5)
+  pub slot : s ≡ upTo mostNodes (word w firstFreeWord)
   pub filled : Filled s o w w₁
-  pub numbers-root : root ≡ upTo 8192 (word w 4)
+  pub numbers-root : root ≡ upTo mostNodes (word w numbersRootWord)
   pub added : Added s root w₁ w₂ root′
-  pub rooted : w₃ ≡ wset w₂ 4 (pos root′)
-  pub offers-root : x ≡ upTo 8192 (word w 1)
-  pub envelope-root : e ≡ upTo 8192 (word w 2)
+  pub rooted : w₃ ≡ wset w₂ numbersRootWord (pos root′)
+  pub offers-root : x ≡ upTo mostNodes (word w offersRootWord)
+  pub envelope-root : e ≡ upTo mostNodes (word w envelopeRootWord)
   pub joined : Joined s x e w₃ w₄ x′ e′ k st h
   pub headed : Headed x′ e′ n w₄ w′
 
@@ -120,7 +121,7 @@ module _ {w w₁ w₂ w₃ w₄ w′ : Words} {plain : State} {s root root′ x 
   added₂ : (q : Part Item) × NumbersAt w₂ root′ (itemAt s o ∷ bookLines held) q
   added₂ = steps .added .made (itemAt s o) (bookLines held) (b .numbers .numbers) numbers₁ refl slots₁ holds₁ (new .number-new)
 
-  only₂ : Only 2 (itemAt s o ∷ bookLines held) w₁ w₂
+  only₂ : Only numberTree (itemAt s o ∷ bookLines held) w₁ w₂
   only₂ = steps .added .only (itemAt s o) (bookLines held) (b .numbers .numbers) numbers₁ refl slots₁ holds₁ (new .number-new)
 
   numbers′ : Part Item
@@ -188,19 +189,19 @@ module _ {w w₁ w₂ w₃ w₄ w′ : Words} {plain : State} {s root root′ x 
       (agree-trans (agree-less (λ f t d. tt) rooted₃)
       (agree-trans (agree-touched (joined₄ .within) (joined₄ .touched) (free-envelope others)) (agree-less (λ f t d. tt) (steps .headed .agree)))))
 
-  numbers-root′ : word w′ 4 ≡ pos (partRef numbers′)
+  numbers-root′ : word w′ numbersRootWord ≡ pos (partRef numbers′)
   numbers-root′ =
       steps .headed .header 4 (omega arith) (omega arith)
       ∙ header-kept (joined₄ .within) 4 (omega arith)
-      ∙ ap (λ (v : Words). word v 4) (steps .rooted)
+      ∙ ap (λ (v : Words). word v numbersRootWord) (steps .rooted)
       ∙ header-set w₂ 4 (pos root′) (omega (arith, free .low, slots₁ .high (List·Memᴰ·head refl), within-cap (steps .added .within))) (omega arith)
       ∙ ap pos (numbers-at′ .root-is)
 
-  first-free′ : word w′ 5 ≡ pos (head0 others)
+  first-free′ : word w′ firstFreeWord ≡ pos (head0 others)
   first-free′ =
       steps .headed .header 5 (omega arith) (omega arith)
       ∙ header-kept (joined₄ .within) 5 (omega arith)
-      ∙ ap (λ (v : Words). word v 5) (steps .rooted)
+      ∙ ap (λ (v : Words). word v firstFreeWord) (steps .rooted)
       ∙ wset-other w₂ 4 5 (pos root′) (omega arith)
       ∙ header-kept (steps .added .within) 5 (omega arith)
       ∙ steps .filled .first

@@ -7,6 +7,7 @@ use native.Mathlib.Omega.{arith}
 use lib.ListN.{length}
 use lib.IntN.{ℤ, pos}
 use Rattle.plain.specs.Book.{opened, partLength}
+use Rattle.table.specs.Fields.{capacityWord, envelopeRootWord, firstFreeWord, liveCountWord, mostSlots, nextFreeField, numberField, numbersRootWord, offersRootWord}
 use Rattle.table.specs.Words.{Words, word, wset, wset-length, wset-other}
 use Rattle.table.specs.Layout.{cap, cset, beyond-outside}
 use Rattle.form.specs.Form.{Book}
@@ -23,14 +24,14 @@ pub record Beyond (c : ℕ) (w w′ : Words) : Type 0 where
 pub record Heading (c : ℕ) (w w′ : Words) : Type 0 where
   pub long : length w′ ≡ length w
   pub rest : (i : ℕ) → 6 ≤ i → word w′ i ≡ word w i
-  pub begins : 1 ≤ c → c ≤ 4096 → 64 * (c + 1) ≤ length w → Begun c w′
+  pub begins : 1 ≤ c → c ≤ mostSlots → 64 * (c + 1) ≤ length w → Begun c w′
 
 after : (w w′ : Words) (i : ℕ) (z : ℤ) → w′ ≡ wset w i z → (j : ℕ) → j ≢ i → word w′ j ≡ word w j
 after w w′ i z e j h = ap (λ (v : Words). word v j) e ∙ wset-other w i j z h
 
 pub heading :
     (w w₀ w₁ w₂ w₃ w₄ w₅ : Words) (c : ℕ) →
-    w₀ ≡ wset w 0 (pos c) → w₁ ≡ wset w₀ 1 (pos 0) → w₂ ≡ wset w₁ 2 (pos 0) → w₃ ≡ wset w₂ 3 (pos 0) → w₄ ≡ wset w₃ 4 (pos 0) → w₅ ≡ wset w₄ 5 (pos 1) →
+    w₀ ≡ wset w capacityWord (pos c) → w₁ ≡ wset w₀ offersRootWord (pos 0) → w₂ ≡ wset w₁ envelopeRootWord (pos 0) → w₃ ≡ wset w₂ liveCountWord (pos 0) → w₄ ≡ wset w₃ numbersRootWord (pos 0) → w₅ ≡ wset w₄ firstFreeWord (pos 1) →
     Heading c w w₅
 heading w w₀ w₁ w₂ w₃ w₄ w₅ c e₀ e₁ e₂ e₃ e₄ e₅ =
     record {
@@ -51,19 +52,19 @@ pub record Lays (c : ℕ) (w w′ : Words) : Type 0 where
   pub long : length w′ ≡ length w
   pub lays : cap w ≡ c → Laid c c w w′
 
-pub laying-more : {c n s next : ℕ} {w w₀ w₁ w₂ : Words} → Laying c n w w₀ → s ≡ suc n → s < c → next ≡ suc s → length w₁ ≡ length w₀ → length w₂ ≡ length w₁ → w₁ ≡ cset w₀ 0 s (pos 0) → w₂ ≡ cset w₁ 3 s (pos next) → Laying c s w w₂
+pub laying-more : {c n s next : ℕ} {w w₀ w₁ w₂ : Words} → Laying c n w w₀ → s ≡ suc n → s < c → next ≡ suc s → length w₁ ≡ length w₀ → length w₂ ≡ length w₁ → w₁ ≡ cset w₀ numberField s (pos 0) → w₂ ≡ cset w₁ nextFreeField s (pos next) → Laying c s w w₂
 laying-more {c} {n} {s} {next} {w} {w₀} {w₁} {w₂} l es h en n₁ n₂ e₁ e₂ =
     record {
       long = n₂ ∙ n₁ ∙ l .long;
       few = h;
-      lays = λ fits. subst (λ (i : ℕ). Laid c i w w₂) (sym es) (laid-more fits (l .lays fits) (l .few) (e₁ ∙ ap (λ (i : ℕ). cset w₀ 0 i (pos 0)) es) (e₂ ∙ ap (λ (i : ℕ). cset w₁ 3 i (pos next)) es) (λ q. en ∙ ap suc es) (λ q. absurd (omega (arith, q, es, h))));
+      lays = λ fits. subst (λ (i : ℕ). Laid c i w w₂) (sym es) (laid-more fits (l .lays fits) (l .few) (e₁ ∙ ap (λ (i : ℕ). cset w₀ numberField i (pos 0)) es) (e₂ ∙ ap (λ (i : ℕ). cset w₁ nextFreeField i (pos next)) es) (λ q. en ∙ ap suc es) (λ q. absurd (omega (arith, q, es, h))));
     }
 
-pub laying-last : {c n : ℕ} {w w₀ w₁ w₂ : Words} → Laying c n w w₀ → c ≤ suc n → length w₁ ≡ length w₀ → length w₂ ≡ length w₁ → w₁ ≡ cset w₀ 0 c (pos 0) → w₂ ≡ cset w₁ 3 c (pos 0) → Lays c w w₂
+pub laying-last : {c n : ℕ} {w w₀ w₁ w₂ : Words} → Laying c n w w₀ → c ≤ suc n → length w₁ ≡ length w₀ → length w₂ ≡ length w₁ → w₁ ≡ cset w₀ numberField c (pos 0) → w₂ ≡ cset w₁ nextFreeField c (pos 0) → Lays c w w₂
 laying-last {c} {n} {w} {w₀} {w₁} {w₂} l h n₁ n₂ e₁ e₂ =
     record {
       long = n₂ ∙ n₁ ∙ l .long;
-      lays = λ fits. subst (λ (i : ℕ). Laid c i w w₂) (sym es) (laid-more fits (l .lays fits) (l .few) (e₁ ∙ ap (λ (i : ℕ). cset w₀ 0 i (pos 0)) es) (e₂ ∙ ap (λ (i : ℕ). cset w₁ 3 i (pos 0)) es) (λ q. absurd (omega (arith, q, es))) (λ q. refl));
+      lays = λ fits. subst (λ (i : ℕ). Laid c i w w₂) (sym es) (laid-more fits (l .lays fits) (l .few) (e₁ ∙ ap (λ (i : ℕ). cset w₀ numberField i (pos 0)) es) (e₂ ∙ ap (λ (i : ℕ). cset w₁ nextFreeField i (pos 0)) es) (λ q. absurd (omega (arith, q, es))) (λ q. refl));
     }
   where
     es : c ≡ suc n
@@ -75,7 +76,7 @@ pub record Starts (c : ℕ) (w w′ : Words) : Type 0 where
   pub stands : Book w′ (opened (pos c)) none
   pub beyond : Beyond c w w′
 
-pub starts : {c : ℕ} {w w₀ w′ : Words} → 1 ≤ c → c ≤ 4096 → 64 * (c + 1) ≤ length w → Heading c w w₀ → Lays c w₀ w′ → Starts c w w′
+pub starts : {c : ℕ} {w w₀ w′ : Words} → 1 ≤ c → c ≤ mostSlots → 64 * (c + 1) ≤ length w → Heading c w w₀ → Lays c w₀ w′ → Starts c w w′
 starts {c} {w} {w₀} {w′} low high room g l =
     record {
       stands = opened-book b laid;

@@ -16,6 +16,7 @@ use Rattle.dynamic.specs.OfferTree.{Held}
 use Rattle.dynamic.specs.Updates.{withdrawn}
 use Rattle.dynamic.specs.Valid.{bookLines, without}
 use Rattle.dynamic.specs.Updated.{withdrawn-lines, withdrawn-work}
+use Rattle.table.specs.Fields.{envelopeRootWord, mostNodes, numberTree, numbersRootWord, offersRootWord}
 use Rattle.table.specs.Words.{Words, word, wset, wset-other, upTo, upTo-in}
 use Rattle.table.specs.Layout.{cap, cap-most}
 use Rattle.table.specs.Items.{Item, In, at}
@@ -36,11 +37,11 @@ use Rattle.filing.specs.Posting.{Updated}
 
 -- The steps of a withdrawal: the number dropped, the item removed, the roots and the count set, its slot given back.
 pub record WithdrawSteps (number : ℤ) (w w₁ w₂ w₃ w₄ w′ : Words) (s root root′ x e x′ e′ n k st h : ℕ) : Type 0 where
-  pub numbers-root : root ≡ upTo 8192 (word w 4)
+  pub numbers-root : root ≡ upTo mostNodes (word w numbersRootWord)
   pub dropped : Dropped number root w w₁ root′
-  pub rooted : w₂ ≡ wset w₁ 4 (pos root′)
-  pub offers-root : x ≡ upTo 8192 (word w 1)
-  pub envelope-root : e ≡ upTo 8192 (word w 2)
+  pub rooted : w₂ ≡ wset w₁ numbersRootWord (pos root′)
+  pub offers-root : x ≡ upTo mostNodes (word w offersRootWord)
+  pub envelope-root : e ≡ upTo mostNodes (word w envelopeRootWord)
   pub removed : RemovedIn s x e w₂ w₃ x′ e′ k st h
   pub headed : Headed x′ e′ n w₃ w₄
   pub freed : Freed s w₄ w′
@@ -81,7 +82,7 @@ module _ {w w₁ w₂ w₃ w₄ w′ : Words} {number : ℤ} {plain : State} {s 
       (λ y m d. in-without ordered (live .member) m d)
       (without-slots a (bookLines held) (live-slots w held (b .offers .offers-in)))
 
-  only₁ : Only 2 (bookLines held) w w₁
+  only₁ : Only numberTree (bookLines held) w w₁
   only₁ = steps .dropped .only (bookLines held) (b .numbers .numbers) (numbers-at b (steps .numbers-root))
 
   numbers′ : Part Item
@@ -150,15 +151,15 @@ module _ {w w₁ w₂ w₃ w₄ w′ : Words} {number : ℤ} {plain : State} {s 
   free-chain′ =
       free-more slot-low (omega (arith, free-kept .room, slot-high)) (steps .freed .number)
       (steps .freed .next
-      ∙ ap pos (ap (upTo 8192) (header-before 5 (omega arith) (omega arith) (omega arith) ∙ b .free .first-free) ∙ upTo-in 8192 (head0 (b .free .free)) (omega (arith, chain-head (b .free .free-chain), cap-most w))))
+      ∙ ap pos (ap (upTo mostNodes) (header-before 5 (omega arith) (omega arith) (omega arith) ∙ b .free .first-free) ∙ upTo-in mostNodes (head0 (b .free .free)) (omega (arith, chain-head (b .free .free-chain), cap-most w))))
       (free-agree free-kept (b .free .free-chain))
 
-  numbers-root′ : word w′ 4 ≡ pos (partRef numbers′)
+  numbers-root′ : word w′ numbersRootWord ≡ pos (partRef numbers′)
   numbers-root′ =
       steps .freed .header 4 (omega arith) (omega arith)
       ∙ steps .headed .header 4 (omega arith) (omega arith)
       ∙ header-kept (left₃ .within) 4 (omega arith)
-      ∙ ap (λ (v : Words). word v 4) (steps .rooted)
+      ∙ ap (λ (v : Words). word v numbersRootWord) (steps .rooted)
       ∙ header-set w₁ 4 (pos root′) (omega (arith, slot-low, slot-high, within-cap (steps .dropped .within))) (omega arith)
       ∙ ap pos (numbers-at′ .root-is)
 

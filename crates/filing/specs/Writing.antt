@@ -15,6 +15,7 @@ use Rattle.offers.specs.Offers.{Offer, numberInRange, rateInRange, baseInRange}
 use Rattle.dynamic.specs.OfferTree.{Held}
 use Rattle.dynamic.specs.Valid.{bookLines}
 use Rattle.plain.specs.Book.{State}
+use Rattle.table.specs.Fields.{baseField, envelopeRootWord, firstFreeWord, liveCountWord, mostNodes, nextFreeField, numberField, offersRootWord, rateField}
 use Rattle.table.specs.Words.{Words, word, wset, wset-other, upTo, upTo-in}
 use Rattle.table.specs.Layout.{cap, cap-most, cell, cset, linkAt, Valid, cset-same, cset-other, cset-rest, header-outside}
 use Rattle.table.specs.Free.{firstFree, given, free-link}
@@ -27,28 +28,28 @@ use Rattle.filing.specs.Agree.{Agree, Everywhere, Elsewhere, agree-trans
 -- ---- a slot is filled: the first free slot is then the next one
 
 pub record Filled (s : ℕ) (o : Offer) (w w′ : Words) : Type 0 where
-  pub number : cell w′ 0 s ≡ o .number
-  pub rate : cell w′ 1 s ≡ o .rate
-  pub base : cell w′ 2 s ≡ o .base
-  pub first : word w′ 5 ≡ pos (linkAt w 3 s)
+  pub number : cell w′ numberField s ≡ o .number
+  pub rate : cell w′ rateField s ≡ o .rate
+  pub base : cell w′ baseField s ≡ o .base
+  pub first : word w′ firstFreeWord ≡ pos (linkAt w nextFreeField s)
   pub header : (i : ℕ) → i < 64 → i ≢ 5 → word w′ i ≡ word w i
   pub agree : Agree (Elsewhere s) w w′
 
 -- ---- a slot is given back: it is then the first free slot
 
 pub record Freed (s : ℕ) (w w′ : Words) : Type 0 where
-  pub number : cell w′ 0 s ≡ pos 0
-  pub next : cell w′ 3 s ≡ pos (firstFree w)
-  pub first : word w′ 5 ≡ pos s
+  pub number : cell w′ numberField s ≡ pos 0
+  pub next : cell w′ nextFreeField s ≡ pos (firstFree w)
+  pub first : word w′ firstFreeWord ≡ pos s
   pub header : (i : ℕ) → i < 64 → i ≢ 5 → word w′ i ≡ word w i
   pub agree : Agree (Elsewhere s) w w′
 
 -- ---- the root of the offers, its envelope and the live count are set
 
 pub record Headed (x e n : ℕ) (w w′ : Words) : Type 0 where
-  pub root : word w′ 1 ≡ pos x
-  pub envelope : word w′ 2 ≡ pos e
-  pub count : word w′ 3 ≡ pos n
+  pub root : word w′ offersRootWord ≡ pos x
+  pub envelope : word w′ envelopeRootWord ≡ pos e
+  pub count : word w′ liveCountWord ≡ pos n
   pub header : (i : ℕ) → 4 ≤ i → i < 64 → word w′ i ≡ word w i
   pub agree : Agree Everywhere w w′
 
@@ -56,14 +57,14 @@ module _ (w : Words) (s : ℕ) (low : 1 ≤ s) (high : s ≤ cap w) where
   here : (v : Words) (f : ℕ) → f < 32 → cap v ≡ cap w → Valid v f s
   here v f h e = record { low = low; high = omega arith; field = h }
 
-  pub filled : {w₁ w₂ w₃ w₄ : Words} (o : Offer) → w₁ ≡ wset w 5 (pos (linkAt w 3 s)) → w₂ ≡ cset w₁ 0 s (o .number) → w₃ ≡ cset w₂ 1 s (o .rate) → w₄ ≡ cset w₃ 2 s (o .base) → Filled s o w w₄
+  pub filled : {w₁ w₂ w₃ w₄ : Words} (o : Offer) → w₁ ≡ wset w firstFreeWord (pos (linkAt w nextFreeField s)) → w₂ ≡ cset w₁ numberField s (o .number) → w₃ ≡ cset w₂ rateField s (o .rate) → w₄ ≡ cset w₃ baseField s (o .base) → Filled s o w w₄
   filled {w₁} {w₂} {w₃} {w₄} o e₁ e₂ e₃ e₄ =
       record {
         number = ap (at 0) e₄ ∙ cset-other w₃ 2 s (o .base) (λ q. omega (arith, q .0)) ∙ ap (at 0) e₃ ∙ cset-other w₂ 1 s (o .rate) (λ q. omega (arith, q .0)) ∙ ap (at 0) e₂ ∙ cset-same (o .number) (here w₁ 0 (omega arith) (g₁ .room));
         rate = ap (at 1) e₄ ∙ cset-other w₃ 2 s (o .base) (λ q. omega (arith, q .0)) ∙ ap (at 1) e₃ ∙ cset-same (o .rate) (here w₂ 1 (omega arith) (g₂ .room));
         base = ap (at 2) e₄ ∙ cset-same (o .base) (here w₃ 2 (omega arith) (g₃ .room));
-        first = head 5 (omega arith) ∙ ap (λ (v : Words). word v 5) e₁ ∙ header-set w 5 (pos (linkAt w 3 s)) (omega arith) (omega arith);
-        header = λ i h d. head i h ∙ ap (λ (v : Words). word v i) e₁ ∙ wset-other w 5 i (pos (linkAt w 3 s)) d;
+        first = head 5 (omega arith) ∙ ap (λ (v : Words). word v firstFreeWord) e₁ ∙ header-set w 5 (pos (linkAt w nextFreeField s)) (omega arith) (omega arith);
+        header = λ i h d. head i h ∙ ap (λ (v : Words). word v i) e₁ ∙ wset-other w 5 i (pos (linkAt w nextFreeField s)) d;
         agree = g₄;
       }
     where
@@ -71,7 +72,7 @@ module _ (w : Words) (s : ℕ) (low : 1 ≤ s) (high : s ≤ cap w) where
       at f v = cell v f s
 
       g₁ : Agree (Elsewhere s) w w₁
-      g₁ = rw e₁ (agree-less (λ f t d. tt) (agree-header w 5 (pos (linkAt w 3 s)) (omega arith) (omega arith)))
+      g₁ = rw e₁ (agree-less (λ f t d. tt) (agree-header w 5 (pos (linkAt w nextFreeField s)) (omega arith) (omega arith)))
 
       g₂ : Agree (Elsewhere s) w w₂
       g₂ = agree-trans g₁ (rw e₂ (agree-cset w₁ 0 s (o .number)))
@@ -88,12 +89,12 @@ module _ (w : Words) (s : ℕ) (low : 1 ≤ s) (high : s ≤ cap w) where
           ∙ ap (λ (v : Words). word v i) e₃ ∙ cset-rest w₂ 1 s (o .rate) (header-outside w₂ h)
           ∙ ap (λ (v : Words). word v i) e₂ ∙ cset-rest w₁ 0 s (o .number) (header-outside w₁ h)
 
-  freed : {w₁ w₂ w₃ : Words} → w₁ ≡ cset w 0 s (pos 0) → w₂ ≡ cset w₁ 3 s (pos (firstFree w)) → w₃ ≡ wset w₂ 5 (pos s) → Freed s w w₃
+  freed : {w₁ w₂ w₃ : Words} → w₁ ≡ cset w numberField s (pos 0) → w₂ ≡ cset w₁ nextFreeField s (pos (firstFree w)) → w₃ ≡ wset w₂ firstFreeWord (pos s) → Freed s w w₃
   freed {w₁} {w₂} {w₃} e₁ e₂ e₃ =
       record {
         number = last 0 ∙ ap (at 0) e₂ ∙ cset-other w₁ 3 s z (λ q. omega (arith, q .0)) ∙ ap (at 0) e₁ ∙ cset-same (pos 0) (here w 0 (omega arith) refl);
         next = last 3 ∙ ap (at 3) e₂ ∙ cset-same z (here w₁ 3 (omega arith) (g₁ .room));
-        first = ap (λ (v : Words). word v 5) e₃ ∙ header-set w₂ 5 (pos s) (omega (arith, g₂ .room)) (omega arith);
+        first = ap (λ (v : Words). word v firstFreeWord) e₃ ∙ header-set w₂ 5 (pos s) (omega (arith, g₂ .room)) (omega arith);
         header = λ i h d.
             ap (λ (v : Words). word v i) e₃ ∙ wset-other w₂ 5 i (pos s) d
             ∙ ap (λ (v : Words). word v i) e₂ ∙ cset-rest w₁ 3 s z (header-outside w₁ h)
@@ -123,12 +124,12 @@ module _ (w : Words) (s : ℕ) (low : 1 ≤ s) (high : s ≤ cap w) where
   pub freed-given : {w′ : Words} → w′ ≡ given w s → Freed s w w′
   freed-given e = freed refl refl e
 
-pub headed : (w : Words) → 1 ≤ cap w → {w₁ w₂ w₃ : Words} {x e n : ℕ} → w₁ ≡ wset w 1 (pos x) → w₂ ≡ wset w₁ 2 (pos e) → w₃ ≡ wset w₂ 3 (pos n) → Headed x e n w w₃
+pub headed : (w : Words) → 1 ≤ cap w → {w₁ w₂ w₃ : Words} {x e n : ℕ} → w₁ ≡ wset w offersRootWord (pos x) → w₂ ≡ wset w₁ envelopeRootWord (pos e) → w₃ ≡ wset w₂ liveCountWord (pos n) → Headed x e n w w₃
 headed w low {w₁} {w₂} {w₃} {x} {e} {n} e₁ e₂ e₃ =
     record {
-      root = at₃ 1 (omega arith) ∙ at₂ 1 (omega arith) ∙ ap (λ (v : Words). word v 1) e₁ ∙ header-set w 1 (pos x) low (omega arith);
-      envelope = at₃ 2 (omega arith) ∙ ap (λ (v : Words). word v 2) e₂ ∙ header-set w₁ 2 (pos e) (omega (arith, g₁ .room)) (omega arith);
-      count = ap (λ (v : Words). word v 3) e₃ ∙ header-set w₂ 3 (pos n) (omega (arith, g₂ .room)) (omega arith);
+      root = at₃ 1 (omega arith) ∙ at₂ 1 (omega arith) ∙ ap (λ (v : Words). word v offersRootWord) e₁ ∙ header-set w 1 (pos x) low (omega arith);
+      envelope = at₃ 2 (omega arith) ∙ ap (λ (v : Words). word v envelopeRootWord) e₂ ∙ header-set w₁ 2 (pos e) (omega (arith, g₁ .room)) (omega arith);
+      count = ap (λ (v : Words). word v liveCountWord) e₃ ∙ header-set w₂ 3 (pos n) (omega (arith, g₂ .room)) (omega arith);
       header = λ i h k. at₃ i (omega arith) ∙ at₂ i (omega arith) ∙ ap (λ (v : Words). word v i) e₁ ∙ wset-other w 1 i (pos x) (omega arith);
       agree = agree-trans g₂ (rw e₃ (agree-header w₂ 3 (pos n) (omega arith) (omega arith)));
     }
@@ -151,7 +152,7 @@ headed w low {w₁} {w₂} {w₃} {x} {e} {n} e₁ e₂ e₃ =
 pub record FirstFree (w : Words) (live : List Item) (s : ℕ) (others : List ℕ) : Type 0 where
   pub low : 1 ≤ s
   pub high : s ≤ cap w
-  pub next : linkAt w 3 s ≡ head0 others
+  pub next : linkAt w nextFreeField s ≡ head0 others
   pub chain : FreeChain w others
   pub other : (t : ℕ) → List·Memᴰ t others → t ≢ s
   pub apart : Pairwise (λ (a b : ℕ). a ≢ b) others
@@ -162,25 +163,25 @@ pub record FirstFree (w : Words) (live : List Item) (s : ℕ) (others : List ℕ
 pub free-not-live : {w : Words} {ss : List ℕ} {live : List Item} {s : ℕ} → FreeChain w ss → Holds w live → List·Memᴰ s ss → In s live → ⊥
 free-not-live {w} {live} {s} chain holds m (at {a} i e) = go chain m
   where
-    never : cell w 0 (a .slot) ≡ pos 0 → ⊥
+    never : cell w numberField (a .slot) ≡ pos 0 → ⊥
     never d = zero (holds .held i .number) d (and-left (numberInRange (a .offer .number)) (rateInRange (a .offer .rate)) (and-left (numberInRange (a .offer .number) && rateInRange (a .offer .rate)) (baseInRange (a .offer .base)) (holds .held i .ranged)))
       where
         zero : {z n : ℤ} → z ≡ n → z ≡ pos 0 → T (numberInRange n) → ⊥
         zero {n} p q t = omega (arith, intRules, range-low (pos 1) n (pos 9_999) t)
 
     go : {ss : List ℕ} → FreeChain w ss → List·Memᴰ s ss → ⊥
-    go (free-more low high zero next more) (List·Memᴰ·head d) = never (ap (cell w 0) (sym e ∙ d) ∙ zero)
+    go (free-more low high zero next more) (List·Memᴰ·head d) = never (ap (cell w numberField) (sym e ∙ d) ∙ zero)
     go (free-more low high zero next more) (List·Memᴰ·tail n) = go more n
 
 pub first-free :
-    {w : Words} {plain : State} {s : ℕ} {held : Option (Held Item)} → Book w plain held → length (bookLines held) < plain .capacity → s ≡ upTo 8192 (word w 5) →
+    {w : Words} {plain : State} {s : ℕ} {held : Option (Held Item)} → Book w plain held → length (bookLines held) < plain .capacity → s ≡ upTo mostNodes (word w firstFreeWord) →
     (others : List ℕ) × FirstFree w (bookLines held) s others
 first-free {w} {s = s} {held} b room e =
     let f = b .free in
     go (f .free) (f .first-free) (f .free-chain) (f .free-apart) (f .slots-used) (omega (arith, room, b .capacity)) (λ t. free-not-live (f .free-chain) (live-holds w held (b .offers .offers-in)))
   where
     go :
-        (free : List ℕ) → word w 5 ≡ pos (head0 free) → FreeChain w free → Pairwise (λ (a b : ℕ). a ≢ b) free → length free + length (bookLines held) ≡ cap w → length (bookLines held) < cap w →
+        (free : List ℕ) → word w firstFreeWord ≡ pos (head0 free) → FreeChain w free → Pairwise (λ (a b : ℕ). a ≢ b) free → length free + length (bookLines held) ≡ cap w → length (bookLines held) < cap w →
         ((t : ℕ) → List·Memᴰ t free → In t (bookLines held) → ⊥) →
         (others : List ℕ) × FirstFree w (bookLines held) s others
     go [] f chain apart used room no-one = absurd (omega arith)
@@ -189,7 +190,7 @@ first-free {w} {s = s} {held} b room e =
       record {
         low = omega (arith, same);
         high = omega (arith, same);
-        next = ap (linkAt w 3) same ∙ free-link t more next;
+        next = ap (linkAt w nextFreeField) same ∙ free-link t more next;
         chain = more;
         other = λ u m d. rel-of-pairwise-cons apart ∣ m ∣₁ (sym (d ∙ same));
         apart = Pairwise·of-cons apart;
@@ -199,4 +200,4 @@ first-free {w} {s = s} {held} b room e =
     )
       where
         same : s ≡ t
-        same = e ∙ ap (upTo 8192) f ∙ upTo-in 8192 t (omega (arith, cap-most w))
+        same = e ∙ ap (upTo mostNodes) f ∙ upTo-in mostNodes t (omega (arith, cap-most w))

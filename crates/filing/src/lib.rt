@@ -3,6 +3,7 @@
 ghost use mathlib.Core.Path.{_≡_};
 ghost use Prim.Native.Nat.{_+_, _*_, _-_, _≤_};
 ghost use lib.ListN.{length};
+ghost use Rattle.table.specs.Fields.{mostNodes, mostSlots, numbersRootWord, offerTree, rateField};
 ghost use Rattle.table.specs.Words.{word, upTo};
 ghost use Rattle.table.specs.Free.{firstFree};
 ghost use Rattle.descents.specs.Finds.{Found};
@@ -23,32 +24,32 @@ pub struct Told {
 fn begin(part: &mut [i64], capacity: u32)
     ensures { λ _. ⌜ Heading capacity (now (part .entry)) (now (part .exit)) ⌝ }
 {
-    table::set_number(part, 0, capacity);
-    table::set_number(part, 1, 0);
-    table::set_number(part, 2, 0);
-    table::set_number(part, 3, 0);
-    table::set_number(part, 4, 0);
-    table::set_number(part, 5, 1);
+    table::set_number(part, table::CAPACITY, capacity);
+    table::set_number(part, table::OFFERS_ROOT, 0);
+    table::set_number(part, table::ENVELOPE_ROOT, 0);
+    table::set_number(part, table::LIVE_COUNT, 0);
+    table::set_number(part, table::NUMBERS_ROOT, 0);
+    table::set_number(part, table::FIRST_FREE, 1);
 }
 
 // Each slot is free, and the next free one follows it.
 fn lay(part: &mut [i64], capacity: u32)
-    requires { ⌜ (1 ≤ capacity) × (capacity ≤ 4096) ⌝ }
+    requires { ⌜ (1 ≤ capacity) × (capacity ≤ mostSlots) ⌝ }
     ensures { λ _. ⌜ Lays capacity (now (part .entry)) (now (part .exit)) ⌝ }
 {
     let mut n: u32 = 0;
     while n + 1 < capacity {
         n += 1;
-        table::put_link(part, 0, n, 0);
-        table::put_link(part, 3, n, n + 1);
+        table::put_link(part, table::NUMBER, n, 0);
+        table::put_link(part, table::NEXT_FREE, n, n + 1);
     }
-    table::put_link(part, 0, capacity, 0);
-    table::put_link(part, 3, capacity, 0);
+    table::put_link(part, table::NUMBER, capacity, 0);
+    table::put_link(part, table::NEXT_FREE, capacity, 0);
 }
 
 // An empty book on words enough for it.
 pub fn start_book(part: &mut [i64], capacity: u32)
-    requires { ⌜ (1 ≤ capacity) × (capacity ≤ 4096) × (64 * (capacity + 1) ≤ length (now part)) ⌝ }
+    requires { ⌜ (1 ≤ capacity) × (capacity ≤ mostSlots) × (64 * (capacity + 1) ≤ length (now part)) ⌝ }
     ensures { λ _. ⌜ Starts capacity (now (part .entry)) (now (part .exit)) ⌝ }
 {
     begin(part, capacity);
@@ -57,24 +58,24 @@ pub fn start_book(part: &mut [i64], capacity: u32)
 
 // The slot of the offer with that rate in the tree of offers, and 0 where there is none.
 fn find_rate(part: &[i64], root: u32, rate: i64) -> u32
-    ensures { λ r. ⌜ Found (now (part .entry)) 1 1 rate root r ⌝ }
+    ensures { λ r. ⌜ Found (now (part .entry)) offerTree rateField rate root r ⌝ }
 {
-    descents::find(part, 1, 1, rate, root)
+    descents::find(part, table::OFFERS, table::RATE, rate, root)
 }
 
 // The cause for which a post in range is declined, or 0.
 pub fn post_cause(part: &[i64], number: i64, rate: i64) -> u32
     ensures { λ r. ⌜ PostCause number rate (now (part .entry)) r ⌝ }
 {
-    let root = table::number_at(part, 4, 8192);
+    let root = table::number_at(part, table::NUMBERS_ROOT, table::MOST_NODES);
     if 0 < numbers::find(part, root, number) {
         return 5;
     }
-    let x = table::number_at(part, 1, 8192);
+    let x = table::number_at(part, table::OFFERS_ROOT, table::MOST_NODES);
     if 0 < find_rate(part, x, rate) {
         return 6;
     }
-    let n = table::number_at(part, 3, 8192);
+    let n = table::number_at(part, table::LIVE_COUNT, table::MOST_NODES);
     if table::capacity(part) <= n {
         return 7;
     }
@@ -87,9 +88,9 @@ fn fill(part: &mut [i64], number: i64, rate: i64, base: i64) -> u32
     ensures words { λ s. ⌜ now (part .exit) ≡ filling number rate base s (now (part .entry)) ⌝ }
 {
     let s = table::take_slot(part);
-    table::put(part, 0, s, number);
-    table::put(part, 1, s, rate);
-    table::put(part, 2, s, base);
+    table::put(part, table::NUMBER, s, number);
+    table::put(part, table::RATE, s, rate);
+    table::put(part, table::BASE, s, base);
     s
 }
 
@@ -113,22 +114,22 @@ fn join_in(part: &mut [i64], x: u32, e: u32, s: u32) -> update::Made
 fn set_roots(part: &mut [i64], x: u32, e: u32, n: u32)
     ensures { λ _. ⌜ now (part .exit) ≡ rooting x e n (now (part .entry)) ⌝ }
 {
-    table::set_number(part, 1, x);
-    table::set_number(part, 2, e);
-    table::set_number(part, 3, n);
+    table::set_number(part, table::OFFERS_ROOT, x);
+    table::set_number(part, table::ENVELOPE_ROOT, e);
+    table::set_number(part, table::LIVE_COUNT, n);
 }
 
 // A post that is not declined.
 pub fn post_part(part: &mut [i64], number: i64, rate: i64, base: i64) -> Told
     ensures { λ r. ⌜ PostDone number rate base (now (part .entry)) (now (part .exit)) (r .live) (r .k) (r .s) (r .h) ⌝ }
 {
-    let root = table::number_at(part, 4, 8192);
-    let x = table::number_at(part, 1, 8192);
-    let e = table::number_at(part, 2, 8192);
-    let n = table::number_at(part, 3, 8192);
+    let root = table::number_at(part, table::NUMBERS_ROOT, table::MOST_NODES);
+    let x = table::number_at(part, table::OFFERS_ROOT, table::MOST_NODES);
+    let e = table::number_at(part, table::ENVELOPE_ROOT, table::MOST_NODES);
+    let n = table::number_at(part, table::LIVE_COUNT, table::MOST_NODES);
     let s = fill(part, number, rate, base);
     let y = numbers::add(part, root, s);
-    table::set_number(part, 4, y);
+    table::set_number(part, table::NUMBERS_ROOT, y);
     let m = join_in(part, x, e, s);
     let live = n + 1;
     set_roots(part, m.x, m.e, live);
@@ -152,9 +153,9 @@ fn one_less(n: u32) -> u32
 
 // The slot of the live offer with that number, or 0.
 pub fn live_slot(part: &[i64], number: i64) -> u32
-    ensures { λ r. ⌜ FoundNumber number (upTo 8192 (word (now (part .entry)) 4)) (now (part .entry)) r ⌝ }
+    ensures { λ r. ⌜ FoundNumber number (upTo mostNodes (word (now (part .entry)) numbersRootWord)) (now (part .entry)) r ⌝ }
 {
-    let root = table::number_at(part, 4, 8192);
+    let root = table::number_at(part, table::NUMBERS_ROOT, table::MOST_NODES);
     numbers::find(part, root, number)
 }
 
@@ -162,12 +163,12 @@ pub fn live_slot(part: &[i64], number: i64) -> u32
 pub fn withdraw_part(part: &mut [i64], number: i64, s: u32) -> Told
     ensures { λ r. ⌜ WithdrawDone number s (now (part .entry)) (now (part .exit)) (r .live) (r .k) (r .s) (r .h) ⌝ }
 {
-    let root = table::number_at(part, 4, 8192);
-    let x = table::number_at(part, 1, 8192);
-    let e = table::number_at(part, 2, 8192);
-    let n = table::number_at(part, 3, 8192);
+    let root = table::number_at(part, table::NUMBERS_ROOT, table::MOST_NODES);
+    let x = table::number_at(part, table::OFFERS_ROOT, table::MOST_NODES);
+    let e = table::number_at(part, table::ENVELOPE_ROOT, table::MOST_NODES);
+    let n = table::number_at(part, table::LIVE_COUNT, table::MOST_NODES);
     let y = numbers::drop_number(part, root, number);
-    table::set_number(part, 4, y);
+    table::set_number(part, table::NUMBERS_ROOT, y);
     let rest = update::remove(part, x, e, s);
     let live = one_less(n);
     set_roots(part, rest.x, rest.e, live);

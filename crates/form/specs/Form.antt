@@ -16,6 +16,7 @@ use Rattle.trees.specs.Balanced.{AvlP}
 use Rattle.trees.specs.Order.{Falling}
 use Rattle.dynamic.specs.OfferTree.{Held, heldShape}
 use Rattle.dynamic.specs.Valid.{bookLines}
+use Rattle.table.specs.Fields.{envelopeRootWord, firstFreeWord, liveCountWord, numberTree, numbersRootWord, offersRootWord}
 use Rattle.table.specs.Words.{Words, word}
 use Rattle.table.specs.Layout.{cap}
 pub use Rattle.table.specs.Free.{head0, FreeChain, free-none, free-more}
@@ -40,9 +41,9 @@ OffersIn w (some h) = HeldIn w (refOf (heldShape h)) (partRef (h .whole)) h
 
 -- the header tells the tree of offers, and that tree stands there with its envelopes
 pub record OffersStand (w : Words) (held : Option (Held Item)) : Type 0 where
-  pub offers-root : word w 1 ≡ pos (offersRef held)
-  pub envelope-root : word w 2 ≡ pos (envelopeRef held)
-  pub live-count : word w 3 ≡ pos (length (bookLines held))
+  pub offers-root : word w offersRootWord ≡ pos (offersRef held)
+  pub envelope-root : word w envelopeRootWord ≡ pos (envelopeRef held)
+  pub live-count : word w liveCountWord ≡ pos (length (bookLines held))
   pub offers-in : OffersIn w held
 
 -- ---- the numbers: a balanced tree of the live items by falling number
@@ -51,7 +52,7 @@ abbrev pub numberOf : Item → ℤ
 numberOf a = a .offer .number
 
 pub record NumbersIn (w : Words) (live : List Item) (numbers : Part Item) : Type 0 where
-  pub tied : TiedPart w 2 numbers
+  pub tied : TiedPart w numberTree numbers
   pub balanced : AvlP numbers
   pub falling : Falling numberOf (partLeaves numbers)
   pub all-live : (a : Item) → List·Memᴰ a (partLeaves numbers) → List·Memᴰ a live
@@ -60,14 +61,14 @@ pub record NumbersIn (w : Words) (live : List Item) (numbers : Part Item) : Type
 -- a tree of numbers over the live items
 pub record Numbered (w : Words) (live : List Item) : Type 0 where
   pub numbers : Part Item
-  pub numbers-root : word w 4 ≡ pos (partRef numbers)
+  pub numbers-root : word w numbersRootWord ≡ pos (partRef numbers)
   pub numbers-in : NumbersIn w live numbers
 
 -- ---- the free slots: a chain that repeats none, told beside n live ones
 
 pub record Freely (w : Words) (n : ℕ) : Type 0 where
   pub free : List ℕ
-  pub first-free : word w 5 ≡ pos (head0 free)
+  pub first-free : word w firstFreeWord ≡ pos (head0 free)
   pub free-chain : FreeChain w free
   pub free-apart : Pairwise (λ (a b : ℕ). a ≢ b) free
   pub slots-used : length free + n ≡ cap w

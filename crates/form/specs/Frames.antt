@@ -14,6 +14,7 @@ use Rattle.trees.specs.Leaves.{last-leaf}
 use Rattle.trees.specs.Operations.{Part, partLeaves}
 use Rattle.dynamic.specs.OfferTree.{OfferTree, single, fork, shape, Held, heldShape}
 use Rattle.dynamic.specs.Rearranged.{stored, rearranged, rearranged-mem}
+use Rattle.table.specs.Fields.{mostNodes, offerTree, pieceTree}
 use Rattle.table.specs.Words.{Words, upTo}
 use Rattle.table.specs.Layout.{cap, cell, cset, linkAt, cset-other}
 use Rattle.table.specs.Items.{Item, In, at, in-left, in-right, Slots, slots-left, slots-across}
@@ -49,7 +50,7 @@ record OfPieces (f : ℕ) : Type 0 where
 of-pieces-field : {f : ℕ} → PieceField f → OfPieces f
 of-pieces-field {f} (of-node (a-child side e)) = child side e
   where
-    child : (side : Bool) → f ≡ childField 0 side → OfPieces f
+    child : (side : Bool) → f ≡ childField pieceTree side → OfPieces f
     child false d = omega arith
     child true d = omega arith
 of-pieces-field (of-node (a-height e)) = omega arith
@@ -57,10 +58,10 @@ of-pieces-field (of-numerator e) = omega arith
 of-pieces-field (of-denominator e) = omega arith
 of-pieces-field (of-next e) = omega arith
 
-pub offers-apart : {f : ℕ} → PieceField f → Field 1 f → ⊥
+pub offers-apart : {f : ℕ} → PieceField f → Field offerTree f → ⊥
 offers-apart {f} p (a-child side e) = child side e (of-pieces-field p)
   where
-    child : (side : Bool) → f ≡ childField 1 side → OfPieces f → ⊥
+    child : (side : Bool) → f ≡ childField offerTree side → OfPieces f → ⊥
     child false d q = q .no-left d
     child true d q = q .no-right d
 offers-apart p (a-height e) = of-pieces-field p .no-height e
@@ -75,7 +76,7 @@ envelope-high : {f : ℕ} → EnvelopeField f → 3 ≤ f
 envelope-high (of-pieces p) = of-pieces-field p .no-offer
 envelope-high {f} (of-offers (a-child side e)) = child side e
   where
-    child : (side : Bool) → f ≡ childField 1 side → 3 ≤ f
+    child : (side : Bool) → f ≡ childField offerTree side → 3 ≤ f
     child false d = omega arith
     child true d = omega arith
 envelope-high (of-offers (a-height e)) = omega arith
@@ -108,7 +109,7 @@ module _ {F : ℕ → Type 0} {w w′ : Words} where
   same-inside i q = record { cells = λ f s p j. q .cells f s p (i s j) }
 
   pub same-link : {xs : List Item} {s : ℕ} (f : ℕ) → Same F xs w w′ → F f → In s xs → linkAt w′ f s ≡ linkAt w f s
-  same-link {s} f q p i = ap (upTo 8192) (q .cells f s p i)
+  same-link {s} f q p i = ap (upTo mostNodes) (q .cells f s p i)
 
   same-left : {xs : List Item} (ys : List Item) → Same F (xs ++ ys) w w′ → Same F xs w w′
   same-left ys q = same-inside (λ s i. in-left ys i) q
@@ -228,7 +229,7 @@ module _ {ys : List Item} {w w′ : Words} (g : PiecesOnly ys w w′) where
   pieces-offers xs = record { cells = λ f s p i. g .cells f s (λ q. omega (arith, of-pieces-field (q .0) .no-offer)) }
 
   -- the tree of offers, bridges and rests, anywhere
-  pub pieces-tree : (xs : List Item) → Same (Field 1) xs w w′
+  pub pieces-tree : (xs : List Item) → Same (Field offerTree) xs w w′
   pieces-tree xs = record { cells = λ f s p i. g .cells f s (λ q. offers-apart (q .0) p) }
 
   pub pieces-rests : (xs : List Item) → Same RestField xs w w′
@@ -260,7 +261,7 @@ module _ {w w′ : Words} (within : Within w w′) where
         envelope = held .envelope;
         slots = slots-within (held .slots);
         kept = holds-same (held .kept) (touched-offers g (leaves (heldShape h)));
-        tied = tied-same (held .tied) (touched-else g (Field 1) d);
+        tied = tied-same (held .tied) (touched-else g (Field offerTree) d);
         stored = stored-same (held .stored) (touched-else g RestField d) (touched-else g PieceField (disjoint-inside (stored-inside held) d));
         pieces = part-same (h .whole) (held .pieces) (touched-else g PieceField (disjoint-inside (whole-inside held) d));
         right = held .right;
@@ -287,10 +288,10 @@ pub pieces-more : {xs ys : List Item} {w w′ : Words} → Inside xs ys → Piec
 pieces-more sub g = record { cells = λ f s d. g .cells f s (λ h. d (h .0, sub s (h .1))) }
 
 -- nodes of pieces, nodes of offers, and one field written
-pub only-pieces : {xs : List Item} {w w′ : Words} → Only 0 xs w w′ → PiecesOnly xs w w′
+pub only-pieces : {xs : List Item} {w w′ : Words} → Only pieceTree xs w w′ → PiecesOnly xs w w′
 only-pieces g = record { cells = λ f s d. g .cells f s (λ h. d (of-node (h .0), h .1)) }
 
-pub only-touched : {xs : List Item} {w w′ : Words} → Only 1 xs w w′ → Touched xs w w′
+pub only-touched : {xs : List Item} {w w′ : Words} → Only offerTree xs w w′ → Touched xs w w′
 only-touched g = record { cells = λ f s d. g .cells f s (λ h. d (of-offers (h .0), h .1)) }
 
 pub touched-cset : {f s : ℕ} {xs : List Item} (w : Words) (z : ℤ) → EnvelopeField f → In s xs → Touched xs w (cset w f s z)

@@ -10,6 +10,7 @@ use Rattle.trees.specs.Operations.{Part}
 use Rattle.dynamic.specs.OfferTree.{Held}
 use Rattle.dynamic.specs.Valid.{bookLines}
 use Rattle.dynamic.specs.Rearranged.{stored}
+use Rattle.table.specs.Fields.{numberTree}
 use Rattle.table.specs.Words.{Words, word, word-out}
 use Rattle.table.specs.Layout.{cap, cap-of, cell, place-high, Valid, valid?, spot, spot-of, spot-in, spot-out}
 use Rattle.table.specs.Items.{Item, Slots}
@@ -58,7 +59,7 @@ module _ {w w′ : Words} {c : ℕ} (fits : cap w ≡ c) (a : Alike c w w′) wh
   alike-offers none o = tt
   alike-offers (some h) o = alike-held h o
 
-  alike-tied : (p : Part Item) → TiedPart w 2 p → TiedPart w′ 2 p
+  alike-tied : (p : Part Item) → TiedPart w numberTree p → TiedPart w′ numberTree p
   alike-tied none t = tt
   alike-tied (some u) t = tied-same t (alike-same _ _)
 

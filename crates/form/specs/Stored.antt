@@ -7,6 +7,7 @@ use Rattle.trees.specs.Tree.{leaves, last}
 use Rattle.trees.specs.Operations.{Part}
 use Rattle.dynamic.specs.OfferTree.{OfferTree, single, fork, shape, Held, heldShape}
 use Rattle.dynamic.specs.Valid.{Whole}
+use Rattle.table.specs.Fields.{bridgeLeftField, bridgeRightField, offerTree}
 use Rattle.table.specs.Words.{Words}
 use Rattle.table.specs.Layout.{cap, cell, linkAt}
 use Rattle.table.specs.Items.{Item, In, Slots}
@@ -37,8 +38,8 @@ pub data Stored (w : Words) : OfferTree Item → Type 0 where
       {u v : Item} {l r : OfferTree Item} {ql qr : Part Item} →
       Stored w l →
       Stored w r →
-      linkAt w 10 (last (shape l) .slot) ≡ u .slot →
-      linkAt w 11 (last (shape l) .slot) ≡ v .slot →
+      linkAt w bridgeLeftField (last (shape l) .slot) ≡ u .slot →
+      linkAt w bridgeRightField (last (shape l) .slot) ≡ v .slot →
       RestIn w l ql →
       RestIn w r qr →
       Stored w (fork u v l ql qr r)
@@ -49,7 +50,7 @@ pub record HeldIn (w : Words) (x e : ℕ) (h : Held Item) : Type 0 where
   pub envelope : e ≡ partRef (h .whole)
   pub slots : Slots (cap w) (leaves (heldShape h))
   pub kept : Holds w (leaves (heldShape h))
-  pub tied : Tied w 1 (heldShape h)
+  pub tied : Tied w offerTree (heldShape h)
   pub stored : Stored w (h .tree)
   pub pieces : PartIn w (h .whole)
   pub right : Whole items h
@@ -59,7 +60,7 @@ pub record HeldIn (w : Words) (x e : ℕ) (h : Held Item) : Type 0 where
 -- the fields that an update of envelopes changes: pieces, nodes of offers, bridges, rests
 pub data EnvelopeField (f : ℕ) : Type 0 where
   of-pieces : PieceField f → EnvelopeField f
-  of-offers : Field 1 f → EnvelopeField f
+  of-offers : Field offerTree f → EnvelopeField f
   of-bridge-u : f ≡ 10 → EnvelopeField f
   of-bridge-v : f ≡ 11 → EnvelopeField f
   of-inner-rest : f ≡ 20 → EnvelopeField f

@@ -7,6 +7,7 @@ use lib.ListN.{length}
 use lib.Dec.{leb}
 use lib.IntN.{ℤ, pos, negsuc}
 use borrow.Author.Tests.{leb-true}
+use Rattle.table.specs.Fields.{capacityWord, mostSlots}
 use Rattle.table.specs.Words.{Words, word, upTo}
 use Rattle.table.specs.Layout.{cap}
 
@@ -21,13 +22,13 @@ upTo-above most (negsuc m) e h = absurd (omega arith)
 
 -- where there is a slot, the first word is the capacity, and the words are enough for it
 pub record There (w : Words) (c : ℕ) : Type 0 where
-  pub first : word w 0 ≡ pos c
+  pub first : word w capacityWord ≡ pos c
   pub room : 64 * (c + 1) ≤ length w
 
 pub cap-there : (w : Words) {c : ℕ} → cap w ≡ c → 1 ≤ c → There w c
 unfolding cap
-cap-there w {c} e h = go (leb (64 * (upTo 4096 (word w 0) + 1)) (length w)) refl e
+cap-there w {c} e h = go (leb (64 * (upTo mostSlots (word w capacityWord) + 1)) (length w)) refl e
   where
-    go : (b : Bool) → leb (64 * (upTo 4096 (word w 0) + 1)) (length w) ≡ b → cond b (upTo 4096 (word w 0)) 0 ≡ c → There w c
-    go true d k = record { first = upTo-above 4096 (word w 0) k h; room = omega (arith, k, leb-true (64 * (upTo 4096 (word w 0) + 1)) (length w) d) }
+    go : (b : Bool) → leb (64 * (upTo mostSlots (word w capacityWord) + 1)) (length w) ≡ b → cond b (upTo mostSlots (word w capacityWord)) 0 ≡ c → There w c
+    go true d k = record { first = upTo-above mostSlots (word w capacityWord) k h; room = omega (arith, k, leb-true (64 * (upTo mostSlots (word w capacityWord) + 1)) (length w) d) }
     go false d k = absurd (omega arith)

@@ -8,10 +8,10 @@ pub fn rest_in(part: &[i64], c: u32, n: u32) -> u32
     requires { ⌜ c ≡ cap (now part) ⌝ }
     ensures { λ r. ⌜ r ≡ restAt (now (part .entry)) n ⌝ }
 {
-    if 4096 < n {
-        return table::link_in(part, c, 20, table::inner_slot(n));
+    if table::MOST_SLOTS < n {
+        return table::link_in(part, c, table::INNER_REST, table::inner_slot(n));
     }
-    table::link_in(part, c, 21, n)
+    table::link_in(part, c, table::LEAF_REST, n)
 }
 
 pub fn rest(part: &[i64], n: u32) -> u32

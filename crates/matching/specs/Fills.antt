@@ -9,6 +9,7 @@ use lib.Seq.{getD-set-same, getD-set-other}
 use Rattle.lists.specs.Bools.{never}
 use Rattle.trees.specs.Tree.{Tree, leaf, node, height, leaves, last, Avl, avl-leaf}
 use Rattle.trees.specs.Leaves.{last-leaf, some-leaf, leaves-last, start}
+use Rattle.table.specs.Fields.{mostNodes, mostSlots}
 use Rattle.table.specs.Words.{Words}
 use Rattle.table.specs.Layout.{cap}
 use Rattle.table.specs.Items.{Item}
@@ -28,20 +29,20 @@ pub record Written (w : Words) (k x : ℕ) (xs : List ℕ) (a b h : ℕ) : Type 
 pub record Fills (w : Words) (k x limit : ℕ) (xs xs′ : List ℕ) (at : ℕ) (r : Filled) : Type 0 where
   pub long : length xs′ ≡ length xs
   pub same : (i : ℕ) → i < at → getD xs′ i 0 ≡ getD xs i 0
-  pub low : r .height ≤ 8192
-  pub inside : r .ok ≡ true → (at < r .next) × (r .next ≤ 8192)
+  pub low : r .height ≤ mostNodes
+  pub inside : r .ok ≡ true → (at < r .next) × (r .next ≤ mostNodes)
   pub sound : r .ok ≡ true → Written w k x xs′ at (r .next) (r .height)
-  pub complete : (t : Tree Item) → Laid w k x t → height t ≤ limit → at + length (leaves t) ≤ 8192 → r .ok ≡ true
+  pub complete : (t : Tree Item) → Laid w k x t → height t ≤ limit → at + length (leaves t) ≤ mostNodes → r .ok ≡ true
 
 -- ---- no tree
 
 -- there is none that fits in
 pub record NoTree (w : Words) (k x limit at : ℕ) : Type 0 where
-  pub refuted : (t : Tree Item) → Laid w k x t → height t ≤ limit → at + length (leaves t) ≤ 8192 → ⊥
+  pub refuted : (t : Tree Item) → Laid w k x t → height t ≤ limit → at + length (leaves t) ≤ mostNodes → ⊥
 
 pub record Fails (r : Filled) : Type 0 where
   pub not : r .ok ≡ false
-  pub flat : r .height ≤ 8192
+  pub flat : r .height ≤ mostNodes
 
 pub fills-not : {w : Words} {k x limit at : ℕ} {xs xs′ : List ℕ} {r : Filled} → length xs′ ≡ length xs → ((i : ℕ) → i < at → getD xs′ i 0 ≡ getD xs i 0) → Fails r → NoTree w k x limit at → Fills w k x limit xs xs′ at r
 fills-not n s e f =
@@ -59,18 +60,18 @@ fills-none e f = fills-not refl (λ i h. refl) e f
 
 -- ---- a leaf
 
-module _ {w : Words} {x at : ℕ} (leafy : x ≤ 4096) where
+module _ {w : Words} {x at : ℕ} (leafy : x ≤ mostSlots) where
   leaf-none : x < 1 → (k limit : ℕ) → NoTree w k x limit at
   leaf-none h k limit = record { refuted = go }
     where
-      go : (t : Tree Item) → Laid w k x t → height t ≤ limit → at + length (leaves t) ≤ 8192 → ⊥
+      go : (t : Tree Item) → Laid w k x t → height t ≤ limit → at + length (leaves t) ≤ mostNodes → ⊥
       go (leaf a) p q m = omega (arith, p .root, p .placed a (List·Memᴰ·head refl) .low)
       go (node l r) p q m = omega (arith, laid-node-high p)
 
   leaf-far : {c : ℕ} → c ≡ cap w → c < x → (k limit : ℕ) → NoTree w k x limit at
   leaf-far e h k limit = record { refuted = go }
     where
-      go : (t : Tree Item) → Laid w k x t → height t ≤ limit → at + length (leaves t) ≤ 8192 → ⊥
+      go : (t : Tree Item) → Laid w k x t → height t ≤ limit → at + length (leaves t) ≤ mostNodes → ⊥
       go (leaf a) p q m = omega (arith, p .root, p .placed a (List·Memᴰ·head refl) .high)
       go (node l r) p q m = omega (arith, laid-node-high p)
 
@@ -80,10 +81,10 @@ module _ {w : Words} {x at : ℕ} (leafy : x ≤ 4096) where
   pub fills-leaf-far : {c : ℕ} {xs : List ℕ} {r : Filled} → Fails r → c ≡ cap w → c < x → (k limit : ℕ) → Fills w k x limit xs xs at r
   fills-leaf-far f e h k limit = fills-none f (leaf-far e h k limit)
 
-  pub fills-leaf-full : {xs : List ℕ} {r : Filled} → Fails r → 8192 ≤ at → (k limit : ℕ) → Fills w k x limit xs xs at r
+  pub fills-leaf-full : {xs : List ℕ} {r : Filled} → Fails r → mostNodes ≤ at → (k limit : ℕ) → Fills w k x limit xs xs at r
   fills-leaf-full f h k limit = fills-none f (record { refuted = λ t p q m. omega (arith, some-leaf t) })
 
-  pub fills-leaf : {c : ℕ} {xs : List ℕ} → length xs ≡ 8192 → 1 ≤ x → c ≡ cap w → x ≤ c → at < 8192 → (k limit : ℕ) → Fills w k x limit xs (set xs at x) at (record { ok = true; next = at + 1; height = 0 })
+  pub fills-leaf : {c : ℕ} {xs : List ℕ} → length xs ≡ mostNodes → 1 ≤ x → c ≡ cap w → x ≤ c → at < mostNodes → (k limit : ℕ) → Fills w k x limit xs (set xs at x) at (record { ok = true; next = at + 1; height = 0 })
   fills-leaf {c} {xs} n l e h m k limit =
       record {
         long = length-set xs at x;
@@ -103,7 +104,7 @@ module _ {w : Words} {x at : ℕ} (leafy : x ≤ 4096) where
 
 -- node x, kept in slot s, stands over trees of heights m and n
 pub record Levelled (w : Words) (k x s m n : ℕ) : Type 0 where
-  pub seam : s ≡ x - 4096
+  pub seam : s ≡ x - mostSlots
   pub left : m ≤ suc n
   pub right : n ≤ suc m
   pub stored : heightAt w k x ≡ suc (max m n)
@@ -111,12 +112,12 @@ pub record Levelled (w : Words) (k x s m n : ℕ) : Type 0 where
 -- both walks went through
 pub record Ended (a b : Filled) : Type 0 where
   pub some : 1 ≤ a .next
-  pub most : a .next ≤ 8192
-  pub left : a .height ≤ 8192
-  pub right : b .height ≤ 8192
+  pub most : a .next ≤ mostNodes
+  pub left : a .height ≤ mostNodes
+  pub right : b .height ≤ mostNodes
 
 pub record Covers (w : Words) (k x : ℕ) (xs : List ℕ) (a b r : Filled) : Type 0 where
-  pub low : r .height ≤ 8192
+  pub low : r .height ≤ mostNodes
   pub sound : r .ok ≡ true → Levelled w k x (getD xs (a .next - 1) 0) (a .height) (b .height)
   pub next : r .ok ≡ true → r .next ≡ b .next
   pub tall : r .ok ≡ true → r .height ≡ suc (max (a .height) (b .height))
@@ -132,7 +133,7 @@ covers-not e f =
       complete = λ p. absurd (f p);
     }
 
-pub covers : {w : Words} {k x s h n : ℕ} {xs : List ℕ} {a b : Filled} → s ≡ x - 4096 → getD xs (a .next - 1) 0 ≡ s → a .height ≤ b .height + 1 → b .height ≤ a .height + 1 → h ≡ heightAt w k x → n ≡ suc (max (a .height) (b .height)) → h ≡ n → Covers w k x xs a b (record { ok = true; next = b .next; height = h })
+pub covers : {w : Words} {k x s h n : ℕ} {xs : List ℕ} {a b : Filled} → s ≡ x - mostSlots → getD xs (a .next - 1) 0 ≡ s → a .height ≤ b .height + 1 → b .height ≤ a .height + 1 → h ≡ heightAt w k x → n ≡ suc (max (a .height) (b .height)) → h ≡ n → Covers w k x xs a b (record { ok = true; next = b .next; height = h })
 covers {w} {k} {x} es e l r eh en d =
     record {
       low = omega (arith, height-at-most w k x);

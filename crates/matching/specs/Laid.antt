@@ -9,6 +9,7 @@ use lib.ListN.{length}
 use lib.IntN.{ℤ}
 use Rattle.trees.specs.Tree.{Tree, leaf, node, height, leaves, last, Avl, avl-leaf, avl-node}
 use Rattle.trees.specs.Leaves.{last-leaf}
+use Rattle.table.specs.Fields.{baseField, mostSlots, numberField, rateField}
 use Rattle.table.specs.Words.{Words}
 use Rattle.table.specs.Layout.{cap, cap-most, cell, linkAt}
 use Rattle.table.specs.Items.{Item}
@@ -18,7 +19,7 @@ use Rattle.table.specs.Rep.{childField, heightField, childAt, heightAt, refOf, 
 
 -- what slot s holds
 abbrev pub itemAt : Words → ℕ → Item
-itemAt w s = record { slot = s; offer = record { number = cell w 0 s; rate = cell w 1 s; base = cell w 2 s } }
+itemAt w s = record { slot = s; offer = record { number = cell w numberField s; rate = cell w rateField s; base = cell w baseField s } }
 
 abbrev pub itemsAt : Words → List ℕ → List Item
 itemsAt w ss = map (itemAt w) ss
@@ -66,22 +67,22 @@ pub record Laid (w : Words) (k x : ℕ) (t : Tree Item) : Type 0 where
 pub record Children (w : Words) (k x : ℕ) (l r : Tree Item) : Type 0 where
   pub left : Laid w k (childAt w k false x) l
   pub right : Laid w k (childAt w k true x) r
-  pub seam : x - 4096 ≡ last l .slot
+  pub seam : x - mostSlots ≡ last l .slot
   pub stored : heightAt w k x ≡ suc (max (height l) (height r))
   pub level : height l ≤ suc (height r)
   pub level′ : height r ≤ suc (height l)
 
 module _ {w : Words} {k x : ℕ} where
-  pub laid-leaf-low : {a : Item} → Laid w k x (leaf a) → x ≤ 4096
+  pub laid-leaf-low : {a : Item} → Laid w k x (leaf a) → x ≤ mostSlots
   laid-leaf-low {a} h = omega (arith, h .root, h .placed a (List·Memᴰ·head refl) .high, cap-most w)
 
-  pub laid-node-high : {l r : Tree Item} → Laid w k x (node l r) → 4096 < x
+  pub laid-node-high : {l r : Tree Item} → Laid w k x (node l r) → mostSlots < x
   laid-node-high {l} {r} h = omega (arith, h .root, h .placed (last l) (Memᴰ·append-left (leaves r) (last-leaf l)) .low)
 
   pub laid-children : {l r : Tree Item} → Laid w k x (node l r) → Children w k x l r
   laid-children {l} {r} h = go (h .tied) (h .balanced)
     where
-      here : x - 4096 ≡ last l .slot
+      here : x - mostSlots ≡ last l .slot
       here = omega (arith, h .root)
 
       go : Tied w k (node l r) → Avl (node l r) → Children w k x l r
@@ -95,7 +96,7 @@ module _ {w : Words} {k x : ℕ} where
             level′ = hr;
           }
 
-  pub laid-node : {l r : Tree Item} → Laid w k (childAt w k false x) l → Laid w k (childAt w k true x) r → x - 4096 ≡ last l .slot → 4096 < x → heightAt w k x ≡ suc (max (height l) (height r)) → height l ≤ suc (height r) → height r ≤ suc (height l) → Laid w k x (node l r)
+  pub laid-node : {l r : Tree Item} → Laid w k (childAt w k false x) l → Laid w k (childAt w k true x) r → x - mostSlots ≡ last l .slot → mostSlots < x → heightAt w k x ≡ suc (max (height l) (height r)) → height l ≤ suc (height r) → height r ≤ suc (height l) → Laid w k x (node l r)
   laid-node {l} {r} a b here d eh hl hr =
       record {
         root = omega arith;

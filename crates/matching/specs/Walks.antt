@@ -9,6 +9,7 @@ use lib.Seq.{getD-at}
 use Rattle.lists.specs.Bools.{never}
 use Rattle.trees.specs.Tree.{Tree, leaf, node, height, leaves, last}
 use Rattle.trees.specs.Leaves.{some-leaf, leaves-last, start}
+use Rattle.table.specs.Fields.{mostNodes, mostSlots}
 use Rattle.table.specs.Words.{Words}
 use Rattle.table.specs.Items.{Item}
 use Rattle.table.specs.Rep.{childAt}
@@ -37,20 +38,20 @@ module _ {w : Words} {k x a b h : ℕ} {xs : List ℕ} (g : Written w k x xs a b
 
 -- ---- limit used up
 
-pub fills-deep : {w : Words} {k x limit at : ℕ} {xs : List ℕ} {r : Filled} → 4096 < x → limit ≡ 0 → Fails r → Fills w k x limit xs xs at r
+pub fills-deep : {w : Words} {k x limit at : ℕ} {xs : List ℕ} {r : Filled} → mostSlots < x → limit ≡ 0 → Fails r → Fills w k x limit xs xs at r
 fills-deep {w} {k} {x} {limit} {at} d e f = fills-none f (record { refuted = go })
   where
-    go : (t : Tree Item) → Laid w k x t → height t ≤ limit → at + length (leaves t) ≤ 8192 → ⊥
+    go : (t : Tree Item) → Laid w k x t → height t ≤ limit → at + length (leaves t) ≤ mostNodes → ⊥
     go (leaf a) p q m = omega (arith, laid-leaf-low p)
     go (node l r) p q m = omega arith
 
 -- ---- the two children
 
-module _ {w : Words} {k x limit at : ℕ} {xs xs₁ : List ℕ} {a : Filled} (d : 4096 < x) (more : limit ≡ 0 → ⊥) (A : Fills w k (childAt w k false x) (limit - 1) xs xs₁ at a) where
+module _ {w : Words} {k x limit at : ℕ} {xs xs₁ : List ℕ} {a : Filled} (d : mostSlots < x) (more : limit ≡ 0 → ⊥) (A : Fills w k (childAt w k false x) (limit - 1) xs xs₁ at a) where
   pub fills-left-not : a .ok ≡ false → Fills w k x limit xs xs₁ at a
   fills-left-not e = fills-not (A .long) (A .same) (record { not = e; flat = A .low }) (record { refuted = go })
     where
-      go : (t : Tree Item) → Laid w k x t → height t ≤ limit → at + length (leaves t) ≤ 8192 → ⊥
+      go : (t : Tree Item) → Laid w k x t → height t ≤ limit → at + length (leaves t) ≤ mostNodes → ⊥
       go (leaf b) p q m = omega (arith, laid-leaf-low p)
       go (node l r) p q m = never (A .complete l (laid-children p .left) (omega arith) (omega (arith, length-append (leaves l) (leaves r)))) e
 
@@ -68,14 +69,14 @@ module _ {w : Words} {k x limit at : ℕ} {xs xs₁ : List ℕ} {a : Filled} (d 
     left-room : (l : Tree Item) → Laid w k (childAt w k false x) l → a .next ≡ at + length (leaves l)
     left-room l p = omega (arith, A .inside t, written-length (A .sound t), ap (λ (s : Tree Item). length (leaves s)) (left-is l p))
 
-    right-ok : (l r : Tree Item) → Laid w k x (node l r) → height (node l r) ≤ limit → at + length (leaves l ++ leaves r) ≤ 8192 → b .ok ≡ true
+    right-ok : (l r : Tree Item) → Laid w k x (node l r) → height (node l r) ≤ limit → at + length (leaves l ++ leaves r) ≤ mostNodes → b .ok ≡ true
     right-ok l r p q m =
         B .complete r (laid-children p .right) (omega arith) (omega (arith, length-append (leaves l) (leaves r), left-room l (laid-children p .left)))
 
     pub fills-right-not : b .ok ≡ false → Fills w k x limit xs xs₂ at b
     fills-right-not e = fills-not long-both same-both (record { not = e; flat = B .low }) (record { refuted = go })
       where
-        go : (t : Tree Item) → Laid w k x t → height t ≤ limit → at + length (leaves t) ≤ 8192 → ⊥
+        go : (t : Tree Item) → Laid w k x t → height t ≤ limit → at + length (leaves t) ≤ mostNodes → ⊥
         go (leaf c) p q m = omega (arith, laid-leaf-low p)
         go (node l r) p q m = never (right-ok l r p q m) e
 
@@ -134,6 +135,6 @@ module _ {w : Words} {k x limit at : ℕ} {xs xs₁ : List ℕ} {a : Filled} (d 
             complete = go;
           }
         where
-          go : (s : Tree Item) → Laid w k x s → height s ≤ limit → at + length (leaves s) ≤ 8192 → r .ok ≡ true
+          go : (s : Tree Item) → Laid w k x s → height s ≤ limit → at + length (leaves s) ≤ mostNodes → r .ok ≡ true
           go (leaf c) p q m = absurd (omega (arith, laid-leaf-low p))
           go (node l s) p q m = C .complete (levelled l s p)

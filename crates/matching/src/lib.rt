@@ -6,12 +6,18 @@ ghost use lib.ListN.{length, getD};
 ghost use lib.IntN.{pos};
 ghost use lib.Signed.{ltZ};
 ghost use Rattle.offers.specs.Offers.{between, offerInRange};
+ghost use Rattle.table.specs.Fields.{mostNodes, mostSlots};
 ghost use Rattle.table.specs.Words.{word};
 ghost use Rattle.table.specs.Layout.{cell};
 ghost use Rattle.matching.specs.Deciding.{Decides, Every, Agree};
 ghost use Rattle.matching.specs.Laid.{itemAt};
 ghost use Rattle.matching.specs.Loops.{FallsHere, RangedHere, NextHere, PlaceOf, Moved};
 ghost use Rattle.matching.specs.Fills.{Fails, Fills, Ended, Covers};
+
+// A scratch array has two halves, with an entry for each slot in either: what is read first, and what is compared with it.
+pub const SCRATCH: usize = 8192;
+
+pub const SECOND_HALF: usize = 4096;
 
 // Word `at` is that number, and not only read as such.
 pub fn tells(part: &[i64], at: usize, number: u32) -> bool
@@ -35,8 +41,8 @@ pub struct Filled {
 }
 
 // Entry `i` of the scratch array.
-pub fn entry(scratch: &[u32; 8192], i: usize) -> u32
-    requires { ⌜ i < 8192 ⌝ }
+pub fn entry(scratch: &[u32; SCRATCH], i: usize) -> u32
+    requires { ⌜ i < mostNodes ⌝ }
     ensures { λ r. ⌜ r ≡ getD (now (scratch .entry)) i 0 ⌝ }
 {
     scratch[i]
@@ -53,9 +59,9 @@ fn nothing() -> Filled
 }
 
 // Writes leaf `x` at place `at`.
-fn fill_leaf(part: &[i64], x: u32, scratch: &mut [u32; 8192], at: usize) -> Filled
-    requires { ⌜ length (now scratch) ≡ 8192 ⌝ }
-    ensures { λ r. ⌜ (x ≤ 4096 → (k limit : ℕ) → Fills (now (part .entry)) k x limit (now (scratch .entry)) (now (scratch .exit)) at r) ⌝ }
+fn fill_leaf(part: &[i64], x: u32, scratch: &mut [u32; SCRATCH], at: usize) -> Filled
+    requires { ⌜ length (now scratch) ≡ mostNodes ⌝ }
+    ensures { λ r. ⌜ (x ≤ mostSlots → (k limit : ℕ) → Fills (now (part .entry)) k x limit (now (scratch .entry)) (now (scratch .exit)) at r) ⌝ }
 {
     if x < 1 {
         return nothing();
@@ -63,7 +69,7 @@ fn fill_leaf(part: &[i64], x: u32, scratch: &mut [u32; 8192], at: usize) -> Fill
     if table::capacity(part) < x {
         return nothing();
     }
-    if 8192 <= at {
+    if SCRATCH <= at {
         return nothing();
     }
     scratch[at] = x;
@@ -76,7 +82,7 @@ fn fill_leaf(part: &[i64], x: u32, scratch: &mut [u32; 8192], at: usize) -> Fill
 
 // The height of a node over two trees.
 fn height_over(left: u32, right: u32) -> u32
-    requires { ⌜ (left ≤ 8192) × (right ≤ 8192) ⌝ }
+    requires { ⌜ (left ≤ mostNodes) × (right ≤ mostNodes) ⌝ }
     ensures { λ r. ⌜ r ≡ suc (max left right) ⌝ }
 {
     if left < right {
@@ -86,7 +92,7 @@ fn height_over(left: u32, right: u32) -> u32
 }
 
 // Node `x` over the trees of the two walks, the first of which ended with the leaf in the slot where `x` is kept.
-fn cover(part: &[i64], tree: u8, x: u32, scratch: &[u32; 8192], a: Filled, b: Filled) -> Filled
+fn cover(part: &[i64], tree: u8, x: u32, scratch: &[u32; SCRATCH], a: Filled, b: Filled) -> Filled
     requires { ⌜ Ended a b ⌝ }
     ensures { λ r. ⌜ Covers (now (part .entry)) tree x (now (scratch .entry)) a b r ⌝ }
 {
@@ -120,14 +126,14 @@ pub fn fill(
     part: &[i64],
     tree: u8,
     x: u32,
-    scratch: &mut [u32; 8192],
+    scratch: &mut [u32; SCRATCH],
     at: usize,
     limit: u32,
 ) -> Filled
-    requires { ⌜ length (now scratch) ≡ 8192 ⌝ }
+    requires { ⌜ length (now scratch) ≡ mostNodes ⌝ }
     ensures { λ r. ⌜ Fills (now (part .entry)) tree x limit (now (scratch .entry)) (now (scratch .exit)) at r ⌝ }
 {
-    if x <= 4096 {
+    if x <= table::MOST_SLOTS {
         return fill_leaf(part, x, scratch, at);
     }
     if limit == 0 {
@@ -159,8 +165,8 @@ pub fn fill(
 }
 
 // The two stretches of `count` entries from `a` and from `b` on are the same.
-pub fn same(scratch: &[u32; 8192], a: usize, b: usize, count: usize) -> bool
-    requires { ⌜ (a + count ≤ 8192) × (b + count ≤ 8192) ⌝ }
+pub fn same(scratch: &[u32; SCRATCH], a: usize, b: usize, count: usize) -> bool
+    requires { ⌜ (a + count ≤ mostNodes) × (b + count ≤ mostNodes) ⌝ }
     ensures { λ r. ⌜ Decides r (Agree (now (scratch .entry)) a b count) ⌝ }
 {
     let mut k = 0;
@@ -174,8 +180,8 @@ pub fn same(scratch: &[u32; 8192], a: usize, b: usize, count: usize) -> bool
 }
 
 // The first place of `slot` from `from` up to `to`, and `to` where it has none.
-pub fn place(scratch: &[u32; 8192], from: usize, to: usize, slot: u32) -> usize
-    requires { ⌜ (from ≤ to) × (to ≤ 8192) ⌝ }
+pub fn place(scratch: &[u32; SCRATCH], from: usize, to: usize, slot: u32) -> usize
+    requires { ⌜ (from ≤ to) × (to ≤ mostNodes) ⌝ }
     ensures { λ r. ⌜ PlaceOf (now (scratch .entry)) from to slot r ⌝ }
 {
     let mut i = from;
@@ -189,8 +195,8 @@ pub fn place(scratch: &[u32; 8192], from: usize, to: usize, slot: u32) -> usize
 }
 
 // Moves the `count` entries from `from` on down to `to`.
-pub fn shift(scratch: &mut [u32; 8192], to: usize, from: usize, count: usize)
-    requires { ⌜ (length (now scratch) ≡ 8192) × (to ≤ from) × (from + count ≤ 8192) ⌝ }
+pub fn shift(scratch: &mut [u32; SCRATCH], to: usize, from: usize, count: usize)
+    requires { ⌜ (length (now scratch) ≡ mostNodes) × (to ≤ from) × (from + count ≤ mostNodes) ⌝ }
     ensures { λ _. ⌜ Moved (now (scratch .entry)) (now (scratch .exit)) to from count ⌝ }
 {
     let mut k = 0;
@@ -209,8 +215,8 @@ fn falls(part: &[i64], field: usize, a: u32, b: u32) -> bool
 }
 
 // A field falls from slot to slot, from place `from` up to `to`.
-pub fn falling(part: &[i64], field: usize, scratch: &[u32; 8192], from: usize, to: usize) -> bool
-    requires { ⌜ (from ≤ to) × (to ≤ 8192) ⌝ }
+pub fn falling(part: &[i64], field: usize, scratch: &[u32; SCRATCH], from: usize, to: usize) -> bool
+    requires { ⌜ (from ≤ to) × (to ≤ mostNodes) ⌝ }
     ensures { λ r. ⌜ Decides r (Every (FallsHere (now (part .entry)) field (now (scratch .entry))) from (to - 1)) ⌝ }
 {
     let mut i = from;
@@ -244,8 +250,8 @@ fn ranged(part: &[i64], slot: u32) -> bool
 }
 
 // All slots from place `from` up to `to` hold offers in range.
-pub fn all_ranged(part: &[i64], scratch: &[u32; 8192], from: usize, to: usize) -> bool
-    requires { ⌜ (from ≤ to) × (to ≤ 8192) ⌝ }
+pub fn all_ranged(part: &[i64], scratch: &[u32; SCRATCH], from: usize, to: usize) -> bool
+    requires { ⌜ (from ≤ to) × (to ≤ mostNodes) ⌝ }
     ensures { λ r. ⌜ Decides r (Every (RangedHere (now (part .entry)) (now (scratch .entry))) from to) ⌝ }
 {
     let mut i = from;

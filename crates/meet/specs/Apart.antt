@@ -21,6 +21,7 @@ use Rattle.trees.specs.Leaves.{first-leaf, last-leaf}
 use Rattle.trees.specs.Order.{up-to-last}
 use Rattle.dynamic.specs.OfferTree.{Held, heldShape}
 use Rattle.dynamic.specs.Valid.{bookLines}
+use Rattle.table.specs.Fields.{mostNodes, offerTree, offersRootWord, rateField}
 use Rattle.table.specs.Words.{Words, word, upTo}
 use Rattle.table.specs.Layout.{cell}
 use Rattle.table.specs.Items.{Item}
@@ -81,19 +82,19 @@ not-mixed ls rs h =
 
 -- ---- the ends that the code found
 
-module _ {w : Words} {s : State} {x : ℕ} {h : Held Item} (b : Book w s (some h)) (at-root : x ≡ upTo 8192 (word w 1)) where
-  offers-rep : Rep w 1 x (heldShape h)
+module _ {w : Words} {s : State} {x : ℕ} {h : Held Item} (b : Book w s (some h)) (at-root : x ≡ upTo mostNodes (word w offersRootWord)) where
+  offers-rep : Rep w offerTree x (heldShape h)
   offers-rep = record { kind = omega arith; root = at-root ∙ offers-read b; slots = b .offers .offers-in .slots; tied = b .offers .offers-in .tied }
 
-  last-rate : {e : ℕ} → Ended w 1 true x e → cell w 1 e ≡ rateOf (last (heldShape h))
-  last-rate f = ap (cell w 1) (f .is (heldShape h) offers-rep (b .offers .offers-in .right .balanced)) ∙ b .offers .offers-in .kept .held (last-leaf (heldShape h)) .rate
+  last-rate : {e : ℕ} → Ended w offerTree true x e → cell w rateField e ≡ rateOf (last (heldShape h))
+  last-rate f = ap (cell w rateField) (f .is (heldShape h) offers-rep (b .offers .offers-in .right .balanced)) ∙ b .offers .offers-in .kept .held (last-leaf (heldShape h)) .rate
 
-  first-rate : {e : ℕ} → Ended w 1 false x e → cell w 1 e ≡ rateOf (first (heldShape h))
-  first-rate f = ap (cell w 1) (f .is (heldShape h) offers-rep (b .offers .offers-in .right .balanced)) ∙ b .offers .offers-in .kept .held (first-leaf (heldShape h)) .rate
+  first-rate : {e : ℕ} → Ended w offerTree false x e → cell w rateField e ≡ rateOf (first (heldShape h))
+  first-rate f = ap (cell w rateField) (f .is (heldShape h) offers-rep (b .offers .offers-in .right .balanced)) ∙ b .offers .offers-in .kept .held (first-leaf (heldShape h)) .rate
 
 pub sets-apart :
     {w w′ : Words} {x y a b : ℕ} {rate : ℤ} {r : Bool} →
-    x ≡ upTo 8192 (word w 1) → y ≡ upTo 8192 (word w′ 1) → Ended w 1 true x a → Ended w′ 1 false y b → rate ≡ cell w′ 1 b → r ≡ ltZ rate (cell w 1 a) →
+    x ≡ upTo mostNodes (word w offersRootWord) → y ≡ upTo mostNodes (word w′ offersRootWord) → Ended w offerTree true x a → Ended w′ offerTree false y b → rate ≡ cell w′ rateField b → r ≡ ltZ rate (cell w rateField a) →
     SetsApart w w′ r
 sets-apart {w} {w′} {x} {y} {a} {b} {rate} {r} ex ey ea eb er e =
     record {

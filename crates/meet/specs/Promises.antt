@@ -22,6 +22,7 @@ use Rattle.meeting.specs.Machine.{meet}
 use Rattle.dynamic.specs.OfferTree.{Held}
 use Rattle.dynamic.specs.Valid.{bookLines}
 use Rattle.dynamic.specs.Bridged.{Bridged}
+use Rattle.table.specs.Fields.{capacityWord}
 use Rattle.table.specs.Words.{word}
 use Rattle.table.specs.Items.{Item}
 use Rattle.pieces.specs.Pieces.{items}
@@ -35,7 +36,7 @@ use Rattle.meet.specs.declared.Met.the-variants.{Meeting, Declined}
 -- on words of any content
 abbrev pub noBookTrials : (t : List ℤ) (start : ℕ) (t′ : List ℤ) (start′ : ℕ) → List Trial
 noBookTrials t start t′ start′ =
-    noBook when (noBookAt (length t) start (word (partOf t start) 0) || noBookAt (length t′) start′ (word (partOf t′ start′) 0)) ∷ []
+    noBook when (noBookAt (length t) start (word (partOf t start) capacityWord) || noBookAt (length t′) start′ (word (partOf t′ start′) capacityWord)) ∷ []
 
 -- on two books, of the offers live in each: a book is empty, or some rate of the first is not above some rate of the second
 abbrev pub meetTrials : (first second : List Offer) → List Trial

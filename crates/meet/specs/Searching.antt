@@ -22,6 +22,7 @@ use Rattle.meeting.specs.Machine.{meet}
 use Rattle.dynamic.specs.OfferTree.{Held, heldShape}
 use Rattle.dynamic.specs.Valid.{bookLines}
 use Rattle.dynamic.specs.Bridged.{Bridged, faces, search-bridges}
+use Rattle.table.specs.Fields.{envelopeRootWord, liveCountWord, mostNodes, numberField, pieceTree}
 use Rattle.table.specs.Words.{Words, word, upTo}
 use Rattle.table.specs.Layout.{cell}
 use Rattle.table.specs.Items.{Item}
@@ -48,13 +49,13 @@ pub record Searches (w w′ : Words) (r : Met) : Type 0 where
 
 -- what the code has read
 pub record Reads (w w′ : Words) (l r : ℕ) (m : Ended) (u v : ℤ) (hl hr : ℕ) : Type 0 where
-  pub left-root : l ≡ upTo 8192 (word w 2)
-  pub right-root : r ≡ upTo 8192 (word w′ 2)
+  pub left-root : l ≡ upTo mostNodes (word w envelopeRootWord)
+  pub right-root : r ≡ upTo mostNodes (word w′ envelopeRootWord)
   pub searched : Meets w w′ l r m
-  pub left-number : u ≡ cell w 0 (m .u)
-  pub right-number : v ≡ cell w′ 0 (m .v)
-  pub left-height : hl ≡ heightAt w 0 l
-  pub right-height : hr ≡ heightAt w′ 0 r
+  pub left-number : u ≡ cell w numberField (m .u)
+  pub right-number : v ≡ cell w′ numberField (m .v)
+  pub left-height : hl ≡ heightAt w pieceTree l
+  pub right-height : hr ≡ heightAt w′ pieceTree r
 
 kept : {w : Words} {x : ℕ} {ls : List Item} {t : Tree Item} → Top w x ls t → Kept w x t
 kept {w} p =
@@ -75,12 +76,12 @@ module _ {w w′ : Words} {l r : ℕ} {m : Ended} {u v : ℤ} {hl hr : ℕ} (f :
 
     number-u : u ≡ numberOf (about .u)
     number-u =
-        f .left-number ∙ ap (cell w 0) (ends .u ∙ ap refOf (about .met .atLeft))
+        f .left-number ∙ ap (cell w numberField) (ends .u ∙ ap refOf (about .met .atLeft))
         ∙ p .pieces .holds .held (among (about .upTo) (about .beyond) (about .left-pieces)) .number
 
     number-v : v ≡ numberOf (about .v)
     number-v =
-        f .right-number ∙ ap (cell w′ 0) (ends .v ∙ ap refOf (about .met .atRight))
+        f .right-number ∙ ap (cell w′ numberField) (ends .v ∙ ap refOf (about .met .atRight))
         ∙ q .pieces .holds .held (among (about .short) (about .from) (about .right-pieces)) .number
 
     -- the envelope of both, as plain offers
@@ -113,17 +114,17 @@ declines : {held held′ : Option (Held Item)} {k : Cause} → FirstOf (meetTria
 declines f = record { declined = λ z g. ap (λ (n : ℕ). refused (pos n)) (sym (one-cause f g)); accepted = λ g. absurd (not-clear f g) }
 
 -- what the count says of a book
-module _ {w : Words} {s : State} {held : Option (Held Item)} (b : Book w s held) {e : Bool} (t : e ≡ ltb (upTo 8192 (word w 3)) 1) where
+module _ {w : Words} {s : State} {held : Option (Held Item)} (b : Book w s held) {e : Bool} (t : e ≡ ltb (upTo mostNodes (word w liveCountWord)) 1) where
   bare-book : e ≡ true → T (leb (length (plainOffers held)) 0)
-  bare-book h = le→leb (length (plainOffers held)) 0 (omega (arith, ltb→lt (upTo 8192 (word w 3)) 1 (said t h), count-read b, length-map (bookLines held) offerOf))
+  bare-book h = le→leb (length (plainOffers held)) 0 (omega (arith, ltb→lt (upTo mostNodes (word w liveCountWord)) 1 (said t h), count-read b, length-map (bookLines held) offerOf))
 
   some-offer : e ≡ false → 1 ≤ length (bookLines held)
-  some-offer h = omega (arith, nltb→le (upTo 8192 (word w 3)) 1 (denied t h), count-read b)
+  some-offer h = omega (arith, nltb→le (upTo mostNodes (word w liveCountWord)) 1 (denied t h), count-read b)
 
   live-book : e ≡ false → T (not (leb (length (plainOffers held)) 0))
   live-book h = lt→nleb (length (plainOffers held)) 0 (omega (arith, some-offer h, length-map (bookLines held) offerOf))
 
-module _ {w w′ : Words} {e e′ : Bool} (t : e ≡ ltb (upTo 8192 (word w 3)) 1) (t′ : e′ ≡ ltb (upTo 8192 (word w′ 3)) 1) where
+module _ {w w′ : Words} {e e′ : Bool} (t : e ≡ ltb (upTo mostNodes (word w liveCountWord)) 1) (t′ : e′ ≡ ltb (upTo mostNodes (word w′ liveCountWord)) 1) where
   pub second-empty : e′ ≡ true → MeetsParts w w′ (Declined (pos 9))
   second-empty h = record { answers = λ s s′ held held′ b b′. declines (at-once (or-right (leb (length (plainOffers held)) 0) (leb (length (plainOffers held′)) 0) (bare-book b′ t′ h))) }
 
@@ -155,5 +156,5 @@ module _ {w w′ : Words} {e e′ : Bool} (t : e ≡ ltb (upTo 8192 (word w 3)) 
               accepted = λ k. f .finds b b′ (s .apart n b b′);
             }
 
-pub first-empty : {w w′ : Words} {e : Bool} → e ≡ ltb (upTo 8192 (word w 3)) 1 → e ≡ true → MeetsParts w w′ (Declined (pos 9))
+pub first-empty : {w w′ : Words} {e : Bool} → e ≡ ltb (upTo mostNodes (word w liveCountWord)) 1 → e ≡ true → MeetsParts w w′ (Declined (pos 9))
 first-empty t h = record { answers = λ s s′ held held′ b b′. declines (at-once (or-left (leb (length (plainOffers held)) 0) (leb (length (plainOffers held′)) 0) (bare-book b t h))) }

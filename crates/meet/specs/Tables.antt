@@ -10,6 +10,7 @@ use Rattle.lists.specs.Bools.{or-left, or-right, not-either, said, denied}
 use Rattle.plain.specs.Causes.{noBook}
 use Rattle.plain.specs.Book.{noBookAt}
 use Rattle.plain.specs.Rules.{FirstOf, at-once}
+use Rattle.table.specs.Fields.{capacityWord}
 use Rattle.table.specs.Words.{Words, word}
 use Rattle.book.specs.Promises.{partOf}
 use Rattle.book.specs.Plainly.{book-there}
@@ -21,31 +22,31 @@ use Rattle.meet.specs.Promises.{noBookTrials, refused, MeetsBooks}
 use Rattle.meet.specs.Searching.{MeetsParts}
 
 module _ (t : List ℤ) (start : ℕ) (t′ : List ℤ) (start′ : ℕ) {n : Bool} where
-  pub first-missing : n ≡ noBookAt (length t) start (word (partOf t start) 0) → n ≡ true → MeetsBooks t start t′ start′ (Declined (pos 3))
+  pub first-missing : n ≡ noBookAt (length t) start (word (partOf t start) capacityWord) → n ≡ true → MeetsBooks t start t′ start′ (Declined (pos 3))
   first-missing e h =
       record {
         declined = λ z g. ap (λ (k : ℕ). refused (pos k)) (sym (one-cause none-there g));
-        answers = λ s s′ held held′ b b′. absurd (T-not (noBookAt (length t) start (word (partOf t start) 0)) (book-there start t b) (said e h));
+        answers = λ s s′ held held′ b b′. absurd (T-not (noBookAt (length t) start (word (partOf t start) capacityWord)) (book-there start t b) (said e h));
       }
     where
       none-there : FirstOf (noBookTrials t start t′ start′) noBook
-      none-there = at-once (or-left (noBookAt (length t) start (word (partOf t start) 0)) (noBookAt (length t′) start′ (word (partOf t′ start′) 0)) (said e h))
+      none-there = at-once (or-left (noBookAt (length t) start (word (partOf t start) capacityWord)) (noBookAt (length t′) start′ (word (partOf t′ start′) capacityWord)) (said e h))
 
-  pub second-missing : n ≡ noBookAt (length t′) start′ (word (partOf t′ start′) 0) → n ≡ true → MeetsBooks t start t′ start′ (Declined (pos 3))
+  pub second-missing : n ≡ noBookAt (length t′) start′ (word (partOf t′ start′) capacityWord) → n ≡ true → MeetsBooks t start t′ start′ (Declined (pos 3))
   second-missing e h =
       record {
         declined = λ z g. ap (λ (k : ℕ). refused (pos k)) (sym (one-cause none-there g));
-        answers = λ s s′ held held′ b b′. absurd (T-not (noBookAt (length t′) start′ (word (partOf t′ start′) 0)) (book-there start′ t′ b′) (said e h));
+        answers = λ s s′ held held′ b b′. absurd (T-not (noBookAt (length t′) start′ (word (partOf t′ start′) capacityWord)) (book-there start′ t′ b′) (said e h));
       }
     where
       none-there : FirstOf (noBookTrials t start t′ start′) noBook
-      none-there = at-once (or-right (noBookAt (length t) start (word (partOf t start) 0)) (noBookAt (length t′) start′ (word (partOf t′ start′) 0)) (said e h))
+      none-there = at-once (or-right (noBookAt (length t) start (word (partOf t start) capacityWord)) (noBookAt (length t′) start′ (word (partOf t′ start′) capacityWord)) (said e h))
 
-  module _ {n′ : Bool} (e : n ≡ noBookAt (length t) start (word (partOf t start) 0)) (h : n ≡ false) (e′ : n′ ≡ noBookAt (length t′) start′ (word (partOf t′ start′) 0)) (h′ : n′ ≡ false) where
+  module _ {n′ : Bool} (e : n ≡ noBookAt (length t) start (word (partOf t start) capacityWord)) (h : n ≡ false) (e′ : n′ ≡ noBookAt (length t′) start′ (word (partOf t′ start′) capacityWord)) (h′ : n′ ≡ false) where
     pub both-there : {r : Met} → MeetsParts (take (length t - start) (drop start t)) (take (length t′ - start′) (drop start′ t′)) r → MeetsBooks t start t′ start′ r
     both-there {r} m =
         record {
-          declined = λ z g. absurd (not-clear g (not-either (noBookAt (length t) start (word (partOf t start) 0)) (noBookAt (length t′) start′ (word (partOf t′ start′) 0)) (denied e h) (denied e′ h′), tt));
+          declined = λ z g. absurd (not-clear g (not-either (noBookAt (length t) start (word (partOf t start) capacityWord)) (noBookAt (length t′) start′ (word (partOf t′ start′) capacityWord)) (denied e h) (denied e′ h′), tt));
           answers = parts .answers;
         }
       where

@@ -2,6 +2,7 @@
 // and they may be one table.
 ghost use mathlib.Core.Path.{_≡_};
 ghost use lib.Dec.{ltb};
+ghost use Rattle.table.specs.Fields.{liveCountWord, mostNodes};
 ghost use Rattle.table.specs.Words.{word, upTo};
 ghost use Rattle.meet.specs.Promises.{MeetsBooks};
 ghost use Rattle.meet.specs.Apart.{SetsApart};
@@ -22,34 +23,34 @@ pub enum Met {
 
 // No offer is live.
 fn is_empty(part: &[i64]) -> bool
-    ensures { λ r. ⌜ r ≡ ltb (upTo 8192 (word (now (part .entry)) 3)) 1 ⌝ }
+    ensures { λ r. ⌜ r ≡ ltb (upTo mostNodes (word (now (part .entry)) liveCountWord)) 1 ⌝ }
 {
-    table::number_at(part, 3, 8192) < 1
+    table::number_at(part, table::LIVE_COUNT, table::MOST_NODES) < 1
 }
 
 // Every rate of the left is above every rate of the right: the last of the left is above the first of the right.
 fn stand_apart(left: &[i64], right: &[i64]) -> bool
     ensures { λ r. ⌜ SetsApart (now (left .entry)) (now (right .entry)) r ⌝ }
 {
-    let x = table::number_at(left, 1, 8192);
-    let y = table::number_at(right, 1, 8192);
-    let a = descents::end(left, 1, true, x);
-    let b = descents::end(right, 1, false, y);
-    let rate = table::get(right, 1, b);
-    table::is_above(left, 1, a, rate)
+    let x = table::number_at(left, table::OFFERS_ROOT, table::MOST_NODES);
+    let y = table::number_at(right, table::OFFERS_ROOT, table::MOST_NODES);
+    let a = descents::end(left, table::OFFERS, true, x);
+    let b = descents::end(right, table::OFFERS, false, y);
+    let rate = table::get(right, table::RATE, b);
+    table::is_above(left, table::RATE, a, rate)
 }
 
 // Searches the meeting of the two root envelopes.
 fn search_roots(left: &[i64], right: &[i64]) -> Met
     ensures { λ r. ⌜ Searches (now (left .entry)) (now (right .entry)) r ⌝ }
 {
-    let l = table::number_at(left, 2, 8192);
-    let r = table::number_at(right, 2, 8192);
+    let l = table::number_at(left, table::ENVELOPE_ROOT, table::MOST_NODES);
+    let r = table::number_at(right, table::ENVELOPE_ROOT, table::MOST_NODES);
     let m = search::meet(left, right, l, r);
-    let u = table::get(left, 0, m.u);
-    let v = table::get(right, 0, m.v);
-    let hl = table::height(left, 0, l);
-    let hr = table::height(right, 0, r);
+    let u = table::get(left, table::NUMBER, m.u);
+    let v = table::get(right, table::NUMBER, m.v);
+    let hl = table::height(left, table::PIECES, l);
+    let hr = table::height(right, table::PIECES, r);
     Met::Meeting {
         u: u,
         v: v,

@@ -21,6 +21,7 @@ use Rattle.trees.specs.Balanced.{AvlP}
 use Rattle.dynamic.specs.OfferTree.{OfferTree, single, fork, shape}
 use Rattle.dynamic.specs.Valid.{Valid, valid-fork}
 use Rattle.dynamic.specs.Lower.{valid-env}
+use Rattle.table.specs.Fields.{bridgeLeftField, bridgeRightField, mostSlots, offerTree}
 use Rattle.table.specs.Words.{Words}
 use Rattle.table.specs.Layout.{linkAt}
 use Rattle.table.specs.Items.{Item}
@@ -44,13 +45,13 @@ pub record Joins (w : Words) (x : ℕ) (xs : List ℕ) (at mid to i j : ℕ) : T
   pub left-high : i < mid
   pub right-low : mid ≤ j
   pub right-high : j < to
-  pub u-at : linkAt w 10 (x - 4096) ≡ getD xs i 0
-  pub v-at : linkAt w 11 (x - 4096) ≡ getD xs j 0
+  pub u-at : linkAt w bridgeLeftField (x - mostSlots) ≡ getD xs i 0
+  pub v-at : linkAt w bridgeRightField (x - mostSlots) ≡ getD xs j 0
   pub u-first : Every (λ k. getD xs k 0 ≢ getD xs i 0) at i
   pub v-first : Every (λ k. getD xs k 0 ≢ getD xs j 0) mid j
   pub bridges : Bridges w xs at mid to i j
-  pub left-rest : RestTree w (childAt w 1 false x) (span xs (suc i) mid)
-  pub right-rest : RestTree w (childAt w 1 true x) (span xs mid j)
+  pub left-rest : RestTree w (childAt w offerTree false x) (span xs (suc i) mid)
+  pub right-rest : RestTree w (childAt w offerTree true x) (span xs mid j)
 
 -- ---- a list is cut in one way about a place
 
@@ -145,18 +146,18 @@ module _
       left-rest-in : RestIn w (DL .offers) (J .left-rest .tree .whole)
       left-rest-in =
           record {
-            root = sym (rest-is (DL .offers) (subst (Laid w 1 (childAt w 1 false x)) (sym (DL .shape-is)) (kids .left))) ∙ J .left-rest .word ∙ ap pos (J .left-rest .tree .root);
+            root = sym (rest-is (DL .offers) (subst (Laid w 1 (childAt w offerTree false x)) (sym (DL .shape-is)) (kids .left))) ∙ J .left-rest .word ∙ ap pos (J .left-rest .tree .root);
             pieces = J .left-rest .tree .pieces;
           }
 
       right-rest-in : RestIn w (DR .offers) (J .right-rest .tree .whole)
       right-rest-in =
           record {
-            root = sym (rest-is (DR .offers) (subst (Laid w 1 (childAt w 1 true x)) (sym (DR .shape-is)) (kids .right))) ∙ J .right-rest .word ∙ ap pos (J .right-rest .tree .root);
+            root = sym (rest-is (DR .offers) (subst (Laid w 1 (childAt w offerTree true x)) (sym (DR .shape-is)) (kids .right))) ∙ J .right-rest .word ∙ ap pos (J .right-rest .tree .root);
             pieces = J .right-rest .tree .pieces;
           }
 
-      seam-at : last (shape (DL .offers)) .slot ≡ x - 4096
+      seam-at : last (shape (DL .offers)) .slot ≡ x - mostSlots
       seam-at = ap (λ (t : Tree Item). last t .slot) (DL .shape-is) ∙ sym (kids .seam)
 
       joint : OfferTree Item
@@ -165,7 +166,7 @@ module _
       joint-stored : Stored w joint
       unfolding joint u v
       joint-stored =
-          stored-fork (DL .stored) (DR .stored) (ap (linkAt w 10) seam-at ∙ J .u-at) (ap (linkAt w 11) seam-at ∙ J .v-at) left-rest-in right-rest-in
+          stored-fork (DL .stored) (DR .stored) (ap (linkAt w bridgeLeftField) seam-at ∙ J .u-at) (ap (linkAt w bridgeRightField) seam-at ∙ J .v-at) left-rest-in right-rest-in
 
       abbrev pieces : List Item
       pieces = merged w xs at mid to (leaves l) (leaves r) (stands .ordered) (decorated-env DL) (decorated-env DR) joint-known upper lower i j (J .left-low) (J .left-high) (J .right-low) (J .right-high)
@@ -213,8 +214,8 @@ module _
         (es : List Item)
         (el : shape ol ≡ l)
         (er : shape or ≡ r)
-        (eu : linkAt w 10 (last (shape ol) .slot) ≡ u .slot)
-        (ev : linkAt w 11 (last (shape ol) .slot) ≡ v .slot)
+        (eu : linkAt w bridgeLeftField (last (shape ol) .slot) ≡ u .slot)
+        (ev : linkAt w bridgeRightField (last (shape ol) .slot) ≡ v .slot)
         (rl : RestIn w ol ql)
         (rr : RestIn w or qr)
         (upTo from : List Item)
@@ -248,7 +249,7 @@ module _
         abbrev j : ℕ
         j = mid + length (partLeaves qr)
 
-        seam-slot : x - 4096 ≡ last (shape ol) .slot
+        seam-slot : x - mostSlots ≡ last (shape ol) .slot
         seam-slot = kids .seam ∙ ap (λ (t : Tree Item). last t .slot) (sym el)
 
         low-i : at ≤ i
@@ -273,8 +274,8 @@ module _
                 left-high = cl .inside;
                 right-low = low-j;
                 right-high = cr .inside;
-                u-at = ap (linkAt w 10) seam-slot ∙ eu ∙ ap (λ (a : Item). a .slot) (sym (cl .here));
-                v-at = ap (linkAt w 11) seam-slot ∙ ev ∙ ap (λ (a : Item). a .slot) (sym (cr .here));
+                u-at = ap (linkAt w bridgeLeftField) seam-slot ∙ eu ∙ ap (λ (a : Item). a .slot) (sym (cl .here));
+                v-at = ap (linkAt w bridgeRightField) seam-slot ∙ ev ∙ ap (λ (a : Item). a .slot) (sym (cr .here));
                 u-first = first-place w xs at mid i (ordered-sublist items (decorated-env DL .sub) (stands-left stands .ordered)) low-i (cl .inside);
                 v-first = first-place w xs mid to j (ordered-sublist items (decorated-env DR .sub) (stands-right stands .ordered)) low-j (cr .inside);
                 bridges =
@@ -283,13 +284,13 @@ module _
                 left-rest =
                     record {
                       root = partRef ql;
-                      word = rest-is ol (subst (Laid w 1 (childAt w 1 false x)) (sym el) (kids .left)) ∙ rl .root;
+                      word = rest-is ol (subst (Laid w 1 (childAt w offerTree false x)) (sym el) (kids .left)) ∙ rl .root;
                       tree = record { whole = ql; root = refl; over = sym (cl .back); pieces = rl .pieces; balanced = al };
                     };
                 right-rest =
                     record {
                       root = partRef qr;
-                      word = rest-is or (subst (Laid w 1 (childAt w 1 true x)) (sym er) (kids .right)) ∙ rr .root;
+                      word = rest-is or (subst (Laid w 1 (childAt w offerTree true x)) (sym er) (kids .right)) ∙ rr .root;
                       tree = record { whole = qr; root = refl; over = sym (cr .front); pieces = rr .pieces; balanced = ar };
                     };
               };

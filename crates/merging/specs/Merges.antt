@@ -8,6 +8,7 @@ use native.Mathlib.Decide.{decLt}
 use native.Mathlib.Omega.{arith}
 use lib.ListN.{length, getD}
 use Rattle.lists.specs.Bools.{never}
+use Rattle.table.specs.Fields.{bridgeLeftField, bridgeRightField, mostSlots, offerTree}
 use Rattle.table.specs.Words.{Words}
 use Rattle.table.specs.Layout.{linkAt}
 use Rattle.table.specs.Rep.{childAt}
@@ -23,7 +24,7 @@ use Rattle.merging.specs.Joints.{Joins}
 pub record Merges (w : Words) (x : ℕ) (xs xs′ : List ℕ) (at mid to : ℕ) (r : Walked) : Type 0 where
   pub long : length xs′ ≡ length xs
   pub same : (i : ℕ) → i < at → getD xs′ i 0 ≡ getD xs i 0
-  pub inside : r .ok ≡ true → (at < r .next) × (r .next ≤ 4096)
+  pub inside : r .ok ≡ true → (at < r .next) × (r .next ≤ mostSlots)
   pub sound : AllKnown w (span xs at to) → r .ok ≡ true → (i : ℕ) × (j : ℕ) × Joins w x xs at mid to i j × (span xs′ at (r .next) ≡ span xs at (suc i) ++ span xs j to)
   pub complete : AllKnown w (span xs at to) → (i j : ℕ) → Joins w x xs at mid to i j → r .ok ≡ true
 
@@ -33,12 +34,12 @@ pub record Refuses (r : Walked) : Type 0 where
 -- the words below 4,096 are as they were
 pub record Upper (xs xs′ : List ℕ) : Type 0 where
   pub long : length xs′ ≡ length xs
-  pub same : (i : ℕ) → i < 4096 → getD xs′ i 0 ≡ getD xs i 0
+  pub same : (i : ℕ) → i < mostSlots → getD xs′ i 0 ≡ getD xs i 0
 
 pub upper-refl : {xs : List ℕ} → Upper xs xs
 upper-refl = record { long = refl; same = λ i h. refl }
 
-pub merges-not : {w : Words} {x at mid to : ℕ} {xs xs′ : List ℕ} {r : Walked} → Upper xs xs′ → at ≤ 4096 → Refuses r → (AllKnown w (span xs at to) → (i j : ℕ) → Joins w x xs at mid to i j → ⊥) → Merges w x xs xs′ at mid to r
+pub merges-not : {w : Words} {x at mid to : ℕ} {xs xs′ : List ℕ} {r : Walked} → Upper xs xs′ → at ≤ mostSlots → Refuses r → (AllKnown w (span xs at to) → (i j : ℕ) → Joins w x xs at mid to i j → ⊥) → Merges w x xs xs′ at mid to r
 merges-not u m e n =
     record {
       long = u .long;
@@ -63,17 +64,17 @@ first-is {xs} {a} {b} {s} {i} {k} P l h e f = go (decLt i k) (decLt k i)
 pub record Two (at mid to : ℕ) : Type 0 where
   pub upper : at ≤ mid
   pub lower : mid ≤ to
-  pub room : to ≤ 4096
+  pub room : to ≤ mostSlots
 
 -- the first places of u and v, or the stretches' ends
 pub record Left (w : Words) (x : ℕ) (xs : List ℕ) (at mid to i : ℕ) : Type 0 where
   pub two : Two at mid to
-  pub place : PlaceOf xs at mid (linkAt w 10 (x - 4096)) i
+  pub place : PlaceOf xs at mid (linkAt w bridgeLeftField (x - mostSlots)) i
 
 pub record Right (w : Words) (x : ℕ) (xs : List ℕ) (at mid to i j : ℕ) : Type 0 where
   pub left : Left w x xs at mid to i
   pub high : i < mid
-  pub place : PlaceOf xs mid to (linkAt w 11 (x - 4096)) j
+  pub place : PlaceOf xs mid to (linkAt w bridgeRightField (x - mostSlots)) j
 
 -- u and v are there, and bridge the stretches
 pub record Middle (w : Words) (x : ℕ) (xs : List ℕ) (at mid to i j : ℕ) : Type 0 where
@@ -81,11 +82,11 @@ pub record Middle (w : Words) (x : ℕ) (xs : List ℕ) (at mid to i j : ℕ) : 
   pub high : j < to
   pub bridges : Bridges w xs at mid to i j
 
-pub left-place : {w : Words} {x at mid to g s i : ℕ} {xs : List ℕ} → Two at mid to → g ≡ x - 4096 → s ≡ linkAt w 10 g → PlaceOf xs at mid s i → Left w x xs at mid to i
-left-place {w} {at} {mid} {i} {xs} two eg es P = record { two = two; place = subst (λ (n : ℕ). PlaceOf xs at mid n i) (es ∙ ap (linkAt w 10) eg) P }
+pub left-place : {w : Words} {x at mid to g s i : ℕ} {xs : List ℕ} → Two at mid to → g ≡ x - mostSlots → s ≡ linkAt w bridgeLeftField g → PlaceOf xs at mid s i → Left w x xs at mid to i
+left-place {w} {at} {mid} {i} {xs} two eg es P = record { two = two; place = subst (λ (n : ℕ). PlaceOf xs at mid n i) (es ∙ ap (linkAt w bridgeLeftField) eg) P }
 
-pub right-place : {w : Words} {x at mid to g t i j : ℕ} {xs : List ℕ} → Left w x xs at mid to i → i < mid → g ≡ x - 4096 → t ≡ linkAt w 11 g → PlaceOf xs mid to t j → Right w x xs at mid to i j
-right-place {w} {mid} {to} {j} {xs} left h eg et Q = record { left = left; high = h; place = subst (λ (n : ℕ). PlaceOf xs mid to n j) (et ∙ ap (linkAt w 11) eg) Q }
+pub right-place : {w : Words} {x at mid to g t i j : ℕ} {xs : List ℕ} → Left w x xs at mid to i → i < mid → g ≡ x - mostSlots → t ≡ linkAt w bridgeRightField g → PlaceOf xs mid to t j → Right w x xs at mid to i j
+right-place {w} {mid} {to} {j} {xs} left h eg et Q = record { left = left; high = h; place = subst (λ (n : ℕ). PlaceOf xs mid to n j) (et ∙ ap (linkAt w bridgeRightField) eg) Q }
 
 module _ {w : Words} {x at mid to i : ℕ} {xs : List ℕ} (L : Left w x xs at mid to i) where
   place-i : (a b : ℕ) → Joins w x xs at mid to a b → i ≡ a
@@ -118,13 +119,13 @@ module _ {w : Words} {x at mid to i j : ℕ} {xs : List ℕ} (R : Right w x xs a
 -- what stays with the left child, over the array as it was then
 pub record RestLeft (w : Words) (x : ℕ) (xs xs₁ : List ℕ) (mid i : ℕ) (m : Bool) : Type 0 where
   pub upper : Upper xs xs₁
-  pub told : AllKnown w (span xs (suc i) mid) → Decides m (RestTree w (childAt w 1 false x) (span xs (suc i) mid))
+  pub told : AllKnown w (span xs (suc i) mid) → Decides m (RestTree w (childAt w offerTree false x) (span xs (suc i) mid))
 
 pub record RestRight (w : Words) (x : ℕ) (xs xs₂ : List ℕ) (mid j : ℕ) (m : Bool) : Type 0 where
   pub upper : Upper xs xs₂
-  pub told : AllKnown w (span xs mid j) → Decides m (RestTree w (childAt w 1 true x) (span xs mid j))
+  pub told : AllKnown w (span xs mid j) → Decides m (RestTree w (childAt w offerTree true x) (span xs mid j))
 
-pub rest-left : {w : Words} {x mid i l : ℕ} {xs xs₁ : List ℕ} {m : Bool} → l ≡ childAt w 1 false x → Stays w l xs xs₁ (i + 1) mid m → RestLeft w x xs xs₁ mid i m
+pub rest-left : {w : Words} {x mid i l : ℕ} {xs xs₁ : List ℕ} {m : Bool} → l ≡ childAt w offerTree false x → Stays w l xs xs₁ (i + 1) mid m → RestLeft w x xs xs₁ mid i m
 rest-left {w} {x} {mid} {i} {l} {xs} {m} el S =
     record {
       upper = record { long = S .long; same = S .same };
@@ -134,7 +135,7 @@ rest-left {w} {x} {mid} {i} {l} {xs} {m} el S =
           (subst (λ (n : ℕ). AllKnown w (span xs n mid) → Decides m (RestTree w l (span xs n mid))) e (S .told));
     }
 
-pub rest-right : {w : Words} {x mid j r : ℕ} {xs xs₁ xs₂ : List ℕ} {m : Bool} → Upper xs xs₁ → j ≤ 4096 → r ≡ childAt w 1 true x → Stays w r xs₁ xs₂ mid j m → RestRight w x xs xs₂ mid j m
+pub rest-right : {w : Words} {x mid j r : ℕ} {xs xs₁ xs₂ : List ℕ} {m : Bool} → Upper xs xs₁ → j ≤ mostSlots → r ≡ childAt w offerTree true x → Stays w r xs₁ xs₂ mid j m → RestRight w x xs xs₂ mid j m
 rest-right {w} {x} {mid} {j} {r} {xs} {xs₁} {xs₂} {m} u h er S =
     record {
       upper = record { long = S .long ∙ u .long; same = λ i k. S .same i k ∙ u .same i k };

@@ -12,6 +12,7 @@ use Rattle.lists.specs.Bools.{never}
 use Rattle.trees.specs.Tree.{leaf, node, leaves, last}
 use Rattle.trees.specs.Leaves.{last-leaf}
 use Rattle.trees.specs.Operations.{Part, partLeaves}
+use Rattle.table.specs.Fields.{innerRestField, leafRestField, mostNodes, mostSlots}
 use Rattle.table.specs.Words.{Words, upTo, upTo-in}
 use Rattle.table.specs.Layout.{cap-most, cell}
 use Rattle.table.specs.Items.{Item}
@@ -25,11 +26,11 @@ use Rattle.merging.specs.PieceTrees.{AllKnown, known-placed, PieceTree, 
 -- ---- the word
 
 module _ (w : Words) {n q : ℕ} {r : Bool} where
-  pub told-inner : {m : ℕ} → 4096 < n → m ≡ n - 4096 → Decides r (cell w 20 m ≡ pos q) → Decides r (restWord w n ≡ pos q)
-  told-inner h e d = rw (lt-ltb 4096 n h) (decides-as (λ p. ap (cell w 20) (sym e) ∙ p) (λ p. ap (cell w 20) e ∙ p) d)
+  pub told-inner : {m : ℕ} → mostSlots < n → m ≡ n - mostSlots → Decides r (cell w innerRestField m ≡ pos q) → Decides r (restWord w n ≡ pos q)
+  told-inner h e d = rw (lt-ltb mostSlots n h) (decides-as (λ p. ap (cell w innerRestField) (sym e) ∙ p) (λ p. ap (cell w innerRestField) e ∙ p) d)
 
-  pub told-leaf : n ≤ 4096 → Decides r (cell w 21 n ≡ pos q) → Decides r (restWord w n ≡ pos q)
-  told-leaf h d = rw (le-ltb 4096 n h) d
+  pub told-leaf : n ≤ mostSlots → Decides r (cell w leafRestField n ≡ pos q) → Decides r (restWord w n ≡ pos q)
+  told-leaf h d = rw (le-ltb mostSlots n h) d
 
 -- ---- the piece tree
 
@@ -40,13 +41,13 @@ pub record RestTree (w : Words) (n : ℕ) (ss : List ℕ) : Type 0 where
   pub tree : PieceTree w root ss
 
 -- a root is the number of a node
-root-small : {w : Words} {q : ℕ} (ss : List ℕ) → AllKnown w ss → PieceTree w q ss → q ≤ 8192
+root-small : {w : Words} {q : ℕ} (ss : List ℕ) → AllKnown w ss → PieceTree w q ss → q ≤ mostNodes
 root-small {w} {q} ss known p = go (p .whole) (p .root) (p .over)
   where
-    high : (h : Part Item) (a : Item) → partLeaves h ≡ itemsAt w ss → List·Memᴰ a (partLeaves h) → a .slot ≤ 4096
+    high : (h : Part Item) (a : Item) → partLeaves h ≡ itemsAt w ss → List·Memᴰ a (partLeaves h) → a .slot ≤ mostSlots
     high h a o m = omega (arith, known-placed ss known a (subst (List·Memᴰ a) o m) .high, cap-most w)
 
-    go : (h : Part Item) → q ≡ partRef h → partLeaves h ≡ itemsAt w ss → q ≤ 8192
+    go : (h : Part Item) → q ≡ partRef h → partLeaves h ≡ itemsAt w ss → q ≤ mostNodes
     go none e o = omega arith
     go (some (leaf a)) e o = omega (arith, high (some (leaf a)) a o (List·Memᴰ·head refl))
     go (some (node l r)) e o = omega (arith, high (some (node l r)) (last l) o (Memᴰ·append-left (leaves r) (last-leaf l)))
@@ -55,12 +56,12 @@ root-small {w} {q} ss known p = go (p .whole) (p .root) (p .over)
 
 pub record Stays (w : Words) (n : ℕ) (xs xs′ : List ℕ) (from to : ℕ) (r : Bool) : Type 0 where
   pub long : length xs′ ≡ length xs
-  pub same : (i : ℕ) → i < 4096 → getD xs′ i 0 ≡ getD xs i 0
+  pub same : (i : ℕ) → i < mostSlots → getD xs′ i 0 ≡ getD xs i 0
   pub told : AllKnown w (span xs from to) → Decides r (RestTree w n (span xs from to))
 
 module _ {w : Words} {n q : ℕ} {b : Bool} (e : q ≡ restAt w n) (exact : Decides b (restWord w n ≡ pos q)) where
   read : (ss : List ℕ) → AllKnown w ss → (t : RestTree w n ss) → q ≡ t .root
-  read ss known t = e ∙ ap (upTo 8192) (t .word) ∙ upTo-in 8192 (t .root) (root-small ss known (t .tree))
+  read ss known t = e ∙ ap (upTo mostNodes) (t .word) ∙ upTo-in mostNodes (t .root) (root-small ss known (t .tree))
 
   pub stays-not : {from to : ℕ} {xs : List ℕ} → b ≡ false → Stays w n xs xs from to false
   stays-not {from} {to} {xs} eb =

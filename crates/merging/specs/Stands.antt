@@ -19,6 +19,7 @@ use Rattle.trees.specs.Leaves.{last-leaf}
 use Rattle.dynamic.specs.OfferTree.{OfferTree, single, fork, shape}
 use Rattle.dynamic.specs.Valid.{Valid}
 use Rattle.dynamic.specs.Lower.{valid-env}
+use Rattle.table.specs.Fields.{innerRestField, leafRestField, mostSlots, offerTree}
 use Rattle.table.specs.Words.{Words}
 use Rattle.table.specs.Layout.{cap, cap-most, cell}
 use Rattle.table.specs.Items.{Item, Apart, Slots}
@@ -41,10 +42,10 @@ pub record Stands (w : Words) (x : ℕ) (t : Tree Item) : Type 0 where
   pub ordered : Ordered items (leaves t)
 
 module _ {w : Words} {x : ℕ} {l r : Tree Item} (s : Stands w x (node l r)) where
-  pub stands-left : Stands w (childAt w 1 false x) l
+  pub stands-left : Stands w (childAt w offerTree false x) l
   stands-left = record { laid = laid-children (s .laid) .left; ranged = λ a m. s .ranged a (Memᴰ·append-left (leaves r) m); ordered = ordered-left items (leaves l) (leaves r) (s .ordered) }
 
-  pub stands-right : Stands w (childAt w 1 true x) r
+  pub stands-right : Stands w (childAt w offerTree true x) r
   stands-right = record { laid = laid-children (s .laid) .right; ranged = λ a m. s .ranged a (Memᴰ·append-right (leaves l) m); ordered = ordered-right items (leaves l) (leaves r) (s .ordered) }
 
 -- items in order are in slots of their own
@@ -92,7 +93,7 @@ decorated-env {es} d = subst (λ (u : Tree Item). Env items (leaves u) es) (d .s
 -- the word of what stays with a node, by its field
 pub rest-is : {w : Words} (t : OfferTree Item) {x : ℕ} → Laid w 1 x (shape t) → restWord w x ≡ cell w (restField t) (nodeSlot t)
 rest-is {w} (single a) {x} h =
-    rw (le-ltb 4096 x (omega (arith, h .root, h .placed a (List·Memᴰ·head refl) .high, cap-most w))) (ap (cell w 21) (h .root))
+    rw (le-ltb mostSlots x (omega (arith, h .root, h .placed a (List·Memᴰ·head refl) .high, cap-most w))) (ap (cell w leafRestField) (h .root))
 rest-is {w} (fork u v l ql qr r) {x} h =
-    let here : x - 4096 ≡ last (shape l) .slot = omega (arith, h .root) in
-    rw (lt-ltb 4096 x (omega (arith, h .root, h .placed (last (shape l)) (Memᴰ·append-left (leaves (shape r)) (last-leaf (shape l))) .low))) (ap (cell w 20) here)
+    let here : x - mostSlots ≡ last (shape l) .slot = omega (arith, h .root) in
+    rw (lt-ltb mostSlots x (omega (arith, h .root, h .placed (last (shape l)) (Memᴰ·append-left (leaves (shape r)) (last-leaf (shape l))) .low))) (ap (cell w innerRestField) here)

@@ -8,6 +8,7 @@ ghost use Rattle.matching.specs.Deciding.{Decides};
 ghost use Rattle.merging.specs.PieceTrees.{Matches};
 ghost use Rattle.merging.specs.Rests.{Stays};
 ghost use Rattle.merging.specs.Merges.{Two, Refuses, Merges};
+ghost use Rattle.table.specs.Fields.{mostNodes, mostSlots};
 
 // What the walk over the offers answers: whether it went through, and the place behind the last piece of the envelope.
 pub struct Walked {
@@ -17,8 +18,14 @@ pub struct Walked {
 
 // Node `q` of the pieces is the root of a threaded, balanced tree over the slots from place `from` up to `to`, or 0 where there are none.
 // Entries from 4,096 on are written.
-pub fn matches(part: &[i64], q: u32, scratch: &mut [u32; 8192], from: usize, to: usize) -> bool
-    requires { ⌜ (length (now scratch) ≡ 8192) × (from ≤ to) × (to ≤ 4096) ⌝ }
+pub fn matches(
+    part: &[i64],
+    q: u32,
+    scratch: &mut [u32; matching::SCRATCH],
+    from: usize,
+    to: usize,
+) -> bool
+    requires { ⌜ (length (now scratch) ≡ mostNodes) × (from ≤ to) × (to ≤ mostSlots) ⌝ }
     ensures { λ r. ⌜ Matches (now (part .entry)) q (now (scratch .entry)) (now (scratch .exit)) from to r ⌝ }
 {
     if q == 0 {
@@ -27,15 +34,22 @@ pub fn matches(part: &[i64], q: u32, scratch: &mut [u32; 8192], from: usize, to:
         }
         return false;
     }
-    let f = matching::fill(part, 0, q, scratch, 4096, 24);
+    let f = matching::fill(
+        part,
+        table::PIECES,
+        q,
+        scratch,
+        matching::SECOND_HALF,
+        table::MOST_LEVELS,
+    );
     if !f.ok {
         return false;
     }
     let next = f.next;
-    if next != 4096 + (to - from) {
+    if next != matching::SECOND_HALF + (to - from) {
         return false;
     }
-    if !matching::same(scratch, from, 4096, to - from) {
+    if !matching::same(scratch, from, matching::SECOND_HALF, to - from) {
         return false;
     }
     bridging::threaded(part, scratch, from, to)
@@ -45,15 +59,21 @@ pub fn matches(part: &[i64], q: u32, scratch: &mut [u32; 8192], from: usize, to:
 fn rest_tells(part: &[i64], n: u32, q: u32) -> bool
     ensures { λ r. ⌜ Decides r (restWord (now (part .entry)) n ≡ pos q) ⌝ }
 {
-    if 4096 < n {
-        return matching::slot_tells(part, 20, table::inner_slot(n), q);
+    if table::MOST_SLOTS < n {
+        return matching::slot_tells(part, table::INNER_REST, table::inner_slot(n), q);
     }
-    matching::slot_tells(part, 21, n, q)
+    matching::slot_tells(part, table::LEAF_REST, n, q)
 }
 
 // The slots from place `from` up to `to` stay with node `n`, in a piece tree.
-fn stays(part: &[i64], n: u32, scratch: &mut [u32; 8192], from: usize, to: usize) -> bool
-    requires { ⌜ (length (now scratch) ≡ 8192) × (from ≤ to) × (to ≤ 4096) ⌝ }
+fn stays(
+    part: &[i64],
+    n: u32,
+    scratch: &mut [u32; matching::SCRATCH],
+    from: usize,
+    to: usize,
+) -> bool
+    requires { ⌜ (length (now scratch) ≡ mostNodes) × (from ≤ to) × (to ≤ mostSlots) ⌝ }
     ensures { λ r. ⌜ Stays (now (part .entry)) n (now (scratch .entry)) (now (scratch .exit)) from to r ⌝ }
 {
     let q = form::rest(part, n);
@@ -74,30 +94,47 @@ pub fn refused() -> Walked
 pub fn merge(
     part: &[i64],
     x: u32,
-    scratch: &mut [u32; 8192],
+    scratch: &mut [u32; matching::SCRATCH],
     at: usize,
     mid: usize,
     to: usize,
 ) -> Walked
-    requires { ⌜ (length (now scratch) ≡ 8192) × Two at mid to ⌝ }
+    requires { ⌜ (length (now scratch) ≡ mostNodes) × Two at mid to ⌝ }
     ensures { λ r. ⌜ Merges (now (part .entry)) x (now (scratch .entry)) (now (scratch .exit)) at mid to r ⌝ }
 {
     let gap = table::inner_slot(x);
-    let i = matching::place(scratch, at, mid, table::link(part, 10, gap));
+    let i = matching::place(scratch, at, mid, table::link(part, table::BRIDGE_LEFT, gap));
     if mid <= i {
         return refused();
     }
-    let j = matching::place(scratch, mid, to, table::link(part, 11, gap));
+    let j = matching::place(
+        scratch,
+        mid,
+        to,
+        table::link(part, table::BRIDGE_RIGHT, gap),
+    );
     if to <= j {
         return refused();
     }
     if !bridging::bridges(part, scratch, at, mid, to, i, j) {
         return refused();
     }
-    if !stays(part, table::child(part, 1, false, x), scratch, i + 1, mid) {
+    if !stays(
+        part,
+        table::child(part, table::OFFERS, false, x),
+        scratch,
+        i + 1,
+        mid,
+    ) {
         return refused();
     }
-    if !stays(part, table::child(part, 1, true, x), scratch, mid, j) {
+    if !stays(
+        part,
+        table::child(part, table::OFFERS, true, x),
+        scratch,
+        mid,
+        j,
+    ) {
         return refused();
     }
     matching::shift(scratch, i + 1, j, to - j);

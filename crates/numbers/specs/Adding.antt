@@ -17,6 +17,7 @@ use Rattle.trees.specs.Operations.{Part, Cut, partLeaves, joinP, splitP}
 use Rattle.trees.specs.Balanced.{AvlP, near-joinP}
 use Rattle.trees.specs.Order.{Falling, falling-turning, parted}
 use Rattle.trees.specs.Split.{Clean, Low, splitP-low}
+use Rattle.table.specs.Fields.{mostLevels, numberField, numberTree}
 use Rattle.table.specs.Words.{Words}
 use Rattle.table.specs.Layout.{cap, cell}
 use Rattle.table.specs.Items.{Item, Slots, slots-left, slots-right, slots-across}
@@ -70,11 +71,11 @@ seam-new a (some t) (some u) e = e ∙ ap (λ (i : Item). i .slot) (sym (last-jo
 -- ---- the calls that add an item
 
 record Calls (s root f b g y x : ℕ) (number : ℤ) (w w₁ w₂ w₃ : Words) : Type 0 where
-  read : number ≡ cell w 0 s
-  cut : Halving 2 0 number root 24 w w₁ f b
-  end : Ended w₁ 2 true f g
-  near : Merged 2 g f s w₁ w₂ y
-  far : Merged 2 s y b w₂ w₃ x
+  read : number ≡ cell w numberField s
+  cut : Halving numberTree numberField number root mostLevels w w₁ f b
+  end : Ended w₁ numberTree true f g
+  near : Merged numberTree g f s w₁ w₂ y
+  far : Merged numberTree s y b w₂ w₃ x
 
 -- an item that is not there yet
 record Newcomer (w : Words) (s root : ℕ) (a : Item) (live : List Item) (p : Part Item) : Type 0 where
@@ -95,22 +96,22 @@ module _ {s root f b g y x : ℕ} {number : ℤ} {w w₁ w₂ w₃ : Words} {a :
   back = splitP (from numberOf number) p .back
 
   number-is : number ≡ numberOf a
-  number-is = k .read ∙ ap (cell w 0) (h .slot-is) ∙ h .holds .held (List·Memᴰ·head refl) .number
+  number-is = k .read ∙ ap (cell w numberField) (h .slot-is) ∙ h .holds .held (List·Memᴰ·head refl) .number
 
   order : partLeaves front ++ partLeaves back ≡ partLeaves p
   unfolding front back
   order = splitP-leaves (from numberOf number) p
 
-  halves : Halved 2 w w₁ f b (partLeaves p) (splitP (from numberOf number) p)
+  halves : Halved numberTree w w₁ f b (partLeaves p) (splitP (from numberOf number) p)
   halves =
       let r = numbers-rep p (h .numbers) in
       k .cut .made p numberOf r (h .numbers .numbers .balanced) (part-low w p (r .slots) (h .numbers .numbers .balanced)) (keyed-numbers (leaves-hold p (h .numbers)))
 
-  front-rep : RepP w₁ 2 f front
+  front-rep : RepP w₁ numberTree f front
   unfolding front
   front-rep = halves .front
 
-  back-rep : RepP w₁ 2 b back
+  back-rep : RepP w₁ numberTree b back
   unfolding back
   back-rep = halves .back
 
@@ -162,7 +163,7 @@ module _ {s root f b g y x : ℕ} {number : ℤ} {w w₁ w₂ w₃ : Words} {a :
   start-slots : Slots (cap w) (partLeaves start ++ partLeaves back)
   start-slots = rw start-leaves all-slots
 
-  made-start : MadeP 2 w₁ w₂ y start
+  made-start : MadeP numberTree w₁ w₂ y start
   unfolding start
   made-start =
       joined (k .near) (seam-end front (some (leaf a)) (k .end) front-rep (balanced-both .0))
@@ -184,7 +185,7 @@ module _ {s root f b g y x : ℕ} {number : ℤ} {w w₁ w₂ w₃ : Words} {a :
   unfolding start
   start-balanced = near-joinP front (some (leaf a)) (balanced-both .0) avl-leaf .avl
 
-  made-whole : MadeP 2 w₂ w₃ x whole
+  made-whole : MadeP numberTree w₂ w₃ x whole
   unfolding whole start
   made-whole =
       joined (k .far) (seam-new a front back (h .slot-is))
@@ -195,7 +196,7 @@ module _ {s root f b g y x : ℕ} {number : ℤ} {w w₁ w₂ w₃ : Words} {a :
   add-within : Within w w₃
   add-within = within-trans (k .cut .within) (within-trans (k .near .within) (k .far .within))
 
-  add-only : Only 2 (a ∷ live) w w₃
+  add-only : Only numberTree (a ∷ live) w w₃
   add-only =
       only-trans (only-more (among-in (λ c m. List·Memᴰ·tail (h .numbers .numbers .all-live c m))) (halves .only))
       (only-trans (only-more (among-in (λ c m. inside c (rw (← start-leaves) (Memᴰ·append-left (partLeaves back) m)))) (made-start .only))
@@ -212,11 +213,11 @@ module _ {s root f b g y x : ℕ} {number : ℤ} {w w₁ w₂ w₃ : Words} {a :
 
 pub added :
     {s root f b g y x : ℕ} {number : ℤ} {w w₁ w₂ w₃ : Words} →
-    number ≡ cell w 0 s →
-    Halving 2 0 number root 24 w w₁ f b →
-    Ended w₁ 2 true f g →
-    Merged 2 g f s w₁ w₂ y →
-    Merged 2 s y b w₂ w₃ x →
+    number ≡ cell w numberField s →
+    Halving numberTree numberField number root mostLevels w w₁ f b →
+    Ended w₁ numberTree true f g →
+    Merged numberTree g f s w₁ w₂ y →
+    Merged numberTree s y b w₂ w₃ x →
     Added s root w w₃ x
 added {s} {root} {f} {b} {g} {y} {x} {number} {w} {w₁} {w₂} {w₃} r c e m₁ m₂ =
     record {

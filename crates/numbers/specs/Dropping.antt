@@ -13,6 +13,7 @@ use Rattle.integers.specs.Parts.{intRules, range-parts}
 use Rattle.offers.specs.Sizes.{number-of}
 use Rattle.trees.specs.Operations.{Part}
 use Rattle.trees.specs.Order.{falling-one}
+use Rattle.table.specs.Fields.{mostLevels, numberTree}
 use Rattle.table.specs.Words.{Words}
 use Rattle.table.specs.Layout.{cap}
 use Rattle.table.specs.Items.{Item, Slots}
@@ -37,13 +38,13 @@ least-above number a h m e =
 
 -- ---- the tree thinned
 
-module _ {root x : ℕ} {w w′ : Words} {live : List Item} {p : Part Item} (number : ℤ) (k : Thinned (leastAbove number) root 24 w w′ x) (h : NumbersAt w root live p) where
+module _ {root x : ℕ} {w w′ : Words} {live : List Item} {p : Part Item} (number : ℤ) (k : Thinned (leastAbove number) root mostLevels w w′ x) (h : NumbersAt w root live p) where
   thin : Thin (leastAbove number) w w′ x p
   thin =
       let r = numbers-rep p h in
       k .made p r (h .numbers .balanced) (part-low w p (r .slots) (h .numbers .balanced)) (keyed-numbers (leaves-hold p h))
 
-  drop-only : Only 2 live w w′
+  drop-only : Only numberTree live w w′
   drop-only = only-more (among-in (h .numbers .all-live)) (thin .only)
 
   module _ (a : Item) (here : List·Memᴰ a live) (e : numberOf a ≡ number) where
@@ -56,7 +57,7 @@ module _ {root x : ℕ} {w w′ : Words} {live : List Item} {p : Part Item} (num
         (λ c i. o c (h .numbers .all-live c (sublist-mem (thin .fewer) i)) (thin .gone (h .numbers .falling) a (h .numbers .all-there a here) above-is c i))
         (λ c i. thin .kept (h .numbers .falling) a (h .numbers .all-there a here) above-is c (h .numbers .all-there c (f c i)) (d c i))
 
-pub dropped : {root x : ℕ} {number least : ℤ} {w w′ : Words} → least ≡ leastAbove number → Thinned least root 24 w w′ x → Dropped number root w w′ x
+pub dropped : {root x : ℕ} {number least : ℤ} {w w′ : Words} → least ≡ leastAbove number → Thinned least root mostLevels w w′ x → Dropped number root w w′ x
 dropped {root} {x} {number} {least} {w} {w′} above t =
     record {
       within = t .within;
@@ -64,5 +65,5 @@ dropped {root} {x} {number} {least} {w} {w′} above t =
       only = λ live p h. drop-only number thinned h;
     }
   where
-    thinned : Thinned (leastAbove number) root 24 w w′ x
-    thinned = subst (λ (z : ℤ). Thinned z root 24 w w′ x) above t
+    thinned : Thinned (leastAbove number) root mostLevels w w′ x
+    thinned = subst (λ (z : ℤ). Thinned z root mostLevels w w′ x) above t

@@ -8,6 +8,7 @@ use lib.IntN.{ℤ}
 use Rattle.trees.specs.Tree.{Tree}
 use Rattle.trees.specs.Operations.{Part, find}
 use Rattle.trees.specs.Find.{find-complete, none-find}
+use Rattle.table.specs.Fields.{numberField, numberTree}
 use Rattle.table.specs.Words.{Words}
 use Rattle.table.specs.Items.{Item}
 use Rattle.table.specs.Keys.{keyed-numbers}
@@ -17,7 +18,7 @@ use Rattle.form.specs.Form.{numberOf}
 use Rattle.numbers.specs.Numbers.{NumbersAt, FoundNumber}
 use Rattle.numbers.specs.Trees.{numbers-rep, leaves-hold}
 
-pub found-number : {number : ℤ} {root s : ℕ} {w : Words} → Found w 2 0 number root s → FoundNumber number root w s
+pub found-number : {number : ℤ} {root s : ℕ} {w : Words} → Found w numberTree numberField number root s → FoundNumber number root w s
 found-number {number} {root} {s} {w} f = record { found = found; missing = missing }
   where
     result : {live : List Item} (t : Tree Item) → NumbersAt w root live (some t) → s ≡ foundAt (find numberOf number t)

@@ -5,6 +5,7 @@ use mathlib.Core.List.{List, [], _∷_, List·Memᴰ, Pairwise}
 use Prim.Native.Nat.{ℕ}
 use lib.IntN.{ℤ}
 use Rattle.trees.specs.Operations.{Part, partLeaves}
+use Rattle.table.specs.Fields.{numberTree}
 use Rattle.table.specs.Words.{Words, word}
 use Rattle.table.specs.Layout.{cap, cell}
 use Rattle.table.specs.Items.{Item, Slots}
@@ -31,7 +32,7 @@ pub record Added (s root : ℕ) (w w′ : Words) (root′ : ℕ) : Type 0 where
   pub made :
       (a : Item) (live : List Item) (p : Part Item) → NumbersAt w root live p → s ≡ a .slot → Slots (cap w) (a ∷ live) → Holds w (a ∷ live) → ((b : Item) → List·Memᴰ b live → numberOf b ≢ numberOf a) →
       (q : Part Item) × NumbersAt w′ root′ (a ∷ live) q
-  pub only : (a : Item) (live : List Item) (p : Part Item) → NumbersAt w root live p → s ≡ a .slot → Slots (cap w) (a ∷ live) → Holds w (a ∷ live) → ((b : Item) → List·Memᴰ b live → numberOf b ≢ numberOf a) → Only 2 (a ∷ live) w w′
+  pub only : (a : Item) (live : List Item) (p : Part Item) → NumbersAt w root live p → s ≡ a .slot → Slots (cap w) (a ∷ live) → Holds w (a ∷ live) → ((b : Item) → List·Memᴰ b live → numberOf b ≢ numberOf a) → Only numberTree (a ∷ live) w w′
 
 -- the item with that number leaves
 pub record Dropped (number : ℤ) (root : ℕ) (w w′ : Words) (root′ : ℕ) : Type 0 where
@@ -39,4 +40,4 @@ pub record Dropped (number : ℤ) (root : ℕ) (w w′ : Words) (root′ : ℕ) 
   pub made :
       (a : Item) (live rest : List Item) (p : Part Item) → NumbersAt w root live p → List·Memᴰ a live → numberOf a ≡ number → ((b : Item) → List·Memᴰ b rest → List·Memᴰ b live) → ((b : Item) → List·Memᴰ b rest → b ≢ a) → ((b : Item) → List·Memᴰ b live → b ≢ a → List·Memᴰ b rest) → Slots (cap w) rest →
       (q : Part Item) × NumbersAt w′ root′ rest q
-  pub only : (live : List Item) (p : Part Item) → NumbersAt w root live p → Only 2 live w w′
+  pub only : (live : List Item) (p : Part Item) → NumbersAt w root live p → Only numberTree live w w′

@@ -17,6 +17,7 @@ use Rattle.trees.specs.Leaves.{leaves-joinP, last-leaf}
 use Rattle.trees.specs.Operations.{Part, partLeaves, partHeight, joinP}
 use Rattle.trees.specs.Balanced.{AvlP, near-joinP}
 use Rattle.trees.specs.Order.{Falling, parted, last-lowest}
+use Rattle.table.specs.Fields.{mostSlots, numberField, numberTree}
 use Rattle.table.specs.Words.{Words}
 use Rattle.table.specs.Layout.{cap, cell}
 use Rattle.table.specs.Items.{Item, In, Slots, in-left, in-right, slots-left, slots-right, slots-across}
@@ -32,46 +33,46 @@ use Rattle.numbers.specs.Trees.{among-in, seam-end, Beside, joined}
 -- what is left of p, with root y: fewer leaves in the same order; of an item just below `least`, none but it is gone
 pub record Thin (least : ℤ) (w w′ : Words) (y : ℕ) (p : Part Item) : Type 0 where
   pub left : Part Item
-  pub rep : RepP w′ 2 y left
+  pub rep : RepP w′ numberTree y left
   pub balanced : AvlP left
-  pub only : Only 2 (partLeaves p) w w′
+  pub only : Only numberTree (partLeaves p) w w′
   pub fewer : Sublistᴰ (partLeaves left) (partLeaves p)
   pub gone : Falling numberOf (partLeaves p) → (a : Item) → List·Memᴰ a (partLeaves p) → numberOf a +ℤ pos 1 ≡ least → (b : Item) → List·Memᴰ b (partLeaves left) → b ≢ a
   pub kept : Falling numberOf (partLeaves p) → (a : Item) → List·Memᴰ a (partLeaves p) → numberOf a +ℤ pos 1 ≡ least → (b : Item) → List·Memᴰ b (partLeaves p) → b ≢ a → List·Memᴰ b (partLeaves left)
 
 pub record Thinned (least : ℤ) (x limit : ℕ) (w w′ : Words) (y : ℕ) : Type 0 where
   pub within : Within w w′
-  pub made : (p : Part Item) → RepP w 2 x p → AvlP p → partHeight p ≤ limit → Keyed w 0 numberOf (partLeaves p) → Thin least w w′ y p
+  pub made : (p : Part Item) → RepP w numberTree x p → AvlP p → partHeight p ≤ limit → Keyed w numberField numberOf (partLeaves p) → Thin least w w′ y p
 
 -- ---- a leaf, or nothing
 
-empty : (w : Words) → RepP w 2 0 none
+empty : (w : Words) → RepP w numberTree 0 none
 empty w = record { kind = omega arith; root = refl; slots = record { low = λ m. elim m [ ]; high = λ m. elim m [ ]; apart = Pairwise·nil }; tied = tt }
 
 one : {a i : Item} → List·Memᴰ a (i ∷ []) → a ≡ i
 one m = ⊎-elim (λ (e : _). e) (λ n. elim n [ ]) (List·Memᴰ·cases-cons m)
 
-pub thinned-leaf : {x limit : ℕ} {w : Words} (least : ℤ) → x ≤ 4096 → Thinned least x limit w w 0
+pub thinned-leaf : {x limit : ℕ} {w : Words} (least : ℤ) → x ≤ mostSlots → Thinned least x limit w w 0
 thinned-leaf {x} {limit} {w} least h = record { within = within-refl w; made = made }
   where
-    made : (p : Part Item) → RepP w 2 x p → AvlP p → partHeight p ≤ limit → Keyed w 0 numberOf (partLeaves p) → Thin least w w 0 p
+    made : (p : Part Item) → RepP w numberTree x p → AvlP p → partHeight p ≤ limit → Keyed w numberField numberOf (partLeaves p) → Thin least w w 0 p
     made none r a n k = record { left = none; rep = empty w; balanced = tt; only = only-refl 2 [] w; fewer = Sublistᴰ·refl []; gone = λ f a m. elim m [ ]; kept = λ f a m. elim m [ ] }
     made (some (leaf i)) r a n k =
         record { left = none; rep = empty w; balanced = tt; only = only-refl 2 (i ∷ []) w; fewer = Sublistᴰ·nil-sublist (i ∷ []); gone = λ f a m e b z. elim z [ ]; kept = λ f a m e b z d. absurd (d (one z ∙ sym (one m))) }
     made (some (node s t)) r a n k = absurd (omega (arith, h, r .root, slots-left (leaves t) (r .slots) .low (last-leaf s)))
 
 -- only an inner node has such a number
-at-node : {x limit y : ℕ} {w w′ : Words} (least : ℤ) → 4096 < x → Within w w′
-    → ((s t : Tree Item) → RepP w 2 x (some (node s t)) → Avl (node s t) → height (node s t) ≤ limit → Keyed w 0 numberOf (leaves s ++ leaves t) → Thin least w w′ y (some (node s t)))
+at-node : {x limit y : ℕ} {w w′ : Words} (least : ℤ) → mostSlots < x → Within w w′
+    → ((s t : Tree Item) → RepP w numberTree x (some (node s t)) → Avl (node s t) → height (node s t) ≤ limit → Keyed w numberField numberOf (leaves s ++ leaves t) → Thin least w w′ y (some (node s t)))
     → Thinned least x limit w w′ y
 at-node {x} {limit} {y} {w} {w′} least h g step = record { within = g; made = made }
   where
-    made : (p : Part Item) → RepP w 2 x p → AvlP p → partHeight p ≤ limit → Keyed w 0 numberOf (partLeaves p) → Thin least w w′ y p
+    made : (p : Part Item) → RepP w numberTree x p → AvlP p → partHeight p ≤ limit → Keyed w numberField numberOf (partLeaves p) → Thin least w w′ y p
     made none r a n k = absurd (omega (arith, h, r .root))
     made (some (leaf i)) r a n k = absurd (omega (arith, h, leaf-low (rep-some r)))
     made (some (node s t)) r a n k = step s t r a n k
 
-pub thinned-over : {x limit : ℕ} {w : Words} (least : ℤ) → 4096 < x → limit ≡ 0 → Thinned least x limit w w 0
+pub thinned-over : {x limit : ℕ} {w : Words} (least : ℤ) → mostSlots < x → limit ≡ 0 → Thinned least x limit w w 0
 thinned-over {w} least h e = at-node least h (within-refl w) (λ s t r a n k. absurd (omega (arith, n, e)))
 
 -- ---- a child is thinned
@@ -87,15 +88,15 @@ seam-node g t none e = tt
 seam-node g t (some u) e = e
 
 -- what the test tells of the seam
-seam-test : {w : Words} {x g : ℕ} {b : Bool} {s t : Tree Item} (least : ℤ) → g ≡ x - 4096 → b ≡ leZ least (cell w 0 g) → RepP w 2 x (some (node s t)) → Keyed w 0 numberOf (leaves s ++ leaves t) → b ≡ leZ least (numberOf (last s))
+seam-test : {w : Words} {x g : ℕ} {b : Bool} {s t : Tree Item} (least : ℤ) → g ≡ x - mostSlots → b ≡ leZ least (cell w numberField g) → RepP w numberTree x (some (node s t)) → Keyed w numberField numberOf (leaves s ++ leaves t) → b ≡ leZ least (numberOf (last s))
 seam-test {w} {s} {t} least eg eb rep q =
-    eb ∙ ap (leZ least) (ap (cell w 0) (eg ∙ parents (rep-some rep) .seam-at) ∙ q .read (Memᴰ·append-left (leaves t) (last-leaf s)))
+    eb ∙ ap (leZ least) (ap (cell w numberField) (eg ∙ parents (rep-some rep) .seam-at) ∙ q .read (Memᴰ·append-left (leaves t) (last-leaf s)))
 
-module _ {x limit g l r y z : ℕ} {b : Bool} {w w₁ w₂ : Words} (least : ℤ) (inner : 4096 < x) (eg : g ≡ x - 4096) (eb : b ≡ leZ least (cell w 0 g)) (el : l ≡ childAt w 2 false x) (er : r ≡ childAt w 2 true x) where
-  pub thinned-right : b ≡ true → Thinned least r (limit - 1) w w₁ y → Merged 2 g l y w₁ w₂ z → Thinned least x limit w w₂ z
+module _ {x limit g l r y z : ℕ} {b : Bool} {w w₁ w₂ : Words} (least : ℤ) (inner : mostSlots < x) (eg : g ≡ x - mostSlots) (eb : b ≡ leZ least (cell w numberField g)) (el : l ≡ childAt w numberTree false x) (er : r ≡ childAt w numberTree true x) where
+  pub thinned-right : b ≡ true → Thinned least r (limit - 1) w w₁ y → Merged numberTree g l y w₁ w₂ z → Thinned least x limit w w₂ z
   thinned-right e rec j = at-node least inner (within-trans (rec .within) (j .within)) step
     where
-      step : (s t : Tree Item) → RepP w 2 x (some (node s t)) → Avl (node s t) → height (node s t) ≤ limit → Keyed w 0 numberOf (leaves s ++ leaves t) → Thin least w w₂ z (some (node s t))
+      step : (s t : Tree Item) → RepP w numberTree x (some (node s t)) → Avl (node s t) → height (node s t) ≤ limit → Keyed w numberField numberOf (leaves s ++ leaves t) → Thin least w w₂ z (some (node s t))
       step s t rep (avl-node a₁ a₂ h₁ h₂) n q =
           record {
             left = joinP (some s) (c .left);
@@ -122,7 +123,7 @@ module _ {x limit g l r y z : ℕ} {b : Bool} {w w₁ w₂ : Words} (least : ℤ
           fewer : Sublistᴰ (partLeaves (joinP (some s) (c .left))) (leaves s ++ leaves t)
           fewer = rw same fewer-both
 
-          m : MadeP 2 w₁ w₂ z (joinP (some s) (c .left))
+          m : MadeP numberTree w₁ w₂ z (joinP (some s) (c .left))
           m =
               joined j (seam-node g s (c .left) (eg ∙ o .seam-at))
               (record {
@@ -154,10 +155,10 @@ module _ {x limit g l r y z : ℕ} {b : Bool} {w w₁ w₂ : Words} (least : ℤ
           kept f a i d v k h =
               ⊎-elim (λ j. Memᴰ·append-left (partLeaves (c .left)) j) (λ j. Memᴰ·append-right (leaves s) (c .kept (parted (leaves s) f .right) a (there f a d i) d v j h)) (List·Memᴰ·append-cases (leaves s) k)
 
-  pub thinned-left : {p : ℕ} → b ≡ false → Thinned least l (limit - 1) w w₁ y → Ended w₁ 2 true y p → Merged 2 p y r w₁ w₂ z → Thinned least x limit w w₂ z
+  pub thinned-left : {p : ℕ} → b ≡ false → Thinned least l (limit - 1) w w₁ y → Ended w₁ numberTree true y p → Merged numberTree p y r w₁ w₂ z → Thinned least x limit w w₂ z
   thinned-left {p} e rec end j = at-node least inner (within-trans (rec .within) (j .within)) step
     where
-      step : (s t : Tree Item) → RepP w 2 x (some (node s t)) → Avl (node s t) → height (node s t) ≤ limit → Keyed w 0 numberOf (leaves s ++ leaves t) → Thin least w w₂ z (some (node s t))
+      step : (s t : Tree Item) → RepP w numberTree x (some (node s t)) → Avl (node s t) → height (node s t) ≤ limit → Keyed w numberField numberOf (leaves s ++ leaves t) → Thin least w w₂ z (some (node s t))
       step s t rep (avl-node a₁ a₂ h₁ h₂) n q =
           record {
             left = joinP (c .left) (some t);
@@ -184,7 +185,7 @@ module _ {x limit g l r y z : ℕ} {b : Bool} {w w₁ w₂ : Words} (least : ℤ
           fewer : Sublistᴰ (partLeaves (joinP (c .left) (some t))) (leaves s ++ leaves t)
           fewer = rw same fewer-both
 
-          m : MadeP 2 w₁ w₂ z (joinP (c .left) (some t))
+          m : MadeP numberTree w₁ w₂ z (joinP (c .left) (some t))
           m =
               joined j (seam-end (c .left) (some t) end (c .rep) (c .balanced))
               (record {

@@ -17,6 +17,7 @@ use Rattle.trees.specs.Operations.{Part, partLeaves, partHeight, joinP, splitP}
 use Rattle.trees.specs.Balanced.{AvlP}
 use Rattle.trees.specs.Order.{Falling, Turning}
 use Rattle.trees.specs.Split.{Clean, split-clean}
+use Rattle.table.specs.Fields.{numberField, numberTree}
 use Rattle.table.specs.Words.{Words}
 use Rattle.table.specs.Layout.{cap, cell}
 use Rattle.table.specs.Items.{Item, In, at, Slots, Apart}
@@ -44,7 +45,7 @@ falling-slots {w} {c} {xs} f s h p = record { low = λ {a} m. s .low (f a m); hi
     differ t e = omega (arith, intRules)
 
     apart : (a b : Item) → ∥ List·Memᴰ a xs ∥₁ → ∥ List·Memᴰ b xs ∥₁ → T (ltZ (numberOf b) (numberOf a)) → Apart a b
-    apart a b m n t e = ∥∥₁-elim m (λ p q. absurd p) (λ i. ∥∥₁-elim n (λ p q. absurd p) (λ j. differ t (sym (h .held i .number) ∙ ap (cell w 0) e ∙ h .held j .number)))
+    apart a b m n t e = ∥∥₁-elim m (λ p q. absurd p) (λ i. ∥∥₁-elim n (λ p q. absurd p) (λ j. differ t (sym (h .held i .number) ∙ ap (cell w numberField) e ∙ h .held j .number)))
 
 -- ---- the tree
 
@@ -52,7 +53,7 @@ module _ {w : Words} {root : ℕ} {live : List Item} (p : Part Item) (n : Number
   pub leaves-hold : Holds w (partLeaves p)
   leaves-hold = among-holds (n .numbers .all-live) (n .holds)
 
-  pub numbers-rep : RepP w 2 root p
+  pub numbers-rep : RepP w numberTree root p
   numbers-rep =
       record {
         kind = omega arith;
@@ -69,9 +70,9 @@ part-low w (some t) s a = low w s a
 -- a tree that was made of other live items
 pub numbers-made :
     {w w′ : Words} {root : ℕ} {xs live : List Item} {q : Part Item} →
-    RepP w′ 2 root q →
+    RepP w′ numberTree root q →
     Within w w′ →
-    Only 2 xs w w′ →
+    Only numberTree xs w w′ →
     Slots (cap w) live →
     Holds w live →
     AvlP q →
@@ -97,19 +98,19 @@ splitP-clean test (some t) h = split-clean test t h
 -- ---- two of them side by side
 
 -- the seam is at the end of the left one
-pub seam-end : {w : Words} {x g : ℕ} (p q : Part Item) → Ended w 2 true x g → RepP w 2 x p → AvlP p → Seam g p q
+pub seam-end : {w : Words} {x g : ℕ} (p q : Part Item) → Ended w numberTree true x g → RepP w numberTree x p → AvlP p → Seam g p q
 seam-end none q e r a = tt
 seam-end (some t) none e r a = tt
 seam-end (some t) (some u) e r a = e .is t (rep-some r) a
 
 pub record Beside (w : Words) (x y : ℕ) (p q : Part Item) : Type 0 where
-  pub left : RepP w 2 x p
-  pub right : RepP w 2 y q
+  pub left : RepP w numberTree x p
+  pub right : RepP w numberTree y q
   pub slots : Slots (cap w) (partLeaves p ++ partLeaves q)
   pub balanced-left : AvlP p
   pub balanced-right : AvlP q
 
-pub joined : {w w′ : Words} {g x y z : ℕ} {p q : Part Item} → Merged 2 g x y w w′ z → Seam g p q → Beside w x y p q → MadeP 2 w w′ z (joinP p q)
+pub joined : {w w′ : Words} {g x y z : ℕ} {p q : Part Item} → Merged numberTree g x y w w′ z → Seam g p q → Beside w x y p q → MadeP numberTree w w′ z (joinP p q)
 joined {p} {q} j s b =
     j .made p q (record { kind = b .left .kind; left = b .left .root; right = b .right .root; slots = b .slots; tied-left = b .left .tied; tied-right = b .right .tied }) s
     (b .balanced-left) (b .balanced-right)

@@ -9,20 +9,27 @@ ghost use Rattle.numbers.specs.Thinning.{Thinned};
 pub fn find(part: &[i64], root: u32, number: i64) -> u32
     ensures { λ r. ⌜ FoundNumber number root (now (part .entry)) r ⌝ }
 {
-    descents::find(part, 2, 0, number, root)
+    descents::find(part, table::NUMBERS, table::NUMBER, number, root)
 }
 
 // Adds the item in slot `s`, whose number no item of the tree has.
 pub fn add(part: &mut [i64], root: u32, s: u32) -> u32
     ensures { λ r. ⌜ Added s root (now (part .entry)) (now (part .exit)) r ⌝ }
 {
-    let number = table::get(part, 0, s);
-    let c = descents::split(part, 2, 0, number, root, 24);
+    let number = table::get(part, table::NUMBER, s);
+    let c = descents::split(
+        part,
+        table::NUMBERS,
+        table::NUMBER,
+        number,
+        root,
+        table::MOST_LEVELS,
+    );
     let f = c.front;
     let b = c.back;
-    let gap = descents::end(part, 2, true, f);
-    let y = shape::join(part, 2, gap, f, s);
-    shape::join(part, 2, s, y, b)
+    let gap = descents::end(part, table::NUMBERS, true, f);
+    let y = shape::join(part, table::NUMBERS, gap, f, s);
+    shape::join(part, table::NUMBERS, s, y, b)
 }
 
 // The least number above a number. No item's number reaches a million.
@@ -41,22 +48,22 @@ fn drop_below(part: &mut [i64], c: u32, least: i64, x: u32, limit: u32) -> u32
     requires { ⌜ c ≡ cap (now part) ⌝ }
     ensures { λ r. ⌜ Thinned least x limit (now (part .entry)) (now (part .exit)) r ⌝ }
 {
-    if x <= 4096 {
+    if x <= table::MOST_SLOTS {
         return 0;
     }
     if limit == 0 {
         return 0;
     }
     let gap = table::inner_slot(x);
-    let l = table::child_in(part, c, 2, false, x);
-    let r = table::child_in(part, c, 2, true, x);
-    if table::at_least_in(part, c, 0, gap, least) {
+    let l = table::child_in(part, c, table::NUMBERS, false, x);
+    let r = table::child_in(part, c, table::NUMBERS, true, x);
+    if table::at_least_in(part, c, table::NUMBER, gap, least) {
         let y = drop_below(part, c, least, r, limit - 1);
-        return shape::join_in(part, c, 2, gap, l, y);
+        return shape::join_in(part, c, table::NUMBERS, gap, l, y);
     }
     let y = drop_below(part, c, least, l, limit - 1);
-    let last = descents::end_in(part, c, 2, true, y);
-    shape::join_in(part, c, 2, last, y, r)
+    let last = descents::end_in(part, c, table::NUMBERS, true, y);
+    shape::join_in(part, c, table::NUMBERS, last, y, r)
 }
 
 // Drops the item with that number, and keeps the others.
@@ -65,5 +72,5 @@ pub fn drop_number(part: &mut [i64], root: u32, number: i64) -> u32
 {
     let least = least_above(number);
     let c = table::capacity(part);
-    drop_below(part, c, least, root, 24)
+    drop_below(part, c, least, root, table::MOST_LEVELS)
 }

@@ -14,6 +14,7 @@ use Rattle.trees.specs.Tree.{Tree, leaf, node, leaves, first, last, Avl}
 use Rattle.trees.specs.Leaves.{leaves-join, first-leaf, last-leaf}
 use Rattle.trees.specs.Operations.{Part, partLeaves, join, joinP}
 use Rattle.trees.specs.Balanced.{AvlP, near-join}
+use Rattle.table.specs.Fields.{denominatorField, mostNodes, nextPieceField, numeratorField, pieceTree}
 use Rattle.table.specs.Words.{Words, upTo}
 use Rattle.table.specs.Layout.{cap, cap-most, cell, cset, linkAt, cset-cap, cset-other}
 use Rattle.table.specs.Items.{Item, In, at, in-left, in-right, Slots, slots-left, slots-right, slots-across}
@@ -64,17 +65,17 @@ tied-other s z n tied-leaf = tied-leaf
 tied-other {k} {f} {w} s z n (tied-node {l} {r} ol or el er eh) = tied-node (tied-other s z n ol) (tied-other s z n or) (same (a-child false refl) ∙ el) (same (a-child true refl) ∙ er) (same (a-height refl) ∙ eh)
   where
     same : {g : ℕ} → Field k g → linkAt (cset w f s z) g (last l .slot) ≡ linkAt w g (last l .slot)
-    same {g} i = ap (upTo 8192) (cset-other w f s z (λ e. n (subst (Field k) (e .0) i)))
+    same {g} i = ap (upTo mostNodes) (cset-other w f s z (λ e. n (subst (Field k) (e .0) i)))
 
-no-node : {f : ℕ} → 6 ≤ f → f ≢ 16 → ¬ Field 0 f
+no-node : {f : ℕ} → 6 ≤ f → f ≢ 16 → ¬ Field pieceTree f
 no-node {f} h d (a-child side e) = go side e
   where
-    go : (side : Bool) → f ≡ childField 0 side → ⊥
+    go : (side : Bool) → f ≡ childField pieceTree side → ⊥
     go false e = omega arith
     go true e = omega arith
 no-node h d (a-height e) = d e
 
-tied-threading : {w : Words} {t : Tree Item} (a b : Item) → Tied w 0 t → Tied (threading w a b) 0 t
+tied-threading : {w : Words} {t : Tree Item} (a b : Item) → Tied w pieceTree t → Tied (threading w a b) pieceTree t
 tied-threading a b t =
     tied-other (a .slot) (pos (b .slot)) (no-node (omega arith) (λ e. omega arith))
     (tied-other (a .slot) (crossingDenominator (a .offer) (b .offer)) (no-node (omega arith) (λ e. omega arith))
@@ -82,10 +83,10 @@ tied-threading a b t =
 
 module _ (w : Words) (a b : Item) where
   w₁ : Words
-  w₁ = cset w 6 (a .slot) (crossingNumerator (a .offer) (b .offer))
+  w₁ = cset w numeratorField (a .slot) (crossingNumerator (a .offer) (b .offer))
 
   w₂ : Words
-  w₂ = cset (cset w 6 (a .slot) (crossingNumerator (a .offer) (b .offer))) 7 (a .slot) (crossingDenominator (a .offer) (b .offer))
+  w₂ = cset (cset w numeratorField (a .slot) (crossingNumerator (a .offer) (b .offer))) denominatorField (a .slot) (crossingDenominator (a .offer) (b .offer))
 
   threading-within : Within w (threading w a b)
   unfolding w₁ w₂
@@ -120,7 +121,7 @@ module _ {w : Words} {l r : ℕ} {tl tr′ : Tree Item} (b : Beside w l r (some 
   here : In (last tl .slot) (leaves tl ++ leaves tr′)
   here = in-left (leaves tr′) (at (last-leaf tl) refl)
 
-  pair-threaded : PairP (threading w (last tl) (first tr′)) 0 l r (some tl) (some tr′)
+  pair-threaded : PairP (threading w (last tl) (first tr′)) pieceTree l r (some tl) (some tr′)
   pair-threaded =
       record {
         kind = omega arith;
@@ -138,7 +139,7 @@ module _ {w : Words} {l r : ℕ} {tl tr′ : Tree Item} (b : Beside w l r (some 
       (threading-next w (last tl) (first tr′) (b .left .slots .low (last-leaf tl)) (b .left .slots .high (last-leaf tl)) (omega (arith, b .right .slots .high (first-leaf tr′), cap-most w)))
       (threaded-still (b .right .pieces .1) (λ s k. threading-thread w (last tl) (first tr′) (λ e. slots-across (leaves tl) (b .slots) (at (last-leaf tl) e) (leads-in k))))
 
-  standing-joined : {w₄ : Words} {x : ℕ} → MadeP 0 (threading w (last tl) (first tr′)) w₄ x (some (join tl tr′)) → Standing w₄ x (some (join tl tr′))
+  standing-joined : {w₄ : Words} {x : ℕ} → MadeP pieceTree (threading w (last tl) (first tr′)) w₄ x (some (join tl tr′)) → Standing w₄ x (some (join tl tr′))
   standing-joined m =
       record {
         root = m .rep .root;
@@ -148,7 +149,7 @@ module _ {w : Words} {l r : ℕ} {tl tr′ : Tree Item} (b : Beside w l r (some 
         pieces = (m .rep .tied, rw (leaves-join tl tr′) (threaded-still all-threaded (λ s k. only-thread (m .only) (omega arith) s)));
       }
 
-  only-joined : {w₄ : Words} {x : ℕ} → MadeP 0 (threading w (last tl) (first tr′)) w₄ x (some (join tl tr′)) → PiecesOnly (leaves tl ++ leaves tr′) w w₄
+  only-joined : {w₄ : Words} {x : ℕ} → MadeP pieceTree (threading w (last tl) (first tr′)) w₄ x (some (join tl tr′)) → PiecesOnly (leaves tl ++ leaves tr′) w w₄
   only-joined m = record { cells = λ f s d. m .only .cells f s (λ q. d (of-node (q .0), subst (In s) (leaves-join tl tr′) (q .1))) ∙ threading-only w (last tl) (first tr′) here .cells f s d }
 
 -- what the code reads of an item that its slot holds
@@ -158,11 +159,11 @@ rate-read {w} {a} h = rw (h .rate) (bounded-in (negℤ (pos 100_000)) (pos 100_0
 base-read : {w : Words} {a : Item} → Held w a → baseAt w (a .slot) ≡ a .offer .base
 base-read {w} {a} h = rw (h .base) (bounded-in (negℤ (pos 1_000_000_000)) (pos 1_000_000_000) (a .offer .base) (base-of (a .offer) (h .ranged)))
 
-standing-rep : {w : Words} {x : ℕ} {t : Tree Item} → Standing w x (some t) → Rep w 0 x t
+standing-rep : {w : Words} {x : ℕ} {t : Tree Item} → Standing w x (some t) → Rep w pieceTree x t
 standing-rep h = record { kind = omega arith; root = h .root; slots = h .slots; tied = h .pieces .0 }
 
 module _
-    {w w₃ : Words} {l r s n : ℕ} {tl tr′ : Tree Item} (wired : w₃ ≡ cset (cset (cset w 6 s (baseAt w n -ℤ baseAt w s)) 7 s (rateAt w s -ℤ rateAt w n)) 19 s (pos n))
+    {w w₃ : Words} {l r s n : ℕ} {tl tr′ : Tree Item} (wired : w₃ ≡ cset (cset (cset w numeratorField s (baseAt w n -ℤ baseAt w s)) denominatorField s (rateAt w s -ℤ rateAt w n)) nextPieceField s (pos n))
     (left-is : s ≡ last tl .slot) (right-is : n ≡ first tr′ .slot) (b : Beside w l r (some tl) (some tr′)) where
   wired-is : w₃ ≡ threading w (last tl) (first tr′)
   wired-is =
@@ -170,13 +171,13 @@ module _
       let q : Held w (first tr′) = b .right .holds .held (first-leaf tr′) in
       wired ∙ rw (left-is, right-is, base-read p, base-read q, rate-read p, rate-read q) refl
 
-  joined : {w₄ : Words} {x : ℕ} → Merged 0 s l r w₃ w₄ x → MadeP 0 (threading w (last tl) (first tr′)) w₄ x (some (join tl tr′))
-  joined {w₄} {x} m = subst (λ (v : Words). Merged 0 s l r v w₄ x) wired-is m .made (some tl) (some tr′) (pair-threaded b) left-is (b .left .balanced) (b .right .balanced)
+  joined : {w₄ : Words} {x : ℕ} → Merged pieceTree s l r w₃ w₄ x → MadeP pieceTree (threading w (last tl) (first tr′)) w₄ x (some (join tl tr′))
+  joined {w₄} {x} m = subst (λ (v : Words). Merged pieceTree s l r v w₄ x) wired-is m .made (some tl) (some tr′) (pair-threaded b) left-is (b .left .balanced) (b .right .balanced)
 
-  cat-root : {w₄ : Words} {x : ℕ} → Merged 0 s l r w₃ w₄ x → Standing w₄ x (some (join tl tr′))
+  cat-root : {w₄ : Words} {x : ℕ} → Merged pieceTree s l r w₃ w₄ x → Standing w₄ x (some (join tl tr′))
   cat-root m = standing-joined b (joined m)
 
-  cat-only : {w₄ : Words} {x : ℕ} → Merged 0 s l r w₃ w₄ x → PiecesOnly (leaves tl ++ leaves tr′) w w₄
+  cat-only : {w₄ : Words} {x : ℕ} → Merged pieceTree s l r w₃ w₄ x → PiecesOnly (leaves tl ++ leaves tr′) w w₄
   cat-only m = only-joined b (joined m)
 
 -- The crossing and the next piece are written, and the trees are joined.
@@ -186,15 +187,15 @@ pub seamed :
     r ≢ 0 →
     N ≡ baseAt w n -ℤ baseAt w s →
     D ≡ rateAt w s -ℤ rateAt w n →
-    w₃ ≡ cset (cset (cset w 6 s N) 7 s D) 19 s (pos n) →
-    Merged 0 s l r w₃ w₄ x →
+    w₃ ≡ cset (cset (cset w numeratorField s N) denominatorField s D) nextPieceField s (pos n) →
+    Merged pieceTree s l r w₃ w₄ x →
     Seamed l r s n w w₄ x
 seamed {l} {r} {s} {n} {x} {N} {D} {w} {w₃} {w₄} nl nr eN eD e₃ m = record { within = within-trans written (m .within); root = root; only = only }
   where
     written : Within w w₃
-    written = subst (Within w) (sym e₃) (within-trans (within-cset w 6 s N) (within-trans (within-cset (cset w 6 s N) 7 s D) (within-cset (cset (cset w 6 s N) 7 s D) 19 s (pos n))))
+    written = subst (Within w) (sym e₃) (within-trans (within-cset w 6 s N) (within-trans (within-cset (cset w numeratorField s N) 7 s D) (within-cset (cset (cset w numeratorField s N) denominatorField s D) 19 s (pos n))))
 
-    wired : w₃ ≡ cset (cset (cset w 6 s (baseAt w n -ℤ baseAt w s)) 7 s (rateAt w s -ℤ rateAt w n)) 19 s (pos n)
+    wired : w₃ ≡ cset (cset (cset w numeratorField s (baseAt w n -ℤ baseAt w s)) denominatorField s (rateAt w s -ℤ rateAt w n)) nextPieceField s (pos n)
     wired = e₃ ∙ rw (eN, eD) refl
 
     root : (p q : Part Item) → Beside w l r p q → SeamAt s n p q → Standing w₄ x (joinP p q)
@@ -212,7 +213,7 @@ pub seamed-any : {l r s n x : ℕ} {w w′ : Words} → Catted l r w w′ x → 
 seamed-any c = record { within = c .within; root = λ p q b h. c .root p q b; only = λ p q b h. c .only p q b }
 
 -- the ends at the seam are found
-pub catted : {l r s n x : ℕ} {w w′ : Words} → Ended w 0 true l s → Ended w 0 false r n → Seamed l r s n w w′ x → Catted l r w w′ x
+pub catted : {l r s n x : ℕ} {w w′ : Words} → Ended w pieceTree true l s → Ended w pieceTree false r n → Seamed l r s n w w′ x → Catted l r w w′ x
 catted {l} {r} {s} {n} {x} {w} {w′} es en m = record { within = m .within; root = λ p q b. m .root p q b (ends p q b); only = λ p q b. m .only p q b (ends p q b) }
   where
     ends : (p q : Part Item) → Beside w l r p q → SeamAt s n p q

@@ -17,6 +17,7 @@ use Rattle.trees.specs.Leaves.{last-leaf}
 use Rattle.trees.specs.Operations.{Part, Cut, partLeaves, partHeight, split, splitP, afterLeft, beforeRight, allFront, allBack}
 use Rattle.trees.specs.Balanced.{AvlP}
 use Rattle.trees.specs.Split.{cutLeaves, split-leaves, splitP-low}
+use Rattle.table.specs.Fields.{mostLevels, pieceTree, rateField}
 use Rattle.table.specs.Words.{Words}
 use Rattle.table.specs.Layout.{cap, cell}
 use Rattle.table.specs.Items.{Item, In}
@@ -70,7 +71,7 @@ same-cut true rate a h = go (ltZ rate (pos 1_000_000)) (λ t. t) (λ t. t)
 
 -- ---- the parts of a cut stand
 
-part-in : {w : Words} (p : Part Item) → TiedPart w 0 p → Threaded w (partLeaves p) → PartIn w p
+part-in : {w : Words} (p : Part Item) → TiedPart w pieceTree p → Threaded w (partLeaves p) → PartIn w p
 part-in none t h = tt
 part-in (some u) t h = (t, h)
 
@@ -78,7 +79,7 @@ threaded-of : (w : Words) (p : Part Item) → PartIn w p → Threaded w (partLea
 threaded-of w none h = IsChain·nil
 threaded-of w (some u) h = h .1
 
-standing-repP : {w : Words} {x : ℕ} (p : Part Item) → Standing w x p → RepP w 0 x p
+standing-repP : {w : Words} {x : ℕ} (p : Part Item) → Standing w x p → RepP w pieceTree x p
 standing-repP none h = record { kind = omega arith; root = h .root; slots = h .slots; tied = tt }
 standing-repP (some t) h = record { kind = omega arith; root = h .root; slots = h .slots; tied = h .pieces .0 }
 
@@ -86,10 +87,10 @@ height-low : {w : Words} {x : ℕ} (p : Part Item) → Standing w x p → partHe
 height-low none h = omega arith
 height-low {w} (some t) h = low w (h .slots) (h .balanced)
 
-module _ (strict : Bool) (rate : ℤ) {x front back : ℕ} {w w′ : Words} (c : Halving 0 1 (leastRate strict rate) x 24 w w′ front back) (p : Part Item) (h : Standing w x p) where
-  halves : Halved 0 w w′ front back (partLeaves p) (splitP (inFront strict rate) p)
+module _ (strict : Bool) (rate : ℤ) {x front back : ℕ} {w w′ : Words} (c : Halving pieceTree rateField (leastRate strict rate) x mostLevels w w′ front back) (p : Part Item) (h : Standing w x p) where
+  halves : Halved pieceTree w w′ front back (partLeaves p) (splitP (inFront strict rate) p)
   halves =
-      subst (Halved 0 w w′ front back (partLeaves p)) (splitP-same (from rateOf (leastRate strict rate)) (inFront strict rate) p (λ a m. same-cut strict rate a (h .holds .held m .ranged)))
+      subst (Halved pieceTree w w′ front back (partLeaves p)) (splitP-same (from rateOf (leastRate strict rate)) (inFront strict rate) p (λ a m. same-cut strict rate a (h .holds .held m .ranged)))
       (c .made p rateOf (standing-repP p h) (h .balanced) (height-low p h) (record { read = λ m. h .holds .held m .rate }))
 
   holds-after : Holds w′ (partLeaves (splitP (inFront strict rate) p .front) ++ partLeaves (splitP (inFront strict rate) p .back))
@@ -108,7 +109,7 @@ module _ (strict : Bool) (rate : ℤ) {x front back : ℕ} {w w′ : Words} (c :
       let o = splitP (inFront strict rate) p .back in
       record { root = halves .back .root; slots = halves .back .slots; holds = holds-right (partLeaves (splitP (inFront strict rate) p .front)) holds-after; balanced = splitP-low (inFront strict rate) p (h .balanced) .back-avl; pieces = part-in o (halves .back .tied) (threaded-right (partLeaves (splitP (inFront strict rate) p .front)) threads-after) }
 
-pub cut-at : (strict : Bool) (rate : ℤ) {x front back : ℕ} {w w′ : Words} → Halving 0 1 (leastRate strict rate) x 24 w w′ front back → CutAt strict rate x w w′ front back
+pub cut-at : (strict : Bool) (rate : ℤ) {x front back : ℕ} {w w′ : Words} → Halving pieceTree rateField (leastRate strict rate) x mostLevels w w′ front back → CutAt strict rate x w w′ front back
 cut-at strict rate c =
     record {
       within = c .within;

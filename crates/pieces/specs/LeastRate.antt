@@ -10,6 +10,7 @@ use mir.Val.{SFits}
 use Rattle.integers.specs.Parts.{intRules, add-parts}
 use Rattle.integers.specs.Magnitude.{fits, natAbs-gap}
 use Rattle.offers.specs.Sizes.{base-gap-fits, rate-gap-fits}
+use Rattle.table.specs.Fields.{mostLevels, pieceTree, rateField}
 use Rattle.table.specs.Words.{Words}
 use Rattle.search.specs.Prices.{rateAt, baseAt, rate-ranged, base-ranged}
 use Rattle.descents.specs.Cuts.{Halving}
@@ -38,8 +39,8 @@ module _ (strict : Bool) (rate : ℤ) where
   unfolding leastRate
   least-most e t = rw (e, t)
 
-  pub cut-by : {least : ℤ} {x front back : ℕ} {w w′ : Words} → least ≡ leastRate strict rate → Halving 0 1 least x 24 w w′ front back → CutAt strict rate x w w′ front back
-  cut-by {least} {x} {front} {back} {w} {w′} e h = cut-at strict rate (subst (λ z. Halving 0 1 z x 24 w w′ front back) e h)
+  pub cut-by : {least : ℤ} {x front back : ℕ} {w w′ : Words} → least ≡ leastRate strict rate → Halving pieceTree rateField least x mostLevels w w′ front back → CutAt strict rate x w w′ front back
+  cut-by {least} {x} {front} {back} {w} {w′} e h = cut-at strict rate (subst (λ z. Halving pieceTree rateField z x mostLevels w w′ front back) e h)
 
 -- ---- the crossing at a seam
 

@@ -11,6 +11,7 @@ pub use Rattle.search.specs.ItemLines.{rateOf, baseOf, itemFigure as items, ite
 use Rattle.trees.specs.Tree.{Tree, leaves, first, last}
 use Rattle.trees.specs.Operations.{Part, Cut, partLeaves, joinP, splitP}
 use Rattle.trees.specs.Balanced.{AvlP}
+use Rattle.table.specs.Fields.{pieceTree}
 use Rattle.table.specs.Words.{Words}
 use Rattle.table.specs.Layout.{cap, cell}
 use Rattle.table.specs.Items.{Item, In, Slots}
@@ -23,13 +24,13 @@ use Rattle.table.specs.Threads.{Holds, Threaded}
 -- its nodes, and the thread along its leaves
 abbrev pub PartIn : Words → Part Item → Type 0
 PartIn w none = Unit {0}
-PartIn w (some t) = Tied w 0 t × Threaded w (leaves t)
+PartIn w (some t) = Tied w pieceTree t × Threaded w (leaves t)
 
 -- ---- what a change of pieces leaves alone
 
 -- nodes of the piece tree, the next piece and the crossing with it
 pub data PieceField (f : ℕ) : Type 0 where
-  of-node : Field 0 f → PieceField f
+  of-node : Field pieceTree f → PieceField f
   of-numerator : f ≡ 6 → PieceField f
   of-denominator : f ≡ 7 → PieceField f
   of-next : f ≡ 19 → PieceField f

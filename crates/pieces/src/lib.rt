@@ -23,7 +23,15 @@ pub fn cut_in(part: &mut [i64], c: u32, strict: bool, rate: i64, x: u32) -> desc
     ensures { λ r. ⌜ CutAt strict rate x (now (part .entry)) (now (part .exit)) (r .front) (r .back) ⌝ }
 {
     let least = least_rate(strict, rate);
-    descents::split_in(part, c, 0, 1, least, x, 24)
+    descents::split_in(
+        part,
+        c,
+        table::PIECES,
+        table::RATE,
+        least,
+        x,
+        table::MOST_LEVELS,
+    )
 }
 
 pub fn cut(part: &mut [i64], strict: bool, rate: i64, x: u32) -> descents::Cut
@@ -47,8 +55,18 @@ pub fn cat_at(part: &mut [i64], c: u32, l: u32, r: u32, s: u32, n: u32) -> u32
     }
     let numerator = search::prices::base_in(part, c, n) - search::prices::base_in(part, c, s);
     let denominator = search::prices::rate_in(part, c, s) - search::prices::rate_in(part, c, n);
-    table::put_three_in(part, c, s, 6, numerator, 7, denominator, 19, n as i64);
-    shape::join_in(part, c, 0, s, l, r)
+    table::put_three_in(
+        part,
+        c,
+        s,
+        table::NUMERATOR,
+        numerator,
+        table::DENOMINATOR,
+        denominator,
+        table::NEXT_PIECE,
+        n as i64,
+    );
+    shape::join_in(part, c, table::PIECES, s, l, r)
 }
 
 // The same, where the two pieces are not known.
@@ -62,8 +80,8 @@ pub fn cat_in(part: &mut [i64], c: u32, l: u32, r: u32) -> u32
     if r == 0 {
         return l;
     }
-    let s = descents::end_in(part, c, 0, true, l);
-    let n = descents::end_in(part, c, 0, false, r);
+    let s = descents::end_in(part, c, table::PIECES, true, l);
+    let n = descents::end_in(part, c, table::PIECES, false, r);
     cat_at(part, c, l, r, s, n)
 }
 

@@ -11,6 +11,7 @@ use lib.Seq.{getD-append-seam, getD-append-add}
 use Rattle.lists.specs.Places.{mem-at}
 use Rattle.trees.specs.Tree.{Tree, leaves, first, last, Avl}
 use Rattle.trees.specs.Leaves.{start, rest, leaves-first, leaves-last, first-leaf}
+use Rattle.table.specs.Fields.{mostSlots, nextPieceField, pieceTree}
 use Rattle.table.specs.Words.{Words}
 use Rattle.table.specs.Layout.{cap, cap-most, linkAt}
 use Rattle.table.specs.Items.{Item, at, Slots, slots-across, slots-most}
@@ -20,7 +21,7 @@ use Rattle.query.specs.QueriedPieces.{Pieces}
 
 -- the promise: how many pieces a balanced tree has, 0 for none
 pub record Counted (w : Words) (root r : ℕ) : Type 0 where
-  pub few : r ≤ 4096
+  pub few : r ≤ mostSlots
   pub is : (t : Tree Item) → Pieces w root t → Avl t → r ≡ length (leaves t)
   pub none : root ≡ 0 → r ≡ 0
 
@@ -52,12 +53,12 @@ pub record Passed (s n : ℕ) (xs : List Item) : Type 0 where
   pub count : n ≡ suc (length seen)
 
 pub record Along (w : Words) (root last s n : ℕ) : Type 0 where
-  pub few : n ≤ 4096
+  pub few : n ≤ mostSlots
   pub some : root ≢ 0
   pub ends : (t : Tree Item) → Pieces w root t → Avl t → last ≡ endOf true t .slot
   pub passed : (t : Tree Item) → Pieces w root t → Avl t → Passed s n (leaves t)
 
-pub along-begins : {w : Words} {root z s : ℕ} → Ended w 0 true root z → Ended w 0 false root s → s ≢ 0 → Along w root z s 1
+pub along-begins : {w : Words} {root z s : ℕ} → Ended w pieceTree true root z → Ended w pieceTree false root s → s ≢ 0 → Along w root z s 1
 along-begins e f h =
     record {
       few = omega arith;
@@ -67,14 +68,14 @@ along-begins e f h =
     }
 
 -- no leaf, no tree
-pub along-none : {w : Words} {root s : ℕ} → Ended w 0 false root s → s ≡ 0 → Counted w root 0
+pub along-none : {w : Words} {root s : ℕ} → Ended w pieceTree false root s → s ≡ 0 → Counted w root 0
 along-none f e = record { few = omega arith; is = λ t p a. absurd (omega (arith, e, f .is t (p .rep) a, p .rep .slots .low (first-leaf t))); none = λ d. refl }
 
 -- a piece that is not the last leads to the next
-pub follow : {w : Words} {xs : List Item} {s n : ℕ} → Threaded w xs → Passed s n xs → n < length xs → Passed (linkAt w 19 s) (n + 1) xs
+pub follow : {w : Words} {xs : List Item} {s n : ℕ} → Threaded w xs → Passed s n xs → n < length xs → Passed (linkAt w nextPieceField s) (n + 1) xs
 follow {w} {xs} {s} {n} c k h = go (k .ahead) (k .split)
   where
-    go : (ys : List Item) → xs ≡ k .seen ++ k .here ∷ ys → Passed (linkAt w 19 s) (n + 1) xs
+    go : (ys : List Item) → xs ≡ k .seen ++ k .here ∷ ys → Passed (linkAt w nextPieceField s) (n + 1) xs
     go [] d = absurd (omega (arith, ap length d, length-append (k .seen) (k .here ∷ []), k .count))
     go (y ∷ ys) d =
         record {
@@ -82,7 +83,7 @@ follow {w} {xs} {s} {n} c k h = go (k .ahead) (k .split)
           here = y;
           ahead = ys;
           split = d ∙ sym (append-assoc (k .seen) (k .here ∷ []) (y ∷ ys));
-          slot = ap (linkAt w 19) (k .slot) ∙ next .next;
+          slot = ap (linkAt w nextPieceField) (k .slot) ∙ next .next;
           count = omega (arith, k .count, length-append (k .seen) (k .here ∷ []));
         }
       where
@@ -112,15 +113,15 @@ module _ {w : Words} {t : Tree Item} {x z s n : ℕ} (p : Pieces w x t) (end : z
       go [] d = absurd (e (k .slot ∙ ap (λ (a : Item). a .slot) (sym (List·Memᴰ·eq-of-singleton (last-in (k .seen) (k .here) [] (start t) (last t) (sym d ∙ leaves-last t)))) ∙ sym end))
       go (y ∷ ys) d = omega (arith, ap length d, length-append (k .seen) (k .here ∷ y ∷ ys), k .count)
 
-  pub go-on : s ≢ z → Passed (linkAt w 19 s) (n + 1) (leaves t)
+  pub go-on : s ≢ z → Passed (linkAt w nextPieceField s) (n + 1) (leaves t)
   go-on e = follow (p .thread) k (not-all e)
 
   -- no more pieces than slots
-  few-passed : n ≤ 4096
+  few-passed : n ≤ mostSlots
   few-passed =
       omega (arith, ap length (k .split), length-append (k .seen) (k .here ∷ k .ahead), k .count, slots-most (cap w) (leaves t) (p .rep .slots), cap-most w)
 
-pub along-goes-on : {w : Words} {root z s s′ n : ℕ} → Along w root z s n → s ≢ z → n < 4096 → s′ ≡ linkAt w 19 s → Along w root z s′ (n + 1)
+pub along-goes-on : {w : Words} {root z s s′ n : ℕ} → Along w root z s n → s ≢ z → n < mostSlots → s′ ≡ linkAt w nextPieceField s → Along w root z s′ (n + 1)
 along-goes-on {w} {root} {z} {s} {s′} {n} g h f e =
     record {
       few = omega arith;
@@ -133,9 +134,9 @@ pub along-ends : {w : Words} {root z s n : ℕ} → Along w root z s n → s ≡
 along-ends g e = record { few = g .few; is = λ t p a. all-passed p (g .ends t p a) (g .passed t p a) e; none = λ d. absurd (g .some d) }
 
 -- the limit is used up, which no tree comes to
-pub along-over : {w : Words} {root z s n : ℕ} → Along w root z s n → s ≢ z → 4096 ≤ n → Counted w root 0
+pub along-over : {w : Words} {root z s n : ℕ} → Along w root z s n → s ≢ z → mostSlots ≤ n → Counted w root 0
 along-over {w} {root} {z} {s} {n} g h f =
     record { few = omega arith; is = λ t p a. absurd (more t p (go-on p (g .ends t p a) (g .passed t p a) h)); none = λ d. refl }
   where
-    more : (t : Tree Item) (p : Pieces w root t) → Passed (linkAt w 19 s) (n + 1) (leaves t) → ⊥
+    more : (t : Tree Item) (p : Pieces w root t) → Passed (linkAt w nextPieceField s) (n + 1) (leaves t) → ⊥
     more t p k = omega (arith, few-passed {z = last t .slot} p refl k)

@@ -7,6 +7,7 @@ use lib.Dec.{T}
 use lib.IntN.{ℤ}
 use Rattle.offers.specs.Offers.{loadInRange}
 use Rattle.trees.specs.Tree.{Tree, leaf, node, height, first, last}
+use Rattle.table.specs.Fields.{mostSlots}
 use Rattle.table.specs.Words.{Words}
 use Rattle.table.specs.Items.{Item}
 use Rattle.table.specs.Nodes.{ref-low}
@@ -44,7 +45,7 @@ step-to : {w : Words} {q : ℤ} {t : Tree Item} {x y probes : ℕ} (s : Tree Ite
 step-to s b k h p =
     record { tree = s; pieces = p; item = b .item ∙ ap (λ z. z .item) k; depth = omega (arith, b .depth, ap (λ z. z .depth) k); high = omega (arith, b .high) }
 
-pub ongoing-step : {w : Words} {root x y probes : ℕ} {q : ℤ} → Ongoing w root q x probes → 4096 < x → y ≡ towardAt w x q → Ongoing w root q y (probes + 1)
+pub ongoing-step : {w : Words} {root x y probes : ℕ} {q : ℤ} → Ongoing w root q x probes → mostSlots < x → y ≡ towardAt w x q → Ongoing w root q y (probes + 1)
 ongoing-step {w} {root} {x} {y} {probes} {q} g d e = record { below = λ t p h. subst (λ z. Below w q t z (probes + 1)) (sym e) (next t h (g .below t p h)) }
   where
     next : (t : Tree Item) → T (loadInRange q) → Below w q t x probes → Below w q t (towardAt w x q) (probes + 1)
@@ -64,16 +65,16 @@ unfolding lookup
 at-end {q} a b s e =
     record { item = e ∙ sym (ap (λ z. z .slot) (b .item ∙ ap (λ u. lookup q u .item) s)); depth = omega (arith, b .depth, ap (λ u. lookup q u .depth) s) }
 
-pub ongoing-leaf : {w : Words} {root x probes : ℕ} {q : ℤ} → Ongoing w root q x probes → x ≤ 4096 → Descended w root q x probes
+pub ongoing-leaf : {w : Words} {root x probes : ℕ} {q : ℤ} → Ongoing w root q x probes → x ≤ mostSlots → Descended w root q x probes
 ongoing-leaf {q} g d =
     record { finds = λ t p k h. let b = g .below t p h in let (a, s, e) = at-leaf (b .pieces) d in at-end a b s e }
 
 -- no node of a tree of pieces is without a child on the load's side
-pub ongoing-off : {w : Words} {root x probes : ℕ} {q : ℤ} → Ongoing w root q x probes → 4096 < x → 0 ≡ towardAt w x q → (slot found : ℕ) → Descended w root q slot found
+pub ongoing-off : {w : Words} {root x probes : ℕ} {q : ℤ} → Ongoing w root q x probes → mostSlots < x → 0 ≡ towardAt w x q → (slot found : ℕ) → Descended w root q slot found
 ongoing-off g d e slot found =
     record { finds = λ t p k h. let b = ongoing-step g d e .below t p h in absurd (omega (arith, b .pieces .rep .root, ref-low (b .tree) (b .pieces .rep .slots))) }
 
 -- a tree at most 24 high has a leaf after 24 probes
-pub ongoing-limit : {w : Words} {root x probes : ℕ} {q : ℤ} → Ongoing w root q x probes → 4096 < x → 24 ≤ probes → (slot found : ℕ) → Descended w root q slot found
+pub ongoing-limit : {w : Words} {root x probes : ℕ} {q : ℤ} → Ongoing w root q x probes → mostSlots < x → 24 ≤ probes → (slot found : ℕ) → Descended w root q slot found
 ongoing-limit {q} g d l slot found =
     record { finds = λ t p k h. let b = g .below t p h in let o = opened q (b .pieces) h d in absurd (omega (arith, b .high, ap height (o .shape))) }

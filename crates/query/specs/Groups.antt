@@ -10,6 +10,7 @@ use Rattle.lists.specs.Bools.{is-false, failed, passed, not-not, is-true}
 use Rattle.integers.specs.Ring.{var, nat, _:+_, _:*_, by-eq}
 use Rattle.offers.specs.Offers.{between, within}
 use Rattle.offers.specs.Bounded.{bounded-in}
+use Rattle.table.specs.Fields.{denominatorField, mostNodes, mostSlots, pieceTree}
 use Rattle.table.specs.Words.{Words, upTo, upTo-in, upTo-over, upTo-below}
 use Rattle.table.specs.Layout.{cap, place, Valid, cell, linkAt}
 use Rattle.table.specs.Cells.{cell-none, cell-inside, cell-there}
@@ -17,14 +18,14 @@ use Rattle.table.specs.Rep.{childField}
 use Rattle.query.specs.Readings.{clamped, rightOf, Sided, childToward, priceIn}
 
 link-out : {w : Words} {f s : ℕ} → ¬ Valid w f s → linkAt w f s ≡ 0
-link-out v = ap (upTo 8192) (sym (cell-none v)) ∙ upTo-in 8192 0 (omega arith)
+link-out v = ap (upTo mostNodes) (sym (cell-none v)) ∙ upTo-in mostNodes 0 (omega arith)
 
 -- ---- no node
 
 -- a slot that the part has not
 pub off-slot : (w : Words) (c s : ℕ) (q : ℤ) → c ≡ cap w → ¬ ((1 ≤ s) × (s ≤ c)) → 0 ≡ childToward w s q
 unfolding childToward
-off-slot w c s q e h = go (within 200_000 (cell w 7 s)) (link-out (λ v. h (v .low, omega (arith, v .high))))
+off-slot w c s q e h = go (within 200_000 (cell w denominatorField s)) (link-out (λ v. h (v .low, omega (arith, v .high))))
   where
     go : (b : Bool) {n : ℕ} → n ≡ 0 → 0 ≡ cond b n 0
     go true d = sym d
@@ -37,13 +38,13 @@ abbrev pub group : ℕ → ℕ → ℕ
 group c x = 4 * (c + 1 + x) - 16_320
 
 -- no number of a node
-no-link : (z : ℤ) → between (pos 0) (pos 8192) z ≡ false → upTo 8192 z ≡ 0
-no-link (pos n) e = upTo-over 8192 n (leb-false n 8192 (rw (le-leb 0 n (omega arith)) at e))
-no-link (negsuc n) e = upTo-below 8192 n
+no-link : (z : ℤ) → between (pos 0) (pos mostNodes) z ≡ false → upTo mostNodes z ≡ 0
+no-link (pos n) e = upTo-over mostNodes n (leb-false n mostNodes (rw (le-leb 0 n (omega arith)) at e))
+no-link (negsuc n) e = upTo-below mostNodes n
 
-module _ (w : Words) (c x : ℕ) (e : c ≡ cap w) (low : 4096 < x) (high : x ≤ c + 4096) where
+module _ (w : Words) (c x : ℕ) (e : c ≡ cap w) (low : mostSlots < x) (high : x ≤ c + mostSlots) where
   abbrev s : ℕ
-  s = x - 4096
+  s = x - mostSlots
 
   group-at : (f j : ℕ) → f ≡ 4 + j → j < 4 → group c x + j ≡ place c f s
   unfolding place
@@ -69,14 +70,14 @@ module _ (w : Words) (c x : ℕ) (e : c ≡ cap w) (low : 4096 < x) (high : x �
 
   module _ {q : ℤ} {side : ℕ} (t : Sided q ourN ourD side) (d : not (within 200_000 ourD) ≡ false) where
     -- the child's word
-    pub toward-there : upTo 8192 (getD w (group c x + side) (pos 0)) ≡ childToward w s q
+    pub toward-there : upTo mostNodes (getD w (group c x + side) (pos 0)) ≡ childToward w s q
     unfolding childToward
     toward-there =
         rw (← group-cell 7 3 (omega arith) (omega arith), ← group-cell 6 2 (omega arith) (omega arith), is-true (within 200_000 ourD) (not-not (within 200_000 ourD) (failed d)))
-        (ap (upTo 8192) (group-cell (childField 0 (rightOf q ourN ourD)) side (omega (arith, t .told)) (omega (arith, t .low))))
+        (ap (upTo mostNodes) (group-cell (childField pieceTree (rightOf q ourN ourD)) side (omega (arith, t .told)) (omega (arith, t .low))))
 
     -- it is no number of a node
-    pub off-wild : not (between (pos 0) (pos 8192) (getD w (group c x + side) (pos 0))) ≡ true → 0 ≡ childToward w s q
+    pub off-wild : not (between (pos 0) (pos mostNodes) (getD w (group c x + side) (pos 0))) ≡ true → 0 ≡ childToward w s q
     off-wild g = sym (no-link _ (is-false _ (passed g))) ∙ toward-there
 
 -- ---- a slot's number, rate and base lie side by side too

@@ -11,6 +11,7 @@ use lib.IntN.{ℤ, pos}
 use Rattle.plain.specs.Book.{pieceWords}
 use Rattle.trees.specs.Tree.{Tree, leaves, first, Avl}
 use Rattle.trees.specs.Leaves.{leaves-first}
+use Rattle.table.specs.Fields.{denominatorField, nextPieceField, numberField, numeratorField, pieceTree}
 use Rattle.table.specs.Words.{Words, wset, wset-length}
 use Rattle.table.specs.Layout.{cell, linkAt}
 use Rattle.table.specs.Items.{Item}
@@ -36,10 +37,10 @@ crossingWord w f s last = cond last (pos 0) (cell w f s)
 
 -- the three words of the piece in slot s, from place k on
 abbrev pub pieceAt : Words → ℕ → Bool → List ℤ → ℕ → List ℤ
-pieceAt w s last out k = wset (wset (wset out k (cell w 0 s)) (k + 1) (crossingWord w 6 s last)) (k + 2) (crossingWord w 7 s last)
+pieceAt w s last out k = wset (wset (wset out k (cell w numberField s)) (k + 1) (crossingWord w 6 s last)) (k + 2) (crossingWord w 7 s last)
 
 pub piece-put :
-    (w : Words) (s : ℕ) (last : Bool) (out : List ℤ) (k : ℕ) {x y z : ℤ} {out₁ out₂ out₃ : List ℤ} → x ≡ cell w 0 s → y ≡ crossingWord w 6 s last → z ≡ crossingWord w 7 s last →
+    (w : Words) (s : ℕ) (last : Bool) (out : List ℤ) (k : ℕ) {x y z : ℤ} {out₁ out₂ out₃ : List ℤ} → x ≡ cell w numberField s → y ≡ crossingWord w 6 s last → z ≡ crossingWord w 7 s last →
     out₁ ≡ wset out k x → out₂ ≡ wset out₁ (k + 1) y → out₃ ≡ wset out₂ (k + 2) z → out₃ ≡ pieceAt w s last out k
 piece-put w s last out k ex ey ez e₁ e₂ e₃ = rw (e₃, e₂, e₁, ex, ey, ez)
 
@@ -89,10 +90,10 @@ module _ {w : Words} {xs : List Item} {base : List ℤ} {s i : ℕ} {out : List 
 
   -- the piece of a is written, whose words are x, y and z
   onward :
-      (last : Bool) {x y z : ℤ} (a : Item) (ys : List Item) → cell w 0 s ≡ x → crossingWord w 6 s last ≡ y → crossingWord w 7 s last ≡ z →
-      pieceWords (map offerOf (a ∷ ys)) ≡ x ∷ y ∷ z ∷ pieceWords (map offerOf ys) → Threaded w ys → Holds w (a ∷ ys) → HeadAt (linkAt w 19 s) ys →
+      (last : Bool) {x y z : ℤ} (a : Item) (ys : List Item) → cell w numberField s ≡ x → crossingWord w 6 s last ≡ y → crossingWord w 7 s last ≡ z →
+      pieceWords (map offerOf (a ∷ ys)) ≡ x ∷ y ∷ z ∷ pieceWords (map offerOf ys) → Threaded w ys → Holds w (a ∷ ys) → HeadAt (linkAt w nextPieceField s) ys →
       i + length (a ∷ ys) ≡ length xs → h .done ++ pieceWords (map offerOf (a ∷ ys)) ≡ pieceWords (map offerOf xs) →
-      Halfway w xs base (linkAt w 19 s) (i + 1) (pieceAt w s last out (3 * i))
+      Halfway w xs base (linkAt w nextPieceField s) (i + 1) (pieceAt w s last out (3 * i))
   onward last {x} {y} {z} a ys ex ey ez e c k n l t =
       record {
         done = h .done ++ x ∷ y ∷ z ∷ [];
@@ -107,19 +108,19 @@ module _ {w : Words} {xs : List Item} {base : List ℤ} {s i : ℕ} {out : List 
       }
 
   -- the last piece is told by the count
-  pub halfway-step : (last : Bool) → (last ≡ true → suc i ≡ length xs) → (last ≡ false → suc i < length xs) → Halfway w xs base (linkAt w 19 s) (i + 1) (pieceAt w s last out (3 * i))
+  pub halfway-step : (last : Bool) → (last ≡ true → suc i ≡ length xs) → (last ≡ false → suc i < length xs) → Halfway w xs base (linkAt w nextPieceField s) (i + 1) (pieceAt w s last out (3 * i))
   halfway-step last y n = go last y n (h .todo) (h .thread) (h .holds) (h .head) (h .left) (h .total)
     where
-      number : (a : Item) (ys : List Item) → Holds w (a ∷ ys) → s ≡ a .slot → cell w 0 s ≡ a .offer .number
-      number a ys k e = ap (cell w 0) e ∙ k .held (List·Memᴰ·head refl) .number
+      number : (a : Item) (ys : List Item) → Holds w (a ∷ ys) → s ≡ a .slot → cell w numberField s ≡ a .offer .number
+      number a ys k e = ap (cell w numberField) e ∙ k .held (List·Memᴰ·head refl) .number
 
-      go : (last : Bool) → (last ≡ true → suc i ≡ length xs) → (last ≡ false → suc i < length xs) → (todo : List Item) → Threaded w todo → Holds w todo → HeadAt s todo → i + length todo ≡ length xs → h .done ++ pieceWords (map offerOf todo) ≡ pieceWords (map offerOf xs) → Halfway w xs base (linkAt w 19 s) (i + 1) (pieceAt w s last out (3 * i))
+      go : (last : Bool) → (last ≡ true → suc i ≡ length xs) → (last ≡ false → suc i < length xs) → (todo : List Item) → Threaded w todo → Holds w todo → HeadAt s todo → i + length todo ≡ length xs → h .done ++ pieceWords (map offerOf todo) ≡ pieceWords (map offerOf xs) → Halfway w xs base (linkAt w nextPieceField s) (i + 1) (pieceAt w s last out (3 * i))
       go last y n [] c k e l t = absurd (omega arith)
       go true y n (a ∷ []) c k e l t = onward true a [] (number a [] k e) refl refl refl IsChain·nil k tt l t
       go false y n (a ∷ []) c k e l t = absurd (omega (arith, n refl))
       go true y n (a ∷ b ∷ ys) c k e l t = absurd (omega (arith, y refl))
       go false y n (a ∷ b ∷ ys) (IsChain·cons-cons g c) k e l t =
-          onward false a (b ∷ ys) (number a (b ∷ ys) k e) (ap (cell w 6) e ∙ g .numerator) (ap (cell w 7) e ∙ g .denominator) refl c k (ap (linkAt w 19) e ∙ g .next) l t
+          onward false a (b ∷ ys) (number a (b ∷ ys) k e) (ap (cell w numeratorField) e ∙ g .numerator) (ap (cell w denominatorField) e ∙ g .denominator) refl c k (ap (linkAt w nextPieceField) e ∙ g .next) l t
 
 pub halfway-begins : {w : Words} {x s : ℕ} {t : Tree Item} (base : List ℤ) → Pieces w x t → s ≡ first t .slot → Halfway w (leaves t) base s 0 base
 halfway-begins {w} {x} {s} {t} base p e =
@@ -140,12 +141,12 @@ pub record Writing (w : Words) (root n : ℕ) (base : List ℤ) (s i : ℕ) (out
   pub untouched : n ≡ 0 → out ≡ base
   pub halfway : (t : Tree Item) → Pieces w root t → Avl t → Halfway w (leaves t) base s i out
 
-pub writing-begins : {w : Words} {root s : ℕ} (n : ℕ) (base : List ℤ) → Ended w 0 false root s → Writing w root n base s 0 base
+pub writing-begins : {w : Words} {root s : ℕ} (n : ℕ) (base : List ℤ) → Ended w pieceTree false root s → Writing w root n base s 0 base
 writing-begins n base e =
     record { within = omega arith; long = refl; untouched = λ z. refl; halfway = λ t p a. halfway-begins base p (e .is t (p .rep) a) }
 
 module _ {w : Words} {root n : ℕ} {base : List ℤ} (c : Counted w root n) (room : 3 * n ≤ length base) where
-  pub writing-goes-on : {s s′ i : ℕ} {out out′ : List ℤ} (last : Bool) → Writing w root n base s i out → i < n → (last ≡ true → suc i ≡ n) → (last ≡ false → suc i < n) → out′ ≡ pieceAt w s last out (3 * i) → s′ ≡ linkAt w 19 s → Writing w root n base s′ (i + 1) out′
+  pub writing-goes-on : {s s′ i : ℕ} {out out′ : List ℤ} (last : Bool) → Writing w root n base s i out → i < n → (last ≡ true → suc i ≡ n) → (last ≡ false → suc i < n) → out′ ≡ pieceAt w s last out (3 * i) → s′ ≡ linkAt w nextPieceField s → Writing w root n base s′ (i + 1) out′
   writing-goes-on {s} {s′} {i} {out} {out′} last g f y z e d =
       record {
         within = omega arith;
@@ -154,7 +155,7 @@ module _ {w : Words} {root n : ℕ} {base : List ℤ} (c : Counted w root n) (ro
         halfway = λ t p a.
             let m = c .is t p a in
             subst (λ u. Halfway w (leaves t) base u (i + 1) out′) (sym d)
-            (subst (λ o. Halfway w (leaves t) base (linkAt w 19 s) (i + 1) o) (sym e)
+            (subst (λ o. Halfway w (leaves t) base (linkAt w nextPieceField s) (i + 1) o) (sym e)
             (halfway-step (g .halfway t p a) (omega (arith, m)) (omega (arith, m)) last (λ q. y q ∙ m) (λ q. omega (arith, m, z q))));
       }
 

@@ -12,6 +12,7 @@ use Rattle.offers.specs.Sizes.{rate-of, base-of, denominatorInRange, rate-gap-i
 use Rattle.offers.specs.Bounded.{bounded-in}
 use Rattle.trees.specs.Tree.{Tree, leaf, node, leaves, first, last}
 use Rattle.trees.specs.Leaves.{first-leaf, last-leaf}
+use Rattle.table.specs.Fields.{mostSlots, pieceTree}
 use Rattle.table.specs.Words.{Words}
 use Rattle.table.specs.Layout.{cap-most, cell, linkAt}
 use Rattle.table.specs.Items.{Item, slots-left, slots-right}
@@ -21,14 +22,14 @@ use Rattle.query.specs.Lookup.{atOrLeft}
 use Rattle.query.specs.Readings.{rightOf, childToward, towardAt, priceIn}
 
 pub record Pieces (w : Words) (x : ℕ) (t : Tree Item) : Type 0 where
-  pub rep : Rep w 0 x t
+  pub rep : Rep w pieceTree x t
   pub thread : Threaded w (leaves t)
   pub holds : Holds w (leaves t)
 
 -- ---- an inner node
 
 -- a child's pieces
-pieces-left : {w : Words} {x y : ℕ} {l r : Tree Item} → Pieces w x (node l r) → Tied w 0 l → y ≡ refOf l → Pieces w y l
+pieces-left : {w : Words} {x y : ℕ} {l r : Tree Item} → Pieces w x (node l r) → Tied w pieceTree l → y ≡ refOf l → Pieces w y l
 pieces-left {w} {l} {r} p t e =
     record {
       rep = record { kind = p .rep .kind; root = e; slots = slots-left (leaves r) (p .rep .slots); tied = t };
@@ -36,7 +37,7 @@ pieces-left {w} {l} {r} p t e =
       holds = holds-left (leaves r) (p .holds);
     }
 
-pieces-right : {w : Words} {x y : ℕ} {l r : Tree Item} → Pieces w x (node l r) → Tied w 0 r → y ≡ refOf r → Pieces w y r
+pieces-right : {w : Words} {x y : ℕ} {l r : Tree Item} → Pieces w x (node l r) → Tied w pieceTree r → y ≡ refOf r → Pieces w y r
 pieces-right {w} {l} {r} p t e =
     record {
       rep = record { kind = p .rep .kind; root = e; slots = slots-right (leaves l) (p .rep .slots); tied = t };
@@ -45,7 +46,7 @@ pieces-right {w} {l} {r} p t e =
     }
 
 -- the crossing that the node keeps decides as the two pieces beside it do
-seam-toward : {w : Words} {x : ℕ} {l r : Tree Item} (q : ℤ) → Pieces w x (node l r) → T (loadInRange q) → childToward w (last l .slot) q ≡ linkAt w (childField 0 (not (atOrLeft q (last l .offer) (first r .offer)))) (last l .slot)
+seam-toward : {w : Words} {x : ℕ} {l r : Tree Item} (q : ℤ) → Pieces w x (node l r) → T (loadInRange q) → childToward w (last l .slot) q ≡ linkAt w (childField pieceTree (not (atOrLeft q (last l .offer) (first r .offer)))) (last l .slot)
 unfolding childToward rightOf
 seam-toward {w} {x} {l} {r} q p h =
     let n = chain-seam l r (p .thread) in
@@ -68,23 +69,23 @@ pub record Opened (w : Words) (x : ℕ) (q : ℤ) (t : Tree Item) : Type 0 where
   pub left : atOrLeft q (last l .offer) (first r .offer) ≡ true → Pieces w (towardAt w x q) l
   pub right : atOrLeft q (last l .offer) (first r .offer) ≡ false → Pieces w (towardAt w x q) r
 
-pub opened : {w : Words} {x : ℕ} {t : Tree Item} (q : ℤ) → Pieces w x t → T (loadInRange q) → 4096 < x → Opened w x q t
+pub opened : {w : Words} {x : ℕ} {t : Tree Item} (q : ℤ) → Pieces w x t → T (loadInRange q) → mostSlots < x → Opened w x q t
 opened {w} {x} {t = leaf a} q p h d = absurd (omega (arith, p .rep .root, p .rep .slots .high (List·Memᴰ·head refl), cap-most w))
 opened {w} {x} {t = node l r} q p h d = go (p .rep .tied)
   where
-    here : x - 4096 ≡ last l .slot
+    here : x - mostSlots ≡ last l .slot
     here = omega (arith, p .rep .root)
 
-    side : (b : Bool) → atOrLeft q (last l .offer) (first r .offer) ≡ b → towardAt w x q ≡ linkAt w (childField 0 (not b)) (last l .slot)
-    side b e = ap (λ n. childToward w n q) here ∙ seam-toward q p h ∙ ap (λ z. linkAt w (childField 0 (not z)) (last l .slot)) e
+    side : (b : Bool) → atOrLeft q (last l .offer) (first r .offer) ≡ b → towardAt w x q ≡ linkAt w (childField pieceTree (not b)) (last l .slot)
+    side b e = ap (λ n. childToward w n q) here ∙ seam-toward q p h ∙ ap (λ z. linkAt w (childField pieceTree (not z)) (last l .slot)) e
 
-    go : Tied w 0 (node l r) → Opened w x q (node l r)
+    go : Tied w pieceTree (node l r) → Opened w x q (node l r)
     go (tied-node tl tr el er eh) =
         record { l = l; r = r; shape = refl; left = λ e. pieces-left p tl (side true e ∙ el); right = λ e. pieces-right p tr (side false e ∙ er) }
 
 -- ---- a leaf
 
-pub at-leaf : {w : Words} {x : ℕ} {t : Tree Item} → Pieces w x t → x ≤ 4096 → (a : Item) × (t ≡ leaf a) × (x ≡ a .slot)
+pub at-leaf : {w : Words} {x : ℕ} {t : Tree Item} → Pieces w x t → x ≤ mostSlots → (a : Item) × (t ≡ leaf a) × (x ≡ a .slot)
 at-leaf {t = leaf a} p h = (a, refl, p .rep .root)
 at-leaf {t = node l r} p h = absurd (omega (arith, p .rep .root, slots-left (leaves r) (p .rep .slots) .low (last-leaf l)))
 

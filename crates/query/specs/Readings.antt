@@ -10,6 +10,7 @@ use lib.Signed.{leZ}
 use Rattle.integers.specs.Magnitude.{natAbs-mul, within-natAbs}
 use Rattle.offers.specs.Offers.{within}
 use Rattle.offers.specs.Bounded.{bounded}
+use Rattle.table.specs.Fields.{baseField, denominatorField, mostSlots, numeratorField, pieceTree, rateField}
 use Rattle.table.specs.Words.{Words}
 use Rattle.table.specs.Layout.{cell, linkAt}
 use Rattle.table.specs.Rep.{bit, childField}
@@ -43,10 +44,10 @@ pub record Sided (q n d : ℤ) (side : ℕ) : Type 0 where
 
 -- the child, on the load's side, of the inner node kept in slot s; 0 where there is none
 unfoldable pub childToward : Words → ℕ → ℤ → ℕ
-childToward w s q = cond (within 200_000 (cell w 7 s)) (linkAt w (childField 0 (rightOf q (cell w 6 s) (cell w 7 s))) s) 0
+childToward w s q = cond (within 200_000 (cell w denominatorField s)) (linkAt w (childField pieceTree (rightOf q (cell w numeratorField s) (cell w denominatorField s))) s) 0
 
 abbrev pub towardAt : Words → ℕ → ℤ → ℕ
-towardAt w x q = childToward w (x - 4096) q
+towardAt w x q = childToward w (x - mostSlots) q
 
 abbrev pub childOf : Step → ℕ
 childOf (To x) = x
@@ -54,4 +55,4 @@ childOf Off = 0
 
 -- the price of the offer kept in slot s
 unfoldable pub priceIn : Words → ℕ → ℤ → ℤ
-priceIn w s q = clamped 1_000_000_000 (cell w 2 s) +ℤ clamped 100_000 (cell w 1 s) *ℤ clamped 1_000_000 q
+priceIn w s q = clamped 1_000_000_000 (cell w baseField s) +ℤ clamped 100_000 (cell w rateField s) *ℤ clamped 1_000_000 q

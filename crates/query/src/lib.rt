@@ -10,6 +10,11 @@ ghost use Rattle.query.specs.Descent.{Descended};
 ghost use Rattle.query.specs.Counting.{Counted};
 ghost use Rattle.query.specs.Listing.{crossingWord, pieceAt, Written};
 
+// The highest number of a leaf, and of a node, in the widths that a descent counts in.
+const LEAVES: usize = table::MOST_SLOTS as usize;
+
+const HIGHEST_NODE: i64 = table::MOST_NODES as i64;
+
 // `value` where it is from `low` to `high`, and 0 for any other.
 fn bounded(low: i64, high: i64, value: i64) -> i64
     ensures { λ r. ⌜ r ≡ bounded low high value ⌝ }
@@ -52,10 +57,10 @@ fn toward(part: &[i64], c: usize, x: usize, load: i64) -> Step
     requires { ⌜ c ≡ cap (now part) ⌝ }
     ensures { λ r. ⌜ childOf r ≡ towardAt (now (part .entry)) x load ⌝ }
 {
-    if x <= 4096 {
+    if x <= LEAVES {
         return Step::Off;
     }
-    if c + 4096 < x {
+    if c + LEAVES < x {
         return Step::Off;
     }
     let at = 4 * (c + 1 + x) - 16_320;
@@ -65,10 +70,10 @@ fn toward(part: &[i64], c: usize, x: usize, load: i64) -> Step
     }
     let side = side_of(load, part[at + 2], d);
     let z = part[at + side];
-    if outside(0, 8192, z) {
+    if outside(0, HIGHEST_NODE, z) {
         return Step::Off;
     }
-    Step::To(table::up_to(8192, z) as usize)
+    Step::To(table::up_to(table::MOST_NODES, z) as usize)
 }
 
 // Where a query ends: the slot of its answer, and how many nodes it passed.
@@ -84,7 +89,7 @@ pub fn descend(part: &[i64], root: u32, load: i64) -> Probe
     let c = table::capacity(part) as usize;
     let mut x = root as usize;
     let mut probes: u32 = 0;
-    while 4096 < x {
+    while LEAVES < x {
         if 24 <= probes {
             return Probe {
                 slot: 0,
@@ -128,17 +133,17 @@ pub fn price(part: &[i64], slot: u32, load: i64) -> i64
 pub fn count(part: &[i64], root: u32) -> u32
     ensures { λ r. ⌜ Counted (now (part .entry)) root r ⌝ }
 {
-    let last = descents::end(part, 0, true, root);
-    let mut s = descents::end(part, 0, false, root);
+    let last = descents::end(part, table::PIECES, true, root);
+    let mut s = descents::end(part, table::PIECES, false, root);
     if s == 0 {
         return 0;
     }
     let mut n: u32 = 1;
     while s != last {
-        if 4096 <= n {
+        if table::MOST_SLOTS <= n {
             return 0;
         }
-        s = table::link(part, 19, s);
+        s = table::link(part, table::NEXT_PIECE, s);
         n += 1;
     }
     n
@@ -159,9 +164,17 @@ fn put_piece(part: &[i64], slot: u32, last: bool, out: &mut [i64], at: usize)
     requires { ⌜ at ≤ 12_288 ⌝ }
     ensures { λ _. ⌜ now (out .exit) ≡ pieceAt (now (part .entry)) slot last (now (out .entry)) at ⌝ }
 {
-    table::set_word(out, at, table::get(part, 0, slot));
-    table::set_word(out, at + 1, crossing_word(part, 6, slot, last));
-    table::set_word(out, at + 2, crossing_word(part, 7, slot, last));
+    table::set_word(out, at, table::get(part, table::NUMBER, slot));
+    table::set_word(
+        out,
+        at + 1,
+        crossing_word(part, table::NUMERATOR, slot, last),
+    );
+    table::set_word(
+        out,
+        at + 2,
+        crossing_word(part, table::DENOMINATOR, slot, last),
+    );
 }
 
 // Writes number, numerator, denominator a piece, where the output is long enough for all of them. Returns the count.
@@ -172,11 +185,11 @@ pub fn write(part: &[i64], root: u32, out: &mut [i64]) -> u32
     if out.len() < 3 * (n as usize) {
         return n;
     }
-    let mut s = descents::end(part, 0, false, root);
+    let mut s = descents::end(part, table::PIECES, false, root);
     let mut i: u32 = 0;
     while i < n {
         put_piece(part, s, i + 1 == n, out, 3 * (i as usize));
-        s = table::link(part, 19, s);
+        s = table::link(part, table::NEXT_PIECE, s);
         i += 1;
     }
     n

@@ -19,6 +19,7 @@ use Rattle.trees.specs.Leaves.{rest, leaves-first}
 use Rattle.trees.specs.Operations.{Part, partLeaves}
 use Rattle.dynamic.specs.OfferTree.{Held}
 use Rattle.dynamic.specs.Valid.{bookLines}
+use Rattle.table.specs.Fields.{capacityWord, denominatorField, envelopeRootWord, mostNodes, nextPieceField, numberField, numeratorField, pieceTree}
 use Rattle.table.specs.Words.{Words, word, upTo}
 use Rattle.table.specs.Layout.{cell, linkAt}
 use Rattle.table.specs.Items.{Item}
@@ -74,7 +75,7 @@ module _ {p : ℕ} (n : ℕ) {xs : List Item} (k : Passed p (n + 1) xs) where
 
 -- ---- moving on
 
-module _ {w : Words} {root : ℕ} (er : root ≡ upTo 8192 (word w 2)) where
+module _ {w : Words} {root : ℕ} (er : root ≡ upTo mostNodes (word w envelopeRootWord)) where
   -- by cases of the root
   by-root : (A : List Item → Type 0) {s : State} {held : Option (Held Item)} → Book w s held → (root ≡ 0 → A []) → ((t : Tree Item) → Top w root (bookLines held) t → A (leaves t)) → A (rootPieces held)
   by-root A {s} {held} b f g = go held (root-of b er) g
@@ -83,7 +84,7 @@ module _ {w : Words} {root : ℕ} (er : root ≡ upTo 8192 (word w 2)) where
       go none (bare z) g = f z
       go (some h) (topped t e p) g = subst (λ (q : Part Item). A (partLeaves q)) (sym e) (g t p)
 
-  pub first-begins : {r : ℕ} → Ended w 0 false root r → Before w 0 r
+  pub first-begins : {r : ℕ} → Ended w pieceTree false root r → Before w 0 r
   first-begins {r} e = record { stands = λ s held b. by-root (λ xs. PlaceOf xs 0 r) b (λ z. past-last (omega arith) (e .none z)) begin }
     where
       begin : {ls : List Item} (t : Tree Item) → Top w root ls t → PlaceOf (leaves t) 0 r
@@ -97,7 +98,7 @@ module _ {w : Words} {root : ℕ} (er : root ≡ upTo 8192 (word w 2)) where
       over t q (at-piece k) = absurd (omega (arith, h, some-slot (q .pieces) k))
       over t q (past-last l e) = l
 
-  module _ {z p : ℕ} (end : Ended w 0 true root z) where
+  module _ {z p : ℕ} (end : Ended w pieceTree true root z) where
     pub after-last : p ≡ z → PartMoves w p 0
     after-last d = record { on = λ n k. record { stands = λ s held b. by-root (λ xs. PlaceOf xs n p → PlaceOf xs (n + 1) 0) b (λ y q. past-last (omega arith) refl) (over n) (k .stands s held b) } }
       where
@@ -105,7 +106,7 @@ module _ {w : Words} {root : ℕ} (er : root ≡ upTo 8192 (word w 2)) where
         over n t q (at-piece k) = past-last (omega (arith, all-passed (q .pieces) (end .is t (q .pieces .rep) (q .balanced)) k d)) refl
         over n t q (past-last l e) = past-last (omega arith) refl
 
-    pub after-next : {r : ℕ} → 1 ≤ p → p ≢ z → r ≡ linkAt w 19 p → PartMoves w p r
+    pub after-next : {r : ℕ} → 1 ≤ p → p ≢ z → r ≡ linkAt w nextPieceField p → PartMoves w p r
     after-next {r} h d f = record { on = λ n k. record { stands = λ s held b. by-root (λ xs. PlaceOf xs n p → PlaceOf xs (n + 1) r) b (λ y q. nowhere n q) (over n) (k .stands s held b) } }
       where
         nowhere : (n : ℕ) → PlaceOf [] n p → PlaceOf [] (n + 1) r
@@ -117,19 +118,19 @@ module _ {w : Words} {root : ℕ} (er : root ≡ upTo 8192 (word w 2)) where
         over n t q (past-last l e) = absurd (omega (arith, h, e))
 
 pub after-none : {w : Words} {p : ℕ} → p < 1 → PartMoves w p 0
-after-none {w} {p} h = record { on = λ n k. record { stands = λ s held b. past-last (omega (arith, none-past {w = w} {root = upTo 8192 (word w 2)} refl b h k)) refl } }
+after-none {w} {p} h = record { on = λ n k. record { stands = λ s held b. past-last (omega (arith, none-past {w = w} {root = upTo mostNodes (word w envelopeRootWord)} refl b h k)) refl } }
 
 -- at the end a reading stays
 pub stays-past : {w : Words} {n p : ℕ} (m : ℕ) → n ≤ m → p < 1 → Before w n p → Before w m 0
-stays-past {w} {n} {p} m l h k = record { stands = λ s held b. past-last (omega (arith, none-past {w = w} {root = upTo 8192 (word w 2)} refl b h k)) refl }
+stays-past {w} {n} {p} m l h k = record { stands = λ s held b. past-last (omega (arith, none-past {w = w} {root = upTo mostNodes (word w envelopeRootWord)} refl b h k)) refl }
 
 -- ---- handing out
 
 -- the plain listing is of those pieces
 pub listed-is : {w : Words} {s : State} {held : Option (Held Item)} → Book w s held → envelope (plainOffers held) ≡ map offerOf (rootPieces held)
-listed-is {w} {s} {held} b = go held b (root-of {root = upTo 8192 (word w 2)} b refl)
+listed-is {w} {s} {held} b = go held b (root-of {root = upTo mostNodes (word w envelopeRootWord)} b refl)
   where
-    go : (held : Option (Held Item)) → Book w s held → Root w (upTo 8192 (word w 2)) held → envelope (plainOffers held) ≡ map offerOf (rootPieces held)
+    go : (held : Option (Held Item)) → Book w s held → Root w (upTo mostNodes (word w envelopeRootWord)) held → envelope (plainOffers held) ≡ map offerOf (rootPieces held)
     go none b (bare z) = refl
     go (some h) b (topped t e p) =
         subst (λ (q : Part Item). envelope (plainOffers (some h)) ≡ map offerOf (partLeaves q)) (sym e)
@@ -140,15 +141,15 @@ no-words : (es : List Offer) (n : ℕ) → length es ≤ n → take 3 (drop (3 *
 no-words es n h = ap (take 3) (drop-of-length-le (pieceWords es) {i = 3 * n} (omega (arith, words-length es)))
 
 pub hands-end : {w : Words} {p : ℕ} {r : Handed} → told r ≡ ended → p < 1 → PartHands w p r
-hands-end {w} {p} e h = record { answers = λ n k s held b. e ∙ ap pieceOf (sym (no-words (envelope (plainOffers held)) n (omega (arith, ap length (listed-is b), length-map (rootPieces held) offerOf, none-past {w = w} {root = upTo 8192 (word w 2)} refl b h k)))) }
+hands-end {w} {p} e h = record { answers = λ n k s held b. e ∙ ap pieceOf (sym (no-words (envelope (plainOffers held)) n (omega (arith, ap length (listed-is b), length-map (rootPieces held) offerOf, none-past {w = w} {root = upTo mostNodes (word w envelopeRootWord)} refl b h k)))) }
 
 -- at a piece
-module _ {w : Words} {root z p : ℕ} {last : Bool} {number u v : ℤ} (er : root ≡ upTo 8192 (word w 2)) (end : Ended w 0 true root z) (low : 1 ≤ p)
+module _ {w : Words} {root z p : ℕ} {last : Bool} {number u v : ℤ} (er : root ≡ upTo mostNodes (word w envelopeRootWord)) (end : Ended w pieceTree true root z) (low : 1 ≤ p)
     (yes-last : last ≡ true → p ≡ z) (not-last : last ≡ false → p ≢ z)
-    (en : number ≡ cell w 0 p) (eu : u ≡ crossingWord w 6 p last) (ev : v ≡ crossingWord w 7 p last) where
+    (en : number ≡ cell w numberField p) (eu : u ≡ crossingWord w 6 p last) (ev : v ≡ crossingWord w 7 p last) where
   module _ (n : ℕ) {ls : List Item} (t : Tree Item) (q : Top w root ls t) (k : Passed p (n + 1) (leaves t)) where
     number-is : number ≡ k .here .offer .number
-    number-is = en ∙ ap (cell w 0) (k .slot) ∙ q .pieces .holds .held (subst (List·Memᴰ (k .here)) (sym (k .split)) (Memᴰ·append-right (k .seen) (List·Memᴰ·head refl))) .number
+    number-is = en ∙ ap (cell w numberField) (k .slot) ∙ q .pieces .holds .held (subst (List·Memᴰ (k .here)) (sym (k .split)) (Memᴰ·append-right (k .seen) (List·Memᴰ·head refl))) .number
 
     three : (b : Bool) (ys : List Item) → last ≡ b → leaves t ≡ k .seen ++ k .here ∷ ys → number ∷ u ∷ v ∷ [] ≡ take 3 (pieceWords (map offerOf (k .here ∷ ys)))
     three true [] e d = ap (λ (x : ℤ). x ∷ u ∷ v ∷ []) number-is ∙ ap (λ (x : ℤ). k .here .offer .number ∷ x ∷ v ∷ []) (eu ∙ ap (crossingWord w 6 p) e) ∙ ap (λ (x : ℤ). k .here .offer .number ∷ pos 0 ∷ x ∷ []) (ev ∙ ap (crossingWord w 7 p) e)
@@ -156,8 +157,8 @@ module _ {w : Words} {root z p : ℕ} {last : Bool} {number u v : ℤ} (er : roo
     three false [] e d = absurd (omega (arith, not-all (q .pieces) (end .is t (q .pieces .rep) (q .balanced)) k (not-last e), ap length d, length-append (k .seen) (k .here ∷ []), k .count))
     three false (y ∷ ys) e d =
         ap (λ (x : ℤ). x ∷ u ∷ v ∷ []) number-is
-        ∙ ap (λ (x : ℤ). k .here .offer .number ∷ x ∷ v ∷ []) (eu ∙ ap (crossingWord w 6 p) e ∙ ap (cell w 6) (k .slot) ∙ next .numerator)
-        ∙ ap (λ (x : ℤ). k .here .offer .number ∷ crossingNumerator (k .here .offer) (y .offer) ∷ x ∷ []) (ev ∙ ap (crossingWord w 7 p) e ∙ ap (cell w 7) (k .slot) ∙ next .denominator)
+        ∙ ap (λ (x : ℤ). k .here .offer .number ∷ x ∷ v ∷ []) (eu ∙ ap (crossingWord w 6 p) e ∙ ap (cell w numeratorField) (k .slot) ∙ next .numerator)
+        ∙ ap (λ (x : ℤ). k .here .offer .number ∷ crossingNumerator (k .here .offer) (y .offer) ∷ x ∷ []) (ev ∙ ap (crossingWord w 7 p) e ∙ ap (cell w denominatorField) (k .slot) ∙ next .denominator)
       where
         next : Next w (k .here) y
         next = isChain-append-cons-cons (k .here) (k .seen) .0 (subst (Threaded w) d (q .pieces .thread)) .1
@@ -181,7 +182,7 @@ module _ {w : Words} {root z p : ℕ} {last : Bool} {number u v : ℤ} (er : roo
 
 -- ---- on a table
 
-module _ (start : ℕ) (t : List ℤ) {no : Bool} (e : no ≡ noBookAt (length t) start (word (partOf t start) 0)) where
+module _ (start : ℕ) (t : List ℤ) {no : Bool} (e : no ≡ noBookAt (length t) start (word (partOf t start) capacityWord)) where
   module _ (d : no ≡ true) where
     pub first-no-book : Starts start t 0
     first-no-book = record { nowhere = λ z g. refl; before = record { stands = λ s held b. absurd (no-form t start e d b) } }

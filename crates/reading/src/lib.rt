@@ -18,8 +18,8 @@ pub enum Handed {
 fn part_first(part: &[i64]) -> u32
     ensures { λ r. ⌜ Before (now (part .entry)) 0 r ⌝ }
 {
-    let root = table::number_at(part, 2, 8192);
-    descents::end(part, 0, false, root)
+    let root = table::number_at(part, table::ENVELOPE_ROOT, table::MOST_NODES);
+    descents::end(part, table::PIECES, false, root)
 }
 
 // The place after a place.
@@ -29,11 +29,11 @@ fn part_after(part: &[i64], place: u32) -> u32
     if place < 1 {
         return 0;
     }
-    let root = table::number_at(part, 2, 8192);
-    if place == descents::end(part, 0, true, root) {
+    let root = table::number_at(part, table::ENVELOPE_ROOT, table::MOST_NODES);
+    if place == descents::end(part, table::PIECES, true, root) {
         return 0;
     }
-    table::link(part, 19, place)
+    table::link(part, table::NEXT_PIECE, place)
 }
 
 // What stands at a place of a part.
@@ -43,11 +43,11 @@ fn part_piece(part: &[i64], place: u32) -> Handed
     if place < 1 {
         return Handed::End;
     }
-    let root = table::number_at(part, 2, 8192);
-    let last = place == descents::end(part, 0, true, root);
-    let number = table::get(part, 0, place);
-    let numerator = query::crossing_word(part, 6, place, last);
-    let denominator = query::crossing_word(part, 7, place, last);
+    let root = table::number_at(part, table::ENVELOPE_ROOT, table::MOST_NODES);
+    let last = place == descents::end(part, table::PIECES, true, root);
+    let number = table::get(part, table::NUMBER, place);
+    let numerator = query::crossing_word(part, table::NUMERATOR, place, last);
+    let denominator = query::crossing_word(part, table::DENOMINATOR, place, last);
     Handed::Piece {
         number: number,
         numerator: numerator,

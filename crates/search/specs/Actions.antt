@@ -6,6 +6,7 @@ use mathlib.Core.Bool.{Bool, true, false, not}
 use mathlib.Core.List.{List}
 use lib.ListN.{set, length-set}
 use Rattle.meeting.specs.Machine.{Half}
+use Rattle.table.specs.Fields.{mostSlots, pieceTree}
 use Rattle.table.specs.Words.{Words}
 use Rattle.table.specs.Items.{Item}
 use Rattle.table.specs.Rep.{childAt}
@@ -72,27 +73,27 @@ sided true a b = record { u = b; v = a; done = false }
 -- ---- each answer of the code
 
 module _ {w : Words} {side : Bool} {at : ℕ} where
-  pub retreats-leaf : at ≤ 4096 → Retreats w side at at
+  pub retreats-leaf : at ≤ mostSlots → Retreats w side at at
   retreats-leaf k = record { moved = λ n. record { moved = λ s. retreat-leaf side (noted-stood n s) k } }
 
-  pub retreats-node : {x : ℕ} → 4096 < at → x ≡ childAt w 0 side at → Retreats w side at x
+  pub retreats-node : {x : ℕ} → mostSlots < at → x ≡ childAt w pieceTree side at → Retreats w side at x
   retreats-node {x} k e = record { moved = λ n. record { moved = λ s. retreat-node side (noted-stood n s) k x e } }
 
   module _ {d : ℕ} where
-    pub advances-leaf : at ≤ 4096 → Advances w side at d (record { at = at; depth = d })
+    pub advances-leaf : at ≤ mostSlots → Advances w side at d (record { at = at; depth = d })
     advances-leaf k = record { moved = λ n. record { moved = λ s b. advance-leaf side (noted-stood n s) k } }
 
-    pub advances-full : {r : Stand} → 4096 < at → 24 ≤ d → Advances w side at d r
+    pub advances-full : {r : Stand} → mostSlots < at → 24 ≤ d → Advances w side at d r
     advances-full k f = record { moved = λ n. record { moved = λ s b. absurd (advance-full side s k b f) } }
 
-    pub advances-node : {x : ℕ} → 4096 < at → d < 24 → x ≡ childAt w 0 (not side) at → Advances w side at d (record { at = x; depth = d + 1 })
+    pub advances-node : {x : ℕ} → mostSlots < at → d < 24 → x ≡ childAt w pieceTree (not side) at → Advances w side at d (record { at = x; depth = d + 1 })
     advances-node {x} k f e = record { moved = λ n. rw (noted-set n f) (record { moved = λ s b. advance-node side s k f x e }) }
 
 module _ {w : Words} {side : Bool} {d top : ℕ} where
   pub pops-none : {r : Stand} → d < 1 → Pops w side d top r
   pops-none k = record { moved = λ n t. record { moved = λ s. absurd (pop-empty s k) } }
 
-  pub pops-node : {x : ℕ} → x ≡ childAt w 0 side top → Pops w side d top (record { at = x; depth = d - 1 })
+  pub pops-node : {x : ℕ} → x ≡ childAt w pieceTree side top → Pops w side d top (record { at = x; depth = d - 1 })
   pops-node {x} e = record { moved = λ n t. record { moved = λ s. pop-node (noted-stood n s) side x top (t .is s) e } }
 
 module _ {w : Words} {side : Bool} {action : Action} {at d top : ℕ} where

@@ -4,6 +4,7 @@ use mathlib.Core.Path.{_≡_, _∙_, ap}
 use mathlib.Core.Bool.{Bool, true, false, not, _&&_}
 use mathlib.Core.List.{List}
 use lib.Dec.{leb}
+use Rattle.table.specs.Fields.{mostSlots}
 use Rattle.table.specs.Words.{Words}
 use Rattle.search.specs.declared.Action.{Action}
 use Rattle.search.specs.declared.Action.the-variants.{Stay, Retreat, Advance, Pop}
@@ -46,10 +47,10 @@ module _ {ours other : Words} {side : Bool} {x t y p : ℕ} {m : Move} where
   recedes-bottom e d = record { mine = Retreat; theirs = Stay; is = e; next = λ a b f g. receded-bottom t a d f g }
 
   module _ (deep : 1 ≤ t) where
-    pub recedes-leaf : m ≡ sided side Pop Stay → x ≤ 4096 → Recedes ours other side x t y p m
+    pub recedes-leaf : m ≡ sided side Pop Stay → x ≤ mostSlots → Recedes ours other side x t y p m
     recedes-leaf e l = record { mine = Pop; theirs = Stay; is = e; next = λ a b f g. receded-leaf t a deep l f g }
 
-    module _ (inner : 4096 < x) {s : ℕ} (at-top : s ≡ t - 4096) where
+    module _ (inner : mostSlots < x) {s : ℕ} (at-top : s ≡ t - mostSlots) where
       pub recedes-mine : m ≡ sided side Pop Stay → aboveAt ours s other y ≡ true → Recedes ours other side x t y p m
       recedes-mine e z = record { mine = Pop; theirs = Stay; is = e; next = λ a b f g. receded-mine t a deep inner s at-top f g z }
 
@@ -81,10 +82,10 @@ module _ {wl wr : Words} {u t v w p q : ℕ} (ep : p ≡ pointWord u t) (eq : q 
         }
 
     module _ (clear′ : aboveAt wr q wl u ≡ false) where
-      pub chooses-done : leb u 4096 && leb v 4096 ≡ true → Chooses wl wr u t v w (record { u = Stay; v = Stay; done = true })
+      pub chooses-done : leb u mostSlots && leb v mostSlots ≡ true → Chooses wl wr u t v w (record { u = Stay; v = Stay; done = true })
       chooses-done e =
           record { next = λ us ud vs vd b tu tv r d f g. stepped-done (pointed-by tu ep) (pointed-by tv eq) clear clear′ e d f g }
 
-      pub chooses-on : leb u 4096 && leb v 4096 ≡ false → Chooses wl wr u t v w (record { u = Advance; v = Advance; done = false })
+      pub chooses-on : leb u mostSlots && leb v mostSlots ≡ false → Chooses wl wr u t v w (record { u = Advance; v = Advance; done = false })
       chooses-on e =
           record { next = λ us ud vs vd b tu tv r d f g. stepped-on (pointed-by tu ep) (pointed-by tv eq) clear clear′ e d f g }

@@ -14,6 +14,7 @@ use lib.ListN.{length, getD, set, length-set, List·getD-eq-default}
 use Rattle.trees.specs.Tree.{Tree, leaf, node, height}
 use Rattle.meeting.specs.Machine.{Place, Half, advance, retreat, pop}
 use Rattle.meeting.specs.Moves.{half}
+use Rattle.table.specs.Fields.{mostSlots, pieceTree}
 use Rattle.table.specs.Words.{Words}
 use Rattle.table.specs.Items.{Item}
 use Rattle.table.specs.Rep.{childAt, refOf}
@@ -66,24 +67,24 @@ module _ {w : Words} {h : Walk} {m : Half Item} (s : Stood w h m) where
       go empty k = absurd (omega arith)
       go (pushed {d = d} p z) k = ap (λ (i : ℕ). getD (h .stack) i 0) (omega arith) ∙ p .rep .root
 
-  pub point-leaf : h .at ≤ 4096 → (x : ℕ) → x ≡ topRef (m .stack) → x - 4096 ≡ pointSlot (m .at .tree) (m .stack)
+  pub point-leaf : h .at ≤ mostSlots → (x : ℕ) → x ≡ topRef (m .stack) → x - mostSlots ≡ pointSlot (m .at .tree) (m .stack)
   point-leaf k x e = go (m .at .tree) (s .here)
     where
-      go : (t : Tree Item) → Pieces w (h .at) t → x - 4096 ≡ pointSlot t (m .stack)
-      go (leaf a) p = ap (λ (i : ℕ). i - 4096) e
+      go : (t : Tree Item) → Pieces w (h .at) t → x - mostSlots ≡ pointSlot t (m .stack)
+      go (leaf a) p = ap (λ (i : ℕ). i - mostSlots) e
       go (node l r) p = absurd (omega (arith, inner-high p))
 
-  pub point-node : 4096 < h .at → h .at - 4096 ≡ pointSlot (m .at .tree) (m .stack)
+  pub point-node : mostSlots < h .at → h .at - mostSlots ≡ pointSlot (m .at .tree) (m .stack)
   point-node k = go (m .at .tree) (s .here)
     where
-      go : (t : Tree Item) → Pieces w (h .at) t → h .at - 4096 ≡ pointSlot t (m .stack)
+      go : (t : Tree Item) → Pieces w (h .at) t → h .at - mostSlots ≡ pointSlot t (m .stack)
       go (leaf a) p = absurd (omega (arith, leaf-low p))
       go (node l r) p = seam-at p
 
 -- ---- why: the moves
 
 module _ {w : Words} (side : Bool) {h : Walk} {m : Half Item} (s : Stood w h m) where
-  pub retreat-leaf : h .at ≤ 4096 → Stood w h (retreat (sideOf side) m)
+  pub retreat-leaf : h .at ≤ mostSlots → Stood w h (retreat (sideOf side) m)
   unfolding retreat
   retreat-leaf k = go (m .at .tree) (s .here)
     where
@@ -91,7 +92,7 @@ module _ {w : Words} (side : Bool) {h : Walk} {m : Half Item} (s : Stood w h m) 
       go (leaf a) p = record { here = p; stacks = s .stacks; room = s .room }
       go (node l r) p = absurd (omega (arith, inner-high p))
 
-  pub retreat-node : 4096 < h .at → (x : ℕ) → x ≡ childAt w 0 side (h .at) → Stood w (record { at = x; stack = h .stack; depth = h .depth }) (retreat (sideOf side) m)
+  pub retreat-node : mostSlots < h .at → (x : ℕ) → x ≡ childAt w pieceTree side (h .at) → Stood w (record { at = x; stack = h .stack; depth = h .depth }) (retreat (sideOf side) m)
   unfolding retreat
   retreat-node k x e = go (m .at .tree) (s .here)
     where
@@ -99,7 +100,7 @@ module _ {w : Words} (side : Bool) {h : Walk} {m : Half Item} (s : Stood w h m) 
       go (leaf a) p = absurd (omega (arith, leaf-low p))
       go (node l r) p = record { here = rw e (pieces-away side p); stacks = s .stacks; room = s .room }
 
-  pub advance-leaf : h .at ≤ 4096 → Stood w h (advance (sideOf side) m)
+  pub advance-leaf : h .at ≤ mostSlots → Stood w h (advance (sideOf side) m)
   unfolding advance
   advance-leaf k = go (m .at .tree) (s .here)
     where
@@ -108,14 +109,14 @@ module _ {w : Words} (side : Bool) {h : Walk} {m : Half Item} (s : Stood w h m) 
       go (node l r) p = absurd (omega (arith, inner-high p))
 
   -- an inner node's stack is not full
-  pub advance-full : 4096 < h .at → length (m .stack) + height (m .at .tree) ≤ 24 → 24 ≤ h .depth → ⊥
+  pub advance-full : mostSlots < h .at → length (m .stack) + height (m .at .tree) ≤ 24 → 24 ≤ h .depth → ⊥
   advance-full k b f = go (m .at .tree) (s .here) b
     where
       go : (t : Tree Item) → Pieces w (h .at) t → length (m .stack) + height t ≤ 24 → ⊥
       go (leaf a) p b = omega (arith, leaf-low p)
       go (node l r) p b = omega (arith, stacks-depth (s .stacks))
 
-  pub advance-node : 4096 < h .at → h .depth < 24 → (x : ℕ) → x ≡ childAt w 0 (not side) (h .at) → Stood w (record { at = x; stack = set (h .stack) (h .depth) (h .at); depth = h .depth + 1 }) (advance (sideOf side) m)
+  pub advance-node : mostSlots < h .at → h .depth < 24 → (x : ℕ) → x ≡ childAt w pieceTree (not side) (h .at) → Stood w (record { at = x; stack = set (h .stack) (h .depth) (h .at); depth = h .depth + 1 }) (advance (sideOf side) m)
   unfolding advance
   advance-node k f x e = go (m .at .tree) (s .here)
     where
@@ -139,7 +140,7 @@ module _ {w : Words} {h : Walk} {t : Tree Item} {e : Option Item} {top : Place I
       go : {d : ℕ} {top : Place Item} {rest : List (Place Item)} → Stacks w (h .stack) d (top ∷ rest) → y ≡ refOf (top .tree) → Pieces w y (top .tree)
       go (pushed p z) q = rw (q ∙ sym (p .rep .root)) p
 
-  pub pop-node : (side : Bool) (x y : ℕ) → y ≡ refOf (top .tree) → x ≡ childAt w 0 side y → Stood w (record { at = x; stack = h .stack; depth = h .depth - 1 }) (pop (sideOf side) top rest)
+  pub pop-node : (side : Bool) (x y : ℕ) → y ≡ refOf (top .tree) → x ≡ childAt w pieceTree side y → Stood w (record { at = x; stack = h .stack; depth = h .depth - 1 }) (pop (sideOf side) top rest)
   unfolding pop
   pop-node side x y q a = go (s .stacks) q
     where
@@ -162,7 +163,7 @@ abbrev pub topWord : ℕ → ℕ → ℕ
 topWord depth word = cond (ltb depth 1) 0 word
 
 abbrev pub pointWord : ℕ → ℕ → ℕ
-pointWord at top = cond (leb at 4096) (top - 4096) (at - 4096)
+pointWord at top = cond (leb at mostSlots) (top - mostSlots) (at - mostSlots)
 
 pub topped-by : {h : Walk} {i t : ℕ} → Under (h .depth) i → t ≡ topWord (h .depth) (getD (h .stack) i 0) → Topped h t
 topped-by {h} {i} {t} a e = record { is = λ s. go s (decLt (h .depth) 1) }
@@ -175,10 +176,10 @@ topped-by {h} {i} {t} a e = record { is = λ s. go s (decLt (h .depth) 1) }
         e ∙ rw (le-ltb (h .depth) 1 l) (ap (λ (j : ℕ). getD (h .stack) j 0) (a .is l n) ∙ top-at s l)
 
 pub pointed-by : {h : Walk} {t p : ℕ} → Topped h t → p ≡ pointWord (h .at) t → Pointed h p
-pointed-by {h} {t} {p} a e = record { is = λ s. go s (decLe (h .at) 4096) }
+pointed-by {h} {t} {p} a e = record { is = λ s. go s (decLe (h .at) mostSlots) }
   where
-    go : {w : Words} {m : Half Item} → Stood w h m → Dec (h .at ≤ 4096) → p ≡ pointSlot (m .at .tree) (m .stack)
-    go s (yes k) = e ∙ rw (le-leb (h .at) 4096 k) (point-leaf s k t (a .is s))
+    go : {w : Words} {m : Half Item} → Stood w h m → Dec (h .at ≤ mostSlots) → p ≡ pointSlot (m .at .tree) (m .stack)
+    go s (yes k) = e ∙ rw (le-leb (h .at) mostSlots k) (point-leaf s k t (a .is s))
     go s (no k) =
-        let l : 4096 < h .at = omega arith in
-        e ∙ rw (lt-leb (h .at) 4096 l) (point-node s l)
+        let l : mostSlots < h .at = omega arith in
+        e ∙ rw (lt-leb (h .at) mostSlots l) (point-node s l)

@@ -14,29 +14,30 @@ use Rattle.offers.specs.Bounded.{bounded, bounded-ranged}
 use mir.Syntax.{w64}
 use mir.Val.{SFits}
 use Rattle.offers.specs.Sizes.{numeratorInRange, denominatorInRange, base-times-fits, rate-times-fits, scaled-price-fits}
+use Rattle.table.specs.Fields.{baseField, denominatorField, mostSlots, nextPieceField, numeratorField, rateField}
 use Rattle.table.specs.Words.{Words}
 use Rattle.table.specs.Layout.{cap, cell, linkAt}
 
 abbrev pub rateAt : Words → ℕ → ℤ
-rateAt w s = bounded (negℤ (pos 100_000)) (pos 100_000) (cell w 1 s)
+rateAt w s = bounded (negℤ (pos 100_000)) (pos 100_000) (cell w rateField s)
 
 abbrev pub baseAt : Words → ℕ → ℤ
-baseAt w s = bounded (negℤ (pos 1_000_000_000)) (pos 1_000_000_000) (cell w 2 s)
+baseAt w s = bounded (negℤ (pos 1_000_000_000)) (pos 1_000_000_000) (cell w baseField s)
 
 abbrev pub numeratorAt : Words → ℕ → ℤ
-numeratorAt w s = bounded (negℤ (pos 2_000_000_000)) (pos 2_000_000_000) (cell w 6 s)
+numeratorAt w s = bounded (negℤ (pos 2_000_000_000)) (pos 2_000_000_000) (cell w numeratorField s)
 
 abbrev pub denominatorAt : Words → ℕ → ℤ
-denominatorAt w s = bounded (pos 0) (pos 200_000) (cell w 7 s)
+denominatorAt w s = bounded (pos 0) (pos 200_000) (cell w denominatorField s)
 
 pub rate-ranged : (w : Words) (s : ℕ) → T (rateInRange (rateAt w s))
-rate-ranged w s = bounded-ranged (negℤ (pos 100_000)) (pos 100_000) (cell w 1 s) tt
+rate-ranged w s = bounded-ranged (negℤ (pos 100_000)) (pos 100_000) (cell w rateField s) tt
 
 pub base-ranged : (w : Words) (s : ℕ) → T (baseInRange (baseAt w s))
-base-ranged w s = bounded-ranged (negℤ (pos 1_000_000_000)) (pos 1_000_000_000) (cell w 2 s) tt
+base-ranged w s = bounded-ranged (negℤ (pos 1_000_000_000)) (pos 1_000_000_000) (cell w baseField s) tt
 
 pub numerator-ranged : (w : Words) (s : ℕ) → T (numeratorInRange (numeratorAt w s))
-numerator-ranged w s = bounded-ranged (negℤ (pos 2_000_000_000)) (pos 2_000_000_000) (cell w 6 s) tt
+numerator-ranged w s = bounded-ranged (negℤ (pos 2_000_000_000)) (pos 2_000_000_000) (cell w numeratorField s) tt
 
 -- a number from 0 to 200,000 is one from −200,000 to 200,000
 positive-ranged : (z : ℤ) → T (between (pos 0) (pos 200_000) z) → T (denominatorInRange z)
@@ -48,7 +49,7 @@ positive-ranged z t =
     low h = omega (arith, intRules)
 
 pub denominator-ranged : (w : Words) (s : ℕ) → T (denominatorInRange (denominatorAt w s))
-denominator-ranged w s = positive-ranged (denominatorAt w s) (bounded-ranged (pos 0) (pos 200_000) (cell w 7 s) tt)
+denominator-ranged w s = positive-ranged (denominatorAt w s) (bounded-ranged (pos 0) (pos 200_000) (cell w denominatorField s) tt)
 
 -- ---- prices
 
@@ -96,20 +97,20 @@ compared w p v s n d y z a b c e = rw (e, c, a, b)
 
 -- the slot in which a node is kept
 unfoldable pub keptIn : ℕ → ℕ
-keptIn x = cond (leb x 4096) x (x - 4096)
+keptIn x = cond (leb x mostSlots) x (x - mostSlots)
 
-pub kept-leaf : (x : ℕ) → x ≤ 4096 → keptIn x ≡ x
+pub kept-leaf : (x : ℕ) → x ≤ mostSlots → keptIn x ≡ x
 unfolding keptIn
-kept-leaf x h = rw (le-leb x 4096 h)
+kept-leaf x h = rw (le-leb x mostSlots h)
 
-pub kept-inner : (x : ℕ) → 4096 < x → keptIn x ≡ x - 4096
+pub kept-inner : (x : ℕ) → mostSlots < x → keptIn x ≡ x - mostSlots
 unfolding keptIn
-kept-inner x h = rw (lt-leb x 4096 h)
+kept-inner x h = rw (lt-leb x mostSlots h)
 
 -- the crossing kept in slot p of w is on or above the local envelope of node x of v; slot 0 is a missing end
 unfoldable pub aboveAt : Words → ℕ → Words → ℕ → Bool
 aboveAt w p v x =
-    cond (ltb p 1) false (cond (atMostAt w p v (keptIn x)) true (cond (leb x 4096) false (atMostAt w p v (linkAt v 19 (keptIn x)))))
+    cond (ltb p 1) false (cond (atMostAt w p v (keptIn x)) true (cond (leb x mostSlots) false (atMostAt w p v (linkAt v nextPieceField (keptIn x)))))
 
 module _ (w : Words) (p : ℕ) (v : Words) (x : ℕ) where
   pub above-missing : p < 1 → false ≡ aboveAt w p v x
@@ -125,26 +126,26 @@ module _ (w : Words) (p : ℕ) (v : Words) (x : ℕ) where
     unfolding aboveAt
     above-first e = rw (le-ltb p 1 some, first-test, e)
 
-    pub above-leaf : leZ z y ≡ false → x ≤ 4096 → false ≡ aboveAt w p v x
+    pub above-leaf : leZ z y ≡ false → x ≤ mostSlots → false ≡ aboveAt w p v x
     unfolding aboveAt
-    above-leaf e k = rw (le-ltb p 1 some, first-test, e, le-leb x 4096 k)
+    above-leaf e k = rw (le-ltb p 1 some, first-test, e, le-leb x mostSlots k)
 
-    pub above-second : {t : ℕ} {z′ : ℤ} → leZ z y ≡ false → 4096 < x → t ≡ linkAt v 19 s → z′ ≡ priceIn v t n d → leZ z′ y ≡ aboveAt w p v x
+    pub above-second : {t : ℕ} {z′ : ℤ} → leZ z y ≡ false → mostSlots < x → t ≡ linkAt v nextPieceField s → z′ ≡ priceIn v t n d → leZ z′ y ≡ aboveAt w p v x
     unfolding aboveAt
-    above-second {t} {z′} e k l f = rw (le-ltb p 1 some, first-test, e, lt-leb x 4096 k, ← kept, ← l) (compared w p v t n d y z′ en ed ey f)
+    above-second {t} {z′} e k l f = rw (le-ltb p 1 some, first-test, e, lt-leb x mostSlots k, ← kept, ← l) (compared w p v t n d y z′ en ed ey f)
 
   -- a leaf's one line, and an inner node's two
-  pub above-one : 1 ≤ p → x ≤ 4096 → aboveAt w p v x ≡ atMostAt w p v (keptIn x)
+  pub above-one : 1 ≤ p → x ≤ mostSlots → aboveAt w p v x ≡ atMostAt w p v (keptIn x)
   unfolding aboveAt
-  above-one h k = rw (le-ltb p 1 h, le-leb x 4096 k) (go (atMostAt w p v (keptIn x)))
+  above-one h k = rw (le-ltb p 1 h, le-leb x mostSlots k) (go (atMostAt w p v (keptIn x)))
     where
       go : (b : Bool) → cond b true false ≡ b
       go true = refl
       go false = refl
 
-  pub above-two : 1 ≤ p → 4096 < x → aboveAt w p v x ≡ atMostAt w p v (keptIn x) || atMostAt w p v (linkAt v 19 (keptIn x))
+  pub above-two : 1 ≤ p → mostSlots < x → aboveAt w p v x ≡ atMostAt w p v (keptIn x) || atMostAt w p v (linkAt v nextPieceField (keptIn x))
   unfolding aboveAt
-  above-two h k = rw (le-ltb p 1 h, lt-leb x 4096 k) (go (atMostAt w p v (keptIn x)) (atMostAt w p v (linkAt v 19 (keptIn x))))
+  above-two h k = rw (le-ltb p 1 h, lt-leb x mostSlots k) (go (atMostAt w p v (keptIn x)) (atMostAt w p v (linkAt v nextPieceField (keptIn x))))
     where
       go : (b c : Bool) → cond b true c ≡ b || c
       go true c = refl

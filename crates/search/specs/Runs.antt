@@ -21,6 +21,7 @@ use Rattle.meeting.specs.Verdicts.{Meeting, aim}
 use Rattle.meeting.specs.Search.{Sound, potential, Stepped as Progress, step-sound}
 use Rattle.meeting.specs.Meets.{size, lineFrom, limit, spans-tree, root-stands}
 use Rattle.meeting.specs.Reach.{later}
+use Rattle.table.specs.Fields.{pieceTree}
 use Rattle.table.specs.Words.{Words}
 use Rattle.table.specs.Items.{Item}
 use Rattle.table.specs.Rep.{Rep, refOf}
@@ -36,7 +37,7 @@ use Rattle.search.specs.SearchSteps.{uOf, vOf, Searches, After, Stepped}
 
 -- a tree of pieces kept in a table, its offers held and threaded
 pub record Kept (w : Words) (x : ℕ) (t : Tree Item) : Type 0 where
-  pub rep : Rep w 0 x t
+  pub rep : Rep w pieceTree x t
   pub holds : Holds w (leaves t)
   pub threaded : Threaded w (leaves t)
   pub low : height t ≤ 24

@@ -11,6 +11,7 @@ use borrow.Author.Tests.{le-leb, lt-leb}
 use Rattle.trees.specs.Tree.{Tree, leaf, node, height}
 use Rattle.meeting.specs.Machine.{Side, opposite, isLeaf, Place, onOrAbove, Case, mine, theirs, neither, caseOf, compare, Half, State, pair, pop, second, recede, stepBy, step}
 use Rattle.meeting.specs.Moves.{half}
+use Rattle.table.specs.Fields.{mostSlots}
 use Rattle.table.specs.Words.{Words}
 use Rattle.table.specs.Items.{Item}
 use Rattle.table.specs.Rep.{refOf}
@@ -100,18 +101,18 @@ roomy : {w : Words} {side : Bool} {h : Walk} {m : Half Item} → Fares w side h 
 roomy f = omega (arith, f .stands .shallow, f .low)
 
 -- the stack's top, compared
-top-above : {w v : Words} {st : List ℕ} {d y : ℕ} {top : Place Item} {rest : List (Place Item)} (side : Side) (t : ℕ) (q : Place Item) → Stacks w st d (top ∷ rest) → t ≡ refOf (top .tree) → Pieces v y (q .tree) → aboveAt w (t - 4096) v y ≡ onOrAbove itemFigure side top q
+top-above : {w v : Words} {st : List ℕ} {d y : ℕ} {top : Place Item} {rest : List (Place Item)} (side : Side) (t : ℕ) (q : Place Item) → Stacks w st d (top ∷ rest) → t ≡ refOf (top .tree) → Pieces v y (q .tree) → aboveAt w (t - mostSlots) v y ≡ onOrAbove itemFigure side top q
 top-above {w} {v} {y = y} side t q (pushed {l = l} {r = r} {e = e} p s) z b = ap (λ (i : ℕ). aboveAt w i v y) (omega (arith, z)) ∙ node-above side e q p b
 
 module _ {ours other : Words} {side : Bool} {h k : Walk} {t : Tree Item} {e : Option Item} {top : Place Item} {rest : List (Place Item)} {n : Half Item} where
   -- the second comparison
-  second-case : (x p : ℕ) → Fares ours side h (half t e (top ∷ rest)) → Fares other (not side) k n → x ≡ refOf (top .tree) → p ≡ pointSlot (n .at .tree) (n .stack) → compare itemFigure (sideOf side) top (n .at) ≡ caseOf (aboveAt ours (x - 4096) other (k .at)) (aboveAt other p ours x)
+  second-case : (x p : ℕ) → Fares ours side h (half t e (top ∷ rest)) → Fares other (not side) k n → x ≡ refOf (top .tree) → p ≡ pointSlot (n .at .tree) (n .stack) → compare itemFigure (sideOf side) top (n .at) ≡ caseOf (aboveAt ours (x - mostSlots) other (k .at)) (aboveAt other p ours x)
   unfolding compare
   second-case x p f g a b =
       ap₂ caseOf (sym (top-above (sideOf side) x (n .at) (f .stood .stacks) a (g .stood .here)))
       (ap (λ (s : Side). onOrAbove itemFigure s (n .at) top) (turn side) ∙ sym (half-above g top (top-pieces (f .stood) x a)) ∙ ap (λ (i : ℕ). aboveAt other i ours x) (sym b))
 
-top-high : {w : Words} {st : List ℕ} {d : ℕ} {top : Place Item} {rest : List (Place Item)} → Stacks w st d (top ∷ rest) → 4096 < refOf (top .tree)
+top-high : {w : Words} {st : List ℕ} {d : ℕ} {top : Place Item} {rest : List (Place Item)} → Stacks w st d (top ∷ rest) → mostSlots < refOf (top .tree)
 top-high (pushed p s) = omega (arith, inner-high p, p .rep .root)
 
 module _ {ours other : Words} {side : Bool} {h k : Walk} {n : Half Item} (g : Fares other (not side) k n) where
@@ -122,14 +123,14 @@ module _ {ours other : Words} {side : Bool} {h k : Walk} {n : Half Item} (g : Fa
   bottom-by t e (top ∷ rest) f x q d a b = absurd (omega (arith, q, top-high (f .stood .stacks)))
 
   -- a leaf pops
-  leaf-by : {h′ k′ : Walk} (t : Tree Item) (e : Option Item) (ps : List (Place Item)) (f : Fares ours side h (half t e ps)) (x : ℕ) → x ≡ topRef ps → 1 ≤ x → h .at ≤ 4096 → Popped ours side h h′ → Stays other k k′ → Searches (leftOf side ours other) (rightOf side ours other) (paired side h′ k′) (recede itemFigure (sideOf side) (half t e ps) n)
+  leaf-by : {h′ k′ : Walk} (t : Tree Item) (e : Option Item) (ps : List (Place Item)) (f : Fares ours side h (half t e ps)) (x : ℕ) → x ≡ topRef ps → 1 ≤ x → h .at ≤ mostSlots → Popped ours side h h′ → Stays other k k′ → Searches (leftOf side ours other) (rightOf side ours other) (paired side h′ k′) (recede itemFigure (sideOf side) (half t e ps) n)
   unfolding recede
   leaf-by t e [] f x q d l a b = absurd (omega (arith, q))
   leaf-by (leaf y) e (top ∷ rest) f x q d l a b = paired-searches side (a .moved (f .stood)) (b .moved (g .stood))
   leaf-by (node y z) e (top ∷ rest) f x q d l a b = absurd (omega (arith, inner-high (f .stood .here)))
 
   -- an inner node goes by the second comparison
-  second-by : {r : Search} (t : Tree Item) (e : Option Item) (ps : List (Place Item)) (f : Fares ours side h (half t e ps)) → 4096 < h .at → (x p : ℕ) → 1 ≤ x → x ≡ topRef ps → p ≡ pointSlot (n .at .tree) (n .stack) → (c : Case) → caseOf (aboveAt ours (x - 4096) other (k .at)) (aboveAt other p ours x) ≡ c → ((top : Place Item) (rest : List (Place Item)) → Fares ours side h (half t e (top ∷ rest)) → Searches (leftOf side ours other) (rightOf side ours other) r (second itemFigure (sideOf side) c (half t e (top ∷ rest)) n top rest)) → Searches (leftOf side ours other) (rightOf side ours other) r (recede itemFigure (sideOf side) (half t e ps) n)
+  second-by : {r : Search} (t : Tree Item) (e : Option Item) (ps : List (Place Item)) (f : Fares ours side h (half t e ps)) → mostSlots < h .at → (x p : ℕ) → 1 ≤ x → x ≡ topRef ps → p ≡ pointSlot (n .at .tree) (n .stack) → (c : Case) → caseOf (aboveAt ours (x - mostSlots) other (k .at)) (aboveAt other p ours x) ≡ c → ((top : Place Item) (rest : List (Place Item)) → Fares ours side h (half t e (top ∷ rest)) → Searches (leftOf side ours other) (rightOf side ours other) r (second itemFigure (sideOf side) c (half t e (top ∷ rest)) n top rest)) → Searches (leftOf side ours other) (rightOf side ours other) r (recede itemFigure (sideOf side) (half t e ps) n)
   unfolding recede
   second-by t e [] f l x p d a b c q s = absurd (omega (arith, a))
   second-by (leaf y) e (top ∷ rest) f l x p d a b c q s = absurd (omega (arith, leaf-low (f .stood .here)))
@@ -137,7 +138,7 @@ module _ {ours other : Words} {side : Bool} {h k : Walk} {n : Half Item} (g : Fa
 
 -- ---- each of the moves where ours recedes
 
-first-by : (ours other : Words) (x y z : ℕ) {b : Bool} → y ≡ x - 4096 → aboveAt ours y other z ≡ b → aboveAt ours (x - 4096) other z ≡ b
+first-by : (ours other : Words) (x y z : ℕ) {b : Bool} → y ≡ x - mostSlots → aboveAt ours y other z ≡ b → aboveAt ours (x - mostSlots) other z ≡ b
 first-by ours other x y z q e = ap (λ (i : ℕ). aboveAt ours i other z) (sym q) ∙ e
 
 module _ {ours other : Words} {side : Bool} {h k h′ k′ : Walk} (x : ℕ) (top : Topped h x) where
@@ -145,10 +146,10 @@ module _ {ours other : Words} {side : Bool} {h k h′ k′ : Walk} (x : ℕ) (to
   receded-bottom d a b = record { moved = λ {m} {n} f g. bottom-by g (m .at .tree) (m .at .edge) (m .stack) f x (top .is (f .stood)) d a b }
 
   module _ (deep : 1 ≤ x) where
-    pub receded-leaf : h .at ≤ 4096 → Popped ours side h h′ → Stays other k k′ → Receded ours other side h k h′ k′
+    pub receded-leaf : h .at ≤ mostSlots → Popped ours side h h′ → Stays other k k′ → Receded ours other side h k h′ k′
     receded-leaf l a b = record { moved = λ {m} {n} f g. leaf-by g (m .at .tree) (m .at .edge) (m .stack) f x (top .is (f .stood)) deep l a b }
 
-    module _ (inner : 4096 < h .at) (y : ℕ) (at-top : y ≡ x - 4096) where
+    module _ (inner : mostSlots < h .at) (y : ℕ) (at-top : y ≡ x - mostSlots) where
       pub receded-mine : Popped ours side h h′ → Stays other k k′ → aboveAt ours y other (k .at) ≡ true → Receded ours other side h k h′ k′
       receded-mine a b e =
           record {
@@ -177,9 +178,9 @@ module _ {ours other : Words} {side : Bool} {h k h′ k′ : Walk} (x : ℕ) (to
 
 -- ---- each of the steps
 
-leaf-test : {w : Words} {x : ℕ} (t : Tree Item) → Pieces w x t → leb x 4096 ≡ isLeaf t
-leaf-test {x} (leaf a) p = le-leb x 4096 (leaf-low p)
-leaf-test {x} (node l r) p = lt-leb x 4096 (inner-high p)
+leaf-test : {w : Words} {x : ℕ} (t : Tree Item) → Pieces w x t → leb x mostSlots ≡ isLeaf t
+leaf-test {x} (leaf a) p = le-leb x mostSlots (leaf-low p)
+leaf-test {x} (node l r) p = lt-leb x mostSlots (inner-high p)
 
 module _ (wl wr : Words) (s : Search) where
   -- the machine's step, by the code's two comparisons
@@ -190,7 +191,7 @@ module _ (wl wr : Words) (s : Search) where
       let v : aboveAt wr q wl (s .u) ≡ onOrAbove itemFigure (sideOf true) (M .v .at) (M .u .at) = ap (λ (i : ℕ). aboveAt wr i wl (s .u)) b ∙ half-above g (M .u .at) (f .stood .here) in
       rw (sym (ap₂ caseOf u v) ∙ e) z
 
-  leaves-test : {M : State Item} (b : Bool) → leb (s .u) 4096 && leb (s .v) 4096 ≡ b → Fares wl false (uOf s) (M .u) → Fares wr true (vOf s) (M .v) → isLeaf (M .u .at .tree) && isLeaf (M .v .at .tree) ≡ b
+  leaves-test : {M : State Item} (b : Bool) → leb (s .u) mostSlots && leb (s .v) mostSlots ≡ b → Fares wl false (uOf s) (M .u) → Fares wr true (vOf s) (M .v) → isLeaf (M .u .at .tree) && isLeaf (M .v .at .tree) ≡ b
   leaves-test {M} b e f g = sym (ap₂ _&&_ (leaf-test (M .u .at .tree) (f .stood .here)) (leaf-test (M .v .at .tree) (g .stood .here))) ∙ e
 
 module _ {wl wr : Words} {s r : Search} {p : ℕ} (pu : Pointed (uOf s) p) where
@@ -212,7 +213,7 @@ module _ {wl wr : Words} {s r : Search} {p : ℕ} (pu : Pointed (uOf s) p) where
         }
 
     module _ (clear′ : aboveAt wr q wl (s .u) ≡ false) where
-      pub stepped-done : leb (s .u) 4096 && leb (s .v) 4096 ≡ true → r .done ≡ true → Stays wl (uOf s) (uOf r) → Stays wr (vOf s) (vOf r) → Stepped wl wr s r
+      pub stepped-done : leb (s .u) mostSlots && leb (s .v) mostSlots ≡ true → r .done ≡ true → Stays wl (uOf s) (uOf r) → Stays wr (vOf s) (vOf r) → Stepped wl wr s r
       stepped-done e d a b =
           record {
             moved = λ {M} f g.
@@ -220,7 +221,7 @@ module _ {wl wr : Words} {s r : Search} {p : ℕ} (pu : Pointed (uOf s) p) where
                 (rw (leaves-test wl wr s true e f g) (d, a .at, b .at));
           }
 
-      pub stepped-on : leb (s .u) 4096 && leb (s .v) 4096 ≡ false → r .done ≡ false → Advanced wl false (uOf s) (uOf r) → Advanced wr true (vOf s) (vOf r) → Stepped wl wr s r
+      pub stepped-on : leb (s .u) mostSlots && leb (s .v) mostSlots ≡ false → r .done ≡ false → Advanced wl false (uOf s) (uOf r) → Advanced wr true (vOf s) (vOf r) → Stepped wl wr s r
       stepped-on e d a b =
           record {
             moved = λ {M} f g.

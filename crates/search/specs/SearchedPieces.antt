@@ -16,6 +16,7 @@ use Rattle.offers.specs.Bounded.{bounded, bounded-in}
 use Rattle.trees.specs.Tree.{Tree, leaf, node, leaves, first, last}
 use Rattle.trees.specs.Leaves.{first-leaf, last-leaf}
 use Rattle.meeting.specs.Machine.{Side, left, right, away, toward, localAtMost}
+use Rattle.table.specs.Fields.{mostSlots, nextPieceField, pieceTree}
 use Rattle.table.specs.Words.{Words}
 use Rattle.table.specs.Layout.{cap, cap-most, linkAt}
 use Rattle.table.specs.Items.{Item, Slots, slots-left, slots-right}
@@ -26,7 +27,7 @@ use Rattle.search.specs.Prices.{rateAt, baseAt, numeratorAt, denominator
 
 -- node x is the root of a tree of pieces
 pub record Pieces (w : Words) (x : ℕ) (t : Tree Item) : Type 0 where
-  pub rep : Rep w 0 x t
+  pub rep : Rep w pieceTree x t
   pub holds : Holds w (leaves t)
   pub threaded : Threaded w (leaves t)
   pub falling : IsChain Falls (leaves t)
@@ -38,13 +39,13 @@ sideOf false = left
 sideOf true = right
 
 module _ {w : Words} {x : ℕ} {l r : Tree Item} (p : Pieces w x (node l r)) where
-  pub seam-at : x - 4096 ≡ last l .slot
+  pub seam-at : x - mostSlots ≡ last l .slot
   seam-at = omega (arith, p .rep .root)
 
-  pub inner-high : 4096 < x
+  pub inner-high : mostSlots < x
   inner-high = omega (arith, p .rep .root, slots-left (leaves r) (p .rep .slots) .low (last-leaf l))
 
-  pub pieces-left : Pieces w (childAt w 0 false x) l
+  pub pieces-left : Pieces w (childAt w pieceTree false x) l
   pieces-left =
       record {
         rep = record { kind = p .rep .kind; root = ap (linkAt w 4) seam-at ∙ at-left (p .rep .tied); slots = slots-left (leaves r) (p .rep .slots); tied = tied-left (p .rep .tied) };
@@ -53,13 +54,13 @@ module _ {w : Words} {x : ℕ} {l r : Tree Item} (p : Pieces w x (node l r)) whe
         falling = IsChain·left-of-append (leaves r) (p .falling);
       }
     where
-      at-left : Tied w 0 (node l r) → linkAt w 4 (last l .slot) ≡ refOf l
+      at-left : Tied w pieceTree (node l r) → linkAt w 4 (last l .slot) ≡ refOf l
       at-left (tied-node tl tr el er eh) = el
 
-      tied-left : Tied w 0 (node l r) → Tied w 0 l
+      tied-left : Tied w pieceTree (node l r) → Tied w pieceTree l
       tied-left (tied-node tl tr el er eh) = tl
 
-  pub pieces-right : Pieces w (childAt w 0 true x) r
+  pub pieces-right : Pieces w (childAt w pieceTree true x) r
   pieces-right =
       record {
         rep = record { kind = p .rep .kind; root = ap (linkAt w 5) seam-at ∙ at-right (p .rep .tied); slots = slots-right (leaves l) (p .rep .slots); tied = tied-right (p .rep .tied) };
@@ -68,21 +69,21 @@ module _ {w : Words} {x : ℕ} {l r : Tree Item} (p : Pieces w x (node l r)) whe
         falling = IsChain·right-of-append (leaves l) (p .falling);
       }
     where
-      at-right : Tied w 0 (node l r) → linkAt w 5 (last l .slot) ≡ refOf r
+      at-right : Tied w pieceTree (node l r) → linkAt w 5 (last l .slot) ≡ refOf r
       at-right (tied-node tl tr el er eh) = er
 
-      tied-right : Tied w 0 (node l r) → Tied w 0 r
+      tied-right : Tied w pieceTree (node l r) → Tied w pieceTree r
       tied-right (tied-node tl tr el er eh) = tr
 
-pub pieces-away : {w : Words} {x : ℕ} {l r : Tree Item} (side : Bool) → Pieces w x (node l r) → Pieces w (childAt w 0 side x) (away (sideOf side) l r)
+pub pieces-away : {w : Words} {x : ℕ} {l r : Tree Item} (side : Bool) → Pieces w x (node l r) → Pieces w (childAt w pieceTree side x) (away (sideOf side) l r)
 pieces-away false p = pieces-left p
 pieces-away true p = pieces-right p
 
-pub pieces-toward : {w : Words} {x : ℕ} {l r : Tree Item} (side : Bool) → Pieces w x (node l r) → Pieces w (childAt w 0 (not side) x) (toward (sideOf side) l r)
+pub pieces-toward : {w : Words} {x : ℕ} {l r : Tree Item} (side : Bool) → Pieces w x (node l r) → Pieces w (childAt w pieceTree (not side) x) (toward (sideOf side) l r)
 pieces-toward false p = pieces-right p
 pieces-toward true p = pieces-left p
 
-pub leaf-low : {w : Words} {x : ℕ} {a : Item} → Pieces w x (leaf a) → x ≤ 4096
+pub leaf-low : {w : Words} {x : ℕ} {a : Item} → Pieces w x (leaf a) → x ≤ mostSlots
 leaf-low {w} p = omega (arith, p .rep .root, p .rep .slots .high (List·Memᴰ·head refl), cap-most w)
 
 -- ---- the code's comparison
@@ -153,4 +154,4 @@ seam-above {w} {v} {x} {y} {l} {r} {t = node l′ r′} p q =
     above-two w (last l .slot) v y (s .some) (inner-high q)
     ∙ ap₂ _||_
     (ap (atMostAt w (last l .slot) v) k ∙ read-test (s .held) (s .held-next) (s .next) (s .falls) (z .held))
-    (ap (atMostAt w (last l .slot) v) (ap (linkAt v 19) k ∙ z .next .next) ∙ read-test (s .held) (s .held-next) (s .next) (s .falls) (z .held-next))
+    (ap (atMostAt w (last l .slot) v) (ap (linkAt v nextPieceField) k ∙ z .next .next) ∙ read-test (s .held) (s .held-next) (s .next) (s .falls) (z .held-next))

@@ -11,6 +11,7 @@ use Rattle.trees.specs.Tree.{Tree, leaf, node, last}
 use Rattle.meeting.specs.Machine.{Side, Place, Half, Crossing, crossingOnOrAbove, onOrAbove}
 use Rattle.meeting.specs.Located.{Aim, Stands, leaf-point}
 use Rattle.meeting.specs.Moves.{half}
+use Rattle.table.specs.Fields.{mostSlots}
 use Rattle.table.specs.Words.{Words}
 use Rattle.table.specs.Items.{Item}
 use Rattle.table.specs.Rep.{refOf}
@@ -68,7 +69,7 @@ topRef (p ∷ ps) = refOf (p .tree)
 
 -- the slot that keeps a half's point: of an inner node its own, of a leaf that of the stack's top, and 0 where the end is missing
 abbrev pub topSlot : List (Place Item) → ℕ
-topSlot ps = topRef ps - 4096
+topSlot ps = topRef ps - mostSlots
 
 abbrev pub pointSlot : Tree Item → List (Place Item) → ℕ
 pointSlot (leaf a) st = topSlot st

@@ -3,6 +3,7 @@
 ghost use mathlib.Core.Path.{_≡_};
 ghost use mathlib.Core.Bool.{_&&_};
 ghost use lib.Dec.{leb};
+ghost use Rattle.table.specs.Fields.{mostSlots};
 ghost use Rattle.table.specs.Layout.{cap};
 ghost use Rattle.search.specs.Prices.{rateAt, baseAt, numeratorAt, denominatorAt, crossingPriceAt};
 ghost use Rattle.search.specs.Moves.{Under, topWord, pointWord};
@@ -56,26 +57,34 @@ struct Stand {
 pub fn rate(part: &[i64], slot: u32) -> i64
     ensures { λ r. ⌜ r ≡ rateAt (now (part .entry)) slot ⌝ }
 {
-    prices::bounded(-100_000, 100_000, table::get(part, 1, slot))
+    prices::bounded(-100_000, 100_000, table::get(part, table::RATE, slot))
 }
 
 pub fn base(part: &[i64], slot: u32) -> i64
     ensures { λ r. ⌜ r ≡ baseAt (now (part .entry)) slot ⌝ }
 {
-    prices::bounded(-1_000_000_000, 1_000_000_000, table::get(part, 2, slot))
+    prices::bounded(
+        -1_000_000_000,
+        1_000_000_000,
+        table::get(part, table::BASE, slot),
+    )
 }
 
 // The crossing with the next piece: where the words hold one, its numerator and its denominator.
 pub fn numerator(part: &[i64], slot: u32) -> i64
     ensures { λ r. ⌜ r ≡ numeratorAt (now (part .entry)) slot ⌝ }
 {
-    prices::bounded(-2_000_000_000, 2_000_000_000, table::get(part, 6, slot))
+    prices::bounded(
+        -2_000_000_000,
+        2_000_000_000,
+        table::get(part, table::NUMERATOR, slot),
+    )
 }
 
 pub fn denominator(part: &[i64], slot: u32) -> i64
     ensures { λ r. ⌜ r ≡ denominatorAt (now (part .entry)) slot ⌝ }
 {
-    prices::bounded(0, 200_000, table::get(part, 7, slot))
+    prices::bounded(0, 200_000, table::get(part, table::DENOMINATOR, slot))
 }
 
 // The price of a slot's line at the crossing that the slot keeps, times its denominator.
@@ -115,10 +124,10 @@ fn top(depth: usize, word: u32) -> u32
 fn point(at: u32, top: u32) -> u32
     ensures { λ r. ⌜ r ≡ pointWord at top ⌝ }
 {
-    if at <= 4096 {
+    if at <= table::MOST_SLOTS {
         return table::inner_slot(top);
     }
-    at - 4096
+    at - table::MOST_SLOTS
 }
 
 // An inner node goes away; a leaf stays.
@@ -126,10 +135,10 @@ fn retreat(part: &[i64], c: u32, side: bool, at: u32) -> u32
     requires { ⌜ c ≡ cap (now part) ⌝ }
     ensures { λ r. ⌜ Retreats (now (part .entry)) side at r ⌝ }
 {
-    if at <= 4096 {
+    if at <= table::MOST_SLOTS {
         return at;
     }
-    table::child_in(part, c, 0, side, at)
+    table::child_in(part, c, table::PIECES, side, at)
 }
 
 // An inner node is pushed and goes toward; a leaf stays.
@@ -137,7 +146,7 @@ fn advance(part: &[i64], c: u32, side: bool, at: u32, depth: usize) -> Stand
     requires { ⌜ c ≡ cap (now part) ⌝ }
     ensures { λ r. ⌜ Advances (now (part .entry)) side at depth r ⌝ }
 {
-    if at <= 4096 {
+    if at <= table::MOST_SLOTS {
         return Stand {
             at: at,
             depth: depth,
@@ -150,7 +159,7 @@ fn advance(part: &[i64], c: u32, side: bool, at: u32, depth: usize) -> Stand
         };
     }
     Stand {
-        at: table::child_in(part, c, 0, !side, at),
+        at: table::child_in(part, c, table::PIECES, !side, at),
         depth: depth + 1,
     }
 }
@@ -167,7 +176,7 @@ fn pop(part: &[i64], c: u32, side: bool, depth: usize, top: u32) -> Stand
         };
     }
     Stand {
-        at: table::child_in(part, c, 0, side, top),
+        at: table::child_in(part, c, table::PIECES, side, top),
         depth: depth - 1,
     }
 }
@@ -228,7 +237,7 @@ fn recede(
     if t < 1 {
         return pair(side, Action::Retreat, Action::Stay);
     }
-    if x <= 4096 {
+    if x <= table::MOST_SLOTS {
         return pair(side, Action::Pop, Action::Stay);
     }
     if prices::above(ours, c, table::inner_slot(t), other, k, y) {
@@ -241,9 +250,9 @@ fn recede(
 }
 
 fn both_leaves(u: u32, v: u32) -> bool
-    ensures { λ r. ⌜ r ≡ leb u 4096 && leb v 4096 ⌝ }
+    ensures { λ r. ⌜ r ≡ leb u mostSlots && leb v mostSlots ⌝ }
 {
-    u <= 4096 && v <= 4096
+    u <= table::MOST_SLOTS && v <= table::MOST_SLOTS
 }
 
 // What a step does at u and v, whose stacks have `t` and `w` on top.

@@ -21,7 +21,7 @@ pub fn rate_in(part: &[i64], c: u32, slot: u32) -> i64
     requires { ⌜ c ≡ cap (now part) ⌝ }
     ensures { λ r. ⌜ r ≡ rateAt (now (part .entry)) slot ⌝ }
 {
-    bounded(-100_000, 100_000, table::get_in(part, c, 1, slot))
+    bounded(-100_000, 100_000, table::get_in(part, c, table::RATE, slot))
 }
 
 pub fn base_in(part: &[i64], c: u32, slot: u32) -> i64
@@ -31,7 +31,7 @@ pub fn base_in(part: &[i64], c: u32, slot: u32) -> i64
     bounded(
         -1_000_000_000,
         1_000_000_000,
-        table::get_in(part, c, 2, slot),
+        table::get_in(part, c, table::BASE, slot),
     )
 }
 
@@ -43,7 +43,7 @@ fn numerator(part: &[i64], c: u32, slot: u32) -> i64
     bounded(
         -2_000_000_000,
         2_000_000_000,
-        table::get_in(part, c, 6, slot),
+        table::get_in(part, c, table::NUMERATOR, slot),
     )
 }
 
@@ -51,7 +51,7 @@ fn denominator(part: &[i64], c: u32, slot: u32) -> i64
     requires { ⌜ c ≡ cap (now part) ⌝ }
     ensures { λ r. ⌜ r ≡ denominatorAt (now (part .entry)) slot ⌝ }
 {
-    bounded(0, 200_000, table::get_in(part, c, 7, slot))
+    bounded(0, 200_000, table::get_in(part, c, table::DENOMINATOR, slot))
 }
 
 // The price of a slot's line at the load n over d, times d.
@@ -66,10 +66,10 @@ pub(crate) fn price(part: &[i64], c: u32, slot: u32, n: i64, d: i64) -> i64
 fn kept_in(x: u32) -> u32
     ensures { λ r. ⌜ r ≡ keptIn x ⌝ }
 {
-    if x <= 4096 {
+    if x <= table::MOST_SLOTS {
         return x;
     }
-    x - 4096
+    x - table::MOST_SLOTS
 }
 
 // Whether the crossing that slot `p` keeps is on or above the local envelope of node `x`: at that load one of the envelope's lines is
@@ -88,8 +88,15 @@ pub(crate) fn above(ours: &[i64], c: u32, p: u32, other: &[i64], k: u32, x: u32)
     if price(other, k, s, n, d) <= y {
         return true;
     }
-    if x <= 4096 {
+    if x <= table::MOST_SLOTS {
         return false;
     }
-    price(other, k, table::link_in(other, k, 19, s), n, d) <= y
+    price(
+        other,
+        k,
+        table::link_in(other, k, table::NEXT_PIECE, s),
+        n,
+        d,
+    )
+        <= y
 }

@@ -6,6 +6,7 @@ use Prim.Native.Nat.{ℕ, suc, _+_, _<_, max}
 use native.Mathlib.Omega.{arith}
 use lib.IntN.{pos}
 use Rattle.trees.specs.Tree.{Tree}
+use Rattle.table.specs.Fields.{mostSlots}
 use Rattle.table.specs.Words.{Words}
 use Rattle.table.specs.Layout.{cap-most, cset}
 use Rattle.table.specs.Items.{Item}
@@ -27,16 +28,16 @@ raised ep eq e r = r .joined (omega (arith, ep, eq, e))
 -- ---- a node
 
 -- a slot that no part has
-pub no-gap : {shape : Tree Item → Tree Item → Tree Item} {k : ℕ} {side : Bool} {gap p q : ℕ} {w : Words} {x : ℕ} → 4096 < gap → Joined shape k side gap p q w w x
+pub no-gap : {shape : Tree Item → Tree Item → Tree Item} {k : ℕ} {side : Bool} {gap p q : ℕ} {w : Words} {x : ℕ} → mostSlots < gap → Joined shape k side gap p q w w x
 no-gap {side} {w} h =
     record { within = within-refl w; made = λ tp tq pair e. absurd (omega (arith, h, e, pair .slots .high (seam-in side tp tq), cap-most w)) }
 
 pub joined-node : {k gap p q h f₁ f₂ f₃ : ℕ} {side : Bool} {w w₁ w₂ w₃ : Words}
     → h ≡ suc (max (heightAt w k p) (heightAt w k q)) → f₁ ≡ childField k side → w₁ ≡ cset w f₁ gap (pos p)
     → f₂ ≡ childField k (not side) → w₂ ≡ cset w₁ f₂ gap (pos q) → f₃ ≡ heightField k → w₃ ≡ cset w₂ f₃ gap (pos h)
-    → Joined (nodeOn side) k side gap p q w w₃ (4096 + gap)
+    → Joined (nodeOn side) k side gap p q w w₃ (mostSlots + gap)
 joined-node {k} {gap} {p} {q} {h} {side} {w} {w₁} {w₂} {w₃} e d₁ e₁ d₂ e₂ d₃ e₃ =
-    subst (λ v. Joined (nodeOn side) k side gap p q w v (4096 + gap)) (sym all)
+    subst (λ v. Joined (nodeOn side) k side gap p q w v (mostSlots + gap)) (sym all)
     (record { within = wired-within w k side gap p q h; made = λ tp tq pair d. made-node pair gap h d e })
   where
     all : w₃ ≡ wired w k side gap p q h

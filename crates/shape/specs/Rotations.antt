@@ -6,6 +6,7 @@ use native.Mathlib.Omega.{arith}
 use lib.Dec.{leb}
 use Rattle.trees.specs.Tree.{Tree, leaf, node, height, leaves}
 use Rattle.trees.specs.Leaves.{last-leaf}
+use Rattle.table.specs.Fields.{mostSlots}
 use Rattle.table.specs.Words.{Words}
 use Rattle.table.specs.Layout.{cap}
 use Rattle.table.specs.Items.{Item, In, Slots, slots-left}
@@ -16,7 +17,7 @@ use Rattle.shape.specs.Joining.{Joined}
 use Rattle.shape.specs.Rows.{tied-beside, made-then, made-as, Row, Rowed, row-one, row-middle}
 
 -- a root's number tells a leaf
-pub is-leaf : {w : Words} {k x : ℕ} {t : Tree Item} → Rep w k x t → x ≤ 4096 → (a : Item) × (t ≡ leaf a)
+pub is-leaf : {w : Words} {k x : ℕ} {t : Tree Item} → Rep w k x t → x ≤ mostSlots → (a : Item) × (t ≡ leaf a)
 is-leaf {t = leaf a} r h = (a, refl)
 is-leaf {t = node l s} r h = absurd (omega (arith, r .root, slots-left (leaves s) (r .slots) .low (last-leaf l)))
 
@@ -51,14 +52,14 @@ opened-row {w} {side} {tp} {tq} pair o ea em =
 
 -- ---- the double rotation
 
-pub doubled-leaf : {k near far p m q x : ℕ} {side : Bool} {w w′ : Words} → m ≤ 4096 → Rowed (rowOn side) k side near far p m q w w′ x → Rowed (doubleOn side) k side near far p m q w w′ x
+pub doubled-leaf : {k near far p m q x : ℕ} {side : Bool} {w w′ : Words} → m ≤ mostSlots → Rowed (rowOn side) k side near far p m q w w′ x → Rowed (doubleOn side) k side near far p m q w w′ x
 doubled-leaf {side} h j =
     record {
       within = j .within;
       made = λ tp tm tq r d e. let (a, i) = is-leaf (row-middle r) h in made-as (ap (λ t. rowOn side tp t tq) i ∙ sym (double-leaf side tp a tq) ∙ ap (λ t. doubleOn side tp t tq) (sym i)) (j .made tp tm tq r d e);
     }
 
-pub doubled-node : {k near far p m q a b g y x : ℕ} {side : Bool} {w w₁ w₂ : Words} → 4096 < m → a ≡ childAt w k side m → b ≡ childAt w k (not side) m → g ≡ m - 4096
+pub doubled-node : {k near far p m q a b g y x : ℕ} {side : Bool} {w w₁ w₂ : Words} → mostSlots < m → a ≡ childAt w k side m → b ≡ childAt w k (not side) m → g ≡ m - mostSlots
     → Joined (nodeOn side) k side near p a w w₁ y → Rowed (rowOn side) k side g far y b q w₁ w₂ x → Rowed (doubleOn side) k side near far p m q w w₂ x
 doubled-node {k} {near} {far} {p} {m} {q} {a} {b} {g} {y} {x} {side} {w} {w₁} {w₂} h ea eb eg first second =
     record { within = within-trans (first .within) (second .within); made = made }
@@ -91,7 +92,7 @@ doubled-node {k} {near} {far} {p} {m} {q} {a} {b} {g} {y} {x} {side} {w} {w₁} 
 
 -- ---- the rotation
 
-pub rotated-leaf : {k gap p q x : ℕ} {side : Bool} {w w′ : Words} → p ≤ 4096 → Joined (nodeOn side) k side gap p q w w′ x → Joined (rotateOn side) k side gap p q w w′ x
+pub rotated-leaf : {k gap p q x : ℕ} {side : Bool} {w w′ : Words} → p ≤ mostSlots → Joined (nodeOn side) k side gap p q w w′ x → Joined (rotateOn side) k side gap p q w w′ x
 rotated-leaf {side} h j =
     reshaped j (λ tp tq pair. let (a, i) = is-leaf (pair-one pair) h in ap (λ t. nodeOn side t tq) i ∙ sym (rotate-leaf side a tq) ∙ ap (λ t. rotateOn side t tq) (sym i))
 
@@ -99,7 +100,7 @@ rotated-leaf {side} h j =
 abbrev pub turnOn : Bool → Bool → Tree Item → Tree Item → Tree Item → Tree Item
 turnOn side b p m q = cond b (rowOn side p m q) (doubleOn side p m q)
 
-pub rotated : {k gap p q a m g ha hm x : ℕ} {side : Bool} {w w′ : Words} (b : Bool) → 4096 < p → a ≡ childAt w k side p → m ≡ childAt w k (not side) p → g ≡ p - 4096
+pub rotated : {k gap p q a m g ha hm x : ℕ} {side : Bool} {w w′ : Words} (b : Bool) → mostSlots < p → a ≡ childAt w k side p → m ≡ childAt w k (not side) p → g ≡ p - mostSlots
     → ha ≡ heightAt w k a → hm ≡ heightAt w k m → leb hm ha ≡ b → Rowed (turnOn side b) k side g gap a m q w w′ x → Joined (rotateOn side) k side gap p q w w′ x
 rotated {k} {gap} {p} {q} {a} {m} {g} {ha} {hm} {x} {side} {w} {w′} b h ea em eg eha ehm eb j = record { within = j .within; made = made }
   where

@@ -8,6 +8,7 @@ use borrow.Author.Tests.{ltb-true, le-ltb}
 use Rattle.trees.specs.Tree.{Tree, leaf, node, height, leaves}
 use Rattle.trees.specs.Leaves.{last-leaf}
 use Rattle.trees.specs.Operations.{towers}
+use Rattle.table.specs.Fields.{mostSlots}
 use Rattle.table.specs.Words.{Words}
 use Rattle.table.specs.Layout.{cap}
 use Rattle.table.specs.Items.{Item, Slots, slots-left}
@@ -36,7 +37,7 @@ pub towers-read : {w : Words} {k p q : ℕ} {s t : Tree Item} → Rep w k p s �
 towers-read a b = rw (rep-height a, rep-height b)
 
 -- a tree that has a height is an inner node's
-pub inner-ref : {w : Words} {k x : ℕ} {t : Tree Item} → Rep w k x t → 0 < height t → 4096 < x
+pub inner-ref : {w : Words} {k x : ℕ} {t : Tree Item} → Rep w k x t → 0 < height t → mostSlots < x
 inner-ref {t = leaf a} r h = absurd (omega arith)
 inner-ref {t = node l s} r h = omega (arith, r .root, slots-left (leaves s) (r .slots) .low (last-leaf l))
 
@@ -53,7 +54,7 @@ pub spliced-none : {k gap p q limit x : ℕ} {side : Bool} {w w′ : Words} → 
 spliced-none {side} e j =
     record { within = j .within; made = λ tp tq pair d low. made-as (sym (join-low side tp tq (flat tp tq (omega (arith, low, e))))) (j .made tp tq pair d) }
 
-pub spliced : {k gap p q limit a m g y x : ℕ} {side b : Bool} {w w₁ w₂ : Words} → b ≡ towersAt w k p q → b ≡ true → a ≡ childAt w k side p → m ≡ childAt w k (not side) p → g ≡ p - 4096
+pub spliced : {k gap p q limit a m g y x : ℕ} {side b : Bool} {w w₁ w₂ : Words} → b ≡ towersAt w k p q → b ≡ true → a ≡ childAt w k side p → m ≡ childAt w k (not side) p → g ≡ p - mostSlots
     → Spliced k side gap m q (limit - 1) w w₁ y → Joined (balanceOn side) k side g a y w₁ w₂ x → Spliced k side gap p q limit w w₂ x
 spliced {k} {gap} {p} {q} {limit} {a} {m} {g} {y} {x} {side} {b} {w} {w₁} {w₂} eb e ea em eg rec j = record { within = within-trans (rec .within) (j .within); made = made }
   where

@@ -2,6 +2,7 @@
 ghost use mathlib.Core.Path.{_≡_};
 ghost use Prim.Native.Nat.{suc, max, _≤_};
 ghost use lib.Dec.{ltb};
+ghost use Rattle.table.specs.Fields.{mostNodes};
 ghost use Rattle.table.specs.Layout.{cap};
 ghost use Rattle.table.specs.Rep.{nodeOn};
 ghost use Rattle.shape.specs.Sides.{rowOn, doubleOn, rotateOn, balanceOn};
@@ -12,7 +13,7 @@ ghost use Rattle.shape.specs.Merge.{Merged};
 
 // The height of a node over two trees of given heights.
 fn taller(hp: u32, hq: u32) -> u32
-    requires { ⌜ hp ≤ 8192 × hq ≤ 8192 ⌝ }
+    requires { ⌜ hp ≤ mostNodes × hq ≤ mostNodes ⌝ }
     ensures { λ r. ⌜ r ≡ suc (max hp hq) ⌝ }
 {
     if hp < hq {
@@ -27,7 +28,7 @@ fn set_node(part: &mut [i64], c: u32, tree: u8, side: bool, gap: u32, p: u32, q:
     requires { ⌜ c ≡ cap (now part) ⌝ }
     ensures { λ x. ⌜ Raised tree side gap p q h (now (part .entry)) (now (part .exit)) x ⌝ }
 {
-    if gap > 4096 {
+    if gap > table::MOST_SLOTS {
         return 0;
     }
     table::put_three_in(
@@ -41,7 +42,7 @@ fn set_node(part: &mut [i64], c: u32, tree: u8, side: bool, gap: u32, p: u32, q:
         table::height_field(tree),
         h as i64,
     );
-    4096 + gap
+    table::MOST_SLOTS + gap
 }
 
 // The same, by the heights of the two.
@@ -82,7 +83,7 @@ fn double(
 ) -> u32
     ensures { λ x. ⌜ Rowed (doubleOn side) tree side near far p m q (now (part .entry)) (now (part .exit)) x ⌝ }
 {
-    if m <= 4096 {
+    if m <= table::MOST_SLOTS {
         return hang(part, tree, side, near, far, p, m, q);
     }
     let a = table::child(part, tree, side, m);
@@ -96,7 +97,7 @@ fn double(
 fn rotate(part: &mut [i64], tree: u8, side: bool, gap: u32, p: u32, q: u32) -> u32
     ensures { λ x. ⌜ Joined (rotateOn side) tree side gap p q (now (part .entry)) (now (part .exit)) x ⌝ }
 {
-    if p <= 4096 {
+    if p <= table::MOST_SLOTS {
         return make_node(part, tree, side, gap, p, q);
     }
     let a = table::child(part, tree, side, p);
@@ -126,7 +127,7 @@ fn balance(part: &mut [i64], c: u32, tree: u8, side: bool, gap: u32, p: u32, q: 
 
 // One height is more than one above another.
 pub fn above(h: u32, other: u32) -> bool
-    requires { ⌜ other ≤ 8192 ⌝ }
+    requires { ⌜ other ≤ mostNodes ⌝ }
     ensures { λ r. ⌜ r ≡ ltb (suc other) h ⌝ }
 {
     other + 1 < h
@@ -183,10 +184,10 @@ pub fn join_in(part: &mut [i64], c: u32, tree: u8, gap: u32, l: u32, r: u32) -> 
     let hl = table::height_in(part, c, tree, l);
     let hr = table::height_in(part, c, tree, r);
     if above(hl, hr) {
-        return splice(part, c, tree, false, gap, l, r, 24);
+        return splice(part, c, tree, false, gap, l, r, table::MOST_LEVELS);
     }
     if above(hr, hl) {
-        return splice(part, c, tree, true, gap, r, l, 24);
+        return splice(part, c, tree, true, gap, r, l, table::MOST_LEVELS);
     }
     set_node(part, c, tree, false, gap, l, r, taller(hl, hr))
 }

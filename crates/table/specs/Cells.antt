@@ -5,6 +5,7 @@ use native.Mathlib.Nat.{mul-le-mul}
 use native.Mathlib.Omega.{arith}
 use lib.ListN.{length, getD}
 use lib.IntN.{pos}
+use Rattle.table.specs.Fields.{mostSlots}
 use Rattle.table.specs.Words.{Words, word, word-out}
 use Rattle.table.specs.Layout.{cap, cap-most, place, Valid, place-in, spot, spot-in, spot-out, cell}
 
@@ -15,7 +16,7 @@ cell-none {w} v = sym (ap (word w) (spot-out v) ∙ word-out w _ (omega arith))
 
 -- what a place is computed from
 pub record Placed (c f s : ℕ) : Type 0 where
-  pub small : c ≤ 4096
+  pub small : c ≤ mostSlots
   pub high : s ≤ c
   pub field : f < 32
 

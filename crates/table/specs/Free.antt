@@ -7,6 +7,7 @@ use Prim.Native.Nat.{ℕ, _≤_, _<_}
 use native.Mathlib.Omega.{arith}
 use lib.ListN.{length}
 use lib.IntN.{pos}
+use Rattle.table.specs.Fields.{firstFreeWord, mostNodes, mostSlots, nextFreeField, numberField}
 use Rattle.table.specs.Words.{Words, word, wset, wset-length, wset-same, wset-other, upTo, upTo-in}
 use Rattle.table.specs.Layout.{cap, cap-most, cell, cset, linkAt, Outside, outside-of, place-low, place-in, cset-length, cset-cap, cset-rest, cset-same, cset-other, header-cap, header-cell}
 
@@ -17,23 +18,23 @@ head0 (s ∷ ss) = s
 
 pub data FreeChain (w : Words) : List ℕ → Type 0 where
   free-none : FreeChain w []
-  free-more : {s : ℕ} {ss : List ℕ} → 1 ≤ s → s ≤ cap w → cell w 0 s ≡ pos 0 → cell w 3 s ≡ pos (head0 ss) → FreeChain w ss → FreeChain w (s ∷ ss)
+  free-more : {s : ℕ} {ss : List ℕ} → 1 ≤ s → s ≤ cap w → cell w numberField s ≡ pos 0 → cell w nextFreeField s ≡ pos (head0 ss) → FreeChain w ss → FreeChain w (s ∷ ss)
 
 -- the free slots are ss
 pub record FreeSlots (w : Words) (ss : List ℕ) : Type 0 where
-  pub first : word w 5 ≡ pos (head0 ss)
+  pub first : word w firstFreeWord ≡ pos (head0 ss)
   pub chain : FreeChain w ss
 
-pub head-most : {w : Words} (ss : List ℕ) → FreeChain w ss → head0 ss ≤ 4096
+pub head-most : {w : Words} (ss : List ℕ) → FreeChain w ss → head0 ss ≤ mostSlots
 head-most [] f = omega arith
 head-most {w} (s ∷ ss) (free-more l h z n f) = omega (arith, cap-most w)
 
 -- the word that leads on in a chain, read as a link
-pub free-link : {w : Words} {ss : List ℕ} (s : ℕ) → FreeChain w ss → cell w 3 s ≡ pos (head0 ss) → linkAt w 3 s ≡ head0 ss
-free-link {ss} s f n = ap (upTo 8192) n ∙ upTo-in 8192 (head0 ss) (omega (arith, head-most ss f))
+pub free-link : {w : Words} {ss : List ℕ} (s : ℕ) → FreeChain w ss → cell w nextFreeField s ≡ pos (head0 ss) → linkAt w nextFreeField s ≡ head0 ss
+free-link {ss} s f n = ap (upTo mostNodes) n ∙ upTo-in mostNodes (head0 ss) (omega (arith, head-most ss f))
 
 -- a chain whose slots were not touched
-pub chain-still : {w w′ : Words} {ss : List ℕ} → FreeChain w ss → cap w′ ≡ cap w → ((s : ℕ) → List·Memᴰ s ss → cell w′ 0 s ≡ cell w 0 s) → ((s : ℕ) → List·Memᴰ s ss → cell w′ 3 s ≡ cell w 3 s) → FreeChain w′ ss
+pub chain-still : {w w′ : Words} {ss : List ℕ} → FreeChain w ss → cap w′ ≡ cap w → ((s : ℕ) → List·Memᴰ s ss → cell w′ numberField s ≡ cell w numberField s) → ((s : ℕ) → List·Memᴰ s ss → cell w′ nextFreeField s ≡ cell w nextFreeField s) → FreeChain w′ ss
 chain-still free-none c e d = free-none
 chain-still (free-more {s} l h z n f) c e d =
     free-more l (omega (arith, c)) (e s (List·Memᴰ·head refl) ∙ z) (d s (List·Memᴰ·head refl) ∙ n) (chain-still f c (λ t m. e t (List·Memᴰ·tail m)) (λ t m. d t (List·Memᴰ·tail m)))
@@ -41,17 +42,17 @@ chain-still (free-more {s} l h z n f) c e d =
 -- ---- a slot is taken
 
 abbrev pub firstFree : Words → ℕ
-firstFree w = upTo 8192 (word w 5)
+firstFree w = upTo mostNodes (word w firstFreeWord)
 
 abbrev pub taken : Words → Words
-taken w = wset w 5 (pos (linkAt w 3 (firstFree w)))
+taken w = wset w firstFreeWord (pos (linkAt w nextFreeField (firstFree w)))
 
 -- what a part with a slot has
 long : (w : Words) {s : ℕ} → 1 ≤ s → s ≤ cap w → 5 < length w
 long w {s} l h = omega (arith, place-low (cap w) 0 s, place-in {w = w} {f = 0} {s = s} (record { low = l; high = h; field = omega arith }))
 
 pub first-free : {w : Words} {ss : List ℕ} → FreeSlots w ss → firstFree w ≡ head0 ss
-first-free {w} {ss} f = ap (upTo 8192) (f .first) ∙ upTo-in 8192 (head0 ss) (omega (arith, head-most ss (f .chain)))
+first-free {w} {ss} f = ap (upTo mostNodes) (f .first) ∙ upTo-in mostNodes (head0 ss) (omega (arith, head-most ss (f .chain)))
 
 pub took : {w : Words} {s : ℕ} {ss : List ℕ} → FreeSlots w (s ∷ ss) → FreeSlots (taken w) ss
 took {w} {s} {ss} f = go (f .chain)
@@ -59,7 +60,7 @@ took {w} {s} {ss} f = go (f .chain)
     go : FreeChain w (s ∷ ss) → FreeSlots (taken w) ss
     go (free-more l h z n g) =
         record {
-          first = wset-same w 5 _ (long w l h) ∙ ap pos (ap (linkAt w 3) (first-free f) ∙ free-link s g n);
+          first = wset-same w 5 _ (long w l h) ∙ ap pos (ap (linkAt w nextFreeField) (first-free f) ∙ free-link s g n);
           chain = chain-still g (header-cap w 5 _ (omega arith) (omega arith)) (λ t m. header-cell w 5 _ (omega arith) (omega arith) 0 t) (λ t m. header-cell w 5 _ (omega arith) (omega arith) 3 t);
         }
 
@@ -73,7 +74,7 @@ taken-word w d = wset-other w 5 _ _ d
 -- ---- a slot is given back
 
 abbrev pub given : Words → ℕ → Words
-given w s = wset (cset (cset w 0 s (pos 0)) 3 s (pos (firstFree w))) 5 (pos s)
+given w s = wset (cset (cset w numberField s (pos 0)) nextFreeField s (pos (firstFree w))) firstFreeWord (pos s)
 
 pub given-cap : (w : Words) (s : ℕ) → cap (given w s) ≡ cap w
 given-cap w s = header-cap _ 5 _ (omega arith) (omega arith) ∙ cset-cap _ 3 s _ ∙ cset-cap w 0 s _
@@ -89,7 +90,7 @@ pub given-word : (w : Words) (s : ℕ) {i : ℕ} → Outside w i → i ≢ 5 →
 given-word w s {i} o d = wset-other _ 5 i _ d ∙ cset-rest w₁ 3 s _ further ∙ cset-rest w 0 s _ o
   where
     w₁ : Words
-    w₁ = cset w 0 s (pos 0)
+    w₁ = cset w numberField s (pos 0)
 
     further : Outside w₁ i
     further = outside-of (cset-cap w 0 s (pos 0)) o
@@ -99,17 +100,17 @@ gave {w} {s} {ss} f l h d =
     record { first = wset-same w₂ 5 (pos s) (omega (arith, long w l h, cset-length w 0 s (pos 0), cset-length w₁ 3 s (pos (firstFree w)))); chain = free-more l (omega (arith, given-cap w s)) number next rest }
   where
     w₁ : Words
-    w₁ = cset w 0 s (pos 0)
+    w₁ = cset w numberField s (pos 0)
 
     w₂ : Words
-    w₂ = cset w₁ 3 s (pos (firstFree w))
+    w₂ = cset w₁ nextFreeField s (pos (firstFree w))
 
-    number : cell (given w s) 0 s ≡ pos 0
+    number : cell (given w s) numberField s ≡ pos 0
     number =
         header-cell w₂ 5 (pos s) (omega arith) (omega arith) 0 s ∙ cset-other w₁ 3 s _ (λ e. omega (arith, e .0))
         ∙ cset-same (pos 0) (record { low = l; high = h; field = omega arith })
 
-    next : cell (given w s) 3 s ≡ pos (head0 ss)
+    next : cell (given w s) nextFreeField s ≡ pos (head0 ss)
     next =
         header-cell w₂ 5 (pos s) (omega arith) (omega arith) 3 s ∙ cset-same (pos (firstFree w)) (record { low = l; high = omega (arith, cset-cap w 0 s (pos 0)); field = omega arith })
         ∙ ap pos (first-free f)

@@ -3,6 +3,7 @@ use mathlib.Core.Path.{_≡_}
 use mathlib.Core.List.{List, _++_, List·Memᴰ, Memᴰ·append-left, Memᴰ·append-right}
 use Prim.Native.Nat.{ℕ}
 use lib.IntN.{ℤ}
+use Rattle.table.specs.Fields.{numberField, rateField}
 use Rattle.table.specs.Words.{Words}
 use Rattle.table.specs.Layout.{cell}
 use Rattle.table.specs.Items.{Item}
@@ -19,8 +20,8 @@ pub keyed-right : {w : Words} {f : ℕ} {key : Item → ℤ} (xs : List Item) {y
 keyed-right xs r = record { read = λ m. r .read (Memᴰ·append-right xs m) }
 
 -- offers in their slots, by number and by rate
-pub keyed-numbers : {w : Words} {xs : List Item} → Holds w xs → Keyed w 0 (λ (a : Item). a .offer .number) xs
+pub keyed-numbers : {w : Words} {xs : List Item} → Holds w xs → Keyed w numberField (λ (a : Item). a .offer .number) xs
 keyed-numbers h = record { read = λ m. h .held m .number }
 
-pub keyed-rates : {w : Words} {xs : List Item} → Holds w xs → Keyed w 1 (λ (a : Item). a .offer .rate) xs
+pub keyed-rates : {w : Words} {xs : List Item} → Holds w xs → Keyed w rateField (λ (a : Item). a .offer .rate) xs
 keyed-rates h = record { read = λ m. h .held m .rate }

@@ -18,6 +18,7 @@ use lib.ListN.{length}
 use lib.IntN.{ℤ}
 use lib.Dec.{leb}
 use borrow.Author.Tests.{le-leb, lt-leb, leb-true}
+use Rattle.table.specs.Fields.{capacityWord, mostNodes, mostSlots}
 use Rattle.table.specs.Words.{Words, word, wset, word-out, wset-length, wset-same, wset-other, wset-out, upTo, upTo-most}
 
 -- ---- the capacity
@@ -28,27 +29,27 @@ fitting n c = cond (leb (64 * (c + 1)) n) c 0
 
 -- the capacity that word 0 tells; 0 where there is no book
 unfoldable pub cap : Words → ℕ
-cap w = fitting (length w) (upTo 4096 (word w 0))
+cap w = fitting (length w) (upTo mostSlots (word w capacityWord))
 
-pub cap-of : (w w′ : Words) → length w′ ≡ length w → word w′ 0 ≡ word w 0 → cap w′ ≡ cap w
+pub cap-of : (w w′ : Words) → length w′ ≡ length w → word w′ capacityWord ≡ word w capacityWord → cap w′ ≡ cap w
 unfolding cap
 cap-of w w′ n z = rw (n, z)
 
 -- by the test that the code makes
-pub cap-cut : (w : Words) (told : ℕ) → told ≡ upTo 4096 (word w 0) → length w < 64 * (told + 1) → 0 ≡ cap w
+pub cap-cut : (w : Words) (told : ℕ) → told ≡ upTo mostSlots (word w capacityWord) → length w < 64 * (told + 1) → 0 ≡ cap w
 unfolding cap
 cap-cut w told e h = rw (← e, lt-leb (64 * (told + 1)) (length w) h)
 
-pub cap-whole : (w : Words) (told : ℕ) → told ≡ upTo 4096 (word w 0) → 64 * (told + 1) ≤ length w → told ≡ cap w
+pub cap-whole : (w : Words) (told : ℕ) → told ≡ upTo mostSlots (word w capacityWord) → 64 * (told + 1) ≤ length w → told ≡ cap w
 unfolding cap
 cap-whole w told e h = rw (← e, le-leb (64 * (told + 1)) (length w) h)
 
-pub cap-most : (w : Words) → cap w ≤ 4096
+pub cap-most : (w : Words) → cap w ≤ mostSlots
 unfolding cap
-cap-most w = go (leb (64 * (upTo 4096 (word w 0) + 1)) (length w))
+cap-most w = go (leb (64 * (upTo mostSlots (word w capacityWord) + 1)) (length w))
   where
-    go : (b : Bool) → cond b (upTo 4096 (word w 0)) 0 ≤ 4096
-    go true = upTo-most 4096 (word w 0)
+    go : (b : Bool) → cond b (upTo mostSlots (word w capacityWord)) 0 ≤ mostSlots
+    go true = upTo-most mostSlots (word w capacityWord)
     go false = omega arith
 
 -- ---- the places
@@ -109,10 +110,10 @@ place-apart {w} {f} {s} {f′} {s′} v v′ e =
 -- a part of the capacity that the words tell lies within them
 cap-fits : {w : Words} {f s : ℕ} → Valid w f s → 64 * (cap w + 1) ≤ length w
 unfolding cap
-cap-fits {w} {f} {s} v = go (leb (64 * (upTo 4096 (word w 0) + 1)) (length w)) refl (v .low) (v .high)
+cap-fits {w} {f} {s} v = go (leb (64 * (upTo mostSlots (word w capacityWord) + 1)) (length w)) refl (v .low) (v .high)
   where
     c : ℕ
-    c = upTo 4096 (word w 0)
+    c = upTo mostSlots (word w capacityWord)
 
     go : (b : Bool) → leb (64 * (c + 1)) (length w) ≡ b → 1 ≤ s → s ≤ cond b c 0 → 64 * (cond b c 0 + 1) ≤ length w
     go true e l h = leb-true (64 * (c + 1)) (length w) e
@@ -153,7 +154,7 @@ cset w f s z = wset w (spot w f s) z
 
 -- a field as the number of a node, or as a height
 abbrev pub linkAt : Words → ℕ → ℕ → ℕ
-linkAt w f s = upTo 8192 (cell w f s)
+linkAt w f s = upTo mostNodes (cell w f s)
 
 -- a word that is no slot's field: the header's, slot 0's, and those past the planes
 pub record Outside (w : Words) (i : ℕ) : Type 0 where
@@ -231,8 +232,8 @@ cset-other w f s z {f′} {s′} d = go (valid? w f s)
 pub link-of : {f f′ s s′ r : ℕ} (w : Words) → f ≡ f′ → s ≡ s′ → r ≡ linkAt w f s → r ≡ linkAt w f′ s′
 link-of w d e h = rw (← d, ← e) h
 
-pub link-most : (w : Words) (f s : ℕ) → linkAt w f s ≤ 8192
-link-most w f s = upTo-most 8192 (cell w f s)
+pub link-most : (w : Words) (f s : ℕ) → linkAt w f s ≤ mostNodes
+link-most w f s = upTo-most mostNodes (cell w f s)
 
 -- ---- a write to the header, but for the capacity
 

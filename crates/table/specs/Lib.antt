@@ -1,4 +1,5 @@
 -- The table: words, the places of the slots' fields, and trees kept in words.
+pub mod Fields
 pub mod Words
 pub mod Layout
 pub mod Cells

@@ -8,6 +8,7 @@ use native.Mathlib.Omega.{arith}
 use lib.IntN.{ℤ, pos}
 use Rattle.trees.specs.Tree.{Tree, leaf, node, height, leaves, last}
 use Rattle.trees.specs.Leaves.{last-leaf}
+use Rattle.table.specs.Fields.{mostNodes, mostSlots}
 use Rattle.table.specs.Words.{Words, word, word-out, upTo, upTo-in}
 use Rattle.table.specs.Layout.{cap, cap-most, cell, cset, linkAt, spot-out, Valid, cset-same, cset-other}
 use Rattle.table.specs.Items.{Item, In, at, in-left, in-right, Slots, slots-left, slots-right, slots-across, height-most}
@@ -18,20 +19,20 @@ use Rattle.table.specs.Rep.{childField, heightField, a-child, a-height, 
 pub link-none : (w : Words) (f : ℕ) → linkAt w f 0 ≡ 0
 unfolding cell
 link-none w f =
-    ap (upTo 8192) (ap (word w) (spot-out (λ v. omega (arith, v .low))) ∙ word-out w _ (omega arith)) ∙ upTo-in 8192 0 (omega arith)
+    ap (upTo mostNodes) (ap (word w) (spot-out (λ v. omega (arith, v .low))) ∙ word-out w _ (omega arith)) ∙ upTo-in mostNodes 0 (omega arith)
 
 pub ref-low : {c : ℕ} (t : Tree Item) → Slots c (leaves t) → 1 ≤ refOf t
 ref-low (leaf a) s = s .low (List·Memᴰ·head refl)
 ref-low (node l r) s = omega arith
 
-pub ref-high : {c : ℕ} (t : Tree Item) → Slots c (leaves t) → c ≤ 4096 → refOf t ≤ 8192
+pub ref-high : {c : ℕ} (t : Tree Item) → Slots c (leaves t) → c ≤ mostSlots → refOf t ≤ mostNodes
 ref-high (leaf a) s h = omega (arith, s .high (List·Memᴰ·head refl))
 ref-high (node l r) s h = omega (arith, slots-left (leaves r) s .high (last-leaf l))
 
 pub rep-height : {w : Words} {k x : ℕ} {t : Tree Item} → Rep w k x t → heightAt w k x ≡ height t
 rep-height {w} {k} {x} {t = leaf a} h = ap (linkAt w (heightField k)) low ∙ link-none w (heightField k)
   where
-    low : x - 4096 ≡ 0
+    low : x - mostSlots ≡ 0
     low = omega (arith, h .root, h .slots .high (List·Memᴰ·head refl), cap-most w)
 rep-height {w} {k} {x} {t = node l r} h = ap (linkAt w (heightField k)) (omega (arith, h .root)) ∙ stored (h .tied)
   where
@@ -43,14 +44,14 @@ rep-height {w} {k} {x} {t = node l r} h = ap (linkAt w (heightField k)) (omega (
 pub record Parents (w : Words) (k x : ℕ) (l r : Tree Item) : Type 0 where
   pub left-at : childAt w k false x ≡ refOf l
   pub right-at : childAt w k true x ≡ refOf r
-  pub seam-at : x - 4096 ≡ last l .slot
+  pub seam-at : x - mostSlots ≡ last l .slot
   pub tied-left : Tied w k l
   pub tied-right : Tied w k r
 
 pub parents : {w : Words} {k x : ℕ} {l r : Tree Item} → Rep w k x (node l r) → Parents w k x l r
 parents {w} {k} {x} {l} {r} h = go (h .tied)
   where
-    here : x - 4096 ≡ last l .slot
+    here : x - mostSlots ≡ last l .slot
     here = omega (arith, h .root)
 
     go : Tied w k (node l r) → Parents w k x l r
@@ -58,7 +59,7 @@ parents {w} {k} {x} {l} {r} h = go (h .tied)
         record { left-at = ap (linkAt w (childField k false)) here ∙ el; right-at = ap (linkAt w (childField k true)) here ∙ er; seam-at = here; tied-left = tl; tied-right = tr }
 
 -- a leaf has no such number
-pub leaf-low : {w : Words} {k x : ℕ} {a : Item} → Rep w k x (leaf a) → x ≤ 4096
+pub leaf-low : {w : Words} {k x : ℕ} {a : Item} → Rep w k x (leaf a) → x ≤ mostSlots
 leaf-low {w} h = omega (arith, h .root, h .slots .high (List·Memᴰ·head refl), cap-most w)
 
 -- the same, seen from a side
@@ -68,11 +69,11 @@ pub record Opened (w : Words) (k : ℕ) (side : Bool) (x : ℕ) (t : Tree Item) 
   pub shape : t ≡ nodeOn side one other
   pub one-at : childAt w k side x ≡ refOf one
   pub other-at : childAt w k (not side) x ≡ refOf other
-  pub seam-at : x - 4096 ≡ seam side one other .slot
+  pub seam-at : x - mostSlots ≡ seam side one other .slot
   pub tied-one : Tied w k one
   pub tied-other : Tied w k other
 
-pub opened : {w : Words} {k x : ℕ} {t : Tree Item} (side : Bool) → Rep w k x t → 4096 < x → Opened w k side x t
+pub opened : {w : Words} {k x : ℕ} {t : Tree Item} (side : Bool) → Rep w k x t → mostSlots < x → Opened w k side x t
 opened {t = leaf a} side h d = absurd (omega (arith, leaf-low h))
 opened {w} {k} {x} {t = node l r} side h d = go side (parents h)
   where
@@ -129,7 +130,7 @@ pub seam-in : (side : Bool) (tp tq : Tree Item) → List·Memᴰ (seam side tp t
 seam-in false tp tq = Memᴰ·append-left (leaves tq) (last-leaf tp)
 seam-in true tp tq = Memᴰ·append-left (leaves tp) (last-leaf tq)
 
-pub ref-on : (side : Bool) (tp tq : Tree Item) → refOf (nodeOn side tp tq) ≡ 4096 + seam side tp tq .slot
+pub ref-on : (side : Bool) (tp tq : Tree Item) → refOf (nodeOn side tp tq) ≡ mostSlots + seam side tp tq .slot
 ref-on false tp tq = refl
 ref-on true tp tq = refl
 
@@ -202,11 +203,11 @@ in-single : {s : ℕ} {a : Item} → In s (a ∷ []) → s ≡ a .slot
 in-single (at {a = b} m e) = e ∙ ap (λ (i : Item). i .slot) (List·Memᴰ·eq-of-singleton m)
 
 -- a field that holds the number n
-linked : {z : ℤ} {n m : ℕ} → z ≡ pos n → n ≡ m → m ≤ 8192 → upTo 8192 z ≡ m
-linked {z} {n} {m} e d h = ap (upTo 8192) e ∙ ap (λ j. upTo 8192 (pos j)) d ∙ upTo-in 8192 m h
+linked : {z : ℤ} {n m : ℕ} → z ≡ pos n → n ≡ m → m ≤ mostNodes → upTo mostNodes z ≡ m
+linked {z} {n} {m} e d h = ap (upTo mostNodes) e ∙ ap (λ j. upTo mostNodes (pos j)) d ∙ upTo-in mostNodes m h
 
 made-here : {w : Words} {k p q : ℕ} {side : Bool} {tp tq : Tree Item} → Pair w k side p q tp tq → (h : ℕ) → h ≡ suc (max (heightAt w k p) (heightAt w k q))
-    → Made k w (wired w k side (seam side tp tq .slot) p q h) (4096 + seam side tp tq .slot) (nodeOn side tp tq)
+    → Made k w (wired w k side (seam side tp tq .slot) p q h) (mostSlots + seam side tp tq .slot) (nodeOn side tp tq)
 made-here {w} {k} {p} {q} {side} {tp} {tq} pair h e =
     record {
       rep = record { kind = pair .kind; root = sym (ref-on side tp tq); slots = rw (within-cap within) (pair .slots); tied = tied };
@@ -244,5 +245,5 @@ made-here {w} {k} {p} {q} {side} {tp} {tq} pair h e =
 
 -- writing a node's words makes its tree
 pub made-node : {w : Words} {k p q : ℕ} {side : Bool} {tp tq : Tree Item} → Pair w k side p q tp tq → (gap h : ℕ) → gap ≡ seam side tp tq .slot → h ≡ suc (max (heightAt w k p) (heightAt w k q))
-    → Made k w (wired w k side gap p q h) (4096 + gap) (nodeOn side tp tq)
-made-node {w} {k} {p} {q} {side} {tp} {tq} pair gap h d e = subst (λ g. Made k w (wired w k side g p q h) (4096 + g) (nodeOn side tp tq)) (sym d) (made-here pair h e)
+    → Made k w (wired w k side gap p q h) (mostSlots + gap) (nodeOn side tp tq)
+made-node {w} {k} {p} {q} {side} {tp} {tq} pair gap h d e = subst (λ g. Made k w (wired w k side g p q h) (mostSlots + g) (nodeOn side tp tq)) (sym d) (made-here pair h e)

@@ -11,6 +11,7 @@ use lib.ListN.{length}
 use lib.IntN.{ℤ}
 use Rattle.trees.specs.Tree.{Tree, leaf, node, height, leaves, last}
 use Rattle.trees.specs.Leaves.{last-leaf}
+use Rattle.table.specs.Fields.{mostNodes, mostSlots}
 use Rattle.table.specs.Words.{Words, word, upTo}
 use Rattle.table.specs.Layout.{cap, cap-of, cell, cset, linkAt, link-most, outside-of, Outside, header-outside, cset-length, cset-rest, cset-other}
 use Rattle.table.specs.Items.{Item, In, at, in-left, in-right, Slots, slots-right, slots-across}
@@ -34,22 +35,22 @@ pub data Field (k f : ℕ) : Type 0 where
 
 -- a child of node x, and x's height: 0 where x is no inner node
 abbrev pub childAt : Words → ℕ → Bool → ℕ → ℕ
-childAt w k side x = linkAt w (childField k side) (x - 4096)
+childAt w k side x = linkAt w (childField k side) (x - mostSlots)
 
 abbrev pub heightAt : Words → ℕ → ℕ → ℕ
-heightAt w k x = linkAt w (heightField k) (x - 4096)
+heightAt w k x = linkAt w (heightField k) (x - mostSlots)
 
-pub height-at-most : (w : Words) (k x : ℕ) → heightAt w k x ≤ 8192
-height-at-most w k x = link-most w (heightField k) (x - 4096)
+pub height-at-most : (w : Words) (k x : ℕ) → heightAt w k x ≤ mostNodes
+height-at-most w k x = link-most w (heightField k) (x - mostSlots)
 
-pub height-read : (w : Words) (k x : ℕ) {h : ℕ} → h ≡ heightAt w k x → h ≤ 8192
+pub height-read : (w : Words) (k x : ℕ) {h : ℕ} → h ≡ heightAt w k x → h ≤ mostNodes
 height-read w k x e = omega (arith, e, height-at-most w k x)
 
 -- ---- trees by node numbers
 
 abbrev pub refOf : Tree Item → ℕ
 refOf (leaf a) = a .slot
-refOf (node l r) = 4096 + last l .slot
+refOf (node l r) = mostSlots + last l .slot
 
 -- the tree with p on a side and q on the other
 abbrev pub nodeOn : Bool → Tree Item → Tree Item → Tree Item
@@ -135,4 +136,4 @@ tied-still {k} {xs} {w} {w′} (tied-node {l} {r} tl tr el er eh) g d =
     tied-node (tied-still tl g (λ s i. d s (of-left i))) (tied-still tr g (λ s i. d s (of-right i))) (same _ ∙ el) (same _ ∙ er) (same _ ∙ eh)
   where
     same : (f : ℕ) → linkAt w′ f (last l .slot) ≡ linkAt w f (last l .slot)
-    same f = ap (upTo 8192) (g .cells f (last l .slot) (λ h. d _ (of-root refl) (h .1)))
+    same f = ap (upTo mostNodes) (g .cells f (last l .slot) (λ h. d _ (of-root refl) (h .1)))

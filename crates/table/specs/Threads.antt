@@ -13,6 +13,7 @@ use lib.ListN.{length}
 use Rattle.offers.specs.Offers.{offerInRange, crossingNumerator, crossingDenominator}
 use Rattle.trees.specs.Tree.{Tree, leaves, first, last}
 use Rattle.trees.specs.Leaves.{start, rest, leaves-first, leaves-last}
+use Rattle.table.specs.Fields.{baseField, denominatorField, mostNodes, nextPieceField, numberField, numeratorField, rateField}
 use Rattle.table.specs.Words.{Words, upTo, upTo-in}
 use Rattle.table.specs.Layout.{cap, cell, cset, linkAt, Valid, cset-cap, cset-same, cset-other}
 use Rattle.table.specs.Items.{Item, In, at, Slots, slots-across}
@@ -36,9 +37,9 @@ module _ {A : Type 0} {R : A → A → Type 0} where
 
 -- the item's slot holds its offer, which is in range
 pub record Held (w : Words) (a : Item) : Type 0 where
-  pub number : cell w 0 (a .slot) ≡ a .offer .number
-  pub rate : cell w 1 (a .slot) ≡ a .offer .rate
-  pub base : cell w 2 (a .slot) ≡ a .offer .base
+  pub number : cell w numberField (a .slot) ≡ a .offer .number
+  pub rate : cell w rateField (a .slot) ≡ a .offer .rate
+  pub base : cell w baseField (a .slot) ≡ a .offer .base
   pub ranged : T (offerInRange (a .offer))
 
 pub record Holds (w : Words) (xs : List Item) : Type 0 where
@@ -57,9 +58,9 @@ holds-join {w} {xs} {ys} h k = record { held = λ {a} m. ⊎-elim {C = Held w a}
 
 -- a is followed by b
 pub record Next (w : Words) (a b : Item) : Type 0 where
-  pub next : linkAt w 19 (a .slot) ≡ b .slot
-  pub numerator : cell w 6 (a .slot) ≡ crossingNumerator (a .offer) (b .offer)
-  pub denominator : cell w 7 (a .slot) ≡ crossingDenominator (a .offer) (b .offer)
+  pub next : linkAt w nextPieceField (a .slot) ≡ b .slot
+  pub numerator : cell w numeratorField (a .slot) ≡ crossingNumerator (a .offer) (b .offer)
+  pub denominator : cell w denominatorField (a .slot) ≡ crossingDenominator (a .offer) (b .offer)
 
 abbrev pub Threaded : Words → List Item → Type 0
 Threaded w xs = IsChain (Next w) xs
@@ -97,15 +98,15 @@ leads-last {c} {s} t h k e =
 
 -- slot s holds the same offer
 pub record SameOffer (w w′ : Words) (s : ℕ) : Type 0 where
-  pub number : cell w′ 0 s ≡ cell w 0 s
-  pub rate : cell w′ 1 s ≡ cell w 1 s
-  pub base : cell w′ 2 s ≡ cell w 2 s
+  pub number : cell w′ numberField s ≡ cell w numberField s
+  pub rate : cell w′ rateField s ≡ cell w rateField s
+  pub base : cell w′ baseField s ≡ cell w baseField s
 
 -- slot s leads to the same slot, with the same crossing
 pub record SameThread (w w′ : Words) (s : ℕ) : Type 0 where
-  pub next : cell w′ 19 s ≡ cell w 19 s
-  pub numerator : cell w′ 6 s ≡ cell w 6 s
-  pub denominator : cell w′ 7 s ≡ cell w 7 s
+  pub next : cell w′ nextPieceField s ≡ cell w nextPieceField s
+  pub numerator : cell w′ numeratorField s ≡ cell w numeratorField s
+  pub denominator : cell w′ denominatorField s ≡ cell w denominatorField s
 
 held-still : {w w′ : Words} {a : Item} → SameOffer w w′ (a .slot) → Held w a → Held w′ a
 held-still q g = record { number = q .number ∙ g .number; rate = q .rate ∙ g .rate; base = q .base ∙ g .base; ranged = g .ranged }
@@ -114,7 +115,7 @@ pub holds-still : {w w′ : Words} {xs : List Item} → Holds w xs → ((s : ℕ
 holds-still h same = record { held = λ {a} m. held-still (same (a .slot) (at m refl)) (h .held m) }
 
 next-still : {w w′ : Words} {a b : Item} → SameThread w w′ (a .slot) → Next w a b → Next w′ a b
-next-still q g = record { next = ap (upTo 8192) (q .next) ∙ g .next; numerator = q .numerator ∙ g .numerator; denominator = q .denominator ∙ g .denominator }
+next-still q g = record { next = ap (upTo mostNodes) (q .next) ∙ g .next; numerator = q .numerator ∙ g .numerator; denominator = q .denominator ∙ g .denominator }
 
 pub threaded-still : {w w′ : Words} {xs : List Item} → Threaded w xs → ((s : ℕ) → Leads s xs → SameThread w w′ s) → Threaded w′ xs
 threaded-still IsChain·nil same = IsChain·nil
@@ -180,24 +181,24 @@ module _ (w : Words) (f s : ℕ) (z : ℤ) where
 abbrev pub threading : Words → Item → Item → Words
 threading w a b =
     cset
-    (cset (cset w 6 (a .slot) (crossingNumerator (a .offer) (b .offer))) 7 (a .slot) (crossingDenominator (a .offer) (b .offer)))
+    (cset (cset w numeratorField (a .slot) (crossingNumerator (a .offer) (b .offer))) denominatorField (a .slot) (crossingDenominator (a .offer) (b .offer)))
     19
     (a .slot)
     (pos (b .slot))
 
-pub threading-next : (w : Words) (a b : Item) → 1 ≤ a .slot → a .slot ≤ cap w → b .slot ≤ 8192 → Next (threading w a b) a b
+pub threading-next : (w : Words) (a b : Item) → 1 ≤ a .slot → a .slot ≤ cap w → b .slot ≤ mostNodes → Next (threading w a b) a b
 threading-next w a b low high h =
     record {
-      next = ap (upTo 8192) (cset-same (pos (b .slot)) (has w₂ 19 (omega arith) (omega (arith, c₂)))) ∙ upTo-in 8192 (b .slot) h;
+      next = ap (upTo mostNodes) (cset-same (pos (b .slot)) (has w₂ 19 (omega arith) (omega (arith, c₂)))) ∙ upTo-in mostNodes (b .slot) h;
       numerator = cset-other w₂ 19 (a .slot) (pos (b .slot)) (λ e. omega (arith, e .0)) ∙ cset-other w₁ 7 (a .slot) _ (λ e. omega (arith, e .0)) ∙ cset-same _ (has w 6 (omega arith) (omega arith));
       denominator = cset-other w₂ 19 (a .slot) (pos (b .slot)) (λ e. omega (arith, e .0)) ∙ cset-same _ (has w₁ 7 (omega arith) (omega (arith, c₁)));
     }
   where
     w₁ : Words
-    w₁ = cset w 6 (a .slot) (crossingNumerator (a .offer) (b .offer))
+    w₁ = cset w numeratorField (a .slot) (crossingNumerator (a .offer) (b .offer))
 
     w₂ : Words
-    w₂ = cset w₁ 7 (a .slot) (crossingDenominator (a .offer) (b .offer))
+    w₂ = cset w₁ denominatorField (a .slot) (crossingDenominator (a .offer) (b .offer))
 
     c₁ : cap w₁ ≡ cap w
     c₁ = cset-cap w 6 (a .slot) _

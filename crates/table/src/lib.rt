@@ -4,11 +4,64 @@ ghost use mathlib.Core.Bool.{_&&_};
 ghost use Prim.Native.Nat.{_-_};
 ghost use lib.IntN.{pos};
 ghost use lib.Signed.{leZ, ltZ};
+ghost use Rattle.table.specs.Fields.{mostSlots};
 ghost use Rattle.table.specs.Words.{word, wset, upTo};
 ghost use Rattle.table.specs.Layout.{cap, spot, cell, cset, linkAt, place};
 ghost use Rattle.table.specs.Free.{firstFree, taken, given};
 ghost use Rattle.table.specs.Cells.{Placed};
 ghost use Rattle.table.specs.Rep.{childField, heightField, childAt, heightAt};
+
+// The header's words.
+pub const CAPACITY: usize = 0;
+
+pub const OFFERS_ROOT: usize = 1;
+
+pub const ENVELOPE_ROOT: usize = 2;
+
+pub const LIVE_COUNT: usize = 3;
+
+pub const NUMBERS_ROOT: usize = 4;
+
+pub const FIRST_FREE: usize = 5;
+
+// The fields of a slot: its offer, the next free slot, the crossing with the next piece and that piece, the bridge of the offers' inner node,
+// and the pieces that stay with the inner node and with the leaf. `child_field` and `height_field` give the trees'.
+pub const NUMBER: usize = 0;
+
+pub const RATE: usize = 1;
+
+pub const BASE: usize = 2;
+
+pub const NEXT_FREE: usize = 3;
+
+pub const NUMERATOR: usize = 6;
+
+pub const DENOMINATOR: usize = 7;
+
+pub const BRIDGE_LEFT: usize = 10;
+
+pub const BRIDGE_RIGHT: usize = 11;
+
+pub const NEXT_PIECE: usize = 19;
+
+pub const INNER_REST: usize = 20;
+
+pub const LEAF_REST: usize = 21;
+
+// The trees.
+pub const PIECES: u8 = 0;
+
+pub const OFFERS: u8 = 1;
+
+pub const NUMBERS: u8 = 2;
+
+// The most slots of a part, the highest number of a node, and a height that no balanced tree of so many leaves exceeds. A node up to
+// MOST_SLOTS is the leaf of that slot, one above it an inner node.
+pub const MOST_SLOTS: u32 = 4096;
+
+pub const MOST_NODES: u32 = 8192;
+
+pub const MOST_LEVELS: u32 = 24;
 
 // Word `at`, and 0 past the end.
 pub fn word_at(part: &[i64], at: usize) -> i64
@@ -54,7 +107,7 @@ pub fn number_at(part: &[i64], at: usize, most: u32) -> u32
 pub fn capacity(part: &[i64]) -> u32
     ensures { λ r. ⌜ r ≡ cap (now (part .entry)) ⌝ }
 {
-    let told = number_at(part, 0, 4096);
+    let told = number_at(part, CAPACITY, MOST_SLOTS);
     if part.len() < 64 * (told as usize + 1) {
         return 0;
     }
@@ -74,7 +127,7 @@ fn address(c: u32, field: usize, slot: u32) -> usize
 fn spot(part: &[i64], field: usize, slot: u32) -> usize
     ensures { λ r. ⌜ r ≡ spot (now (part .entry)) field slot ⌝ }
 {
-    let c = number_at(part, 0, 4096);
+    let c = number_at(part, CAPACITY, MOST_SLOTS);
     if part.len() < 64 * (c as usize + 1) {
         return part.len();
     }
@@ -101,7 +154,7 @@ pub fn get(part: &[i64], field: usize, slot: u32) -> i64
 pub fn link(part: &[i64], field: usize, slot: u32) -> u32
     ensures { λ r. ⌜ r ≡ linkAt (now (part .entry)) field slot ⌝ }
 {
-    number_at(part, spot(part, field, slot), 8192)
+    number_at(part, spot(part, field, slot), MOST_NODES)
 }
 
 // Puts `value` into a slot's field, and does nothing where the part has none such.
@@ -158,12 +211,12 @@ pub fn height_field(tree: u8) -> usize
 
 // The slot that keeps inner node `x`, and 0 where `x` is no inner node.
 pub fn inner_slot(x: u32) -> u32
-    ensures { λ r. ⌜ r ≡ x - 4096 ⌝ }
+    ensures { λ r. ⌜ r ≡ x - mostSlots ⌝ }
 {
-    if x <= 4096 {
+    if x <= MOST_SLOTS {
         return 0;
     }
-    x - 4096
+    x - MOST_SLOTS
 }
 
 // A child of an inner node, and 0 where `x` is none.
@@ -226,7 +279,7 @@ pub fn link_in(part: &[i64], c: u32, field: usize, slot: u32) -> u32
     requires { ⌜ c ≡ cap (now part) ⌝ }
     ensures { λ r. ⌜ r ≡ linkAt (now (part .entry)) field slot ⌝ }
 {
-    up_to(8192, get_in(part, c, field, slot))
+    up_to(MOST_NODES, get_in(part, c, field, slot))
 }
 
 pub fn child_in(part: &[i64], c: u32, tree: u8, side: bool, x: u32) -> u32
@@ -314,9 +367,9 @@ pub fn take_slot(part: &mut [i64]) -> u32
     ensures is { λ s. ⌜ s ≡ firstFree (now (part .entry)) ⌝ }
     ensures words { λ s. ⌜ now (part .exit) ≡ taken (now (part .entry)) ⌝ }
 {
-    let s = number_at(part, 5, 8192);
-    let next = link(part, 3, s);
-    set_number(part, 5, next);
+    let s = number_at(part, FIRST_FREE, MOST_NODES);
+    let next = link(part, NEXT_FREE, s);
+    set_number(part, FIRST_FREE, next);
     s
 }
 
@@ -324,8 +377,8 @@ pub fn take_slot(part: &mut [i64]) -> u32
 pub fn give_slot(part: &mut [i64], slot: u32)
     ensures { λ _. ⌜ now (part .exit) ≡ given (now (part .entry)) slot ⌝ }
 {
-    let next = number_at(part, 5, 8192);
-    put_link(part, 0, slot, 0);
-    put_link(part, 3, slot, next);
-    set_number(part, 5, slot);
+    let next = number_at(part, FIRST_FREE, MOST_NODES);
+    put_link(part, NUMBER, slot, 0);
+    put_link(part, NEXT_FREE, slot, next);
+    set_number(part, FIRST_FREE, slot);
 }

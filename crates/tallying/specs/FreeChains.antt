@@ -14,6 +14,7 @@ use borrow.Author.Tests.{eqb-true, eq-eqb}
 use Rattle.lists.specs.Bools.{never}
 use Rattle.lists.specs.Members.{pairs-cons}
 use Rattle.integers.specs.Parts.{equal-eq, equal-is}
+use Rattle.table.specs.Fields.{firstFreeWord, mostNodes, nextFreeField, numberField}
 use Rattle.table.specs.Words.{Words, word, upTo, upTo-in}
 use Rattle.table.specs.Layout.{cap, cell, linkAt}
 use Rattle.table.specs.Free.{head0, FreeChain, free-none, free-more, head-most, free-link}
@@ -24,7 +25,7 @@ use Rattle.matching.specs.Deciding.{Decides, decides-no, decides-as, decides-by
 pub record IsFree (w : Words) (s : ℕ) : Type 0 where
   pub low : 1 ≤ s
   pub high : s ≤ cap w
-  pub cleared : cell w 0 s ≡ pos 0
+  pub cleared : cell w numberField s ≡ pos 0
 
 module _ {w : Words} {s : ℕ} where
   pub free-low : s < 1 → Decides false (IsFree w s)
@@ -33,9 +34,9 @@ module _ {w : Words} {s : ℕ} where
   pub free-far : {c : ℕ} → c ≡ cap w → c < s → Decides false (IsFree w s)
   free-far e h = decides-no (λ f. omega (arith, f .high))
 
-  pub free-by : {c : ℕ} {r : Bool} → 1 ≤ s → c ≡ cap w → s ≤ c → r ≡ leZ (cell w 0 s) (pos 0) && leZ (pos 0) (cell w 0 s) → Decides r (IsFree w s)
+  pub free-by : {c : ℕ} {r : Bool} → 1 ≤ s → c ≡ cap w → s ≤ c → r ≡ leZ (cell w numberField s) (pos 0) && leZ (pos 0) (cell w numberField s) → Decides r (IsFree w s)
   free-by l e h eb =
-      decides-as (λ t. record { low = l; high = omega arith; cleared = equal-eq (cell w 0 s) (pos 0) t }) (λ f. equal-is (cell w 0 s) (pos 0) (f .cleared)) (decides-by eb)
+      decides-as (λ t. record { low = l; high = omega arith; cleared = equal-eq (cell w numberField s) (pos 0) t }) (λ f. equal-is (cell w numberField s) (pos 0) (f .cleared)) (decides-by eb)
 
 -- k free slots from slot s on, and then 0
 pub record Chained (w : Words) (s k : ℕ) : Type 0 where
@@ -49,11 +50,11 @@ pub record Chained (w : Words) (s k : ℕ) : Type 0 where
 -- the first slot, the word that leads on, and k slots behind it
 record Headed (w : Words) (s k : ℕ) : Type 0 where
   head : IsFree w s
-  word : cell w 3 s ≡ pos (linkAt w 3 s)
-  rest : Chained w (linkAt w 3 s) k
+  word : cell w nextFreeField s ≡ pos (linkAt w nextFreeField s)
+  rest : Chained w (linkAt w nextFreeField s) k
 
 module _ {w : Words} {s k : ℕ} where
-  chained-on : {t : ℕ} → IsFree w s → cell w 3 s ≡ pos t → Chained w t k → Chained w s (suc k)
+  chained-on : {t : ℕ} → IsFree w s → cell w nextFreeField s ≡ pos t → Chained w t k → Chained w s (suc k)
   chained-on f e c = record { slots = s ∷ c .slots; first = refl; long = ap suc (c .long); chain = free-more (f .low) (f .high) (f .cleared) (e ∙ ap pos (c .first)) (c .chain) }
 
   headed : Chained w s (suc k) → Headed w s k
@@ -85,7 +86,7 @@ module _ {w : Words} {first count s k : ℕ} (g : Left w first count s k) where
     some = omega arith
 
     -- the next slot, read off the word as a link, and whether the word is that number
-    module _ {t : ℕ} {r : Bool} (q : t ≡ linkAt w 3 s) (exact : Decides r (cell w 3 s ≡ pos t)) where
+    module _ {t : ℕ} {r : Bool} (q : t ≡ linkAt w nextFreeField s) (exact : Decides r (cell w nextFreeField s ≡ pos t)) where
       pub left-more : b ≡ true → r ≡ true → Left w first count t (k - 1)
       left-more e er =
           record {
@@ -117,7 +118,7 @@ chain-length : {w : Words} {ss ts : List ℕ} → FreeChain w ss → FreeChain w
 chain-length free-none free-none e = refl
 chain-length free-none (free-more l h z n f) e = absurd (omega arith)
 chain-length (free-more l h z n f) free-none e = absurd (omega arith)
-chain-length {w} (free-more {s} l h z n f) (free-more {s = s′} l′ h′ z′ n′ f′) e = ap suc (chain-length f f′ (sym (free-link s f n) ∙ ap (linkAt w 3) e ∙ free-link s′ f′ n′))
+chain-length {w} (free-more {s} l h z n f) (free-more {s = s′} l′ h′ z′ n′ f′) e = ap suc (chain-length f f′ (sym (free-link s f n) ∙ ap (linkAt w nextFreeField) e ∙ free-link s′ f′ n′))
 
 -- the chain from one of its slots on
 record Onward (w : Words) (s k : ℕ) : Type 0 where
@@ -143,14 +144,14 @@ module _ {w : Words} {n c : ℕ} (ec : c ≡ cap w) where
   pub freely-over : c < n → Decides false (Freely w n)
   freely-over h = decides-no (λ f. omega (arith, f .slots-used))
 
-  module _ {first : ℕ} (room : n ≤ c) (ef : first ≡ upTo 8192 (word w 5)) where
+  module _ {first : ℕ} (room : n ≤ c) (ef : first ≡ upTo mostNodes (word w firstFreeWord)) where
     first-is : (f : Freely w n) → first ≡ head0 (f .free)
-    first-is f = ef ∙ ap (upTo 8192) (f .first-free) ∙ upTo-in 8192 (head0 (f .free)) (omega (arith, head-most (f .free) (f .free-chain)))
+    first-is f = ef ∙ ap (upTo mostNodes) (f .first-free) ∙ upTo-in mostNodes (head0 (f .free)) (omega (arith, head-most (f .free) (f .free-chain)))
 
-    pub freely-told : {b : Bool} → Decides b (word w 5 ≡ pos first) → b ≡ false → Decides false (Freely w n)
+    pub freely-told : {b : Bool} → Decides b (word w firstFreeWord ≡ pos first) → b ≡ false → Decides false (Freely w n)
     freely-told d e = decides-no (λ f. never (d .complete (f .first-free ∙ ap pos (sym (first-is f)))) e)
 
-    pub freely-chained : {b r : Bool} → Decides b (word w 5 ≡ pos first) → b ≡ true → Decides r (Chained w first (c - n)) → Decides r (Freely w n)
+    pub freely-chained : {b r : Bool} → Decides b (word w firstFreeWord ≡ pos first) → b ≡ true → Decides r (Chained w first (c - n)) → Decides r (Freely w n)
     freely-chained d e = decides-as there back
       where
         there : Chained w first (c - n) → Freely w n

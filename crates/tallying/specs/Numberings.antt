@@ -13,6 +13,7 @@ use Rattle.lists.specs.Bools.{never}
 use Rattle.trees.specs.Tree.{Tree, leaf, node, leaves, last}
 use Rattle.trees.specs.Leaves.{last-leaf}
 use Rattle.trees.specs.Operations.{Part}
+use Rattle.table.specs.Fields.{mostNodes, numbersRootWord}
 use Rattle.table.specs.Words.{Words, word, upTo, upTo-in}
 use Rattle.table.specs.Layout.{cap-most}
 use Rattle.table.specs.Items.{Item, Apart}
@@ -32,26 +33,26 @@ ref-low : {w : Words} (t : Tree Item) → AllPlaced w (leaves t) → 1 ≤ refOf
 ref-low (leaf a) p = p a (List·Memᴰ·head refl) .low
 ref-low (node l r) p = omega arith
 
-ref-high : {w : Words} (t : Tree Item) → AllPlaced w (leaves t) → refOf t ≤ 8192
+ref-high : {w : Words} (t : Tree Item) → AllPlaced w (leaves t) → refOf t ≤ mostNodes
 ref-high {w} (leaf a) p = omega (arith, p a (List·Memᴰ·head refl) .high, cap-most w)
 ref-high {w} (node l r) p = omega (arith, p (last l) (Memᴰ·append-left (leaves r) (last-leaf l)) .high, cap-most w)
 
 module _ {w : Words} {live : List Item} where
-  part-high : AllPlaced w live → (p : Part Item) → NumbersIn w live p → partRef p ≤ 8192
+  part-high : AllPlaced w live → (p : Part Item) → NumbersIn w live p → partRef p ≤ mostNodes
   part-high q none n = omega arith
   part-high q (some t) n = ref-high t (λ a m. q a (n .all-live a m))
 
-  module _ {root : ℕ} (er : root ≡ upTo 8192 (word w 4)) where
-    root-is : AllPlaced w live → (p : Part Item) → word w 4 ≡ pos (partRef p) → NumbersIn w live p → root ≡ partRef p
-    root-is q p e n = er ∙ ap (upTo 8192) e ∙ upTo-in 8192 (partRef p) (part-high q p n)
+  module _ {root : ℕ} (er : root ≡ upTo mostNodes (word w numbersRootWord)) where
+    root-is : AllPlaced w live → (p : Part Item) → word w numbersRootWord ≡ pos (partRef p) → NumbersIn w live p → root ≡ partRef p
+    root-is q p e n = er ∙ ap (upTo mostNodes) e ∙ upTo-in mostNodes (partRef p) (part-high q p n)
 
-    root-exact : AllPlaced w live → Numbered w live → word w 4 ≡ pos root
+    root-exact : AllPlaced w live → Numbered w live → word w numbersRootWord ≡ pos root
     root-exact q n = n .numbers-root ∙ ap pos (sym (root-is q (n .numbers) (n .numbers-root) (n .numbers-in)))
 
     numbered-tree : AllPlaced w live → (root ≡ 0 → ⊥) → Numbered w live → NumberTree w root live
     numbered-tree q d m = go (m .numbers) (m .numbers-root) (m .numbers-in)
       where
-        go : (p : Part Item) → word w 4 ≡ pos (partRef p) → NumbersIn w live p → NumberTree w root live
+        go : (p : Part Item) → word w numbersRootWord ≡ pos (partRef p) → NumbersIn w live p → NumberTree w root live
         go none e n = absurd (d (root-is q none e n))
         go (some t) e n =
             record {
@@ -66,11 +67,11 @@ module _ {w : Words} {live : List Item} where
     numbered-none : AllPlaced w live → root ≡ 0 → Numbered w live → Pairwise Apart live → length live ≡ 0
     numbered-none q z m a = go (m .numbers) (m .numbers-root) (m .numbers-in)
       where
-        go : (p : Part Item) → word w 4 ≡ pos (partRef p) → NumbersIn w live p → length live ≡ 0
+        go : (p : Part Item) → word w numbersRootWord ≡ pos (partRef p) → NumbersIn w live p → length live ≡ 0
         go none e n = omega (arith, among-length live [] (apart-distinct a) (n .all-there))
         go (some t) e n = absurd (omega (arith, root-is q (some t) e n, ref-low t (λ a i. q a (n .all-live a i))))
 
-  tree-numbered : {root : ℕ} → word w 4 ≡ pos root → NumberTree w root live → Numbered w live
+  tree-numbered : {root : ℕ} → word w numbersRootWord ≡ pos root → NumberTree w root live → Numbered w live
   tree-numbered e t =
       record {
         numbers = some (t .tree);
@@ -80,7 +81,7 @@ module _ {w : Words} {live : List Item} where
 
 -- ---- the ways through the code
 
-module _ {w : Words} {root n : ℕ} {xs : List ℕ} {b : Bool} (er : root ≡ upTo 8192 (word w 4)) (D : Decides b (word w 4 ≡ pos root)) where
+module _ {w : Words} {root n : ℕ} {xs : List ℕ} {b : Bool} (er : root ≡ upTo mostNodes (word w numbersRootWord)) (D : Decides b (word w numbersRootWord ≡ pos root)) where
   pub tallies-told : b ≡ false → Tallies w xs xs n false
   tallies-told e = record { long = refl; sound = λ p q t. absurd (never t refl); complete = λ p q m. absurd (never (D .complete (root-exact er p m)) e) }
 

@@ -17,6 +17,7 @@ use Rattle.trees.specs.Tree.{Tree, leaves}
 use Rattle.trees.specs.Operations.{find}
 use Rattle.trees.specs.Find.{find-sound, find-complete}
 use Rattle.trees.specs.Order.{Falling}
+use Rattle.table.specs.Fields.{numberField, numberTree}
 use Rattle.table.specs.Words.{Words}
 use Rattle.table.specs.Layout.{cell}
 use Rattle.table.specs.Items.{Item, Apart}
@@ -39,7 +40,7 @@ falling-differ {a} {b} t e = go (ap numberOf e)
     go q = omega (arith, intRules)
 
 module _ {w : Words} {root : ℕ} (t : Tree Item) (L : Laid w 2 root t) (F : Falling numberOf (leaves t)) where
-  laid-rep : Rep w 2 root t
+  laid-rep : Rep w numberTree root t
   laid-rep =
       record {
         kind = omega arith;
@@ -52,14 +53,14 @@ module _ {w : Words} {root : ℕ} (t : Tree Item) (L : Laid w 2 root t) (F : Fal
       apart a b m n h e =
           ∥∥₁-elim m (λ p q. absurd p) (λ i. ∥∥₁-elim n (λ p q. absurd p) (λ j. falling-differ {a = a} {b = b} h (placed-one (L .placed a i) (L .placed b j) e)))
 
-  laid-keyed : Keyed w 0 numberOf (leaves t)
+  laid-keyed : Keyed w numberField numberOf (leaves t)
   laid-keyed = record { read = λ {a} m. sym (ap numberOf (L .placed a m .is)) }
 
 -- the answer to whether the tree at that root has slot s
 pub record Seeks (w : Words) (root s : ℕ) (r : Bool) : Type 0 where
   pub told : (t : Tree Item) → Laid w 2 root t → Falling numberOf (leaves t) → 1 ≤ s → Decides r (List·Memᴰ (itemAt w s) (leaves t))
 
-pub seeks : {w : Words} {root s y : ℕ} {z : ℤ} → z ≡ cell w 0 s → Found w 2 0 z root y → Seeks w root s (eqb y s)
+pub seeks : {w : Words} {root s y : ℕ} {z : ℤ} → z ≡ cell w numberField s → Found w numberTree numberField z root y → Seeks w root s (eqb y s)
 seeks {w} {root} {s} {y} {z} e f = record { told = told }
   where
     told : (t : Tree Item) → Laid w 2 root t → Falling numberOf (leaves t) → 1 ≤ s → Decides (eqb y s) (List·Memᴰ (itemAt w s) (leaves t))

@@ -8,6 +8,7 @@ ghost use Rattle.matching.specs.Deciding.{Decides};
 ghost use Rattle.tallying.specs.FreeChains.{IsFree, Chained};
 ghost use Rattle.tallying.specs.Seeking.{Seeks, SeeksAll};
 ghost use Rattle.tallying.specs.NumberTrees.{Trees};
+ghost use Rattle.table.specs.Fields.{mostNodes, mostSlots};
 
 // Slot `s` is one of the part's, and has no offer.
 fn is_free(part: &[i64], s: u32) -> bool
@@ -19,7 +20,7 @@ fn is_free(part: &[i64], s: u32) -> bool
     if table::capacity(part) < s {
         return false;
     }
-    table::is_equal(part, 0, s, 0)
+    table::is_equal(part, table::NUMBER, s, 0)
 }
 
 // From `first` on, `count` free slots follow each other, and then 0. Each link is compared with its word, since words outside their range are
@@ -33,8 +34,8 @@ fn chained(part: &[i64], first: u32, count: u32) -> bool
         if !is_free(part, s) {
             return false;
         }
-        let next = table::link(part, 3, s);
-        if !matching::slot_tells(part, 3, s, next) {
+        let next = table::link(part, table::NEXT_FREE, s);
+        if !matching::slot_tells(part, table::NEXT_FREE, s, next) {
             return false;
         }
         s = next;
@@ -51,8 +52,8 @@ pub fn free_slots(part: &[i64], n: u32) -> bool
     if c < n {
         return false;
     }
-    let first = table::number_at(part, 5, 8192);
-    if !matching::tells(part, 5, first) {
+    let first = table::number_at(part, table::FIRST_FREE, table::MOST_NODES);
+    if !matching::tells(part, table::FIRST_FREE, first) {
         return false;
     }
     chained(part, first, c - n)
@@ -62,12 +63,19 @@ pub fn free_slots(part: &[i64], n: u32) -> bool
 fn sought(part: &[i64], root: u32, s: u32) -> bool
     ensures { λ r. ⌜ Seeks (now (part .entry)) root s r ⌝ }
 {
-    descents::find(part, 2, 0, table::get(part, 0, s), root) == s
+    descents::find(
+        part,
+        table::NUMBERS,
+        table::NUMBER,
+        table::get(part, table::NUMBER, s),
+        root,
+    )
+        == s
 }
 
 // .. and so for the slot at each place up to `n`.
-fn all_sought(part: &[i64], root: u32, scratch: &[u32; 8192], n: usize) -> bool
-    requires { ⌜ n ≤ 8192 ⌝ }
+fn all_sought(part: &[i64], root: u32, scratch: &[u32; matching::SCRATCH], n: usize) -> bool
+    requires { ⌜ n ≤ mostNodes ⌝ }
     ensures { λ r. ⌜ SeeksAll (now (part .entry)) root (now (scratch .entry)) n r ⌝ }
 {
     let mut i = 0;
@@ -82,31 +90,38 @@ fn all_sought(part: &[i64], root: u32, scratch: &[u32; 8192], n: usize) -> bool
 
 // Node `root` of the numbers is the root of a balanced tree, by falling number, of the items in the slots at places 0 up to `n`. As many
 // leaves as items, and every item among them, leave no room for another leaf. Entries from 4,096 on are written.
-fn number_tree(part: &[i64], root: u32, scratch: &mut [u32; 8192], n: usize) -> bool
-    requires { ⌜ (length (now scratch) ≡ 8192) × (n ≤ 4096) ⌝ }
+fn number_tree(part: &[i64], root: u32, scratch: &mut [u32; matching::SCRATCH], n: usize) -> bool
+    requires { ⌜ (length (now scratch) ≡ mostNodes) × (n ≤ mostSlots) ⌝ }
     ensures { λ r. ⌜ Trees (now (part .entry)) root (now (scratch .entry)) (now (scratch .exit)) n r ⌝ }
 {
-    let f = matching::fill(part, 2, root, scratch, 4096, 24);
+    let f = matching::fill(
+        part,
+        table::NUMBERS,
+        root,
+        scratch,
+        matching::SECOND_HALF,
+        table::MOST_LEVELS,
+    );
     if !f.ok {
         return false;
     }
     let next = f.next;
-    if next != 4096 + n {
+    if next != matching::SECOND_HALF + n {
         return false;
     }
-    if !matching::falling(part, 0, scratch, 4096, next) {
+    if !matching::falling(part, table::NUMBER, scratch, matching::SECOND_HALF, next) {
         return false;
     }
     all_sought(part, root, scratch, n)
 }
 
 // The live items stand in the slots at places 0 up to `n`, and the tree of their numbers hangs from word 4.
-pub fn numbers(part: &[i64], scratch: &mut [u32; 8192], n: usize) -> bool
-    requires { ⌜ (length (now scratch) ≡ 8192) × (n ≤ 4096) ⌝ }
+pub fn numbers(part: &[i64], scratch: &mut [u32; matching::SCRATCH], n: usize) -> bool
+    requires { ⌜ (length (now scratch) ≡ mostNodes) × (n ≤ mostSlots) ⌝ }
     ensures { λ r. ⌜ Tallies (now (part .entry)) (now (scratch .entry)) (now (scratch .exit)) n r ⌝ }
 {
-    let root = table::number_at(part, 4, 8192);
-    if !matching::tells(part, 4, root) {
+    let root = table::number_at(part, table::NUMBERS_ROOT, table::MOST_NODES);
+    if !matching::tells(part, table::NUMBERS_ROOT, root) {
         return false;
     }
     if root == 0 {

@@ -16,6 +16,7 @@ use Rattle.envelopes.specs.Envelope.{Env}
 use Rattle.dynamic.specs.OfferTree.{OfferTree, single, fork, shape, Held}
 use Rattle.dynamic.specs.Valid.{Valid, valid-fork}
 use Rattle.dynamic.specs.Lower.{valid-env}
+use Rattle.table.specs.Fields.{bridgeLeftField, bridgeRightField, offerTree, pieceTree}
 use Rattle.table.specs.Words.{Words, word}
 use Rattle.table.specs.Layout.{cap-most, cell, linkAt}
 use Rattle.table.specs.Items.{Item}
@@ -34,7 +35,7 @@ number-of {m} {n} p q e = same (sym p ∙ e ∙ q)
     same d = cc
 
 module _ (w : Words) where
-  pieces-tied : (q : Part Item) → PartIn w q → TiedPart w 0 q
+  pieces-tied : (q : Part Item) → PartIn w q → TiedPart w pieceTree q
   pieces-tied none p = tt
   pieces-tied (some t) p = p .0
 
@@ -49,7 +50,7 @@ module _ (w : Words) where
   same-rest q q′ h h′ p p′ e e′ d = same-part 0 q q′ h h′ (pieces-tied q p) (pieces-tied q′ p′) (number-of e e′ d)
 
   pub same-offers :
-      (t t′ : OfferTree Item) {es es′ : List Item} → AllLie w (leaves (shape t)) → AllLie w (leaves (shape t′)) → Tied w 1 (shape t) → Tied w 1 (shape t′) →
+      (t t′ : OfferTree Item) {es es′ : List Item} → AllLie w (leaves (shape t)) → AllLie w (leaves (shape t′)) → Tied w offerTree (shape t) → Tied w offerTree (shape t′) →
       Stored w t → Stored w t′ → Valid items t es → Valid items t′ es′ → refOf (shape t) ≡ refOf (shape t′) → t ≡ t′
   same-offers (single a) (single b) h h′ p p′ s s′ v v′ e = ap single (same-item (h a (List·Memᴰ·head refl) .held) (h′ b (List·Memᴰ·head refl) .held) e)
   same-offers (single a) (fork u v l ql qr r) h h′ p p′ s s′ y y′ e =
@@ -67,18 +68,18 @@ module _ (w : Words) where
       let hr : AllLie w (leaves (shape r)) = λ a m. h a (Memᴰ·append-right (leaves (shape l)) m) in
       let hl′ : AllLie w (leaves (shape l′)) = λ a m. h′ a (Memᴰ·append-left (leaves (shape r′)) m) in
       let hr′ : AllLie w (leaves (shape r′)) = λ a m. h′ a (Memᴰ·append-right (leaves (shape l′)) m) in
-      let lefts : l ≡ l′ = same-offers l l′ hl hl′ pl pl′ sl sl′ yl yl′ (sym el ∙ ap (linkAt w (childField 1 false)) seam ∙ el′) in
-      let rights : r ≡ r′ = same-offers r r′ hr hr′ pr pr′ sr sr′ yr yr′ (sym er ∙ ap (linkAt w (childField 1 true)) seam ∙ er′) in
+      let lefts : l ≡ l′ = same-offers l l′ hl hl′ pl pl′ sl sl′ yl yl′ (sym el ∙ ap (linkAt w (childField offerTree false)) seam ∙ el′) in
+      let rights : r ≡ r′ = same-offers r r′ hr hr′ pr pr′ sr sr′ yr yr′ (sym er ∙ ap (linkAt w (childField offerTree true)) seam ∙ er′) in
       let gl = some-lie hl (valid-env items item-laws yl) in
       let gl′ = some-lie hl′ (valid-env items item-laws yl′) in
       let gr = some-lie hr (valid-env items item-laws yr) in
       let gr′ = some-lie hr′ (valid-env items item-laws yr′) in
       let us : u ≡ u′ =
       same-item (gl u (last-kept up u (partLeaves ql)) .held) (gl′ u′ (last-kept up′ u′ (partLeaves ql′)) .held)
-      (sym su ∙ ap (linkAt w 10) seam ∙ su′) in
+      (sym su ∙ ap (linkAt w bridgeLeftField) seam ∙ su′) in
       let vs : v ≡ v′ =
       same-item (gr v (Memᴰ·append-right (partLeaves qr) (List·Memᴰ·head refl)) .held)
-      (gr′ v′ (Memᴰ·append-right (partLeaves qr′) (List·Memᴰ·head refl)) .held) (sym sv ∙ ap (linkAt w 11) seam ∙ sv′) in
+      (gr′ v′ (Memᴰ·append-right (partLeaves qr′) (List·Memᴰ·head refl)) .held) (sym sv ∙ ap (linkAt w bridgeRightField) seam ∙ sv′) in
       let qls : ql ≡ ql′ =
       same-rest ql ql′ (λ a m. gl a (Memᴰ·append-right (up ++ u ∷ []) m)) (λ a m. gl′ a (Memᴰ·append-right (up′ ++ u′ ∷ []) m)) (kl .pieces)
       (kl′ .pieces) (kl .root) (kl′ .root) (ap (λ t. cell w (restField t) (nodeSlot t)) lefts) in

@@ -8,6 +8,7 @@ use native.Mathlib.Omega.{arith}
 use Rattle.trees.specs.Tree.{Tree, leaf, node, leaves, last}
 use Rattle.trees.specs.Leaves.{last-leaf}
 use Rattle.trees.specs.Operations.{Part, partLeaves}
+use Rattle.table.specs.Fields.{baseField, numberField, rateField}
 use Rattle.table.specs.Words.{Words}
 use Rattle.table.specs.Layout.{cap, cap-most, cell, linkAt}
 use Rattle.table.specs.Items.{Item, Slots}
@@ -33,13 +34,13 @@ pub same-item : {w : Words} {a b : Item} → Held w a → Held w b → a .slot �
 same-item {w} {a} {b} h k e = λ i. record { slot = e i; offer = record { number = number i; rate = rate i; base = base i } }
   where
     number : a .offer .number ≡ b .offer .number
-    number = sym (h .number) ∙ ap (λ s. cell w 0 s) e ∙ k .number
+    number = sym (h .number) ∙ ap (λ s. cell w numberField s) e ∙ k .number
 
     rate : a .offer .rate ≡ b .offer .rate
-    rate = sym (h .rate) ∙ ap (λ s. cell w 1 s) e ∙ k .rate
+    rate = sym (h .rate) ∙ ap (λ s. cell w rateField s) e ∙ k .rate
 
     base : a .offer .base ≡ b .offer .base
-    base = sym (h .base) ∙ ap (λ s. cell w 2 s) e ∙ k .base
+    base = sym (h .base) ∙ ap (λ s. cell w baseField s) e ∙ k .base
 
 -- a tree is told by its root's number
 pub same-tree : {w : Words} {k : ℕ} (t t′ : Tree Item) → AllLie w (leaves t) → AllLie w (leaves t′) → Tied w k t → Tied w k t′ → refOf t ≡ refOf t′ → t ≡ t′

@@ -5,6 +5,7 @@ use Prim.Native.Nat.{ℕ, _-_, _≤_, _<_}
 use native.Mathlib.Omega.{arith}
 use lib.IntN.{pos, ℤ}
 use borrow.Author.Tests.{ltb-true, ltb-false}
+use Rattle.table.specs.Fields.{innerRestField, leafRestField, mostSlots}
 use Rattle.table.specs.Words.{Words}
 use Rattle.table.specs.Layout.{cset, cap, cset-cap}
 use Rattle.shape.specs.Splices.{towersAt}
@@ -21,11 +22,11 @@ still-put w f s z e d = e ∙ sym (ap cap d ∙ cset-cap w f s z)
 
 -- ---- rests
 
-pub set-of-leaf : {x q : ℕ} {w w′ : Words} → x ≤ 4096 → w′ ≡ cset w 21 x (pos q) → RestSet x q w w′
+pub set-of-leaf : {x q : ℕ} {w w′ : Words} → x ≤ mostSlots → w′ ≡ cset w leafRestField x (pos q) → RestSet x q w w′
 set-of-leaf h e = record { of-leaf = λ _. e; of-inner = λ d. absurd (omega arith) }
 
-pub set-of-inner : {x m q : ℕ} {w w′ : Words} → 4096 < x → m ≡ x - 4096 → w′ ≡ cset w 20 m (pos q) → RestSet x q w w′
-set-of-inner {q} {w} h d e = record { of-leaf = λ k. absurd (omega arith); of-inner = λ _. e ∙ ap (λ n. cset w 20 n (pos q)) d }
+pub set-of-inner : {x m q : ℕ} {w w′ : Words} → mostSlots < x → m ≡ x - mostSlots → w′ ≡ cset w innerRestField m (pos q) → RestSet x q w w′
+set-of-inner {q} {w} h d e = record { of-leaf = λ k. absurd (omega arith); of-inner = λ _. e ∙ ap (λ n. cset w innerRestField n (pos q)) d }
 
 -- ---- sides
 

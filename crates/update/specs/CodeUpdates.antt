@@ -5,6 +5,7 @@ use mathlib.Core.Bool.{Bool, true, false, true≢false}
 use Prim.Native.Nat.{ℕ, _+_, _-_, _≤_, _<_}
 use native.Mathlib.Omega.{arith}
 use lib.Signed.{leZ, ltZ}
+use Rattle.table.specs.Fields.{mostSlots, offerTree, rateField}
 use Rattle.table.specs.Words.{Words}
 use Rattle.table.specs.Layout.{cell}
 use Rattle.descents.specs.Ends.{Ended}
@@ -26,23 +27,23 @@ pub record Rebuilt (side : Bool) (gap gx ge k₁ s₁ h₁ ix ie : ℕ) (w w′ 
 
 -- ---- insert
 
-pub inserted-none : {limit slot x e x′ e′ k s h : ℕ} {w : Words} → 4096 < x → limit ≡ 0 → InsertedBelow limit slot x e w w x′ e′ k s h
+pub inserted-none : {limit slot x e x′ e′ k s h : ℕ} {w : Words} → mostSlots < x → limit ≡ 0 → InsertedBelow limit slot x e w w x′ e′ k s h
 inserted-none {slot} {x} {e} {x′} {e′} {k} {s} {h} {w} inside d = subst (λ n. InsertedBelow n slot x e w w x′ e′ k s h) (sym d) (inserted-spent inside)
 
 -- beside a single line: in front of it, or behind it
 module _ {limit slot x e x′ e′ k s h : ℕ} {w w′ : Words} {b : Bool} where
-  pub inserted-front : b ≡ leZ (cell w 1 slot) (cell w 1 x) → b ≡ false → x ≤ 4096 → RaisedIn slot slot slot x e w w′ x′ e′ k s h → InsertedBelow limit slot x e w w′ x′ e′ k s h
+  pub inserted-front : b ≡ leZ (cell w rateField slot) (cell w rateField x) → b ≡ false → x ≤ mostSlots → RaisedIn slot slot slot x e w w′ x′ e′ k s h → InsertedBelow limit slot x e w w′ x′ e′ k s h
   inserted-front d t single c = inserted-leaf single refl (sym t ∙ d) refl (raised-left c)
 
-  pub inserted-back : b ≡ leZ (cell w 1 slot) (cell w 1 x) → b ≡ true → x ≤ 4096 → RaisedIn x x e slot slot w w′ x′ e′ k s h → InsertedBelow limit slot x e w w′ x′ e′ k s h
+  pub inserted-back : b ≡ leZ (cell w rateField slot) (cell w rateField x) → b ≡ true → x ≤ mostSlots → RaisedIn x x e slot slot w w′ x′ e′ k s h → InsertedBelow limit slot x e w w′ x′ e′ k s h
   inserted-back d t single c = inserted-leaf single refl (sym t ∙ d) refl (raised-right c)
 
 -- into a child
 pub inserted-step :
     {limit slot x e m ox oe ix ie gx ge k₁ s₁ h₁ x′ e′ k s h : ℕ} {w w₁ w₂ w₃ : Words} {side : Bool} →
-    4096 < x →
-    m ≡ x - 4096 →
-    side ≡ leZ (cell w 1 slot) (cell w 1 m) →
+    mostSlots < x →
+    m ≡ x - mostSlots →
+    side ≡ leZ (cell w rateField slot) (cell w rateField m) →
     LoweredOn side x e w w₁ ox oe ix ie →
     InsertedBelow (limit - 1) slot ox oe w₁ w₂ gx ge k₁ s₁ h₁ →
     Rebuilt side m gx ge k₁ s₁ h₁ ix ie w₂ w₃ x′ e′ k s h →
@@ -51,21 +52,21 @@ inserted-step inside m-is test opened below built = inserted-inner inside m-is r
 
 -- ---- remove
 
-pub removed-none : {limit slot x e x′ e′ k s h : ℕ} {w : Words} → 4096 < x → limit ≡ 0 → RemovedBelow limit slot x e w w x′ e′ k s h
+pub removed-none : {limit slot x e x′ e′ k s h : ℕ} {w : Words} → mostSlots < x → limit ≡ 0 → RemovedBelow limit slot x e w w x′ e′ k s h
 removed-none {slot} {x} {e} {x′} {e′} {k} {s} {h} {w} inside d = subst (λ n. RemovedBelow n slot x e w w x′ e′ k s h) (sym d) (removed-spent inside)
 
 -- the seam's slot after a removal
 pub seam-kept : {side : Bool} {x m : ℕ} {w : Words} → side ≡ true → SeamFound side w x m m
 seam-kept d = record { on-left = λ f. absurd (true≢false (sym d ∙ f)); on-right = λ f. refl }
 
-pub seam-end : {side : Bool} {x m gap : ℕ} {w : Words} → side ≡ false → Ended w 1 true x gap → SeamFound side w x m gap
+pub seam-end : {side : Bool} {x m gap : ℕ} {w : Words} → side ≡ false → Ended w offerTree true x gap → SeamFound side w x m gap
 seam-end d end = record { on-left = λ f. end; on-right = λ f. absurd (true≢false (sym f ∙ d)) }
 
 module _
     {limit slot x e m ox oe ix ie gx ge k₁ s₁ h₁ : ℕ} {w w₁ w₂ : Words} {side : Bool}
-    (inside : 4096 < x)
-    (m-is : m ≡ x - 4096)
-    (test : side ≡ ltZ (cell w 1 slot) (cell w 1 m))
+    (inside : mostSlots < x)
+    (m-is : m ≡ x - mostSlots)
+    (test : side ≡ ltZ (cell w rateField slot) (cell w rateField m))
     (opened : LoweredOn side x e w w₁ ox oe ix ie)
     (below : RemovedBelow (limit - 1) slot ox oe w₁ w₂ gx ge k₁ s₁ h₁) where
   pub removed-emptied : gx ≡ 0 → RemovedBelow limit slot x e w w₂ ix ie k₁ s₁ h₁

@@ -21,6 +21,7 @@ use Rattle.dynamic.specs.Kept.{heldHeight}
 use Rattle.dynamic.specs.Placed.{New, placed-ordered}
 use Rattle.dynamic.specs.Inserted.{alone-whole}
 use Rattle.dynamic.specs.UpdateSteps.{Gains, insert-whole}
+use Rattle.table.specs.Fields.{mostSlots, rateField}
 use Rattle.table.specs.Words.{Words}
 use Rattle.table.specs.Layout.{cap, cell}
 use Rattle.table.specs.Items.{Item, In, Slots, slots-left}
@@ -56,7 +57,7 @@ inserted {w} enough c =
     }
 
 -- where the limit is used up at an inner node, nothing is promised
-pub inserted-spent : {slot x e x′ e′ k s h : ℕ} {w : Words} → 4096 < x → InsertedBelow 0 slot x e w w x′ e′ k s h
+pub inserted-spent : {slot x e x′ e′ k s h : ℕ} {w : Words} → mostSlots < x → InsertedBelow 0 slot x e w w x′ e′ k s h
 inserted-spent {w} inside =
     record { within = within-refl w; made = λ a t f d. absurd (omega (arith, inner-high (f .held) inside)); touched = λ a t f d. absurd (omega (arith, inner-high (f .held) inside)) }
 
@@ -72,8 +73,8 @@ module _ {w : Words} {slot x e : ℕ} {a : Item} {t : Held Item} (f : Newcomer w
   newcomer-apart : Disjoint (a ∷ []) (leaves (heldShape t))
   newcomer-apart = disjoint-across (a ∷ []) (f .slots)
 
-  newcomer-rate : {θ : ℤ} → θ ≡ cell w 1 slot → θ ≡ rateOf a
-  newcomer-rate d = d ∙ ap (cell w 1) (f .slot) ∙ f .kept .held (List·Memᴰ·head refl) .rate
+  newcomer-rate : {θ : ℤ} → θ ≡ cell w rateField slot → θ ≡ rateOf a
+  newcomer-rate d = d ∙ ap (cell w rateField) (f .slot) ∙ f .kept .held (List·Memᴰ·head refl) .rate
 
 -- the code asks whether the newcomer's rate is at most another's, the model whether the newcomer stands in front
 in-front : (side : Bool) (a b : ℤ) → side ≡ leZ a b → ltZ b a ≡ not side
@@ -111,9 +112,9 @@ beside-seam true a b e p q = e ∙ p
 
 pub inserted-leaf :
     {side : Bool} {θ : ℤ} {w w′ : Words} {limit x e slot gap x′ e′ k s h : ℕ} →
-    x ≤ 4096 →
-    θ ≡ cell w 1 slot →
-    side ≡ leZ θ (cell w 1 x) →
+    x ≤ mostSlots →
+    θ ≡ cell w rateField slot →
+    side ≡ leZ θ (cell w rateField x) →
     gap ≡ cond side x slot →
     RaisedOn side gap slot slot x e w w′ x′ e′ k s h →
     InsertedBelow limit slot x e w w′ x′ e′ k s h
@@ -126,7 +127,7 @@ inserted-leaf {side} {θ} {w} {w′} {limit} {x} {e} {slot} {gap} {x′} {e′} 
       where
         way : items .before a b ≡ not side
         way =
-            in-front side (rateOf a) (rateOf b) (test ∙ ap₂ leZ (newcomer-rate f rate) (ap (cell w 1) (f .held .root) ∙ f .held .kept .held (List·Memᴰ·head refl) .rate))
+            in-front side (rateOf a) (rateOf b) (test ∙ ap₂ leZ (newcomer-rate f rate) (ap (cell w rateField) (f .held .root) ∙ f .held .kept .held (List·Memᴰ·head refl) .rate))
 
         R : Raises side w w′ x′ e′ k s h (alone a) (hold (single b) p)
         R =
@@ -149,10 +150,10 @@ mem-one true O I m = Memᴰ·append-right (leaves I) m
 
 module _
     {side : Bool} {θ : ℤ} {w w₁ w₂ w₃ : Words} {limit limit′ x e slot m ox oe ix ie gx ge k₁ s₁ h₁ x′ e′ k₂ s₂ h₂ k s h : ℕ}
-    (inside : 4096 < x)
-    (m-is : m ≡ x - 4096)
-    (rate : θ ≡ cell w 1 slot)
-    (test : side ≡ leZ θ (cell w 1 m))
+    (inside : mostSlots < x)
+    (m-is : m ≡ x - mostSlots)
+    (rate : θ ≡ cell w rateField slot)
+    (test : side ≡ leZ θ (cell w rateField m))
     (low₁ : LoweredOn side x e w w₁ ox oe ix ie)
     (enough : limit ≤ suc limit′)
     (ins : InsertedBelow limit′ slot ox oe w₁ w₂ gx ge k₁ s₁ h₁)

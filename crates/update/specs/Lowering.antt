@@ -14,6 +14,7 @@ use Rattle.dynamic.specs.Valid.{Whole}
 use Rattle.dynamic.specs.Lower.{LowersTo, whole-lower}
 use Rattle.dynamic.specs.Rearranged.{stored, rests}
 use Rattle.dynamic.specs.Heights.{trees-balanced}
+use Rattle.table.specs.Fields.{mostSlots, offerTree, rateField}
 use Rattle.table.specs.Words.{Words}
 use Rattle.table.specs.Layout.{cap, cap-most, cell, linkAt}
 use Rattle.table.specs.Items.{Item, Slots, slots-left, slots-right}
@@ -33,11 +34,11 @@ use Rattle.form.specs.Disjoint.{inside-refl, inside-left, inside-right, inside-
 
 -- a fork in hand: its children, its separator and what stays with the children
 pub record Forked (w : Words) (x : ℕ) (l r : OfferTree Item) (ql qr : Part Item) : Type 0 where
-  pub left-at : childAt w 1 false x ≡ refOf (shape l)
-  pub right-at : childAt w 1 true x ≡ refOf (shape r)
-  pub rate-at : cell w 1 (x - 4096) ≡ rateOf (last (shape l))
-  pub tied-left : Tied w 1 (shape l)
-  pub tied-right : Tied w 1 (shape r)
+  pub left-at : childAt w offerTree false x ≡ refOf (shape l)
+  pub right-at : childAt w offerTree true x ≡ refOf (shape r)
+  pub rate-at : cell w rateField (x - mostSlots) ≡ rateOf (last (shape l))
+  pub tied-left : Tied w offerTree (shape l)
+  pub tied-right : Tied w offerTree (shape r)
   pub stored-left : Stored w l
   pub stored-right : Stored w r
   pub rest-left : RestIn w l ql
@@ -46,15 +47,15 @@ pub record Forked (w : Words) (x : ℕ) (l r : OfferTree Item) (ql qr : Part Ite
 pub forked : {w : Words} {x e : ℕ} {u v : Item} {l r : OfferTree Item} {ql qr p : Part Item} → HeldIn w x e (hold (fork u v l ql qr r) p) → Forked w x l r ql qr
 forked {w} {x} {u} {v} {l} {r} {ql} {qr} held = go (held .tied) (held .stored)
   where
-    here : x - 4096 ≡ last (shape l) .slot
+    here : x - mostSlots ≡ last (shape l) .slot
     here = omega (arith, held .root)
 
-    go : Tied w 1 (shape (fork u v l ql qr r)) → Stored w (fork u v l ql qr r) → Forked w x l r ql qr
+    go : Tied w offerTree (shape (fork u v l ql qr r)) → Stored w (fork u v l ql qr r) → Forked w x l r ql qr
     go (tied-node a b el er eh) (stored-fork sl sr eu ev rl rr) =
         record {
           left-at = ap (linkAt w _) here ∙ el;
           right-at = ap (linkAt w _) here ∙ er;
-          rate-at = ap (cell w 1) here ∙ held .kept .held (Memᴰ·append-left (leaves (shape r)) (last-leaf (shape l))) .rate;
+          rate-at = ap (cell w rateField) here ∙ held .kept .held (Memᴰ·append-left (leaves (shape r)) (last-leaf (shape l))) .rate;
           tied-left = a;
           tied-right = b;
           stored-left = sl;
@@ -78,7 +79,7 @@ child-held :
     n ≡ refOf (shape t) →
     Slots (cap w) (leaves (shape t)) →
     Holds w (leaves (shape t)) →
-    Tied w 1 (shape t) →
+    Tied w offerTree (shape t) →
     Stored w t →
     Disjoint (stored t) ys →
     Standing w′ y q →
@@ -152,9 +153,9 @@ joins {w} {w₁} {w₂} {a′} {b′} {p} {q} {p′} {q′} one other side side�
 
 -- the children, the separator's rate, the cut, the rests, and each child's part put together with its rest
 record Calls (x e : ℕ) (w w₁ w₂ w₃ : Words) (l r ql qr a b le re : ℕ) (θ : ℤ) : Type 0 where
-  left : l ≡ childAt w 1 false x
-  right : r ≡ childAt w 1 true x
-  rate : θ ≡ cell w 1 (x - 4096)
+  left : l ≡ childAt w offerTree false x
+  right : r ≡ childAt w offerTree true x
+  rate : θ ≡ cell w rateField (x - mostSlots)
   cut : CutAt false θ e w w₁ a b
   rest-left : ql ≡ restAt w₁ l
   rest-right : qr ≡ restAt w₁ r
@@ -286,7 +287,7 @@ lowers :
     Calls x e w w₁ w₂ w₃ l r ql qr a b le re θ →
     (t : OfferTree Item) (p : Part Item) →
     HeldIn w x e (hold t p) →
-    4096 < x →
+    mostSlots < x →
     Lowers x e w w₃ l le r re (hold t p)
 lowers {w} calls (single a) p held h = absurd (omega (arith, held .root, held .slots .high (List·Memᴰ·head refl), cap-most w))
 lowers calls (fork u v l ql qr r) p held h = lowers-fork calls held
@@ -294,9 +295,9 @@ lowers calls (fork u v l ql qr r) p held h = lowers-fork calls held
 -- The children of x and the separator's rate are read, the envelope e is cut, the rests are read, and both parts are put together with them.
 pub lowered :
     {x e l r ql qr a b le re : ℕ} {θ : ℤ} {w w₁ w₂ w₃ : Words} →
-    l ≡ childAt w 1 false x →
-    r ≡ childAt w 1 true x →
-    θ ≡ cell w 1 (x - 4096) →
+    l ≡ childAt w offerTree false x →
+    r ≡ childAt w offerTree true x →
+    θ ≡ cell w rateField (x - mostSlots) →
     CutAt false θ e w w₁ a b →
     ql ≡ restAt w₁ l →
     qr ≡ restAt w₁ r →

@@ -13,6 +13,7 @@ use Rattle.dynamic.specs.OfferTree.{Held, heldShape, outer, inner, lower, raise
 use Rattle.dynamic.specs.Valid.{Whole}
 use Rattle.dynamic.specs.Raise.{raised-shape, whole-raise}
 use Rattle.dynamic.specs.Kept.{heldHeight, Above, above-turned, Parted, part}
+use Rattle.table.specs.Fields.{mostSlots, offerTree, rateField}
 use Rattle.table.specs.Words.{Words}
 use Rattle.table.specs.Layout.{cap, cap-most, cell}
 use Rattle.table.specs.Items.{Item, Slots}
@@ -39,23 +40,23 @@ module _ (tp tq : Tree Item) where
   ordered-other true o = ordered-left items (leaves tq) (leaves tp) o
 
 -- the tree alone
-pub held-rep : {w : Words} {x e : ℕ} {h : Held Item} → HeldIn w x e h → Rep w 1 x (heldShape h)
+pub held-rep : {w : Words} {x e : ℕ} {h : Held Item} → HeldIn w x e h → Rep w offerTree x (heldShape h)
 held-rep held = record { kind = omega arith; root = held .root; slots = held .slots; tied = held .tied }
 
 -- the height that the words tell is the tree's
-pub held-height : {w : Words} {x e : ℕ} {h : Held Item} → HeldIn w x e h → heightAt w 1 x ≡ heldHeight h
+pub held-height : {w : Words} {x e : ℕ} {h : Held Item} → HeldIn w x e h → heightAt w offerTree x ≡ heldHeight h
 held-height held = rep-height (held-rep held)
 
 -- a subtree of some height is an inner node
-pub held-inner : {w : Words} {x e : ℕ} {h : Held Item} → HeldIn w x e h → 1 ≤ heldHeight h → 4096 < x
+pub held-inner : {w : Words} {x e : ℕ} {h : Held Item} → HeldIn w x e h → 1 ≤ heldHeight h → mostSlots < x
 held-inner {w} {x} {h} held high = go (heldShape h) (held .root) (held .slots) high
   where
-    go : (t : Tree Item) → x ≡ refOf t → Slots (cap w) (leaves t) → 1 ≤ height t → 4096 < x
+    go : (t : Tree Item) → x ≡ refOf t → Slots (cap w) (leaves t) → 1 ≤ height t → mostSlots < x
     go (leaf a) e s p = absurd (omega arith)
     go (node l r) e s p = omega (arith, s .low (Memᴰ·append-left (leaves r) (last-leaf l)))
 
 -- and an inner node is of some height
-pub inner-high : {w : Words} {x e : ℕ} {h : Held Item} → HeldIn w x e h → 4096 < x → 1 ≤ heldHeight h
+pub inner-high : {w : Words} {x e : ℕ} {h : Held Item} → HeldIn w x e h → mostSlots < x → 1 ≤ heldHeight h
 inner-high {w} {x} {h} held d = go (heldShape h) (held .root) (held .slots)
   where
     go : (t : Tree Item) → x ≡ refOf t → Slots (cap w) (leaves t) → 1 ≤ height t
@@ -88,9 +89,9 @@ neighbours-right h = record { left = h .inner-held; right = h .outer-held; seam 
 
 pub record LoweredOn (side : Bool) (x e : ℕ) (w w′ : Words) (ox oe ix ie : ℕ) : Type 0 where
   pub within : Within w w′
-  pub outer-held : (h : Held Item) → HeldIn w x e h → 4096 < x → HeldIn w′ ox oe (outer (sideOf side) (lower items h))
-  pub inner-held : (h : Held Item) → HeldIn w x e h → 4096 < x → HeldIn w′ ix ie (inner (sideOf side) (lower items h))
-  pub touched : (h : Held Item) → HeldIn w x e h → 4096 < x → Touched (leaves (heldShape h)) w w′
+  pub outer-held : (h : Held Item) → HeldIn w x e h → mostSlots < x → HeldIn w′ ox oe (outer (sideOf side) (lower items h))
+  pub inner-held : (h : Held Item) → HeldIn w x e h → mostSlots < x → HeldIn w′ ix ie (inner (sideOf side) (lower items h))
+  pub touched : (h : Held Item) → HeldIn w x e h → mostSlots < x → Touched (leaves (heldShape h)) w w′
 
 pub lowered-left : {x e ox oe ix ie : ℕ} {w w′ : Words} → LoweredIn x e w w′ ox oe ix ie → LoweredOn false x e w w′ ox oe ix ie
 lowered-left c = record { within = c .within; outer-held = c .front; inner-held = c .back; touched = c .touched }
@@ -115,7 +116,7 @@ raised-right c = record { within = c .within; made = λ o i n. c .made i o (neig
 pub record Opens (side : Bool) (w w′ : Words) (x ox oe ix ie : ℕ) (h o i : Held Item) : Type 0 where
   pub outer-held : HeldIn w′ ox oe o
   pub inner-held : HeldIn w′ ix ie i
-  pub at-seam : x - 4096 ≡ seam side (heldShape o) (heldShape i) .slot
+  pub at-seam : x - mostSlots ≡ seam side (heldShape o) (heldShape i) .slot
   pub shaped : heldShape h ≡ nodeOn side (heldShape o) (heldShape i)
   pub level : Above o i h
   pub touched : Touched (leaves (heldShape h)) w w′
@@ -155,10 +156,10 @@ pub seam-rate :
     {side : Bool} {w w′ : Words} {m x e ox oe ix ie : ℕ} {h o i : Held Item} →
     HeldIn w x e h →
     Opens side w w′ x ox oe ix ie h o i →
-    m ≡ x - 4096 →
-    cell w 1 m ≡ rateOf (seam side (heldShape o) (heldShape i))
+    m ≡ x - mostSlots →
+    cell w rateField m ≡ rateOf (seam side (heldShape o) (heldShape i))
 seam-rate {side} {w} {o} {i} held p d =
-    ap (cell w 1) (d ∙ p .at-seam)
+    ap (cell w rateField) (d ∙ p .at-seam)
     ∙ held .kept .held (subst (λ t. List·Memᴰ (seam side (heldShape o) (heldShape i)) (leaves t)) (sym (p .shaped)) (seam-in side (heldShape o) (heldShape i))) .rate
 
 -- o and i raised to one

@@ -12,6 +12,7 @@ use Rattle.meeting.specs.Machine.{Result, meet}
 use Rattle.meeting.specs.Meets.{FacingTrees}
 use Rattle.dynamic.specs.OfferTree.{Held, heldShape, raise}
 use Rattle.dynamic.specs.Valid.{Whole}
+use Rattle.table.specs.Fields.{bridgeLeftField, bridgeRightField, offerTree, pieceTree, rateField}
 use Rattle.table.specs.Words.{Words}
 use Rattle.table.specs.Layout.{cap, cap-most, cell, cset}
 use Rattle.table.specs.Items.{Item, at, slots-most}
@@ -52,23 +53,23 @@ pub record MetIn (w : Words) (x y u v steps : ℕ) : Type 0 where
 pub standing-low : {w : Words} {x : ℕ} {t : Tree Item} → Standing w x (some t) → height t ≤ 24
 standing-low {w} {t} st = height-full (st .balanced) (omega (arith, slots-most (cap w) (leaves t) (st .slots), cap-most w))
 
-standing-height : {w : Words} {x : ℕ} {t : Tree Item} → Standing w x (some t) → heightAt w 0 x ≡ height t
+standing-height : {w : Words} {x : ℕ} {t : Tree Item} → Standing w x (some t) → heightAt w pieceTree x ≡ height t
 standing-height st = rep-height (record { kind = omega arith; root = st .root; slots = st .slots; tied = st .pieces .0 })
 
 -- ---- the calls in a row
 
 record Calls (gap lx le rx re : ℕ) (w w₁ w₂ w₃ w₄ w₅ w₆ w₇ w₈ : Words) (u v lf lb rf rb x e s h : ℕ) (θ θ′ : ℤ) : Type 0 where
   met : MetIn w le re u v s
-  heights : h ≡ heightAt w 0 le + heightAt w 0 re
-  rate-left : θ ≡ cell w 1 u
+  heights : h ≡ heightAt w pieceTree le + heightAt w pieceTree re
+  rate-left : θ ≡ cell w rateField u
   cut-left : CutAt false θ le w w₁ lf lb
-  rate-right : θ′ ≡ cell w₁ 1 v
+  rate-right : θ′ ≡ cell w₁ rateField v
   cut-right : CutAt true θ′ re w₁ w₂ rf rb
   rest-left : RestSet lx lb w₂ w₃
   rest-right : RestSet rx rf w₃ w₄
-  above : Joined (nodeOn false) 1 false gap lx rx w₄ w₅ x
-  bridge-left : w₆ ≡ cset w₅ 10 gap (pos u)
-  bridge-right : w₇ ≡ cset w₆ 11 gap (pos v)
+  above : Joined (nodeOn false) offerTree false gap lx rx w₄ w₅ x
+  bridge-left : w₆ ≡ cset w₅ bridgeLeftField gap (pos u)
+  bridge-right : w₇ ≡ cset w₆ bridgeRightField gap (pos v)
   cat : Seamed lf rb u v w₇ w₈ e
 
 -- what they make of two subtrees in hand
@@ -115,11 +116,11 @@ module _
 
       -- the rates of u and v
       by-u : θ ≡ rateOf (R .u)
-      by-u = calls .rate-left ∙ ap (cell w 1) at-u ∙ front .holds .held (R .u-piece) .rate
+      by-u = calls .rate-left ∙ ap (cell w rateField) at-u ∙ front .holds .held (R .u-piece) .rate
 
       by-v : θ′ ≡ rateOf (R .v)
       by-v =
-          calls .rate-right ∙ ap (cell w₁ 1) at-v
+          calls .rate-right ∙ ap (cell w₁ rateField) at-v
           ∙ pieces-offers (calls .cut-left .only (l .whole) (whole-standing (sib .left))) (leaves (R .back)) .cells 1 (R .v .slot) (omega arith) (at (R .v-piece) refl)
           ∙ back .holds .held (R .v-piece) .rate
 
@@ -157,16 +158,16 @@ module _
 pub raised :
     {gap lx le rx re u v lf lb rf rb x e s h : ℕ} {w w₁ w₂ w₃ w₄ w₅ w₆ w₇ w₈ : Words} {θ θ′ : ℤ} →
     MetIn w le re u v s →
-    h ≡ heightAt w 0 le + heightAt w 0 re →
-    θ ≡ cell w 1 u →
+    h ≡ heightAt w pieceTree le + heightAt w pieceTree re →
+    θ ≡ cell w rateField u →
     CutAt false θ le w w₁ lf lb →
-    θ′ ≡ cell w₁ 1 v →
+    θ′ ≡ cell w₁ rateField v →
     CutAt true θ′ re w₁ w₂ rf rb →
     RestSet lx lb w₂ w₃ →
     RestSet rx rf w₃ w₄ →
-    Joined (nodeOn false) 1 false gap lx rx w₄ w₅ x →
-    w₆ ≡ cset w₅ 10 gap (pos u) →
-    w₇ ≡ cset w₆ 11 gap (pos v) →
+    Joined (nodeOn false) offerTree false gap lx rx w₄ w₅ x →
+    w₆ ≡ cset w₅ bridgeLeftField gap (pos u) →
+    w₇ ≡ cset w₆ bridgeRightField gap (pos v) →
     Seamed lf rb u v w₇ w₈ e →
     RaisedIn gap lx le rx re w w₈ x e 1 s h
 raised {gap} {lx} {le} {rx} {re} {u} {v} {lf} {lb} {rf} {rb} {x} {e} {s} {h} {w} {w₁} {w₂} {w₃} {w₄} {w₅} {w₆} {w₇} {w₈} {θ} {θ′} met heights rate-left cut-left rate-right cut-right rest-left rest-right above eu ev cat =

@@ -12,6 +12,7 @@ use Rattle.trees.specs.Leaves.{last-leaf}
 use Rattle.trees.specs.Operations.{Part, partLeaves}
 use Rattle.dynamic.specs.OfferTree.{OfferTree, single, fork, shape}
 use Rattle.dynamic.specs.Rearranged.{stored}
+use Rattle.table.specs.Fields.{innerRestField, leafRestField, mostNodes, mostSlots}
 use Rattle.table.specs.Words.{Words, upTo}
 use Rattle.table.specs.Layout.{cap, cap-most, cell, cset}
 use Rattle.table.specs.Items.{Item, In, at, in-left, in-right, Slots, slots-left, slots-across}
@@ -93,8 +94,8 @@ module _ {w w′ : Words} where
       stored-fork
       (stored-retold sl (record { cells = λ f s i. g .cells f s (below-left i) }) (same-inside (λ s i. in-left back (in-right (partLeaves ql) i)) pieces))
       (stored-retold sr (record { cells = λ f s i. g .cells f s (below-right i) }) (same-inside (λ s i. in-right front (in-right (partLeaves qr) i)) pieces))
-      (ap (upTo 8192) (g .cells 10 _ (tells-u refl refl)) ∙ eu)
-      (ap (upTo 8192) (g .cells 11 _ (tells-v refl refl)) ∙ ev)
+      (ap (upTo mostNodes) (g .cells 10 _ (tells-u refl refl)) ∙ eu)
+      (ap (upTo mostNodes) (g .cells 11 _ (tells-v refl refl)) ∙ ev)
       (record { root = g .cells _ _ (rest-left refl refl) ∙ rl .root; pieces = part-same ql (rl .pieces) (same-inside (λ s i. in-left back (in-left (stored l) i)) pieces) })
       (record { root = g .cells _ _ (rest-right refl refl) ∙ rr .root; pieces = part-same qr (rr .pieces) (same-inside (λ s i. in-right front (in-left (stored r) i)) pieces) })
     where
@@ -108,18 +109,18 @@ module _ {w w′ : Words} where
 
 -- what writing q as the part that stays with node x promises
 pub record RestSet (x q : ℕ) (w w′ : Words) : Type 0 where
-  pub of-leaf : x ≤ 4096 → w′ ≡ cset w 21 x (pos q)
-  pub of-inner : 4096 < x → w′ ≡ cset w 20 (x - 4096) (pos q)
+  pub of-leaf : x ≤ mostSlots → w′ ≡ cset w leafRestField x (pos q)
+  pub of-inner : mostSlots < x → w′ ≡ cset w innerRestField (x - mostSlots) (pos q)
 
 pub rest-within : {x q : ℕ} {w w′ : Words} → RestSet x q w w′ → Within w w′
-rest-within {x} {q} {w} {w′} h = go (decLe x 4096)
+rest-within {x} {q} {w} {w′} h = go (decLe x mostSlots)
   where
-    go : Dec (x ≤ 4096) → Within w w′
+    go : Dec (x ≤ mostSlots) → Within w w′
     go (yes d) = subst (Within w) (sym (h .of-leaf d)) (within-cset w 21 x (pos q))
-    go (no d) = subst (Within w) (sym (h .of-inner (omega arith))) (within-cset w 20 (x - 4096) (pos q))
+    go (no d) = subst (Within w) (sym (h .of-inner (omega arith))) (within-cset w 20 (x - mostSlots) (pos q))
 
 pub rest-written : {x q : ℕ} {w w′ : Words} (t : OfferTree Item) → Slots (cap w) (leaves (shape t)) → x ≡ refOf (shape t) → RestSet x q w w′ → w′ ≡ cset w (restField t) (nodeSlot t) (pos q)
-rest-written {x} {q} {w} (single a) s e h = h .of-leaf (omega (arith, s .high (List·Memᴰ·head refl), cap-most w)) ∙ ap (λ n. cset w 21 n (pos q)) e
+rest-written {x} {q} {w} (single a) s e h = h .of-leaf (omega (arith, s .high (List·Memᴰ·head refl), cap-most w)) ∙ ap (λ n. cset w leafRestField n (pos q)) e
 rest-written {x} {q} {w} (fork u v l ql qr r) s e h =
     h .of-inner (omega (arith, s .low (Memᴰ·append-left (leaves (shape r)) (last-leaf (shape l)))))
-    ∙ ap (λ n. cset w 20 n (pos q)) (omega arith)
+    ∙ ap (λ n. cset w innerRestField n (pos q)) (omega arith)

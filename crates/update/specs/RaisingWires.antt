@@ -9,6 +9,7 @@ use lib.IntN.{ℤ, pos}
 use Rattle.trees.specs.Tree.{node, leaves, last}
 use Rattle.trees.specs.Leaves.{last-leaf}
 use Rattle.dynamic.specs.OfferTree.{OfferTree, single, fork, shape}
+use Rattle.table.specs.Fields.{bridgeLeftField, bridgeRightField, mostNodes, offerTree}
 use Rattle.table.specs.Words.{Words, upTo, upTo-in}
 use Rattle.table.specs.Layout.{cap, cell, cset, linkAt, Valid, cset-same, cset-other}
 use Rattle.table.specs.Items.{Item, In, at, in-left, in-right, Slots, slots-left, slots-right, slots-across}
@@ -26,7 +27,7 @@ use Rattle.update.specs.RaisingRests.{Tells, tells-field, tells-in, tell
 pub data Wires (l r : OfferTree Item) (f s : ℕ) : Type 0 where
   wires-left : f ≡ restField l → s ≡ nodeSlot l → Wires l r f s
   wires-right : f ≡ restField r → s ≡ nodeSlot r → Wires l r f s
-  wires-node : Field 1 f → In s (leaves (shape l) ++ leaves (shape r)) → Wires l r f s
+  wires-node : Field offerTree f → In s (leaves (shape l) ++ leaves (shape r)) → Wires l r f s
   wires-u : f ≡ 10 → s ≡ last (shape l) .slot → Wires l r f s
   wires-v : f ≡ 11 → s ≡ last (shape l) .slot → Wires l r f s
 
@@ -45,15 +46,15 @@ record OfOffers (f : ℕ) : Type 0 where
   no-bridge-u : f ≢ 10
   no-bridge-v : f ≢ 11
 
-of-offers-field : {f : ℕ} → Field 1 f → OfOffers f
+of-offers-field : {f : ℕ} → Field offerTree f → OfOffers f
 of-offers-field {f} (a-child side e) = child side e
   where
-    child : (side : Bool) → f ≡ childField 1 side → OfOffers f
+    child : (side : Bool) → f ≡ childField offerTree side → OfOffers f
     child false d = omega arith
     child true d = omega arith
 of-offers-field (a-height e) = omega arith
 
-node-apart : {f : ℕ} → RestField f → Field 1 f → ⊥
+node-apart : {f : ℕ} → RestField f → Field offerTree f → ⊥
 node-apart (bridge-u e) g = of-offers-field g .no-bridge-u e
 node-apart (bridge-v e) g = of-offers-field g .no-bridge-v e
 node-apart (inner-rest e) g = omega (arith, of-offers-field g .low)
@@ -111,7 +112,7 @@ module _ {l r : OfferTree Item} where
   wired-cset {f} {s} w z i =
       record { cells = λ f′ s′ d. cset-other w f s z (λ e. d (subst (λ n. Wires l r n s′) (sym (e .0)) (subst (Wires l r f) (sym (e .1)) i))) }
 
-  wired-only : {w w′ : Words} → Only 1 (leaves (shape l) ++ leaves (shape r)) w w′ → Wired l r w w′
+  wired-only : {w w′ : Words} → Only offerTree (leaves (shape l) ++ leaves (shape r)) w w′ → Wired l r w w′
   wired-only g = record { cells = λ f s d. g .cells f s (λ h. d (wires-node (h .0) (h .1))) }
 
   module _ {w w′ : Words} (g : Wired l r w w′) where
@@ -127,14 +128,14 @@ module _ {l r : OfferTree Item} where
 pub record AfterWires (l r : OfferTree Item) (w w′ : Words) (x a b u v : ℕ) : Type 0 where
   pub within : Within w w′
   pub root : x ≡ refOf (node (shape l) (shape r))
-  pub tied : Tied w′ 1 (node (shape l) (shape r))
+  pub tied : Tied w′ offerTree (node (shape l) (shape r))
   pub left-rest : cell w′ (restField l) (nodeSlot l) ≡ pos a
   pub right-rest : cell w′ (restField r) (nodeSlot r) ≡ pos b
-  pub left-end : linkAt w′ 10 (last (shape l) .slot) ≡ u
-  pub right-end : linkAt w′ 11 (last (shape l) .slot) ≡ v
+  pub left-end : linkAt w′ bridgeLeftField (last (shape l) .slot) ≡ u
+  pub right-end : linkAt w′ bridgeRightField (last (shape l) .slot) ≡ v
   pub only : Wired l r w w′
 
-no-node : (t : OfferTree Item) → Field 1 (restField t) → ⊥
+no-node : (t : OfferTree Item) → Field offerTree (restField t) → ⊥
 no-node t = node-apart (rest-field t refl)
 
 -- one field written
@@ -149,8 +150,8 @@ module _ {w w′ : Words} {f s : ℕ} {z : ℤ} (p : Put f s z w w′) where
   elsewhere {f′} {s′} d = ap (λ k. cell k f′ s′) (p .put) ∙ cset-other w f s z d
 
   -- a field that is none of the tree of offers
-  tree-kept : (Field 1 f → ⊥) → (xs : List Item) → Same (Field 1) xs w w′
-  tree-kept d xs = record { cells = λ f′ s′ g i. elsewhere (λ h. d (subst (Field 1) (h .0) g)) }
+  tree-kept : (Field offerTree f → ⊥) → (xs : List Item) → Same (Field offerTree) xs w w′
+  tree-kept d xs = record { cells = λ f′ s′ g i. elsewhere (λ h. d (subst (Field offerTree) (h .0) g)) }
 
   put-within : Within w w′
   put-within = subst (Within w) (sym (p .put)) (within-cset w f s z)
@@ -165,8 +166,8 @@ same-trans p q = record { cells = λ f s i j. q .cells f s i j ∙ p .cells f s 
 pub record Unwired (w : Words) (gap lx rx : ℕ) (l r : OfferTree Item) : Type 0 where
   pub left-root : lx ≡ refOf (shape l)
   pub right-root : rx ≡ refOf (shape r)
-  pub left-tied : Tied w 1 (shape l)
-  pub right-tied : Tied w 1 (shape r)
+  pub left-tied : Tied w offerTree (shape l)
+  pub right-tied : Tied w offerTree (shape r)
   pub seam : gap ≡ last (shape l) .slot
   pub slots : Slots (cap w) (leaves (shape l) ++ leaves (shape r))
 
@@ -175,7 +176,7 @@ record AfterRests (l r : OfferTree Item) (w w′ : Words) (a b : ℕ) : Type 0 w
   within : Within w w′
   left : cell w′ (restField l) (nodeSlot l) ≡ pos a
   right : cell w′ (restField r) (nodeSlot r) ≡ pos b
-  tree : (xs : List Item) → Same (Field 1) xs w w′
+  tree : (xs : List Item) → Same (Field offerTree) xs w w′
   only : Wired l r w w′
 
 -- a slot has the field of a rest
@@ -209,10 +210,10 @@ module _ {w w₁ w₂ : Words} {gap lx rx a b : ℕ} {l r : OfferTree Item} (giv
 
 module _ {w w₂ w₃ w₄ w₅ : Words} {gap lx rx x a b u v : ℕ} {l r : OfferTree Item} (given : Unwired w gap lx rx l r) (rests : AfterRests l r w w₂ a b) where
   after-node :
-      Joined (nodeOn false) 1 false gap lx rx w₂ w₃ x →
-      w₄ ≡ cset w₃ 10 gap (pos u) →
-      w₅ ≡ cset w₄ 11 gap (pos v) →
-      (u ≤ 8192) × (v ≤ 8192) →
+      Joined (nodeOn false) offerTree false gap lx rx w₂ w₃ x →
+      w₄ ≡ cset w₃ bridgeLeftField gap (pos u) →
+      w₅ ≡ cset w₄ bridgeRightField gap (pos v) →
+      (u ≤ mostNodes) × (v ≤ mostNodes) →
       AfterWires l r w w₅ x a b u v
   after-node joined eu ev small =
       record {
@@ -230,12 +231,12 @@ module _ {w w₂ w₃ w₄ w₅ : Words} {gap lx rx x a b u v : ℕ} {l r : Offe
       within = within-trans (rests .within) (joined .within)
 
       pu : Put 10 (last (shape l) .slot) (pos u) w₃ w₄
-      pu = record { put = eu ∙ ap (λ s. cset w₃ 10 s (pos u)) (given .seam) }
+      pu = record { put = eu ∙ ap (λ s. cset w₃ bridgeLeftField s (pos u)) (given .seam) }
 
       pv : Put 11 (last (shape l) .slot) (pos v) w₄ w₅
-      pv = record { put = ev ∙ ap (λ s. cset w₄ 11 s (pos v)) (given .seam) }
+      pv = record { put = ev ∙ ap (λ s. cset w₄ bridgeRightField s (pos v)) (given .seam) }
 
-      made : Made 1 w₂ w₃ x (node (shape l) (shape r))
+      made : Made offerTree w₂ w₃ x (node (shape l) (shape r))
       made =
           joined .made (shape l) (shape r)
           (record {
@@ -259,17 +260,17 @@ module _ {w w₂ w₃ w₄ w₅ : Words} {gap lx rx x a b u v : ℕ} {l r : Offe
           let m = Memᴰ·append-left (leaves (shape r)) (last-leaf (shape l)) in
           record { low = given .slots .low m; high = omega (arith, given .slots .high m, within-cap g); field = h }
 
-      number : {z : ℤ} {n : ℕ} → n ≤ 8192 → z ≡ pos n → upTo 8192 z ≡ n
-      number {n} h e = ap (upTo 8192) e ∙ upTo-in 8192 n h
+      number : {z : ℤ} {n : ℕ} → n ≤ mostNodes → z ≡ pos n → upTo mostNodes z ≡ n
+      number {n} h e = ap (upTo mostNodes) e ∙ upTo-in mostNodes n h
 
 pub after-wires :
     {w w₁ w₂ w₃ w₄ w₅ : Words} {gap lx rx x a b u v : ℕ} {l r : OfferTree Item} →
     Unwired w gap lx rx l r →
     RestSet lx a w w₁ →
     RestSet rx b w₁ w₂ →
-    Joined (nodeOn false) 1 false gap lx rx w₂ w₃ x →
-    w₄ ≡ cset w₃ 10 gap (pos u) →
-    w₅ ≡ cset w₄ 11 gap (pos v) →
-    (u ≤ 8192) × (v ≤ 8192) →
+    Joined (nodeOn false) offerTree false gap lx rx w₂ w₃ x →
+    w₄ ≡ cset w₃ bridgeLeftField gap (pos u) →
+    w₅ ≡ cset w₄ bridgeRightField gap (pos v) →
+    (u ≤ mostNodes) × (v ≤ mostNodes) →
     AfterWires l r w w₅ x a b u v
 after-wires given set-left set-right = after-node given (after-rests given set-left set-right)

@@ -9,6 +9,7 @@ use Rattle.meeting.specs.Machine.{left, right}
 use Rattle.dynamic.specs.OfferTree.{Held, heldShape, Made, raise}
 use Rattle.dynamic.specs.Updates.{rotate, rebalance}
 use Rattle.dynamic.specs.Kept.{heldHeight}
+use Rattle.table.specs.Fields.{offerTree}
 use Rattle.table.specs.Words.{Words}
 use Rattle.table.specs.Items.{Item}
 use Rattle.table.specs.Rep.{nodeOn, heightAt, Within}
@@ -38,7 +39,7 @@ module _ (l r : Held Item) where
 -- ---- the calls
 
 module _ {gap lx le rx re x e k s h : ℕ} {w w′ : Words} where
-  pub rebalanced-level : heightAt w 1 lx ≤ suc (heightAt w 1 rx) → heightAt w 1 rx ≤ suc (heightAt w 1 lx) → RaisedIn gap lx le rx re w w′ x e k s h → RebalancedIn gap lx le rx re w w′ x e k s h
+  pub rebalanced-level : heightAt w offerTree lx ≤ suc (heightAt w offerTree rx) → heightAt w offerTree rx ≤ suc (heightAt w offerTree lx) → RaisedIn gap lx le rx re w w′ x e k s h → RebalancedIn gap lx le rx re w w′ x e k s h
   rebalanced-level p q c =
       record {
         within = c .within;
@@ -52,7 +53,7 @@ module _ {gap lx le rx re x e k s h : ℕ} {w w′ : Words} where
       right-low : (l r : Held Item) → Siblings w gap lx le rx re l r → heldHeight r ≤ suc (heldHeight l)
       right-low l r g = omega (arith, q, held-height (g .left), held-height (g .right))
 
-  pub rebalanced-left : suc (heightAt w 1 rx) < heightAt w 1 lx → RotatedIn false gap lx le rx re w w′ x e k s h → RebalancedIn gap lx le rx re w w′ x e k s h
+  pub rebalanced-left : suc (heightAt w offerTree rx) < heightAt w offerTree lx → RotatedIn false gap lx le rx re w w′ x e k s h → RebalancedIn gap lx le rx re w w′ x e k s h
   rebalanced-left p c =
       record {
         within = c .within;
@@ -63,7 +64,7 @@ module _ {gap lx le rx re x e k s h : ℕ} {w w′ : Words} where
       tall : (l r : Held Item) → Siblings w gap lx le rx re l r → suc (heldHeight r) < heldHeight l
       tall l r g = omega (arith, p, held-height (g .left), held-height (g .right))
 
-  pub rebalanced-right : suc (heightAt w 1 lx) < heightAt w 1 rx → RotatedIn true gap rx re lx le w w′ x e k s h → RebalancedIn gap lx le rx re w w′ x e k s h
+  pub rebalanced-right : suc (heightAt w offerTree lx) < heightAt w offerTree rx → RotatedIn true gap rx re lx le w w′ x e k s h → RebalancedIn gap lx le rx re w w′ x e k s h
   rebalanced-right p c =
       record {
         within = c .within;

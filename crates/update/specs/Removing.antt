@@ -17,6 +17,7 @@ use Rattle.dynamic.specs.OfferTree.{OfferTree, single, fork, shape, Held, hold,
 use Rattle.dynamic.specs.Updates.{Removed, remove}
 use Rattle.dynamic.specs.Kept.{heldHeight}
 use Rattle.dynamic.specs.UpdateSteps.{Loses, remove-whole}
+use Rattle.table.specs.Fields.{mostSlots, offerTree, rateField}
 use Rattle.table.specs.Words.{Words}
 use Rattle.table.specs.Layout.{cap, cell}
 use Rattle.table.specs.Items.{Item, In, at, Slots}
@@ -55,7 +56,7 @@ removed {limit} {slot} {x} {e} {w} enough c =
     room a t f = omega (arith, low w (f .held .slots) (f .held .right .balanced))
 
 -- where the limit is used up at an inner node, nothing is promised
-pub removed-spent : {slot x e x′ e′ k s h : ℕ} {w : Words} → 4096 < x → RemovedBelow 0 slot x e w w x′ e′ k s h
+pub removed-spent : {slot x e x′ e′ k s h : ℕ} {w : Words} → mostSlots < x → RemovedBelow 0 slot x e w w x′ e′ k s h
 removed-spent {w} inside =
     record { within = within-refl w; made = λ a t f d. absurd (omega (arith, inner-high (f .held) inside)); touched = λ a t f d. absurd (omega (arith, inner-high (f .held) inside)) }
 
@@ -65,7 +66,7 @@ record Removes (w w′ : Words) (x′ e′ k s h : ℕ) (a : Item) (t : Held Ite
 
 -- ---- a single line
 
-pub removed-leaf : {w : Words} {limit slot x e : ℕ} → x ≤ 4096 → RemovedBelow limit slot x e w w 0 0 0 0 0
+pub removed-leaf : {w : Words} {limit slot x e : ℕ} → x ≤ mostSlots → RemovedBelow limit slot x e w w 0 0 0 0 0
 unfolding remove
 removed-leaf {w} {limit} {slot} {x} {e} single-line =
     record { within = within-refl w; made = λ a t f d. go a (t .tree) (t .whole) (f .held); touched = λ a t f d. touched-refl (leaves (heldShape t)) w }
@@ -78,13 +79,13 @@ removed-leaf {w} {limit} {slot} {x} {e} single-line =
 
 -- the slot of the seam after a removal: on the left the last line may have left, and x's last one is looked for again
 pub record SeamFound (side : Bool) (w : Words) (x m gap : ℕ) : Type 0 where
-  pub on-left : side ≡ false → Ended w 1 true x gap
+  pub on-left : side ≡ false → Ended w offerTree true x gap
   pub on-right : side ≡ true → gap ≡ m
 
 found-seam :
     {w : Words} {x m gap : ℕ} (side : Bool) (O I G : Tree Item) →
     SeamFound side w x m gap →
-    Rep w 1 x G →
+    Rep w offerTree x G →
     Avl G →
     m ≡ seam side O I .slot →
     gap ≡ seam side G I .slot
@@ -116,10 +117,10 @@ record Below (side : Bool) (w w₁ w₂ : Words) (x ox oe ix ie gx ge k₁ s₁ 
 
 module _
     {side : Bool} {θ : ℤ} {w w₁ w₂ : Words} {limit limit′ x e slot m ox oe ix ie gx ge k₁ s₁ h₁ : ℕ}
-    (inside : 4096 < x)
-    (m-is : m ≡ x - 4096)
-    (rate : θ ≡ cell w 1 slot)
-    (test : side ≡ ltZ θ (cell w 1 m))
+    (inside : mostSlots < x)
+    (m-is : m ≡ x - mostSlots)
+    (rate : θ ≡ cell w rateField slot)
+    (test : side ≡ ltZ θ (cell w rateField m))
     (low₁ : LoweredOn side x e w w₁ ox oe ix ie)
     (enough : limit ≤ suc limit′)
     (rem : RemovedBelow limit′ slot ox oe w₁ w₂ gx ge k₁ s₁ h₁) where
@@ -159,7 +160,7 @@ module _
       I = heldShape i
 
       way : items .before (seam side O I) a ≡ side
-      way = sym (test ∙ ap₂ ltZ (rate ∙ ap (cell w 1) (f .slot) ∙ f .held .kept .held (f .member) .rate) (seam-rate (f .held) p m-is))
+      way = sym (test ∙ ap₂ ltZ (rate ∙ ap (cell w rateField) (f .slot) ∙ f .held .kept .held (f .member) .rate) (seam-rate (f .held) p m-is))
 
       slots : Slots (cap w) (leaves (nodeOn side O I))
       slots = subst (λ u. Slots (cap w) (leaves u)) (p .shaped) (f .held .slots)

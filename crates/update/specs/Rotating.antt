@@ -10,6 +10,7 @@ use Rattle.trees.specs.Tree.{Tree, height, leaves}
 use Rattle.dynamic.specs.OfferTree.{Held, heldShape, Made, outer, inner, lower, raiseOn}
 use Rattle.dynamic.specs.Updates.{rotateOnce, rotateTwice, rotate}
 use Rattle.dynamic.specs.Kept.{heldHeight}
+use Rattle.table.specs.Fields.{mostSlots, offerTree}
 use Rattle.table.specs.Words.{Words}
 use Rattle.table.specs.Layout.{cap}
 use Rattle.table.specs.Items.{Item, Slots}
@@ -107,7 +108,7 @@ module _ {side : Bool} {w w₁ : Words} {gap tx te sx se ox oe ix ie : ℕ} {tal
   row : leaves (nodeOn side (heldShape tall) (heldShape s)) ≡ leaves (nodeOn side (heldShape o) (nodeOn side (heldShape i) (heldShape s)))
   row = ap (λ t. leaves (nodeOn side t (heldShape s))) (p .shaped) ∙ row-leaves side (heldShape o) (heldShape i) (heldShape s)
 
-  trio : Trio side w₁ (tx - 4096) gap ox oe ix ie sx se o i s
+  trio : Trio side w₁ (tx - mostSlots) gap ox oe ix ie sx se o i s
   trio =
       record {
         outer-held = p .outer-held;
@@ -152,9 +153,9 @@ module _ (side : Side) (tall short : Held Item) where
 pub rotated-once :
     {side : Bool} {w w₁ w₂ w₃ : Words} {gap m tx te sx se ox oe ix ie yx ye k₁ s₁ h₁ x e k₂ s₂ h₂ k s h : ℕ} →
     LoweredOn side tx te w w₁ ox oe ix ie →
-    heightAt w₁ 1 ix ≤ heightAt w₁ 1 ox →
+    heightAt w₁ offerTree ix ≤ heightAt w₁ offerTree ox →
     RaisedOn side gap ix ie sx se w₁ w₂ yx ye k₁ s₁ h₁ →
-    m ≡ tx - 4096 →
+    m ≡ tx - mostSlots →
     RaisedOn side m ox oe yx ye w₂ w₃ x e k₂ s₂ h₂ →
     Counts (k₁ + k₂) (s₁ + s₂) (h₁ + h₂) k s h →
     RotatedIn side gap tx te sx se w w₃ x e k s h
@@ -209,7 +210,7 @@ parted :
     RaisedOn side m ox oe px pe w₁ w₂ xx xe k₁ s₁ h₁ →
     heldHeight o ≤ suc (heldHeight p) →
     heldHeight p ≤ suc (heldHeight o) →
-    Parts side w w₂ (ix - 4096) gap xx xe qx qe sx se k₁ s₁ h₁ o p q i s
+    Parts side w w₂ (ix - mostSlots) gap xx xe qx qe sx se k₁ s₁ h₁ o p q i s
 parted {side} {w} {w₁} {w₂} {m} {gap} {ox} {oe} {ix} {ie} {sx} {se} {px} {pe} {qx} {qe} {xx} {xe} {k₁} {s₁} {h₁} {o} {i} {s} {p} {q} t within op c ho hp =
     record {
       next =
@@ -289,12 +290,12 @@ doubled e a ai b bp bq lt = omega arith
 pub rotated-twice :
     {side : Bool} {w w₁ w₂ w₃ w₄ w₅ : Words} {gap m m₂ tx te sx se ox oe ix ie px pe qx qe xx xe k₁ s₁ h₁ yx ye k₂ s₂ h₂ x e k₃ s₃ h₃ k s h : ℕ} →
     LoweredOn side tx te w w₁ ox oe ix ie →
-    heightAt w₁ 1 ox < heightAt w₁ 1 ix →
+    heightAt w₁ offerTree ox < heightAt w₁ offerTree ix →
     LoweredOn side ix ie w₁ w₂ px pe qx qe →
-    m ≡ tx - 4096 →
+    m ≡ tx - mostSlots →
     RaisedOn side m ox oe px pe w₂ w₃ xx xe k₁ s₁ h₁ →
     RaisedOn side gap qx qe sx se w₃ w₄ yx ye k₂ s₂ h₂ →
-    m₂ ≡ ix - 4096 →
+    m₂ ≡ ix - mostSlots →
     RaisedOn side m₂ xx xe yx ye w₄ w₅ x e k₃ s₃ h₃ →
     Counts (k₁ + k₂ + k₃) (s₁ + s₂ + s₃) (h₁ + h₂ + h₃) k s h →
     RotatedIn side gap tx te sx se w w₅ x e k s h
@@ -336,7 +337,7 @@ rotated-twice {side} {w} {w₁} {w₂} {w₃} {w₄} {w₅} {gap} {m} {m₂} {tx
         levels : Levels (heldHeight o) (heldHeight p) (heldHeight q) (heldHeight short)
         levels = doubled two (a .level .higher) (a .level .right-level) (b .level .higher) (b .level .left-level) (b .level .right-level) lt
 
-        D : Parts side w₁ w₃ (ix - 4096) gap xx xe qx qe sx se k₁ s₁ h₁ o p q i short
+        D : Parts side w₁ w₃ (ix - mostSlots) gap xx xe qx qe sx se k₁ s₁ h₁ o p q i short
         D = parted (trio n (low .within) a) (low₂ .within) b (subst (λ j. RaisedOn side j ox oe px pe w₂ w₃ xx xe k₁ s₁ h₁) e₁ c₁) (levels .o-p) (levels .p-o)
 
         y : Made Item

@@ -11,6 +11,7 @@ use Rattle.dynamic.specs.OfferTree.{Held, heldShape, Pair, Made, lower, raise}
 use Rattle.dynamic.specs.Updates.{rebalance, insert, remove}
 use Rattle.dynamic.specs.Placed.{New}
 use Rattle.dynamic.specs.Work.{stepsOf, heightsOf}
+use Rattle.table.specs.Fields.{mostSlots}
 use Rattle.table.specs.Words.{Words}
 use Rattle.table.specs.Layout.{cap}
 use Rattle.table.specs.Items.{Item, Slots}
@@ -34,9 +35,9 @@ pub record MadeIn (w : Words) (x e k s h : ℕ) (m : Made Item) : Type 0 where
 
 pub record LoweredIn (x e : ℕ) (w w′ : Words) (lx le rx re : ℕ) : Type 0 where
   pub within : Within w w′
-  pub front : (h : Held Item) → HeldIn w x e h → 4096 < x → HeldIn w′ lx le (lower items h .front)
-  pub back : (h : Held Item) → HeldIn w x e h → 4096 < x → HeldIn w′ rx re (lower items h .back)
-  pub touched : (h : Held Item) → HeldIn w x e h → 4096 < x → Touched (leaves (heldShape h)) w w′
+  pub front : (h : Held Item) → HeldIn w x e h → mostSlots < x → HeldIn w′ lx le (lower items h .front)
+  pub back : (h : Held Item) → HeldIn w x e h → mostSlots < x → HeldIn w′ rx re (lower items h .back)
+  pub touched : (h : Held Item) → HeldIn w x e h → mostSlots < x → Touched (leaves (heldShape h)) w w′
 
 -- ---- raise and rebalance
 

@@ -3,6 +3,7 @@
 ghost use mathlib.Core.Path.{_≡_};
 ghost use Prim.Native.Nat.{ℕ, _+_, _≤_};
 ghost use lib.Signed.{leZ, ltZ};
+ghost use Rattle.table.specs.Fields.{mostSlots, rateField};
 ghost use Rattle.table.specs.Layout.{cap, cell};
 ghost use Rattle.update.specs.Steps.{LoweredIn, RaisedIn, RebalancedIn, InsertedIn, RemovedIn};
 ghost use Rattle.update.specs.RaisingRests.{RestSet};
@@ -50,11 +51,11 @@ fn set_rest(part: &mut [i64], c: u32, x: u32, q: u32)
     requires { ⌜ c ≡ cap (now part) ⌝ }
     ensures { λ _. ⌜ RestSet x q (now (part .entry)) (now (part .exit)) ⌝ }
 {
-    if x <= 4096 {
-        table::put_link_in(part, c, 21, x, q);
+    if x <= table::MOST_SLOTS {
+        table::put_link_in(part, c, table::LEAF_REST, x, q);
         return;
     }
-    table::put_link_in(part, c, 20, table::inner_slot(x), q);
+    table::put_link_in(part, c, table::INNER_REST, table::inner_slot(x), q);
 }
 
 // Takes inner node `x` apart: its envelope `e` is cut behind the left child's last line, and each child gets its rest back. No step changes
@@ -63,9 +64,9 @@ fn lower(part: &mut [i64], x: u32, e: u32) -> Lowered
     ensures { λ r. ⌜ LoweredIn x e (now (part .entry)) (now (part .exit)) (r .lx) (r .le) (r .rx) (r .re) ⌝ }
 {
     let k = table::capacity(part);
-    let l = table::child_in(part, k, 1, false, x);
-    let r = table::child_in(part, k, 1, true, x);
-    let rate = table::get_in(part, k, 1, table::inner_slot(x));
+    let l = table::child_in(part, k, table::OFFERS, false, x);
+    let r = table::child_in(part, k, table::OFFERS, true, x);
+    let rate = table::get_in(part, k, table::RATE, table::inner_slot(x));
     let c = pieces::cut_in(part, k, false, rate, e);
     let ql = form::rest_in(part, k, l);
     let qr = form::rest_in(part, k, r);
@@ -85,16 +86,17 @@ fn raise(part: &mut [i64], gap: u32, lx: u32, le: u32, rx: u32, re: u32) -> Made
 {
     let m = search::meet(part, part, le, re);
     let k = table::capacity(part);
-    let h = table::height_in(part, k, 0, le) + table::height_in(part, k, 0, re);
-    let rate = table::get_in(part, k, 1, m.u);
+    let h = table::height_in(part, k, table::PIECES, le)
+        + table::height_in(part, k, table::PIECES, re);
+    let rate = table::get_in(part, k, table::RATE, m.u);
     let c = pieces::cut_in(part, k, false, rate, le);
-    let other = table::get_in(part, k, 1, m.v);
+    let other = table::get_in(part, k, table::RATE, m.v);
     let d = pieces::cut_in(part, k, true, other, re);
     set_rest(part, k, lx, c.back);
     set_rest(part, k, rx, d.front);
-    let x = shape::make_node_in(part, k, 1, false, gap, lx, rx);
-    table::put_link_in(part, k, 10, gap, m.u);
-    table::put_link_in(part, k, 11, gap, m.v);
+    let x = shape::make_node_in(part, k, table::OFFERS, false, gap, lx, rx);
+    table::put_link_in(part, k, table::BRIDGE_LEFT, gap, m.u);
+    table::put_link_in(part, k, table::BRIDGE_RIGHT, gap, m.v);
     let e = pieces::cat_at(part, k, c.front, d.back, m.u, m.v);
     Made {
         x: x,
@@ -162,7 +164,7 @@ fn rotate(part: &mut [i64], side: bool, gap: u32, tx: u32, te: u32, sx: u32, se:
 {
     let t = lower_on(part, side, tx, te);
     let m = table::inner_slot(tx);
-    if table::height(part, 1, t.ix) <= table::height(part, 1, t.ox) {
+    if table::height(part, table::OFFERS, t.ix) <= table::height(part, table::OFFERS, t.ox) {
         let y = raise_on(part, side, gap, t.ix, t.ie, sx, se);
         let z = raise_on(part, side, m, t.ox, t.oe, y.x, y.e);
         let n = sum(y, z);
@@ -193,8 +195,8 @@ fn rebalance(part: &mut [i64], gap: u32, lx: u32, le: u32, rx: u32, re: u32) -> 
     ensures { λ r. ⌜ RebalancedIn gap lx le rx re (now (part .entry)) (now (part .exit)) (r .x) (r .e) (r .k) (r .s) (r .h) ⌝ }
 {
     let c = table::capacity(part);
-    let hl = table::height_in(part, c, 1, lx);
-    let hr = table::height_in(part, c, 1, rx);
+    let hl = table::height_in(part, c, table::OFFERS, lx);
+    let hr = table::height_in(part, c, table::OFFERS, rx);
     if shape::above(hl, hr) {
         return rotate(part, false, gap, lx, le, rx, re);
     }
@@ -230,21 +232,21 @@ fn rebuild(part: &mut [i64], side: bool, gap: u32, g: Made, ix: u32, ie: u32) ->
 
 // The rate in slot `a` is at most the one in slot `b`.
 fn at_most(part: &[i64], a: u32, b: u32) -> bool
-    ensures { λ r. ⌜ r ≡ leZ (cell (now (part .entry)) 1 a) (cell (now (part .entry)) 1 b) ⌝ }
+    ensures { λ r. ⌜ r ≡ leZ (cell (now (part .entry)) rateField a) (cell (now (part .entry)) rateField b) ⌝ }
 {
-    table::at_least(part, 1, b, table::get(part, 1, a))
+    table::at_least(part, table::RATE, b, table::get(part, table::RATE, a))
 }
 
 // The rate in slot `a` is below the one in slot `b`.
 fn is_less(part: &[i64], a: u32, b: u32) -> bool
-    ensures { λ r. ⌜ r ≡ ltZ (cell (now (part .entry)) 1 a) (cell (now (part .entry)) 1 b) ⌝ }
+    ensures { λ r. ⌜ r ≡ ltZ (cell (now (part .entry)) rateField a) (cell (now (part .entry)) rateField b) ⌝ }
 {
-    table::is_above(part, 1, b, table::get(part, 1, a))
+    table::is_above(part, table::RATE, b, table::get(part, table::RATE, a))
 }
 
 // Puts the line in `slot` beside the single line `x`.
 fn insert_beside(part: &mut [i64], x: u32, e: u32, slot: u32) -> Made
-    ensures { λ r. ⌜ ((limit : ℕ) → x ≤ 4096 → InsertedBelow limit slot x e (now (part .entry)) (now (part .exit)) (r .x) (r .e) (r .k) (r .s) (r .h)) ⌝ }
+    ensures { λ r. ⌜ ((limit : ℕ) → x ≤ mostSlots → InsertedBelow limit slot x e (now (part .entry)) (now (part .exit)) (r .x) (r .e) (r .k) (r .s) (r .h)) ⌝ }
 {
     if at_most(part, slot, x) {
         return raise(part, x, x, e, slot, slot);
@@ -256,7 +258,7 @@ fn insert_beside(part: &mut [i64], x: u32, e: u32, slot: u32) -> Made
 fn insert_below(part: &mut [i64], x: u32, e: u32, slot: u32, limit: u32) -> Made
     ensures { λ r. ⌜ InsertedBelow limit slot x e (now (part .entry)) (now (part .exit)) (r .x) (r .e) (r .k) (r .s) (r .h) ⌝ }
 {
-    if x <= 4096 {
+    if x <= table::MOST_SLOTS {
         return insert_beside(part, x, e, slot);
     }
     if limit == 0 {
@@ -282,14 +284,14 @@ fn seam_after(part: &[i64], side: bool, x: u32, m: u32) -> u32
     if side {
         return m;
     }
-    descents::end(part, 1, true, x)
+    descents::end(part, table::OFFERS, true, x)
 }
 
 // Removes the line in `slot` from subtree `x` with the envelope `e`; 0 where nothing is left. It is at most `limit` high.
 fn remove_below(part: &mut [i64], x: u32, e: u32, slot: u32, limit: u32) -> Made
     ensures { λ r. ⌜ RemovedBelow limit slot x e (now (part .entry)) (now (part .exit)) (r .x) (r .e) (r .k) (r .s) (r .h) ⌝ }
 {
-    if x <= 4096 {
+    if x <= table::MOST_SLOTS {
         return Made {
             x: 0,
             e: 0,
@@ -328,12 +330,12 @@ fn remove_below(part: &mut [i64], x: u32, e: u32, slot: u32, limit: u32) -> Made
 pub fn insert(part: &mut [i64], x: u32, e: u32, s: u32) -> Made
     ensures { λ r. ⌜ InsertedIn s x e (now (part .entry)) (now (part .exit)) (r .x) (r .e) (r .k) (r .s) (r .h) ⌝ }
 {
-    insert_below(part, x, e, s, 24)
+    insert_below(part, x, e, s, table::MOST_LEVELS)
 }
 
 // Removes the line in slot `s` from the offers with root `x` and envelope `e`.
 pub fn remove(part: &mut [i64], x: u32, e: u32, s: u32) -> Made
     ensures { λ r. ⌜ RemovedIn s x e (now (part .entry)) (now (part .exit)) (r .x) (r .e) (r .k) (r .s) (r .h) ⌝ }
 {
-    remove_below(part, x, e, s, 24)
+    remove_below(part, x, e, s, table::MOST_LEVELS)
 }

@@ -1,6 +1,7 @@
 -- `auditing::book_stands` meets its contract.
 use native.Mathlib.Omega.{arith}
 use borrow.Author.Tests.{not-true, not-false}
+use Rattle.table.specs.Fields.{liveCountWord, mostSlots}
 use Rattle.table.specs.Words.{word, upTo-most}
 use Rattle.auditing.specs.Audits.{audits-no-slot, audits-no-free, audits-no-offers, audits-all}
 use borrow.Author.Needs.{needs}
@@ -38,7 +39,7 @@ numbers-requires : tie.Need-numbers-requires
 numbers-requires c κs =
     let at-number-at = c .before .before .before .before .before .before in
     let entry = at-number-at .before .before .before in
-    (search needs, omega (arith, at-number-at .number-at .ensures, upTo-most 4096 (word (entry .args .part .now) 3)))
+    (search needs, omega (arith, at-number-at .number-at .ensures, upTo-most mostSlots (word (entry .args .part .now) liveCountWord)))
 
 returns-4 : tie.Need-returns-4
 returns-4 c =

@@ -8,13 +8,14 @@ use Rattle.query.proofs.count.Tie as tie
 use Rattle.query.proofs.count.Reads as reads
 use Rattle.query.proofs.count.Lts as lts
 use Rattle.descents.proofs.end.Reads as end-reads
+use Rattle.table.specs.Fields.{mostSlots}
 use Rattle.table.proofs.link.Reads as link-reads
 
 abbrev Inv-loop : tie.InvT-loop
 Inv-loop part root last s₀ n₀ s n = Along part root last s n
 
 abbrev μ-loop : tie.MeasureT-loop
-μ-loop part root last s₀ n₀ s n = 4096 - n
+μ-loop part root last s₀ n₀ s n = mostSlots - n
 
 end-requires : tie.Need-end-requires Inv-loop μ-loop
 end-requires c κs = search needs

@@ -8,6 +8,7 @@ use mir.Syntax.{w64}
 use mir.Val.{SFits}
 use mir.Facts.{toZ-ofZ}
 use Rattle.integers.specs.Magnitude.{fits, natAbs-add}
+use Rattle.table.specs.Fields.{baseField, rateField}
 use Rattle.table.specs.Words.{Words}
 use Rattle.table.specs.Layout.{cell}
 use Rattle.query.specs.Groups.{price-none, data-in, data-cell}
@@ -31,7 +32,7 @@ module _ {b r l : ℤ} (x y q : ℤ) (eb : b ≡ clamped 1_000_000_000 x) (er : 
   sum-fits : SFits w64 (b +ℤ r *ℤ l)
   sum-fits = fits _ (omega (arith, natAbs-add b (r *ℤ l), base-size, clamped-product 99_999 999_999 _ _ er el))
 
-  told : (w : Words) (s : _) → x ≡ cell w 2 s → y ≡ cell w 1 s → b +ℤ r *ℤ l ≡ priceIn w s q
+  told : (w : Words) (s : _) → x ≡ cell w baseField s → y ≡ cell w rateField s → b +ℤ r *ℤ l ≡ priceIn w s q
   unfolding priceIn
   told w s d e = rw (← d, ← e, ← eb, ← er, ← el)
 

@@ -2,6 +2,7 @@
 use mathlib.Core.Path.{_≡_, _∙_, ap}
 use Prim.Native.Nat.{ℕ}
 use lib.IntN.{pos}
+use Rattle.table.specs.Fields.{firstFreeWord, nextFreeField, numberField}
 use Rattle.table.specs.Words.{Words, wset}
 use Rattle.table.specs.Layout.{cset}
 use Rattle.table.specs.Free.{firstFree, given}
@@ -9,9 +10,9 @@ use borrow.Author.Needs.{needs}
 use Rattle.table.proofs.give_slot.Statement.{statement}
 use Rattle.table.proofs.give_slot.Tie as tie
 
-words : (w w₁ w₂ w₃ : Words) (s next : ℕ) → next ≡ firstFree w → w₁ ≡ cset w 0 s (pos 0) → w₂ ≡ cset w₁ 3 s (pos next) → w₃ ≡ wset w₂ 5 (pos s) → w₃ ≡ given w s
+words : (w w₁ w₂ w₃ : Words) (s next : ℕ) → next ≡ firstFree w → w₁ ≡ cset w numberField s (pos 0) → w₂ ≡ cset w₁ nextFreeField s (pos next) → w₃ ≡ wset w₂ firstFreeWord (pos s) → w₃ ≡ given w s
 words w w₁ w₂ w₃ s next e a b c =
-    c ∙ ap (λ (v : Words). wset v 5 (pos s)) (b ∙ ap (λ (n : ℕ). cset w₁ 3 s (pos n)) e ∙ ap (λ (v : Words). cset v 3 s (pos (firstFree w))) a)
+    c ∙ ap (λ (v : Words). wset v firstFreeWord (pos s)) (b ∙ ap (λ (n : ℕ). cset w₁ nextFreeField s (pos n)) e ∙ ap (λ (v : Words). cset v nextFreeField s (pos (firstFree w))) a)
 
 number-at-requires : tie.Need-number-at-requires
 number-at-requires c κs = search needs

@@ -2,6 +2,7 @@
 use mathlib.Core.Path.{_≡_, _∙_, ap}
 use Prim.Native.Nat.{ℕ}
 use lib.IntN.{pos}
+use Rattle.table.specs.Fields.{firstFreeWord, nextFreeField}
 use Rattle.table.specs.Words.{Words, wset}
 use Rattle.table.specs.Layout.{linkAt}
 use Rattle.table.specs.Free.{firstFree, taken}
@@ -9,8 +10,8 @@ use borrow.Author.Needs.{needs}
 use Rattle.table.proofs.take_slot.Statement.{statement}
 use Rattle.table.proofs.take_slot.Tie as tie
 
-words : (w w′ : Words) (s next : ℕ) → s ≡ firstFree w → next ≡ linkAt w 3 s → w′ ≡ wset w 5 (pos next) → w′ ≡ taken w
-words w w′ s next e d h = h ∙ ap (λ (n : ℕ). wset w 5 (pos n)) (d ∙ ap (linkAt w 3) e)
+words : (w w′ : Words) (s next : ℕ) → s ≡ firstFree w → next ≡ linkAt w nextFreeField s → w′ ≡ wset w firstFreeWord (pos next) → w′ ≡ taken w
+words w w′ s next e d h = h ∙ ap (λ (n : ℕ). wset w firstFreeWord (pos n)) (d ∙ ap (linkAt w nextFreeField) e)
 
 number-at-requires : tie.Need-number-at-requires
 number-at-requires c κs = search needs

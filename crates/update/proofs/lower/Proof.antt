@@ -1,4 +1,5 @@
 -- `update::lower` meets its contract.
+use Rattle.table.specs.Fields.{rateField}
 use Rattle.table.specs.Layout.{cell}
 use Rattle.descents.specs.Cuts.{still-known}
 use Rattle.update.specs.Lowering.{lowered}
@@ -66,7 +67,7 @@ returns c =
     let right = rated .before .before .before in
     let left = right .before .before in
     let f : SFits w64 (rated .get-in .result) = record { sfits = rated .get-in .ok } in
-    lowered (left .child-in .ensures) (right .child-in2 .ensures) (rated .get-in .ensures ∙ ap (cell _ 1) (rated .before .inner-slot .ensures))
+    lowered (left .child-in .ensures) (right .child-in2 .ensures) (rated .get-in .ensures ∙ ap (cell _ rateField) (rated .before .inner-slot .ensures))
     (simp (toZ-ofZ, f) at (severed .cut-in .ensures)) (left-rest .rest-in .ensures) (right-rest .rest-in2 .ensures) (left-put .cat-in .ensures)
     (c .before .cat-in2 .ensures)
 
