@@ -29,8 +29,8 @@ use Rattle.book.specs.declared.Listed.{Listed}
 use Rattle.book.specs.declared.Listed.the-variants.{Pieces, Declined as ListingDeclined}
 use Rattle.book.specs.Promises.{partOf, updateAnswer, foundAnswer, listingAnswer}
 use Rattle.book.specs.Numbered.{numbered}
-use Rattle.meet.specs.declared.Met.{Met}
-use Rattle.meet.specs.Promises.{meetTrials, meetAnswer, Found as MeetsAt}
+use Rattle.meet_books.specs.declared.Met.{Met}
+use Rattle.meet_books.specs.Promises.{meetTrials, meetAnswer, Found as MeetsAt}
 use Rattle.chart.specs.Promises.{told as markTold, plainMark}
 use Rattle.vouchers.specs.Told.{told as voucherTold, due}
 use Rattle.reading.specs.Promises.{told as pieceTold, pieceOf as handedOf, listedAt, rootPieces, PlaceOf, at-piece, past-last, Before}

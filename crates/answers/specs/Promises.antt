@@ -19,8 +19,8 @@ use Rattle.book.specs.declared.Found.the-variants.{Offer, Declined as FoundDecl
 use Rattle.book.specs.declared.Listed.{Listed}
 use Rattle.book.specs.declared.Listed.the-variants.{Pieces, Declined as ListingDeclined}
 use Rattle.book.specs.Promises.{Opens, Updates, Queries, Lists, Checks}
-use Rattle.meet.specs.declared.Met.{Met}
-use Rattle.meet.specs.Promises.{MeetAnswer, refused, met, meetAnswer, MeetsBooks}
+use Rattle.meet_books.specs.declared.Met.{Met}
+use Rattle.meet_books.specs.Promises.{MeetAnswer, refused, met, meetAnswer, MeetsBooks}
 use Rattle.marks.specs.Told.{Told as MarkTold}
 use Rattle.chart.specs.declared.Marked.{Marked}
 use Rattle.chart.specs.Promises.{told as markTold, Marks}

@@ -5,7 +5,7 @@ ghost use Prim.Native.Nat.{_≤_};
 ghost use lib.ListN.{length};
 ghost use Rattle.answers.specs.Promises.{refusal, openingNumber, updateNumber, foundNumber, listedNumber, meetNumber};
 ghost use Rattle.answers.specs.Promises.{markNumber, placeNumber, countsOf, foundOf, metOf, pieceOf, Tells};
-ghost use Rattle.meet.specs.Promises.{meetAnswer};
+ghost use Rattle.meet_books.specs.Promises.{meetAnswer};
 ghost use Rattle.chart.specs.Promises.{told as markTold};
 ghost use Rattle.vouchers.specs.Told.{told as voucherTold};
 ghost use Rattle.reading.specs.Promises.{told as pieceTold};
@@ -76,12 +76,12 @@ pub fn tell_found(f: book::Found, found: &mut [i64]) -> i64
 }
 
 // A meeting's answer, u's offer; v's offer, the steps and the two heights go into `met`.
-pub fn tell_met(m: meet::Met, met: &mut [i64]) -> i64
+pub fn tell_met(m: meet_books::Met, met: &mut [i64]) -> i64
     requires { ⌜ 4 ≤ length (now met) ⌝ }
     ensures { λ r. ⌜ Tells (meetNumber (meetAnswer m)) (metOf (meetAnswer m)) (now (met .entry)) (now (met .exit)) r ⌝ }
 {
     match m {
-        meet::Met::Meeting {
+        meet_books::Met::Meeting {
             u,
             v,
             steps,
@@ -94,7 +94,7 @@ pub fn tell_met(m: meet::Met, met: &mut [i64]) -> i64
             met[3] = hr;
             u
         }
-        meet::Met::Declined(cause) => below_zero(cause),
+        meet_books::Met::Declined(cause) => below_zero(cause),
     }
 }
 

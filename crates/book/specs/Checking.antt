@@ -11,7 +11,7 @@ use Rattle.plain.specs.Book.{noBookAt}
 use Rattle.table.specs.Fields.{capacityWord}
 use Rattle.table.specs.Words.{Words, word}
 use Rattle.form.specs.Form.{BookStands}
-use Rattle.matching.specs.Deciding.{Decides}
+use Rattle.check_trees.specs.Deciding.{Decides}
 use Rattle.book.specs.Promises.{partOf, Checks}
 use Rattle.book.specs.Plainly.{book-there}
 use Rattle.book.specs.LentPart.{whole-part}

@@ -196,5 +196,5 @@ pub fn check(table: &[i64], start: usize) -> bool
     if no_book(table, start) {
         return false;
     }
-    auditing::book_stands(&table[start..])
+    check_part::book_stands(&table[start..])
 }

@@ -88,7 +88,10 @@ pub extern "C" fn carrier_meet(
     if met.len() < 4 {
         return -100;
     }
-    answers::tell_met(meet::meet(first, first_start, second, second_start), met)
+    answers::tell_met(
+        meet_books::meet(first, first_start, second, second_start),
+        met,
+    )
 }
 
 // Chart mark `index`: 0 for an open end, with its rate in `mark`, and 1 for a crossing, with its load and price.

@@ -1,11 +1,11 @@
 // The counter: reads calls from standard input, a line each, and prints the book's answers. The book has room for 64 offers.
-use keeping::Line;
+use counter_keep::Line;
 use libc::STDIN_FILENO;
 use libc::STDOUT_FILENO;
 
 // One byte of the input. What it prints goes through `out`.
 fn take_byte(table: &mut [i64], line: Line, byte: u8, out: &mut [u8]) -> Line {
-    let fed = feeding::feed(table, line, byte, out);
+    let fed = counter_feed::feed(table, line, byte, out);
     let printed = fed.printed;
     io::write_all(STDOUT_FILENO, &out[..printed]);
     fed.line
@@ -23,7 +23,7 @@ fn take_block(table: &mut [i64], line: Line, block: &[u8], out: &mut [u8]) -> Li
 
 // At the end of the input: the last line may lack its newline.
 fn take_last(table: &mut [i64], line: Line, out: &mut [u8]) {
-    let printed = feeding::finish(table, line, out);
+    let printed = counter_feed::finish(table, line, out);
     io::write_all(STDOUT_FILENO, &out[..printed]);
 }
 
@@ -52,7 +52,7 @@ fn read_block(table: &mut [i64], line: Line, out: &mut [u8]) -> Block {
 
 // A proved loop has to end, and nothing says that an input does: it counts down from a number that no run uses up.
 fn read_all(table: &mut [i64], out: &mut [u8]) -> Line {
-    let mut now = keeping::no_line();
+    let mut now = counter_keep::no_line();
     let mut turns = u64::MAX;
     while turns > 0 {
         let block = read_block(table, now, out);

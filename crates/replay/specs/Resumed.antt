@@ -21,8 +21,8 @@ use Rattle.form.specs.There.{cap-there}
 use Rattle.history.specs.Claim.{from-book}
 use Rattle.replay.specs.declared.Replayed.{Replayed}
 use Rattle.replay.specs.declared.Replayed.the-variants.{Ran, Stopped}
-use Rattle.encoding.specs.Encoding.{runnable, Spares}
-use Rattle.encoding.specs.Laws.{run-reach}
+use Rattle.replay_words.specs.Encoding.{runnable, Spares}
+use Rattle.replay_words.specs.Laws.{run-reach}
 use Rattle.replay.specs.Right.{told-right, spares-right}
 use Rattle.replay.specs.Promises.{unopened, runAnswer, runCount, Resumes, Begun, Replays}
 use Rattle.replay.specs.Running.{Ended, only-then}

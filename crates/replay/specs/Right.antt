@@ -25,9 +25,9 @@ use Rattle.book.specs.Promises.{partOf, writtenWords, counted, updateAnswer, fo
 use Rattle.book.specs.Numbered.{numbered}
 use Rattle.history.specs.History.{Happens, by-post, by-withdraw, by-query, by-listing, History, finished, next}
 use Rattle.history.specs.Claim.{step-capacity, one-call}
-use Rattle.encoding.specs.Encoding.{stretch, updateWords, foundWords, listedWords, acceptedAnswer, answerOf, told, spared, Spares}
-use Rattle.encoding.specs.Decoding.{same-is}
-use Rattle.performing.specs.Told.{TellsOne, Tells}
+use Rattle.replay_words.specs.Encoding.{stretch, updateWords, foundWords, listedWords, acceptedAnswer, answerOf, told, spared, Spares}
+use Rattle.replay_words.specs.Decoding.{same-is}
+use Rattle.replay_call.specs.Told.{TellsOne, Tells}
 
 -- the answer by five words
 abbrev byWords : Call → List ℤ → List ℤ → Answer

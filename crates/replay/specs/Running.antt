@@ -14,9 +14,9 @@ use Rattle.book.specs.Promises.{partOf, capacityAt, OnlyPart}
 use Rattle.book.specs.LentPart.{whole-part, lent-back}
 use Rattle.form.specs.Local.{Alike}
 use Rattle.history.specs.History.{Happens, by-post, by-withdraw, by-query, by-listing, History, finished, next}
-use Rattle.encoding.specs.Encoding.{nextCall, stretch, fitting, runnable}
-use Rattle.encoding.specs.Decoding.{runnable-none, runnable-next, next-words}
-use Rattle.performing.specs.Told.{TellsOne, Tells, Performed, Ready, Step}
+use Rattle.replay_words.specs.Encoding.{nextCall, stretch, fitting, runnable}
+use Rattle.replay_words.specs.Decoding.{runnable-none, runnable-next, next-words}
+use Rattle.replay_call.specs.Told.{TellsOne, Tells, Performed, Ready, Step}
 use Rattle.replay.specs.Promises.{Made}
 
 -- ---- one call stays in the part

@@ -17,7 +17,7 @@ fn run(table: &mut [i64], start: usize, calls: &[i64], answers: &mut [i64]) -> u
     let mut n: usize = 0;
     let mut at: usize = 0;
     loop {
-        let used = performing::one_call(table, start, &calls[4 * n..], &mut answers[at..]);
+        let used = replay_call::one_call(table, start, &calls[4 * n..], &mut answers[at..]);
         if used < 1 {
             return n;
         }

@@ -52,11 +52,11 @@ fn seam(all: &[i64; 192]) -> usize {
     64
 }
 
-fn meeting_same(cause: i64, all: &[i64; 192], m: meet::Met) -> bool {
+fn meeting_same(cause: i64, all: &[i64; 192], m: meet_books::Met) -> bool {
     let i = seam(all);
     let j = scan::next_piece(all, scan::rate(all, i));
     match m {
-        meet::Met::Meeting {
+        meet_books::Met::Meeting {
             u,
             v,
             steps: _,
@@ -71,7 +71,7 @@ fn meeting_same(cause: i64, all: &[i64; 192], m: meet::Met) -> bool {
             }
             v == scan::number(all, j)
         }
-        meet::Met::Declined(c) => {
+        meet_books::Met::Declined(c) => {
             if cause == 0 {
                 return false;
             }
@@ -89,26 +89,38 @@ pub(crate) fn meeting(
     r: &[i64; 192],
     t: Tally,
 ) -> Tally {
-    let m = meet::meet(table, from, table, to);
+    let m = meet_books::meet(table, from, table, to);
     let all = both(l, r);
     counted(t, 0, 0, 1, meeting_same(meet_cause(l, r), &all, m))
 }
 
-fn is_no_pair(m: meet::Met) -> bool {
+fn is_no_pair(m: meet_books::Met) -> bool {
     match m {
-        meet::Met::Meeting {
+        meet_books::Met::Meeting {
             u: _,
             v: _,
             steps: _,
             hl: _,
             hr: _,
         } => false,
-        meet::Met::Declined(c) => c == 3,
+        meet_books::Met::Declined(c) => c == 3,
     }
 }
 
 // At `to` there is no book.
 pub(crate) fn no_meeting(table: &[i64], from: usize, to: usize, t: Tally) -> Tally {
-    let a = counted(t, 0, 0, 1, is_no_pair(meet::meet(table, from, table, to)));
-    counted(a, 0, 0, 1, is_no_pair(meet::meet(table, to, table, from)))
+    let a = counted(
+        t,
+        0,
+        0,
+        1,
+        is_no_pair(meet_books::meet(table, from, table, to)),
+    );
+    counted(
+        a,
+        0,
+        0,
+        1,
+        is_no_pair(meet_books::meet(table, to, table, from)),
+    )
 }

@@ -5,7 +5,7 @@ use mir.Val.{SFits}
 use mir.Facts.{toZ-ofZ}
 use native.Mathlib.Omega.{arith}
 use lib.ListN.{length-set}
-use Rattle.meet.specs.Promises.{meetAnswer}
+use Rattle.meet_books.specs.Promises.{meetAnswer}
 use Rattle.answers.specs.Promises.{meetNumber, metOf}
 use Rattle.answers.specs.Answers.{tells, four}
 use borrow.Author.Needs.{needs}

@@ -1,0 +1,89 @@
+-- `check_offers::offers` meets its contract.
+use borrow.Author.Tests.{not-true, not-false}
+use Rattle.check_offers.specs.OfferWays.{offers-none, offers-no-header, offers-no-order, offers-no-envelope, offers-all}
+use borrow.Author.Needs.{needs}
+use Rattle.check_offers.proofs.offers.Statement.{statement}
+use Rattle.check_offers.proofs.offers.Tie as tie
+
+header-requires : tie.Need-header-requires
+header-requires c κs = search needs
+
+returns : tie.Need-returns
+returns c = offers-none (c .before .if1 .taken) (c .header .ensures)
+
+number-at-requires : tie.Need-number-at-requires
+number-at-requires c κs = search needs
+
+number-at-requires-2 : tie.Need-number-at-requires-2
+number-at-requires-2 c κs = search needs
+
+header-requires-2 : tie.Need-header-requires-2
+header-requires-2 c κs = search needs
+
+returns-2 : tie.Need-returns-2
+returns-2 c =
+    let at-number-at2 = c .before .before in
+    let at-number-at = at-number-at2 .before in
+    let at-if1 = at-number-at .before in
+    offers-no-header (at-if1 .if1 .left) (at-number-at .number-at .ensures) (at-number-at2 .number-at2 .ensures) (c .before .header2 .ensures)
+    (not-true _ (c .if2 .taken))
+
+ordered-requires : tie.Need-ordered-requires
+ordered-requires c κs = search needs
+
+returns-3 : tie.Need-returns-3
+returns-3 c =
+    let at-header2 = c .before .before .before .before in
+    let at-number-at2 = at-header2 .before in
+    let at-number-at = at-number-at2 .before in
+    let at-if1 = at-number-at .before in
+    offers-no-order (at-if1 .if1 .left) (at-number-at .number-at .ensures) (at-number-at2 .number-at2 .ensures) (at-header2 .header2 .ensures)
+    (c .before .ordered .ensures) (not-true _ (c .if3 .taken))
+
+enveloped-requires : tie.Need-enveloped-requires
+enveloped-requires c κs = search needs
+
+returns-4 : tie.Need-returns-4
+returns-4 c =
+    let at-ordered = c .before .before .before .before in
+    let at-header2 = at-ordered .before .before .before in
+    let at-number-at2 = at-header2 .before in
+    let at-number-at = at-number-at2 .before in
+    let at-if1 = at-number-at .before in
+    offers-no-envelope (at-if1 .if1 .left) (at-number-at .number-at .ensures) (at-number-at2 .number-at2 .ensures) (at-header2 .header2 .ensures)
+    (at-ordered .ordered .ensures) (c .before .enveloped .ensures) (not-true _ (c .if4 .taken))
+
+fill-requires : tie.Need-fill-requires
+fill-requires c κs = search needs
+
+returns-5 : tie.Need-returns-5
+returns-5 c =
+    let at-if4 = c .before .before in
+    let at-enveloped = at-if4 .before in
+    let at-if3 = at-enveloped .before .before in
+    let at-ordered = at-if3 .before in
+    let at-if2 = at-ordered .before .before in
+    let at-header2 = at-if2 .before in
+    let at-number-at2 = at-header2 .before in
+    let at-number-at = at-number-at2 .before in
+    let at-if1 = at-number-at .before in
+    offers-all (at-if1 .if1 .left) (at-number-at .number-at .ensures) (at-number-at2 .number-at2 .ensures) (at-header2 .header2 .ensures)
+    (at-ordered .ordered .ensures) (at-enveloped .enveloped .ensures) (not-false _ (at-if2 .if2 .left)) (not-false _ (at-if3 .if3 .left))
+    (not-false _ (at-if4 .if4 .left)) (c .fill .ensures)
+
+pub offers-spec : {M : Type 1} → statement M
+offers-spec =
+    tie.close
+    (tie.spec
+    header-requires
+    returns
+    number-at-requires
+    number-at-requires-2
+    header-requires-2
+    returns-2
+    ordered-requires
+    returns-3
+    enveloped-requires
+    returns-4
+    fill-requires
+    returns-5)

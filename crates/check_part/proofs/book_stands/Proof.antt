@@ -1,0 +1,69 @@
+-- `check_part::book_stands` meets its contract.
+use native.Mathlib.Omega.{arith}
+use borrow.Author.Tests.{not-true, not-false}
+use Rattle.table.specs.Fields.{liveCountWord, mostSlots}
+use Rattle.table.specs.Words.{word, upTo-most}
+use Rattle.check_part.specs.Audits.{audits-no-slot, audits-no-free, audits-no-offers, audits-all}
+use borrow.Author.Needs.{needs}
+use Rattle.check_part.proofs.book_stands.Statement.{statement}
+use Rattle.check_part.proofs.book_stands.Tie as tie
+
+capacity-requires : tie.Need-capacity-requires
+capacity-requires c κs = search needs
+
+returns : tie.Need-returns
+returns c = audits-no-slot (c .before .capacity .ensures) (c .if1 .taken)
+
+number-at-requires : tie.Need-number-at-requires
+number-at-requires c κs = search needs
+
+free-slots-requires : tie.Need-free-slots-requires
+free-slots-requires c κs = search needs
+
+returns-2 : tie.Need-returns-2
+returns-2 c = audits-no-free (c .before .before .number-at .ensures) (c .before .free-slots .ensures) (not-true _ (c .if2 .taken))
+
+offers-requires : tie.Need-offers-requires
+offers-requires c κs = search needs
+
+returns-3 : tie.Need-returns-3
+returns-3 c =
+    let at-free-slots = c .before .before .before .before in
+    let at-number-at = at-free-slots .before in
+    audits-no-offers (at-number-at .number-at .ensures) (at-free-slots .free-slots .ensures) (c .before .offers .ensures) (not-true _ (c .if3 .taken))
+
+cast-numbers : tie.Need-cast-numbers
+cast-numbers c = search needs
+
+numbers-requires : tie.Need-numbers-requires
+numbers-requires c κs =
+    let at-number-at = c .before .before .before .before .before .before in
+    let entry = at-number-at .before .before .before in
+    (search needs, omega (arith, at-number-at .number-at .ensures, upTo-most mostSlots (word (entry .args .part .now) liveCountWord)))
+
+returns-4 : tie.Need-returns-4
+returns-4 c =
+    let at-if3 = c .before .before in
+    let at-offers = at-if3 .before in
+    let at-if2 = at-offers .before .before in
+    let at-free-slots = at-if2 .before in
+    let at-number-at = at-free-slots .before in
+    let at-if1 = at-number-at .before in
+    let at-capacity = at-if1 .before in
+    audits-all (at-number-at .number-at .ensures) (at-free-slots .free-slots .ensures) (at-offers .offers .ensures) (at-capacity .capacity .ensures)
+    (λ h. omega (arith, h, at-if1 .if1 .left)) (not-false _ (at-if2 .if2 .left)) (not-false _ (at-if3 .if3 .left)) (c .numbers .ensures)
+
+pub book-stands-spec : {M : Type 1} → statement M
+book-stands-spec =
+    tie.close
+    (tie.spec
+    capacity-requires
+    returns
+    number-at-requires
+    free-slots-requires
+    returns-2
+    offers-requires
+    returns-3
+    cast-numbers
+    numbers-requires
+    returns-4)

@@ -1,0 +1,66 @@
+-- `counter_columns::read_field` meets its contract: the columns hold a number exactly where they are the one candidate's text.
+use mathlib.Core.Path.{_∙_, sym}
+use mathlib.Core.Bool.{true≢false}
+use native.Mathlib.Omega.{arith}
+use lib.ListN.{length-append, length-take}
+use mir.Facts.{toZ-ofZ}
+use mir.Syntax.{w64}
+use mir.Val.{SFits}
+use borrow.Author.Needs.{needs}
+use Rattle.counter_columns.specs.Reading.{holds-none, candidate, held}
+use Rattle.counter_columns.proofs.read_field.Statement.{statement}
+use Rattle.counter_columns.proofs.read_field.Tie as tie
+
+returns : tie.Need-returns
+returns c z h = holds-none _ z (c .if1 .taken) h
+
+number-in-requires : tie.Need-number-in-requires
+number-in-requires c κs = search needs
+
+array-borrow-prefix-text : tie.Need-array-borrow-prefix-text
+array-borrow-prefix-text c = search needs
+
+slice-aggregate-justify : tie.Need-slice-aggregate-justify
+slice-aggregate-justify c = simp length-take (omega (arith, c .before .before .before .before .pre))
+
+justify-requires : tie.Need-justify-requires
+justify-requires c κs = search needs
+
+array-share-prefix-text : tie.Need-array-share-prefix-text
+array-share-prefix-text c = simp length-append (omega (arith, c .before .before .before .before .before .before .pre, simp length-take at (c .before .justify .kept .0)))
+
+slice-aggregate-same : tie.Need-slice-aggregate-same
+slice-aggregate-same c = simp (length-take, length-append) (omega (arith, c .before .before .before .before .before .before .before .pre, simp length-take at (c .before .before .justify .kept .0)))
+
+same-requires : tie.Need-same-requires
+same-requires c κs = search needs
+
+returns-2 : tie.Need-returns-2
+returns-2 c =
+    let f : SFits w64 (c .before .before .before .before .before .before .number-in .result) = record { sfits = c .before .before .before .before .before .before .number-in .ok } in
+    simp (toZ-ofZ, f)
+    (c .before .same .ensures .0 (c .if2 .taken)
+    ∙ candidate _ _ _ _ (c .before .before .before .before .before .before .before .if1 .left) (omega (arith, c .before .before .before .before .before .before .before .before .before .pre)) (c .before .before .before .before .before .before .number-in .ensures) (c .before .before .before .before .justify .kept .0)
+    (simp (toZ-ofZ, f) at (c .before .before .before .before .justify .ensures)))
+
+returns-3 : tie.Need-returns-3
+returns-3 c z h =
+    let f : SFits w64 (c .before .before .before .before .before .before .number-in .result) = record { sfits = c .before .before .before .before .before .before .number-in .ok } in
+    absurd (true≢false (sym (c .before .same .ensures .1
+    (held _ _ _ _ (c .before .before .before .before .before .before .before .if1 .left) (omega (arith, c .before .before .before .before .before .before .before .before .before .pre)) (c .before .before .before .before .before .before .number-in .ensures) (c .before .before .before .before .justify .kept .0)
+    (simp (toZ-ofZ, f) at (c .before .before .before .before .justify .ensures)) z h)) ∙ c .if2 .left))
+
+pub read-field-spec : {M : Type 1} → statement M
+read-field-spec =
+    tie.close
+    (tie.spec
+    returns
+    number-in-requires
+    array-borrow-prefix-text
+    slice-aggregate-justify
+    justify-requires
+    array-share-prefix-text
+    slice-aggregate-same
+    same-requires
+    returns-2
+    returns-3)

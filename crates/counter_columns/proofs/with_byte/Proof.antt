@@ -1,0 +1,26 @@
+-- `counter_columns::with_byte` meets its contract: by where the byte lies.
+use borrow.Author.Needs.{needs}
+use Rattle.counter_columns.specs.Values.{taken-below, taken-above, taken-inside}
+use Rattle.counter_columns.proofs.with_byte.Statement.{statement}
+use Rattle.counter_columns.proofs.with_byte.Tie as tie
+
+returns : tie.Need-returns
+returns c = taken-below _ _ (c .if1 .taken)
+
+returns-2 : tie.Need-returns-2
+returns-2 c = taken-above _ _ (c .before .if1 .left) (c .if2 .taken)
+
+mul-result : tie.Need-mul-result
+mul-result c = search needs
+
+cast-result : tie.Need-cast-result
+cast-result c = search needs
+
+add-result : tie.Need-add-result
+add-result c = search needs
+
+returns-3 : tie.Need-returns-3
+returns-3 c = taken-inside _ _ (c .before .if1 .left) (c .if2 .left)
+
+pub with-byte-spec : {M : Type 1} → statement M
+with-byte-spec = tie.close (tie.spec returns returns-2 mul-result cast-result add-result returns-3)

@@ -1,0 +1,23 @@
+-- What is promised of printing, whatever the way. What a column gets that is too narrow for its number is free; where one number of an
+-- answer's line does not fit, the whole line is free.
+use Prim.Native.Nat.{ℕ, _+_}
+use mathlib.Core.Path.{_≡_}
+use mathlib.Core.List.{List}
+use lib.ListN.{length, take, drop}
+use lib.IntN.{ℤ}
+use Rattle.counter_print.specs.Texts.{decimal, justified, FitsIn, answerLine}
+
+-- A number fills a whole column.
+pub record Justifies (value : ℤ) (before after : List ℕ) : Type 0 where
+  pub text : FitsIn (length before) value → after ≡ justified (length before) (decimal value)
+
+-- A number fills the columns from `from` on, and the other bytes stay.
+pub record Puts (from width : ℕ) (value : ℤ) (before after : List ℕ) : Type 0 where
+  pub text : FitsIn width value → take width (drop from after) ≡ justified width (decimal value)
+  pub left : take from after ≡ take from before
+  pub right : drop (from + width) after ≡ drop (from + width) before
+
+-- A line fills the first 39 bytes, and the other bytes stay.
+pub record Answers (letter : ℕ) (refusal offer value second : ℤ) (before after : List ℕ) : Type 0 where
+  pub text : FitsIn 3 refusal → FitsIn 6 offer → FitsIn 14 value → FitsIn 14 second → take 39 after ≡ answerLine letter refusal offer value second
+  pub rest : drop 39 after ≡ drop 39 before

@@ -1,0 +1,77 @@
+-- `counter_reply::piece_line` meets its contract: the line fills the part behind the lines before it.
+use mir.Facts.{toZ-ofZ}
+use mir.Syntax.{w64}
+use mir.Val.{SFits}
+use Rattle.counter_reply.specs.Pieces.{piece-line}
+use borrow.Author.Needs.{needs}
+use Rattle.counter_reply.proofs.piece_line.Statement.{statement}
+use Rattle.counter_reply.proofs.piece_line.Tie as tie
+
+mul-at : tie.Need-mul-at
+mul-at c = search needs
+
+mul-word-at : tie.Need-mul-word-at
+mul-word-at c = search needs
+
+word-at-requires : tie.Need-word-at-requires
+word-at-requires c κs = search needs
+
+mul-word-at-2 : tie.Need-mul-word-at-2
+mul-word-at-2 c = search needs
+
+add-word-at : tie.Need-add-word-at
+add-word-at c = search needs
+
+word-at-requires-2 : tie.Need-word-at-requires-2
+word-at-requires-2 c κs = search needs
+
+mul-word-at-3 : tie.Need-mul-word-at-3
+mul-word-at-3 c = search needs
+
+add-word-at-2 : tie.Need-add-word-at-2
+add-word-at-2 c = search needs
+
+word-at-requires-3 : tie.Need-word-at-requires-3
+word-at-requires-3 c κs = search needs
+
+sub-answer-line : tie.Need-sub-answer-line
+sub-answer-line c = search needs
+
+part-answer-line-start : tie.Need-part-answer-line-start
+part-answer-line-start c = search needs
+
+part-answer-line-end : tie.Need-part-answer-line-end
+part-answer-line-end c = search needs
+
+answer-line-requires : tie.Need-answer-line-requires
+answer-line-requires c κs = search needs
+
+same-length : tie.Need-same-length
+same-length c = search needs
+
+returns : tie.Need-returns
+returns c =
+    let a : SFits w64 (c .before .before .before .before .before .before .word-at .result) = record { sfits = c .before .before .before .before .before .before .word-at .ok } in
+    let b : SFits w64 (c .before .before .before .before .before .word-at2 .result) = record { sfits = c .before .before .before .before .before .word-at2 .ok } in
+    let d : SFits w64 (c .before .before .before .before .word-at3 .result) = record { sfits = c .before .before .before .before .word-at3 .ok } in
+    piece-line (c .before .before .before .before .before .before .before .before .pre .0) (c .before .before .before .before .before .before .word-at .ensures) (c .before .before .before .before .before .word-at2 .ensures) (c .before .before .before .before .word-at3 .ensures) (simp (toZ-ofZ, a, b, d) at (c .before .before .answer-line .ensures))
+
+pub piece-line-spec : {M : Type 1} → statement M
+piece-line-spec =
+    tie.close
+    (tie.spec
+    mul-at
+    mul-word-at
+    word-at-requires
+    mul-word-at-2
+    add-word-at
+    word-at-requires-2
+    mul-word-at-3
+    add-word-at-2
+    word-at-requires-3
+    sub-answer-line
+    part-answer-line-start
+    part-answer-line-end
+    answer-line-requires
+    same-length
+    returns)

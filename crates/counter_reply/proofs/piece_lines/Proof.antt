@@ -1,0 +1,50 @@
+-- `counter_reply::piece_lines` meets its contract: the invariant is the contract at the current piece.
+use Prim.Native.Nat.{_-_, _≤_}
+use mathlib.Core.Path.{_≡_}
+use native.Mathlib.Omega.{arith}
+use Rattle.counter_reply.specs.Pieces.{PiecesTo, pieces-none, pieces-more}
+use Rattle.counter_reply.proofs.piece_lines.Statement.{statement}
+use Rattle.counter_reply.proofs.piece_lines.Tie as tie
+
+abbrev Inv-loop : tie.InvT-loop
+Inv-loop pieces count out₀ i₀ out i = PiecesTo pieces out₀ out i × (i ≤ count)
+
+abbrev μ-loop : tie.MeasureT-loop
+μ-loop pieces count out₀ i₀ out i = count - i
+
+loop-holds : tie.Need-loop-holds Inv-loop μ-loop
+loop-holds c = (pieces-none _ _, omega arith)
+
+piece-line-requires : tie.Need-piece-line-requires Inv-loop μ-loop
+piece-line-requires c κs = (omega (arith, c .before .before .loop .inv .0 .long, c .before .before .before .before .pre .1, c .before .loop-test .taken), omega (arith, c .before .before .before .before .pre .2, c .before .loop-test .taken))
+
+add-i : tie.Need-add-i Inv-loop μ-loop
+add-i c = omega arith
+
+loop-less : tie.Need-loop-less Inv-loop μ-loop
+loop-less c = omega arith
+
+loop-again : tie.Need-loop-again Inv-loop μ-loop
+loop-again c = (pieces-more (omega (arith, c .before .before .before .before .before .before .before .pre .0, c .before .before .before .before .loop-test .taken)) (c .before .before .before .before .before .loop .inv .0) (c .before .before .piece-line .ensures) (c .before .before .piece-line .kept .1 .1 .0), omega (arith, c .before .before .before .before .loop-test .taken))
+
+same-length : tie.Need-same-length Inv-loop μ-loop
+same-length c = c .before .loop .inv .0 .long
+
+returns : tie.Need-returns Inv-loop μ-loop
+returns c =
+    let e : c .before .loop .i ≡ c .before .before .before .args .count = omega (arith, c .loop-test .left, c .before .loop .inv .1) in
+    rw (← e) (c .before .loop .inv .0)
+
+pub piece-lines-spec : {M : Type 1} → statement M
+piece-lines-spec =
+    tie.close
+    (tie.spec
+    Inv-loop
+    μ-loop
+    loop-holds
+    piece-line-requires
+    add-i
+    loop-less
+    loop-again
+    same-length
+    returns)

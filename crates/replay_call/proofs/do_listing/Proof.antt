@@ -1,0 +1,43 @@
+-- `replay_call::do_listing` meets its contract: what the call promises on the output lent to it, and its answer written.
+use mathlib.Core.Path.{refl}
+use Rattle.replay_call.specs.Told.{lists-to}
+use borrow.Author.Needs.{needs}
+use Rattle.replay_call.proofs.do_listing.Statement.{statement}
+use Rattle.replay_call.proofs.do_listing.Tie as tie
+
+add-end : tie.Need-add-end
+add-end c = search needs
+
+sub-listing : tie.Need-sub-listing
+sub-listing c = search needs
+
+part-listing-start : tie.Need-part-listing-start
+part-listing-start c = search needs
+
+part-listing-end : tie.Need-part-listing-end
+part-listing-end c = search needs
+
+listing-requires : tie.Need-listing-requires
+listing-requires c κs = search needs
+
+tell-listed-requires : tie.Need-tell-listed-requires
+tell-listed-requires c κs = search needs
+
+same-length : tie.Need-same-length
+same-length c = search needs
+
+returns : tie.Need-returns
+returns c = let a = c .before .before .before .before .before .before .args in lists-to (a .out .now) (a .room) (c .before .before .before .before .before .before .pre) (c .before .before .before .before .listing .ensures) refl (c .before .tell-listed .ensures)
+
+pub do-listing-spec : {M : Type 1} → statement M
+do-listing-spec =
+    tie.close
+    (tie.spec
+    add-end
+    sub-listing
+    part-listing-start
+    part-listing-end
+    listing-requires
+    tell-listed-requires
+    same-length
+    returns)

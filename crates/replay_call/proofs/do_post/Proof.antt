@@ -1,0 +1,25 @@
+-- `replay_call::do_post` meets its contract: what the call promises, and its answer written.
+use mir.Facts.{toZ-ofZ}
+use Rattle.replay_call.specs.Told.{posts}
+use borrow.Author.Needs.{needs}
+use Rattle.replay_call.proofs.do_post.Statement.{statement}
+use Rattle.replay_call.proofs.do_post.Tie as tie
+
+post-requires : tie.Need-post-requires
+post-requires c κs = search needs
+
+tell-update-requires : tie.Need-tell-update-requires
+tell-update-requires c κs = search needs
+
+same-length : tie.Need-same-length
+same-length c = search needs
+
+same-length-2 : tie.Need-same-length-2
+same-length-2 c = search needs
+
+returns : tie.Need-returns
+returns c = let a = c .before .before .before .before .before .before .args in let f = c .before .before .before .before .before .before .fits in posts (a .out .now) (c .before .before .before .before .before .before .pre) (a .number) (a .rate) (a .base) (simp (toZ-ofZ, f .number, f .rate, f .base) at (c .before .before .before .before .post .ensures)) (c .before .tell-update .ensures)
+
+pub do-post-spec : {M : Type 1} → statement M
+do-post-spec =
+    tie.close (tie.spec post-requires tell-update-requires same-length same-length-2 returns)

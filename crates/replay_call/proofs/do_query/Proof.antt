@@ -1,0 +1,21 @@
+-- `replay_call::do_query` meets its contract: what the call promises, and its answer written.
+use mir.Facts.{toZ-ofZ}
+use Rattle.replay_call.specs.Told.{asks}
+use borrow.Author.Needs.{needs}
+use Rattle.replay_call.proofs.do_query.Statement.{statement}
+use Rattle.replay_call.proofs.do_query.Tie as tie
+
+query-requires : tie.Need-query-requires
+query-requires c κs = search needs
+
+tell-found-requires : tie.Need-tell-found-requires
+tell-found-requires c κs = search needs
+
+same-length : tie.Need-same-length
+same-length c = search needs
+
+returns : tie.Need-returns
+returns c = let a = c .before .before .before .before .args in let f = c .before .before .before .before .fits in asks (a .out .now) (c .before .before .before .before .pre) (a .load) (simp (toZ-ofZ, f .load) at (c .before .before .before .query .ensures)) (c .before .tell-found .ensures)
+
+pub do-query-spec : {M : Type 1} → statement M
+do-query-spec = tie.close (tie.spec query-requires tell-found-requires same-length returns)

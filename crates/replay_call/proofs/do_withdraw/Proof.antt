@@ -1,0 +1,25 @@
+-- `replay_call::do_withdraw` meets its contract: what the call promises, and its answer written.
+use mir.Facts.{toZ-ofZ}
+use Rattle.replay_call.specs.Told.{withdraws}
+use borrow.Author.Needs.{needs}
+use Rattle.replay_call.proofs.do_withdraw.Statement.{statement}
+use Rattle.replay_call.proofs.do_withdraw.Tie as tie
+
+withdraw-requires : tie.Need-withdraw-requires
+withdraw-requires c κs = search needs
+
+tell-update-requires : tie.Need-tell-update-requires
+tell-update-requires c κs = search needs
+
+same-length : tie.Need-same-length
+same-length c = search needs
+
+same-length-2 : tie.Need-same-length-2
+same-length-2 c = search needs
+
+returns : tie.Need-returns
+returns c = let a = c .before .before .before .before .before .before .args in let f = c .before .before .before .before .before .before .fits in withdraws (a .out .now) (c .before .before .before .before .before .before .pre) (a .number) (simp (toZ-ofZ, f .number) at (c .before .before .before .before .withdraw .ensures)) (c .before .tell-update .ensures)
+
+pub do-withdraw-spec : {M : Type 1} → statement M
+do-withdraw-spec =
+    tie.close (tie.spec withdraw-requires tell-update-requires same-length same-length-2 returns)

@@ -1,0 +1,126 @@
+-- `replay_call::perform` meets its contract: by the kind of call.
+use mathlib.Core.Path.{refl, ap, subst}
+use Prim.Native.Nat.{_≤_}
+use native.Mathlib.Omega.{arith}
+use lib.ListN.{length}
+use mir.Syntax.{w64}
+use mir.Val.{SFits}
+use mir.Facts.{toZ-ofZ}
+use mathlib.Core.Option.{none}
+use Rattle.replay_words.specs.Encoding.{fitting}
+use Rattle.replay_words.specs.Decoding.{asked}
+use Rattle.replay_call.specs.Told.{call-fits, performs, never}
+use borrow.Author.Needs.{needs}
+use Rattle.replay_call.proofs.perform.Statement.{statement}
+use Rattle.replay_call.proofs.perform.Tie as tie
+
+enum-known-next : tie.Need-enum-known-next
+enum-known-next c = search needs
+
+do-post-requires : tie.Need-do-post-requires
+do-post-requires c κs = call-fits (ap asked (c .before .before .before .next .given .1)) (length (c .before .before .before .before .before .args .out .now)) (c .before .before .before .before .before .pre)
+
+enum-known-next-2 : tie.Need-enum-known-next-2
+enum-known-next-2 c = search needs
+
+do-withdraw-requires : tie.Need-do-withdraw-requires
+do-withdraw-requires c κs = call-fits (ap asked (c .before .before .before .next2 .given .1)) (length (c .before .before .before .before .before .args .out .now)) (c .before .before .before .before .before .pre)
+
+enum-known-next-3 : tie.Need-enum-known-next-3
+enum-known-next-3 c = search needs
+
+do-query-requires : tie.Need-do-query-requires
+do-query-requires c κs = call-fits (ap asked (c .before .before .before .next3 .given .1)) (length (c .before .before .before .before .before .args .out .now)) (c .before .before .before .before .before .pre)
+
+enum-known-next-4 : tie.Need-enum-known-next-4
+enum-known-next-4 c = search needs
+
+do-listing-requires : tie.Need-do-listing-requires
+do-listing-requires c κs = call-fits (ap asked (c .before .before .before .next4 .given .1)) (length (c .before .before .before .before .before .args .out .now)) (c .before .before .before .before .before .pre)
+
+add-result : tie.Need-add-result
+add-result c = omega (arith, call-fits (ap asked (c .before .before .before .before .before .next4 .given .1)) (length (c .before .before .before .before .before .before .before .args .out .now)) (c .before .before .before .before .before .before .before .pre))
+
+enum-told : tie.Need-enum-told
+enum-told c = search needs
+
+same-length : tie.Need-same-length
+same-length c = search needs
+
+same-length-2 : tie.Need-same-length-2
+same-length-2 c = search needs
+
+returns : tie.Need-returns
+returns c =
+    let v = c .before .before .before .before .before .before .next .given .0 in
+    let k = c .before .before .before .before .before .known-told .given in
+    let f0 : SFits w64 (v .0) = record { sfits = k .0 .1 } in
+    let f1 : SFits w64 (v .1 .0) = record { sfits = k .1 .0 .1 } in
+    let f2 : SFits w64 (v .1 .1 .0) = record { sfits = k .1 .1 .0 .1 } in
+    performs (ap asked (c .before .before .before .before .before .before .next .given .1)) (simp (toZ-ofZ, f0, f1, f2) at (c .before .before .do-post .ensures)) refl
+
+same-length-3 : tie.Need-same-length-3
+same-length-3 c = search needs
+
+same-length-4 : tie.Need-same-length-4
+same-length-4 c = search needs
+
+returns-2 : tie.Need-returns-2
+returns-2 c =
+    let v = c .before .before .before .before .before .before .next2 .given .0 in
+    let k = c .before .before .before .before .before .known-told2 .given in
+    let f0 : SFits w64 (v .0) = record { sfits = k .0 .1 } in
+    performs (ap asked (c .before .before .before .before .before .before .next2 .given .1)) (simp (toZ-ofZ, f0) at (c .before .before .do-withdraw .ensures)) refl
+
+same-length-5 : tie.Need-same-length-5
+same-length-5 c = search needs
+
+same-length-6 : tie.Need-same-length-6
+same-length-6 c = search needs
+
+returns-3 : tie.Need-returns-3
+returns-3 c =
+    let v = c .before .before .before .before .before .next3 .given .0 in
+    let k = c .before .before .before .before .known-told3 .given in
+    let f0 : SFits w64 (v .0) = record { sfits = k .0 .1 } in
+    performs (ap asked (c .before .before .before .before .before .next3 .given .1)) (simp (toZ-ofZ, f0) at (c .before .do-query .ensures)) refl
+
+same-length-7 : tie.Need-same-length-7
+same-length-7 c = search needs
+
+same-length-8 : tie.Need-same-length-8
+same-length-8 c = search needs
+
+returns-4 : tie.Need-returns-4
+returns-4 c = performs (ap asked (c .before .before .before .before .before .next4 .given .1)) (c .before .do-listing .ensures) refl
+
+returns-5 : tie.Need-returns-5
+returns-5 c = absurd (never (ap asked (c .enum-told .given .1)) (c .before .before .args .out .now) (c .before .before .pre))
+
+pub perform-spec : {M : Type 1} → statement M
+perform-spec =
+    tie.close
+    (tie.spec
+    enum-known-next
+    do-post-requires
+    enum-known-next-2
+    do-withdraw-requires
+    enum-known-next-3
+    do-query-requires
+    enum-known-next-4
+    do-listing-requires
+    add-result
+    enum-told
+    same-length
+    same-length-2
+    returns
+    same-length-3
+    same-length-4
+    returns-2
+    same-length-5
+    same-length-6
+    returns-3
+    same-length-7
+    same-length-8
+    returns-4
+    returns-5)
