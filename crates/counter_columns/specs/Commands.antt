@@ -4,6 +4,7 @@ use mathlib.Core.Path.{_≡_, refl, sym, _∙_, subst}
 use mathlib.Core.Logic.{_≢_, _↔_}
 use mathlib.Core.Bool.{cond}
 use mathlib.Core.List.{List, List-discrete}
+use mathlib.Core.Option.{Option, some}
 use native.Mathlib.Decide.{decLe, ℕ-discrete}
 use native.Mathlib.Omega.{arith}
 use lib.ListN.{length, replicate}
@@ -21,16 +22,16 @@ use Rattle.counter_columns.specs.Reading.{Holds, FieldRead, holds-told}
 use Rattle.counter_print.specs.Sections.{between}
 use Rattle.counter_columns.specs.Lines.{letter, Shape, PostColumns, LastColumns, line-shape, shape-line, line-length}
 
--- The command of a call. A listing's room is no part of it.
-abbrev pub asCommand : Call → Command
-asCommand (post number rate base) = Post number rate base
-asCommand (withdraw number) = Withdraw number
-asCommand (query load) = Query load
-asCommand (listing room) = Listing
+-- The command of a call, where it has one. A listing's room is no part of it.
+abbrev pub asCommand : Call → Option Command
+asCommand (post number rate base) = some (Post number rate base)
+asCommand (withdraw number) = some (Withdraw number)
+asCommand (query load) = some (Query load)
+asCommand (listing room) = some Listing
 
 -- The command is a call's exactly where the line is that call's.
 abbrev pub Parsed : List ℕ → Command → Type 0
-Parsed line r = ((k : Call) → (r ≡ asCommand k) ↔ IsLineOf k line)
+Parsed line r = ((k : Call) → (some r ≡ asCommand k) ↔ IsLineOf k line)
 
 -- What stands in the last columns, the ones before them blank.
 abbrev pub LastRead : List ℕ → Field → Type 0
@@ -45,7 +46,7 @@ decode line =
     (cond (eqb (letter line) 87) (Withdraw (told (between 15 27 line)))
     (cond (eqb (letter line) 81) (Query (told (between 15 27 line))) Listing))
 
-shape-tells : (k : Call) (line : List ℕ) → Shape k line → decode line ≡ asCommand k
+shape-tells : (k : Call) (line : List ℕ) → Shape k line → some (decode line) ≡ asCommand k
 unfolding decode
 shape-tells (post n r b) line s = rw (s .0, holds-told (between 1 7 line) n (s .1 .first), holds-told (between 7 15 line) r (s .1 .second), holds-told (between 15 27 line) b (s .1 .third))
 shape-tells (withdraw n) line s = rw (s .0, holds-told (between 15 27 line) n (s .1 .last))
@@ -62,26 +63,30 @@ someCall (Query q) = query q
 someCall Listing = listing 0
 someCall Unreadable = listing 0
 
-to-some : (k : Call) {line : List ℕ} → IsLineOf k line → IsLineOf (someCall (asCommand k)) line
-unfolding someCall lineOf
-to-some (post n r b) i = i
-to-some (withdraw n) i = i
-to-some (query q) i = i
-to-some (listing room) i = record { fits = tt; text = i .text }
+one-command : {a b : Command} → some a ≡ some b → a ≡ b
+one-command e = cc
 
-from-some : (k : Call) {line : List ℕ} → IsLineOf (someCall (asCommand k)) line → IsLineOf k line
-unfolding someCall lineOf
-from-some (post n r b) i = i
-from-some (withdraw n) i = i
-from-some (query q) i = i
-from-some (listing room) i = record { fits = tt; text = i .text }
+-- the line of a call is that of its command
+SameLine : Command → Call → List ℕ → Type 0
+SameLine m k line = IsLineOf k line ↔ IsLineOf (someCall m) line
 
-pub parsed : (k : Call) (line : List ℕ) → IsLineOf k line → Parsed line (asCommand k)
-parsed k line i j = (λ e. from-some j (rw e at (to-some k i)), λ i′. sym (shape-tells k line (line-shape i)) ∙ shape-tells j line (line-shape i′))
+some-line : (k : Call) {m : Command} (line : List ℕ) → some m ≡ asCommand k → SameLine m k line
+unfolding SameLine someCall lineOf
+some-line (post n r b) line e = subst (λ (m : Command). SameLine m (post n r b) line) (sym (one-command e)) (λ i. i, λ i. i)
+some-line (withdraw n) line e = subst (λ (m : Command). SameLine m (withdraw n) line) (sym (one-command e)) (λ i. i, λ i. i)
+some-line (query q) line e = subst (λ (m : Command). SameLine m (query q) line) (sym (one-command e)) (λ i. i, λ i. i)
+some-line (listing room) line e =
+    subst (λ (m : Command). SameLine m (listing room) line) (sym (one-command e))
+    (λ i. record { fits = tt; text = i .text }, λ i. record { fits = tt; text = i .text })
+
+pub parsed : (k : Call) {m : Command} (line : List ℕ) → some m ≡ asCommand k → IsLineOf k line → Parsed line m
+unfolding SameLine
+parsed k line e i j =
+    (λ d. some-line j line d .1 (some-line k line e .0 i), λ i′. e ∙ sym (shape-tells k line (line-shape i)) ∙ shape-tells j line (line-shape i′))
 
 -- ---- a line that is no call's
 
-readable : (k : Call) → Unreadable ≡ asCommand k → ⊥
+readable : (k : Call) → some Unreadable ≡ asCommand k → ⊥
 readable (post n r b) e = let z : _≡_ {A = ℕ} 0 1 = cc in omega arith
 readable (withdraw n) e = let z : _≡_ {A = ℕ} 0 1 = cc in omega arith
 readable (query q) e = let z : _≡_ {A = ℕ} 0 1 = cc in omega arith
@@ -93,14 +98,14 @@ unreadable line none k = (λ e. absurd (readable k e), λ i. absurd (none k i))
 -- ---- one line has one answer
 
 pub parsed-unique : (line : List ℕ) (r s : Command) → Parsed line r → Parsed line s → r ≡ s
-parsed-unique line (Post n r b) s p q = sym (q (post n r b) .1 (p (post n r b) .0 refl))
-parsed-unique line (Withdraw n) s p q = sym (q (withdraw n) .1 (p (withdraw n) .0 refl))
-parsed-unique line (Query x) s p q = sym (q (query x) .1 (p (query x) .0 refl))
-parsed-unique line Listing s p q = sym (q (listing 0) .1 (p (listing 0) .0 refl))
-parsed-unique line Unreadable (Post n r b) p q = p (post n r b) .1 (q (post n r b) .0 refl)
-parsed-unique line Unreadable (Withdraw n) p q = p (withdraw n) .1 (q (withdraw n) .0 refl)
-parsed-unique line Unreadable (Query x) p q = p (query x) .1 (q (query x) .0 refl)
-parsed-unique line Unreadable Listing p q = p (listing 0) .1 (q (listing 0) .0 refl)
+parsed-unique line (Post n r b) s p q = sym (one-command (q (post n r b) .1 (p (post n r b) .0 refl)))
+parsed-unique line (Withdraw n) s p q = sym (one-command (q (withdraw n) .1 (p (withdraw n) .0 refl)))
+parsed-unique line (Query x) s p q = sym (one-command (q (query x) .1 (p (query x) .0 refl)))
+parsed-unique line Listing s p q = sym (one-command (q (listing 0) .1 (p (listing 0) .0 refl)))
+parsed-unique line Unreadable (Post n r b) p q = one-command (p (post n r b) .1 (q (post n r b) .0 refl))
+parsed-unique line Unreadable (Withdraw n) p q = one-command (p (withdraw n) .1 (q (withdraw n) .0 refl))
+parsed-unique line Unreadable (Query x) p q = one-command (p (query x) .1 (q (query x) .0 refl))
+parsed-unique line Unreadable Listing p q = one-command (p (listing 0) .1 (q (listing 0) .0 refl))
 parsed-unique line Unreadable Unreadable p q = refl
 
 -- ---- and every line has one: the command as a function of the line
@@ -128,21 +133,21 @@ line-known k line = go (has-line-known k) (List-discrete ℕ-discrete line (line
     go (yes f) (no e) = no (λ i. e (i .text))
     go (no f) d = no (λ i. f (i .fits))
 
-commandIf : (k : Call) {line : List ℕ} → Dec (IsLineOf k line) → Command
-commandIf k (yes i) = asCommand k
-commandIf k (no n) = Unreadable
+commandIf : (m : Command) {line : List ℕ} → Dec (IsLineOf (someCall m) line) → Command
+commandIf m (yes i) = m
+commandIf m (no n) = Unreadable
 
 -- `Parsed` fixes it.
 pub commandOf : List ℕ → Command
-commandOf line = commandIf (someCall (decode line)) (line-known (someCall (decode line)) line)
+commandOf line = commandIf (decode line) (line-known (someCall (decode line)) line)
 
 pub command-parsed : (line : List ℕ) → Parsed line (commandOf line)
-unfolding commandOf commandIf
+unfolding SameLine commandOf commandIf
 command-parsed line = go (line-known (someCall (decode line)) line)
   where
-    go : (d : Dec (IsLineOf (someCall (decode line)) line)) → Parsed line (commandIf (someCall (decode line)) d)
-    go (yes i) = parsed (someCall (decode line)) line i
-    go (no n) = unreadable line (λ k i. n (subst (λ (m : Command). IsLineOf (someCall m) line) (sym (shape-tells k line (line-shape i))) (to-some k i)))
+    go : (d : Dec (IsLineOf (someCall (decode line)) line)) → Parsed line (commandIf (decode line) d)
+    go (yes i) = parsed (someCall (decode line)) line (shape-tells (someCall (decode line)) line (line-shape i)) i
+    go (no n) = unreadable line (λ k i. n (some-line k line (shape-tells k line (line-shape i)) .0 i))
 
 -- ---- no call's line, and a call's line, by the parts
 
@@ -192,16 +197,16 @@ wrong-list line z e held other = unreadable line (λ k i. go k (line-shape i))
 -- ---- a line that is some call's, by its parts
 
 pub is-post : (line : List ℕ) (n r b : ℤ) → length line ≡ 27 → letter line ≡ 80 → PostColumns line n r b → Parsed line (Post n r b)
-is-post line n r b e l p = parsed (post n r b) line (shape-line (post n r b) line e (l, p))
+is-post line n r b e l p = parsed (post n r b) line refl (shape-line (post n r b) line e (l, p))
 
 pub is-withdraw : (line : List ℕ) (n : ℤ) → length line ≡ 27 → letter line ≡ 87 → LastColumns line n → Parsed line (Withdraw n)
-is-withdraw line n e l p = parsed (withdraw n) line (shape-line (withdraw n) line e (l, p))
+is-withdraw line n e l p = parsed (withdraw n) line refl (shape-line (withdraw n) line e (l, p))
 
 pub is-query : (line : List ℕ) (q : ℤ) → length line ≡ 27 → letter line ≡ 81 → LastColumns line q → Parsed line (Query q)
-is-query line q e l p = parsed (query q) line (shape-line (query q) line e (l, p))
+is-query line q e l p = parsed (query q) line refl (shape-line (query q) line e (l, p))
 
 pub is-list : (line : List ℕ) (z : ℤ) → length line ≡ 27 → letter line ≡ 76 → LastColumns line z → z ≡ pos 0 → Parsed line Listing
-is-list line z e l p zero = parsed (listing 0) line (shape-line (listing 0) line e (l, rw zero at p))
+is-list line z e l p zero = parsed (listing 0) line refl (shape-line (listing 0) line e (l, rw zero at p))
 
 -- ---- a field that was read
 

@@ -1,12 +1,15 @@
--- Document 01's sample, whole: six calls, and the bytes that the counter prints for them.
+-- The sample (docs/REQUIREMENTS.md, 14.4), whole: six calls, and the bytes that the counter prints for them.
 use mathlib.Core.Path.{_≡_, refl, _∙_, ap}
 use mathlib.Core.List.{List, [], _∷_, _++_, map}
+use mathlib.Core.Option.{some}
 use Prim.Native.Nat.{ℕ}
 use native.Mathlib.Omega.{arith}
 use lib.IntN.{pos}
 use Rattle.plain.specs.Book.{State, Call, post, withdraw, query, listing, opened}
 use Rattle.counter_print.specs.Texts.{digitsWithin, digits, numeral, decimal, justified, answerLine}
 use Rattle.counter_columns.specs.Columns.{lastColumns, lineOf, HasLine}
+use Rattle.counter_columns.specs.declared.Command.{Command}
+use Rattle.counter_columns.specs.declared.Command.the-variants.{Post, Withdraw, Query, List as Listing}
 use Rattle.counter_columns.specs.Commands.{asCommand, parsed, parsed-unique, commandOf, command-parsed}
 use Rattle.counter_columns.specs.Samples.{bytes}
 use Rattle.counter_line.specs.Promises.{capacity, commanded, toldAll, linesFrom, output}
@@ -14,22 +17,26 @@ use Rattle.counter_reply.specs.Answered.{pieceLines}
 
 -- ---- calls' lines are answered as their calls
 
-command-of : (k : Call) → HasLine k → commandOf (lineOf k) ≡ asCommand k
-command-of k h = parsed-unique (lineOf k) _ _ (command-parsed (lineOf k)) (parsed k (lineOf k) (record { fits = h; text = refl }))
+command-of : (k : Call) {m : Command} → some m ≡ asCommand k → HasLine k → commandOf (lineOf k) ≡ m
+command-of k e h = parsed-unique (lineOf k) _ _ (command-parsed (lineOf k)) (parsed k (lineOf k) e (record { fits = h; text = refl }))
 
-abbrev HaveLines : List Call → Type 0
-HaveLines [] = Unit {0}
-HaveLines (k ∷ ks) = HasLine k × HaveLines ks
+abbrev HaveLines : List Call → List Command → Type 0
+HaveLines [] [] = Unit {0}
+HaveLines [] (m ∷ ms) = ⊥
+HaveLines (k ∷ ks) [] = ⊥
+HaveLines (k ∷ ks) (m ∷ ms) = (some m ≡ asCommand k) × HasLine k × HaveLines ks ms
 
-abbrev calledAll : State → List Call → List ℕ
+abbrev calledAll : State → List Command → List ℕ
 calledAll s [] = []
-calledAll s (k ∷ ks) = commanded s (asCommand k) .bytes ++ calledAll (commanded s (asCommand k) .state) ks
+calledAll s (m ∷ ms) = commanded s m .bytes ++ calledAll (commanded s m .state) ms
 
-called : (ks : List Call) → HaveLines ks → (s : State) → toldAll s (map lineOf ks) ≡ calledAll s ks
-called [] h s = refl
-called (k ∷ ks) h s =
-    (λ i. commanded s (command-of k (h .0) i) .bytes ++ toldAll (commanded s (command-of k (h .0) i) .state) (map lineOf ks))
-    ∙ ap (λ (t : List ℕ). commanded s (asCommand k) .bytes ++ t) (called ks (h .1) (commanded s (asCommand k) .state))
+called : (ks : List Call) (ms : List Command) → HaveLines ks ms → (s : State) → toldAll s (map lineOf ks) ≡ calledAll s ms
+called [] [] h s = refl
+called [] (m ∷ ms) h s = absurd h
+called (k ∷ ks) [] h s = absurd h
+called (k ∷ ks) (m ∷ ms) h s =
+    (λ i. commanded s (command-of k (h .0) (h .1 .0) i) .bytes ++ toldAll (commanded s (command-of k (h .0) (h .1 .0) i) .state) (map lineOf ks))
+    ∙ ap (λ (t : List ℕ). commanded s m .bytes ++ t) (called ks ms (h .1 .1) (commanded s m .state))
 
 -- ---- the sample
 
@@ -46,13 +53,17 @@ sample-lines : linesFrom [] sample ≡ map lineOf calls
 unfolding lineOf lastColumns justified decimal numeral digits digitsWithin
 sample-lines = refl
 
-sample-fits : HaveLines calls
-unfolding decimal numeral digits digitsWithin
-sample-fits = ((omega arith, omega arith, omega arith), ((omega arith, omega arith, omega arith), (omega arith, (tt, (omega arith, (omega arith, tt))))))
+abbrev commands : List Command
+commands = Post (pos 1) (pos 3) (pos 0) ∷ Post (pos 2) (pos 1) (pos 10) ∷ Query (pos 5) ∷ Listing ∷ Withdraw (pos 1) ∷ Query (pos 5) ∷ []
 
-sample-called : calledAll (opened (pos capacity)) calls ≡ answer
+sample-fits : HaveLines calls commands
+unfolding decimal numeral digits digitsWithin
+sample-fits =
+    (refl, ((omega arith, omega arith, omega arith), (refl, ((omega arith, omega arith, omega arith), (refl, (omega arith, (refl, (tt, (refl, (omega arith, (refl, (omega arith, tt))))))))))))
+
+sample-called : calledAll (opened (pos capacity)) commands ≡ answer
 unfolding pieceLines answerLine justified decimal numeral digits digitsWithin
 sample-called = refl
 
 pub sample-printed : output sample ≡ answer
-sample-printed = ap (toldAll (opened (pos capacity))) sample-lines ∙ called calls sample-fits (opened (pos capacity)) ∙ sample-called
+sample-printed = ap (toldAll (opened (pos capacity))) sample-lines ∙ called calls commands sample-fits (opened (pos capacity)) ∙ sample-called

@@ -24,7 +24,7 @@ use Rattle.book.specs.declared.Opening.the-variants.{Opened}
 use Rattle.form.specs.Form.{Book, OffersIn}
 use Rattle.form.specs.Local.{Alike, book-alike}
 use Rattle.book.specs.Promises.{partOf, Opens, Passes}
-use Rattle.history.specs.History.{Happens, by-post, by-withdraw, by-query, by-listing, History, finished, next, LowPairs, Kept, EachCall}
+use Rattle.history.specs.History.{Happens, by-update, by-query, by-listing, History, finished, next, LowPairs, Kept, EachCall}
 pub use Rattle.history.specs.History.{Low, Claim}
 
 -- ---- heights
@@ -77,10 +77,7 @@ unmoved : (start : ℕ) {t t′ : List ℤ} {s s′ : State} {held : Option (Hel
 unmoved start {t} {s′ = s′} {held} d e book = subst (λ (u : List ℤ). Book (partOf u start) s′ held) (sym d) (subst (λ (x : State). Book (partOf t start) x held) (sym e) book)
 
 pub one-call : {start : ℕ} {t : List ℤ} {k : Call} {t′ : List ℤ} {a : Answer} (s : State) (held : Option (Held Item)) (p : Happens start t k t′ a) → Book (partOf t start) s held → OneCall s held p
-one-call s held (by-post n r b u p e) book =
-    let f = p .follows s held book in
-    record { mid = f .after; stands = f .stands; told = e ∙ f .answers; kept = (f, refl, low-pairs (f .work)) }
-one-call s held (by-withdraw n u p e) book =
+one-call s held (by-update c u p e) book =
     let f = p .follows s held book in
     record { mid = f .after; stands = f .stands; told = e ∙ f .answers; kept = (f, refl, low-pairs (f .work)) }
 one-call {start} s held (by-query q f p d e) book =

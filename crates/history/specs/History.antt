@@ -20,10 +20,14 @@ use Rattle.form.specs.Form.{Book}
 use Rattle.form.specs.Local.{Alike}
 use Rattle.book.specs.Promises.{partOf, Updates, Follows, Queries, Probes, Lists, updateAnswer, foundReturned, foundAnswer, listingAnswer}
 
+-- The calls that change a book: each is an update.
+pub data Changes : Call → Type 0 where
+  posting : (n r b : ℤ) → Changes (post n r b)
+  withdrawing : (n : ℤ) → Changes (withdraw n)
+
 -- One call: the words before and after it, and its answer.
 pub data Happens (start : ℕ) (t : List ℤ) : Call → List ℤ → Answer → Type 0 where
-  by-post : {t′ : List ℤ} {a : Answer} (n r b : ℤ) (u : Update) → Updates (post n r b) start t t′ u → a ≡ updateAnswer u → Happens start t (post n r b) t′ a
-  by-withdraw : {t′ : List ℤ} {a : Answer} (n : ℤ) (u : Update) → Updates (withdraw n) start t t′ u → a ≡ updateAnswer u → Happens start t (withdraw n) t′ a
+  by-update : {k : Call} {t′ : List ℤ} {a : Answer} → Changes k → (u : Update) → Updates k start t t′ u → a ≡ updateAnswer u → Happens start t k t′ a
   by-query : {t′ : List ℤ} {a : Answer} (q : ℤ) (f : Found) → Queries q start t f → t′ ≡ t → a ≡ foundAnswer f → Happens start t (query q) t′ a
   by-listing : {t′ : List ℤ} {a : Answer} {room : ℕ} (out out′ : List ℤ) (l : Listed) → Lists start t out out′ l → room ≡ length out → t′ ≡ t → a ≡ listingAnswer l out′ → Happens start t (listing room) t′ a
 
@@ -44,8 +48,7 @@ LowPairs log = (p : Pair Item) → List·Memᴰ p log → (height (p .front) ≤
 -- What each call of a history is held to, from one offer tree to the next: an update's log of searched pairs with k, s, H and the floor,
 -- a query's probes.
 abbrev pub Kept : (s : State) (start : ℕ) {t : List ℤ} {k : Call} {t′ : List ℤ} {a : Answer} → Happens start t k t′ a → (before after : Option (Held Item)) → Type 0
-Kept s start {t} {t′ = t′} (by-post n r b u p e) held held′ = (f : Follows (post n r b) s held start t t′ u) × (f .after ≡ held′) × LowPairs (f .log)
-Kept s start {t} {t′ = t′} (by-withdraw n u p e) held held′ = (f : Follows (withdraw n) s held start t t′ u) × (f .after ≡ held′) × LowPairs (f .log)
+Kept s start {t} {k} {t′} (by-update c u p e) held held′ = (f : Follows k s held start t t′ u) × (f .after ≡ held′) × LowPairs (f .log)
 Kept s start (by-query q f p d e) held held′ = Probes held (foundReturned f .answer) (foundReturned f .beside) × (held ≡ held′)
 Kept s start (by-listing out out′ l p m d e) held held′ = held ≡ held′
 

@@ -23,7 +23,7 @@ use Rattle.form.specs.Form.{Book}
 use Rattle.form.specs.Local.{Alike, book-alike}
 use Rattle.book.specs.Promises.{partOf, writtenWords, counted, updateAnswer, foundAnswer, listingAnswer}
 use Rattle.book.specs.Numbered.{numbered}
-use Rattle.history.specs.History.{Happens, by-post, by-withdraw, by-query, by-listing, History, finished, next}
+use Rattle.history.specs.History.{Happens, posting, withdrawing, by-update, by-query, by-listing, History, finished, next}
 use Rattle.history.specs.Claim.{step-capacity, one-call}
 use Rattle.replay_words.specs.Encoding.{stretch, updateWords, foundWords, listedWords, acceptedAnswer, answerOf, told, spared, Spares}
 use Rattle.replay_words.specs.Decoding.{same-is}
@@ -64,8 +64,8 @@ listing-told room (Pieces m) out f = refl
 listing-told room (ListingDeclined z) out f = refusal-told (listing room) z (pos 0) (pos 0) out f
 
 one-told : {start : ℕ} {t : List ℤ} {k : Call} {t′ : List ℤ} {a : Answer} (p : Happens start t k t′ a) (ws ws′ : List ℤ) → TellsOne p ws ws′ → a ≢ refused 0 → byWords k ws′ (drop 5 ws′) ≡ a
-one-told (by-post n r b u p e) ws ws′ h f = first-words (post n r b) ws′ (drop 5 ws′) h ∙ post-told n r b u (drop 5 ws′) (λ q. f (e ∙ q)) ∙ sym e
-one-told (by-withdraw n u p e) ws ws′ h f = first-words (withdraw n) ws′ (drop 5 ws′) h ∙ withdraw-told n u (drop 5 ws′) (λ q. f (e ∙ q)) ∙ sym e
+one-told (by-update (posting n r b) u p e) ws ws′ h f = first-words (post n r b) ws′ (drop 5 ws′) h ∙ post-told n r b u (drop 5 ws′) (λ q. f (e ∙ q)) ∙ sym e
+one-told (by-update (withdrawing n) u p e) ws ws′ h f = first-words (withdraw n) ws′ (drop 5 ws′) h ∙ withdraw-told n u (drop 5 ws′) (λ q. f (e ∙ q)) ∙ sym e
 one-told (by-query q u p d e) ws ws′ h f = first-words (query q) ws′ (drop 5 ws′) h ∙ query-told q u (drop 5 ws′) (λ z. f (e ∙ z)) ∙ sym e
 one-told (by-listing {room} out out′ l p m d e) ws ws′ (h, b, o) f =
     let q = e ∙ ap (listingAnswer l) (sym o) in
@@ -85,8 +85,8 @@ told-right (next {k} {ks} {a} {as′} alike p rest) ws ws′ (x, y) s e =
 one-spares :
     {start : ℕ} {t : List ℤ} {k : Call} {t′ : List ℤ} {a : Answer} (p : Happens start t k t′ a) (ws ws′ : List ℤ) → TellsOne p ws ws′ →
     (s : State) (held : Option (Held Item)) → Book (partOf t start) s held → spared k a ws′ ≡ spared k a ws
-one-spares (by-post n r b u p e) ws ws′ w s held book = refl
-one-spares (by-withdraw n u p e) ws ws′ w s held book = refl
+one-spares (by-update (posting n r b) u p e) ws ws′ w s held book = refl
+one-spares (by-update (withdrawing n) u p e) ws ws′ w s held book = refl
 one-spares (by-query q f p d e) ws ws′ w s held book = refl
 one-spares {a = a} (by-listing {room} out out′ l p m d e) ws ws′ (x, y, z) s held book =
     ap (λ (n : ℕ). drop n (take room (drop 5 ws′))) same ∙ ap (drop (writtenWords (listingAnswer l out′))) z ∙ p .later s held book

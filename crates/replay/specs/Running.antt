@@ -13,7 +13,7 @@ use Rattle.plain.specs.Book.{Call, post, withdraw, query, listing, Answer, part
 use Rattle.book.specs.Promises.{partOf, capacityAt, OnlyPart}
 use Rattle.book.specs.LentPart.{whole-part, lent-back}
 use Rattle.form.specs.Local.{Alike}
-use Rattle.history.specs.History.{Happens, by-post, by-withdraw, by-query, by-listing, History, finished, next}
+use Rattle.history.specs.History.{Happens, posting, withdrawing, by-update, by-query, by-listing, History, finished, next}
 use Rattle.replay_words.specs.Encoding.{nextCall, stretch, fitting, runnable}
 use Rattle.replay_words.specs.Decoding.{runnable-none, runnable-next, next-words}
 use Rattle.replay_call.specs.Told.{TellsOne, Tells, Performed, Ready, Step}
@@ -37,8 +37,7 @@ inside-same : {start : ℕ} {t t′ : List ℤ} → t′ ≡ t → Inside start 
 inside-same {start} e = record { outside = only-same e; same-part = ap (λ (u : List ℤ). capacityAt u start) e }
 
 happens-inside : {start : ℕ} {t : List ℤ} {k : Call} {t′ : List ℤ} {a : Answer} → Happens start t k t′ a → Inside start t t′
-happens-inside (by-post n r b u p e) = record { outside = p .outside; same-part = ap natAbs (p .same-part) }
-happens-inside (by-withdraw n u p e) = record { outside = p .outside; same-part = ap natAbs (p .same-part) }
+happens-inside (by-update c u p e) = record { outside = p .outside; same-part = ap natAbs (p .same-part) }
 happens-inside (by-query q f p d e) = inside-same d
 happens-inside (by-listing out out′ l p m d e) = inside-same d
 
@@ -56,8 +55,8 @@ front-middle m l r h =
     back = ap (drop 5) (take-add 5 m l) ∙ drop-at (take 5 l) (take m (drop 5 l)) 5 (length-take-le 5 l (omega arith))
 
 tells-front : {start : ℕ} {t : List ℤ} {k : Call} {t′ : List ℤ} {a : Answer} (p : Happens start t k t′ a) (ws ws′ r : List ℤ) → stretch k ≤ length ws′ → TellsOne p ws ws′ → TellsOne p ws (take (stretch k) ws′ ++ r)
-tells-front (by-post n q b u p e) ws ws′ r h w = front-take 5 5 ws′ r (omega arith) h ∙ w
-tells-front (by-withdraw n u p e) ws ws′ r h w = front-take 5 5 ws′ r (omega arith) h ∙ w
+tells-front (by-update (posting n q b) u p e) ws ws′ r h w = front-take 5 5 ws′ r (omega arith) h ∙ w
+tells-front (by-update (withdrawing n) u p e) ws ws′ r h w = front-take 5 5 ws′ r (omega arith) h ∙ w
 tells-front (by-query q f p d e) ws ws′ r h w = front-take 5 5 ws′ r (omega arith) h ∙ w
 tells-front (by-listing {room} out out′ l p m d e) ws ws′ r h (x, y, z) = (front-take 5 (5 + room) ws′ r (omega arith) h ∙ x, y, front-middle room ws′ r h ∙ z)
 

@@ -5,13 +5,12 @@ use Prim.Native.Nat.{ℕ}
 use lib.ListN.{take, drop}
 use lib.IntN.{ℤ}
 use Rattle.plain.specs.Book.{Call, Answer}
-use Rattle.history.specs.History.{Happens, by-post, by-withdraw, by-query, by-listing, History, finished, next}
+use Rattle.history.specs.History.{Happens, by-update, by-query, by-listing, History, finished, next}
 use Rattle.replay_words.specs.Encoding.{stretch, updateWords, foundWords, listedWords}
 
 -- One call's words, `ws` before it and `ws′` after it. A listing's output is the stretch behind the five words.
 abbrev pub TellsOne : {start : ℕ} {t : List ℤ} {k : Call} {t′ : List ℤ} {a : Answer} → Happens start t k t′ a → (ws ws′ : List ℤ) → Type 0
-TellsOne (by-post n r b u p e) ws ws′ = take 5 ws′ ≡ updateWords u
-TellsOne (by-withdraw n u p e) ws ws′ = take 5 ws′ ≡ updateWords u
+TellsOne (by-update c u p e) ws ws′ = take 5 ws′ ≡ updateWords u
 TellsOne (by-query q f p d e) ws ws′ = take 5 ws′ ≡ foundWords f
 TellsOne (by-listing {room} out out′ l p m d e) ws ws′ = (take 5 ws′ ≡ listedWords l) × (take room (drop 5 ws) ≡ out) × (take room (drop 5 ws′) ≡ out′)
 

@@ -18,7 +18,7 @@ use Rattle.book.specs.declared.Found.the-variants.{Offer, Declined as FoundDecl
 use Rattle.book.specs.declared.Listed.{Listed}
 use Rattle.book.specs.declared.Listed.the-variants.{Pieces, Declined as ListingDeclined}
 use Rattle.book.specs.Promises.{Updates, Queries, Lists, updateAnswer, foundAnswer, listingAnswer}
-use Rattle.history.specs.History.{Happens, by-post, by-withdraw, by-query, by-listing, next}
+use Rattle.history.specs.History.{Happens, posting, withdrawing, by-update, by-query, by-listing, next}
 use Rattle.replay_words.specs.Encoding.{nextCall, stretch, fitting, updateWords, foundWords, listedWords}
 pub use Rattle.replay_call.specs.Telling.{TellsOne, Tells}
 
@@ -74,7 +74,7 @@ module _ {start : ℕ} {t : List ℤ} (ws : List ℤ) {ws′ : List ℤ} (h : 5 
   posts {t′} {u} n r b p e =
       record {
         answer = updateAnswer u;
-        happens = by-post n r b u p refl;
+        happens = by-update (posting n r b) u p refl;
         tells = five-take ws (updateWords u) (update-five u) h e;
         long = five-long ws (updateWords u) (update-five u) h e;
         later = five-drop ws (updateWords u) (update-five u) h e;
@@ -84,7 +84,7 @@ module _ {start : ℕ} {t : List ℤ} (ws : List ℤ) {ws′ : List ℤ} (h : 5 
   withdraws {t′} {u} n p e =
       record {
         answer = updateAnswer u;
-        happens = by-withdraw n u p refl;
+        happens = by-update (withdrawing n) u p refl;
         tells = five-take ws (updateWords u) (update-five u) h e;
         long = five-long ws (updateWords u) (update-five u) h e;
         later = five-drop ws (updateWords u) (update-five u) h e;

@@ -13,7 +13,7 @@ use Rattle.book.specs.declared.Found.{Found}
 use Rattle.book.specs.declared.Listed.{Listed}
 use Rattle.form.specs.Local.{Alike}
 use Rattle.book.specs.Promises.{partOf, Opens, Updates, Queries, Lists, updateAnswer, foundAnswer, listingAnswer}
-use Rattle.history.specs.History.{by-post, by-withdraw, by-query, by-listing, History, finished, next}
+use Rattle.history.specs.History.{posting, withdrawing, by-update, by-query, by-listing, History, finished, next}
 use Rattle.history.specs.Claim.{Claim, every-history}
 use Rattle.witness.specs.Witness.{calls, told, Witness}
 
@@ -43,11 +43,11 @@ made {t} {t₀} {t₁} {t₂} {t₃} {out} {out′} {r} {u₁} {u₂} {u₃} {f�
 
     history : History 3 0 t₀ calls (updateAnswer u₁ ∷ updateAnswer u₂ ∷ foundAnswer f₁ ∷ listingAnswer l out′ ∷ updateAnswer u₃ ∷ foundAnswer f₂ ∷ []) t₃
     history =
-        next (alike t₀) (by-post (pos 1) (pos 3) (pos 0) u₁ a refl)
-        (next (alike t₁) (by-post (pos 2) (pos 1) (pos 10) u₂ b refl)
+        next (alike t₀) (by-update (posting (pos 1) (pos 3) (pos 0)) u₁ a refl)
+        (next (alike t₁) (by-update (posting (pos 2) (pos 1) (pos 10)) u₂ b refl)
         (next (alike t₂) (by-query (pos 5) f₁ q refl refl)
         (next (alike t₂) (by-listing out out′ l s (sym d) refl refl)
-        (next (alike t₂) (by-withdraw (pos 1) u₃ w refl)
+        (next (alike t₂) (by-update (withdrawing (pos 1)) u₃ w refl)
         (next (alike t₃) (by-query (pos 5) f₂ z refl refl) finished)))))
 
     claim : (r ≡ Opened) × Claim (opened (pos 3)) none history

@@ -50,7 +50,7 @@ use Rattle.reading.proofs.place_after as at
 use Rattle.reading.proofs.place_after.Symbol as at-def
 use Rattle.reading.proofs.place_after.Symbol.{name as #reading·place-after}
 use Rattle.reading.proofs.place_after.Met as at-thm
-use Rattle.reading_steps.proofs.advance.Key.{name as #stepping·advance}
+use Rattle.reading_steps.proofs.advance.Key.{name as #reading-steps·advance}
 use Rattle.reading_steps.proofs.advance as advance
 use Rattle.reading_steps.proofs.advance.Statement as stated
 use Rattle.reading_steps.proofs.advance.Code as code
@@ -169,6 +169,6 @@ pub advance-spec : {M : Type 1} → stated.statement M
 unfolding code.routine tablesOf
 advance-spec 𝓤 H 𝓜 𝓖 𝓡 =
     entered 𝓤 H (tripleOf 𝓤 H (𝓖 .A) advance.signature (advance.spec 𝓤 H (𝓖 .A) (𝓜 .mem) (𝓡 .run)))
-    (tables 𝓤 H 𝓜 𝓡 code.env .C) (tables 𝓤 H 𝓜 𝓡 code.env .Λ) #stepping·advance code.function (code.unfolded 𝓤 H 𝓜 𝓡)
+    (tables 𝓤 H 𝓜 𝓡 code.env .C) (tables 𝓤 H 𝓜 𝓡 code.env .Λ) #reading-steps·advance code.function (code.unfolded 𝓤 H 𝓜 𝓡)
     (advance-meets 𝓤 H (𝓖 .A) (givenOf 𝓤 H 𝓜 𝓖) (𝓜 .mem) (𝓡 .run) (tablesOf 𝓤 H 𝓜 (tables 𝓤 H 𝓜 𝓡 code.env))
     (cited 𝓤 H (PlaceAfter 𝓤 H (𝓖 .A) (𝓜 .mem) (𝓡 .run)) 𝓜 𝓡 code.env #reading·place-after at-def.routine code.calls-reading·place-after (at-thm.met 𝓤 H 𝓜 𝓖 𝓡)))

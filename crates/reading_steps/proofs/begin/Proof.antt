@@ -46,7 +46,7 @@ use Rattle.reading.proofs.first_place as at
 use Rattle.reading.proofs.first_place.Symbol as at-def
 use Rattle.reading.proofs.first_place.Symbol.{name as #reading·first-place}
 use Rattle.reading.proofs.first_place.Met as at-thm
-use Rattle.reading_steps.proofs.begin.Key.{name as #stepping·begin}
+use Rattle.reading_steps.proofs.begin.Key.{name as #reading-steps·begin}
 use Rattle.reading_steps.proofs.begin as begin
 use Rattle.reading_steps.proofs.begin.Statement as stated
 use Rattle.reading_steps.proofs.begin.Code as code
@@ -142,6 +142,6 @@ pub begin-spec : {M : Type 1} → stated.statement M
 unfolding code.routine tablesOf
 begin-spec 𝓤 H 𝓜 𝓖 𝓡 =
     entered 𝓤 H (tripleOf 𝓤 H (𝓖 .A) begin.signature (begin.spec 𝓤 H (𝓖 .A) (𝓜 .mem) (𝓡 .run)))
-    (tables 𝓤 H 𝓜 𝓡 code.env .C) (tables 𝓤 H 𝓜 𝓡 code.env .Λ) #stepping·begin code.function (code.unfolded 𝓤 H 𝓜 𝓡)
+    (tables 𝓤 H 𝓜 𝓡 code.env .C) (tables 𝓤 H 𝓜 𝓡 code.env .Λ) #reading-steps·begin code.function (code.unfolded 𝓤 H 𝓜 𝓡)
     (begin-meets 𝓤 H (𝓖 .A) (givenOf 𝓤 H 𝓜 𝓖) (𝓜 .mem) (𝓡 .run) (tablesOf 𝓤 H 𝓜 (tables 𝓤 H 𝓜 𝓡 code.env))
     (cited 𝓤 H (FirstPlace 𝓤 H (𝓖 .A) (𝓜 .mem) (𝓡 .run)) 𝓜 𝓡 code.env #reading·first-place at-def.routine code.calls-reading·first-place (at-thm.met 𝓤 H 𝓜 𝓖 𝓡)))

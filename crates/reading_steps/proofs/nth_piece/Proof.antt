@@ -51,13 +51,13 @@ use Rattle.reading.proofs.Handed as S
 use Rattle.reading.proofs.Handed.Laws as S′
 use Rattle.reading_steps.proofs.nth_place as at
 use Rattle.reading_steps.proofs.nth_place.Symbol as at-def
-use Rattle.reading_steps.proofs.nth_place.Symbol.{name as #stepping·nth-place}
+use Rattle.reading_steps.proofs.nth_place.Symbol.{name as #reading-steps·nth-place}
 use Rattle.reading_steps.proofs.nth_place.Met as at-thm
 use Rattle.reading_steps.proofs.piece as piece
 use Rattle.reading_steps.proofs.piece.Symbol as piece-def
-use Rattle.reading_steps.proofs.piece.Symbol.{name as #stepping·piece}
+use Rattle.reading_steps.proofs.piece.Symbol.{name as #reading-steps·piece}
 use Rattle.reading_steps.proofs.piece.Met as piece-thm
-use Rattle.reading_steps.proofs.nth_piece.Key.{name as #stepping·nth-piece}
+use Rattle.reading_steps.proofs.nth_piece.Key.{name as #reading-steps·nth-piece}
 use Rattle.reading_steps.proofs.nth_piece as nth-piece
 use Rattle.reading_steps.proofs.nth_piece.Statement as stated
 use Rattle.reading_steps.proofs.nth_piece.Code as code
@@ -140,7 +140,7 @@ module _ {M : Type 1} (𝓤 : URA M) (H : Heap 𝓤) (A : Atoms 𝓤) (W : Given
       suffices ! _ (ends-at 𝓤 H A nth-piece.ended stayed (nth-piece.clauses 𝓤 H A mem run) W (((κ, tt), (q, tt), tt, (s, (n, (k, tt))), passed), tt) u t (tt, (tt, (tt, tt))) (tt, (tt, (tt, tt)))) $ says ! e $
       move ! (1 ∷ []) $ frame ! $ nothing ! $ owned ! u32 (Is u32) (uint-makes 𝓤 H A W w32) k _ (refl, k-fits) $ fjoin ! $ owned ! usize (Is usize) (uint-makes 𝓤 H A W w64) n _ (refl, n-fits) $ fjoin ! $ move ! (2 ∷ 0 ∷ []) $ fjoin ! $ frame ! $ done !
 
-  module _ (C : Calls 𝓤 H) (Λ : Loops 𝓤 H) (fm : FmC 𝓤 H (W .laws) C) (known-place : Triple 𝓤 (C #stepping·nth-place) (NthPlace 𝓤 H A mem run)) (known-piece : Triple 𝓤 (C #stepping·piece) (Piece 𝓤 H A mem run)) where
+  module _ (C : Calls 𝓤 H) (Λ : Loops 𝓤 H) (fm : FmC 𝓤 H (W .laws) C) (known-place : Triple 𝓤 (C #reading-steps·nth-place) (NthPlace 𝓤 H A mem run)) (known-piece : Triple 𝓤 (C #reading-steps·piece) (Piece 𝓤 H A mem run)) where
     walk : Is (ShrSlice (named 0) κ i64) s (v ∷ []) → ent 𝓤 (onEntry 𝓤 H A nth-piece.signature (κ, tt) (q, tt) (s, (n, (k, tt))) passed) (WpFn 𝓤 H C Λ code.function (v ∷ vint w64 n ∷ vint w32 k ∷ []) Post)
     walk g =
         qed W (raw (onEntry 𝓤 H A nth-piece.signature (κ, tt) (q, tt) (s, (n, (k, tt))) passed) ∷ []) ∵ enter ! C Λ code.function (v ∷ vint w64 n ∷ vint w32 k ∷ []) _ $
@@ -166,13 +166,13 @@ module _ {M : Type 1} (𝓤 : URA M) (H : Heap 𝓤) (A : Atoms 𝓤) (W : Given
         by ! (exits t u′ (hands-at e e′))))))))))))))))
 
 module _ {M : Type 1} (𝓤 : URA M) (H : Heap 𝓤) (A : Atoms 𝓤) (W : Given 𝓤 H A) (mem : Memory → SProp 𝓤) (run : Routine → Fun 𝓤) where
-  nth-piece-walks : (C : Calls 𝓤 H) (Λ : Loops 𝓤 H) → FmC 𝓤 H (W .laws) C → Triple 𝓤 (C #stepping·nth-place) (NthPlace 𝓤 H A mem run) → Triple 𝓤 (C #stepping·piece) (Piece 𝓤 H A mem run)
+  nth-piece-walks : (C : Calls 𝓤 H) (Λ : Loops 𝓤 H) → FmC 𝓤 H (W .laws) C → Triple 𝓤 (C #reading-steps·nth-place) (NthPlace 𝓤 H A mem run) → Triple 𝓤 (C #reading-steps·piece) (Piece 𝓤 H A mem run)
       → Walks 𝓤 H A nth-piece.ended stayed (WpFn 𝓤 H C Λ code.function) (nth-piece.clauses 𝓤 H A mem run)
   nth-piece-walks C Λ fm known-place known-piece = walked 𝓤 H A nth-piece.ended stayed (nth-piece.clauses 𝓤 H A mem run) (WpFn 𝓤 H C Λ code.function) (λ κs. (slice-vals, (uint-vals w64, (uint-vals w32, tt)))) (λ κs. (shr-slice-tells (named 0) (κs .0) i64, (uint-tells w64, (uint-tells w32, tt))))
       (λ κs qs bounds a g are. via 𝓤 _ (fst∗ 𝓤 _ (emp 𝓤)) (walk 𝓤 H A W mem run (κs .0) (qs .0) (a .0) (a .1 .0) (a .1 .1 .0) (are .1 .0 .1) (are .1 .1 .0 .1) C Λ fm known-place known-piece (are .0)))
 
 nth-piece-meets : {M : Type 1} (𝓤 : URA M) (H : Heap 𝓤) (A : Atoms 𝓤) (W : Given 𝓤 H A) (mem : Memory → SProp 𝓤) (run : Routine → Fun 𝓤) (𝓣 : Tables 𝓤 H)
-    → Triple 𝓤 (𝓣 .C #stepping·nth-place) (NthPlace 𝓤 H A mem run) → Triple 𝓤 (𝓣 .C #stepping·piece) (Piece 𝓤 H A mem run)
+    → Triple 𝓤 (𝓣 .C #reading-steps·nth-place) (NthPlace 𝓤 H A mem run) → Triple 𝓤 (𝓣 .C #reading-steps·piece) (Piece 𝓤 H A mem run)
     → Meets 𝓤 H A nth-piece.signature (WpFn 𝓤 H (𝓣 .C) (𝓣 .Λ) code.function) (nth-piece.spec 𝓤 H A mem run)
 nth-piece-meets 𝓤 H A W mem run 𝓣 known-place known-piece = walk-meets 𝓤 H A nth-piece.ended stayed W (goes-none-slice 𝓤 H A W 1 (0 ∷ []) tt (plain (λ _. i64)) yes, (goes-none 𝓤 H A W 1 (λ _. usize) yes (λ κs x f. refl), (goes-none 𝓤 H A W 1 (λ _. u32) yes (λ κs x f. refl), tt))) (nth-piece.clauses 𝓤 H A mem run) (WpFn 𝓤 H (𝓣 .C) (𝓣 .Λ) code.function) (WpFn-mono 𝓤 H (W .laws) 𝓣 code.function)
     (nth-piece-walks 𝓤 H A W mem run (𝓣 .C) (𝓣 .Λ) (fmOf 𝓤 H (W .laws) 𝓣) known-place known-piece)
@@ -181,7 +181,7 @@ pub nth-piece-spec : {M : Type 1} → stated.statement M
 unfolding code.routine tablesOf
 nth-piece-spec 𝓤 H 𝓜 𝓖 𝓡 =
     entered 𝓤 H (tripleOf 𝓤 H (𝓖 .A) nth-piece.signature (nth-piece.spec 𝓤 H (𝓖 .A) (𝓜 .mem) (𝓡 .run)))
-    (tables 𝓤 H 𝓜 𝓡 code.env .C) (tables 𝓤 H 𝓜 𝓡 code.env .Λ) #stepping·nth-piece code.function (code.unfolded 𝓤 H 𝓜 𝓡)
+    (tables 𝓤 H 𝓜 𝓡 code.env .C) (tables 𝓤 H 𝓜 𝓡 code.env .Λ) #reading-steps·nth-piece code.function (code.unfolded 𝓤 H 𝓜 𝓡)
     (nth-piece-meets 𝓤 H (𝓖 .A) (givenOf 𝓤 H 𝓜 𝓖) (𝓜 .mem) (𝓡 .run) (tablesOf 𝓤 H 𝓜 (tables 𝓤 H 𝓜 𝓡 code.env))
-    (cited 𝓤 H (NthPlace 𝓤 H (𝓖 .A) (𝓜 .mem) (𝓡 .run)) 𝓜 𝓡 code.env #stepping·nth-place at-def.routine code.calls-stepping·nth-place (at-thm.met 𝓤 H 𝓜 𝓖 𝓡))
-    (cited 𝓤 H (Piece 𝓤 H (𝓖 .A) (𝓜 .mem) (𝓡 .run)) 𝓜 𝓡 code.env #stepping·piece piece-def.routine code.calls-stepping·piece (piece-thm.met 𝓤 H 𝓜 𝓖 𝓡)))
+    (cited 𝓤 H (NthPlace 𝓤 H (𝓖 .A) (𝓜 .mem) (𝓡 .run)) 𝓜 𝓡 code.env #reading-steps·nth-place at-def.routine code.calls-reading-steps·nth-place (at-thm.met 𝓤 H 𝓜 𝓖 𝓡))
+    (cited 𝓤 H (Piece 𝓤 H (𝓖 .A) (𝓜 .mem) (𝓡 .run)) 𝓜 𝓡 code.env #reading-steps·piece piece-def.routine code.calls-reading-steps·piece (piece-thm.met 𝓤 H 𝓜 𝓖 𝓡)))

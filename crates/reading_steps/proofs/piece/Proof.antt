@@ -53,7 +53,7 @@ use Rattle.reading.proofs.piece_at as at
 use Rattle.reading.proofs.piece_at.Symbol as at-def
 use Rattle.reading.proofs.piece_at.Symbol.{name as #reading·piece-at}
 use Rattle.reading.proofs.piece_at.Met as at-thm
-use Rattle.reading_steps.proofs.piece.Key.{name as #stepping·piece}
+use Rattle.reading_steps.proofs.piece.Key.{name as #reading-steps·piece}
 use Rattle.reading_steps.proofs.piece as piece
 use Rattle.reading_steps.proofs.piece.Statement as stated
 use Rattle.reading_steps.proofs.piece.Code as code
@@ -161,6 +161,6 @@ pub piece-spec : {M : Type 1} → stated.statement M
 unfolding code.routine tablesOf
 piece-spec 𝓤 H 𝓜 𝓖 𝓡 =
     entered 𝓤 H (tripleOf 𝓤 H (𝓖 .A) piece.signature (piece.spec 𝓤 H (𝓖 .A) (𝓜 .mem) (𝓡 .run)))
-    (tables 𝓤 H 𝓜 𝓡 code.env .C) (tables 𝓤 H 𝓜 𝓡 code.env .Λ) #stepping·piece code.function (code.unfolded 𝓤 H 𝓜 𝓡)
+    (tables 𝓤 H 𝓜 𝓡 code.env .C) (tables 𝓤 H 𝓜 𝓡 code.env .Λ) #reading-steps·piece code.function (code.unfolded 𝓤 H 𝓜 𝓡)
     (piece-meets 𝓤 H (𝓖 .A) (givenOf 𝓤 H 𝓜 𝓖) (𝓜 .mem) (𝓡 .run) (tablesOf 𝓤 H 𝓜 (tables 𝓤 H 𝓜 𝓡 code.env))
     (cited 𝓤 H (PieceAt 𝓤 H (𝓖 .A) (𝓜 .mem) (𝓡 .run)) 𝓜 𝓡 code.env #reading·piece-at at-def.routine code.calls-reading·piece-at (at-thm.met 𝓤 H 𝓜 𝓖 𝓡)))
