@@ -54,9 +54,9 @@ noBookTrial t start = noBook when noBookAt (length t) start (word (partOf t star
 abbrev pub tableTrials : List ℤ → ℕ → Call → List Trial
 tableTrials t start k = noBookTrial t start ∷ rangeTrials k
 
--- ---- answers in document 01's numbers and values
+-- ---- answers in the requirements' numbers and values (16.5)
 
--- A number or a count as document 01 gives it. A word below 0 is none: `refused 0` is no answer of the plain book (`numbered`).
+-- A number or a count as the requirements give it (3.2). A word below 0 is none: `refused 0` is no answer of the plain book (`numbered`).
 abbrev pub counted : (ℕ → Answer) → ℤ → Answer
 counted f (pos n) = f n
 counted f (negsuc n) = refused 0

@@ -1,4 +1,4 @@
--- A book's chart marks (document 01, "Marks, vouchers, reading"), and what asking for one promises.
+-- A book's chart marks (docs/REQUIREMENTS.md, 10.1), and what asking for one promises.
 use Prim.Native.Nat.{ℕ, suc}
 use mathlib.Core.Path.{_≡_, refl, ap}
 use mathlib.Core.List.{List, [], _∷_}
@@ -79,7 +79,7 @@ Exact (own ∷ next ∷ es) = ExactEnd own × ExactCrossing own next × Exact (n
 
 -- ---- on a lent table
 
--- an answer in document 01's number and values: a mark's own, or the number of the cause alone
+-- an answer in the requirements' number and values (16.5): a mark's own, or the number of the cause alone
 abbrev pub told : Marked → Told
 told (Mark m) = markTold m
 told (Declined k) = record { number = k; values = [] }

@@ -1,4 +1,4 @@
--- The lines of the calls (document 01, "The counter program"), as lists of bytes, without their newlines.
+-- The lines of the calls (docs/REQUIREMENTS.md, 14.2), as lists of bytes, without their newlines.
 use Prim.Native.Nat.{ℕ}
 use mathlib.Core.Path.{_≡_}
 use mathlib.Core.List.{List, _∷_, _++_}

@@ -1,4 +1,4 @@
--- The sample of document 01 ("The counter program"), line by line, and the ends of the range.
+-- The sample (docs/REQUIREMENTS.md, 14.4), line by line, and the ends of the range.
 use Prim.Native.Nat.{ℕ, zero, suc, _-_, _^_}
 use Prim.Native.String.{String, len, charAt}
 use Prim.Native.Char.{code}

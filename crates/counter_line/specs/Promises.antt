@@ -1,4 +1,4 @@
--- The counter (document 01, "The counter program"): what a line prints, and what it does to the plain book. The book stands at the table's
+-- The counter (docs/REQUIREMENTS.md, 14): what a line prints, and what it does to the plain book. The book stands at the table's
 -- beginning, and a listing has room for 192 words. The program opens a book of capacity 64; a line is answered on one of any capacity.
 use mathlib.Core.Path.{_≡_}
 use mathlib.Core.List.{List, [], _∷_, _++_}

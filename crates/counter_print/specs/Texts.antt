@@ -1,4 +1,4 @@
--- The texts of the counter program's columns (document 01, "The counter program"), as lists of bytes: numbers, columns, an answer's line.
+-- The texts of the counter program's columns (docs/REQUIREMENTS.md, 14.3), as lists of bytes: numbers, columns, an answer's line.
 use Prim.Native.Nat.{ℕ, zero, suc, _+_, _-_, _/_, _%_, _≤_}
 use mathlib.Core.List.{List, [], _∷_, _++_}
 use lib.ListN.{length, replicate}

@@ -1,4 +1,4 @@
--- What an answer prints (document 01, "The counter program"): one line, and before it a line for each piece of a listing.
+-- What an answer prints (docs/REQUIREMENTS.md, 14.3): one line, and before it a line for each piece of a listing.
 use mathlib.Core.Path.{_≡_}
 use mathlib.Core.List.{List, [], _∷_, _++_}
 use Prim.Native.Nat.{ℕ}

@@ -1,4 +1,4 @@
--- What an update's log of searched pairs is held to (document 01, "The meeting of two envelopes"): k, s and H are its length, its steps and its heights.
+-- What an update's log of searched pairs is held to (docs/REQUIREMENTS.md, 7): k, s and H are its length, its steps and its heights.
 use Prim.Native.Nat.{ℕ, _+_, _*_, _≤_, max}
 use mathlib.Core.Path.{_≡_}
 use mathlib.Core.Bool.{true}

@@ -1,4 +1,4 @@
--- The lower envelope of a list of lines, and the listing of document 01.
+-- The lower envelope of a list of lines, and the listing (docs/REQUIREMENTS.md, 3.3).
 use mathlib.Core.Logic.{_≢_}
 use mathlib.Core.Bool.{Bool, not, _&&_}
 use mathlib.Core.List.{List, [], _∷_, List·Memᴰ, Sublistᴰ}

@@ -113,7 +113,7 @@ module _ (S : Figure) (L : PseudoLines S) where
             },
           )
 
-  -- document 01's sentence: a line is listed if and only if at some point it is strictly below every other
+  -- the requirements' sentence (3.3): a line is listed if and only if at some point it is strictly below every other
   pub listed-exact : (ls : List (S .Line)) → Ordered S ls → (e : S .Line) → List·Memᴰ e (listed S ls) ↔ ((x : S .Point) × Cheapest S ls e x)
   listed-exact ls o e = (there, λ c. back (c .0) (c .1))
     where

@@ -1,4 +1,4 @@
--- Pseudo-lines: what the geometry of envelopes rests on, and nothing else (source 000, section 2).
+-- Pseudo-lines: what the geometry of envelopes rests on, and nothing else (docs/REQUIREMENTS.md, source [1], section 2).
 -- The operations are tests that compute; the laws are a record over them. Every theorem of this crate is proved from the laws alone.
 -- The mirror image of a figure is a figure, so what is proved of the left holds of the right.
 use mathlib.Core.Bool.{Bool, true, false}

@@ -1,4 +1,4 @@
--- A list of calls on one table, and the claim about it (document 01, demand 3). Each call is told by its function's own promise; between two calls
+-- A list of calls on one table, and the claim about it (docs/REQUIREMENTS.md, 8). Each call is told by its function's own promise; between two calls
 -- anybody may write words outside the part, and nobody writes the part.
 use mathlib.Core.Path.{_≡_}
 use mathlib.Core.List.{List, [], _∷_, List·Memᴰ}

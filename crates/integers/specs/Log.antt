@@ -1,4 +1,4 @@
--- B(n), the least whole j with 2^j ≥ n (document 01).
+-- B(n), the least whole j with 2^j ≥ n (docs/REQUIREMENTS.md, 5.3).
 use mathlib.Core.Path.{_≡_, refl}
 use mathlib.Core.Bool.{Bool, true, false, cond, not}
 use Prim.Native.Nat.{ℕ, zero, suc, _*_, _^_, _≤_, _<_}

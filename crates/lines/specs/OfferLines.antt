@@ -1,4 +1,4 @@
--- Offers as lines: the figure's tests are document 01's comparisons.
+-- Offers as lines: the figure's tests are the comparisons of docs/REQUIREMENTS.md, 2.4.
 use mathlib.Core.Path.{_≡_, refl}
 use mathlib.Core.Logic.{_↔_}
 use lib.Dec.{T}

@@ -1,4 +1,4 @@
--- The numbers of a crossing are exact as doubles (document 01): so each of its quotients is at most half a unit off.
+-- The numbers of a crossing are exact as doubles (docs/REQUIREMENTS.md, 10.2): so each of its quotients is at most half a unit off.
 use Prim.Native.Nat.{_^_, _≤_}
 use native.Mathlib.Omega.{arith}
 use mathlib.Core.Path.{_≡_, refl}

@@ -1,4 +1,4 @@
--- A mark's numbers (document 01, "Marks, vouchers, reading"): integers as doubles, exactly, and quotients of them, each rounded once.
+-- A mark's numbers (docs/REQUIREMENTS.md, 10.3): integers as doubles, exactly, and quotients of them, each rounded once.
 -- lib.Ieee is the toolchain's account of IEEE 754: a double is `fin s m e`, which is m × 2 ^ e, negative where s is true, or no number.
 use Prim.Native.Nat.{_*_, _^_, _≤_, _<_}
 use mathlib.Core.Path.{_≡_}

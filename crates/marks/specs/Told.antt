@@ -1,4 +1,4 @@
--- What a chart mark tells (document 01, "Marks, vouchers, reading"): the number and the values of each case.
+-- What a chart mark tells (docs/REQUIREMENTS.md, 10.1): the number and the values of each case.
 use mathlib.Core.List.{List, [], _∷_}
 use lib.IntN.{ℤ, pos}
 use lib.Ieee.{Float}

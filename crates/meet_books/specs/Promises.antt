@@ -45,7 +45,7 @@ meetTrials first second =
     ∷ ratesNotApart when any (λ a. any (λ b. not (ltZ (b .rate) (a .rate))) second) first
     ∷ []
 
--- ---- the answer in document 01's number and values
+-- ---- the answer in the requirements' number and values (9, 16.5)
 
 pub data MeetAnswer : Type 0 where
   -- a declined call's number

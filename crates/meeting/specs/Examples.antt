@@ -1,4 +1,4 @@
--- Six searches among lines with whole rates and bases, computed. Between them they take every line of document 01's rules, on either side:
+-- Six searches among lines with whole rates and bases, computed. Between them they take every line of the rules (docs/REQUIREMENTS.md, 6.5), on either side:
 -- moves that are undone by a pop, the three outcomes of the second comparison, and ties between cases 1 and 2 that change the number of steps.
 -- "1 → 3" is a step in which case 1 held and then, in the second comparison, case 3.
 use Prim.Native.Nat.{ℕ, zero, suc}

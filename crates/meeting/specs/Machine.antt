@@ -1,4 +1,4 @@
--- The meeting of two envelopes: document 01's search, line for line (source 000, section 4).
+-- The meeting of two envelopes: the search of docs/REQUIREMENTS.md, 6, line for line (its source [1], section 4).
 -- Both sides are written once. Toward is the way to the other envelope: right in the left tree, left in the right tree. Away is the other way,
 -- to the outer end. So "u goes right, v goes left" is toward for both.
 use Prim.Native.Nat.{ℕ, zero, suc, _+_, _*_}

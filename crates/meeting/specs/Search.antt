@@ -1,4 +1,4 @@
--- The search finds the bridge, within 3 × (hl + hr) + 1 steps (source 000, Lemmas 4.2 to 4.4).
+-- The search finds the bridge, within 3 × (hl + hr) + 1 steps (docs/REQUIREMENTS.md, 6.6; its source [1], Lemmas 4.2 to 4.4).
 use Prim.Native.Nat.{ℕ, zero, suc, _+_, _*_, _≤_, _<_}
 use native.Mathlib.Omega.{arith}
 use mathlib.Core.Path.{_≡_, refl, _∙_, ap}
@@ -15,7 +15,7 @@ use Rattle.meeting.specs.Located.{Spans, one, edgeOf, Stacked, bottom, k
 use Rattle.meeting.specs.Moves.{half, Inner, owes, Moved, retreat-moved, advance-moved, pop-moved}
 use Rattle.meeting.specs.Verdicts.{Meeting, aim, Apart, Verdict, verdict}
 
--- The invariant: both halves stand well, and one of the two lines looked for is below its place (source 000, Invariant 4.1).
+-- The invariant: both halves stand well, and one of the two lines looked for is below its place (source [1], Invariant 4.1).
 pub record Sound {S : Figure} (M : Meeting S) (side : Side) (ours other : Half (S .Line)) : Type 0 where
   pub us : Stands side (aim M side) ours
   pub them : Stands (opposite side) (aim M (opposite side)) other

@@ -1,4 +1,4 @@
--- Offers, loads and prices, as document 01 has them.
+-- Offers, loads and prices, as docs/REQUIREMENTS.md has them (2).
 pub mod Offers
 pub mod Sizes
 pub mod Bounded

@@ -1,4 +1,4 @@
--- Offers and loads (document 01, "Offers and loads"). Every number here is an integer of any size; the ranges say which are accepted.
+-- Offers and loads (docs/REQUIREMENTS.md, 2). Every number here is an integer of any size; the ranges say which are accepted.
 use Prim.Native.Nat.{ℕ, zero, suc, pred}
 use mathlib.Core.Bool.{Bool, _&&_}
 use lib.IntN.{ℤ, pos, negℤ, natAbs, _+ℤ_, _-ℤ_, _*ℤ_}

@@ -1,4 +1,4 @@
--- "Prices to prove" (document 01): ten cases, each through the calls of a freshly opened book of capacity 64, as one table that the checker computes.
+-- Prices to prove (docs/REQUIREMENTS.md, 15.1): ten cases, each through the calls of a freshly opened book of capacity 64, as one table that the checker computes.
 use Prim.Native.Nat.{ℕ}
 use mathlib.Core.Path.{_≡_, refl}
 use mathlib.Core.List.{List, [], _∷_, _++_, map}

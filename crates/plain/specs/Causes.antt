@@ -1,4 +1,4 @@
--- When a call is declined (document 01's table). A call has a list of trials, in the order in which they are made; the first that applies decides.
+-- When a call is declined (docs/REQUIREMENTS.md, 13). A call has a list of trials, in the order in which they are made; the first that applies decides.
 -- A later request renumbers a cause in `causeNumber`, or puts a trial into one call's list, and leaves the other calls alone.
 use Prim.Native.Nat.{ℕ}
 use mathlib.Core.List.{List, [], _∷_}

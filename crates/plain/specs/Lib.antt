@@ -5,7 +5,7 @@ pub mod Causes
 pub mod Trials
 -- statement: the plain book: a capacity and a list of live offers in order, fed the calls' arguments, an output's length with them
 pub mod Book
--- statement: what a query and a listing tell of a list of live offers, in the words of document 01 and with no way of computing it
+-- statement: what a query and a listing tell of a list of live offers, in the words of docs/REQUIREMENTS.md (3) and with no way of computing it
 pub mod Meaning
 -- lemmas: "Prices to prove": ten cases, each through the calls of a freshly opened book of capacity 64, as one table that the checker computes
 pub mod Cases

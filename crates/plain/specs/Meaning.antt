@@ -1,4 +1,4 @@
--- What a query and a listing tell of a list of live offers, in the words of document 01 and with no way of computing it.
+-- What a query and a listing tell of a list of live offers, in the words of docs/REQUIREMENTS.md (3) and with no way of computing it.
 -- `MeaningLaws` proves both of the plain book; `Demand2` (book) of the calls on a table.
 use mathlib.Core.Path.{_≡_}
 use mathlib.Core.Logic.{_≢_, _↔_}

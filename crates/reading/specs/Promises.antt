@@ -1,4 +1,4 @@
--- A reading of a book's pieces (document 01, "Marks, vouchers, reading"): what it hands out at its n-th step, and what moves it on.
+-- A reading of a book's pieces (docs/REQUIREMENTS.md, 12): what it hands out at its n-th step, and what moves it on.
 use Prim.Native.Nat.{ℕ, _+_, _*_, _≤_}
 use mathlib.Core.Path.{_≡_}
 use mathlib.Core.List.{List, [], _∷_}
@@ -19,7 +19,7 @@ use Rattle.book.specs.Promises.{partOf, noBookTrial}
 use Rattle.reading.specs.declared.Handed.{Handed}
 use Rattle.reading.specs.declared.Handed.the-variants.{Piece, End, Declined}
 
--- ---- answers in document 01's numbers and words
+-- ---- answers in the requirements' numbers and words (16.5)
 
 -- a piece's three words, the end, or the number of the cause for declining
 pub data Told : Type 0 where

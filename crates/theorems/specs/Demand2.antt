@@ -1,4 +1,4 @@
--- Demand 2, about the calls: on a table that passes the check, a query's answer and a listing's words tell what document 01 says of the live
+-- Demand 2, about the calls: on a table that passes the check, a query's answer and a listing's words tell what the requirements (1.3, 3) say of the live
 -- offers (`Meaning`), and a declined one meets the first cause that applies.
 use mathlib.Core.Path.{_≡_, refl, sym, _∙_}
 use mathlib.Core.List.{List, [], _∷_}

@@ -1,4 +1,4 @@
--- Each stored part is the child's envelope less the parent's (document 01, "The table"): of every inner node's two children, the part that is
+-- Each stored part is the child's envelope less the parent's (docs/REQUIREMENTS.md, 5.2): of every inner node's two children, the part that is
 -- stored with it holds exactly the lines of its own envelope that are not on the node's, in order.
 use mathlib.Core.Path.{_≡_, refl, sym, subst}
 use mathlib.Core.Logic.{_⊎_, inl, inr, ⊎-elim, _↔_}

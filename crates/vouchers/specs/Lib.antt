@@ -1,4 +1,4 @@
--- Voucher prices, as document 01 has them: the rule, what it comes to, and what the call tells.
+-- Voucher prices, as docs/REQUIREMENTS.md has them (11): the rule, what it comes to, and what the call tells.
 pub mod Rule
 pub mod RuleLaws
 pub mod Told

@@ -1,4 +1,4 @@
--- The voucher rule (document 01, "Marks, vouchers, reading"): a price in whole units of 100 cents, half away from zero.
+-- The voucher rule (docs/REQUIREMENTS.md, 11): a price in whole units of 100 cents, half away from zero.
 -- A later rule for the exact half replaces `nearestUnit` alone.
 use Prim.Native.Nat.{ℕ, suc, _+_, _/_}
 use lib.IntN.{ℤ, pos, negsuc, negℤ}

@@ -64,7 +64,7 @@ sign-changed (pos zero) = refl
 sign-changed (pos (suc n)) = refl
 sign-changed (negsuc n) = sym (negℤ-negℤ (pos (nearestUnit (suc n))))
 
--- ---- document 01's examples
+-- ---- the requirements' examples (11)
 
 pub example-149 : voucherUnits (pos 149) ≡ pos 1
 example-149 = refl

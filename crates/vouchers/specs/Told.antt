@@ -1,4 +1,4 @@
--- What a voucher call tells: document 01's number and values for each case of its answer.
+-- What a voucher call tells: the requirements' number and values (11, 16.5) for each case of its answer.
 use mathlib.Core.List.{List, [], _∷_}
 use mathlib.Core.Option.{Option, none, some}
 use mathlib.Core.Bool.{not}

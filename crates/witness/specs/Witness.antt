@@ -10,7 +10,7 @@ use Rattle.book.specs.declared.Opening.the-variants.{Opened}
 use Rattle.book.specs.Promises.{Opens}
 use Rattle.history.specs.History.{History}
 
--- document 01's sample: two posts, a query, a listing, a withdrawal and a query
+-- the sample of docs/REQUIREMENTS.md, 14.4: two posts, a query, a listing, a withdrawal and a query
 abbrev pub calls : List Call
 calls =
     post (pos 1) (pos 3) (pos 0)
