@@ -54,7 +54,7 @@ extern "C" {
 #define CARRIER_OUTPUT_TOO_SHORT (-10) /* listing: `out` is shorter than three words a piece */
 #define CARRIER_RATES_NOT_APART (-12)  /* meet: some rate of the first book is not above some rate of the second */
 #define CARRIER_NO_SUCH_MARK (-13)     /* mark: the index is not in 0 to m, for m pieces */
-#define CARRIER_ARRAY_TOO_SHORT (-100) /* an array has fewer words than listed above; tried before all others */
+#define CARRIER_ARRAY_TOO_SHORT (-100) /* an array has fewer words than listed above, but for `out`; tried before all others */
 
 /* Opens an empty book at `start`, whatever the words there were. Returns 0. */
 int64_t carrier_open(int64_t *table, size_t words, size_t start, int64_t capacity);
@@ -109,8 +109,9 @@ int64_t carrier_voucher(int64_t price, int64_t *units, size_t units_words);
  *     }
  *
  * carrier_begin returns the place of the first piece, and 0 where there is none. carrier_piece writes the three words of the piece at
- * a place and returns the place of the next, 0 past the last; at a place that is none it writes nothing. A place means something for
- * the table as it was when the place was given. On words that are no book a reading may go on without end. */
+ * a place and returns the place of the next, 0 past the last; at 0 and at a word that is no place it
+ * writes nothing. At another number that no call gave, the words written and the answer are free. A place means something for the table
+ * as it was when the place was given. On words that are no book a reading may go on without end. */
 int64_t carrier_begin(const int64_t *table, size_t words, size_t start);
 int64_t carrier_piece(const int64_t *table, size_t words, size_t start, int64_t place, int64_t *piece, size_t piece_words);
 

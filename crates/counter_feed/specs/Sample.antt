@@ -35,8 +35,8 @@ called [] [] h s = refl
 called [] (m ∷ ms) h s = absurd h
 called (k ∷ ks) [] h s = absurd h
 called (k ∷ ks) (m ∷ ms) h s =
-    (λ i. commanded s (command-of k (h .0) (h .1 .0) i) .bytes ++ toldAll (commanded s (command-of k (h .0) (h .1 .0) i) .state) (map lineOf ks))
-    ∙ ap (λ (t : List ℕ). commanded s m .bytes ++ t) (called ks ms (h .1 .1) (commanded s m .state))
+    (λ i. commanded s (command-of k (h .0) (h .1) i) .bytes ++ toldAll (commanded s (command-of k (h .0) (h .1) i) .state) (map lineOf ks))
+    ∙ ap (λ (t : List ℕ). commanded s m .bytes ++ t) (called ks ms (h .2) (commanded s m .state))
 
 -- ---- the sample
 
@@ -58,8 +58,11 @@ commands = Post (pos 1) (pos 3) (pos 0) ∷ Post (pos 2) (pos 1) (pos 10) ∷ Qu
 
 sample-fits : HaveLines calls commands
 unfolding decimal numeral digits digitsWithin
-sample-fits =
-    (refl, ((omega arith, omega arith, omega arith), (refl, ((omega arith, omega arith, omega arith), (refl, (omega arith, (refl, (tt, (refl, (omega arith, (refl, (omega arith, tt))))))))))))
+sample-fits = (
+  refl,
+  (omega arith, omega arith, omega arith),
+  (refl, (omega arith, omega arith, omega arith), (refl, omega arith, (refl, tt, (refl, omega arith, (refl, omega arith, tt))))),
+)
 
 sample-called : calledAll (opened (pos capacity)) commands ≡ answer
 unfolding pieceLines answerLine justified decimal numeral digits digitsWithin

@@ -72,7 +72,7 @@ pub fn end_in(part: &[i64], c: u32, tree: u8, side: bool, x: u32) -> u32
     ensures { λ r. ⌜ Ended (now (part .entry)) tree side x r ⌝ }
 {
     let mut y = x;
-    let mut limit: u32 = 24;
+    let mut limit: u32 = table::MOST_LEVELS;
     while y > table::MOST_SLOTS {
         if limit == 0 {
             return 0;
@@ -94,7 +94,7 @@ pub fn find(part: &[i64], tree: u8, field: usize, key: i64, x: u32) -> u32
     ensures { λ r. ⌜ Found (now (part .entry)) tree field key x r ⌝ }
 {
     let mut y = x;
-    let mut limit: u32 = 24;
+    let mut limit: u32 = table::MOST_LEVELS;
     while y > table::MOST_SLOTS {
         if limit == 0 {
             return 0;

@@ -48,6 +48,18 @@ module _ (S : Figure) (L : PseudoLines S) where
       (λ a m. not-before S L (last ls) a (up-to-last ls (ordered-pairs (ordered-left S (leaves ls) rs o)) (f a m)))
       (λ a m. not-T (not (S .before (last ls) a)) (λ t. T-not (S .before (last ls) a) t (ordered-apart S (leaves ls) rs o (last ls) a (last-leaf ls) (g a m))))
 
+  -- a fork's envelope is parted at its bridge
+  pub fork-halves :
+      (u v : S .Line) (l r : OfferTree (S .Line)) (ql qr e : Part (S .Line)) (upTo from : List (S .Line)) →
+      Ordered S (leaves (shape l) ++ leaves (shape r)) →
+      partLeaves e ≡ (upTo ++ u ∷ []) ++ v ∷ from →
+      Valid S l ((upTo ++ u ∷ []) ++ partLeaves ql) →
+      Valid S r (partLeaves qr ++ v ∷ from) →
+      Halves (cutBehind S (last (shape l)) e) (upTo ++ u ∷ []) (v ∷ from)
+  fork-halves u v l r ql qr e upTo from o p vl vr =
+      cut-halves (shape l) (leaves (shape r)) e (upTo ++ u ∷ []) (v ∷ from) o p (λ a m. sublist-mem (valid-env S L vl .sub) (Memᴰ·append-left (partLeaves ql) m))
+      (λ a m. sublist-mem (valid-env S L vr .sub) (Memᴰ·append-right (partLeaves qr) m))
+
   lower-valid :
       {u v : S .Line} {l r : OfferTree (S .Line)} {ql qr : Part (S .Line)} (e : Part (S .Line)) →
       Ordered S (leaves (shape l) ++ leaves (shape r)) →
@@ -58,10 +70,7 @@ module _ (S : Figure) (L : PseudoLines S) where
   unfolding lowerTree
   lower-valid {u} {v} {l} {r} {ql} {qr} e o (valid-fork upTo from p vl vr al ar E) (avl-node bl br hl hr) b =
       let c : Cut (S .Line) = cutBehind S (last (shape l)) e in
-      let H : Halves c (upTo ++ u ∷ []) (v ∷ from) =
-      cut-halves (shape l) (leaves (shape r)) e (upTo ++ u ∷ []) (v ∷ from) o p (λ a m. sublist-mem (valid-env S L vl .sub) (Memᴰ·append-left (partLeaves ql) m))
-      (λ a m. sublist-mem (valid-env S L vr .sub) (Memᴰ·append-right (partLeaves qr) m))
-      in
+      let H : Halves c (upTo ++ u ∷ []) (v ∷ from) = fork-halves u v l r ql qr e upTo from o p vl vr in
       let K = splitP-low (λ x. not (S .before (last (shape l)) x)) e b in
       record {
         front-tree = refl;

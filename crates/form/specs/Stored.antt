@@ -7,7 +7,7 @@ use Rattle.trees.specs.Tree.{leaves, last}
 use Rattle.trees.specs.Operations.{Part}
 use Rattle.dynamic.specs.OfferTree.{OfferTree, single, fork, shape, Held, heldShape}
 use Rattle.dynamic.specs.Valid.{Whole}
-use Rattle.table.specs.Fields.{bridgeLeftField, bridgeRightField, offerTree}
+use Rattle.table.specs.Fields.{bridgeLeftField, bridgeRightField, innerRestField, leafRestField, offerTree}
 use Rattle.table.specs.Words.{Words}
 use Rattle.table.specs.Layout.{cap, cell, linkAt}
 use Rattle.table.specs.Items.{Item, In, Slots}
@@ -24,8 +24,8 @@ nodeSlot (single a) = a .slot
 nodeSlot (fork u v l ql qr r) = last (shape l) .slot
 
 abbrev pub restField : OfferTree Item → ℕ
-restField (single a) = 21
-restField (fork u v l ql qr r) = 20
+restField (single a) = leafRestField
+restField (fork u v l ql qr r) = innerRestField
 
 -- the part stays with the node: the word itself is the number of its root, so that it is 0 where the part is empty, and no other word that is read as 0
 pub record RestIn (w : Words) (t : OfferTree Item) (q : Part Item) : Type 0 where
@@ -61,10 +61,10 @@ pub record HeldIn (w : Words) (x e : ℕ) (h : Held Item) : Type 0 where
 pub data EnvelopeField (f : ℕ) : Type 0 where
   of-pieces : PieceField f → EnvelopeField f
   of-offers : Field offerTree f → EnvelopeField f
-  of-bridge-u : f ≡ 10 → EnvelopeField f
-  of-bridge-v : f ≡ 11 → EnvelopeField f
-  of-inner-rest : f ≡ 20 → EnvelopeField f
-  of-leaf-rest : f ≡ 21 → EnvelopeField f
+  of-bridge-u : f ≡ bridgeLeftField → EnvelopeField f
+  of-bridge-v : f ≡ bridgeRightField → EnvelopeField f
+  of-inner-rest : f ≡ innerRestField → EnvelopeField f
+  of-leaf-rest : f ≡ leafRestField → EnvelopeField f
 
 -- of the fields, only those of envelopes in slots of xs have changed
 pub record Touched (xs : List Item) (w w′ : Words) : Type 0 where

@@ -34,7 +34,7 @@ pub record Added (s root : ℕ) (w w′ : Words) (root′ : ℕ) : Type 0 where
       (q : Part Item) × NumbersAt w′ root′ (a ∷ live) q
   pub only : (a : Item) (live : List Item) (p : Part Item) → NumbersAt w root live p → s ≡ a .slot → Slots (cap w) (a ∷ live) → Holds w (a ∷ live) → ((b : Item) → List·Memᴰ b live → numberOf b ≢ numberOf a) → Only numberTree (a ∷ live) w w′
 
--- the item with that number leaves
+-- the item with that number leaves; where none has it, only the frame is told
 pub record Dropped (number : ℤ) (root : ℕ) (w w′ : Words) (root′ : ℕ) : Type 0 where
   pub within : Within w w′
   pub made :

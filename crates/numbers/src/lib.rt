@@ -66,7 +66,7 @@ fn drop_below(part: &mut [i64], c: u32, least: i64, x: u32, limit: u32) -> u32
     shape::join_in(part, c, table::NUMBERS, last, y, r)
 }
 
-// Drops the item with that number, and keeps the others.
+// Drops the item with that number, and keeps the others. A number that no item has may cost another item its leaf: ask `find` first.
 pub fn drop_number(part: &mut [i64], root: u32, number: i64) -> u32
     ensures { λ r. ⌜ Dropped number root (now (part .entry)) (now (part .exit)) r ⌝ }
 {

@@ -25,7 +25,7 @@ use Rattle.table.specs.Threads.{Held, Holds, Next, Threaded, SameOffer, SameThr
 use Rattle.shape.specs.Merge.{Merged}
 use Rattle.descents.specs.Ends.{Ended}
 use Rattle.search.specs.Prices.{rateAt, baseAt}
-use Rattle.pieces.specs.Pieces.{PartIn, PieceField, of-node, of-numerator, of-denominator, of-next, PiecesOnly, Standing, Beside, Catted, SeamAt, Seamed}
+use Rattle.pieces.specs.Pieces.{PartIn, PieceField, of-node, of-numerator, of-denominator, of-next, PiecesOnly, Standing, Beside, Catted, EndsAt, BeginsAt, SeamAt, Seamed, CattedAfter, CattedBefore}
 
 -- ---- nothing on one side
 
@@ -212,13 +212,35 @@ seamed {l} {r} {s} {n} {x} {N} {D} {w} {w₃} {w₄} nl nr eN eD e₃ m = record
 pub seamed-any : {l r s n x : ℕ} {w w′ : Words} → Catted l r w w′ x → Seamed l r s n w w′ x
 seamed-any c = record { within = c .within; root = λ p q b h. c .root p q b; only = λ p q b h. c .only p q b }
 
--- the ends at the seam are found
+pub after-any : {l r s x : ℕ} {w w′ : Words} → Catted l r w w′ x → CattedAfter l r s w w′ x
+after-any c = record { within = c .within; root = λ p q b h. c .root p q b; only = λ p q b h. c .only p q b }
+
+pub before-any : {l r n x : ℕ} {w w′ : Words} → Catted l r w w′ x → CattedBefore l r n w w′ x
+before-any c = record { within = c .within; root = λ p q b h. c .root p q b; only = λ p q b h. c .only p q b }
+
+-- an end at the seam is found
+last-found : {w : Words} {l s : ℕ} {p : Part Item} → Ended w pieceTree true l s → Standing w l p → EndsAt s p
+last-found {w} {l} f st t e = let h = subst (Standing w l) e st in f .is t (standing-rep h) (h .balanced)
+
+first-found : {w : Words} {r n : ℕ} {q : Part Item} → Ended w pieceTree false r n → Standing w r q → BeginsAt n q
+first-found {w} {r} f st t e = let h = subst (Standing w r) e st in f .is t (standing-rep h) (h .balanced)
+
+-- both are
 pub catted : {l r s n x : ℕ} {w w′ : Words} → Ended w pieceTree true l s → Ended w pieceTree false r n → Seamed l r s n w w′ x → Catted l r w w′ x
-catted {l} {r} {s} {n} {x} {w} {w′} es en m = record { within = m .within; root = λ p q b. m .root p q b (ends p q b); only = λ p q b. m .only p q b (ends p q b) }
+catted {l} {r} {s} {n} {w} es en m = record { within = m .within; root = λ p q b. m .root p q b (ends p q b); only = λ p q b. m .only p q b (ends p q b) }
   where
     ends : (p q : Part Item) → Beside w l r p q → SeamAt s n p q
-    ends p q b =
-        record {
-          left-end = λ t e. let h = subst (Standing w l) e (b .left) in es .is t (standing-rep h) (h .balanced);
-          right-end = λ t e. let h = subst (Standing w r) e (b .right) in en .is t (standing-rep h) (h .balanced);
-        }
+    ends p q b = record { left-end = last-found es (b .left); right-end = first-found en (b .right) }
+
+-- one is, and the other is known
+pub catted-after : {l r s n x : ℕ} {w w′ : Words} → Ended w pieceTree false r n → Seamed l r s n w w′ x → CattedAfter l r s w w′ x
+catted-after {l} {r} {s} {n} {w} en m = record { within = m .within; root = λ p q b h. m .root p q b (ends p q b h); only = λ p q b h. m .only p q b (ends p q b h) }
+  where
+    ends : (p q : Part Item) → Beside w l r p q → EndsAt s p → SeamAt s n p q
+    ends p q b h = record { left-end = h; right-end = first-found en (b .right) }
+
+pub catted-before : {l r s n x : ℕ} {w w′ : Words} → Ended w pieceTree true l s → Seamed l r s n w w′ x → CattedBefore l r n w w′ x
+catted-before {l} {r} {s} {n} {w} es m = record { within = m .within; root = λ p q b h. m .root p q b (ends p q b h); only = λ p q b h. m .only p q b (ends p q b h) }
+  where
+    ends : (p q : Part Item) → Beside w l r p q → BeginsAt n q → SeamAt s n p q
+    ends p q b h = record { left-end = last-found es (b .left); right-end = h }

@@ -11,7 +11,7 @@ pub use Rattle.search.specs.ItemLines.{rateOf, baseOf, itemFigure as items, ite
 use Rattle.trees.specs.Tree.{Tree, leaves, first, last}
 use Rattle.trees.specs.Operations.{Part, Cut, partLeaves, joinP, splitP}
 use Rattle.trees.specs.Balanced.{AvlP}
-use Rattle.table.specs.Fields.{pieceTree}
+use Rattle.table.specs.Fields.{denominatorField, nextPieceField, numeratorField, pieceTree}
 use Rattle.table.specs.Words.{Words}
 use Rattle.table.specs.Layout.{cap, cell}
 use Rattle.table.specs.Items.{Item, In, Slots}
@@ -31,9 +31,9 @@ PartIn w (some t) = Tied w pieceTree t × Threaded w (leaves t)
 -- nodes of the piece tree, the next piece and the crossing with it
 pub data PieceField (f : ℕ) : Type 0 where
   of-node : Field pieceTree f → PieceField f
-  of-numerator : f ≡ 6 → PieceField f
-  of-denominator : f ≡ 7 → PieceField f
-  of-next : f ≡ 19 → PieceField f
+  of-numerator : f ≡ numeratorField → PieceField f
+  of-denominator : f ≡ denominatorField → PieceField f
+  of-next : f ≡ nextPieceField → PieceField f
 
 -- of the fields, only those of pieces in slots of xs have changed
 pub record PiecesOnly (xs : List Item) (w w′ : Words) : Type 0 where
@@ -61,16 +61,34 @@ pub record Catted (l r : ℕ) (w w′ : Words) (x : ℕ) : Type 0 where
   pub root : (p q : Part Item) → Beside w l r p q → Standing w′ x (joinP p q)
   pub only : (p q : Part Item) → Beside w l r p q → PiecesOnly (partLeaves p ++ partLeaves q) w w′
 
--- s is the slot of the last piece of p, n that of the first of q
+-- s is the slot of the last piece of p, n that of the first of q; nothing is said of an empty one
+abbrev pub EndsAt : ℕ → Part Item → Type 0
+EndsAt s p = (t : Tree Item) → p ≡ some t → s ≡ last t .slot
+
+abbrev pub BeginsAt : ℕ → Part Item → Type 0
+BeginsAt n q = (t : Tree Item) → q ≡ some t → n ≡ first t .slot
+
 pub record SeamAt (s n : ℕ) (p q : Part Item) : Type 0 where
-  pub left-end : (t : Tree Item) → p ≡ some t → s ≡ last t .slot
-  pub right-end : (t : Tree Item) → q ≡ some t → n ≡ first t .slot
+  pub left-end : EndsAt s p
+  pub right-end : BeginsAt n q
 
 -- put together by one who knows the seam
 pub record Seamed (l r s n : ℕ) (w w′ : Words) (x : ℕ) : Type 0 where
   pub within : Within w w′
   pub root : (p q : Part Item) → Beside w l r p q → SeamAt s n p q → Standing w′ x (joinP p q)
   pub only : (p q : Part Item) → Beside w l r p q → SeamAt s n p q → PiecesOnly (partLeaves p ++ partLeaves q) w w′
+
+-- put together by one who knows the last piece on the left
+pub record CattedAfter (l r s : ℕ) (w w′ : Words) (x : ℕ) : Type 0 where
+  pub within : Within w w′
+  pub root : (p q : Part Item) → Beside w l r p q → EndsAt s p → Standing w′ x (joinP p q)
+  pub only : (p q : Part Item) → Beside w l r p q → EndsAt s p → PiecesOnly (partLeaves p ++ partLeaves q) w w′
+
+-- by one who knows the first piece on the right
+pub record CattedBefore (l r n : ℕ) (w w′ : Words) (x : ℕ) : Type 0 where
+  pub within : Within w w′
+  pub root : (p q : Part Item) → Beside w l r p q → BeginsAt n q → Standing w′ x (joinP p q)
+  pub only : (p q : Part Item) → Beside w l r p q → BeginsAt n q → PiecesOnly (partLeaves p ++ partLeaves q) w w′
 
 -- cut by rate: in front the pieces whose rate is at least that, or above it where the cut is strict
 abbrev pub inFront : Bool → ℤ → Item → Bool

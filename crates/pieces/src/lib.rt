@@ -1,7 +1,7 @@
 // Piece trees in the table: an envelope's pieces with their crossings, cut by rate and put together.
 ghost use mathlib.Core.Path.{_≡_};
 ghost use Rattle.table.specs.Layout.{cap};
-ghost use Rattle.pieces.specs.Pieces.{CutAt, Catted, Seamed};
+ghost use Rattle.pieces.specs.Pieces.{CutAt, Catted, Seamed, CattedAfter, CattedBefore};
 ghost use Rattle.pieces.specs.Cutting.{leastRate};
 
 // The least rate in front of a cut: for a strict one a rate more. No offer's rate reaches a million.
@@ -82,6 +82,24 @@ pub fn cat_in(part: &mut [i64], c: u32, l: u32, r: u32) -> u32
     }
     let s = descents::end_in(part, c, table::PIECES, true, l);
     let n = descents::end_in(part, c, table::PIECES, false, r);
+    cat_at(part, c, l, r, s, n)
+}
+
+// The same, where `s` is known.
+pub fn cat_after(part: &mut [i64], c: u32, l: u32, r: u32, s: u32) -> u32
+    requires { ⌜ c ≡ cap (now part) ⌝ }
+    ensures { λ x. ⌜ CattedAfter l r s (now (part .entry)) (now (part .exit)) x ⌝ }
+{
+    let n = descents::end_in(part, c, table::PIECES, false, r);
+    cat_at(part, c, l, r, s, n)
+}
+
+// The same, where `n` is known.
+pub fn cat_before(part: &mut [i64], c: u32, l: u32, r: u32, n: u32) -> u32
+    requires { ⌜ c ≡ cap (now part) ⌝ }
+    ensures { λ x. ⌜ CattedBefore l r n (now (part .entry)) (now (part .exit)) x ⌝ }
+{
+    let s = descents::end_in(part, c, table::PIECES, true, l);
     cat_at(part, c, l, r, s, n)
 }
 

@@ -78,7 +78,7 @@ numberTree = 2
 abbrev pub mostSlots : ℕ
 mostSlots = 4096
 
--- the highest number of a node
+-- the highest number of a node; any link, height or count is read up to here
 abbrev pub mostNodes : ℕ
 mostNodes = 8192
 

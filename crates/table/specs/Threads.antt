@@ -182,7 +182,7 @@ abbrev pub threading : Words → Item → Item → Words
 threading w a b =
     cset
     (cset (cset w numeratorField (a .slot) (crossingNumerator (a .offer) (b .offer))) denominatorField (a .slot) (crossingDenominator (a .offer) (b .offer)))
-    19
+    nextPieceField
     (a .slot)
     (pos (b .slot))
 

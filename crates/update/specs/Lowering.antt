@@ -1,42 +1,46 @@
 -- Lower in words: cut the whole envelope behind the left child's last line, then give each child its rest back.
 use mathlib.Core.Path.{_≡_, refl, sym, _∙_, ap, subst}
 use mathlib.Core.Bool.{true, false}
-use mathlib.Core.List.{List, _∷_, _++_, List·Memᴰ·head, List·Memᴰ·tail, Memᴰ·append-left, Memᴰ·append-right}
+use mathlib.Core.Option.{some}
+use mathlib.Core.List.{List, [], _∷_, _++_, List·Memᴰ·head, List·Memᴰ·tail, Memᴰ·append-left, Memᴰ·append-right}
 use Prim.Native.Nat.{ℕ, _+_, _-_, _<_}
 use native.Mathlib.Omega.{arith}
 use lib.IntN.{ℤ}
-use Rattle.trees.specs.Tree.{leaves, last}
+use Rattle.trees.specs.Tree.{Tree, leaves, first, last}
 use Rattle.trees.specs.Leaves.{last-leaf, leaves-joinP}
 use Rattle.trees.specs.Operations.{Part, Cut, partLeaves, joinP, splitP}
 use Rattle.trees.specs.Balanced.{AvlP}
+use Rattle.trees.specs.Split.{Halves}
 use Rattle.dynamic.specs.OfferTree.{OfferTree, single, fork, shape, Held, hold, heldShape, cutBehind, lowerTree, lower}
-use Rattle.dynamic.specs.Valid.{Whole}
-use Rattle.dynamic.specs.Lower.{LowersTo, whole-lower}
+use Rattle.dynamic.specs.Valid.{Valid, valid-fork, Whole}
+use Rattle.dynamic.specs.Lower.{LowersTo, fork-halves, whole-lower}
 use Rattle.dynamic.specs.Rearranged.{stored, rests}
 use Rattle.dynamic.specs.Heights.{trees-balanced}
-use Rattle.table.specs.Fields.{mostSlots, offerTree, rateField}
-use Rattle.table.specs.Words.{Words}
+use Rattle.table.specs.Fields.{bridgeLeftField, bridgeRightField, mostNodes, mostSlots, offerTree, rateField}
+use Rattle.table.specs.Words.{Words, upTo}
 use Rattle.table.specs.Layout.{cap, cap-most, cell, linkAt}
 use Rattle.table.specs.Items.{Item, Slots, slots-left, slots-right}
 use Rattle.table.specs.Rep.{childAt, refOf, Tied, tied-node, Within, within-trans}
 use Rattle.table.specs.Threads.{Holds, holds-left, holds-right}
-use Rattle.pieces.specs.Pieces.{items, item-laws, rateOf, PieceField, PiecesOnly, Standing, Beside, Catted, inFront, CutAt}
+use Rattle.pieces.specs.Pieces.{items, item-laws, rateOf, PieceField, PiecesOnly, Standing, Beside, EndsAt, BeginsAt, CattedAfter, CattedBefore, inFront, CutAt}
 use Rattle.form.specs.Stored.{RestIn, Stored, stored-fork, HeldIn, Touched}
 use Rattle.table.specs.PartTrees.{partRef}
 use Rattle.update.specs.Steps.{LoweredIn}
 use Rattle.form.specs.RestWords.{restAt, rest-at}
-use Rattle.form.specs.Frames.{Disjoint, disjoint-across, tied-same, holds-same, rest-same, stored-same, held-slots, held-holds, whole-standing, whole-inside, stored-inside, pieces-offers, pieces-tree, pieces-rests, pieces-else, pieces-touched, slots-within, standing-still, pieces-trans, pieces-more, touched-more}
-use Rattle.update.specs.RaisingModel.{up-to-test}
+use Rattle.form.specs.Frames.{RestField, bridge-u, bridge-v, rests-apart, Disjoint, disjoint-across, tied-same, holds-same, rest-same, stored-same, held-slots, held-holds, whole-standing, whole-inside, stored-inside, pieces-offers, pieces-tree, pieces-rests, pieces-else, pieces-touched, slots-within, standing-still, pieces-trans, pieces-more, touched-more}
+use Rattle.update.specs.RaisingModel.{up-to-test, last-of, first-of}
 use Rattle.update.specs.RaisingCuts.{Halved, halved}
 use Rattle.form.specs.Disjoint.{inside-refl, inside-left, inside-right, inside-join, disjoint-join, disjoint-turned, disjoint-both, slots-join}
 
 -- ---- what is read
 
--- a fork in hand: its children, its separator and what stays with the children
-pub record Forked (w : Words) (x : ℕ) (l r : OfferTree Item) (ql qr : Part Item) : Type 0 where
+-- a fork in hand: its children, its separator, its bridge and what stays with the children
+pub record Forked (w : Words) (x : ℕ) (u v : Item) (l r : OfferTree Item) (ql qr : Part Item) : Type 0 where
   pub left-at : childAt w offerTree false x ≡ refOf (shape l)
   pub right-at : childAt w offerTree true x ≡ refOf (shape r)
   pub rate-at : cell w rateField (x - mostSlots) ≡ rateOf (last (shape l))
+  pub bridge-left : linkAt w bridgeLeftField (x - mostSlots) ≡ u .slot
+  pub bridge-right : linkAt w bridgeRightField (x - mostSlots) ≡ v .slot
   pub tied-left : Tied w offerTree (shape l)
   pub tied-right : Tied w offerTree (shape r)
   pub stored-left : Stored w l
@@ -44,18 +48,20 @@ pub record Forked (w : Words) (x : ℕ) (l r : OfferTree Item) (ql qr : Part Ite
   pub rest-left : RestIn w l ql
   pub rest-right : RestIn w r qr
 
-pub forked : {w : Words} {x e : ℕ} {u v : Item} {l r : OfferTree Item} {ql qr p : Part Item} → HeldIn w x e (hold (fork u v l ql qr r) p) → Forked w x l r ql qr
+pub forked : {w : Words} {x e : ℕ} {u v : Item} {l r : OfferTree Item} {ql qr p : Part Item} → HeldIn w x e (hold (fork u v l ql qr r) p) → Forked w x u v l r ql qr
 forked {w} {x} {u} {v} {l} {r} {ql} {qr} held = go (held .tied) (held .stored)
   where
     here : x - mostSlots ≡ last (shape l) .slot
     here = omega (arith, held .root)
 
-    go : Tied w offerTree (shape (fork u v l ql qr r)) → Stored w (fork u v l ql qr r) → Forked w x l r ql qr
+    go : Tied w offerTree (shape (fork u v l ql qr r)) → Stored w (fork u v l ql qr r) → Forked w x u v l r ql qr
     go (tied-node a b el er eh) (stored-fork sl sr eu ev rl rr) =
         record {
           left-at = ap (linkAt w _) here ∙ el;
           right-at = ap (linkAt w _) here ∙ er;
           rate-at = ap (cell w rateField) here ∙ held .kept .held (Memᴰ·append-left (leaves (shape r)) (last-leaf (shape l))) .rate;
+          bridge-left = ap (linkAt w bridgeLeftField) here ∙ eu;
+          bridge-right = ap (linkAt w bridgeRightField) here ∙ ev;
           tied-left = a;
           tied-right = b;
           stored-left = sl;
@@ -69,6 +75,26 @@ forked {w} {x} {u} {v} {l} {r} {ql} {qr} held = go (held .tied) (held .stored)
 -- the whole envelope cut by the rate of s is cut behind s
 cut-behind : {θ : ℤ} {e a b : ℕ} {w w₁ : Words} {p : Part Item} (s : Item) → θ ≡ rateOf s → CutAt false θ e w w₁ a b → Standing w e p → Halved w₁ a b p (cutBehind items s p)
 cut-behind {a} {b} {w₁} {p} s d cut st = subst (λ test. Halved w₁ a b p (splitP test p)) (ap (inFront false) d ∙ sym (up-to-test s)) (halved cut st)
+
+-- it is parted at the bridge: the front part ends at u, the back part begins with v
+record Parted (u v : Item) (c : Cut Item) : Type 0 where
+  front : (t : Tree Item) → c .front ≡ some t → last t ≡ u
+  back : (t : Tree Item) → c .back ≡ some t → first t ≡ v
+
+parted : {u v : Item} {l r : OfferTree Item} {ql qr p : Part Item} → Whole items (hold (fork u v l ql qr r) p) → Parted u v (cutBehind items (last (shape l)) p)
+parted {u} {v} {l} {r} {ql} {qr} {p} whole = go (whole .valid)
+  where
+    go : Valid items (fork u v l ql qr r) (partLeaves p) → Parted u v (cutBehind items (last (shape l)) p)
+    go (valid-fork upTo from e vl vr al ar E) =
+        let h : Halves (cutBehind items (last (shape l)) p) (upTo ++ u ∷ []) (v ∷ from) = fork-halves items item-laws u v l r ql qr p upTo from (whole .ordered) e vl vr in
+        record {
+          front = λ t d. last-of t upTo u (sym (ap partLeaves d) ∙ h .before);
+          back = λ t d. first-of t v from (sym (ap partLeaves d) ∙ h .after);
+        }
+
+-- pieces that change leave a node's bridge
+bridge-still : {w w′ : Words} {ys : List Item} {f : ℕ} (s : ℕ) → RestField f → PiecesOnly ys w w′ → linkAt w′ f s ≡ linkAt w f s
+bridge-still {f} s i g = ap (upTo mostNodes) (g .cells f s (λ q. rests-apart (q .0) i))
 
 -- ---- a child, with its envelope put together again
 
@@ -120,23 +146,25 @@ record Joins (w w′ : Words) (x y : ℕ) (p q p′ q′ : Part Item) : Type 0 w
   only : PiecesOnly ((partLeaves p ++ partLeaves q) ++ (partLeaves p′ ++ partLeaves q′)) w w′
 
 joins :
-    {w w₁ w₂ : Words} {a b a′ b′ x y : ℕ} {p q p′ q′ : Part Item} →
-    Catted a b w w₁ x →
-    Catted a′ b′ w₁ w₂ y →
+    {w w₁ w₂ : Words} {a b s a′ b′ n x y : ℕ} {p q p′ q′ : Part Item} →
+    CattedAfter a b s w w₁ x →
+    CattedBefore a′ b′ n w₁ w₂ y →
     Beside w a b p q →
+    EndsAt s p →
     Beside w a′ b′ p′ q′ →
+    (PiecesOnly (partLeaves p ++ partLeaves q) w w₁ → BeginsAt n q′) →
     Disjoint (partLeaves p ++ partLeaves q) (partLeaves p′ ++ partLeaves q′) →
     Joins w w₂ x y p q p′ q′
-joins {w} {w₁} {w₂} {a′} {b′} {p} {q} {p′} {q′} one other side side′ d =
+joins {w} {w₁} {w₂} {a′} {b′} {p} {q} {p′} {q′} one other side ends side′ begins d =
     record {
       within = within-trans (one .within) (other .within);
-      one = standing-still (other .within) (one .root p q side) (pieces-touched only₂) (rw leaves-joinP d);
-      other = other .root p′ q′ later;
+      one = standing-still (other .within) (one .root p q side ends) (pieces-touched only₂) (rw leaves-joinP d);
+      other = other .root p′ q′ later (begins only₁);
       only = pieces-trans (pieces-more (inside-left (partLeaves p′ ++ partLeaves q′)) only₁) (pieces-more (inside-right (partLeaves p ++ partLeaves q)) only₂);
     }
   where
     only₁ : PiecesOnly (partLeaves p ++ partLeaves q) w w₁
-    only₁ = one .only p q side
+    only₁ = one .only p q side ends
 
     later : Beside w₁ a′ b′ p′ q′
     later =
@@ -147,20 +175,28 @@ joins {w} {w₁} {w₂} {a′} {b′} {p} {q} {p′} {q′} one other side side�
         }
 
     only₂ : PiecesOnly (partLeaves p′ ++ partLeaves q′) w₁ w₂
-    only₂ = other .only p′ q′ later
+    only₂ = other .only p′ q′ later (begins only₁)
+
+-- the end that is known was read
+pub after-read : {l r s s′ x : ℕ} {w w′ : Words} → s ≡ s′ → CattedAfter l r s w w′ x → CattedAfter l r s′ w w′ x
+after-read {l} {r} {x} {w} {w′} e = subst (λ (n : ℕ). CattedAfter l r n w w′ x) e
+
+pub before-read : {l r n n′ x : ℕ} {w w′ : Words} → n ≡ n′ → CattedBefore l r n w w′ x → CattedBefore l r n′ w w′ x
+before-read {l} {r} {x} {w} {w′} e = subst (λ (n : ℕ). CattedBefore l r n w w′ x) e
 
 -- ---- the calls in a row
 
 -- the children, the separator's rate, the cut, the rests, and each child's part put together with its rest
-record Calls (x e : ℕ) (w w₁ w₂ w₃ : Words) (l r ql qr a b le re : ℕ) (θ : ℤ) : Type 0 where
+record Calls (x e : ℕ) (w w₁ w₂ w₃ : Words) (l r m ql qr a b le re : ℕ) (θ : ℤ) : Type 0 where
   left : l ≡ childAt w offerTree false x
   right : r ≡ childAt w offerTree true x
-  rate : θ ≡ cell w rateField (x - mostSlots)
+  slot : m ≡ x - mostSlots
+  rate : θ ≡ cell w rateField m
   cut : CutAt false θ e w w₁ a b
   rest-left : ql ≡ restAt w₁ l
   rest-right : qr ≡ restAt w₁ r
-  front : Catted a ql w₁ w₂ le
-  back : Catted qr b w₂ w₃ re
+  front : CattedAfter a ql (linkAt w₁ bridgeLeftField m) w₁ w₂ le
+  back : CattedBefore qr b (linkAt w₂ bridgeRightField m) w₂ w₃ re
 
 -- what they leave of a subtree in hand
 record Lowers (x e : ℕ) (w w′ : Words) (l le r re : ℕ) (h : Held Item) : Type 0 where
@@ -203,7 +239,7 @@ spread {c} p ql sl qr sr s =
     sides : Disjoint (ql ++ sl) (qr ++ sr)
     sides = disjoint-across (ql ++ sl) rest
 
-module _ {x e l r ql qr a b le re : ℕ} {θ : ℤ} {w w₁ w₂ w₃ : Words} {u v : Item} {L R : OfferTree Item} {QL QR P : Part Item} (calls : Calls x e w w₁ w₂ w₃ l r ql qr a b le re θ) (held : HeldIn w x e (hold (fork u v L QL QR R) P)) where
+module _ {x e l r m ql qr a b le re : ℕ} {θ : ℤ} {w w₁ w₂ w₃ : Words} {u v : Item} {L R : OfferTree Item} {QL QR P : Part Item} (calls : Calls x e w w₁ w₂ w₃ l r m ql qr a b le re θ) (held : HeldIn w x e (hold (fork u v L QL QR R) P)) where
   lowers-fork : Lowers x e w w₃ l le r re (hold (fork u v L QL QR R) P)
   unfolding lowerTree
   lowers-fork =
@@ -222,7 +258,7 @@ module _ {x e l r ql qr a b le re : ℕ} {θ : ℤ} {w w₁ w₂ w₃ : Words} {
             (pieces-touched pieces);
       }
     where
-      f : Forked w x L R QL QR
+      f : Forked w x u v L R QL QR
       f = forked held
 
       whole : LowersTo items L R (lower items (hold (fork u v L QL QR R) P))
@@ -232,7 +268,7 @@ module _ {x e l r ql qr a b le re : ℕ} {θ : ℤ} {w w₁ w₂ w₃ : Words} {
       c = cutBehind items (last (shape L)) P
 
       k : Halved w₁ a b P c
-      k = cut-behind (last (shape L)) (calls .rate ∙ f .rate-at) (calls .cut) (whole-standing held)
+      k = cut-behind (last (shape L)) (calls .rate ∙ ap (cell w rateField) (calls .slot) ∙ f .rate-at) (calls .cut) (whole-standing held)
 
       d : Spread (partLeaves P) (partLeaves QL) (stored L) (partLeaves QR) (stored R)
       d = spread (partLeaves P) (partLeaves QL) (stored L) (partLeaves QR) (stored R) (held-slots held)
@@ -262,11 +298,26 @@ module _ {x e l r ql qr a b le re : ℕ} {θ : ℤ} {w w₁ w₂ w₃ : Words} {
           (holds-left (stored R) (holds-right (partLeaves QL ++ stored L) rest-holds))
           (trees-balanced items (held .right) QR (List·Memᴰ·tail (Memᴰ·append-right (QL ∷ rests L) (List·Memᴰ·head refl))))
 
+      -- the bridge, as it is read after the cut
+      bridge : Parted u v c
+      bridge = parted (held .right)
+
+      slot-of : Item → ℕ
+      slot-of a = a .slot
+
+      left-bridge : linkAt w₁ bridgeLeftField m ≡ u .slot
+      left-bridge = bridge-still m (bridge-u refl) cutting ∙ ap (linkAt w bridgeLeftField) (calls .slot) ∙ f .bridge-left
+
+      right-bridge : linkAt w₁ bridgeRightField m ≡ v .slot
+      right-bridge = bridge-still m (bridge-v refl) cutting ∙ ap (linkAt w bridgeRightField) (calls .slot) ∙ f .bridge-right
+
       joined : Joins w₁ w₃ le re (c .front) QL QR (c .back)
       joined =
           joins (calls .front) (calls .back)
           (record { left = k .front; right = ql₁; slots = slots-join (k .front .slots) (ql₁ .slots) (disjoint-both (k .front-inside) (inside-refl _) (d .p-ql)) })
+          (λ t i. left-bridge ∙ sym (ap slot-of (bridge .front t i)))
           (record { left = qr₁; right = k .back; slots = slots-join (qr₁ .slots) (k .back .slots) (disjoint-turned (disjoint-both (k .back-inside) (inside-refl _) (d .p-qr))) })
+          (λ o t i. bridge-still m (bridge-v refl) o ∙ right-bridge ∙ sym (ap slot-of (bridge .back t i)))
           (disjoint-join (partLeaves (c .front))
           (disjoint-turned (disjoint-join (partLeaves QR) (disjoint-turned (disjoint-both (k .front-inside) (inside-refl _) (d .p-qr))) (disjoint-turned (k .apart))))
           (disjoint-turned (disjoint-join (partLeaves QR) (disjoint-turned (d .ql-qr)) (disjoint-both (k .back-inside) (inside-refl _) (d .p-ql)))))
@@ -283,8 +334,8 @@ module _ {x e l r ql qr a b le re : ℕ} {θ : ℤ} {w w₁ w₂ w₃ : Words} {
           (joined .only))
 
 lowers :
-    {x e l r ql qr a b le re : ℕ} {θ : ℤ} {w w₁ w₂ w₃ : Words} →
-    Calls x e w w₁ w₂ w₃ l r ql qr a b le re θ →
+    {x e l r m ql qr a b le re : ℕ} {θ : ℤ} {w w₁ w₂ w₃ : Words} →
+    Calls x e w w₁ w₂ w₃ l r m ql qr a b le re θ →
     (t : OfferTree Item) (p : Part Item) →
     HeldIn w x e (hold t p) →
     mostSlots < x →
@@ -292,19 +343,21 @@ lowers :
 lowers {w} calls (single a) p held h = absurd (omega (arith, held .root, held .slots .high (List·Memᴰ·head refl), cap-most w))
 lowers calls (fork u v l ql qr r) p held h = lowers-fork calls held
 
--- The children of x and the separator's rate are read, the envelope e is cut, the rests are read, and both parts are put together with them.
+-- The children of x and the separator's rate are read, the envelope e is cut, the rests are read, and both parts are put together with them,
+-- the left rest behind the bridge's left end, the right rest in front of its right end.
 pub lowered :
-    {x e l r ql qr a b le re : ℕ} {θ : ℤ} {w w₁ w₂ w₃ : Words} →
+    {x e l r m ql qr a b le re : ℕ} {θ : ℤ} {w w₁ w₂ w₃ : Words} →
     l ≡ childAt w offerTree false x →
     r ≡ childAt w offerTree true x →
-    θ ≡ cell w rateField (x - mostSlots) →
+    m ≡ x - mostSlots →
+    θ ≡ cell w rateField m →
     CutAt false θ e w w₁ a b →
     ql ≡ restAt w₁ l →
     qr ≡ restAt w₁ r →
-    Catted a ql w₁ w₂ le →
-    Catted qr b w₂ w₃ re →
+    CattedAfter a ql (linkAt w₁ bridgeLeftField m) w₁ w₂ le →
+    CattedBefore qr b (linkAt w₂ bridgeRightField m) w₂ w₃ re →
     LoweredIn x e w w₃ l le r re
-lowered {x} {e} {l} {r} {ql} {qr} {a} {b} {le} {re} {θ} {w} {w₁} {w₂} {w₃} el er et cut eql eqr front back =
+lowered {x} {e} {l} {r} {m} {ql} {qr} {a} {b} {le} {re} {θ} {w} {w₁} {w₂} {w₃} el er em et cut eql eqr front back =
     record {
       within = within-trans (cut .within) (within-trans (front .within) (back .within));
       front = λ h held d. lowers calls (h .tree) (h .whole) held d .front;
@@ -312,5 +365,5 @@ lowered {x} {e} {l} {r} {ql} {qr} {a} {b} {le} {re} {θ} {w} {w₁} {w₂} {w₃
       touched = λ h held d. lowers calls (h .tree) (h .whole) held d .touched;
     }
   where
-    calls : Calls x e w w₁ w₂ w₃ l r ql qr a b le re θ
-    calls = record { left = el; right = er; rate = et; cut = cut; rest-left = eql; rest-right = eqr; front = front; back = back }
+    calls : Calls x e w w₁ w₂ w₃ l r m ql qr a b le re θ
+    calls = record { left = el; right = er; slot = em; rate = et; cut = cut; rest-left = eql; rest-right = eqr; front = front; back = back }

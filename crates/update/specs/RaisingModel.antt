@@ -65,8 +65,11 @@ among {a} xs ys p e = subst (List·Memᴰ a) (sym e) (Memᴰ·append-right xs (L
 
 -- ---- the ends at the seam
 
-last-of : (t : Tree Item) (xs : List Item) (a : Item) → leaves t ≡ xs ++ a ∷ [] → last t ≡ a
+pub last-of : (t : Tree Item) (xs : List Item) (a : Item) → leaves t ≡ xs ++ a ∷ [] → last t ≡ a
 last-of t xs a e = sym (first-mirror t) ∙ head-eq-of-cons-eq (sym (leaves-first (mirror t)) ∙ leaves-mirror t ∙ ap reverse e ∙ reverse-append xs (a ∷ []))
+
+pub first-of : (t : Tree Item) (a : Item) (xs : List Item) → leaves t ≡ a ∷ xs → first t ≡ a
+first-of t a xs e = head-eq-of-cons-eq (sym (leaves-first t) ∙ e)
 
 module _ (a : Tree Item) (xs : List Item) (u : Item) (ys : List Item) (o : Ordered items (leaves a)) (e : leaves a ≡ xs ++ u ∷ ys) where
   about : Ordered items (xs ++ u ∷ ys)
@@ -80,7 +83,7 @@ module _ (a : Tree Item) (xs : List Item) (u : Item) (ys : List Item) (o : Order
   kept-first : (t : Tree Item) → split (inFront true (rateOf u)) a .back ≡ some t → first t ≡ u
   kept-first t d =
       let h : Halves (split (inFront true (rateOf u)) a) xs (u ∷ ys) = subst (λ (f : Item → Bool). Halves (split f a) xs (u ∷ ys)) (before-test u) (split-front items item-laws xs u ys about a e) in
-      head-eq-of-cons-eq (sym (leaves-first t) ∙ sym (ap partLeaves d) ∙ h .after)
+      first-of t u ys (sym (ap partLeaves d) ∙ h .after)
 
 module _ (l r : OfferTree Item) where
   parts : (p q : Part Item) → Whole items (hold l p) → Whole items (hold r q) → Ordered items (leaves (shape l) ++ leaves (shape r)) → Whole items (raiseBy items p q (hold l p) (hold r q) .held) → Raising (hold l p) (hold r q) (raiseBy items p q (hold l p) (hold r q))

@@ -3,8 +3,9 @@
 ghost use mathlib.Core.Path.{_≡_};
 ghost use Prim.Native.Nat.{ℕ, _+_, _≤_};
 ghost use lib.Signed.{leZ, ltZ};
-ghost use Rattle.table.specs.Fields.{mostSlots, rateField};
-ghost use Rattle.table.specs.Layout.{cap, cell};
+ghost use Rattle.table.specs.Fields.{bridgeLeftField, bridgeRightField, mostSlots, rateField};
+ghost use Rattle.table.specs.Layout.{cap, cell, linkAt};
+ghost use Rattle.pieces.specs.Pieces.{CattedAfter, CattedBefore};
 ghost use Rattle.update.specs.Steps.{LoweredIn, RaisedIn, RebalancedIn, InsertedIn, RemovedIn};
 ghost use Rattle.update.specs.RaisingRests.{RestSet};
 ghost use Rattle.update.specs.Neighbours.{LoweredOn, RaisedOn};
@@ -58,6 +59,31 @@ fn set_rest(part: &mut [i64], c: u32, x: u32, q: u32)
     table::put_link_in(part, c, table::INNER_REST, table::inner_slot(x), q);
 }
 
+// Puts a left child's rest `q` behind its part `front` of the envelope of the node in slot `m`. That part ends at the node's bridge, which is
+// read only where there is a rest.
+fn put_behind(part: &mut [i64], c: u32, m: u32, front: u32, q: u32) -> u32
+    requires { ⌜ c ≡ cap (now part) ⌝ }
+    ensures { λ r. ⌜ CattedAfter front q (linkAt (now (part .entry)) bridgeLeftField m) (now (part .entry)) (now (part .exit)) r ⌝ }
+{
+    if q == 0 {
+        return front;
+    }
+    let u = table::link_in(part, c, table::BRIDGE_LEFT, m);
+    pieces::cat_after(part, c, front, q, u)
+}
+
+// Puts a right child's rest `q` in front of its part `back`, which begins with the bridge's other end.
+fn put_in_front(part: &mut [i64], c: u32, m: u32, q: u32, back: u32) -> u32
+    requires { ⌜ c ≡ cap (now part) ⌝ }
+    ensures { λ r. ⌜ CattedBefore q back (linkAt (now (part .entry)) bridgeRightField m) (now (part .entry)) (now (part .exit)) r ⌝ }
+{
+    if q == 0 {
+        return back;
+    }
+    let v = table::link_in(part, c, table::BRIDGE_RIGHT, m);
+    pieces::cat_before(part, c, q, back, v)
+}
+
 // Takes inner node `x` apart: its envelope `e` is cut behind the left child's last line, and each child gets its rest back. No step changes
 // the capacity, so that it is read once.
 fn lower(part: &mut [i64], x: u32, e: u32) -> Lowered
@@ -66,12 +92,13 @@ fn lower(part: &mut [i64], x: u32, e: u32) -> Lowered
     let k = table::capacity(part);
     let l = table::child_in(part, k, table::OFFERS, false, x);
     let r = table::child_in(part, k, table::OFFERS, true, x);
-    let rate = table::get_in(part, k, table::RATE, table::inner_slot(x));
+    let m = table::inner_slot(x);
+    let rate = table::get_in(part, k, table::RATE, m);
     let c = pieces::cut_in(part, k, false, rate, e);
     let ql = form::rest_in(part, k, l);
     let qr = form::rest_in(part, k, r);
-    let le = pieces::cat_in(part, k, c.front, ql);
-    let re = pieces::cat_in(part, k, qr, c.back);
+    let le = put_behind(part, k, m, c.front, ql);
+    let re = put_in_front(part, k, m, qr, c.back);
     Lowered {
         lx: l,
         le: le,

@@ -1,9 +1,6 @@
 -- `update::lower` meets its contract.
-use Rattle.table.specs.Fields.{rateField}
-use Rattle.table.specs.Layout.{cell}
 use Rattle.descents.specs.Cuts.{still-known}
 use Rattle.update.specs.Lowering.{lowered}
-use mathlib.Core.Path.{_∙_, ap}
 use mir.Facts.{toZ-ofZ}
 use mir.Syntax.{w64}
 use mir.Val.{SFits}
@@ -41,18 +38,18 @@ rest-in-requires-2 c κs =
     let known = severed .before .before .before .before .before .before .before .before .before in
     still-known (known .capacity .ensures) (severed .cut-in .ensures .within)
 
-cat-in-requires : tie.Need-cat-in-requires
-cat-in-requires c κs =
+put-behind-requires : tie.Need-put-behind-requires
+put-behind-requires c κs =
     let severed = c .before .before .before .before .before .before in
     let known = severed .before .before .before .before .before .before .before .before .before in
     still-known (known .capacity .ensures) (severed .cut-in .ensures .within)
 
-cat-in-requires-2 : tie.Need-cat-in-requires-2
-cat-in-requires-2 c κs =
+put-in-front-requires : tie.Need-put-in-front-requires
+put-in-front-requires c κs =
     let left = c .before .before in
     let severed = left .before .before .before .before .before .before .before in
     let known = severed .before .before .before .before .before .before .before .before .before in
-    still-known (still-known (known .capacity .ensures) (severed .cut-in .ensures .within)) (left .cat-in .ensures .within)
+    still-known (still-known (known .capacity .ensures) (severed .cut-in .ensures .within)) (left .put-behind .ensures .within)
 
 same-length : tie.Need-same-length
 same-length c = search needs
@@ -64,12 +61,13 @@ returns c =
     let left-rest = right-rest .before .before in
     let severed = left-rest .before .before .before in
     let rated = severed .before .before in
-    let right = rated .before .before .before in
+    let slot = rated .before .before in
+    let right = slot .before in
     let left = right .before .before in
     let f : SFits w64 (rated .get-in .result) = record { sfits = rated .get-in .ok } in
-    lowered (left .child-in .ensures) (right .child-in2 .ensures) (rated .get-in .ensures ∙ ap (cell _ rateField) (rated .before .inner-slot .ensures))
-    (simp (toZ-ofZ, f) at (severed .cut-in .ensures)) (left-rest .rest-in .ensures) (right-rest .rest-in2 .ensures) (left-put .cat-in .ensures)
-    (c .before .cat-in2 .ensures)
+    lowered (left .child-in .ensures) (right .child-in2 .ensures) (slot .inner-slot .ensures) (rated .get-in .ensures)
+    (simp (toZ-ofZ, f) at (severed .cut-in .ensures)) (left-rest .rest-in .ensures) (right-rest .rest-in2 .ensures) (left-put .put-behind .ensures)
+    (c .before .put-in-front .ensures)
 
 pub lower-spec : {M : Type 1} → statement M
 lower-spec =
@@ -83,7 +81,7 @@ lower-spec =
     cut-in-requires
     rest-in-requires
     rest-in-requires-2
-    cat-in-requires
-    cat-in-requires-2
+    put-behind-requires
+    put-in-front-requires
     same-length
     returns)

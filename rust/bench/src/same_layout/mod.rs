@@ -61,12 +61,20 @@ impl Book {
         self.at(STORED, slot_of(x), (x <= INNER) as usize)
     }
 
+    /// the envelope is cut at the node's bridge, so that one end of each seam is known
     fn lower(&mut self, v: Held) -> [Held; 2] {
         let (l, r) = (self.child(OFFERS, v.x, 0), self.child(OFFERS, v.x, 1));
-        let (front, back) = self.cut(v.e, self.get(DATA, v.x - INNER, RATE));
+        let m = v.x - INNER;
+        let (front, back) = self.cut(v.e, self.get(DATA, m, RATE));
         let (left, right) = (self.words[self.stored(l)] as usize, self.words[self.stored(r)] as usize);
-        let le = self.cat(front, left);
-        let re = self.cat(right, back);
+        let le = match left {
+            0 => front,
+            _ => self.cat_at(front, left, self.link(1 + OFFERS, m, 2), self.end(PIECES, 0, left)),
+        };
+        let re = match right {
+            0 => back,
+            _ => self.cat_at(right, back, self.end(PIECES, 1, right), self.link(1 + OFFERS, m, 3)),
+        };
         [Held { x: l, e: le }, Held { x: r, e: re }]
     }
 

@@ -168,15 +168,7 @@ impl Book {
         }
     }
 
-    pub(super) fn cat(&mut self, l: usize, r: usize) -> usize {
-        if l == 0 || r == 0 {
-            return l + r;
-        }
-        let (s, n) = (self.end(PIECES, 1, l), self.end(PIECES, 0, r));
-        self.cat_at(l, r, s, n)
-    }
-
-    /// the same, where the last piece of `l` and the first of `r` are known
+    /// puts two piece trees together; `s` is the last piece of `l`, `n` the first of `r`
     pub(super) fn cat_at(&mut self, l: usize, r: usize, s: usize, n: usize) -> usize {
         if l == 0 || r == 0 {
             return l + r;
