@@ -1,5 +1,9 @@
 -- Chart marks of a book.
+-- statement and lemmas: a book's chart marks, and what asking for one promises
 pub mod Promises
+-- lemmas: the numbers of a sound book's marks are exact as doubles
 pub mod Rounded
+-- ways through the code: along the thread to a piece, told by its place
 pub mod Walks
+-- ways through the code: a part's mark, by what the code reads: the count of its pieces, and the slot of one of them
 pub mod Marking

@@ -1,7 +1,13 @@
 -- Numbers as texts in columns, and the lines of the answers.
+-- statement: the texts of the counter program's columns, as lists of bytes: numbers, columns, an answer's line
 pub mod Texts
+-- statement and lemmas: what a number's decimal text is made of, how long it is, and that it tells the number
 pub mod Decimals
+-- lemmas: texts in columns: how wide they are, and how they grow at the right end
 pub mod Justified
+-- statement and lemmas: sections of a list, as code cuts them out, and a list put together from them
 pub mod Sections
+-- lemmas: what is promised of printing, whatever the way
 pub mod Printed
+-- ways through the code: how a text is printed: from its right end, a byte at a time
 pub mod Printing

@@ -1,23 +1,27 @@
 -- A book's part as its calls change it.
--- what a search told of the live items, and the header's words as numbers
+-- lemmas: what the searches for a number and for a rate tell of the live items
 pub mod Sought
--- when the plain book declines
+-- lemmas: when the plain book that a part stands for declines a call, told by what the code tests: the searches' results and the live count
 pub mod Declining
--- words that agree on what a part keeps
+-- lemmas: words that agree in some fields of some slots, and what of a book such words keep: the offers, the numbers, the free slots
 pub mod Agree
--- slots filled and given back, the roots and the count set
+-- lemmas: the few writes of an update outside its trees: a free slot taken and filled, a slot given back, the roots and the count set
 pub mod Writing
--- counts are exact
+-- lemmas: the counts of an update are exact: no log of a book comes near 2 ^ 32 searches, steps or heights
 pub mod Counts
--- an offer joins; the part after a post
+-- ways through the code: an item joins the tree of offers: alone where there is none, or inserted among those that are there
 pub mod Joining
+-- lemmas: a post on a part that stands for a plain book
 pub mod Posting
--- an offer leaves; the part after a withdrawal
+-- lemmas: an item leaves the tree of offers, as its offer leaves the plain book
 pub mod Leaving
+-- lemmas: a withdrawal on a part that stands for a plain book: the code's steps leave a part that stands for the plain book after the withdrawal
 pub mod Withdrawing
--- an empty part
+-- ways through the code: opening: the header's words, and then each slot free and followed by the next
 pub mod Opening
+-- ways through the code: an empty book is laid out: the header's words, then the slots, each free and followed by the next; words past the part stay
 pub mod Starting
--- the ways through the code
+-- lemmas: the writes of a post and of a withdrawal, each as the code makes it, in the order of the code
 pub mod Calls
+-- ways through the code: a post and a withdrawal on the words lent from a book's start on: what the code's parts promise of them, and put together
 pub mod PartUpdates

@@ -1,17 +1,17 @@
 -- What a book's words mean.
--- the trees and envelopes that are stored
+-- statement and lemmas: the tree of offers in words
 pub mod Stored
--- the statement: the form of a part, and the plain book that it stands for
+-- statement: the form of a book's part, and the plain book that it stands for
 pub mod Form
--- what stays with a node, as it is read
+-- ways through the code: what stays with a node, as it is read: the word that tells it, and the root that is read off that word
 pub mod RestWords
--- what stays where an update has not been
+-- lemmas: what stays where an update has not been: words that say the same of the fields and slots that a subtree is kept in keep the subtree
 pub mod Frames
--- lists of items that share no slot
+-- lemmas: lists of items that share no slot, put together
 pub mod Disjoint
--- where there is a slot, the first word is the capacity
+-- lemmas: where there is a slot, the first word is the capacity, and the words are enough for it
 pub mod There
--- the form of a part is a matter of its own words
+-- statement and lemmas: the form is a matter of the part's words alone: words past the part may change as they will
 pub mod Local
--- what the form says of the live items; the plain book is sound
+-- lemmas: what a part's form says of its live items; and the plain book that it stands for is sound
 pub mod Live

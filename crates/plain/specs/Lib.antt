@@ -7,7 +7,7 @@ pub mod Trials
 pub mod Book
 -- statement: what a query and a listing tell of a list of live offers, in the words of docs/REQUIREMENTS.md (3) and with no way of computing it
 pub mod Meaning
--- lemmas: "Prices to prove": ten cases, each through the calls of a freshly opened book of capacity 64, as one table that the checker computes
+-- lemmas: prices to prove: ten cases, each through the calls of a freshly opened book of capacity 64, as one table that the checker computes
 pub mod Cases
 -- lemmas: what holds of the plain book after every list of calls
 pub mod Sound

@@ -1,10 +1,19 @@
 -- Queries and listings: what a walk down the pieces' tree finds, what a walk along the pieces writes, and that both are the plain book's.
+-- statement and lemmas: a query on a tree of pieces: from the root to a leaf, at each node to the side of the crossing on which the load lies
 pub mod Lookup
+-- lemmas: the item that a query reaches is the first in order among the cheapest of all lines
 pub mod Answer
+-- lemmas: what a tree of pieces tells is what the plain book answers
 pub mod Plain
+-- ways through the code: what the code reads of a part, whatever its words are: numbers are brought into the ranges that pieces keep, so that no product wraps
 pub mod Readings
+-- ways through the code: the four words of an inner node of the pieces' tree lie side by side: left, right, numerator, denominator
 pub mod Groups
+-- lemmas: a tree of pieces in words, with the thread along its leaves and the offers in their slots; and what its root's words say
 pub mod QueriedPieces
+-- ways through the code: a query's walk down the words of a tree of pieces is the walk down the tree
 pub mod Descent
+-- statement and lemmas: along the thread, from the first piece to the last, every piece is passed one time
 pub mod Counting
+-- ways through the code: a listing's words, written piece by piece along the thread, are the plain listing's
 pub mod Listing

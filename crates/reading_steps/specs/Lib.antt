@@ -1,2 +1,3 @@
 -- A reading, step by step.
+-- statement and lemmas: a reading, step by step: begun, moved on, and what it hands out after n steps
 pub mod ReadingSteps
