@@ -35,7 +35,7 @@ fn of_sorted(sorted: &mut Sorted, chosen: &[Offer]) {
 }
 
 /// the contenders' updates, one after the other
-pub fn run(n: usize, listed: Listed) {
+pub(crate) fn run(n: usize, listed: Listed) {
     let offers = offers(n, listed);
     let (mut book, mut plain) = books(&offers);
     let mut sorted = Sorted::of(&offers);
