@@ -10,10 +10,11 @@ use Rattle.lists.specs.Bools.{never, passed, is-true}
 use Rattle.integers.specs.Equal.{equal}
 use Rattle.integers.specs.Parts.{equal-eq, equal-is}
 use Rattle.offers.specs.Offers.{crossingNumerator, crossingDenominator}
-use Rattle.table.specs.Fields.{denominatorField, mostNodes, nextPieceField, numeratorField}
+use Rattle.table.specs.Fields.{denominatorField, nextPieceField, numeratorField}
 use Rattle.table.specs.Words.{Words}
 use Rattle.table.specs.Layout.{cell, linkAt}
 use Rattle.table.specs.Threads.{Next}
+use Rattle.check_trees.specs.Scratch.{scratchLength}
 use Rattle.check_trees.specs.Laid.{itemAt}
 use Rattle.check_trees.specs.Deciding.{Decides, decides-yes, decides-no, Every, every-none}
 use Rattle.check_trees.specs.Loops.{RangedHere, NextHere}
@@ -33,7 +34,7 @@ pub record Ends (from mid to i j : ℕ) : Type 0 where
   pub left-high : i < mid
   pub right-low : mid ≤ j
   pub right-high : j < to
-  pub room : to ≤ mostNodes
+  pub room : to ≤ scratchLength
 
 -- a slot threaded to another
 pub record Follows (w : Words) (a b : ℕ) (r : Bool) : Type 0 where

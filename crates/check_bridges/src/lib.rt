@@ -3,10 +3,10 @@ ghost use mathlib.Core.Path.{_≡_};
 ghost use mathlib.Core.Bool.{true, false};
 ghost use Prim.Native.Nat.{_+_, _-_, _≤_, _<_};
 ghost use lib.ListN.{getD};
+ghost use Rattle.check_trees.specs.Scratch.{scratchLength};
 ghost use Rattle.check_trees.specs.Deciding.{Decides};
 ghost use Rattle.check_bridges.specs.Gaps.{baseGap, rateGap, crossAt};
 ghost use Rattle.check_bridges.specs.Bridges.{Bridges, Ends, Follows, Threads};
-ghost use Rattle.table.specs.Fields.{mostNodes};
 
 // The numerator of the crossing of the lines in two slots.
 fn base_gap(part: &[i64], a: u32, b: u32) -> i64
@@ -37,7 +37,7 @@ fn follows(part: &[i64], a: u32, b: u32) -> bool
 
 // The slots from place `from` up to `to` lead each to the next.
 pub fn threaded(part: &[i64], scratch: &[u32; check_trees::SCRATCH], from: usize, to: usize) -> bool
-    requires { ⌜ (from ≤ to) × (to ≤ mostNodes) ⌝ }
+    requires { ⌜ (from ≤ to) × (to ≤ scratchLength) ⌝ }
     ensures { λ r. ⌜ Threads (now (part .entry)) (now (scratch .entry)) from to r ⌝ }
 {
     let mut i = from;
@@ -70,7 +70,7 @@ fn left_outer(
     u: u32,
     v: u32,
 ) -> bool
-    requires { ⌜ i < mostNodes ⌝ }
+    requires { ⌜ i < scratchLength ⌝ }
     ensures { λ r. ⌜ Decides r (from < i → crossAt (now (part .entry)) u v (getD (now (scratch .entry)) (i - 1) 0) u ≡ false) ⌝ }
 {
     if i <= from {
@@ -91,7 +91,7 @@ fn left_inner(
     u: u32,
     v: u32,
 ) -> bool
-    requires { ⌜ (i < mostNodes) × (to ≤ mostNodes) ⌝ }
+    requires { ⌜ (i < scratchLength) × (to ≤ scratchLength) ⌝ }
     ensures { λ r. ⌜ Decides r (i + 1 < to → crossAt (now (part .entry)) u v u (getD (now (scratch .entry)) (i + 1) 0) ≡ true) ⌝ }
 {
     if to <= i + 1 {
@@ -112,7 +112,7 @@ fn right_inner(
     u: u32,
     v: u32,
 ) -> bool
-    requires { ⌜ j < mostNodes ⌝ }
+    requires { ⌜ j < scratchLength ⌝ }
     ensures { λ r. ⌜ Decides r (from < j → crossAt (now (part .entry)) (getD (now (scratch .entry)) (j - 1) 0) v u v ≡ true) ⌝ }
 {
     if j <= from {
@@ -133,7 +133,7 @@ fn right_outer(
     u: u32,
     v: u32,
 ) -> bool
-    requires { ⌜ (j < mostNodes) × (to ≤ mostNodes) ⌝ }
+    requires { ⌜ (j < scratchLength) × (to ≤ scratchLength) ⌝ }
     ensures { λ r. ⌜ Decides r (j + 1 < to → crossAt (now (part .entry)) v (getD (now (scratch .entry)) (j + 1) 0) u v ≡ false) ⌝ }
 {
     if to <= j + 1 {

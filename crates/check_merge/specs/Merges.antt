@@ -12,6 +12,7 @@ use Rattle.table.specs.Fields.{bridgeLeftField, bridgeRightField, mostSlots, of
 use Rattle.table.specs.Words.{Words}
 use Rattle.table.specs.Layout.{linkAt}
 use Rattle.table.specs.Rep.{childAt}
+use Rattle.check_trees.specs.Scratch.{secondHalf}
 use Rattle.check_trees.specs.Stretches.{span, stretch-same, span-same, span-cut}
 use Rattle.check_trees.specs.Deciding.{Decides, Every}
 use Rattle.check_trees.specs.Loops.{PlaceOf, Moved}
@@ -24,7 +25,7 @@ use Rattle.check_merge.specs.Joints.{Joins}
 pub record Merges (w : Words) (x : ℕ) (xs xs′ : List ℕ) (at mid to : ℕ) (r : Walked) : Type 0 where
   pub long : length xs′ ≡ length xs
   pub same : (i : ℕ) → i < at → getD xs′ i 0 ≡ getD xs i 0
-  pub inside : r .ok ≡ true → (at < r .next) × (r .next ≤ mostSlots)
+  pub inside : r .ok ≡ true → (at < r .next) × (r .next ≤ secondHalf)
   pub sound : AllKnown w (span xs at to) → r .ok ≡ true → (i : ℕ) × (j : ℕ) × Joins w x xs at mid to i j × (span xs′ at (r .next) ≡ span xs at (suc i) ++ span xs j to)
   pub complete : AllKnown w (span xs at to) → (i j : ℕ) → Joins w x xs at mid to i j → r .ok ≡ true
 
@@ -34,12 +35,12 @@ pub record Refuses (r : Walked) : Type 0 where
 -- the words below 4,096 are as they were
 pub record Upper (xs xs′ : List ℕ) : Type 0 where
   pub long : length xs′ ≡ length xs
-  pub same : (i : ℕ) → i < mostSlots → getD xs′ i 0 ≡ getD xs i 0
+  pub same : (i : ℕ) → i < secondHalf → getD xs′ i 0 ≡ getD xs i 0
 
 pub upper-refl : {xs : List ℕ} → Upper xs xs
 upper-refl = record { long = refl; same = λ i h. refl }
 
-pub merges-not : {w : Words} {x at mid to : ℕ} {xs xs′ : List ℕ} {r : Walked} → Upper xs xs′ → at ≤ mostSlots → Refuses r → (AllKnown w (span xs at to) → (i j : ℕ) → Joins w x xs at mid to i j → ⊥) → Merges w x xs xs′ at mid to r
+pub merges-not : {w : Words} {x at mid to : ℕ} {xs xs′ : List ℕ} {r : Walked} → Upper xs xs′ → at ≤ secondHalf → Refuses r → (AllKnown w (span xs at to) → (i j : ℕ) → Joins w x xs at mid to i j → ⊥) → Merges w x xs xs′ at mid to r
 merges-not u m e n =
     record {
       long = u .long;
@@ -64,7 +65,7 @@ first-is {xs} {a} {b} {s} {i} {k} P l h e f = go (decLt i k) (decLt k i)
 pub record Two (at mid to : ℕ) : Type 0 where
   pub upper : at ≤ mid
   pub lower : mid ≤ to
-  pub room : to ≤ mostSlots
+  pub room : to ≤ secondHalf
 
 -- the first places of u and v, or the stretches' ends
 pub record Left (w : Words) (x : ℕ) (xs : List ℕ) (at mid to i : ℕ) : Type 0 where
@@ -135,7 +136,7 @@ rest-left {w} {x} {mid} {i} {l} {xs} {m} el S =
           (subst (λ (n : ℕ). AllKnown w (span xs n mid) → Decides m (RestTree w l (span xs n mid))) e (S .told));
     }
 
-pub rest-right : {w : Words} {x mid j r : ℕ} {xs xs₁ xs₂ : List ℕ} {m : Bool} → Upper xs xs₁ → j ≤ mostSlots → r ≡ childAt w offerTree true x → Stays w r xs₁ xs₂ mid j m → RestRight w x xs xs₂ mid j m
+pub rest-right : {w : Words} {x mid j r : ℕ} {xs xs₁ xs₂ : List ℕ} {m : Bool} → Upper xs xs₁ → j ≤ secondHalf → r ≡ childAt w offerTree true x → Stays w r xs₁ xs₂ mid j m → RestRight w x xs xs₂ mid j m
 rest-right {w} {x} {mid} {j} {r} {xs} {xs₁} {xs₂} {m} u h er S =
     record {
       upper = record { long = S .long ∙ u .long; same = λ i k. S .same i k ∙ u .same i k };

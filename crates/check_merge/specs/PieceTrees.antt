@@ -12,7 +12,6 @@ use Rattle.trees.specs.Leaves.{last-leaf, some-leaf}
 use Rattle.trees.specs.Operations.{Part, partLeaves}
 use Rattle.trees.specs.Balanced.{AvlP}
 use Rattle.trees.specs.Height.{height-full}
-use Rattle.table.specs.Fields.{mostSlots}
 use Rattle.table.specs.Words.{Words}
 use Rattle.table.specs.Layout.{cap}
 use Rattle.table.specs.Items.{Item}
@@ -20,6 +19,7 @@ use Rattle.table.specs.Rep.{refOf, Tied}
 use Rattle.table.specs.Threads.{Next, Threaded}
 use Rattle.table.specs.PartTrees.{partRef}
 use Rattle.pieces.specs.Pieces.{PartIn}
+use Rattle.check_trees.specs.Scratch.{secondHalf}
 use Rattle.check_trees.specs.declared.Filled.{Filled}
 use Rattle.check_trees.specs.Stretches.{stretch, span, chain-span, span-chain, stretch-same, stretch-agrees, span-same, span-length, span-none}
 use Rattle.check_trees.specs.Deciding.{Decides, decides-yes, decides-no, Every, Agree}
@@ -115,7 +115,7 @@ module _ {w : Words} {q : ℕ} {ss : List ℕ} where
 
 pub record Matches (w : Words) (q : ℕ) (xs xs′ : List ℕ) (from to : ℕ) (r : Bool) : Type 0 where
   pub long : length xs′ ≡ length xs
-  pub same : (i : ℕ) → i < mostSlots → getD xs′ i 0 ≡ getD xs i 0
+  pub same : (i : ℕ) → i < secondHalf → getD xs′ i 0 ≡ getD xs i 0
   pub told : AllKnown w (span xs from to) → Decides r (PieceTree w q (span xs from to))
 
 module _ {w : Words} {q from to : ℕ} {xs : List ℕ} (e : q ≡ 0) where
@@ -135,7 +135,7 @@ module _ {w : Words} {q from to : ℕ} {xs : List ℕ} (e : q ≡ 0) where
       go known p (some (leaf a)) r o = omega (arith, known-placed (span xs from to) known a (subst (List·Memᴰ a) o (List·Memᴰ·head refl)) .low)
       go known p (some (node t u)) r o = omega arith
 
-module _ {w : Words} {q from to : ℕ} {xs xs′ : List ℕ} {f : Filled} (d : q ≡ 0 → ⊥) (l : from ≤ to) (h : to ≤ mostSlots) (F : Fills w 0 q 24 xs xs′ mostSlots f) where
+module _ {w : Words} {q from to : ℕ} {xs xs′ : List ℕ} {f : Filled} (d : q ≡ 0 → ⊥) (l : from ≤ to) (h : to ≤ secondHalf) (F : Fills w 0 q 24 xs xs′ secondHalf f) where
   -- the stretch is as it was
   stretch-still : span xs′ from to ≡ span xs from to
   stretch-still = span-same xs′ xs from to (λ i a b. F .same i (omega arith))
@@ -161,25 +161,25 @@ module _ {w : Words} {q from to : ℕ} {xs xs′ : List ℕ} {f : Filled} (d : q
     written-is : (t : OverSlots w q (span xs from to)) → F .sound ok .tree ≡ t .tree
     written-is t = laid-unique (F .sound ok .tree) (t .tree) (F .sound ok .laid) (t .laid)
 
-    next-is : (t : OverSlots w q (span xs from to)) → f .next ≡ mostSlots + (to - from)
+    next-is : (t : OverSlots w q (span xs from to)) → f .next ≡ secondHalf + (to - from)
     next-is t = omega (arith, F .inside ok, written-length (F .sound ok), ap (λ (s : Tree Item). length (leaves s)) (written-is t), over-length t, span-length xs from to)
 
-    pub matches-not-long : (f .next ≡ mostSlots + (to - from) → ⊥) → Matches w q xs xs′ from to false
+    pub matches-not-long : (f .next ≡ secondHalf + (to - from) → ⊥) → Matches w q xs xs′ from to false
     matches-not-long n = matches-no refl (λ t. n (next-is t))
 
-    module _ (e : f .next ≡ mostSlots + (to - from)) where
-      gap : f .next - mostSlots ≡ to - from
+    module _ (e : f .next ≡ secondHalf + (to - from)) where
+      gap : f .next - secondHalf ≡ to - from
       gap = omega arith
 
-      pub matches-differ : {r : Bool} → Decides r (Agree xs′ from mostSlots (to - from)) → r ≡ false → Matches w q xs xs′ from to false
-      matches-differ D n = matches-no refl (λ t. never (D .complete (record { at = λ k a b. stretch-agrees xs′ xs′ from mostSlots (to - from) (both t) k b })) n)
+      pub matches-differ : {r : Bool} → Decides r (Agree xs′ from secondHalf (to - from)) → r ≡ false → Matches w q xs xs′ from to false
+      matches-differ D n = matches-no refl (λ t. never (D .complete (record { at = λ k a b. stretch-agrees xs′ xs′ from secondHalf (to - from) (both t) k b })) n)
         where
-          both : OverSlots w q (span xs from to) → stretch xs′ from (to - from) ≡ stretch xs′ mostSlots (to - from)
+          both : OverSlots w q (span xs from to) → stretch xs′ from (to - from) ≡ stretch xs′ secondHalf (to - from)
           both t =
               stretch-still ∙ sym (over-slots t) ∙ ap (λ (s : Tree Item). slotsOf (leaves s)) (sym (written-is t)) ∙ sym (F .sound ok .slots)
-              ∙ ap (stretch xs′ mostSlots) gap
+              ∙ ap (stretch xs′ secondHalf) gap
 
-      pub matches-rest : {r t : Bool} → Decides r (Agree xs′ from mostSlots (to - from)) → r ≡ true → Threads w xs′ from to t → Matches w q xs xs′ from to t
+      pub matches-rest : {r t : Bool} → Decides r (Agree xs′ from secondHalf (to - from)) → r ≡ true → Threads w xs′ from to t → Matches w q xs xs′ from to t
       matches-rest {r} {t} D n T =
           record { long = F .long; same = λ i a. F .same i a; told = λ known. record { sound = found known; complete = λ p. threads known .complete (links known (over-tree known d p)) } }
         where
@@ -189,7 +189,7 @@ module _ {w : Words} {q from to : ℕ} {xs xs′ : List ℕ} {f : Filled} (d : q
           over : leaves (F .sound ok .tree) ≡ itemsAt w (span xs from to)
           over =
               sym (items-back (leaves (F .sound ok .tree)) (F .sound ok .laid .placed))
-              ∙ ap (itemsAt w) (sym (F .sound ok .slots) ∙ ap (stretch xs′ mostSlots) gap ∙ sym (stretch-same xs′ xs′ from mostSlots (to - from) (λ k b. D .sound n .at k (omega arith) b)) ∙ stretch-still)
+              ∙ ap (itemsAt w) (sym (F .sound ok .slots) ∙ ap (stretch xs′ secondHalf) gap ∙ sym (stretch-same xs′ xs′ from secondHalf (to - from) (λ k b. D .sound n .at k (omega arith) b)) ∙ stretch-still)
 
           found : AllKnown w (span xs from to) → t ≡ true → PieceTree w q (span xs from to)
           found known u =

@@ -18,6 +18,7 @@ use Rattle.table.specs.Layout.{cap-most, cell}
 use Rattle.table.specs.Items.{Item}
 use Rattle.form.specs.RestWords.{restWord, restAt}
 use Rattle.table.specs.PartTrees.{partRef}
+use Rattle.check_trees.specs.Scratch.{secondHalf}
 use Rattle.check_trees.specs.Stretches.{span}
 use Rattle.check_trees.specs.Deciding.{Decides, decides-no, decides-as}
 use Rattle.check_trees.specs.Laid.{itemsAt}
@@ -56,7 +57,7 @@ root-small {w} {q} ss known p = go (p .whole) (p .root) (p .over)
 
 pub record Stays (w : Words) (n : ℕ) (xs xs′ : List ℕ) (from to : ℕ) (r : Bool) : Type 0 where
   pub long : length xs′ ≡ length xs
-  pub same : (i : ℕ) → i < mostSlots → getD xs′ i 0 ≡ getD xs i 0
+  pub same : (i : ℕ) → i < secondHalf → getD xs′ i 0 ≡ getD xs i 0
   pub told : AllKnown w (span xs from to) → Decides r (RestTree w n (span xs from to))
 
 module _ {w : Words} {n q : ℕ} {b : Bool} (e : q ≡ restAt w n) (exact : Decides b (restWord w n ≡ pos q)) where

@@ -4,11 +4,11 @@ ghost use Prim.Native.Nat.{_≤_};
 ghost use lib.ListN.{length};
 ghost use lib.IntN.{pos};
 ghost use Rattle.form.specs.RestWords.{restWord};
+ghost use Rattle.check_trees.specs.Scratch.{scratchLength, secondHalf};
 ghost use Rattle.check_trees.specs.Deciding.{Decides};
 ghost use Rattle.check_merge.specs.PieceTrees.{Matches};
 ghost use Rattle.check_merge.specs.Rests.{Stays};
 ghost use Rattle.check_merge.specs.Merges.{Two, Refuses, Merges};
-ghost use Rattle.table.specs.Fields.{mostNodes, mostSlots};
 
 // What the walk over the offers answers: whether it went through, and the place behind the last piece of the envelope.
 pub struct Walked {
@@ -25,7 +25,7 @@ pub fn matches(
     from: usize,
     to: usize,
 ) -> bool
-    requires { ⌜ (length (now scratch) ≡ mostNodes) × (from ≤ to) × (to ≤ mostSlots) ⌝ }
+    requires { ⌜ (length (now scratch) ≡ scratchLength) × (from ≤ to) × (to ≤ secondHalf) ⌝ }
     ensures { λ r. ⌜ Matches (now (part .entry)) q (now (scratch .entry)) (now (scratch .exit)) from to r ⌝ }
 {
     if q == 0 {
@@ -73,7 +73,7 @@ fn stays(
     from: usize,
     to: usize,
 ) -> bool
-    requires { ⌜ (length (now scratch) ≡ mostNodes) × (from ≤ to) × (to ≤ mostSlots) ⌝ }
+    requires { ⌜ (length (now scratch) ≡ scratchLength) × (from ≤ to) × (to ≤ secondHalf) ⌝ }
     ensures { λ r. ⌜ Stays (now (part .entry)) n (now (scratch .entry)) (now (scratch .exit)) from to r ⌝ }
 {
     let q = form::rest(part, n);
@@ -99,7 +99,7 @@ pub fn merge(
     mid: usize,
     to: usize,
 ) -> Walked
-    requires { ⌜ (length (now scratch) ≡ mostNodes) × Two at mid to ⌝ }
+    requires { ⌜ (length (now scratch) ≡ scratchLength) × Two at mid to ⌝ }
     ensures { λ r. ⌜ Merges (now (part .entry)) x (now (scratch .entry)) (now (scratch .exit)) at mid to r ⌝ }
 {
     let gap = table::inner_slot(x);

@@ -12,10 +12,10 @@ use Rattle.lists.specs.Members.{Among}
 use Rattle.trees.specs.Tree.{Tree, leaves}
 use Rattle.trees.specs.Height.{height-full}
 use Rattle.trees.specs.Order.{Falling}
-use Rattle.table.specs.Fields.{mostSlots}
 use Rattle.table.specs.Words.{Words}
 use Rattle.table.specs.Items.{Item, Apart}
 use Rattle.form.specs.Form.{numberOf}
+use Rattle.check_trees.specs.Scratch.{secondHalf}
 use Rattle.check_trees.specs.declared.Filled.{Filled}
 use Rattle.check_trees.specs.Deciding.{Decides, decides-no, Every}
 use Rattle.check_trees.specs.Stretches.{span, span-at, span-length}
@@ -82,7 +82,7 @@ pub record Trees (w : Words) (root : ℕ) (xs xs′ : List ℕ) (n : ℕ) (r : B
 
 -- ---- the ways through the code
 
-module _ {w : Words} {root n : ℕ} {xs xs′ : List ℕ} {f : Filled} (h : n ≤ mostSlots) (F : Fills w 2 root 24 xs xs′ mostSlots f) where
+module _ {w : Words} {root n : ℕ} {xs xs′ : List ℕ} {f : Filled} (h : n ≤ secondHalf) (F : Fills w 2 root 24 xs xs′ secondHalf f) where
   none-such : (Pairwise Apart (liveAt w xs n) → NumberTree w root (liveAt w xs n) → ⊥) → Trees w root xs xs′ n false
   none-such d = record { long = F .long; told = λ p q. decides-no (d q) }
 
@@ -102,20 +102,20 @@ module _ {w : Words} {root n : ℕ} {xs xs′ : List ℕ} {f : Filled} (h : n �
     written-is : (t : NumberTree w root (liveAt w xs n)) → U ≡ t .tree
     written-is t = laid-unique U (t .tree) (F .sound ok .laid) (t .laid)
 
-    pub trees-not-long : (f .next ≡ mostSlots + n → ⊥) → Trees w root xs xs′ n false
+    pub trees-not-long : (f .next ≡ secondHalf + n → ⊥) → Trees w root xs xs′ n false
     trees-not-long d = none-such (λ q t. d (omega (arith, F .inside ok, written-length (F .sound ok), ap (λ (s : Tree Item). length (leaves s)) (written-is t), tree-length q t, live-length w xs n)))
 
-    leaves-at : leaves U ≡ itemsAt w (span xs′ mostSlots (f .next))
+    leaves-at : leaves U ≡ itemsAt w (span xs′ secondHalf (f .next))
     leaves-at = sym (items-back (leaves U) (F .sound ok .laid .placed)) ∙ ap (itemsAt w) (sym (F .sound ok .slots))
 
-    module _ {b : Bool} (D : Decides b (Every (FallsHere w 0 xs′) mostSlots (f .next - 1))) where
+    module _ {b : Bool} (D : Decides b (Every (FallsHere w 0 xs′) secondHalf (f .next - 1))) where
       pub trees-not-falling : b ≡ false → Trees w root xs xs′ n false
       trees-not-falling e =
-          none-such (λ q t. never (D .complete (span-falling mostSlots (f .next) (subst (Falling numberOf) (sym (ap leaves (written-is t)) ∙ leaves-at) (t .falling)))) e)
+          none-such (λ q t. never (D .complete (span-falling secondHalf (f .next) (subst (Falling numberOf) (sym (ap leaves (written-is t)) ∙ leaves-at) (t .falling)))) e)
 
-      module _ (e : b ≡ true) (l : f .next ≡ mostSlots + n) where
+      module _ (e : b ≡ true) (l : f .next ≡ secondHalf + n) where
         falls : Falling numberOf (leaves U)
-        falls = subst (Falling numberOf) (sym leaves-at) (falling-span mostSlots (f .next) (D .sound e))
+        falls = subst (Falling numberOf) (sym leaves-at) (falling-span secondHalf (f .next) (D .sound e))
 
         same : (k : ℕ) → k < n → getD xs′ k 0 ≡ getD xs k 0
         same k a = F .same k (omega arith)

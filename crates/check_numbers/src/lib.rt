@@ -4,11 +4,11 @@ ghost use Prim.Native.Nat.{_≤_};
 ghost use lib.ListN.{length};
 ghost use Rattle.form.specs.Form.{Freely};
 ghost use Rattle.check_numbers.specs.Tallies.{Tallies};
+ghost use Rattle.check_trees.specs.Scratch.{scratchLength, secondHalf};
 ghost use Rattle.check_trees.specs.Deciding.{Decides};
 ghost use Rattle.check_numbers.specs.FreeChains.{IsFree, Chained};
 ghost use Rattle.check_numbers.specs.Seeking.{Seeks, SeeksAll};
 ghost use Rattle.check_numbers.specs.NumberTrees.{Trees};
-ghost use Rattle.table.specs.Fields.{mostNodes, mostSlots};
 
 // Slot `s` is one of the part's, and has no offer.
 fn is_free(part: &[i64], s: u32) -> bool
@@ -75,7 +75,7 @@ fn sought(part: &[i64], root: u32, s: u32) -> bool
 
 // .. and so for the slot at each place up to `n`.
 fn all_sought(part: &[i64], root: u32, scratch: &[u32; check_trees::SCRATCH], n: usize) -> bool
-    requires { ⌜ n ≤ mostNodes ⌝ }
+    requires { ⌜ n ≤ scratchLength ⌝ }
     ensures { λ r. ⌜ SeeksAll (now (part .entry)) root (now (scratch .entry)) n r ⌝ }
 {
     let mut i = 0;
@@ -91,7 +91,7 @@ fn all_sought(part: &[i64], root: u32, scratch: &[u32; check_trees::SCRATCH], n:
 // Node `root` of the numbers is the root of a balanced tree, by falling number, of the items in the slots at places 0 up to `n`. As many
 // leaves as items, and every item among them, leave no room for another leaf. Entries from 4,096 on are written.
 fn number_tree(part: &[i64], root: u32, scratch: &mut [u32; check_trees::SCRATCH], n: usize) -> bool
-    requires { ⌜ (length (now scratch) ≡ mostNodes) × (n ≤ mostSlots) ⌝ }
+    requires { ⌜ (length (now scratch) ≡ scratchLength) × (n ≤ secondHalf) ⌝ }
     ensures { λ r. ⌜ Trees (now (part .entry)) root (now (scratch .entry)) (now (scratch .exit)) n r ⌝ }
 {
     let f = check_trees::fill(
@@ -117,7 +117,7 @@ fn number_tree(part: &[i64], root: u32, scratch: &mut [u32; check_trees::SCRATCH
 
 // The live items stand in the slots at places 0 up to `n`, and the tree of their numbers hangs from word 4.
 pub fn numbers(part: &[i64], scratch: &mut [u32; check_trees::SCRATCH], n: usize) -> bool
-    requires { ⌜ (length (now scratch) ≡ mostNodes) × (n ≤ mostSlots) ⌝ }
+    requires { ⌜ (length (now scratch) ≡ scratchLength) × (n ≤ secondHalf) ⌝ }
     ensures { λ r. ⌜ Tallies (now (part .entry)) (now (scratch .entry)) (now (scratch .exit)) n r ⌝ }
 {
     let root = table::number_at(part, table::NUMBERS_ROOT, table::MOST_NODES);

@@ -12,12 +12,13 @@ use Rattle.trees.specs.Tree.{Tree, leaf, node, height, leaves}
 use Rattle.trees.specs.Leaves.{some-leaf}
 use Rattle.dynamic.specs.OfferTree.{OfferTree, single, fork, shape}
 use Rattle.dynamic.specs.Valid.{Valid, valid-single, valid-fork}
-use Rattle.table.specs.Fields.{mostNodes, mostSlots, offerTree}
+use Rattle.table.specs.Fields.{mostSlots, offerTree}
 use Rattle.table.specs.Words.{Words}
 use Rattle.table.specs.Items.{Item}
 use Rattle.table.specs.Rep.{childAt}
 use Rattle.pieces.specs.Pieces.{items}
 use Rattle.form.specs.Stored.{Stored, stored-single, stored-fork}
+use Rattle.check_trees.specs.Scratch.{scratchLength, secondHalf}
 use Rattle.check_trees.specs.Stretches.{span, span-one, span-same, span-length}
 use Rattle.check_trees.specs.Laid.{itemAt, itemsAt, laid-leaf-low, laid-node-high}
 use Rattle.check_merge.specs.declared.Walked.{Walked}
@@ -31,16 +32,16 @@ use Rattle.check_merge.specs.Merges.{Refuses, Two, Merges}
 pub record Walks (w : Words) (x limit : ℕ) (xs xs′ : List ℕ) (at : ℕ) (r : Walked) : Type 0 where
   pub long : length xs′ ≡ length xs
   pub same : (i : ℕ) → i < at → getD xs′ i 0 ≡ getD xs i 0
-  pub inside : r .ok ≡ true → (at < r .next) × (r .next ≤ mostSlots)
+  pub inside : r .ok ≡ true → (at < r .next) × (r .next ≤ secondHalf)
   pub sound : (t : Tree Item) → Stands w x t → r .ok ≡ true → Decorated w t (itemsAt w (span xs′ at (r .next)))
-  pub complete : (t : Tree Item) → Stands w x t → height t ≤ limit → at + length (leaves t) ≤ mostSlots → (es : List Item) → Decorated w t es → r .ok ≡ true
+  pub complete : (t : Tree Item) → Stands w x t → height t ≤ limit → at + length (leaves t) ≤ secondHalf → (es : List Item) → Decorated w t es → r .ok ≡ true
 
 pub walks-as : {w : Words} {x y limit at : ℕ} {xs xs′ : List ℕ} {r : Walked} → y ≡ x → Walks w y limit xs xs′ at r → Walks w x limit xs xs′ at r
 walks-as {w} {x} {y} {limit} {at} {xs} {xs′} {r} e f = subst (λ (z : ℕ). Walks w z limit xs xs′ at r) e f
 
 -- there is none that fits in
 pub record NoEnvelope (w : Words) (x limit at : ℕ) : Type 0 where
-  pub refuted : (t : Tree Item) → Stands w x t → height t ≤ limit → at + length (leaves t) ≤ mostSlots → (es : List Item) → Decorated w t es → ⊥
+  pub refuted : (t : Tree Item) → Stands w x t → height t ≤ limit → at + length (leaves t) ≤ secondHalf → (es : List Item) → Decorated w t es → ⊥
 
 pub walks-not : {w : Words} {x limit at : ℕ} {xs xs′ : List ℕ} {r : Walked} → length xs′ ≡ length xs → ((i : ℕ) → i < at → getD xs′ i 0 ≡ getD xs i 0) → r .ok ≡ false → NoEnvelope w x limit at → Walks w x limit xs xs′ at r
 walks-not n s e f =
@@ -55,10 +56,10 @@ walks-not n s e f =
 -- ---- a leaf
 
 module _ {x at : ℕ} {xs : List ℕ} (leafy : x ≤ mostSlots) where
-  pub walks-full : {r : Walked} → mostSlots ≤ at → Refuses r → (w : Words) (limit : ℕ) → Walks w x limit xs xs at r
+  pub walks-full : {r : Walked} → secondHalf ≤ at → Refuses r → (w : Words) (limit : ℕ) → Walks w x limit xs xs at r
   walks-full h f w limit = walks-not refl (λ i k. refl) (f .not) (record { refuted = λ t p q m es d. omega (arith, some-leaf t) })
 
-  pub walks-leaf : length xs ≡ mostNodes → at < mostSlots → (w : Words) (limit : ℕ) → Walks w x limit xs (set xs at x) at (record { ok = true; next = at + 1 })
+  pub walks-leaf : length xs ≡ scratchLength → at < secondHalf → (w : Words) (limit : ℕ) → Walks w x limit xs (set xs at x) at (record { ok = true; next = at + 1 })
   walks-leaf n h w limit =
       record {
         long = length-set xs at x;
@@ -82,7 +83,7 @@ module _ {x at : ℕ} {xs : List ℕ} (leafy : x ≤ mostSlots) where
 pub walks-deep : {w : Words} {x limit at : ℕ} {xs : List ℕ} {r : Walked} → mostSlots < x → limit ≡ 0 → Refuses r → Walks w x limit xs xs at r
 walks-deep {w} {x} {limit} {at} d e f = walks-not refl (λ i k. refl) (f .not) (record { refuted = go })
   where
-    go : (t : Tree Item) → Stands w x t → height t ≤ limit → at + length (leaves t) ≤ mostSlots → (es : List Item) → Decorated w t es → ⊥
+    go : (t : Tree Item) → Stands w x t → height t ≤ limit → at + length (leaves t) ≤ secondHalf → (es : List Item) → Decorated w t es → ⊥
     go (leaf a) p q m es c = omega (arith, laid-leaf-low (p .laid))
     go (node l r) p q m es c = omega arith
 
@@ -117,7 +118,7 @@ module _ {w : Words} {x limit at : ℕ} {xs xs₁ : List ℕ} {a : Walked} (d : 
   pub walks-left-not : a .ok ≡ false → Walks w x limit xs xs₁ at a
   walks-left-not e = walks-not (A .long) (A .same) e (record { refuted = go })
     where
-      go : (t : Tree Item) → Stands w x t → height t ≤ limit → at + length (leaves t) ≤ mostSlots → (es : List Item) → Decorated w t es → ⊥
+      go : (t : Tree Item) → Stands w x t → height t ≤ limit → at + length (leaves t) ≤ secondHalf → (es : List Item) → Decorated w t es → ⊥
       go (leaf b) p q m es c = omega (arith, laid-leaf-low (p .laid))
       go (node l r) p q m es c =
           never (A .complete l (stands-left p) (omega arith) (omega (arith, length-append (leaves l) (leaves r))) (parted c .left-pieces) (parted c .left)) e
@@ -129,7 +130,7 @@ module _ {w : Words} {x limit at : ℕ} {xs xs₁ : List ℕ} {a : Walked} (d : 
     pub walks-right-not : b .ok ≡ false → Walks w x limit xs xs₂ at b
     walks-right-not e = walks-not (B .long ∙ A .long) same-both e (record { refuted = go })
       where
-        go : (t : Tree Item) → Stands w x t → height t ≤ limit → at + length (leaves t) ≤ mostSlots → (es : List Item) → Decorated w t es → ⊥
+        go : (t : Tree Item) → Stands w x t → height t ≤ limit → at + length (leaves t) ≤ secondHalf → (es : List Item) → Decorated w t es → ⊥
         go (leaf c) p q m es c′ = omega (arith, laid-leaf-low (p .laid))
         go (node l r) p q m es c =
             never
@@ -163,7 +164,7 @@ module _ {w : Words} {x limit at : ℕ} {xs xs₁ : List ℕ} {a : Walked} (d : 
               let m = M .sound (joint-known xs₂ p DL DR (walked-two .upper) (walked-two .lower)) o in
               subst (λ (zs : List ℕ). Decorated w (node l s) (itemsAt w zs)) (sym (m .3)) (joins-fork xs₂ p DL DR (walked-two .upper) (walked-two .lower) (m .2))
 
-          passes : (t : Tree Item) → Stands w x t → height t ≤ limit → at + length (leaves t) ≤ mostSlots → (es : List Item) → Decorated w t es → r .ok ≡ true
+          passes : (t : Tree Item) → Stands w x t → height t ≤ limit → at + length (leaves t) ≤ secondHalf → (es : List Item) → Decorated w t es → r .ok ≡ true
           passes (leaf c) p q m es c′ = absurd (omega (arith, laid-leaf-low (p .laid)))
           passes (node l s) p q m es c =
               let DL = left-now l s p in

@@ -3,8 +3,9 @@ use check_merge::Walked;
 ghost use mathlib.Core.Path.{_≡_};
 ghost use Prim.Native.Nat.{ℕ, _≤_};
 ghost use lib.ListN.{length};
-ghost use Rattle.table.specs.Fields.{mostNodes, mostSlots};
+ghost use Rattle.table.specs.Fields.{mostSlots};
 ghost use Rattle.table.specs.Words.{Words};
+ghost use Rattle.check_trees.specs.Scratch.{scratchLength};
 ghost use Rattle.check_trees.specs.Deciding.{Decides};
 ghost use Rattle.check_offers.specs.OfferWalks.{Walks};
 ghost use Rattle.check_offers.specs.Headers.{Header};
@@ -14,7 +15,7 @@ ghost use Rattle.check_offers.specs.OffersStand.{Offers};
 
 // The envelope of leaf `x` is its own line.
 fn single(x: u32, scratch: &mut [u32; check_trees::SCRATCH], at: usize) -> Walked
-    requires { ⌜ length (now scratch) ≡ mostNodes ⌝ }
+    requires { ⌜ length (now scratch) ≡ scratchLength ⌝ }
     ensures { λ r. ⌜ (x ≤ mostSlots → (w : Words) (limit : ℕ) → Walks w x limit (now (scratch .entry)) (now (scratch .exit)) at r) ⌝ }
 {
     if check_trees::SECOND_HALF <= at {
@@ -36,7 +37,7 @@ fn walk(
     at: usize,
     limit: u32,
 ) -> Walked
-    requires { ⌜ length (now scratch) ≡ mostNodes ⌝ }
+    requires { ⌜ length (now scratch) ≡ scratchLength ⌝ }
     ensures { λ r. ⌜ Walks (now (part .entry)) x limit (now (scratch .entry)) (now (scratch .exit)) at r ⌝ }
 {
     if x <= table::MOST_SLOTS {
@@ -84,7 +85,7 @@ fn header(part: &[i64], x: u32, e: u32, n: u32) -> bool
 
 // The tree of offers from node `x` on has `n` leaves, with offers in range whose rates fall. Their slots are left from place 0 on.
 fn ordered(part: &[i64], x: u32, scratch: &mut [u32; check_trees::SCRATCH], n: u32) -> bool
-    requires { ⌜ length (now scratch) ≡ mostNodes ⌝ }
+    requires { ⌜ length (now scratch) ≡ scratchLength ⌝ }
     ensures { λ r. ⌜ Orders (now (part .entry)) x (now (scratch .entry)) (now (scratch .exit)) n r ⌝ }
 {
     let f = check_trees::fill(part, table::OFFERS, x, scratch, 0, table::MOST_LEVELS);
@@ -103,7 +104,7 @@ fn ordered(part: &[i64], x: u32, scratch: &mut [u32; check_trees::SCRATCH], n: u
 
 // Envelopes are stored with the tree of offers from node `x` on, and node `e` of the pieces is the root of the whole one.
 fn enveloped(part: &[i64], x: u32, e: u32, scratch: &mut [u32; check_trees::SCRATCH]) -> bool
-    requires { ⌜ length (now scratch) ≡ mostNodes ⌝ }
+    requires { ⌜ length (now scratch) ≡ scratchLength ⌝ }
     ensures { λ r. ⌜ Envelops (now (part .entry)) x e (now (scratch .entry)) (now (scratch .exit)) r ⌝ }
 {
     let a = walk(part, x, scratch, 0, table::MOST_LEVELS);
@@ -116,7 +117,7 @@ fn enveloped(part: &[i64], x: u32, e: u32, scratch: &mut [u32; check_trees::SCRA
 
 // The offers of a part, `n` of them, with their envelopes. The slots of the offers are left in order from place 0 on.
 pub fn offers(part: &[i64], scratch: &mut [u32; check_trees::SCRATCH], n: u32) -> bool
-    requires { ⌜ length (now scratch) ≡ mostNodes ⌝ }
+    requires { ⌜ length (now scratch) ≡ scratchLength ⌝ }
     ensures { λ r. ⌜ Offers (now (part .entry)) (now (scratch .entry)) (now (scratch .exit)) n r ⌝ }
 {
     if n == 0 {

@@ -14,6 +14,7 @@ use Rattle.table.specs.Words.{Words}
 use Rattle.table.specs.Layout.{cap}
 use Rattle.table.specs.Items.{Item}
 use Rattle.table.specs.Rep.{childAt, heightAt, height-at-most, refOf, tied-leaf}
+use Rattle.check_trees.specs.Scratch.{scratchLength}
 use Rattle.check_trees.specs.declared.Filled.{Filled}
 use Rattle.check_trees.specs.Stretches.{span, span-one, span-cut, span-same, span-length, span-cons, span-at}
 use Rattle.check_trees.specs.Laid.{itemAt, slotsOf, slots-append, slots-length, Placed, placed-at, Laid, laid-leaf-low, laid-node-high, Children, laid-children, laid-node, laid-unique}
@@ -30,15 +31,15 @@ pub record Fills (w : Words) (k x limit : ℕ) (xs xs′ : List ℕ) (at : ℕ) 
   pub long : length xs′ ≡ length xs
   pub same : (i : ℕ) → i < at → getD xs′ i 0 ≡ getD xs i 0
   pub low : r .height ≤ mostNodes
-  pub inside : r .ok ≡ true → (at < r .next) × (r .next ≤ mostNodes)
+  pub inside : r .ok ≡ true → (at < r .next) × (r .next ≤ scratchLength)
   pub sound : r .ok ≡ true → Written w k x xs′ at (r .next) (r .height)
-  pub complete : (t : Tree Item) → Laid w k x t → height t ≤ limit → at + length (leaves t) ≤ mostNodes → r .ok ≡ true
+  pub complete : (t : Tree Item) → Laid w k x t → height t ≤ limit → at + length (leaves t) ≤ scratchLength → r .ok ≡ true
 
 -- ---- no tree
 
 -- there is none that fits in
 pub record NoTree (w : Words) (k x limit at : ℕ) : Type 0 where
-  pub refuted : (t : Tree Item) → Laid w k x t → height t ≤ limit → at + length (leaves t) ≤ mostNodes → ⊥
+  pub refuted : (t : Tree Item) → Laid w k x t → height t ≤ limit → at + length (leaves t) ≤ scratchLength → ⊥
 
 pub record Fails (r : Filled) : Type 0 where
   pub not : r .ok ≡ false
@@ -64,14 +65,14 @@ module _ {w : Words} {x at : ℕ} (leafy : x ≤ mostSlots) where
   leaf-none : x < 1 → (k limit : ℕ) → NoTree w k x limit at
   leaf-none h k limit = record { refuted = go }
     where
-      go : (t : Tree Item) → Laid w k x t → height t ≤ limit → at + length (leaves t) ≤ mostNodes → ⊥
+      go : (t : Tree Item) → Laid w k x t → height t ≤ limit → at + length (leaves t) ≤ scratchLength → ⊥
       go (leaf a) p q m = omega (arith, p .root, p .placed a (List·Memᴰ·head refl) .low)
       go (node l r) p q m = omega (arith, laid-node-high p)
 
   leaf-far : {c : ℕ} → c ≡ cap w → c < x → (k limit : ℕ) → NoTree w k x limit at
   leaf-far e h k limit = record { refuted = go }
     where
-      go : (t : Tree Item) → Laid w k x t → height t ≤ limit → at + length (leaves t) ≤ mostNodes → ⊥
+      go : (t : Tree Item) → Laid w k x t → height t ≤ limit → at + length (leaves t) ≤ scratchLength → ⊥
       go (leaf a) p q m = omega (arith, p .root, p .placed a (List·Memᴰ·head refl) .high)
       go (node l r) p q m = omega (arith, laid-node-high p)
 
@@ -81,10 +82,10 @@ module _ {w : Words} {x at : ℕ} (leafy : x ≤ mostSlots) where
   pub fills-leaf-far : {c : ℕ} {xs : List ℕ} {r : Filled} → Fails r → c ≡ cap w → c < x → (k limit : ℕ) → Fills w k x limit xs xs at r
   fills-leaf-far f e h k limit = fills-none f (leaf-far e h k limit)
 
-  pub fills-leaf-full : {xs : List ℕ} {r : Filled} → Fails r → mostNodes ≤ at → (k limit : ℕ) → Fills w k x limit xs xs at r
+  pub fills-leaf-full : {xs : List ℕ} {r : Filled} → Fails r → scratchLength ≤ at → (k limit : ℕ) → Fills w k x limit xs xs at r
   fills-leaf-full f h k limit = fills-none f (record { refuted = λ t p q m. omega (arith, some-leaf t) })
 
-  pub fills-leaf : {c : ℕ} {xs : List ℕ} → length xs ≡ mostNodes → 1 ≤ x → c ≡ cap w → x ≤ c → at < mostNodes → (k limit : ℕ) → Fills w k x limit xs (set xs at x) at (record { ok = true; next = at + 1; height = 0 })
+  pub fills-leaf : {c : ℕ} {xs : List ℕ} → length xs ≡ scratchLength → 1 ≤ x → c ≡ cap w → x ≤ c → at < scratchLength → (k limit : ℕ) → Fills w k x limit xs (set xs at x) at (record { ok = true; next = at + 1; height = 0 })
   fills-leaf {c} {xs} n l e h m k limit =
       record {
         long = length-set xs at x;

@@ -1,4 +1,6 @@
 -- Trees of a part, read into a scratch array and compared with what stands there.
+-- statement: the scratch array's length, and where its second half begins
+pub mod Scratch
 -- ways through the code: answers that decide a statement, and statements of every place of a stretch
 pub mod Deciding
 -- lemmas: stretches of a scratch array: the numbers from one place up to another

@@ -13,6 +13,7 @@ use Rattle.table.specs.Fields.{mostNodes, mostSlots}
 use Rattle.table.specs.Words.{Words}
 use Rattle.table.specs.Items.{Item}
 use Rattle.table.specs.Rep.{childAt}
+use Rattle.check_trees.specs.Scratch.{scratchLength}
 use Rattle.check_trees.specs.declared.Filled.{Filled}
 use Rattle.check_trees.specs.Stretches.{span, span-cut, span-same, span-length, span-at}
 use Rattle.check_trees.specs.Laid.{slotsOf, slots-append, slots-length, Laid, laid-leaf-low, Children, laid-children, laid-node, laid-unique}
@@ -41,7 +42,7 @@ module _ {w : Words} {k x a b h : ℕ} {xs : List ℕ} (g : Written w k x xs a b
 pub fills-deep : {w : Words} {k x limit at : ℕ} {xs : List ℕ} {r : Filled} → mostSlots < x → limit ≡ 0 → Fails r → Fills w k x limit xs xs at r
 fills-deep {w} {k} {x} {limit} {at} d e f = fills-none f (record { refuted = go })
   where
-    go : (t : Tree Item) → Laid w k x t → height t ≤ limit → at + length (leaves t) ≤ mostNodes → ⊥
+    go : (t : Tree Item) → Laid w k x t → height t ≤ limit → at + length (leaves t) ≤ scratchLength → ⊥
     go (leaf a) p q m = omega (arith, laid-leaf-low p)
     go (node l r) p q m = omega arith
 
@@ -51,7 +52,7 @@ module _ {w : Words} {k x limit at : ℕ} {xs xs₁ : List ℕ} {a : Filled} (d 
   pub fills-left-not : a .ok ≡ false → Fills w k x limit xs xs₁ at a
   fills-left-not e = fills-not (A .long) (A .same) (record { not = e; flat = A .low }) (record { refuted = go })
     where
-      go : (t : Tree Item) → Laid w k x t → height t ≤ limit → at + length (leaves t) ≤ mostNodes → ⊥
+      go : (t : Tree Item) → Laid w k x t → height t ≤ limit → at + length (leaves t) ≤ scratchLength → ⊥
       go (leaf b) p q m = omega (arith, laid-leaf-low p)
       go (node l r) p q m = never (A .complete l (laid-children p .left) (omega arith) (omega (arith, length-append (leaves l) (leaves r)))) e
 
@@ -76,7 +77,7 @@ module _ {w : Words} {k x limit at : ℕ} {xs xs₁ : List ℕ} {a : Filled} (d 
     pub fills-right-not : b .ok ≡ false → Fills w k x limit xs xs₂ at b
     fills-right-not e = fills-not long-both same-both (record { not = e; flat = B .low }) (record { refuted = go })
       where
-        go : (t : Tree Item) → Laid w k x t → height t ≤ limit → at + length (leaves t) ≤ mostNodes → ⊥
+        go : (t : Tree Item) → Laid w k x t → height t ≤ limit → at + length (leaves t) ≤ scratchLength → ⊥
         go (leaf c) p q m = omega (arith, laid-leaf-low p)
         go (node l r) p q m = never (right-ok l r p q m) e
 

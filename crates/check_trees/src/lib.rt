@@ -9,6 +9,7 @@ ghost use Rattle.offers.specs.Offers.{between, offerInRange};
 ghost use Rattle.table.specs.Fields.{mostNodes, mostSlots};
 ghost use Rattle.table.specs.Words.{word};
 ghost use Rattle.table.specs.Layout.{cell};
+ghost use Rattle.check_trees.specs.Scratch.{scratchLength};
 ghost use Rattle.check_trees.specs.Deciding.{Decides, Every, Agree};
 ghost use Rattle.check_trees.specs.Laid.{itemAt};
 ghost use Rattle.check_trees.specs.Loops.{FallsHere, RangedHere, NextHere, PlaceOf, Moved};
@@ -42,7 +43,7 @@ pub struct Filled {
 
 // Entry `i` of the scratch array.
 pub fn entry(scratch: &[u32; SCRATCH], i: usize) -> u32
-    requires { ⌜ i < mostNodes ⌝ }
+    requires { ⌜ i < scratchLength ⌝ }
     ensures { λ r. ⌜ r ≡ getD (now (scratch .entry)) i 0 ⌝ }
 {
     scratch[i]
@@ -60,7 +61,7 @@ fn nothing() -> Filled
 
 // Writes leaf `x` at place `at`.
 fn fill_leaf(part: &[i64], x: u32, scratch: &mut [u32; SCRATCH], at: usize) -> Filled
-    requires { ⌜ length (now scratch) ≡ mostNodes ⌝ }
+    requires { ⌜ length (now scratch) ≡ scratchLength ⌝ }
     ensures { λ r. ⌜ (x ≤ mostSlots → (k limit : ℕ) → Fills (now (part .entry)) k x limit (now (scratch .entry)) (now (scratch .exit)) at r) ⌝ }
 {
     if x < 1 {
@@ -130,7 +131,7 @@ pub fn fill(
     at: usize,
     limit: u32,
 ) -> Filled
-    requires { ⌜ length (now scratch) ≡ mostNodes ⌝ }
+    requires { ⌜ length (now scratch) ≡ scratchLength ⌝ }
     ensures { λ r. ⌜ Fills (now (part .entry)) tree x limit (now (scratch .entry)) (now (scratch .exit)) at r ⌝ }
 {
     if x <= table::MOST_SLOTS {
@@ -166,7 +167,7 @@ pub fn fill(
 
 // The two stretches of `count` entries from `a` and from `b` on are the same.
 pub fn same(scratch: &[u32; SCRATCH], a: usize, b: usize, count: usize) -> bool
-    requires { ⌜ (a + count ≤ mostNodes) × (b + count ≤ mostNodes) ⌝ }
+    requires { ⌜ (a + count ≤ scratchLength) × (b + count ≤ scratchLength) ⌝ }
     ensures { λ r. ⌜ Decides r (Agree (now (scratch .entry)) a b count) ⌝ }
 {
     let mut k = 0;
@@ -181,7 +182,7 @@ pub fn same(scratch: &[u32; SCRATCH], a: usize, b: usize, count: usize) -> bool
 
 // The first place of `slot` from `from` up to `to`, and `to` where it has none.
 pub fn place(scratch: &[u32; SCRATCH], from: usize, to: usize, slot: u32) -> usize
-    requires { ⌜ (from ≤ to) × (to ≤ mostNodes) ⌝ }
+    requires { ⌜ (from ≤ to) × (to ≤ scratchLength) ⌝ }
     ensures { λ r. ⌜ PlaceOf (now (scratch .entry)) from to slot r ⌝ }
 {
     let mut i = from;
@@ -196,7 +197,7 @@ pub fn place(scratch: &[u32; SCRATCH], from: usize, to: usize, slot: u32) -> usi
 
 // Moves the `count` entries from `from` on down to `to`.
 pub fn shift(scratch: &mut [u32; SCRATCH], to: usize, from: usize, count: usize)
-    requires { ⌜ (length (now scratch) ≡ mostNodes) × (to ≤ from) × (from + count ≤ mostNodes) ⌝ }
+    requires { ⌜ (length (now scratch) ≡ scratchLength) × (to ≤ from) × (from + count ≤ scratchLength) ⌝ }
     ensures { λ _. ⌜ Moved (now (scratch .entry)) (now (scratch .exit)) to from count ⌝ }
 {
     let mut k = 0;
@@ -216,7 +217,7 @@ fn falls(part: &[i64], field: usize, a: u32, b: u32) -> bool
 
 // A field falls from slot to slot, from place `from` up to `to`.
 pub fn falling(part: &[i64], field: usize, scratch: &[u32; SCRATCH], from: usize, to: usize) -> bool
-    requires { ⌜ (from ≤ to) × (to ≤ mostNodes) ⌝ }
+    requires { ⌜ (from ≤ to) × (to ≤ scratchLength) ⌝ }
     ensures { λ r. ⌜ Decides r (Every (FallsHere (now (part .entry)) field (now (scratch .entry))) from (to - 1)) ⌝ }
 {
     let mut i = from;
@@ -251,7 +252,7 @@ fn ranged(part: &[i64], slot: u32) -> bool
 
 // All slots from place `from` up to `to` hold offers in range.
 pub fn all_ranged(part: &[i64], scratch: &[u32; SCRATCH], from: usize, to: usize) -> bool
-    requires { ⌜ (from ≤ to) × (to ≤ mostNodes) ⌝ }
+    requires { ⌜ (from ≤ to) × (to ≤ scratchLength) ⌝ }
     ensures { λ r. ⌜ Decides r (Every (RangedHere (now (part .entry)) (now (scratch .entry))) from to) ⌝ }
 {
     let mut i = from;

@@ -3,7 +3,6 @@ ghost use mathlib.Core.Path.{_≡_};
 ghost use mathlib.Core.Bool.{not};
 ghost use Prim.Native.Nat.{_≤_};
 ghost use Rattle.offers.specs.Offers.{between};
-ghost use Rattle.offers.specs.Bounded.{bounded};
 ghost use Rattle.table.specs.Layout.{cap};
 ghost use Rattle.query.specs.Readings.{Sided, childOf, towardAt, priceIn};
 ghost use Rattle.query.specs.Descent.{Descended};
@@ -14,19 +13,6 @@ ghost use Rattle.query.specs.Listing.{crossingWord, pieceAt, Written};
 const LEAVES: usize = table::MOST_SLOTS as usize;
 
 const HIGHEST_NODE: i64 = table::MOST_NODES as i64;
-
-// `value` where it is from `low` to `high`, and 0 for any other.
-fn bounded(low: i64, high: i64, value: i64) -> i64
-    ensures { λ r. ⌜ r ≡ bounded low high value ⌝ }
-{
-    if value < low {
-        return 0;
-    }
-    if high < value {
-        return 0;
-    }
-    value
-}
 
 // Whether `value` is below `low` or above `high`.
 pub fn outside(low: i64, high: i64, value: i64) -> bool
@@ -39,7 +25,7 @@ pub fn outside(low: i64, high: i64, value: i64) -> bool
 fn side_of(load: i64, n: i64, d: i64) -> usize
     ensures { λ r. ⌜ Sided load n d r ⌝ }
 {
-    if bounded(-1_000_000, 1_000_000, load) * bounded(-200_000, 200_000, d) <= n {
+    if table::bounded(-1_000_000, 1_000_000, load) * table::bounded(-200_000, 200_000, d) <= n {
         return 0;
     }
     1
@@ -124,9 +110,9 @@ pub fn price(part: &[i64], slot: u32, load: i64) -> i64
         return 0;
     }
     let at = 64 + 4 * slot as usize;
-    let base = bounded(-1_000_000_000, 1_000_000_000, part[at + 2]);
-    let rate = bounded(-100_000, 100_000, part[at + 1]);
-    base + rate * bounded(-1_000_000, 1_000_000, load)
+    let base = table::bounded(-1_000_000_000, 1_000_000_000, part[at + 2]);
+    let rate = table::bounded(-100_000, 100_000, part[at + 1]);
+    base + rate * table::bounded(-1_000_000, 1_000_000, load)
 }
 
 // How many pieces a tree has, counted along the thread from its first to its last; 0 for no tree.

@@ -57,13 +57,13 @@ struct Stand {
 pub fn rate(part: &[i64], slot: u32) -> i64
     ensures { λ r. ⌜ r ≡ rateAt (now (part .entry)) slot ⌝ }
 {
-    prices::bounded(-100_000, 100_000, table::get(part, table::RATE, slot))
+    table::bounded(-100_000, 100_000, table::get(part, table::RATE, slot))
 }
 
 pub fn base(part: &[i64], slot: u32) -> i64
     ensures { λ r. ⌜ r ≡ baseAt (now (part .entry)) slot ⌝ }
 {
-    prices::bounded(
+    table::bounded(
         -1_000_000_000,
         1_000_000_000,
         table::get(part, table::BASE, slot),
@@ -74,7 +74,7 @@ pub fn base(part: &[i64], slot: u32) -> i64
 pub fn numerator(part: &[i64], slot: u32) -> i64
     ensures { λ r. ⌜ r ≡ numeratorAt (now (part .entry)) slot ⌝ }
 {
-    prices::bounded(
+    table::bounded(
         -2_000_000_000,
         2_000_000_000,
         table::get(part, table::NUMERATOR, slot),
@@ -84,7 +84,7 @@ pub fn numerator(part: &[i64], slot: u32) -> i64
 pub fn denominator(part: &[i64], slot: u32) -> i64
     ensures { λ r. ⌜ r ≡ denominatorAt (now (part .entry)) slot ⌝ }
 {
-    prices::bounded(0, 200_000, table::get(part, table::DENOMINATOR, slot))
+    table::bounded(0, 200_000, table::get(part, table::DENOMINATOR, slot))
 }
 
 // The price of a slot's line at the crossing that the slot keeps, times its denominator.

@@ -1,34 +1,20 @@
 // What a comparison reads and computes, safe whatever the words are. `c` is a part's capacity, which is read once for a whole search.
 ghost use mathlib.Core.Path.{_≡_};
-ghost use Rattle.offers.specs.Bounded.{bounded};
 ghost use Rattle.table.specs.Layout.{cap};
 ghost use Rattle.search.specs.Prices.{rateAt, baseAt, numeratorAt, denominatorAt, Priced, priceIn, keptIn, aboveAt};
-
-// A word from `low` to `high`, and 0 for any other.
-pub(crate) fn bounded(low: i64, high: i64, value: i64) -> i64
-    ensures { λ r. ⌜ r ≡ bounded low high value ⌝ }
-{
-    if value < low {
-        return 0;
-    }
-    if high < value {
-        return 0;
-    }
-    value
-}
 
 pub fn rate_in(part: &[i64], c: u32, slot: u32) -> i64
     requires { ⌜ c ≡ cap (now part) ⌝ }
     ensures { λ r. ⌜ r ≡ rateAt (now (part .entry)) slot ⌝ }
 {
-    bounded(-100_000, 100_000, table::get_in(part, c, table::RATE, slot))
+    table::bounded(-100_000, 100_000, table::get_in(part, c, table::RATE, slot))
 }
 
 pub fn base_in(part: &[i64], c: u32, slot: u32) -> i64
     requires { ⌜ c ≡ cap (now part) ⌝ }
     ensures { λ r. ⌜ r ≡ baseAt (now (part .entry)) slot ⌝ }
 {
-    bounded(
+    table::bounded(
         -1_000_000_000,
         1_000_000_000,
         table::get_in(part, c, table::BASE, slot),
@@ -40,7 +26,7 @@ fn numerator(part: &[i64], c: u32, slot: u32) -> i64
     requires { ⌜ c ≡ cap (now part) ⌝ }
     ensures { λ r. ⌜ r ≡ numeratorAt (now (part .entry)) slot ⌝ }
 {
-    bounded(
+    table::bounded(
         -2_000_000_000,
         2_000_000_000,
         table::get_in(part, c, table::NUMERATOR, slot),
@@ -51,7 +37,7 @@ fn denominator(part: &[i64], c: u32, slot: u32) -> i64
     requires { ⌜ c ≡ cap (now part) ⌝ }
     ensures { λ r. ⌜ r ≡ denominatorAt (now (part .entry)) slot ⌝ }
 {
-    bounded(0, 200_000, table::get_in(part, c, table::DENOMINATOR, slot))
+    table::bounded(0, 200_000, table::get_in(part, c, table::DENOMINATOR, slot))
 }
 
 // The price of a slot's line at the load n over d, times d.

@@ -4,6 +4,7 @@ ghost use mathlib.Core.Bool.{_&&_};
 ghost use Prim.Native.Nat.{_-_};
 ghost use lib.IntN.{pos};
 ghost use lib.Signed.{leZ, ltZ};
+ghost use Rattle.offers.specs.Bounded.{bounded};
 ghost use Rattle.table.specs.Fields.{mostSlots};
 ghost use Rattle.table.specs.Words.{word, wset, upTo};
 ghost use Rattle.table.specs.Layout.{cap, spot, cell, cset, linkAt, place};
@@ -94,6 +95,19 @@ pub fn up_to(most: u32, value: i64) -> u32
         return 0;
     }
     number as u32
+}
+
+// A word from `low` to `high`, and 0 for any other: no product of such values wraps.
+pub fn bounded(low: i64, high: i64, value: i64) -> i64
+    ensures { λ r. ⌜ r ≡ bounded low high value ⌝ }
+{
+    if value < low {
+        return 0;
+    }
+    if high < value {
+        return 0;
+    }
+    value
 }
 
 // Word `at` as a number from 0 to `most`, and 0 where it is none of those.

@@ -26,7 +26,9 @@ walk-at t = and 2 walk-kinds.ps (is 2 walk-kinds.ps μ-walk t) walk.Pre
 abbrev walk-below : ℕ → In 2 walk-kinds.ps
 walk-below t = and 2 walk-kinds.ps (falls 2 walk-kinds.ps _<_ μ-walk t) walk.Pre
 
-walk-single-requires : (t : ℕ) → walk-lts.Need-single-requires (
+-- what is asked of each call, and learnt from it
+abbrev walk-claims : ℕ → walk-lts.Claims
+walk-claims t = (
   single-reads.Asked,
   single-reads.Learnt,
   refused-reads.Asked,
@@ -37,105 +39,30 @@ walk-single-requires : (t : ℕ) → walk-lts.Need-single-requires (
   walk.Post,
   merge-reads.Asked,
   merge-reads.Learnt,
-) (walk-at t) walk.Post
+)
+
+walk-single-requires : (t : ℕ) → walk-lts.Need-single-requires (walk-claims t) (walk-at t) walk.Post
 walk-single-requires t c κs = c .before .before .pre .1
 
-walk-returns : (t : ℕ) → walk-lts.Need-returns (
-  single-reads.Asked,
-  single-reads.Learnt,
-  refused-reads.Asked,
-  refused-reads.Learnt,
-  child-reads.Asked,
-  child-reads.Learnt,
-  walk-below t,
-  walk.Post,
-  merge-reads.Asked,
-  merge-reads.Learnt,
-) (walk-at t) walk.Post
+walk-returns : (t : ℕ) → walk-lts.Need-returns (walk-claims t) (walk-at t) walk.Post
 walk-returns t c = c .single .ensures (c .before .before .if1 .taken) _ _
 
-walk-refused-requires : (t : ℕ) → walk-lts.Need-refused-requires (
-  single-reads.Asked,
-  single-reads.Learnt,
-  refused-reads.Asked,
-  refused-reads.Learnt,
-  child-reads.Asked,
-  child-reads.Learnt,
-  walk-below t,
-  walk.Post,
-  merge-reads.Asked,
-  merge-reads.Learnt,
-) (walk-at t) walk.Post
+walk-refused-requires : (t : ℕ) → walk-lts.Need-refused-requires (walk-claims t) (walk-at t) walk.Post
 walk-refused-requires t c κs = search needs
 
-walk-returns-2 : (t : ℕ) → walk-lts.Need-returns-2 (
-  single-reads.Asked,
-  single-reads.Learnt,
-  refused-reads.Asked,
-  refused-reads.Learnt,
-  child-reads.Asked,
-  child-reads.Learnt,
-  walk-below t,
-  walk.Post,
-  merge-reads.Asked,
-  merge-reads.Learnt,
-) (walk-at t) walk.Post
+walk-returns-2 : (t : ℕ) → walk-lts.Need-returns-2 (walk-claims t) (walk-at t) walk.Post
 walk-returns-2 t c = walks-deep (c .before .before .if1 .left) (c .before .if2 .taken) (c .refused .ensures)
 
-walk-child-requires : (t : ℕ) → walk-lts.Need-child-requires (
-  single-reads.Asked,
-  single-reads.Learnt,
-  refused-reads.Asked,
-  refused-reads.Learnt,
-  child-reads.Asked,
-  child-reads.Learnt,
-  walk-below t,
-  walk.Post,
-  merge-reads.Asked,
-  merge-reads.Learnt,
-) (walk-at t) walk.Post
+walk-child-requires : (t : ℕ) → walk-lts.Need-child-requires (walk-claims t) (walk-at t) walk.Post
 walk-child-requires t c κs = search needs
 
-walk-sub-walk : (t : ℕ) → walk-lts.Need-sub-walk (
-  single-reads.Asked,
-  single-reads.Learnt,
-  refused-reads.Asked,
-  refused-reads.Learnt,
-  child-reads.Asked,
-  child-reads.Learnt,
-  walk-below t,
-  walk.Post,
-  merge-reads.Asked,
-  merge-reads.Learnt,
-) (walk-at t) walk.Post
+walk-sub-walk : (t : ℕ) → walk-lts.Need-sub-walk (walk-claims t) (walk-at t) walk.Post
 walk-sub-walk t c = omega arith
 
-walk-walk-requires : (t : ℕ) → walk-lts.Need-walk-requires (
-  single-reads.Asked,
-  single-reads.Learnt,
-  refused-reads.Asked,
-  refused-reads.Learnt,
-  child-reads.Asked,
-  child-reads.Learnt,
-  walk-below t,
-  walk.Post,
-  merge-reads.Asked,
-  merge-reads.Learnt,
-) (walk-at t) walk.Post
+walk-walk-requires : (t : ℕ) → walk-lts.Need-walk-requires (walk-claims t) (walk-at t) walk.Post
 walk-walk-requires t c κs = (omega (arith, c .before .before .before .before .pre .0), c .before .before .before .before .pre .1)
 
-walk-returns-3 : (t : ℕ) → walk-lts.Need-returns-3 (
-  single-reads.Asked,
-  single-reads.Learnt,
-  refused-reads.Asked,
-  refused-reads.Learnt,
-  child-reads.Asked,
-  child-reads.Learnt,
-  walk-below t,
-  walk.Post,
-  merge-reads.Asked,
-  merge-reads.Learnt,
-) (walk-at t) walk.Post
+walk-returns-3 : (t : ℕ) → walk-lts.Need-returns-3 (walk-claims t) (walk-at t) walk.Post
 walk-returns-3 t c =
     let at-walk = c .before .before in
     let at-child = at-walk .before .before in
@@ -143,63 +70,19 @@ walk-returns-3 t c =
     let at-if1 = at-if2 .before in
     walks-left-not (at-if1 .if1 .left) (at-if2 .if2 .left) (walks-as (at-child .child .ensures) (at-walk .walk .ensures)) (not-true _ (c .if3 .taken))
 
-walk-child-requires-2 : (t : ℕ) → walk-lts.Need-child-requires-2 (
-  single-reads.Asked,
-  single-reads.Learnt,
-  refused-reads.Asked,
-  refused-reads.Learnt,
-  child-reads.Asked,
-  child-reads.Learnt,
-  walk-below t,
-  walk.Post,
-  merge-reads.Asked,
-  merge-reads.Learnt,
-) (walk-at t) walk.Post
+walk-child-requires-2 : (t : ℕ) → walk-lts.Need-child-requires-2 (walk-claims t) (walk-at t) walk.Post
 walk-child-requires-2 t c κs = search needs
 
-walk-sub-walk-2 : (t : ℕ) → walk-lts.Need-sub-walk-2 (
-  single-reads.Asked,
-  single-reads.Learnt,
-  refused-reads.Asked,
-  refused-reads.Learnt,
-  child-reads.Asked,
-  child-reads.Learnt,
-  walk-below t,
-  walk.Post,
-  merge-reads.Asked,
-  merge-reads.Learnt,
-) (walk-at t) walk.Post
+walk-sub-walk-2 : (t : ℕ) → walk-lts.Need-sub-walk-2 (walk-claims t) (walk-at t) walk.Post
 walk-sub-walk-2 t c = omega arith
 
-walk-walk-requires-2 : (t : ℕ) → walk-lts.Need-walk-requires-2 (
-  single-reads.Asked,
-  single-reads.Learnt,
-  refused-reads.Asked,
-  refused-reads.Learnt,
-  child-reads.Asked,
-  child-reads.Learnt,
-  walk-below t,
-  walk.Post,
-  merge-reads.Asked,
-  merge-reads.Learnt,
-) (walk-at t) walk.Post
+walk-walk-requires-2 : (t : ℕ) → walk-lts.Need-walk-requires-2 (walk-claims t) (walk-at t) walk.Post
 walk-walk-requires-2 t c κs =
     let at-walk = c .before .before .before .before in
     let entry = at-walk .before .before .before .before .before in
     (omega (arith, entry .pre .0), at-walk .walk .ensures .long ∙ entry .pre .1)
 
-walk-returns-4 : (t : ℕ) → walk-lts.Need-returns-4 (
-  single-reads.Asked,
-  single-reads.Learnt,
-  refused-reads.Asked,
-  refused-reads.Learnt,
-  child-reads.Asked,
-  child-reads.Learnt,
-  walk-below t,
-  walk.Post,
-  merge-reads.Asked,
-  merge-reads.Learnt,
-) (walk-at t) walk.Post
+walk-returns-4 : (t : ℕ) → walk-lts.Need-returns-4 (walk-claims t) (walk-at t) walk.Post
 walk-returns-4 t c =
     let at-walk2 = c .before .before in
     let at-child2 = at-walk2 .before .before in
@@ -211,18 +94,7 @@ walk-returns-4 t c =
     walks-right-not (at-if1 .if1 .left) (at-if2 .if2 .left) (walks-as (at-child .child .ensures) (at-walk .walk .ensures)) (not-false _ (at-if3 .if3 .left))
     (walks-as (at-child2 .child2 .ensures) (at-walk2 .walk2 .ensures)) (not-true _ (c .if4 .taken))
 
-walk-merge-requires : (t : ℕ) → walk-lts.Need-merge-requires (
-  single-reads.Asked,
-  single-reads.Learnt,
-  refused-reads.Asked,
-  refused-reads.Learnt,
-  child-reads.Asked,
-  child-reads.Learnt,
-  walk-below t,
-  walk.Post,
-  merge-reads.Asked,
-  merge-reads.Learnt,
-) (walk-at t) walk.Post
+walk-merge-requires : (t : ℕ) → walk-lts.Need-merge-requires (walk-claims t) (walk-at t) walk.Post
 walk-merge-requires t c κs =
     let at-walk2 = c .before .before .before in
     let at-child2 = at-walk2 .before .before in
@@ -237,18 +109,7 @@ walk-merge-requires t c κs =
           (walks-as (at-child2 .child2 .ensures) (at-walk2 .walk2 .ensures)) (not-false _ (c .before .if4 .left)),
     )
 
-walk-returns-5 : (t : ℕ) → walk-lts.Need-returns-5 (
-  single-reads.Asked,
-  single-reads.Learnt,
-  refused-reads.Asked,
-  refused-reads.Learnt,
-  child-reads.Asked,
-  child-reads.Learnt,
-  walk-below t,
-  walk.Post,
-  merge-reads.Asked,
-  merge-reads.Learnt,
-) (walk-at t) walk.Post
+walk-returns-5 : (t : ℕ) → walk-lts.Need-returns-5 (walk-claims t) (walk-at t) walk.Post
 walk-returns-5 t c =
     let at-if4 = c .before .before in
     let at-walk2 = at-if4 .before .before in

@@ -27,7 +27,9 @@ fill-at t = and 2 fill-kinds.ps (is 2 fill-kinds.ps μ-fill t) fill.Pre
 abbrev fill-below : ℕ → In 2 fill-kinds.ps
 fill-below t = and 2 fill-kinds.ps (falls 2 fill-kinds.ps _<_ μ-fill t) fill.Pre
 
-fill-fill-leaf-requires : (t : ℕ) → fill-lts.Need-fill-leaf-requires (
+-- what is asked of each call, and learnt from it
+abbrev fill-claims : ℕ → fill-lts.Claims
+fill-claims t = (
   fill-leaf-reads.Asked,
   fill-leaf-reads.Learnt,
   nothing-reads.Asked,
@@ -38,105 +40,30 @@ fill-fill-leaf-requires : (t : ℕ) → fill-lts.Need-fill-leaf-requires (
   fill.Post,
   cover-reads.Asked,
   cover-reads.Learnt,
-) (fill-at t) fill.Post
+)
+
+fill-fill-leaf-requires : (t : ℕ) → fill-lts.Need-fill-leaf-requires (fill-claims t) (fill-at t) fill.Post
 fill-fill-leaf-requires t c κs = c .before .before .pre .1
 
-fill-returns : (t : ℕ) → fill-lts.Need-returns (
-  fill-leaf-reads.Asked,
-  fill-leaf-reads.Learnt,
-  nothing-reads.Asked,
-  nothing-reads.Learnt,
-  child-reads.Asked,
-  child-reads.Learnt,
-  fill-below t,
-  fill.Post,
-  cover-reads.Asked,
-  cover-reads.Learnt,
-) (fill-at t) fill.Post
+fill-returns : (t : ℕ) → fill-lts.Need-returns (fill-claims t) (fill-at t) fill.Post
 fill-returns t c = c .fill-leaf .ensures (c .before .before .if1 .taken) _ _
 
-fill-nothing-requires : (t : ℕ) → fill-lts.Need-nothing-requires (
-  fill-leaf-reads.Asked,
-  fill-leaf-reads.Learnt,
-  nothing-reads.Asked,
-  nothing-reads.Learnt,
-  child-reads.Asked,
-  child-reads.Learnt,
-  fill-below t,
-  fill.Post,
-  cover-reads.Asked,
-  cover-reads.Learnt,
-) (fill-at t) fill.Post
+fill-nothing-requires : (t : ℕ) → fill-lts.Need-nothing-requires (fill-claims t) (fill-at t) fill.Post
 fill-nothing-requires t c κs = search needs
 
-fill-returns-2 : (t : ℕ) → fill-lts.Need-returns-2 (
-  fill-leaf-reads.Asked,
-  fill-leaf-reads.Learnt,
-  nothing-reads.Asked,
-  nothing-reads.Learnt,
-  child-reads.Asked,
-  child-reads.Learnt,
-  fill-below t,
-  fill.Post,
-  cover-reads.Asked,
-  cover-reads.Learnt,
-) (fill-at t) fill.Post
+fill-returns-2 : (t : ℕ) → fill-lts.Need-returns-2 (fill-claims t) (fill-at t) fill.Post
 fill-returns-2 t c = fills-deep (c .before .before .if1 .left) (c .before .if2 .taken) (c .nothing .ensures)
 
-fill-child-requires : (t : ℕ) → fill-lts.Need-child-requires (
-  fill-leaf-reads.Asked,
-  fill-leaf-reads.Learnt,
-  nothing-reads.Asked,
-  nothing-reads.Learnt,
-  child-reads.Asked,
-  child-reads.Learnt,
-  fill-below t,
-  fill.Post,
-  cover-reads.Asked,
-  cover-reads.Learnt,
-) (fill-at t) fill.Post
+fill-child-requires : (t : ℕ) → fill-lts.Need-child-requires (fill-claims t) (fill-at t) fill.Post
 fill-child-requires t c κs = search needs
 
-fill-sub-fill : (t : ℕ) → fill-lts.Need-sub-fill (
-  fill-leaf-reads.Asked,
-  fill-leaf-reads.Learnt,
-  nothing-reads.Asked,
-  nothing-reads.Learnt,
-  child-reads.Asked,
-  child-reads.Learnt,
-  fill-below t,
-  fill.Post,
-  cover-reads.Asked,
-  cover-reads.Learnt,
-) (fill-at t) fill.Post
+fill-sub-fill : (t : ℕ) → fill-lts.Need-sub-fill (fill-claims t) (fill-at t) fill.Post
 fill-sub-fill t c = omega arith
 
-fill-fill-requires : (t : ℕ) → fill-lts.Need-fill-requires (
-  fill-leaf-reads.Asked,
-  fill-leaf-reads.Learnt,
-  nothing-reads.Asked,
-  nothing-reads.Learnt,
-  child-reads.Asked,
-  child-reads.Learnt,
-  fill-below t,
-  fill.Post,
-  cover-reads.Asked,
-  cover-reads.Learnt,
-) (fill-at t) fill.Post
+fill-fill-requires : (t : ℕ) → fill-lts.Need-fill-requires (fill-claims t) (fill-at t) fill.Post
 fill-fill-requires t c κs = (omega (arith, c .before .before .before .before .pre .0), c .before .before .before .before .pre .1)
 
-fill-returns-3 : (t : ℕ) → fill-lts.Need-returns-3 (
-  fill-leaf-reads.Asked,
-  fill-leaf-reads.Learnt,
-  nothing-reads.Asked,
-  nothing-reads.Learnt,
-  child-reads.Asked,
-  child-reads.Learnt,
-  fill-below t,
-  fill.Post,
-  cover-reads.Asked,
-  cover-reads.Learnt,
-) (fill-at t) fill.Post
+fill-returns-3 : (t : ℕ) → fill-lts.Need-returns-3 (fill-claims t) (fill-at t) fill.Post
 fill-returns-3 t c =
     let at-fill = c .before .before in
     let at-child = at-fill .before .before in
@@ -144,63 +71,19 @@ fill-returns-3 t c =
     let at-if1 = at-if2 .before in
     fills-left-not (at-if1 .if1 .left) (at-if2 .if2 .left) (fills-as (at-child .child .ensures) (at-fill .fill .ensures)) (not-true _ (c .if3 .taken))
 
-fill-child-requires-2 : (t : ℕ) → fill-lts.Need-child-requires-2 (
-  fill-leaf-reads.Asked,
-  fill-leaf-reads.Learnt,
-  nothing-reads.Asked,
-  nothing-reads.Learnt,
-  child-reads.Asked,
-  child-reads.Learnt,
-  fill-below t,
-  fill.Post,
-  cover-reads.Asked,
-  cover-reads.Learnt,
-) (fill-at t) fill.Post
+fill-child-requires-2 : (t : ℕ) → fill-lts.Need-child-requires-2 (fill-claims t) (fill-at t) fill.Post
 fill-child-requires-2 t c κs = search needs
 
-fill-sub-fill-2 : (t : ℕ) → fill-lts.Need-sub-fill-2 (
-  fill-leaf-reads.Asked,
-  fill-leaf-reads.Learnt,
-  nothing-reads.Asked,
-  nothing-reads.Learnt,
-  child-reads.Asked,
-  child-reads.Learnt,
-  fill-below t,
-  fill.Post,
-  cover-reads.Asked,
-  cover-reads.Learnt,
-) (fill-at t) fill.Post
+fill-sub-fill-2 : (t : ℕ) → fill-lts.Need-sub-fill-2 (fill-claims t) (fill-at t) fill.Post
 fill-sub-fill-2 t c = omega arith
 
-fill-fill-requires-2 : (t : ℕ) → fill-lts.Need-fill-requires-2 (
-  fill-leaf-reads.Asked,
-  fill-leaf-reads.Learnt,
-  nothing-reads.Asked,
-  nothing-reads.Learnt,
-  child-reads.Asked,
-  child-reads.Learnt,
-  fill-below t,
-  fill.Post,
-  cover-reads.Asked,
-  cover-reads.Learnt,
-) (fill-at t) fill.Post
+fill-fill-requires-2 : (t : ℕ) → fill-lts.Need-fill-requires-2 (fill-claims t) (fill-at t) fill.Post
 fill-fill-requires-2 t c κs =
     let at-fill = c .before .before .before .before in
     let entry = at-fill .before .before .before .before .before in
     (omega (arith, entry .pre .0), at-fill .fill .ensures .long ∙ entry .pre .1)
 
-fill-returns-4 : (t : ℕ) → fill-lts.Need-returns-4 (
-  fill-leaf-reads.Asked,
-  fill-leaf-reads.Learnt,
-  nothing-reads.Asked,
-  nothing-reads.Learnt,
-  child-reads.Asked,
-  child-reads.Learnt,
-  fill-below t,
-  fill.Post,
-  cover-reads.Asked,
-  cover-reads.Learnt,
-) (fill-at t) fill.Post
+fill-returns-4 : (t : ℕ) → fill-lts.Need-returns-4 (fill-claims t) (fill-at t) fill.Post
 fill-returns-4 t c =
     let at-fill2 = c .before .before in
     let at-child2 = at-fill2 .before .before in
@@ -212,18 +95,7 @@ fill-returns-4 t c =
     fills-right-not (at-if1 .if1 .left) (at-if2 .if2 .left) (fills-as (at-child .child .ensures) (at-fill .fill .ensures)) (not-false _ (at-if3 .if3 .left))
     (fills-as (at-child2 .child2 .ensures) (at-fill2 .fill2 .ensures)) (not-true _ (c .if4 .taken))
 
-fill-cover-requires : (t : ℕ) → fill-lts.Need-cover-requires (
-  fill-leaf-reads.Asked,
-  fill-leaf-reads.Learnt,
-  nothing-reads.Asked,
-  nothing-reads.Learnt,
-  child-reads.Asked,
-  child-reads.Learnt,
-  fill-below t,
-  fill.Post,
-  cover-reads.Asked,
-  cover-reads.Learnt,
-) (fill-at t) fill.Post
+fill-cover-requires : (t : ℕ) → fill-lts.Need-cover-requires (fill-claims t) (fill-at t) fill.Post
 fill-cover-requires t c κs =
     let at-fill2 = c .before .before .before in
     let at-child2 = at-fill2 .before .before in
@@ -235,18 +107,7 @@ fill-cover-requires t c κs =
     ended (at-if1 .if1 .left) (at-if2 .if2 .left) (fills-as (at-child .child .ensures) (at-fill .fill .ensures)) (not-false _ (at-if3 .if3 .left))
     (fills-as (at-child2 .child2 .ensures) (at-fill2 .fill2 .ensures)) (not-false _ (c .before .if4 .left))
 
-fill-returns-5 : (t : ℕ) → fill-lts.Need-returns-5 (
-  fill-leaf-reads.Asked,
-  fill-leaf-reads.Learnt,
-  nothing-reads.Asked,
-  nothing-reads.Learnt,
-  child-reads.Asked,
-  child-reads.Learnt,
-  fill-below t,
-  fill.Post,
-  cover-reads.Asked,
-  cover-reads.Learnt,
-) (fill-at t) fill.Post
+fill-returns-5 : (t : ℕ) → fill-lts.Need-returns-5 (fill-claims t) (fill-at t) fill.Post
 fill-returns-5 t c =
     let at-if4 = c .before .before in
     let at-fill2 = at-if4 .before .before in

@@ -19,7 +19,6 @@ use Rattle.query.proofs.price.Tie as tie
 use Rattle.query.proofs.price.Reads as reads
 use Rattle.query.proofs.price.Lts as lts
 use Rattle.table.proofs.capacity.Reads as capacity-reads
-use Rattle.query.proofs.bounded.Reads as bounded-reads
 
 -- base, rate and load as they were clamped
 module _ {b r l : ℤ} (x y q : ℤ) (eb : b ≡ clamped 1_000_000_000 x) (er : r ≡ clamped 100_000 y) (el : l ≡ clamped 1_000_000 q) where

@@ -14,7 +14,6 @@ use Rattle.query.proofs.side_of.Statement.{statement}
 use Rattle.query.proofs.side_of.Tie as tie
 use Rattle.query.proofs.side_of.Reads as reads
 use Rattle.query.proofs.side_of.Lts as lts
-use Rattle.query.proofs.bounded.Reads as bounded-reads
 
 -- clamped factors, and the test's outcome
 module _ {x y : ℤ} (q n d : ℤ) (a : x ≡ clamped 1_000_000 q) (b : y ≡ clamped 200_000 d) where

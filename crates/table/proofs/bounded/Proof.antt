@@ -1,8 +1,8 @@
--- `search::prices::bounded` meets its contract: by its two tests.
+-- `table::bounded` meets its contract: by its two tests.
 use mir.Facts.{toZ-ofZ}
 use Rattle.offers.specs.Bounded.{bounded-below, bounded-over, bounded-inside}
-use Rattle.search.proofs.prices.bounded.Statement.{statement}
-use Rattle.search.proofs.prices.bounded.Tie as tie
+use Rattle.table.proofs.bounded.Statement.{statement}
+use Rattle.table.proofs.bounded.Tie as tie
 
 returns : tie.Need-returns
 returns c = let f = c .before .fits in bounded-below _ _ _ (simp (toZ-ofZ, f .low, f .value) at (c .if1 .taken))
