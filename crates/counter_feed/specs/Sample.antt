@@ -41,10 +41,24 @@ called (k ∷ ks) (m ∷ ms) h s =
 -- ---- the sample
 
 abbrev pub sample : List ℕ
-sample = bytes "P     1       3           0\nP     2       1          10\nQ                         5\nL                         0\nW                         1\nQ                         5\n"
+sample =
+    bytes "P     1       3           0\n"
+    ++ bytes "P     2       1          10\n"
+    ++ bytes "Q                         5\n"
+    ++ bytes "L                         0\n"
+    ++ bytes "W                         1\n"
+    ++ bytes "Q                         5\n"
 
 abbrev pub answer : List ℕ
-answer = bytes "P  0     1             1             0\nP  0     2             2             0\nQ  0     1            15             0\nE  0     1            10             2\nE  0     2             0             0\nL  0     0             2             0\nW  0     1             1             0\nQ  0     2            15             0\n"
+answer =
+    bytes "P  0     1             1             0\n"
+    ++ bytes "P  0     2             2             0\n"
+    ++ bytes "Q  0     1            15             0\n"
+    ++ bytes "E  0     1            10             2\n"
+    ++ bytes "E  0     2             0             0\n"
+    ++ bytes "L  0     0             2             0\n"
+    ++ bytes "W  0     1             1             0\n"
+    ++ bytes "Q  0     2            15             0\n"
 
 abbrev calls : List Call
 calls = post (pos 1) (pos 3) (pos 0) ∷ post (pos 2) (pos 1) (pos 10) ∷ query (pos 5) ∷ listing 0 ∷ withdraw (pos 1) ∷ query (pos 5) ∷ []
