@@ -44,7 +44,7 @@ extern "C" {
 /* Why a call was declined. */
 #define CARRIER_CAPACITY (-1)         /* open: the capacity is not in 1 to 4,096 */
 #define CARRIER_NO_ROOM (-2)          /* open: fewer words than the book takes from `start` on */
-#define CARRIER_NO_BOOK (-3)          /* all but open: there is no book at `start`, or its part is cut short */
+#define CARRIER_NO_BOOK (-3)          /* each on a table but open and check: no book at `start`, or its part is cut short */
 #define CARRIER_OUT_OF_RANGE (-4)     /* post, withdraw, query, voucher: number, rate, base, load or price out of range */
 #define CARRIER_NUMBER_LIVE (-5)      /* post: a live offer has that number */
 #define CARRIER_RATE_LIVE (-6)        /* post: a live offer has that rate */
@@ -109,9 +109,9 @@ int64_t carrier_voucher(int64_t price, int64_t *units, size_t units_words);
  *     }
  *
  * carrier_begin returns the place of the first piece, and 0 where there is none. carrier_piece writes the three words of the piece at
- * a place and returns the place of the next, 0 past the last; at 0 and at a word that is no place it
- * writes nothing. At another number that no call gave, the words written and the answer are free. A place means something for the table
- * as it was when the place was given. On words that are no book a reading may go on without end. */
+ * a place and returns the place of the next, 0 past the last; at 0, below 0 and above 2^32 - 1 it writes nothing. At another number that
+ * no call gave, the words written and the answer are free. A place means something for the table as it was when the place was given.
+ * On words that are no book a reading may go on without end. */
 int64_t carrier_begin(const int64_t *table, size_t words, size_t start);
 int64_t carrier_piece(const int64_t *table, size_t words, size_t start, int64_t place, int64_t *piece, size_t piece_words);
 

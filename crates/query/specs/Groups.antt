@@ -10,10 +10,10 @@ use Rattle.lists.specs.Bools.{is-false, failed, passed, not-not, is-true}
 use Rattle.integers.specs.Ring.{var, nat, _:+_, _:*_, by-eq}
 use Rattle.offers.specs.Offers.{between, within}
 use Rattle.offers.specs.Bounded.{bounded-in}
-use Rattle.table.specs.Fields.{denominatorField, mostNodes, mostSlots, pieceTree}
+use Rattle.table.specs.Fields.{denominatorField, mostNodes, mostSlots, numberField, pieceNodeField, pieceTree}
 use Rattle.table.specs.Words.{Words, upTo, upTo-in, upTo-over, upTo-below}
 use Rattle.table.specs.Layout.{cap, place, Valid, cell, linkAt}
-use Rattle.table.specs.Cells.{cell-none, cell-inside, cell-there}
+use Rattle.table.specs.Cells.{cell-none, cell-inside, cell-there, place-small, placed}
 use Rattle.table.specs.Rep.{childField}
 use Rattle.query.specs.Readings.{clamped, rightOf, Sided, childToward, priceIn}
 
@@ -33,35 +33,45 @@ off-slot w c s q e h = go (within 200_000 (cell w denominatorField s)) (link-out
 
 -- ---- a slot that it has
 
+-- the fields of a plane stand side by side
+pub beside : (c s p j : ℕ) → p % 4 ≡ 0 → j < 4 → place c p s + j ≡ place c (p + j) s
+unfolding place
+beside c s p j e h =
+    let q : (p + j) / 4 ≡ p / 4 = omega arith in
+    omega (arith, ap (λ (k : ℕ). k * (c + 1)) q)
+
 -- where the group of inner node x begins, c being the capacity
 abbrev pub group : ℕ → ℕ → ℕ
-group c x = 4 * (c + 1 + x) - 16_320
+group c x = place c pieceNodeField (x - mostSlots)
 
 -- no number of a node
 no-link : (z : ℤ) → between (pos 0) (pos mostNodes) z ≡ false → upTo mostNodes z ≡ 0
 no-link (pos n) e = upTo-over mostNodes n (leb-false n mostNodes (rw (le-leb 0 n (omega arith)) at e))
 no-link (negsuc n) e = upTo-below mostNodes n
 
-module _ (w : Words) (c x : ℕ) (e : c ≡ cap w) (low : mostSlots < x) (high : x ≤ c + mostSlots) where
+module _ (w : Words) (c x : ℕ) (e : c ≡ cap w) (low : mostSlots < x) (high : x ≤ c + mostSlots) {at : ℕ} (told : at ≡ group c x) where
   abbrev s : ℕ
   s = x - mostSlots
 
-  group-at : (f j : ℕ) → f ≡ 4 + j → j < 4 → group c x + j ≡ place c f s
-  unfolding place
-  group-at f j d h = let p : f / 4 ≡ 1 = omega arith in omega (arith, ap (λ (k : ℕ). k * (c + 1)) p)
+  group-at : (f j : ℕ) → f ≡ 4 + j → j < 4 → at + j ≡ place c f s
+  group-at f j d h = ap (λ (k : ℕ). k + j) told ∙ beside c s pieceNodeField j refl h ∙ ap (λ (k : ℕ). place c k s) (sym d)
 
-  pub group-in : (j : ℕ) → j < 4 → group c x + j < length w
+  -- no sum that begins there wraps
+  pub group-small : at ≤ 131_167
+  group-small = omega (arith, told, place-small (placed w pieceNodeField s c e (omega arith) (omega arith)))
+
+  pub group-in : (j : ℕ) → j < 4 → at + j < length w
   group-in j h = cell-inside w (4 + j) s c e (omega arith) (omega arith) (omega arith) (group-at (4 + j) j refl h)
 
-  group-cell : (f j : ℕ) → f ≡ 4 + j → j < 4 → getD w (group c x + j) (pos 0) ≡ cell w f s
+  group-cell : (f j : ℕ) → f ≡ 4 + j → j < 4 → getD w (at + j) (pos 0) ≡ cell w f s
   group-cell f j d h = cell-there w f s c e (omega arith) (omega arith) (omega arith) (group-at f j d h)
 
   -- the words of the group
   abbrev ourD : ℤ
-  ourD = getD w (group c x + 3) (pos 0)
+  ourD = getD w (at + 3) (pos 0)
 
   abbrev ourN : ℤ
-  ourN = getD w (group c x + 2) (pos 0)
+  ourN = getD w (at + 2) (pos 0)
 
   -- a denominator out of range
   pub off-steep : (q : ℤ) → not (within 200_000 ourD) ≡ true → 0 ≡ childToward w s q
@@ -70,14 +80,14 @@ module _ (w : Words) (c x : ℕ) (e : c ≡ cap w) (low : mostSlots < x) (high :
 
   module _ {q : ℤ} {side : ℕ} (t : Sided q ourN ourD side) (d : not (within 200_000 ourD) ≡ false) where
     -- the child's word
-    pub toward-there : upTo mostNodes (getD w (group c x + side) (pos 0)) ≡ childToward w s q
+    pub toward-there : upTo mostNodes (getD w (at + side) (pos 0)) ≡ childToward w s q
     unfolding childToward
     toward-there =
         rw (← group-cell 7 3 (omega arith) (omega arith), ← group-cell 6 2 (omega arith) (omega arith), is-true (within 200_000 ourD) (not-not (within 200_000 ourD) (failed d)))
         (ap (upTo mostNodes) (group-cell (childField pieceTree (rightOf q ourN ourD)) side (omega (arith, t .told)) (omega (arith, t .low))))
 
     -- it is no number of a node
-    pub off-wild : not (between (pos 0) (pos mostNodes) (getD w (group c x + side) (pos 0))) ≡ true → 0 ≡ childToward w s q
+    pub off-wild : not (between (pos 0) (pos mostNodes) (getD w (at + side) (pos 0))) ≡ true → 0 ≡ childToward w s q
     off-wild g = sym (no-link _ (is-false _ (passed g))) ∙ toward-there
 
 -- ---- a slot's number, rate and base lie side by side too
@@ -91,13 +101,15 @@ price-none w c s q e h =
     gone : {f : ℕ} → ¬ Valid w f s
     gone v = h (v .low, omega (arith, v .high))
 
-module _ (w : Words) (c s : ℕ) (e : c ≡ cap w) (low : 1 ≤ s) (high : s ≤ c) where
-  data-at : (f : ℕ) → f < 4 → 64 + 4 * s + f ≡ place c f s
-  unfolding place
-  data-at f h = let p : f / 4 ≡ 0 = omega arith in omega (arith, ap (λ (k : ℕ). k * (c + 1)) p)
+module _ (w : Words) (c s : ℕ) (e : c ≡ cap w) (low : 1 ≤ s) (high : s ≤ c) {at : ℕ} (told : at ≡ place c numberField s) where
+  data-at : (f : ℕ) → f < 4 → at + f ≡ place c f s
+  data-at f h = ap (λ (k : ℕ). k + f) told ∙ beside c s numberField f refl h ∙ ap (λ (k : ℕ). place c k s) (omega arith)
 
-  pub data-in : (f : ℕ) → f < 4 → 64 + 4 * s + f < length w
+  pub data-small : at ≤ 131_167
+  data-small = omega (arith, told, place-small (placed w numberField s c e high (omega arith)))
+
+  pub data-in : (f : ℕ) → f < 4 → at + f < length w
   data-in f h = cell-inside w f s c e high (omega arith) low (data-at f h)
 
-  pub data-cell : (f : ℕ) → f < 4 → getD w (64 + 4 * s + f) (pos 0) ≡ cell w f s
+  pub data-cell : (f : ℕ) → f < 4 → getD w (at + f) (pos 0) ≡ cell w f s
   data-cell f h = cell-there w f s c e high (omega arith) low (data-at f h)

@@ -37,24 +37,28 @@ pub enum Step {
     Off,
 }
 
+// Where the crossing stands in the group of a piece's node.
+const ITS_NUMERATOR: usize = table::NUMERATOR - table::PIECE_NODE;
+
+const ITS_DENOMINATOR: usize = table::DENOMINATOR - table::PIECE_NODE;
+
 // From inner node `x` to its child on the load's side: one group of four words is read. `c` is the part's capacity.
-// The group of slot s begins at 64 + 4 × (c + 1 + s), and s is 4,096 less than the node's number.
-fn toward(part: &[i64], c: usize, x: usize, load: i64) -> Step
+fn toward(part: &[i64], c: u32, x: usize, load: i64) -> Step
     requires { ⌜ c ≡ cap (now part) ⌝ }
     ensures { λ r. ⌜ childOf r ≡ towardAt (now (part .entry)) x load ⌝ }
 {
     if x <= LEAVES {
         return Step::Off;
     }
-    if c + LEAVES < x {
+    if c as usize + LEAVES < x {
         return Step::Off;
     }
-    let at = 4 * (c + 1 + x) - 16_320;
-    let d = part[at + 3];
+    let at = table::address(c, table::PIECE_NODE, (x - LEAVES) as u32);
+    let d = part[at + ITS_DENOMINATOR];
     if outside(-200_000, 200_000, d) {
         return Step::Off;
     }
-    let side = side_of(load, part[at + 2], d);
+    let side = side_of(load, part[at + ITS_NUMERATOR], d);
     let z = part[at + side];
     if outside(0, HIGHEST_NODE, z) {
         return Step::Off;
@@ -72,7 +76,7 @@ pub struct Probe {
 pub fn descend(part: &[i64], root: u32, load: i64) -> Probe
     ensures { λ r. ⌜ Descended (now (part .entry)) root load (r .slot) (r .probes) ⌝ }
 {
-    let c = table::capacity(part) as usize;
+    let c = table::capacity(part);
     let mut x = root as usize;
     let mut probes: u32 = 0;
     while LEAVES < x {
@@ -109,9 +113,9 @@ pub fn price(part: &[i64], slot: u32, load: i64) -> i64
     if c < slot {
         return 0;
     }
-    let at = 64 + 4 * slot as usize;
-    let base = table::bounded(-1_000_000_000, 1_000_000_000, part[at + 2]);
-    let rate = table::bounded(-100_000, 100_000, part[at + 1]);
+    let at = table::address(c, table::NUMBER, slot);
+    let base = table::bounded(-1_000_000_000, 1_000_000_000, part[at + table::BASE]);
+    let rate = table::bounded(-100_000, 100_000, part[at + table::RATE]);
     base + rate * table::bounded(-1_000_000, 1_000_000, load)
 }
 

@@ -37,6 +37,10 @@ baseField = 2
 abbrev pub nextFreeField : ℕ
 nextFreeField = 3
 
+-- the first of a piece's node: its two children, and then its crossing
+abbrev pub pieceNodeField : ℕ
+pieceNodeField = 4
+
 -- the crossing with the next piece
 abbrev pub numeratorField : ℕ
 numeratorField = 6

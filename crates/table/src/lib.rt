@@ -25,8 +25,9 @@ pub const NUMBERS_ROOT: usize = 4;
 
 pub const FIRST_FREE: usize = 5;
 
-// The fields of a slot: its offer, the next free slot, the crossing with the next piece and that piece, the bridge of the offers' inner node,
-// and the pieces that stay with the inner node and with the leaf. `child_field` and `height_field` give the trees'.
+// The fields of a slot: its offer, the next free slot, the first of a piece's node (its children, then its crossing), the crossing with the next
+// piece and that piece, the bridge of the offers' inner node, and the pieces that stay with the inner node and with the leaf. `child_field` and
+// `height_field` give the trees'.
 pub const NUMBER: usize = 0;
 
 pub const RATE: usize = 1;
@@ -34,6 +35,8 @@ pub const RATE: usize = 1;
 pub const BASE: usize = 2;
 
 pub const NEXT_FREE: usize = 3;
+
+pub const PIECE_NODE: usize = 4;
 
 pub const NUMERATOR: usize = 6;
 
@@ -128,8 +131,8 @@ pub fn capacity(part: &[i64]) -> u32
     told
 }
 
-// The place of a slot's field in a part of capacity `c`: the one formula of the layout.
-fn address(c: u32, field: usize, slot: u32) -> usize
+// The place of a slot's field in a part of capacity `c`: the one formula of the layout. The four fields of a plane stand side by side.
+pub fn address(c: u32, field: usize, slot: u32) -> usize
     requires { ⌜ Placed c field slot ⌝ }
     ensures { λ r. ⌜ r ≡ place c field slot ⌝ }
 {

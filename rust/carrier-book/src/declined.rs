@@ -17,7 +17,7 @@ pub enum Declined {
     Capacity,
     /// 2, open: fewer words than the book takes from `start` on.
     NoRoom,
-    /// 3, all but open: there is no book at `start`, or its part is cut short.
+    /// 3, each call on a table but open and check: there is no book at `start`, or its part is cut short.
     NoBook,
     /// 4: a number, rate, base, load or price out of range.
     OutOfRange,

@@ -3,11 +3,36 @@
 //! A pointer has to be valid for its length, also for writes where it is `*mut`, and what is written may not overlap another slice of
 //! the call.
 //!
+//! Each of them, on one book:
+//!
 //! ```
-//! let mut units = [0];
-//! // SAFETY: the pointer and the length are those of one array.
-//! let answer = unsafe { carrier_book::raw::carrier_voucher(150, units.as_mut_ptr(), units.len()) };
-//! assert_eq!((answer, units), (0, [2]));
+//! use carrier_book::raw::*;
+//! let mut table = [0i64; 64 * 3];
+//! let (mut counts, mut found, mut met, mut mark, mut units) = ([0; 3], [0; 2], [0; 4], [0.0; 2], [0]);
+//! let (mut out, mut piece) = ([0; 6], [0; 3]);
+//! let (words, start) = (table.len(), 0);
+//! // SAFETY: each pointer and its length are those of one array, and no two arrays of a call overlap but two that are only read.
+//! unsafe {
+//!     assert_eq!(carrier_open(table.as_mut_ptr(), words, start, 2), 0);
+//!     assert_eq!(carrier_post(table.as_mut_ptr(), words, start, 1, 3, 0, counts.as_mut_ptr(), 3), 1);
+//!     assert_eq!(carrier_post(table.as_mut_ptr(), words, start, 2, 1, 10, counts.as_mut_ptr(), 3), 2);
+//!     assert_eq!(counts, [1, 1, 0]);
+//!     assert_eq!(carrier_query(table.as_ptr(), words, start, 6, found.as_mut_ptr(), 2), 2);
+//!     assert_eq!(found, [16, 1]);
+//!     assert_eq!(carrier_listing(table.as_ptr(), words, start, out.as_mut_ptr(), 6), 2);
+//!     assert_eq!(out, [1, 10, 2, 2, 0, 0]);
+//!     assert_eq!(carrier_mark(table.as_ptr(), words, start, 1, mark.as_mut_ptr(), 2), 1);
+//!     assert_eq!(mark, [5.0, 15.0]);
+//!     let first = carrier_begin(table.as_ptr(), words, start);
+//!     assert!(carrier_piece(table.as_ptr(), words, start, first, piece.as_mut_ptr(), 3) > 0);
+//!     assert_eq!(piece, [1, 10, 2]);
+//!     // rates 3 and 1 of the one book do not stand apart from those of the other
+//!     assert_eq!(carrier_meet(table.as_ptr(), words, start, table.as_ptr(), words, start, met.as_mut_ptr(), 4), -12);
+//!     assert_eq!(carrier_withdraw(table.as_mut_ptr(), words, start, 1, counts.as_mut_ptr(), 3), 1);
+//!     assert_eq!(carrier_check(table.as_ptr(), words, start), 1);
+//!     assert_eq!(carrier_voucher(150, units.as_mut_ptr(), 1), 0);
+//!     assert_eq!(units, [2]);
+//! }
 //! ```
 
 extern "C" {

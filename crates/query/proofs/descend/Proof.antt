@@ -24,9 +24,6 @@ abbrev μ-loop : tie.MeasureT-loop
 capacity-requires : tie.Need-capacity-requires Inv-loop μ-loop
 capacity-requires c κs = search needs
 
-cast-c : tie.Need-cast-c Inv-loop μ-loop
-cast-c c = search needs
-
 loop-holds : tie.Need-loop-holds Inv-loop μ-loop
 loop-holds c = ongoing-start _ _ _
 
@@ -68,8 +65,8 @@ loop-again c =
     let at-loop = at-loop-test .before in
     ongoing-step (at-loop .loop .inv) (at-loop-test .loop-test .taken) (sym (ap childOf (c .before .step .given .1)) ∙ at-toward .toward .ensures)
 
-cast-t9 : tie.Need-cast-t9 Inv-loop μ-loop
-cast-t9 c = omega arith
+cast-t10 : tie.Need-cast-t10 Inv-loop μ-loop
+cast-t10 c = omega arith
 
 returns-3 : tie.Need-returns-3 Inv-loop μ-loop
 returns-3 c = simp (toZ-ofZ, c .before .before .before .fits .load) at (ongoing-leaf (c .before .loop .inv) (c .loop-test .left))
@@ -81,7 +78,6 @@ descend-spec =
     Inv-loop
     μ-loop
     capacity-requires
-    cast-c
     loop-holds
     returns
     toward-requires
@@ -91,5 +87,5 @@ descend-spec =
     add-probes
     loop-less
     loop-again
-    cast-t9
+    cast-t10
     returns-3)

@@ -1,6 +1,6 @@
 -- `query::price` meets its contract.
 use mathlib.Core.Path.{_≡_, _∙_, ap}
-use Prim.Native.Nat.{_+_, _*_, _≤_}
+use Prim.Native.Nat.{_+_, _≤_}
 use native.Mathlib.Omega.{arith}
 use lib.ListN.{getD}
 use lib.IntN.{ℤ, pos, natAbs, _+ℤ_, _*ℤ_}
@@ -11,14 +11,12 @@ use Rattle.integers.specs.Magnitude.{fits, natAbs-add}
 use Rattle.table.specs.Fields.{baseField, rateField}
 use Rattle.table.specs.Words.{Words}
 use Rattle.table.specs.Layout.{cell}
-use Rattle.query.specs.Groups.{price-none, data-in, data-cell}
+use Rattle.table.specs.Cells.{placed}
+use Rattle.query.specs.Groups.{price-none, data-small, data-in, data-cell}
 use Rattle.query.specs.Readings.{clamped, clamped-size, clamped-product, priceIn}
 use borrow.Author.Needs.{needs}
 use Rattle.query.proofs.price.Statement.{statement}
 use Rattle.query.proofs.price.Tie as tie
-use Rattle.query.proofs.price.Reads as reads
-use Rattle.query.proofs.price.Lts as lts
-use Rattle.table.proofs.capacity.Reads as capacity-reads
 
 -- base, rate and load as they were clamped
 module _ {b r l : ℤ} (x y q : ℤ) (eb : b ≡ clamped 1_000_000_000 x) (er : r ≡ clamped 100_000 y) (el : l ≡ clamped 1_000_000 q) where
@@ -44,36 +42,45 @@ returns c = price-none _ _ _ _ (c .before .capacity .ensures) (λ h. omega (arit
 returns-2 : tie.Need-returns-2
 returns-2 c = price-none _ _ _ _ (c .before .before .capacity .ensures) (λ h. omega (arith, h .1))
 
-mul-at : tie.Need-mul-at
-mul-at c = search needs
-
-add-at : tie.Need-add-at
-add-at c = search needs
+address-requires : tie.Need-address-requires
+address-requires c κs = placed _ _ _ _ (c .before .before .capacity .ensures) (omega arith) (omega arith)
 
 add-bounded : tie.Need-add-bounded
-add-bounded c = search needs
+add-bounded c = omega (arith, data-small _ _ _ (c .before .before .before .capacity .ensures) (c .before .before .if1 .left) (c .before .if2 .left) (c .address .ensures))
 
 mul-bounded : tie.Need-mul-bounded
-mul-bounded c = search needs
+mul-bounded c = omega (arith, data-small _ _ _ (c .before .before .before .capacity .ensures) (c .before .before .if1 .left) (c .before .if2 .left) (c .address .ensures))
 
 shared-slice-copy-out-bounded : tie.Need-shared-slice-copy-out-bounded
-shared-slice-copy-out-bounded c = data-in _ _ _ (c .before .before .capacity .ensures) (c .before .if1 .left) (c .if2 .left) 2 (omega arith)
+shared-slice-copy-out-bounded c =
+    data-in _ _ _ (c .before .before .before .capacity .ensures) (c .before .before .if1 .left) (c .before .if2 .left) (c .address .ensures) 2 (omega arith)
 
 bounded-requires : tie.Need-bounded-requires
 bounded-requires c κs = search needs
 
 add-bounded-2 : tie.Need-add-bounded-2
-add-bounded-2 c = search needs
+add-bounded-2 c =
+    let at-address = c .before .before in
+    let at-if2 = at-address .before in
+    let at-if1 = at-if2 .before in
+    let at-capacity = at-if1 .before in
+    omega (arith, data-small _ _ _ (at-capacity .capacity .ensures) (at-if1 .if1 .left) (at-if2 .if2 .left) (at-address .address .ensures))
 
 mul-bounded-2 : tie.Need-mul-bounded-2
-mul-bounded-2 c = search needs
+mul-bounded-2 c =
+    let at-address = c .before .before in
+    let at-if2 = at-address .before in
+    let at-if1 = at-if2 .before in
+    let at-capacity = at-if1 .before in
+    omega (arith, data-small _ _ _ (at-capacity .capacity .ensures) (at-if1 .if1 .left) (at-if2 .if2 .left) (at-address .address .ensures))
 
 shared-slice-copy-out-bounded-2 : tie.Need-shared-slice-copy-out-bounded-2
 shared-slice-copy-out-bounded-2 c =
-    let at-if2 = c .before .before in
+    let at-address = c .before .before in
+    let at-if2 = at-address .before in
     let at-if1 = at-if2 .before in
     let at-capacity = at-if1 .before in
-    data-in _ _ _ (at-capacity .capacity .ensures) (at-if1 .if1 .left) (at-if2 .if2 .left) 1 (omega arith)
+    data-in _ _ _ (at-capacity .capacity .ensures) (at-if1 .if1 .left) (at-if2 .if2 .left) (at-address .address .ensures) 1 (omega arith)
 
 bounded-requires-2 : tie.Need-bounded-requires-2
 bounded-requires-2 c κs = search needs
@@ -100,12 +107,13 @@ returns-3 c =
     let at-bounded-arg2 = c .before .before in
     let at-bounded = at-bounded-arg2 .before in
     let at-bounded-arg = at-bounded .before in
-    let at-if2 = at-bounded-arg .before in
+    let at-address = at-bounded-arg .before in
+    let at-if2 = at-address .before in
     let at-if1 = at-if2 .before in
     let at-capacity = at-if1 .before in
     let entry = at-capacity .before in
     let w = entry .args .part .now in
-    let at = 64 + 4 * entry .args .slot in
+    let at = at-address .address .result in
     let x : SFits w64 (getD w (at + 2) (pos 0)) = record { sfits = at-bounded-arg .bounded-arg .given } in
     let y : SFits w64 (getD w (at + 1) (pos 0)) = record { sfits = at-bounded-arg2 .bounded-arg2 .given } in
     let b : SFits w64 (at-bounded .bounded .result) = record { sfits = at-bounded .bounded .ok } in
@@ -116,8 +124,8 @@ returns-3 c =
     simp (toZ-ofZ, b, r, l, p, s)
     (told _ _ _ (simp (toZ-ofZ, x) at (at-bounded .bounded .ensures)) (simp (toZ-ofZ, y) at (c .before .bounded2 .ensures))
     (simp (toZ-ofZ, entry .fits .load) at (c .bounded3 .ensures)) _ _
-    (data-cell _ _ _ (at-capacity .capacity .ensures) (at-if1 .if1 .left) (at-if2 .if2 .left) 2 (omega arith))
-    (data-cell _ _ _ (at-capacity .capacity .ensures) (at-if1 .if1 .left) (at-if2 .if2 .left) 1 (omega arith)))
+    (data-cell _ _ _ (at-capacity .capacity .ensures) (at-if1 .if1 .left) (at-if2 .if2 .left) (at-address .address .ensures) 2 (omega arith))
+    (data-cell _ _ _ (at-capacity .capacity .ensures) (at-if1 .if1 .left) (at-if2 .if2 .left) (at-address .address .ensures) 1 (omega arith)))
 
 pub price-spec : {M : Type 1} → statement M
 price-spec =
@@ -126,8 +134,7 @@ price-spec =
     capacity-requires
     returns
     returns-2
-    mul-at
-    add-at
+    address-requires
     add-bounded
     mul-bounded
     shared-slice-copy-out-bounded

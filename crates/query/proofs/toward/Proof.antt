@@ -1,6 +1,6 @@
 -- `query::toward` meets its contract: the group is read where the part has it, and every way off tells that there is no child.
 use mathlib.Core.Path.{_≡_, sym, _∙_}
-use Prim.Native.Nat.{ℕ, _+_, _-_}
+use Prim.Native.Nat.{ℕ, _+_}
 use native.Mathlib.Omega.{arith}
 use lib.ListN.{getD}
 use lib.IntN.{ℤ, pos}
@@ -8,45 +8,39 @@ use mir.Syntax.{w64}
 use mir.Val.{SFits}
 use mir.Facts.{toZ-ofZ}
 use Rattle.table.specs.Layout.{cap-most}
-use Rattle.query.specs.Groups.{group, group-in, off-slot, off-steep, off-wild, toward-there}
+use Rattle.table.specs.Cells.{placed}
+use Rattle.query.specs.Groups.{group-small, group-in, off-slot, off-steep, off-wild, toward-there}
 use borrow.Author.Needs.{needs}
 use Rattle.query.proofs.toward.Statement.{statement}
 use Rattle.query.proofs.toward.Tie as tie
-use Rattle.query.proofs.toward.Reads as reads
-use Rattle.query.proofs.toward.Lts as lts
-use Rattle.query.proofs.outside.Reads as outside-reads
-use Rattle.query.proofs.side_of.Reads as side-of-reads
-use Rattle.table.proofs.up_to.Reads as up-to-reads
 
 returns : tie.Need-returns
 returns c = off-slot _ _ _ _ (c .before .pre) (λ h. omega (arith, h .0))
 
 add-if2 : tie.Need-add-if2
-add-if2 c = omega (arith, cap-most (c .before .args .part .now))
+add-if2 c = search needs
 
 returns-2 : tie.Need-returns-2
 returns-2 c = off-slot _ _ _ _ (c .before .before .pre) (λ h. omega (arith, h .1))
 
-add-at : tie.Need-add-at
-add-at c = omega (arith, cap-most (c .before .before .args .part .now))
+sub-address : tie.Need-sub-address
+sub-address c = search needs
 
-add-at-2 : tie.Need-add-at-2
-add-at-2 c = omega (arith, cap-most (c .before .before .args .part .now))
+cast-address : tie.Need-cast-address
+cast-address c = search needs
 
-mul-at : tie.Need-mul-at
-mul-at c = omega (arith, cap-most (c .before .before .args .part .now))
-
-sub-at : tie.Need-sub-at
-sub-at c = omega (arith, cap-most (c .before .before .args .part .now))
+address-requires : tie.Need-address-requires
+address-requires c κs = placed _ _ _ _ (c .before .before .pre) (omega arith) (omega arith)
 
 add-d : tie.Need-add-d
-add-d c = omega (arith, cap-most (c .before .before .args .part .now))
+add-d c = omega (arith, group-small _ _ _ (c .before .before .before .pre) (c .before .before .if1 .left) (c .before .if2 .left) (c .address .ensures))
 
 mul-d : tie.Need-mul-d
-mul-d c = omega (arith, cap-most (c .before .before .args .part .now))
+mul-d c = omega (arith, group-small _ _ _ (c .before .before .before .pre) (c .before .before .if1 .left) (c .before .if2 .left) (c .address .ensures))
 
 shared-slice-copy-out-d : tie.Need-shared-slice-copy-out-d
-shared-slice-copy-out-d c = group-in _ _ _ (c .before .before .pre) (c .before .if1 .left) (c .if2 .left) 3 (omega arith)
+shared-slice-copy-out-d c =
+    group-in _ _ _ (c .before .before .before .pre) (c .before .before .if1 .left) (c .before .if2 .left) (c .address .ensures) 3 (omega arith)
 
 outside-requires : tie.Need-outside-requires
 outside-requires c κs = search needs
@@ -54,46 +48,59 @@ outside-requires c κs = search needs
 returns-3 : tie.Need-returns-3
 returns-3 c =
     let at-d = c .before .before in
-    let at-if2 = at-d .before in
+    let at-address = at-d .before in
+    let at-if2 = at-address .before in
     let at-if1 = at-if2 .before in
     let entry = at-if1 .before in
     let w = entry .args .part .now in
-    let at = group (entry .args .c) (entry .args .x) in
-    let d : SFits w64 (getD w (at + 3) (pos 0)) = record { sfits = at-d .d .given } in
-    off-steep _ _ _ (entry .pre) (at-if1 .if1 .left) (at-if2 .if2 .left) _ (sym (simp (toZ-ofZ, d) at (c .before .outside .ensures)) ∙ c .if3 .taken)
+    let d : SFits w64 (getD w (at-address .address .result + 3) (pos 0)) = record { sfits = at-d .d .given } in
+    off-steep _ _ _ (entry .pre) (at-if1 .if1 .left) (at-if2 .if2 .left) (at-address .address .ensures) _
+    (sym (simp (toZ-ofZ, d) at (c .before .outside .ensures)) ∙ c .if3 .taken)
 
 add-side-of : tie.Need-add-side-of
-add-side-of c = omega (arith, cap-most (c .before .before .before .before .before .args .part .now))
+add-side-of c =
+    let at-address = c .before .before .before in
+    let at-if2 = at-address .before in
+    let at-if1 = at-if2 .before in
+    omega (arith, group-small _ _ _ (at-if1 .before .pre) (at-if1 .if1 .left) (at-if2 .if2 .left) (at-address .address .ensures))
 
 mul-side-of : tie.Need-mul-side-of
-mul-side-of c = omega (arith, cap-most (c .before .before .before .before .before .args .part .now))
+mul-side-of c =
+    let at-address = c .before .before .before in
+    let at-if2 = at-address .before in
+    let at-if1 = at-if2 .before in
+    omega (arith, group-small _ _ _ (at-if1 .before .pre) (at-if1 .if1 .left) (at-if2 .if2 .left) (at-address .address .ensures))
 
 shared-slice-copy-out-side-of : tie.Need-shared-slice-copy-out-side-of
 shared-slice-copy-out-side-of c =
-    let at-if2 = c .before .before .before in
+    let at-address = c .before .before .before in
+    let at-if2 = at-address .before in
     let at-if1 = at-if2 .before in
-    let entry = at-if1 .before in
-    group-in _ _ _ (entry .pre) (at-if1 .if1 .left) (at-if2 .if2 .left) 2 (omega arith)
+    group-in _ _ _ (at-if1 .before .pre) (at-if1 .if1 .left) (at-if2 .if2 .left) (at-address .address .ensures) 2 (omega arith)
 
 side-of-requires : tie.Need-side-of-requires
 side-of-requires c κs = search needs
 
 add-z : tie.Need-add-z
 add-z c =
-    let entry = c .before .before .before .before .before .before .before in
-    omega (arith, cap-most (entry .args .part .now))
+    let at-address = c .before .before .before .before .before in
+    let at-if2 = at-address .before in
+    let at-if1 = at-if2 .before in
+    omega (arith, c .side-of .ensures .low, group-small _ _ _ (at-if1 .before .pre) (at-if1 .if1 .left) (at-if2 .if2 .left) (at-address .address .ensures))
 
 mul-z : tie.Need-mul-z
 mul-z c =
-    let entry = c .before .before .before .before .before .before .before in
-    omega (arith, cap-most (entry .args .part .now))
+    let at-address = c .before .before .before .before .before in
+    let at-if2 = at-address .before in
+    let at-if1 = at-if2 .before in
+    omega (arith, c .side-of .ensures .low, group-small _ _ _ (at-if1 .before .pre) (at-if1 .if1 .left) (at-if2 .if2 .left) (at-address .address .ensures))
 
 shared-slice-copy-out-z : tie.Need-shared-slice-copy-out-z
 shared-slice-copy-out-z c =
-    let at-if2 = c .before .before .before .before .before in
+    let at-address = c .before .before .before .before .before in
+    let at-if2 = at-address .before in
     let at-if1 = at-if2 .before in
-    let entry = at-if1 .before in
-    group-in _ _ _ (entry .pre) (at-if1 .if1 .left) (at-if2 .if2 .left) _ (omega (arith, c .side-of .ensures .low))
+    group-in _ _ _ (at-if1 .before .pre) (at-if1 .if1 .left) (at-if2 .if2 .left) (at-address .address .ensures) _ (omega (arith, c .side-of .ensures .low))
 
 outside-requires-2 : tie.Need-outside-requires-2
 outside-requires-2 c κs = search needs
@@ -106,23 +113,25 @@ returns-4 c =
     let at-if3 = at-side-of-arg .before in
     let at-outside = at-if3 .before in
     let at-d = at-outside .before in
-    let at-if2 = at-d .before in
+    let at-address = at-d .before in
+    let at-if2 = at-address .before in
     let at-if1 = at-if2 .before in
     let entry = at-if1 .before in
     let w = entry .args .part .now in
-    let at = group (entry .args .c) (entry .args .x) in
+    let at = at-address .address .result in
     let d : SFits w64 (getD w (at + 3) (pos 0)) = record { sfits = at-d .d .given } in
     let n : SFits w64 (getD w (at + 2) (pos 0)) = record { sfits = at-side-of-arg .side-of-arg .given } in
     let z : SFits w64 (getD w (at + at-side-of .side-of .result) (pos 0)) = record { sfits = at-z .z .given } in
-    off-wild _ _ _ (entry .pre) (at-if1 .if1 .left) (at-if2 .if2 .left) (simp (toZ-ofZ, n, d, entry .fits .load) at (at-side-of .side-of .ensures))
+    off-wild _ _ _ (entry .pre) (at-if1 .if1 .left) (at-if2 .if2 .left) (at-address .address .ensures)
+    (simp (toZ-ofZ, n, d, entry .fits .load) at (at-side-of .side-of .ensures))
     (sym (simp (toZ-ofZ, d) at (at-outside .outside .ensures)) ∙ at-if3 .if3 .left)
     (sym (simp (toZ-ofZ, z) at (c .before .outside2 .ensures)) ∙ c .if4 .taken)
 
 up-to-requires : tie.Need-up-to-requires
 up-to-requires c κs = search needs
 
-cast-t10 : tie.Need-cast-t10
-cast-t10 c = search needs
+cast-t11 : tie.Need-cast-t11
+cast-t11 c = search needs
 
 returns-5 : tie.Need-returns-5
 returns-5 c =
@@ -132,16 +141,18 @@ returns-5 c =
     let at-if3 = at-side-of-arg .before in
     let at-outside = at-if3 .before in
     let at-d = at-outside .before in
-    let at-if2 = at-d .before in
+    let at-address = at-d .before in
+    let at-if2 = at-address .before in
     let at-if1 = at-if2 .before in
     let entry = at-if1 .before in
     let w = entry .args .part .now in
-    let at = group (entry .args .c) (entry .args .x) in
+    let at = at-address .address .result in
     let d : SFits w64 (getD w (at + 3) (pos 0)) = record { sfits = at-d .d .given } in
     let n : SFits w64 (getD w (at + 2) (pos 0)) = record { sfits = at-side-of-arg .side-of-arg .given } in
     let z : SFits w64 (getD w (at + at-side-of .side-of .result) (pos 0)) = record { sfits = at-z .z .given } in
     (simp (toZ-ofZ, z) at (c .up-to .ensures))
-    ∙ toward-there _ _ _ (entry .pre) (at-if1 .if1 .left) (at-if2 .if2 .left) (simp (toZ-ofZ, n, d, entry .fits .load) at (at-side-of .side-of .ensures))
+    ∙ toward-there _ _ _ (entry .pre) (at-if1 .if1 .left) (at-if2 .if2 .left) (at-address .address .ensures)
+    (simp (toZ-ofZ, n, d, entry .fits .load) at (at-side-of .side-of .ensures))
     (sym (simp (toZ-ofZ, d) at (at-outside .outside .ensures)) ∙ at-if3 .if3 .left)
 
 pub toward-spec : {M : Type 1} → statement M
@@ -151,10 +162,9 @@ toward-spec =
     returns
     add-if2
     returns-2
-    add-at
-    add-at-2
-    mul-at
-    sub-at
+    sub-address
+    cast-address
+    address-requires
     add-d
     mul-d
     shared-slice-copy-out-d
@@ -170,5 +180,5 @@ toward-spec =
     outside-requires-2
     returns-4
     up-to-requires
-    cast-t10
+    cast-t11
     returns-5)
