@@ -21,6 +21,7 @@ use Rattle.book.specs.declared.Update.the-variants.{Done, Declined as Up
 use Rattle.book.specs.Promises.{partOf, updateReturned, updateAnswer, Counts, Follows}
 use Rattle.filing.specs.Declining.{refusing}
 use Rattle.filing.specs.Posting.{Updated}
+use Rattle.filing.specs.declared.Told.{Told}
 
 -- ---- a declined call
 
@@ -50,13 +51,17 @@ follows-declined start t k {plain} {m} {held} {t′} {r} b e er et =
 
 -- ---- an accepted one
 
+-- an update's answer
+abbrev pub updateOf : Told → Update
+updateOf t = Done (pos (t .live)) (pos (t .counts .searches)) (pos (t .counts .steps)) (pos (t .counts .heights))
+
 not-refused : {m n : ℕ} → live m ≡ refused n → ⊥
 not-refused e = let z : _≡_ {A = ℕ} 0 1 = cc in omega arith
 
 done-follows :
-    (start : ℕ) (t : List ℤ) (q : Call) {plain next : State} {n k st h : ℕ} {held : Option (Held Item)} {t′ : List ℤ} {r : Update} →
-    Updated (partOf t′ start) next held k st h →
-    step plain q ≡ record { state = next; answer = live n } → r ≡ Done (pos n) (pos k) (pos st) (pos h) →
+    (start : ℕ) (t : List ℤ) (q : Call) {plain next : State} {told : Told} {held : Option (Held Item)} {t′ : List ℤ} {r : Update} →
+    Updated (partOf t′ start) next held (told .counts) →
+    step plain q ≡ record { state = next; answer = live (told .live) } → r ≡ updateOf told →
     Follows q plain held start t t′ r
 done-follows start t q {t′ = t′} u e er =
     record {
@@ -70,23 +75,23 @@ done-follows start t q {t′ = t′} u e er =
     }
 
 pub follows-posted :
-    (start : ℕ) (t : List ℤ) (n r z : ℤ) {plain : State} {m k st h : ℕ} {held : Option (Held Item)} {t′ : List ℤ} {u : Update} →
-    Clear (trials plain (post n r z)) → Updated (partOf t′ start) (holding plain (join (record { number = n; rate = r; base = z }) (plain .offers))) held k st h →
-    m ≡ suc (length (plain .offers)) → u ≡ Done (pos m) (pos k) (pos st) (pos h) →
+    (start : ℕ) (t : List ℤ) (n r z : ℤ) {plain : State} {told : Told} {held : Option (Held Item)} {t′ : List ℤ} {u : Update} →
+    Clear (trials plain (post n r z)) → Updated (partOf t′ start) (holding plain (join (record { number = n; rate = r; base = z }) (plain .offers))) held (told .counts) →
+    told .live ≡ suc (length (plain .offers)) → u ≡ updateOf told →
     Follows (post n r z) plain held start t t′ u
 follows-posted start t n r z {plain} clear done count answer =
-    done-follows start t (post n r z) done (posts plain n r z clear ∙ ap (λ (i : ℕ). told i) (sym count)) answer
+    done-follows start t (post n r z) done (posts plain n r z clear ∙ ap (λ (i : ℕ). outcome i) (sym count)) answer
   where
-    told : ℕ → Outcome
-    told i = record { state = holding plain (join (record { number = n; rate = r; base = z }) (plain .offers)); answer = live i }
+    outcome : ℕ → Outcome
+    outcome i = record { state = holding plain (join (record { number = n; rate = r; base = z }) (plain .offers)); answer = live i }
 
 pub follows-withdrawn :
-    (start : ℕ) (t : List ℤ) (n : ℤ) {plain : State} {m k st h : ℕ} {held : Option (Held Item)} {t′ : List ℤ} {u : Update} →
-    Clear (trials plain (withdraw n)) → Updated (partOf t′ start) (holding plain (leave n (plain .offers))) held k st h →
-    m ≡ length (leave n (plain .offers)) → u ≡ Done (pos m) (pos k) (pos st) (pos h) →
+    (start : ℕ) (t : List ℤ) (n : ℤ) {plain : State} {told : Told} {held : Option (Held Item)} {t′ : List ℤ} {u : Update} →
+    Clear (trials plain (withdraw n)) → Updated (partOf t′ start) (holding plain (leave n (plain .offers))) held (told .counts) →
+    told .live ≡ length (leave n (plain .offers)) → u ≡ updateOf told →
     Follows (withdraw n) plain held start t t′ u
 follows-withdrawn start t n {plain} clear done count answer =
-    done-follows start t (withdraw n) done (withdraws plain n clear ∙ ap (λ (i : ℕ). told i) (sym count)) answer
+    done-follows start t (withdraw n) done (withdraws plain n clear ∙ ap (λ (i : ℕ). outcome i) (sym count)) answer
   where
-    told : ℕ → Outcome
-    told i = record { state = holding plain (leave n (plain .offers)); answer = live i }
+    outcome : ℕ → Outcome
+    outcome i = record { state = holding plain (leave n (plain .offers)); answer = live i }

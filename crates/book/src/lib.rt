@@ -1,12 +1,11 @@
 // The carrier book in a lent table: open, post, withdraw, query, listing, check.
 ghost use mathlib.Core.Path.{_≡_};
 ghost use lib.ListN.{length};
-ghost use lib.IntN.{pos};
 ghost use Rattle.plain.specs.Book.{post, withdraw, noBookAt};
 ghost use Rattle.table.specs.Fields.{capacityWord};
 ghost use Rattle.table.specs.Words.{word};
-ghost use Rattle.book.specs.declared.Update.the-variants.{Done};
 ghost use Rattle.book.specs.Promises.{partOf, Opens, Updates, Queries, Lists, Checks};
+ghost use Rattle.book.specs.Following.{updateOf};
 ghost use Rattle.book.specs.Asking.{Asks};
 ghost use Rattle.filing.specs.PartUpdates.{OutOfRange};
 ghost use Rattle.book.specs.Showing.{Shown};
@@ -73,14 +72,14 @@ pub fn open(table: &mut [i64], start: usize, capacity: i64) -> Opening
 }
 
 // An update's answer.
-fn done(live: u32, k: u32, s: u32, h: u32) -> Update
-    ensures { λ r. ⌜ r ≡ Done (pos live) (pos k) (pos s) (pos h) ⌝ }
+fn done(told: filing::Told) -> Update
+    ensures { λ r. ⌜ r ≡ updateOf told ⌝ }
 {
     Update::Done {
-        live: live as i64,
-        k: k as i64,
-        s: s as i64,
-        h: h as i64,
+        live: told.live as i64,
+        k: told.counts.searches as i64,
+        s: told.counts.steps as i64,
+        h: told.counts.heights as i64,
     }
 }
 
@@ -112,7 +111,7 @@ pub fn post(table: &mut [i64], start: usize, number: i64, rate: i64, base: i64) 
         return Update::Declined(cause as i64);
     }
     let told = filing::post_part(&mut table[start..], number, rate, base);
-    done(told.live, told.k, told.s, told.h)
+    done(told)
 }
 
 // Withdraws an offer from the book at `start`.
@@ -130,7 +129,7 @@ pub fn withdraw(table: &mut [i64], start: usize, number: i64) -> Update
         return Update::Declined(8);
     }
     let told = filing::withdraw_part(&mut table[start..], number, s);
-    done(told.live, told.k, told.s, told.h)
+    done(told)
 }
 
 // The cheapest offer at a load, on the part's own words.

@@ -1,5 +1,5 @@
 -- The writes of a post and of a withdrawal, each as the code makes it, in the order of the code.
-use mathlib.Core.Path.{_≡_, sym, _∙_, ap}
+use mathlib.Core.Path.{_≡_, refl, sym, _∙_, ap}
 use mathlib.Core.Logic.{_≢_}
 use mathlib.Core.Option.{Option}
 use Prim.Native.Nat.{ℕ, suc, _<_}
@@ -10,18 +10,20 @@ use Rattle.offers.specs.Offers.{Offer}
 use Rattle.plain.specs.Book.{State, join, leave, holding}
 use Rattle.dynamic.specs.OfferTree.{Held}
 use Rattle.dynamic.specs.Valid.{bookLines}
-use Rattle.table.specs.Fields.{baseField, envelopeRootWord, firstFreeWord, liveCountWord, mostNodes, nextFreeField, numberField, numbersRootWord, offersRootWord, rateField}
+use Rattle.table.specs.Fields.{firstFreeWord, mostNodes, nextFreeField, numbersRootWord}
 use Rattle.table.specs.Words.{Words, word, wset, wset-other, upTo}
-use Rattle.table.specs.Layout.{cap, cset, linkAt}
-use Rattle.table.specs.Free.{firstFree, taken, given}
+use Rattle.table.specs.Layout.{cap, linkAt}
+use Rattle.table.specs.Free.{firstFree, given}
 use Rattle.table.specs.Items.{Item}
 use Rattle.table.specs.Rep.{Within, within-cap}
 use Rattle.update.specs.Steps.{RemovedIn}
+use Rattle.update.specs.declared.Held.{Held as InHand}
+use Rattle.update.specs.declared.Made.{Made as Outcome}
 use Rattle.form.specs.Form.{Book}
 use Rattle.numbers.specs.Numbers.{Added, Dropped}
 use Rattle.form.specs.Live.{live-slots}
 use Rattle.filing.specs.Agree.{agree-header, header-kept}
-use Rattle.filing.specs.Writing.{filled, freed-given, headed, first-free, Filled, Headed}
+use Rattle.filing.specs.Writing.{filling, rootsOf, rooting, filled, freed-given, headed, first-free, Filled, Headed}
 use Rattle.filing.specs.Joining.{Joined, joins-alone, joins-among}
 use Rattle.filing.specs.Posting.{Updated, PostSteps, Postable, posted-plain}
 use Rattle.filing.specs.Withdrawing.{WithdrawSteps, LiveAt, withdrawn-plain, withdrawn-count}
@@ -32,28 +34,21 @@ root-room w z e = ap cap e ∙ agree-header w 4 z (omega arith) (omega arith) .r
 
 -- ---- post
 
-pub record PostWrites (o : Offer) (w v₁ v₂ v₃ w₁ w₂ w₃ w₄ u₁ u₂ w′ : Words) (s root root′ x e x′ e′ n k st h : ℕ) : Type 0 where
+pub record PostWrites (o : Offer) (w w₁ w₂ w₃ w₄ w′ : Words) (s root root′ n : ℕ) (m : Outcome) : Type 0 where
   pub slot : s ≡ firstFree w
-  pub take : v₁ ≡ taken w
-  pub put-number : v₂ ≡ cset v₁ numberField s (o .number)
-  pub put-rate : v₃ ≡ cset v₂ rateField s (o .rate)
-  pub put-base : w₁ ≡ cset v₃ baseField s (o .base)
+  pub filled : w₁ ≡ filling (o .number) (o .rate) (o .base) s w
   pub numbers-root : root ≡ upTo mostNodes (word w numbersRootWord)
   pub added : Added s root w₁ w₂ root′
   pub rooted : w₃ ≡ wset w₂ numbersRootWord (pos root′)
-  pub offers-root : x ≡ upTo mostNodes (word w offersRootWord)
-  pub envelope-root : e ≡ upTo mostNodes (word w envelopeRootWord)
-  pub joined : Joined s x e w₃ w₄ x′ e′ k st h
-  pub set-root : u₁ ≡ wset w₄ offersRootWord (pos x′)
-  pub set-envelope : u₂ ≡ wset u₁ envelopeRootWord (pos e′)
-  pub set-count : w′ ≡ wset u₂ liveCountWord (pos n)
+  pub joined : Joined s (rootsOf w) w₃ w₄ m
+  pub headed : w′ ≡ rooting (m .held) n w₄
 
-joined-room : {s x e x′ e′ k st h : ℕ} {w w′ : Words} → Joined s x e w w′ x′ e′ k st h → cap w′ ≡ cap w
-joined-room (joins-alone ex ew ex′ ee′ ek est eh) = ap cap ew
+joined-room : {s : ℕ} {x : InHand} {m : Outcome} {w w′ : Words} → Joined s x w w′ m → cap w′ ≡ cap w
+joined-room (joins-alone ex ew em) = ap cap ew
 joined-room (joins-among nz i) = within-cap (i .within)
 
-module _ {w v₁ v₂ v₃ w₁ w₂ w₃ w₄ u₁ u₂ w′ : Words} {plain : State} {s root root′ x e x′ e′ n k st h : ℕ} {held : Option (Held Item)} (o : Offer) (b : Book w plain held) (new : Postable o (plain .capacity) (bookLines held)) (p : PostWrites o w v₁ v₂ v₃ w₁ w₂ w₃ w₄ u₁ u₂ w′ s root root′ x e x′ e′ n k st h) where
-  post-steps : PostSteps o w w₁ w₂ w₃ w₄ w′ s root root′ x e x′ e′ n k st h
+module _ {w w₁ w₂ w₃ w₄ w′ : Words} {plain : State} {s root root′ n : ℕ} {m : Outcome} {held : Option (Held Item)} (o : Offer) (b : Book w plain held) (new : Postable o (plain .capacity) (bookLines held)) (p : PostWrites o w w₁ w₂ w₃ w₄ w′ s root root′ n m) where
+  post-steps : PostSteps o w w₁ w₂ w₃ w₄ w′ s root root′ n m
   post-steps =
       record {
         slot = p .slot;
@@ -61,44 +56,36 @@ module _ {w v₁ v₂ v₃ w₁ w₂ w₃ w₄ u₁ u₂ w′ : Words} {plain : 
         numbers-root = p .numbers-root;
         added = p .added;
         rooted = p .rooted;
-        offers-root = p .offers-root;
-        envelope-root = p .envelope-root;
         joined = p .joined;
         headed =
             headed w₄
             (omega (arith, b .some-slot, b .capacity, fills .agree .room, within-cap (p .added .within), root-room w₂ (pos root′) (p .rooted), joined-room (p .joined)))
-            (p .set-root) (p .set-envelope) (p .set-count);
+            (p .headed);
       }
     where
       fills : Filled s o w w₁
-      fills = let f = first-free b (new .room) (p .slot) .1 in filled w s (f .low) (f .high) o (p .take ∙ ap (λ (i : ℕ). wset w firstFreeWord (pos (linkAt w nextFreeField i))) (sym (p .slot))) (p .put-number) (p .put-rate) (p .put-base)
+      fills = let f = first-free b (new .room) (p .slot) .1 in filled w s (f .low) (f .high) o (ap (λ (i : ℕ). wset w firstFreeWord (pos (linkAt w nextFreeField i))) (sym (p .slot))) refl refl (p .filled)
 
-  pub post-done : n ≡ suc (length (bookLines held)) → Updated w′ (holding plain (join o (plain .offers))) held k st h
+  pub post-done : n ≡ suc (length (bookLines held)) → Updated w′ (holding plain (join o (plain .offers))) held (m .counts)
   post-done count = posted-plain o b new post-steps count
 
 -- ---- withdraw
 
-pub record WithdrawWrites (number : ℤ) (w w₁ w₂ w₃ u₁ u₂ w₄ w′ : Words) (s root root′ x e x′ e′ n k st h : ℕ) : Type 0 where
+pub record WithdrawWrites (number : ℤ) (w w₁ w₂ w₃ w₄ w′ : Words) (s root root′ n : ℕ) (m : Outcome) : Type 0 where
   pub numbers-root : root ≡ upTo mostNodes (word w numbersRootWord)
   pub dropped : Dropped number root w w₁ root′
   pub rooted : w₂ ≡ wset w₁ numbersRootWord (pos root′)
-  pub offers-root : x ≡ upTo mostNodes (word w offersRootWord)
-  pub envelope-root : e ≡ upTo mostNodes (word w envelopeRootWord)
-  pub removed : RemovedIn s x e w₂ w₃ x′ e′ k st h
-  pub set-root : u₁ ≡ wset w₃ offersRootWord (pos x′)
-  pub set-envelope : u₂ ≡ wset u₁ envelopeRootWord (pos e′)
-  pub set-count : w₄ ≡ wset u₂ liveCountWord (pos n)
+  pub removed : RemovedIn s (rootsOf w) w₂ w₃ m
+  pub headed : w₄ ≡ rooting (m .held) n w₃
   pub give-back : w′ ≡ given w₄ s
 
-module _ {w w₁ w₂ w₃ u₁ u₂ w₄ w′ : Words} {number : ℤ} {plain : State} {s root root′ x e x′ e′ n k st h : ℕ} {held : Option (Held Item)} (a : Item) (b : Book w plain held) (live : LiveAt number s (bookLines held) a) (p : WithdrawWrites number w w₁ w₂ w₃ u₁ u₂ w₄ w′ s root root′ x e x′ e′ n k st h) where
-  withdraw-steps : WithdrawSteps number w w₁ w₂ w₃ w₄ w′ s root root′ x e x′ e′ n k st h
+module _ {w w₁ w₂ w₃ w₄ w′ : Words} {number : ℤ} {plain : State} {s root root′ n : ℕ} {m : Outcome} {held : Option (Held Item)} (a : Item) (b : Book w plain held) (live : LiveAt number s (bookLines held) a) (p : WithdrawWrites number w w₁ w₂ w₃ w₄ w′ s root root′ n m) where
+  withdraw-steps : WithdrawSteps number w w₁ w₂ w₃ w₄ w′ s root root′ n m
   withdraw-steps =
       record {
         numbers-root = p .numbers-root;
         dropped = p .dropped;
         rooted = p .rooted;
-        offers-root = p .offers-root;
-        envelope-root = p .envelope-root;
         removed = p .removed;
         headed = heads;
         freed =
@@ -111,10 +98,10 @@ module _ {w w₁ w₂ w₃ u₁ u₂ w₄ w′ : Words} {number : ℤ} {plain : 
       same : cap w₃ ≡ cap w
       same = within-cap (p .removed .within) ∙ root-room w₁ (pos root′) (p .rooted) ∙ within-cap (p .dropped .within)
 
-      heads : Headed x′ e′ n w₃ w₄
-      heads = headed w₃ (omega (arith, b .some-slot, b .capacity, same)) (p .set-root) (p .set-envelope) (p .set-count)
+      heads : Headed (m .held) n w₃ w₄
+      heads = headed w₃ (omega (arith, b .some-slot, b .capacity, same)) (p .headed)
 
-  pub withdraw-done : suc n ≡ length (bookLines held) → Updated w′ (holding plain (leave number (plain .offers))) held k st h
+  pub withdraw-done : suc n ≡ length (bookLines held) → Updated w′ (holding plain (leave number (plain .offers))) held (m .counts)
   withdraw-done count = withdrawn-plain a b live withdraw-steps count
 
   -- the count written is the plain book's

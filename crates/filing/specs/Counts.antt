@@ -2,7 +2,7 @@
 use mathlib.Core.Path.{_≡_, refl}
 use mathlib.Core.List.{List, [], _∷_, List·Memᴰ, List·Memᴰ·head, List·Memᴰ·tail}
 use mathlib.Core.Option.{Option}
-use Prim.Native.Nat.{ℕ, _*_, _≤_, max}
+use Prim.Native.Nat.{_*_, _≤_, max}
 use native.Mathlib.Omega.{arith}
 use lib.ListN.{length, length-append}
 use Rattle.lists.specs.Members.{sub-length}
@@ -16,11 +16,12 @@ use Rattle.table.specs.Fields.{mostSlots}
 use Rattle.table.specs.Items.{Item}
 use Rattle.pieces.specs.Pieces.{items}
 use Rattle.update.specs.Steps.{Counted}
+use Rattle.update.specs.declared.Counts.{Counts}
 
-pub record Exact (log : List (Pair Item)) (k s h : ℕ) : Type 0 where
-  pub searches : k ≡ length log
-  pub steps : s ≡ stepsOf items log
-  pub heights : h ≡ heightsOf log
+pub record Exact (log : List (Pair Item)) (n : Counts) : Type 0 where
+  pub searches : n .searches ≡ length log
+  pub steps : n .steps ≡ stepsOf items log
+  pub heights : n .heights ≡ heightsOf log
 
 record Low (p : Pair Item) : Type 0 where
   front : height (p .front) ≤ 24
@@ -51,7 +52,7 @@ module _ {before after : Option (Held Item)} {log : List (Pair Item)} (few : len
   pub steps-most : stepsOf items log ≤ 14_500
   steps-most = omega (arith, searches-most, heights-most, work .few-steps)
 
-  pub counts-exact : {k s h : ℕ} → Counted log k s h → Exact log k s h
+  pub counts-exact : {n : Counts} → Counted log n → Exact log n
   counts-exact c =
       record {
         searches = omega (arith, c .searches, searches-most);

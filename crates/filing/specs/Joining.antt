@@ -25,7 +25,9 @@ use Rattle.table.specs.Threads.{Holds}
 use Rattle.pieces.specs.Pieces.{items, rateOf}
 use Rattle.form.specs.Stored.{HeldIn, stored-single, Touched}
 use Rattle.form.specs.Frames.{touched-refl}
-use Rattle.update.specs.Steps.{Counted, Newcomer, InsertedIn}
+use Rattle.update.specs.Steps.{HandIn, Counted, Newcomer, InsertedIn}
+use Rattle.update.specs.declared.Held.{Held as InHand}
+use Rattle.update.specs.declared.Made.{Made as Outcome}
 use Rattle.form.specs.Form.{OffersIn, offersRef, envelopeRef}
 use Rattle.table.specs.Items.{offerOf}
 
@@ -59,16 +61,20 @@ rate-new a ls h x m = ⊎-elim inl (⊎-elim (λ e. absurd (h x m e)) inr) (tric
 
 -- ---- the two ways
 
-pub data Joined (s x e : ℕ) (w w′ : Words) (x′ e′ k st h : ℕ) : Type 0 where
-  joins-alone : x ≡ 0 → w′ ≡ w → x′ ≡ s → e′ ≡ s → k ≡ 0 → st ≡ 0 → h ≡ 0 → Joined s x e w w′ x′ e′ k st h
-  joins-among : x ≢ 0 → InsertedIn s x e w w′ x′ e′ k st h → Joined s x e w w′ x′ e′ k st h
+-- an item in slot s that stands alone: nothing was searched
+abbrev pub oneLine : ℕ → Outcome
+oneLine s = record { held = record { tree = s; envelope = s }; counts = record { searches = 0; steps = 0; heights = 0 } }
+
+pub data Joined (s : ℕ) (x : InHand) (w w′ : Words) (m : Outcome) : Type 0 where
+  joins-alone : x .tree ≡ 0 → w′ ≡ w → m ≡ oneLine s → Joined s x w w′ m
+  joins-among : x .tree ≢ 0 → InsertedIn s x w w′ m → Joined s x w w′ m
 
 -- the words then hold what the model posts
-pub record JoinedIn (a : Item) (held : Option (Held Item)) (w w′ : Words) (x′ e′ k st h : ℕ) : Type 0 where
+pub record JoinedIn (a : Item) (held : Option (Held Item)) (w w′ : Words) (m : Outcome) : Type 0 where
   pub within : Within w w′
   pub touched : Touched (a ∷ bookLines held) w w′
-  pub made : HeldIn w′ x′ e′ (posted items a held .held)
-  pub counted : Counted (posted items a held .log) k st h
+  pub made : HandIn w′ (m .held) (posted items a held .held)
+  pub counted : Counted (posted items a held .log) (m .counts)
 
 -- a single item in hand
 pub alone-in : {w : Words} {a : Item} → Slots (cap w) (a ∷ []) → Holds w (a ∷ []) → HeldIn w (a .slot) (a .slot) (alone a)
@@ -90,20 +96,20 @@ module _ (w : Words) (a : Item) where
   one-held h = record { held = λ m. h .held (List·Memᴰ·head (List·Memᴰ·eq-of-singleton m)) }
 
   pub joins :
-      (held : Option (Held Item)) {s x e x′ e′ k st h : ℕ} {w′ : Words} →
-      s ≡ a .slot → x ≡ offersRef held → e ≡ envelopeRef held →
+      (held : Option (Held Item)) {s : ℕ} {x : InHand} {m : Outcome} {w′ : Words} →
+      s ≡ a .slot → x .tree ≡ offersRef held → x .envelope ≡ envelopeRef held →
       OffersIn w held → Slots (cap w) (a ∷ bookLines held) → Holds w (a ∷ bookLines held) → New items a (bookLines held) →
-      Joined s x e w w′ x′ e′ k st h →
-      JoinedIn a held w w′ x′ e′ k st h
-  joins none {x′} {e′} {k} {st} {h} {w′} es ex ee o slots holds new (joins-alone ez ew ex′ ee′ ek est eh) =
-      rw (ew, ex′, ee′, es)
-      (record { within = within-refl w; touched = touched-refl (a ∷ []) w; made = alone-in slots holds; counted = record { searches = omega arith; steps = omega arith; heights = omega arith } })
+      Joined s x w w′ m →
+      JoinedIn a held w w′ m
+  joins none es ex ee o slots holds new (joins-alone ez ew em) =
+      rw (ew, em, es)
+      (record { within = within-refl w; touched = touched-refl (a ∷ []) w; made = alone-in slots holds; counted = record { searches = refl; steps = refl; heights = refl } })
   joins none es ex ee o slots holds new (joins-among nz i) = absurd (nz ex)
-  joins (some g) es ex ee o slots holds new (joins-alone ez ew ex′ ee′ ek est eh) = absurd (omega (arith, ref-low (heldShape g) (o .slots)))
-  joins (some g) {s} {x} {e} es ex ee o slots holds new (joins-among nz i) =
+  joins (some g) es ex ee o slots holds new (joins-alone ez ew em) = absurd (omega (arith, ref-low (heldShape g) (o .slots)))
+  joins (some g) {s} {x} es ex ee o slots holds new (joins-among nz i) =
       record { within = i .within; touched = i .touched a g there; made = i .made a g there .held; counted = i .made a g there .counted }
     where
-      there : Newcomer w s x e a g
+      there : Newcomer w s x a g
       there =
           record {
             slot = es;

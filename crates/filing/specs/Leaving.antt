@@ -26,6 +26,8 @@ use Rattle.table.specs.Rep.{Within}
 use Rattle.pieces.specs.Pieces.{items, item-laws}
 use Rattle.form.specs.Stored.{Touched}
 use Rattle.update.specs.Steps.{Counted, Leaver, LeftIn, RemovedIn}
+use Rattle.update.specs.declared.Held.{Held as InHand}
+use Rattle.update.specs.declared.Made.{Made as Outcome}
 use Rattle.form.specs.Form.{OffersIn, offersRef, envelopeRef, numberOf}
 use Rattle.table.specs.Items.{offerOf}
 
@@ -98,12 +100,12 @@ without-leave a n {ls} o m e tells =
 -- ---- the words
 
 -- the words hold what is left
-pub record LeftBook (w : Words) (x e : ℕ) (after : Option (Held Item)) : Type 0 where
-  pub root : x ≡ offersRef after
-  pub envelope : e ≡ envelopeRef after
+pub record LeftBook (w : Words) (x : InHand) (after : Option (Held Item)) : Type 0 where
+  pub root : x .tree ≡ offersRef after
+  pub envelope : x .envelope ≡ envelopeRef after
   pub offers : OffersIn w after
 
-pub left-book : {w : Words} {x e : ℕ} (after : Option (Held Item)) → LeftIn w x e after → LeftBook w x e after
+pub left-book : {w : Words} {x : InHand} (after : Option (Held Item)) → LeftIn w x after → LeftBook w x after
 left-book none (p, q) = record { root = p; envelope = q; offers = tt }
 left-book (some g) i =
     record {
@@ -112,27 +114,27 @@ left-book (some g) i =
       offers = record { root = refl; envelope = refl; slots = i .slots; kept = i .kept; tied = i .tied; stored = i .stored; pieces = i .pieces; right = i .right };
     }
 
-pub record LeavingIn (a : Item) (held : Option (Held Item)) (w w′ : Words) (x′ e′ k st h : ℕ) : Type 0 where
+pub record LeavingIn (a : Item) (held : Option (Held Item)) (w w′ : Words) (m : Outcome) : Type 0 where
   pub within : Within w w′
   pub touched : Touched (bookLines held) w w′
-  pub left : LeftBook w′ x′ e′ (withdrawn items a held .rest)
-  pub counted : Counted (withdrawn items a held .log) k st h
+  pub left : LeftBook w′ (m .held) (withdrawn items a held .rest)
+  pub counted : Counted (withdrawn items a held .log) (m .counts)
 
 -- from words that hold the book's offers
 pub leaves-in :
-    (w : Words) (a : Item) (held : Option (Held Item)) {s x e x′ e′ k st h : ℕ} {w′ : Words} →
-    s ≡ a .slot → x ≡ offersRef held → e ≡ envelopeRef held →
+    (w : Words) (a : Item) (held : Option (Held Item)) {s : ℕ} {x : InHand} {m : Outcome} {w′ : Words} →
+    s ≡ a .slot → x .tree ≡ offersRef held → x .envelope ≡ envelopeRef held →
     OffersIn w held → List·Memᴰ a (bookLines held) →
-    RemovedIn s x e w w′ x′ e′ k st h →
-    LeavingIn a held w w′ x′ e′ k st h
-leaves-in w a none es ex ee o m r = absurd (List·Memᴰ·not-nil m)
-leaves-in w a (some g) {s} {x} {e} es ex ee o m r =
+    RemovedIn s x w w′ m →
+    LeavingIn a held w w′ m
+leaves-in w a none es ex ee o i r = absurd (List·Memᴰ·not-nil i)
+leaves-in w a (some g) {s} {x} es ex ee o i r =
     record { within = r .within; touched = r .touched a g there; left = left-book _ (r .rest a g there); counted = r .counted a g there }
   where
-    there : Leaver w s x e a g
+    there : Leaver w s x a g
     there =
         record {
           slot = es;
-          member = m;
+          member = i;
           held = record { root = ex; envelope = ee; slots = o .slots; kept = o .kept; tied = o .tied; stored = o .stored; pieces = o .pieces; right = o .right };
         }

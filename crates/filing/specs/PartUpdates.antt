@@ -21,11 +21,15 @@ use Rattle.table.specs.Items.{Item}
 use Rattle.table.specs.Rep.{Within, within-cap}
 use Rattle.descents.specs.Finds.{Found}
 use Rattle.update.specs.Steps.{RemovedIn}
+use Rattle.update.specs.declared.Held.{Held as InHand}
+use Rattle.update.specs.declared.Made.{Made as Outcome}
+use Rattle.filing.specs.declared.Told.{Told}
 use Rattle.form.specs.Form.{Book}
 use Rattle.numbers.specs.Numbers.{FoundNumber, Added, Dropped}
 use Rattle.form.specs.Live.{live-length}
 use Rattle.filing.specs.Sought.{number-sought, rate-sought, count-read}
 use Rattle.filing.specs.Declining.{refusing, post-number-live, post-rate-live, post-full, post-clear}
+use Rattle.filing.specs.Writing.{filling, rootsOf, rooting}
 use Rattle.filing.specs.Joining.{Joined, joins-alone, joins-among}
 use Rattle.filing.specs.Posting.{Updated, Postable, postable}
 use Rattle.filing.specs.Withdrawing.{live-at}
@@ -60,27 +64,22 @@ kept-cell w f s z = record { long = cset-length w f s z; room = cset-cap w f s z
 kept-within : {w w′ : Words} → Within w w′ → Kept w w′
 kept-within {w} g = record { long = g .long; room = within-cap g; rest = λ i h. g .rest i (beyond-outside w h) }
 
-kept-joined : {s x e x′ e′ k st h : ℕ} {w w′ : Words} → Joined s x e w w′ x′ e′ k st h → Kept w w′
-kept-joined (joins-alone ex ew ex′ ee′ ek est eh) = kept-same ew
+kept-joined : {s : ℕ} {x : InHand} {m : Outcome} {w w′ : Words} → Joined s x w w′ m → Kept w w′
+kept-joined (joins-alone ex ew em) = kept-same ew
 kept-joined (joins-among nz i) = kept-within (i .within)
 
 -- ---- what the small steps write
-
--- an offer's three fields in a slot that was taken
-abbrev pub filling : ℤ → ℤ → ℤ → ℕ → Words → Words
-filling n r z s w = cset (cset (cset (taken w) numberField s n) rateField s r) baseField s z
 
 kept-filling : (n r z : ℤ) (s : ℕ) (w : Words) → Kept w (filling n r z s w)
 kept-filling n r z s w =
     then (then (then (kept-header w 5 _ (omega arith) (omega arith)) (kept-cell (taken w) 0 s n)) (kept-cell (cset (taken w) numberField s n) 1 s r)) (kept-cell (cset (cset (taken w) numberField s n) rateField s r) 2 s z)
 
--- the roots and the live count
-abbrev pub rooting : ℕ → ℕ → ℕ → Words → Words
-rooting x e n w = wset (wset (wset w offersRootWord (pos x)) envelopeRootWord (pos e)) liveCountWord (pos n)
-
-kept-rooting : (x e n : ℕ) (w : Words) → Kept w (rooting x e n w)
-kept-rooting x e n w =
-    then (then (kept-header w 1 (pos x) (omega arith) (omega arith)) (kept-header (wset w offersRootWord (pos x)) 2 (pos e) (omega arith) (omega arith))) (kept-header (wset (wset w offersRootWord (pos x)) envelopeRootWord (pos e)) 3 (pos n) (omega arith) (omega arith))
+kept-rooting : (x : InHand) (n : ℕ) (w : Words) → Kept w (rooting x n w)
+kept-rooting x n w =
+    let w₁ = wset w offersRootWord (pos (x .tree)) in
+    let w₂ = wset w₁ envelopeRootWord (pos (x .envelope)) in
+    then (then (kept-header w 1 (pos (x .tree)) (omega arith) (omega arith)) (kept-header w₁ 2 (pos (x .envelope)) (omega arith) (omega arith)))
+    (kept-header w₂ 3 (pos n) (omega arith) (omega arith))
 
 kept-given : (w : Words) (s : ℕ) → Kept w (given w s)
 kept-given w s =
@@ -89,8 +88,13 @@ kept-given w s =
 pub filled-in : (n r z : ℤ) (w : Words) (s : ℕ) {w₁ w₂ w₃ w₄ : Words} → w₁ ≡ taken w → w₂ ≡ cset w₁ numberField s n → w₃ ≡ cset w₂ rateField s r → w₄ ≡ cset w₃ baseField s z → w₄ ≡ filling n r z s w
 filled-in n r z w s e₁ e₂ e₃ e₄ = e₄ ∙ ap (λ (v : Words). cset v baseField s z) (e₃ ∙ ap (λ (v : Words). cset v rateField s r) (e₂ ∙ ap (λ (v : Words). cset v numberField s n) e₁))
 
-pub rooted-in : (w : Words) (x e n : ℕ) {w₁ w₂ w₃ : Words} → w₁ ≡ wset w offersRootWord (pos x) → w₂ ≡ wset w₁ envelopeRootWord (pos e) → w₃ ≡ wset w₂ liveCountWord (pos n) → w₃ ≡ rooting x e n w
-rooted-in w x e n e₁ e₂ e₃ = e₃ ∙ ap (λ (v : Words). wset v liveCountWord (pos n)) (e₂ ∙ ap (λ (v : Words). wset v envelopeRootWord (pos e)) e₁)
+pub rooted-in :
+    (w : Words) (x : InHand) (n : ℕ) {w₁ w₂ w₃ : Words} →
+    w₁ ≡ wset w offersRootWord (pos (x .tree)) →
+    w₂ ≡ wset w₁ envelopeRootWord (pos (x .envelope)) →
+    w₃ ≡ wset w₂ liveCountWord (pos n) →
+    w₃ ≡ rooting x n w
+rooted-in w x n e₁ e₂ e₃ = e₃ ∙ ap (λ (v : Words). wset v liveCountWord (pos n)) (e₂ ∙ ap (λ (v : Words). wset v envelopeRootWord (pos (x .envelope))) e₁)
 
 pub read-most : (z : ℤ) {n : ℕ} → n ≡ upTo mostNodes z → n ≤ mostNodes
 read-most z e = omega (arith, e, upTo-most mostNodes z)
@@ -140,58 +144,87 @@ module _ (n r : ℤ) (w : Words) {root s : ℕ} (er : root ≡ upTo mostNodes (w
                 );
           }
 
--- a post that is not declined: m offers are live after it
-pub record PostDone (n r z : ℤ) (w w′ : Words) (m k st h : ℕ) : Type 0 where
+-- a post that is not declined
+pub record PostDone (n r z : ℤ) (w w′ : Words) (t : Told) : Type 0 where
   pub kept : Kept w w′
   pub done :
       (plain : State) (held : Option (Held Item)) → Book w plain held → Postable (record { number = n; rate = r; base = z }) (plain .capacity) (bookLines held) →
-      Updated w′ (holding plain (join (record { number = n; rate = r; base = z }) (plain .offers))) held k st h × (m ≡ suc (length (plain .offers)))
+      Updated w′ (holding plain (join (record { number = n; rate = r; base = z }) (plain .offers))) held (t .counts) × (t .live ≡ suc (length (plain .offers)))
 
 pub posted-part :
-    (n r z : ℤ) {w w₁ w₂ w₃ w₄ w′ : Words} {s root root′ x e x′ e′ i m k st h : ℕ} →
-    root ≡ upTo mostNodes (word w numbersRootWord) → x ≡ upTo mostNodes (word w offersRootWord) → e ≡ upTo mostNodes (word w envelopeRootWord) → i ≡ upTo mostNodes (word w liveCountWord) →
-    s ≡ firstFree w → w₁ ≡ filling n r z s w → Added s root w₁ w₂ root′ → w₃ ≡ wset w₂ numbersRootWord (pos root′) → Joined s x e w₃ w₄ x′ e′ k st h →
-    m ≡ suc i → w′ ≡ rooting x′ e′ m w₄ →
-    PostDone n r z w w′ m k st h
-posted-part n r z {w} {w₁} {w₂} {w₃} {w₄} {w′} {s} {root} {root′} {x} {e} {x′} {e′} {i} {m} er ex ee ei es e₁ added e₃ joined em e′′ =
+    (n r z : ℤ) {w w₁ w₂ w₃ w₄ w′ : Words} {s root root′ i live : ℕ} {x : InHand} {m : Outcome} →
+    root ≡ upTo mostNodes (word w numbersRootWord) →
+    x ≡ rootsOf w →
+    i ≡ upTo mostNodes (word w liveCountWord) →
+    s ≡ firstFree w →
+    w₁ ≡ filling n r z s w →
+    Added s root w₁ w₂ root′ →
+    w₃ ≡ wset w₂ numbersRootWord (pos root′) →
+    Joined s x w₃ w₄ m →
+    live ≡ suc i →
+    w′ ≡ rooting (m .held) live w₄ →
+    PostDone n r z w w′ (record { live = live; counts = m .counts })
+posted-part n r z {w} {w₁} {w₂} {w₃} {w₄} {w′} {s} {root} {root′} {i} {live} {x} {m} er ex ei es e₁ added e₃ joined el e′′ =
     record {
-      kept = then (then (then (then (then (then (kept-filling n r z s w) (kept-same e₁)) (kept-within (added .within))) (then (kept-header w₂ 4 (pos root′) (omega arith) (omega arith)) (kept-same e₃))) (kept-joined joined)) (kept-rooting x′ e′ m w₄)) (kept-same e′′);
+      kept =
+          then (then (then (then (then (then (kept-filling n r z s w) (kept-same e₁)) (kept-within (added .within)))
+          (then (kept-header w₂ 4 (pos root′) (omega arith) (omega arith)) (kept-same e₃))) (kept-joined joined)) (kept-rooting (m .held) live w₄)) (kept-same e′′);
       done = λ plain held b new. (
         post-done (record { number = n; rate = r; base = z }) b new
-            (record { slot = es; take = refl; put-number = refl; put-rate = refl; put-base = e₁; numbers-root = er; added = added; rooted = e₃; offers-root = ex; envelope-root = ee; joined = joined; set-root = refl; set-envelope = refl; set-count = e′′ })
-            (omega (arith, em, ei, count-read b)),
-        omega (arith, em, ei, count-read b, live-length b),
+            (record { slot = es; filled = e₁; numbers-root = er; added = added; rooted = e₃; joined = subst (λ (y : InHand). Joined s y w₃ w₄ m) ex joined; headed = e′′ })
+            (omega (arith, el, ei, count-read b)),
+        omega (arith, el, ei, count-read b, live-length b),
       );
     }
 
 -- ---- withdraw
 
 -- a withdrawal that is not declined, of the live offer in slot s
-pub record WithdrawDone (n : ℤ) (s : ℕ) (w w′ : Words) (m k st h : ℕ) : Type 0 where
+pub record WithdrawDone (n : ℤ) (s : ℕ) (w w′ : Words) (t : Told) : Type 0 where
   pub kept : Kept w w′
   pub done :
       (plain : State) (held : Option (Held Item)) → Book w plain held → FoundNumber n (upTo mostNodes (word w numbersRootWord)) w s → 1 ≤ s →
-      Updated w′ (holding plain (leave n (plain .offers))) held k st h × (m ≡ length (leave n (plain .offers)))
+      Updated w′ (holding plain (leave n (plain .offers))) held (t .counts) × (t .live ≡ length (leave n (plain .offers)))
 
 some-live : (live : List Item) {a : Item} → List·Memᴰ a live → 1 ≤ length live
 some-live [] m = absurd (List·Memᴰ·not-nil m)
 some-live (x ∷ xs) m = omega arith
 
 pub withdrawn-part :
-    (n : ℤ) {w w₁ w₂ w₃ w₄ w′ : Words} {s root root′ x e x′ e′ i m k st h : ℕ} →
-    root ≡ upTo mostNodes (word w numbersRootWord) → x ≡ upTo mostNodes (word w offersRootWord) → e ≡ upTo mostNodes (word w envelopeRootWord) → i ≡ upTo mostNodes (word w liveCountWord) →
-    Dropped n root w w₁ root′ → w₂ ≡ wset w₁ numbersRootWord (pos root′) → RemovedIn s x e w₂ w₃ x′ e′ k st h →
-    m ≡ i - 1 → w₄ ≡ rooting x′ e′ m w₃ → w′ ≡ given w₄ s →
-    WithdrawDone n s w w′ m k st h
-withdrawn-part n {w} {w₁} {w₂} {w₃} {w₄} {w′} {s} {root} {root′} {x} {e} {x′} {e′} {i} {m} {k} {st} {h} er ex ee ei dropped e₂ removed em e₄ e′′ =
+    (n : ℤ) {w w₁ w₂ w₃ w₄ w′ : Words} {s root root′ i live : ℕ} {x : InHand} {m : Outcome} →
+    root ≡ upTo mostNodes (word w numbersRootWord) →
+    x ≡ rootsOf w →
+    i ≡ upTo mostNodes (word w liveCountWord) →
+    Dropped n root w w₁ root′ →
+    w₂ ≡ wset w₁ numbersRootWord (pos root′) →
+    RemovedIn s x w₂ w₃ m →
+    live ≡ i - 1 →
+    w₄ ≡ rooting (m .held) live w₃ →
+    w′ ≡ given w₄ s →
+    WithdrawDone n s w w′ (record { live = live; counts = m .counts })
+withdrawn-part n {w} {w₁} {w₂} {w₃} {w₄} {w′} {s} {root} {root′} {i} {live} {x} {m} er ex ei dropped e₂ removed el e₄ e′′ =
     record {
-      kept = then (then (then (then (then (then (kept-within (dropped .within)) (then (kept-header w₁ 4 (pos root′) (omega arith) (omega arith)) (kept-same e₂))) (kept-within (removed .within))) (kept-rooting x′ e′ m w₃)) (kept-same e₄)) (kept-given w₄ s)) (kept-same e′′);
+      kept =
+          then (then (then (then (then (then (kept-within (dropped .within)) (then (kept-header w₁ 4 (pos root′) (omega arith) (omega arith)) (kept-same e₂)))
+          (kept-within (removed .within))) (kept-rooting (m .held) live w₃)) (kept-same e₄)) (kept-given w₄ s)) (kept-same e′′);
       done = finish;
     }
   where
-    finish : (plain : State) (held : Option (Held Item)) → Book w plain held → FoundNumber n (upTo mostNodes (word w numbersRootWord)) w s → 1 ≤ s → Updated w′ (holding plain (leave n (plain .offers))) held k st h × (m ≡ length (leave n (plain .offers)))
+    writes : WithdrawWrites n w w₁ w₂ w₃ w₄ w′ s root root′ live m
+    writes =
+        record {
+          numbers-root = er;
+          dropped = dropped;
+          rooted = e₂;
+          removed = subst (λ (y : InHand). RemovedIn s y w₂ w₃ m) ex removed;
+          headed = e₄;
+          give-back = e′′;
+        }
+
+    finish :
+        (plain : State) (held : Option (Held Item)) → Book w plain held → FoundNumber n (upTo mostNodes (word w numbersRootWord)) w s → 1 ≤ s →
+        Updated w′ (holding plain (leave n (plain .offers))) held (m .counts) × (live ≡ length (leave n (plain .offers)))
     finish plain held b f low =
-        let (a, live) = live-at (number-sought b f refl) (λ q. omega (arith, q, low)) in
-        let writes : WithdrawWrites n w w₁ w₂ w₃ (wset w₃ offersRootWord (pos x′)) (wset (wset w₃ offersRootWord (pos x′)) envelopeRootWord (pos e′)) w₄ w′ s root root′ x e x′ e′ m k st h = record { numbers-root = er; dropped = dropped; rooted = e₂; offers-root = ex; envelope-root = ee; removed = removed; set-root = refl; set-envelope = refl; set-count = e₄; give-back = e′′ } in
-        let count : suc m ≡ length (bookLines held) = omega (arith, em, ei, count-read b, some-live (bookLines held) (live .member)) in
-        (withdraw-done a b live writes count, withdraw-count a b live writes count)
+        let (a, there) = live-at (number-sought b f refl) (λ q. omega (arith, q, low)) in
+        let count : suc live ≡ length (bookLines held) = omega (arith, el, ei, count-read b, some-live (bookLines held) (there .member)) in
+        (withdraw-done a b there writes count, withdraw-count a b there writes count)

@@ -20,7 +20,7 @@ use Rattle.dynamic.specs.Valid.{bookLines, placed}
 use Rattle.dynamic.specs.Placed.{New, placed-mem}
 use Rattle.dynamic.specs.Updated.{posted-lines, posted-work}
 use Rattle.dynamic.specs.Work.{Work}
-use Rattle.table.specs.Fields.{envelopeRootWord, firstFreeWord, mostNodes, numberTree, numbersRootWord, offersRootWord}
+use Rattle.table.specs.Fields.{firstFreeWord, mostNodes, numberTree, numbersRootWord}
 use Rattle.table.specs.Words.{Words, word, wset, wset-other, upTo}
 use Rattle.table.specs.Layout.{cap}
 use Rattle.table.specs.Items.{Item, In, at, Slots}
@@ -32,32 +32,32 @@ use Rattle.table.specs.PartTrees.{partRef}
 use Rattle.numbers.specs.Numbers.{NumbersAt, Added}
 use Rattle.table.specs.Items.{offerOf}
 use Rattle.form.specs.Live.{live-slots, live-whole}
+use Rattle.update.specs.declared.Counts.{Counts}
+use Rattle.update.specs.declared.Made.{Made as Outcome}
 use Rattle.filing.specs.Sought.{Sought, sought-none, numbers-at, offers-read, envelope-read, capacity-most, live-most}
 use Rattle.filing.specs.Declining.{clear-offer}
 use Rattle.filing.specs.Agree.{Agree, Everywhere, FreeHere, agree-trans, agree-less, agree-header, agree-only, agree-touched, header-kept, header-set, offers-number, numbers-envelope, free-number, free-envelope, held-agree, offers-agree, numbers-agree, free-agree}
-use Rattle.filing.specs.Writing.{Filled, Headed, FirstFree, first-free}
+use Rattle.filing.specs.Writing.{rootsOf, Filled, Headed, FirstFree, first-free}
 use Rattle.filing.specs.Counts.{Exact, counts-exact}
 use Rattle.filing.specs.Joining.{placed-join, placed-length, in-placed, rate-new, Joined, JoinedIn, joins}
 
--- What an update gives in the end: the part stands for this plain book, with a log whose counts are k, st and h.
-pub record Updated (w′ : Words) (plain : State) (held : Option (Held Item)) (k st h : ℕ) : Type 0 where
+-- What an update gives in the end: the part stands for this plain book, with a log of those counts.
+pub record Updated (w′ : Words) (plain : State) (held : Option (Held Item)) (n : Counts) : Type 0 where
   pub after : Option (Held Item)
   pub log : List (Pair Item)
   pub stands : Book w′ plain after
   pub work : Work items held after log
-  pub counts : Exact log k st h
+  pub counts : Exact log n
 
 -- The steps of a post: a slot filled, its number added, the item joined, the roots and the count set.
-pub record PostSteps (o : Offer) (w w₁ w₂ w₃ w₄ w′ : Words) (s root root′ x e x′ e′ n k st h : ℕ) : Type 0 where
+pub record PostSteps (o : Offer) (w w₁ w₂ w₃ w₄ w′ : Words) (s root root′ n : ℕ) (m : Outcome) : Type 0 where
   pub slot : s ≡ upTo mostNodes (word w firstFreeWord)
   pub filled : Filled s o w w₁
   pub numbers-root : root ≡ upTo mostNodes (word w numbersRootWord)
   pub added : Added s root w₁ w₂ root′
   pub rooted : w₃ ≡ wset w₂ numbersRootWord (pos root′)
-  pub offers-root : x ≡ upTo mostNodes (word w offersRootWord)
-  pub envelope-root : e ≡ upTo mostNodes (word w envelopeRootWord)
-  pub joined : Joined s x e w₃ w₄ x′ e′ k st h
-  pub headed : Headed x′ e′ n w₄ w′
+  pub joined : Joined s (rootsOf w) w₃ w₄ m
+  pub headed : Headed (m .held) n w₄ w′
 
 -- neither the number nor the rate is live, and there is room
 pub record Postable (o : Offer) (c : ℕ) (live : List Item) : Type 0 where
@@ -86,7 +86,7 @@ itemAt s o = record { slot = s; offer = o }
 abbrev pub afterPost : ℕ → Offer → Option (Held Item) → Option (Held Item)
 afterPost s o held = some (posted items (itemAt s o) held .held)
 
-module _ {w w₁ w₂ w₃ w₄ w′ : Words} {plain : State} {s root root′ x e x′ e′ n k st h : ℕ} {held : Option (Held Item)} (o : Offer) (b : Book w plain held) (new : Postable o (plain .capacity) (bookLines held)) (steps : PostSteps o w w₁ w₂ w₃ w₄ w′ s root root′ x e x′ e′ n k st h) (count : n ≡ suc (length (bookLines held))) where
+module _ {w w₁ w₂ w₃ w₄ w′ : Words} {plain : State} {s root root′ n : ℕ} {m : Outcome} {held : Option (Held Item)} (o : Offer) (b : Book w plain held) (new : Postable o (plain .capacity) (bookLines held)) (steps : PostSteps o w w₁ w₂ w₃ w₄ w′ s root root′ n m) (count : n ≡ suc (length (bookLines held))) where
   others : List ℕ
   others = first-free b (new .room) (steps .slot) .0
 
@@ -146,9 +146,9 @@ module _ {w w₁ w₂ w₃ w₄ w′ : Words} {plain : State} {s root root′ x 
   stands-new : New items (itemAt s o) (bookLines held)
   stands-new = rate-new (itemAt s o) (bookLines held) (new .rate-new)
 
-  joined₄ : JoinedIn (itemAt s o) held w₃ w₄ x′ e′ k st h
+  joined₄ : JoinedIn (itemAt s o) held w₃ w₄ m
   joined₄ =
-      joins w₃ (itemAt s o) held refl (steps .offers-root ∙ offers-read b) (steps .envelope-root ∙ envelope-read b) offers₃ (numbers₃ .slots) (numbers₃ .holds) stands-new
+      joins w₃ (itemAt s o) held refl (offers-read b) (envelope-read b) offers₃ (numbers₃ .slots) (numbers₃ .holds) stands-new
       (steps .joined)
 
   -- ---- w₄ to w′
@@ -235,7 +235,7 @@ module _ {w w₁ w₂ w₃ w₄ w′ : Words} {plain : State} {s root root′ x 
       }
 
   -- the part stands for the plain book after the post
-  pub posted-plain : Updated w′ (holding plain (join o (plain .offers))) held k st h
+  pub posted-plain : Updated w′ (holding plain (join o (plain .offers))) held (m .counts)
   posted-plain =
       let done = posted-work items item-laws (itemAt s o) held (live-whole w held (b .offers .offers-in)) stands-new in
       record {

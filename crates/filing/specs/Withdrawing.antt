@@ -16,7 +16,7 @@ use Rattle.dynamic.specs.OfferTree.{Held}
 use Rattle.dynamic.specs.Updates.{withdrawn}
 use Rattle.dynamic.specs.Valid.{bookLines, without}
 use Rattle.dynamic.specs.Updated.{withdrawn-lines, withdrawn-work}
-use Rattle.table.specs.Fields.{envelopeRootWord, mostNodes, numberTree, numbersRootWord, offersRootWord}
+use Rattle.table.specs.Fields.{mostNodes, numberTree, numbersRootWord}
 use Rattle.table.specs.Words.{Words, word, wset, wset-other, upTo, upTo-in}
 use Rattle.table.specs.Layout.{cap, cap-most}
 use Rattle.table.specs.Items.{Item, In, at}
@@ -25,25 +25,24 @@ use Rattle.pieces.specs.Pieces.{items, item-laws}
 use Rattle.form.specs.Form.{Book, OffersIn, NumbersIn, FreeChain, free-none, free-more, numberOf, head0, plainOffers}
 use Rattle.table.specs.PartTrees.{partRef}
 use Rattle.update.specs.Steps.{RemovedIn}
+use Rattle.update.specs.declared.Made.{Made as Outcome}
 use Rattle.numbers.specs.Numbers.{NumbersAt, Dropped}
 use Rattle.table.specs.Items.{offerOf}
 use Rattle.form.specs.Live.{live-slots, live-holds, live-whole, whole-ordered, slot-tells, number-tells}
 use Rattle.filing.specs.Sought.{Sought, sought-item, numbers-at, offers-read, envelope-read, capacity-most, live-most}
 use Rattle.filing.specs.Agree.{Agree, Everywhere, FreeHere, agree-trans, agree-less, agree-header, agree-only, agree-touched, header-kept, header-set, offers-number, numbers-envelope, free-number, free-envelope, offers-agree, numbers-agree, free-agree}
-use Rattle.filing.specs.Writing.{Headed, Freed, free-not-live}
+use Rattle.filing.specs.Writing.{rootsOf, Headed, Freed, free-not-live}
 use Rattle.filing.specs.Counts.{counts-exact}
 use Rattle.filing.specs.Leaving.{without-live, without-other, without-slots, in-without, without-length, without-leave, LeavingIn, leaves-in}
 use Rattle.filing.specs.Posting.{Updated}
 
 -- The steps of a withdrawal: the number dropped, the item removed, the roots and the count set, its slot given back.
-pub record WithdrawSteps (number : ℤ) (w w₁ w₂ w₃ w₄ w′ : Words) (s root root′ x e x′ e′ n k st h : ℕ) : Type 0 where
+pub record WithdrawSteps (number : ℤ) (w w₁ w₂ w₃ w₄ w′ : Words) (s root root′ n : ℕ) (m : Outcome) : Type 0 where
   pub numbers-root : root ≡ upTo mostNodes (word w numbersRootWord)
   pub dropped : Dropped number root w w₁ root′
   pub rooted : w₂ ≡ wset w₁ numbersRootWord (pos root′)
-  pub offers-root : x ≡ upTo mostNodes (word w offersRootWord)
-  pub envelope-root : e ≡ upTo mostNodes (word w envelopeRootWord)
-  pub removed : RemovedIn s x e w₂ w₃ x′ e′ k st h
-  pub headed : Headed x′ e′ n w₃ w₄
+  pub removed : RemovedIn s (rootsOf w) w₂ w₃ m
+  pub headed : Headed (m .held) n w₃ w₄
   pub freed : Freed s w₄ w′
 
 -- the live item with the number, in slot s
@@ -60,7 +59,7 @@ chain-head : {w : Words} {ss : List ℕ} → FreeChain w ss → head0 ss ≤ cap
 chain-head free-none = omega arith
 chain-head (free-more low high zero next more) = high
 
-module _ {w w₁ w₂ w₃ w₄ w′ : Words} {number : ℤ} {plain : State} {s root root′ x e x′ e′ n k st h : ℕ} {held : Option (Held Item)} (a : Item) (b : Book w plain held) (live : LiveAt number s (bookLines held) a) (steps : WithdrawSteps number w w₁ w₂ w₃ w₄ w′ s root root′ x e x′ e′ n k st h) (count : suc n ≡ length (bookLines held)) where
+module _ {w w₁ w₂ w₃ w₄ w′ : Words} {number : ℤ} {plain : State} {s root root′ n : ℕ} {m : Outcome} {held : Option (Held Item)} (a : Item) (b : Book w plain held) (live : LiveAt number s (bookLines held) a) (steps : WithdrawSteps number w w₁ w₂ w₃ w₄ w′ s root root′ n m) (count : suc n ≡ length (bookLines held)) where
   ordered : Ordered items (bookLines held)
   ordered = whole-ordered held (live-whole w held (b .offers .offers-in))
 
@@ -99,8 +98,8 @@ module _ {w w₁ w₂ w₃ w₄ w′ : Words} {number : ℤ} {plain : State} {s 
 
   -- ---- w₂ to w₃
 
-  left₃ : LeavingIn a held w₂ w₃ x′ e′ k st h
-  left₃ = leaves-in w₂ a held (live .slot) (steps .offers-root ∙ offers-read b) (steps .envelope-root ∙ envelope-read b) offers₂ (live .member) (steps .removed)
+  left₃ : LeavingIn a held w₂ w₃ m
+  left₃ = leaves-in w₂ a held (live .slot) (offers-read b) (envelope-read b) offers₂ (live .member) (steps .removed)
 
   -- ---- w₃ to w′
 
@@ -200,7 +199,7 @@ module _ {w w₁ w₂ w₃ w₄ w′ : Words} {number : ℤ} {plain : State} {s 
   withdrawn-count = omega (arith, fewer, length-map (bookLines (withdrawn items a held .rest)) offerOf, ap length left-offers)
 
   -- the part stands for the plain book after the withdrawal
-  pub withdrawn-plain : Updated w′ (holding plain (leave number (plain .offers))) held k st h
+  pub withdrawn-plain : Updated w′ (holding plain (leave number (plain .offers))) held (m .counts)
   withdrawn-plain =
       let done = withdrawn-work items item-laws a held (live-whole w held (b .offers .offers-in)) (live .member) in
       record {

@@ -18,12 +18,30 @@ use Rattle.plain.specs.Book.{State}
 use Rattle.table.specs.Fields.{baseField, envelopeRootWord, firstFreeWord, liveCountWord, mostNodes, nextFreeField, numberField, offersRootWord, rateField}
 use Rattle.table.specs.Words.{Words, word, wset, wset-other, upTo, upTo-in}
 use Rattle.table.specs.Layout.{cap, cap-most, cell, cset, linkAt, Valid, cset-same, cset-other, cset-rest, header-outside}
-use Rattle.table.specs.Free.{firstFree, given, free-link}
+use Rattle.table.specs.Free.{firstFree, taken, given, free-link}
 use Rattle.table.specs.Items.{Item, In, at}
 use Rattle.table.specs.Threads.{Holds}
 use Rattle.form.specs.Form.{Book, FreeChain, free-more, head0}
 use Rattle.form.specs.Live.{live-holds}
 use Rattle.filing.specs.Agree.{Agree, Everywhere, Elsewhere, agree-trans, agree-less, agree-header, agree-cset, header-set}
+use Rattle.update.specs.declared.Held.{Held as InHand}
+
+-- ---- what the code writes and reads
+
+-- an offer's three fields in a slot that was taken
+abbrev pub filling : ℤ → ℤ → ℤ → ℕ → Words → Words
+filling n r z s w = cset (cset (cset (taken w) numberField s n) rateField s r) baseField s z
+
+-- the roots that the header tells
+abbrev pub rootsOf : Words → InHand
+rootsOf w = record { tree = upTo mostNodes (word w offersRootWord); envelope = upTo mostNodes (word w envelopeRootWord) }
+
+pub roots-read : (w : Words) {x e : ℕ} → x ≡ upTo mostNodes (word w offersRootWord) → e ≡ upTo mostNodes (word w envelopeRootWord) → record { tree = x; envelope = e } ≡ rootsOf w
+roots-read w p q = λ i. record { tree = p i; envelope = q i }
+
+-- the roots and the live count
+abbrev pub rooting : InHand → ℕ → Words → Words
+rooting x n w = wset (wset (wset w offersRootWord (pos (x .tree))) envelopeRootWord (pos (x .envelope))) liveCountWord (pos n)
 
 -- ---- a slot is filled: the first free slot is then the next one
 
@@ -46,9 +64,9 @@ pub record Freed (s : ℕ) (w w′ : Words) : Type 0 where
 
 -- ---- the root of the offers, its envelope and the live count are set
 
-pub record Headed (x e n : ℕ) (w w′ : Words) : Type 0 where
-  pub root : word w′ offersRootWord ≡ pos x
-  pub envelope : word w′ envelopeRootWord ≡ pos e
+pub record Headed (x : InHand) (n : ℕ) (w w′ : Words) : Type 0 where
+  pub root : word w′ offersRootWord ≡ pos (x .tree)
+  pub envelope : word w′ envelopeRootWord ≡ pos (x .envelope)
   pub count : word w′ liveCountWord ≡ pos n
   pub header : (i : ℕ) → 4 ≤ i → i < 64 → word w′ i ≡ word w i
   pub agree : Agree Everywhere w w′
@@ -124,27 +142,33 @@ module _ (w : Words) (s : ℕ) (low : 1 ≤ s) (high : s ≤ cap w) where
   pub freed-given : {w′ : Words} → w′ ≡ given w s → Freed s w w′
   freed-given e = freed refl refl e
 
-pub headed : (w : Words) → 1 ≤ cap w → {w₁ w₂ w₃ : Words} {x e n : ℕ} → w₁ ≡ wset w offersRootWord (pos x) → w₂ ≡ wset w₁ envelopeRootWord (pos e) → w₃ ≡ wset w₂ liveCountWord (pos n) → Headed x e n w w₃
-headed w low {w₁} {w₂} {w₃} {x} {e} {n} e₁ e₂ e₃ =
+pub headed : (w : Words) → 1 ≤ cap w → {w′ : Words} {x : InHand} {n : ℕ} → w′ ≡ rooting x n w → Headed x n w w′
+headed w low {w′} {x} {n} e =
     record {
-      root = at₃ 1 (omega arith) ∙ at₂ 1 (omega arith) ∙ ap (λ (v : Words). word v offersRootWord) e₁ ∙ header-set w 1 (pos x) low (omega arith);
-      envelope = at₃ 2 (omega arith) ∙ ap (λ (v : Words). word v envelopeRootWord) e₂ ∙ header-set w₁ 2 (pos e) (omega (arith, g₁ .room)) (omega arith);
-      count = ap (λ (v : Words). word v liveCountWord) e₃ ∙ header-set w₂ 3 (pos n) (omega (arith, g₂ .room)) (omega arith);
-      header = λ i h k. at₃ i (omega arith) ∙ at₂ i (omega arith) ∙ ap (λ (v : Words). word v i) e₁ ∙ wset-other w 1 i (pos x) (omega arith);
-      agree = agree-trans g₂ (rw e₃ (agree-header w₂ 3 (pos n) (omega arith) (omega arith)));
+      root = at₃ 1 (omega arith) ∙ at₂ 1 (omega arith) ∙ header-set w 1 (pos (x .tree)) low (omega arith);
+      envelope = at₃ 2 (omega arith) ∙ header-set w₁ 2 (pos (x .envelope)) (omega (arith, g₁ .room)) (omega arith);
+      count = ap (λ (v : Words). word v liveCountWord) e ∙ header-set w₂ 3 (pos n) (omega (arith, g₂ .room)) (omega arith);
+      header = λ i h k. at₃ i (omega arith) ∙ at₂ i (omega arith) ∙ wset-other w 1 i (pos (x .tree)) (omega arith);
+      agree = agree-trans g₂ (rw e (agree-header w₂ 3 (pos n) (omega arith) (omega arith)));
     }
   where
-    at₂ : (i : ℕ) → i ≢ 2 → word w₂ i ≡ word w₁ i
-    at₂ i d = ap (λ (v : Words). word v i) e₂ ∙ wset-other w₁ 2 i (pos e) d
+    w₁ : Words
+    w₁ = wset w offersRootWord (pos (x .tree))
 
-    at₃ : (i : ℕ) → i ≢ 3 → word w₃ i ≡ word w₂ i
-    at₃ i d = ap (λ (v : Words). word v i) e₃ ∙ wset-other w₂ 3 i (pos n) d
+    w₂ : Words
+    w₂ = wset w₁ envelopeRootWord (pos (x .envelope))
+
+    at₂ : (i : ℕ) → i ≢ 2 → word w₂ i ≡ word w₁ i
+    at₂ i d = wset-other w₁ 2 i (pos (x .envelope)) d
+
+    at₃ : (i : ℕ) → i ≢ 3 → word w′ i ≡ word w₂ i
+    at₃ i d = ap (λ (v : Words). word v i) e ∙ wset-other w₂ 3 i (pos n) d
 
     g₁ : Agree Everywhere w w₁
-    g₁ = rw e₁ (agree-header w 1 (pos x) (omega arith) (omega arith))
+    g₁ = agree-header w 1 (pos (x .tree)) (omega arith) (omega arith)
 
     g₂ : Agree Everywhere w w₂
-    g₂ = agree-trans g₁ (rw e₂ (agree-header w₁ 2 (pos e) (omega arith) (omega arith)))
+    g₂ = agree-trans g₁ (agree-header w₁ 2 (pos (x .envelope)) (omega arith) (omega arith))
 
 -- ---- the free slots of a book
 

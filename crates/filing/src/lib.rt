@@ -10,14 +10,13 @@ ghost use Rattle.descents.specs.Finds.{Found};
 ghost use Rattle.numbers.specs.Numbers.{FoundNumber};
 ghost use Rattle.filing.specs.Joining.{Joined};
 ghost use Rattle.filing.specs.Starting.{Heading, Lays, Starts};
-ghost use Rattle.filing.specs.PartUpdates.{filling, rooting, PostCause, PostDone, WithdrawDone};
+ghost use Rattle.filing.specs.Writing.{filling, rootsOf, rooting};
+ghost use Rattle.filing.specs.PartUpdates.{PostCause, PostDone, WithdrawDone};
 
-// The live count after an update, and its searches, their steps in all and the sum of their trees' heights.
+// The live count after an update, and what its searches took.
 pub struct Told {
     pub live: u32,
-    pub k: u32,
-    pub s: u32,
-    pub h: u32,
+    pub counts: update::Counts,
 }
 
 // The header of an empty book.
@@ -94,50 +93,65 @@ fn fill(part: &mut [i64], number: i64, rate: i64, base: i64) -> u32
     s
 }
 
-// Joins the item in slot `s` to the offers with root `x` and envelope `e`, or lets it stand alone.
-fn join_in(part: &mut [i64], x: u32, e: u32, s: u32) -> update::Made
-    ensures { λ r. ⌜ Joined s x e (now (part .entry)) (now (part .exit)) (r .x) (r .e) (r .k) (r .s) (r .h) ⌝ }
+// The roots that the header tells: of the offers and of their envelope.
+fn roots(part: &[i64]) -> update::Held
+    ensures { λ r. ⌜ r ≡ rootsOf (now (part .entry)) ⌝ }
 {
-    if x < 1 {
+    let x = table::number_at(part, table::OFFERS_ROOT, table::MOST_NODES);
+    let e = table::number_at(part, table::ENVELOPE_ROOT, table::MOST_NODES);
+    update::Held {
+        tree: x,
+        envelope: e,
+    }
+}
+
+// Joins the item in slot `s` to the offers in hand, or lets it stand alone.
+fn join_in(part: &mut [i64], held: update::Held, s: u32) -> update::Made
+    ensures { λ r. ⌜ Joined s held (now (part .entry)) (now (part .exit)) r ⌝ }
+{
+    if held.tree < 1 {
         return update::Made {
-            x: s,
-            e: s,
-            k: 0,
-            s: 0,
-            h: 0,
+            held: update::Held {
+                tree: s,
+                envelope: s,
+            },
+            counts: update::Counts {
+                searches: 0,
+                steps: 0,
+                heights: 0,
+            },
         };
     }
-    update::insert(part, x, e, s)
+    update::insert(part, held, s)
 }
 
 // Sets the roots of the offers and of their envelope, and the live count.
-fn set_roots(part: &mut [i64], x: u32, e: u32, n: u32)
-    ensures { λ _. ⌜ now (part .exit) ≡ rooting x e n (now (part .entry)) ⌝ }
+fn set_roots(part: &mut [i64], held: update::Held, n: u32)
+    ensures { λ _. ⌜ now (part .exit) ≡ rooting held n (now (part .entry)) ⌝ }
 {
-    table::set_number(part, table::OFFERS_ROOT, x);
-    table::set_number(part, table::ENVELOPE_ROOT, e);
+    table::set_number(part, table::OFFERS_ROOT, held.tree);
+    table::set_number(part, table::ENVELOPE_ROOT, held.envelope);
     table::set_number(part, table::LIVE_COUNT, n);
 }
 
 // A post that is not declined.
 pub fn post_part(part: &mut [i64], number: i64, rate: i64, base: i64) -> Told
-    ensures { λ r. ⌜ PostDone number rate base (now (part .entry)) (now (part .exit)) (r .live) (r .k) (r .s) (r .h) ⌝ }
+    ensures { λ r. ⌜ PostDone number rate base (now (part .entry)) (now (part .exit)) r ⌝ }
 {
     let root = table::number_at(part, table::NUMBERS_ROOT, table::MOST_NODES);
-    let x = table::number_at(part, table::OFFERS_ROOT, table::MOST_NODES);
-    let e = table::number_at(part, table::ENVELOPE_ROOT, table::MOST_NODES);
+    let held = roots(part);
     let n = table::number_at(part, table::LIVE_COUNT, table::MOST_NODES);
     let s = fill(part, number, rate, base);
     let y = numbers::add(part, root, s);
     table::set_number(part, table::NUMBERS_ROOT, y);
-    let m = join_in(part, x, e, s);
+    let m = join_in(part, held, s);
+    let joined = m.held;
+    let counts = m.counts;
     let live = n + 1;
-    set_roots(part, m.x, m.e, live);
+    set_roots(part, joined, live);
     Told {
         live: live,
-        k: m.k,
-        s: m.s,
-        h: m.h,
+        counts: counts,
     }
 }
 
@@ -161,22 +175,21 @@ pub fn live_slot(part: &[i64], number: i64) -> u32
 
 // A withdrawal that is not declined, of the offer in slot `s`.
 pub fn withdraw_part(part: &mut [i64], number: i64, s: u32) -> Told
-    ensures { λ r. ⌜ WithdrawDone number s (now (part .entry)) (now (part .exit)) (r .live) (r .k) (r .s) (r .h) ⌝ }
+    ensures { λ r. ⌜ WithdrawDone number s (now (part .entry)) (now (part .exit)) r ⌝ }
 {
     let root = table::number_at(part, table::NUMBERS_ROOT, table::MOST_NODES);
-    let x = table::number_at(part, table::OFFERS_ROOT, table::MOST_NODES);
-    let e = table::number_at(part, table::ENVELOPE_ROOT, table::MOST_NODES);
+    let held = roots(part);
     let n = table::number_at(part, table::LIVE_COUNT, table::MOST_NODES);
     let y = numbers::drop_number(part, root, number);
     table::set_number(part, table::NUMBERS_ROOT, y);
-    let rest = update::remove(part, x, e, s);
+    let m = update::remove(part, held, s);
+    let rest = m.held;
+    let spent = m.counts;
     let live = one_less(n);
-    set_roots(part, rest.x, rest.e, live);
+    set_roots(part, rest, live);
     table::give_slot(part, s);
     Told {
         live: live,
-        k: rest.k,
-        s: rest.s,
-        h: rest.h,
+        counts: spent,
     }
 }

@@ -10,6 +10,9 @@ use Rattle.table.specs.Words.{Words}
 use Rattle.table.specs.Layout.{cset, cap, cset-cap}
 use Rattle.shape.specs.Splices.{towersAt}
 use Rattle.update.specs.Steps.{LoweredIn, RaisedIn, RebalancedIn}
+use Rattle.update.specs.declared.Held.{Held as InHand}
+use Rattle.update.specs.declared.Made.{Made as Outcome}
+use Rattle.update.specs.declared.Lowered.{Lowered}
 use Rattle.update.specs.RaisingRests.{RestSet}
 use Rattle.update.specs.Neighbours.{LoweredOn, lowered-left, lowered-right, RaisedOn, raised-left, raised-right}
 use Rattle.update.specs.Rotating.{RotatedIn}
@@ -30,25 +33,25 @@ set-of-inner {q} {w} h d e = record { of-leaf = λ k. absurd (omega arith); of-i
 
 -- ---- sides
 
-module _ {side : Bool} {x e ox oe ix ie : ℕ} {w w′ : Words} where
-  pub lowered-one : side ≡ false → LoweredIn x e w w′ ox oe ix ie → LoweredOn side x e w w′ ox oe ix ie
-  lowered-one d c = subst (λ b. LoweredOn b x e w w′ ox oe ix ie) (sym d) (lowered-left c)
+module _ {side : Bool} {x : InHand} {c : Lowered} {w w′ : Words} where
+  pub lowered-one : side ≡ false → LoweredIn x w w′ c → LoweredOn side x w w′ (record { on = c .left; off = c .right })
+  lowered-one d low = subst (λ b. LoweredOn b x w w′ (record { on = c .left; off = c .right })) (sym d) (lowered-left low)
 
-  pub lowered-other : side ≡ true → LoweredIn x e w w′ ix ie ox oe → LoweredOn side x e w w′ ox oe ix ie
-  lowered-other d c = subst (λ b. LoweredOn b x e w w′ ox oe ix ie) (sym d) (lowered-right c)
+  pub lowered-other : side ≡ true → LoweredIn x w w′ c → LoweredOn side x w w′ (record { on = c .right; off = c .left })
+  lowered-other d low = subst (λ b. LoweredOn b x w w′ (record { on = c .right; off = c .left })) (sym d) (lowered-right low)
 
-module _ {side : Bool} {gap ox oe ix ie x e k s h : ℕ} {w w′ : Words} where
-  pub raised-one : side ≡ false → RaisedIn gap ox oe ix ie w w′ x e k s h → RaisedOn side gap ox oe ix ie w w′ x e k s h
-  raised-one d c = subst (λ b. RaisedOn b gap ox oe ix ie w w′ x e k s h) (sym d) (raised-left c)
+module _ {side : Bool} {gap : ℕ} {x y : InHand} {m : Outcome} {w w′ : Words} where
+  pub raised-one : side ≡ false → RaisedIn gap x y w w′ m → RaisedOn side gap x y w w′ m
+  raised-one d c = subst (λ b. RaisedOn b gap x y w w′ m) (sym d) (raised-left c)
 
-  pub raised-other : side ≡ true → RaisedIn gap ix ie ox oe w w′ x e k s h → RaisedOn side gap ox oe ix ie w w′ x e k s h
-  raised-other d c = subst (λ b. RaisedOn b gap ox oe ix ie w w′ x e k s h) (sym d) (raised-right c)
+  pub raised-other : side ≡ true → RaisedIn gap y x w w′ m → RaisedOn side gap x y w w′ m
+  raised-other d c = subst (λ b. RaisedOn b gap x y w w′ m) (sym d) (raised-right c)
 
-  pub rebalanced-one : side ≡ false → RebalancedIn gap ox oe ix ie w w′ x e k s h → RebalancedOn side gap ox oe ix ie w w′ x e k s h
-  rebalanced-one d c = subst (λ b. RebalancedOn b gap ox oe ix ie w w′ x e k s h) (sym d) (rebalanced-on-left c)
+  pub rebalanced-one : side ≡ false → RebalancedIn gap x y w w′ m → RebalancedOn side gap x y w w′ m
+  rebalanced-one d c = subst (λ b. RebalancedOn b gap x y w w′ m) (sym d) (rebalanced-on-left c)
 
-  pub rebalanced-other : side ≡ true → RebalancedIn gap ix ie ox oe w w′ x e k s h → RebalancedOn side gap ox oe ix ie w w′ x e k s h
-  rebalanced-other d c = subst (λ b. RebalancedOn b gap ox oe ix ie w w′ x e k s h) (sym d) (rebalanced-on-right c)
+  pub rebalanced-other : side ≡ true → RebalancedIn gap y x w w′ m → RebalancedOn side gap x y w w′ m
+  rebalanced-other d c = subst (λ b. RebalancedOn b gap x y w w′ m) (sym d) (rebalanced-on-right c)
 
 -- ---- heights as read
 
@@ -58,19 +61,19 @@ read-le d e h = omega arith
 pub read-lt : {p q a b : ℕ} → a ≡ p → b ≡ q → a < b → p < q
 read-lt d e h = omega arith
 
-module _ {gap lx le rx re x e k s h : ℕ} {w w′ : Words} where
-  pub tall-left : {a : Bool} → a ≡ towersAt w 1 lx rx → a ≡ true → RotatedIn false gap lx le rx re w w′ x e k s h → RebalancedIn gap lx le rx re w w′ x e k s h
+module _ {gap : ℕ} {x y : InHand} {m : Outcome} {w w′ : Words} where
+  pub tall-left : {a : Bool} → a ≡ towersAt w 1 (x .tree) (y .tree) → a ≡ true → RotatedIn false gap x y w w′ m → RebalancedIn gap x y w w′ m
   tall-left d t c = rebalanced-left (ltb-true _ _ (sym d ∙ t)) c
 
-  pub tall-right : {a : Bool} → a ≡ towersAt w 1 rx lx → a ≡ true → RotatedIn true gap rx re lx le w w′ x e k s h → RebalancedIn gap lx le rx re w w′ x e k s h
+  pub tall-right : {a : Bool} → a ≡ towersAt w 1 (y .tree) (x .tree) → a ≡ true → RotatedIn true gap y x w w′ m → RebalancedIn gap x y w w′ m
   tall-right d t c = rebalanced-right (ltb-true _ _ (sym d ∙ t)) c
 
   pub none-tall :
       {a b : Bool} →
-      a ≡ towersAt w 1 lx rx →
+      a ≡ towersAt w 1 (x .tree) (y .tree) →
       a ≡ false →
-      b ≡ towersAt w 1 rx lx →
+      b ≡ towersAt w 1 (y .tree) (x .tree) →
       b ≡ false →
-      RaisedIn gap lx le rx re w w′ x e k s h →
-      RebalancedIn gap lx le rx re w w′ x e k s h
+      RaisedIn gap x y w w′ m →
+      RebalancedIn gap x y w w′ m
   none-tall d t f u c = rebalanced-level (ltb-false _ _ (sym d ∙ t)) (ltb-false _ _ (sym f ∙ u)) c

@@ -2,58 +2,64 @@
 use mathlib.Core.Path.{_≡_, refl, sym, _∙_, subst}
 use mathlib.Core.Logic.{_≢_}
 use mathlib.Core.Bool.{Bool, true, false, true≢false}
-use Prim.Native.Nat.{ℕ, _+_, _-_, _≤_, _<_}
+use Prim.Native.Nat.{ℕ, _-_, _≤_, _<_}
 use native.Mathlib.Omega.{arith}
 use lib.Signed.{leZ, ltZ}
 use Rattle.table.specs.Fields.{mostSlots, offerTree, rateField}
 use Rattle.table.specs.Words.{Words}
 use Rattle.table.specs.Layout.{cell}
 use Rattle.descents.specs.Ends.{Ended}
-use Rattle.update.specs.Steps.{RaisedIn}
+use Rattle.update.specs.Steps.{RaisedIn, noTree}
+use Rattle.update.specs.declared.Held.{Held as InHand}
+use Rattle.update.specs.declared.Counts.{Counts}
+use Rattle.update.specs.declared.Made.{Made as Outcome}
+use Rattle.update.specs.declared.Opened.{Opened}
 use Rattle.update.specs.Neighbours.{LoweredOn, raised-left, raised-right}
-use Rattle.update.specs.Counting.{Counts}
+use Rattle.update.specs.Counting.{Summed}
 use Rattle.update.specs.Rebalancing.{RebalancedOn}
 use Rattle.update.specs.Inserting.{InsertedBelow, inserted-spent, inserted-leaf, inserted-inner}
-use Rattle.update.specs.Removing.{RemovedBelow, removed-spent, SeamFound, removed-gone, removed-inner}
+use Rattle.update.specs.Removing.{RemovedBelow, removed-spent, removed-leaf, SeamFound, removed-gone, removed-inner}
 
 -- ---- on the way up: what came of a child is rebalanced with its sibling, and the counts are added
 
-pub record Rebuilt (side : Bool) (gap gx ge k₁ s₁ h₁ ix ie : ℕ) (w w′ : Words) (x e k s h : ℕ) : Type 0 where
-  pub k₂ : ℕ
-  pub s₂ : ℕ
-  pub h₂ : ℕ
-  pub rebalanced : RebalancedOn side gap gx ge ix ie w w′ x e k₂ s₂ h₂
-  pub counts : Counts (k₁ + k₂) (s₁ + s₂) (h₁ + h₂) k s h
+pub record Rebuilt (side : Bool) (gap : ℕ) (g : Outcome) (y : InHand) (w w′ : Words) (m : Outcome) : Type 0 where
+  pub taken : Counts
+  pub rebalanced : RebalancedOn side gap (g .held) y w w′ (record { held = m .held; counts = taken })
+  pub summed : Summed (g .counts) taken (m .counts)
 
 -- ---- insert
 
-pub inserted-none : {limit slot x e x′ e′ k s h : ℕ} {w : Words} → mostSlots < x → limit ≡ 0 → InsertedBelow limit slot x e w w x′ e′ k s h
-inserted-none {slot} {x} {e} {x′} {e′} {k} {s} {h} {w} inside d = subst (λ n. InsertedBelow n slot x e w w x′ e′ k s h) (sym d) (inserted-spent inside)
+pub inserted-none : {limit slot : ℕ} {x : InHand} {m : Outcome} {w : Words} → mostSlots < x .tree → limit ≡ 0 → InsertedBelow limit slot x w w m
+inserted-none {slot} {x} {m} {w} inside d = subst (λ n. InsertedBelow n slot x w w m) (sym d) (inserted-spent inside)
 
 -- beside a single line: in front of it, or behind it
-module _ {limit slot x e x′ e′ k s h : ℕ} {w w′ : Words} {b : Bool} where
-  pub inserted-front : b ≡ leZ (cell w rateField slot) (cell w rateField x) → b ≡ false → x ≤ mostSlots → RaisedIn slot slot slot x e w w′ x′ e′ k s h → InsertedBelow limit slot x e w w′ x′ e′ k s h
+module _ {limit slot : ℕ} {x : InHand} {m : Outcome} {w w′ : Words} {b : Bool} where
+  pub inserted-front : b ≡ leZ (cell w rateField slot) (cell w rateField (x .tree)) → b ≡ false → x .tree ≤ mostSlots → RaisedIn slot (record { tree = slot; envelope = slot }) x w w′ m → InsertedBelow limit slot x w w′ m
   inserted-front d t single c = inserted-leaf single refl (sym t ∙ d) refl (raised-left c)
 
-  pub inserted-back : b ≡ leZ (cell w rateField slot) (cell w rateField x) → b ≡ true → x ≤ mostSlots → RaisedIn x x e slot slot w w′ x′ e′ k s h → InsertedBelow limit slot x e w w′ x′ e′ k s h
+  pub inserted-back : b ≡ leZ (cell w rateField slot) (cell w rateField (x .tree)) → b ≡ true → x .tree ≤ mostSlots → RaisedIn (x .tree) x (record { tree = slot; envelope = slot }) w w′ m → InsertedBelow limit slot x w w′ m
   inserted-back d t single c = inserted-leaf single refl (sym t ∙ d) refl (raised-right c)
 
 -- into a child
 pub inserted-step :
-    {limit slot x e m ox oe ix ie gx ge k₁ s₁ h₁ x′ e′ k s h : ℕ} {w w₁ w₂ w₃ : Words} {side : Bool} →
-    mostSlots < x →
-    m ≡ x - mostSlots →
+    {limit slot m : ℕ} {x : InHand} {c : Opened} {g out : Outcome} {w w₁ w₂ w₃ : Words} {side : Bool} →
+    mostSlots < x .tree →
+    m ≡ x .tree - mostSlots →
     side ≡ leZ (cell w rateField slot) (cell w rateField m) →
-    LoweredOn side x e w w₁ ox oe ix ie →
-    InsertedBelow (limit - 1) slot ox oe w₁ w₂ gx ge k₁ s₁ h₁ →
-    Rebuilt side m gx ge k₁ s₁ h₁ ix ie w₂ w₃ x′ e′ k s h →
-    InsertedBelow limit slot x e w w₃ x′ e′ k s h
-inserted-step inside m-is test opened below built = inserted-inner inside m-is refl test opened (omega arith) below (built .rebalanced) (built .counts)
+    LoweredOn side x w w₁ c →
+    InsertedBelow (limit - 1) slot (c .on) w₁ w₂ g →
+    Rebuilt side m g (c .off) w₂ w₃ out →
+    InsertedBelow limit slot x w w₃ out
+inserted-step inside m-is test opened below built = inserted-inner inside m-is refl test opened (omega arith) below (built .rebalanced) (built .summed)
 
 -- ---- remove
 
-pub removed-none : {limit slot x e x′ e′ k s h : ℕ} {w : Words} → mostSlots < x → limit ≡ 0 → RemovedBelow limit slot x e w w x′ e′ k s h
-removed-none {slot} {x} {e} {x′} {e′} {k} {s} {h} {w} inside d = subst (λ n. RemovedBelow n slot x e w w x′ e′ k s h) (sym d) (removed-spent inside)
+pub removed-none : {limit slot : ℕ} {x : InHand} {m : Outcome} {w : Words} → mostSlots < x .tree → limit ≡ 0 → RemovedBelow limit slot x w w m
+removed-none {slot} {x} {m} {w} inside d = subst (λ n. RemovedBelow n slot x w w m) (sym d) (removed-spent inside)
+
+-- a single line
+pub removed-single : {limit slot : ℕ} {x : InHand} {m : Outcome} {w : Words} → x .tree ≤ mostSlots → m ≡ noTree → RemovedBelow limit slot x w w m
+removed-single {limit} {slot} {x} {w} single e = subst (RemovedBelow limit slot x w w) (sym e) (removed-leaf single)
 
 -- the seam's slot after a removal
 pub seam-kept : {side : Bool} {x m : ℕ} {w : Words} → side ≡ true → SeamFound side w x m m
@@ -63,21 +69,21 @@ pub seam-end : {side : Bool} {x m gap : ℕ} {w : Words} → side ≡ false → 
 seam-end d end = record { on-left = λ f. end; on-right = λ f. absurd (true≢false (sym f ∙ d)) }
 
 module _
-    {limit slot x e m ox oe ix ie gx ge k₁ s₁ h₁ : ℕ} {w w₁ w₂ : Words} {side : Bool}
-    (inside : mostSlots < x)
-    (m-is : m ≡ x - mostSlots)
+    {limit slot m : ℕ} {x : InHand} {c : Opened} {g : Outcome} {w w₁ w₂ : Words} {side : Bool}
+    (inside : mostSlots < x .tree)
+    (m-is : m ≡ x .tree - mostSlots)
     (test : side ≡ ltZ (cell w rateField slot) (cell w rateField m))
-    (opened : LoweredOn side x e w w₁ ox oe ix ie)
-    (below : RemovedBelow (limit - 1) slot ox oe w₁ w₂ gx ge k₁ s₁ h₁) where
-  pub removed-emptied : gx ≡ 0 → RemovedBelow limit slot x e w w₂ ix ie k₁ s₁ h₁
+    (opened : LoweredOn side x w w₁ c)
+    (below : RemovedBelow (limit - 1) slot (c .on) w₁ w₂ g) where
+  pub removed-emptied : g .held .tree ≡ 0 → RemovedBelow limit slot x w w₂ (record { held = c .off; counts = g .counts })
   removed-emptied d = removed-gone inside m-is refl test opened (omega arith) below d
 
   pub removed-step :
-      {w₃ : Words} {gap x′ e′ k s h : ℕ} →
-      gx ≢ 0 →
-      SeamFound side w₂ gx m gap →
-      Rebuilt side gap gx ge k₁ s₁ h₁ ix ie w₂ w₃ x′ e′ k s h →
-      RemovedBelow limit slot x e w w₃ x′ e′ k s h
+      {w₃ : Words} {gap : ℕ} {out : Outcome} →
+      g .held .tree ≢ 0 →
+      SeamFound side w₂ (g .held .tree) m gap →
+      Rebuilt side gap g (c .off) w₂ w₃ out →
+      RemovedBelow limit slot x w w₃ out
   removed-step d found built =
-      let some-left : 1 ≤ gx = omega (arith, d) in
-      removed-inner inside m-is refl test opened (omega arith) below some-left found (built .rebalanced) (built .counts)
+      let some-left : 1 ≤ g .held .tree = omega (arith, d) in
+      removed-inner inside m-is refl test opened (omega arith) below some-left found (built .rebalanced) (built .summed)

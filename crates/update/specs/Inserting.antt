@@ -3,7 +3,7 @@ use mathlib.Core.Path.{_≡_, refl, sym, _∙_, ap, ap₂, subst}
 use mathlib.Core.Logic.{⊎-elim}
 use mathlib.Core.Bool.{Bool, true, false, not, cond}
 use mathlib.Core.List.{[], _∷_, List·Memᴰ, List·Memᴰ·head, List·Memᴰ·eq-of-singleton, List·Memᴰ·not-nil, Memᴰ·append-left, Memᴰ·append-right, IsChain·singleton}
-use Prim.Native.Nat.{ℕ, suc, _+_, _-_, _≤_, _<_}
+use Prim.Native.Nat.{ℕ, suc, _-_, _≤_, _<_}
 use native.Mathlib.Omega.{arith}
 use lib.Dec.{T}
 use lib.IntN.{ℤ}
@@ -32,23 +32,27 @@ use Rattle.table.specs.Threads.{Holds}
 use Rattle.pieces.specs.Pieces.{items, item-laws, rateOf}
 use Rattle.form.specs.Stored.{stored-single, HeldIn, Touched}
 use Rattle.update.specs.Steps.{MadeIn, Near, Newcomer, InsertedIn}
+use Rattle.update.specs.declared.Held.{Held as InHand}
+use Rattle.update.specs.declared.Counts.{Counts}
+use Rattle.update.specs.declared.Made.{Made as Outcome}
+use Rattle.update.specs.declared.Opened.{Opened}
 use Rattle.form.specs.Frames.{Inside, Disjoint, disjoint-across, holds-same, slots-rearranged, inside-rearranged, slots-within, touched-offers, held-still, touched-trans, touched-more}
 use Rattle.form.specs.Disjoint.{in-cases, inside-refl, inside-left, inside-right, inside-join, disjoint-both, disjoint-turned, slots-join}
 use Rattle.update.specs.Neighbours.{sideOf, inner-high, seam-rate, Neighbours, LoweredOn, RaisedOn, Opens, opens, Raises, raises}
-use Rattle.update.specs.Counting.{Counts, counted-two}
+use Rattle.update.specs.Counting.{Summed, counted-two}
 use Rattle.update.specs.Rebalancing.{rebalanceOn, RebalancedOn}
 use Rattle.update.specs.InsertingModel.{placed-rearranged, insert-single, insert-on, grown-row, grown-seam}
 
 -- ---- what is promised
 
 -- of a subtree that is at most `limit` high
-pub record InsertedBelow (limit slot x e : ℕ) (w w′ : Words) (x′ e′ k s h : ℕ) : Type 0 where
+pub record InsertedBelow (limit slot : ℕ) (x : InHand) (w w′ : Words) (m : Outcome) : Type 0 where
   pub within : Within w w′
-  pub made : (a : Item) (t : Held Item) → Newcomer w slot x e a t → heldHeight t ≤ limit → MadeIn w′ x′ e′ k s h (insert items a (t .tree) (t .whole))
-  pub touched : (a : Item) (t : Held Item) → Newcomer w slot x e a t → heldHeight t ≤ limit → Touched (a ∷ leaves (heldShape t)) w w′
+  pub made : (a : Item) (t : Held Item) → Newcomer w slot x a t → heldHeight t ≤ limit → MadeIn w′ m (insert items a (t .tree) (t .whole))
+  pub touched : (a : Item) (t : Held Item) → Newcomer w slot x a t → heldHeight t ≤ limit → Touched (a ∷ leaves (heldShape t)) w w′
 
 -- no subtree in a table is higher than 24
-pub inserted : {limit slot x e x′ e′ k s h : ℕ} {w w′ : Words} → 24 ≤ limit → InsertedBelow limit slot x e w w′ x′ e′ k s h → InsertedIn slot x e w w′ x′ e′ k s h
+pub inserted : {limit slot : ℕ} {x : InHand} {m : Outcome} {w w′ : Words} → 24 ≤ limit → InsertedBelow limit slot x w w′ m → InsertedIn slot x w w′ m
 inserted {w} enough c =
     record {
       within = c .within;
@@ -57,16 +61,16 @@ inserted {w} enough c =
     }
 
 -- where the limit is used up at an inner node, nothing is promised
-pub inserted-spent : {slot x e x′ e′ k s h : ℕ} {w : Words} → mostSlots < x → InsertedBelow 0 slot x e w w x′ e′ k s h
+pub inserted-spent : {slot : ℕ} {x : InHand} {m : Outcome} {w : Words} → mostSlots < x .tree → InsertedBelow 0 slot x w w m
 inserted-spent {w} inside =
     record { within = within-refl w; made = λ a t f d. absurd (omega (arith, inner-high (f .held) inside)); touched = λ a t f d. absurd (omega (arith, inner-high (f .held) inside)) }
 
-record Inserts (w w′ : Words) (x′ e′ k s h : ℕ) (a : Item) (t : Held Item) : Type 0 where
-  made : MadeIn w′ x′ e′ k s h (insert items a (t .tree) (t .whole))
+record Inserts (w w′ : Words) (m : Outcome) (a : Item) (t : Held Item) : Type 0 where
+  made : MadeIn w′ m (insert items a (t .tree) (t .whole))
   touched : Touched (a ∷ leaves (heldShape t)) w w′
 
 -- the newcomer's slot is none of the subtree's
-module _ {w : Words} {slot x e : ℕ} {a : Item} {t : Held Item} (f : Newcomer w slot x e a t) where
+module _ {w : Words} {slot : ℕ} {x : InHand} {a : Item} {t : Held Item} (f : Newcomer w slot x a t) where
   newcomer-own : Slots (cap w) (a ∷ [])
   newcomer-own = slots-left (leaves (heldShape t)) (f .slots)
 
@@ -111,25 +115,25 @@ beside-seam false a b e p q = e ∙ q
 beside-seam true a b e p q = e ∙ p
 
 pub inserted-leaf :
-    {side : Bool} {θ : ℤ} {w w′ : Words} {limit x e slot gap x′ e′ k s h : ℕ} →
-    x ≤ mostSlots →
+    {side : Bool} {θ : ℤ} {w w′ : Words} {limit slot gap : ℕ} {x : InHand} {m : Outcome} →
+    x .tree ≤ mostSlots →
     θ ≡ cell w rateField slot →
-    side ≡ leZ θ (cell w rateField x) →
-    gap ≡ cond side x slot →
-    RaisedOn side gap slot slot x e w w′ x′ e′ k s h →
-    InsertedBelow limit slot x e w w′ x′ e′ k s h
-inserted-leaf {side} {θ} {w} {w′} {limit} {x} {e} {slot} {gap} {x′} {e′} {k} {s} {h} single-line rate test gap-is c =
+    side ≡ leZ θ (cell w rateField (x .tree)) →
+    gap ≡ cond side (x .tree) slot →
+    RaisedOn side gap (record { tree = slot; envelope = slot }) x w w′ m →
+    InsertedBelow limit slot x w w′ m
+inserted-leaf {side} {θ} {w} {w′} {limit} {slot} {gap} {x} {m} single-line rate test gap-is c =
     record { within = c .within; made = λ a t f d. go a (t .tree) (t .whole) f .made; touched = λ a t f d. go a (t .tree) (t .whole) f .touched }
   where
-    go : (a : Item) (t : OfferTree Item) (p : Part Item) → Newcomer w slot x e a (hold t p) → Inserts w w′ x′ e′ k s h a (hold t p)
+    go : (a : Item) (t : OfferTree Item) (p : Part Item) → Newcomer w slot x a (hold t p) → Inserts w w′ m a (hold t p)
     go a (fork u v l ql qr r) p f = absurd (omega (arith, f .held .root, f .held .slots .low (Memᴰ·append-left (leaves (shape r)) (last-leaf (shape l)))))
-    go a (single b) p f = record { made = subst (MadeIn w′ x′ e′ k s h) (sym (insert-single side a b p way)) (R .made); touched = touched-more (beside-inside side a b) (R .touched) }
+    go a (single b) p f = record { made = subst (MadeIn w′ m) (sym (insert-single side a b p way)) (R .made); touched = touched-more (beside-inside side a b) (R .touched) }
       where
         way : items .before a b ≡ not side
         way =
             in-front side (rateOf a) (rateOf b) (test ∙ ap₂ leZ (newcomer-rate f rate) (ap (cell w rateField) (f .held .root) ∙ f .held .kept .held (List·Memᴰ·head refl) .rate))
 
-        R : Raises side w w′ x′ e′ k s h (alone a) (hold (single b) p)
+        R : Raises side w w′ m (alone a) (hold (single b) p)
         R =
             raises c
             (record {
@@ -149,20 +153,23 @@ mem-one false O I m = Memᴰ·append-left (leaves I) m
 mem-one true O I m = Memᴰ·append-right (leaves I) m
 
 module _
-    {side : Bool} {θ : ℤ} {w w₁ w₂ w₃ : Words} {limit limit′ x e slot m ox oe ix ie gx ge k₁ s₁ h₁ x′ e′ k₂ s₂ h₂ k s h : ℕ}
-    (inside : mostSlots < x)
-    (m-is : m ≡ x - mostSlots)
+    {side : Bool} {θ : ℤ} {w w₁ w₂ w₃ : Words} {limit limit′ slot m : ℕ} {x : InHand} {c : Opened} {m₁ m₂ : Outcome} {n : Counts}
+    (inside : mostSlots < x .tree)
+    (m-is : m ≡ x .tree - mostSlots)
     (rate : θ ≡ cell w rateField slot)
     (test : side ≡ leZ θ (cell w rateField m))
-    (low₁ : LoweredOn side x e w w₁ ox oe ix ie)
+    (low₁ : LoweredOn side x w w₁ c)
     (enough : limit ≤ suc limit′)
-    (ins : InsertedBelow limit′ slot ox oe w₁ w₂ gx ge k₁ s₁ h₁)
-    (reb : RebalancedOn side m gx ge ix ie w₂ w₃ x′ e′ k₂ s₂ h₂)
-    (counts : Counts (k₁ + k₂) (s₁ + s₂) (h₁ + h₂) k s h) where
-  inserts-inner : (a : Item) (t : Held Item) → Newcomer w slot x e a t → heldHeight t ≤ limit → Inserts w w₃ x′ e′ k s h a t
+    (ins : InsertedBelow limit′ slot (c .on) w₁ w₂ m₁)
+    (reb : RebalancedOn side m (m₁ .held) (c .off) w₂ w₃ m₂)
+    (counts : Summed (m₁ .counts) (m₂ .counts) n) where
+  abbrev out : Outcome
+  out = record { held = m₂ .held; counts = n }
+
+  inserts-inner : (a : Item) (t : Held Item) → Newcomer w slot x a t → heldHeight t ≤ limit → Inserts w w₃ out a t
   inserts-inner a t f lim =
       record {
-        made = subst (MadeIn w₃ x′ e′ k s h) (sym (insert-on side a t high way)) (record { held = R .held; counted = counted-two (M .counted) (R .counted) counts });
+        made = subst (MadeIn w₃ out) (sym (insert-on side a t high way)) (record { held = R .held; counted = counted-two (M .counted) (R .counted) counts });
         touched =
             touched-trans (touched-more (λ n j. inside-right (a ∷ []) n j) (p .touched))
             (touched-trans (touched-more (inside-join (a ∷ []) (inside-left (leaves U)) (λ n j. inside-right (a ∷ []) n (back n (in-one side O I j)))) ins-touched)
@@ -178,7 +185,7 @@ module _
       i : Held Item
       i = inner (sideOf side) (lower items t)
 
-      p : Opens side w w₁ x ox oe ix ie t o i
+      p : Opens side w w₁ x c t o i
       p = opens low₁ (f .held) high
 
       U : Tree Item
@@ -209,7 +216,7 @@ module _
       ordered : Ordered items (leaves (nodeOn side O I))
       ordered = subst (λ u. Ordered items (leaves u)) (p .shaped) (f .held .right .ordered)
 
-      newcomer : Newcomer w₁ slot ox oe a o
+      newcomer : Newcomer w₁ slot (c .on) a o
       newcomer =
           record {
             slot = f .slot;
@@ -222,7 +229,7 @@ module _
       room : heldHeight o ≤ limit′
       room = omega (arith, p .level .higher)
 
-      M : MadeIn w₂ gx ge k₁ s₁ h₁ (insert items a (o .tree) (o .whole))
+      M : MadeIn w₂ m₁ (insert items a (o .tree) (o .whole))
       M = ins .made a o newcomer room
 
       g : Held Item
@@ -237,7 +244,7 @@ module _
       row : leaves (nodeOn side (heldShape g) I) ≡ placed items a (leaves (nodeOn side O I))
       row = grown-row a O I (heldShape g) (G .lines) side ordered way
 
-      next : Neighbours side w₂ m gx ge ix ie g i
+      next : Neighbours side w₂ m (m₁ .held) (c .off) g i
       next =
           record {
             outer-held = M .held;
@@ -252,7 +259,7 @@ module _
       near : Near g i
       near = record { left = omega (arith, G .high, p .level .left-level); right = omega (arith, G .low, p .level .right-level) }
 
-      R : MadeIn w₃ x′ e′ k₂ s₂ h₂ (rebalanceOn side g i)
+      R : MadeIn w₃ m₂ (rebalanceOn side g i)
       R = reb .made g i next near
 
       all-inside : Inside (leaves (nodeOn side (heldShape g) I)) (a ∷ leaves U)
@@ -260,7 +267,7 @@ module _
           inside-join (a ∷ []) (inside-left (leaves U)) (λ d b. inside-right (a ∷ []) d (back d b)) n
           (inside-rearranged (placed-rearranged items a (leaves (nodeOn side O I))) n (subst (In n) row j))
 
-  pub inserted-inner : InsertedBelow limit slot x e w w₃ x′ e′ k s h
+  pub inserted-inner : InsertedBelow limit slot x w w₃ (record { held = m₂ .held; counts = n })
   inserted-inner =
       record {
         within = within-trans (low₁ .within) (within-trans (ins .within) (reb .within));

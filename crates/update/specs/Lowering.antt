@@ -25,7 +25,9 @@ use Rattle.table.specs.Threads.{Holds, holds-left, holds-right}
 use Rattle.pieces.specs.Pieces.{items, item-laws, rateOf, PieceField, PiecesOnly, Standing, Beside, EndsAt, BeginsAt, CattedAfter, CattedBefore, inFront, CutAt}
 use Rattle.form.specs.Stored.{RestIn, Stored, stored-fork, HeldIn, Touched}
 use Rattle.table.specs.PartTrees.{partRef}
-use Rattle.update.specs.Steps.{LoweredIn}
+use Rattle.update.specs.Steps.{HandIn, LoweredIn}
+use Rattle.update.specs.declared.Held.{Held as InHand}
+use Rattle.update.specs.declared.Lowered.{Lowered}
 use Rattle.form.specs.RestWords.{restAt, rest-at}
 use Rattle.form.specs.Frames.{RestField, bridge-u, bridge-v, rests-apart, Disjoint, disjoint-across, tied-same, holds-same, rest-same, stored-same, held-slots, held-holds, whole-standing, whole-inside, stored-inside, pieces-offers, pieces-tree, pieces-rests, pieces-else, pieces-touched, slots-within, standing-still, pieces-trans, pieces-more, touched-more}
 use Rattle.update.specs.RaisingModel.{up-to-test, last-of, first-of}
@@ -187,21 +189,21 @@ before-read {l} {r} {x} {w} {w′} e = subst (λ (n : ℕ). CattedBefore l r n w
 -- ---- the calls in a row
 
 -- the children, the separator's rate, the cut, the rests, and each child's part put together with its rest
-record Calls (x e : ℕ) (w w₁ w₂ w₃ : Words) (l r m ql qr a b le re : ℕ) (θ : ℤ) : Type 0 where
-  left : l ≡ childAt w offerTree false x
-  right : r ≡ childAt w offerTree true x
-  slot : m ≡ x - mostSlots
+record Calls (x : InHand) (w w₁ w₂ w₃ : Words) (m ql qr a b : ℕ) (c : Lowered) (θ : ℤ) : Type 0 where
+  left : c .left .tree ≡ childAt w offerTree false (x .tree)
+  right : c .right .tree ≡ childAt w offerTree true (x .tree)
+  slot : m ≡ x .tree - mostSlots
   rate : θ ≡ cell w rateField m
-  cut : CutAt false θ e w w₁ a b
-  rest-left : ql ≡ restAt w₁ l
-  rest-right : qr ≡ restAt w₁ r
-  front : CattedAfter a ql (linkAt w₁ bridgeLeftField m) w₁ w₂ le
-  back : CattedBefore qr b (linkAt w₂ bridgeRightField m) w₂ w₃ re
+  cut : CutAt false θ (x .envelope) w w₁ a b
+  rest-left : ql ≡ restAt w₁ (c .left .tree)
+  rest-right : qr ≡ restAt w₁ (c .right .tree)
+  front : CattedAfter a ql (linkAt w₁ bridgeLeftField m) w₁ w₂ (c .left .envelope)
+  back : CattedBefore qr b (linkAt w₂ bridgeRightField m) w₂ w₃ (c .right .envelope)
 
 -- what they leave of a subtree in hand
-record Lowers (x e : ℕ) (w w′ : Words) (l le r re : ℕ) (h : Held Item) : Type 0 where
-  front : HeldIn w′ l le (lower items h .front)
-  back : HeldIn w′ r re (lower items h .back)
+record Lowers (w w′ : Words) (c : Lowered) (h : Held Item) : Type 0 where
+  front : HandIn w′ (c .left) (lower items h .front)
+  back : HandIn w′ (c .right) (lower items h .back)
   touched : Touched (leaves (heldShape h)) w w′
 
 -- the five lists of a fork's pieces, no two of which share a slot
@@ -239,8 +241,8 @@ spread {c} p ql sl qr sr s =
     sides : Disjoint (ql ++ sl) (qr ++ sr)
     sides = disjoint-across (ql ++ sl) rest
 
-module _ {x e l r m ql qr a b le re : ℕ} {θ : ℤ} {w w₁ w₂ w₃ : Words} {u v : Item} {L R : OfferTree Item} {QL QR P : Part Item} (calls : Calls x e w w₁ w₂ w₃ l r m ql qr a b le re θ) (held : HeldIn w x e (hold (fork u v L QL QR R) P)) where
-  lowers-fork : Lowers x e w w₃ l le r re (hold (fork u v L QL QR R) P)
+module _ {m ql qr a b : ℕ} {x : InHand} {lowered : Lowered} {θ : ℤ} {w w₁ w₂ w₃ : Words} {u v : Item} {L R : OfferTree Item} {QL QR P : Part Item} (calls : Calls x w w₁ w₂ w₃ m ql qr a b lowered θ) (held : HandIn w x (hold (fork u v L QL QR R) P)) where
+  lowers-fork : Lowers w w₃ lowered (hold (fork u v L QL QR R) P)
   unfolding lowerTree
   lowers-fork =
       record {
@@ -258,7 +260,7 @@ module _ {x e l r m ql qr a b le re : ℕ} {θ : ℤ} {w w₁ w₂ w₃ : Words}
             (pieces-touched pieces);
       }
     where
-      f : Forked w x u v L R QL QR
+      f : Forked w (x .tree) u v L R QL QR
       f = forked held
 
       whole : LowersTo items L R (lower items (hold (fork u v L QL QR R) P))
@@ -311,7 +313,7 @@ module _ {x e l r m ql qr a b le re : ℕ} {θ : ℤ} {w w₁ w₂ w₃ : Words}
       right-bridge : linkAt w₁ bridgeRightField m ≡ v .slot
       right-bridge = bridge-still m (bridge-v refl) cutting ∙ ap (linkAt w bridgeRightField) (calls .slot) ∙ f .bridge-right
 
-      joined : Joins w₁ w₃ le re (c .front) QL QR (c .back)
+      joined : Joins w₁ w₃ (lowered .left .envelope) (lowered .right .envelope) (c .front) QL QR (c .back)
       joined =
           joins (calls .front) (calls .back)
           (record { left = k .front; right = ql₁; slots = slots-join (k .front .slots) (ql₁ .slots) (disjoint-both (k .front-inside) (inside-refl _) (d .p-ql)) })
@@ -334,30 +336,30 @@ module _ {x e l r m ql qr a b le re : ℕ} {θ : ℤ} {w w₁ w₂ w₃ : Words}
           (joined .only))
 
 lowers :
-    {x e l r m ql qr a b le re : ℕ} {θ : ℤ} {w w₁ w₂ w₃ : Words} →
-    Calls x e w w₁ w₂ w₃ l r m ql qr a b le re θ →
+    {m ql qr a b : ℕ} {x : InHand} {c : Lowered} {θ : ℤ} {w w₁ w₂ w₃ : Words} →
+    Calls x w w₁ w₂ w₃ m ql qr a b c θ →
     (t : OfferTree Item) (p : Part Item) →
-    HeldIn w x e (hold t p) →
-    mostSlots < x →
-    Lowers x e w w₃ l le r re (hold t p)
+    HandIn w x (hold t p) →
+    mostSlots < x .tree →
+    Lowers w w₃ c (hold t p)
 lowers {w} calls (single a) p held h = absurd (omega (arith, held .root, held .slots .high (List·Memᴰ·head refl), cap-most w))
 lowers calls (fork u v l ql qr r) p held h = lowers-fork calls held
 
--- The children of x and the separator's rate are read, the envelope e is cut, the rests are read, and both parts are put together with them,
+-- The children and the separator's rate are read, the envelope e is cut, the rests are read, and both parts are put together with them,
 -- the left rest behind the bridge's left end, the right rest in front of its right end.
 pub lowered :
-    {x e l r m ql qr a b le re : ℕ} {θ : ℤ} {w w₁ w₂ w₃ : Words} →
-    l ≡ childAt w offerTree false x →
-    r ≡ childAt w offerTree true x →
-    m ≡ x - mostSlots →
+    {m ql qr a b : ℕ} {x : InHand} {c : Lowered} {θ : ℤ} {w w₁ w₂ w₃ : Words} →
+    c .left .tree ≡ childAt w offerTree false (x .tree) →
+    c .right .tree ≡ childAt w offerTree true (x .tree) →
+    m ≡ x .tree - mostSlots →
     θ ≡ cell w rateField m →
-    CutAt false θ e w w₁ a b →
-    ql ≡ restAt w₁ l →
-    qr ≡ restAt w₁ r →
-    CattedAfter a ql (linkAt w₁ bridgeLeftField m) w₁ w₂ le →
-    CattedBefore qr b (linkAt w₂ bridgeRightField m) w₂ w₃ re →
-    LoweredIn x e w w₃ l le r re
-lowered {x} {e} {l} {r} {m} {ql} {qr} {a} {b} {le} {re} {θ} {w} {w₁} {w₂} {w₃} el er em et cut eql eqr front back =
+    CutAt false θ (x .envelope) w w₁ a b →
+    ql ≡ restAt w₁ (c .left .tree) →
+    qr ≡ restAt w₁ (c .right .tree) →
+    CattedAfter a ql (linkAt w₁ bridgeLeftField m) w₁ w₂ (c .left .envelope) →
+    CattedBefore qr b (linkAt w₂ bridgeRightField m) w₂ w₃ (c .right .envelope) →
+    LoweredIn x w w₃ c
+lowered {m} {ql} {qr} {a} {b} {x} {c} {θ} {w} {w₁} {w₂} {w₃} el er em et cut eql eqr front back =
     record {
       within = within-trans (cut .within) (within-trans (front .within) (back .within));
       front = λ h held d. lowers calls (h .tree) (h .whole) held d .front;
@@ -365,5 +367,5 @@ lowered {x} {e} {l} {r} {m} {ql} {qr} {a} {b} {le} {re} {θ} {w} {w₁} {w₂} {
       touched = λ h held d. lowers calls (h .tree) (h .whole) held d .touched;
     }
   where
-    calls : Calls x e w w₁ w₂ w₃ l r m ql qr a b le re θ
+    calls : Calls x w w₁ w₂ w₃ m ql qr a b c θ
     calls = record { left = el; right = er; slot = em; rate = et; cut = cut; rest-left = eql; rest-right = eqr; front = front; back = back }

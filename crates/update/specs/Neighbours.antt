@@ -21,7 +21,11 @@ use Rattle.table.specs.Rep.{refOf, nodeOn, seam, heightAt, Rep, Within}
 use Rattle.table.specs.Nodes.{rep-height, ref-on, seam-in}
 use Rattle.pieces.specs.Pieces.{items, item-laws, rateOf}
 use Rattle.form.specs.Stored.{HeldIn, Touched}
-use Rattle.update.specs.Steps.{MadeIn, LoweredIn, Siblings, RaisedIn}
+use Rattle.update.specs.Steps.{HandIn, MadeIn, LoweredIn, Siblings, RaisedIn}
+use Rattle.update.specs.declared.Held.{Held as InHand}
+use Rattle.update.specs.declared.Made.{Made as Outcome}
+use Rattle.update.specs.declared.Lowered.{Lowered}
+use Rattle.update.specs.declared.Opened.{Opened}
 
 -- ---- sides
 
@@ -66,57 +70,57 @@ inner-high {w} {x} {h} held d = go (heldShape h) (held .root) (held .slots)
 -- ---- what is given
 
 -- o on a side and i on the other; `gap` is the slot of the seam
-pub record Neighbours (side : Bool) (w : Words) (gap ox oe ix ie : ℕ) (o i : Held Item) : Type 0 where
-  pub outer-held : HeldIn w ox oe o
-  pub inner-held : HeldIn w ix ie i
+pub record Neighbours (side : Bool) (w : Words) (gap : ℕ) (x y : InHand) (o i : Held Item) : Type 0 where
+  pub outer-held : HandIn w x o
+  pub inner-held : HandIn w y i
   pub at-seam : gap ≡ seam side (heldShape o) (heldShape i) .slot
   pub slots : Slots (cap w) (leaves (nodeOn side (heldShape o) (heldShape i)))
   pub ordered : Ordered items (leaves (nodeOn side (heldShape o) (heldShape i)))
 
-pub siblings-left : {w : Words} {gap lx le rx re : ℕ} {l r : Held Item} → Siblings w gap lx le rx re l r → Neighbours false w gap lx le rx re l r
+pub siblings-left : {w : Words} {gap : ℕ} {x y : InHand} {l r : Held Item} → Siblings w gap x y l r → Neighbours false w gap x y l r
 siblings-left h = record { outer-held = h .left; inner-held = h .right; at-seam = h .seam; slots = h .slots; ordered = h .ordered }
 
-pub siblings-right : {w : Words} {gap lx le rx re : ℕ} {l r : Held Item} → Siblings w gap lx le rx re l r → Neighbours true w gap rx re lx le r l
+pub siblings-right : {w : Words} {gap : ℕ} {x y : InHand} {l r : Held Item} → Siblings w gap x y l r → Neighbours true w gap y x r l
 siblings-right h = record { outer-held = h .right; inner-held = h .left; at-seam = h .seam; slots = h .slots; ordered = h .ordered }
 
-pub neighbours-left : {w : Words} {gap ox oe ix ie : ℕ} {o i : Held Item} → Neighbours false w gap ox oe ix ie o i → Siblings w gap ox oe ix ie o i
+pub neighbours-left : {w : Words} {gap : ℕ} {x y : InHand} {o i : Held Item} → Neighbours false w gap x y o i → Siblings w gap x y o i
 neighbours-left h = record { left = h .outer-held; right = h .inner-held; seam = h .at-seam; slots = h .slots; ordered = h .ordered }
 
-pub neighbours-right : {w : Words} {gap ox oe ix ie : ℕ} {o i : Held Item} → Neighbours true w gap ox oe ix ie o i → Siblings w gap ix ie ox oe i o
+pub neighbours-right : {w : Words} {gap : ℕ} {x y : InHand} {o i : Held Item} → Neighbours true w gap x y o i → Siblings w gap y x i o
 neighbours-right h = record { left = h .inner-held; right = h .outer-held; seam = h .at-seam; slots = h .slots; ordered = h .ordered }
 
 -- ---- lower and raise from a side
 
-pub record LoweredOn (side : Bool) (x e : ℕ) (w w′ : Words) (ox oe ix ie : ℕ) : Type 0 where
+pub record LoweredOn (side : Bool) (x : InHand) (w w′ : Words) (c : Opened) : Type 0 where
   pub within : Within w w′
-  pub outer-held : (h : Held Item) → HeldIn w x e h → mostSlots < x → HeldIn w′ ox oe (outer (sideOf side) (lower items h))
-  pub inner-held : (h : Held Item) → HeldIn w x e h → mostSlots < x → HeldIn w′ ix ie (inner (sideOf side) (lower items h))
-  pub touched : (h : Held Item) → HeldIn w x e h → mostSlots < x → Touched (leaves (heldShape h)) w w′
+  pub outer-held : (h : Held Item) → HandIn w x h → mostSlots < x .tree → HandIn w′ (c .on) (outer (sideOf side) (lower items h))
+  pub inner-held : (h : Held Item) → HandIn w x h → mostSlots < x .tree → HandIn w′ (c .off) (inner (sideOf side) (lower items h))
+  pub touched : (h : Held Item) → HandIn w x h → mostSlots < x .tree → Touched (leaves (heldShape h)) w w′
 
-pub lowered-left : {x e ox oe ix ie : ℕ} {w w′ : Words} → LoweredIn x e w w′ ox oe ix ie → LoweredOn false x e w w′ ox oe ix ie
+pub lowered-left : {x : InHand} {c : Lowered} {w w′ : Words} → LoweredIn x w w′ c → LoweredOn false x w w′ (record { on = c .left; off = c .right })
 lowered-left c = record { within = c .within; outer-held = c .front; inner-held = c .back; touched = c .touched }
 
-pub lowered-right : {x e ox oe ix ie : ℕ} {w w′ : Words} → LoweredIn x e w w′ ix ie ox oe → LoweredOn true x e w w′ ox oe ix ie
+pub lowered-right : {x : InHand} {c : Lowered} {w w′ : Words} → LoweredIn x w w′ c → LoweredOn true x w w′ (record { on = c .right; off = c .left })
 lowered-right c = record { within = c .within; outer-held = c .back; inner-held = c .front; touched = c .touched }
 
-pub record RaisedOn (side : Bool) (gap ox oe ix ie : ℕ) (w w′ : Words) (x e k s h : ℕ) : Type 0 where
+pub record RaisedOn (side : Bool) (gap : ℕ) (x y : InHand) (w w′ : Words) (m : Outcome) : Type 0 where
   pub within : Within w w′
-  pub made : (o i : Held Item) → Neighbours side w gap ox oe ix ie o i → Avl (nodeOn side (heldShape o) (heldShape i)) → MadeIn w′ x e k s h (raiseOn items (sideOf side) o i)
-  pub touched : (o i : Held Item) → Neighbours side w gap ox oe ix ie o i → Avl (nodeOn side (heldShape o) (heldShape i)) → Touched (leaves (nodeOn side (heldShape o) (heldShape i))) w w′
+  pub made : (o i : Held Item) → Neighbours side w gap x y o i → Avl (nodeOn side (heldShape o) (heldShape i)) → MadeIn w′ m (raiseOn items (sideOf side) o i)
+  pub touched : (o i : Held Item) → Neighbours side w gap x y o i → Avl (nodeOn side (heldShape o) (heldShape i)) → Touched (leaves (nodeOn side (heldShape o) (heldShape i))) w w′
 
-pub raised-left : {gap ox oe ix ie x e k s h : ℕ} {w w′ : Words} → RaisedIn gap ox oe ix ie w w′ x e k s h → RaisedOn false gap ox oe ix ie w w′ x e k s h
+pub raised-left : {gap : ℕ} {x y : InHand} {m : Outcome} {w w′ : Words} → RaisedIn gap x y w w′ m → RaisedOn false gap x y w w′ m
 raised-left c = record { within = c .within; made = λ o i n. c .made o i (neighbours-left n); touched = λ o i n. c .touched o i (neighbours-left n) }
 
-pub raised-right : {gap ox oe ix ie x e k s h : ℕ} {w w′ : Words} → RaisedIn gap ix ie ox oe w w′ x e k s h → RaisedOn true gap ox oe ix ie w w′ x e k s h
+pub raised-right : {gap : ℕ} {x y : InHand} {m : Outcome} {w w′ : Words} → RaisedIn gap y x w w′ m → RaisedOn true gap x y w w′ m
 raised-right c = record { within = c .within; made = λ o i n. c .made i o (neighbours-right n); touched = λ o i n. c .touched i o (neighbours-right n) }
 
 -- ---- what they leave
 
 -- h lowered: o and i are its children
-pub record Opens (side : Bool) (w w′ : Words) (x ox oe ix ie : ℕ) (h o i : Held Item) : Type 0 where
-  pub outer-held : HeldIn w′ ox oe o
-  pub inner-held : HeldIn w′ ix ie i
-  pub at-seam : x - mostSlots ≡ seam side (heldShape o) (heldShape i) .slot
+pub record Opens (side : Bool) (w w′ : Words) (x : InHand) (c : Opened) (h o i : Held Item) : Type 0 where
+  pub outer-held : HandIn w′ (c .on) o
+  pub inner-held : HandIn w′ (c .off) i
+  pub at-seam : x .tree - mostSlots ≡ seam side (heldShape o) (heldShape i) .slot
   pub shaped : heldShape h ≡ nodeOn side (heldShape o) (heldShape i)
   pub level : Above o i h
   pub touched : Touched (leaves (heldShape h)) w w′
@@ -134,11 +138,11 @@ module _ (h : Held Item) (w : Whole items h) (high : 1 ≤ heldHeight h) where
   lower-level true = above-turned (lowers-to .level)
 
 pub opens :
-    {side : Bool} {x e ox oe ix ie : ℕ} {w w′ : Words} {h : Held Item} →
-    LoweredOn side x e w w′ ox oe ix ie →
-    HeldIn w x e h →
+    {side : Bool} {x : InHand} {c : Opened} {w w′ : Words} {h : Held Item} →
+    LoweredOn side x w w′ c →
+    HandIn w x h →
     1 ≤ heldHeight h →
-    Opens side w w′ x ox oe ix ie h (outer (sideOf side) (lower items h)) (inner (sideOf side) (lower items h))
+    Opens side w w′ x c h (outer (sideOf side) (lower items h)) (inner (sideOf side) (lower items h))
 opens {side} {h} c held high =
     let d = held-inner held high in
     let e = lower-shape h (held .right) high side in
@@ -153,18 +157,18 @@ opens {side} {h} c held high =
 
 -- the rate of the separator
 pub seam-rate :
-    {side : Bool} {w w′ : Words} {m x e ox oe ix ie : ℕ} {h o i : Held Item} →
-    HeldIn w x e h →
-    Opens side w w′ x ox oe ix ie h o i →
-    m ≡ x - mostSlots →
+    {side : Bool} {w w′ : Words} {m : ℕ} {x : InHand} {c : Opened} {h o i : Held Item} →
+    HandIn w x h →
+    Opens side w w′ x c h o i →
+    m ≡ x .tree - mostSlots →
     cell w rateField m ≡ rateOf (seam side (heldShape o) (heldShape i))
 seam-rate {side} {w} {o} {i} held p d =
     ap (cell w rateField) (d ∙ p .at-seam)
     ∙ held .kept .held (subst (λ t. List·Memᴰ (seam side (heldShape o) (heldShape i)) (leaves t)) (sym (p .shaped)) (seam-in side (heldShape o) (heldShape i))) .rate
 
 -- o and i raised to one
-pub record Raises (side : Bool) (w w′ : Words) (x e k s h : ℕ) (o i : Held Item) : Type 0 where
-  pub made : MadeIn w′ x e k s h (raiseOn items (sideOf side) o i)
+pub record Raises (side : Bool) (w w′ : Words) (m : Outcome) (o i : Held Item) : Type 0 where
+  pub made : MadeIn w′ m (raiseOn items (sideOf side) o i)
   pub shaped : heldShape (raiseOn items (sideOf side) o i .held) ≡ nodeOn side (heldShape o) (heldShape i)
   pub touched : Touched (leaves (nodeOn side (heldShape o) (heldShape i))) w w′
 
@@ -181,12 +185,12 @@ module _ (o i : Held Item) (wo : Whole items o) (wi : Whole items i) (p : heldHe
   raise-shape true g = raised-shape items (whole-raise items item-laws wi wo g (level-avl true))
 
 pub raises :
-    {side : Bool} {gap ox oe ix ie x e k s h : ℕ} {w w′ : Words} {o i : Held Item} →
-    RaisedOn side gap ox oe ix ie w w′ x e k s h →
-    Neighbours side w gap ox oe ix ie o i →
+    {side : Bool} {gap : ℕ} {x y : InHand} {m : Outcome} {w w′ : Words} {o i : Held Item} →
+    RaisedOn side gap x y w w′ m →
+    Neighbours side w gap x y o i →
     heldHeight o ≤ suc (heldHeight i) →
     heldHeight i ≤ suc (heldHeight o) →
-    Raises side w w′ x e k s h o i
+    Raises side w w′ m o i
 raises {side} {o} {i} c n p q =
     let wo = n .outer-held .right in
     let wi = n .inner-held .right in

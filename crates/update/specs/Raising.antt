@@ -21,7 +21,9 @@ use Rattle.table.specs.Nodes.{rep-height}
 use Rattle.shape.specs.Joining.{Joined}
 use Rattle.pieces.specs.Pieces.{items, rateOf, Standing, SeamAt, Seamed, CutAt}
 use Rattle.form.specs.Stored.{HeldIn, Touched}
-use Rattle.update.specs.Steps.{Counted, MadeIn, Siblings, RaisedIn}
+use Rattle.update.specs.Steps.{Counted, HandIn, MadeIn, Siblings, RaisedIn}
+use Rattle.update.specs.declared.Held.{Held as InHand}
+use Rattle.update.specs.declared.Made.{Made as Outcome}
 use Rattle.form.specs.Frames.{tied-same, whole-standing, pieces-offers, pieces-tree, slots-within}
 use Rattle.update.specs.RaisingModel.{Raising, raising, leftCut, rightCut}
 use Rattle.update.specs.RaisingRests.{RestSet, rest-within}
@@ -58,46 +60,47 @@ standing-height st = rep-height (record { kind = omega arith; root = st .root; s
 
 -- ---- the calls in a row
 
-record Calls (gap lx le rx re : ℕ) (w w₁ w₂ w₃ w₄ w₅ w₆ w₇ w₈ : Words) (u v lf lb rf rb x e s h : ℕ) (θ θ′ : ℤ) : Type 0 where
-  met : MetIn w le re u v s
-  heights : h ≡ heightAt w pieceTree le + heightAt w pieceTree re
+record Calls (gap : ℕ) (x y : InHand) (w w₁ w₂ w₃ w₄ w₅ w₆ w₇ w₈ : Words) (u v lf lb rf rb : ℕ) (m : Outcome) (θ θ′ : ℤ) : Type 0 where
+  met : MetIn w (x .envelope) (y .envelope) u v (m .counts .steps)
+  once : m .counts .searches ≡ 1
+  heights : m .counts .heights ≡ heightAt w pieceTree (x .envelope) + heightAt w pieceTree (y .envelope)
   rate-left : θ ≡ cell w rateField u
-  cut-left : CutAt false θ le w w₁ lf lb
+  cut-left : CutAt false θ (x .envelope) w w₁ lf lb
   rate-right : θ′ ≡ cell w₁ rateField v
-  cut-right : CutAt true θ′ re w₁ w₂ rf rb
-  rest-left : RestSet lx lb w₂ w₃
-  rest-right : RestSet rx rf w₃ w₄
-  above : Joined (nodeOn false) offerTree false gap lx rx w₄ w₅ x
+  cut-right : CutAt true θ′ (y .envelope) w₁ w₂ rf rb
+  rest-left : RestSet (x .tree) lb w₂ w₃
+  rest-right : RestSet (y .tree) rf w₃ w₄
+  above : Joined (nodeOn false) offerTree false gap (x .tree) (y .tree) w₄ w₅ (m .held .tree)
   bridge-left : w₆ ≡ cset w₅ bridgeLeftField gap (pos u)
   bridge-right : w₇ ≡ cset w₆ bridgeRightField gap (pos v)
-  cat : Seamed lf rb u v w₇ w₈ e
+  cat : Seamed lf rb u v w₇ w₈ (m .held .envelope)
 
 -- what they make of two subtrees in hand
-record Raises (w w′ : Words) (x e s h : ℕ) (l r : Held Item) : Type 0 where
-  held : MadeIn w′ x e 1 s h (raise items l r)
+record Raises (w w′ : Words) (m : Outcome) (l r : Held Item) : Type 0 where
+  held : MadeIn w′ m (raise items l r)
   touched : Touched (leaves (heldShape l) ++ leaves (heldShape r)) w w′
 
 module _
-    {gap lx le rx re u v lf lb rf rb x e s h : ℕ} {w w₁ w₂ w₃ w₄ w₅ w₆ w₇ w₈ : Words} {θ θ′ : ℤ} {l r : Held Item}
-    (calls : Calls gap lx le rx re w w₁ w₂ w₃ w₄ w₅ w₆ w₇ w₈ u v lf lb rf rb x e s h θ θ′) (sib : Siblings w gap lx le rx re l r) (R : Raising l r (raise items l r)) where
-  raises : Raises w w₈ x e s h l r
+    {gap u v lf lb rf rb : ℕ} {x y : InHand} {m : Outcome} {w w₁ w₂ w₃ w₄ w₅ w₆ w₇ w₈ : Words} {θ θ′ : ℤ} {l r : Held Item}
+    (calls : Calls gap x y w w₁ w₂ w₃ w₄ w₅ w₆ w₇ w₈ u v lf lb rf rb m θ θ′) (sib : Siblings w gap x y l r) (R : Raising l r (raise items l r)) where
+  raises : Raises w w₈ m l r
   raises =
       record {
         held =
             record {
-              held = subst (HeldIn w₈ x e) (sym (R .held)) (held-raised sib cuts wires seam (calls .cat) at-u at-v (subst (Whole items) (R .held) (R .whole)));
-              counted = subst (λ log. Counted log 1 s h) (sym (R .logged)) counted;
+              held = subst (HandIn w₈ (m .held)) (sym (R .held)) (held-raised sib cuts wires seam (calls .cat) at-u at-v (subst (Whole items) (R .held) (R .whole)));
+              counted = subst (λ log. Counted log (m .counts)) (sym (R .logged)) counted;
             };
         touched = touched sib cuts wires seam (calls .cat);
       }
     where
-      front : Standing w le (some (R .front))
-      front = subst (Standing w le) (R .left-is) (whole-standing (sib .left))
+      front : Standing w (x .envelope) (some (R .front))
+      front = subst (Standing w (x .envelope)) (R .left-is) (whole-standing (sib .left))
 
-      back : Standing w re (some (R .back))
-      back = subst (Standing w re) (R .right-is) (whole-standing (sib .right))
+      back : Standing w (y .envelope) (some (R .back))
+      back = subst (Standing w (y .envelope)) (R .right-is) (whole-standing (sib .right))
 
-      ends : Ends u v s (meet items (R .front) (R .back))
+      ends : Ends u v (m .counts .steps) (meet items (R .front) (R .back))
       ends = calls .met .met (R .front) (R .back) (record { left = front; right = back; left-low = standing-low front; right-low = standing-low back; facing = R .facing })
 
       at-u : u ≡ R .u .slot
@@ -106,10 +109,10 @@ module _
       at-v : v ≡ R .v .slot
       at-v = ends .at-right ∙ ap refOf (R .met .atRight)
 
-      counted : Counted (record { front = R .front; back = R .back } ∷ []) 1 s h
+      counted : Counted (record { front = R .front; back = R .back } ∷ []) (m .counts)
       counted =
           record {
-            searches = refl;
+            searches = calls .once;
             steps = omega (arith, ends .counted, R .met .steps, standing-low front, standing-low back);
             heights = omega (arith, calls .heights, standing-height front, standing-height back, standing-low front, standing-low back);
           }
@@ -126,7 +129,7 @@ module _
 
       cuts : AfterCuts w w₂ l r (leftCut (R .u) l) (rightCut (R .v) r) lf lb rf rb
       cuts =
-          after-cuts sib (subst (λ z. CutAt false z le w w₁ lf lb) by-u (calls .cut-left)) (subst (λ z. CutAt true z re w₁ w₂ rf rb) by-v (calls .cut-right))
+          after-cuts sib (subst (λ z. CutAt false z (x .envelope) w w₁ lf lb) by-u (calls .cut-left)) (subst (λ z. CutAt true z (y .envelope) w₁ w₂ rf rb) by-v (calls .cut-right))
 
       -- the kept parts end at u and begin at v
       seam : SeamAt u v (leftCut (R .u) l .front) (rightCut (R .v) r .back)
@@ -136,7 +139,7 @@ module _
             right-end = λ t e. at-v ∙ ap (λ (i : Item). i .slot) (sym (R .v-first t e));
           }
 
-      given : Unwired w₂ gap lx rx (l .tree) (r .tree)
+      given : Unwired w₂ gap (x .tree) (y .tree) (l .tree) (r .tree)
       given =
           record {
             left-root = sib .left .root;
@@ -147,7 +150,7 @@ module _
             slots = slots-within (cuts .within) (sib .slots);
           }
 
-      wires : AfterWires (l .tree) (r .tree) w₂ w₇ x lb rf u v
+      wires : AfterWires (l .tree) (r .tree) w₂ w₇ (m .held .tree) lb rf u v
       wires =
           after-wires given (calls .rest-left) (calls .rest-right) (calls .above) (calls .bridge-left) (calls .bridge-right) (
             omega (arith, at-u, front .slots .high (R .u-piece), cap-most w),
@@ -156,21 +159,22 @@ module _
 
 -- The search, the heights and the rates are read, both envelopes cut, the rests, the node and its bridge written, and the kept parts put together.
 pub raised :
-    {gap lx le rx re u v lf lb rf rb x e s h : ℕ} {w w₁ w₂ w₃ w₄ w₅ w₆ w₇ w₈ : Words} {θ θ′ : ℤ} →
-    MetIn w le re u v s →
-    h ≡ heightAt w pieceTree le + heightAt w pieceTree re →
+    {gap u v lf lb rf rb : ℕ} {x y : InHand} {m : Outcome} {w w₁ w₂ w₃ w₄ w₅ w₆ w₇ w₈ : Words} {θ θ′ : ℤ} →
+    m .counts .searches ≡ 1 →
+    MetIn w (x .envelope) (y .envelope) u v (m .counts .steps) →
+    m .counts .heights ≡ heightAt w pieceTree (x .envelope) + heightAt w pieceTree (y .envelope) →
     θ ≡ cell w rateField u →
-    CutAt false θ le w w₁ lf lb →
+    CutAt false θ (x .envelope) w w₁ lf lb →
     θ′ ≡ cell w₁ rateField v →
-    CutAt true θ′ re w₁ w₂ rf rb →
-    RestSet lx lb w₂ w₃ →
-    RestSet rx rf w₃ w₄ →
-    Joined (nodeOn false) offerTree false gap lx rx w₄ w₅ x →
+    CutAt true θ′ (y .envelope) w₁ w₂ rf rb →
+    RestSet (x .tree) lb w₂ w₃ →
+    RestSet (y .tree) rf w₃ w₄ →
+    Joined (nodeOn false) offerTree false gap (x .tree) (y .tree) w₄ w₅ (m .held .tree) →
     w₆ ≡ cset w₅ bridgeLeftField gap (pos u) →
     w₇ ≡ cset w₆ bridgeRightField gap (pos v) →
-    Seamed lf rb u v w₇ w₈ e →
-    RaisedIn gap lx le rx re w w₈ x e 1 s h
-raised {gap} {lx} {le} {rx} {re} {u} {v} {lf} {lb} {rf} {rb} {x} {e} {s} {h} {w} {w₁} {w₂} {w₃} {w₄} {w₅} {w₆} {w₇} {w₈} {θ} {θ′} met heights rate-left cut-left rate-right cut-right rest-left rest-right above eu ev cat =
+    Seamed lf rb u v w₇ w₈ (m .held .envelope) →
+    RaisedIn gap x y w w₈ m
+raised {gap} {u} {v} {lf} {lb} {rf} {rb} {x} {y} {m} {w} {w₁} {w₂} {w₃} {w₄} {w₅} {w₆} {w₇} {w₈} {θ} {θ′} once met heights rate-left cut-left rate-right cut-right rest-left rest-right above eu ev cat =
     record {
       within =
           within-trans (cut-left .within)
@@ -184,11 +188,12 @@ raised {gap} {lx} {le} {rx} {re} {u} {v} {lf} {lb} {rf} {rb} {x} {e} {s} {h} {w}
       touched = λ l r sib avl. all l r sib avl .touched;
     }
   where
-    all : (l r : Held Item) → Siblings w gap lx le rx re l r → Avl (node (heldShape l) (heldShape r)) → Raises w w₈ x e s h l r
+    all : (l r : Held Item) → Siblings w gap x y l r → Avl (node (heldShape l) (heldShape r)) → Raises w w₈ m l r
     all l r sib avl =
         raises
         (record {
           met = met;
+          once = once;
           heights = heights;
           rate-left = rate-left;
           cut-left = cut-left;

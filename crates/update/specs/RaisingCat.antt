@@ -17,6 +17,7 @@ use Rattle.table.specs.Threads.{holds-join}
 use Rattle.pieces.specs.Pieces.{items, PieceField, PiecesOnly, Standing, Beside, SeamAt, Seamed}
 use Rattle.form.specs.Stored.{RestIn, Stored, stored-fork, HeldIn, Touched, nodeSlot, restField}
 use Rattle.update.specs.Steps.{Siblings}
+use Rattle.update.specs.declared.Held.{Held as InHand}
 use Rattle.form.specs.Frames.{Inside, Disjoint, disjoint-across, bridge-u, bridge-v, same-link, tied-same, part-same, holds-same, held-slots, whole-inside, stored-inside, pieces-tree, pieces-rests, pieces-else, pieces-touched, slots-within, touched-offers, touched-trans, touched-more}
 use Rattle.form.specs.Disjoint.{inside-refl, inside-trans, inside-left, inside-right, inside-join, disjoint-both, disjoint-join, disjoint-turned, slots-join}
 use Rattle.update.specs.RaisingRests.{Tells, tells-field, tells-in, rest-field, node-in, Retold, stored-retold}
@@ -27,8 +28,8 @@ use Rattle.update.specs.RaisingWires.{Wires, left-untold, right-untold, 
 
 -- the words before the first cut, after the second, after the bridge, and at the end
 module _
-    {w w₁ w₂ w₃ : Words} {gap lx le rx re lf lb rf rb x e mu mv : ℕ} {l r : Held Item} {c d : Cut Item} (sib : Siblings w gap lx le rx re l r)
-    (cuts : AfterCuts w w₁ l r c d lf lb rf rb) (wires : AfterWires (l .tree) (r .tree) w₁ w₂ x lb rf mu mv) (seam : SeamAt mu mv (c .front) (d .back)) (cat : Seamed lf rb mu mv w₂ w₃ e) where
+    {w w₁ w₂ w₃ : Words} {gap lf lb rf rb z e mu mv : ℕ} {x y : InHand} {l r : Held Item} {c d : Cut Item} (sib : Siblings w gap x y l r)
+    (cuts : AfterCuts w w₁ l r c d lf lb rf rb) (wires : AfterWires (l .tree) (r .tree) w₁ w₂ z lb rf mu mv) (seam : SeamAt mu mv (c .front) (d .back)) (cat : Seamed lf rb mu mv w₂ w₃ e) where
   -- no piece is written between
   left-halves : Halved w₂ lf lb (l .whole) c
   left-halves = halved-same (wires .within) (cuts .left) (touched-offers (wired-touched (wires .only)) _) (wired-pieces (wires .only) _)
@@ -121,7 +122,7 @@ module _
       (disjoint-join (partLeaves (l .whole)) (disjoint-both (whole-inside (sib .left)) (stored-inside (sib .right)) sides)
       (disjoint-across (partLeaves (r .whole)) (held-slots (sib .right))))
 
-  pub held-raised : {u v : Item} → mu ≡ u .slot → mv ≡ v .slot → Whole items (bridged items u v l r c d) → HeldIn w₃ x e (bridged items u v l r c d)
+  pub held-raised : {u v : Item} → mu ≡ u .slot → mv ≡ v .slot → Whole items (bridged items u v l r c d) → HeldIn w₃ z e (bridged items u v l r c d)
   held-raised eu ev right =
       record {
         root = wires .root;

@@ -15,6 +15,7 @@ use Rattle.table.specs.Items.{Item, In, Slots}
 use Rattle.table.specs.Rep.{Within, within-trans}
 use Rattle.pieces.specs.Pieces.{PieceField, PiecesOnly, Standing, inFront, CutAt}
 use Rattle.update.specs.Steps.{Siblings}
+use Rattle.update.specs.declared.Held.{Held as InHand}
 use Rattle.form.specs.Frames.{OfferField, Same, same-inside, Inside, Disjoint, disjoint-across, whole-inside, whole-standing, pieces-touched, standing-same, standing-still, pieces-trans, pieces-more}
 use Rattle.form.specs.Disjoint.{inside-left, inside-right, disjoint-both, disjoint-turned}
 
@@ -61,7 +62,7 @@ halved-same within h offers pieces =
 
 -- ---- both
 
-pub wholes-apart : {w : Words} {gap lx le rx re : ℕ} {l r : Held Item} → Siblings w gap lx le rx re l r → Disjoint (partLeaves (l .whole)) (partLeaves (r .whole))
+pub wholes-apart : {w : Words} {gap : ℕ} {x y : InHand} {l r : Held Item} → Siblings w gap x y l r → Disjoint (partLeaves (l .whole)) (partLeaves (r .whole))
 wholes-apart {l} s = disjoint-both (whole-inside (s .left)) (whole-inside (s .right)) (disjoint-across (leaves (heldShape l)) (s .slots))
 
 -- the words after both cuts, c of the left envelope and d of the right one
@@ -72,12 +73,12 @@ pub record AfterCuts (w w′ : Words) (l r : Held Item) (c d : Cut Item) (lf lb 
   pub only : PiecesOnly (partLeaves (l .whole) ++ partLeaves (r .whole)) w w′
 
 pub after-cuts :
-    {w w₁ w₂ : Words} {gap lx le rx re lf lb rf rb : ℕ} {strict strict′ : Bool} {θ θ′ : ℤ} {l r : Held Item} →
-    Siblings w gap lx le rx re l r →
-    CutAt strict θ le w w₁ lf lb →
-    CutAt strict′ θ′ re w₁ w₂ rf rb →
+    {w w₁ w₂ : Words} {gap lf lb rf rb : ℕ} {x y : InHand} {strict strict′ : Bool} {θ θ′ : ℤ} {l r : Held Item} →
+    Siblings w gap x y l r →
+    CutAt strict θ (x .envelope) w w₁ lf lb →
+    CutAt strict′ θ′ (y .envelope) w₁ w₂ rf rb →
     AfterCuts w w₂ l r (splitP (inFront strict θ) (l .whole)) (splitP (inFront strict′ θ′) (r .whole)) lf lb rf rb
-after-cuts {w} {w₁} {w₂} {re} {lf} {lb} {strict} {θ} {l} {r} s c d =
+after-cuts {w} {w₁} {w₂} {lf} {lb} {y} {strict} {θ} {l} {r} s c d =
     record {
       within = within-trans (c .within) (d .within);
       left = record { front = still (near .front) (near .front-inside); back = still (near .back) (near .back-inside); front-inside = near .front-inside; back-inside = near .back-inside; apart = near .apart };
@@ -92,7 +93,7 @@ after-cuts {w} {w₁} {w₂} {re} {lf} {lb} {strict} {θ} {l} {r} s c d =
     near = halved c (whole-standing (s .left))
 
     -- the right envelope after the left one was cut
-    far : Standing w₁ re (r .whole)
+    far : Standing w₁ (y .envelope) (r .whole)
     far = standing-still (c .within) (whole-standing (s .right)) (pieces-touched first) (disjoint-turned (wholes-apart s))
 
     second : PiecesOnly (partLeaves (r .whole)) w₁ w₂

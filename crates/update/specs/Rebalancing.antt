@@ -16,6 +16,8 @@ use Rattle.table.specs.Rep.{nodeOn, heightAt, Within}
 use Rattle.pieces.specs.Pieces.{items}
 use Rattle.form.specs.Stored.{Touched}
 use Rattle.update.specs.Steps.{MadeIn, Siblings, RaisedIn, Near, RebalancedIn}
+use Rattle.update.specs.declared.Held.{Held as InHand}
+use Rattle.update.specs.declared.Made.{Made as Outcome}
 use Rattle.update.specs.Neighbours.{held-height, Neighbours, siblings-left, siblings-right, neighbours-left, neighbours-right}
 use Rattle.update.specs.Rotating.{RotatedIn}
 
@@ -38,41 +40,41 @@ module _ (l r : Held Item) where
 
 -- ---- the calls
 
-module _ {gap lx le rx re x e k s h : ℕ} {w w′ : Words} where
-  pub rebalanced-level : heightAt w offerTree lx ≤ suc (heightAt w offerTree rx) → heightAt w offerTree rx ≤ suc (heightAt w offerTree lx) → RaisedIn gap lx le rx re w w′ x e k s h → RebalancedIn gap lx le rx re w w′ x e k s h
+module _ {gap : ℕ} {x y : InHand} {m : Outcome} {w w′ : Words} where
+  pub rebalanced-level : heightAt w offerTree (x .tree) ≤ suc (heightAt w offerTree (y .tree)) → heightAt w offerTree (y .tree) ≤ suc (heightAt w offerTree (x .tree)) → RaisedIn gap x y w w′ m → RebalancedIn gap x y w w′ m
   rebalanced-level p q c =
       record {
         within = c .within;
-        made = λ l r g n. subst (MadeIn w′ x e k s h) (sym (rebalance-level l r (left-low l r g) (right-low l r g))) (c .made l r g (avl-node (g .left .right .balanced) (g .right .right .balanced) (left-low l r g) (right-low l r g)));
+        made = λ l r g n. subst (MadeIn w′ m) (sym (rebalance-level l r (left-low l r g) (right-low l r g))) (c .made l r g (avl-node (g .left .right .balanced) (g .right .right .balanced) (left-low l r g) (right-low l r g)));
         touched = λ l r g n. c .touched l r g (avl-node (g .left .right .balanced) (g .right .right .balanced) (left-low l r g) (right-low l r g));
       }
     where
-      left-low : (l r : Held Item) → Siblings w gap lx le rx re l r → heldHeight l ≤ suc (heldHeight r)
+      left-low : (l r : Held Item) → Siblings w gap x y l r → heldHeight l ≤ suc (heldHeight r)
       left-low l r g = omega (arith, p, held-height (g .left), held-height (g .right))
 
-      right-low : (l r : Held Item) → Siblings w gap lx le rx re l r → heldHeight r ≤ suc (heldHeight l)
+      right-low : (l r : Held Item) → Siblings w gap x y l r → heldHeight r ≤ suc (heldHeight l)
       right-low l r g = omega (arith, q, held-height (g .left), held-height (g .right))
 
-  pub rebalanced-left : suc (heightAt w offerTree rx) < heightAt w offerTree lx → RotatedIn false gap lx le rx re w w′ x e k s h → RebalancedIn gap lx le rx re w w′ x e k s h
+  pub rebalanced-left : suc (heightAt w offerTree (y .tree)) < heightAt w offerTree (x .tree) → RotatedIn false gap x y w w′ m → RebalancedIn gap x y w w′ m
   rebalanced-left p c =
       record {
         within = c .within;
-        made = λ l r g n. subst (MadeIn w′ x e k s h) (sym (rebalance-left l r (tall l r g))) (c .made l r (siblings-left g) (omega (arith, tall l r g, n .left)));
+        made = λ l r g n. subst (MadeIn w′ m) (sym (rebalance-left l r (tall l r g))) (c .made l r (siblings-left g) (omega (arith, tall l r g, n .left)));
         touched = λ l r g n. c .touched l r (siblings-left g) (omega (arith, tall l r g, n .left));
       }
     where
-      tall : (l r : Held Item) → Siblings w gap lx le rx re l r → suc (heldHeight r) < heldHeight l
+      tall : (l r : Held Item) → Siblings w gap x y l r → suc (heldHeight r) < heldHeight l
       tall l r g = omega (arith, p, held-height (g .left), held-height (g .right))
 
-  pub rebalanced-right : suc (heightAt w offerTree lx) < heightAt w offerTree rx → RotatedIn true gap rx re lx le w w′ x e k s h → RebalancedIn gap lx le rx re w w′ x e k s h
+  pub rebalanced-right : suc (heightAt w offerTree (x .tree)) < heightAt w offerTree (y .tree) → RotatedIn true gap y x w w′ m → RebalancedIn gap x y w w′ m
   rebalanced-right p c =
       record {
         within = c .within;
-        made = λ l r g n. subst (MadeIn w′ x e k s h) (sym (rebalance-right l r (tall l r g))) (c .made r l (siblings-right g) (omega (arith, tall l r g, n .right)));
+        made = λ l r g n. subst (MadeIn w′ m) (sym (rebalance-right l r (tall l r g))) (c .made r l (siblings-right g) (omega (arith, tall l r g, n .right)));
         touched = λ l r g n. c .touched r l (siblings-right g) (omega (arith, tall l r g, n .right));
       }
     where
-      tall : (l r : Held Item) → Siblings w gap lx le rx re l r → suc (heldHeight l) < heldHeight r
+      tall : (l r : Held Item) → Siblings w gap x y l r → suc (heldHeight l) < heldHeight r
       tall l r g = omega (arith, p, held-height (g .left), held-height (g .right))
 
 -- ---- rebalance from a side
@@ -81,16 +83,16 @@ abbrev pub rebalanceOn : Bool → Held Item → Held Item → Made Item
 rebalanceOn false o i = rebalance items o i
 rebalanceOn true o i = rebalance items i o
 
-pub record RebalancedOn (side : Bool) (gap ox oe ix ie : ℕ) (w w′ : Words) (x e k s h : ℕ) : Type 0 where
+pub record RebalancedOn (side : Bool) (gap : ℕ) (x y : InHand) (w w′ : Words) (m : Outcome) : Type 0 where
   pub within : Within w w′
-  pub made : (o i : Held Item) → Neighbours side w gap ox oe ix ie o i → Near o i → MadeIn w′ x e k s h (rebalanceOn side o i)
-  pub touched : (o i : Held Item) → Neighbours side w gap ox oe ix ie o i → Near o i → Touched (leaves (nodeOn side (heldShape o) (heldShape i))) w w′
+  pub made : (o i : Held Item) → Neighbours side w gap x y o i → Near o i → MadeIn w′ m (rebalanceOn side o i)
+  pub touched : (o i : Held Item) → Neighbours side w gap x y o i → Near o i → Touched (leaves (nodeOn side (heldShape o) (heldShape i))) w w′
 
 near-turned : {l r : Held Item} → Near l r → Near r l
 near-turned n = record { left = n .right; right = n .left }
 
-pub rebalanced-on-left : {gap ox oe ix ie x e k s h : ℕ} {w w′ : Words} → RebalancedIn gap ox oe ix ie w w′ x e k s h → RebalancedOn false gap ox oe ix ie w w′ x e k s h
+pub rebalanced-on-left : {gap : ℕ} {x y : InHand} {m : Outcome} {w w′ : Words} → RebalancedIn gap x y w w′ m → RebalancedOn false gap x y w w′ m
 rebalanced-on-left c = record { within = c .within; made = λ o i n d. c .made o i (neighbours-left n) d; touched = λ o i n d. c .touched o i (neighbours-left n) d }
 
-pub rebalanced-on-right : {gap ox oe ix ie x e k s h : ℕ} {w w′ : Words} → RebalancedIn gap ix ie ox oe w w′ x e k s h → RebalancedOn true gap ox oe ix ie w w′ x e k s h
+pub rebalanced-on-right : {gap : ℕ} {x y : InHand} {m : Outcome} {w w′ : Words} → RebalancedIn gap y x w w′ m → RebalancedOn true gap x y w w′ m
 rebalanced-on-right c = record { within = c .within; made = λ o i n d. c .made i o (neighbours-right n) (near-turned d); touched = λ o i n d. c .touched i o (neighbours-right n) (near-turned d) }

@@ -3,7 +3,7 @@ use mathlib.Core.Path.{_≡_, refl, sym, _∙_, ap, ap₂, subst}
 use mathlib.Core.Bool.{Bool, true, false}
 use mathlib.Core.List.{List, _++_, List·Memᴰ, Memᴰ·append-left}
 use mathlib.Core.Option.{Option, none, some}
-use Prim.Native.Nat.{ℕ, suc, _+_, _-_, _≤_, _<_}
+use Prim.Native.Nat.{ℕ, suc, _-_, _≤_, _<_}
 use native.Mathlib.Omega.{arith}
 use lib.IntN.{ℤ}
 use lib.Signed.{ltZ}
@@ -26,52 +26,56 @@ use Rattle.table.specs.Nodes.{ref-low, on-across, in-one}
 use Rattle.table.specs.PartTrees.{low}
 use Rattle.descents.specs.Ends.{Ended}
 use Rattle.pieces.specs.Pieces.{items, item-laws}
-use Rattle.form.specs.Stored.{HeldIn, Touched}
-use Rattle.update.specs.Steps.{Counted, MadeIn, Near, Leaver, LeftIn, RemovedIn}
+use Rattle.form.specs.Stored.{Touched}
+use Rattle.update.specs.Steps.{HandIn, Counted, MadeIn, noTree, Near, Leaver, LeftIn, RemovedIn}
+use Rattle.update.specs.declared.Held.{Held as InHand}
+use Rattle.update.specs.declared.Counts.{Counts}
+use Rattle.update.specs.declared.Made.{Made as Outcome}
+use Rattle.update.specs.declared.Opened.{Opened}
 use Rattle.form.specs.Frames.{Inside, slots-within, held-still, touched-refl, touched-trans, touched-more}
 use Rattle.update.specs.Neighbours.{sideOf, held-rep, inner-high, seam-rate, Neighbours, LoweredOn, Opens, opens}
-use Rattle.update.specs.Counting.{Counts, counted-two}
+use Rattle.update.specs.Counting.{Summed, counted-two}
 use Rattle.update.specs.Rebalancing.{rebalanceOn, RebalancedOn}
 use Rattle.update.specs.RemovingModel.{besideOn, remove-on, stands-on, left-row, slots-sublist}
 
 -- ---- what is promised
 
 -- the words hold what a removal has left, and count its log
-pub record LeavesIn (w : Words) (x e k s h : ℕ) (m : Removed Item) : Type 0 where
-  pub rest : LeftIn w x e (m .rest)
-  pub counted : Counted (m .log) k s h
+pub record LeavesIn (w : Words) (m : Outcome) (left : Removed Item) : Type 0 where
+  pub rest : LeftIn w (m .held) (left .rest)
+  pub counted : Counted (left .log) (m .counts)
 
 -- of a subtree that is at most `limit` high
-pub record RemovedBelow (limit slot x e : ℕ) (w w′ : Words) (x′ e′ k s h : ℕ) : Type 0 where
+pub record RemovedBelow (limit slot : ℕ) (x : InHand) (w w′ : Words) (m : Outcome) : Type 0 where
   pub within : Within w w′
-  pub made : (a : Item) (t : Held Item) → Leaver w slot x e a t → heldHeight t ≤ limit → LeavesIn w′ x′ e′ k s h (remove items a (t .tree) (t .whole))
-  pub touched : (a : Item) (t : Held Item) → Leaver w slot x e a t → heldHeight t ≤ limit → Touched (leaves (heldShape t)) w w′
+  pub made : (a : Item) (t : Held Item) → Leaver w slot x a t → heldHeight t ≤ limit → LeavesIn w′ m (remove items a (t .tree) (t .whole))
+  pub touched : (a : Item) (t : Held Item) → Leaver w slot x a t → heldHeight t ≤ limit → Touched (leaves (heldShape t)) w w′
 
 -- no subtree in a table is higher than 24
-pub removed : {limit slot x e x′ e′ k s h : ℕ} {w w′ : Words} → 24 ≤ limit → RemovedBelow limit slot x e w w′ x′ e′ k s h → RemovedIn slot x e w w′ x′ e′ k s h
-removed {limit} {slot} {x} {e} {w} enough c =
+pub removed : {limit slot : ℕ} {x : InHand} {m : Outcome} {w w′ : Words} → 24 ≤ limit → RemovedBelow limit slot x w w′ m → RemovedIn slot x w w′ m
+removed {limit} {slot} {x} {w} enough c =
     record { within = c .within; rest = λ a t f. c .made a t f (room a t f) .rest; counted = λ a t f. c .made a t f (room a t f) .counted; touched = λ a t f. c .touched a t f (room a t f) }
   where
-    room : (a : Item) (t : Held Item) → Leaver w slot x e a t → heldHeight t ≤ limit
+    room : (a : Item) (t : Held Item) → Leaver w slot x a t → heldHeight t ≤ limit
     room a t f = omega (arith, low w (f .held .slots) (f .held .right .balanced))
 
 -- where the limit is used up at an inner node, nothing is promised
-pub removed-spent : {slot x e x′ e′ k s h : ℕ} {w : Words} → mostSlots < x → RemovedBelow 0 slot x e w w x′ e′ k s h
+pub removed-spent : {slot : ℕ} {x : InHand} {m : Outcome} {w : Words} → mostSlots < x .tree → RemovedBelow 0 slot x w w m
 removed-spent {w} inside =
     record { within = within-refl w; made = λ a t f d. absurd (omega (arith, inner-high (f .held) inside)); touched = λ a t f d. absurd (omega (arith, inner-high (f .held) inside)) }
 
-record Removes (w w′ : Words) (x′ e′ k s h : ℕ) (a : Item) (t : Held Item) : Type 0 where
-  made : LeavesIn w′ x′ e′ k s h (remove items a (t .tree) (t .whole))
+record Removes (w w′ : Words) (m : Outcome) (a : Item) (t : Held Item) : Type 0 where
+  made : LeavesIn w′ m (remove items a (t .tree) (t .whole))
   touched : Touched (leaves (heldShape t)) w w′
 
 -- ---- a single line
 
-pub removed-leaf : {w : Words} {limit slot x e : ℕ} → x ≤ mostSlots → RemovedBelow limit slot x e w w 0 0 0 0 0
+pub removed-leaf : {w : Words} {limit slot : ℕ} {x : InHand} → x .tree ≤ mostSlots → RemovedBelow limit slot x w w noTree
 unfolding remove
-removed-leaf {w} {limit} {slot} {x} {e} single-line =
+removed-leaf {w} {limit} {slot} {x} single-line =
     record { within = within-refl w; made = λ a t f d. go a (t .tree) (t .whole) (f .held); touched = λ a t f d. touched-refl (leaves (heldShape t)) w }
   where
-    go : (a : Item) (t : OfferTree Item) (p : Part Item) → HeldIn w x e (hold t p) → LeavesIn w 0 0 0 0 0 (remove items a t p)
+    go : (a : Item) (t : OfferTree Item) (p : Part Item) → HandIn w x (hold t p) → LeavesIn w noTree (remove items a t p)
     go a (fork u v l ql qr r) p held = absurd (omega (arith, held .root, held .slots .low (Memᴰ·append-left (leaves (shape r)) (last-leaf (shape l)))))
     go a (single b) p held = record { rest = (refl, refl); counted = record { searches = refl; steps = refl; heights = refl } }
 
@@ -105,30 +109,30 @@ beside-some false g log i = refl
 beside-some true g log i = refl
 
 -- after the call on the child o of t; r is what the model leaves of it
-record Below (side : Bool) (w w₁ w₂ : Words) (x ox oe ix ie gx ge k₁ s₁ h₁ : ℕ) (a : Item) (t o i : Held Item) (r : Removed Item) : Type 0 where
-  opened : Opens side w w₁ x ox oe ix ie t o i
+record Below (side : Bool) (w w₁ w₂ : Words) (x : InHand) (c : Opened) (m₁ : Outcome) (a : Item) (t o i : Held Item) (r : Removed Item) : Type 0 where
+  opened : Opens side w w₁ x c t o i
   way : remove items a (t .tree) (t .whole) ≡ besideOn side r i
-  left : LeavesIn w₂ gx ge k₁ s₁ h₁ r
+  left : LeavesIn w₂ m₁ r
   loses : Loses items a o r
-  sibling : HeldIn w₂ ix ie i
+  sibling : HandIn w₂ (c .off) i
   slots : Slots (cap w₂) (leaves (nodeOn side (heldShape o) (heldShape i)))
   ordered : Ordered items (leaves (nodeOn side (heldShape o) (heldShape i)))
   touched : Touched (leaves (heldShape t)) w w₂
 
 module _
-    {side : Bool} {θ : ℤ} {w w₁ w₂ : Words} {limit limit′ x e slot m ox oe ix ie gx ge k₁ s₁ h₁ : ℕ}
-    (inside : mostSlots < x)
-    (m-is : m ≡ x - mostSlots)
+    {side : Bool} {θ : ℤ} {w w₁ w₂ : Words} {limit limit′ slot m : ℕ} {x : InHand} {c : Opened} {m₁ : Outcome}
+    (inside : mostSlots < x .tree)
+    (m-is : m ≡ x .tree - mostSlots)
     (rate : θ ≡ cell w rateField slot)
     (test : side ≡ ltZ θ (cell w rateField m))
-    (low₁ : LoweredOn side x e w w₁ ox oe ix ie)
+    (low₁ : LoweredOn side x w w₁ c)
     (enough : limit ≤ suc limit′)
-    (rem : RemovedBelow limit′ slot ox oe w₁ w₂ gx ge k₁ s₁ h₁) where
+    (rem : RemovedBelow limit′ slot (c .on) w₁ w₂ m₁) where
   below :
       (a : Item) (t : Held Item) →
-      Leaver w slot x e a t →
+      Leaver w slot x a t →
       heldHeight t ≤ limit →
-      Below side w w₁ w₂ x ox oe ix ie gx ge k₁ s₁ h₁ a t (outer (sideOf side) (lower items t)) (inner (sideOf side) (lower items t)) (remove items a (outer (sideOf side) (lower items t) .tree) (outer (sideOf side) (lower items t) .whole))
+      Below side w w₁ w₂ x c m₁ a t (outer (sideOf side) (lower items t)) (inner (sideOf side) (lower items t)) (remove items a (outer (sideOf side) (lower items t) .tree) (outer (sideOf side) (lower items t) .whole))
   below a t f lim =
       record {
         opened = p;
@@ -150,7 +154,7 @@ module _
       i : Held Item
       i = inner (sideOf side) (lower items t)
 
-      p : Opens side w w₁ x ox oe ix ie t o i
+      p : Opens side w w₁ x c t o i
       p = opens low₁ (f .held) high
 
       O : Tree Item
@@ -168,7 +172,7 @@ module _
       ordered : Ordered items (leaves (nodeOn side O I))
       ordered = subst (λ u. Ordered items (leaves u)) (p .shaped) (f .held .right .ordered)
 
-      leaver : Leaver w₁ slot ox oe a o
+      leaver : Leaver w₁ slot (c .on) a o
       leaver = record { slot = f .slot; member = stands-on a O I side ordered (subst (λ u. List·Memᴰ a (leaves u)) (p .shaped) (f .member)) way; held = p .outer-held }
 
       room : heldHeight o ≤ limit′
@@ -178,7 +182,7 @@ module _
       child-touched = rem .touched a o leaver room
 
   -- nothing is left of the child
-  pub removed-gone : gx ≡ 0 → RemovedBelow limit slot x e w w₂ ix ie k₁ s₁ h₁
+  pub removed-gone : m₁ .held .tree ≡ 0 → RemovedBelow limit slot x w w₂ (record { held = c .off; counts = m₁ .counts })
   removed-gone none-left =
       record {
         within = within-trans (low₁ .within) (rem .within);
@@ -186,27 +190,33 @@ module _
         touched = λ a t f d. below a t f d .touched;
       }
     where
+      out : Outcome
+      out = record { held = c .off; counts = m₁ .counts }
+
       go :
           (a : Item) (t o i : Held Item) {r : Removed Item} →
-          Below side w w₁ w₂ x ox oe ix ie gx ge k₁ s₁ h₁ a t o i r →
-          LeavesIn w₂ ix ie k₁ s₁ h₁ (remove items a (t .tree) (t .whole))
-      go a t o i {r} b = subst (LeavesIn w₂ ix ie k₁ s₁ h₁) (sym (b .way)) (go-on (r .rest) (r .log) (b .left .rest) (b .left .counted))
+          Below side w w₁ w₂ x c m₁ a t o i r →
+          LeavesIn w₂ out (remove items a (t .tree) (t .whole))
+      go a t o i {r} b = subst (LeavesIn w₂ out) (sym (b .way)) (go-on (r .rest) (r .log) (b .left .rest) (b .left .counted))
         where
-          go-on : (left : Option (Held Item)) (log : List (Pair Item)) → LeftIn w₂ gx ge left → Counted log k₁ s₁ h₁ → LeavesIn w₂ ix ie k₁ s₁ h₁ (besideOn side (record { rest = left; log = log }) i)
-          go-on none log l c = subst (LeavesIn w₂ ix ie k₁ s₁ h₁) (sym (beside-none side log i)) (record { rest = b .sibling; counted = c })
-          go-on (some g) log l c = absurd (omega (arith, l .root, ref-low (heldShape g) (l .slots)))
+          go-on : (left : Option (Held Item)) (log : List (Pair Item)) → LeftIn w₂ (m₁ .held) left → Counted log (m₁ .counts) → LeavesIn w₂ out (besideOn side (record { rest = left; log = log }) i)
+          go-on none log l n = subst (LeavesIn w₂ out) (sym (beside-none side log i)) (record { rest = b .sibling; counted = n })
+          go-on (some g) log l n = absurd (omega (arith, l .root, ref-low (heldShape g) (l .slots)))
 
   module _
-      {w₃ : Words} {gap x′ e′ k₂ s₂ h₂ k s h : ℕ}
-      (some-left : 1 ≤ gx)
-      (found : SeamFound side w₂ gx m gap)
-      (reb : RebalancedOn side gap gx ge ix ie w₂ w₃ x′ e′ k₂ s₂ h₂)
-      (counts : Counts (k₁ + k₂) (s₁ + s₂) (h₁ + h₂) k s h) where
-    removes-inner : (a : Item) (t o i : Held Item) (left : Option (Held Item)) (log : List (Pair Item)) → Below side w w₁ w₂ x ox oe ix ie gx ge k₁ s₁ h₁ a t o i (record { rest = left; log = log }) → Removes w w₃ x′ e′ k s h a t
+      {w₃ : Words} {gap : ℕ} {m₂ : Outcome} {n : Counts}
+      (some-left : 1 ≤ m₁ .held .tree)
+      (found : SeamFound side w₂ (m₁ .held .tree) m gap)
+      (reb : RebalancedOn side gap (m₁ .held) (c .off) w₂ w₃ m₂)
+      (counts : Summed (m₁ .counts) (m₂ .counts) n) where
+    abbrev out : Outcome
+    out = record { held = m₂ .held; counts = n }
+
+    removes-inner : (a : Item) (t o i : Held Item) (left : Option (Held Item)) (log : List (Pair Item)) → Below side w w₁ w₂ x c m₁ a t o i (record { rest = left; log = log }) → Removes w w₃ out a t
     removes-inner a t o i none log b = absurd (omega (arith, b .left .rest .0))
     removes-inner a t o i (some g) log b =
         record {
-          made = subst (LeavesIn w₃ x′ e′ k s h) (sym (b .way ∙ beside-some side g log i)) (record { rest = R .held; counted = counted-two (b .left .counted) (R .counted) counts });
+          made = subst (LeavesIn w₃ out) (sym (b .way ∙ beside-some side g log i)) (record { rest = R .held; counted = counted-two (b .left .counted) (R .counted) counts });
           touched = touched-trans (b .touched) (touched-more inside-t (reb .touched g i next near));
         }
       where
@@ -216,7 +226,7 @@ module _
         I : Tree Item
         I = heldShape i
 
-        next : Neighbours side w₂ gap gx ge ix ie g i
+        next : Neighbours side w₂ gap (m₁ .held) (c .off) g i
         next =
             record {
               outer-held = b .left .rest;
@@ -229,14 +239,14 @@ module _
         near : Near g i
         near = record { left = omega (arith, b .loses .heights .0, b .opened .level .left-level); right = omega (arith, b .loses .heights .1, b .opened .level .right-level) }
 
-        R : MadeIn w₃ x′ e′ k₂ s₂ h₂ (rebalanceOn side g i)
+        R : MadeIn w₃ m₂ (rebalanceOn side g i)
         R = reb .made g i next near
 
         inside-t : Inside (leaves (nodeOn side (heldShape g) I)) (leaves (heldShape t))
         inside-t n (at j d) = subst (λ u. In n (leaves u)) (sym (b .opened .shaped)) (at (sublist-mem (left-row a O I (heldShape g) (b .loses .lines) side) j) d)
 
     -- what is left of the child is rebalanced with its sibling
-    pub removed-inner : RemovedBelow limit slot x e w w₃ x′ e′ k s h
+    pub removed-inner : RemovedBelow limit slot x w w₃ (record { held = m₂ .held; counts = n })
     removed-inner =
         record {
           within = within-trans (low₁ .within) (within-trans (rem .within) (reb .within));

@@ -1,7 +1,7 @@
 -- A rotation in words: its calls in a row make what the model's rotation makes, on either side.
 use mathlib.Core.Path.{_≡_, sym, _∙_, ap, subst}
 use mathlib.Core.Bool.{Bool}
-use Prim.Native.Nat.{ℕ, suc, _+_, _-_, _≤_, _<_, max}
+use Prim.Native.Nat.{ℕ, suc, _-_, _≤_, _<_, max}
 use native.Mathlib.Omega.{arith}
 use borrow.Author.Tests.{le-leb, lt-leb}
 use Rattle.meeting.specs.Machine.{Side}
@@ -18,42 +18,46 @@ use Rattle.table.specs.Rep.{nodeOn, seam, heightAt, Within, within-trans}
 use Rattle.table.specs.Nodes.{on-one, on-other, on-across, in-one, in-other, height-on}
 use Rattle.shape.specs.Sides.{rowOn, row-leaves, four-leaves, seam-first, seam-last}
 use Rattle.pieces.specs.Pieces.{items}
-use Rattle.form.specs.Stored.{HeldIn, Touched}
-use Rattle.update.specs.Steps.{Counted, MadeIn}
+use Rattle.form.specs.Stored.{Touched}
+use Rattle.update.specs.Steps.{HandIn, Counted, MadeIn}
+use Rattle.update.specs.declared.Held.{Held as InHand}
+use Rattle.update.specs.declared.Counts.{Counts}
+use Rattle.update.specs.declared.Made.{Made as Outcome}
+use Rattle.update.specs.declared.Opened.{Opened}
 use Rattle.form.specs.Frames.{slots-within, held-still, touched-trans, touched-more}
 use Rattle.update.specs.Neighbours.{sideOf, ordered-one, ordered-other, held-height, Neighbours, LoweredOn, RaisedOn, Opens, opens, Raises, raises}
-use Rattle.update.specs.Counting.{Counts, counted-two, counted-three}
+use Rattle.update.specs.Counting.{Summed, SummedThree, counted-two, counted-three}
 
 -- ---- three in a row
 
 -- from a side: o, i, s; `m` is the slot of the seam between o and i, `gap` that between i and s
-record Trio (side : Bool) (w : Words) (m gap ox oe ix ie sx se : ℕ) (o i s : Held Item) : Type 0 where
-  outer-held : HeldIn w ox oe o
-  middle-held : HeldIn w ix ie i
-  short-held : HeldIn w sx se s
+record Trio (side : Bool) (w : Words) (m gap : ℕ) (x y z : InHand) (o i s : Held Item) : Type 0 where
+  outer-held : HandIn w x o
+  middle-held : HandIn w y i
+  short-held : HandIn w z s
   outer-seam : m ≡ seam side (heldShape o) (heldShape i) .slot
   short-seam : gap ≡ seam side (heldShape i) (heldShape s) .slot
   slots : Slots (cap w) (leaves (nodeOn side (heldShape o) (nodeOn side (heldShape i) (heldShape s))))
   ordered : Ordered items (leaves (nodeOn side (heldShape o) (nodeOn side (heldShape i) (heldShape s))))
 
 -- made one: the inner two first, then the outer one with them
-record Gathered (side : Bool) (w w′ : Words) (x e k₁ s₁ h₁ k₂ s₂ h₂ : ℕ) (o i s : Held Item) (y z : Made Item) : Type 0 where
-  held : HeldIn w′ x e (z .held)
-  counted-inner : Counted (y .log) k₁ s₁ h₁
-  counted-outer : Counted (z .log) k₂ s₂ h₂
+record Gathered (side : Bool) (w w′ : Words) (n : Counts) (m : Outcome) (o i s : Held Item) (y z : Made Item) : Type 0 where
+  held : HandIn w′ (m .held) (z .held)
+  counted-inner : Counted (y .log) n
+  counted-outer : Counted (z .log) (m .counts)
   touched : Touched (leaves (nodeOn side (heldShape o) (nodeOn side (heldShape i) (heldShape s)))) w w′
 
 gathered :
-    {side : Bool} {w w₁ w₂ : Words} {m gap ox oe ix ie sx se yx ye k₁ s₁ h₁ x e k₂ s₂ h₂ : ℕ} {o i s : Held Item} →
-    Trio side w m gap ox oe ix ie sx se o i s →
-    RaisedOn side gap ix ie sx se w w₁ yx ye k₁ s₁ h₁ →
-    RaisedOn side m ox oe yx ye w₁ w₂ x e k₂ s₂ h₂ →
+    {side : Bool} {w w₁ w₂ : Words} {m gap : ℕ} {x y z : InHand} {m₁ m₂ : Outcome} {o i s : Held Item} →
+    Trio side w m gap x y z o i s →
+    RaisedOn side gap y z w w₁ m₁ →
+    RaisedOn side m x (m₁ .held) w₁ w₂ m₂ →
     heldHeight i ≤ suc (heldHeight s) →
     heldHeight s ≤ suc (heldHeight i) →
     heldHeight o ≤ suc (suc (max (heldHeight i) (heldHeight s))) →
     max (heldHeight i) (heldHeight s) ≤ heldHeight o →
-    Gathered side w w₂ x e k₁ s₁ h₁ k₂ s₂ h₂ o i s (raiseOn items (sideOf side) i s) (raiseOn items (sideOf side) o (raiseOn items (sideOf side) i s .held))
-gathered {side} {w} {w₁} {w₂} {m} {gap} {ox} {oe} {ix} {ie} {sx} {se} {yx} {ye} {k₁} {s₁} {h₁} {x} {e} {k₂} {s₂} {h₂} {o} {i} {s} t c d hi hs ho hm =
+    Gathered side w w₂ (m₁ .counts) m₂ o i s (raiseOn items (sideOf side) i s) (raiseOn items (sideOf side) o (raiseOn items (sideOf side) i s .held))
+gathered {side} {w} {w₁} {w₂} {m} {gap} {x} {y} {z} {m₁} {m₂} {o} {i} {s} t c d hi hs ho hm =
     record {
       held = Z .made .held;
       counted-inner = Y .made .counted;
@@ -70,10 +74,10 @@ gathered {side} {w} {w₁} {w₂} {m} {gap} {ox} {oe} {ix} {ie} {sx} {se} {yx} {
     S : Tree Item
     S = heldShape s
 
-    y : Held Item
-    y = raiseOn items (sideOf side) i s .held
+    k : Held Item
+    k = raiseOn items (sideOf side) i s .held
 
-    Y : Raises side w w₁ yx ye k₁ s₁ h₁ i s
+    Y : Raises side w w₁ m₁ i s
     Y =
         raises c
         (record {
@@ -86,10 +90,10 @@ gathered {side} {w} {w₁} {w₂} {m} {gap} {ox} {oe} {ix} {ie} {sx} {se} {yx} {
         hi
         hs
 
-    tall : heldHeight y ≡ suc (max (heldHeight i) (heldHeight s))
+    tall : heldHeight k ≡ suc (max (heldHeight i) (heldHeight s))
     tall = ap height (Y .shaped) ∙ height-on side I S
 
-    next : Neighbours side w₁ m ox oe yx ye o y
+    next : Neighbours side w₁ m x (m₁ .held) o k
     next =
         record {
           outer-held = held-still (c .within) (t .outer-held) (Y .touched) (λ n a b. on-across O (nodeOn side I S) side (t .slots) a b);
@@ -99,16 +103,16 @@ gathered {side} {w} {w₁} {w₂} {m} {gap} {ox} {oe} {ix} {ie} {sx} {se} {yx} {
           ordered = subst (λ a. Ordered items (leaves (nodeOn side O a))) (sym (Y .shaped)) (t .ordered);
         }
 
-    Z : Raises side w₁ w₂ x e k₂ s₂ h₂ o y
+    Z : Raises side w₁ w₂ m₂ o k
     Z = raises d next (omega (arith, tall)) (omega (arith, tall))
 
 -- ---- the taller of two neighbours lowered
 
-module _ {side : Bool} {w w₁ : Words} {gap tx te sx se ox oe ix ie : ℕ} {tall s o i : Held Item} (n : Neighbours side w gap tx te sx se tall s) (within : Within w w₁) (p : Opens side w w₁ tx ox oe ix ie tall o i) where
+module _ {side : Bool} {w w₁ : Words} {gap : ℕ} {x y : InHand} {c : Opened} {tall s o i : Held Item} (n : Neighbours side w gap x y tall s) (within : Within w w₁) (p : Opens side w w₁ x c tall o i) where
   row : leaves (nodeOn side (heldShape tall) (heldShape s)) ≡ leaves (nodeOn side (heldShape o) (nodeOn side (heldShape i) (heldShape s)))
   row = ap (λ t. leaves (nodeOn side t (heldShape s))) (p .shaped) ∙ row-leaves side (heldShape o) (heldShape i) (heldShape s)
 
-  trio : Trio side w₁ (tx - mostSlots) gap ox oe ix ie sx se o i s
+  trio : Trio side w₁ (x .tree - mostSlots) gap (c .on) (c .off) y o i s
   trio =
       record {
         outer-held = p .outer-held;
@@ -125,17 +129,17 @@ module _ {side : Bool} {w w₁ : Words} {gap tx te sx se ox oe ix ie : ℕ} {tal
 
 -- ---- what a rotation promises
 
--- the subtree tx on a side stands two higher than its neighbour sx
-pub record RotatedIn (side : Bool) (gap tx te sx se : ℕ) (w w′ : Words) (x e k s h : ℕ) : Type 0 where
+-- the subtree x on a side stands two higher than its neighbour y
+pub record RotatedIn (side : Bool) (gap : ℕ) (x y : InHand) (w w′ : Words) (m : Outcome) : Type 0 where
   pub within : Within w w′
-  pub made : (tall short : Held Item) → Neighbours side w gap tx te sx se tall short → heldHeight tall ≡ suc (suc (heldHeight short)) → MadeIn w′ x e k s h (rotate items (sideOf side) tall short)
-  pub touched : (tall short : Held Item) → Neighbours side w gap tx te sx se tall short → heldHeight tall ≡ suc (suc (heldHeight short)) → Touched (leaves (nodeOn side (heldShape tall) (heldShape short))) w w′
+  pub made : (tall short : Held Item) → Neighbours side w gap x y tall short → heldHeight tall ≡ suc (suc (heldHeight short)) → MadeIn w′ m (rotate items (sideOf side) tall short)
+  pub touched : (tall short : Held Item) → Neighbours side w gap x y tall short → heldHeight tall ≡ suc (suc (heldHeight short)) → Touched (leaves (nodeOn side (heldShape tall) (heldShape short))) w w′
 
-record Rotates (side : Bool) (w w′ : Words) (x e k s h : ℕ) (tall short : Held Item) : Type 0 where
-  made : MadeIn w′ x e k s h (rotate items (sideOf side) tall short)
+record Rotates (side : Bool) (w w′ : Words) (m : Outcome) (tall short : Held Item) : Type 0 where
+  made : MadeIn w′ m (rotate items (sideOf side) tall short)
   touched : Touched (leaves (nodeOn side (heldShape tall) (heldShape short))) w w′
 
-rotated : {side : Bool} {gap tx te sx se x e k s h : ℕ} {w w′ : Words} → Within w w′ → ((tall short : Held Item) → Neighbours side w gap tx te sx se tall short → heldHeight tall ≡ suc (suc (heldHeight short)) → Rotates side w w′ x e k s h tall short) → RotatedIn side gap tx te sx se w w′ x e k s h
+rotated : {side : Bool} {gap : ℕ} {x y : InHand} {m : Outcome} {w w′ : Words} → Within w w′ → ((tall short : Held Item) → Neighbours side w gap x y tall short → heldHeight tall ≡ suc (suc (heldHeight short)) → Rotates side w w′ m tall short) → RotatedIn side gap x y w w′ m
 rotated within f = record { within = within; made = λ t s n e. f t s n e .made; touched = λ t s n e. f t s n e .touched }
 
 module _ (side : Side) (tall short : Held Item) where
@@ -151,21 +155,24 @@ module _ (side : Side) (tall short : Held Item) where
 
 -- the inner child is no higher than the outer one
 pub rotated-once :
-    {side : Bool} {w w₁ w₂ w₃ : Words} {gap m tx te sx se ox oe ix ie yx ye k₁ s₁ h₁ x e k₂ s₂ h₂ k s h : ℕ} →
-    LoweredOn side tx te w w₁ ox oe ix ie →
-    heightAt w₁ offerTree ix ≤ heightAt w₁ offerTree ox →
-    RaisedOn side gap ix ie sx se w₁ w₂ yx ye k₁ s₁ h₁ →
-    m ≡ tx - mostSlots →
-    RaisedOn side m ox oe yx ye w₂ w₃ x e k₂ s₂ h₂ →
-    Counts (k₁ + k₂) (s₁ + s₂) (h₁ + h₂) k s h →
-    RotatedIn side gap tx te sx se w w₃ x e k s h
-rotated-once {side} {w} {w₁} {w₂} {w₃} {gap} {m} {tx} {te} {sx} {se} {ox} {oe} {ix} {ie} {yx} {ye} {k₁} {s₁} {h₁} {x} {e} {k₂} {s₂} {h₂} {k} {s} {h} low test c d₀ d counts = rotated (within-trans (low .within) (within-trans (c .within) (d .within))) go
+    {side : Bool} {w w₁ w₂ w₃ : Words} {gap m : ℕ} {x y : InHand} {c : Opened} {m₁ m₂ : Outcome} {n : Counts} →
+    LoweredOn side x w w₁ c →
+    heightAt w₁ offerTree (c .off .tree) ≤ heightAt w₁ offerTree (c .on .tree) →
+    RaisedOn side gap (c .off) y w₁ w₂ m₁ →
+    m ≡ x .tree - mostSlots →
+    RaisedOn side m (c .on) (m₁ .held) w₂ w₃ m₂ →
+    Summed (m₁ .counts) (m₂ .counts) n →
+    RotatedIn side gap x y w w₃ (record { held = m₂ .held; counts = n })
+rotated-once {side} {w} {w₁} {w₂} {w₃} {gap} {m} {x} {y} {c} {m₁} {m₂} {n} low test c₁ e₂ c₂ counts = rotated (within-trans (low .within) (within-trans (c₁ .within) (c₂ .within))) go
   where
-    go : (tall short : Held Item) → Neighbours side w gap tx te sx se tall short → heldHeight tall ≡ suc (suc (heldHeight short)) → Rotates side w w₃ x e k s h tall short
-    go tall short n two =
+    out : Outcome
+    out = record { held = m₂ .held; counts = n }
+
+    go : (tall short : Held Item) → Neighbours side w gap x y tall short → heldHeight tall ≡ suc (suc (heldHeight short)) → Rotates side w w₃ out tall short
+    go tall short near two =
         record {
-          made = subst (MadeIn w₃ x e k s h) (sym (rotate-once (sideOf side) tall short le)) (record { held = G .held; counted = counted-two (G .counted-inner) (G .counted-outer) counts });
-          touched = touched-trans (lowered-touched n (low .within) p) (subst (λ xs. Touched xs w₁ w₃) (sym (row n (low .within) p)) (G .touched));
+          made = subst (MadeIn w₃ out) (sym (rotate-once (sideOf side) tall short le)) (record { held = G .held; counted = counted-two (G .counted-inner) (G .counted-outer) counts });
+          touched = touched-trans (lowered-touched near (low .within) p) (subst (λ xs. Touched xs w₁ w₃) (sym (row near (low .within) p)) (G .touched));
         }
       where
         o : Held Item
@@ -174,8 +181,8 @@ rotated-once {side} {w} {w₁} {w₂} {w₃} {gap} {m} {tx} {te} {sx} {se} {ox} 
         i : Held Item
         i = inner (sideOf side) (lower items tall)
 
-        p : Opens side w w₁ tx ox oe ix ie tall o i
-        p = opens low (n .outer-held) (omega arith)
+        p : Opens side w w₁ x c tall o i
+        p = opens low (near .outer-held) (omega arith)
 
         le : heldHeight i ≤ heldHeight o
         le = omega (arith, test, held-height (p .inner-held), held-height (p .outer-held))
@@ -183,19 +190,19 @@ rotated-once {side} {w} {w₁} {w₂} {w₃} {gap} {m} {tx} {te} {sx} {se} {ox} 
         higher : heldHeight tall ≡ suc (max (heldHeight o) (heldHeight i))
         higher = p .level .higher
 
-        near : heldHeight o ≤ suc (heldHeight i)
-        near = p .level .left-level
+        level : heldHeight o ≤ suc (heldHeight i)
+        level = p .level .left-level
 
-        G : Gathered side w₁ w₃ x e k₁ s₁ h₁ k₂ s₂ h₂ o i short (raiseOn items (sideOf side) i short) (raiseOn items (sideOf side) o (raiseOn items (sideOf side) i short .held))
+        G : Gathered side w₁ w₃ (m₁ .counts) m₂ o i short (raiseOn items (sideOf side) i short) (raiseOn items (sideOf side) o (raiseOn items (sideOf side) i short .held))
         G =
-            gathered (trio n (low .within) p) c (subst (λ j. RaisedOn side j ox oe yx ye w₂ w₃ x e k₂ s₂ h₂) d₀ d) (omega (arith, le, higher, near)) (omega (arith, le, higher, near)) (omega (arith, le, higher, near))
-            (omega (arith, le, higher, near))
+            gathered (trio near (low .within) p) c₁ (subst (λ j. RaisedOn side j (c .on) (m₁ .held) w₂ w₃ m₂) e₂ c₂) (omega (arith, le, higher, level)) (omega (arith, le, higher, level)) (omega (arith, le, higher, level))
+            (omega (arith, le, higher, level))
 
 -- ---- the middle one of three lowered, and its outer child raised with the outer one
 
-record Parts (side : Bool) (w w′ : Words) (m gap xx xe qx qe sx se k₁ s₁ h₁ : ℕ) (o p q i s : Held Item) : Type 0 where
-  next : Trio side w′ m gap xx xe qx qe sx se (raiseOn items (sideOf side) o p .held) q s
-  counted : Counted (raiseOn items (sideOf side) o p .log) k₁ s₁ h₁
+record Parts (side : Bool) (w w′ : Words) (m gap : ℕ) (made : Outcome) (y z : InHand) (o p q i s : Held Item) : Type 0 where
+  next : Trio side w′ m gap (made .held) y z (raiseOn items (sideOf side) o p .held) q s
+  counted : Counted (raiseOn items (sideOf side) o p .log) (made .counts)
   tall : heldHeight (raiseOn items (sideOf side) o p .held) ≡ suc (max (heldHeight o) (heldHeight p))
   touched : Touched (leaves (nodeOn side (heldShape o) (nodeOn side (heldShape i) (heldShape s)))) w w′
   same-row :
@@ -203,24 +210,24 @@ record Parts (side : Bool) (w w′ : Words) (m gap xx xe qx qe sx se k₁ s₁ h
       ≡ leaves (nodeOn side (heldShape (raiseOn items (sideOf side) o p .held)) (nodeOn side (heldShape q) (heldShape s)))
 
 parted :
-    {side : Bool} {w w₁ w₂ : Words} {m gap ox oe ix ie sx se px pe qx qe xx xe k₁ s₁ h₁ : ℕ} {o i s p q : Held Item} →
-    Trio side w m gap ox oe ix ie sx se o i s →
+    {side : Bool} {w w₁ w₂ : Words} {m gap : ℕ} {x y z : InHand} {c : Opened} {m₁ : Outcome} {o i s p q : Held Item} →
+    Trio side w m gap x y z o i s →
     Within w w₁ →
-    Opens side w w₁ ix px pe qx qe i p q →
-    RaisedOn side m ox oe px pe w₁ w₂ xx xe k₁ s₁ h₁ →
+    Opens side w w₁ y c i p q →
+    RaisedOn side m x (c .on) w₁ w₂ m₁ →
     heldHeight o ≤ suc (heldHeight p) →
     heldHeight p ≤ suc (heldHeight o) →
-    Parts side w w₂ (ix - mostSlots) gap xx xe qx qe sx se k₁ s₁ h₁ o p q i s
-parted {side} {w} {w₁} {w₂} {m} {gap} {ox} {oe} {ix} {ie} {sx} {se} {px} {pe} {qx} {qe} {xx} {xe} {k₁} {s₁} {h₁} {o} {i} {s} {p} {q} t within op c ho hp =
+    Parts side w w₂ (y .tree - mostSlots) gap m₁ (c .off) z o p q i s
+parted {side} {w} {w₁} {w₂} {m} {gap} {x} {y} {z} {c} {m₁} {o} {i} {s} {p} {q} t within op up ho hp =
     record {
       next =
           record {
             outer-held = X .made .held;
-            middle-held = held-still (c .within) (op .inner-held) (X .touched) (λ n a b. on-across (nodeOn side O P) (nodeOn side Q S) side slots₁ b (in-one side Q S a));
-            short-held = held-still (c .within) short₁ (X .touched) (λ n a b. on-across (nodeOn side O P) (nodeOn side Q S) side slots₁ b (in-other side Q S a));
+            middle-held = held-still (up .within) (op .inner-held) (X .touched) (λ n a b. on-across (nodeOn side O P) (nodeOn side Q S) side slots₁ b (in-one side Q S a));
+            short-held = held-still (up .within) short₁ (X .touched) (λ n a b. on-across (nodeOn side O P) (nodeOn side Q S) side slots₁ b (in-other side Q S a));
             outer-seam = op .at-seam ∙ ap slotOf (sym (seam-last side O P Q) ∙ ap (λ a. seam side a Q) (sym (X .shaped)));
             short-seam = t .short-seam ∙ ap slotOf (ap (λ a. seam side a S) (op .shaped) ∙ seam-last side P Q S);
-            slots = subst (λ a. Slots (cap w₂) (leaves (nodeOn side a (nodeOn side Q S)))) (sym (X .shaped)) (slots-within (c .within) slots₁);
+            slots = subst (λ a. Slots (cap w₂) (leaves (nodeOn side a (nodeOn side Q S)))) (sym (X .shaped)) (slots-within (up .within) slots₁);
             ordered = subst (λ a. Ordered items (leaves (nodeOn side a (nodeOn side Q S)))) (sym (X .shaped)) ordered₁;
           };
       counted = X .made .counted;
@@ -258,12 +265,12 @@ parted {side} {w} {w₁} {w₂} {m} {gap} {ox} {oe} {ix} {ie} {sx} {se} {px} {pe
     ordered₁ : Ordered items (leaves (nodeOn side (nodeOn side O P) (nodeOn side Q S)))
     ordered₁ = subst (Ordered items) same (t .ordered)
 
-    short₁ : HeldIn w₁ sx se s
+    short₁ : HandIn w₁ z s
     short₁ = held-still within (t .short-held) (op .touched) (λ n a b. on-across I S side (on-other O (nodeOn side I S) side (t .slots)) b a)
 
-    X : Raises side w₁ w₂ xx xe k₁ s₁ h₁ o p
+    X : Raises side w₁ w₂ m₁ o p
     X =
-        raises c
+        raises up
         (record {
           outer-held = held-still within (t .outer-held) (op .touched) (λ n a b. on-across O (nodeOn side I S) side (t .slots) a (in-one side I S b));
           inner-held = op .outer-held;
@@ -288,29 +295,32 @@ doubled e a ai b bp bq lt = omega arith
 
 -- the inner child is the higher one
 pub rotated-twice :
-    {side : Bool} {w w₁ w₂ w₃ w₄ w₅ : Words} {gap m m₂ tx te sx se ox oe ix ie px pe qx qe xx xe k₁ s₁ h₁ yx ye k₂ s₂ h₂ x e k₃ s₃ h₃ k s h : ℕ} →
-    LoweredOn side tx te w w₁ ox oe ix ie →
-    heightAt w₁ offerTree ox < heightAt w₁ offerTree ix →
-    LoweredOn side ix ie w₁ w₂ px pe qx qe →
-    m ≡ tx - mostSlots →
-    RaisedOn side m ox oe px pe w₂ w₃ xx xe k₁ s₁ h₁ →
-    RaisedOn side gap qx qe sx se w₃ w₄ yx ye k₂ s₂ h₂ →
-    m₂ ≡ ix - mostSlots →
-    RaisedOn side m₂ xx xe yx ye w₄ w₅ x e k₃ s₃ h₃ →
-    Counts (k₁ + k₂ + k₃) (s₁ + s₂ + s₃) (h₁ + h₂ + h₃) k s h →
-    RotatedIn side gap tx te sx se w w₅ x e k s h
-rotated-twice {side} {w} {w₁} {w₂} {w₃} {w₄} {w₅} {gap} {m} {m₂} {tx} {te} {sx} {se} {ox} {oe} {ix} {ie} {px} {pe} {qx} {qe} {xx} {xe} {k₁} {s₁} {h₁} {yx} {ye} {k₂} {s₂} {h₂} {x} {e} {k₃} {s₃} {h₃} {k} {s} {h} low test low₂ e₁ c₁ c₂ e₃ c₃ counts =
+    {side : Bool} {w w₁ w₂ w₃ w₄ w₅ : Words} {gap m m′ : ℕ} {x y : InHand} {c d : Opened} {m₁ m₂ m₃ : Outcome} {n : Counts} →
+    LoweredOn side x w w₁ c →
+    heightAt w₁ offerTree (c .on .tree) < heightAt w₁ offerTree (c .off .tree) →
+    LoweredOn side (c .off) w₁ w₂ d →
+    m ≡ x .tree - mostSlots →
+    RaisedOn side m (c .on) (d .on) w₂ w₃ m₁ →
+    RaisedOn side gap (d .off) y w₃ w₄ m₂ →
+    m′ ≡ c .off .tree - mostSlots →
+    RaisedOn side m′ (m₁ .held) (m₂ .held) w₄ w₅ m₃ →
+    SummedThree (m₁ .counts) (m₂ .counts) (m₃ .counts) n →
+    RotatedIn side gap x y w w₅ (record { held = m₃ .held; counts = n })
+rotated-twice {side} {w} {w₁} {w₂} {w₃} {w₄} {w₅} {gap} {m} {m′} {x} {y} {c} {d} {m₁} {m₂} {m₃} {n} low test low₂ e₁ c₁ c₂ e₃ c₃ counts =
     rotated (within-trans (low .within) (within-trans (low₂ .within) (within-trans (c₁ .within) (within-trans (c₂ .within) (c₃ .within))))) go
   where
-    go : (tall short : Held Item) → Neighbours side w gap tx te sx se tall short → heldHeight tall ≡ suc (suc (heldHeight short)) → Rotates side w w₅ x e k s h tall short
-    go tall short n two =
+    out : Outcome
+    out = record { held = m₃ .held; counts = n }
+
+    go : (tall short : Held Item) → Neighbours side w gap x y tall short → heldHeight tall ≡ suc (suc (heldHeight short)) → Rotates side w w₅ out tall short
+    go tall short near two =
         record {
           made =
-              subst (MadeIn w₅ x e k s h) (sym (rotate-twice (sideOf side) tall short lt))
+              subst (MadeIn w₅ out) (sym (rotate-twice (sideOf side) tall short lt))
               (record { held = G .held; counted = counted-three (D .counted) (G .counted-inner) (G .counted-outer) counts });
           touched =
-              touched-trans (lowered-touched n (low .within) a)
-              (subst (λ xs. Touched xs w₁ w₅) (sym (row n (low .within) a)) (touched-trans (D .touched) (subst (λ xs. Touched xs w₃ w₅) (sym (D .same-row)) (G .touched))));
+              touched-trans (lowered-touched near (low .within) a)
+              (subst (λ xs. Touched xs w₁ w₅) (sym (row near (low .within) a)) (touched-trans (D .touched) (subst (λ xs. Touched xs w₃ w₅) (sym (D .same-row)) (G .touched))));
         }
       where
         o : Held Item
@@ -325,28 +335,28 @@ rotated-twice {side} {w} {w₁} {w₂} {w₃} {w₄} {w₅} {gap} {m} {m₂} {tx
         q : Held Item
         q = inner (sideOf side) (lower items i)
 
-        a : Opens side w w₁ tx ox oe ix ie tall o i
-        a = opens low (n .outer-held) (omega arith)
+        a : Opens side w w₁ x c tall o i
+        a = opens low (near .outer-held) (omega arith)
 
         lt : heldHeight o < heldHeight i
         lt = omega (arith, test, held-height (a .inner-held), held-height (a .outer-held))
 
-        b : Opens side w₁ w₂ ix px pe qx qe i p q
+        b : Opens side w₁ w₂ (c .off) d i p q
         b = opens low₂ (a .inner-held) (omega (arith, lt))
 
         levels : Levels (heldHeight o) (heldHeight p) (heldHeight q) (heldHeight short)
         levels = doubled two (a .level .higher) (a .level .right-level) (b .level .higher) (b .level .left-level) (b .level .right-level) lt
 
-        D : Parts side w₁ w₃ (ix - mostSlots) gap xx xe qx qe sx se k₁ s₁ h₁ o p q i short
-        D = parted (trio n (low .within) a) (low₂ .within) b (subst (λ j. RaisedOn side j ox oe px pe w₂ w₃ xx xe k₁ s₁ h₁) e₁ c₁) (levels .o-p) (levels .p-o)
+        D : Parts side w₁ w₃ (c .off .tree - mostSlots) gap m₁ (d .off) y o p q i short
+        D = parted (trio near (low .within) a) (low₂ .within) b (subst (λ j. RaisedOn side j (c .on) (d .on) w₂ w₃ m₁) e₁ c₁) (levels .o-p) (levels .p-o)
 
-        y : Made Item
-        y = raiseOn items (sideOf side) q short
+        s : Made Item
+        s = raiseOn items (sideOf side) q short
 
         z : Made Item
-        z = raiseOn items (sideOf side) (raiseOn items (sideOf side) o p .held) (y .held)
+        z = raiseOn items (sideOf side) (raiseOn items (sideOf side) o p .held) (s .held)
 
-        G : Gathered side w₃ w₅ x e k₂ s₂ h₂ k₃ s₃ h₃ (raiseOn items (sideOf side) o p .held) q short y z
+        G : Gathered side w₃ w₅ (m₂ .counts) m₃ (raiseOn items (sideOf side) o p .held) q short s z
         G =
-            gathered (D .next) c₂ (subst (λ j. RaisedOn side j xx xe yx ye w₄ w₅ x e k₃ s₃ h₃) e₃ c₃) (levels .q-s) (levels .s-q) (omega (arith, D .tall, levels .low))
+            gathered (D .next) c₂ (subst (λ j. RaisedOn side j (m₁ .held) (m₂ .held) w₄ w₅ m₃) e₃ c₃) (levels .q-s) (levels .s-q) (omega (arith, D .tall, levels .low))
             (omega (arith, D .tall, levels .high))

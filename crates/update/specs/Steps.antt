@@ -3,7 +3,7 @@
 use mathlib.Core.Path.{_≡_}
 use mathlib.Core.List.{List, [], _∷_, _++_, List·Memᴰ}
 use mathlib.Core.Option.{Option, none, some}
-use Prim.Native.Nat.{ℕ, suc, _+_, _^_, _%_, _≤_, _<_}
+use Prim.Native.Nat.{ℕ, suc, _^_, _%_, _≤_, _<_}
 use lib.ListN.{length}
 use Rattle.envelopes.specs.Envelope.{Ordered}
 use Rattle.trees.specs.Tree.{node, height, leaves, last, Avl}
@@ -19,79 +19,93 @@ use Rattle.table.specs.Rep.{Within}
 use Rattle.table.specs.Threads.{Holds}
 use Rattle.pieces.specs.Pieces.{items}
 use Rattle.form.specs.Stored.{HeldIn, Touched}
+use Rattle.update.specs.declared.Held.{Held as InHand}
+use Rattle.update.specs.declared.Counts.{Counts}
+use Rattle.update.specs.declared.Made.{Made as Outcome}
+use Rattle.update.specs.declared.Lowered.{Lowered}
 
--- k searches, s steps in all and H, as counted
-pub record Counted (log : List (Pair Item)) (k s h : ℕ) : Type 0 where
-  pub searches : k ≡ length log % 2 ^ 32
-  pub steps : s ≡ stepsOf items log % 2 ^ 32
-  pub heights : h ≡ heightsOf log % 2 ^ 32
+-- ---- what the code's values stand for
+
+-- the words hold the subtree in hand
+abbrev pub HandIn : Words → InHand → Held Item → Type 0
+HandIn w x h = HeldIn w (x .tree) (x .envelope) h
+
+-- searches, steps and heights, as counted
+pub record Counted (log : List (Pair Item)) (n : Counts) : Type 0 where
+  pub searches : n .searches ≡ length log % 2 ^ 32
+  pub steps : n .steps ≡ stepsOf items log % 2 ^ 32
+  pub heights : n .heights ≡ heightsOf log % 2 ^ 32
 
 -- the words hold what was made, and count its log
-pub record MadeIn (w : Words) (x e k s h : ℕ) (m : Made Item) : Type 0 where
-  pub held : HeldIn w x e (m .held)
-  pub counted : Counted (m .log) k s h
+pub record MadeIn (w : Words) (m : Outcome) (made : Made Item) : Type 0 where
+  pub held : HandIn w (m .held) (made .held)
+  pub counted : Counted (made .log) (m .counts)
+
+-- nothing is left, and nothing was searched
+abbrev pub noTree : Outcome
+noTree = record { held = record { tree = 0; envelope = 0 }; counts = record { searches = 0; steps = 0; heights = 0 } }
 
 -- ---- lower
 
-pub record LoweredIn (x e : ℕ) (w w′ : Words) (lx le rx re : ℕ) : Type 0 where
+pub record LoweredIn (x : InHand) (w w′ : Words) (c : Lowered) : Type 0 where
   pub within : Within w w′
-  pub front : (h : Held Item) → HeldIn w x e h → mostSlots < x → HeldIn w′ lx le (lower items h .front)
-  pub back : (h : Held Item) → HeldIn w x e h → mostSlots < x → HeldIn w′ rx re (lower items h .back)
-  pub touched : (h : Held Item) → HeldIn w x e h → mostSlots < x → Touched (leaves (heldShape h)) w w′
+  pub front : (h : Held Item) → HandIn w x h → mostSlots < x .tree → HandIn w′ (c .left) (lower items h .front)
+  pub back : (h : Held Item) → HandIn w x h → mostSlots < x .tree → HandIn w′ (c .right) (lower items h .back)
+  pub touched : (h : Held Item) → HandIn w x h → mostSlots < x .tree → Touched (leaves (heldShape h)) w w′
 
 -- ---- raise and rebalance
 
 -- two subtrees side by side; `gap` is the slot of the seam
-pub record Siblings (w : Words) (gap lx le rx re : ℕ) (l r : Held Item) : Type 0 where
-  pub left : HeldIn w lx le l
-  pub right : HeldIn w rx re r
+pub record Siblings (w : Words) (gap : ℕ) (x y : InHand) (l r : Held Item) : Type 0 where
+  pub left : HandIn w x l
+  pub right : HandIn w y r
   pub seam : gap ≡ last (heldShape l) .slot
   pub slots : Slots (cap w) (leaves (heldShape l) ++ leaves (heldShape r))
   pub ordered : Ordered items (leaves (heldShape l) ++ leaves (heldShape r))
 
-pub record RaisedIn (gap lx le rx re : ℕ) (w w′ : Words) (x e k s h : ℕ) : Type 0 where
+pub record RaisedIn (gap : ℕ) (x y : InHand) (w w′ : Words) (m : Outcome) : Type 0 where
   pub within : Within w w′
-  pub made : (l r : Held Item) → Siblings w gap lx le rx re l r → Avl (node (heldShape l) (heldShape r)) → MadeIn w′ x e k s h (raise items l r)
-  pub touched : (l r : Held Item) → Siblings w gap lx le rx re l r → Avl (node (heldShape l) (heldShape r)) → Touched (leaves (heldShape l) ++ leaves (heldShape r)) w w′
+  pub made : (l r : Held Item) → Siblings w gap x y l r → Avl (node (heldShape l) (heldShape r)) → MadeIn w′ m (raise items l r)
+  pub touched : (l r : Held Item) → Siblings w gap x y l r → Avl (node (heldShape l) (heldShape r)) → Touched (leaves (heldShape l) ++ leaves (heldShape r)) w w′
 
 -- heights differ by at most 2
 pub record Near (l r : Held Item) : Type 0 where
   pub left : height (heldShape l) ≤ suc (suc (height (heldShape r)))
   pub right : height (heldShape r) ≤ suc (suc (height (heldShape l)))
 
-pub record RebalancedIn (gap lx le rx re : ℕ) (w w′ : Words) (x e k s h : ℕ) : Type 0 where
+pub record RebalancedIn (gap : ℕ) (x y : InHand) (w w′ : Words) (m : Outcome) : Type 0 where
   pub within : Within w w′
-  pub made : (l r : Held Item) → Siblings w gap lx le rx re l r → Near l r → MadeIn w′ x e k s h (rebalance items l r)
-  pub touched : (l r : Held Item) → Siblings w gap lx le rx re l r → Near l r → Touched (leaves (heldShape l) ++ leaves (heldShape r)) w w′
+  pub made : (l r : Held Item) → Siblings w gap x y l r → Near l r → MadeIn w′ m (rebalance items l r)
+  pub touched : (l r : Held Item) → Siblings w gap x y l r → Near l r → Touched (leaves (heldShape l) ++ leaves (heldShape r)) w w′
 
 -- ---- insert and remove
 
 -- an item that is not yet in the subtree, kept in slot s
-pub record Newcomer (w : Words) (s x e : ℕ) (a : Item) (g : Held Item) : Type 0 where
+pub record Newcomer (w : Words) (s : ℕ) (x : InHand) (a : Item) (g : Held Item) : Type 0 where
   pub slot : s ≡ a .slot
   pub kept : Holds w (a ∷ [])
   pub slots : Slots (cap w) (a ∷ leaves (heldShape g))
   pub new : New items a (leaves (heldShape g))
-  pub held : HeldIn w x e g
+  pub held : HandIn w x g
 
-pub record InsertedIn (s x e : ℕ) (w w′ : Words) (x′ e′ k st h : ℕ) : Type 0 where
+pub record InsertedIn (s : ℕ) (x : InHand) (w w′ : Words) (m : Outcome) : Type 0 where
   pub within : Within w w′
-  pub made : (a : Item) (g : Held Item) → Newcomer w s x e a g → MadeIn w′ x′ e′ k st h (insert items a (g .tree) (g .whole))
-  pub touched : (a : Item) (g : Held Item) → Newcomer w s x e a g → Touched (a ∷ leaves (heldShape g)) w w′
+  pub made : (a : Item) (g : Held Item) → Newcomer w s x a g → MadeIn w′ m (insert items a (g .tree) (g .whole))
+  pub touched : (a : Item) (g : Held Item) → Newcomer w s x a g → Touched (a ∷ leaves (heldShape g)) w w′
 
 -- an item of the subtree, kept in slot s
-pub record Leaver (w : Words) (s x e : ℕ) (a : Item) (g : Held Item) : Type 0 where
+pub record Leaver (w : Words) (s : ℕ) (x : InHand) (a : Item) (g : Held Item) : Type 0 where
   pub slot : s ≡ a .slot
   pub member : List·Memᴰ a (leaves (heldShape g))
-  pub held : HeldIn w x e g
+  pub held : HandIn w x g
 
 -- the words hold what is left; 0 and 0 where nothing is
-abbrev pub LeftIn : Words → ℕ → ℕ → Option (Held Item) → Type 0
-LeftIn w x e none = (x ≡ 0) × (e ≡ 0)
-LeftIn w x e (some g) = HeldIn w x e g
+abbrev pub LeftIn : Words → InHand → Option (Held Item) → Type 0
+LeftIn w x none = (x .tree ≡ 0) × (x .envelope ≡ 0)
+LeftIn w x (some g) = HandIn w x g
 
-pub record RemovedIn (s x e : ℕ) (w w′ : Words) (x′ e′ k st h : ℕ) : Type 0 where
+pub record RemovedIn (s : ℕ) (x : InHand) (w w′ : Words) (m : Outcome) : Type 0 where
   pub within : Within w w′
-  pub rest : (a : Item) (g : Held Item) → Leaver w s x e a g → LeftIn w′ x′ e′ (remove items a (g .tree) (g .whole) .rest)
-  pub counted : (a : Item) (g : Held Item) → Leaver w s x e a g → Counted (remove items a (g .tree) (g .whole) .log) k st h
-  pub touched : (a : Item) (g : Held Item) → Leaver w s x e a g → Touched (leaves (heldShape g)) w w′
+  pub rest : (a : Item) (g : Held Item) → Leaver w s x a g → LeftIn w′ (m .held) (remove items a (g .tree) (g .whole) .rest)
+  pub counted : (a : Item) (g : Held Item) → Leaver w s x a g → Counted (remove items a (g .tree) (g .whole) .log) (m .counts)
+  pub touched : (a : Item) (g : Held Item) → Leaver w s x a g → Touched (leaves (heldShape g)) w w′

@@ -1,51 +1,50 @@
 // The tree of offers with its envelopes, in the table. Lower, raise and rebalance take one level apart and put it together; insert and
 // remove go down and up. Every function takes any words. Left is false, right is true.
 ghost use mathlib.Core.Path.{_≡_};
-ghost use Prim.Native.Nat.{ℕ, _+_, _≤_};
+ghost use Prim.Native.Nat.{ℕ, _≤_};
 ghost use lib.Signed.{leZ, ltZ};
 ghost use Rattle.table.specs.Fields.{bridgeLeftField, bridgeRightField, mostSlots, rateField};
 ghost use Rattle.table.specs.Layout.{cap, cell, linkAt};
 ghost use Rattle.pieces.specs.Pieces.{CattedAfter, CattedBefore};
-ghost use Rattle.update.specs.Steps.{LoweredIn, RaisedIn, RebalancedIn, InsertedIn, RemovedIn};
+ghost use Rattle.update.specs.Steps.{LoweredIn, RaisedIn, RebalancedIn, noTree, InsertedIn, RemovedIn};
 ghost use Rattle.update.specs.RaisingRests.{RestSet};
 ghost use Rattle.update.specs.Neighbours.{LoweredOn, RaisedOn};
-ghost use Rattle.update.specs.Counting.{Counts};
+ghost use Rattle.update.specs.Counting.{Summed, SummedThree};
 ghost use Rattle.update.specs.Rotating.{RotatedIn};
 ghost use Rattle.update.specs.Rebalancing.{RebalancedOn};
 ghost use Rattle.update.specs.Inserting.{InsertedBelow};
 ghost use Rattle.update.specs.Removing.{RemovedBelow, SeamFound};
 ghost use Rattle.update.specs.CodeUpdates.{Rebuilt};
 
-// A subtree that was made: its root and its envelope's, the searches on the way, their steps in all and the sum of their trees' heights.
+// A subtree in hand: its root in the tree of offers, and the root of its envelope.
+pub struct Held {
+    pub tree: u32,
+    pub envelope: u32,
+}
+
+// Searches, their steps in all, and the sum of their trees' heights.
+pub struct Counts {
+    pub searches: u32,
+    pub steps: u32,
+    pub heights: u32,
+}
+
+// A subtree that was made, and what its making took.
 pub struct Made {
-    pub x: u32,
-    pub e: u32,
-    pub k: u32,
-    pub s: u32,
-    pub h: u32,
+    pub held: Held,
+    pub counts: Counts,
 }
 
-// The two children of a subtree with their envelopes: left and right.
+// The two children of a subtree.
 pub struct Lowered {
-    pub lx: u32,
-    pub le: u32,
-    pub rx: u32,
-    pub re: u32,
+    pub left: Held,
+    pub right: Held,
 }
 
-// The two children from a side: the one on it, and the one on the other.
+// The two children from a side: the one on it, and the one off it.
 pub struct Opened {
-    pub ox: u32,
-    pub oe: u32,
-    pub ix: u32,
-    pub ie: u32,
-}
-
-// Searches, steps and heights.
-pub struct Count {
-    pub k: u32,
-    pub s: u32,
-    pub h: u32,
+    pub on: Held,
+    pub off: Held,
 }
 
 fn set_rest(part: &mut [i64], c: u32, x: u32, q: u32)
@@ -84,176 +83,178 @@ fn put_in_front(part: &mut [i64], c: u32, m: u32, q: u32, back: u32) -> u32
     pieces::cat_before(part, c, q, back, v)
 }
 
-// Takes inner node `x` apart: its envelope `e` is cut behind the left child's last line, and each child gets its rest back. No step changes
+// Takes an inner node apart: its envelope is cut behind the left child's last line, and each child gets its rest back. No step changes
 // the capacity, so that it is read once.
-fn lower(part: &mut [i64], x: u32, e: u32) -> Lowered
-    ensures { λ r. ⌜ LoweredIn x e (now (part .entry)) (now (part .exit)) (r .lx) (r .le) (r .rx) (r .re) ⌝ }
+fn lower(part: &mut [i64], h: Held) -> Lowered
+    ensures { λ r. ⌜ LoweredIn h (now (part .entry)) (now (part .exit)) r ⌝ }
 {
     let k = table::capacity(part);
-    let l = table::child_in(part, k, table::OFFERS, false, x);
-    let r = table::child_in(part, k, table::OFFERS, true, x);
-    let m = table::inner_slot(x);
+    let l = table::child_in(part, k, table::OFFERS, false, h.tree);
+    let r = table::child_in(part, k, table::OFFERS, true, h.tree);
+    let m = table::inner_slot(h.tree);
     let rate = table::get_in(part, k, table::RATE, m);
-    let c = pieces::cut_in(part, k, false, rate, e);
+    let c = pieces::cut_in(part, k, false, rate, h.envelope);
     let ql = form::rest_in(part, k, l);
     let qr = form::rest_in(part, k, r);
     let le = put_behind(part, k, m, c.front, ql);
     let re = put_in_front(part, k, m, qr, c.back);
     Lowered {
-        lx: l,
-        le: le,
-        rx: r,
-        re: re,
+        left: Held {
+            tree: l,
+            envelope: le,
+        },
+        right: Held {
+            tree: r,
+            envelope: re,
+        },
     }
 }
 
 // Puts a node over two subtrees: one search finds where their envelopes meet, each is cut there, and what is cut off stays with its child.
-fn raise(part: &mut [i64], gap: u32, lx: u32, le: u32, rx: u32, re: u32) -> Made
-    ensures { λ r. ⌜ RaisedIn gap lx le rx re (now (part .entry)) (now (part .exit)) (r .x) (r .e) (r .k) (r .s) (r .h) ⌝ }
+fn raise(part: &mut [i64], gap: u32, l: Held, r: Held) -> Made
+    ensures { λ m. ⌜ RaisedIn gap l r (now (part .entry)) (now (part .exit)) m ⌝ }
 {
-    let m = search::meet(part, part, le, re);
+    let m = search::meet(part, part, l.envelope, r.envelope);
     let k = table::capacity(part);
-    let h = table::height_in(part, k, table::PIECES, le)
-        + table::height_in(part, k, table::PIECES, re);
+    let h = table::height_in(part, k, table::PIECES, l.envelope)
+        + table::height_in(part, k, table::PIECES, r.envelope);
     let rate = table::get_in(part, k, table::RATE, m.u);
-    let c = pieces::cut_in(part, k, false, rate, le);
+    let c = pieces::cut_in(part, k, false, rate, l.envelope);
     let other = table::get_in(part, k, table::RATE, m.v);
-    let d = pieces::cut_in(part, k, true, other, re);
-    set_rest(part, k, lx, c.back);
-    set_rest(part, k, rx, d.front);
-    let x = shape::make_node_in(part, k, table::OFFERS, false, gap, lx, rx);
+    let d = pieces::cut_in(part, k, true, other, r.envelope);
+    set_rest(part, k, l.tree, c.back);
+    set_rest(part, k, r.tree, d.front);
+    let x = shape::make_node_in(part, k, table::OFFERS, false, gap, l.tree, r.tree);
     table::put_link_in(part, k, table::BRIDGE_LEFT, gap, m.u);
     table::put_link_in(part, k, table::BRIDGE_RIGHT, gap, m.v);
     let e = pieces::cat_at(part, k, c.front, d.back, m.u, m.v);
     Made {
-        x: x,
-        e: e,
-        k: 1,
-        s: m.steps,
-        h: h,
+        held: Held {
+            tree: x,
+            envelope: e,
+        },
+        counts: Counts {
+            searches: 1,
+            steps: m.steps,
+            heights: h,
+        },
     }
 }
 
-fn lower_on(part: &mut [i64], side: bool, x: u32, e: u32) -> Opened
-    ensures { λ r. ⌜ LoweredOn side x e (now (part .entry)) (now (part .exit)) (r .ox) (r .oe) (r .ix) (r .ie) ⌝ }
+fn lower_on(part: &mut [i64], side: bool, h: Held) -> Opened
+    ensures { λ r. ⌜ LoweredOn side h (now (part .entry)) (now (part .exit)) r ⌝ }
 {
-    let c = lower(part, x, e);
+    let c = lower(part, h);
+    let l = c.left;
+    let r = c.right;
     if side {
-        return Opened {
-            ox: c.rx,
-            oe: c.re,
-            ix: c.lx,
-            ie: c.le,
-        };
+        return Opened { on: r, off: l };
     }
-    Opened {
-        ox: c.lx,
-        oe: c.le,
-        ix: c.rx,
-        ie: c.re,
-    }
+    Opened { on: l, off: r }
 }
 
-fn raise_on(part: &mut [i64], side: bool, gap: u32, ox: u32, oe: u32, ix: u32, ie: u32) -> Made
-    ensures { λ r. ⌜ RaisedOn side gap ox oe ix ie (now (part .entry)) (now (part .exit)) (r .x) (r .e) (r .k) (r .s) (r .h) ⌝ }
+fn raise_on(part: &mut [i64], side: bool, gap: u32, on: Held, off: Held) -> Made
+    ensures { λ r. ⌜ RaisedOn side gap on off (now (part .entry)) (now (part .exit)) r ⌝ }
 {
     if side {
-        return raise(part, gap, ix, ie, ox, oe);
+        return raise(part, gap, off, on);
     }
-    raise(part, gap, ox, oe, ix, ie)
+    raise(part, gap, on, off)
 }
 
 // The counts of one operation after another. They go round at 2 ^ 32, which those of a book do not reach.
-fn sum(a: Made, b: Made) -> Count
-    ensures { λ r. ⌜ Counts (a .k + b .k) (a .s + b .s) (a .h + b .h) (r .k) (r .s) (r .h) ⌝ }
+fn sum(a: Made, b: Made) -> Counts
+    ensures { λ r. ⌜ Summed (a .counts) (b .counts) r ⌝ }
 {
-    Count {
-        k: std::num::wrapping_add_u32(a.k, b.k),
-        s: std::num::wrapping_add_u32(a.s, b.s),
-        h: std::num::wrapping_add_u32(a.h, b.h),
+    Counts {
+        searches: std::num::wrapping_add_u32(a.counts.searches, b.counts.searches),
+        steps: std::num::wrapping_add_u32(a.counts.steps, b.counts.steps),
+        heights: std::num::wrapping_add_u32(a.counts.heights, b.counts.heights),
     }
 }
 
-fn sum_three(a: Made, b: Made, c: Made) -> Count
-    ensures { λ r. ⌜ Counts (a .k + b .k + c .k) (a .s + b .s + c .s) (a .h + b .h + c .h) (r .k) (r .s) (r .h) ⌝ }
+fn sum_three(a: Made, b: Made, c: Made) -> Counts
+    ensures { λ r. ⌜ SummedThree (a .counts) (b .counts) (c .counts) r ⌝ }
 {
     let n = sum(a, b);
-    Count {
-        k: std::num::wrapping_add_u32(n.k, c.k),
-        s: std::num::wrapping_add_u32(n.s, c.s),
-        h: std::num::wrapping_add_u32(n.h, c.h),
+    Counts {
+        searches: std::num::wrapping_add_u32(n.searches, c.counts.searches),
+        steps: std::num::wrapping_add_u32(n.steps, c.counts.steps),
+        heights: std::num::wrapping_add_u32(n.heights, c.counts.heights),
     }
 }
 
-// A rotation away from the side on which `tx`, two higher than `sx`, stands.
-fn rotate(part: &mut [i64], side: bool, gap: u32, tx: u32, te: u32, sx: u32, se: u32) -> Made
-    ensures { λ r. ⌜ RotatedIn side gap tx te sx se (now (part .entry)) (now (part .exit)) (r .x) (r .e) (r .k) (r .s) (r .h) ⌝ }
+// A rotation away from the side on which `tall`, two higher than `short`, stands.
+fn rotate(part: &mut [i64], side: bool, gap: u32, tall: Held, short: Held) -> Made
+    ensures { λ r. ⌜ RotatedIn side gap tall short (now (part .entry)) (now (part .exit)) r ⌝ }
 {
-    let t = lower_on(part, side, tx, te);
-    let m = table::inner_slot(tx);
-    if table::height(part, table::OFFERS, t.ix) <= table::height(part, table::OFFERS, t.ox) {
-        let y = raise_on(part, side, gap, t.ix, t.ie, sx, se);
-        let z = raise_on(part, side, m, t.ox, t.oe, y.x, y.e);
-        let n = sum(y, z);
+    let t = lower_on(part, side, tall);
+    let on = t.on;
+    let off = t.off;
+    let m = table::inner_slot(tall.tree);
+    if table::height(part, table::OFFERS, off.tree) <= table::height(part, table::OFFERS, on.tree) {
+        let y = raise_on(part, side, gap, off, short);
+        let near = y.held;
+        let z = raise_on(part, side, m, on, near);
+        let held = z.held;
+        let counts = sum(y, z);
         return Made {
-            x: z.x,
-            e: z.e,
-            k: n.k,
-            s: n.s,
-            h: n.h,
+            held: held,
+            counts: counts,
         };
     }
-    let i = lower_on(part, side, t.ix, t.ie);
-    let x = raise_on(part, side, m, t.ox, t.oe, i.ox, i.oe);
-    let y = raise_on(part, side, gap, i.ix, i.ie, sx, se);
-    let z = raise_on(part, side, table::inner_slot(t.ix), x.x, x.e, y.x, y.e);
-    let n = sum_three(x, y, z);
+    let i = lower_on(part, side, off);
+    let first = i.on;
+    let second = i.off;
+    let x = raise_on(part, side, m, on, first);
+    let y = raise_on(part, side, gap, second, short);
+    let far = x.held;
+    let near = y.held;
+    let z = raise_on(part, side, table::inner_slot(off.tree), far, near);
+    let held = z.held;
+    let counts = sum_three(x, y, z);
     Made {
-        x: z.x,
-        e: z.e,
-        k: n.k,
-        s: n.s,
-        h: n.h,
+        held: held,
+        counts: counts,
     }
 }
 
 // Puts one tree over two side by side whose heights differ by at most 2.
-fn rebalance(part: &mut [i64], gap: u32, lx: u32, le: u32, rx: u32, re: u32) -> Made
-    ensures { λ r. ⌜ RebalancedIn gap lx le rx re (now (part .entry)) (now (part .exit)) (r .x) (r .e) (r .k) (r .s) (r .h) ⌝ }
+fn rebalance(part: &mut [i64], gap: u32, l: Held, r: Held) -> Made
+    ensures { λ m. ⌜ RebalancedIn gap l r (now (part .entry)) (now (part .exit)) m ⌝ }
 {
     let c = table::capacity(part);
-    let hl = table::height_in(part, c, table::OFFERS, lx);
-    let hr = table::height_in(part, c, table::OFFERS, rx);
+    let hl = table::height_in(part, c, table::OFFERS, l.tree);
+    let hr = table::height_in(part, c, table::OFFERS, r.tree);
     if shape::above(hl, hr) {
-        return rotate(part, false, gap, lx, le, rx, re);
+        return rotate(part, false, gap, l, r);
     }
     if shape::above(hr, hl) {
-        return rotate(part, true, gap, rx, re, lx, le);
+        return rotate(part, true, gap, r, l);
     }
-    raise(part, gap, lx, le, rx, re)
+    raise(part, gap, l, r)
 }
 
-fn rebalance_on(part: &mut [i64], side: bool, gap: u32, ox: u32, oe: u32, ix: u32, ie: u32) -> Made
-    ensures { λ r. ⌜ RebalancedOn side gap ox oe ix ie (now (part .entry)) (now (part .exit)) (r .x) (r .e) (r .k) (r .s) (r .h) ⌝ }
+fn rebalance_on(part: &mut [i64], side: bool, gap: u32, on: Held, off: Held) -> Made
+    ensures { λ r. ⌜ RebalancedOn side gap on off (now (part .entry)) (now (part .exit)) r ⌝ }
 {
     if side {
-        return rebalance(part, gap, ix, ie, ox, oe);
+        return rebalance(part, gap, off, on);
     }
-    rebalance(part, gap, ox, oe, ix, ie)
+    rebalance(part, gap, on, off)
 }
 
 // The way up: what came of a child on a side is rebalanced with its sibling, and the counts are added.
-fn rebuild(part: &mut [i64], side: bool, gap: u32, g: Made, ix: u32, ie: u32) -> Made
-    ensures { λ r. ⌜ Rebuilt side gap (g .x) (g .e) (g .k) (g .s) (g .h) ix ie (now (part .entry)) (now (part .exit)) (r .x) (r .e) (r .k) (r .s) (r .h) ⌝ }
+fn rebuild(part: &mut [i64], side: bool, gap: u32, g: Made, off: Held) -> Made
+    ensures { λ r. ⌜ Rebuilt side gap g off (now (part .entry)) (now (part .exit)) r ⌝ }
 {
-    let b = rebalance_on(part, side, gap, g.x, g.e, ix, ie);
-    let n = sum(g, b);
+    let on = g.held;
+    let b = rebalance_on(part, side, gap, on, off);
+    let held = b.held;
+    let counts = sum(g, b);
     Made {
-        x: b.x,
-        e: b.e,
-        k: n.k,
-        s: n.s,
-        h: n.h,
+        held: held,
+        counts: counts,
     }
 }
 
@@ -271,37 +272,54 @@ fn is_less(part: &[i64], a: u32, b: u32) -> bool
     table::is_above(part, table::RATE, b, table::get(part, table::RATE, a))
 }
 
-// Puts the line in `slot` beside the single line `x`.
-fn insert_beside(part: &mut [i64], x: u32, e: u32, slot: u32) -> Made
-    ensures { λ r. ⌜ ((limit : ℕ) → x ≤ mostSlots → InsertedBelow limit slot x e (now (part .entry)) (now (part .exit)) (r .x) (r .e) (r .k) (r .s) (r .h)) ⌝ }
+// Nothing is left, and nothing was searched.
+fn nothing() -> Made
+    ensures { λ r. ⌜ r ≡ noTree ⌝ }
 {
-    if at_most(part, slot, x) {
-        return raise(part, x, x, e, slot, slot);
+    Made {
+        held: Held {
+            tree: 0,
+            envelope: 0,
+        },
+        counts: Counts {
+            searches: 0,
+            steps: 0,
+            heights: 0,
+        },
     }
-    raise(part, slot, slot, slot, x, e)
 }
 
-// Inserts the line in `slot` into subtree `x` with the envelope `e`. It is at most `limit` high.
-fn insert_below(part: &mut [i64], x: u32, e: u32, slot: u32, limit: u32) -> Made
-    ensures { λ r. ⌜ InsertedBelow limit slot x e (now (part .entry)) (now (part .exit)) (r .x) (r .e) (r .k) (r .s) (r .h) ⌝ }
+// Puts the line in `slot` beside the single line `h`.
+fn insert_beside(part: &mut [i64], h: Held, slot: u32) -> Made
+    ensures { λ r. ⌜ ((limit : ℕ) → h .tree ≤ mostSlots → InsertedBelow limit slot h (now (part .entry)) (now (part .exit)) r) ⌝ }
 {
-    if x <= table::MOST_SLOTS {
-        return insert_beside(part, x, e, slot);
+    let line = Held {
+        tree: slot,
+        envelope: slot,
+    };
+    if at_most(part, slot, h.tree) {
+        return raise(part, h.tree, h, line);
+    }
+    raise(part, slot, line, h)
+}
+
+// Inserts the line in `slot` into a subtree that is at most `limit` high.
+fn insert_below(part: &mut [i64], h: Held, slot: u32, limit: u32) -> Made
+    ensures { λ r. ⌜ InsertedBelow limit slot h (now (part .entry)) (now (part .exit)) r ⌝ }
+{
+    if h.tree <= table::MOST_SLOTS {
+        return insert_beside(part, h, slot);
     }
     if limit == 0 {
-        return Made {
-            x: 0,
-            e: 0,
-            k: 0,
-            s: 0,
-            h: 0,
-        };
+        return nothing();
     }
-    let m = table::inner_slot(x);
+    let m = table::inner_slot(h.tree);
     let side = at_most(part, slot, m);
-    let c = lower_on(part, side, x, e);
-    let g = insert_below(part, c.ox, c.oe, slot, limit - 1);
-    rebuild(part, side, m, g, c.ix, c.ie)
+    let c = lower_on(part, side, h);
+    let on = c.on;
+    let off = c.off;
+    let g = insert_below(part, on, slot, limit - 1);
+    rebuild(part, side, m, g, off)
 }
 
 // The slot of the seam after a removal: on the left the last line may have left.
@@ -314,55 +332,43 @@ fn seam_after(part: &[i64], side: bool, x: u32, m: u32) -> u32
     descents::end(part, table::OFFERS, true, x)
 }
 
-// Removes the line in `slot` from subtree `x` with the envelope `e`; 0 where nothing is left. It is at most `limit` high.
-fn remove_below(part: &mut [i64], x: u32, e: u32, slot: u32, limit: u32) -> Made
-    ensures { λ r. ⌜ RemovedBelow limit slot x e (now (part .entry)) (now (part .exit)) (r .x) (r .e) (r .k) (r .s) (r .h) ⌝ }
+// Removes the line in `slot` from a subtree that is at most `limit` high; 0 where nothing is left.
+fn remove_below(part: &mut [i64], h: Held, slot: u32, limit: u32) -> Made
+    ensures { λ r. ⌜ RemovedBelow limit slot h (now (part .entry)) (now (part .exit)) r ⌝ }
 {
-    if x <= table::MOST_SLOTS {
-        return Made {
-            x: 0,
-            e: 0,
-            k: 0,
-            s: 0,
-            h: 0,
-        };
+    if h.tree <= table::MOST_SLOTS {
+        return nothing();
     }
     if limit == 0 {
-        return Made {
-            x: 0,
-            e: 0,
-            k: 0,
-            s: 0,
-            h: 0,
-        };
+        return nothing();
     }
-    let m = table::inner_slot(x);
+    let m = table::inner_slot(h.tree);
     let side = is_less(part, slot, m);
-    let c = lower_on(part, side, x, e);
-    let g = remove_below(part, c.ox, c.oe, slot, limit - 1);
-    if g.x == 0 {
+    let c = lower_on(part, side, h);
+    let on = c.on;
+    let off = c.off;
+    let g = remove_below(part, on, slot, limit - 1);
+    if g.held.tree == 0 {
+        let counts = g.counts;
         return Made {
-            x: c.ix,
-            e: c.ie,
-            k: g.k,
-            s: g.s,
-            h: g.h,
+            held: off,
+            counts: counts,
         };
     }
-    let gap = seam_after(part, side, g.x, m);
-    rebuild(part, side, gap, g, c.ix, c.ie)
+    let gap = seam_after(part, side, g.held.tree, m);
+    rebuild(part, side, gap, g, off)
 }
 
-// Inserts the line in slot `s` into the offers with root `x` and envelope `e`.
-pub fn insert(part: &mut [i64], x: u32, e: u32, s: u32) -> Made
-    ensures { λ r. ⌜ InsertedIn s x e (now (part .entry)) (now (part .exit)) (r .x) (r .e) (r .k) (r .s) (r .h) ⌝ }
+// Inserts the line in slot `s` into the offers in hand.
+pub fn insert(part: &mut [i64], h: Held, s: u32) -> Made
+    ensures { λ r. ⌜ InsertedIn s h (now (part .entry)) (now (part .exit)) r ⌝ }
 {
-    insert_below(part, x, e, s, table::MOST_LEVELS)
+    insert_below(part, h, s, table::MOST_LEVELS)
 }
 
-// Removes the line in slot `s` from the offers with root `x` and envelope `e`.
-pub fn remove(part: &mut [i64], x: u32, e: u32, s: u32) -> Made
-    ensures { λ r. ⌜ RemovedIn s x e (now (part .entry)) (now (part .exit)) (r .x) (r .e) (r .k) (r .s) (r .h) ⌝ }
+// Removes the line in slot `s` from the offers in hand.
+pub fn remove(part: &mut [i64], h: Held, s: u32) -> Made
+    ensures { λ r. ⌜ RemovedIn s h (now (part .entry)) (now (part .exit)) r ⌝ }
 {
-    remove_below(part, x, e, s, table::MOST_LEVELS)
+    remove_below(part, h, s, table::MOST_LEVELS)
 }

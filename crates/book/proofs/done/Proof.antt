@@ -9,25 +9,27 @@ use borrow.Author.Needs.{needs}
 use Rattle.book.proofs.done.Statement.{statement}
 use Rattle.book.proofs.done.Tie as tie
 
+cast-t2 : tie.Need-cast-t2
+cast-t2 c = search needs
+
+cast-t3 : tie.Need-cast-t3
+cast-t3 c = search needs
+
+cast-t4 : tie.Need-cast-t4
+cast-t4 c = search needs
+
 cast-t5 : tie.Need-cast-t5
 cast-t5 c = search needs
 
-cast-t6 : tie.Need-cast-t6
-cast-t6 c = search needs
-
-cast-t7 : tie.Need-cast-t7
-cast-t7 c = search needs
-
-cast-t8 : tie.Need-cast-t8
-cast-t8 c = search needs
-
 returns : tie.Need-returns
 returns c =
-    let v : toZ w64 (c .args .live) ≡ pos (c .args .live) = toZ-pos w64 (omega (arith, c .fits .live)) in
-    let k : toZ w64 (c .args .k) ≡ pos (c .args .k) = toZ-pos w64 (omega (arith, c .fits .k)) in
-    let s : toZ w64 (c .args .s) ≡ pos (c .args .s) = toZ-pos w64 (omega (arith, c .fits .s)) in
-    let h : toZ w64 (c .args .h) ≡ pos (c .args .h) = toZ-pos w64 (omega (arith, c .fits .h)) in
+    let t = c .before .before .before .before .args .told in
+    let fits = c .struct-known4 .given in
+    let v : toZ w64 (t .live) ≡ pos (t .live) = toZ-pos w64 (omega (arith, fits .0)) in
+    let k : toZ w64 (t .counts .searches) ≡ pos (t .counts .searches) = toZ-pos w64 (omega (arith, fits .1 .0 .0)) in
+    let s : toZ w64 (t .counts .steps) ≡ pos (t .counts .steps) = toZ-pos w64 (omega (arith, fits .1 .0 .1 .0)) in
+    let h : toZ w64 (t .counts .heights) ≡ pos (t .counts .heights) = toZ-pos w64 (omega (arith, fits .1 .0 .1 .1 .0)) in
     simp (v, k, s, h) refl
 
 pub done-spec : {M : Type 1} → statement M
-done-spec = tie.close (tie.spec cast-t5 cast-t6 cast-t7 cast-t8 returns)
+done-spec = tie.close (tie.spec cast-t2 cast-t3 cast-t4 cast-t5 returns)

@@ -7,7 +7,7 @@ use Rattle.filing.proofs.join_in.Statement.{statement}
 use Rattle.filing.proofs.join_in.Tie as tie
 
 returns : tie.Need-returns
-returns c = joins-alone (omega (arith, c .if1 .taken)) refl refl refl refl refl refl
+returns c = joins-alone (omega (arith, c .if1 .taken)) refl refl
 
 insert-requires : tie.Need-insert-requires
 insert-requires c κs = search needs

@@ -9,14 +9,11 @@ use Rattle.filing.proofs.post_part.Tie as tie
 number-at-requires : tie.Need-number-at-requires
 number-at-requires c κs = search needs
 
+roots-requires : tie.Need-roots-requires
+roots-requires c κs = search needs
+
 number-at-requires-2 : tie.Need-number-at-requires-2
 number-at-requires-2 c κs = search needs
-
-number-at-requires-3 : tie.Need-number-at-requires-3
-number-at-requires-3 c κs = search needs
-
-number-at-requires-4 : tie.Need-number-at-requires-4
-number-at-requires-4 c κs = search needs
 
 fill-requires : tie.Need-fill-requires
 fill-requires c κs = search needs
@@ -32,8 +29,9 @@ join-in-requires c κs = search needs
 
 add-live : tie.Need-add-live
 add-live c =
-    let at-number-at4 = c .before .before .before .before .before .before .before .before .before .before .before .before in
-    omega (arith, read-most _ (at-number-at4 .number-at4 .ensures))
+    let at-join-in = c .before .before .before in
+    let at-count = at-join-in .before .before .before .before .before .before .before .before .before .before .before in
+    omega (arith, read-most _ (at-count .number-at2 .ensures))
 
 set-roots-requires : tie.Need-set-roots-requires
 set-roots-requires c κs = search needs
@@ -43,28 +41,25 @@ same-length c = search needs
 
 returns : tie.Need-returns
 returns c =
-    let at-join-in = c .before .before .before .before in
+    let at-join-in = c .before .before .before .before .before .before in
     let at-set-number = at-join-in .before .before .before in
     let at-add = at-set-number .before .before .before in
     let at-fill = at-add .before .before .before in
-    let at-number-at4 = at-fill .before .before in
-    let at-number-at3 = at-number-at4 .before .before in
-    let at-number-at2 = at-number-at3 .before .before in
-    let at-number-at = at-number-at2 .before .before in
-    let entry = at-number-at .before .before in
-    let f = entry .fits in
-    posted-part _ _ _ (at-number-at .number-at .ensures) (at-number-at2 .number-at2 .ensures) (at-number-at3 .number-at3 .ensures)
-    (at-number-at4 .number-at4 .ensures) (at-fill .fill .ensures .0) (simp (toZ-ofZ, f .number, f .rate, f .base) at (at-fill .fill .ensures .1))
-    (at-add .add .ensures) (at-set-number .set-number .ensures) (at-join-in .join-in .ensures) (omega arith) (c .before .set-roots .ensures)
+    let at-count = at-fill .before .before in
+    let at-roots = at-count .before .before in
+    let at-numbers = at-roots .before .before in
+    let f = at-numbers .before .before .fits in
+    posted-part _ _ _ (at-numbers .number-at .ensures) (at-roots .roots .ensures) (at-count .number-at2 .ensures) (at-fill .fill .ensures .0)
+    (simp (toZ-ofZ, f .number, f .rate, f .base) at (at-fill .fill .ensures .1)) (at-add .add .ensures) (at-set-number .set-number .ensures)
+    (at-join-in .join-in .ensures) (omega arith) (c .before .set-roots .ensures)
 
 pub post-part-spec : {M : Type 1} → statement M
 post-part-spec =
     tie.close
     (tie.spec
     number-at-requires
+    roots-requires
     number-at-requires-2
-    number-at-requires-3
-    number-at-requires-4
     fill-requires
     add-requires
     set-number-requires

@@ -8,14 +8,11 @@ use Rattle.filing.proofs.withdraw_part.Tie as tie
 number-at-requires : tie.Need-number-at-requires
 number-at-requires c κs = search needs
 
+roots-requires : tie.Need-roots-requires
+roots-requires c κs = search needs
+
 number-at-requires-2 : tie.Need-number-at-requires-2
 number-at-requires-2 c κs = search needs
-
-number-at-requires-3 : tie.Need-number-at-requires-3
-number-at-requires-3 c κs = search needs
-
-number-at-requires-4 : tie.Need-number-at-requires-4
-number-at-requires-4 c κs = search needs
 
 drop-number-requires : tie.Need-drop-number-requires
 drop-number-requires c κs = search needs
@@ -42,26 +39,24 @@ returns : tie.Need-returns
 returns c =
     let at-set-roots = c .before .before .before .before in
     let at-one-less = at-set-roots .before .before in
-    let at-remove = at-one-less .before .before in
+    let at-remove = at-one-less .before .before .before .before in
     let at-set-number = at-remove .before .before .before in
     let at-drop-number = at-set-number .before .before .before in
-    let at-number-at4 = at-drop-number .before .before in
-    let at-number-at3 = at-number-at4 .before .before in
-    let at-number-at2 = at-number-at3 .before .before in
-    let at-number-at = at-number-at2 .before .before in
-    let entry = at-number-at .before .before in
-    withdrawn-part _ (at-number-at .number-at .ensures) (at-number-at2 .number-at2 .ensures) (at-number-at3 .number-at3 .ensures)
-    (at-number-at4 .number-at4 .ensures) (simp (toZ-ofZ, entry .fits .number) at (at-drop-number .drop-number .ensures)) (at-set-number .set-number .ensures)
-    (at-remove .remove .ensures) (at-one-less .one-less .ensures) (at-set-roots .set-roots .ensures) (c .before .give-slot .ensures)
+    let at-count = at-drop-number .before .before in
+    let at-roots = at-count .before .before in
+    let at-numbers = at-roots .before .before in
+    let entry = at-numbers .before .before in
+    withdrawn-part _ (at-numbers .number-at .ensures) (at-roots .roots .ensures) (at-count .number-at2 .ensures)
+    (simp (toZ-ofZ, entry .fits .number) at (at-drop-number .drop-number .ensures)) (at-set-number .set-number .ensures) (at-remove .remove .ensures)
+    (at-one-less .one-less .ensures) (at-set-roots .set-roots .ensures) (c .before .give-slot .ensures)
 
 pub withdraw-part-spec : {M : Type 1} → statement M
 withdraw-part-spec =
     tie.close
     (tie.spec
     number-at-requires
+    roots-requires
     number-at-requires-2
-    number-at-requires-3
-    number-at-requires-4
     drop-number-requires
     set-number-requires
     remove-requires

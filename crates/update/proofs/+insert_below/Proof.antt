@@ -12,12 +12,13 @@ use Rattle.table.proofs.inner_slot.Reads as inner-slot-reads
 use Rattle.update.proofs.at_most.Reads as at-most-reads
 use Rattle.update.proofs.insert_beside.Reads as insert-beside-reads
 use Rattle.update.proofs.lower_on.Reads as lower-on-reads
+use Rattle.update.proofs.nothing.Reads as nothing-reads
 use Rattle.update.proofs.rebuild.Reads as rebuild-reads
 use Rattle.update.proofs.+insert_below.{statement}
 use Rattle.update.proofs.+insert_below.Tie.{close}
 
 abbrev μ-insert-below : Measures 1 insert-below-kinds.ps ℕ
-μ-insert-below κs a = a .1 .1 .1 .1 .0
+μ-insert-below κs a = a .1 .1 .1 .0
 
 abbrev insert-below-at : ℕ → In 1 insert-below-kinds.ps
 insert-below-at t =
@@ -34,6 +35,8 @@ insert-below-below t =
 insert-below-insert-beside-requires : (t : ℕ) → insert-below-lts.Need-insert-beside-requires (
   insert-beside-reads.Asked,
   insert-beside-reads.Learnt,
+  nothing-reads.Asked,
+  nothing-reads.Learnt,
   inner-slot-reads.Asked,
   inner-slot-reads.Learnt,
   at-most-reads.Asked,
@@ -50,6 +53,8 @@ insert-below-insert-beside-requires t c κs = search needs
 insert-below-same-length : (t : ℕ) → insert-below-lts.Need-same-length (
   insert-beside-reads.Asked,
   insert-beside-reads.Learnt,
+  nothing-reads.Asked,
+  nothing-reads.Learnt,
   inner-slot-reads.Asked,
   inner-slot-reads.Learnt,
   at-most-reads.Asked,
@@ -66,6 +71,8 @@ insert-below-same-length t c = search needs
 insert-below-returns : (t : ℕ) → insert-below-lts.Need-returns (
   insert-beside-reads.Asked,
   insert-beside-reads.Learnt,
+  nothing-reads.Asked,
+  nothing-reads.Learnt,
   inner-slot-reads.Asked,
   inner-slot-reads.Learnt,
   at-most-reads.Asked,
@@ -79,9 +86,11 @@ insert-below-returns : (t : ℕ) → insert-below-lts.Need-returns (
 ) (insert-below-at t) insert-below.Post
 insert-below-returns t c = c .before .insert-beside .ensures _ (c .before .before .before .if1 .taken)
 
-insert-below-returns-2 : (t : ℕ) → insert-below-lts.Need-returns-2 (
+insert-below-nothing-requires : (t : ℕ) → insert-below-lts.Need-nothing-requires (
   insert-beside-reads.Asked,
   insert-beside-reads.Learnt,
+  nothing-reads.Asked,
+  nothing-reads.Learnt,
   inner-slot-reads.Asked,
   inner-slot-reads.Learnt,
   at-most-reads.Asked,
@@ -93,11 +102,31 @@ insert-below-returns-2 : (t : ℕ) → insert-below-lts.Need-returns-2 (
   rebuild-reads.Asked,
   rebuild-reads.Learnt,
 ) (insert-below-at t) insert-below.Post
-insert-below-returns-2 t c = inserted-none (c .before .if1 .left) (c .if2 .taken)
+insert-below-nothing-requires t c κs = search needs
+
+insert-below-returns-2 : (t : ℕ) → insert-below-lts.Need-returns-2 (
+  insert-beside-reads.Asked,
+  insert-beside-reads.Learnt,
+  nothing-reads.Asked,
+  nothing-reads.Learnt,
+  inner-slot-reads.Asked,
+  inner-slot-reads.Learnt,
+  at-most-reads.Asked,
+  at-most-reads.Learnt,
+  lower-on-reads.Asked,
+  lower-on-reads.Learnt,
+  insert-below-below t,
+  insert-below.Post,
+  rebuild-reads.Asked,
+  rebuild-reads.Learnt,
+) (insert-below-at t) insert-below.Post
+insert-below-returns-2 t c = inserted-none (c .before .before .if1 .left) (c .before .if2 .taken)
 
 insert-below-inner-slot-requires : (t : ℕ) → insert-below-lts.Need-inner-slot-requires (
   insert-beside-reads.Asked,
   insert-beside-reads.Learnt,
+  nothing-reads.Asked,
+  nothing-reads.Learnt,
   inner-slot-reads.Asked,
   inner-slot-reads.Learnt,
   at-most-reads.Asked,
@@ -114,6 +143,8 @@ insert-below-inner-slot-requires t c κs = search needs
 insert-below-at-most-requires : (t : ℕ) → insert-below-lts.Need-at-most-requires (
   insert-beside-reads.Asked,
   insert-beside-reads.Learnt,
+  nothing-reads.Asked,
+  nothing-reads.Learnt,
   inner-slot-reads.Asked,
   inner-slot-reads.Learnt,
   at-most-reads.Asked,
@@ -130,6 +161,8 @@ insert-below-at-most-requires t c κs = search needs
 insert-below-lower-on-requires : (t : ℕ) → insert-below-lts.Need-lower-on-requires (
   insert-beside-reads.Asked,
   insert-beside-reads.Learnt,
+  nothing-reads.Asked,
+  nothing-reads.Learnt,
   inner-slot-reads.Asked,
   inner-slot-reads.Learnt,
   at-most-reads.Asked,
@@ -146,6 +179,8 @@ insert-below-lower-on-requires t c κs = search needs
 insert-below-sub-insert-below : (t : ℕ) → insert-below-lts.Need-sub-insert-below (
   insert-beside-reads.Asked,
   insert-beside-reads.Learnt,
+  nothing-reads.Asked,
+  nothing-reads.Learnt,
   inner-slot-reads.Asked,
   inner-slot-reads.Learnt,
   at-most-reads.Asked,
@@ -162,6 +197,8 @@ insert-below-sub-insert-below t c = omega arith
 insert-below-insert-below-requires : (t : ℕ) → insert-below-lts.Need-insert-below-requires (
   insert-beside-reads.Asked,
   insert-beside-reads.Learnt,
+  nothing-reads.Asked,
+  nothing-reads.Learnt,
   inner-slot-reads.Asked,
   inner-slot-reads.Learnt,
   at-most-reads.Asked,
@@ -173,11 +210,16 @@ insert-below-insert-below-requires : (t : ℕ) → insert-below-lts.Need-insert-
   rebuild-reads.Asked,
   rebuild-reads.Learnt,
 ) (insert-below-at t) insert-below.Post
-insert-below-insert-below-requires t c κs = (omega (arith, c .before .before .before .before .before .before .before .before .before .pre .0), tt)
+insert-below-insert-below-requires t c κs =
+    let opened = c .before .before .before .before in
+    let entry = opened .before .before .before .before .before .before .before .before in
+    (omega (arith, entry .pre .0), tt)
 
 insert-below-rebuild-requires : (t : ℕ) → insert-below-lts.Need-rebuild-requires (
   insert-beside-reads.Asked,
   insert-beside-reads.Learnt,
+  nothing-reads.Asked,
+  nothing-reads.Learnt,
   inner-slot-reads.Asked,
   inner-slot-reads.Learnt,
   at-most-reads.Asked,
@@ -194,6 +236,8 @@ insert-below-rebuild-requires t c κs = search needs
 insert-below-same-length-2 : (t : ℕ) → insert-below-lts.Need-same-length-2 (
   insert-beside-reads.Asked,
   insert-beside-reads.Learnt,
+  nothing-reads.Asked,
+  nothing-reads.Learnt,
   inner-slot-reads.Asked,
   inner-slot-reads.Learnt,
   at-most-reads.Asked,
@@ -210,6 +254,8 @@ insert-below-same-length-2 t c = search needs
 insert-below-returns-3 : (t : ℕ) → insert-below-lts.Need-returns-3 (
   insert-beside-reads.Asked,
   insert-beside-reads.Learnt,
+  nothing-reads.Asked,
+  nothing-reads.Learnt,
   inner-slot-reads.Asked,
   inner-slot-reads.Learnt,
   at-most-reads.Asked,
@@ -221,12 +267,20 @@ insert-below-returns-3 : (t : ℕ) → insert-below-lts.Need-returns-3 (
   rebuild-reads.Asked,
   rebuild-reads.Learnt,
 ) (insert-below-at t) insert-below.Post
-insert-below-returns-3 t c = inserted-step (c .before .before .before .before .before .before .before .before .before .before .before .before .before .if1 .left) (c .before .before .before .before .before .before .before .before .before .before .before .inner-slot .ensures) (c .before .before .before .before .before .before .before .before .before .at-most .ensures) (c .before .before .before .before .before .before .before .lower-on .ensures) (c .before .before .before .before .insert-below .ensures) (c .before .rebuild .ensures)
+insert-below-returns-3 t c =
+    let below = c .before .before .before .before in
+    let opened = below .before .before .before .before .before in
+    let tested = opened .before .before in
+    let slot = tested .before .before in
+    inserted-step (slot .before .before .if1 .left) (slot .inner-slot .ensures) (tested .at-most .ensures) (opened .lower-on .ensures) (below .insert-below .ensures)
+    (c .before .rebuild .ensures)
 
 pub +insert-below-spec : {M : Type 1} → statement M
 +insert-below-spec = close μ-insert-below λ t. insert-below-lts.spec (
   insert-beside-reads.Asked,
   insert-beside-reads.Learnt,
+  nothing-reads.Asked,
+  nothing-reads.Learnt,
   inner-slot-reads.Asked,
   inner-slot-reads.Learnt,
   at-most-reads.Asked,
@@ -243,6 +297,7 @@ pub +insert-below-spec : {M : Type 1} → statement M
     (insert-below-insert-beside-requires t)
     (insert-below-same-length t)
     (insert-below-returns t)
+    (insert-below-nothing-requires t)
     (insert-below-returns-2 t)
     (insert-below-inner-slot-requires t)
     (insert-below-at-most-requires t)

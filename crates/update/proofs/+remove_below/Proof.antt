@@ -1,6 +1,5 @@
 -- `update::remove_below` meets its contract, by recursion on the limit.
-use Rattle.update.specs.CodeUpdates.{removed-none, removed-emptied, removed-step}
-use Rattle.update.specs.Removing.{removed-leaf}
+use Rattle.update.specs.CodeUpdates.{removed-none, removed-single, removed-emptied, removed-step}
 use borrow.Author.Needs.{needs}
 use native.Mathlib.Omega.{arith}
 use Prim.Native.Nat.{ℕ, _<_}
@@ -12,13 +11,14 @@ use Rattle.update.proofs.+remove_below.Lts-remove_below as remove-below
 use Rattle.table.proofs.inner_slot.Reads as inner-slot-reads
 use Rattle.update.proofs.is_less.Reads as is-less-reads
 use Rattle.update.proofs.lower_on.Reads as lower-on-reads
+use Rattle.update.proofs.nothing.Reads as nothing-reads
 use Rattle.update.proofs.rebuild.Reads as rebuild-reads
 use Rattle.update.proofs.seam_after.Reads as seam-after-reads
 use Rattle.update.proofs.+remove_below.{statement}
 use Rattle.update.proofs.+remove_below.Tie.{close}
 
 abbrev μ-remove-below : Measures 1 remove-below-kinds.ps ℕ
-μ-remove-below κs a = a .1 .1 .1 .1 .0
+μ-remove-below κs a = a .1 .1 .1 .0
 
 abbrev remove-below-at : ℕ → In 1 remove-below-kinds.ps
 remove-below-at t =
@@ -32,7 +32,9 @@ remove-below-below t =
     (falls 1 remove-below-kinds.ps _<_ μ-remove-below t)
     remove-below.Pre
 
-remove-below-returns : (t : ℕ) → remove-below-lts.Need-returns (
+remove-below-nothing-requires : (t : ℕ) → remove-below-lts.Need-nothing-requires (
+  nothing-reads.Asked,
+  nothing-reads.Learnt,
   inner-slot-reads.Asked,
   inner-slot-reads.Learnt,
   is-less-reads.Asked,
@@ -46,9 +48,47 @@ remove-below-returns : (t : ℕ) → remove-below-lts.Need-returns (
   rebuild-reads.Asked,
   rebuild-reads.Learnt,
 ) (remove-below-at t) remove-below.Post
-remove-below-returns t c = removed-leaf (c .if1 .taken)
+remove-below-nothing-requires t c κs = search needs
+
+remove-below-returns : (t : ℕ) → remove-below-lts.Need-returns (
+  nothing-reads.Asked,
+  nothing-reads.Learnt,
+  inner-slot-reads.Asked,
+  inner-slot-reads.Learnt,
+  is-less-reads.Asked,
+  is-less-reads.Learnt,
+  lower-on-reads.Asked,
+  lower-on-reads.Learnt,
+  remove-below-below t,
+  remove-below.Post,
+  seam-after-reads.Asked,
+  seam-after-reads.Learnt,
+  rebuild-reads.Asked,
+  rebuild-reads.Learnt,
+) (remove-below-at t) remove-below.Post
+remove-below-returns t c = removed-single (c .before .if1 .taken) (c .nothing .ensures)
+
+remove-below-nothing-requires-2 : (t : ℕ) → remove-below-lts.Need-nothing-requires-2 (
+  nothing-reads.Asked,
+  nothing-reads.Learnt,
+  inner-slot-reads.Asked,
+  inner-slot-reads.Learnt,
+  is-less-reads.Asked,
+  is-less-reads.Learnt,
+  lower-on-reads.Asked,
+  lower-on-reads.Learnt,
+  remove-below-below t,
+  remove-below.Post,
+  seam-after-reads.Asked,
+  seam-after-reads.Learnt,
+  rebuild-reads.Asked,
+  rebuild-reads.Learnt,
+) (remove-below-at t) remove-below.Post
+remove-below-nothing-requires-2 t c κs = search needs
 
 remove-below-returns-2 : (t : ℕ) → remove-below-lts.Need-returns-2 (
+  nothing-reads.Asked,
+  nothing-reads.Learnt,
   inner-slot-reads.Asked,
   inner-slot-reads.Learnt,
   is-less-reads.Asked,
@@ -62,9 +102,11 @@ remove-below-returns-2 : (t : ℕ) → remove-below-lts.Need-returns-2 (
   rebuild-reads.Asked,
   rebuild-reads.Learnt,
 ) (remove-below-at t) remove-below.Post
-remove-below-returns-2 t c = removed-none (c .before .if1 .left) (c .if2 .taken)
+remove-below-returns-2 t c = removed-none (c .before .before .if1 .left) (c .before .if2 .taken)
 
 remove-below-inner-slot-requires : (t : ℕ) → remove-below-lts.Need-inner-slot-requires (
+  nothing-reads.Asked,
+  nothing-reads.Learnt,
   inner-slot-reads.Asked,
   inner-slot-reads.Learnt,
   is-less-reads.Asked,
@@ -81,6 +123,8 @@ remove-below-inner-slot-requires : (t : ℕ) → remove-below-lts.Need-inner-slo
 remove-below-inner-slot-requires t c κs = search needs
 
 remove-below-is-less-requires : (t : ℕ) → remove-below-lts.Need-is-less-requires (
+  nothing-reads.Asked,
+  nothing-reads.Learnt,
   inner-slot-reads.Asked,
   inner-slot-reads.Learnt,
   is-less-reads.Asked,
@@ -97,6 +141,8 @@ remove-below-is-less-requires : (t : ℕ) → remove-below-lts.Need-is-less-requ
 remove-below-is-less-requires t c κs = search needs
 
 remove-below-lower-on-requires : (t : ℕ) → remove-below-lts.Need-lower-on-requires (
+  nothing-reads.Asked,
+  nothing-reads.Learnt,
   inner-slot-reads.Asked,
   inner-slot-reads.Learnt,
   is-less-reads.Asked,
@@ -113,6 +159,8 @@ remove-below-lower-on-requires : (t : ℕ) → remove-below-lts.Need-lower-on-re
 remove-below-lower-on-requires t c κs = search needs
 
 remove-below-sub-remove-below : (t : ℕ) → remove-below-lts.Need-sub-remove-below (
+  nothing-reads.Asked,
+  nothing-reads.Learnt,
   inner-slot-reads.Asked,
   inner-slot-reads.Learnt,
   is-less-reads.Asked,
@@ -129,6 +177,8 @@ remove-below-sub-remove-below : (t : ℕ) → remove-below-lts.Need-sub-remove-b
 remove-below-sub-remove-below t c = omega arith
 
 remove-below-remove-below-requires : (t : ℕ) → remove-below-lts.Need-remove-below-requires (
+  nothing-reads.Asked,
+  nothing-reads.Learnt,
   inner-slot-reads.Asked,
   inner-slot-reads.Learnt,
   is-less-reads.Asked,
@@ -142,9 +192,14 @@ remove-below-remove-below-requires : (t : ℕ) → remove-below-lts.Need-remove-
   rebuild-reads.Asked,
   rebuild-reads.Learnt,
 ) (remove-below-at t) remove-below.Post
-remove-below-remove-below-requires t c κs = (omega (arith, c .before .before .before .before .before .before .before .before .before .pre .0), tt)
+remove-below-remove-below-requires t c κs =
+    let opened = c .before .before .before .before in
+    let entry = opened .before .before .before .before .before .before .before .before in
+    (omega (arith, entry .pre .0), tt)
 
 remove-below-same-length : (t : ℕ) → remove-below-lts.Need-same-length (
+  nothing-reads.Asked,
+  nothing-reads.Learnt,
   inner-slot-reads.Asked,
   inner-slot-reads.Learnt,
   is-less-reads.Asked,
@@ -161,6 +216,8 @@ remove-below-same-length : (t : ℕ) → remove-below-lts.Need-same-length (
 remove-below-same-length t c = search needs
 
 remove-below-returns-3 : (t : ℕ) → remove-below-lts.Need-returns-3 (
+  nothing-reads.Asked,
+  nothing-reads.Learnt,
   inner-slot-reads.Asked,
   inner-slot-reads.Learnt,
   is-less-reads.Asked,
@@ -174,9 +231,17 @@ remove-below-returns-3 : (t : ℕ) → remove-below-lts.Need-returns-3 (
   rebuild-reads.Asked,
   rebuild-reads.Learnt,
 ) (remove-below-at t) remove-below.Post
-remove-below-returns-3 t c = removed-emptied (c .before .before .before .before .before .before .before .before .before .before .before .before .if1 .left) (c .before .before .before .before .before .before .before .before .before .before .inner-slot .ensures) (c .before .before .before .before .before .before .before .before .is-less .ensures) (c .before .before .before .before .before .before .lower-on .ensures) (c .before .before .before .remove-below .ensures) (c .if3 .taken)
+remove-below-returns-3 t c =
+    let below = c .before .before .before .before in
+    let opened = below .before .before .before .before .before in
+    let tested = opened .before .before in
+    let slot = tested .before .before in
+    removed-emptied (slot .before .before .if1 .left) (slot .inner-slot .ensures) (tested .is-less .ensures) (opened .lower-on .ensures) (below .remove-below .ensures)
+    (c .before .if3 .taken)
 
 remove-below-seam-after-requires : (t : ℕ) → remove-below-lts.Need-seam-after-requires (
+  nothing-reads.Asked,
+  nothing-reads.Learnt,
   inner-slot-reads.Asked,
   inner-slot-reads.Learnt,
   is-less-reads.Asked,
@@ -193,6 +258,8 @@ remove-below-seam-after-requires : (t : ℕ) → remove-below-lts.Need-seam-afte
 remove-below-seam-after-requires t c κs = search needs
 
 remove-below-rebuild-requires : (t : ℕ) → remove-below-lts.Need-rebuild-requires (
+  nothing-reads.Asked,
+  nothing-reads.Learnt,
   inner-slot-reads.Asked,
   inner-slot-reads.Learnt,
   is-less-reads.Asked,
@@ -209,6 +276,8 @@ remove-below-rebuild-requires : (t : ℕ) → remove-below-lts.Need-rebuild-requ
 remove-below-rebuild-requires t c κs = search needs
 
 remove-below-same-length-2 : (t : ℕ) → remove-below-lts.Need-same-length-2 (
+  nothing-reads.Asked,
+  nothing-reads.Learnt,
   inner-slot-reads.Asked,
   inner-slot-reads.Learnt,
   is-less-reads.Asked,
@@ -225,6 +294,8 @@ remove-below-same-length-2 : (t : ℕ) → remove-below-lts.Need-same-length-2 (
 remove-below-same-length-2 t c = search needs
 
 remove-below-returns-4 : (t : ℕ) → remove-below-lts.Need-returns-4 (
+  nothing-reads.Asked,
+  nothing-reads.Learnt,
   inner-slot-reads.Asked,
   inner-slot-reads.Learnt,
   is-less-reads.Asked,
@@ -238,10 +309,20 @@ remove-below-returns-4 : (t : ℕ) → remove-below-lts.Need-returns-4 (
   rebuild-reads.Asked,
   rebuild-reads.Learnt,
 ) (remove-below-at t) remove-below.Post
-remove-below-returns-4 t c = removed-step (c .before .before .before .before .before .before .before .before .before .before .before .before .before .before .before .before .before .if1 .left) (c .before .before .before .before .before .before .before .before .before .before .before .before .before .before .before .inner-slot .ensures) (c .before .before .before .before .before .before .before .before .before .before .before .before .before .is-less .ensures) (c .before .before .before .before .before .before .before .before .before .before .before .lower-on .ensures) (c .before .before .before .before .before .before .before .before .remove-below .ensures) (c .before .before .before .before .before .if3 .left) (c .before .before .before .seam-after .ensures) (c .before .rebuild .ensures)
+remove-below-returns-4 t c =
+    let sought = c .before .before .before in
+    let left = sought .before .before in
+    let below = left .before .before .before in
+    let opened = below .before .before .before .before .before in
+    let tested = opened .before .before in
+    let slot = tested .before .before in
+    removed-step (slot .before .before .if1 .left) (slot .inner-slot .ensures) (tested .is-less .ensures) (opened .lower-on .ensures) (below .remove-below .ensures)
+    (left .if3 .left) (sought .seam-after .ensures) (c .before .rebuild .ensures)
 
 pub +remove-below-spec : {M : Type 1} → statement M
 +remove-below-spec = close μ-remove-below λ t. remove-below-lts.spec (
+  nothing-reads.Asked,
+  nothing-reads.Learnt,
   inner-slot-reads.Asked,
   inner-slot-reads.Learnt,
   is-less-reads.Asked,
@@ -257,7 +338,9 @@ pub +remove-below-spec : {M : Type 1} → statement M
 )
     (remove-below-at t)
     remove-below.Post
+    (remove-below-nothing-requires t)
     (remove-below-returns t)
+    (remove-below-nothing-requires-2 t)
     (remove-below-returns-2 t)
     (remove-below-inner-slot-requires t)
     (remove-below-is-less-requires t)

@@ -6,7 +6,7 @@ use Rattle.update.specs.CodeSteps.{still-put}
 use Rattle.update.specs.Raising.{raised}
 use Rattle.update.specs.RaisingRests.{rest-within}
 use Rattle.update.specs.RaisingSearch.{met-in}
-use mathlib.Core.Path.{_∙_, ap₂}
+use mathlib.Core.Path.{refl, _∙_, ap₂}
 use mir.Facts.{toZ-ofZ}
 use mir.Syntax.{w64}
 use mir.Val.{SFits}
@@ -31,7 +31,7 @@ add-h : tie.Need-add-h
 add-h c =
     let left = c .before .before in
     let entry = left .before .before .before .before .before .before in
-    omega (arith, height-read _ 0 (entry .args .le) (left .height-in .ensures), height-read _ 0 (entry .args .re) (c .height-in2 .ensures))
+    omega (arith, height-read _ 0 (entry .args .l .envelope) (left .height-in .ensures), height-read _ 0 (entry .args .r .envelope) (c .height-in2 .ensures))
 
 get-in-requires : tie.Need-get-in-requires
 get-in-requires c κs = search needs
@@ -145,7 +145,7 @@ returns c =
     let met = tall-left .before .before .before .before in
     let f : SFits w64 (rated-u .get-in .result) = record { sfits = rated-u .get-in .ok } in
     let g : SFits w64 (rated-v .get-in2 .result) = record { sfits = rated-v .get-in2 .ok } in
-    raised (met-in (met .meet .ensures)) (ap₂ _+_ (tall-left .height-in .ensures) (tall-right .height-in2 .ensures)) (rated-u .get-in .ensures)
+    raised refl (met-in (met .meet .ensures)) (ap₂ _+_ (tall-left .height-in .ensures) (tall-right .height-in2 .ensures)) (rated-u .get-in .ensures)
     (simp (toZ-ofZ, f) at (left-cut .cut-in .ensures)) (rated-v .get-in2 .ensures) (simp (toZ-ofZ, g) at (right-cut .cut-in2 .ensures))
     (left-kept .set-rest .ensures) (right-kept .set-rest2 .ensures) (made .make-node-in .ensures) (linked-u .put-link-in .ensures)
     (linked-v .put-link-in2 .ensures) (c .before .cat-at .ensures)

@@ -17,7 +17,7 @@ height-in-requires-2 : tie.Need-height-in-requires-2
 height-in-requires-2 c κs = search needs
 
 above-requires : tie.Need-above-requires
-above-requires c κs = omega (arith, height-read _ 1 (c .before .before .before .before .before .before .args .rx) (c .height-in2 .ensures))
+above-requires c κs = omega (arith, height-read _ 1 (c .before .before .before .before .before .before .args .r .tree) (c .height-in2 .ensures))
 
 rotate-requires : tie.Need-rotate-requires
 rotate-requires c κs = search needs
@@ -30,13 +30,13 @@ returns c =
     let right = c .before .before .before .before .before in
     let left = right .before .before in
     let a = left .before .before .before .before .args in
-    tall-left (towers-told _ 1 (a .lx) (a .rx) (left .height-in .ensures) (right .height-in2 .ensures) (c .before .before .before .before .above .ensures))
+    tall-left (towers-told _ 1 (a .l .tree) (a .r .tree) (left .height-in .ensures) (right .height-in2 .ensures) (c .before .before .before .before .above .ensures))
     (c .before .before .before .if1 .taken) (c .before .rotate .ensures)
 
 above-requires-2 : tie.Need-above-requires-2
 above-requires-2 c κs =
     let left = c .before .before .before .before in
-    omega (arith, height-read _ 1 (left .before .before .before .before .args .lx) (left .height-in .ensures))
+    omega (arith, height-read _ 1 (left .before .before .before .before .args .l .tree) (left .height-in .ensures))
 
 rotate-requires-2 : tie.Need-rotate-requires-2
 rotate-requires-2 c κs = search needs
@@ -49,7 +49,7 @@ returns-2 c =
     let right = c .before .before .before .before .before .before .before in
     let left = right .before .before in
     let a = left .before .before .before .before .args in
-    tall-right (towers-told _ 1 (a .rx) (a .lx) (right .height-in2 .ensures) (left .height-in .ensures) (c .before .before .before .before .above2 .ensures))
+    tall-right (towers-told _ 1 (a .r .tree) (a .l .tree) (right .height-in2 .ensures) (left .height-in .ensures) (c .before .before .before .before .above2 .ensures))
     (c .before .before .before .if2 .taken) (c .before .rotate2 .ensures)
 
 raise-requires : tie.Need-raise-requires
@@ -65,8 +65,8 @@ returns-3 c =
     let right = left-low .before .before in
     let left = right .before .before in
     let a = left .before .before .before .before .args in
-    none-tall (towers-told _ 1 (a .lx) (a .rx) (left .height-in .ensures) (right .height-in2 .ensures) (left-low .before .above .ensures)) (left-low .if1 .left)
-    (towers-told _ 1 (a .rx) (a .lx) (right .height-in2 .ensures) (left .height-in .ensures) (right-low .before .above2 .ensures)) (right-low .if2 .left)
+    none-tall (towers-told _ 1 (a .l .tree) (a .r .tree) (left .height-in .ensures) (right .height-in2 .ensures) (left-low .before .above .ensures)) (left-low .if1 .left)
+    (towers-told _ 1 (a .r .tree) (a .l .tree) (right .height-in2 .ensures) (left .height-in .ensures) (right-low .before .above2 .ensures)) (right-low .if2 .left)
     (c .before .raise .ensures)
 
 pub rebalance-spec : {M : Type 1} → statement M

@@ -28,11 +28,21 @@ sum-requires : tie.Need-sum-requires
 sum-requires c κs = search needs
 
 same-length : tie.Need-same-length
-same-length c = search needs
+same-length c =
+    let far = c .before .before .before in
+    let near = far .before .before .before .before in
+    far .raise-on2 .kept .0 ∙ near .raise-on .kept .0 ∙ near .before .before .before .before .before .before .before .before .before .before .before .lower-on .kept .0
 
 returns : tie.Need-returns
 returns c =
-    rotated-once (c .before .before .before .before .before .before .before .before .before .before .before .before .before .before .lower-on .ensures) (read-le (c .before .before .before .before .before .before .before .before .before .before .height .ensures) (c .before .before .before .before .before .before .before .before .height2 .ensures) (c .before .before .before .before .before .before .before .if1 .taken)) (c .before .before .before .before .before .raise-on .ensures) (c .before .before .before .before .before .before .before .before .before .before .before .before .inner-slot .ensures) (c .before .before .raise-on2 .ensures) (c .sum .ensures)
+    let far = c .before .before .before in
+    let near = far .before .before .before .before in
+    let tested = near .before .before in
+    let tall-on = tested .before in
+    let tall-off = tall-on .before .before in
+    let slot = tall-off .before .before in
+    rotated-once (slot .before .before .before .before .lower-on .ensures) (read-le (tall-off .height .ensures) (tall-on .height2 .ensures) (tested .if1 .taken))
+    (near .raise-on .ensures) (slot .inner-slot .ensures) (far .raise-on2 .ensures) (c .sum .ensures)
 
 lower-on-requires-2 : tie.Need-lower-on-requires-2
 lower-on-requires-2 c κs = search needs
@@ -53,11 +63,26 @@ sum-three-requires : tie.Need-sum-three-requires
 sum-three-requires c κs = search needs
 
 same-length-2 : tie.Need-same-length-2
-same-length-2 c = c .before .before .raise-on5 .kept .0 ∙ c .before .before .before .before .before .before .raise-on4 .kept .0 ∙ c .before .before .before .before .before .before .before .before .before .raise-on3 .kept .0 ∙ c .before .before .before .before .before .before .before .before .before .before .before .before .lower-on2 .kept .0 ∙ c .before .before .before .before .before .before .before .before .before .before .before .before .before .before .before .before .before .before .before .before .before .lower-on .kept .0
+same-length-2 c =
+    let far = c .before .before .before in
+    let second = far .before .before .before .before .before .before in
+    let first = second .before .before .before in
+    let inner = first .before .before .before .before .before in
+    far .raise-on5 .kept .0 ∙ second .raise-on4 .kept .0 ∙ first .raise-on3 .kept .0 ∙ inner .lower-on2 .kept .0 ∙ inner .before .before .before .before .before .before .before .before .before .before .before .lower-on .kept .0
 
 returns-2 : tie.Need-returns-2
 returns-2 c =
-    rotated-twice (c .before .before .before .before .before .before .before .before .before .before .before .before .before .before .before .before .before .before .before .before .before .lower-on .ensures) (read-lt (c .before .before .before .before .before .before .before .before .before .before .before .before .before .before .before .height2 .ensures) (c .before .before .before .before .before .before .before .before .before .before .before .before .before .before .before .before .before .height .ensures) (c .before .before .before .before .before .before .before .before .before .before .before .before .before .before .if1 .left)) (c .before .before .before .before .before .before .before .before .before .before .before .before .lower-on2 .ensures) (c .before .before .before .before .before .before .before .before .before .before .before .before .before .before .before .before .before .before .before .inner-slot .ensures) (c .before .before .before .before .before .before .before .before .before .raise-on3 .ensures) (c .before .before .before .before .before .before .raise-on4 .ensures) (c .before .before .before .inner-slot2 .ensures) (c .before .before .raise-on5 .ensures) (c .sum-three .ensures)
+    let far = c .before .before .before in
+    let second = far .before .before .before .before .before .before in
+    let first = second .before .before .before in
+    let inner = first .before .before .before .before .before in
+    let tested = inner .before .before in
+    let tall-on = tested .before in
+    let tall-off = tall-on .before .before in
+    let slot = tall-off .before .before in
+    rotated-twice (slot .before .before .before .before .lower-on .ensures) (read-lt (tall-on .height2 .ensures) (tall-off .height .ensures) (tested .if1 .left))
+    (inner .lower-on2 .ensures) (slot .inner-slot .ensures) (first .raise-on3 .ensures) (second .raise-on4 .ensures) (far .before .inner-slot2 .ensures)
+    (far .raise-on5 .ensures) (c .sum-three .ensures)
 
 pub rotate-spec : {M : Type 1} → statement M
 rotate-spec =
