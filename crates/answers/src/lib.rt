@@ -21,48 +21,48 @@ fn below_zero(cause: i64) -> i64
 }
 
 // An opening's answer.
-pub fn opening_number(o: book::Opening) -> i64
+pub fn opening_number(o: promises::Opening) -> i64
     ensures { λ r. ⌜ r ≡ openingNumber o ⌝ }
 {
     match o {
-        book::Opening::Opened => 0,
-        book::Opening::Declined(cause) => below_zero(cause),
+        promises::Opening::Opened => 0,
+        promises::Opening::Declined(cause) => below_zero(cause),
     }
 }
 
 // A listing's answer.
-pub fn listed_number(l: book::Listed) -> i64
+pub fn listed_number(l: promises::Listed) -> i64
     ensures { λ r. ⌜ r ≡ listedNumber l ⌝ }
 {
     match l {
-        book::Listed::Pieces(n) => n,
-        book::Listed::Declined(cause) => below_zero(cause),
+        promises::Listed::Pieces(n) => n,
+        promises::Listed::Declined(cause) => below_zero(cause),
     }
 }
 
 // An update's answer; k, s and H go into `counts`.
-pub fn tell_update(u: book::Update, counts: &mut [i64]) -> i64
+pub fn tell_update(u: promises::Update, counts: &mut [i64]) -> i64
     requires { ⌜ 3 ≤ length (now counts) ⌝ }
     ensures { λ r. ⌜ Tells (updateNumber u) (countsOf u) (now (counts .entry)) (now (counts .exit)) r ⌝ }
 {
     match u {
-        book::Update::Done { live, k, s, h } => {
+        promises::Update::Done { live, k, s, h } => {
             counts[0] = k;
             counts[1] = s;
             counts[2] = h;
             live
         }
-        book::Update::Declined(cause) => below_zero(cause),
+        promises::Update::Declined(cause) => below_zero(cause),
     }
 }
 
 // A query's answer; the price and the probes go into `found`.
-pub fn tell_found(f: book::Found, found: &mut [i64]) -> i64
+pub fn tell_found(f: promises::Found, found: &mut [i64]) -> i64
     requires { ⌜ 2 ≤ length (now found) ⌝ }
     ensures { λ r. ⌜ Tells (foundNumber f) (foundOf f) (now (found .entry)) (now (found .exit)) r ⌝ }
 {
     match f {
-        book::Found::Offer {
+        promises::Found::Offer {
             number,
             price,
             probes,
@@ -71,7 +71,7 @@ pub fn tell_found(f: book::Found, found: &mut [i64]) -> i64
             found[1] = probes;
             number
         }
-        book::Found::Declined(cause) => below_zero(cause),
+        promises::Found::Declined(cause) => below_zero(cause),
     }
 }
 

@@ -38,10 +38,10 @@ use Rattle.query.specs.QueriedPieces.{Pieces}
 use Rattle.query.specs.Plain.{offerOf, pieces-plain}
 use Rattle.query.specs.Counting.{Counted, Passed}
 use Rattle.form.specs.Live.{live-whole, whole-ordered}
-use Rattle.book.specs.Promises.{partOf}
-use Rattle.book.specs.LentPart.{whole-part, no-form, no-book-cause}
-use Rattle.book.specs.Opens.{not-clear}
-use Rattle.book.specs.Rooted.{Root, bare, topped, Top, root-of}
+use Rattle.promises.specs.Promises.{partOf}
+use Rattle.promises.specs.LentPart.{whole-part, no-form, no-book-cause}
+use Rattle.promises.specs.OneCause.{not-clear}
+use Rattle.promises.specs.Rooted.{Root, bare, topped, Top, root-of}
 use Rattle.chart.specs.declared.Marked.{Marked}
 use Rattle.chart.specs.declared.Marked.the-variants.{Declined}
 use Rattle.chart.specs.Promises.{marksBehind, marks, refusal, markTrials, markOf, plainMark, told, Marks}

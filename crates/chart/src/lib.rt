@@ -64,7 +64,7 @@ fn part_mark(part: &[i64], index: i64) -> Marked
 pub fn mark(table: &[i64], start: usize, index: i64) -> Marked
     ensures { λ r. ⌜ Marks start (now (table .entry)) index r ⌝ }
 {
-    if book::no_book(table, start) {
+    if promises::no_book(table, start) {
         return Marked::Declined(3);
     }
     part_mark(&table[start..], index)

@@ -80,10 +80,10 @@ fn meet_parts(left: &[i64], right: &[i64]) -> Met
 pub fn meet(left: &[i64], left_start: usize, right: &[i64], right_start: usize) -> Met
     ensures { λ r. ⌜ MeetsBooks (now (left .entry)) «left_start» (now (right .entry)) «right_start» r ⌝ }
 {
-    if book::no_book(left, left_start) {
+    if promises::no_book(left, left_start) {
         return Met::Declined(3);
     }
-    if book::no_book(right, right_start) {
+    if promises::no_book(right, right_start) {
         return Met::Declined(3);
     }
     meet_parts(&left[left_start..], &right[right_start..])

@@ -59,7 +59,7 @@ fn part_piece(part: &[i64], place: u32) -> Handed
 pub fn first_place(table: &[i64], start: usize) -> u32
     ensures { λ r. ⌜ Starts start (now (table .entry)) r ⌝ }
 {
-    if book::no_book(table, start) {
+    if promises::no_book(table, start) {
         return 0;
     }
     part_first(&table[start..])
@@ -69,7 +69,7 @@ pub fn first_place(table: &[i64], start: usize) -> u32
 pub fn place_after(table: &[i64], start: usize, place: u32) -> u32
     ensures { λ r. ⌜ Moves start (now (table .entry)) place r ⌝ }
 {
-    if book::no_book(table, start) {
+    if promises::no_book(table, start) {
         return 0;
     }
     part_after(&table[start..], place)
@@ -79,7 +79,7 @@ pub fn place_after(table: &[i64], start: usize, place: u32) -> u32
 pub fn piece_at(table: &[i64], start: usize, place: u32) -> Handed
     ensures { λ r. ⌜ Hands start (now (table .entry)) place r ⌝ }
 {
-    if book::no_book(table, start) {
+    if promises::no_book(table, start) {
         return Handed::Declined(3);
     }
     part_piece(&table[start..], place)
