@@ -23,7 +23,7 @@ use Rattle.table.specs.Items.{Item}
 use Rattle.pieces.specs.Pieces.{items}
 use Rattle.form.specs.Form.{Book}
 use Rattle.query.specs.Plain.{offerOf, listing-plain, listing-short}
-use Rattle.query.specs.Listing.{Written}
+use Rattle.listing.specs.Listing.{Written}
 use Rattle.promises.specs.Promises.{partOf, tableTrials, listingAnswer, writtenWords, Lists}
 use Rattle.form.specs.Live.{live-whole, whole-ordered}
 use Rattle.promises.specs.Plainly.{table-declined}

@@ -12,7 +12,7 @@ fn ask(part: &[i64], load: i64) -> Found
     if table::number_at(part, table::LIVE_COUNT, table::MOST_NODES) < 1 {
         return Found::Declined(9);
     }
-    let root = table::number_at(part, table::ENVELOPE_ROOT, table::MOST_NODES);
+    let root = form::envelope_root(part);
     let p = query::descend(part, root, load);
     let slot = p.slot;
     let probes = p.probes;
@@ -43,8 +43,8 @@ fn show(part: &[i64], out: &mut [i64]) -> Listed
     ensures { λ r. ⌜ Shown (now (part .entry)) (now (out .entry)) (now (out .exit)) r ⌝ }
 {
     let room = out.len();
-    let root = table::number_at(part, table::ENVELOPE_ROOT, table::MOST_NODES);
-    let n = query::write(part, root, out);
+    let root = form::envelope_root(part);
+    let n = listing::write(part, root, out);
     if room < 3 * (n as usize) {
         return Listed::Declined(10);
     }

@@ -28,8 +28,8 @@ use Rattle.descents.specs.Ends.{Ended}
 use Rattle.form.specs.Form.{Book, plainOffers}
 use Rattle.query.specs.QueriedPieces.{Pieces}
 use Rattle.query.specs.Plain.{offerOf, pieces-plain}
-use Rattle.query.specs.Listing.{crossingWord}
-use Rattle.query.specs.Counting.{Passed, all-passed, not-all, go-on}
+use Rattle.listing.specs.Listing.{crossingWord}
+use Rattle.listing.specs.Counting.{Passed, all-passed, not-all, go-on}
 use Rattle.form.specs.Live.{live-whole, whole-ordered}
 use Rattle.promises.specs.Promises.{partOf, noBookTrial}
 use Rattle.promises.specs.LentPart.{whole-part, no-form, no-book-cause}

@@ -18,7 +18,7 @@ pub enum Handed {
 fn part_first(part: &[i64]) -> u32
     ensures { λ r. ⌜ Before (now (part .entry)) 0 r ⌝ }
 {
-    let root = table::number_at(part, table::ENVELOPE_ROOT, table::MOST_NODES);
+    let root = form::envelope_root(part);
     descents::end(part, table::PIECES, false, root)
 }
 
@@ -29,7 +29,7 @@ fn part_after(part: &[i64], place: u32) -> u32
     if place < 1 {
         return 0;
     }
-    let root = table::number_at(part, table::ENVELOPE_ROOT, table::MOST_NODES);
+    let root = form::envelope_root(part);
     if place == descents::end(part, table::PIECES, true, root) {
         return 0;
     }
@@ -43,11 +43,11 @@ fn part_piece(part: &[i64], place: u32) -> Handed
     if place < 1 {
         return Handed::End;
     }
-    let root = table::number_at(part, table::ENVELOPE_ROOT, table::MOST_NODES);
+    let root = form::envelope_root(part);
     let last = place == descents::end(part, table::PIECES, true, root);
     let number = table::get(part, table::NUMBER, place);
-    let numerator = query::crossing_word(part, table::NUMERATOR, place, last);
-    let denominator = query::crossing_word(part, table::DENOMINATOR, place, last);
+    let numerator = listing::crossing_word(part, table::NUMERATOR, place, last);
+    let denominator = listing::crossing_word(part, table::DENOMINATOR, place, last);
     Handed::Piece {
         number: number,
         numerator: numerator,

@@ -1,8 +1,8 @@
 // Each call on a book beside the same call on the plain array; what differs is counted.
-use scan::expected;
-use scan::slots;
-use scan::tally;
-use scan::tally::Tally;
+use crate::expected;
+use crate::slots;
+use crate::tally;
+use crate::tally::Tally;
 
 // ---- open, post and withdraw
 

@@ -1,12 +1,14 @@
 // Books of many kinds, each call compared with a scan of all offers: ties, offers that only touch, hidden ones that withdrawals uncover, all
 // through one point, the ends of the ranges, capacity 1, a full book, and pairs of books that meet. Prints a line for each.
 mod calls;
+mod expected;
+mod makers;
 mod meetings;
+mod slots;
+mod tally;
 
 use libc::STDOUT_FILENO;
-use scan::makers;
-use scan::tally;
-use scan::tally::Tally;
+use tally::Tally;
 
 // The queries and the listings after each update.
 fn sweep(table: &[i64], start: usize, os: &[i64; 192], kind: u32, t: Tally) -> Tally {

@@ -1,8 +1,8 @@
 // Two books that meet, beside a scan of the offers of both.
-use scan::expected;
-use scan::slots;
-use scan::tally;
-use scan::tally::Tally;
+use crate::expected;
+use crate::slots;
+use crate::tally;
+use crate::tally::Tally;
 
 fn meeting_same(cause: i64, all: &[i64; 192], m: meet_books::Met) -> bool {
     let i = expected::seam(all);

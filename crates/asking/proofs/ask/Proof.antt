@@ -16,8 +16,8 @@ number-at-requires c κs = search needs
 returns : tie.Need-returns
 returns c = asks-empty (c .before .number-at .ensures) (c .if1 .taken)
 
-number-at-requires-2 : tie.Need-number-at-requires-2
-number-at-requires-2 c κs = search needs
+envelope-root-requires : tie.Need-envelope-root-requires
+envelope-root-requires c κs = search needs
 
 descend-requires : tie.Need-descend-requires
 descend-requires c κs = search needs
@@ -34,8 +34,8 @@ cast-t11 c = search needs
 returns-2 : tie.Need-returns-2
 returns-2 c =
     let at-descend = c .before .before in
-    let at-number-at2 = at-descend .before in
-    let at-if1 = at-number-at2 .before in
+    let at-root = at-descend .before in
+    let at-if1 = at-root .before in
     let at-number-at = at-if1 .before in
     let entry = at-number-at .before in
     let f = entry .fits .load in
@@ -45,7 +45,7 @@ returns-2 c =
     simp (toZ-ofZ, g, h, v)
     (asks-found (at-number-at .number-at .ensures) (at-if1 .if1 .left)
     (record {
-      at-root = at-number-at2 .number-at2 .ensures;
+      at-root = at-root .envelope-root .ensures;
       down = simp (toZ-ofZ, f) at (at-descend .descend .ensures);
       named = c .before .get .ensures;
       priced = simp (toZ-ofZ, f) at (c .price .ensures);
@@ -57,7 +57,7 @@ ask-spec =
     (tie.spec
     number-at-requires
     returns
-    number-at-requires-2
+    envelope-root-requires
     descend-requires
     get-requires
     price-requires

@@ -10,8 +10,8 @@ use borrow.Author.Needs.{needs}
 use Rattle.asking.proofs.show.Statement.{statement}
 use Rattle.asking.proofs.show.Tie as tie
 
-number-at-requires : tie.Need-number-at-requires
-number-at-requires c κs = search needs
+envelope-root-requires : tie.Need-envelope-root-requires
+envelope-root-requires c κs = search needs
 
 write-requires : tie.Need-write-requires
 write-requires c κs = search needs
@@ -26,7 +26,7 @@ same-length : tie.Need-same-length
 same-length c = search needs
 
 returns : tie.Need-returns
-returns c = shown-short (c .before .before .before .before .number-at .ensures) (c .before .before .write .ensures) (c .if1 .taken)
+returns c = shown-short (c .before .before .before .before .envelope-root .ensures) (c .before .before .write .ensures) (c .if1 .taken)
 
 cast-t11 : tie.Need-cast-t11
 cast-t11 c = search needs
@@ -37,15 +37,15 @@ same-length-2 c = search needs
 returns-2 : tie.Need-returns-2
 returns-2 c =
     let at-write = c .before .before in
-    let at-number-at = at-write .before .before in
+    let at-envelope-root = at-write .before .before in
     let n : toZ w64 (at-write .write .result) ≡ pos (at-write .write .result) = toZ-pos w64 (omega (arith, at-write .write .ensures .counted .few)) in
-    simp n (shown-all (at-number-at .number-at .ensures) (at-write .write .ensures) (c .if1 .left))
+    simp n (shown-all (at-envelope-root .envelope-root .ensures) (at-write .write .ensures) (c .if1 .left))
 
 pub show-spec : {M : Type 1} → statement M
 show-spec =
     tie.close
     (tie.spec
-    number-at-requires
+    envelope-root-requires
     write-requires
     cast-if1
     mul-if1
