@@ -11,8 +11,8 @@ use lib.Signed.{ltZ}
 use mir.Syntax.{w64}
 use mir.Val.{SFits}
 use Rattle.plain.specs.Book.{Call}
-use Rattle.book.specs.Promises.{Updates, Checks}
-use Rattle.book.specs.declared.Update.{Update}
+use Rattle.promises.specs.Promises.{Updates, Checks}
+use Rattle.promises.specs.declared.Update.{Update}
 use Rattle.reading.specs.Promises.{told}
 use Rattle.answers.specs.Promises.{refusal, tooShort, over, Tells, Lent, updateNumber, countsOf, Updated, Checked}
 use Rattle.answers.specs.Promises.{placeOf, placeNumber, pieceOf, Step, Steps, Pieced}

@@ -21,14 +21,14 @@ use Rattle.table.specs.Words.{Words, word, upTo, upTo-in}
 use Rattle.table.specs.Items.{Item, offerOf}
 use Rattle.pieces.specs.Pieces.{items}
 use Rattle.form.specs.Form.{Book, numberOf, plainOffers}
-use Rattle.book.specs.declared.Update.{Update}
-use Rattle.book.specs.declared.Update.the-variants.{Done, Declined as UpdateDeclined}
-use Rattle.book.specs.declared.Found.{Found}
-use Rattle.book.specs.declared.Found.the-variants.{Offer, Declined as FoundDeclined}
-use Rattle.book.specs.declared.Listed.{Listed}
-use Rattle.book.specs.declared.Listed.the-variants.{Pieces, Declined as ListingDeclined}
-use Rattle.book.specs.Promises.{partOf, updateAnswer, foundAnswer, listingAnswer}
-use Rattle.book.specs.Numbered.{numbered}
+use Rattle.promises.specs.declared.Update.{Update}
+use Rattle.promises.specs.declared.Update.the-variants.{Done, Declined as UpdateDeclined}
+use Rattle.promises.specs.declared.Found.{Found}
+use Rattle.promises.specs.declared.Found.the-variants.{Offer, Declined as FoundDeclined}
+use Rattle.promises.specs.declared.Listed.{Listed}
+use Rattle.promises.specs.declared.Listed.the-variants.{Pieces, Declined as ListingDeclined}
+use Rattle.promises.specs.Promises.{partOf, updateAnswer, foundAnswer, listingAnswer}
+use Rattle.promises.specs.Numbered.{numbered}
 use Rattle.meet_books.specs.declared.Met.{Met}
 use Rattle.meet_books.specs.Promises.{meetTrials, meetAnswer, Found as MeetsAt}
 use Rattle.chart.specs.Promises.{told as markTold, plainMark}

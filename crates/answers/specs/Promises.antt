@@ -10,15 +10,15 @@ use lib.IntN.{ℤ, pos, negℤ, natAbs}
 use lib.Ieee.{Float}
 use Rattle.plain.specs.Book.{Call, post, withdraw}
 use Rattle.table.specs.Words.{upTo}
-use Rattle.book.specs.declared.Opening.{Opening}
-use Rattle.book.specs.declared.Opening.the-variants.{Opened as OpeningDone, Declined as OpeningDeclined}
-use Rattle.book.specs.declared.Update.{Update}
-use Rattle.book.specs.declared.Update.the-variants.{Done, Declined as UpdateDeclined}
-use Rattle.book.specs.declared.Found.{Found}
-use Rattle.book.specs.declared.Found.the-variants.{Offer, Declined as FoundDeclined}
-use Rattle.book.specs.declared.Listed.{Listed}
-use Rattle.book.specs.declared.Listed.the-variants.{Pieces, Declined as ListingDeclined}
-use Rattle.book.specs.Promises.{Opens, Updates, Queries, Lists, Checks}
+use Rattle.promises.specs.declared.Opening.{Opening}
+use Rattle.promises.specs.declared.Opening.the-variants.{Opened as OpeningDone, Declined as OpeningDeclined}
+use Rattle.promises.specs.declared.Update.{Update}
+use Rattle.promises.specs.declared.Update.the-variants.{Done, Declined as UpdateDeclined}
+use Rattle.promises.specs.declared.Found.{Found}
+use Rattle.promises.specs.declared.Found.the-variants.{Offer, Declined as FoundDeclined}
+use Rattle.promises.specs.declared.Listed.{Listed}
+use Rattle.promises.specs.declared.Listed.the-variants.{Pieces, Declined as ListingDeclined}
+use Rattle.promises.specs.Promises.{Opens, Updates, Queries, Lists, Checks}
 use Rattle.meet_books.specs.declared.Met.{Met}
 use Rattle.meet_books.specs.Promises.{MeetAnswer, refused, met, meetAnswer, MeetsBooks}
 use Rattle.marks.specs.Told.{Told as MarkTold}

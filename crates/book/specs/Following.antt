@@ -16,9 +16,9 @@ use Rattle.table.specs.Items.{Item}
 use Rattle.pieces.specs.Pieces.{items}
 use Rattle.form.specs.Form.{Book}
 use Rattle.table.specs.Items.{offerOf}
-use Rattle.book.specs.declared.Update.{Update}
-use Rattle.book.specs.declared.Update.the-variants.{Done, Declined as UpdateDeclined}
-use Rattle.book.specs.Promises.{partOf, updateReturned, updateAnswer, Counts, Follows}
+use Rattle.promises.specs.declared.Update.{Update}
+use Rattle.promises.specs.declared.Update.the-variants.{Done, Declined as UpdateDeclined}
+use Rattle.promises.specs.Promises.{partOf, updateReturned, updateAnswer, Counts, Follows}
 use Rattle.filing.specs.Declining.{refusing}
 use Rattle.filing.specs.Posting.{Updated}
 use Rattle.filing.specs.declared.Told.{Told}

@@ -21,16 +21,16 @@ use Rattle.table.specs.Layout.{cap}
 use Rattle.table.specs.Items.{Item}
 use Rattle.form.specs.Form.{Book}
 use Rattle.numbers.specs.Numbers.{FoundNumber}
-use Rattle.book.specs.declared.Update.{Update}
-use Rattle.book.specs.declared.Update.the-variants.{Done, Declined}
-use Rattle.book.specs.Promises.{partOf, capacityAt, tableTrials, updateAnswer, OnlyPart, Updates, Follows}
+use Rattle.promises.specs.declared.Update.{Update}
+use Rattle.promises.specs.declared.Update.the-variants.{Done, Declined}
+use Rattle.promises.specs.Promises.{partOf, capacityAt, tableTrials, updateAnswer, OnlyPart, Updates, Follows}
 use Rattle.filing.specs.Sought.{number-sought}
 use Rattle.filing.specs.Declining.{refusing, withdraw-missing, withdraw-clear}
 use Rattle.form.specs.There.{cap-there}
-use Rattle.book.specs.Plainly.{table-declined}
+use Rattle.promises.specs.Plainly.{table-declined}
 use Rattle.book.specs.Following.{updateOf, follows-declined, follows-posted, follows-withdrawn}
-use Rattle.book.specs.LentPart.{part-back, only-part, whole-part, lent-back, book-cap, book-start}
-use Rattle.book.specs.Opens.{one-cause, not-clear}
+use Rattle.promises.specs.LentPart.{part-back, only-part, whole-part, lent-back, book-cap, book-start}
+use Rattle.promises.specs.OneCause.{one-cause, not-clear}
 use Rattle.filing.specs.Posting.{Updated}
 use Rattle.filing.specs.declared.Told.{Told}
 use Rattle.filing.specs.PartUpdates.{OutOfRange, Kept, PostCause, PostDone, WithdrawDone}

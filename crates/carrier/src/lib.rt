@@ -7,7 +7,7 @@ ghost use Rattle.answers.specs.Promises.{Opened, Posted, Withdrawn, Queried, Li
 pub extern "C" fn carrier_open(table: &mut [i64], start: usize, capacity: i64) -> i64
     ensures { λ r. ⌜ Opened capacity start (now (table .entry)) (now (table .exit)) r ⌝ }
 {
-    answers::opening_number(book::open(table, start, capacity))
+    telling::opening_number(book::open(table, start, capacity))
 }
 
 // Posts an offer: the live count, and k, s and H in `counts`.
@@ -25,7 +25,7 @@ pub extern "C" fn carrier_post(
     if counts.len() < 3 {
         return -100;
     }
-    answers::tell_update(book::post(table, start, number, rate, base), counts)
+    telling::tell_update(book::post(table, start, number, rate, base), counts)
 }
 
 // Withdraws an offer: the live count, and k, s and H in `counts`.
@@ -41,7 +41,7 @@ pub extern "C" fn carrier_withdraw(
     if counts.len() < 3 {
         return -100;
     }
-    answers::tell_update(book::withdraw(table, start, number), counts)
+    telling::tell_update(book::withdraw(table, start, number), counts)
 }
 
 // The cheapest offer at a load: its number, and its price and the probes in `found`.
@@ -52,7 +52,7 @@ pub extern "C" fn carrier_query(table: &[i64], start: usize, load: i64, found: &
     if found.len() < 2 {
         return -100;
     }
-    answers::tell_found(book::query(table, start, load), found)
+    telling::tell_found(book::query(table, start, load), found)
 }
 
 // Writes the pieces, three words each: how many.
@@ -60,7 +60,7 @@ pub extern "C" fn carrier_query(table: &[i64], start: usize, load: i64, found: &
 pub extern "C" fn carrier_listing(table: &[i64], start: usize, out: &mut [i64]) -> i64
     ensures { λ r. ⌜ Listing start (now (table .entry)) (now (out .entry)) (now (out .exit)) r ⌝ }
 {
-    answers::listed_number(book::listing(table, start, out))
+    telling::listed_number(book::listing(table, start, out))
 }
 
 // Whether the words from `start` on pass the check: 1 or 0.
@@ -88,7 +88,7 @@ pub extern "C" fn carrier_meet(
     if met.len() < 4 {
         return -100;
     }
-    answers::tell_met(
+    telling::tell_met(
         meet_books::meet(first, first_start, second, second_start),
         met,
     )
@@ -102,7 +102,7 @@ pub extern "C" fn carrier_mark(table: &[i64], start: usize, index: i64, mark: &m
     if mark.len() < 2 {
         return -100;
     }
-    answers::tell_mark(chart::mark(table, start, index), mark)
+    telling::tell_mark(chart::mark(table, start, index), mark)
 }
 
 // A price in whole units of 100 cents: 0, and the units in `units`.
@@ -113,7 +113,7 @@ pub extern "C" fn carrier_voucher(price: i64, units: &mut [i64]) -> i64
     if units.len() < 1 {
         return -100;
     }
-    answers::tell_voucher(vouchers::voucher_price(price), units)
+    telling::tell_voucher(vouchers::voucher_price(price), units)
 }
 
 // The place of the first piece, from which a reading goes on by carrier_piece; 0 where there is none.
@@ -122,7 +122,7 @@ pub extern "C" fn carrier_begin(table: &[i64], start: usize) -> i64
     ensures { λ r. ⌜ Begun start (now (table .entry)) r ⌝ }
 {
     let place = reading::first_place(table, start);
-    answers::place_number(reading::piece_at(table, start, place), place)
+    telling::place_number(reading::piece_at(table, start, place), place)
 }
 
 // Hands out the piece at a place: the place of the next, 0 past the last, and the piece's three words in `piece`.
@@ -135,5 +135,5 @@ pub extern "C" fn carrier_piece(table: &[i64], start: usize, place: i64, piece: 
     }
     let at = table::up_to(4_294_967_295, place);
     let next = reading::place_after(table, start, at);
-    answers::tell_piece(reading::piece_at(table, start, at), next, piece)
+    telling::tell_piece(reading::piece_at(table, start, at), next, piece)
 }

@@ -29,19 +29,19 @@ use Rattle.table.specs.Fields.{capacityWord, envelopeRootWord, mostNodes, mostS
 use Rattle.table.specs.Words.{Words, word, upTo, upTo-in}
 use Rattle.table.specs.Items.{Item}
 use Rattle.table.specs.Threads.{Held as InSlot, Next, Threaded}
-use Rattle.search.specs.ItemLines.{Falls}
-use Rattle.search.specs.Prices.{rateAt, numeratorAt, denominatorAt, crossingPriceAt}
-use Rattle.search.specs.SearchedPieces.{read-rate, read-price, read-numerator, read-denominator}
+use Rattle.walks.specs.ItemLines.{Falls}
+use Rattle.prices.specs.Prices.{rateAt, numeratorAt, denominatorAt, crossingPriceAt}
+use Rattle.walks.specs.SearchedPieces.{read-rate, read-price, read-numerator, read-denominator}
 use Rattle.pieces.specs.Pieces.{items}
 use Rattle.form.specs.Form.{Book, plainOffers}
 use Rattle.query.specs.QueriedPieces.{Pieces}
 use Rattle.query.specs.Plain.{offerOf, pieces-plain}
-use Rattle.query.specs.Counting.{Counted, Passed}
+use Rattle.listing.specs.Counting.{Counted, Passed}
 use Rattle.form.specs.Live.{live-whole, whole-ordered}
-use Rattle.book.specs.Promises.{partOf}
-use Rattle.book.specs.LentPart.{whole-part, no-form, no-book-cause}
-use Rattle.book.specs.Opens.{not-clear}
-use Rattle.book.specs.Rooted.{Root, bare, topped, Top, root-of}
+use Rattle.promises.specs.Promises.{partOf}
+use Rattle.promises.specs.LentPart.{whole-part, no-form, no-book-cause}
+use Rattle.promises.specs.OneCause.{not-clear}
+use Rattle.promises.specs.Rooted.{Root, bare, topped, Top, root-of}
 use Rattle.chart.specs.declared.Marked.{Marked}
 use Rattle.chart.specs.declared.Marked.the-variants.{Declined}
 use Rattle.chart.specs.Promises.{marksBehind, marks, refusal, markTrials, markOf, plainMark, told, Marks}

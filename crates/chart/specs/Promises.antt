@@ -17,7 +17,7 @@ use Rattle.marks.specs.Crossings.{scaledPrice}
 use Rattle.dynamic.specs.OfferTree.{Held}
 use Rattle.table.specs.Items.{Item}
 use Rattle.form.specs.Form.{Book, plainOffers}
-use Rattle.book.specs.Promises.{partOf, noBookTrial}
+use Rattle.promises.specs.Promises.{partOf, noBookTrial}
 use Rattle.chart.specs.declared.Marked.{Marked}
 use Rattle.chart.specs.declared.Marked.the-variants.{Mark, Declined}
 

@@ -28,9 +28,9 @@ fn slot_of(part: &[i64], root: u32, i: u32) -> u32
 fn crossing_at(part: &[i64], slot: u32) -> marks::Mark
     ensures { λ r. ⌜ told r ≡ crossingAt (now (part .entry)) slot ⌝ }
 {
-    let n = search::numerator(part, slot);
-    let d = search::denominator(part, slot);
-    let p = search::crossing_price(part, slot);
+    let n = prices::numerator(part, slot);
+    let d = prices::denominator(part, slot);
+    let p = prices::crossing_price(part, slot);
     marks::crossing(n, d, p)
 }
 
@@ -38,8 +38,8 @@ fn crossing_at(part: &[i64], slot: u32) -> marks::Mark
 fn part_mark(part: &[i64], index: i64) -> Marked
     ensures { λ r. ⌜ PartMark (now (part .entry)) index r ⌝ }
 {
-    let root = table::number_at(part, table::ENVELOPE_ROOT, table::MOST_NODES);
-    let m = query::count(part, root);
+    let root = form::envelope_root(part);
+    let m = listing::count(part, root);
     if m < 1 {
         return Marked::Declined(9);
     }
@@ -51,11 +51,11 @@ fn part_mark(part: &[i64], index: i64) -> Marked
     }
     let i = table::up_to(table::MOST_SLOTS, index);
     if i < 1 {
-        return Marked::Mark(marks::open_end(search::rate(part, slot_of(part, root, 0))));
+        return Marked::Mark(marks::open_end(prices::rate(part, slot_of(part, root, 0))));
     }
     let s = slot_of(part, root, i - 1);
     if i == m {
-        return Marked::Mark(marks::open_end(search::rate(part, s)));
+        return Marked::Mark(marks::open_end(prices::rate(part, s)));
     }
     Marked::Mark(crossing_at(part, s))
 }
@@ -64,7 +64,7 @@ fn part_mark(part: &[i64], index: i64) -> Marked
 pub fn mark(table: &[i64], start: usize, index: i64) -> Marked
     ensures { λ r. ⌜ Marks start (now (table .entry)) index r ⌝ }
 {
-    if book::no_book(table, start) {
+    if promises::no_book(table, start) {
         return Marked::Declined(3);
     }
     part_mark(&table[start..], index)

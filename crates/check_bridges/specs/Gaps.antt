@@ -17,7 +17,7 @@ use Rattle.table.specs.Fields.{baseField, rateField}
 use Rattle.table.specs.Words.{Words}
 use Rattle.table.specs.Layout.{cell}
 use Rattle.table.specs.Items.{Item}
-use Rattle.search.specs.Prices.{rateAt, baseAt, rate-ranged, base-ranged}
+use Rattle.prices.specs.Prices.{rateAt, baseAt, rate-ranged, base-ranged}
 use Rattle.pieces.specs.Pieces.{items, rateOf, baseOf}
 use Rattle.check_trees.specs.Laid.{itemAt}
 

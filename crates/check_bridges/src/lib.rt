@@ -12,14 +12,14 @@ ghost use Rattle.check_bridges.specs.Bridges.{Bridges, Ends, Follows, Th
 fn base_gap(part: &[i64], a: u32, b: u32) -> i64
     ensures { λ r. ⌜ r ≡ baseGap (now (part .entry)) a b ⌝ }
 {
-    search::base(part, b) - search::base(part, a)
+    prices::base(part, b) - prices::base(part, a)
 }
 
 // The denominator.
 fn rate_gap(part: &[i64], a: u32, b: u32) -> i64
     ensures { λ r. ⌜ r ≡ rateGap (now (part .entry)) a b ⌝ }
 {
-    search::rate(part, a) - search::rate(part, b)
+    prices::rate(part, a) - prices::rate(part, b)
 }
 
 // Slot `a` leads to slot `b` and keeps the crossing with its line.

@@ -8,7 +8,7 @@ pub mod Orders
 -- ways through the code: the envelopes stored with a tree of offers, and the root of the whole one's pieces: how the code finds them
 pub mod Envelops
 -- lemmas: the offers of a part, told by words 1, 2 and 3 of the header: how the code finds them
-pub mod OffersStand
+pub mod OffersFound
 -- lemmas: a right header, and a tree of offers with its envelopes where it says: those are a part's offers
 pub mod OffersSound
 -- lemmas: a part's offers are where its header says: the tree in shape and order, with its envelopes

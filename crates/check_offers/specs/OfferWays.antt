@@ -18,7 +18,7 @@ use Rattle.check_trees.specs.Fills.{Fills}
 use Rattle.check_offers.specs.Headers.{Header}
 use Rattle.check_offers.specs.Orders.{StandsOver, Orders, stands-filled, filled-tree, filled-next, filled-items}
 use Rattle.check_offers.specs.Envelops.{Envelops}
-use Rattle.check_offers.specs.OffersStand.{OffersFound, OffersAt, Offers}
+use Rattle.check_offers.specs.OffersFound.{OffersFound, OffersAt, Offers}
 use Rattle.check_offers.specs.OffersSound.{offers-sound, offers-none-sound}
 use Rattle.check_offers.specs.OffersComplete.{offers-complete, offers-none-complete}
 

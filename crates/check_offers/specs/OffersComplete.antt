@@ -27,7 +27,7 @@ use Rattle.check_trees.specs.Laid.{itemAt, AllPlaced}
 use Rattle.check_merge.specs.Stands.{Stands}
 use Rattle.check_offers.specs.Headers.{Header}
 use Rattle.check_offers.specs.Envelops.{Enveloped}
-use Rattle.check_offers.specs.OffersStand.{OffersFound, OffersAt}
+use Rattle.check_offers.specs.OffersFound.{OffersFound, OffersAt}
 
 -- ---- items whose slots hold their offers
 

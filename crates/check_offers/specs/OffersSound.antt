@@ -18,7 +18,7 @@ use Rattle.form.specs.Stored.{Stored, HeldIn}
 use Rattle.check_merge.specs.Stands.{Stands, stands-slots, stands-holds, Decorated}
 use Rattle.table.specs.PartTrees.{partRef}
 use Rattle.check_offers.specs.Headers.{Header}
-use Rattle.check_offers.specs.OffersStand.{OffersFound, OffersAt}
+use Rattle.check_offers.specs.OffersFound.{OffersFound, OffersAt}
 
 -- the tree with its envelope
 abbrev with-whole : OfferTree Item → Part Item → Held Item

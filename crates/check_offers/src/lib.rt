@@ -11,7 +11,7 @@ ghost use Rattle.check_offers.specs.OfferWalks.{Walks};
 ghost use Rattle.check_offers.specs.Headers.{Header};
 ghost use Rattle.check_offers.specs.Orders.{Orders};
 ghost use Rattle.check_offers.specs.Envelops.{Envelops};
-ghost use Rattle.check_offers.specs.OffersStand.{Offers};
+ghost use Rattle.check_offers.specs.OffersFound.{Offers};
 
 // The envelope of leaf `x` is its own line.
 fn single(x: u32, scratch: &mut [u32; check_trees::SCRATCH], at: usize) -> Walked
@@ -123,8 +123,8 @@ pub fn offers(part: &[i64], scratch: &mut [u32; check_trees::SCRATCH], n: u32) -
     if n == 0 {
         return header(part, 0, 0, 0);
     }
-    let x = table::number_at(part, table::OFFERS_ROOT, table::MOST_NODES);
-    let e = table::number_at(part, table::ENVELOPE_ROOT, table::MOST_NODES);
+    let x = form::offers_root(part);
+    let e = form::envelope_root(part);
     if !header(part, x, e, n) {
         return false;
     }

@@ -18,7 +18,7 @@ use Rattle.form.specs.Form.{OffersIn, Numbered, Freely, Book, BookStands, plain
 use Rattle.check_trees.specs.Stretches.{span}
 use Rattle.check_trees.specs.Deciding.{Decides, decides-no}
 use Rattle.check_trees.specs.Laid.{itemsAt, AllPlaced}
-use Rattle.check_offers.specs.OffersStand.{OffersFound, Offers}
+use Rattle.check_offers.specs.OffersFound.{OffersFound, Offers}
 use Rattle.check_offers.specs.OffersComplete.{holds-placed}
 use Rattle.check_numbers.specs.Tallies.{Tallies}
 

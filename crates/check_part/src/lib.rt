@@ -1,6 +1,7 @@
-// Whether a part has the form of a book: yes exactly where it has. Any words are safe.
+// Whether a part has the form of a book, and whether there is one in a lent table: yes exactly where it has. Any words are safe.
 ghost use Rattle.form.specs.Form.{BookStands};
 ghost use Rattle.check_trees.specs.Deciding.{Decides};
+ghost use Rattle.promises.specs.Promises.{Checks};
 
 // The free slots, then the offers with their envelopes, then the numbers over the slots that the offers left in the scratch array.
 pub fn book_stands(part: &[i64]) -> bool
@@ -18,4 +19,14 @@ pub fn book_stands(part: &[i64]) -> bool
         return false;
     }
     check_numbers::numbers(part, &mut scratch, n as usize)
+}
+
+// Whether the words from `start` on have the form of a book, every envelope the lower envelope of the offers below it.
+pub fn check(table: &[i64], start: usize) -> bool
+    ensures { λ r. ⌜ Checks start (now (table .entry)) r ⌝ }
+{
+    if promises::no_book(table, start) {
+        return false;
+    }
+    book_stands(&table[start..])
 }

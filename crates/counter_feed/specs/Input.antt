@@ -12,7 +12,7 @@ use Rattle.counter_print.specs.Texts.{newline}
 use Rattle.counter_columns.specs.Commands.{parsed-unique, commandOf, command-parsed, wrong-length}
 use Rattle.table.specs.Fields.{capacityWord}
 use Rattle.table.specs.Words.{word}
-use Rattle.book.specs.Promises.{partOf, capacityAt, OnlyPart}
+use Rattle.promises.specs.Promises.{partOf, capacityAt, OnlyPart}
 use Rattle.counter_keep.specs.declared.Line.{Line}
 use Rattle.counter_keep.specs.Kept.{Keeps, Pushes, kept-length, kept-all}
 use Rattle.counter_line.specs.Promises.{Counts}

@@ -14,8 +14,8 @@ use Rattle.counter_print.specs.Texts.{newline}
 use Rattle.dynamic.specs.OfferTree.{Held}
 use Rattle.table.specs.Items.{Item}
 use Rattle.form.specs.Form.{Book}
-use Rattle.book.specs.declared.Opening.{Opening}
-use Rattle.book.specs.Promises.{partOf, Opens}
+use Rattle.promises.specs.declared.Opening.{Opening}
+use Rattle.promises.specs.Promises.{partOf, Opens}
 use Rattle.counter_keep.specs.declared.Line.{Line}
 use Rattle.counter_keep.specs.Kept.{Keeps}
 use Rattle.counter_line.specs.Promises.{capacity, told, toldAll, linesFrom, output, most, Stands, Counts}

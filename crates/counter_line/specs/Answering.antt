@@ -19,10 +19,10 @@ use Rattle.table.specs.Words.{word}
 use Rattle.table.specs.Layout.{cap-most}
 use Rattle.table.specs.Items.{Item}
 use Rattle.form.specs.Form.{Book}
-use Rattle.book.specs.declared.Update.{Update}
-use Rattle.book.specs.declared.Found.{Found}
-use Rattle.book.specs.declared.Listed.{Listed}
-use Rattle.book.specs.Promises.{partOf, capacityAt, tableTrials, OnlyPart, Updates, Queries, Lists, updateAnswer, foundAnswer, listingAnswer}
+use Rattle.promises.specs.declared.Update.{Update}
+use Rattle.promises.specs.declared.Found.{Found}
+use Rattle.promises.specs.declared.Listed.{Listed}
+use Rattle.promises.specs.Promises.{partOf, capacityAt, tableTrials, OnlyPart, Updates, Queries, Lists, updateAnswer, foundAnswer, listingAnswer}
 use Rattle.form.specs.Live.{book-sound}
 use Rattle.history.specs.Claim.{asked-state, listed-state}
 use Rattle.counter_line.specs.Promises.{room, letterOf, named, outcome, most, Stands, Declines, Obeys, Counts}

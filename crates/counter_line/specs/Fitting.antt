@@ -16,7 +16,7 @@ use Rattle.plain.specs.Causes.{Cause, declined, causeNumber, capacityOutOfRange
 use Rattle.plain.specs.Book.{State, Call, post, withdraw, query, listing, refused, live, cheapest, envelope, pieceWords, trials, respond, accepted, step}
 use Rattle.plain.specs.Sound.{Sound, clear, step-sound}
 use Rattle.plain.specs.QueryLaws.{cheapest-names}
-use Rattle.book.specs.Numbered.{from-one}
+use Rattle.promises.specs.Numbered.{from-one}
 use Rattle.counter_print.specs.Texts.{FitsIn}
 use Rattle.counter_print.specs.Decimals.{fits-column, fits-unsigned}
 use Rattle.counter_reply.specs.Replies.{PiecesFit, Fits, zero-fits}

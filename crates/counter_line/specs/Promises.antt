@@ -21,7 +21,7 @@ use Rattle.table.specs.Fields.{capacityWord}
 use Rattle.table.specs.Words.{word}
 use Rattle.table.specs.Items.{Item}
 use Rattle.form.specs.Form.{Book}
-use Rattle.book.specs.Promises.{partOf, capacityAt, tableTrials, OnlyPart}
+use Rattle.promises.specs.Promises.{partOf, capacityAt, tableTrials, OnlyPart}
 
 -- ---- the plain counter
 

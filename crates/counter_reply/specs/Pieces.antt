@@ -10,7 +10,7 @@ use Rattle.plain.specs.Book.{listed}
 use Rattle.table.specs.Words.{word, upTo, upTo-in, upTo-most}
 use Rattle.counter_print.specs.Texts.{FitsIn, answerLine}
 use Rattle.counter_print.specs.Printed.{Answers}
-use Rattle.book.specs.Promises.{counted}
+use Rattle.promises.specs.Promises.{counted}
 use Rattle.counter_reply.specs.Answered.{pieceLines, Prints}
 use Rattle.counter_reply.specs.Replies.{PiecesFit, Replies, zero-fits, one-line}
 

@@ -9,7 +9,7 @@ use Rattle.plain.specs.Book.{Answer, refused, live, found, listed}
 use Rattle.counter_print.specs.Texts.{decimal, numeral, digits, digitsWithin, FitsIn, answerLine}
 use Rattle.counter_print.specs.Justified.{justified-width}
 use Rattle.counter_print.specs.Printed.{Answers}
-use Rattle.book.specs.Promises.{counted}
+use Rattle.promises.specs.Promises.{counted}
 use Rattle.counter_reply.specs.Answered.{answered, Prints}
 
 -- ---- what fits its columns

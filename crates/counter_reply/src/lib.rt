@@ -1,12 +1,12 @@
 // The lines of the book's answers, as the counter prints them.
-use book::Found;
-use book::Listed;
-use book::Update;
+use promises::Found;
+use promises::Listed;
+use promises::Update;
 ghost use mathlib.Core.Path.{_≡_};
 ghost use Prim.Native.Nat.{_+_, _*_, _≤_};
 ghost use lib.ListN.{length};
 ghost use lib.IntN.{pos};
-ghost use Rattle.book.specs.Promises.{updateAnswer, foundAnswer, listingAnswer};
+ghost use Rattle.promises.specs.Promises.{updateAnswer, foundAnswer, listingAnswer};
 ghost use Rattle.counter_reply.specs.Replies.{Replies};
 ghost use Rattle.counter_reply.specs.Pieces.{PieceLine, PiecesTo};
 

@@ -1,7 +1,23 @@
-// What stays with a node of the tree of offers, read off a part's words. All else in this crate is what a book's words mean (specs).
+// What a part's words tell of its trees: their roots, and what stays with a node of the tree of offers. All else in this crate is what a
+// book's words mean (specs).
 ghost use mathlib.Core.Path.{_≡_};
 ghost use Rattle.table.specs.Layout.{cap};
 ghost use Rattle.form.specs.RestWords.{restAt};
+ghost use Rattle.form.specs.Roots.{envelopeRoot, offersRoot};
+
+// The root of the book's envelope, its tree of pieces.
+pub fn envelope_root(part: &[i64]) -> u32
+    ensures { λ r. ⌜ r ≡ envelopeRoot (now (part .entry)) ⌝ }
+{
+    table::number_at(part, table::ENVELOPE_ROOT, table::MOST_NODES)
+}
+
+// The root of the tree of offers.
+pub fn offers_root(part: &[i64]) -> u32
+    ensures { λ r. ⌜ r ≡ offersRoot (now (part .entry)) ⌝ }
+{
+    table::number_at(part, table::OFFERS_ROOT, table::MOST_NODES)
+}
 
 // The root of the pieces that stay with node `n`. `c` is the capacity.
 pub fn rest_in(part: &[i64], c: u32, n: u32) -> u32

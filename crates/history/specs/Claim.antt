@@ -19,11 +19,11 @@ use Rattle.dynamic.specs.Heights.{offers-height, piece-height}
 use Rattle.dynamic.specs.Work.{Work}
 use Rattle.table.specs.Items.{Item}
 use Rattle.pieces.specs.Pieces.{items}
-use Rattle.book.specs.declared.Opening.{Opening}
-use Rattle.book.specs.declared.Opening.the-variants.{Opened}
+use Rattle.promises.specs.declared.Opening.{Opening}
+use Rattle.promises.specs.declared.Opening.the-variants.{Opened}
 use Rattle.form.specs.Form.{Book, OffersIn}
 use Rattle.form.specs.Local.{Alike, book-alike}
-use Rattle.book.specs.Promises.{partOf, Opens, Passes}
+use Rattle.promises.specs.Promises.{partOf, Opens, Passes}
 use Rattle.history.specs.History.{Happens, by-update, by-query, by-listing, History, finished, next, LowPairs, Kept, EachCall}
 pub use Rattle.history.specs.History.{Low, Claim}
 

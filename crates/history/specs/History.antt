@@ -13,12 +13,12 @@ use Rattle.trees.specs.Operations.{Part, partLeaves, partHeight}
 use Rattle.dynamic.specs.OfferTree.{Held, heldShape, Pair}
 use Rattle.dynamic.specs.Rearranged.{pieceTrees}
 use Rattle.table.specs.Items.{Item}
-use Rattle.book.specs.declared.Update.{Update}
-use Rattle.book.specs.declared.Found.{Found}
-use Rattle.book.specs.declared.Listed.{Listed}
+use Rattle.promises.specs.declared.Update.{Update}
+use Rattle.promises.specs.declared.Found.{Found}
+use Rattle.promises.specs.declared.Listed.{Listed}
 use Rattle.form.specs.Form.{Book}
 use Rattle.form.specs.Local.{Alike}
-use Rattle.book.specs.Promises.{partOf, Updates, Follows, Queries, Probes, Lists, updateAnswer, foundReturned, foundAnswer, listingAnswer}
+use Rattle.promises.specs.Promises.{partOf, Updates, Follows, Queries, Probes, Lists, updateAnswer, foundReturned, foundAnswer, listingAnswer}
 
 -- The calls that change a book: each is an update.
 pub data Changes : Call → Type 0 where

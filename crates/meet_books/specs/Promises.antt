@@ -27,7 +27,7 @@ use Rattle.table.specs.Words.{word}
 use Rattle.table.specs.Items.{Item}
 use Rattle.pieces.specs.Pieces.{items}
 use Rattle.form.specs.Form.{Book, numberOf, plainOffers}
-use Rattle.book.specs.Promises.{partOf, rootPart}
+use Rattle.promises.specs.Promises.{partOf, rootPart}
 use Rattle.meet_books.specs.declared.Met.{Met}
 use Rattle.meet_books.specs.declared.Met.the-variants.{Meeting, Declined}
 

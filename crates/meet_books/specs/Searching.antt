@@ -35,8 +35,8 @@ use Rattle.pieces.specs.Pieces.{items, item-laws}
 use Rattle.query.specs.Plain.{offerOf, pieces-plain}
 use Rattle.form.specs.Form.{Book, numberOf, plainOffers}
 use Rattle.filing.specs.Sought.{count-read}
-use Rattle.book.specs.Opens.{one-cause, not-clear}
-use Rattle.book.specs.Rooted.{Root, topped, Top, root-of}
+use Rattle.promises.specs.OneCause.{one-cause, not-clear}
+use Rattle.promises.specs.Rooted.{Root, topped, Top, root-of}
 use Rattle.meet_books.specs.declared.Met.{Met}
 use Rattle.meet_books.specs.declared.Met.the-variants.{Meeting, Declined}
 use Rattle.meet_books.specs.Promises.{meetTrials, refused, met, Found, Answers}

@@ -12,10 +12,10 @@ use Rattle.plain.specs.Book.{noBookAt}
 use Rattle.plain.specs.Rules.{FirstOf, at-once}
 use Rattle.table.specs.Fields.{capacityWord}
 use Rattle.table.specs.Words.{Words, word}
-use Rattle.book.specs.Promises.{partOf}
-use Rattle.book.specs.Plainly.{book-there}
-use Rattle.book.specs.LentPart.{whole-part}
-use Rattle.book.specs.Opens.{one-cause, not-clear}
+use Rattle.promises.specs.Promises.{partOf}
+use Rattle.promises.specs.Plainly.{book-there}
+use Rattle.promises.specs.LentPart.{whole-part}
+use Rattle.promises.specs.OneCause.{one-cause, not-clear}
 use Rattle.meet_books.specs.declared.Met.{Met}
 use Rattle.meet_books.specs.declared.Met.the-variants.{Declined}
 use Rattle.meet_books.specs.Promises.{noBookTrials, refused, MeetsBooks}

@@ -32,8 +32,8 @@ fn is_empty(part: &[i64]) -> bool
 fn stand_apart(left: &[i64], right: &[i64]) -> bool
     ensures { λ r. ⌜ SetsApart (now (left .entry)) (now (right .entry)) r ⌝ }
 {
-    let x = table::number_at(left, table::OFFERS_ROOT, table::MOST_NODES);
-    let y = table::number_at(right, table::OFFERS_ROOT, table::MOST_NODES);
+    let x = form::offers_root(left);
+    let y = form::offers_root(right);
     let a = descents::end(left, table::OFFERS, true, x);
     let b = descents::end(right, table::OFFERS, false, y);
     let rate = table::get(right, table::RATE, b);
@@ -44,8 +44,8 @@ fn stand_apart(left: &[i64], right: &[i64]) -> bool
 fn search_roots(left: &[i64], right: &[i64]) -> Met
     ensures { λ r. ⌜ Searches (now (left .entry)) (now (right .entry)) r ⌝ }
 {
-    let l = table::number_at(left, table::ENVELOPE_ROOT, table::MOST_NODES);
-    let r = table::number_at(right, table::ENVELOPE_ROOT, table::MOST_NODES);
+    let l = form::envelope_root(left);
+    let r = form::envelope_root(right);
     let m = search::meet(left, right, l, r);
     let u = table::get(left, table::NUMBER, m.u);
     let v = table::get(right, table::NUMBER, m.v);
@@ -80,10 +80,10 @@ fn meet_parts(left: &[i64], right: &[i64]) -> Met
 pub fn meet(left: &[i64], left_start: usize, right: &[i64], right_start: usize) -> Met
     ensures { λ r. ⌜ MeetsBooks (now (left .entry)) «left_start» (now (right .entry)) «right_start» r ⌝ }
 {
-    if book::no_book(left, left_start) {
+    if promises::no_book(left, left_start) {
         return Met::Declined(3);
     }
-    if book::no_book(right, right_start) {
+    if promises::no_book(right, right_start) {
         return Met::Declined(3);
     }
     meet_parts(&left[left_start..], &right[right_start..])

@@ -12,7 +12,7 @@ use Rattle.integers.specs.Magnitude.{fits, natAbs-gap}
 use Rattle.offers.specs.Sizes.{base-gap-fits, rate-gap-fits}
 use Rattle.table.specs.Fields.{mostLevels, pieceTree, rateField}
 use Rattle.table.specs.Words.{Words}
-use Rattle.search.specs.Prices.{rateAt, baseAt, rate-ranged, base-ranged}
+use Rattle.prices.specs.Prices.{rateAt, baseAt, rate-ranged, base-ranged}
 use Rattle.descents.specs.Cuts.{Halving}
 use Rattle.pieces.specs.Pieces.{CutAt}
 use Rattle.pieces.specs.Cutting.{leastRate, cut-at}

@@ -7,7 +7,7 @@ use mathlib.Core.Option.{Option, none, some}
 use Prim.Native.Nat.{ℕ}
 use lib.IntN.{ℤ}
 use lib.Signed.{leZ, ltZ}
-pub use Rattle.search.specs.ItemLines.{rateOf, baseOf, itemFigure as items, itemLaws as item-laws}
+pub use Rattle.walks.specs.ItemLines.{rateOf, baseOf, itemFigure as items, itemLaws as item-laws}
 use Rattle.trees.specs.Tree.{Tree, leaves, first, last}
 use Rattle.trees.specs.Operations.{Part, Cut, partLeaves, joinP, splitP}
 use Rattle.trees.specs.Balanced.{AvlP}

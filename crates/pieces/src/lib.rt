@@ -53,8 +53,8 @@ pub fn cat_at(part: &mut [i64], c: u32, l: u32, r: u32, s: u32, n: u32) -> u32
     if r == 0 {
         return l;
     }
-    let numerator = search::prices::base_in(part, c, n) - search::prices::base_in(part, c, s);
-    let denominator = search::prices::rate_in(part, c, s) - search::prices::rate_in(part, c, n);
+    let numerator = prices::base_in(part, c, n) - prices::base_in(part, c, s);
+    let denominator = prices::rate_in(part, c, s) - prices::rate_in(part, c, n);
     table::put_three_in(
         part,
         c,

@@ -94,35 +94,25 @@ fn say(label: &[u8], told: u32, expected: u32) {
     io::write_all(STDOUT_FILENO, b"\n");
 }
 
-fn main() {
-    let mut words = [0i64; 15424];
-    let all = bases();
-    fill(&mut words, all);
-    let l = build(&mut words, 0);
-    let r = build(&mut words, 120);
-    say(b"first piece: ", descents::end(&words, 0, false, l), 1);
-    say(b"last piece: ", descents::end(&words, 0, true, l), 120);
-    say(b"found by rate: ", descents::find(&words, 0, 1, 950, l), 50);
-    let c = pieces::cut(&mut words, false, 950, l);
-    let front = c.front;
-    let back = c.back;
-    say(
-        b"last in front of the cut: ",
-        descents::end(&words, 0, true, front),
-        50,
-    );
-    say(
-        b"first behind it: ",
-        descents::end(&words, 0, false, back),
-        51,
-    );
-    let y = pieces::cat(&mut words, front, back);
-    say(
-        b"last of both together: ",
-        descents::end(&words, 0, true, y),
-        120,
-    );
-    let met = search::meet(&words, &words, y, r);
+// The ends of a tree of the left 120, and a piece found in it.
+fn ends(part: &[i64], l: u32) {
+    say(b"first piece: ", descents::end(part, 0, false, l), 1);
+    say(b"last piece: ", descents::end(part, 0, true, l), 120);
+    say(b"found by rate: ", descents::find(part, 0, 1, 950, l), 50);
+}
+
+// The tree cut in two, and the two put together again.
+fn halves(part: &mut [i64], l: u32) -> u32 {
+    let c = pieces::cut(part, false, 950, l);
+    let last = descents::end(part, 0, true, c.front);
+    let first = descents::end(part, 0, false, c.back);
+    say(b"last in front of the cut: ", last, 50);
+    say(b"first behind it: ", first, 51);
+    pieces::cat(part, c.front, c.back)
+}
+
+// The meeting of the two trees: the first load from 150 on at which the right is not the dearer.
+fn meeting(met: search::Met, all: [u32; 241]) {
     let mut prices = at_150(all);
     let loads: u32 = 100;
     for load in 0..loads {
@@ -135,4 +125,20 @@ fn main() {
         }
         prices = at_next(prices);
     }
+}
+
+fn main() {
+    let mut words = [0i64; 15424];
+    let all = bases();
+    fill(&mut words, all);
+    let l = build(&mut words, 0);
+    let r = build(&mut words, 120);
+    ends(&words, l);
+    let y = halves(&mut words, l);
+    say(
+        b"last of both together: ",
+        descents::end(&words, 0, true, y),
+        120,
+    );
+    meeting(search::meet(&words, &words, y, r), all);
 }

@@ -1,4 +1,4 @@
--- Queries and listings: what a walk down the pieces' tree finds, what a walk along the pieces writes, and that both are the plain book's.
+-- Queries: what a walk down the pieces' tree finds, and that it is the plain book's.
 -- statement and lemmas: a query on a tree of pieces: from the root to a leaf, at each node to the side of the crossing on which the load lies
 pub mod Lookup
 -- lemmas: the item that a query reaches is the first in order among the cheapest of all lines
@@ -13,7 +13,3 @@ pub mod Groups
 pub mod QueriedPieces
 -- ways through the code: a query's walk down the words of a tree of pieces is the walk down the tree
 pub mod Descent
--- statement and lemmas: along the thread, from the first piece to the last, every piece is passed one time
-pub mod Counting
--- ways through the code: a listing's words, written piece by piece along the thread, are the plain listing's
-pub mod Listing

@@ -28,13 +28,13 @@ use Rattle.descents.specs.Ends.{Ended}
 use Rattle.form.specs.Form.{Book, plainOffers}
 use Rattle.query.specs.QueriedPieces.{Pieces}
 use Rattle.query.specs.Plain.{offerOf, pieces-plain}
-use Rattle.query.specs.Listing.{crossingWord}
-use Rattle.query.specs.Counting.{Passed, all-passed, not-all, go-on}
+use Rattle.listing.specs.Listing.{crossingWord}
+use Rattle.listing.specs.Counting.{Passed, all-passed, not-all, go-on}
 use Rattle.form.specs.Live.{live-whole, whole-ordered}
-use Rattle.book.specs.Promises.{partOf, noBookTrial}
-use Rattle.book.specs.LentPart.{whole-part, no-form, no-book-cause}
-use Rattle.book.specs.Opens.{not-clear}
-use Rattle.book.specs.Rooted.{Root, bare, topped, Top, root-of}
+use Rattle.promises.specs.Promises.{partOf, noBookTrial}
+use Rattle.promises.specs.LentPart.{whole-part, no-form, no-book-cause}
+use Rattle.promises.specs.OneCause.{not-clear}
+use Rattle.promises.specs.Rooted.{Root, bare, topped, Top, root-of}
 use Rattle.reading.specs.declared.Handed.{Handed}
 use Rattle.reading.specs.declared.Handed.the-variants.{Piece, Declined}
 use Rattle.reading.specs.Promises.{ended, refused, told, pieceOf, listedAt, rootPieces, PlaceOf, at-piece, past-last, Before, Starts, Moves, Hands}

@@ -18,7 +18,7 @@ pub enum Handed {
 fn part_first(part: &[i64]) -> u32
     ensures { λ r. ⌜ Before (now (part .entry)) 0 r ⌝ }
 {
-    let root = table::number_at(part, table::ENVELOPE_ROOT, table::MOST_NODES);
+    let root = form::envelope_root(part);
     descents::end(part, table::PIECES, false, root)
 }
 
@@ -29,7 +29,7 @@ fn part_after(part: &[i64], place: u32) -> u32
     if place < 1 {
         return 0;
     }
-    let root = table::number_at(part, table::ENVELOPE_ROOT, table::MOST_NODES);
+    let root = form::envelope_root(part);
     if place == descents::end(part, table::PIECES, true, root) {
         return 0;
     }
@@ -43,11 +43,11 @@ fn part_piece(part: &[i64], place: u32) -> Handed
     if place < 1 {
         return Handed::End;
     }
-    let root = table::number_at(part, table::ENVELOPE_ROOT, table::MOST_NODES);
+    let root = form::envelope_root(part);
     let last = place == descents::end(part, table::PIECES, true, root);
     let number = table::get(part, table::NUMBER, place);
-    let numerator = query::crossing_word(part, table::NUMERATOR, place, last);
-    let denominator = query::crossing_word(part, table::DENOMINATOR, place, last);
+    let numerator = listing::crossing_word(part, table::NUMERATOR, place, last);
+    let denominator = listing::crossing_word(part, table::DENOMINATOR, place, last);
     Handed::Piece {
         number: number,
         numerator: numerator,
@@ -59,7 +59,7 @@ fn part_piece(part: &[i64], place: u32) -> Handed
 pub fn first_place(table: &[i64], start: usize) -> u32
     ensures { λ r. ⌜ Starts start (now (table .entry)) r ⌝ }
 {
-    if book::no_book(table, start) {
+    if promises::no_book(table, start) {
         return 0;
     }
     part_first(&table[start..])
@@ -69,7 +69,7 @@ pub fn first_place(table: &[i64], start: usize) -> u32
 pub fn place_after(table: &[i64], start: usize, place: u32) -> u32
     ensures { λ r. ⌜ Moves start (now (table .entry)) place r ⌝ }
 {
-    if book::no_book(table, start) {
+    if promises::no_book(table, start) {
         return 0;
     }
     part_after(&table[start..], place)
@@ -79,7 +79,7 @@ pub fn place_after(table: &[i64], start: usize, place: u32) -> u32
 pub fn piece_at(table: &[i64], start: usize, place: u32) -> Handed
     ensures { λ r. ⌜ Hands start (now (table .entry)) place r ⌝ }
 {
-    if book::no_book(table, start) {
+    if promises::no_book(table, start) {
         return Handed::Declined(3);
     }
     part_piece(&table[start..], place)

@@ -12,7 +12,7 @@ use Rattle.plain.specs.Book.{State}
 use Rattle.dynamic.specs.OfferTree.{Held}
 use Rattle.table.specs.Items.{Item}
 use Rattle.form.specs.Form.{Book, plainOffers}
-use Rattle.book.specs.Promises.{partOf, noBookTrial}
+use Rattle.promises.specs.Promises.{partOf, noBookTrial}
 use Rattle.reading_steps.specs.declared.Reading.{Reading}
 use Rattle.reading.specs.declared.Handed.{Handed}
 use Rattle.reading.specs.Promises.{told, refusal, listedAt, Before, Nowhere, Starts, Moves, Hands}

@@ -5,7 +5,7 @@ ghost use mathlib.Core.Path.{_≡_};
 ghost use Prim.Native.Nat.{_+_};
 ghost use Rattle.reading.specs.Promises.{Before, Hands};
 ghost use Rattle.reading_steps.specs.ReadingSteps.{Begins, Advances, HandsAt};
-ghost use Rattle.book.specs.Promises.{partOf};
+ghost use Rattle.promises.specs.Promises.{partOf};
 
 pub struct Reading<'a> {
     pub table: &'a [i64],

@@ -15,8 +15,8 @@ use Rattle.plain.specs.Sound.{Clear}
 use Rattle.dynamic.specs.OfferTree.{Held}
 use Rattle.table.specs.Items.{Item}
 use Rattle.form.specs.Form.{Book}
-use Rattle.book.specs.declared.Opening.{Opening}
-use Rattle.book.specs.Promises.{partOf, capacityAt, OnlyPart, Opens}
+use Rattle.promises.specs.declared.Opening.{Opening}
+use Rattle.promises.specs.Promises.{partOf, capacityAt, OnlyPart, Opens}
 use Rattle.history.specs.History.{History}
 use Rattle.history.specs.Claim.{Claim}
 use Rattle.replay.specs.declared.Replayed.{Replayed}

@@ -14,9 +14,9 @@ use Rattle.plain.specs.Sound.{Clear}
 use Rattle.dynamic.specs.OfferTree.{Held}
 use Rattle.table.specs.Items.{Item}
 use Rattle.form.specs.Form.{Book}
-use Rattle.book.specs.declared.Opening.{Opening}
-use Rattle.book.specs.declared.Opening.the-variants.{Opened, Declined as OpeningDeclined}
-use Rattle.book.specs.Promises.{partOf, capacityAt, Opens}
+use Rattle.promises.specs.declared.Opening.{Opening}
+use Rattle.promises.specs.declared.Opening.the-variants.{Opened, Declined as OpeningDeclined}
+use Rattle.promises.specs.Promises.{partOf, capacityAt, Opens}
 use Rattle.form.specs.There.{cap-there}
 use Rattle.history.specs.Claim.{from-book}
 use Rattle.replay.specs.declared.Replayed.{Replayed}

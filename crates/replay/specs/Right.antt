@@ -11,18 +11,18 @@ use lib.Seq.{getD-take}
 use lib.IntN.{ℤ, pos, negsuc}
 use Rattle.integers.specs.Equal.{equal}
 use Rattle.plain.specs.Book.{State, Call, post, withdraw, query, listing, Answer, refused, live, found, listed, step, answers}
-use Rattle.book.specs.declared.Update.{Update}
-use Rattle.book.specs.declared.Update.the-variants.{Done, Declined as UpdateDeclined}
-use Rattle.book.specs.declared.Found.{Found}
-use Rattle.book.specs.declared.Found.the-variants.{Offer, Declined as FoundDeclined}
-use Rattle.book.specs.declared.Listed.{Listed}
-use Rattle.book.specs.declared.Listed.the-variants.{Pieces, Declined as ListingDeclined}
+use Rattle.promises.specs.declared.Update.{Update}
+use Rattle.promises.specs.declared.Update.the-variants.{Done, Declined as UpdateDeclined}
+use Rattle.promises.specs.declared.Found.{Found}
+use Rattle.promises.specs.declared.Found.the-variants.{Offer, Declined as FoundDeclined}
+use Rattle.promises.specs.declared.Listed.{Listed}
+use Rattle.promises.specs.declared.Listed.the-variants.{Pieces, Declined as ListingDeclined}
 use Rattle.dynamic.specs.OfferTree.{Held}
 use Rattle.table.specs.Items.{Item}
 use Rattle.form.specs.Form.{Book}
 use Rattle.form.specs.Local.{Alike, book-alike}
-use Rattle.book.specs.Promises.{partOf, writtenWords, counted, updateAnswer, foundAnswer, listingAnswer}
-use Rattle.book.specs.Numbered.{numbered}
+use Rattle.promises.specs.Promises.{partOf, writtenWords, counted, updateAnswer, foundAnswer, listingAnswer}
+use Rattle.promises.specs.Numbered.{numbered}
 use Rattle.history.specs.History.{Happens, posting, withdrawing, by-update, by-query, by-listing, History, finished, next}
 use Rattle.history.specs.Claim.{step-capacity, one-call}
 use Rattle.replay_words.specs.Encoding.{stretch, updateWords, foundWords, listedWords, acceptedAnswer, answerOf, told, spared, Spares}

@@ -10,8 +10,8 @@ use lib.Seq.{take-at, drop-at, drop-drop, take-add, take-take, take-append-le, d
 use lib.IntN.{ℤ, pos, natAbs}
 use borrow.Author.Tests.{leb-true}
 use Rattle.plain.specs.Book.{Call, post, withdraw, query, listing, Answer, partLength}
-use Rattle.book.specs.Promises.{partOf, capacityAt, OnlyPart}
-use Rattle.book.specs.LentPart.{whole-part, lent-back}
+use Rattle.promises.specs.Promises.{partOf, capacityAt, OnlyPart}
+use Rattle.promises.specs.LentPart.{whole-part, lent-back}
 use Rattle.form.specs.Local.{Alike}
 use Rattle.history.specs.History.{Happens, posting, withdrawing, by-update, by-query, by-listing, History, finished, next}
 use Rattle.replay_words.specs.Encoding.{nextCall, stretch, fitting, runnable}

@@ -11,13 +11,13 @@ use lib.IntN.{ℤ}
 use lib.Dec.{leb}
 use borrow.Author.Tests.{leb-true}
 use Rattle.plain.specs.Book.{Call, post, withdraw, query, listing, Answer}
-use Rattle.book.specs.declared.Update.{Update}
-use Rattle.book.specs.declared.Update.the-variants.{Done, Declined as UpdateDeclined}
-use Rattle.book.specs.declared.Found.{Found}
-use Rattle.book.specs.declared.Found.the-variants.{Offer, Declined as FoundDeclined}
-use Rattle.book.specs.declared.Listed.{Listed}
-use Rattle.book.specs.declared.Listed.the-variants.{Pieces, Declined as ListingDeclined}
-use Rattle.book.specs.Promises.{Updates, Queries, Lists, updateAnswer, foundAnswer, listingAnswer}
+use Rattle.promises.specs.declared.Update.{Update}
+use Rattle.promises.specs.declared.Update.the-variants.{Done, Declined as UpdateDeclined}
+use Rattle.promises.specs.declared.Found.{Found}
+use Rattle.promises.specs.declared.Found.the-variants.{Offer, Declined as FoundDeclined}
+use Rattle.promises.specs.declared.Listed.{Listed}
+use Rattle.promises.specs.declared.Listed.the-variants.{Pieces, Declined as ListingDeclined}
+use Rattle.promises.specs.Promises.{Updates, Queries, Lists, updateAnswer, foundAnswer, listingAnswer}
 use Rattle.history.specs.History.{Happens, posting, withdrawing, by-update, by-query, by-listing, next}
 use Rattle.replay_words.specs.Encoding.{nextCall, stretch, fitting, updateWords, foundWords, listedWords}
 pub use Rattle.replay_call.specs.Telling.{TellsOne, Tells}

@@ -11,13 +11,13 @@ use lib.IntN.{ℤ, pos, negsuc}
 use lib.Dec.{leb}
 use Rattle.integers.specs.Equal.{equal}
 use Rattle.plain.specs.Book.{Call, post, withdraw, query, listing, Answer, refused, live, found, listed}
-use Rattle.book.specs.declared.Update.{Update}
-use Rattle.book.specs.declared.Update.the-variants.{Done, Declined as UpdateDeclined}
-use Rattle.book.specs.declared.Found.{Found}
-use Rattle.book.specs.declared.Found.the-variants.{Offer, Declined as FoundDeclined}
-use Rattle.book.specs.declared.Listed.{Listed}
-use Rattle.book.specs.declared.Listed.the-variants.{Pieces, Declined as ListingDeclined}
-use Rattle.book.specs.Promises.{counted, writtenWords}
+use Rattle.promises.specs.declared.Update.{Update}
+use Rattle.promises.specs.declared.Update.the-variants.{Done, Declined as UpdateDeclined}
+use Rattle.promises.specs.declared.Found.{Found}
+use Rattle.promises.specs.declared.Found.the-variants.{Offer, Declined as FoundDeclined}
+use Rattle.promises.specs.declared.Listed.{Listed}
+use Rattle.promises.specs.declared.Listed.the-variants.{Pieces, Declined as ListingDeclined}
+use Rattle.promises.specs.Promises.{counted, writtenWords}
 
 -- ---- calls
 

@@ -109,38 +109,38 @@ fn put_five(out: &mut [i64], a: i64, b: i64, c: i64, d: i64, e: i64)
 }
 
 // An update's answer: 0, the live count, k, s and H; or the refusal's number.
-pub fn tell_update(out: &mut [i64], told: book::Update)
+pub fn tell_update(out: &mut [i64], told: promises::Update)
     requires { ⌜ 5 ≤ length (now out) ⌝ }
     ensures { λ _. ⌜ now (out .exit) ≡ updateWords told ++ drop 5 (now (out .entry)) ⌝ }
 {
     match told {
-        book::Update::Done { live, k, s, h } => put_five(out, 0, live, k, s, h),
-        book::Update::Declined(cause) => put_five(out, cause, 0, 0, 0, 0),
+        promises::Update::Done { live, k, s, h } => put_five(out, 0, live, k, s, h),
+        promises::Update::Declined(cause) => put_five(out, cause, 0, 0, 0, 0),
     }
 }
 
 // A query's answer: 0, the offer's number, the price and the probes; or the refusal's number.
-pub fn tell_found(out: &mut [i64], told: book::Found)
+pub fn tell_found(out: &mut [i64], told: promises::Found)
     requires { ⌜ 5 ≤ length (now out) ⌝ }
     ensures { λ _. ⌜ now (out .exit) ≡ foundWords told ++ drop 5 (now (out .entry)) ⌝ }
 {
     match told {
-        book::Found::Offer {
+        promises::Found::Offer {
             number,
             price,
             probes,
         } => put_five(out, 0, number, price, probes, 0),
-        book::Found::Declined(cause) => put_five(out, cause, 0, 0, 0, 0),
+        promises::Found::Declined(cause) => put_five(out, cause, 0, 0, 0, 0),
     }
 }
 
 // A listing's answer: 0 and the piece count; or the refusal's number.
-pub fn tell_listed(out: &mut [i64], told: book::Listed)
+pub fn tell_listed(out: &mut [i64], told: promises::Listed)
     requires { ⌜ 5 ≤ length (now out) ⌝ }
     ensures { λ _. ⌜ now (out .exit) ≡ listedWords told ++ drop 5 (now (out .entry)) ⌝ }
 {
     match told {
-        book::Listed::Pieces(count) => put_five(out, 0, count, 0, 0, 0),
-        book::Listed::Declined(cause) => put_five(out, cause, 0, 0, 0, 0),
+        promises::Listed::Pieces(count) => put_five(out, 0, count, 0, 0, 0),
+        promises::Listed::Declined(cause) => put_five(out, cause, 0, 0, 0, 0),
     }
 }

@@ -1,12 +1,14 @@
 // Books of many kinds, each call compared with a scan of all offers: ties, offers that only touch, hidden ones that withdrawals uncover, all
 // through one point, the ends of the ranges, capacity 1, a full book, and pairs of books that meet. Prints a line for each.
 mod calls;
+mod expected;
 mod makers;
 mod meetings;
-mod scan;
+mod slots;
+mod tally;
 
-use calls::Tally;
 use libc::STDOUT_FILENO;
+use tally::Tally;
 
 // The queries and the listings after each update.
 fn sweep(table: &[i64], start: usize, os: &[i64; 192], kind: u32, t: Tally) -> Tally {
@@ -113,7 +115,7 @@ fn summary(name: &[u8], t: Tally) {
 
 // Openings that are declined, one that just fits, and a query where there is no book.
 fn run_openings(table: &mut [i64], name: &[u8]) {
-    let a = calls::open(table, 17, 0, 1, calls::nothing());
+    let a = calls::open(table, 17, 0, 1, tally::nothing());
     let b = calls::open(table, 7000, 4_097, 1, a);
     let c = calls::open(table, 17, 4_096, 2, b);
     let d = calls::open(table, 7000, 1, 2, c);
@@ -127,7 +129,7 @@ fn run_openings(table: &mut [i64], name: &[u8]) {
 // A book of one kind: filled, half emptied, filled again and emptied.
 fn run(table: &mut [i64], name: &[u8], kind: u32, room: u32) {
     let mut os = [0i64; 192];
-    let a = calls::open(table, 17, room as i64, 0, calls::nothing());
+    let a = calls::open(table, 17, room as i64, 0, tally::nothing());
     let b = fill(table, 17, &mut os, room, kind, a);
     let c = refusals(table, 17, &mut os, room, b);
     let d = drain(table, 17, &mut os, kind, 15, c);
@@ -172,7 +174,7 @@ fn shrink(
 fn run_pair(table: &mut [i64], name: &[u8], left: u32, right: u32) {
     let mut l = [0i64; 192];
     let mut r = [0i64; 192];
-    let a = calls::open(table, 17, 32, 0, calls::nothing());
+    let a = calls::open(table, 17, 32, 0, tally::nothing());
     let b = calls::open(table, 3000, 30, 0, a);
     let c = meetings::meeting(table, 17, &l, 3000, &r, b);
     let d = fill(table, 17, &mut l, 32, left, c);

@@ -6,14 +6,14 @@ use mathlib.Core.List.{List}
 use lib.Dec.{leb}
 use Rattle.table.specs.Fields.{mostSlots}
 use Rattle.table.specs.Words.{Words}
-use Rattle.search.specs.declared.Action.{Action}
-use Rattle.search.specs.declared.Action.the-variants.{Stay, Retreat, Advance, Pop}
-use Rattle.search.specs.declared.Move.{Move}
+use Rattle.walks.specs.declared.Action.{Action}
+use Rattle.walks.specs.declared.Action.the-variants.{Stay, Retreat, Advance, Pop}
+use Rattle.walks.specs.declared.Move.{Move}
 use Rattle.search.specs.declared.Search.{Search}
-use Rattle.search.specs.Prices.{aboveAt}
-use Rattle.search.specs.Walks.{Walk}
-use Rattle.search.specs.Moves.{Topped, Pointed, pointWord, pointed-by}
-use Rattle.search.specs.Actions.{walk, Does, sided}
+use Rattle.prices.specs.Prices.{aboveAt}
+use Rattle.walks.specs.Walks.{Walk}
+use Rattle.walks.specs.Moves.{Topped, Pointed, pointWord, pointed-by}
+use Rattle.walks.specs.Actions.{walk, Does, sided}
 use Rattle.search.specs.SearchSteps.{uOf, vOf, Receded, Stepped, receded-bottom, receded-leaf, receded-mine, receded-theirs, receded-neither, stepped-mine, stepped-theirs, stepped-done, stepped-on}
 
 -- ---- the promises

@@ -28,9 +28,9 @@ use Rattle.table.specs.Rep.{Rep, refOf}
 use Rattle.table.specs.Threads.{Holds, Threaded}
 use Rattle.search.specs.declared.Search.{Search}
 use Rattle.search.specs.declared.Met.{Met}
-use Rattle.search.specs.ItemLines.{itemFigure, itemLaws, Falls}
-use Rattle.search.specs.SearchedPieces.{Pieces}
-use Rattle.search.specs.Walks.{empty, Stood, Fares}
+use Rattle.walks.specs.ItemLines.{itemFigure, itemLaws, Falls}
+use Rattle.walks.specs.SearchedPieces.{Pieces}
+use Rattle.walks.specs.Walks.{empty, Stood, Fares}
 use Rattle.search.specs.SearchSteps.{uOf, vOf, Searches, After, Stepped}
 
 -- ---- what the search is given

@@ -16,12 +16,12 @@ use Rattle.table.specs.Words.{Words}
 use Rattle.table.specs.Items.{Item}
 use Rattle.table.specs.Rep.{refOf}
 use Rattle.search.specs.declared.Search.{Search}
-use Rattle.search.specs.ItemLines.{itemFigure}
-use Rattle.search.specs.Prices.{aboveAt}
-use Rattle.search.specs.SearchedPieces.{Pieces, sideOf, leaf-low, inner-high}
-use Rattle.search.specs.Walks.{Walk, Stacks, pushed, Stood, Fares, topRef, pointSlot, node-above, half-above}
-use Rattle.search.specs.Moves.{Topped, Pointed, Retreated, Advanced, Popped, top-pieces}
-use Rattle.search.specs.Actions.{Stays}
+use Rattle.walks.specs.ItemLines.{itemFigure}
+use Rattle.prices.specs.Prices.{aboveAt}
+use Rattle.walks.specs.SearchedPieces.{Pieces, sideOf, leaf-low, inner-high}
+use Rattle.walks.specs.Walks.{Walk, Stacks, pushed, Stood, Fares, topRef, pointSlot, node-above, half-above}
+use Rattle.walks.specs.Moves.{Topped, Pointed, Retreated, Advanced, Popped, top-pieces}
+use Rattle.walks.specs.Actions.{Stays}
 
 -- ---- the relation
 

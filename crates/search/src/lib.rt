@@ -5,14 +5,16 @@ ghost use mathlib.Core.Bool.{_&&_};
 ghost use lib.Dec.{leb};
 ghost use Rattle.table.specs.Fields.{mostSlots};
 ghost use Rattle.table.specs.Layout.{cap};
-ghost use Rattle.search.specs.Prices.{rateAt, baseAt, numeratorAt, denominatorAt, crossingPriceAt};
-ghost use Rattle.search.specs.Moves.{Under, topWord, pointWord};
-ghost use Rattle.search.specs.Actions.{Retreats, Advances, Pops, Acts, sided};
 ghost use Rattle.search.specs.SearchSteps.{Stepped};
 ghost use Rattle.search.specs.Choices.{Recedes, Chooses};
 ghost use Rattle.search.specs.Runs.{started, Meets};
-
-pub mod prices; // prices.rt: comparisons of a crossing with a local envelope
+use walks::Action;
+use walks::Move;
+use walks::act;
+use walks::pair;
+use walks::point;
+use walks::top;
+use walks::under;
 
 // The state of a search: u and v with their stacks, and whether it is finished.
 pub struct Search {
@@ -31,191 +33,6 @@ pub struct Met {
     pub v: u32,
     pub steps: u32,
     pub done: bool,
-}
-
-// What a walk does in a step.
-enum Action {
-    Stay,
-    Retreat,
-    Advance,
-    Pop,
-}
-
-// What u and v do in a step, and whether it is the last.
-struct Move {
-    u: Action,
-    v: Action,
-    done: bool,
-}
-
-// Where a walk stands: its node, and how many nodes it pushed.
-struct Stand {
-    at: u32,
-    depth: usize,
-}
-
-pub fn rate(part: &[i64], slot: u32) -> i64
-    ensures { λ r. ⌜ r ≡ rateAt (now (part .entry)) slot ⌝ }
-{
-    table::bounded(-100_000, 100_000, table::get(part, table::RATE, slot))
-}
-
-pub fn base(part: &[i64], slot: u32) -> i64
-    ensures { λ r. ⌜ r ≡ baseAt (now (part .entry)) slot ⌝ }
-{
-    table::bounded(
-        -1_000_000_000,
-        1_000_000_000,
-        table::get(part, table::BASE, slot),
-    )
-}
-
-// The crossing with the next piece: where the words hold one, its numerator and its denominator.
-pub fn numerator(part: &[i64], slot: u32) -> i64
-    ensures { λ r. ⌜ r ≡ numeratorAt (now (part .entry)) slot ⌝ }
-{
-    table::bounded(
-        -2_000_000_000,
-        2_000_000_000,
-        table::get(part, table::NUMERATOR, slot),
-    )
-}
-
-pub fn denominator(part: &[i64], slot: u32) -> i64
-    ensures { λ r. ⌜ r ≡ denominatorAt (now (part .entry)) slot ⌝ }
-{
-    table::bounded(0, 200_000, table::get(part, table::DENOMINATOR, slot))
-}
-
-// The price of a slot's line at the crossing that the slot keeps, times its denominator.
-pub fn crossing_price(part: &[i64], slot: u32) -> i64
-    ensures { λ r. ⌜ r ≡ crossingPriceAt (now (part .entry)) slot ⌝ }
-{
-    let n = numerator(part, slot);
-    let d = denominator(part, slot);
-    let c = table::capacity(part);
-    prices::price(part, c, slot, n, d)
-}
-
-// The place in a stack of the node pushed last, and some place where there is none.
-fn under(depth: usize) -> usize
-    ensures { λ r. ⌜ Under depth r ⌝ }
-{
-    if depth < 1 {
-        return 0;
-    }
-    if 24 < depth {
-        return 0;
-    }
-    depth - 1
-}
-
-// The node pushed last, and 0 where there is none; `word` is what stands at that place.
-fn top(depth: usize, word: u32) -> u32
-    ensures { λ r. ⌜ r ≡ topWord depth word ⌝ }
-{
-    if depth < 1 {
-        return 0;
-    }
-    word
-}
-
-// The slot that keeps the walk's point: an inner node's own, of a leaf that of the node pushed last.
-fn point(at: u32, top: u32) -> u32
-    ensures { λ r. ⌜ r ≡ pointWord at top ⌝ }
-{
-    if at <= table::MOST_SLOTS {
-        return table::inner_slot(top);
-    }
-    at - table::MOST_SLOTS
-}
-
-// An inner node goes away; a leaf stays.
-fn retreat(part: &[i64], c: u32, side: bool, at: u32) -> u32
-    requires { ⌜ c ≡ cap (now part) ⌝ }
-    ensures { λ r. ⌜ Retreats (now (part .entry)) side at r ⌝ }
-{
-    if at <= table::MOST_SLOTS {
-        return at;
-    }
-    table::child_in(part, c, table::PIECES, side, at)
-}
-
-// An inner node is pushed and goes toward; a leaf stays.
-fn advance(part: &[i64], c: u32, side: bool, at: u32, depth: usize) -> Stand
-    requires { ⌜ c ≡ cap (now part) ⌝ }
-    ensures { λ r. ⌜ Advances (now (part .entry)) side at depth r ⌝ }
-{
-    if at <= table::MOST_SLOTS {
-        return Stand {
-            at: at,
-            depth: depth,
-        };
-    }
-    if 24 <= depth {
-        return Stand {
-            at: at,
-            depth: depth,
-        };
-    }
-    Stand {
-        at: table::child_in(part, c, table::PIECES, !side, at),
-        depth: depth + 1,
-    }
-}
-
-// The node pushed last is popped, and the walk goes to its child on the away side.
-fn pop(part: &[i64], c: u32, side: bool, depth: usize, top: u32) -> Stand
-    requires { ⌜ c ≡ cap (now part) ⌝ }
-    ensures { λ r. ⌜ Pops (now (part .entry)) side depth top r ⌝ }
-{
-    if depth < 1 {
-        return Stand {
-            at: top,
-            depth: depth,
-        };
-    }
-    Stand {
-        at: table::child_in(part, c, table::PIECES, side, top),
-        depth: depth - 1,
-    }
-}
-
-// Where an action leads a walk.
-fn act(part: &[i64], c: u32, side: bool, action: Action, at: u32, depth: usize, top: u32) -> Stand
-    requires { ⌜ c ≡ cap (now part) ⌝ }
-    ensures { λ r. ⌜ Acts (now (part .entry)) side action at depth top r ⌝ }
-{
-    match action {
-        Action::Stay => Stand {
-            at: at,
-            depth: depth,
-        },
-        Action::Retreat => Stand {
-            at: retreat(part, c, side, at),
-            depth: depth,
-        },
-        Action::Advance => advance(part, c, side, at, depth),
-        Action::Pop => pop(part, c, side, depth, top),
-    }
-}
-
-// Two actions that do not end the search, the first of the given side.
-fn pair(side: bool, a: Action, b: Action) -> Move
-    ensures { λ r. ⌜ r ≡ sided side a b ⌝ }
-{
-    if side {
-        return Move {
-            u: b,
-            v: a,
-            done: false,
-        };
-    }
-    Move {
-        u: a,
-        v: b,
-        done: false,
-    }
 }
 
 // Case 1 of the left side, and its mirror image, case 2, of the right: our point is on or above the other's local envelope.

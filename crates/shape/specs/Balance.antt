@@ -11,7 +11,7 @@ use Rattle.table.specs.Items.{Item}
 use Rattle.table.specs.Rep.{heightAt, nodeOn, Rep}
 use Rattle.table.specs.Nodes.{pair-one, pair-other, rep-height}
 use Rattle.shape.specs.Sides.{rotateOn, balanceOn, balance-on}
-use Rattle.shape.specs.Joining.{Joined}
+use Rattle.nodes.specs.Joining.{Joined}
 use Rattle.shape.specs.Rotations.{reshaped, flipped}
 
 module _ {w : Words} {k x y : ℕ} {s t : Tree Item} {hx hy : ℕ} (a : Rep w k x s) (b : Rep w k y t) (ex : hx ≡ heightAt w k x) (ey : hy ≡ heightAt w k y) where

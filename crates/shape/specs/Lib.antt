@@ -1,6 +1,4 @@
 -- What the operations on the trees of a table promise, and the steps of their proofs on trees and words alone.
--- ways through the code: two trees side by side made into one
-pub mod Joining
 -- lemmas: the trees' operations seen from a side, so that each serves its mirror image
 pub mod Sides
 -- ways through the code: steps that follow one another: what one leaves is what the next finds

@@ -14,7 +14,7 @@ use Rattle.table.specs.Items.{Item, slots-left, slots-right}
 use Rattle.table.specs.Rep.{nodeOn, Within, within-refl, only-refl}
 use Rattle.table.specs.Nodes.{Pair, pair-one, pair-other, Made, ref-low}
 use Rattle.table.specs.PartTrees.{MadeP, made-some, low, PairP, Seam}
-use Rattle.shape.specs.Joining.{Joined}
+use Rattle.nodes.specs.Joining.{Joined}
 use Rattle.shape.specs.Rows.{made-as}
 use Rattle.shape.specs.Rotations.{pair-flip}
 use Rattle.shape.specs.Splices.{Spliced, towersAt, towers-read}

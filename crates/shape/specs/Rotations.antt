@@ -13,7 +13,7 @@ use Rattle.table.specs.Items.{Item, In, Slots, slots-left}
 use Rattle.table.specs.Rep.{childAt, heightAt, nodeOn, seam, Rep, within-cap, within-trans}
 use Rattle.table.specs.Nodes.{Pair, pair-one, Made, Opened, opened, rep-height, on-one, on-across, in-one, in-other}
 use Rattle.shape.specs.Sides.{rowOn, doubleOn, rotateOn, row-leaves, four-leaves, other-way, seam-other, seam-first, seam-last, double-leaf, double-node, rotate-leaf, rotate-node}
-use Rattle.shape.specs.Joining.{Joined}
+use Rattle.nodes.specs.Joining.{Joined}
 use Rattle.shape.specs.Rows.{tied-beside, made-then, made-as, Row, Rowed, row-one, row-middle}
 
 -- a root's number tells a leaf

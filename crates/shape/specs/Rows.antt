@@ -9,7 +9,7 @@ use Rattle.table.specs.Items.{Item, In, Slots}
 use Rattle.table.specs.Rep.{refOf, nodeOn, seam, Tied, tied-still, Rep, Within, within-cap, within-trans, only-trans, only-more, inner-in}
 use Rattle.table.specs.Nodes.{Pair, pair-one, Made, on-one, on-other, on-across, in-other}
 use Rattle.shape.specs.Sides.{rowOn, seam-first}
-use Rattle.shape.specs.Joining.{Joined}
+use Rattle.nodes.specs.Joining.{Joined}
 
 -- a tree that shares no slot with the one that was made stands as before
 pub tied-beside : {k y : ℕ} {w w′ : Words} {ty tq : Tree Item} → Made k w w′ y ty → Tied w k tq → ((s : ℕ) → In s (leaves ty) → In s (leaves tq) → ⊥) → Tied w′ k tq

@@ -15,7 +15,7 @@ use Rattle.table.specs.Items.{Item, Slots, slots-left}
 use Rattle.table.specs.Rep.{childAt, heightAt, nodeOn, seam, Rep, Within, within-trans}
 use Rattle.table.specs.Nodes.{Pair, pair-one, pair-other, Made, Opened, opened, rep-height, height-on, in-other}
 use Rattle.shape.specs.Sides.{balanceOn, joinOn, on-leaves, seam-last, join-node, join-low, balance-leaves, join-leaves, seam-join}
-use Rattle.shape.specs.Joining.{Joined}
+use Rattle.nodes.specs.Joining.{Joined}
 use Rattle.shape.specs.Rows.{Row, row-pair, pair-beside, made-then, made-as}
 use Rattle.shape.specs.Rotations.{opened-row, slot-of}
 

@@ -1,66 +1,18 @@
 // Balanced trees in the table. One set of functions serves the three trees and both sides.
 ghost use mathlib.Core.Path.{_≡_};
-ghost use Prim.Native.Nat.{suc, max, _≤_};
+ghost use Prim.Native.Nat.{suc, _≤_};
 ghost use lib.Dec.{ltb};
 ghost use Rattle.table.specs.Fields.{mostNodes};
 ghost use Rattle.table.specs.Layout.{cap};
-ghost use Rattle.table.specs.Rep.{nodeOn};
 ghost use Rattle.shape.specs.Sides.{rowOn, doubleOn, rotateOn, balanceOn};
-ghost use Rattle.shape.specs.Joining.{Joined, Raised};
+ghost use Rattle.nodes.specs.Joining.{Joined};
 ghost use Rattle.shape.specs.Rows.{Rowed};
 ghost use Rattle.shape.specs.Splices.{Spliced, towersAt};
 ghost use Rattle.shape.specs.Merge.{Merged};
-
-// The height of a node over two trees of given heights.
-fn taller(hp: u32, hq: u32) -> u32
-    requires { ⌜ hp ≤ mostNodes × hq ≤ mostNodes ⌝ }
-    ensures { λ r. ⌜ r ≡ suc (max hp hq) ⌝ }
-{
-    if hp < hq {
-        return hq + 1;
-    }
-    hp + 1
-}
-
-// One node of height `h` over two trees side by side, `p` on a side and `q` on the other, kept in the slot `gap` of the seam. `c` is the
-// capacity.
-fn set_node(part: &mut [i64], c: u32, tree: u8, side: bool, gap: u32, p: u32, q: u32, h: u32) -> u32
-    requires { ⌜ c ≡ cap (now part) ⌝ }
-    ensures { λ x. ⌜ Raised tree side gap p q h (now (part .entry)) (now (part .exit)) x ⌝ }
-{
-    if gap > table::MOST_SLOTS {
-        return 0;
-    }
-    table::put_three_in(
-        part,
-        c,
-        gap,
-        table::child_field(tree, side),
-        p as i64,
-        table::child_field(tree, !side),
-        q as i64,
-        table::height_field(tree),
-        h as i64,
-    );
-    table::MOST_SLOTS + gap
-}
-
-// The same, by the heights of the two.
-pub fn make_node_in(part: &mut [i64], c: u32, tree: u8, side: bool, gap: u32, p: u32, q: u32) -> u32
-    requires { ⌜ c ≡ cap (now part) ⌝ }
-    ensures { λ x. ⌜ Joined (nodeOn side) tree side gap p q (now (part .entry)) (now (part .exit)) x ⌝ }
-{
-    let hp = table::height_in(part, c, tree, p);
-    let hq = table::height_in(part, c, tree, q);
-    set_node(part, c, tree, side, gap, p, q, taller(hp, hq))
-}
-
-pub fn make_node(part: &mut [i64], tree: u8, side: bool, gap: u32, p: u32, q: u32) -> u32
-    ensures { λ x. ⌜ Joined (nodeOn side) tree side gap p q (now (part .entry)) (now (part .exit)) x ⌝ }
-{
-    let c = table::capacity(part);
-    make_node_in(part, c, tree, side, gap, p, q)
-}
+use nodes::make_node;
+pub use nodes::make_node_in;
+use nodes::set_node;
+use nodes::taller;
 
 // Three trees in a row: a node over the last two, and one over the first and that. `near` is the first seam's slot, `far` the second's.
 fn hang(part: &mut [i64], tree: u8, side: bool, near: u32, far: u32, p: u32, m: u32, q: u32) -> u32

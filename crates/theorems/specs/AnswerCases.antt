@@ -11,14 +11,14 @@ use Rattle.plain.specs.Book.{State, Call, query, listing, refused, live, found,
 use Rattle.dynamic.specs.OfferTree.{Held}
 use Rattle.table.specs.Items.{Item}
 use Rattle.form.specs.Form.{Book}
-use Rattle.book.specs.declared.Update.{Update}
-use Rattle.book.specs.declared.Update.the-variants.{Done, Declined as UpdateDeclined}
-use Rattle.book.specs.declared.Found.{Found}
-use Rattle.book.specs.declared.Found.the-variants.{Offer, Declined as FoundDeclined}
-use Rattle.book.specs.declared.Listed.{Listed}
-use Rattle.book.specs.declared.Listed.the-variants.{Pieces, Declined as ListingDeclined}
-use Rattle.book.specs.Promises.{partOf, counted, Returned, updateReturned, foundReturned, updateAnswer, foundAnswer, listingAnswer, Updates, Queries, Lists}
-use Rattle.book.specs.Numbered.{numbered}
+use Rattle.promises.specs.declared.Update.{Update}
+use Rattle.promises.specs.declared.Update.the-variants.{Done, Declined as UpdateDeclined}
+use Rattle.promises.specs.declared.Found.{Found}
+use Rattle.promises.specs.declared.Found.the-variants.{Offer, Declined as FoundDeclined}
+use Rattle.promises.specs.declared.Listed.{Listed}
+use Rattle.promises.specs.declared.Listed.the-variants.{Pieces, Declined as ListingDeclined}
+use Rattle.promises.specs.Promises.{partOf, counted, Returned, updateReturned, foundReturned, updateAnswer, foundAnswer, listingAnswer, Updates, Queries, Lists}
+use Rattle.promises.specs.Numbered.{numbered}
 
 -- a refusal told by a word is told by its number
 pub refused-word : (z : ℤ) (n : ℕ) → 1 ≤ n → counted refused z ≡ refused n → z ≡ pos n

@@ -16,13 +16,13 @@ use Rattle.plain.specs.MeaningLaws.{query-cheapest, listing-listing}
 use Rattle.dynamic.specs.OfferTree.{Held}
 use Rattle.table.specs.Items.{Item}
 use Rattle.form.specs.Form.{Book}
-use Rattle.book.specs.declared.Found.{Found}
-use Rattle.book.specs.declared.Found.the-variants.{Offer, Declined as FoundDeclined}
-use Rattle.book.specs.declared.Listed.{Listed}
-use Rattle.book.specs.declared.Listed.the-variants.{Pieces, Declined as ListingDeclined}
-use Rattle.book.specs.Promises.{partOf, counted, foundAnswer, listingAnswer, Queries, Lists}
+use Rattle.promises.specs.declared.Found.{Found}
+use Rattle.promises.specs.declared.Found.the-variants.{Offer, Declined as FoundDeclined}
+use Rattle.promises.specs.declared.Listed.{Listed}
+use Rattle.promises.specs.declared.Listed.the-variants.{Pieces, Declined as ListingDeclined}
+use Rattle.promises.specs.Promises.{partOf, counted, foundAnswer, listingAnswer, Queries, Lists}
 use Rattle.form.specs.Live.{book-sound}
-use Rattle.book.specs.Numbered.{from-one, numbered}
+use Rattle.promises.specs.Numbered.{from-one, numbered}
 use Rattle.theorems.specs.AnswerCases.{refused-word}
 
 -- ---- the statement

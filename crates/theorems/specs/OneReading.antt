@@ -25,7 +25,7 @@ use Rattle.table.specs.PartTrees.{partRef, TiedPart}
 use Rattle.pieces.specs.Pieces.{items, item-laws, PartIn}
 use Rattle.form.specs.Stored.{nodeSlot, restField, Stored, stored-fork, HeldIn}
 use Rattle.form.specs.Form.{offersRef, envelopeRef, OffersIn, OffersStand, plainOffers, Book}
-use Rattle.book.specs.Promises.{Passes}
+use Rattle.promises.specs.Promises.{Passes}
 use Rattle.theorems.specs.Unique.{AllLie, all-lie, same-item, same-part, some-root}
 
 number-of : {m n : ℕ} {z z′ : ℤ} → z ≡ pos m → z′ ≡ pos n → z ≡ z′ → m ≡ n

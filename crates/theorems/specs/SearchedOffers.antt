@@ -20,8 +20,8 @@ use Rattle.dynamic.specs.Work.{Searched}
 use Rattle.table.specs.Items.{Item}
 use Rattle.pieces.specs.Pieces.{items}
 use Rattle.query.specs.Plain.{offerOf, pieces-plain}
-use Rattle.book.specs.declared.Update.{Update}
-use Rattle.book.specs.Promises.{partOf, Follows}
+use Rattle.promises.specs.declared.Update.{Update}
+use Rattle.promises.specs.Promises.{partOf, Follows}
 use Rattle.form.specs.Live.{live-whole, whole-ordered}
 
 -- ---- the statement

@@ -18,7 +18,7 @@ use Rattle.table.specs.Layout.{cap, cap-most, cell, cset}
 use Rattle.table.specs.Items.{Item, at, slots-most}
 use Rattle.table.specs.Rep.{heightAt, refOf, nodeOn, Within, within-trans, within-cset}
 use Rattle.table.specs.Nodes.{rep-height}
-use Rattle.shape.specs.Joining.{Joined}
+use Rattle.nodes.specs.Joining.{Joined}
 use Rattle.pieces.specs.Pieces.{items, rateOf, Standing, SeamAt, Seamed, CutAt}
 use Rattle.form.specs.Stored.{HeldIn, Touched}
 use Rattle.update.specs.Steps.{Counted, HandIn, MadeIn, Siblings, RaisedIn}

@@ -15,7 +15,7 @@ use Rattle.table.specs.Layout.{cap, cell, cset, linkAt, Valid, cset-same, cset-
 use Rattle.table.specs.Items.{Item, In, at, in-left, in-right, Slots, slots-left, slots-right, slots-across}
 use Rattle.table.specs.Rep.{childField, Field, a-child, a-height, refOf, nodeOn, Tied, Within, within-cap, within-trans, within-cset, Only}
 use Rattle.table.specs.Nodes.{Made}
-use Rattle.shape.specs.Joining.{Joined}
+use Rattle.nodes.specs.Joining.{Joined}
 use Rattle.pieces.specs.Pieces.{PieceField}
 use Rattle.form.specs.Stored.{nodeSlot, restField, EnvelopeField, of-offers, Touched}
 use Rattle.form.specs.Frames.{RestField, bridge-u, bridge-v, inner-rest, leaf-rest, offers-apart, rests-apart, of-rest, Same, tied-same, slots-within}

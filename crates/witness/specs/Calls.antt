@@ -6,13 +6,13 @@ use lib.ListN.{length}
 use lib.IntN.{ℤ, pos}
 use Rattle.plain.specs.Causes.{Clear}
 use Rattle.plain.specs.Book.{post, withdraw, Answer, opened, openTrials, answers}
-use Rattle.book.specs.declared.Opening.{Opening}
-use Rattle.book.specs.declared.Opening.the-variants.{Opened}
-use Rattle.book.specs.declared.Update.{Update}
-use Rattle.book.specs.declared.Found.{Found}
-use Rattle.book.specs.declared.Listed.{Listed}
+use Rattle.promises.specs.declared.Opening.{Opening}
+use Rattle.promises.specs.declared.Opening.the-variants.{Opened}
+use Rattle.promises.specs.declared.Update.{Update}
+use Rattle.promises.specs.declared.Found.{Found}
+use Rattle.promises.specs.declared.Listed.{Listed}
 use Rattle.form.specs.Local.{Alike}
-use Rattle.book.specs.Promises.{partOf, Opens, Updates, Queries, Lists, updateAnswer, foundAnswer, listingAnswer}
+use Rattle.promises.specs.Promises.{partOf, Opens, Updates, Queries, Lists, updateAnswer, foundAnswer, listingAnswer}
 use Rattle.history.specs.History.{posting, withdrawing, by-update, by-query, by-listing, History, finished, next}
 use Rattle.history.specs.Claim.{Claim, every-history}
 use Rattle.witness.specs.Witness.{calls, told, Witness}

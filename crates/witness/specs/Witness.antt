@@ -5,9 +5,9 @@ use lib.ListN.{length}
 use lib.IntN.{ℤ, pos}
 use Rattle.plain.specs.Causes.{Clear}
 use Rattle.plain.specs.Book.{Call, post, withdraw, query, listing, Answer, live, found, listed, openTrials}
-use Rattle.book.specs.declared.Opening.{Opening}
-use Rattle.book.specs.declared.Opening.the-variants.{Opened}
-use Rattle.book.specs.Promises.{Opens}
+use Rattle.promises.specs.declared.Opening.{Opening}
+use Rattle.promises.specs.declared.Opening.the-variants.{Opened}
+use Rattle.promises.specs.Promises.{Opens}
 use Rattle.history.specs.History.{History}
 
 -- the sample of docs/REQUIREMENTS.md, 14.4: two posts, a query, a listing, a withdrawal and a query

@@ -6,7 +6,7 @@ use mir.Facts.{toZ-ofZ, toZ-pos}
 use mir.Syntax.{w64}
 use mir.Val.{toZ}
 use Rattle.book.specs.TableUpdates.{updates-none, updates-range, post-refused, post-accepted}
-use Rattle.book.specs.LentPart.{book-start}
+use Rattle.promises.specs.LentPart.{book-start}
 use borrow.Author.Needs.{needs}
 use Rattle.book.proofs.post.Statement.{statement}
 use Rattle.book.proofs.post.Tie as tie

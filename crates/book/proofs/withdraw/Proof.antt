@@ -3,7 +3,7 @@ use mathlib.Core.Path.{refl}
 use native.Mathlib.Omega.{arith}
 use mir.Facts.{toZ-ofZ}
 use Rattle.book.specs.TableUpdates.{number-alone, updates-none, updates-range, withdraw-refused, withdraw-accepted}
-use Rattle.book.specs.LentPart.{book-start}
+use Rattle.promises.specs.LentPart.{book-start}
 use borrow.Author.Needs.{needs}
 use Rattle.book.proofs.withdraw.Statement.{statement}
 use Rattle.book.proofs.withdraw.Tie as tie

@@ -1,7 +1,7 @@
 -- `chart::mark` meets its contract: by its guard, and then the part's mark.
 use native.Mathlib.Omega.{arith}
 use mir.Facts.{toZ-ofZ}
-use Rattle.book.specs.LentPart.{book-start}
+use Rattle.promises.specs.LentPart.{book-start}
 use Rattle.chart.specs.Marking.{mark-no-book, mark-there}
 use borrow.Author.Needs.{needs}
 use Rattle.chart.proofs.mark.Statement.{statement}

@@ -20,19 +20,19 @@ first h = omega arith
 below : {i m : ℕ} → i ≤ m → i ≢ m → i < m
 below h d = omega arith
 
-number-at-requires : tie.Need-number-at-requires
-number-at-requires c κs = search needs
+envelope-root-requires : tie.Need-envelope-root-requires
+envelope-root-requires c κs = search needs
 
 count-requires : tie.Need-count-requires
 count-requires c κs = search needs
 
 returns : tie.Need-returns
-returns c = part-empty (c .before .before .number-at .ensures) (c .before .count .ensures) (c .before .before .before .args .index) (c .if1 .taken)
+returns c = part-empty (c .before .before .envelope-root .ensures) (c .before .count .ensures) (c .before .before .before .args .index) (c .if1 .taken)
 
 returns-2 : tie.Need-returns-2
 returns-2 c =
     let s = c .before .before .before .before in
-    part-outside (c .before .before .before .number-at .ensures) (c .before .before .count .ensures) (s .args .index) (c .before .if1 .left)
+    part-outside (c .before .before .before .envelope-root .ensures) (c .before .before .count .ensures) (s .args .index) (c .before .if1 .left)
     (index-below (s .args .index) _ (simp (toZ-ofZ, s .fits .index) at (c .if2 .taken)))
 
 cast-if3 : tie.Need-cast-if3
@@ -43,7 +43,7 @@ returns-3 c =
     let s = c .before .before .before .before .before in
     let m = c .before .before .before .count in
     let e : toZ w64 (m .result) ≡ pos (m .result) = toZ-pos w64 (omega (arith, m .ensures .few)) in
-    part-outside (c .before .before .before .before .number-at .ensures) (m .ensures) (s .args .index) (c .before .before .if1 .left)
+    part-outside (c .before .before .before .before .envelope-root .ensures) (m .ensures) (s .args .index) (c .before .before .if1 .left)
     (index-above (s .args .index) _ (simp (toZ-ofZ, s .fits .index, e) at (c .if3 .taken)))
 
 up-to-requires : tie.Need-up-to-requires
@@ -67,8 +67,8 @@ returns-4 c =
     let at-if2 = at-if3 .before in
     let at-if1 = at-if2 .before in
     let at-count = at-if1 .before in
-    let at-number-at = at-count .before in
-    let s = at-number-at .before in
+    let at-envelope-root = at-count .before in
+    let s = at-envelope-root .before in
     let m = at-count .count in
     let e : toZ w64 (m .result) ≡ pos (m .result) = toZ-pos w64 (omega (arith, m .ensures .few)) in
     let j =
@@ -77,7 +77,7 @@ returns-4 c =
     let f : SFits w64 (c .before .rate .result) = record { sfits = c .before .rate .ok } in
     let i : s .args .index ≡ pos 0 = j .0 ∙ ap pos (first (at-if4 .if4 .taken)) in
     subst (λ (z : ℤ). PartMark (s .args .part .now) z (Mark (c .open-end .result))) (sym i)
-    (part-first (at-number-at .number-at .ensures) (m .ensures) (at-if1 .if1 .left) (at-slot-of .slot-of .ensures)
+    (part-first (at-envelope-root .envelope-root .ensures) (m .ensures) (at-if1 .if1 .left) (at-slot-of .slot-of .ensures)
     ((simp (toZ-ofZ, f) at (c .open-end .ensures)) ∙ ap openEnd (c .before .rate .ensures)))
 
 slot-of-requires-2 : tie.Need-slot-of-requires-2
@@ -99,8 +99,8 @@ returns-5 c =
     let at-if2 = at-if3 .before in
     let at-if1 = at-if2 .before in
     let at-count = at-if1 .before in
-    let at-number-at = at-count .before in
-    let s = at-number-at .before in
+    let at-envelope-root = at-count .before in
+    let s = at-envelope-root .before in
     let m = at-count .count in
     let e : toZ w64 (m .result) ≡ pos (m .result) = toZ-pos w64 (omega (arith, m .ensures .few)) in
     let j =
@@ -108,7 +108,7 @@ returns-5 c =
     (m .ensures .few) (simp (toZ-ofZ, s .fits .index) at (at-up-to .up-to .ensures)) in
     let f : SFits w64 (c .before .rate2 .result) = record { sfits = c .before .rate2 .ok } in
     subst (λ (z : ℤ). PartMark (s .args .part .now) z (Mark (c .open-end2 .result))) (sym (j .0))
-    (part-last (at-number-at .number-at .ensures) (m .ensures) (at-if1 .if1 .left) (at-up-to .up-to .result) (at-if4 .if4 .left) (at-slot-of2 .slot-of2 .ensures)
+    (part-last (at-envelope-root .envelope-root .ensures) (m .ensures) (at-if1 .if1 .left) (at-up-to .up-to .result) (at-if4 .if4 .left) (at-slot-of2 .slot-of2 .ensures)
     (at-if5 .if5 .taken) ((simp (toZ-ofZ, f) at (c .open-end2 .ensures)) ∙ ap openEnd (c .before .rate2 .ensures)))
 
 crossing-at-requires : tie.Need-crossing-at-requires
@@ -123,22 +123,22 @@ returns-6 c =
     let at-if2 = at-if3 .before in
     let at-if1 = at-if2 .before in
     let at-count = at-if1 .before in
-    let at-number-at = at-count .before in
-    let s = at-number-at .before in
+    let at-envelope-root = at-count .before in
+    let s = at-envelope-root .before in
     let m = at-count .count in
     let e : toZ w64 (m .result) ≡ pos (m .result) = toZ-pos w64 (omega (arith, m .ensures .few)) in
     let j =
     index-there (s .args .index) (simp (toZ-ofZ, s .fits .index) at (at-if2 .if2 .left)) (simp (toZ-ofZ, s .fits .index, e) at (at-if3 .if3 .left))
     (m .ensures .few) (simp (toZ-ofZ, s .fits .index) at (at-up-to .up-to .ensures)) in
     subst (λ (z : ℤ). PartMark (s .args .part .now) z (Mark (c .crossing-at .result))) (sym (j .0))
-    (part-inner (at-number-at .number-at .ensures) (m .ensures) (at-if1 .if1 .left) (at-up-to .up-to .result) (at-if4 .if4 .left) (at-slot-of2 .slot-of2 .ensures)
+    (part-inner (at-envelope-root .envelope-root .ensures) (m .ensures) (at-if1 .if1 .left) (at-up-to .up-to .result) (at-if4 .if4 .left) (at-slot-of2 .slot-of2 .ensures)
     (below (j .1) (c .before .if5 .left)) (c .crossing-at .ensures))
 
 pub part-mark-spec : {M : Type 1} → statement M
 part-mark-spec =
     tie.close
     (tie.spec
-    number-at-requires
+    envelope-root-requires
     count-requires
     returns
     returns-2

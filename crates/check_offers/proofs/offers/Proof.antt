@@ -11,21 +11,21 @@ header-requires c κs = search needs
 returns : tie.Need-returns
 returns c = offers-none (c .before .if1 .taken) (c .header .ensures)
 
-number-at-requires : tie.Need-number-at-requires
-number-at-requires c κs = search needs
+offers-root-requires : tie.Need-offers-root-requires
+offers-root-requires c κs = search needs
 
-number-at-requires-2 : tie.Need-number-at-requires-2
-number-at-requires-2 c κs = search needs
+envelope-root-requires : tie.Need-envelope-root-requires
+envelope-root-requires c κs = search needs
 
 header-requires-2 : tie.Need-header-requires-2
 header-requires-2 c κs = search needs
 
 returns-2 : tie.Need-returns-2
 returns-2 c =
-    let at-number-at2 = c .before .before in
-    let at-number-at = at-number-at2 .before in
-    let at-if1 = at-number-at .before in
-    offers-no-header (at-if1 .if1 .left) (at-number-at .number-at .ensures) (at-number-at2 .number-at2 .ensures) (c .before .header2 .ensures)
+    let at-envelope-root = c .before .before in
+    let at-offers-root = at-envelope-root .before in
+    let at-if1 = at-offers-root .before in
+    offers-no-header (at-if1 .if1 .left) (at-offers-root .offers-root .ensures) (at-envelope-root .envelope-root .ensures) (c .before .header2 .ensures)
     (not-true _ (c .if2 .taken))
 
 ordered-requires : tie.Need-ordered-requires
@@ -34,10 +34,10 @@ ordered-requires c κs = search needs
 returns-3 : tie.Need-returns-3
 returns-3 c =
     let at-header2 = c .before .before .before .before in
-    let at-number-at2 = at-header2 .before in
-    let at-number-at = at-number-at2 .before in
-    let at-if1 = at-number-at .before in
-    offers-no-order (at-if1 .if1 .left) (at-number-at .number-at .ensures) (at-number-at2 .number-at2 .ensures) (at-header2 .header2 .ensures)
+    let at-envelope-root = at-header2 .before in
+    let at-offers-root = at-envelope-root .before in
+    let at-if1 = at-offers-root .before in
+    offers-no-order (at-if1 .if1 .left) (at-offers-root .offers-root .ensures) (at-envelope-root .envelope-root .ensures) (at-header2 .header2 .ensures)
     (c .before .ordered .ensures) (not-true _ (c .if3 .taken))
 
 enveloped-requires : tie.Need-enveloped-requires
@@ -47,10 +47,10 @@ returns-4 : tie.Need-returns-4
 returns-4 c =
     let at-ordered = c .before .before .before .before in
     let at-header2 = at-ordered .before .before .before in
-    let at-number-at2 = at-header2 .before in
-    let at-number-at = at-number-at2 .before in
-    let at-if1 = at-number-at .before in
-    offers-no-envelope (at-if1 .if1 .left) (at-number-at .number-at .ensures) (at-number-at2 .number-at2 .ensures) (at-header2 .header2 .ensures)
+    let at-envelope-root = at-header2 .before in
+    let at-offers-root = at-envelope-root .before in
+    let at-if1 = at-offers-root .before in
+    offers-no-envelope (at-if1 .if1 .left) (at-offers-root .offers-root .ensures) (at-envelope-root .envelope-root .ensures) (at-header2 .header2 .ensures)
     (at-ordered .ordered .ensures) (c .before .enveloped .ensures) (not-true _ (c .if4 .taken))
 
 fill-requires : tie.Need-fill-requires
@@ -64,10 +64,10 @@ returns-5 c =
     let at-ordered = at-if3 .before in
     let at-if2 = at-ordered .before .before in
     let at-header2 = at-if2 .before in
-    let at-number-at2 = at-header2 .before in
-    let at-number-at = at-number-at2 .before in
-    let at-if1 = at-number-at .before in
-    offers-all (at-if1 .if1 .left) (at-number-at .number-at .ensures) (at-number-at2 .number-at2 .ensures) (at-header2 .header2 .ensures)
+    let at-envelope-root = at-header2 .before in
+    let at-offers-root = at-envelope-root .before in
+    let at-if1 = at-offers-root .before in
+    offers-all (at-if1 .if1 .left) (at-offers-root .offers-root .ensures) (at-envelope-root .envelope-root .ensures) (at-header2 .header2 .ensures)
     (at-ordered .ordered .ensures) (at-enveloped .enveloped .ensures) (not-false _ (at-if2 .if2 .left)) (not-false _ (at-if3 .if3 .left))
     (not-false _ (at-if4 .if4 .left)) (c .fill .ensures)
 
@@ -77,8 +77,8 @@ offers-spec =
     (tie.spec
     header-requires
     returns
-    number-at-requires
-    number-at-requires-2
+    offers-root-requires
+    envelope-root-requires
     header-requires-2
     returns-2
     ordered-requires

@@ -1,6 +1,6 @@
 -- `meet_books::meet` meets its contract: by its guards, and then the two parts.
 use native.Mathlib.Omega.{arith}
-use Rattle.book.specs.LentPart.{book-start}
+use Rattle.promises.specs.LentPart.{book-start}
 use Rattle.meet_books.specs.Tables.{first-missing, second-missing, both-there}
 use borrow.Author.Needs.{needs}
 use Rattle.meet_books.proofs.meet.Statement.{statement}

@@ -10,11 +10,11 @@ use borrow.Author.Needs.{needs}
 use Rattle.meet_books.proofs.search_roots.Statement.{statement}
 use Rattle.meet_books.proofs.search_roots.Tie as tie
 
-number-at-requires : tie.Need-number-at-requires
-number-at-requires c κs = search needs
+envelope-root-requires : tie.Need-envelope-root-requires
+envelope-root-requires c κs = search needs
 
-number-at-requires-2 : tie.Need-number-at-requires-2
-number-at-requires-2 c κs = search needs
+envelope-root-requires-2 : tie.Need-envelope-root-requires-2
+envelope-root-requires-2 c κs = search needs
 
 meet-requires : tie.Need-meet-requires
 meet-requires c κs = search needs
@@ -46,8 +46,8 @@ returns c =
     let at-get2 = at-height .before in
     let at-get = at-get2 .before in
     let at-meet = at-get .before in
-    let at-number-at2 = at-meet .before in
-    let at-number-at = at-number-at2 .before in
+    let at-envelope-root2 = at-meet .before in
+    let at-envelope-root = at-envelope-root2 .before in
     let g : SFits w64 (at-get .get .result) = record { sfits = at-get .get .ok } in
     let g′ : SFits w64 (at-get2 .get2 .result) = record { sfits = at-get2 .get2 .ok } in
     let s : toZ w64 (at-meet .meet .result .steps) ≡ pos (at-meet .meet .result .steps) = toZ-pos w64 (omega (arith, cast-t10 c)) in
@@ -56,8 +56,8 @@ returns c =
     simp (toZ-ofZ, g, g′, s, a, d)
     (searches
     (record {
-      left-root = at-number-at .number-at .ensures;
-      right-root = at-number-at2 .number-at2 .ensures;
+      left-root = at-envelope-root .envelope-root .ensures;
+      right-root = at-envelope-root2 .envelope-root2 .ensures;
       searched = at-meet .meet .ensures;
       left-number = at-get .get .ensures;
       right-number = at-get2 .get2 .ensures;
@@ -69,8 +69,8 @@ pub search-roots-spec : {M : Type 1} → statement M
 search-roots-spec =
     tie.close
     (tie.spec
-    number-at-requires
-    number-at-requires-2
+    envelope-root-requires
+    envelope-root-requires-2
     meet-requires
     get-requires
     get-requires-2

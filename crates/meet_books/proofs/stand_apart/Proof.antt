@@ -7,11 +7,11 @@ use borrow.Author.Needs.{needs}
 use Rattle.meet_books.proofs.stand_apart.Statement.{statement}
 use Rattle.meet_books.proofs.stand_apart.Tie as tie
 
-number-at-requires : tie.Need-number-at-requires
-number-at-requires c κs = search needs
+offers-root-requires : tie.Need-offers-root-requires
+offers-root-requires c κs = search needs
 
-number-at-requires-2 : tie.Need-number-at-requires-2
-number-at-requires-2 c κs = search needs
+offers-root-requires-2 : tie.Need-offers-root-requires-2
+offers-root-requires-2 c κs = search needs
 
 end-requires : tie.Need-end-requires
 end-requires c κs = search needs
@@ -29,18 +29,18 @@ returns : tie.Need-returns
 returns c =
     let at-end2 = c .before .before in
     let at-end = at-end2 .before in
-    let at-number-at2 = at-end .before in
-    let at-number-at = at-number-at2 .before in
+    let at-offers-root2 = at-end .before in
+    let at-offers-root = at-offers-root2 .before in
     let g : SFits w64 (c .before .get .result) = record { sfits = c .before .get .ok } in
-    sets-apart (at-number-at .number-at .ensures) (at-number-at2 .number-at2 .ensures) (at-end .end .ensures) (at-end2 .end2 .ensures)
+    sets-apart (at-offers-root .offers-root .ensures) (at-offers-root2 .offers-root2 .ensures) (at-end .end .ensures) (at-end2 .end2 .ensures)
     (c .before .get .ensures) (simp (toZ-ofZ, g) at (c .is-above .ensures))
 
 pub stand-apart-spec : {M : Type 1} → statement M
 stand-apart-spec =
     tie.close
     (tie.spec
-    number-at-requires
-    number-at-requires-2
+    offers-root-requires
+    offers-root-requires-2
     end-requires
     end-requires-2
     get-requires

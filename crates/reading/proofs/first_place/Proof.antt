@@ -1,6 +1,6 @@
 -- `reading::first_place` meets its contract: by its guard, and then the part's first place.
 use native.Mathlib.Omega.{arith}
-use Rattle.book.specs.LentPart.{book-start}
+use Rattle.promises.specs.LentPart.{book-start}
 use Rattle.reading.specs.PartReading.{first-no-book, first-there}
 use borrow.Author.Needs.{needs}
 use Rattle.reading.proofs.first_place.Statement.{statement}

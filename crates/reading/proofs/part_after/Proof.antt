@@ -7,27 +7,27 @@ use Rattle.reading.proofs.part_after.Tie as tie
 returns : tie.Need-returns
 returns c = after-none (c .if1 .taken)
 
-number-at-requires : tie.Need-number-at-requires
-number-at-requires c κs = search needs
+envelope-root-requires : tie.Need-envelope-root-requires
+envelope-root-requires c κs = search needs
 
 end-requires : tie.Need-end-requires
 end-requires c κs = search needs
 
 returns-2 : tie.Need-returns-2
-returns-2 c = after-last (c .before .before .number-at .ensures) (c .before .end .ensures) (c .if2 .taken)
+returns-2 c = after-last (c .before .before .envelope-root .ensures) (c .before .end .ensures) (c .if2 .taken)
 
 link-requires : tie.Need-link-requires
 link-requires c κs = search needs
 
 returns-3 : tie.Need-returns-3
-returns-3 c = after-next (c .before .before .before .number-at .ensures) (c .before .before .end .ensures) (c .before .before .before .before .if1 .left) (c .before .if2 .left) (c .link .ensures)
+returns-3 c = after-next (c .before .before .before .envelope-root .ensures) (c .before .before .end .ensures) (c .before .before .before .before .if1 .left) (c .before .if2 .left) (c .link .ensures)
 
 pub part-after-spec : {M : Type 1} → statement M
 part-after-spec =
     tie.close
     (tie.spec
     returns
-    number-at-requires
+    envelope-root-requires
     end-requires
     returns-2
     link-requires

@@ -12,8 +12,8 @@ use Rattle.reading.proofs.part_piece.Tie as tie
 returns : tie.Need-returns
 returns c = hands-end refl (c .if1 .taken)
 
-number-at-requires : tie.Need-number-at-requires
-number-at-requires c κs = search needs
+envelope-root-requires : tie.Need-envelope-root-requires
+envelope-root-requires c κs = search needs
 
 end-requires : tie.Need-end-requires
 end-requires c κs = search needs
@@ -38,7 +38,7 @@ returns-2 c =
     let fu : SFits w64 (u .result) = record { sfits = u .ok } in
     let fv : SFits w64 (v .result) = record { sfits = v .ok } in
     simp (toZ-ofZ, fn, fu, fv)
-    (hands-piece (c .before .before .before .before .number-at .ensures) (c .before .before .before .end .ensures) (c .before .before .before .before .before .if1 .left)
+    (hands-piece (c .before .before .before .before .envelope-root .ensures) (c .before .before .before .end .ensures) (c .before .before .before .before .before .if1 .left)
     (λ e. eqb-true p z e) (λ e. eqb-false p z e) (n .ensures) (u .ensures) (v .ensures))
 
 pub part-piece-spec : {M : Type 1} → statement M
@@ -46,7 +46,7 @@ part-piece-spec =
     tie.close
     (tie.spec
     returns
-    number-at-requires
+    envelope-root-requires
     end-requires
     get-requires
     crossing-word-requires

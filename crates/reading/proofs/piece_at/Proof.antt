@@ -1,6 +1,6 @@
 -- `reading::piece_at` meets its contract: by its guard, and then what stands in the part.
 use native.Mathlib.Omega.{arith}
-use Rattle.book.specs.LentPart.{book-start}
+use Rattle.promises.specs.LentPart.{book-start}
 use Rattle.reading.specs.PartReading.{hands-no-book, hands-there}
 use borrow.Author.Needs.{needs}
 use Rattle.reading.proofs.piece_at.Statement.{statement}

@@ -1,6 +1,6 @@
 -- `reading::place_after` meets its contract: by its guard, and then the part's next place.
 use native.Mathlib.Omega.{arith}
-use Rattle.book.specs.LentPart.{book-start}
+use Rattle.promises.specs.LentPart.{book-start}
 use Rattle.reading.specs.PartReading.{after-no-book, after-there}
 use borrow.Author.Needs.{needs}
 use Rattle.reading.proofs.place_after.Statement.{statement}

@@ -40,7 +40,7 @@ use denote.Triple.Table.{entered, cited}
 use denote.Triple.Walked.{says, Stays, stay-none, stay-none-slice, walkOf, goes-none, goes-none-slice, Walks, ends-at, walked, walk-meets}
 use denote.Exit.{yes}
 use denote.Triple.Clauses.{ensured, lasts}
-use Rattle.book.specs.Promises.{partOf}
+use Rattle.promises.specs.Promises.{partOf}
 use Rattle.reading.specs.Promises.{Before, Hands}
 use Rattle.reading_steps.specs.ReadingSteps.{HandsAt, hands-at}
 use Rattle.reading_steps.specs.declared.Reading.{Reading}

@@ -1,7 +1,7 @@
 -- `reading_steps::nth_place` meets its contract. The loop's invariant: i places were passed.
 use Prim.Native.Nat.{_-_}
 use native.Mathlib.Omega.{arith}
-use Rattle.book.specs.Promises.{partOf}
+use Rattle.promises.specs.Promises.{partOf}
 use Rattle.reading.specs.PartReading.{Nearing, nearing-begins, nearing-on, nearing-past, nearing-ends}
 use borrow.Author.Needs.{needs}
 use Rattle.reading_steps.proofs.nth_place.Statement.{statement}

@@ -5,7 +5,7 @@ use lib.ListN.{drop}
 use mir.Syntax.{w64}
 use mir.Val.{SFits}
 use mir.Facts.{toZ-ofZ}
-use Rattle.book.specs.declared.Listed.{Listed}
+use Rattle.promises.specs.declared.Listed.{Listed}
 use Rattle.replay_words.specs.Encoding.{listedWords}
 use borrow.Author.Needs.{needs}
 use Rattle.replay_words.proofs.tell_listed.Statement.{statement}

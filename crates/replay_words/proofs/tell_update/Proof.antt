@@ -5,7 +5,7 @@ use lib.ListN.{drop}
 use mir.Syntax.{w64}
 use mir.Val.{SFits}
 use mir.Facts.{toZ-ofZ}
-use Rattle.book.specs.declared.Update.{Update}
+use Rattle.promises.specs.declared.Update.{Update}
 use Rattle.replay_words.specs.Encoding.{updateWords}
 use borrow.Author.Needs.{needs}
 use Rattle.replay_words.proofs.tell_update.Statement.{statement}

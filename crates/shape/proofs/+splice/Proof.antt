@@ -3,7 +3,7 @@ use borrow.Author.Needs.{needs}
 use native.Mathlib.Omega.{arith}
 use mathlib.Core.Path.{sym, _∙_}
 use Rattle.table.specs.Rep.{height-read, within-cap}
-use Rattle.shape.specs.Joining.{raised}
+use Rattle.nodes.specs.Joining.{raised}
 use Rattle.shape.specs.Splices.{spliced-none, spliced-low, spliced, towers-told}
 use Prim.Native.Nat.{ℕ, _<_}
 use borrow.Fn.Kinds.{In}
@@ -13,9 +13,9 @@ use Rattle.shape.proofs.splice.Kinds as splice-kinds
 use Rattle.shape.proofs.+splice.Lts-splice as splice-lts
 use Rattle.shape.proofs.above.Reads as above-reads
 use Rattle.shape.proofs.balance.Reads as balance-reads
-use Rattle.shape.proofs.make_node.Reads as make-node-reads
-use Rattle.shape.proofs.set_node.Reads as set-node-reads
-use Rattle.shape.proofs.taller.Reads as taller-reads
+use Rattle.nodes.proofs.make_node.Reads as make-node-reads
+use Rattle.nodes.proofs.set_node.Reads as set-node-reads
+use Rattle.nodes.proofs.taller.Reads as taller-reads
 use Rattle.table.proofs.child_in.Reads as child-in-reads
 use Rattle.table.proofs.height_in.Reads as height-in-reads
 use Rattle.table.proofs.inner_slot.Reads as inner-slot-reads

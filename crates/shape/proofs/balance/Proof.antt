@@ -1,7 +1,7 @@
 -- `shape::balance` meets its contract.
 use native.Mathlib.Omega.{arith}
 use Rattle.table.specs.Rep.{height-read}
-use Rattle.shape.specs.Joining.{raised}
+use Rattle.nodes.specs.Joining.{raised}
 use Rattle.shape.specs.Balance.{balanced-one, balanced-other, balanced-level}
 use borrow.Author.Needs.{needs}
 use Rattle.shape.proofs.balance.Statement.{statement}

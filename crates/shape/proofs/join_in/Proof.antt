@@ -1,7 +1,7 @@
 -- `shape::join_in` meets its contract.
 use native.Mathlib.Omega.{arith}
 use Rattle.table.specs.Rep.{height-read}
-use Rattle.shape.specs.Joining.{raised}
+use Rattle.nodes.specs.Joining.{raised}
 use Rattle.shape.specs.Splices.{towers-told}
 use Rattle.shape.specs.Merge.{merged-right, merged-left, merged-one, merged-other, merged-level}
 use borrow.Author.Needs.{needs}

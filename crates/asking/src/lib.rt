@@ -1,0 +1,62 @@
+// What is asked of a book in a lent table: a query and a listing.
+ghost use Rattle.promises.specs.Promises.{Queries, Lists};
+ghost use Rattle.asking.specs.Asking.{Asks};
+ghost use Rattle.asking.specs.Showing.{Shown};
+use promises::Found;
+use promises::Listed;
+
+// The cheapest offer at a load, on the part's own words.
+fn ask(part: &[i64], load: i64) -> Found
+    ensures { λ r. ⌜ Asks load (now (part .entry)) r ⌝ }
+{
+    if table::number_at(part, table::LIVE_COUNT, table::MOST_NODES) < 1 {
+        return Found::Declined(9);
+    }
+    let root = form::envelope_root(part);
+    let p = query::descend(part, root, load);
+    let slot = p.slot;
+    let probes = p.probes;
+    let number = table::get(part, table::NUMBER, slot);
+    let price = query::price(part, slot, load);
+    Found::Offer {
+        number: number,
+        price: price,
+        probes: probes as i64,
+    }
+}
+
+// The cheapest offer at a load, the first in order of several.
+pub fn query(table: &[i64], start: usize, load: i64) -> Found
+    ensures { λ r. ⌜ Queries load start (now (table .entry)) r ⌝ }
+{
+    if promises::no_book(table, start) {
+        return Found::Declined(3);
+    }
+    if query::outside(-1_000_000, 1_000_000, load) {
+        return Found::Declined(4);
+    }
+    ask(&table[start..], load)
+}
+
+// The pieces of a part.
+fn show(part: &[i64], out: &mut [i64]) -> Listed
+    ensures { λ r. ⌜ Shown (now (part .entry)) (now (out .entry)) (now (out .exit)) r ⌝ }
+{
+    let room = out.len();
+    let root = form::envelope_root(part);
+    let n = listing::write(part, root, out);
+    if room < 3 * (n as usize) {
+        return Listed::Declined(10);
+    }
+    Listed::Pieces(n as i64)
+}
+
+// Number, numerator, denominator a piece of the lower envelope, from the first word of the output on.
+pub fn listing(table: &[i64], start: usize, out: &mut [i64]) -> Listed
+    ensures { λ r. ⌜ Lists start (now (table .entry)) (now (out .entry)) (now (out .exit)) r ⌝ }
+{
+    if promises::no_book(table, start) {
+        return Listed::Declined(3);
+    }
+    show(&table[start..], out)
+}

@@ -1,0 +1,24 @@
+-- `prices::numerator_in` meets its contract.
+use mathlib.Core.Path.{_∙_, ap}
+use mir.Facts.{toZ-ofZ}
+use mir.Syntax.{w64}
+use mir.Val.{SFits}
+use borrow.Author.Needs.{needs}
+use Rattle.offers.specs.Bounded.{bounded}
+use Rattle.prices.proofs.numerator_in.Statement.{statement}
+use Rattle.prices.proofs.numerator_in.Tie as tie
+
+get-in-requires : tie.Need-get-in-requires
+get-in-requires c κs = search needs
+
+bounded-requires : tie.Need-bounded-requires
+bounded-requires c κs = search needs
+
+returns : tie.Need-returns
+returns c =
+    let f : SFits w64 (c .before .get-in .result) = record { sfits = c .before .get-in .ok } in
+    let g : SFits w64 (c .bounded .result) = record { sfits = c .bounded .ok } in
+    simp (toZ-ofZ, g) ((simp (toZ-ofZ, f) at (c .bounded .ensures)) ∙ ap (bounded _ _) (c .before .get-in .ensures))
+
+pub numerator-in-spec : {M : Type 1} → statement M
+numerator-in-spec = tie.close (tie.spec get-in-requires bounded-requires returns)

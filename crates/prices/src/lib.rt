@@ -1,0 +1,133 @@
+// What a comparison of two envelopes reads and computes, safe whatever the words are. `c` is a part's capacity, which is read once for a whole search.
+ghost use mathlib.Core.Path.{_≡_};
+ghost use Rattle.table.specs.Layout.{cap};
+ghost use Rattle.prices.specs.Prices.{rateAt, baseAt, numeratorAt, denominatorAt, crossingPriceAt, Priced, priceIn, keptIn, aboveAt};
+
+pub fn rate_in(part: &[i64], c: u32, slot: u32) -> i64
+    requires { ⌜ c ≡ cap (now part) ⌝ }
+    ensures { λ r. ⌜ r ≡ rateAt (now (part .entry)) slot ⌝ }
+{
+    table::bounded(-100_000, 100_000, table::get_in(part, c, table::RATE, slot))
+}
+
+pub fn base_in(part: &[i64], c: u32, slot: u32) -> i64
+    requires { ⌜ c ≡ cap (now part) ⌝ }
+    ensures { λ r. ⌜ r ≡ baseAt (now (part .entry)) slot ⌝ }
+{
+    table::bounded(
+        -1_000_000_000,
+        1_000_000_000,
+        table::get_in(part, c, table::BASE, slot),
+    )
+}
+
+// The crossing with the next piece.
+fn numerator_in(part: &[i64], c: u32, slot: u32) -> i64
+    requires { ⌜ c ≡ cap (now part) ⌝ }
+    ensures { λ r. ⌜ r ≡ numeratorAt (now (part .entry)) slot ⌝ }
+{
+    table::bounded(
+        -2_000_000_000,
+        2_000_000_000,
+        table::get_in(part, c, table::NUMERATOR, slot),
+    )
+}
+
+fn denominator_in(part: &[i64], c: u32, slot: u32) -> i64
+    requires { ⌜ c ≡ cap (now part) ⌝ }
+    ensures { λ r. ⌜ r ≡ denominatorAt (now (part .entry)) slot ⌝ }
+{
+    table::bounded(0, 200_000, table::get_in(part, c, table::DENOMINATOR, slot))
+}
+
+// The price of a slot's line at the load n over d, times d.
+pub fn price(part: &[i64], c: u32, slot: u32, n: i64, d: i64) -> i64
+    requires { ⌜ Priced c (now part) n d ⌝ }
+    ensures { λ r. ⌜ r ≡ priceIn (now (part .entry)) slot n d ⌝ }
+{
+    base_in(part, c, slot) * d + rate_in(part, c, slot) * n
+}
+
+// The slot in which a node is kept.
+fn kept_in(x: u32) -> u32
+    ensures { λ r. ⌜ r ≡ keptIn x ⌝ }
+{
+    if x <= table::MOST_SLOTS {
+        return x;
+    }
+    x - table::MOST_SLOTS
+}
+
+// Whether the crossing that slot `p` keeps is on or above the local envelope of node `x`: at that load one of the envelope's lines is
+// at most the line of slot `p`. Slot 0 stands for a missing end. `c` and `k` are the capacities.
+pub fn above(ours: &[i64], c: u32, p: u32, other: &[i64], k: u32, x: u32) -> bool
+    requires { ⌜ (c ≡ cap (now ours)) × (k ≡ cap (now other)) ⌝ }
+    ensures { λ r. ⌜ r ≡ aboveAt (now (ours .entry)) p (now (other .entry)) x ⌝ }
+{
+    if p < 1 {
+        return false;
+    }
+    let n = numerator_in(ours, c, p);
+    let d = denominator_in(ours, c, p);
+    let y = price(ours, c, p, n, d);
+    let s = kept_in(x);
+    if price(other, k, s, n, d) <= y {
+        return true;
+    }
+    if x <= table::MOST_SLOTS {
+        return false;
+    }
+    price(
+        other,
+        k,
+        table::link_in(other, k, table::NEXT_PIECE, s),
+        n,
+        d,
+    )
+        <= y
+}
+
+// ---- by the capacity that the words tell
+
+pub fn rate(part: &[i64], slot: u32) -> i64
+    ensures { λ r. ⌜ r ≡ rateAt (now (part .entry)) slot ⌝ }
+{
+    table::bounded(-100_000, 100_000, table::get(part, table::RATE, slot))
+}
+
+pub fn base(part: &[i64], slot: u32) -> i64
+    ensures { λ r. ⌜ r ≡ baseAt (now (part .entry)) slot ⌝ }
+{
+    table::bounded(
+        -1_000_000_000,
+        1_000_000_000,
+        table::get(part, table::BASE, slot),
+    )
+}
+
+// The crossing with the next piece: where the words hold one, its numerator and its denominator.
+pub fn numerator(part: &[i64], slot: u32) -> i64
+    ensures { λ r. ⌜ r ≡ numeratorAt (now (part .entry)) slot ⌝ }
+{
+    table::bounded(
+        -2_000_000_000,
+        2_000_000_000,
+        table::get(part, table::NUMERATOR, slot),
+    )
+}
+
+pub fn denominator(part: &[i64], slot: u32) -> i64
+    ensures { λ r. ⌜ r ≡ denominatorAt (now (part .entry)) slot ⌝ }
+{
+    table::bounded(0, 200_000, table::get(part, table::DENOMINATOR, slot))
+}
+
+// The price of a slot's line at the crossing that the slot keeps, times its denominator.
+pub fn crossing_price(part: &[i64], slot: u32) -> i64
+    ensures { λ r. ⌜ r ≡ crossingPriceAt (now (part .entry)) slot ⌝ }
+{
+    let n = numerator(part, slot);
+    let d = denominator(part, slot);
+    let c = table::capacity(part);
+    price(part, c, slot, n, d)
+}

@@ -1,0 +1,187 @@
+-- What each call on a lent table promises. `t` are the table's words before the call and `t′` those after it.
+-- On words of any content causes 1 to 4 hold as tabled, and no word outside the part changes. Where the part passes the check
+-- (`Book`), the answer is the plain book's, and the part stands for the plain book's offers afterwards.
+use mathlib.Core.Path.{_≡_}
+use mathlib.Core.Bool.{Bool, true}
+use mathlib.Core.List.{List, [], _∷_}
+use mathlib.Core.Option.{Option, none, some}
+use Prim.Native.Nat.{ℕ, _+_, _*_}
+use lib.ListN.{length, take, drop}
+use lib.IntN.{ℤ, pos, negsuc, natAbs}
+use Rattle.plain.specs.Causes.{Cause, noBook, Trial, _when_, causeNumber}
+use Rattle.plain.specs.Book.{State, Call, query, listing, Answer, refused, live, found, listed, Opening as Plainly, declined-opening, accepted-opening, opening, opened, openTrials, rangeTrials, noBookAt, partLength, step}
+use Rattle.plain.specs.Rules.{FirstOf}
+use Rattle.plain.specs.Sound.{Clear}
+use Rattle.trees.specs.Operations.{Part}
+use Rattle.dynamic.specs.OfferTree.{Held, Pair}
+use Rattle.dynamic.specs.Work.{Work, stepsOf, heightsOf}
+use Rattle.table.specs.Fields.{capacityWord}
+use Rattle.table.specs.Words.{Words, word}
+use Rattle.table.specs.Items.{Item}
+use Rattle.pieces.specs.Pieces.{items}
+use Rattle.form.specs.Form.{Book}
+use Rattle.query.specs.Lookup.{LeafAt}
+use Rattle.promises.specs.declared.Opening.{Opening}
+use Rattle.promises.specs.declared.Opening.the-variants.{Opened, Declined as OpeningDeclined}
+use Rattle.promises.specs.declared.Update.{Update}
+use Rattle.promises.specs.declared.Update.the-variants.{Done, Declined as UpdateDeclined}
+use Rattle.promises.specs.declared.Found.{Found}
+use Rattle.promises.specs.declared.Found.the-variants.{Offer, Declined as FoundDeclined}
+use Rattle.promises.specs.declared.Listed.{Listed}
+use Rattle.promises.specs.declared.Listed.the-variants.{Pieces, Declined as ListingDeclined}
+
+-- ---- the part of a table
+
+abbrev pub partOf : List ℤ → ℕ → Words
+partOf t start = drop start t
+
+-- the first word there, as a capacity
+abbrev pub capacityAt : List ℤ → ℕ → ℕ
+capacityAt t start = natAbs (word (partOf t start) capacityWord)
+
+-- no word outside the part of capacity c has changed
+pub record OnlyPart (c start : ℕ) (t t′ : List ℤ) : Type 0 where
+  pub long : length t′ ≡ length t
+  pub front : take start t′ ≡ take start t
+  pub back : drop (start + partLength c) t′ ≡ drop (start + partLength c) t
+
+-- ---- the trials of a call on words of any content
+
+-- every call's but open's
+abbrev pub noBookTrial : List ℤ → ℕ → Trial
+noBookTrial t start = noBook when noBookAt (length t) start (word (partOf t start) capacityWord)
+
+abbrev pub tableTrials : List ℤ → ℕ → Call → List Trial
+tableTrials t start k = noBookTrial t start ∷ rangeTrials k
+
+-- ---- answers in the requirements' numbers and values (16.5)
+
+-- A number or a count as the requirements give it (3.2). A word below 0 is none: `refused 0` is no answer of the plain book (`numbered`).
+abbrev pub counted : (ℕ → Answer) → ℤ → Answer
+counted f (pos n) = f n
+counted f (negsuc n) = refused 0
+
+-- an opening's: 0 alone, or a refusal's number
+abbrev pub openingAnswer : Opening → ℤ
+openingAnswer Opened = pos 0
+openingAnswer (OpeningDeclined c) = c
+
+-- the plain book's
+abbrev pub plainOpening : Plainly → ℤ
+plainOpening (accepted-opening s) = pos 0
+plainOpening (declined-opening n) = pos n
+
+-- All that a call returned: what the plain book answers, and beside it the values that the plain book leaves open. One definition for each
+-- enum gives the number and the values of each case.
+pub record Returned : Type 0 where
+  pub answer : Answer
+  pub beside : List ℤ
+
+-- beside a live count k, s and H
+abbrev pub updateReturned : Update → Returned
+updateReturned (Done n k s h) = record { answer = counted live n; beside = k ∷ s ∷ h ∷ [] }
+updateReturned (UpdateDeclined c) = record { answer = counted refused c; beside = [] }
+
+-- beside an offer and its price the probes
+abbrev pub foundReturned : Found → Returned
+foundReturned (Offer number price probes) = record { answer = found number price; beside = probes ∷ [] }
+foundReturned (FoundDeclined c) = record { answer = counted refused c; beside = [] }
+
+-- with the words that the output then begins with
+abbrev pub listingReturned : Listed → List ℤ → Returned
+listingReturned (Pieces m) out = record { answer = counted (λ n. listed n (take (3 * n) out)) m; beside = [] }
+listingReturned (ListingDeclined c) out = record { answer = counted refused c; beside = [] }
+
+-- the plain book's part of each
+abbrev pub updateAnswer : Update → Answer
+updateAnswer r = updateReturned r .answer
+
+abbrev pub foundAnswer : Found → Answer
+foundAnswer r = foundReturned r .answer
+
+abbrev pub listingAnswer : Listed → List ℤ → Answer
+listingAnswer r out = listingReturned r out .answer
+
+-- ---- open
+
+pub record Opens (c : ℤ) (start : ℕ) (t t′ : List ℤ) (r : Opening) : Type 0 where
+  pub answers : openingAnswer r ≡ plainOpening (opening (length t) start c)
+  pub declined : (k : Cause) → FirstOf (openTrials (length t) start c) k → (r ≡ OpeningDeclined (pos (causeNumber k))) × (t′ ≡ t)
+  pub accepted : Clear (openTrials (length t) start c) → (r ≡ Opened) × Book (partOf t′ start) (opened c) none × OnlyPart (natAbs c) start t t′
+
+-- ---- post and withdraw
+
+-- the values beside an update's answer: k, s and H are those of the log; a declined call has none, and no log
+abbrev pub Counts : List ℤ → List (Pair Item) → Type 0
+Counts [] log = log ≡ []
+Counts (k ∷ more) log = k ∷ more ≡ pos (length log) ∷ pos (stepsOf items log) ∷ pos (heightsOf log) ∷ []
+
+-- on a part that stands for the plain book s
+pub record Follows (k : Call) (s : State) (held : Option (Held Item)) (start : ℕ) (t t′ : List ℤ) (r : Update) : Type 0 where
+  pub after : Option (Held Item)
+  pub log : List (Pair Item)
+  pub answers : updateAnswer r ≡ step s k .answer
+  pub stands : Book (partOf t′ start) (step s k .state) after
+  pub refusal : (n : ℕ) → updateAnswer r ≡ refused n → t′ ≡ t
+  pub work : Work items held after log
+  pub counts : Counts (updateReturned r .beside) log
+
+pub record Updates (k : Call) (start : ℕ) (t t′ : List ℤ) (r : Update) : Type 0 where
+  pub declined : (z : Cause) → FirstOf (tableTrials t start k) z → (updateAnswer r ≡ refused (causeNumber z)) × (t′ ≡ t)
+  -- a refusal leaves every word, whatever the words are
+  pub refusal : (z : ℤ) → r ≡ UpdateDeclined z → t′ ≡ t
+  pub outside : OnlyPart (capacityAt t start) start t t′
+  -- nor does the part's length change
+  pub same-part : word (partOf t′ start) capacityWord ≡ word (partOf t start) capacityWord
+  pub follows : (s : State) (held : Option (Held Item)) → Book (partOf t start) s held → Follows k s held start t t′ r
+
+-- ---- query
+
+-- the root's piece tree
+abbrev pub rootPart : Option (Held Item) → Part Item
+rootPart none = none
+rootPart (some h) = h .whole
+
+-- it has a leaf at the depth of the probes, with the offer named
+abbrev pub ProbesIn : Option (Held Item) → ℤ → ℤ → Type 0
+ProbesIn held number probes = elim (rootPart held) [ none ↦ ⊥ | some t ↦ (a : Item) × LeafAt a (natAbs probes) t × (a .offer .number ≡ number) × (probes ≡ pos (natAbs probes)) ]
+
+-- the values beside a query's answer: where an offer is named, its probes
+abbrev pub Probes : Option (Held Item) → Answer → List ℤ → Type 0
+Probes held (found number price) [] = ⊥
+Probes held (found number price) (probes ∷ more) = ProbesIn held number probes × (more ≡ [])
+Probes held (refused n) beside = beside ≡ []
+Probes held (live n) beside = beside ≡ []
+Probes held (listed n ws) beside = beside ≡ []
+
+pub record Queries (q : ℤ) (start : ℕ) (t : List ℤ) (r : Found) : Type 0 where
+  pub declined : (z : Cause) → FirstOf (tableTrials t start (query q)) z → foundAnswer r ≡ refused (causeNumber z)
+  pub answers : (s : State) (held : Option (Held Item)) → Book (partOf t start) s held → foundAnswer r ≡ step s (query q) .answer
+  pub probes : (s : State) (held : Option (Held Item)) → Book (partOf t start) s held → Probes held (foundReturned r .answer) (foundReturned r .beside)
+
+-- ---- listing, into an output lent with it
+
+abbrev pub writtenWords : Answer → ℕ
+writtenWords (refused n) = 0
+writtenWords (live n) = 0
+writtenWords (found n p) = 0
+writtenWords (listed m ws) = length ws
+
+pub record Lists (start : ℕ) (t out out′ : List ℤ) (r : Listed) : Type 0 where
+  pub declined : (z : Cause) → FirstOf (tableTrials t start (listing (length out))) z → (listingAnswer r out′ ≡ refused (causeNumber z)) × (out′ ≡ out)
+  -- a refusal leaves every word of the output, whatever the table's words are
+  pub refusal : (z : ℤ) → r ≡ ListingDeclined z → out′ ≡ out
+  pub long : length out′ ≡ length out
+  pub answers : (s : State) (held : Option (Held Item)) → Book (partOf t start) s held → listingAnswer r out′ ≡ step s (listing (length out)) .answer
+  -- later output words keep their contents
+  pub later : (s : State) (held : Option (Held Item)) → Book (partOf t start) s held → drop (writtenWords (listingAnswer r out′)) out′ ≡ drop (writtenWords (listingAnswer r out′)) out
+
+-- ---- check
+
+-- the part has the form, with every envelope the lower envelope of the offers below
+abbrev pub Passes : ℕ → List ℤ → Type 0
+Passes start t = (s : State) × (held : Option (Held Item)) × Book (partOf t start) s held
+
+pub record Checks (start : ℕ) (t : List ℤ) (yes-it-does : Bool) : Type 0 where
+  pub sound : yes-it-does ≡ true → Passes start t
+  pub complete : Passes start t → yes-it-does ≡ true

@@ -1,0 +1,172 @@
+// What each call on a book is to answer, told by a scan of all offers.
+use crate::slots;
+
+fn is_outside(low: i64, high: i64, value: i64) -> bool {
+    if value < low {
+        return true;
+    }
+    high < value
+}
+
+// The number of the cause for which a post is declined, or 0.
+pub(crate) fn post_cause(os: &[i64; 192], room: u32, number: i64, rate: i64, base: i64) -> i64 {
+    if is_outside(1, 9_999, number) {
+        return 4;
+    }
+    if is_outside(-100_000, 100_000, rate) {
+        return 4;
+    }
+    if is_outside(-1_000_000_000, 1_000_000_000, base) {
+        return 4;
+    }
+    if slots::with_number(os, number) < 64 {
+        return 5;
+    }
+    if slots::has_rate(os, rate) {
+        return 6;
+    }
+    if room <= slots::count(os) {
+        return 7;
+    }
+    0
+}
+
+// Where no cause declines the call, writes an offer over the one with the number `old`; 0 is a vacant slot's.
+pub(crate) fn replace(
+    os: &mut [i64; 192],
+    cause: i64,
+    old: i64,
+    number: i64,
+    rate: i64,
+    base: i64,
+) {
+    if cause == 0 {
+        let slot = slots::with_number(os, old);
+        slots::put(os, slot, number, rate, base);
+    }
+}
+
+pub(crate) fn withdraw_cause(os: &[i64; 192], number: i64) -> i64 {
+    if is_outside(1, 9_999, number) {
+        return 4;
+    }
+    if slots::with_number(os, number) < 64 {
+        return 0;
+    }
+    8
+}
+
+pub(crate) fn query_cause(os: &[i64; 192], load: i64) -> i64 {
+    if is_outside(-1_000_000, 1_000_000, load) {
+        return 4;
+    }
+    if slots::count(os) < 1 {
+        return 9;
+    }
+    0
+}
+
+// The words of piece `k`, which is offer `i` with offer `j` as the next piece: 0 and 0 for its crossing where there is none.
+fn put_piece(os: &[i64; 192], words: &mut [i64; 192], k: usize, i: usize, j: usize) {
+    if k < 64 {
+        words[3 * k] = slots::number(os, i);
+        words[3 * k + 1] = 0;
+        words[3 * k + 2] = 0;
+        if j < 64 {
+            words[3 * k + 1] = slots::numerator(os, i, j);
+            words[3 * k + 2] = slots::denominator(os, i, j);
+        }
+    }
+}
+
+// Writes the words of all pieces and tells how many pieces there are.
+pub(crate) fn put_pieces(os: &[i64; 192], words: &mut [i64; 192]) -> usize {
+    let mut i = slots::next_piece(os, 100_001);
+    for k in 0..64 {
+        if i > 63 {
+            return k;
+        }
+        let j = slots::next_piece(os, slots::rate(os, i));
+        put_piece(os, words, k, i, j);
+        i = j;
+    }
+    64
+}
+
+fn word_same(out: &[i64], words: &[i64; 192], k: usize) -> bool {
+    if k > 191 {
+        return false;
+    }
+    if k >= out.len() {
+        return false;
+    }
+    out[k] == words[k]
+}
+
+// Every word of the output, to its end.
+pub(crate) fn all_same(out: &[i64], words: &[i64; 192]) -> bool {
+    for k in 0..out.len() {
+        if !word_same(out, words, k) {
+            return false;
+        }
+    }
+    true
+}
+
+pub(crate) fn count_same(n: i64, m: usize) -> bool {
+    if m > 64 {
+        return false;
+    }
+    n == m as i64
+}
+
+// ---- two books that meet
+
+// The offers of both in one array: those of the left in slots 0 to 31, those of the right in slots 32 to 63.
+pub(crate) fn both(l: &[i64; 192], r: &[i64; 192]) -> [i64; 192] {
+    let mut all = [0i64; 192];
+    for i in 0..32 {
+        slots::put(
+            &mut all,
+            i,
+            slots::number(l, i),
+            slots::rate(l, i),
+            slots::base(l, i),
+        );
+        slots::put(
+            &mut all,
+            i + 32,
+            slots::number(r, i),
+            slots::rate(r, i),
+            slots::base(r, i),
+        );
+    }
+    all
+}
+
+pub(crate) fn meet_cause(l: &[i64; 192], r: &[i64; 192]) -> i64 {
+    if slots::count(l) < 1 {
+        return 9;
+    }
+    if slots::count(r) < 1 {
+        return 9;
+    }
+    if slots::mixed(l, r) {
+        return 12;
+    }
+    0
+}
+
+// The last piece of the left that has a piece of the right behind it, or 64.
+pub(crate) fn seam(all: &[i64; 192]) -> usize {
+    let mut i = slots::next_piece(all, 100_001);
+    let most: u32 = 64;
+    for k in 0..most {
+        let j = slots::next_piece(all, slots::rate(all, i));
+        if j > 31 {
+            return i;
+        }
+        i = j;
+    }
+    64
+}
