@@ -74,13 +74,9 @@ fn walk(
 fn header(part: &[i64], x: u32, e: u32, n: u32) -> bool
     ensures { λ r. ⌜ Decides r (Header (now (part .entry)) x e n) ⌝ }
 {
-    if !check_trees::tells(part, table::OFFERS_ROOT, x) {
-        return false;
-    }
-    if !check_trees::tells(part, table::ENVELOPE_ROOT, e) {
-        return false;
-    }
-    check_trees::tells(part, table::LIVE_COUNT, n)
+    check_trees::tells(part, table::OFFERS_ROOT, x)
+        && check_trees::tells(part, table::ENVELOPE_ROOT, e)
+        && check_trees::tells(part, table::LIVE_COUNT, n)
 }
 
 // The tree of offers from node `x` on has `n` leaves, with offers in range whose rates fall. Their slots are left from place 0 on.
