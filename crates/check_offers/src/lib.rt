@@ -1,4 +1,4 @@
-// The check of a part: yes exactly when it has the form of a book. Any words are safe.
+// The offers of a part with their envelopes, as parts of the check of a book's part. Any words are safe.
 use check_merge::Walked;
 ghost use mathlib.Core.Path.{_≡_};
 ghost use Prim.Native.Nat.{ℕ, _≤_};
