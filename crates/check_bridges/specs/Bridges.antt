@@ -1,12 +1,17 @@
 -- The tests of a bridge between two stretches of slots, by the neighbours of its two ends.
-use mathlib.Core.Path.{_≡_, refl, sym, _∙_, ap, ap₂}
-use mathlib.Core.Bool.{Bool, true, false}
+use mathlib.Core.Path.{_≡_, sym, _∙_, ap₂}
+use mathlib.Core.Bool.{Bool, true, false, not}
 use mathlib.Core.List.{List}
 use Prim.Native.Nat.{ℕ, _+_, _-_, _≤_, _<_}
 use native.Mathlib.Omega.{arith}
+use borrow.Author.Tests.{not-true, eqb-true, eq-eqb}
+use lib.Dec.{eqb}
 use lib.ListN.{getD}
 use lib.IntN.{ℤ, _-ℤ_}
-use Rattle.lists.specs.Bools.{never, passed, is-true}
+use mir.Facts.{toZ-ofZ}
+use mir.Syntax.{w64}
+use mir.Val.{SFits, toZ, ofZ}
+use Rattle.lists.specs.Bools.{never}
 use Rattle.integers.specs.Equal.{equal}
 use Rattle.integers.specs.Parts.{equal-eq, equal-is}
 use Rattle.offers.specs.Offers.{crossingNumerator, crossingDenominator}
@@ -16,7 +21,7 @@ use Rattle.table.specs.Layout.{cell, linkAt}
 use Rattle.table.specs.Threads.{Next}
 use Rattle.check_trees.specs.Scratch.{scratchLength}
 use Rattle.check_trees.specs.Laid.{itemAt}
-use Rattle.check_trees.specs.Deciding.{Decides, decides-yes, decides-no, Every, every-none}
+use Rattle.check_trees.specs.Deciding.{Decides, decides-as, decides-by, decides-no, Every, every-none}
 use Rattle.check_trees.specs.Loops.{RangedHere, NextHere}
 use Rattle.check_bridges.specs.Gaps.{InRange, baseGap, rateGap, base-is, rate-is, crossAt}
 
@@ -46,32 +51,31 @@ pub record Threads (w : Words) (xs : List ℕ) (from to : ℕ) (r : Bool) : Type
 
 -- ---- a thread, by its three tests
 
-module _ {w : Words} {a b : ℕ} where
-  pub follows-no-link : {s : ℕ} → s ≡ linkAt w nextPieceField a → (s ≡ b → ⊥) → Follows w a b false
-  follows-no-link e n = record { told = λ ha hb. decides-no (λ p. n (e ∙ p .next)) }
+pub leads : {s l : ℕ} (b : ℕ) → s ≡ l → Decides (eqb s b) (l ≡ b)
+leads {s} b e = record { sound = λ t. sym e ∙ eqb-true s b t; complete = λ q. eq-eqb s b (e ∙ q) }
 
+pub keeps : {q : Bool} {n m z : ℤ} → n ≡ m → SFits w64 n → q ≡ equal z (toZ w64 (ofZ w64 n)) → Decides q (z ≡ m)
+keeps {q} {n} {m} {z} e f p =
+    decides-as (λ t. equal-eq z n t ∙ e) (λ g. equal-is z n (g ∙ sym e)) (decides-by (simp (toZ-ofZ, f) at p))
+
+module _ {w : Words} {a b : ℕ} where
   numerator-is : InRange w a → InRange w b → baseGap w a b ≡ crossingNumerator (itemAt w a .offer) (itemAt w b .offer)
   numerator-is ha hb = ap₂ _-ℤ_ (base-is hb) (base-is ha)
 
   denominator-is : InRange w a → InRange w b → rateGap w a b ≡ crossingDenominator (itemAt w a .offer) (itemAt w b .offer)
   denominator-is ha hb = ap₂ _-ℤ_ (rate-is ha) (rate-is hb)
 
-  module _ {r : Bool} {n : ℤ} (en : n ≡ baseGap w a b) (er : r ≡ equal (cell w numeratorField a) n) where
-    pub follows-no-base : r ≡ false → Follows w a b false
-    follows-no-base e = record { told = λ ha hb. decides-no (λ p. never (er ∙ is-true (equal (cell w numeratorField a) n) (equal-is (cell w numeratorField a) n (p .numerator ∙ sym (numerator-is ha hb) ∙ sym en))) e) }
-
-    pub follows-rest : {s : ℕ} {q : Bool} {d : ℤ} → s ≡ linkAt w nextPieceField a → s ≡ b → r ≡ true → d ≡ rateGap w a b → q ≡ equal (cell w denominatorField a) d → Follows w a b q
-    follows-rest {s} {q} {d} es e t ed eq =
-        record {
-          told = λ ha hb. record {
-            sound = λ u. record {
-              next = sym es ∙ e;
-              numerator = equal-eq (cell w numeratorField a) n (passed (sym er ∙ t)) ∙ en ∙ numerator-is ha hb;
-              denominator = equal-eq (cell w denominatorField a) d (passed (sym eq ∙ u)) ∙ ed ∙ denominator-is ha hb;
-            };
-            complete = λ p. eq ∙ is-true (equal (cell w denominatorField a) d) (equal-is (cell w denominatorField a) d (p .denominator ∙ sym (denominator-is ha hb) ∙ sym ed));
-          };
-        }
+  pub follows-by :
+      {r : Bool} →
+      Decides r ((linkAt w nextPieceField a ≡ b × cell w numeratorField a ≡ baseGap w a b) × cell w denominatorField a ≡ rateGap w a b) →
+      Follows w a b r
+  follows-by d =
+      record {
+        told = λ ha hb. decides-as
+            (λ p. record { next = p .0 .0; numerator = p .0 .1 ∙ numerator-is ha hb; denominator = p .1 ∙ denominator-is ha hb })
+            (λ n. ((n .next, n .numerator ∙ sym (numerator-is ha hb)), n .denominator ∙ sym (denominator-is ha hb)))
+            d;
+      }
 
 -- ---- a thread along a stretch
 
@@ -95,15 +99,15 @@ threaded-none h = every-none (omega arith)
 
 -- ---- the tests of the neighbours
 
-module _ {A : Type 0} {b y : Bool} (e : b ≡ y) where
-  pub near-yes : {z : Bool} → b ≡ z → Decides true (A → y ≡ z)
-  near-yes d = decides-yes (λ a. sym e ∙ d)
+module _ {A : Type 0} {b y : Bool} where
+  pub near-none : {z : Bool} → b ≡ true → (A → ⊥) → Decides b (A → y ≡ z)
+  near-none t n = record { sound = λ u a. absurd (n a); complete = λ f. t }
 
-  pub near-above : b ≡ true → A → Decides false (A → y ≡ false)
-  near-above d a = decides-no (λ f. never (sym e ∙ d) (f a))
+  pub near-is : b ≡ y → A → Decides b (A → y ≡ true)
+  near-is e a = record { sound = λ u x. sym e ∙ u; complete = λ f. e ∙ f a }
 
-  pub near-below : b ≡ false → A → Decides false (A → y ≡ true)
-  near-below d a = decides-no (λ f. never (f a) (sym e ∙ d))
+  pub near-not : b ≡ y → A → Decides (not b) (A → y ≡ false)
+  near-not e a = record { sound = λ u x. sym e ∙ not-true b u; complete = λ f. rw (e ∙ f a) }
 
 -- ---- the four of them together
 
@@ -120,24 +124,16 @@ abbrev RightOuter : Words → List ℕ → ℕ → ℕ → ℕ → ℕ → Type 
 RightOuter w xs to j u v = j + 1 < to → crossAt w v (getD xs (j + 1) 0) u v ≡ false
 
 module _ {w : Words} {xs : List ℕ} {from mid to i j u v : ℕ} (eu : u ≡ getD xs i 0) (ev : v ≡ getD xs j 0) where
-  pub bridges-left-outer : {r : Bool} → Decides r (LeftOuter w xs from i u v) → r ≡ false → Decides false (Bridges w xs from mid to i j)
-  bridges-left-outer d e = decides-no (λ p. never (d .complete (rw (eu, ev) (p .left-outer))) e)
-
-  pub bridges-left-inner : {r : Bool} → Decides r (LeftInner w xs mid i u v) → r ≡ false → Decides false (Bridges w xs from mid to i j)
-  bridges-left-inner d e = decides-no (λ p. never (d .complete (rw (eu, ev) (p .left-inner))) e)
-
-  pub bridges-right-inner : {r : Bool} → Decides r (RightInner w xs mid j u v) → r ≡ false → Decides false (Bridges w xs from mid to i j)
-  bridges-right-inner d e = decides-no (λ p. never (d .complete (rw (eu, ev) (p .right-inner))) e)
-
-  pub bridges-right-outer : {r : Bool} → Decides r (RightOuter w xs to j u v) → r ≡ false → Decides false (Bridges w xs from mid to i j)
-  bridges-right-outer d e = decides-no (λ p. never (d .complete (rw (eu, ev) (p .right-outer))) e)
-
-  pub bridges-all : {p q r s : Bool} → Decides p (LeftOuter w xs from i u v) → p ≡ true → Decides q (LeftInner w xs mid i u v) → q ≡ true → Decides r (RightInner w xs mid j u v) → r ≡ true → Decides s (RightOuter w xs to j u v) → s ≡ true → Decides true (Bridges w xs from mid to i j)
-  bridges-all dp ep dq eq dr er ds es =
-      decides-yes
-      (record {
-        left-outer = rw (← eu, ← ev) (dp .sound ep);
-        left-inner = rw (← eu, ← ev) (dq .sound eq);
-        right-inner = rw (← eu, ← ev) (dr .sound er);
-        right-outer = rw (← eu, ← ev) (ds .sound es);
+  pub bridges-by :
+      {r : Bool} →
+      Decides r (((LeftOuter w xs from i u v × LeftInner w xs mid i u v) × RightInner w xs mid j u v) × RightOuter w xs to j u v) →
+      Decides r (Bridges w xs from mid to i j)
+  bridges-by =
+      decides-as
+      (λ p. record {
+        left-outer = rw (← eu, ← ev) (p .0 .0 .0);
+        left-inner = rw (← eu, ← ev) (p .0 .0 .1);
+        right-inner = rw (← eu, ← ev) (p .0 .1);
+        right-outer = rw (← eu, ← ev) (p .1);
       })
+      (λ b. (((rw (eu, ev) (b .left-outer), rw (eu, ev) (b .left-inner)), rw (eu, ev) (b .right-inner)), rw (eu, ev) (b .right-outer)))

@@ -26,13 +26,9 @@ fn rate_gap(part: &[i64], a: u32, b: u32) -> i64
 fn follows(part: &[i64], a: u32, b: u32) -> bool
     ensures { λ r. ⌜ Follows (now (part .entry)) a b r ⌝ }
 {
-    if table::link(part, table::NEXT_PIECE, a) != b {
-        return false;
-    }
-    if !table::is_equal(part, table::NUMERATOR, a, base_gap(part, a, b)) {
-        return false;
-    }
-    table::is_equal(part, table::DENOMINATOR, a, rate_gap(part, a, b))
+    table::link(part, table::NEXT_PIECE, a) == b
+        && table::is_equal(part, table::NUMERATOR, a, base_gap(part, a, b))
+        && table::is_equal(part, table::DENOMINATOR, a, rate_gap(part, a, b))
 }
 
 // The slots from place `from` up to `to` lead each to the next.
@@ -73,13 +69,7 @@ fn left_outer(
     requires { ⌜ i < scratchLength ⌝ }
     ensures { λ r. ⌜ Decides r (from < i → crossAt (now (part .entry)) u v (getD (now (scratch .entry)) (i - 1) 0) u ≡ false) ⌝ }
 {
-    if i <= from {
-        return true;
-    }
-    if crosses(part, u, v, check_trees::entry(scratch, i - 1), u) {
-        return false;
-    }
-    true
+    i <= from || !crosses(part, u, v, check_trees::entry(scratch, i - 1), u)
 }
 
 // It is at that of `u` and the slot behind place `i` or left of it, if there is one before `to`.
@@ -94,13 +84,7 @@ fn left_inner(
     requires { ⌜ (i < scratchLength) × (to ≤ scratchLength) ⌝ }
     ensures { λ r. ⌜ Decides r (i + 1 < to → crossAt (now (part .entry)) u v u (getD (now (scratch .entry)) (i + 1) 0) ≡ true) ⌝ }
 {
-    if to <= i + 1 {
-        return true;
-    }
-    if crosses(part, u, v, u, check_trees::entry(scratch, i + 1)) {
-        return true;
-    }
-    false
+    to <= i + 1 || crosses(part, u, v, u, check_trees::entry(scratch, i + 1))
 }
 
 // It is at that of the slot before place `j` and `v` or right of it, if there is one from `from` on.
@@ -115,13 +99,7 @@ fn right_inner(
     requires { ⌜ j < scratchLength ⌝ }
     ensures { λ r. ⌜ Decides r (from < j → crossAt (now (part .entry)) (getD (now (scratch .entry)) (j - 1) 0) v u v ≡ true) ⌝ }
 {
-    if j <= from {
-        return true;
-    }
-    if crosses(part, check_trees::entry(scratch, j - 1), v, u, v) {
-        return true;
-    }
-    false
+    j <= from || crosses(part, check_trees::entry(scratch, j - 1), v, u, v)
 }
 
 // It is strictly left of that of `v` and the slot behind place `j`, if there is one before `to`.
@@ -136,13 +114,7 @@ fn right_outer(
     requires { ⌜ (j < scratchLength) × (to ≤ scratchLength) ⌝ }
     ensures { λ r. ⌜ Decides r (j + 1 < to → crossAt (now (part .entry)) v (getD (now (scratch .entry)) (j + 1) 0) u v ≡ false) ⌝ }
 {
-    if to <= j + 1 {
-        return true;
-    }
-    if crosses(part, v, check_trees::entry(scratch, j + 1), u, v) {
-        return false;
-    }
-    true
+    to <= j + 1 || !crosses(part, v, check_trees::entry(scratch, j + 1), u, v)
 }
 
 // The slots at places `i` and `j` bridge the stretches from `from` up to `mid` and from there up to `to`.
@@ -160,17 +132,8 @@ pub fn bridges(
 {
     let u = check_trees::entry(scratch, i);
     let v = check_trees::entry(scratch, j);
-    if !left_outer(part, scratch, from, i, u, v) {
-        return false;
-    }
-    if !left_inner(part, scratch, i, mid, u, v) {
-        return false;
-    }
-    if !right_inner(part, scratch, mid, j, u, v) {
-        return false;
-    }
-    if !right_outer(part, scratch, j, to, u, v) {
-        return false;
-    }
-    true
+    left_outer(part, scratch, from, i, u, v)
+        && left_inner(part, scratch, i, mid, u, v)
+        && right_inner(part, scratch, mid, j, u, v)
+        && right_outer(part, scratch, j, to, u, v)
 }

@@ -5,7 +5,9 @@ use mathlib.Core.List.{List, [], _∷_, _++_, map, List·Memᴰ, List·Memᴰ·h
 use mathlib.Core.Option.{Option, none, some}
 use Prim.Native.Nat.{ℕ, zero, suc, _+_, _-_, _≤_, _<_}
 use native.Mathlib.Omega.{arith}
+use lib.Dec.{eqb}
 use lib.ListN.{length, getD}
+use borrow.Author.Tests.{eqb-true, eq-eqb}
 use Rattle.lists.specs.Bools.{never}
 use Rattle.trees.specs.Tree.{Tree, leaf, node, height, leaves, Avl}
 use Rattle.trees.specs.Leaves.{last-leaf, some-leaf}
@@ -119,21 +121,21 @@ pub record Matches (w : Words) (q : ℕ) (xs xs′ : List ℕ) (from to : ℕ) (
   pub told : AllKnown w (span xs from to) → Decides r (PieceTree w q (span xs from to))
 
 module _ {w : Words} {q from to : ℕ} {xs : List ℕ} (e : q ≡ 0) where
-  pub matches-none : from ≡ to → Matches w q xs xs from to true
-  matches-none d =
+  pub matches-none : from ≤ to → Matches w q xs xs from to (eqb from to)
+  matches-none l =
       record {
         long = refl;
         same = λ i h. refl;
-        told = λ known. decides-yes (record { whole = none; root = e; over = ap (itemsAt w) (sym (span-none xs from to (omega arith))); pieces = tt; balanced = tt });
+        told = λ known. record {
+          sound = λ t. let d = eqb-true from to t in record { whole = none; root = e; over = ap (itemsAt w) (sym (span-none xs from to (omega arith))); pieces = tt; balanced = tt };
+          complete = λ p. eq-eqb from to (go known (p .whole) (p .root) (p .over));
+        };
       }
-
-  pub matches-some : from ≤ to → (from ≡ to → ⊥) → Matches w q xs xs from to false
-  matches-some l d = record { long = refl; same = λ i h. refl; told = λ known. decides-no (λ p. go known p (p .whole) (p .root) (p .over)) }
     where
-      go : AllKnown w (span xs from to) → PieceTree w q (span xs from to) → (h : Part Item) → q ≡ partRef h → partLeaves h ≡ itemsAt w (span xs from to) → ⊥
-      go known p none r o = let n = ap slotsOf o ∙ slots-back w (span xs from to) in omega (arith, ap length n, span-length xs from to)
-      go known p (some (leaf a)) r o = omega (arith, known-placed (span xs from to) known a (subst (List·Memᴰ a) o (List·Memᴰ·head refl)) .low)
-      go known p (some (node t u)) r o = omega arith
+      go : AllKnown w (span xs from to) → (h : Part Item) → q ≡ partRef h → partLeaves h ≡ itemsAt w (span xs from to) → from ≡ to
+      go known none r o = let n = ap slotsOf o ∙ slots-back w (span xs from to) in omega (arith, ap length n, span-length xs from to)
+      go known (some (leaf a)) r o = absurd (omega (arith, known-placed (span xs from to) known a (subst (List·Memᴰ a) o (List·Memᴰ·head refl)) .low))
+      go known (some (node t u)) r o = absurd (omega arith)
 
 module _ {w : Words} {q from to : ℕ} {xs xs′ : List ℕ} {f : Filled} (d : q ≡ 0 → ⊥) (l : from ≤ to) (h : to ≤ secondHalf) (F : Fills w 0 q 24 xs xs′ secondHalf f) where
   -- the stretch is as it was

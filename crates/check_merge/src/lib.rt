@@ -29,10 +29,7 @@ pub fn matches(
     ensures { λ r. ⌜ Matches (now (part .entry)) q (now (scratch .entry)) (now (scratch .exit)) from to r ⌝ }
 {
     if q == 0 {
-        if from == to {
-            return true;
-        }
-        return false;
+        return from == to;
     }
     let f = check_trees::fill(
         part,

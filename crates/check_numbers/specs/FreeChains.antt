@@ -2,24 +2,24 @@
 use mathlib.Core.Path.{_≡_, refl, sym, _∙_, ap, subst}
 use mathlib.Core.Logic.{_≢_}
 use mathlib.Core.HLevel.{¬-prop}
-use mathlib.Core.Bool.{Bool, true, false, _&&_}
+use mathlib.Core.Bool.{Bool, true, false}
 use mathlib.Core.List.{List, [], _∷_, List·Memᴰ, List·Memᴰ·head, List·Memᴰ·tail, Pairwise, Pairwise·nil}
 use Prim.Native.Nat.{ℕ, suc, _-_, _≤_, _<_}
 use native.Mathlib.Omega.{arith}
 use lib.ListN.{length}
 use lib.IntN.{pos}
-use lib.Signed.{leZ}
-use lib.Dec.{eqb}
-use borrow.Author.Tests.{eqb-true, eq-eqb}
+use lib.Dec.{T, eqb, leb}
+use borrow.Author.Tests.{eqb-true, eq-eqb, leb-true, le-leb}
 use Rattle.lists.specs.Bools.{never}
 use Rattle.lists.specs.Members.{pairs-cons}
+use Rattle.integers.specs.Equal.{equal}
 use Rattle.integers.specs.Parts.{equal-eq, equal-is}
 use Rattle.table.specs.Fields.{firstFreeWord, mostNodes, nextFreeField, numberField}
 use Rattle.table.specs.Words.{Words, word, upTo, upTo-in}
 use Rattle.table.specs.Layout.{cap, cell, linkAt}
 use Rattle.table.specs.Free.{head0, FreeChain, free-none, free-more, head-most, free-link}
 use Rattle.form.specs.Form.{Freely}
-use Rattle.check_trees.specs.Deciding.{Decides, decides-no, decides-as, decides-by}
+use Rattle.check_trees.specs.Deciding.{Decides, decides-no, decides-as}
 
 -- a slot of the part, without an offer
 pub record IsFree (w : Words) (s : ℕ) : Type 0 where
@@ -27,16 +27,13 @@ pub record IsFree (w : Words) (s : ℕ) : Type 0 where
   pub high : s ≤ cap w
   pub cleared : cell w numberField s ≡ pos 0
 
-module _ {w : Words} {s : ℕ} where
-  pub free-low : s < 1 → Decides false (IsFree w s)
-  free-low h = decides-no (λ f. omega (arith, f .low))
+pub within : {s c m : ℕ} → c ≡ m → Decides (leb s c) (s ≤ m)
+within {s} {c} e = record { sound = λ t. omega (arith, leb-true s c t); complete = λ h. le-leb s c (omega arith) }
 
-  pub free-far : {c : ℕ} → c ≡ cap w → c < s → Decides false (IsFree w s)
-  free-far e h = decides-no (λ f. omega (arith, f .high))
-
-  pub free-by : {c : ℕ} {r : Bool} → 1 ≤ s → c ≡ cap w → s ≤ c → r ≡ leZ (cell w numberField s) (pos 0) && leZ (pos 0) (cell w numberField s) → Decides r (IsFree w s)
-  free-by l e h eb =
-      decides-as (λ t. record { low = l; high = omega arith; cleared = equal-eq (cell w numberField s) (pos 0) t }) (λ f. equal-is (cell w numberField s) (pos 0) (f .cleared)) (decides-by eb)
+pub free-by : {w : Words} {s : ℕ} {r : Bool} → Decides r ((1 ≤ s × s ≤ cap w) × T (equal (cell w numberField s) (pos 0))) → Decides r (IsFree w s)
+free-by {w} {s} =
+    decides-as (λ p. record { low = p .0 .0; high = p .0 .1; cleared = equal-eq (cell w numberField s) (pos 0) (p .1) })
+    (λ f. ((f .low, f .high), equal-is (cell w numberField s) (pos 0) (f .cleared)))
 
 -- k free slots from slot s on, and then 0
 pub record Chained (w : Words) (s k : ℕ) : Type 0 where

@@ -14,13 +14,7 @@ ghost use Rattle.check_numbers.specs.NumberTrees.{Trees};
 fn is_free(part: &[i64], s: u32) -> bool
     ensures { λ r. ⌜ Decides r (IsFree (now (part .entry)) s) ⌝ }
 {
-    if s < 1 {
-        return false;
-    }
-    if table::capacity(part) < s {
-        return false;
-    }
-    table::is_equal(part, table::NUMBER, s, 0)
+    1 <= s && s <= table::capacity(part) && table::is_equal(part, table::NUMBER, s, 0)
 }
 
 // From `first` on, `count` free slots follow each other, and then 0. Each link is compared with its word, since words outside their range are

@@ -1,4 +1,4 @@
--- The check of a part: yes exactly when it has the form of a book.
+-- The offers of a part with their envelopes, as parts of the check of a book's part: yes exactly when they stand there.
 -- ways through the code: the walk over the tree of offers, by a function that calls itself on both children: what it promises, and the ways through its code
 pub mod OfferWalks
 -- ways through the code: the words of the header that tell of the offers: the root of their tree, that of the whole envelope, and how many there are

@@ -1,4 +1,4 @@
-// The check of a part: yes exactly when it has the form of a book. Any words are safe.
+// The offers of a part with their envelopes, as parts of the check of a book's part. Any words are safe.
 use check_merge::Walked;
 ghost use mathlib.Core.Path.{_≡_};
 ghost use Prim.Native.Nat.{ℕ, _≤_};
@@ -74,13 +74,9 @@ fn walk(
 fn header(part: &[i64], x: u32, e: u32, n: u32) -> bool
     ensures { λ r. ⌜ Decides r (Header (now (part .entry)) x e n) ⌝ }
 {
-    if !check_trees::tells(part, table::OFFERS_ROOT, x) {
-        return false;
-    }
-    if !check_trees::tells(part, table::ENVELOPE_ROOT, e) {
-        return false;
-    }
-    check_trees::tells(part, table::LIVE_COUNT, n)
+    check_trees::tells(part, table::OFFERS_ROOT, x)
+        && check_trees::tells(part, table::ENVELOPE_ROOT, e)
+        && check_trees::tells(part, table::LIVE_COUNT, n)
 }
 
 // The tree of offers from node `x` on has `n` leaves, with offers in range whose rates fall. Their slots are left from place 0 on.

@@ -7,7 +7,7 @@ use native.Mathlib.Decide.{decLt}
 use native.Mathlib.Omega.{arith}
 use lib.Dec.{T}
 use lib.ListN.{getD}
-use Rattle.lists.specs.Bools.{is-true, passed}
+use Rattle.lists.specs.Bools.{is-true, passed, never}
 
 -- the answer is yes exactly where P holds
 pub record Decides (b : Bool) (P : Type 0) : Type 0 where
@@ -29,6 +29,14 @@ decides-test b = record { sound = passed; complete = is-true b }
 
 pub decides-by : {a b : Bool} → a ≡ b → Decides a (T b)
 decides-by {a} {b} e = record { sound = λ q. passed (sym e ∙ q); complete = λ t. e ∙ is-true b t }
+
+-- a && b as code makes it: b's answer where a's is yes, and a's own where it is no
+module _ {a : Bool} {P Q : Type 0} (d : Decides a P) where
+  pub decides-also : {b r : Bool} → a ≡ true → Decides b Q → r ≡ b → Decides r (P × Q)
+  decides-also t e q = record { sound = λ u. (d .sound t, e .sound (sym q ∙ u)); complete = λ p. q ∙ e .complete (p .1) }
+
+  pub decides-stops : {r : Bool} → a ≡ false → r ≡ a → Decides r (P × Q)
+  decides-stops f q = record { sound = λ u. absurd (never (sym q ∙ u) f); complete = λ p. q ∙ d .complete (p .0) }
 
 -- ---- every place
 

@@ -241,13 +241,9 @@ fn within(part: &[i64], field: usize, slot: u32, low: i64, high: i64) -> bool
 fn ranged(part: &[i64], slot: u32) -> bool
     ensures { λ r. ⌜ r ≡ offerInRange (itemAt (now (part .entry)) slot .offer) ⌝ }
 {
-    if !within(part, table::NUMBER, slot, 1, 9_999) {
-        return false;
-    }
-    if !within(part, table::RATE, slot, -100_000, 100_000) {
-        return false;
-    }
-    within(part, table::BASE, slot, -1_000_000_000, 1_000_000_000)
+    within(part, table::NUMBER, slot, 1, 9_999)
+        && within(part, table::RATE, slot, -100_000, 100_000)
+        && within(part, table::BASE, slot, -1_000_000_000, 1_000_000_000)
 }
 
 // All slots from place `from` up to `to` hold offers in range.

@@ -2,15 +2,12 @@
 use mathlib.Core.Path.{_∙_, ap}
 use Prim.Native.Nat.{ℕ}
 use native.Mathlib.Omega.{arith}
-use Rattle.check_trees.specs.Deciding.{decides-yes}
+use borrow.Author.Tests.{le-leb}
 use Rattle.check_bridges.specs.Gaps.{crossAt}
-use Rattle.check_bridges.specs.Bridges.{near-yes, near-below}
+use Rattle.check_bridges.specs.Bridges.{near-none, near-is}
 use borrow.Author.Needs.{needs}
 use Rattle.check_bridges.proofs.right_inner.Statement.{statement}
 use Rattle.check_bridges.proofs.right_inner.Tie as tie
-
-returns : tie.Need-returns
-returns c = decides-yes (λ h. absurd (omega arith))
 
 sub-entry : tie.Need-sub-entry
 sub-entry c = search needs
@@ -21,25 +18,15 @@ entry-requires c κs = search needs
 crosses-requires : tie.Need-crosses-requires
 crosses-requires c κs = search needs
 
+returns : tie.Need-returns
+returns c = near-none (le-leb _ _ (c .if1 .taken)) (λ h. omega arith)
+
 returns-2 : tie.Need-returns-2
 returns-2 c =
-    let entry′ = c .before .before in
-    let entry′′ = entry′ .before .before in
-    near-yes
-    (c .before .crosses .ensures
-    ∙ ap (λ (s : ℕ). crossAt (entry′′ .args .part .now) s (entry′′ .args .v) (entry′′ .args .u) (entry′′ .args .v)) (entry′ .entry .ensures))
-    (c .if2 .taken)
-
-returns-3 : tie.Need-returns-3
-returns-3 c =
-    let entry′ = c .before .before in
+    let entry′ = c .before in
     let at-if1 = entry′ .before in
-    let entry′′ = at-if1 .before in
-    near-below
-    (c .before .crosses .ensures
-    ∙ ap (λ (s : ℕ). crossAt (entry′′ .args .part .now) s (entry′′ .args .v) (entry′′ .args .u) (entry′′ .args .v)) (entry′ .entry .ensures))
-    (c .if2 .left) (at-if1 .if1 .left)
+    let a = at-if1 .before .args in
+    near-is (c .crosses .ensures ∙ ap (λ (s : ℕ). crossAt (a .part .now) s (a .v) (a .u) (a .v)) (entry′ .entry .ensures)) (at-if1 .if1 .left)
 
 pub right-inner-spec : {M : Type 1} → statement M
-right-inner-spec =
-    tie.close (tie.spec returns sub-entry entry-requires crosses-requires returns-2 returns-3)
+right-inner-spec = tie.close (tie.spec sub-entry entry-requires crosses-requires returns returns-2)

@@ -2,18 +2,15 @@
 use mathlib.Core.Path.{_∙_, ap}
 use Prim.Native.Nat.{ℕ}
 use native.Mathlib.Omega.{arith}
-use Rattle.check_trees.specs.Deciding.{decides-yes}
+use borrow.Author.Tests.{le-leb}
 use Rattle.check_bridges.specs.Gaps.{crossAt}
-use Rattle.check_bridges.specs.Bridges.{near-yes, near-above}
+use Rattle.check_bridges.specs.Bridges.{near-none, near-not}
 use borrow.Author.Needs.{needs}
 use Rattle.check_bridges.proofs.right_outer.Statement.{statement}
 use Rattle.check_bridges.proofs.right_outer.Tie as tie
 
 add-if1 : tie.Need-add-if1
 add-if1 c = search needs
-
-returns : tie.Need-returns
-returns c = decides-yes (λ h. absurd (omega arith))
 
 add-entry : tie.Need-add-entry
 add-entry c = search needs
@@ -24,26 +21,15 @@ entry-requires c κs = search needs
 crosses-requires : tie.Need-crosses-requires
 crosses-requires c κs = search needs
 
+returns : tie.Need-returns
+returns c = near-none (le-leb _ _ (c .if1 .taken)) (λ h. omega arith)
+
 returns-2 : tie.Need-returns-2
 returns-2 c =
-    let entry′ = c .before .before in
+    let entry′ = c .before in
     let at-if1 = entry′ .before in
-    let entry′′ = at-if1 .before in
-    near-above
-    (c .before .crosses .ensures
-    ∙ ap (λ (s : ℕ). crossAt (entry′′ .args .part .now) (entry′′ .args .v) s (entry′′ .args .u) (entry′′ .args .v)) (entry′ .entry .ensures))
-    (c .if2 .taken) (at-if1 .if1 .left)
-
-returns-3 : tie.Need-returns-3
-returns-3 c =
-    let entry′ = c .before .before in
-    let entry′′ = entry′ .before .before in
-    near-yes
-    (c .before .crosses .ensures
-    ∙ ap (λ (s : ℕ). crossAt (entry′′ .args .part .now) (entry′′ .args .v) s (entry′′ .args .u) (entry′′ .args .v)) (entry′ .entry .ensures))
-    (c .if2 .left)
+    let a = at-if1 .before .args in
+    near-not (c .crosses .ensures ∙ ap (λ (s : ℕ). crossAt (a .part .now) (a .v) s (a .u) (a .v)) (entry′ .entry .ensures)) (at-if1 .if1 .left)
 
 pub right-outer-spec : {M : Type 1} → statement M
-right-outer-spec =
-    tie.close
-    (tie.spec add-if1 returns add-entry entry-requires crosses-requires returns-2 returns-3)
+right-outer-spec = tie.close (tie.spec add-if1 add-entry entry-requires crosses-requires returns returns-2)
