@@ -36,7 +36,7 @@ use Rattle.pieces.specs.Pieces.{items}
 use Rattle.form.specs.Form.{Book, plainOffers}
 use Rattle.query.specs.QueriedPieces.{Pieces}
 use Rattle.query.specs.Plain.{offerOf, pieces-plain}
-use Rattle.query.specs.Counting.{Counted, Passed}
+use Rattle.query.specs.PieceCounts.{Counted, Passed}
 use Rattle.form.specs.Live.{live-whole, whole-ordered}
 use Rattle.book.specs.Promises.{partOf}
 use Rattle.book.specs.LentPart.{whole-part, no-form, no-book-cause}
@@ -46,7 +46,7 @@ use Rattle.chart.specs.declared.Marked.{Marked}
 use Rattle.chart.specs.declared.Marked.the-variants.{Declined}
 use Rattle.chart.specs.Promises.{marksBehind, marks, refusal, markTrials, markOf, plainMark, told, Marks}
 use Rattle.chart.specs.Rounded.{part-exact}
-use Rattle.chart.specs.Walks.{SlotOf}
+use Rattle.chart.specs.ChartWalks.{SlotOf}
 
 pub record PartMark (w : Words) (index : ℤ) (r : Marked) : Type 0 where
   pub answers : (s : State) (held : Option (Held Item)) → Book w s held → told r ≡ plainMark (plainOffers held) index

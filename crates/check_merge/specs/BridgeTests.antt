@@ -19,7 +19,7 @@ use Rattle.pieces.specs.Pieces.{items, item-laws}
 use Rattle.check_trees.specs.Stretches.{span, span-length, span-at, span-cut, span-cons}
 use Rattle.check_trees.specs.Laid.{itemAt, itemsAt}
 use Rattle.check_bridges.specs.Gaps.{InRange, crossAt, cross-is}
-use Rattle.check_bridges.specs.Bridges.{Bridges, Ends}
+use Rattle.check_bridges.specs.StoredBridges.{Bridges, Ends}
 use Rattle.check_merge.specs.PieceTrees.{Known, AllKnown, span-mem}
 
 -- ---- the piece of a line, by its neighbours

@@ -32,7 +32,7 @@ use Rattle.table.specs.PartTrees.{partRef}
 use Rattle.check_trees.specs.Stretches.{span, span-length, span-at, span-cut, span-cons, span-none}
 use Rattle.check_trees.specs.Laid.{itemAt, itemsAt, Laid, Children, laid-children}
 use Rattle.check_trees.specs.Deciding.{Every}
-use Rattle.check_bridges.specs.Bridges.{Bridges}
+use Rattle.check_bridges.specs.StoredBridges.{Bridges}
 use Rattle.check_merge.specs.PieceTrees.{AllKnown}
 use Rattle.check_merge.specs.Rests.{RestTree}
 use Rattle.check_merge.specs.BridgeTests.{items-length, items-about, merged, bridges-merge, merge-bridges}

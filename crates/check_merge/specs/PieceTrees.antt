@@ -27,9 +27,9 @@ use Rattle.check_trees.specs.Deciding.{Decides, decides-yes, decides-no, Every,
 use Rattle.check_trees.specs.Loops.{RangedHere, NextHere}
 use Rattle.check_trees.specs.Laid.{itemAt, itemsAt, slotsOf, items-back, slots-back, slots-length, Placed, placed-at, AllPlaced, Laid, laid-unique, laid-node-high}
 use Rattle.check_trees.specs.Fills.{Written, Fills}
-use Rattle.check_trees.specs.Walks.{written-length}
+use Rattle.check_trees.specs.FillWalks.{written-length}
 use Rattle.check_bridges.specs.Gaps.{InRange}
-use Rattle.check_bridges.specs.Bridges.{Threads}
+use Rattle.check_bridges.specs.StoredBridges.{Threads}
 
 -- ---- slots with offers
 

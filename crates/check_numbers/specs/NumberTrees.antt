@@ -23,7 +23,7 @@ use Rattle.check_trees.specs.Stretches.{span, span-at, span-length}
 use Rattle.check_trees.specs.Loops.{FallsHere}
 use Rattle.check_trees.specs.Laid.{itemAt, itemsAt, items-back, slots-back, slots-length, AllPlaced, Laid, laid-unique}
 use Rattle.check_trees.specs.Fills.{Fills}
-use Rattle.check_trees.specs.Walks.{written-length}
+use Rattle.check_trees.specs.FillWalks.{written-length}
 use Rattle.check_numbers.specs.Distinct.{Distinct, among-length, among-all}
 use Rattle.check_numbers.specs.Falls.{falling-span, span-falling}
 use Rattle.check_numbers.specs.Seeking.{placed-one, falling-differ, HasHere, SeeksAll}

@@ -24,7 +24,7 @@ use Rattle.check_trees.specs.Deciding.{Decides, decides-no, Every}
 use Rattle.check_trees.specs.Loops.{FallsHere, RangedHere}
 use Rattle.check_trees.specs.Laid.{itemAt, itemsAt, items-back, Laid, laid-unique}
 use Rattle.check_trees.specs.Fills.{Fills}
-use Rattle.check_trees.specs.Walks.{written-length}
+use Rattle.check_trees.specs.FillWalks.{written-length}
 use Rattle.check_merge.specs.PieceTrees.{span-mem}
 use Rattle.check_merge.specs.BridgeTests.{items-length}
 use Rattle.check_merge.specs.Stands.{AllRanged, Stands, stands-slots}

@@ -14,6 +14,6 @@ pub mod QueriedPieces
 -- ways through the code: a query's walk down the words of a tree of pieces is the walk down the tree
 pub mod Descent
 -- statement and lemmas: along the thread, from the first piece to the last, every piece is passed one time
-pub mod Counting
+pub mod PieceCounts
 -- ways through the code: a listing's words, written piece by piece along the thread, are the plain listing's
 pub mod Listing

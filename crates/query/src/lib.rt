@@ -6,7 +6,7 @@ ghost use Rattle.offers.specs.Offers.{between};
 ghost use Rattle.table.specs.Layout.{cap};
 ghost use Rattle.query.specs.Readings.{Sided, childOf, towardAt, priceIn};
 ghost use Rattle.query.specs.Descent.{Descended};
-ghost use Rattle.query.specs.Counting.{Counted};
+ghost use Rattle.query.specs.PieceCounts.{Counted};
 ghost use Rattle.query.specs.Listing.{crossingWord, pieceAt, Written};
 
 // The highest number of a leaf, and of a node, in the widths that a descent counts in.

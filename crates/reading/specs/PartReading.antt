@@ -29,7 +29,7 @@ use Rattle.form.specs.Form.{Book, plainOffers}
 use Rattle.query.specs.QueriedPieces.{Pieces}
 use Rattle.query.specs.Plain.{offerOf, pieces-plain}
 use Rattle.query.specs.Listing.{crossingWord}
-use Rattle.query.specs.Counting.{Passed, all-passed, not-all, go-on}
+use Rattle.query.specs.PieceCounts.{Passed, all-passed, not-all, go-on}
 use Rattle.form.specs.Live.{live-whole, whole-ordered}
 use Rattle.book.specs.Promises.{partOf, noBookTrial}
 use Rattle.book.specs.LentPart.{whole-part, no-form, no-book-cause}

@@ -14,7 +14,7 @@ use Rattle.dynamic.specs.OfferTree.{Held}
 use Rattle.table.specs.Words.{Words}
 use Rattle.table.specs.Items.{Item}
 use Rattle.form.specs.Form.{Book, plainOffers}
-use Rattle.query.specs.Counting.{Passed}
+use Rattle.query.specs.PieceCounts.{Passed}
 use Rattle.book.specs.Promises.{partOf, noBookTrial}
 use Rattle.reading.specs.declared.Handed.{Handed}
 use Rattle.reading.specs.declared.Handed.the-variants.{Piece, End, Declined}

@@ -22,7 +22,7 @@ use Rattle.history.specs.Claim.{Claim}
 use Rattle.replay.specs.declared.Replayed.{Replayed}
 use Rattle.replay.specs.declared.Replayed.the-variants.{Ran, Stopped, Declined}
 use Rattle.replay_words.specs.Encoding.{runnable, Run, told, Spares}
-use Rattle.replay_call.specs.Told.{Tells}
+use Rattle.replay_call.specs.Telling.{Tells}
 
 -- These calls were made, one after the other, and the words are their answers'. It holds on words of any content; c is any capacity.
 pub record Made (c start : ℕ) (t t′ : List ℤ) (ks : List Call) (out out′ : List ℤ) : Type 0 where

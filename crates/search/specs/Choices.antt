@@ -12,7 +12,7 @@ use Rattle.search.specs.declared.Move.{Move}
 use Rattle.search.specs.declared.Search.{Search}
 use Rattle.search.specs.Prices.{aboveAt}
 use Rattle.search.specs.Walks.{Walk}
-use Rattle.search.specs.Moves.{Topped, Pointed, pointWord, pointed-by}
+use Rattle.search.specs.CodeMoves.{Topped, Pointed, pointWord, pointed-by}
 use Rattle.search.specs.Actions.{walk, Does, sided}
 use Rattle.search.specs.SearchSteps.{uOf, vOf, Receded, Stepped, receded-bottom, receded-leaf, receded-mine, receded-theirs, receded-neither, stepped-mine, stepped-theirs, stepped-done, stepped-on}
 

@@ -18,7 +18,7 @@ use Rattle.trees.specs.Leaves.{some-leaf}
 use Rattle.meeting.specs.Machine.{Side, left, right, State, step, Result, ended, counted, start, run, meet}
 use Rattle.meeting.specs.Moves.{half, owes-root}
 use Rattle.meeting.specs.Verdicts.{Meeting, aim}
-use Rattle.meeting.specs.Search.{Sound, potential, Stepped as Progress, step-sound}
+use Rattle.meeting.specs.Bridging.{Sound, potential, Stepped as Progress, step-sound}
 use Rattle.meeting.specs.Meets.{size, lineFrom, limit, spans-tree, root-stands}
 use Rattle.meeting.specs.Reach.{later}
 use Rattle.table.specs.Fields.{mostLevels, pieceTree}

@@ -6,7 +6,7 @@ ghost use lib.Dec.{leb};
 ghost use Rattle.table.specs.Fields.{mostSlots};
 ghost use Rattle.table.specs.Layout.{cap};
 ghost use Rattle.search.specs.Prices.{rateAt, baseAt, numeratorAt, denominatorAt, crossingPriceAt};
-ghost use Rattle.search.specs.Moves.{Under, topWord, pointWord};
+ghost use Rattle.search.specs.CodeMoves.{Under, topWord, pointWord};
 ghost use Rattle.search.specs.Actions.{Retreats, Advances, Pops, Acts, sided};
 ghost use Rattle.search.specs.SearchSteps.{Stepped};
 ghost use Rattle.search.specs.Choices.{Recedes, Chooses};

@@ -12,4 +12,4 @@ pub mod Fixes
 -- lemmas: from a searched pair's envelopes to the listing's sentence about offers
 pub mod SearchedOffers
 -- lemmas: each stored part is the child's envelope less the parent's
-pub mod Rests
+pub mod StoredRests

@@ -1,6 +1,6 @@
 -- `check_bridges::bridges` meets its contract.
 use borrow.Author.Tests.{not-true, not-false}
-use Rattle.check_bridges.specs.Bridges.{bridges-left-outer, bridges-left-inner, bridges-right-inner, bridges-right-outer, bridges-all}
+use Rattle.check_bridges.specs.StoredBridges.{bridges-left-outer, bridges-left-inner, bridges-right-inner, bridges-right-outer, bridges-all}
 use borrow.Author.Needs.{needs}
 use Rattle.check_bridges.proofs.bridges.Statement.{statement}
 use Rattle.check_bridges.proofs.bridges.Tie as tie

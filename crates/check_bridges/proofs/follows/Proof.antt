@@ -3,7 +3,7 @@ use mir.Facts.{toZ-ofZ}
 use mir.Syntax.{w64}
 use mir.Val.{SFits}
 use borrow.Author.Tests.{not-true, not-false}
-use Rattle.check_bridges.specs.Bridges.{follows-no-link, follows-no-base, follows-rest}
+use Rattle.check_bridges.specs.StoredBridges.{follows-no-link, follows-no-base, follows-rest}
 use borrow.Author.Needs.{needs}
 use Rattle.check_bridges.proofs.follows.Statement.{statement}
 use Rattle.check_bridges.proofs.follows.Tie as tie

@@ -4,7 +4,7 @@ use Prim.Native.Nat.{ℕ}
 use native.Mathlib.Omega.{arith}
 use Rattle.check_trees.specs.Deciding.{decides-yes}
 use Rattle.check_bridges.specs.Gaps.{crossAt}
-use Rattle.check_bridges.specs.Bridges.{near-yes, near-above}
+use Rattle.check_bridges.specs.StoredBridges.{near-yes, near-above}
 use borrow.Author.Needs.{needs}
 use Rattle.check_bridges.proofs.right_outer.Statement.{statement}
 use Rattle.check_bridges.proofs.right_outer.Tie as tie
