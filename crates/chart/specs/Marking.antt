@@ -16,9 +16,9 @@ use Rattle.integers.specs.Parts.{intRules, range-parts}
 use Rattle.offers.specs.Offers.{Offer, between, crossingNumerator, crossingDenominator}
 use Rattle.envelopes.specs.Envelope.{Ordered}
 use Rattle.envelopes.specs.EnvelopeLaws.{ordered-sublist, ordered-right, ordered-head}
-use Rattle.plain.specs.Causes.{bookEmpty, noSuchMark}
+use Rattle.plain.specs.Causes.{bookEmpty, noSuchMark, at-once, further}
 use Rattle.plain.specs.Book.{State, envelope, noBookAt}
-use Rattle.plain.specs.Rules.{at-once, further, declined-by, not-declined}
+use Rattle.plain.specs.Trials.{declined-by, not-declined}
 use Rattle.marks.specs.Told.{Told, openEnd, crossing}
 use Rattle.marks.specs.Crossings.{scaledPrice}
 use Rattle.trees.specs.Tree.{Tree, leaves}

@@ -8,9 +8,8 @@ use lib.ListN.{length, getD}
 use lib.Dec.{T, leb}
 use lib.IntN.{ℤ, pos, natAbs}
 use Rattle.offers.specs.Offers.{Offer, between, crossingNumerator, crossingDenominator}
-use Rattle.plain.specs.Causes.{Cause, bookEmpty, noSuchMark, Trial, _when_, declined, causeNumber}
+use Rattle.plain.specs.Causes.{Cause, bookEmpty, noSuchMark, Trial, _when_, declined, causeNumber, FirstOf}
 use Rattle.plain.specs.Book.{State, envelope}
-use Rattle.plain.specs.Rules.{FirstOf}
 use Rattle.marks.specs.Quotient.{double, quotient, divisible, Is, Quotient}
 use Rattle.marks.specs.Told.{Told, told as markTold, openEnd, crossing}
 use Rattle.marks.specs.Crossings.{scaledPrice}

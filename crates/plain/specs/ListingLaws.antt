@@ -15,7 +15,7 @@ use Rattle.envelopes.specs.Envelope.{Ordered, Ordered·nil, Ordered·cons, Chea
 use Rattle.envelopes.specs.Listed.{listed-exact, listed-env}
 use Rattle.lines.specs.OfferLines.{offerFigure, offerLaws, crossing-test}
 use Rattle.plain.specs.Book.{envelope, turns}
-pub use Rattle.plain.specs.Meaning.{CheaperThanAll}
+use Rattle.plain.specs.Meaning.{CheaperThanAll}
 
 -- ---- the plain listing is the listing of the offers' lines
 

@@ -12,8 +12,8 @@ use lib.IntN.{ℤ, pos}
 use Rattle.lists.specs.Bools.{denied}
 use Rattle.offers.specs.Offers.{Offer, crossingNumerator}
 use Rattle.plain.specs.Book.{State, envelope, pieceWords, noBookAt}
-use Rattle.plain.specs.Causes.{Cause}
-use Rattle.plain.specs.Rules.{FirstOf, words-length}
+use Rattle.plain.specs.Causes.{Cause, FirstOf}
+use Rattle.plain.specs.Rules.{words-length}
 use Rattle.trees.specs.Tree.{Tree, leaves, first, last}
 use Rattle.trees.specs.Leaves.{rest, leaves-first}
 use Rattle.trees.specs.Operations.{Part, partLeaves}

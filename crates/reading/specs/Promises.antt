@@ -6,9 +6,8 @@ use mathlib.Core.Option.{Option, none, some}
 use lib.ListN.{length, take, drop}
 use lib.IntN.{ℤ, pos}
 use Rattle.offers.specs.Offers.{Offer}
-use Rattle.plain.specs.Causes.{Cause, causeNumber}
+use Rattle.plain.specs.Causes.{Cause, causeNumber, FirstOf}
 use Rattle.plain.specs.Book.{State, envelope, pieceWords}
-use Rattle.plain.specs.Rules.{FirstOf}
 use Rattle.trees.specs.Operations.{partLeaves}
 use Rattle.dynamic.specs.OfferTree.{Held}
 use Rattle.table.specs.Words.{Words}
