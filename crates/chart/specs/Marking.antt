@@ -16,9 +16,9 @@ use Rattle.integers.specs.Parts.{intRules, range-parts}
 use Rattle.offers.specs.Offers.{Offer, between, crossingNumerator, crossingDenominator}
 use Rattle.envelopes.specs.Envelope.{Ordered}
 use Rattle.envelopes.specs.EnvelopeLaws.{ordered-sublist, ordered-right, ordered-head}
-use Rattle.plain.specs.Causes.{bookEmpty, noSuchMark}
+use Rattle.plain.specs.Causes.{bookEmpty, noSuchMark, at-once, further}
 use Rattle.plain.specs.Book.{State, envelope, noBookAt}
-use Rattle.plain.specs.Rules.{at-once, further, declined-by, not-declined}
+use Rattle.plain.specs.Trials.{declined-by, not-declined}
 use Rattle.marks.specs.Told.{Told, openEnd, crossing}
 use Rattle.marks.specs.Crossings.{scaledPrice}
 use Rattle.trees.specs.Tree.{Tree, leaves}
@@ -36,7 +36,7 @@ use Rattle.pieces.specs.Pieces.{items}
 use Rattle.form.specs.Form.{Book, plainOffers}
 use Rattle.query.specs.QueriedPieces.{Pieces}
 use Rattle.query.specs.Plain.{offerOf, pieces-plain}
-use Rattle.listing.specs.Counting.{Counted, Passed}
+use Rattle.listing.specs.PieceCounts.{Counted, Passed}
 use Rattle.form.specs.Live.{live-whole, whole-ordered}
 use Rattle.promises.specs.Promises.{partOf}
 use Rattle.promises.specs.LentPart.{whole-part, no-form, no-book-cause}
@@ -46,7 +46,7 @@ use Rattle.chart.specs.declared.Marked.{Marked}
 use Rattle.chart.specs.declared.Marked.the-variants.{Declined}
 use Rattle.chart.specs.Promises.{marksBehind, marks, refusal, markTrials, markOf, plainMark, told, Marks}
 use Rattle.chart.specs.Rounded.{part-exact}
-use Rattle.chart.specs.Walks.{SlotOf}
+use Rattle.chart.specs.ChartWalks.{SlotOf}
 
 pub record PartMark (w : Words) (index : ℤ) (r : Marked) : Type 0 where
   pub answers : (s : State) (held : Option (Held Item)) → Book w s held → told r ≡ plainMark (plainOffers held) index

@@ -2,7 +2,7 @@
 ghost use mathlib.Core.Path.{_≡_};
 ghost use Rattle.marks.specs.Told.{told};
 ghost use Rattle.chart.specs.Promises.{Marks};
-ghost use Rattle.chart.specs.Walks.{SlotOf};
+ghost use Rattle.chart.specs.ChartWalks.{SlotOf};
 ghost use Rattle.chart.specs.Marking.{crossingAt, PartMark};
 
 // What asking for a mark answers: the mark, or the number of the cause for which it was declined.

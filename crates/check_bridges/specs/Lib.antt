@@ -2,4 +2,4 @@
 -- ways through the code: crossings of the lines that slots hold, compared by exact products
 pub mod Gaps
 -- ways through the code: the tests of a bridge between two stretches of slots, by the neighbours of its two ends
-pub mod Bridges
+pub mod StoredBridges

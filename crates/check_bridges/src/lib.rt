@@ -6,7 +6,7 @@ ghost use lib.ListN.{getD};
 ghost use Rattle.check_trees.specs.Scratch.{scratchLength};
 ghost use Rattle.check_trees.specs.Deciding.{Decides};
 ghost use Rattle.check_bridges.specs.Gaps.{baseGap, rateGap, crossAt};
-ghost use Rattle.check_bridges.specs.Bridges.{Bridges, Ends, Follows, Threads};
+ghost use Rattle.check_bridges.specs.StoredBridges.{Bridges, Ends, Follows, Threads};
 
 // The numerator of the crossing of the lines in two slots.
 fn base_gap(part: &[i64], a: u32, b: u32) -> i64

@@ -1,6 +1,5 @@
 -- The four tests of a bridge say that the envelope of both sides is made of the left pieces up to u and the right ones from v.
 use mathlib.Core.Path.{_≡_, refl, sym, _∙_, ap, ap₂, subst, subst₂}
-use mathlib.Core.Bool.{Bool, true, false}
 use mathlib.Core.Logic.{_↔_}
 use mathlib.Core.List.{List, [], _∷_, _++_, map, map-append, reverse, List·Memᴰ}
 use Prim.Native.Nat.{ℕ, zero, suc, _+_, _-_, _≤_, _<_}
@@ -8,7 +7,7 @@ use native.Mathlib.Omega.{arith}
 use lib.Dec.{T}
 use lib.ListN.{length, getD, List·getD-map}
 use Rattle.lists.specs.Places.{getD-reverse}
-use Rattle.lists.specs.Bools.{never, passed, is-true}
+use Rattle.lists.specs.Bools.{refuted, said, to-true, to-false}
 use Rattle.envelopes.specs.PseudoLines.{Figure, LeftOf, mirror}
 use Rattle.envelopes.specs.Bridge.{InPiece, Bridge, Facing}
 use Rattle.envelopes.specs.SameLines.{bridge-same}
@@ -20,7 +19,7 @@ use Rattle.pieces.specs.Pieces.{items, item-laws}
 use Rattle.check_trees.specs.Stretches.{span, span-length, span-at, span-cut, span-cons}
 use Rattle.check_trees.specs.Laid.{itemAt, itemsAt}
 use Rattle.check_bridges.specs.Gaps.{InRange, crossAt, cross-is}
-use Rattle.check_bridges.specs.Bridges.{Bridges, Ends}
+use Rattle.check_bridges.specs.StoredBridges.{Bridges, Ends}
 use Rattle.check_merge.specs.PieceTrees.{Known, AllKnown, span-mem}
 
 -- ---- the piece of a line, by its neighbours
@@ -66,21 +65,6 @@ module _ (w : Words) (xs : List ℕ) (a b : ℕ) where
       ∙ ap (λ (i : ℕ). itemAt w (getD xs i 0)) p
 
 -- ---- tests that say what a comparison of points says
-
-module _ {b c : Bool} (e : b ≡ c) where
-  of-false : b ≡ false → ¬ T c
-  of-false d t = never (e ∙ is-true c t) d
-
-  of-true : b ≡ true → T c
-  of-true d = passed (sym e ∙ d)
-
-  to-true : T c → b ≡ true
-  to-true t = e ∙ is-true c t
-
-to-false : {b c : Bool} → b ≡ c → ¬ T c → b ≡ false
-to-false {b = false} e f = refl
-to-false {b = true} {c = true} e f = absurd (f tt)
-to-false {b = true} {c = false} e f = e
 
 -- ---- two envelopes that face each other
 
@@ -169,12 +153,12 @@ module _
           record {
             on-left =
                 piece-by items A (length us) meeting p hp
-                (λ k e. let i : at + p - 1 ≡ at + k = omega arith in of-false (left-outer-is k e) (rw i at (B .left-outer (omega arith))))
-                (λ h. let i : at + p + 1 ≡ at + suc p = omega arith in of-true (left-inner-is h) (rw i at (B .left-inner (omega (arith, us-length)))));
+                (λ k e. let i : at + p - 1 ≡ at + k = omega arith in refuted (left-outer-is k e) (rw i at (B .left-outer (omega arith))))
+                (λ h. let i : at + p + 1 ≡ at + suc p = omega arith in said (left-inner-is h) (rw i at (B .left-inner (omega (arith, us-length)))));
             on-right =
                 piece-by (mirror items) C (length vs) meeting q hq
-                (λ k e. let i : to - suc q + 1 ≡ to - suc k = omega (arith, vs-length) in of-false (right-outer-is k e) (rw i at (B .right-outer (omega (arith, vs-length)))))
-                (λ h. let i : to - suc q - 1 ≡ to - suc (suc q) = omega (arith, vs-length) in of-true (right-inner-is h) (rw i at (B .right-inner (omega (arith, vs-length)))));
+                (λ k e. let i : to - suc q + 1 ≡ to - suc k = omega (arith, vs-length) in refuted (right-outer-is k e) (rw i at (B .right-outer (omega (arith, vs-length)))))
+                (λ h. let i : to - suc q - 1 ≡ to - suc (suc q) = omega (arith, vs-length) in said (right-inner-is h) (rw i at (B .right-inner (omega (arith, vs-length)))));
           }
 
       bridge-tests : Bridge items A (length us) C (length vs) p q → Bridges w xs at mid to (at + p) (to - suc q)

@@ -32,7 +32,7 @@ use Rattle.table.specs.PartTrees.{partRef}
 use Rattle.check_trees.specs.Stretches.{span, span-length, span-at, span-cut, span-cons, span-none}
 use Rattle.check_trees.specs.Laid.{itemAt, itemsAt, Laid, Children, laid-children}
 use Rattle.check_trees.specs.Deciding.{Every}
-use Rattle.check_bridges.specs.Bridges.{Bridges}
+use Rattle.check_bridges.specs.StoredBridges.{Bridges}
 use Rattle.check_merge.specs.PieceTrees.{AllKnown}
 use Rattle.check_merge.specs.Rests.{RestTree}
 use Rattle.check_merge.specs.BridgeTests.{items-length, items-about, merged, bridges-merge, merge-bridges}
@@ -146,14 +146,14 @@ module _
       left-rest-in : RestIn w (DL .offers) (J .left-rest .tree .whole)
       left-rest-in =
           record {
-            root = sym (rest-is (DL .offers) (subst (Laid w 1 (childAt w offerTree false x)) (sym (DL .shape-is)) (kids .left))) ∙ J .left-rest .word ∙ ap pos (J .left-rest .tree .root);
+            root = sym (rest-is (DL .offers) (subst (Laid w offerTree (childAt w offerTree false x)) (sym (DL .shape-is)) (kids .left))) ∙ J .left-rest .word ∙ ap pos (J .left-rest .tree .root);
             pieces = J .left-rest .tree .pieces;
           }
 
       right-rest-in : RestIn w (DR .offers) (J .right-rest .tree .whole)
       right-rest-in =
           record {
-            root = sym (rest-is (DR .offers) (subst (Laid w 1 (childAt w offerTree true x)) (sym (DR .shape-is)) (kids .right))) ∙ J .right-rest .word ∙ ap pos (J .right-rest .tree .root);
+            root = sym (rest-is (DR .offers) (subst (Laid w offerTree (childAt w offerTree true x)) (sym (DR .shape-is)) (kids .right))) ∙ J .right-rest .word ∙ ap pos (J .right-rest .tree .root);
             pieces = J .right-rest .tree .pieces;
           }
 
@@ -284,13 +284,13 @@ module _
                 left-rest =
                     record {
                       root = partRef ql;
-                      word = rest-is ol (subst (Laid w 1 (childAt w offerTree false x)) (sym el) (kids .left)) ∙ rl .root;
+                      word = rest-is ol (subst (Laid w offerTree (childAt w offerTree false x)) (sym el) (kids .left)) ∙ rl .root;
                       tree = record { whole = ql; root = refl; over = sym (cl .back); pieces = rl .pieces; balanced = al };
                     };
                 right-rest =
                     record {
                       root = partRef qr;
-                      word = rest-is or (subst (Laid w 1 (childAt w offerTree true x)) (sym er) (kids .right)) ∙ rr .root;
+                      word = rest-is or (subst (Laid w offerTree (childAt w offerTree true x)) (sym er) (kids .right)) ∙ rr .root;
                       tree = record { whole = qr; root = refl; over = sym (cr .front); pieces = rr .pieces; balanced = ar };
                     };
               };

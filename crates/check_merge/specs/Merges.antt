@@ -16,7 +16,7 @@ use Rattle.check_trees.specs.Scratch.{secondHalf}
 use Rattle.check_trees.specs.Stretches.{span, stretch-same, span-same, span-cut}
 use Rattle.check_trees.specs.Deciding.{Decides, Every}
 use Rattle.check_trees.specs.Loops.{PlaceOf, Moved}
-use Rattle.check_bridges.specs.Bridges.{Bridges, Ends}
+use Rattle.check_bridges.specs.StoredBridges.{Bridges, Ends}
 use Rattle.check_merge.specs.declared.Walked.{Walked}
 use Rattle.check_merge.specs.PieceTrees.{AllKnown}
 use Rattle.check_merge.specs.Rests.{RestTree, Stays}

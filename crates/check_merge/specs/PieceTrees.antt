@@ -14,6 +14,7 @@ use Rattle.trees.specs.Leaves.{last-leaf, some-leaf}
 use Rattle.trees.specs.Operations.{Part, partLeaves}
 use Rattle.trees.specs.Balanced.{AvlP}
 use Rattle.trees.specs.Height.{height-full}
+use Rattle.table.specs.Fields.{mostLevels, pieceTree}
 use Rattle.table.specs.Words.{Words}
 use Rattle.table.specs.Layout.{cap}
 use Rattle.table.specs.Items.{Item}
@@ -28,9 +29,9 @@ use Rattle.check_trees.specs.Deciding.{Decides, decides-yes, decides-no, Every,
 use Rattle.check_trees.specs.Loops.{RangedHere, NextHere}
 use Rattle.check_trees.specs.Laid.{itemAt, itemsAt, slotsOf, items-back, slots-back, slots-length, Placed, placed-at, AllPlaced, Laid, laid-unique, laid-node-high}
 use Rattle.check_trees.specs.Fills.{Written, Fills}
-use Rattle.check_trees.specs.Walks.{written-length}
+use Rattle.check_trees.specs.FillWalks.{written-length}
 use Rattle.check_bridges.specs.Gaps.{InRange}
-use Rattle.check_bridges.specs.Bridges.{Threads}
+use Rattle.check_bridges.specs.StoredBridges.{Threads}
 
 -- ---- slots with offers
 
@@ -82,7 +83,7 @@ pub record PieceTree (w : Words) (q : ℕ) (ss : List ℕ) : Type 0 where
 -- the tree, where there is one
 pub record OverSlots (w : Words) (q : ℕ) (ss : List ℕ) : Type 0 where
   pub tree : Tree Item
-  pub laid : Laid w 0 q tree
+  pub laid : Laid w pieceTree q tree
   pub over : leaves tree ≡ itemsAt w ss
   pub threaded : Threaded w (leaves tree)
 
@@ -137,7 +138,7 @@ module _ {w : Words} {q from to : ℕ} {xs : List ℕ} (e : q ≡ 0) where
       go known (some (leaf a)) r o = absurd (omega (arith, known-placed (span xs from to) known a (subst (List·Memᴰ a) o (List·Memᴰ·head refl)) .low))
       go known (some (node t u)) r o = absurd (omega arith)
 
-module _ {w : Words} {q from to : ℕ} {xs xs′ : List ℕ} {f : Filled} (d : q ≡ 0 → ⊥) (l : from ≤ to) (h : to ≤ secondHalf) (F : Fills w 0 q 24 xs xs′ secondHalf f) where
+module _ {w : Words} {q from to : ℕ} {xs xs′ : List ℕ} {f : Filled} (d : q ≡ 0 → ⊥) (l : from ≤ to) (h : to ≤ secondHalf) (F : Fills w pieceTree q mostLevels xs xs′ secondHalf f) where
   -- the stretch is as it was
   stretch-still : span xs′ from to ≡ span xs from to
   stretch-still = span-same xs′ xs from to (λ i a b. F .same i (omega arith))

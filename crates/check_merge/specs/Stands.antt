@@ -37,7 +37,7 @@ abbrev pub AllRanged : List Item → Type 0
 AllRanged xs = (a : Item) → List·Memᴰ a xs → T (offerInRange (a .offer))
 
 pub record Stands (w : Words) (x : ℕ) (t : Tree Item) : Type 0 where
-  pub laid : Laid w 1 x t
+  pub laid : Laid w offerTree x t
   pub ranged : AllRanged (leaves t)
   pub ordered : Ordered items (leaves t)
 
@@ -91,7 +91,7 @@ pub decorated-env : {w : Words} {t : Tree Item} {es : List Item} → Decorated w
 decorated-env {es} d = subst (λ (u : Tree Item). Env items (leaves u) es) (d .shape-is) (valid-env items item-laws (d .valid))
 
 -- the word of what stays with a node, by its field
-pub rest-is : {w : Words} (t : OfferTree Item) {x : ℕ} → Laid w 1 x (shape t) → restWord w x ≡ cell w (restField t) (nodeSlot t)
+pub rest-is : {w : Words} (t : OfferTree Item) {x : ℕ} → Laid w offerTree x (shape t) → restWord w x ≡ cell w (restField t) (nodeSlot t)
 rest-is {w} (single a) {x} h =
     rw (le-ltb mostSlots x (omega (arith, h .root, h .placed a (List·Memᴰ·head refl) .high, cap-most w))) (ap (cell w leafRestField) (h .root))
 rest-is {w} (fork u v l ql qr r) {x} h =

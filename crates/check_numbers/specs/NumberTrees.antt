@@ -12,6 +12,7 @@ use Rattle.lists.specs.Members.{Among}
 use Rattle.trees.specs.Tree.{Tree, leaves}
 use Rattle.trees.specs.Height.{height-full}
 use Rattle.trees.specs.Order.{Falling}
+use Rattle.table.specs.Fields.{mostLevels, numberTree}
 use Rattle.table.specs.Words.{Words}
 use Rattle.table.specs.Items.{Item, Apart}
 use Rattle.form.specs.Form.{numberOf}
@@ -22,7 +23,7 @@ use Rattle.check_trees.specs.Stretches.{span, span-at, span-length}
 use Rattle.check_trees.specs.Loops.{FallsHere}
 use Rattle.check_trees.specs.Laid.{itemAt, itemsAt, items-back, slots-back, slots-length, AllPlaced, Laid, laid-unique}
 use Rattle.check_trees.specs.Fills.{Fills}
-use Rattle.check_trees.specs.Walks.{written-length}
+use Rattle.check_trees.specs.FillWalks.{written-length}
 use Rattle.check_numbers.specs.Distinct.{Distinct, among-length, among-all}
 use Rattle.check_numbers.specs.Falls.{falling-span, span-falling}
 use Rattle.check_numbers.specs.Seeking.{placed-one, falling-differ, HasHere, SeeksAll}
@@ -65,7 +66,7 @@ falling-distinct = Pairwise·imp (λ a b h. falling-differ {a = a} {b = b} h)
 -- node root of the numbers is the root of a balanced tree of these items, by falling number
 pub record NumberTree (w : Words) (root : ℕ) (live : List Item) : Type 0 where
   pub tree : Tree Item
-  pub laid : Laid w 2 root tree
+  pub laid : Laid w numberTree root tree
   pub falling : Falling numberOf (leaves tree)
   pub all-live : Among (leaves tree) live
   pub all-there : Among live (leaves tree)
@@ -82,7 +83,7 @@ pub record Trees (w : Words) (root : ℕ) (xs xs′ : List ℕ) (n : ℕ) (r : B
 
 -- ---- the ways through the code
 
-module _ {w : Words} {root n : ℕ} {xs xs′ : List ℕ} {f : Filled} (h : n ≤ secondHalf) (F : Fills w 2 root 24 xs xs′ secondHalf f) where
+module _ {w : Words} {root n : ℕ} {xs xs′ : List ℕ} {f : Filled} (h : n ≤ secondHalf) (F : Fills w numberTree root mostLevels xs xs′ secondHalf f) where
   none-such : (Pairwise Apart (liveAt w xs n) → NumberTree w root (liveAt w xs n) → ⊥) → Trees w root xs xs′ n false
   none-such d = record { long = F .long; told = λ p q. decides-no (d q) }
 

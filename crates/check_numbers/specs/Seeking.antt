@@ -39,7 +39,7 @@ falling-differ {a} {b} t e = go (ap numberOf e)
     go : numberOf a ≡ numberOf b → ⊥
     go q = omega (arith, intRules)
 
-module _ {w : Words} {root : ℕ} (t : Tree Item) (L : Laid w 2 root t) (F : Falling numberOf (leaves t)) where
+module _ {w : Words} {root : ℕ} (t : Tree Item) (L : Laid w numberTree root t) (F : Falling numberOf (leaves t)) where
   laid-rep : Rep w numberTree root t
   laid-rep =
       record {
@@ -58,12 +58,12 @@ module _ {w : Words} {root : ℕ} (t : Tree Item) (L : Laid w 2 root t) (F : Fal
 
 -- the answer to whether the tree at that root has slot s
 pub record Seeks (w : Words) (root s : ℕ) (r : Bool) : Type 0 where
-  pub told : (t : Tree Item) → Laid w 2 root t → Falling numberOf (leaves t) → 1 ≤ s → Decides r (List·Memᴰ (itemAt w s) (leaves t))
+  pub told : (t : Tree Item) → Laid w numberTree root t → Falling numberOf (leaves t) → 1 ≤ s → Decides r (List·Memᴰ (itemAt w s) (leaves t))
 
 pub seeks : {w : Words} {root s y : ℕ} {z : ℤ} → z ≡ cell w numberField s → Found w numberTree numberField z root y → Seeks w root s (eqb y s)
 seeks {w} {root} {s} {y} {z} e f = record { told = told }
   where
-    told : (t : Tree Item) → Laid w 2 root t → Falling numberOf (leaves t) → 1 ≤ s → Decides (eqb y s) (List·Memᴰ (itemAt w s) (leaves t))
+    told : (t : Tree Item) → Laid w numberTree root t → Falling numberOf (leaves t) → 1 ≤ s → Decides (eqb y s) (List·Memᴰ (itemAt w s) (leaves t))
     told t L F l = record { sound = λ q. sound (find numberOf z t) refl (sym is ∙ eqb-true y s q); complete = λ m. eq-eqb y s (is ∙ ap foundAt (find-complete numberOf z t F (record { inside = m; keyed = sym e }))) }
       where
         is : y ≡ foundAt (find numberOf z t)
@@ -82,17 +82,17 @@ pub record HasHere (w : Words) (t : Tree Item) (xs : List ℕ) (k : ℕ) : Type 
   pub has : List·Memᴰ (itemAt w (getD xs k 0)) (leaves t)
 
 pub record SeeksAll (w : Words) (root : ℕ) (xs : List ℕ) (n : ℕ) (r : Bool) : Type 0 where
-  pub told : (t : Tree Item) → Laid w 2 root t → Falling numberOf (leaves t) → Every (λ k. 1 ≤ getD xs k 0) 0 n → Decides r (Every (HasHere w t xs) 0 n)
+  pub told : (t : Tree Item) → Laid w numberTree root t → Falling numberOf (leaves t) → Every (λ k. 1 ≤ getD xs k 0) 0 n → Decides r (Every (HasHere w t xs) 0 n)
 
 -- all up to place i were found
 pub record Sought (w : Words) (root : ℕ) (xs : List ℕ) (n i : ℕ) : Type 0 where
-  pub so-far : (t : Tree Item) → Laid w 2 root t → Falling numberOf (leaves t) → Every (λ k. 1 ≤ getD xs k 0) 0 n → Every (HasHere w t xs) 0 i
+  pub so-far : (t : Tree Item) → Laid w numberTree root t → Falling numberOf (leaves t) → Every (λ k. 1 ≤ getD xs k 0) 0 n → Every (HasHere w t xs) 0 i
 
 pub sought-none : {w : Words} {root n : ℕ} {xs : List ℕ} → Sought w root xs n 0
 sought-none = record { so-far = λ t L F l. every-none (omega arith) }
 
 module _ {w : Words} {root n i s : ℕ} {b : Bool} (xs : List ℕ) (h : i < n) (es : s ≡ getD xs i 0) (S : Seeks w root s b) where
-  here : (t : Tree Item) → Laid w 2 root t → Falling numberOf (leaves t) → Every (λ k. 1 ≤ getD xs k 0) 0 n → Decides b (List·Memᴰ (itemAt w s) (leaves t))
+  here : (t : Tree Item) → Laid w numberTree root t → Falling numberOf (leaves t) → Every (λ k. 1 ≤ getD xs k 0) 0 n → Decides b (List·Memᴰ (itemAt w s) (leaves t))
   here t L F l = S .told t L F (omega (arith, l .at i (omega arith) h))
 
   pub sought-more : Sought w root xs n i → b ≡ true → Sought w root xs n (i + 1)

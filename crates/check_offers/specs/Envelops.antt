@@ -11,6 +11,7 @@ use Rattle.envelopes.specs.Query.{env-unique}
 use Rattle.trees.specs.Tree.{Tree, leaves}
 use Rattle.trees.specs.Operations.{Part, partLeaves}
 use Rattle.trees.specs.Balanced.{AvlP}
+use Rattle.table.specs.Fields.{mostLevels}
 use Rattle.table.specs.Words.{Words}
 use Rattle.table.specs.Items.{Item}
 use Rattle.table.specs.PartTrees.{partRef}
@@ -36,7 +37,7 @@ pub record Envelops (w : Words) (x e : ℕ) (xs xs′ : List ℕ) (r : Bool) : T
   pub long : length xs′ ≡ length xs
   pub told : (t : Tree Item) → Stands w x t → Decides r (Enveloped w e t)
 
-module _ {w : Words} {x : ℕ} {xs xs₁ : List ℕ} {a : Walked} (A : Walks w x 24 xs xs₁ 0 a) where
+module _ {w : Words} {x : ℕ} {xs xs₁ : List ℕ} {a : Walked} (A : Walks w x mostLevels xs xs₁ 0 a) where
   pub envelops-not : {e : ℕ} → a .ok ≡ false → Envelops w x e xs xs₁ false
   envelops-not f =
       record { long = A .long; told = λ t s. decides-no (λ v. never (A .complete t s (stands-low s) (omega (arith, stands-most s)) (partLeaves (v .whole)) (v .decorated)) f) }

@@ -8,7 +8,7 @@ use lib.ListN.{length}
 use Rattle.lists.specs.Bools.{never}
 use Rattle.trees.specs.Tree.{leaves}
 use Rattle.dynamic.specs.Valid.{bookLines}
-use Rattle.table.specs.Fields.{envelopeRootWord, mostNodes, offersRootWord}
+use Rattle.table.specs.Fields.{envelopeRootWord, mostLevels, mostNodes, offerTree, offersRootWord}
 use Rattle.table.specs.Words.{Words, word, upTo}
 use Rattle.check_trees.specs.declared.Filled.{Filled}
 use Rattle.check_trees.specs.Stretches.{span, span-none}
@@ -61,7 +61,7 @@ module _ {w : Words} {n x e : ℕ} (some-live : n ≡ 0 → ⊥) (ex : x ≡ upT
         pub offers-no-envelope : v ≡ false → Offers w xs xs₂ n false
         offers-no-envelope f = offers-no (E .long ∙ O .long) (λ s. never (E .told (at s .tree) (at s .stands) .complete (at s .enveloped)) f)
 
-        pub offers-all : {xs₃ : List ℕ} {f : Filled} → h ≡ true → b ≡ true → v ≡ true → Fills w 1 x 24 xs₂ xs₃ 0 f → Offers w xs xs₃ n (f .ok)
+        pub offers-all : {xs₃ : List ℕ} {f : Filled} → h ≡ true → b ≡ true → v ≡ true → Fills w offerTree x mostLevels xs₂ xs₃ 0 f → Offers w xs xs₃ n (f .ok)
         offers-all {xs₃} {f} oh ob ov F =
             record {
               long = F .long ∙ E .long ∙ O .long;

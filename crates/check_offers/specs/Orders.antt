@@ -12,7 +12,7 @@ use Rattle.offers.specs.Offers.{offerInRange}
 use Rattle.envelopes.specs.Envelope.{Ordered, Ordered·nil, Ordered·cons}
 use Rattle.envelopes.specs.EnvelopeLaws.{ordered-at}
 use Rattle.trees.specs.Tree.{Tree, leaves, height}
-use Rattle.table.specs.Fields.{mostSlots}
+use Rattle.table.specs.Fields.{mostLevels, mostSlots, offerTree}
 use Rattle.table.specs.Words.{Words}
 use Rattle.table.specs.Layout.{cap, cap-most}
 use Rattle.table.specs.Items.{Item, slots-most}
@@ -24,7 +24,7 @@ use Rattle.check_trees.specs.Deciding.{Decides, decides-no, Every}
 use Rattle.check_trees.specs.Loops.{FallsHere, RangedHere}
 use Rattle.check_trees.specs.Laid.{itemAt, itemsAt, items-back, Laid, laid-unique}
 use Rattle.check_trees.specs.Fills.{Fills}
-use Rattle.check_trees.specs.Walks.{written-length}
+use Rattle.check_trees.specs.FillWalks.{written-length}
 use Rattle.check_merge.specs.PieceTrees.{span-mem}
 use Rattle.check_merge.specs.BridgeTests.{items-length}
 use Rattle.check_merge.specs.Stands.{AllRanged, Stands, stands-slots}
@@ -97,16 +97,16 @@ module _ {w : Words} {x : ℕ} {t : Tree Item} (s : Stands w x t) where
   pub stands-most : length (leaves t) ≤ mostSlots
   stands-most = omega (arith, slots-most (cap w) (leaves t) (stands-slots s), cap-most w)
 
-  pub stands-low : height t ≤ 24
+  pub stands-low : height t ≤ mostLevels
   stands-low = low w (stands-slots s) (s .laid .balanced)
 
-module _ {w : Words} {x : ℕ} {xs xs′ : List ℕ} {f : Filled} (F : Fills w 1 x 24 xs xs′ 0 f) where
+module _ {w : Words} {x : ℕ} {xs xs′ : List ℕ} {f : Filled} (F : Fills w offerTree x mostLevels xs xs′ 0 f) where
   pub stands-filled : {t : Tree Item} → Stands w x t → f .ok ≡ true
   stands-filled {t} s = F .complete t (s .laid) (stands-low s) (omega (arith, stands-most s))
 
   module _ (ok : f .ok ≡ true) where
     -- it is the tree that was written
-    pub filled-tree : {t : Tree Item} → Laid w 1 x t → F .sound ok .tree ≡ t
+    pub filled-tree : {t : Tree Item} → Laid w offerTree x t → F .sound ok .tree ≡ t
     filled-tree {t} p = laid-unique (F .sound ok .tree) t (F .sound ok .laid) p
 
     pub filled-next : f .next ≡ length (leaves (F .sound ok .tree))

@@ -12,4 +12,4 @@ pub mod Loops
 -- ways through the code: a tree's leaves written into a scratch array, in order: what the walk promises, and the ways through its code
 pub mod Fills
 -- ways through the code: the walk over a tree that writes its leaves' slots into a scratch array: the ways through its code
-pub mod Walks
+pub mod FillWalks

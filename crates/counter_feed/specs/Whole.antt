@@ -9,7 +9,7 @@ use lib.Seq.{take-at}
 use lib.IntN.{ℤ, pos}
 use borrow.Author.Tests.{eq-eqb, ne-eqb}
 use Rattle.plain.specs.Book.{State, opened, openTrials}
-use Rattle.plain.specs.Sound.{Clear}
+use Rattle.plain.specs.Causes.{Clear}
 use Rattle.counter_print.specs.Texts.{newline}
 use Rattle.dynamic.specs.OfferTree.{Held}
 use Rattle.table.specs.Items.{Item}

@@ -6,9 +6,8 @@ use Prim.Native.Nat.{ℕ, _≤_, _<_}
 use native.Mathlib.Omega.{arith}
 use lib.ListN.{length}
 use lib.IntN.{ℤ, pos}
-use Rattle.plain.specs.Causes.{Cause, causeNumber, unreadableLine}
+use Rattle.plain.specs.Causes.{Cause, causeNumber, unreadableLine, FirstOf}
 use Rattle.plain.specs.Book.{State, Call, post, withdraw, query, listing, Answer, refused, step}
-use Rattle.plain.specs.Rules.{FirstOf}
 use Rattle.counter_columns.specs.declared.Command.{Command}
 use Rattle.counter_columns.specs.declared.Command.the-variants.{Post, Withdraw, Query, List as Listing, Unreadable}
 use Rattle.counter_columns.specs.Commands.{Parsed, parsed-unique, commandOf, command-parsed}

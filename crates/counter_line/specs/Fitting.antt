@@ -14,7 +14,8 @@ use Rattle.offers.specs.Offers.{Offer, numberInRange, loadInRange, offerInRange
 use Rattle.offers.specs.Sizes.{number-of, rate-of, base-of, number-size, number-is, price-at-size, base-gap-size, rate-gap-size}
 use Rattle.plain.specs.Causes.{Cause, declined, causeNumber, capacityOutOfRange, tableTooShort, noBook, numberOutOfRange, rateOutOfRange, baseOutOfRange, loadOutOfRange, priceOutOfRange, numberLive, rateLive, bookFull, numberNotLive, bookEmpty, outputTooShort, unreadableLine, ratesNotApart, noSuchMark}
 use Rattle.plain.specs.Book.{State, Call, post, withdraw, query, listing, refused, live, cheapest, envelope, pieceWords, trials, respond, accepted, step}
-use Rattle.plain.specs.Sound.{Sound, clear, step-sound}
+use Rattle.plain.specs.Trials.{clear}
+use Rattle.plain.specs.Sound.{Sound, step-sound}
 use Rattle.plain.specs.QueryLaws.{cheapest-names}
 use Rattle.promises.specs.Numbered.{from-one}
 use Rattle.counter_print.specs.Texts.{FitsIn}

@@ -8,9 +8,8 @@ use Prim.Native.Nat.{ℕ, _≤_, _<_}
 use lib.ListN.{length}
 use lib.Dec.{eqb}
 use lib.IntN.{ℤ, pos}
-use Rattle.plain.specs.Causes.{Cause, causeNumber, unreadableLine}
+use Rattle.plain.specs.Causes.{Cause, causeNumber, unreadableLine, FirstOf}
 use Rattle.plain.specs.Book.{State, post, withdraw, query, listing, refused, Outcome, opened, step}
-use Rattle.plain.specs.Rules.{FirstOf}
 use Rattle.counter_columns.specs.declared.Command.{Command}
 use Rattle.counter_columns.specs.declared.Command.the-variants.{Post, Withdraw, Query, List as Listing, Unreadable}
 use Rattle.counter_print.specs.Texts.{newline}

@@ -4,4 +4,4 @@ pub mod Answered
 -- ways through the code: what an answer's lines are written as, where each number fits its column
 pub mod Replies
 -- ways through the code: a listing's lines, piece after piece
-pub mod Pieces
+pub mod PieceLines

@@ -8,7 +8,7 @@ ghost use lib.ListN.{length};
 ghost use lib.IntN.{pos};
 ghost use Rattle.promises.specs.Promises.{updateAnswer, foundAnswer, listingAnswer};
 ghost use Rattle.counter_reply.specs.Replies.{Replies};
-ghost use Rattle.counter_reply.specs.Pieces.{PieceLine, PiecesTo};
+ghost use Rattle.counter_reply.specs.PieceLines.{PieceLine, PiecesTo};
 
 // The line of a post's or a withdrawal's answer.
 pub fn update_line(out: &mut [u8], letter: u8, number: i64, update: Update) -> usize

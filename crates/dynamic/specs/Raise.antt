@@ -21,7 +21,8 @@ use Rattle.dynamic.specs.OfferTree.{OfferTree, fork, shape, Held, hold, 
 use Rattle.dynamic.specs.Valid.{Valid, valid-fork, Whole}
 use Rattle.dynamic.specs.Work.{Searched, Holds}
 use Rattle.dynamic.specs.Lower.{valid-env, not-before}
-use Rattle.dynamic.specs.Bridged.{Bridged, search-bridges}
+use Rattle.dynamic.specs.SearchEnd.{Bridged}
+use Rattle.dynamic.specs.Bridged.{search-bridges}
 
 -- ---- a list in order is cut about one of its lines
 

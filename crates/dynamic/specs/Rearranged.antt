@@ -75,25 +75,26 @@ module _ {A : Type 0} where
   abbrev pub pieceTrees : Held A → List (Part A)
   pieceTrees h = h .whole ∷ rests (h .tree)
 
-  abbrev pub linesOf : List (Part A) → List A
-  linesOf [] = []
-  linesOf (p ∷ ps) = partLeaves p ++ linesOf ps
+  -- the lines of several parts, a part after the other
+  abbrev pub partLines : List (Part A) → List A
+  partLines [] = []
+  partLines (p ∷ ps) = partLeaves p ++ partLines ps
 
-  lines-append : (ps qs : List (Part A)) → linesOf (ps ++ qs) ≡ linesOf ps ++ linesOf qs
-  lines-append [] qs = refl
-  lines-append (p ∷ ps) qs = ap (λ xs. partLeaves p ++ xs) (lines-append ps qs) ∙ sym (append-assoc (partLeaves p) (linesOf ps) (linesOf qs))
+  part-lines-append : (ps qs : List (Part A)) → partLines (ps ++ qs) ≡ partLines ps ++ partLines qs
+  part-lines-append [] qs = refl
+  part-lines-append (p ∷ ps) qs = ap (λ xs. partLeaves p ++ xs) (part-lines-append ps qs) ∙ sym (append-assoc (partLeaves p) (partLines ps) (partLines qs))
 
-  pub lines-rests : (t : OfferTree A) → linesOf (rests t) ≡ stored t
+  pub lines-rests : (t : OfferTree A) → partLines (rests t) ≡ stored t
   lines-rests (single a) = refl
-  lines-rests (fork u v l ql qr r) = simp (lines-append, lines-rests l, lines-rests r)
+  lines-rests (fork u v l ql qr r) = simp (part-lines-append, lines-rests l, lines-rests r)
 
-  pub lines-mem : {a : A} {p : Part A} {ps : List (Part A)} → List·Memᴰ p ps → List·Memᴰ a (partLeaves p) → List·Memᴰ a (linesOf ps)
-  lines-mem {a} {p} (List·Memᴰ·head {x} {xs} e) m = Memᴰ·append-left (linesOf xs) (rw e at m)
+  pub lines-mem : {a : A} {p : Part A} {ps : List (Part A)} → List·Memᴰ p ps → List·Memᴰ a (partLeaves p) → List·Memᴰ a (partLines ps)
+  lines-mem {a} {p} (List·Memᴰ·head {x} {xs} e) m = Memᴰ·append-left (partLines xs) (rw e at m)
   lines-mem (List·Memᴰ·tail {x} k) m = Memᴰ·append-right (partLeaves x) (lines-mem k m)
 
-  pub lines-length : {p : Part A} {ps : List (Part A)} → List·Memᴰ p ps → length (partLeaves p) ≤ length (linesOf ps)
-  lines-length (List·Memᴰ·head {x} {xs} e) = rw e (omega (arith, length-append (partLeaves x) (linesOf xs)))
-  lines-length (List·Memᴰ·tail {x} {xs} k) = omega (arith, length-append (partLeaves x) (linesOf xs), lines-length k)
+  pub lines-length : {p : Part A} {ps : List (Part A)} → List·Memᴰ p ps → length (partLeaves p) ≤ length (partLines ps)
+  lines-length (List·Memᴰ·head {x} {xs} e) = rw e (omega (arith, length-append (partLeaves x) (partLines xs)))
+  lines-length (List·Memᴰ·tail {x} {xs} k) = omega (arith, length-append (partLeaves x) (partLines xs), lines-length k)
 
 -- ---- no two trees share a line
 
@@ -102,14 +103,14 @@ abbrev pub Between : {A : Type 0} → (A → A → Type 0) → Part A → Part A
 Between {A} R p q = (a b : A) → List·Memᴰ a (partLeaves p) → List·Memᴰ b (partLeaves q) → R a b
 
 module _ {A : Type 0} {R : A → A → Type 0} (isProp : (a b : A) → IsProp (R a b)) where
-  parts-between : (ps : List (Part A)) → Pairwise R (linesOf ps) → Pairwise (Between R) ps
+  parts-between : (ps : List (Part A)) → Pairwise R (partLines ps) → Pairwise (Between R) ps
   parts-between [] h = Pairwise·nil
   parts-between (p ∷ ps) h =
       let k = parted (partLeaves p) h in
       pairs-cons (λ p q. Π-prop (λ a. Π-prop (λ b. Π-prop (λ i. Π-prop (λ j. isProp a b))))) (λ q m a b i j. k .across i (lines-mem m j)) (parts-between ps (k .right))
 
 module _ (S : Figure) where
-  pub trees-rearranged : {h : Held (S .Line)} → Whole S h → List·Permᴰ (linesOf (pieceTrees h)) (leaves (shape (h .tree)))
+  pub trees-rearranged : {h : Held (S .Line)} → Whole S h → List·Permᴰ (partLines (pieceTrees h)) (leaves (shape (h .tree)))
   trees-rearranged {h} w = rw (lines-rests (h .tree)) (rearranged S w)
 
   -- What holds of any two leaves, either way round, holds of any two lines of the whole and the stored parts, ..

@@ -4,11 +4,12 @@
 --     word 2   the root's envelope       word 5   the first free slot
 use mathlib.Core.Path.{_≡_}
 use mathlib.Core.Logic.{_≢_}
-use mathlib.Core.List.{List, map, List·Memᴰ, Pairwise}
+use mathlib.Core.List.{List, map, Pairwise}
 use mathlib.Core.Option.{Option, none, some}
 use Prim.Native.Nat.{ℕ, _+_, _≤_}
 use lib.ListN.{length}
 use lib.IntN.{ℤ, pos}
+use Rattle.lists.specs.Members.{Among}
 use Rattle.offers.specs.Offers.{Offer}
 use Rattle.plain.specs.Book.{State}
 use Rattle.trees.specs.Operations.{Part, partLeaves}
@@ -20,7 +21,7 @@ use Rattle.table.specs.Fields.{envelopeRootWord, firstFreeWord, liveCountWord, 
 use Rattle.table.specs.Words.{Words, word}
 use Rattle.table.specs.Layout.{cap}
 pub use Rattle.table.specs.Free.{head0, FreeChain, free-none, free-more}
-use Rattle.table.specs.Items.{Item}
+use Rattle.table.specs.Items.{Item, offerOf}
 use Rattle.table.specs.Rep.{refOf}
 use Rattle.form.specs.Stored.{HeldIn}
 use Rattle.table.specs.PartTrees.{partRef, TiedPart}
@@ -55,8 +56,8 @@ pub record NumbersIn (w : Words) (live : List Item) (numbers : Part Item) : Type
   pub tied : TiedPart w numberTree numbers
   pub balanced : AvlP numbers
   pub falling : Falling numberOf (partLeaves numbers)
-  pub all-live : (a : Item) → List·Memᴰ a (partLeaves numbers) → List·Memᴰ a live
-  pub all-there : (a : Item) → List·Memᴰ a live → List·Memᴰ a (partLeaves numbers)
+  pub all-live : Among (partLeaves numbers) live
+  pub all-there : Among live (partLeaves numbers)
 
 -- a tree of numbers over the live items
 pub record Numbered (w : Words) (live : List Item) : Type 0 where
@@ -77,7 +78,7 @@ pub record Freely (w : Words) (n : ℕ) : Type 0 where
 
 -- the plain list: its leaves hold exactly those offers, in order
 abbrev pub plainOffers : Option (Held Item) → List Offer
-plainOffers held = map (λ (a : Item). a .offer) (bookLines held)
+plainOffers held = map offerOf (bookLines held)
 
 -- The part has the form, with this tree of offers, and stands for this plain book. The check decides the three records in the middle.
 pub record Book (w : Words) (s : State) (held : Option (Held Item)) : Type 0 where

@@ -7,9 +7,8 @@ use Prim.Native.Nat.{ℕ, _*_, _≤_}
 use lib.ListN.{length}
 use lib.IntN.{ℤ, natAbs}
 use Rattle.integers.specs.Log.{B}
-use Rattle.plain.specs.Causes.{Cause, declined}
+use Rattle.plain.specs.Causes.{Cause, declined, Clear}
 use Rattle.plain.specs.Book.{State, Call, post, withdraw, query, listing, Answer, opened, openTrials, trials, respond, step, after, answers}
-use Rattle.plain.specs.Sound.{Clear}
 use Rattle.trees.specs.Tree.{height, leaves}
 use Rattle.trees.specs.Operations.{Part, partLeaves, partHeight}
 use Rattle.trees.specs.Height.{log-height, log-heightP}

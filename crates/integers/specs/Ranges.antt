@@ -1,21 +1,12 @@
 -- Range tests as code makes them: too low, too high, and otherwise in range. Each says what the test of the whole range, `between l h z`
 -- or `within n z` of the crate offers, comes to.
-use mathlib.Core.Path.{_≡_, refl}
-use mathlib.Core.Bool.{Bool, true, false, _&&_}
+use mathlib.Core.Path.{_≡_}
+use mathlib.Core.Bool.{true, false, _&&_}
 use native.Mathlib.Omega.{arith}
 use lib.IntN.{ℤ}
 use lib.Signed.{leZ, ltZ}
+use Rattle.lists.specs.Bools.{and-is, not-first, not-second}
 use Rattle.integers.specs.Parts.{intRules}
-
-and-is : (a b : Bool) → a ≡ true → b ≡ true → (a && b) ≡ true
-and-is a b e f = rw (e, f)
-
-not-first : (a b : Bool) → a ≡ false → (a && b) ≡ false
-not-first a b e = rw e
-
-not-second : (a b : Bool) → b ≡ false → (a && b) ≡ false
-not-second true b e = e
-not-second false b e = refl
 
 module _ (l h z : ℤ) where
   pub too-low : ltZ z l ≡ true → (leZ l z && leZ z h) ≡ false

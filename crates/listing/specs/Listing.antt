@@ -19,7 +19,7 @@ use Rattle.table.specs.Threads.{Holds, holds-right, Threaded}
 use Rattle.descents.specs.Ends.{Ended}
 use Rattle.query.specs.Plain.{offerOf}
 use Rattle.query.specs.QueriedPieces.{Pieces}
-use Rattle.listing.specs.Counting.{Counted}
+use Rattle.listing.specs.PieceCounts.{Counted}
 
 -- the promise: the count; where the output is too short, all of it stays; else the pieces' words, and later ones stay
 pub record Written (w : Words) (root : ℕ) (out out′ : List ℤ) (r : ℕ) : Type 0 where

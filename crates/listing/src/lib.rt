@@ -1,7 +1,7 @@
 // Listings of a part: its pieces along the thread, counted and written. Any words are safe: every walk has a limit.
 ghost use mathlib.Core.Path.{_≡_};
 ghost use Prim.Native.Nat.{_≤_};
-ghost use Rattle.listing.specs.Counting.{Counted};
+ghost use Rattle.listing.specs.PieceCounts.{Counted};
 ghost use Rattle.listing.specs.Listing.{crossingWord, pieceAt, Written};
 
 // How many pieces a tree has, counted along the thread from its first to its last; 0 for no tree.

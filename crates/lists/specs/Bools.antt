@@ -1,6 +1,6 @@
 -- Tests that compute: what a passed and a failed one says, several tests together, and a choice by a test.
 use mathlib.Core.Path.{_≡_, refl, sym, subst, _∙_}
-use mathlib.Core.Logic.{_⊎_, inl, inr}
+use mathlib.Core.Logic.{_↔_, _⊎_, inl, inr, ⊎-elim}
 use mathlib.Core.Bool.{Bool, true, false, not, _&&_, _||_, cond, true≢false}
 use lib.Dec.{T}
 
@@ -29,6 +29,18 @@ denied e t = failed (sym e ∙ t)
 
 pub never : {b : Bool} → b ≡ true → b ≡ false → ⊥
 never p q = true≢false (sym p ∙ q)
+
+pub refuted : {b c : Bool} → b ≡ c → b ≡ false → ¬ T c
+refuted {c} e d t = never (e ∙ is-true c t) d
+
+-- what the first comes to, by what the second says
+pub to-true : {b c : Bool} → b ≡ c → T c → b ≡ true
+to-true {c} e t = e ∙ is-true c t
+
+pub to-false : {b c : Bool} → b ≡ c → ¬ T c → b ≡ false
+to-false {b = false} e f = refl
+to-false {b = true} {c = true} e f = absurd (f tt)
+to-false {b = true} {c = false} e f = e
 
 pub either : (b : Bool) → T b ⊎ T (not b)
 either true = inl tt
@@ -67,6 +79,16 @@ and-left true b t = tt
 pub and-right : (a b : Bool) → T (a && b) → T b
 and-right true b t = t
 
+pub and-is : (a b : Bool) → a ≡ true → b ≡ true → (a && b) ≡ true
+and-is a b e f = rw (e, f)
+
+pub not-first : (a b : Bool) → a ≡ false → (a && b) ≡ false
+not-first a b e = rw e
+
+pub not-second : (a b : Bool) → b ≡ false → (a && b) ≡ false
+not-second true b e = e
+not-second false b e = refl
+
 -- a && c as code makes it: c where a passes, and a itself where it fails; b is what a says
 pub first-passes : {a b c r : Bool} → a ≡ b → a ≡ true → r ≡ c → r ≡ b && c
 first-passes p t q = rw (sym p ∙ t) q
@@ -85,6 +107,9 @@ pub or-cases : (a b : Bool) → T (a || b) → T a ⊎ T b
 or-cases true b t = inl tt
 or-cases false b t = inr t
 
+pub or-exactly : (a b : Bool) → T (a || b) ↔ (T a ⊎ T b)
+or-exactly a b = (or-cases a b, ⊎-elim (or-left a b) (or-right a b))
+
 pub or-no : (a b : Bool) → ¬ T a → ¬ T b → ¬ T (a || b)
 or-no true b p q t = p t
 or-no false b p q t = q t
@@ -95,7 +120,33 @@ neither false b t = (tt, t)
 pub not-either : (a b : Bool) → T (not a) → T (not b) → T (not (a || b))
 not-either false b s t = t
 
+-- ---- three tests
+
+-- (x && y) && z as code makes it, a test at a time: a and b are what the first two say, e the third
+pub first-of-three : {a x : Bool} (y z : Bool) → a ≡ x → a ≡ false → false ≡ (x && y) && z
+first-of-three y z p e = rw (sym p ∙ e)
+
+pub second-of-three : {a b x y : Bool} (z : Bool) → a ≡ x → b ≡ y → a ≡ true → b ≡ false → false ≡ (x && y) && z
+second-of-three z p q d e = rw (sym p ∙ d, sym q ∙ e)
+
+pub third-of-three : {a b x y e z : Bool} → a ≡ x → b ≡ y → a ≡ true → b ≡ true → e ≡ z → e ≡ (x && y) && z
+third-of-three p q d e r = rw (sym p ∙ d, sym q ∙ e) r
+
+-- where p and q hold, t is the contrary of u
+pub as-one-test : (p q t u : Bool) → (T p → T q → t ≡ not u) → (not (p && q) || t) ≡ not (p && q && u)
+as-one-test true true t u f = f tt tt
+as-one-test true false t u f = refl
+as-one-test false q t u f = refl
+
 -- ---- a choice by a test
+
+pub cond-itself : (b : Bool) → cond b true false ≡ b
+cond-itself true = refl
+cond-itself false = refl
+
+pub cond-or : (b c : Bool) → cond b true c ≡ b || c
+cond-or true c = refl
+cond-or false c = refl
 
 -- What holds of both branches, each under its outcome of the test, holds of the choice.
 pub cond-both : {X : Type 0} (P : X → Type 0) (b : Bool) {x y : X} → (T b → P x) → (T (not b) → P y) → P (cond b x y)

@@ -12,16 +12,14 @@ use lib.IntN.{ℤ, pos}
 use lib.Signed.{ltZ}
 use Rattle.lists.specs.Tests.{any}
 use Rattle.offers.specs.Offers.{Offer}
-use Rattle.plain.specs.Causes.{Cause, noBook, bookEmpty, ratesNotApart, Trial, _when_, causeNumber}
+use Rattle.plain.specs.Causes.{Cause, noBook, bookEmpty, ratesNotApart, Trial, _when_, causeNumber, FirstOf, Clear}
 use Rattle.plain.specs.Book.{State, noBookAt, envelope}
-use Rattle.plain.specs.Rules.{FirstOf}
-use Rattle.plain.specs.Sound.{Clear}
 use Rattle.trees.specs.Tree.{Tree, height}
 use Rattle.trees.specs.Operations.{Part}
 use Rattle.meeting.specs.Machine.{meet}
 use Rattle.dynamic.specs.OfferTree.{Held}
 use Rattle.dynamic.specs.Valid.{bookLines}
-use Rattle.dynamic.specs.Bridged.{Bridged}
+use Rattle.dynamic.specs.SearchEnd.{Bridged}
 use Rattle.table.specs.Fields.{capacityWord}
 use Rattle.table.specs.Words.{word}
 use Rattle.table.specs.Items.{Item}

@@ -14,14 +14,14 @@ use Rattle.lists.specs.Tests.{any}
 use Rattle.lists.specs.Bools.{or-left, or-right, not-either, said, denied}
 use Rattle.envelopes.specs.Envelope.{Ordered}
 use Rattle.envelopes.specs.EnvelopeLaws.{ordered-append}
-use Rattle.plain.specs.Causes.{Cause, causeNumber}
+use Rattle.plain.specs.Causes.{Cause, causeNumber, FirstOf, at-once, further}
 use Rattle.plain.specs.Book.{State, envelope}
-use Rattle.plain.specs.Rules.{FirstOf, at-once, further}
 use Rattle.trees.specs.Tree.{Tree, leaves, first}
 use Rattle.meeting.specs.Machine.{meet}
 use Rattle.dynamic.specs.OfferTree.{Held, heldShape}
 use Rattle.dynamic.specs.Valid.{bookLines}
-use Rattle.dynamic.specs.Bridged.{Bridged, faces, search-bridges}
+use Rattle.dynamic.specs.SearchEnd.{Bridged}
+use Rattle.dynamic.specs.Bridged.{faces, search-bridges}
 use Rattle.table.specs.Fields.{envelopeRootWord, liveCountWord, mostNodes, numberField, pieceTree}
 use Rattle.table.specs.Words.{Words, word, upTo}
 use Rattle.table.specs.Layout.{cell}

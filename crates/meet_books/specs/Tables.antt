@@ -7,9 +7,8 @@ use lib.ListN.{length, take, drop}
 use lib.Dec.{T-not}
 use lib.IntN.{ℤ, pos}
 use Rattle.lists.specs.Bools.{or-left, or-right, not-either, said, denied}
-use Rattle.plain.specs.Causes.{noBook}
+use Rattle.plain.specs.Causes.{noBook, FirstOf, at-once}
 use Rattle.plain.specs.Book.{noBookAt}
-use Rattle.plain.specs.Rules.{FirstOf, at-once}
 use Rattle.table.specs.Fields.{capacityWord}
 use Rattle.table.specs.Words.{Words, word}
 use Rattle.promises.specs.Promises.{partOf}

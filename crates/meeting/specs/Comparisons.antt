@@ -1,19 +1,15 @@
 -- The search's comparison of two places is the comparison of their ranks that the five facts speak of.
 use Prim.Native.Nat.{ℕ, zero, suc}
 use mathlib.Core.Path.{_≡_, refl, sym, _∙_, ap, subst}
-use mathlib.Core.Bool.{Bool, _||_}
 use mathlib.Core.Logic.{_↔_, Iff·trans, _⊎_, inl, inr, ⊎-elim, ⊎-swap}
 use mathlib.Core.Option.{some}
 use lib.Dec.{T}
-use Rattle.lists.specs.Bools.{or-cases, or-right, or-left}
+use Rattle.lists.specs.Bools.{or-exactly}
 use Rattle.envelopes.specs.PseudoLines.{Figure, mirror}
 use Rattle.envelopes.specs.Bridge.{Kind, inner, Local, OnOrAbove}
 use Rattle.trees.specs.Tree.{Tree, node, first, last}
 use Rattle.meeting.specs.Machine.{Side, left, right, away, toward, nearest, farthest, Place, pointAt, crossingPoint, localAtMost, crossingOnOrAbove, onOrAbove}
 use Rattle.meeting.specs.Located.{Spans, one, two, edgeOf, kind, rank, farthest-at, nearest-at, Located}
-
-either : (b c : Bool) → T (b || c) ↔ (T b ⊎ T c)
-either b c = (or-cases b c, ⊎-elim (or-left b c) (or-right b c))
 
 module _ (S : Figure) where
   -- the point with i lines on its outer side is on or above one of the lines
@@ -34,9 +30,9 @@ module _ (S : Figure) where
   Low c j h b x = (l : S .Line) × Local c j h l × T (S .atMost l b x)
 
   local-node : (side : Side) (l r : Tree (S .Line)) (b : S .Line) (x : S .Point) → T (localAtMost S (node l r) b x) ↔ (T (S .atMost (nearest side (away side l r)) b x) ⊎ T (S .atMost (farthest side (toward side l r)) b x))
-  local-node left l r b x = either (S .atMost (last l) b x) (S .atMost (first r) b x)
+  local-node left l r b x = or-exactly (S .atMost (last l) b x) (S .atMost (first r) b x)
   local-node right l r b x =
-      let e = either (S .atMost (last l) b x) (S .atMost (first r) b x) in
+      let e = or-exactly (S .atMost (last l) b x) (S .atMost (first r) b x) in
       ((λ w. ⊎-swap (e .0 w)), λ w. e .1 (⊎-swap w))
 
   low-inner : (c : ℕ → S .Line) (k : ℕ) (y z b : S .Line) (x : S .Point) → y ≡ c k → z ≡ c (suc k) → (T (S .atMost y b x) ⊎ T (S .atMost z b x)) ↔ Low c (suc k) inner b x

@@ -10,7 +10,7 @@ pub mod Comparisons
 -- lemmas: what a comparison tells the search: the five facts, for either side, at located places
 pub mod Verdicts
 -- lemmas: the search finds the bridge, within 3 × (hl + hr) + 1 steps
-pub mod Search
+pub mod Bridging
 -- statement and lemmas: the search on two trees whose leaves are envelopes: it finishes at the bridge within 3 × (hl + hr) + 1 steps
 pub mod Meets
 -- lemmas: a search followed step by step, as a loop does it

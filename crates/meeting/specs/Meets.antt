@@ -16,7 +16,7 @@ use Rattle.meeting.specs.Machine.{Side, left, right, away, toward, start
 use Rattle.meeting.specs.Located.{Spans, one, two, bottom, Aim, Stands}
 use Rattle.meeting.specs.Moves.{half, owes-root}
 use Rattle.meeting.specs.Verdicts.{Meeting, FactsOf}
-use Rattle.meeting.specs.Search.{Sound, potential, run-finds}
+use Rattle.meeting.specs.Bridging.{Sound, potential, run-finds}
 
 -- ---- a tree's lines, counted from the outer end
 

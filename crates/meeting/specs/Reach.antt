@@ -11,7 +11,7 @@ use Rattle.trees.specs.Tree.{Tree, leaf, node, height}
 use Rattle.meeting.specs.Machine.{Side, left, right, Place, Half, pointAt, State, step, start, Result, ended, counted, run, meet}
 use Rattle.meeting.specs.Located.{Stacked, on, Aim, Stands, stack-depth, stack-room, topEdge, edge-of-top, topPoint, leaf-point}
 use Rattle.meeting.specs.Verdicts.{Meeting}
-use Rattle.meeting.specs.Search.{Sound, potential, Stepped, step-sound}
+use Rattle.meeting.specs.Bridging.{Sound, potential, Stepped, step-sound}
 use Rattle.meeting.specs.Meets.{limit, Ready}
 
 -- after k steps

@@ -90,7 +90,7 @@ module _ (w : Words) (a b : Item) where
 
   threading-within : Within w (threading w a b)
   unfolding w₁ w₂
-  threading-within = within-trans (within-cset w 6 (a .slot) (crossingNumerator (a .offer) (b .offer))) (within-trans (within-cset w₁ 7 (a .slot) (crossingDenominator (a .offer) (b .offer))) (within-cset w₂ 19 (a .slot) (pos (b .slot))))
+  threading-within = within-trans (within-cset w numeratorField (a .slot) (crossingNumerator (a .offer) (b .offer))) (within-trans (within-cset w₁ denominatorField (a .slot) (crossingDenominator (a .offer) (b .offer))) (within-cset w₂ nextPieceField (a .slot) (pos (b .slot))))
 
   threading-offer : (s : ℕ) → SameOffer w (threading w a b) s
   unfolding w₁ w₂
@@ -193,7 +193,7 @@ pub seamed :
 seamed {l} {r} {s} {n} {x} {N} {D} {w} {w₃} {w₄} nl nr eN eD e₃ m = record { within = within-trans written (m .within); root = root; only = only }
   where
     written : Within w w₃
-    written = subst (Within w) (sym e₃) (within-trans (within-cset w 6 s N) (within-trans (within-cset (cset w numeratorField s N) 7 s D) (within-cset (cset (cset w numeratorField s N) denominatorField s D) 19 s (pos n))))
+    written = subst (Within w) (sym e₃) (within-trans (within-cset w numeratorField s N) (within-trans (within-cset (cset w numeratorField s N) denominatorField s D) (within-cset (cset (cset w numeratorField s N) denominatorField s D) nextPieceField s (pos n))))
 
     wired : w₃ ≡ cset (cset (cset w numeratorField s (baseAt w n -ℤ baseAt w s)) denominatorField s (rateAt w s -ℤ rateAt w n)) nextPieceField s (pos n)
     wired = e₃ ∙ rw (eN, eD) refl

@@ -83,7 +83,7 @@ standing-repP : {w : Words} {x : ℕ} (p : Part Item) → Standing w x p → Rep
 standing-repP none h = record { kind = omega arith; root = h .root; slots = h .slots; tied = tt }
 standing-repP (some t) h = record { kind = omega arith; root = h .root; slots = h .slots; tied = h .pieces .0 }
 
-height-low : {w : Words} {x : ℕ} (p : Part Item) → Standing w x p → partHeight p ≤ 24
+height-low : {w : Words} {x : ℕ} (p : Part Item) → Standing w x p → partHeight p ≤ mostLevels
 height-low none h = omega arith
 height-low {w} (some t) h = low w (h .slots) (h .balanced)
 

@@ -1,31 +1,26 @@
 -- The listing names an offer exactly when at some rational load, of any size, it is strictly cheaper than every other live offer.
-use mathlib.Core.Path.{_≡_, refl, sym, _∙_, subst, ap, fun-ext}
+use mathlib.Core.Path.{_≡_, sym, _∙_, subst, ap, fun-ext}
 use mathlib.Core.Logic.{_↔_}
 use mathlib.Core.List.{List, List·Memᴰ, Pairwise, Pairwise·nil, Pairwise·cons}
-use mathlib.Core.Bool.{Bool, true, false, not, _&&_, _||_}
+use mathlib.Core.Bool.{not, _&&_, _||_}
 use native.Mathlib.Omega.{arith}
 use lib.Dec.{T, not-T, T-not}
 use lib.IntN.{ℤ, _*ℤ_}
 use lib.Signed.{leZ, ltZ}
 use Rattle.lists.specs.Filter.{every, keep}
-use Rattle.lists.specs.Bools.{same-test}
+use Rattle.lists.specs.Bools.{as-one-test, same-test}
 use Rattle.integers.specs.Parts.{intRules}
 use Rattle.offers.specs.Offers.{Offer, RationalLoad, priceTimesD, precedes, crossingNumerator, crossingDenominator}
 use Rattle.envelopes.specs.Envelope.{Ordered, Ordered·nil, Ordered·cons, Cheapest, Env, listed}
 use Rattle.envelopes.specs.Listed.{listed-exact, listed-env}
 use Rattle.lines.specs.OfferLines.{offerFigure, offerLaws, crossing-test}
 use Rattle.plain.specs.Book.{envelope, turns}
-pub use Rattle.plain.specs.Meaning.{CheaperThanAll}
+use Rattle.plain.specs.Meaning.{CheaperThanAll}
 
 -- ---- the plain listing is the listing of the offers' lines
 
 lt-as-le : (a b : ℤ) → ltZ a b ≡ not (leZ b a)
 lt-as-le a b = same-test (ltZ a b) (not (leZ b a)) (λ t. omega (arith, intRules)) (λ t. omega (arith, intRules))
-
-as-one-test : (p q t u : Bool) → (T p → T q → t ≡ not u) → (not (p && q) || t) ≡ not (p && q && u)
-as-one-test true true t u f = f tt tt
-as-one-test true false t u f = refl
-as-one-test false q t u f = refl
 
 pub envelope-listed : (os : List Offer) → envelope os ≡ listed offerFigure os
 unfolding listed

@@ -10,12 +10,12 @@ use lib.Arith.{lt→nleb}
 use lib.IntN.{ℤ, pos}
 use Rattle.lists.specs.Bools.{twice}
 use Rattle.offers.specs.Offers.{Offer, loadInRange, priceAt, crossingNumerator, crossingDenominator}
-use Rattle.plain.specs.Causes.{Cause, causeNumber}
+use Rattle.plain.specs.Causes.{Cause, causeNumber, Clear}
 use Rattle.plain.specs.Book.{holding, State, Call, post, withdraw, query, listing, refused, live, found, listed, join, leave, cheapest, envelope, pieceWords, trials, step, respond, accepted}
-pub use Rattle.plain.specs.Causes.{FirstOf, at-once, further, Clear}
+pub use Rattle.plain.specs.Causes.{FirstOf, at-once, further}
 pub use Rattle.plain.specs.Trials.{declined-by, not-declined}
 use Rattle.plain.specs.Sound.{length-join}
-pub use Rattle.plain.specs.Meaning.{PieceAt}
+use Rattle.plain.specs.Meaning.{PieceAt}
 
 -- ---- what each call does
 

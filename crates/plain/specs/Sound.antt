@@ -21,7 +21,7 @@ use Rattle.integers.specs.Equal.{equal}
 use Rattle.offers.specs.Offers.{Offer, between, numberInRange, rateInRange, baseInRange, offerInRange, precedes}
 use Rattle.plain.specs.Causes.{Cause, declined}
 pub use Rattle.plain.specs.Causes.{Clear}
-pub use Rattle.plain.specs.Trials.{clear}
+use Rattle.plain.specs.Trials.{clear}
 use Rattle.plain.specs.Book.{State, Call, post, withdraw, query, listing, refused, hasNumber, hasRate, join, leave, trials, accepted-opening, opened, openingBy, opening, openTrials, accepted, respond, step, after}
 
 pub record Sound (s : State) : Type 0 where

@@ -7,7 +7,7 @@ use lib.Dec.{T, leb, ltb}
 use lib.IntN.{ℤ, pos, negsuc, negℤ, _+ℤ_, _*ℤ_}
 use lib.Signed.{leZ}
 use borrow.Author.Tests.{le-leb, lt-leb, lt-ltb, le-ltb}
-use Rattle.lists.specs.Bools.{and-left, and-right, and-both}
+use Rattle.lists.specs.Bools.{and-left, and-right, and-both, cond-itself, cond-or}
 use Rattle.integers.specs.Parts.{intRules}
 use Rattle.offers.specs.Offers.{between, rateInRange, baseInRange}
 use Rattle.offers.specs.Bounded.{bounded, bounded-ranged}
@@ -137,16 +137,8 @@ module _ (w : Words) (p : ℕ) (v : Words) (x : ℕ) where
   -- a leaf's one line, and an inner node's two
   pub above-one : 1 ≤ p → x ≤ mostSlots → aboveAt w p v x ≡ atMostAt w p v (keptIn x)
   unfolding aboveAt
-  above-one h k = rw (le-ltb p 1 h, le-leb x mostSlots k) (go (atMostAt w p v (keptIn x)))
-    where
-      go : (b : Bool) → cond b true false ≡ b
-      go true = refl
-      go false = refl
+  above-one h k = rw (le-ltb p 1 h, le-leb x mostSlots k) (cond-itself (atMostAt w p v (keptIn x)))
 
   pub above-two : 1 ≤ p → mostSlots < x → aboveAt w p v x ≡ atMostAt w p v (keptIn x) || atMostAt w p v (linkAt v nextPieceField (keptIn x))
   unfolding aboveAt
-  above-two h k = rw (le-ltb p 1 h, lt-leb x mostSlots k) (go (atMostAt w p v (keptIn x)) (atMostAt w p v (linkAt v nextPieceField (keptIn x))))
-    where
-      go : (b c : Bool) → cond b true c ≡ b || c
-      go true c = refl
-      go false c = refl
+  above-two h k = rw (le-ltb p 1 h, lt-leb x mostSlots k) (cond-or (atMostAt w p v (keptIn x)) (atMostAt w p v (linkAt v nextPieceField (keptIn x))))

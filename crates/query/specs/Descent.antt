@@ -7,7 +7,7 @@ use lib.Dec.{T}
 use lib.IntN.{ℤ}
 use Rattle.offers.specs.Offers.{loadInRange}
 use Rattle.trees.specs.Tree.{Tree, leaf, node, height, first, last}
-use Rattle.table.specs.Fields.{mostSlots}
+use Rattle.table.specs.Fields.{mostLevels, mostSlots}
 use Rattle.table.specs.Words.{Words}
 use Rattle.table.specs.Items.{Item}
 use Rattle.table.specs.Nodes.{ref-low}
@@ -20,9 +20,9 @@ pub record Finds (q : ℤ) (t : Tree Item) (slot probes : ℕ) : Type 0 where
   pub item : slot ≡ lookup q t .item .slot
   pub depth : probes ≡ lookup q t .depth
 
--- the promise: on words that hold a tree of pieces, at most 24 high, and with a load in range
+-- the promise: on words that hold a tree of pieces, at most mostLevels high, and with a load in range
 pub record Descended (w : Words) (root : ℕ) (q : ℤ) (slot probes : ℕ) : Type 0 where
-  pub finds : (t : Tree Item) → Pieces w root t → height t ≤ 24 → T (loadInRange q) → Finds q t slot probes
+  pub finds : (t : Tree Item) → Pieces w root t → height t ≤ mostLevels → T (loadInRange q) → Finds q t slot probes
 
 -- ---- on the way
 
@@ -74,7 +74,7 @@ pub ongoing-off : {w : Words} {root x probes : ℕ} {q : ℤ} → Ongoing w root
 ongoing-off g d e slot found =
     record { finds = λ t p k h. let b = ongoing-step g d e .below t p h in absurd (omega (arith, b .pieces .rep .root, ref-low (b .tree) (b .pieces .rep .slots))) }
 
--- a tree at most 24 high has a leaf after 24 probes
-pub ongoing-limit : {w : Words} {root x probes : ℕ} {q : ℤ} → Ongoing w root q x probes → mostSlots < x → 24 ≤ probes → (slot found : ℕ) → Descended w root q slot found
+-- a tree at most mostLevels high has a leaf after mostLevels probes
+pub ongoing-limit : {w : Words} {root x probes : ℕ} {q : ℤ} → Ongoing w root q x probes → mostSlots < x → mostLevels ≤ probes → (slot found : ℕ) → Descended w root q slot found
 ongoing-limit {q} g d l slot found =
     record { finds = λ t p k h. let b = g .below t p h in let o = opened q (b .pieces) h d in absurd (omega (arith, b .high, ap height (o .shape))) }

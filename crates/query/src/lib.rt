@@ -77,7 +77,7 @@ pub fn descend(part: &[i64], root: u32, load: i64) -> Probe
     let mut x = root as usize;
     let mut probes: u32 = 0;
     while LEAVES < x {
-        if 24 <= probes {
+        if table::MOST_LEVELS <= probes {
             return Probe {
                 slot: 0,
                 probes: probes,

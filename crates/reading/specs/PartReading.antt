@@ -12,8 +12,8 @@ use lib.IntN.{ℤ, pos}
 use Rattle.lists.specs.Bools.{denied}
 use Rattle.offers.specs.Offers.{Offer, crossingNumerator}
 use Rattle.plain.specs.Book.{State, envelope, pieceWords, noBookAt}
-use Rattle.plain.specs.Causes.{Cause}
-use Rattle.plain.specs.Rules.{FirstOf, words-length}
+use Rattle.plain.specs.Causes.{Cause, FirstOf}
+use Rattle.plain.specs.Rules.{words-length}
 use Rattle.trees.specs.Tree.{Tree, leaves, first, last}
 use Rattle.trees.specs.Leaves.{rest, leaves-first}
 use Rattle.trees.specs.Operations.{Part, partLeaves}
@@ -29,7 +29,7 @@ use Rattle.form.specs.Form.{Book, plainOffers}
 use Rattle.query.specs.QueriedPieces.{Pieces}
 use Rattle.query.specs.Plain.{offerOf, pieces-plain}
 use Rattle.listing.specs.Listing.{crossingWord}
-use Rattle.listing.specs.Counting.{Passed, all-passed, not-all, go-on}
+use Rattle.listing.specs.PieceCounts.{Passed, all-passed, not-all, go-on}
 use Rattle.form.specs.Live.{live-whole, whole-ordered}
 use Rattle.promises.specs.Promises.{partOf, noBookTrial}
 use Rattle.promises.specs.LentPart.{whole-part, no-form, no-book-cause}

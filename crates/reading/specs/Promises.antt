@@ -6,15 +6,14 @@ use mathlib.Core.Option.{Option, none, some}
 use lib.ListN.{length, take, drop}
 use lib.IntN.{ℤ, pos}
 use Rattle.offers.specs.Offers.{Offer}
-use Rattle.plain.specs.Causes.{Cause, causeNumber}
+use Rattle.plain.specs.Causes.{Cause, causeNumber, FirstOf}
 use Rattle.plain.specs.Book.{State, envelope, pieceWords}
-use Rattle.plain.specs.Rules.{FirstOf}
 use Rattle.trees.specs.Operations.{partLeaves}
 use Rattle.dynamic.specs.OfferTree.{Held}
 use Rattle.table.specs.Words.{Words}
 use Rattle.table.specs.Items.{Item}
 use Rattle.form.specs.Form.{Book, plainOffers}
-use Rattle.listing.specs.Counting.{Passed}
+use Rattle.listing.specs.PieceCounts.{Passed}
 use Rattle.promises.specs.Promises.{partOf, noBookTrial}
 use Rattle.reading.specs.declared.Handed.{Handed}
 use Rattle.reading.specs.declared.Handed.the-variants.{Piece, End, Declined}

@@ -6,8 +6,7 @@ use mathlib.Core.List.{List, [], _∷_}
 use mathlib.Core.Option.{Option}
 use lib.IntN.{ℤ}
 use denote.Ref.{RefT, now}
-use Rattle.plain.specs.Causes.{Cause}
-use Rattle.plain.specs.Rules.{FirstOf}
+use Rattle.plain.specs.Causes.{Cause, FirstOf}
 use Rattle.plain.specs.Book.{State}
 use Rattle.dynamic.specs.OfferTree.{Held}
 use Rattle.table.specs.Items.{Item}

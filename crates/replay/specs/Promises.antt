@@ -8,10 +8,8 @@ use Prim.Native.Nat.{ℕ, _*_}
 use lib.ListN.{length}
 use lib.Dec.{leb}
 use lib.IntN.{ℤ, pos, natAbs}
-use Rattle.plain.specs.Causes.{Cause, causeNumber}
+use Rattle.plain.specs.Causes.{Cause, causeNumber, FirstOf, Clear}
 use Rattle.plain.specs.Book.{State, Call, Answer, opened, openTrials, answers}
-use Rattle.plain.specs.Rules.{FirstOf}
-use Rattle.plain.specs.Sound.{Clear}
 use Rattle.dynamic.specs.OfferTree.{Held}
 use Rattle.table.specs.Items.{Item}
 use Rattle.form.specs.Form.{Book}
@@ -22,7 +20,7 @@ use Rattle.history.specs.Claim.{Claim}
 use Rattle.replay.specs.declared.Replayed.{Replayed}
 use Rattle.replay.specs.declared.Replayed.the-variants.{Ran, Stopped, Declined}
 use Rattle.replay_words.specs.Encoding.{runnable, Run, told, Spares}
-use Rattle.replay_call.specs.Told.{Tells}
+use Rattle.replay_call.specs.Telling.{Tells}
 
 -- These calls were made, one after the other, and the words are their answers'. It holds on words of any content; c is any capacity.
 pub record Made (c start : ℕ) (t t′ : List ℤ) (ks : List Call) (out out′ : List ℤ) : Type 0 where

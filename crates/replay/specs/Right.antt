@@ -27,7 +27,7 @@ use Rattle.history.specs.History.{Happens, posting, withdrawing, by-update, by-
 use Rattle.history.specs.Claim.{step-capacity, one-call}
 use Rattle.replay_words.specs.Encoding.{stretch, updateWords, foundWords, listedWords, acceptedAnswer, answerOf, told, spared, Spares}
 use Rattle.replay_words.specs.Decoding.{same-is}
-use Rattle.replay_call.specs.Told.{TellsOne, Tells}
+use Rattle.replay_call.specs.Telling.{TellsOne, Tells}
 
 -- the answer by five words
 abbrev byWords : Call → List ℤ → List ℤ → Answer

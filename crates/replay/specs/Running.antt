@@ -16,7 +16,8 @@ use Rattle.form.specs.Local.{Alike}
 use Rattle.history.specs.History.{Happens, posting, withdrawing, by-update, by-query, by-listing, History, finished, next}
 use Rattle.replay_words.specs.Encoding.{nextCall, stretch, fitting, runnable}
 use Rattle.replay_words.specs.Decoding.{runnable-none, runnable-next, next-words}
-use Rattle.replay_call.specs.Told.{TellsOne, Tells, Performed, Ready, Step}
+use Rattle.replay_call.specs.Telling.{TellsOne, Tells}
+use Rattle.replay_call.specs.OneCall.{Performed, Ready, Step}
 use Rattle.replay.specs.Promises.{Made}
 
 -- ---- one call stays in the part

@@ -7,7 +7,7 @@ ghost use lib.ListN.{length};
 ghost use Rattle.plain.specs.Book.{post, withdraw, query, listing};
 ghost use Rattle.replay_words.specs.Encoding.{fitting};
 ghost use Rattle.replay_words.specs.Decoding.{asked};
-ghost use Rattle.replay_call.specs.Told.{Performed, Performs, Step};
+ghost use Rattle.replay_call.specs.OneCall.{Performed, Performs, Step};
 
 fn do_post(table: &mut [i64], start: usize, number: i64, rate: i64, base: i64, out: &mut [i64])
     requires { ⌜ 5 ≤ length (now out) ⌝ }

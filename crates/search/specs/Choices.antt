@@ -12,7 +12,7 @@ use Rattle.walks.specs.declared.Move.{Move}
 use Rattle.search.specs.declared.Search.{Search}
 use Rattle.prices.specs.Prices.{aboveAt}
 use Rattle.walks.specs.Walks.{Walk}
-use Rattle.walks.specs.Moves.{Topped, Pointed, pointWord, pointed-by}
+use Rattle.walks.specs.CodeMoves.{Topped, Pointed, pointWord, pointed-by}
 use Rattle.walks.specs.Actions.{walk, Does, sided}
 use Rattle.search.specs.SearchSteps.{uOf, vOf, Receded, Stepped, receded-bottom, receded-leaf, receded-mine, receded-theirs, receded-neither, stepped-mine, stepped-theirs, stepped-done, stepped-on}
 

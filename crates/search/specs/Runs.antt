@@ -18,10 +18,10 @@ use Rattle.trees.specs.Leaves.{some-leaf}
 use Rattle.meeting.specs.Machine.{Side, left, right, State, step, Result, ended, counted, start, run, meet}
 use Rattle.meeting.specs.Moves.{half, owes-root}
 use Rattle.meeting.specs.Verdicts.{Meeting, aim}
-use Rattle.meeting.specs.Search.{Sound, potential, Stepped as Progress, step-sound}
+use Rattle.meeting.specs.Bridging.{Sound, potential, Stepped as Progress, step-sound}
 use Rattle.meeting.specs.Meets.{size, lineFrom, limit, spans-tree, root-stands}
 use Rattle.meeting.specs.Reach.{later}
-use Rattle.table.specs.Fields.{pieceTree}
+use Rattle.table.specs.Fields.{mostLevels, pieceTree}
 use Rattle.table.specs.Words.{Words}
 use Rattle.table.specs.Items.{Item}
 use Rattle.table.specs.Rep.{Rep, refOf}
@@ -40,7 +40,7 @@ pub record Kept (w : Words) (x : ℕ) (t : Tree Item) : Type 0 where
   pub rep : Rep w pieceTree x t
   pub holds : Holds w (leaves t)
   pub threaded : Threaded w (leaves t)
-  pub low : height t ≤ 24
+  pub low : height t ≤ mostLevels
 
 -- two of them whose leaves are chains, all of the left before all of the right
 pub record Faced (wl wr : Words) (x y : ℕ) (tl tr : Tree Item) : Type 0 where
@@ -105,8 +105,8 @@ module _ {A : Type 0} where
 -- k steps are done: the state stands for the machine's, which is sound and has more steps left than it owes
 pub record Underway (wl wr : Words) (tl tr : Tree Item) (s : Search) (k : ℕ) : Type 0 where
   pub meeting : Meeting itemFigure
-  pub left-tall : meeting .leftAim .tall ≤ 24
-  pub right-tall : meeting .rightAim .tall ≤ 24
+  pub left-tall : meeting .leftAim .tall ≤ mostLevels
+  pub right-tall : meeting .rightAim .tall ≤ mostLevels
   pub state : State Item
   pub left-over : ℕ
   pub budget : left-over + k ≡ limit tl tr

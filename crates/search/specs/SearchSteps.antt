@@ -20,7 +20,7 @@ use Rattle.walks.specs.ItemLines.{itemFigure}
 use Rattle.prices.specs.Prices.{aboveAt}
 use Rattle.walks.specs.SearchedPieces.{Pieces, sideOf, leaf-low, inner-high}
 use Rattle.walks.specs.Walks.{Walk, Stacks, pushed, Stood, Fares, topRef, pointSlot, node-above, half-above}
-use Rattle.walks.specs.Moves.{Topped, Pointed, Retreated, Advanced, Popped, top-pieces}
+use Rattle.walks.specs.CodeMoves.{Topped, Pointed, Retreated, Advanced, Popped, top-pieces}
 use Rattle.walks.specs.Actions.{Stays}
 
 -- ---- the relation

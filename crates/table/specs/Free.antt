@@ -1,5 +1,5 @@
--- The free slots: a chain from word 5 on, each slot with number 0 in field 0 and the next one in field 3: the word itself, so that the last has a 0
--- there and no other word that is read as 0.
+-- The free slots: a chain from `firstFreeWord` on, each slot with 0 in `numberField` and the next one in `nextFreeField`: the word itself,
+-- so that the last has a 0 there and no other word that is read as 0.
 use mathlib.Core.Path.{_≡_, refl, _∙_, ap}
 use mathlib.Core.Logic.{_≢_}
 use mathlib.Core.List.{List, [], _∷_, List·Memᴰ, List·Memᴰ·head, List·Memᴰ·tail}
@@ -48,8 +48,8 @@ abbrev pub taken : Words → Words
 taken w = wset w firstFreeWord (pos (linkAt w nextFreeField (firstFree w)))
 
 -- what a part with a slot has
-long : (w : Words) {s : ℕ} → 1 ≤ s → s ≤ cap w → 5 < length w
-long w {s} l h = omega (arith, place-low (cap w) 0 s, place-in {w = w} {f = 0} {s = s} (record { low = l; high = h; field = omega arith }))
+long : (w : Words) {s : ℕ} → 1 ≤ s → s ≤ cap w → firstFreeWord < length w
+long w {s} l h = omega (arith, place-low (cap w) numberField s, place-in {w = w} {f = numberField} {s = s} (record { low = l; high = h; field = omega arith }))
 
 pub first-free : {w : Words} {ss : List ℕ} → FreeSlots w ss → firstFree w ≡ head0 ss
 first-free {w} {ss} f = ap (upTo mostNodes) (f .first) ∙ upTo-in mostNodes (head0 ss) (omega (arith, head-most ss (f .chain)))
@@ -60,16 +60,16 @@ took {w} {s} {ss} f = go (f .chain)
     go : FreeChain w (s ∷ ss) → FreeSlots (taken w) ss
     go (free-more l h z n g) =
         record {
-          first = wset-same w 5 _ (long w l h) ∙ ap pos (ap (linkAt w nextFreeField) (first-free f) ∙ free-link s g n);
-          chain = chain-still g (header-cap w 5 _ (omega arith) (omega arith)) (λ t m. header-cell w 5 _ (omega arith) (omega arith) 0 t) (λ t m. header-cell w 5 _ (omega arith) (omega arith) 3 t);
+          first = wset-same w firstFreeWord _ (long w l h) ∙ ap pos (ap (linkAt w nextFreeField) (first-free f) ∙ free-link s g n);
+          chain = chain-still g (header-cap w firstFreeWord _ (omega arith) (omega arith)) (λ t m. header-cell w firstFreeWord _ (omega arith) (omega arith) numberField t) (λ t m. header-cell w firstFreeWord _ (omega arith) (omega arith) nextFreeField t);
         }
 
 -- every other word is as before
 pub taken-cell : (w : Words) (f s : ℕ) → cell (taken w) f s ≡ cell w f s
-taken-cell w f s = header-cell w 5 _ (omega arith) (omega arith) f s
+taken-cell w f s = header-cell w firstFreeWord _ (omega arith) (omega arith) f s
 
-pub taken-word : (w : Words) {i : ℕ} → i ≢ 5 → word (taken w) i ≡ word w i
-taken-word w d = wset-other w 5 _ _ d
+pub taken-word : (w : Words) {i : ℕ} → i ≢ firstFreeWord → word (taken w) i ≡ word w i
+taken-word w d = wset-other w firstFreeWord _ _ d
 
 -- ---- a slot is given back
 
@@ -77,27 +77,27 @@ abbrev pub given : Words → ℕ → Words
 given w s = wset (cset (cset w numberField s (pos 0)) nextFreeField s (pos (firstFree w))) firstFreeWord (pos s)
 
 pub given-cap : (w : Words) (s : ℕ) → cap (given w s) ≡ cap w
-given-cap w s = header-cap _ 5 _ (omega arith) (omega arith) ∙ cset-cap _ 3 s _ ∙ cset-cap w 0 s _
+given-cap w s = header-cap _ firstFreeWord _ (omega arith) (omega arith) ∙ cset-cap _ nextFreeField s _ ∙ cset-cap w numberField s _
 
 pub given-length : (w : Words) (s : ℕ) → length (given w s) ≡ length w
-given-length w s = wset-length _ 5 _ ∙ cset-length _ 3 s _ ∙ cset-length w 0 s _
+given-length w s = wset-length _ firstFreeWord _ ∙ cset-length _ nextFreeField s _ ∙ cset-length w numberField s _
 
 -- fields of other slots, and other fields of that slot
-pub given-cell : (w : Words) (s f t : ℕ) → ¬ ((f ≡ 0) × (t ≡ s)) → ¬ ((f ≡ 3) × (t ≡ s)) → cell (given w s) f t ≡ cell w f t
-given-cell w s f t d e = header-cell _ 5 _ (omega arith) (omega arith) f t ∙ cset-other _ 3 s _ e ∙ cset-other w 0 s _ d
+pub given-cell : (w : Words) (s f t : ℕ) → ¬ ((f ≡ numberField) × (t ≡ s)) → ¬ ((f ≡ nextFreeField) × (t ≡ s)) → cell (given w s) f t ≡ cell w f t
+given-cell w s f t d e = header-cell _ firstFreeWord _ (omega arith) (omega arith) f t ∙ cset-other _ nextFreeField s _ e ∙ cset-other w numberField s _ d
 
-pub given-word : (w : Words) (s : ℕ) {i : ℕ} → Outside w i → i ≢ 5 → word (given w s) i ≡ word w i
-given-word w s {i} o d = wset-other _ 5 i _ d ∙ cset-rest w₁ 3 s _ further ∙ cset-rest w 0 s _ o
+pub given-word : (w : Words) (s : ℕ) {i : ℕ} → Outside w i → i ≢ firstFreeWord → word (given w s) i ≡ word w i
+given-word w s {i} o d = wset-other _ firstFreeWord i _ d ∙ cset-rest w₁ nextFreeField s _ further ∙ cset-rest w numberField s _ o
   where
     w₁ : Words
     w₁ = cset w numberField s (pos 0)
 
     further : Outside w₁ i
-    further = outside-of (cset-cap w 0 s (pos 0)) o
+    further = outside-of (cset-cap w numberField s (pos 0)) o
 
 pub gave : {w : Words} {s : ℕ} {ss : List ℕ} → FreeSlots w ss → 1 ≤ s → s ≤ cap w → ((t : ℕ) → List·Memᴰ t ss → t ≢ s) → FreeSlots (given w s) (s ∷ ss)
 gave {w} {s} {ss} f l h d =
-    record { first = wset-same w₂ 5 (pos s) (omega (arith, long w l h, cset-length w 0 s (pos 0), cset-length w₁ 3 s (pos (firstFree w)))); chain = free-more l (omega (arith, given-cap w s)) number next rest }
+    record { first = wset-same w₂ firstFreeWord (pos s) (omega (arith, long w l h, cset-length w numberField s (pos 0), cset-length w₁ nextFreeField s (pos (firstFree w)))); chain = free-more l (omega (arith, given-cap w s)) number next rest }
   where
     w₁ : Words
     w₁ = cset w numberField s (pos 0)
@@ -107,13 +107,13 @@ gave {w} {s} {ss} f l h d =
 
     number : cell (given w s) numberField s ≡ pos 0
     number =
-        header-cell w₂ 5 (pos s) (omega arith) (omega arith) 0 s ∙ cset-other w₁ 3 s _ (λ e. omega (arith, e .0))
+        header-cell w₂ firstFreeWord (pos s) (omega arith) (omega arith) numberField s ∙ cset-other w₁ nextFreeField s _ (λ e. omega (arith, e .0))
         ∙ cset-same (pos 0) (record { low = l; high = h; field = omega arith })
 
     next : cell (given w s) nextFreeField s ≡ pos (head0 ss)
     next =
-        header-cell w₂ 5 (pos s) (omega arith) (omega arith) 3 s ∙ cset-same (pos (firstFree w)) (record { low = l; high = omega (arith, cset-cap w 0 s (pos 0)); field = omega arith })
+        header-cell w₂ firstFreeWord (pos s) (omega arith) (omega arith) nextFreeField s ∙ cset-same (pos (firstFree w)) (record { low = l; high = omega (arith, cset-cap w numberField s (pos 0)); field = omega arith })
         ∙ ap pos (first-free f)
 
     rest : FreeChain (given w s) ss
-    rest = chain-still (f .chain) (given-cap w s) (λ t m. given-cell w s 0 t (λ q. d t m (q .1)) (λ q. d t m (q .1))) (λ t m. given-cell w s 3 t (λ q. d t m (q .1)) (λ q. d t m (q .1)))
+    rest = chain-still (f .chain) (given-cap w s) (λ t m. given-cell w s numberField t (λ q. d t m (q .1)) (λ q. d t m (q .1))) (λ t m. given-cell w s nextFreeField t (λ q. d t m (q .1)) (λ q. d t m (q .1)))

@@ -206,6 +206,27 @@ spot-of w w′ f s n e = go (valid? w f s)
 pub cset-spot : (w : Words) (f s : ℕ) (z : ℤ) (f′ s′ : ℕ) → spot (cset w f s z) f′ s′ ≡ spot w f′ s′
 cset-spot w f s z f′ s′ = spot-of w (cset w f s z) f′ s′ (cset-length w f s z) (cset-cap w f s z)
 
+-- a write at the place that was found for it
+pub written-at : (w w′ : Words) (f s at : ℕ) (z : ℤ) → at ≡ spot w f s → w′ ≡ wset w at z → w′ ≡ cset w f s z
+unfolding cset
+written-at w w′ f s at z e h = h ∙ ap (λ (k : ℕ). wset w k z) e
+
+-- after a write a place is still the one found before it
+found-still : (w w₁ : Words) (f s : ℕ) (a : ℤ) (g y : ℕ) → w₁ ≡ cset w f s a → y ≡ spot w g s → y ≡ spot w₁ g s
+found-still w w₁ f s a g y h e = e ∙ sym (cset-spot w f s a g s) ∙ ap (λ (v : Words). spot v g s) (sym h)
+
+-- three writes to one slot, at places that were all found before the first
+pub three-written :
+    (w w₁ w₂ w₃ : Words) (s f g h x y z : ℕ) (a b d : ℤ) →
+    x ≡ spot w f s → y ≡ spot w g s → z ≡ spot w h s →
+    w₁ ≡ wset w x a → w₂ ≡ wset w₁ y b → w₃ ≡ wset w₂ z d →
+    w₃ ≡ cset (cset (cset w f s a) g s b) h s d
+three-written w w₁ w₂ w₃ s f g h x y z a b d ex ey ez h₁ h₂ h₃ =
+    let p₁ = written-at w w₁ f s x a ex h₁ in
+    let p₂ = written-at w₁ w₂ g s y b (found-still w w₁ f s a g y p₁ ey) h₂ in
+    let p₃ = written-at w₂ w₃ h s z d (found-still w₁ w₂ g s b h z p₂ (found-still w w₁ f s a h z p₁ ez)) h₃ in
+    p₃ ∙ ap (λ (v : Words). cset v h s d) (p₂ ∙ ap (λ (v : Words). cset v g s b) p₁)
+
 pub cset-same : {w : Words} {f s : ℕ} (z : ℤ) → Valid w f s → cell (cset w f s z) f s ≡ z
 unfolding cell cset
 cset-same {w} {f} {s} z v =

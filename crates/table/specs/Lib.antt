@@ -19,5 +19,5 @@ pub mod Threads
 pub mod PartTrees
 -- lemmas: a field of slots as the key of items: what a cut and a search by key ask of the words
 pub mod Keys
--- statement and lemmas: the free slots: a chain from word 5 on, each slot with number 0 in field 0 and the next one in field 3
+-- statement and lemmas: the free slots: a chain from `firstFreeWord` on, each slot with 0 in `numberField` and the next one in `nextFreeField`
 pub mod Free

@@ -7,6 +7,7 @@ use native.Mathlib.Omega.{arith}
 use Rattle.trees.specs.Tree.{Tree, height, leaves, last, Avl}
 use Rattle.trees.specs.Operations.{Part, partLeaves}
 use Rattle.trees.specs.Height.{height-full}
+use Rattle.table.specs.Fields.{mostLevels}
 use Rattle.table.specs.Words.{Words}
 use Rattle.table.specs.Layout.{cap, cap-most}
 use Rattle.table.specs.Items.{Item, In, Slots, slots-most}
@@ -46,8 +47,8 @@ tiedP-still (some u) t g d = tied-still t g (λ s i j. d s j (inner-in i))
 pub repP-still : {k x : ℕ} {xs : List Item} {w w′ : Words} (p : Part Item) → RepP w k x p → Within w w′ → Only k xs w w′ → ((s : ℕ) → In s xs → In s (partLeaves p) → ⊥) → RepP w′ k x p
 repP-still p r g o d = record { kind = r .kind; root = r .root; slots = rw (within-cap g) (r .slots); tied = tiedP-still p (r .tied) o d }
 
--- a balanced tree in a table is at most 24 high
-pub low : (w : Words) {t : Tree Item} → Slots (cap w) (leaves t) → Avl t → height t ≤ 24
+-- a balanced tree in a table is at most mostLevels high
+pub low : (w : Words) {t : Tree Item} → Slots (cap w) (leaves t) → Avl t → height t ≤ mostLevels
 low w {t} s a = height-full a (omega (arith, slots-most (cap w) (leaves t) s, cap-most w))
 
 -- ---- two parts side by side

@@ -189,9 +189,9 @@ threading w a b =
 pub threading-next : (w : Words) (a b : Item) → 1 ≤ a .slot → a .slot ≤ cap w → b .slot ≤ mostNodes → Next (threading w a b) a b
 threading-next w a b low high h =
     record {
-      next = ap (upTo mostNodes) (cset-same (pos (b .slot)) (has w₂ 19 (omega arith) (omega (arith, c₂)))) ∙ upTo-in mostNodes (b .slot) h;
-      numerator = cset-other w₂ 19 (a .slot) (pos (b .slot)) (λ e. omega (arith, e .0)) ∙ cset-other w₁ 7 (a .slot) _ (λ e. omega (arith, e .0)) ∙ cset-same _ (has w 6 (omega arith) (omega arith));
-      denominator = cset-other w₂ 19 (a .slot) (pos (b .slot)) (λ e. omega (arith, e .0)) ∙ cset-same _ (has w₁ 7 (omega arith) (omega (arith, c₁)));
+      next = ap (upTo mostNodes) (cset-same (pos (b .slot)) (has w₂ nextPieceField (omega arith) (omega (arith, c₂)))) ∙ upTo-in mostNodes (b .slot) h;
+      numerator = cset-other w₂ nextPieceField (a .slot) (pos (b .slot)) (λ e. omega (arith, e .0)) ∙ cset-other w₁ denominatorField (a .slot) _ (λ e. omega (arith, e .0)) ∙ cset-same _ (has w numeratorField (omega arith) (omega arith));
+      denominator = cset-other w₂ nextPieceField (a .slot) (pos (b .slot)) (λ e. omega (arith, e .0)) ∙ cset-same _ (has w₁ denominatorField (omega arith) (omega (arith, c₁)));
     }
   where
     w₁ : Words

@@ -1,9 +1,9 @@
 // The words of a book's part, by total accessors: whatever the words are, a read gives a value and a write stays inside the part.
 ghost use mathlib.Core.Path.{_≡_};
-ghost use mathlib.Core.Bool.{_&&_};
 ghost use Prim.Native.Nat.{_-_};
 ghost use lib.IntN.{pos};
 ghost use lib.Signed.{leZ, ltZ};
+ghost use Rattle.integers.specs.Equal.{equal};
 ghost use Rattle.offers.specs.Bounded.{bounded};
 ghost use Rattle.table.specs.Fields.{mostSlots};
 ghost use Rattle.table.specs.Words.{word, wset, upTo};
@@ -367,7 +367,7 @@ pub fn is_above(part: &[i64], field: usize, slot: u32, key: i64) -> bool
 
 // A slot's field is `key`.
 pub fn is_equal(part: &[i64], field: usize, slot: u32, key: i64) -> bool
-    ensures { λ r. ⌜ r ≡ leZ (cell (now (part .entry)) field slot) key && leZ key (cell (now (part .entry)) field slot) ⌝ }
+    ensures { λ r. ⌜ r ≡ equal (cell (now (part .entry)) field slot) key ⌝ }
 {
     at_most(part, field, slot, key) && at_least(part, field, slot, key)
 }

@@ -6,6 +6,6 @@ pub mod SearchedPieces
 -- lemmas: what one walk of the code stands for: a half of the machine's state
 pub mod Walks
 -- ways through the code: what the code's functions on a walk are held to, and why each of their answers is right
-pub mod Moves
+pub mod CodeMoves
 -- ways through the code: what an action makes of a walk whose node was noted above its stack's top
 pub mod Actions

@@ -20,7 +20,7 @@ use Rattle.table.specs.Fields.{mostSlots, nextPieceField, pieceTree}
 use Rattle.table.specs.Words.{Words}
 use Rattle.table.specs.Layout.{cap, cap-most, linkAt}
 use Rattle.table.specs.Items.{Item, Slots, slots-left, slots-right}
-use Rattle.table.specs.Rep.{childAt, refOf, Tied, tied-leaf, tied-node, Rep}
+use Rattle.table.specs.Rep.{childField, childAt, refOf, Tied, tied-leaf, tied-node, Rep}
 use Rattle.table.specs.Threads.{Held, Holds, holds-left, holds-right, Next, Threaded, chain-seam}
 use Rattle.walks.specs.ItemLines.{itemFigure, rateOf, baseOf, Falls, scaled, price-test}
 use Rattle.prices.specs.Prices.{rateAt, baseAt, numeratorAt, denominatorAt, priceIn, atMostAt, keptIn, kept-leaf, kept-inner, aboveAt, above-one, above-two}
@@ -48,13 +48,13 @@ module _ {w : Words} {x : ℕ} {l r : Tree Item} (p : Pieces w x (node l r)) whe
   pub pieces-left : Pieces w (childAt w pieceTree false x) l
   pieces-left =
       record {
-        rep = record { kind = p .rep .kind; root = ap (linkAt w 4) seam-at ∙ at-left (p .rep .tied); slots = slots-left (leaves r) (p .rep .slots); tied = tied-left (p .rep .tied) };
+        rep = record { kind = p .rep .kind; root = ap (linkAt w (childField pieceTree false)) seam-at ∙ at-left (p .rep .tied); slots = slots-left (leaves r) (p .rep .slots); tied = tied-left (p .rep .tied) };
         holds = holds-left (leaves r) (p .holds);
         threaded = IsChain·left-of-append (leaves r) (p .threaded);
         falling = IsChain·left-of-append (leaves r) (p .falling);
       }
     where
-      at-left : Tied w pieceTree (node l r) → linkAt w 4 (last l .slot) ≡ refOf l
+      at-left : Tied w pieceTree (node l r) → linkAt w (childField pieceTree false) (last l .slot) ≡ refOf l
       at-left (tied-node tl tr el er eh) = el
 
       tied-left : Tied w pieceTree (node l r) → Tied w pieceTree l
@@ -63,13 +63,13 @@ module _ {w : Words} {x : ℕ} {l r : Tree Item} (p : Pieces w x (node l r)) whe
   pub pieces-right : Pieces w (childAt w pieceTree true x) r
   pieces-right =
       record {
-        rep = record { kind = p .rep .kind; root = ap (linkAt w 5) seam-at ∙ at-right (p .rep .tied); slots = slots-right (leaves l) (p .rep .slots); tied = tied-right (p .rep .tied) };
+        rep = record { kind = p .rep .kind; root = ap (linkAt w (childField pieceTree true)) seam-at ∙ at-right (p .rep .tied); slots = slots-right (leaves l) (p .rep .slots); tied = tied-right (p .rep .tied) };
         holds = holds-right (leaves l) (p .holds);
         threaded = IsChain·right-of-append (leaves l) (p .threaded);
         falling = IsChain·right-of-append (leaves l) (p .falling);
       }
     where
-      at-right : Tied w pieceTree (node l r) → linkAt w 5 (last l .slot) ≡ refOf r
+      at-right : Tied w pieceTree (node l r) → linkAt w (childField pieceTree true) (last l .slot) ≡ refOf r
       at-right (tied-node tl tr el er eh) = er
 
       tied-right : Tied w pieceTree (node l r) → Tied w pieceTree r

@@ -11,7 +11,7 @@ use Rattle.trees.specs.Tree.{Tree, leaf, node, last}
 use Rattle.meeting.specs.Machine.{Side, Place, Half, Crossing, crossingOnOrAbove, onOrAbove}
 use Rattle.meeting.specs.Located.{Aim, Stands, leaf-point}
 use Rattle.meeting.specs.Moves.{half}
-use Rattle.table.specs.Fields.{mostSlots}
+use Rattle.table.specs.Fields.{mostLevels, mostSlots}
 use Rattle.table.specs.Words.{Words}
 use Rattle.table.specs.Items.{Item}
 use Rattle.table.specs.Rep.{refOf}
@@ -37,10 +37,10 @@ pub record Stood (w : Words) (h : Walk) (m : Half Item) : Type 0 where
   pub stacks : Stacks w (h .stack) (h .depth) (m .stack)
   pub room : length (h .stack) ≡ 24
 
--- a walk that stands for a half which stands well, of a tree at most 24 high
+-- a walk that stands for a half which stands well, of a tree at most mostLevels high
 pub record Fares (w : Words) (side : Bool) (h : Walk) (m : Half Item) : Type 0 where
   pub aim : Aim Item
-  pub low : aim .tall ≤ 24
+  pub low : aim .tall ≤ mostLevels
   pub stands : Stands (sideOf side) aim m
   pub stood : Stood w h m
 

@@ -2,7 +2,7 @@
 // Left is false, right is true; toward is the way to the other envelope, away the way to the outer end.
 ghost use mathlib.Core.Path.{_≡_};
 ghost use Rattle.table.specs.Layout.{cap};
-ghost use Rattle.walks.specs.Moves.{Under, topWord, pointWord};
+ghost use Rattle.walks.specs.CodeMoves.{Under, topWord, pointWord};
 ghost use Rattle.walks.specs.Actions.{Retreats, Advances, Pops, Acts, sided};
 
 // What a walk does in a step.

@@ -2,4 +2,4 @@
 -- statement: an accepted opening and a history of six calls with their answers, all as literals
 pub mod Witness
 -- ways through the code: the calls' promises make the history, and the theorem about every history its answers
-pub mod Calls
+pub mod SixCalls

@@ -1,7 +1,7 @@
 -- `chart::slot_of` meets its contract. The loop's invariant: piece k is in slot s.
 use Prim.Native.Nat.{_-_}
 use native.Mathlib.Omega.{arith}
-use Rattle.chart.specs.Walks.{Going, going-begins, going-on, going-ends}
+use Rattle.chart.specs.ChartWalks.{Going, going-begins, going-on, going-ends}
 use borrow.Author.Needs.{needs}
 use Rattle.chart.proofs.slot_of.Statement.{statement}
 use Rattle.chart.proofs.slot_of.Tie as tie

@@ -2,7 +2,7 @@
 use mathlib.Core.Path.{refl}
 use mathlib.Core.Logic.{⊎-elim}
 use Rattle.check_trees.specs.Deciding.{decides-also, decides-stops}
-use Rattle.check_bridges.specs.Bridges.{bridges-by}
+use Rattle.check_bridges.specs.StoredBridges.{bridges-by}
 use borrow.Author.Needs.{needs}
 use Rattle.check_bridges.proofs.bridges.Statement.{statement}
 use Rattle.check_bridges.proofs.bridges.Tie as tie

@@ -3,7 +3,7 @@ use mathlib.Core.Path.{refl}
 use mathlib.Core.Logic.{⊎-elim}
 use borrow.Author.Tests.{eq-eqb, ne-eqb}
 use Rattle.check_trees.specs.Deciding.{decides-also, decides-stops}
-use Rattle.check_bridges.specs.Bridges.{leads, keeps, follows-by}
+use Rattle.check_bridges.specs.StoredBridges.{leads, keeps, follows-by}
 use borrow.Author.Needs.{needs}
 use Rattle.check_bridges.proofs.follows.Statement.{statement}
 use Rattle.check_bridges.proofs.follows.Tie as tie

@@ -4,7 +4,7 @@ use Prim.Native.Nat.{ℕ}
 use native.Mathlib.Omega.{arith}
 use borrow.Author.Tests.{le-leb}
 use Rattle.check_bridges.specs.Gaps.{crossAt}
-use Rattle.check_bridges.specs.Bridges.{near-none, near-is}
+use Rattle.check_bridges.specs.StoredBridges.{near-none, near-is}
 use borrow.Author.Needs.{needs}
 use Rattle.check_bridges.proofs.left_inner.Statement.{statement}
 use Rattle.check_bridges.proofs.left_inner.Tie as tie

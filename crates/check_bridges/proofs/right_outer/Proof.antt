@@ -4,7 +4,7 @@ use Prim.Native.Nat.{ℕ}
 use native.Mathlib.Omega.{arith}
 use borrow.Author.Tests.{le-leb}
 use Rattle.check_bridges.specs.Gaps.{crossAt}
-use Rattle.check_bridges.specs.Bridges.{near-none, near-not}
+use Rattle.check_bridges.specs.StoredBridges.{near-none, near-not}
 use borrow.Author.Needs.{needs}
 use Rattle.check_bridges.proofs.right_outer.Statement.{statement}
 use Rattle.check_bridges.proofs.right_outer.Tie as tie

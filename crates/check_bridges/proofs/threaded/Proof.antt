@@ -5,7 +5,7 @@ use native.Mathlib.Omega.{arith}
 use borrow.Author.Needs.{needs}
 use borrow.Author.Tests.{not-true, not-false}
 use Rattle.check_trees.specs.Deciding.{every-more, every-less, decides-yes}
-use Rattle.check_bridges.specs.Bridges.{ThreadedTo, threaded-none, next-here, not-threaded}
+use Rattle.check_bridges.specs.StoredBridges.{ThreadedTo, threaded-none, next-here, not-threaded}
 use Rattle.check_bridges.proofs.threaded.Statement.{statement}
 use Rattle.check_bridges.proofs.threaded.Tie as tie
 

@@ -4,7 +4,7 @@ use borrow.Author.Tests.{not-true, not-false}
 use native.Mathlib.Omega.{arith}
 use mathlib.Core.Path.{_∙_}
 use Rattle.check_trees.specs.Fills.{fills-as}
-use Rattle.check_trees.specs.Walks.{fills-deep, fills-left-not, fills-right-not, ended, fills-node}
+use Rattle.check_trees.specs.FillWalks.{fills-deep, fills-left-not, fills-right-not, ended, fills-node}
 use Prim.Native.Nat.{ℕ, _<_}
 use borrow.Fn.Kinds.{In}
 use borrow.Fn.PlainCycle.{Measures, is, falls, and}

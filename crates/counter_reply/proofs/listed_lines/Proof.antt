@@ -8,7 +8,7 @@ use mir.Syntax.{w64}
 use mir.Val.{SFits}
 use Rattle.table.specs.Words.{upTo-most}
 use Rattle.counter_reply.specs.Replies.{refused-line}
-use Rattle.counter_reply.specs.Pieces.{part-long, listed-line}
+use Rattle.counter_reply.specs.PieceLines.{part-long, listed-line}
 use borrow.Author.Needs.{needs}
 use Rattle.counter_reply.proofs.listed_lines.Statement.{statement}
 use Rattle.counter_reply.proofs.listed_lines.Tie as tie

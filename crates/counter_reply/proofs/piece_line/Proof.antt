@@ -2,7 +2,7 @@
 use mir.Facts.{toZ-ofZ}
 use mir.Syntax.{w64}
 use mir.Val.{SFits}
-use Rattle.counter_reply.specs.Pieces.{piece-line}
+use Rattle.counter_reply.specs.PieceLines.{piece-line}
 use borrow.Author.Needs.{needs}
 use Rattle.counter_reply.proofs.piece_line.Statement.{statement}
 use Rattle.counter_reply.proofs.piece_line.Tie as tie

@@ -2,7 +2,7 @@
 use Prim.Native.Nat.{_-_, _≤_}
 use mathlib.Core.Path.{_≡_}
 use native.Mathlib.Omega.{arith}
-use Rattle.counter_reply.specs.Pieces.{PiecesTo, pieces-none, pieces-more}
+use Rattle.counter_reply.specs.PieceLines.{PiecesTo, pieces-none, pieces-more}
 use Rattle.counter_reply.proofs.piece_lines.Statement.{statement}
 use Rattle.counter_reply.proofs.piece_lines.Tie as tie
 

@@ -1,7 +1,7 @@
 -- `listing::count` meets its contract. The loop's invariant: the n-th of the pieces is in slot s.
 use Prim.Native.Nat.{_-_}
 use native.Mathlib.Omega.{arith}
-use Rattle.listing.specs.Counting.{Along, along-begins, along-none, along-goes-on, along-ends, along-over}
+use Rattle.listing.specs.PieceCounts.{Along, along-begins, along-none, along-goes-on, along-ends, along-over}
 use borrow.Author.Needs.{needs}
 use Rattle.listing.proofs.count.Statement.{statement}
 use Rattle.listing.proofs.count.Tie as tie

@@ -1,6 +1,6 @@
 -- `replay_call::do_listing` meets its contract: what the call promises on the output lent to it, and its answer written.
 use mathlib.Core.Path.{refl}
-use Rattle.replay_call.specs.Told.{lists-to}
+use Rattle.replay_call.specs.Performing.{lists-to}
 use borrow.Author.Needs.{needs}
 use Rattle.replay_call.proofs.do_listing.Statement.{statement}
 use Rattle.replay_call.proofs.do_listing.Tie as tie

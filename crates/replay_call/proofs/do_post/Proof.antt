@@ -1,6 +1,6 @@
 -- `replay_call::do_post` meets its contract: what the call promises, and its answer written.
 use mir.Facts.{toZ-ofZ}
-use Rattle.replay_call.specs.Told.{posts}
+use Rattle.replay_call.specs.Performing.{posts}
 use borrow.Author.Needs.{needs}
 use Rattle.replay_call.proofs.do_post.Statement.{statement}
 use Rattle.replay_call.proofs.do_post.Tie as tie

@@ -1,6 +1,6 @@
 -- `replay_call::do_query` meets its contract: what the call promises, and its answer written.
 use mir.Facts.{toZ-ofZ}
-use Rattle.replay_call.specs.Told.{asks}
+use Rattle.replay_call.specs.Performing.{asks}
 use borrow.Author.Needs.{needs}
 use Rattle.replay_call.proofs.do_query.Statement.{statement}
 use Rattle.replay_call.proofs.do_query.Tie as tie

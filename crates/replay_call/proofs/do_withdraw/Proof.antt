@@ -1,6 +1,6 @@
 -- `replay_call::do_withdraw` meets its contract: what the call promises, and its answer written.
 use mir.Facts.{toZ-ofZ}
-use Rattle.replay_call.specs.Told.{withdraws}
+use Rattle.replay_call.specs.Performing.{withdraws}
 use borrow.Author.Needs.{needs}
 use Rattle.replay_call.proofs.do_withdraw.Statement.{statement}
 use Rattle.replay_call.proofs.do_withdraw.Tie as tie

@@ -1,7 +1,7 @@
 -- `replay_call::one_call` meets its contract: by what the next call is.
 use mathlib.Core.Path.{sym, _∙_}
 use Rattle.replay_words.specs.Decoding.{asked}
-use Rattle.replay_call.specs.Told.{step-none, step-some}
+use Rattle.replay_call.specs.Performing.{step-none, step-some}
 use borrow.Author.Needs.{needs}
 use Rattle.replay_call.proofs.one_call.Statement.{statement}
 use Rattle.replay_call.proofs.one_call.Tie as tie

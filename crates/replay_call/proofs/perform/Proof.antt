@@ -9,7 +9,7 @@ use mir.Facts.{toZ-ofZ}
 use mathlib.Core.Option.{none}
 use Rattle.replay_words.specs.Encoding.{fitting}
 use Rattle.replay_words.specs.Decoding.{asked}
-use Rattle.replay_call.specs.Told.{call-fits, performs, never}
+use Rattle.replay_call.specs.Performing.{call-fits, performs, never}
 use borrow.Author.Needs.{needs}
 use Rattle.replay_call.proofs.perform.Statement.{statement}
 use Rattle.replay_call.proofs.perform.Tie as tie

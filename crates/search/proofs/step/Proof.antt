@@ -1,7 +1,7 @@
 -- `search::step` meets its contract: the action chosen for each walk is what the walk does.
 use mathlib.Core.Path.{refl}
 use mathlib.Core.Logic.{⊎-elim}
-use Rattle.walks.specs.Moves.{topped-by}
+use Rattle.walks.specs.CodeMoves.{topped-by}
 use Rattle.walks.specs.Actions.{noted-by, full-by}
 use Rattle.search.specs.SearchSteps.{uOf, vOf}
 use borrow.Author.Needs.{needs}

@@ -1,20 +1,14 @@
 -- `table::put_link_in` meets its contract.
-use mathlib.Core.Path.{_≡_, _∙_, ap}
-use Prim.Native.Nat.{ℕ}
+use mathlib.Core.Path.{_≡_}
 use native.Mathlib.Omega.{arith}
-use lib.IntN.{ℤ, pos}
+use lib.IntN.{pos}
 use mir.Facts.{toZ-pos}
 use mir.Syntax.{w64}
 use mir.Val.{toZ}
-use Rattle.table.specs.Words.{Words, wset}
-use Rattle.table.specs.Layout.{cset, spot}
+use Rattle.table.specs.Layout.{written-at}
 use borrow.Author.Needs.{needs}
 use Rattle.table.proofs.put_link_in.Statement.{statement}
 use Rattle.table.proofs.put_link_in.Tie as tie
-
-written : (w w′ : Words) (f s at : ℕ) (z : ℤ) → at ≡ spot w f s → w′ ≡ wset w at z → w′ ≡ cset w f s z
-unfolding cset
-written w w′ f s at z e h = h ∙ ap (λ (k : ℕ). wset w k z) e
 
 spot-in-requires : tie.Need-spot-in-requires
 spot-in-requires c κs = search needs
@@ -32,7 +26,7 @@ returns : tie.Need-returns
 returns c =
     let entry = c .before .before .before .before .before in
     let v : toZ w64 (entry .args .value) ≡ pos (entry .args .value) = toZ-pos w64 (omega (arith, entry .fits .value)) in
-    written _ _ _ _ _ _ (c .before .before .before .spot-in .ensures) (simp v at (c .before .set-word .ensures))
+    written-at _ _ _ _ _ _ (c .before .before .before .spot-in .ensures) (simp v at (c .before .set-word .ensures))
 
 pub put-link-in-spec : {M : Type 1} → statement M
 put-link-in-spec =

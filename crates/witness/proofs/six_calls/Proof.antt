@@ -1,5 +1,5 @@
 -- `witness::six_calls` meets its contract: each call adds its promise, and `made` puts them together.
-use Rattle.witness.specs.Calls.{made}
+use Rattle.witness.specs.SixCalls.{made}
 use mathlib.Core.Path.{refl}
 use borrow.Author.Needs.{needs}
 use Rattle.witness.proofs.six_calls.Statement.{statement}

@@ -1,16 +1,15 @@
--- A run's answers, beside the history that it is: the words of each are the encoding of the very value that its call returned.
+-- How each kind of call is performed: the words of its answer are the encoding of the very value that the call returned.
 use mathlib.Core.Path.{_≡_, refl, sym, _∙_, ap, subst}
 use mathlib.Core.Bool.{true, false, true≢false}
 use mathlib.Core.List.{List, _++_}
 use mathlib.Core.Option.{Option, none, some}
-use Prim.Native.Nat.{ℕ, _+_, _-_, _≤_, _<_}
+use Prim.Native.Nat.{ℕ, _+_, _-_, _≤_}
 use native.Mathlib.Omega.{arith}
 use lib.ListN.{length, take, drop, length-append, length-drop}
 use lib.Seq.{take-at, drop-at, drop-drop, length-take-le}
 use lib.IntN.{ℤ}
-use lib.Dec.{leb}
 use borrow.Author.Tests.{leb-true}
-use Rattle.plain.specs.Book.{Call, post, withdraw, query, listing, Answer}
+use Rattle.plain.specs.Book.{Call, post, withdraw, query, listing}
 use Rattle.promises.specs.declared.Update.{Update}
 use Rattle.promises.specs.declared.Update.the-variants.{Done, Declined as UpdateDeclined}
 use Rattle.promises.specs.declared.Found.{Found}
@@ -18,32 +17,9 @@ use Rattle.promises.specs.declared.Found.the-variants.{Offer, Declined as Found
 use Rattle.promises.specs.declared.Listed.{Listed}
 use Rattle.promises.specs.declared.Listed.the-variants.{Pieces, Declined as ListingDeclined}
 use Rattle.promises.specs.Promises.{Updates, Queries, Lists, updateAnswer, foundAnswer, listingAnswer}
-use Rattle.history.specs.History.{Happens, posting, withdrawing, by-update, by-query, by-listing, next}
+use Rattle.history.specs.History.{posting, withdrawing, by-update, by-query, by-listing}
 use Rattle.replay_words.specs.Encoding.{nextCall, stretch, fitting, updateWords, foundWords, listedWords}
-pub use Rattle.replay_call.specs.Telling.{TellsOne, Tells}
-
--- ---- one call
-
-pub record Performed (k : Call) (start : ℕ) (t t′ ws ws′ : List ℤ) : Type 0 where
-  pub answer : Answer
-  pub happens : Happens start t k t′ answer
-  pub tells : TellsOne happens ws ws′
-  pub long : length ws′ ≡ length ws
-  pub later : drop (stretch k) ws′ ≡ drop (stretch k) ws
-
--- by the kind of call, with the words used
-abbrev pub Performs : Option Call → (start : ℕ) (t t′ ws ws′ : List ℤ) → ℕ → Type 0
-Performs none start t t′ ws ws′ used = ⊥
-Performs (some k) start t t′ ws ws′ used = Performed k start t t′ ws ws′ × (used ≡ stretch k)
-
--- the next call, where it can be run
-pub record Ready (k : Call) (cs ws : List ℤ) : Type 0 where
-  pub reads : nextCall cs ≡ some k
-  pub fits : leb (stretch k) (length ws) ≡ true
-
-pub record Step (start : ℕ) (t t′ cs ws ws′ : List ℤ) (used : ℕ) : Type 0 where
-  pub stopped : used ≤ 0 → (fitting (nextCall cs) (length ws) ≡ false) × (t′ ≡ t) × (ws′ ≡ ws)
-  pub ran : 0 < used → (k : Call) × Ready k cs ws × Performed k start t t′ ws ws′ × (used ≡ stretch k)
+use Rattle.replay_call.specs.OneCall.{Performed, Performs, Step}
 
 -- ---- the four kinds
 

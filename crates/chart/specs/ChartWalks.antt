@@ -13,7 +13,7 @@ use Rattle.table.specs.Layout.{linkAt}
 use Rattle.table.specs.Items.{Item}
 use Rattle.descents.specs.Ends.{Ended}
 use Rattle.query.specs.QueriedPieces.{Pieces}
-use Rattle.listing.specs.Counting.{Passed, follow}
+use Rattle.listing.specs.PieceCounts.{Passed, follow}
 
 -- r is the slot of piece i, counted from 0
 pub record SlotOf (w : Words) (root i r : ℕ) : Type 0 where
