@@ -6,7 +6,7 @@ ghost use lib.Dec.{leb};
 ghost use Rattle.table.specs.Fields.{mostSlots};
 ghost use Rattle.table.specs.Layout.{cap};
 ghost use Rattle.search.specs.Prices.{rateAt, baseAt, numeratorAt, denominatorAt, crossingPriceAt};
-ghost use Rattle.search.specs.Moves.{Under, topWord, pointWord};
+ghost use Rattle.search.specs.Moves.{topIn, pointWord};
 ghost use Rattle.search.specs.Actions.{Retreats, Advances, Pops, Acts, sided};
 ghost use Rattle.search.specs.SearchSteps.{Stepped};
 ghost use Rattle.search.specs.Choices.{Recedes, Chooses};
@@ -97,9 +97,9 @@ pub fn crossing_price(part: &[i64], slot: u32) -> i64
     prices::price(part, c, slot, n, d)
 }
 
-// The place in a stack of the node pushed last, and some place where there is none.
-fn under(depth: usize) -> usize
-    ensures { λ r. ⌜ Under depth r ⌝ }
+// The node pushed last, and 0 where there is none. Most steps go without it, so that it is read where it is asked for.
+fn top(stack: &[u32; 24], depth: usize) -> u32
+    ensures { λ r. ⌜ r ≡ topIn (now (stack .entry)) depth ⌝ }
 {
     if depth < 1 {
         return 0;
@@ -107,25 +107,15 @@ fn under(depth: usize) -> usize
     if 24 < depth {
         return 0;
     }
-    depth - 1
-}
-
-// The node pushed last, and 0 where there is none; `word` is what stands at that place.
-fn top(depth: usize, word: u32) -> u32
-    ensures { λ r. ⌜ r ≡ topWord depth word ⌝ }
-{
-    if depth < 1 {
-        return 0;
-    }
-    word
+    stack[depth - 1]
 }
 
 // The slot that keeps the walk's point: an inner node's own, of a leaf that of the node pushed last.
-fn point(at: u32, top: u32) -> u32
-    ensures { λ r. ⌜ r ≡ pointWord at top ⌝ }
+fn point(at: u32, stack: &[u32; 24], depth: usize) -> u32
+    ensures { λ r. ⌜ r ≡ pointWord at (topIn (now (stack .entry)) depth) ⌝ }
 {
     if at <= table::MOST_SLOTS {
-        return table::inner_slot(top);
+        return table::inner_slot(top(stack, depth));
     }
     at - table::MOST_SLOTS
 }
@@ -182,9 +172,17 @@ fn pop(part: &[i64], c: u32, side: bool, depth: usize, top: u32) -> Stand
 }
 
 // Where an action leads a walk.
-fn act(part: &[i64], c: u32, side: bool, action: Action, at: u32, depth: usize, top: u32) -> Stand
+fn act(
+    part: &[i64],
+    c: u32,
+    side: bool,
+    action: Action,
+    at: u32,
+    stack: &[u32; 24],
+    depth: usize,
+) -> Stand
     requires { ⌜ c ≡ cap (now part) ⌝ }
-    ensures { λ r. ⌜ Acts (now (part .entry)) side action at depth top r ⌝ }
+    ensures { λ r. ⌜ Acts (now (part .entry)) side action at depth (topIn (now (stack .entry)) depth) r ⌝ }
 {
     match action {
         Action::Stay => Stand {
@@ -196,7 +194,7 @@ fn act(part: &[i64], c: u32, side: bool, action: Action, at: u32, depth: usize, 
             depth: depth,
         },
         Action::Advance => advance(part, c, side, at, depth),
-        Action::Pop => pop(part, c, side, depth, top),
+        Action::Pop => pop(part, c, side, depth, top(stack, depth)),
     }
 }
 
@@ -255,18 +253,29 @@ fn both_leaves(u: u32, v: u32) -> bool
     u <= table::MOST_SLOTS && v <= table::MOST_SLOTS
 }
 
-// What a step does at u and v, whose stacks have `t` and `w` on top.
-fn choose(left: &[i64], c: u32, right: &[i64], k: u32, u: u32, t: u32, v: u32, w: u32) -> Move
+// What a step does at u and v, each with its stack.
+fn choose(
+    left: &[i64],
+    c: u32,
+    right: &[i64],
+    k: u32,
+    u: u32,
+    us: &[u32; 24],
+    ud: usize,
+    v: u32,
+    vs: &[u32; 24],
+    vd: usize,
+) -> Move
     requires { ⌜ (c ≡ cap (now left)) × (k ≡ cap (now right)) ⌝ }
-    ensures { λ r. ⌜ Chooses (now (left .entry)) (now (right .entry)) u t v w r ⌝ }
+    ensures { λ r. ⌜ Chooses (now (left .entry)) (now (right .entry)) u (topIn (now (us .entry)) ud) v (topIn (now (vs .entry)) vd) r ⌝ }
 {
-    let p = point(u, t);
-    let q = point(v, w);
+    let p = point(u, us, ud);
+    let q = point(v, vs, vd);
     if prices::above(left, c, p, right, k, v) {
-        return recede(left, c, right, k, false, u, t, v, q);
+        return recede(left, c, right, k, false, u, top(us, ud), v, q);
     }
     if prices::above(right, k, q, left, c, u) {
-        return recede(right, k, left, c, true, v, w, u, p);
+        return recede(right, k, left, c, true, v, top(vs, vd), u, p);
     }
     if both_leaves(u, v) {
         return Move {
@@ -292,21 +301,28 @@ fn step(left: &[i64], c: u32, right: &[i64], k: u32, s: Search) -> Search
     let vd = s.vd;
     let mut us = s.us;
     let mut vs = s.vs;
-    let i = under(ud);
-    let j = under(vd);
-    let t = top(ud, us[i]);
-    let w = top(vd, vs[j]);
     if ud < 24 {
         us[ud] = s.u;
     }
     if vd < 24 {
         vs[vd] = s.v;
     }
-    let m = choose(left, c, right, k, s.u, t, s.v, w);
+    let m = choose(left, c, right, k, s.u, &us, ud, s.v, &vs, vd);
+    if m.done {
+        return Search {
+            u: s.u,
+            v: s.v,
+            us: us,
+            ud: ud,
+            vs: vs,
+            vd: vd,
+            done: true,
+        };
+    }
     let by_u = m.u;
     let by_v = m.v;
-    let a = act(left, c, false, by_u, s.u, ud, t);
-    let b = act(right, k, true, by_v, s.v, vd, w);
+    let a = act(left, c, false, by_u, s.u, &us, ud);
+    let b = act(right, k, true, by_v, s.v, &vs, vd);
     Search {
         u: a.at,
         v: b.at,
@@ -314,7 +330,7 @@ fn step(left: &[i64], c: u32, right: &[i64], k: u32, s: Search) -> Search
         ud: a.depth,
         vs: vs,
         vd: b.depth,
-        done: m.done,
+        done: false,
     }
 }
 
@@ -333,11 +349,11 @@ fn start(l: u32, r: u32) -> Search
 }
 
 // The search from the roots `l` and `r`. At most 3 × (24 + 24) + 1 steps: on two trees of envelopes that face each other they suffice.
-pub fn meet(left: &[i64], right: &[i64], l: u32, r: u32) -> Met
+// `c` and `k` are the capacities.
+pub fn meet_in(left: &[i64], c: u32, right: &[i64], k: u32, l: u32, r: u32) -> Met
+    requires { ⌜ (c ≡ cap (now left)) × (k ≡ cap (now right)) ⌝ }
     ensures { λ m. ⌜ Meets (now (left .entry)) (now (right .entry)) l r m ⌝ }
 {
-    let c = table::capacity(left);
-    let k = table::capacity(right);
     let mut s = start(l, r);
     let mut steps: u32 = 0;
     while steps < 145 {
@@ -358,4 +374,12 @@ pub fn meet(left: &[i64], right: &[i64], l: u32, r: u32) -> Met
         steps: steps,
         done: false,
     }
+}
+
+pub fn meet(left: &[i64], right: &[i64], l: u32, r: u32) -> Met
+    ensures { λ m. ⌜ Meets (now (left .entry)) (now (right .entry)) l r m ⌝ }
+{
+    let c = table::capacity(left);
+    let k = table::capacity(right);
+    meet_in(left, c, right, k, l, r)
 }
