@@ -5,8 +5,9 @@ use mathlib.Core.Option.{some}
 use mathlib.Core.List.{[], _∷_, _++_}
 use Prim.Native.Nat.{ℕ, _+_, _≤_}
 use native.Mathlib.Omega.{arith}
-use lib.IntN.{ℤ, pos}
-use Rattle.trees.specs.Tree.{Tree, node, height, leaves, first, Avl}
+use lib.IntN.{pos}
+use Rattle.trees.specs.Tree.{Tree, node, height, leaves, first, last, Avl}
+use Rattle.trees.specs.Leaves.{last-leaf}
 use Rattle.trees.specs.Height.{height-full}
 use Rattle.meeting.specs.Machine.{Result, meet}
 use Rattle.meeting.specs.Meets.{FacingTrees}
@@ -19,7 +20,7 @@ use Rattle.table.specs.Items.{Item, at, slots-most}
 use Rattle.table.specs.Rep.{heightAt, refOf, nodeOn, Within, within-trans, within-cset}
 use Rattle.table.specs.Nodes.{rep-height}
 use Rattle.shape.specs.Joining.{Joined}
-use Rattle.pieces.specs.Pieces.{items, rateOf, Standing, SeamAt, Seamed, CutAt}
+use Rattle.pieces.specs.Pieces.{items, rateOf, inFront, Standing, SeamAt, Seamed, Parted, CutBehind, CutBefore}
 use Rattle.form.specs.Stored.{HeldIn, Touched}
 use Rattle.update.specs.Steps.{Counted, MadeIn, Siblings, RaisedIn}
 use Rattle.form.specs.Frames.{tied-same, whole-standing, pieces-offers, pieces-tree, slots-within}
@@ -58,13 +59,11 @@ standing-height st = rep-height (record { kind = omega arith; root = st .root; s
 
 -- ---- the calls in a row
 
-record Calls (gap lx le rx re : ℕ) (w w₁ w₂ w₃ w₄ w₅ w₆ w₇ w₈ : Words) (u v lf lb rf rb x e s h : ℕ) (θ θ′ : ℤ) : Type 0 where
+record Calls (gap lx le rx re : ℕ) (w w₁ w₂ w₃ w₄ w₅ w₆ w₇ w₈ : Words) (u v lf lb rf rb x e s h : ℕ) : Type 0 where
   met : MetIn w le re u v s
   heights : h ≡ heightAt w pieceTree le + heightAt w pieceTree re
-  rate-left : θ ≡ cell w rateField u
-  cut-left : CutAt false θ le w w₁ lf lb
-  rate-right : θ′ ≡ cell w₁ rateField v
-  cut-right : CutAt true θ′ re w₁ w₂ rf rb
+  cut-left : CutBehind u gap le w w₁ lf lb
+  cut-right : CutBefore v re w₁ w₂ rf rb
   rest-left : RestSet lx lb w₂ w₃
   rest-right : RestSet rx rf w₃ w₄
   above : Joined (nodeOn false) offerTree false gap lx rx w₄ w₅ x
@@ -78,8 +77,8 @@ record Raises (w w′ : Words) (x e s h : ℕ) (l r : Held Item) : Type 0 where
   touched : Touched (leaves (heldShape l) ++ leaves (heldShape r)) w w′
 
 module _
-    {gap lx le rx re u v lf lb rf rb x e s h : ℕ} {w w₁ w₂ w₃ w₄ w₅ w₆ w₇ w₈ : Words} {θ θ′ : ℤ} {l r : Held Item}
-    (calls : Calls gap lx le rx re w w₁ w₂ w₃ w₄ w₅ w₆ w₇ w₈ u v lf lb rf rb x e s h θ θ′) (sib : Siblings w gap lx le rx re l r) (R : Raising l r (raise items l r)) where
+    {gap lx le rx re u v lf lb rf rb x e s h : ℕ} {w w₁ w₂ w₃ w₄ w₅ w₆ w₇ w₈ : Words} {l r : Held Item}
+    (calls : Calls gap lx le rx re w w₁ w₂ w₃ w₄ w₅ w₆ w₇ w₈ u v lf lb rf rb x e s h) (sib : Siblings w gap lx le rx re l r) (R : Raising l r (raise items l r)) where
   raises : Raises w w₈ x e s h l r
   raises =
       record {
@@ -114,19 +113,30 @@ module _
             heights = omega (arith, calls .heights, standing-height front, standing-height back, standing-low front, standing-low back);
           }
 
-      -- the rates of u and v
-      by-u : θ ≡ rateOf (R .u)
-      by-u = calls .rate-left ∙ ap (cell w rateField) at-u ∙ front .holds .held (R .u-piece) .rate
+      -- the rates of u, of the seam and of v
+      by-u : cell w rateField u ≡ rateOf (R .u)
+      by-u = ap (cell w rateField) at-u ∙ front .holds .held (R .u-piece) .rate
 
-      by-v : θ′ ≡ rateOf (R .v)
+      -- the seam's line is the last of the left tree
+      by-gap : cell w rateField gap ≡ rateOf (last (heldShape l))
+      by-gap = ap (cell w rateField) (sib .seam) ∙ sib .left .kept .held (last-leaf (heldShape l)) .rate
+
+      left-parted : Parted (inFront false (rateOf (R .u))) (l .whole) w w₁ lf lb
+      left-parted =
+          subst (λ z. Parted (inFront false z) (l .whole) w w₁ lf lb) by-u
+          (calls .cut-left .parted (l .whole) (whole-standing (sib .left)) (λ a m. rw by-gap (R .low a m)))
+
+      by-v : cell w₁ rateField v ≡ rateOf (R .v)
       by-v =
-          calls .rate-right ∙ ap (cell w₁ rateField) at-v
-          ∙ pieces-offers (calls .cut-left .only (l .whole) (whole-standing (sib .left))) (leaves (R .back)) .cells 1 (R .v .slot) (omega arith) (at (R .v-piece) refl)
+          ap (cell w₁ rateField) at-v
+          ∙ pieces-offers (left-parted .only) (leaves (R .back)) .cells 1 (R .v .slot) (omega arith) (at (R .v-piece) refl)
           ∙ back .holds .held (R .v-piece) .rate
 
+      right-parted : Standing w₁ re (r .whole) → Parted (inFront true (rateOf (R .v))) (r .whole) w₁ w₂ rf rb
+      right-parted st = subst (λ z. Parted (inFront true z) (r .whole) w₁ w₂ rf rb) by-v (calls .cut-right .parted (r .whole) st (R .high))
+
       cuts : AfterCuts w w₂ l r (leftCut (R .u) l) (rightCut (R .v) r) lf lb rf rb
-      cuts =
-          after-cuts sib (subst (λ z. CutAt false z le w w₁ lf lb) by-u (calls .cut-left)) (subst (λ z. CutAt true z re w₁ w₂ rf rb) by-v (calls .cut-right))
+      cuts = after-cuts sib (calls .cut-left .within) left-parted (calls .cut-right .within) right-parted
 
       -- the kept parts end at u and begin at v
       seam : SeamAt u v (leftCut (R .u) l .front) (rightCut (R .v) r .back)
@@ -154,15 +164,13 @@ module _
             omega (arith, at-v, back .slots .high (R .v-piece), cap-most w),
           )
 
--- The search, the heights and the rates are read, both envelopes cut, the rests, the node and its bridge written, and the kept parts put together.
+-- The search is made, the heights are read, both envelopes cut, the rests, the node and its bridge written, and the kept parts put together.
 pub raised :
-    {gap lx le rx re u v lf lb rf rb x e s h : ℕ} {w w₁ w₂ w₃ w₄ w₅ w₆ w₇ w₈ : Words} {θ θ′ : ℤ} →
+    {gap lx le rx re u v lf lb rf rb x e s h : ℕ} {w w₁ w₂ w₃ w₄ w₅ w₆ w₇ w₈ : Words} →
     MetIn w le re u v s →
     h ≡ heightAt w pieceTree le + heightAt w pieceTree re →
-    θ ≡ cell w rateField u →
-    CutAt false θ le w w₁ lf lb →
-    θ′ ≡ cell w₁ rateField v →
-    CutAt true θ′ re w₁ w₂ rf rb →
+    CutBehind u gap le w w₁ lf lb →
+    CutBefore v re w₁ w₂ rf rb →
     RestSet lx lb w₂ w₃ →
     RestSet rx rf w₃ w₄ →
     Joined (nodeOn false) offerTree false gap lx rx w₄ w₅ x →
@@ -170,7 +178,7 @@ pub raised :
     w₇ ≡ cset w₆ bridgeRightField gap (pos v) →
     Seamed lf rb u v w₇ w₈ e →
     RaisedIn gap lx le rx re w w₈ x e 1 s h
-raised {gap} {lx} {le} {rx} {re} {u} {v} {lf} {lb} {rf} {rb} {x} {e} {s} {h} {w} {w₁} {w₂} {w₃} {w₄} {w₅} {w₆} {w₇} {w₈} {θ} {θ′} met heights rate-left cut-left rate-right cut-right rest-left rest-right above eu ev cat =
+raised {gap} {lx} {le} {rx} {re} {u} {v} {lf} {lb} {rf} {rb} {x} {e} {s} {h} {w} {w₁} {w₂} {w₃} {w₄} {w₅} {w₆} {w₇} {w₈} met heights cut-left cut-right rest-left rest-right above eu ev cat =
     record {
       within =
           within-trans (cut-left .within)
@@ -190,9 +198,7 @@ raised {gap} {lx} {le} {rx} {re} {u} {v} {lf} {lb} {rf} {rb} {x} {e} {s} {h} {w}
         (record {
           met = met;
           heights = heights;
-          rate-left = rate-left;
           cut-left = cut-left;
-          rate-right = rate-right;
           cut-right = cut-right;
           rest-left = rest-left;
           rest-right = rest-right;

@@ -108,17 +108,16 @@ fn lower(part: &mut [i64], x: u32, e: u32) -> Lowered
 }
 
 // Puts a node over two subtrees: one search finds where their envelopes meet, each is cut there, and what is cut off stays with its child.
+// The line in slot `gap` has the lowest rate on the left.
 fn raise(part: &mut [i64], gap: u32, lx: u32, le: u32, rx: u32, re: u32) -> Made
     ensures { λ r. ⌜ RaisedIn gap lx le rx re (now (part .entry)) (now (part .exit)) (r .x) (r .e) (r .k) (r .s) (r .h) ⌝ }
 {
-    let m = search::meet(part, part, le, re);
     let k = table::capacity(part);
+    let m = search::meet_in(part, k, part, k, le, re);
     let h = table::height_in(part, k, table::PIECES, le)
         + table::height_in(part, k, table::PIECES, re);
-    let rate = table::get_in(part, k, table::RATE, m.u);
-    let c = pieces::cut_in(part, k, false, rate, le);
-    let other = table::get_in(part, k, table::RATE, m.v);
-    let d = pieces::cut_in(part, k, true, other, re);
+    let c = pieces::cut_behind(part, k, m.u, gap, le);
+    let d = pieces::cut_before(part, k, m.v, re);
     set_rest(part, k, lx, c.back);
     set_rest(part, k, rx, d.front);
     let x = shape::make_node_in(part, k, table::OFFERS, false, gap, lx, rx);
