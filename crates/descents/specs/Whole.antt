@@ -1,11 +1,14 @@
 -- A cut that cuts nothing off: where one part is empty, the other is the tree that was cut.
 use mathlib.Core.Path.{_≡_, refl, _∙_, ap}
-use mathlib.Core.Bool.{Bool}
+use mathlib.Core.Bool.{Bool, not}
+use mathlib.Core.List.{List·Memᴰ, List·Memᴰ·head, Memᴰ·append-left, Memᴰ·append-right}
 use mathlib.Core.Option.{none, some}
 use Prim.Native.Nat.{ℕ}
 use native.Mathlib.Omega.{arith}
-use Rattle.lists.specs.Bools.{cond-both}
-use Rattle.trees.specs.Tree.{Tree, leaf, node, last, Avl, avl-leaf, avl-node}
+use lib.Dec.{T}
+use Rattle.lists.specs.Bools.{cond-both, is-true, is-false}
+use Rattle.trees.specs.Tree.{Tree, leaf, node, leaves, last, Avl, avl-leaf, avl-node}
+use Rattle.trees.specs.Leaves.{last-leaf}
 use Rattle.trees.specs.Operations.{Part, Cut, joinP, split}
 use Rattle.trees.specs.TreeSteps.{join-level}
 
@@ -37,3 +40,16 @@ module _ {A : Type 0} where
       cond-both (Whole (node l r)) (test (last l))
       (λ t. record { front = λ e. ap (joinP (some l)) (cr .front e) ∙ ap some (join-level l r hl hr); back = λ e. absurd (not-left l (split test r .front) e) })
       (λ t. record { front = λ e. absurd (not-right (split test l .back) r e); back = λ e. ap (λ p. joinP p (some r)) (cl .back e) ∙ ap some (join-level l r hl hr) })
+
+  -- where every leaf passes, nothing is behind; where none does, nothing is in front
+  pub none-behind : (test : A → Bool) (t : Tree A) → ((a : A) → List·Memᴰ a (leaves t) → T (test a)) → split test t .back ≡ none
+  unfolding split
+  none-behind test (leaf x) f = rw (is-true (test x) (f x (List·Memᴰ·head refl)))
+  none-behind test (node l r) f =
+      rw (is-true (test (last l)) (f (last l) (Memᴰ·append-left (leaves r) (last-leaf l)))) (none-behind test r (λ a m. f a (Memᴰ·append-right (leaves l) m)))
+
+  pub none-in-front : (test : A → Bool) (t : Tree A) → ((a : A) → List·Memᴰ a (leaves t) → T (not (test a))) → split test t .front ≡ none
+  unfolding split
+  none-in-front test (leaf x) f = rw (is-false (test x) (f x (List·Memᴰ·head refl)))
+  none-in-front test (node l r) f =
+      rw (is-false (test (last l)) (f (last l) (Memᴰ·append-left (leaves r) (last-leaf l)))) (none-in-front test l (λ a m. f a (Memᴰ·append-left (leaves r) m)))

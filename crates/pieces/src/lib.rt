@@ -1,7 +1,7 @@
 // Piece trees in the table: an envelope's pieces with their crossings, cut by rate and put together.
 ghost use mathlib.Core.Path.{_≡_};
 ghost use Rattle.table.specs.Layout.{cap};
-ghost use Rattle.pieces.specs.Pieces.{CutAt, Catted, Seamed, CattedAfter, CattedBefore};
+ghost use Rattle.pieces.specs.Pieces.{CutAt, CutBehind, CutBefore, Catted, Seamed, CattedAfter, CattedBefore};
 ghost use Rattle.pieces.specs.Cutting.{leastRate};
 
 // The least rate in front of a cut: for a strict one a rate more. No offer's rate reaches a million.
@@ -32,6 +32,30 @@ pub fn cut_in(part: &mut [i64], c: u32, strict: bool, rate: i64, x: u32) -> desc
         x,
         table::MOST_LEVELS,
     )
+}
+
+// Cuts a piece tree behind the rate in slot `u`. No piece of it has a rate below that in slot `s`, so that nothing lies behind `s`.
+pub fn cut_behind(part: &mut [i64], c: u32, u: u32, s: u32, x: u32) -> descents::Cut
+    requires { ⌜ c ≡ cap (now part) ⌝ }
+    ensures { λ r. ⌜ CutBehind u s x (now (part .entry)) (now (part .exit)) (r .front) (r .back) ⌝ }
+{
+    if u == s {
+        return descents::Cut { front: x, back: 0 };
+    }
+    let rate = table::get_in(part, c, table::RATE, u);
+    cut_in(part, c, false, rate, x)
+}
+
+// Cuts a piece tree before the rate in slot `v`. Before its first piece, which has the highest rate, there is nothing.
+pub fn cut_before(part: &mut [i64], c: u32, v: u32, x: u32) -> descents::Cut
+    requires { ⌜ c ≡ cap (now part) ⌝ }
+    ensures { λ r. ⌜ CutBefore v x (now (part .entry)) (now (part .exit)) (r .front) (r .back) ⌝ }
+{
+    if v == descents::end_in(part, c, table::PIECES, false, x) {
+        return descents::Cut { front: 0, back: x };
+    }
+    let rate = table::get_in(part, c, table::RATE, v);
+    cut_in(part, c, true, rate, x)
 }
 
 pub fn cut(part: &mut [i64], strict: bool, rate: i64, x: u32) -> descents::Cut

@@ -1,7 +1,7 @@
 -- What a step is to do, by numbers alone: whoever does it has made the machine's step.
 use Prim.Native.Nat.{ℕ, _-_, _≤_, _<_}
-use mathlib.Core.Path.{_≡_, _∙_, ap}
-use mathlib.Core.Bool.{Bool, true, false, not, _&&_}
+use mathlib.Core.Path.{_≡_, refl, sym, _∙_, ap}
+use mathlib.Core.Bool.{Bool, true, false, true≢false, not, _&&_}
 use mathlib.Core.List.{List}
 use lib.Dec.{leb}
 use Rattle.table.specs.Fields.{mostSlots}
@@ -38,6 +38,7 @@ state u us ud v vs vd done =
     }
 
 pub record Chooses (wl wr : Words) (u t v w : ℕ) (m : Move) : Type 0 where
+  pub stays : m .done ≡ true → (m .u ≡ Stay) × (m .v ≡ Stay)
   pub next : (us : List ℕ) (ud : ℕ) (vs : List ℕ) (vd : ℕ) (b : Bool) → Topped (walk u us ud) t → Topped (walk v vs vd) w → (r : Search) → r .done ≡ m .done → Does wl false (m .u) (walk u us ud) (uOf r) → Does wr true (m .v) (walk v vs vd) (vOf r) → Stepped wl wr (state u us ud v vs vd b) r
 
 -- ---- each answer of the code
@@ -67,6 +68,7 @@ module _ {wl wr : Words} {u t v w p q : ℕ} (ep : p ≡ pointWord u t) (eq : q 
   pub chooses-mine : {m : Move} → aboveAt wl p wr v ≡ true → Recedes wl wr false u t v q m → Chooses wl wr u t v w m
   chooses-mine a z =
       record {
+        stays = λ e. absurd (true≢false (sym e ∙ ap (λ (n : Move). n .done) (z .is)));
         next = λ us ud vs vd b tu tv r d f g.
             stepped-mine (pointed-by tu ep) a (d ∙ ap (λ (n : Move). n .done) (z .is))
             (z .next tu (pointed-by tv eq) (rw (ap (λ (n : Move). n .u) (z .is)) at f) (rw (ap (λ (n : Move). n .v) (z .is)) at g));
@@ -76,6 +78,7 @@ module _ {wl wr : Words} {u t v w p q : ℕ} (ep : p ≡ pointWord u t) (eq : q 
     pub chooses-theirs : {m : Move} → aboveAt wr q wl u ≡ true → Recedes wr wl true v w u p m → Chooses wl wr u t v w m
     chooses-theirs a z =
         record {
+          stays = λ e. absurd (true≢false (sym e ∙ ap (λ (n : Move). n .done) (z .is)));
           next = λ us ud vs vd b tu tv r d f g.
               stepped-theirs (pointed-by tu ep) (pointed-by tv eq) clear a (d ∙ ap (λ (n : Move). n .done) (z .is))
               (z .next tv (pointed-by tu ep) (rw (ap (λ (n : Move). n .v) (z .is)) at g) (rw (ap (λ (n : Move). n .u) (z .is)) at f));
@@ -84,8 +87,8 @@ module _ {wl wr : Words} {u t v w p q : ℕ} (ep : p ≡ pointWord u t) (eq : q 
     module _ (clear′ : aboveAt wr q wl u ≡ false) where
       pub chooses-done : leb u mostSlots && leb v mostSlots ≡ true → Chooses wl wr u t v w (record { u = Stay; v = Stay; done = true })
       chooses-done e =
-          record { next = λ us ud vs vd b tu tv r d f g. stepped-done (pointed-by tu ep) (pointed-by tv eq) clear clear′ e d f g }
+          record { stays = λ d. (refl, refl); next = λ us ud vs vd b tu tv r d f g. stepped-done (pointed-by tu ep) (pointed-by tv eq) clear clear′ e d f g }
 
       pub chooses-on : leb u mostSlots && leb v mostSlots ≡ false → Chooses wl wr u t v w (record { u = Advance; v = Advance; done = false })
       chooses-on e =
-          record { next = λ us ud vs vd b tu tv r d f g. stepped-on (pointed-by tu ep) (pointed-by tv eq) clear clear′ e d f g }
+          record { stays = λ d. absurd (true≢false (sym d)); next = λ us ud vs vd b tu tv r d f g. stepped-on (pointed-by tu ep) (pointed-by tv eq) clear clear′ e d f g }

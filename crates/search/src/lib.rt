@@ -5,6 +5,7 @@ ghost use mathlib.Core.Bool.{_&&_};
 ghost use lib.Dec.{leb};
 ghost use Rattle.table.specs.Fields.{mostSlots};
 ghost use Rattle.table.specs.Layout.{cap};
+ghost use Rattle.walks.specs.CodeMoves.{topIn};
 ghost use Rattle.search.specs.SearchSteps.{Stepped};
 ghost use Rattle.search.specs.Choices.{Recedes, Chooses};
 ghost use Rattle.search.specs.Runs.{started, Meets};
@@ -14,7 +15,6 @@ use walks::act;
 use walks::pair;
 use walks::point;
 use walks::top;
-use walks::under;
 
 // The state of a search: u and v with their stacks, and whether it is finished.
 pub struct Search {
@@ -72,18 +72,29 @@ fn both_leaves(u: u32, v: u32) -> bool
     u <= table::MOST_SLOTS && v <= table::MOST_SLOTS
 }
 
-// What a step does at u and v, whose stacks have `t` and `w` on top.
-fn choose(left: &[i64], c: u32, right: &[i64], k: u32, u: u32, t: u32, v: u32, w: u32) -> Move
+// What a step does at u and v, each with its stack.
+fn choose(
+    left: &[i64],
+    c: u32,
+    right: &[i64],
+    k: u32,
+    u: u32,
+    us: &[u32; 24],
+    ud: usize,
+    v: u32,
+    vs: &[u32; 24],
+    vd: usize,
+) -> Move
     requires { ⌜ (c ≡ cap (now left)) × (k ≡ cap (now right)) ⌝ }
-    ensures { λ r. ⌜ Chooses (now (left .entry)) (now (right .entry)) u t v w r ⌝ }
+    ensures { λ r. ⌜ Chooses (now (left .entry)) (now (right .entry)) u (topIn (now (us .entry)) ud) v (topIn (now (vs .entry)) vd) r ⌝ }
 {
-    let p = point(u, t);
-    let q = point(v, w);
+    let p = point(u, us, ud);
+    let q = point(v, vs, vd);
     if prices::above(left, c, p, right, k, v) {
-        return recede(left, c, right, k, false, u, t, v, q);
+        return recede(left, c, right, k, false, u, top(us, ud), v, q);
     }
     if prices::above(right, k, q, left, c, u) {
-        return recede(right, k, left, c, true, v, w, u, p);
+        return recede(right, k, left, c, true, v, top(vs, vd), u, p);
     }
     if both_leaves(u, v) {
         return Move {
@@ -109,21 +120,28 @@ fn step(left: &[i64], c: u32, right: &[i64], k: u32, s: Search) -> Search
     let vd = s.vd;
     let mut us = s.us;
     let mut vs = s.vs;
-    let i = under(ud);
-    let j = under(vd);
-    let t = top(ud, us[i]);
-    let w = top(vd, vs[j]);
     if ud < 24 {
         us[ud] = s.u;
     }
     if vd < 24 {
         vs[vd] = s.v;
     }
-    let m = choose(left, c, right, k, s.u, t, s.v, w);
+    let m = choose(left, c, right, k, s.u, &us, ud, s.v, &vs, vd);
+    if m.done {
+        return Search {
+            u: s.u,
+            v: s.v,
+            us: us,
+            ud: ud,
+            vs: vs,
+            vd: vd,
+            done: true,
+        };
+    }
     let by_u = m.u;
     let by_v = m.v;
-    let a = act(left, c, false, by_u, s.u, ud, t);
-    let b = act(right, k, true, by_v, s.v, vd, w);
+    let a = act(left, c, false, by_u, s.u, &us, ud);
+    let b = act(right, k, true, by_v, s.v, &vs, vd);
     Search {
         u: a.at,
         v: b.at,
@@ -131,7 +149,7 @@ fn step(left: &[i64], c: u32, right: &[i64], k: u32, s: Search) -> Search
         ud: a.depth,
         vs: vs,
         vd: b.depth,
-        done: m.done,
+        done: false,
     }
 }
 
@@ -150,11 +168,11 @@ fn start(l: u32, r: u32) -> Search
 }
 
 // The search from the roots `l` and `r`. At most 3 × (24 + 24) + 1 steps: on two trees of envelopes that face each other they suffice.
-pub fn meet(left: &[i64], right: &[i64], l: u32, r: u32) -> Met
+// `c` and `k` are the capacities.
+pub fn meet_in(left: &[i64], c: u32, right: &[i64], k: u32, l: u32, r: u32) -> Met
+    requires { ⌜ (c ≡ cap (now left)) × (k ≡ cap (now right)) ⌝ }
     ensures { λ m. ⌜ Meets (now (left .entry)) (now (right .entry)) l r m ⌝ }
 {
-    let c = table::capacity(left);
-    let k = table::capacity(right);
     let mut s = start(l, r);
     let mut steps: u32 = 0;
     while steps < 145 {
@@ -175,4 +193,12 @@ pub fn meet(left: &[i64], right: &[i64], l: u32, r: u32) -> Met
         steps: steps,
         done: false,
     }
+}
+
+pub fn meet(left: &[i64], right: &[i64], l: u32, r: u32) -> Met
+    ensures { λ m. ⌜ Meets (now (left .entry)) (now (right .entry)) l r m ⌝ }
+{
+    let c = table::capacity(left);
+    let k = table::capacity(right);
+    meet_in(left, c, right, k, l, r)
 }

@@ -31,6 +31,7 @@ use Rattle.update.specs.declared.Lowered.{Lowered}
 use Rattle.form.specs.RestWords.{restAt, rest-at}
 use Rattle.form.specs.Frames.{RestField, bridge-u, bridge-v, rests-apart, Disjoint, disjoint-across, tied-same, holds-same, rest-same, stored-same, held-slots, held-holds, whole-standing, whole-inside, stored-inside, pieces-offers, pieces-tree, pieces-rests, pieces-else, pieces-touched, slots-within, standing-still, pieces-trans, pieces-more, touched-more}
 use Rattle.update.specs.RaisingModel.{up-to-test, last-of, first-of}
+use Rattle.pieces.specs.KnownEnds.{parted-by}
 use Rattle.update.specs.RaisingCuts.{Halved, halved}
 use Rattle.form.specs.Disjoint.{inside-refl, inside-left, inside-right, inside-join, disjoint-join, disjoint-turned, disjoint-both, slots-join}
 
@@ -76,7 +77,7 @@ forked {w} {x} {u} {v} {l} {r} {ql} {qr} held = go (held .tied) (held .stored)
 
 -- the whole envelope cut by the rate of s is cut behind s
 cut-behind : {θ : ℤ} {e a b : ℕ} {w w₁ : Words} {p : Part Item} (s : Item) → θ ≡ rateOf s → CutAt false θ e w w₁ a b → Standing w e p → Halved w₁ a b p (cutBehind items s p)
-cut-behind {a} {b} {w₁} {p} s d cut st = subst (λ test. Halved w₁ a b p (splitP test p)) (ap (inFront false) d ∙ sym (up-to-test s)) (halved cut st)
+cut-behind {a} {b} {w₁} {p} s d cut st = subst (λ test. Halved w₁ a b p (splitP test p)) (ap (inFront false) d ∙ sym (up-to-test s)) (halved (parted-by cut st) st)
 
 -- it is parted at the bridge: the front part ends at u, the back part begins with v
 record Parted (u v : Item) (c : Cut Item) : Type 0 where

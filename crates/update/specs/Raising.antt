@@ -5,8 +5,9 @@ use mathlib.Core.Option.{some}
 use mathlib.Core.List.{[], _∷_, _++_}
 use Prim.Native.Nat.{ℕ, _+_, _≤_}
 use native.Mathlib.Omega.{arith}
-use lib.IntN.{ℤ, pos}
-use Rattle.trees.specs.Tree.{Tree, node, height, leaves, first, Avl}
+use lib.IntN.{pos}
+use Rattle.trees.specs.Tree.{Tree, node, height, leaves, first, last, Avl}
+use Rattle.trees.specs.Leaves.{last-leaf}
 use Rattle.trees.specs.Height.{height-full}
 use Rattle.meeting.specs.Machine.{Result, meet}
 use Rattle.meeting.specs.Meets.{FacingTrees}
@@ -19,7 +20,7 @@ use Rattle.table.specs.Items.{Item, at, slots-most}
 use Rattle.table.specs.Rep.{heightAt, refOf, nodeOn, Within, within-trans, within-cset}
 use Rattle.table.specs.Nodes.{rep-height}
 use Rattle.nodes.specs.Joining.{Joined}
-use Rattle.pieces.specs.Pieces.{items, rateOf, Standing, SeamAt, Seamed, CutAt}
+use Rattle.pieces.specs.Pieces.{items, rateOf, inFront, Standing, SeamAt, Seamed, Parted, CutBehind, CutBefore}
 use Rattle.form.specs.Stored.{HeldIn, Touched}
 use Rattle.update.specs.Steps.{Counted, HandIn, MadeIn, Siblings, RaisedIn}
 use Rattle.update.specs.declared.Held.{Held as InHand}
@@ -60,14 +61,12 @@ standing-height st = rep-height (record { kind = omega arith; root = st .root; s
 
 -- ---- the calls in a row
 
-record Calls (gap : ℕ) (x y : InHand) (w w₁ w₂ w₃ w₄ w₅ w₆ w₇ w₈ : Words) (u v lf lb rf rb : ℕ) (m : Outcome) (θ θ′ : ℤ) : Type 0 where
+record Calls (gap : ℕ) (x y : InHand) (w w₁ w₂ w₃ w₄ w₅ w₆ w₇ w₈ : Words) (u v lf lb rf rb : ℕ) (m : Outcome) : Type 0 where
   met : MetIn w (x .envelope) (y .envelope) u v (m .counts .steps)
   once : m .counts .searches ≡ 1
   heights : m .counts .heights ≡ heightAt w pieceTree (x .envelope) + heightAt w pieceTree (y .envelope)
-  rate-left : θ ≡ cell w rateField u
-  cut-left : CutAt false θ (x .envelope) w w₁ lf lb
-  rate-right : θ′ ≡ cell w₁ rateField v
-  cut-right : CutAt true θ′ (y .envelope) w₁ w₂ rf rb
+  cut-left : CutBehind u gap (x .envelope) w w₁ lf lb
+  cut-right : CutBefore v (y .envelope) w₁ w₂ rf rb
   rest-left : RestSet (x .tree) lb w₂ w₃
   rest-right : RestSet (y .tree) rf w₃ w₄
   above : Joined (nodeOn false) offerTree false gap (x .tree) (y .tree) w₄ w₅ (m .held .tree)
@@ -81,8 +80,8 @@ record Raises (w w′ : Words) (m : Outcome) (l r : Held Item) : Type 0 where
   touched : Touched (leaves (heldShape l) ++ leaves (heldShape r)) w w′
 
 module _
-    {gap u v lf lb rf rb : ℕ} {x y : InHand} {m : Outcome} {w w₁ w₂ w₃ w₄ w₅ w₆ w₇ w₈ : Words} {θ θ′ : ℤ} {l r : Held Item}
-    (calls : Calls gap x y w w₁ w₂ w₃ w₄ w₅ w₆ w₇ w₈ u v lf lb rf rb m θ θ′) (sib : Siblings w gap x y l r) (R : Raising l r (raise items l r)) where
+    {gap u v lf lb rf rb : ℕ} {x y : InHand} {m : Outcome} {w w₁ w₂ w₃ w₄ w₅ w₆ w₇ w₈ : Words} {l r : Held Item}
+    (calls : Calls gap x y w w₁ w₂ w₃ w₄ w₅ w₆ w₇ w₈ u v lf lb rf rb m) (sib : Siblings w gap x y l r) (R : Raising l r (raise items l r)) where
   raises : Raises w w₈ m l r
   raises =
       record {
@@ -117,19 +116,30 @@ module _
             heights = omega (arith, calls .heights, standing-height front, standing-height back, standing-low front, standing-low back);
           }
 
-      -- the rates of u and v
-      by-u : θ ≡ rateOf (R .u)
-      by-u = calls .rate-left ∙ ap (cell w rateField) at-u ∙ front .holds .held (R .u-piece) .rate
+      -- the rates of u, of the seam and of v
+      by-u : cell w rateField u ≡ rateOf (R .u)
+      by-u = ap (cell w rateField) at-u ∙ front .holds .held (R .u-piece) .rate
 
-      by-v : θ′ ≡ rateOf (R .v)
+      -- the seam's line is the last of the left tree
+      by-gap : cell w rateField gap ≡ rateOf (last (heldShape l))
+      by-gap = ap (cell w rateField) (sib .seam) ∙ sib .left .kept .held (last-leaf (heldShape l)) .rate
+
+      left-parted : Parted (inFront false (rateOf (R .u))) (l .whole) w w₁ lf lb
+      left-parted =
+          subst (λ z. Parted (inFront false z) (l .whole) w w₁ lf lb) by-u
+          (calls .cut-left .parted (l .whole) (whole-standing (sib .left)) (λ a m. rw by-gap (R .low a m)))
+
+      by-v : cell w₁ rateField v ≡ rateOf (R .v)
       by-v =
-          calls .rate-right ∙ ap (cell w₁ rateField) at-v
-          ∙ pieces-offers (calls .cut-left .only (l .whole) (whole-standing (sib .left))) (leaves (R .back)) .cells 1 (R .v .slot) (omega arith) (at (R .v-piece) refl)
+          ap (cell w₁ rateField) at-v
+          ∙ pieces-offers (left-parted .only) (leaves (R .back)) .cells 1 (R .v .slot) (omega arith) (at (R .v-piece) refl)
           ∙ back .holds .held (R .v-piece) .rate
 
+      right-parted : Standing w₁ (y .envelope) (r .whole) → Parted (inFront true (rateOf (R .v))) (r .whole) w₁ w₂ rf rb
+      right-parted st = subst (λ z. Parted (inFront true z) (r .whole) w₁ w₂ rf rb) by-v (calls .cut-right .parted (r .whole) st (R .high))
+
       cuts : AfterCuts w w₂ l r (leftCut (R .u) l) (rightCut (R .v) r) lf lb rf rb
-      cuts =
-          after-cuts sib (subst (λ z. CutAt false z (x .envelope) w w₁ lf lb) by-u (calls .cut-left)) (subst (λ z. CutAt true z (y .envelope) w₁ w₂ rf rb) by-v (calls .cut-right))
+      cuts = after-cuts sib (calls .cut-left .within) left-parted (calls .cut-right .within) right-parted
 
       -- the kept parts end at u and begin at v
       seam : SeamAt u v (leftCut (R .u) l .front) (rightCut (R .v) r .back)
@@ -157,16 +167,14 @@ module _
             omega (arith, at-v, back .slots .high (R .v-piece), cap-most w),
           )
 
--- The search, the heights and the rates are read, both envelopes cut, the rests, the node and its bridge written, and the kept parts put together.
+-- The search is made, the heights are read, both envelopes cut, the rests, the node and its bridge written, and the kept parts put together.
 pub raised :
-    {gap u v lf lb rf rb : ℕ} {x y : InHand} {m : Outcome} {w w₁ w₂ w₃ w₄ w₅ w₆ w₇ w₈ : Words} {θ θ′ : ℤ} →
+    {gap u v lf lb rf rb : ℕ} {x y : InHand} {m : Outcome} {w w₁ w₂ w₃ w₄ w₅ w₆ w₇ w₈ : Words} →
     m .counts .searches ≡ 1 →
     MetIn w (x .envelope) (y .envelope) u v (m .counts .steps) →
     m .counts .heights ≡ heightAt w pieceTree (x .envelope) + heightAt w pieceTree (y .envelope) →
-    θ ≡ cell w rateField u →
-    CutAt false θ (x .envelope) w w₁ lf lb →
-    θ′ ≡ cell w₁ rateField v →
-    CutAt true θ′ (y .envelope) w₁ w₂ rf rb →
+    CutBehind u gap (x .envelope) w w₁ lf lb →
+    CutBefore v (y .envelope) w₁ w₂ rf rb →
     RestSet (x .tree) lb w₂ w₃ →
     RestSet (y .tree) rf w₃ w₄ →
     Joined (nodeOn false) offerTree false gap (x .tree) (y .tree) w₄ w₅ (m .held .tree) →
@@ -174,7 +182,7 @@ pub raised :
     w₇ ≡ cset w₆ bridgeRightField gap (pos v) →
     Seamed lf rb u v w₇ w₈ (m .held .envelope) →
     RaisedIn gap x y w w₈ m
-raised {gap} {u} {v} {lf} {lb} {rf} {rb} {x} {y} {m} {w} {w₁} {w₂} {w₃} {w₄} {w₅} {w₆} {w₇} {w₈} {θ} {θ′} once met heights rate-left cut-left rate-right cut-right rest-left rest-right above eu ev cat =
+raised {gap} {u} {v} {lf} {lb} {rf} {rb} {x} {y} {m} {w} {w₁} {w₂} {w₃} {w₄} {w₅} {w₆} {w₇} {w₈} once met heights cut-left cut-right rest-left rest-right above eu ev cat =
     record {
       within =
           within-trans (cut-left .within)
@@ -182,8 +190,8 @@ raised {gap} {u} {v} {lf} {lb} {rf} {rb} {x} {y} {m} {w} {w₁} {w₂} {w₃} {w
           (within-trans (rest-within rest-left)
           (within-trans (rest-within rest-right)
           (within-trans (above .within)
-          (within-trans (subst (Within w₅) (sym eu) (within-cset w₅ 10 gap (pos u)))
-          (within-trans (subst (Within w₆) (sym ev) (within-cset w₆ 11 gap (pos v))) (cat .within)))))));
+          (within-trans (subst (Within w₅) (sym eu) (within-cset w₅ bridgeLeftField gap (pos u)))
+          (within-trans (subst (Within w₆) (sym ev) (within-cset w₆ bridgeRightField gap (pos v))) (cat .within)))))));
       made = λ l r sib avl. all l r sib avl .held;
       touched = λ l r sib avl. all l r sib avl .touched;
     }
@@ -195,9 +203,7 @@ raised {gap} {u} {v} {lf} {lb} {rf} {rb} {x} {y} {m} {w} {w₁} {w₂} {w₃} {w
           met = met;
           once = once;
           heights = heights;
-          rate-left = rate-left;
           cut-left = cut-left;
-          rate-right = rate-right;
           cut-right = cut-right;
           rest-left = rest-left;
           rest-right = rest-right;

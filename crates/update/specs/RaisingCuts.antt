@@ -4,7 +4,6 @@ use mathlib.Core.Bool.{Bool}
 use mathlib.Core.Option.{none, some}
 use mathlib.Core.List.{_++_}
 use Prim.Native.Nat.{ℕ}
-use lib.IntN.{ℤ}
 use Rattle.trees.specs.Tree.{leaves}
 use Rattle.trees.specs.Operations.{Part, Cut, partLeaves, splitP}
 use Rattle.trees.specs.Split.{cutLeaves, split-leaves}
@@ -13,7 +12,7 @@ use Rattle.table.specs.Words.{Words}
 use Rattle.table.specs.Layout.{cap}
 use Rattle.table.specs.Items.{Item, In, Slots}
 use Rattle.table.specs.Rep.{Within, within-trans}
-use Rattle.pieces.specs.Pieces.{PieceField, PiecesOnly, Standing, inFront, CutAt}
+use Rattle.pieces.specs.Pieces.{PieceField, PiecesOnly, Standing, Parted}
 use Rattle.update.specs.Steps.{Siblings}
 use Rattle.update.specs.declared.Held.{Held as InHand}
 use Rattle.form.specs.Frames.{OfferField, Same, same-inside, Inside, Disjoint, disjoint-across, whole-inside, whole-standing, pieces-touched, standing-same, standing-still, pieces-trans, pieces-more}
@@ -34,21 +33,21 @@ unfolding splitP
 cut-leaves test none = refl
 cut-leaves test (some t) = split-leaves test t
 
-pub halved : {strict : Bool} {θ : ℤ} {e a b : ℕ} {w w₁ : Words} {p : Part Item} → CutAt strict θ e w w₁ a b → Standing w e p → Halved w₁ a b p (splitP (inFront strict θ) p)
-halved {strict} {θ} {w} {p} cut st =
+pub halved : {test : Item → Bool} {e a b : ℕ} {w w₁ : Words} {p : Part Item} → Parted test p w w₁ a b → Standing w e p → Halved w₁ a b p (splitP test p)
+halved {test} {w} {p} cut st =
     record {
-      front = cut .in-front p st;
-      back = cut .behind p st;
+      front = cut .in-front;
+      back = cut .behind;
       front-inside = λ s i. subst (In s) all (inside-left (partLeaves (c .back)) s i);
       back-inside = λ s i. subst (In s) all (inside-right (partLeaves (c .front)) s i);
       apart = disjoint-across (partLeaves (c .front)) (subst (Slots (cap w)) (sym all) (st .slots));
     }
   where
     c : Cut Item
-    c = splitP (inFront strict θ) p
+    c = splitP test p
 
     all : cutLeaves c ≡ partLeaves p
-    all = cut-leaves (inFront strict θ) p
+    all = cut-leaves test p
 
 pub halved-same : {a b : ℕ} {w w′ : Words} {p : Part Item} {c : Cut Item} → Within w w′ → Halved w a b p c → Same OfferField (partLeaves p) w w′ → Same PieceField (partLeaves p) w w′ → Halved w′ a b p c
 halved-same within h offers pieces =
@@ -73,31 +72,30 @@ pub record AfterCuts (w w′ : Words) (l r : Held Item) (c d : Cut Item) (lf lb 
   pub only : PiecesOnly (partLeaves (l .whole) ++ partLeaves (r .whole)) w w′
 
 pub after-cuts :
-    {w w₁ w₂ : Words} {gap lf lb rf rb : ℕ} {x y : InHand} {strict strict′ : Bool} {θ θ′ : ℤ} {l r : Held Item} →
+    {w w₁ w₂ : Words} {gap lf lb rf rb : ℕ} {x y : InHand} {test test′ : Item → Bool} {l r : Held Item} →
     Siblings w gap x y l r →
-    CutAt strict θ (x .envelope) w w₁ lf lb →
-    CutAt strict′ θ′ (y .envelope) w₁ w₂ rf rb →
-    AfterCuts w w₂ l r (splitP (inFront strict θ) (l .whole)) (splitP (inFront strict′ θ′) (r .whole)) lf lb rf rb
-after-cuts {w} {w₁} {w₂} {lf} {lb} {y} {strict} {θ} {l} {r} s c d =
+    Within w w₁ →
+    Parted test (l .whole) w w₁ lf lb →
+    Within w₁ w₂ →
+    (Standing w₁ (y .envelope) (r .whole) → Parted test′ (r .whole) w₁ w₂ rf rb) →
+    AfterCuts w w₂ l r (splitP test (l .whole)) (splitP test′ (r .whole)) lf lb rf rb
+after-cuts {w} {w₁} {w₂} {lf} {lb} {rf} {rb} {y = y} {test} {test′} {l} {r} s wc c wd d =
     record {
-      within = within-trans (c .within) (d .within);
+      within = within-trans wc wd;
       left = record { front = still (near .front) (near .front-inside); back = still (near .back) (near .back-inside); front-inside = near .front-inside; back-inside = near .back-inside; apart = near .apart };
-      right = halved d far;
-      only = pieces-trans (pieces-more (inside-left (partLeaves (r .whole))) first) (pieces-more (inside-right (partLeaves (l .whole))) second);
+      right = halved cut far;
+      only = pieces-trans (pieces-more (inside-left (partLeaves (r .whole))) (c .only)) (pieces-more (inside-right (partLeaves (l .whole))) (cut .only));
     }
   where
-    first : PiecesOnly (partLeaves (l .whole)) w w₁
-    first = c .only (l .whole) (whole-standing (s .left))
-
-    near : Halved w₁ lf lb (l .whole) (splitP (inFront strict θ) (l .whole))
+    near : Halved w₁ lf lb (l .whole) (splitP test (l .whole))
     near = halved c (whole-standing (s .left))
 
     -- the right envelope after the left one was cut
     far : Standing w₁ (y .envelope) (r .whole)
-    far = standing-still (c .within) (whole-standing (s .right)) (pieces-touched first) (disjoint-turned (wholes-apart s))
+    far = standing-still wc (whole-standing (s .right)) (pieces-touched (c .only)) (disjoint-turned (wholes-apart s))
 
-    second : PiecesOnly (partLeaves (r .whole)) w₁ w₂
-    second = d .only (r .whole) far
+    cut : Parted test′ (r .whole) w₁ w₂ rf rb
+    cut = d far
 
     still : {x : ℕ} {p : Part Item} → Standing w₁ x p → Inside (partLeaves p) (partLeaves (l .whole)) → Standing w₂ x p
-    still st i = standing-still (d .within) st (pieces-touched second) (disjoint-both i (λ n j. j) (wholes-apart s))
+    still st i = standing-still wd st (pieces-touched (cut .only)) (disjoint-both i (λ n j. j) (wholes-apart s))

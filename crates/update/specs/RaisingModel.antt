@@ -1,16 +1,19 @@
 -- What raising two subtrees makes, said by cuts by rate as code makes them.
 use mathlib.Core.Path.{_≡_, refl, sym, _∙_, ap, ap₂, subst, fun-ext}
 use mathlib.Core.Bool.{Bool, true, false, not}
+use mathlib.Core.Logic.{⊎-elim}
 use mathlib.Core.Option.{none, some}
-use mathlib.Core.List.{List, [], _∷_, _++_, List·Memᴰ, List·Memᴰ·head, Memᴰ·append-right, reverse, reverse-append, head-eq-of-cons-eq}
+use mathlib.Core.List.{List, [], _∷_, _++_, List·Memᴰ, List·Memᴰ·head, List·Memᴰ·append-cases, List·Memᴰ·eq-of-singleton, Memᴰ·append-right, reverse, reverse-append, head-eq-of-cons-eq}
 use native.Mathlib.Omega.{arith}
+use lib.Dec.{T}
 use lib.Signed.{leZ, ltZ}
 use Rattle.lists.specs.Bools.{same-test}
+use Rattle.lists.specs.Places.{sublist-mem}
 use Rattle.integers.specs.Parts.{intRules}
 use Rattle.envelopes.specs.Envelope.{Ordered, Env}
-use Rattle.envelopes.specs.EnvelopeLaws.{ordered-sublist}
-use Rattle.trees.specs.Tree.{Tree, node, leaves, first, last, mirror, Avl}
-use Rattle.trees.specs.Leaves.{leaves-first, leaves-mirror, first-mirror}
+use Rattle.envelopes.specs.EnvelopeLaws.{ordered-sublist, ordered-left, ordered-right, ordered-apart}
+use Rattle.trees.specs.Tree.{Tree, leaf, node, leaves, first, last, mirror, Avl}
+use Rattle.trees.specs.Leaves.{leaves-first, leaves-mirror, first-leaf, first-mirror, last-leaf}
 use Rattle.trees.specs.Operations.{Part, Cut, partLeaves, split, splitP}
 use Rattle.trees.specs.Split.{Halves}
 use Rattle.meeting.specs.Machine.{meet}
@@ -21,7 +24,7 @@ use Rattle.dynamic.specs.Lower.{valid-env}
 use Rattle.dynamic.specs.Bridged.{Bridged, faces, search-bridges}
 use Rattle.dynamic.specs.Raise.{some-piece, whole-raise, split-behind, split-front}
 use Rattle.table.specs.Items.{Item}
-use Rattle.pieces.specs.Pieces.{items, item-laws, rateOf, inFront}
+use Rattle.pieces.specs.Pieces.{items, item-laws, rateOf, inFront, NoneAbove}
 
 -- ---- the tests
 
@@ -54,6 +57,8 @@ pub record Raising (l r : Held Item) (m : Made Item) : Type 0 where
   pub v-piece : List·Memᴰ v (leaves back)
   pub u-last : (t : Tree Item) → leftCut u l .front ≡ some t → last t ≡ u
   pub v-first : (t : Tree Item) → rightCut v r .back ≡ some t → first t ≡ v
+  pub low : (a : Item) → List·Memᴰ a (partLeaves (l .whole)) → T (leZ (rateOf (last (heldShape l))) (rateOf a))
+  pub high : NoneAbove (r .whole)
   pub facing : FacingTrees items front back (first front)
   pub met : Met (limit front back) u v (meet items front back)
   pub logged : m .log ≡ record { front = front; back = back } ∷ []
@@ -85,6 +90,25 @@ module _ (a : Tree Item) (xs : List Item) (u : Item) (ys : List Item) (o : Order
       let h : Halves (split (inFront true (rateOf u)) a) xs (u ∷ ys) = subst (λ (f : Item → Bool). Halves (split f a) xs (u ∷ ys)) (before-test u) (split-front items item-laws xs u ys about a e) in
       first-of t u ys (sym (ap partLeaves d) ∙ h .after)
 
+-- the last line of a tree has the lowest rate, the first one the highest
+lowest : (t : Tree Item) → Ordered items (leaves t) → (a : Item) → List·Memᴰ a (leaves t) → T (leZ (rateOf (last t)) (rateOf a))
+lowest (leaf x) o a m = let e : a ≡ x = List·Memᴰ·eq-of-singleton m in rw e (omega (arith, intRules))
+lowest (node l r) o a m = ⊎-elim below (lowest r (ordered-right items (leaves l) (leaves r) o) a) (List·Memᴰ·append-cases (leaves l) m)
+  where
+    below : List·Memᴰ a (leaves l) → T (leZ (rateOf (last r)) (rateOf a))
+    below k =
+        let b : T (ltZ (rateOf (last r)) (rateOf a)) = ordered-apart items (leaves l) (leaves r) o a (last r) k (last-leaf r) in
+        omega (arith, intRules)
+
+highest : (t : Tree Item) → Ordered items (leaves t) → (a : Item) → List·Memᴰ a (leaves t) → T (leZ (rateOf a) (rateOf (first t)))
+highest (leaf x) o a m = let e : a ≡ x = List·Memᴰ·eq-of-singleton m in rw e (omega (arith, intRules))
+highest (node l r) o a m = ⊎-elim (highest l (ordered-left items (leaves l) (leaves r) o) a) above (List·Memᴰ·append-cases (leaves l) m)
+  where
+    above : List·Memᴰ a (leaves r) → T (leZ (rateOf a) (rateOf (first l)))
+    above k =
+        let b : T (ltZ (rateOf a) (rateOf (first l))) = ordered-apart items (leaves l) (leaves r) o (first l) a (first-leaf l) k in
+        omega (arith, intRules)
+
 module _ (l r : OfferTree Item) where
   parts : (p q : Part Item) → Whole items (hold l p) → Whole items (hold r q) → Ordered items (leaves (shape l) ++ leaves (shape r)) → Whole items (raiseBy items p q (hold l p) (hold r q) .held) → Raising (hold l p) (hold r q) (raiseBy items p q (hold l p) (hold r q))
   unfolding raiseBy splitP
@@ -109,6 +133,11 @@ module _ (l r : OfferTree Item) where
         v-piece = among (G .short) (G .from) q (G .right-pieces);
         u-last = kept-last a (G .upTo) u (G .beyond) (ordered-sublist items (E .sub) (wl .ordered)) (rw p (G .left-pieces));
         v-first = kept-first b (G .short) v (G .from) (ordered-sublist items (F .sub) (wr .ordered)) (rw q (G .right-pieces));
+        low = λ x m. lowest (shape l) (wl .ordered) x (sublist-mem (E .sub) m);
+        high = λ t e.
+            let same : b ≡ t = cc in
+            subst (λ (z : Tree Item). (x : Item) → List·Memᴰ x (leaves z) → T (leZ (rateOf x) (rateOf (first z)))) same
+            (highest b (ordered-sublist items (F .sub) (wr .ordered)));
         facing = faces items item-laws (leaves (shape l)) (leaves (shape r)) o a b E F (first a);
         met = rw (p, q) (G .met);
         logged = refl;

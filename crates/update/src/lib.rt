@@ -111,17 +111,16 @@ fn lower(part: &mut [i64], h: Held) -> Lowered
 }
 
 // Puts a node over two subtrees: one search finds where their envelopes meet, each is cut there, and what is cut off stays with its child.
+// The line in slot `gap` has the lowest rate on the left.
 fn raise(part: &mut [i64], gap: u32, l: Held, r: Held) -> Made
     ensures { λ m. ⌜ RaisedIn gap l r (now (part .entry)) (now (part .exit)) m ⌝ }
 {
-    let m = search::meet(part, part, l.envelope, r.envelope);
     let k = table::capacity(part);
+    let m = search::meet_in(part, k, part, k, l.envelope, r.envelope);
     let h = table::height_in(part, k, table::PIECES, l.envelope)
         + table::height_in(part, k, table::PIECES, r.envelope);
-    let rate = table::get_in(part, k, table::RATE, m.u);
-    let c = pieces::cut_in(part, k, false, rate, l.envelope);
-    let other = table::get_in(part, k, table::RATE, m.v);
-    let d = pieces::cut_in(part, k, true, other, r.envelope);
+    let c = pieces::cut_behind(part, k, m.u, gap, l.envelope);
+    let d = pieces::cut_before(part, k, m.v, r.envelope);
     set_rest(part, k, l.tree, c.back);
     set_rest(part, k, r.tree, d.front);
     let x = shape::make_node_in(part, k, table::OFFERS, false, gap, l.tree, r.tree);

@@ -4,7 +4,8 @@ use native.Mathlib.Omega.{arith}
 use mathlib.Core.Path.{_≡_, refl, _∙_}
 use mathlib.Core.Bool.{Bool, true, false, not}
 use mathlib.Core.List.{List}
-use lib.ListN.{set, length-set}
+use lib.ListN.{getD, set, length-set}
+use lib.Seq.{getD-set-other}
 use Rattle.meeting.specs.Machine.{Half}
 use Rattle.table.specs.Fields.{mostSlots, pieceTree}
 use Rattle.table.specs.Words.{Words}
@@ -15,7 +16,7 @@ use Rattle.walks.specs.declared.Action.the-variants.{Stay, Retreat, Adva
 use Rattle.walks.specs.declared.Move.{Move}
 use Rattle.walks.specs.declared.Stand.{Stand}
 use Rattle.walks.specs.Walks.{Walk, Stood, stacks-set}
-use Rattle.walks.specs.CodeMoves.{Topped, Retreated, Advanced, Popped, retreat-leaf, retreat-node, advance-leaf, advance-full, advance-node, pop-empty, pop-node}
+use Rattle.walks.specs.CodeMoves.{Topped, topIn, topped-by, Retreated, Advanced, Popped, retreat-leaf, retreat-node, advance-leaf, advance-full, advance-node, pop-empty, pop-node}
 
 abbrev pub walk : ℕ → List ℕ → ℕ → Walk
 walk at stack depth = record { at = at; stack = stack; depth = depth }
@@ -36,6 +37,14 @@ noted-stood : {w : Words} {st st′ : List ℕ} {a d x : ℕ} {m : Half Item} �
 noted-stood {st} {d = d} {x = x} (noted k) s =
     record { here = s .here; stacks = stacks-set d x (omega arith) (s .stacks); room = length-set st d x ∙ s .room }
 noted-stood (full k) s = s
+
+-- the top stays
+pub noted-top : {h : Walk} {st : List ℕ} {t : ℕ} → Noted (h .stack) (h .depth) (h .at) st → t ≡ topIn st (h .depth) → Topped h t
+noted-top {h} {st} n e = topped-by st (same n) e
+  where
+    same : {st : List ℕ} → Noted (h .stack) (h .depth) (h .at) st → (i : ℕ) → i < h .depth → getD st i 0 ≡ getD (h .stack) i 0
+    same (noted k) i l = getD-set-other (h .stack) (h .depth) i (h .at) 0 (λ q. omega arith)
+    same (full k) i l = refl
 
 noted-set : {st st′ : List ℕ} {d x : ℕ} → Noted st d x st′ → d < 24 → st′ ≡ set st d x
 noted-set (noted k) h = refl
@@ -108,3 +117,7 @@ module _ {w : Words} {side : Bool} {action : Action} {at d top : ℕ} where
 
   pub acts-pop : {r : Stand} → action ≡ Pop → Pops w side d top r → Acts w side action at d top r
   acts-pop e a = rw e (record { moved = λ n t. a .moved n t })
+
+-- a walk that stays, once its node was noted
+pub stays-noted : (w : Words) (side : Bool) (action : Action) {st st′ : List ℕ} {at d : ℕ} → action ≡ Stay → Noted st d at st′ → Does w side action (walk at st d) (walk at st′ d)
+stays-noted w side action e n = rw e (record { at = refl; moved = λ s. noted-stood n s })

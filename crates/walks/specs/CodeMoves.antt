@@ -154,26 +154,23 @@ module _ {w : Words} {h : Walk} {t : Tree Item} {e : Option Item} {top : Place I
 
 -- ---- the top and the point, by the code's numbers
 
--- a place in the stack: that of the top, where there is one
-pub record Under (depth i : ℕ) : Type 0 where
-  pub inside : i < 24
-  pub is : 1 ≤ depth → depth ≤ 24 → i ≡ depth - 1
-
-abbrev pub topWord : ℕ → ℕ → ℕ
-topWord depth word = cond (ltb depth 1) 0 word
+-- the node pushed last
+abbrev pub topIn : List ℕ → ℕ → ℕ
+topIn stack depth = cond (ltb depth 1) 0 (cond (ltb 24 depth) 0 (getD stack (depth - 1) 0))
 
 abbrev pub pointWord : ℕ → ℕ → ℕ
 pointWord at top = cond (leb at mostSlots) (top - mostSlots) (at - mostSlots)
 
-pub topped-by : {h : Walk} {i t : ℕ} → Under (h .depth) i → t ≡ topWord (h .depth) (getD (h .stack) i 0) → Topped h t
-topped-by {h} {i} {t} a e = record { is = λ s. go s (decLt (h .depth) 1) }
+-- any stack with the same top will do
+pub topped-by : {h : Walk} (st : List ℕ) {t : ℕ} → ((i : ℕ) → i < h .depth → getD st i 0 ≡ getD (h .stack) i 0) → t ≡ topIn st (h .depth) → Topped h t
+topped-by {h} st {t} same e = record { is = λ s. go s (decLt (h .depth) 1) }
   where
     go : {w : Words} {m : Half Item} → Stood w h m → Dec (h .depth < 1) → t ≡ topRef (m .stack)
     go s (yes k) = e ∙ rw (lt-ltb (h .depth) 1 k) (top-none s k)
     go s (no k) =
         let l : 1 ≤ h .depth = omega arith in
         let n : h .depth ≤ 24 = omega (arith, stacks-room (s .stacks), s .room) in
-        e ∙ rw (le-ltb (h .depth) 1 l) (ap (λ (j : ℕ). getD (h .stack) j 0) (a .is l n) ∙ top-at s l)
+        e ∙ rw (le-ltb (h .depth) 1 l, le-ltb 24 (h .depth) n) (same (h .depth - 1) (omega arith) ∙ top-at s l)
 
 pub pointed-by : {h : Walk} {t p : ℕ} → Topped h t → p ≡ pointWord (h .at) t → Pointed h p
 pointed-by {h} {t} {p} a e = record { is = λ s. go s (decLe (h .at) mostSlots) }

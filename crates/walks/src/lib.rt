@@ -2,7 +2,7 @@
 // Left is false, right is true; toward is the way to the other envelope, away the way to the outer end.
 ghost use mathlib.Core.Path.{_≡_};
 ghost use Rattle.table.specs.Layout.{cap};
-ghost use Rattle.walks.specs.CodeMoves.{Under, topWord, pointWord};
+ghost use Rattle.walks.specs.CodeMoves.{topIn, pointWord};
 ghost use Rattle.walks.specs.Actions.{Retreats, Advances, Pops, Acts, sided};
 
 // What a walk does in a step.
@@ -26,9 +26,9 @@ pub struct Stand {
     pub depth: usize,
 }
 
-// The place in a stack of the node pushed last, and some place where there is none.
-pub fn under(depth: usize) -> usize
-    ensures { λ r. ⌜ Under depth r ⌝ }
+// The node pushed last, and 0 where there is none. Most steps go without it, so that it is read where it is asked for.
+pub fn top(stack: &[u32; 24], depth: usize) -> u32
+    ensures { λ r. ⌜ r ≡ topIn (now (stack .entry)) depth ⌝ }
 {
     if depth < 1 {
         return 0;
@@ -36,25 +36,15 @@ pub fn under(depth: usize) -> usize
     if 24 < depth {
         return 0;
     }
-    depth - 1
-}
-
-// The node pushed last, and 0 where there is none; `word` is what stands at that place.
-pub fn top(depth: usize, word: u32) -> u32
-    ensures { λ r. ⌜ r ≡ topWord depth word ⌝ }
-{
-    if depth < 1 {
-        return 0;
-    }
-    word
+    stack[depth - 1]
 }
 
 // The slot that keeps the walk's point: an inner node's own, of a leaf that of the node pushed last.
-pub fn point(at: u32, top: u32) -> u32
-    ensures { λ r. ⌜ r ≡ pointWord at top ⌝ }
+pub fn point(at: u32, stack: &[u32; 24], depth: usize) -> u32
+    ensures { λ r. ⌜ r ≡ pointWord at (topIn (now (stack .entry)) depth) ⌝ }
 {
     if at <= table::MOST_SLOTS {
-        return table::inner_slot(top);
+        return table::inner_slot(top(stack, depth));
     }
     at - table::MOST_SLOTS
 }
@@ -117,11 +107,11 @@ pub fn act(
     side: bool,
     action: Action,
     at: u32,
+    stack: &[u32; 24],
     depth: usize,
-    top: u32,
 ) -> Stand
     requires { ⌜ c ≡ cap (now part) ⌝ }
-    ensures { λ r. ⌜ Acts (now (part .entry)) side action at depth top r ⌝ }
+    ensures { λ r. ⌜ Acts (now (part .entry)) side action at depth (topIn (now (stack .entry)) depth) r ⌝ }
 {
     match action {
         Action::Stay => Stand {
@@ -133,7 +123,7 @@ pub fn act(
             depth: depth,
         },
         Action::Advance => advance(part, c, side, at, depth),
-        Action::Pop => pop(part, c, side, depth, top),
+        Action::Pop => pop(part, c, side, depth, top(stack, depth)),
     }
 }
 

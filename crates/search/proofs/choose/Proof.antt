@@ -14,21 +14,34 @@ point-requires-2 c κs = search needs
 above-requires : tie.Need-above-requires
 above-requires c κs = search needs
 
+top-requires : tie.Need-top-requires
+top-requires c κs = search needs
+
 recede-requires : tie.Need-recede-requires
 recede-requires c κs = search needs
 
 returns : tie.Need-returns
-returns c = chooses-mine (c .before .before .before .before .point .ensures) (c .before .before .before .point2 .ensures) (sym (c .before .before .above .ensures) ∙ c .before .if1 .taken) (c .recede .ensures)
+returns c =
+    let compared = c .before .before .before in
+    chooses-mine (compared .before .before .point .ensures) (compared .before .point2 .ensures)
+    (sym (compared .above .ensures) ∙ c .before .before .if1 .taken) (rw (c .before .top .ensures) at (c .recede .ensures))
 
 above-requires-2 : tie.Need-above-requires-2
 above-requires-2 c κs = search needs
+
+top-requires-2 : tie.Need-top-requires-2
+top-requires-2 c κs = search needs
 
 recede-requires-2 : tie.Need-recede-requires-2
 recede-requires-2 c κs = search needs
 
 returns-2 : tie.Need-returns-2
 returns-2 c =
-    chooses-theirs (c .before .before .before .before .before .before .point .ensures) (c .before .before .before .before .before .point2 .ensures) (sym (c .before .before .before .before .above .ensures) ∙ c .before .before .before .if1 .left) (sym (c .before .before .above2 .ensures) ∙ c .before .if2 .taken) (c .recede2 .ensures)
+    let second = c .before .before .before in
+    let compared = second .before .before in
+    chooses-theirs (compared .before .before .point .ensures) (compared .before .point2 .ensures)
+    (sym (compared .above .ensures) ∙ second .before .if1 .left) (sym (second .above2 .ensures) ∙ c .before .before .if2 .taken)
+    (rw (c .before .top2 .ensures) at (c .recede2 .ensures))
 
 both-leaves-requires : tie.Need-both-leaves-requires
 both-leaves-requires c κs = search needs
@@ -48,9 +61,11 @@ choose-spec =
     point-requires
     point-requires-2
     above-requires
+    top-requires
     recede-requires
     returns
     above-requires-2
+    top-requires-2
     recede-requires-2
     returns-2
     both-leaves-requires

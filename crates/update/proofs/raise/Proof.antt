@@ -7,19 +7,16 @@ use Rattle.update.specs.Raising.{raised}
 use Rattle.update.specs.RaisingRests.{rest-within}
 use Rattle.update.specs.RaisingSearch.{met-in}
 use mathlib.Core.Path.{refl, _∙_, ap₂}
-use mir.Facts.{toZ-ofZ}
-use mir.Syntax.{w64}
-use mir.Val.{SFits}
 use native.Mathlib.Omega.{arith}
 use borrow.Author.Needs.{needs}
 use Rattle.update.proofs.raise.Statement.{statement}
 use Rattle.update.proofs.raise.Tie as tie
 
-meet-requires : tie.Need-meet-requires
-meet-requires c κs = search needs
-
 capacity-requires : tie.Need-capacity-requires
 capacity-requires c κs = search needs
+
+meet-in-requires : tie.Need-meet-in-requires
+meet-in-requires c κs = search needs
 
 height-in-requires : tie.Need-height-in-requires
 height-in-requires c κs = search needs
@@ -33,38 +30,29 @@ add-h c =
     let entry = left .before .before .before .before .before .before in
     omega (arith, height-read _ 0 (entry .args .l .envelope) (left .height-in .ensures), height-read _ 0 (entry .args .r .envelope) (c .height-in2 .ensures))
 
-get-in-requires : tie.Need-get-in-requires
-get-in-requires c κs = search needs
+cut-behind-requires : tie.Need-cut-behind-requires
+cut-behind-requires c κs = search needs
 
-cut-in-requires : tie.Need-cut-in-requires
-cut-in-requires c κs = search needs
-
-get-in-requires-2 : tie.Need-get-in-requires-2
-get-in-requires-2 c κs =
+cut-before-requires : tie.Need-cut-before-requires
+cut-before-requires c κs =
     let left-cut = c .before .before in
     let known = left-cut .before .before .before .before .before .before .before .before in
-    still-known (known .capacity .ensures) (left-cut .cut-in .ensures .within)
-
-cut-in-requires-2 : tie.Need-cut-in-requires-2
-cut-in-requires-2 c κs =
-    let left-cut = c .before .before .before .before in
-    let known = left-cut .before .before .before .before .before .before .before .before in
-    still-known (known .capacity .ensures) (left-cut .cut-in .ensures .within)
+    still-known (known .capacity .ensures) (left-cut .cut-behind .ensures .within)
 
 set-rest-requires : tie.Need-set-rest-requires
 set-rest-requires c κs =
     let right-cut = c .before .before in
-    let left-cut = right-cut .before .before .before .before .before in
+    let left-cut = right-cut .before .before .before in
     let known = left-cut .before .before .before .before .before .before .before .before in
-    still-known (still-known (known .capacity .ensures) (left-cut .cut-in .ensures .within)) (right-cut .cut-in2 .ensures .within)
+    still-known (still-known (known .capacity .ensures) (left-cut .cut-behind .ensures .within)) (right-cut .cut-before .ensures .within)
 
 set-rest-requires-2 : tie.Need-set-rest-requires-2
 set-rest-requires-2 c κs =
     let left-kept = c .before .before in
     let right-cut = left-kept .before .before .before in
-    let left-cut = right-cut .before .before .before .before .before in
+    let left-cut = right-cut .before .before .before in
     let known = left-cut .before .before .before .before .before .before .before .before in
-    let after-cuts = still-known (still-known (known .capacity .ensures) (left-cut .cut-in .ensures .within)) (right-cut .cut-in2 .ensures .within) in
+    let after-cuts = still-known (still-known (known .capacity .ensures) (left-cut .cut-behind .ensures .within)) (right-cut .cut-before .ensures .within) in
     still-known (after-cuts) (rest-within (left-kept .set-rest .ensures))
 
 make-node-in-requires : tie.Need-make-node-in-requires
@@ -72,9 +60,9 @@ make-node-in-requires c κs =
     let right-kept = c .before .before in
     let left-kept = right-kept .before .before .before in
     let right-cut = left-kept .before .before .before in
-    let left-cut = right-cut .before .before .before .before .before in
+    let left-cut = right-cut .before .before .before in
     let known = left-cut .before .before .before .before .before .before .before .before in
-    let after-cuts = still-known (still-known (known .capacity .ensures) (left-cut .cut-in .ensures .within)) (right-cut .cut-in2 .ensures .within) in
+    let after-cuts = still-known (still-known (known .capacity .ensures) (left-cut .cut-behind .ensures .within)) (right-cut .cut-before .ensures .within) in
     still-known (still-known (after-cuts) (rest-within (left-kept .set-rest .ensures))) (rest-within (right-kept .set-rest2 .ensures))
 
 put-link-in-requires : tie.Need-put-link-in-requires
@@ -83,9 +71,9 @@ put-link-in-requires c κs =
     let right-kept = made .before .before .before in
     let left-kept = right-kept .before .before .before in
     let right-cut = left-kept .before .before .before in
-    let left-cut = right-cut .before .before .before .before .before in
+    let left-cut = right-cut .before .before .before in
     let known = left-cut .before .before .before .before .before .before .before .before in
-    let after-cuts = still-known (still-known (known .capacity .ensures) (left-cut .cut-in .ensures .within)) (right-cut .cut-in2 .ensures .within) in
+    let after-cuts = still-known (still-known (known .capacity .ensures) (left-cut .cut-behind .ensures .within)) (right-cut .cut-before .ensures .within) in
     let after-rests = still-known (still-known (after-cuts) (rest-within (left-kept .set-rest .ensures))) (rest-within (right-kept .set-rest2 .ensures)) in
     still-known (after-rests) (made .make-node-in .ensures .within)
 
@@ -96,9 +84,9 @@ put-link-in-requires-2 c κs =
     let right-kept = made .before .before .before in
     let left-kept = right-kept .before .before .before in
     let right-cut = left-kept .before .before .before in
-    let left-cut = right-cut .before .before .before .before .before in
+    let left-cut = right-cut .before .before .before in
     let known = left-cut .before .before .before .before .before .before .before .before in
-    let after-cuts = still-known (still-known (known .capacity .ensures) (left-cut .cut-in .ensures .within)) (right-cut .cut-in2 .ensures .within) in
+    let after-cuts = still-known (still-known (known .capacity .ensures) (left-cut .cut-behind .ensures .within)) (right-cut .cut-before .ensures .within) in
     let after-rests = still-known (still-known (after-cuts) (rest-within (left-kept .set-rest .ensures))) (rest-within (right-kept .set-rest2 .ensures)) in
     still-put _ _ _ _ (still-known (after-rests) (made .make-node-in .ensures .within)) (linked-u .put-link-in .ensures)
 
@@ -110,9 +98,9 @@ cat-at-requires c κs =
     let right-kept = made .before .before .before in
     let left-kept = right-kept .before .before .before in
     let right-cut = left-kept .before .before .before in
-    let left-cut = right-cut .before .before .before .before .before in
+    let left-cut = right-cut .before .before .before in
     let known = left-cut .before .before .before .before .before .before .before .before in
-    let after-cuts = still-known (still-known (known .capacity .ensures) (left-cut .cut-in .ensures .within)) (right-cut .cut-in2 .ensures .within) in
+    let after-cuts = still-known (still-known (known .capacity .ensures) (left-cut .cut-behind .ensures .within)) (right-cut .cut-before .ensures .within) in
     let after-rests = still-known (still-known (after-cuts) (rest-within (left-kept .set-rest .ensures))) (rest-within (right-kept .set-rest2 .ensures)) in
     let after-u = still-put _ _ _ _ (still-known (after-rests) (made .make-node-in .ensures .within)) (linked-u .put-link-in .ensures) in
     still-put _ _ _ _ after-u (linked-v .put-link-in2 .ensures)
@@ -125,9 +113,9 @@ same-length c =
     let right-kept = made .before .before .before in
     let left-kept = right-kept .before .before .before in
     let right-cut = left-kept .before .before .before in
-    let left-cut = right-cut .before .before .before .before .before in
+    let left-cut = right-cut .before .before .before in
     c .before .cat-at .kept .0 ∙ linked-v .put-link-in2 .kept .0 ∙ linked-u .put-link-in .kept .0 ∙ made .make-node-in .kept .0
-    ∙ right-kept .set-rest2 .kept .0 ∙ left-kept .set-rest .kept .0 ∙ right-cut .cut-in2 .kept .0 ∙ left-cut .cut-in .kept .0
+    ∙ right-kept .set-rest2 .kept .0 ∙ left-kept .set-rest .kept .0 ∙ right-cut .cut-before .kept .0 ∙ left-cut .cut-behind .kept .0
 
 returns : tie.Need-returns
 returns c =
@@ -137,32 +125,25 @@ returns c =
     let right-kept = made .before .before .before in
     let left-kept = right-kept .before .before .before in
     let right-cut = left-kept .before .before .before in
-    let rated-v = right-cut .before .before in
-    let left-cut = rated-v .before .before .before in
-    let rated-u = left-cut .before .before in
-    let tall-right = rated-u .before .before in
+    let left-cut = right-cut .before .before .before in
+    let tall-right = left-cut .before .before in
     let tall-left = tall-right .before .before in
-    let met = tall-left .before .before .before .before in
-    let f : SFits w64 (rated-u .get-in .result) = record { sfits = rated-u .get-in .ok } in
-    let g : SFits w64 (rated-v .get-in2 .result) = record { sfits = rated-v .get-in2 .ok } in
-    raised refl (met-in (met .meet .ensures)) (ap₂ _+_ (tall-left .height-in .ensures) (tall-right .height-in2 .ensures)) (rated-u .get-in .ensures)
-    (simp (toZ-ofZ, f) at (left-cut .cut-in .ensures)) (rated-v .get-in2 .ensures) (simp (toZ-ofZ, g) at (right-cut .cut-in2 .ensures))
-    (left-kept .set-rest .ensures) (right-kept .set-rest2 .ensures) (made .make-node-in .ensures) (linked-u .put-link-in .ensures)
-    (linked-v .put-link-in2 .ensures) (c .before .cat-at .ensures)
+    let met = tall-left .before .before in
+    raised refl (met-in (met .meet-in .ensures)) (ap₂ _+_ (tall-left .height-in .ensures) (tall-right .height-in2 .ensures))
+    (left-cut .cut-behind .ensures) (right-cut .cut-before .ensures) (left-kept .set-rest .ensures) (right-kept .set-rest2 .ensures)
+    (made .make-node-in .ensures) (linked-u .put-link-in .ensures) (linked-v .put-link-in2 .ensures) (c .before .cat-at .ensures)
 
 pub raise-spec : {M : Type 1} → statement M
 raise-spec =
     tie.close
     (tie.spec
-    meet-requires
     capacity-requires
+    meet-in-requires
     height-in-requires
     height-in-requires-2
     add-h
-    get-in-requires
-    cut-in-requires
-    get-in-requires-2
-    cut-in-requires-2
+    cut-behind-requires
+    cut-before-requires
     set-rest-requires
     set-rest-requires-2
     make-node-in-requires

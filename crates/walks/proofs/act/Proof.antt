@@ -22,6 +22,9 @@ advance-requires c κs = search needs
 enum-told-4 : tie.Need-enum-told-4
 enum-told-4 c = search needs
 
+top-requires : tie.Need-top-requires
+top-requires c κs = search needs
+
 pop-requires : tie.Need-pop-requires
 pop-requires c κs = search needs
 
@@ -35,7 +38,7 @@ returns-3 : tie.Need-returns-3
 returns-3 c = acts-advance (c .before .enum-told3 .given .1) (c .advance .ensures)
 
 returns-4 : tie.Need-returns-4
-returns-4 c = acts-pop (c .before .enum-told4 .given .1) (c .pop .ensures)
+returns-4 c = acts-pop (c .before .before .enum-told4 .given .1) (rw (c .before .top .ensures) at (c .pop .ensures))
 
 pub act-spec : {M : Type 1} → statement M
 act-spec =
@@ -47,6 +50,7 @@ act-spec =
     enum-told-3
     advance-requires
     enum-told-4
+    top-requires
     pop-requires
     returns
     returns-2

@@ -1,4 +1,5 @@
--- `walks::top` meets its contract: by its test.
+-- `walks::top` meets its contract: by its tests.
+use borrow.Author.Needs.{needs}
 use borrow.Author.Tests.{lt-ltb, le-ltb}
 use Rattle.walks.proofs.top.Statement.{statement}
 use Rattle.walks.proofs.top.Tie as tie
@@ -7,7 +8,16 @@ returns : tie.Need-returns
 returns c = rw (lt-ltb _ 1 (c .if1 .taken))
 
 returns-2 : tie.Need-returns-2
-returns-2 c = rw (le-ltb _ 1 (c .if1 .left))
+returns-2 c = rw (le-ltb _ 1 (c .before .if1 .left), lt-ltb 24 _ (c .if2 .taken))
+
+mul-result : tie.Need-mul-result
+mul-result c = search needs
+
+element-copy-out-result : tie.Need-element-copy-out-result
+element-copy-out-result c = search needs
+
+returns-3 : tie.Need-returns-3
+returns-3 c = rw (le-ltb _ 1 (c .before .before .if1 .left), le-ltb 24 _ (c .before .if2 .left))
 
 pub top-spec : {M : Type 1} → statement M
-top-spec = tie.close (tie.spec returns returns-2)
+top-spec = tie.close (tie.spec returns returns-2 mul-result element-copy-out-result returns-3)

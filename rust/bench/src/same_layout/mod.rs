@@ -83,8 +83,8 @@ impl Book {
         counts.searches += 1;
         counts.steps += steps;
         counts.heights += self.height(PIECES, l.e) + self.height(PIECES, r.e);
-        let (front, left) = self.cut(l.e, self.get(DATA, u, RATE));
-        let (right, back) = self.cut(r.e, self.get(DATA, v, RATE) + 1);
+        let (front, left) = self.cut_behind(l.e, u, gap);
+        let (right, back) = self.cut_before(r.e, v);
         let (at_left, at_right) = (self.stored(l.x), self.stored(r.x));
         self.words[at_left] = left as i64;
         self.words[at_right] = right as i64;

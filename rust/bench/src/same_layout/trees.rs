@@ -147,6 +147,22 @@ impl Book {
         self.split(PIECES, RATE, e, least)
     }
 
+    /// cuts behind the rate in slot `u`; nothing lies behind that in slot `s`
+    pub(super) fn cut_behind(&mut self, e: usize, u: usize, s: usize) -> (usize, usize) {
+        if u == s {
+            return (e, 0);
+        }
+        self.cut(e, self.get(DATA, u, RATE))
+    }
+
+    /// cuts before the rate in slot `v`; before the first piece there is nothing
+    pub(super) fn cut_before(&mut self, e: usize, v: usize) -> (usize, usize) {
+        if v == self.end(PIECES, 0, e) {
+            return (0, e);
+        }
+        self.cut(e, self.get(DATA, v, RATE) + 1)
+    }
+
     /// the first leaf, or on side 1 the last
     pub(super) fn end(&self, tree: usize, side: usize, x: usize) -> usize {
         let mut x = x;
