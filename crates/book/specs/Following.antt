@@ -15,7 +15,6 @@ use Rattle.dynamic.specs.Floors.{floor-old}
 use Rattle.table.specs.Items.{Item}
 use Rattle.pieces.specs.Pieces.{items}
 use Rattle.form.specs.Form.{Book}
-use Rattle.table.specs.Items.{offerOf}
 use Rattle.promises.specs.declared.Update.{Update}
 use Rattle.promises.specs.declared.Update.the-variants.{Done, Declined as UpdateDeclined}
 use Rattle.promises.specs.Promises.{partOf, updateReturned, updateAnswer, Counts, Follows}
@@ -76,7 +75,8 @@ done-follows start t q {t′ = t′} u e er =
 
 pub follows-posted :
     (start : ℕ) (t : List ℤ) (n r z : ℤ) {plain : State} {told : Told} {held : Option (Held Item)} {t′ : List ℤ} {u : Update} →
-    Clear (trials plain (post n r z)) → Updated (partOf t′ start) (holding plain (join (record { number = n; rate = r; base = z }) (plain .offers))) held (told .counts) →
+    Clear (trials plain (post n r z)) →
+    Updated (partOf t′ start) (holding plain (join (record { number = n; rate = r; base = z }) (plain .offers))) held (told .counts) →
     told .live ≡ suc (length (plain .offers)) → u ≡ updateOf told →
     Follows (post n r z) plain held start t t′ u
 follows-posted start t n r z {plain} clear done count answer =

@@ -134,21 +134,34 @@ module _ (start : ℕ) (t t′ : List ℤ) {b d : Bool} (e : b ≡ noBookAt (len
     pub post-refused : {u : Update} → 0 < m → u ≡ Declined (pos m) → t′ ≡ t → Updates (post n r z) start t t′ u
     post-refused l eu et = updates-refused (post n r z) start t t′ e h o q (λ plain held b. cause .declines z plain held b (o .denies q) l) eu et
 
-    pub post-accepted : {told : Told} {u : Update} → m ≤ 0 → (w′ : Words) → PostDone n r z (lent t start) w′ told → u ≡ updateOf told → t′ ≡ take start t ++ (w′ ++ drop (length t - start) (drop start t)) → Updates (post n r z) start t t′ u
+    pub post-accepted :
+        {told : Told} {u : Update} →
+        m ≤ 0 → (w′ : Words) → PostDone n r z (lent t start) w′ told →
+        u ≡ updateOf told →
+        t′ ≡ take start t ++ (w′ ++ drop (length t - start) (drop start t)) →
+        Updates (post n r z) start t t′ u
     post-accepted {told} l w′ g eu et =
         updates-done (post n r z) start t t′ e h o q eu w′ et (g .kept)
         (λ plain held b p.
         let (clear, new) = cause .clears z plain held b (o .denies q) l in
         let (updated, count) = g .done plain held b new in
-        follows-posted start t n r z clear (subst (λ (v : Words). Updated v (holding plain (join (record { number = n; rate = r; base = z }) (plain .offers))) held (told .counts)) (sym p) updated) count eu)
+        follows-posted start t n r z clear
+        (subst (λ (v : Words). Updated v (holding plain (join (record { number = n; rate = r; base = z }) (plain .offers))) held (told .counts))
+        (sym p) updated) count eu)
 
   module _ (n : ℤ) (o : OutOfRange (withdraw n) d) (q : d ≡ false) {s : ℕ} (f : FoundNumber n (upTo mostNodes (word (lent t start) numbersRootWord)) (lent t start) s) where
     pub withdraw-refused : s < 1 → t′ ≡ t → Updates (withdraw n) start t t′ (Declined (pos 8))
     withdraw-refused l et = updates-refused (withdraw n) start t t′ e h o q (λ plain held b. withdraw-missing b n (o .denies q) (number-sought b f refl) (omega (arith, l))) refl et
 
-    pub withdraw-accepted : {told : Told} {u : Update} → 1 ≤ s → (w′ : Words) → WithdrawDone n s (lent t start) w′ told → u ≡ updateOf told → t′ ≡ take start t ++ (w′ ++ drop (length t - start) (drop start t)) → Updates (withdraw n) start t t′ u
+    pub withdraw-accepted :
+        {told : Told} {u : Update} →
+        1 ≤ s → (w′ : Words) → WithdrawDone n s (lent t start) w′ told →
+        u ≡ updateOf told →
+        t′ ≡ take start t ++ (w′ ++ drop (length t - start) (drop start t)) →
+        Updates (withdraw n) start t t′ u
     withdraw-accepted {told} l w′ g eu et =
         updates-done (withdraw n) start t t′ e h o q eu w′ et (g .kept)
         (λ plain held b p.
         let (updated, count) = g .done plain held b f l in
-        follows-withdrawn start t n (withdraw-clear b n (o .denies q) (number-sought b f refl) (λ x. omega (arith, x, l))) (subst (λ (v : Words). Updated v (holding plain (leave n (plain .offers))) held (told .counts)) (sym p) updated) count eu)
+        follows-withdrawn start t n (withdraw-clear b n (o .denies q) (number-sought b f refl) (λ x. omega (arith, x, l)))
+        (subst (λ (v : Words). Updated v (holding plain (leave n (plain .offers))) held (told .counts)) (sym p) updated) count eu)

@@ -47,7 +47,12 @@ joined-room : {s : ℕ} {x : InHand} {m : Outcome} {w w′ : Words} → Joined s
 joined-room (joins-alone ex ew em) = ap cap ew
 joined-room (joins-among nz i) = within-cap (i .within)
 
-module _ {w w₁ w₂ w₃ w₄ w′ : Words} {plain : State} {s root root′ n : ℕ} {m : Outcome} {held : Option (Held Item)} (o : Offer) (b : Book w plain held) (new : Postable o (plain .capacity) (bookLines held)) (p : PostWrites o w w₁ w₂ w₃ w₄ w′ s root root′ n m) where
+module _
+    {w w₁ w₂ w₃ w₄ w′ : Words} {plain : State} {s root root′ n : ℕ} {m : Outcome} {held : Option (Held Item)}
+    (o : Offer)
+    (b : Book w plain held)
+    (new : Postable o (plain .capacity) (bookLines held))
+    (p : PostWrites o w w₁ w₂ w₃ w₄ w′ s root root′ n m) where
   post-steps : PostSteps o w w₁ w₂ w₃ w₄ w′ s root root′ n m
   post-steps =
       record {
@@ -64,7 +69,9 @@ module _ {w w₁ w₂ w₃ w₄ w′ : Words} {plain : State} {s root root′ n 
       }
     where
       fills : Filled s o w w₁
-      fills = let f = first-free b (new .room) (p .slot) .1 in filled w s (f .low) (f .high) o (ap (λ (i : ℕ). wset w firstFreeWord (pos (linkAt w nextFreeField i))) (sym (p .slot))) refl refl (p .filled)
+      fills =
+          let f = first-free b (new .room) (p .slot) .1 in
+          filled w s (f .low) (f .high) o (ap (λ (i : ℕ). wset w firstFreeWord (pos (linkAt w nextFreeField i))) (sym (p .slot))) refl refl (p .filled)
 
   pub post-done : n ≡ suc (length (bookLines held)) → Updated w′ (holding plain (join o (plain .offers))) held (m .counts)
   post-done count = posted-plain o b new post-steps count
@@ -79,7 +86,12 @@ pub record WithdrawWrites (number : ℤ) (w w₁ w₂ w₃ w₄ w′ : Words) (s
   pub headed : w₄ ≡ rooting (m .held) n w₃
   pub give-back : w′ ≡ given w₄ s
 
-module _ {w w₁ w₂ w₃ w₄ w′ : Words} {number : ℤ} {plain : State} {s root root′ n : ℕ} {m : Outcome} {held : Option (Held Item)} (a : Item) (b : Book w plain held) (live : LiveAt number s (bookLines held) a) (p : WithdrawWrites number w w₁ w₂ w₃ w₄ w′ s root root′ n m) where
+module _
+    {w w₁ w₂ w₃ w₄ w′ : Words} {number : ℤ} {plain : State} {s root root′ n : ℕ} {m : Outcome} {held : Option (Held Item)}
+    (a : Item)
+    (b : Book w plain held)
+    (live : LiveAt number s (bookLines held) a)
+    (p : WithdrawWrites number w w₁ w₂ w₃ w₄ w′ s root root′ n m) where
   withdraw-steps : WithdrawSteps number w w₁ w₂ w₃ w₄ w′ s root root′ n m
   withdraw-steps =
       record {

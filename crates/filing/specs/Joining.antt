@@ -25,7 +25,7 @@ use Rattle.table.specs.Threads.{Holds}
 use Rattle.pieces.specs.Pieces.{items, rateOf}
 use Rattle.form.specs.Stored.{HeldIn, stored-single, Touched}
 use Rattle.form.specs.Frames.{touched-refl}
-use Rattle.update.specs.Steps.{HandIn, Counted, Newcomer, InsertedIn}
+use Rattle.update.specs.Steps.{HandIn, lineAt, Counted, Newcomer, InsertedIn}
 use Rattle.update.specs.declared.Held.{Held as InHand}
 use Rattle.update.specs.declared.Made.{Made as Outcome}
 use Rattle.form.specs.Form.{OffersIn, offersRef, envelopeRef}
@@ -63,7 +63,7 @@ rate-new a ls h x m = ⊎-elim inl (⊎-elim (λ e. absurd (h x m e)) inr) (tric
 
 -- an item in slot s that stands alone: nothing was searched
 abbrev pub oneLine : ℕ → Outcome
-oneLine s = record { held = record { tree = s; envelope = s }; counts = record { searches = 0; steps = 0; heights = 0 } }
+oneLine s = record { held = lineAt s; counts = record { searches = 0; steps = 0; heights = 0 } }
 
 pub data Joined (s : ℕ) (x : InHand) (w w′ : Words) (m : Outcome) : Type 0 where
   joins-alone : x .tree ≡ 0 → w′ ≡ w → m ≡ oneLine s → Joined s x w w′ m
@@ -103,7 +103,12 @@ module _ (w : Words) (a : Item) where
       JoinedIn a held w w′ m
   joins none es ex ee o slots holds new (joins-alone ez ew em) =
       rw (ew, em, es)
-      (record { within = within-refl w; touched = touched-refl (a ∷ []) w; made = alone-in slots holds; counted = record { searches = refl; steps = refl; heights = refl } })
+      (record {
+        within = within-refl w;
+        touched = touched-refl (a ∷ []) w;
+        made = alone-in slots holds;
+        counted = record { searches = refl; steps = refl; heights = refl };
+      })
   joins none es ex ee o slots holds new (joins-among nz i) = absurd (nz ex)
   joins (some g) es ex ee o slots holds new (joins-alone ez ew em) = absurd (omega (arith, ref-low (heldShape g) (o .slots)))
   joins (some g) {s} {x} es ex ee o slots holds new (joins-among nz i) =

@@ -168,14 +168,18 @@ posted-part n r z {w} {w₁} {w₂} {w₃} {w₄} {w′} {s} {root} {root′} {i
     record {
       kept =
           then (then (then (then (then (then (kept-filling n r z s w) (kept-same e₁)) (kept-within (added .within)))
-          (then (kept-header w₂ 4 (pos root′) (omega arith) (omega arith)) (kept-same e₃))) (kept-joined joined)) (kept-rooting (m .held) live w₄)) (kept-same e′′);
+          (then (kept-header w₂ 4 (pos root′) (omega arith) (omega arith)) (kept-same e₃))) (kept-joined joined))
+          (kept-rooting (m .held) live w₄)) (kept-same e′′);
       done = λ plain held b new. (
         post-done (record { number = n; rate = r; base = z }) b new
-            (record { slot = es; filled = e₁; numbers-root = er; added = added; rooted = e₃; joined = subst (λ (y : InHand). Joined s y w₃ w₄ m) ex joined; headed = e′′ })
+            (record { slot = es; filled = e₁; numbers-root = er; added = added; rooted = e₃; joined = joined-there; headed = e′′ })
             (omega (arith, el, ei, count-read b)),
         omega (arith, el, ei, count-read b, live-length b),
       );
     }
+  where
+    joined-there : Joined s (rootsOf w) w₃ w₄ m
+    joined-there = subst (λ (y : InHand). Joined s y w₃ w₄ m) ex joined
 
 -- ---- withdraw
 

@@ -86,7 +86,13 @@ itemAt s o = record { slot = s; offer = o }
 abbrev pub afterPost : ℕ → Offer → Option (Held Item) → Option (Held Item)
 afterPost s o held = some (posted items (itemAt s o) held .held)
 
-module _ {w w₁ w₂ w₃ w₄ w′ : Words} {plain : State} {s root root′ n : ℕ} {m : Outcome} {held : Option (Held Item)} (o : Offer) (b : Book w plain held) (new : Postable o (plain .capacity) (bookLines held)) (steps : PostSteps o w w₁ w₂ w₃ w₄ w′ s root root′ n m) (count : n ≡ suc (length (bookLines held))) where
+module _
+    {w w₁ w₂ w₃ w₄ w′ : Words} {plain : State} {s root root′ n : ℕ} {m : Outcome} {held : Option (Held Item)}
+    (o : Offer)
+    (b : Book w plain held)
+    (new : Postable o (plain .capacity) (bookLines held))
+    (steps : PostSteps o w w₁ w₂ w₃ w₄ w′ s root root′ n m)
+    (count : n ≡ suc (length (bookLines held))) where
   others : List ℕ
   others = first-free b (new .room) (steps .slot) .0
 

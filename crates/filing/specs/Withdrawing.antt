@@ -59,7 +59,13 @@ chain-head : {w : Words} {ss : List ℕ} → FreeChain w ss → head0 ss ≤ cap
 chain-head free-none = omega arith
 chain-head (free-more low high zero next more) = high
 
-module _ {w w₁ w₂ w₃ w₄ w′ : Words} {number : ℤ} {plain : State} {s root root′ n : ℕ} {m : Outcome} {held : Option (Held Item)} (a : Item) (b : Book w plain held) (live : LiveAt number s (bookLines held) a) (steps : WithdrawSteps number w w₁ w₂ w₃ w₄ w′ s root root′ n m) (count : suc n ≡ length (bookLines held)) where
+module _
+    {w w₁ w₂ w₃ w₄ w′ : Words} {number : ℤ} {plain : State} {s root root′ n : ℕ} {m : Outcome} {held : Option (Held Item)}
+    (a : Item)
+    (b : Book w plain held)
+    (live : LiveAt number s (bookLines held) a)
+    (steps : WithdrawSteps number w w₁ w₂ w₃ w₄ w′ s root root′ n m)
+    (count : suc n ≡ length (bookLines held)) where
   ordered : Ordered items (bookLines held)
   ordered = whole-ordered held (live-whole w held (b .offers .offers-in))
 

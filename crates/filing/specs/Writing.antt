@@ -36,7 +36,11 @@ filling n r z s w = cset (cset (cset (taken w) numberField s n) rateField s r) b
 abbrev pub rootsOf : Words → InHand
 rootsOf w = record { tree = upTo mostNodes (word w offersRootWord); envelope = upTo mostNodes (word w envelopeRootWord) }
 
-pub roots-read : (w : Words) {x e : ℕ} → x ≡ upTo mostNodes (word w offersRootWord) → e ≡ upTo mostNodes (word w envelopeRootWord) → record { tree = x; envelope = e } ≡ rootsOf w
+pub roots-read :
+    (w : Words) {x e : ℕ} →
+    x ≡ upTo mostNodes (word w offersRootWord) →
+    e ≡ upTo mostNodes (word w envelopeRootWord) →
+    record { tree = x; envelope = e } ≡ rootsOf w
 roots-read w p q = λ i. record { tree = p i; envelope = q i }
 
 -- the roots and the live count

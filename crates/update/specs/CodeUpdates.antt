@@ -9,7 +9,7 @@ use Rattle.table.specs.Fields.{mostSlots, offerTree, rateField}
 use Rattle.table.specs.Words.{Words}
 use Rattle.table.specs.Layout.{cell}
 use Rattle.descents.specs.Ends.{Ended}
-use Rattle.update.specs.Steps.{RaisedIn, noTree}
+use Rattle.update.specs.Steps.{lineAt, RaisedIn, noTree}
 use Rattle.update.specs.declared.Held.{Held as InHand}
 use Rattle.update.specs.declared.Counts.{Counts}
 use Rattle.update.specs.declared.Made.{Made as Outcome}
@@ -34,10 +34,20 @@ inserted-none {slot} {x} {m} {w} inside d = subst (λ n. InsertedBelow n slot x 
 
 -- beside a single line: in front of it, or behind it
 module _ {limit slot : ℕ} {x : InHand} {m : Outcome} {w w′ : Words} {b : Bool} where
-  pub inserted-front : b ≡ leZ (cell w rateField slot) (cell w rateField (x .tree)) → b ≡ false → x .tree ≤ mostSlots → RaisedIn slot (record { tree = slot; envelope = slot }) x w w′ m → InsertedBelow limit slot x w w′ m
+  pub inserted-front :
+      b ≡ leZ (cell w rateField slot) (cell w rateField (x .tree)) →
+      b ≡ false →
+      x .tree ≤ mostSlots →
+      RaisedIn slot (lineAt slot) x w w′ m →
+      InsertedBelow limit slot x w w′ m
   inserted-front d t single c = inserted-leaf single refl (sym t ∙ d) refl (raised-left c)
 
-  pub inserted-back : b ≡ leZ (cell w rateField slot) (cell w rateField (x .tree)) → b ≡ true → x .tree ≤ mostSlots → RaisedIn (x .tree) x (record { tree = slot; envelope = slot }) w w′ m → InsertedBelow limit slot x w w′ m
+  pub inserted-back :
+      b ≡ leZ (cell w rateField slot) (cell w rateField (x .tree)) →
+      b ≡ true →
+      x .tree ≤ mostSlots →
+      RaisedIn (x .tree) x (lineAt slot) w w′ m →
+      InsertedBelow limit slot x w w′ m
   inserted-back d t single c = inserted-leaf single refl (sym t ∙ d) refl (raised-right c)
 
 -- into a child

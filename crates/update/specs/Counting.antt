@@ -39,7 +39,10 @@ counted-two {xs} {ys} a b c =
       heights = rw (heights-append xs ys) (sum-two _ _ _ _ _ (c .heights) (a .heights) (b .heights));
     }
 
-pub counted-three : {xs ys zs : List (Pair Item)} {n₁ n₂ n₃ n : Counts} → Counted xs n₁ → Counted ys n₂ → Counted zs n₃ → SummedThree n₁ n₂ n₃ n → Counted (xs ++ (ys ++ zs)) n
+pub counted-three :
+    {xs ys zs : List (Pair Item)} {n₁ n₂ n₃ n : Counts} →
+    Counted xs n₁ → Counted ys n₂ → Counted zs n₃ → SummedThree n₁ n₂ n₃ n →
+    Counted (xs ++ (ys ++ zs)) n
 counted-three {xs} {ys} {zs} a b c d =
     record {
       searches = rw (length-append xs (ys ++ zs), length-append ys zs) (sum-three _ _ _ _ _ _ _ (d .searches) (a .searches) (b .searches) (c .searches));

@@ -31,7 +31,7 @@ use Rattle.table.specs.PartTrees.{low}
 use Rattle.table.specs.Threads.{Holds}
 use Rattle.pieces.specs.Pieces.{items, item-laws, rateOf}
 use Rattle.form.specs.Stored.{stored-single, HeldIn, Touched}
-use Rattle.update.specs.Steps.{MadeIn, Near, Newcomer, InsertedIn}
+use Rattle.update.specs.Steps.{lineAt, MadeIn, Near, Newcomer, InsertedIn}
 use Rattle.update.specs.declared.Held.{Held as InHand}
 use Rattle.update.specs.declared.Counts.{Counts}
 use Rattle.update.specs.declared.Made.{Made as Outcome}
@@ -120,14 +120,15 @@ pub inserted-leaf :
     θ ≡ cell w rateField slot →
     side ≡ leZ θ (cell w rateField (x .tree)) →
     gap ≡ cond side (x .tree) slot →
-    RaisedOn side gap (record { tree = slot; envelope = slot }) x w w′ m →
+    RaisedOn side gap (lineAt slot) x w w′ m →
     InsertedBelow limit slot x w w′ m
 inserted-leaf {side} {θ} {w} {w′} {limit} {slot} {gap} {x} {m} single-line rate test gap-is c =
     record { within = c .within; made = λ a t f d. go a (t .tree) (t .whole) f .made; touched = λ a t f d. go a (t .tree) (t .whole) f .touched }
   where
     go : (a : Item) (t : OfferTree Item) (p : Part Item) → Newcomer w slot x a (hold t p) → Inserts w w′ m a (hold t p)
     go a (fork u v l ql qr r) p f = absurd (omega (arith, f .held .root, f .held .slots .low (Memᴰ·append-left (leaves (shape r)) (last-leaf (shape l)))))
-    go a (single b) p f = record { made = subst (MadeIn w′ m) (sym (insert-single side a b p way)) (R .made); touched = touched-more (beside-inside side a b) (R .touched) }
+    go a (single b) p f =
+        record { made = subst (MadeIn w′ m) (sym (insert-single side a b p way)) (R .made); touched = touched-more (beside-inside side a b) (R .touched) }
       where
         way : items .before a b ≡ not side
         way =

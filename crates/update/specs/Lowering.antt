@@ -24,7 +24,6 @@ use Rattle.table.specs.Rep.{childAt, refOf, Tied, tied-node, Within, within-tra
 use Rattle.table.specs.Threads.{Holds, holds-left, holds-right}
 use Rattle.pieces.specs.Pieces.{items, item-laws, rateOf, PieceField, PiecesOnly, Standing, Beside, EndsAt, BeginsAt, CattedAfter, CattedBefore, inFront, CutAt}
 use Rattle.form.specs.Stored.{RestIn, Stored, stored-fork, HeldIn, Touched}
-use Rattle.table.specs.PartTrees.{partRef}
 use Rattle.update.specs.Steps.{HandIn, LoweredIn}
 use Rattle.update.specs.declared.Held.{Held as InHand}
 use Rattle.update.specs.declared.Lowered.{Lowered}
@@ -242,7 +241,10 @@ spread {c} p ql sl qr sr s =
     sides : Disjoint (ql ++ sl) (qr ++ sr)
     sides = disjoint-across (ql ++ sl) rest
 
-module _ {m ql qr a b : ℕ} {x : InHand} {lowered : Lowered} {θ : ℤ} {w w₁ w₂ w₃ : Words} {u v : Item} {L R : OfferTree Item} {QL QR P : Part Item} (calls : Calls x w w₁ w₂ w₃ m ql qr a b lowered θ) (held : HandIn w x (hold (fork u v L QL QR R) P)) where
+module _
+    {m ql qr a b : ℕ} {x : InHand} {lowered : Lowered} {θ : ℤ} {w w₁ w₂ w₃ : Words} {u v : Item} {L R : OfferTree Item} {QL QR P : Part Item}
+    (calls : Calls x w w₁ w₂ w₃ m ql qr a b lowered θ)
+    (held : HandIn w x (hold (fork u v L QL QR R) P)) where
   lowers-fork : Lowers w w₃ lowered (hold (fork u v L QL QR R) P)
   unfolding lowerTree
   lowers-fork =

@@ -106,7 +106,9 @@ lowered-right c = record { within = c .within; outer-held = c .back; inner-held 
 pub record RaisedOn (side : Bool) (gap : ℕ) (x y : InHand) (w w′ : Words) (m : Outcome) : Type 0 where
   pub within : Within w w′
   pub made : (o i : Held Item) → Neighbours side w gap x y o i → Avl (nodeOn side (heldShape o) (heldShape i)) → MadeIn w′ m (raiseOn items (sideOf side) o i)
-  pub touched : (o i : Held Item) → Neighbours side w gap x y o i → Avl (nodeOn side (heldShape o) (heldShape i)) → Touched (leaves (nodeOn side (heldShape o) (heldShape i))) w w′
+  pub touched :
+      (o i : Held Item) → Neighbours side w gap x y o i → Avl (nodeOn side (heldShape o) (heldShape i)) →
+      Touched (leaves (nodeOn side (heldShape o) (heldShape i))) w w′
 
 pub raised-left : {gap : ℕ} {x y : InHand} {m : Outcome} {w w′ : Words} → RaisedIn gap x y w w′ m → RaisedOn false gap x y w w′ m
 raised-left c = record { within = c .within; made = λ o i n. c .made o i (neighbours-left n); touched = λ o i n. c .touched o i (neighbours-left n) }

@@ -21,7 +21,7 @@ use Rattle.table.specs.Rep.{heightAt, refOf, nodeOn, Within, within-trans, with
 use Rattle.table.specs.Nodes.{rep-height}
 use Rattle.nodes.specs.Joining.{Joined}
 use Rattle.pieces.specs.Pieces.{items, rateOf, inFront, Standing, SeamAt, Seamed, Parted, CutBehind, CutBefore}
-use Rattle.form.specs.Stored.{HeldIn, Touched}
+use Rattle.form.specs.Stored.{Touched}
 use Rattle.update.specs.Steps.{Counted, HandIn, MadeIn, Siblings, RaisedIn}
 use Rattle.update.specs.declared.Held.{Held as InHand}
 use Rattle.update.specs.declared.Made.{Made as Outcome}

@@ -4,7 +4,7 @@ use mathlib.Core.Bool.{Bool, true, false}
 use Prim.Native.Nat.{ℕ, suc, _≤_, _<_}
 use native.Mathlib.Omega.{arith}
 use borrow.Author.Tests.{lt-ltb, le-ltb}
-use Rattle.trees.specs.Tree.{leaves, avl-node}
+use Rattle.trees.specs.Tree.{node, leaves, Avl, avl-node}
 use Rattle.meeting.specs.Machine.{left, right}
 use Rattle.dynamic.specs.OfferTree.{Held, heldShape, Made, raise}
 use Rattle.dynamic.specs.Updates.{rotate, rebalance}
@@ -41,12 +41,16 @@ module _ (l r : Held Item) where
 -- ---- the calls
 
 module _ {gap : ℕ} {x y : InHand} {m : Outcome} {w w′ : Words} where
-  pub rebalanced-level : heightAt w offerTree (x .tree) ≤ suc (heightAt w offerTree (y .tree)) → heightAt w offerTree (y .tree) ≤ suc (heightAt w offerTree (x .tree)) → RaisedIn gap x y w w′ m → RebalancedIn gap x y w w′ m
+  pub rebalanced-level :
+      heightAt w offerTree (x .tree) ≤ suc (heightAt w offerTree (y .tree)) →
+      heightAt w offerTree (y .tree) ≤ suc (heightAt w offerTree (x .tree)) →
+      RaisedIn gap x y w w′ m →
+      RebalancedIn gap x y w w′ m
   rebalanced-level p q c =
       record {
         within = c .within;
-        made = λ l r g n. subst (MadeIn w′ m) (sym (rebalance-level l r (left-low l r g) (right-low l r g))) (c .made l r g (avl-node (g .left .right .balanced) (g .right .right .balanced) (left-low l r g) (right-low l r g)));
-        touched = λ l r g n. c .touched l r g (avl-node (g .left .right .balanced) (g .right .right .balanced) (left-low l r g) (right-low l r g));
+        made = λ l r g n. subst (MadeIn w′ m) (sym (rebalance-level l r (left-low l r g) (right-low l r g))) (c .made l r g (level l r g));
+        touched = λ l r g n. c .touched l r g (level l r g);
       }
     where
       left-low : (l r : Held Item) → Siblings w gap x y l r → heldHeight l ≤ suc (heldHeight r)
@@ -54,6 +58,9 @@ module _ {gap : ℕ} {x y : InHand} {m : Outcome} {w w′ : Words} where
 
       right-low : (l r : Held Item) → Siblings w gap x y l r → heldHeight r ≤ suc (heldHeight l)
       right-low l r g = omega (arith, q, held-height (g .left), held-height (g .right))
+
+      level : (l r : Held Item) → Siblings w gap x y l r → Avl (node (heldShape l) (heldShape r))
+      level l r g = avl-node (g .left .right .balanced) (g .right .right .balanced) (left-low l r g) (right-low l r g)
 
   pub rebalanced-left : suc (heightAt w offerTree (y .tree)) < heightAt w offerTree (x .tree) → RotatedIn false gap x y w w′ m → RebalancedIn gap x y w w′ m
   rebalanced-left p c =

@@ -132,7 +132,8 @@ module _
       (a : Item) (t : Held Item) →
       Leaver w slot x a t →
       heldHeight t ≤ limit →
-      Below side w w₁ w₂ x c m₁ a t (outer (sideOf side) (lower items t)) (inner (sideOf side) (lower items t)) (remove items a (outer (sideOf side) (lower items t) .tree) (outer (sideOf side) (lower items t) .whole))
+      Below side w w₁ w₂ x c m₁ a t (outer (sideOf side) (lower items t)) (inner (sideOf side) (lower items t))
+      (remove items a (outer (sideOf side) (lower items t) .tree) (outer (sideOf side) (lower items t) .whole))
   below a t f lim =
       record {
         opened = p;
@@ -199,7 +200,9 @@ module _
           LeavesIn w₂ out (remove items a (t .tree) (t .whole))
       go a t o i {r} b = subst (LeavesIn w₂ out) (sym (b .way)) (go-on (r .rest) (r .log) (b .left .rest) (b .left .counted))
         where
-          go-on : (left : Option (Held Item)) (log : List (Pair Item)) → LeftIn w₂ (m₁ .held) left → Counted log (m₁ .counts) → LeavesIn w₂ out (besideOn side (record { rest = left; log = log }) i)
+          go-on :
+              (left : Option (Held Item)) (log : List (Pair Item)) → LeftIn w₂ (m₁ .held) left → Counted log (m₁ .counts) →
+              LeavesIn w₂ out (besideOn side (record { rest = left; log = log }) i)
           go-on none log l n = subst (LeavesIn w₂ out) (sym (beside-none side log i)) (record { rest = b .sibling; counted = n })
           go-on (some g) log l n = absurd (omega (arith, l .root, ref-low (heldShape g) (l .slots)))
 
@@ -212,11 +215,16 @@ module _
     abbrev out : Outcome
     out = record { held = m₂ .held; counts = n }
 
-    removes-inner : (a : Item) (t o i : Held Item) (left : Option (Held Item)) (log : List (Pair Item)) → Below side w w₁ w₂ x c m₁ a t o i (record { rest = left; log = log }) → Removes w w₃ out a t
+    removes-inner :
+        (a : Item) (t o i : Held Item) (left : Option (Held Item)) (log : List (Pair Item)) →
+        Below side w w₁ w₂ x c m₁ a t o i (record { rest = left; log = log }) →
+        Removes w w₃ out a t
     removes-inner a t o i none log b = absurd (omega (arith, b .left .rest .0))
     removes-inner a t o i (some g) log b =
         record {
-          made = subst (LeavesIn w₃ out) (sym (b .way ∙ beside-some side g log i)) (record { rest = R .held; counted = counted-two (b .left .counted) (R .counted) counts });
+          made =
+              subst (LeavesIn w₃ out) (sym (b .way ∙ beside-some side g log i))
+              (record { rest = R .held; counted = counted-two (b .left .counted) (R .counted) counts });
           touched = touched-trans (b .touched) (touched-more inside-t (reb .touched g i next near));
         }
       where

@@ -13,7 +13,7 @@ use Rattle.dynamic.specs.Kept.{heldHeight}
 use Rattle.table.specs.Fields.{mostSlots, offerTree}
 use Rattle.table.specs.Words.{Words}
 use Rattle.table.specs.Layout.{cap}
-use Rattle.table.specs.Items.{Item, Slots}
+use Rattle.table.specs.Items.{Item, In, Slots}
 use Rattle.table.specs.Rep.{nodeOn, seam, heightAt, Within, within-trans}
 use Rattle.table.specs.Nodes.{on-one, on-other, on-across, in-one, in-other, height-on}
 use Rattle.shape.specs.Sides.{rowOn, row-leaves, four-leaves, seam-first, seam-last}
@@ -108,7 +108,11 @@ gathered {side} {w} {w₁} {w₂} {m} {gap} {x} {y} {z} {m₁} {m₂} {o} {i} {s
 
 -- ---- the taller of two neighbours lowered
 
-module _ {side : Bool} {w w₁ : Words} {gap : ℕ} {x y : InHand} {c : Opened} {tall s o i : Held Item} (n : Neighbours side w gap x y tall s) (within : Within w w₁) (p : Opens side w w₁ x c tall o i) where
+module _
+    {side : Bool} {w w₁ : Words} {gap : ℕ} {x y : InHand} {c : Opened} {tall s o i : Held Item}
+    (n : Neighbours side w gap x y tall s)
+    (within : Within w w₁)
+    (p : Opens side w w₁ x c tall o i) where
   row : leaves (nodeOn side (heldShape tall) (heldShape s)) ≡ leaves (nodeOn side (heldShape o) (nodeOn side (heldShape i) (heldShape s)))
   row = ap (λ t. leaves (nodeOn side t (heldShape s))) (p .shaped) ∙ row-leaves side (heldShape o) (heldShape i) (heldShape s)
 
@@ -132,14 +136,22 @@ module _ {side : Bool} {w w₁ : Words} {gap : ℕ} {x y : InHand} {c : Opened} 
 -- the subtree x on a side stands two higher than its neighbour y
 pub record RotatedIn (side : Bool) (gap : ℕ) (x y : InHand) (w w′ : Words) (m : Outcome) : Type 0 where
   pub within : Within w w′
-  pub made : (tall short : Held Item) → Neighbours side w gap x y tall short → heldHeight tall ≡ suc (suc (heldHeight short)) → MadeIn w′ m (rotate items (sideOf side) tall short)
-  pub touched : (tall short : Held Item) → Neighbours side w gap x y tall short → heldHeight tall ≡ suc (suc (heldHeight short)) → Touched (leaves (nodeOn side (heldShape tall) (heldShape short))) w w′
+  pub made :
+      (tall short : Held Item) → Neighbours side w gap x y tall short → heldHeight tall ≡ suc (suc (heldHeight short)) →
+      MadeIn w′ m (rotate items (sideOf side) tall short)
+  pub touched :
+      (tall short : Held Item) → Neighbours side w gap x y tall short → heldHeight tall ≡ suc (suc (heldHeight short)) →
+      Touched (leaves (nodeOn side (heldShape tall) (heldShape short))) w w′
 
 record Rotates (side : Bool) (w w′ : Words) (m : Outcome) (tall short : Held Item) : Type 0 where
   made : MadeIn w′ m (rotate items (sideOf side) tall short)
   touched : Touched (leaves (nodeOn side (heldShape tall) (heldShape short))) w w′
 
-rotated : {side : Bool} {gap : ℕ} {x y : InHand} {m : Outcome} {w w′ : Words} → Within w w′ → ((tall short : Held Item) → Neighbours side w gap x y tall short → heldHeight tall ≡ suc (suc (heldHeight short)) → Rotates side w w′ m tall short) → RotatedIn side gap x y w w′ m
+rotated :
+    {side : Bool} {gap : ℕ} {x y : InHand} {m : Outcome} {w w′ : Words} →
+    Within w w′ →
+    ((tall short : Held Item) → Neighbours side w gap x y tall short → heldHeight tall ≡ suc (suc (heldHeight short)) → Rotates side w w′ m tall short) →
+    RotatedIn side gap x y w w′ m
 rotated within f = record { within = within; made = λ t s n e. f t s n e .made; touched = λ t s n e. f t s n e .touched }
 
 module _ (side : Side) (tall short : Held Item) where
@@ -163,7 +175,8 @@ pub rotated-once :
     RaisedOn side m (c .on) (m₁ .held) w₂ w₃ m₂ →
     Summed (m₁ .counts) (m₂ .counts) n →
     RotatedIn side gap x y w w₃ (record { held = m₂ .held; counts = n })
-rotated-once {side} {w} {w₁} {w₂} {w₃} {gap} {m} {x} {y} {c} {m₁} {m₂} {n} low test c₁ e₂ c₂ counts = rotated (within-trans (low .within) (within-trans (c₁ .within) (c₂ .within))) go
+rotated-once {side} {w} {w₁} {w₂} {w₃} {gap} {m} {x} {y} {c} {m₁} {m₂} {n} low test c₁ e₂ c₂ counts =
+    rotated (within-trans (low .within) (within-trans (c₁ .within) (c₂ .within))) go
   where
     out : Outcome
     out = record { held = m₂ .held; counts = n }
@@ -171,7 +184,9 @@ rotated-once {side} {w} {w₁} {w₂} {w₃} {gap} {m} {x} {y} {c} {m₁} {m₂}
     go : (tall short : Held Item) → Neighbours side w gap x y tall short → heldHeight tall ≡ suc (suc (heldHeight short)) → Rotates side w w₃ out tall short
     go tall short near two =
         record {
-          made = subst (MadeIn w₃ out) (sym (rotate-once (sideOf side) tall short le)) (record { held = G .held; counted = counted-two (G .counted-inner) (G .counted-outer) counts });
+          made =
+              subst (MadeIn w₃ out) (sym (rotate-once (sideOf side) tall short le))
+              (record { held = G .held; counted = counted-two (G .counted-inner) (G .counted-outer) counts });
           touched = touched-trans (lowered-touched near (low .within) p) (subst (λ xs. Touched xs w₁ w₃) (sym (row near (low .within) p)) (G .touched));
         }
       where
@@ -193,10 +208,13 @@ rotated-once {side} {w} {w₁} {w₂} {w₃} {gap} {m} {x} {y} {c} {m₁} {m₂}
         level : heldHeight o ≤ suc (heldHeight i)
         level = p .level .left-level
 
-        G : Gathered side w₁ w₃ (m₁ .counts) m₂ o i short (raiseOn items (sideOf side) i short) (raiseOn items (sideOf side) o (raiseOn items (sideOf side) i short .held))
+        s : Made Item
+        s = raiseOn items (sideOf side) i short
+
+        G : Gathered side w₁ w₃ (m₁ .counts) m₂ o i short s (raiseOn items (sideOf side) o (s .held))
         G =
-            gathered (trio near (low .within) p) c₁ (subst (λ j. RaisedOn side j (c .on) (m₁ .held) w₂ w₃ m₂) e₂ c₂) (omega (arith, le, higher, level)) (omega (arith, le, higher, level)) (omega (arith, le, higher, level))
-            (omega (arith, le, higher, level))
+            gathered (trio near (low .within) p) c₁ (subst (λ j. RaisedOn side j (c .on) (m₁ .held) w₂ w₃ m₂) e₂ c₂)
+            (omega (arith, le, higher, level)) (omega (arith, le, higher, level)) (omega (arith, le, higher, level)) (omega (arith, le, higher, level))
 
 -- ---- the middle one of three lowered, and its outer child raised with the outer one
 
@@ -223,8 +241,8 @@ parted {side} {w} {w₁} {w₂} {m} {gap} {x} {y} {z} {c} {m₁} {o} {i} {s} {p}
       next =
           record {
             outer-held = X .made .held;
-            middle-held = held-still (up .within) (op .inner-held) (X .touched) (λ n a b. on-across (nodeOn side O P) (nodeOn side Q S) side slots₁ b (in-one side Q S a));
-            short-held = held-still (up .within) short₁ (X .touched) (λ n a b. on-across (nodeOn side O P) (nodeOn side Q S) side slots₁ b (in-other side Q S a));
+            middle-held = held-still (up .within) (op .inner-held) (X .touched) (λ n a b. apart b (in-one side Q S a));
+            short-held = held-still (up .within) short₁ (X .touched) (λ n a b. apart b (in-other side Q S a));
             outer-seam = op .at-seam ∙ ap slotOf (sym (seam-last side O P Q) ∙ ap (λ a. seam side a Q) (sym (X .shaped)));
             short-seam = t .short-seam ∙ ap slotOf (ap (λ a. seam side a S) (op .shaped) ∙ seam-last side P Q S);
             slots = subst (λ a. Slots (cap w₂) (leaves (nodeOn side a (nodeOn side Q S)))) (sym (X .shaped)) (slots-within (up .within) slots₁);
@@ -261,6 +279,9 @@ parted {side} {w} {w₁} {w₂} {m} {gap} {x} {y} {z} {c} {m₁} {o} {i} {s} {p}
 
     slots₁ : Slots (cap w₁) (leaves (nodeOn side (nodeOn side O P) (nodeOn side Q S)))
     slots₁ = subst (Slots (cap w₁)) same (slots-within within (t .slots))
+
+    apart : {n : ℕ} → In n (leaves (nodeOn side O P)) → In n (leaves (nodeOn side Q S)) → ⊥
+    apart b a = on-across (nodeOn side O P) (nodeOn side Q S) side slots₁ b a
 
     ordered₁ : Ordered items (leaves (nodeOn side (nodeOn side O P) (nodeOn side Q S)))
     ordered₁ = subst (Ordered items) same (t .ordered)
@@ -320,7 +341,8 @@ rotated-twice {side} {w} {w₁} {w₂} {w₃} {w₄} {w₅} {gap} {m} {m′} {x}
               (record { held = G .held; counted = counted-three (D .counted) (G .counted-inner) (G .counted-outer) counts });
           touched =
               touched-trans (lowered-touched near (low .within) a)
-              (subst (λ xs. Touched xs w₁ w₅) (sym (row near (low .within) a)) (touched-trans (D .touched) (subst (λ xs. Touched xs w₃ w₅) (sym (D .same-row)) (G .touched))));
+              (subst (λ xs. Touched xs w₁ w₅) (sym (row near (low .within) a))
+              (touched-trans (D .touched) (subst (λ xs. Touched xs w₃ w₅) (sym (D .same-row)) (G .touched))));
         }
       where
         o : Held Item
@@ -358,5 +380,5 @@ rotated-twice {side} {w} {w₁} {w₂} {w₃} {w₄} {w₅} {gap} {m} {m′} {x}
 
         G : Gathered side w₃ w₅ (m₂ .counts) m₃ (raiseOn items (sideOf side) o p .held) q short s z
         G =
-            gathered (D .next) c₂ (subst (λ j. RaisedOn side j (m₁ .held) (m₂ .held) w₄ w₅ m₃) e₃ c₃) (levels .q-s) (levels .s-q) (omega (arith, D .tall, levels .low))
-            (omega (arith, D .tall, levels .high))
+            gathered (D .next) c₂ (subst (λ j. RaisedOn side j (m₁ .held) (m₂ .held) w₄ w₅ m₃) e₃ c₃) (levels .q-s) (levels .s-q)
+            (omega (arith, D .tall, levels .low)) (omega (arith, D .tall, levels .high))

@@ -30,6 +30,10 @@ use Rattle.update.specs.declared.Lowered.{Lowered}
 abbrev pub HandIn : Words → InHand → Held Item → Type 0
 HandIn w x h = HeldIn w (x .tree) (x .envelope) h
 
+-- a line alone: its slot is the root of its tree and of its envelope
+abbrev pub lineAt : ℕ → InHand
+lineAt s = record { tree = s; envelope = s }
+
 -- searches, steps and heights, as counted
 pub record Counted (log : List (Pair Item)) (n : Counts) : Type 0 where
   pub searches : n .searches ≡ length log % 2 ^ 32
@@ -66,7 +70,9 @@ pub record Siblings (w : Words) (gap : ℕ) (x y : InHand) (l r : Held Item) : T
 pub record RaisedIn (gap : ℕ) (x y : InHand) (w w′ : Words) (m : Outcome) : Type 0 where
   pub within : Within w w′
   pub made : (l r : Held Item) → Siblings w gap x y l r → Avl (node (heldShape l) (heldShape r)) → MadeIn w′ m (raise items l r)
-  pub touched : (l r : Held Item) → Siblings w gap x y l r → Avl (node (heldShape l) (heldShape r)) → Touched (leaves (heldShape l) ++ leaves (heldShape r)) w w′
+  pub touched :
+      (l r : Held Item) → Siblings w gap x y l r → Avl (node (heldShape l) (heldShape r)) →
+      Touched (leaves (heldShape l) ++ leaves (heldShape r)) w w′
 
 -- heights differ by at most 2
 pub record Near (l r : Held Item) : Type 0 where

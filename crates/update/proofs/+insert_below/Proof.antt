@@ -32,251 +32,9 @@ insert-below-below t =
     (falls 1 insert-below-kinds.ps _<_ μ-insert-below t)
     insert-below.Pre
 
-insert-below-insert-beside-requires : (t : ℕ) → insert-below-lts.Need-insert-beside-requires (
-  insert-beside-reads.Asked,
-  insert-beside-reads.Learnt,
-  nothing-reads.Asked,
-  nothing-reads.Learnt,
-  inner-slot-reads.Asked,
-  inner-slot-reads.Learnt,
-  at-most-reads.Asked,
-  at-most-reads.Learnt,
-  lower-on-reads.Asked,
-  lower-on-reads.Learnt,
-  insert-below-below t,
-  insert-below.Post,
-  rebuild-reads.Asked,
-  rebuild-reads.Learnt,
-) (insert-below-at t) insert-below.Post
-insert-below-insert-beside-requires t c κs = search needs
-
-insert-below-same-length : (t : ℕ) → insert-below-lts.Need-same-length (
-  insert-beside-reads.Asked,
-  insert-beside-reads.Learnt,
-  nothing-reads.Asked,
-  nothing-reads.Learnt,
-  inner-slot-reads.Asked,
-  inner-slot-reads.Learnt,
-  at-most-reads.Asked,
-  at-most-reads.Learnt,
-  lower-on-reads.Asked,
-  lower-on-reads.Learnt,
-  insert-below-below t,
-  insert-below.Post,
-  rebuild-reads.Asked,
-  rebuild-reads.Learnt,
-) (insert-below-at t) insert-below.Post
-insert-below-same-length t c = search needs
-
-insert-below-returns : (t : ℕ) → insert-below-lts.Need-returns (
-  insert-beside-reads.Asked,
-  insert-beside-reads.Learnt,
-  nothing-reads.Asked,
-  nothing-reads.Learnt,
-  inner-slot-reads.Asked,
-  inner-slot-reads.Learnt,
-  at-most-reads.Asked,
-  at-most-reads.Learnt,
-  lower-on-reads.Asked,
-  lower-on-reads.Learnt,
-  insert-below-below t,
-  insert-below.Post,
-  rebuild-reads.Asked,
-  rebuild-reads.Learnt,
-) (insert-below-at t) insert-below.Post
-insert-below-returns t c = c .before .insert-beside .ensures _ (c .before .before .before .if1 .taken)
-
-insert-below-nothing-requires : (t : ℕ) → insert-below-lts.Need-nothing-requires (
-  insert-beside-reads.Asked,
-  insert-beside-reads.Learnt,
-  nothing-reads.Asked,
-  nothing-reads.Learnt,
-  inner-slot-reads.Asked,
-  inner-slot-reads.Learnt,
-  at-most-reads.Asked,
-  at-most-reads.Learnt,
-  lower-on-reads.Asked,
-  lower-on-reads.Learnt,
-  insert-below-below t,
-  insert-below.Post,
-  rebuild-reads.Asked,
-  rebuild-reads.Learnt,
-) (insert-below-at t) insert-below.Post
-insert-below-nothing-requires t c κs = search needs
-
-insert-below-returns-2 : (t : ℕ) → insert-below-lts.Need-returns-2 (
-  insert-beside-reads.Asked,
-  insert-beside-reads.Learnt,
-  nothing-reads.Asked,
-  nothing-reads.Learnt,
-  inner-slot-reads.Asked,
-  inner-slot-reads.Learnt,
-  at-most-reads.Asked,
-  at-most-reads.Learnt,
-  lower-on-reads.Asked,
-  lower-on-reads.Learnt,
-  insert-below-below t,
-  insert-below.Post,
-  rebuild-reads.Asked,
-  rebuild-reads.Learnt,
-) (insert-below-at t) insert-below.Post
-insert-below-returns-2 t c = inserted-none (c .before .before .if1 .left) (c .before .if2 .taken)
-
-insert-below-inner-slot-requires : (t : ℕ) → insert-below-lts.Need-inner-slot-requires (
-  insert-beside-reads.Asked,
-  insert-beside-reads.Learnt,
-  nothing-reads.Asked,
-  nothing-reads.Learnt,
-  inner-slot-reads.Asked,
-  inner-slot-reads.Learnt,
-  at-most-reads.Asked,
-  at-most-reads.Learnt,
-  lower-on-reads.Asked,
-  lower-on-reads.Learnt,
-  insert-below-below t,
-  insert-below.Post,
-  rebuild-reads.Asked,
-  rebuild-reads.Learnt,
-) (insert-below-at t) insert-below.Post
-insert-below-inner-slot-requires t c κs = search needs
-
-insert-below-at-most-requires : (t : ℕ) → insert-below-lts.Need-at-most-requires (
-  insert-beside-reads.Asked,
-  insert-beside-reads.Learnt,
-  nothing-reads.Asked,
-  nothing-reads.Learnt,
-  inner-slot-reads.Asked,
-  inner-slot-reads.Learnt,
-  at-most-reads.Asked,
-  at-most-reads.Learnt,
-  lower-on-reads.Asked,
-  lower-on-reads.Learnt,
-  insert-below-below t,
-  insert-below.Post,
-  rebuild-reads.Asked,
-  rebuild-reads.Learnt,
-) (insert-below-at t) insert-below.Post
-insert-below-at-most-requires t c κs = search needs
-
-insert-below-lower-on-requires : (t : ℕ) → insert-below-lts.Need-lower-on-requires (
-  insert-beside-reads.Asked,
-  insert-beside-reads.Learnt,
-  nothing-reads.Asked,
-  nothing-reads.Learnt,
-  inner-slot-reads.Asked,
-  inner-slot-reads.Learnt,
-  at-most-reads.Asked,
-  at-most-reads.Learnt,
-  lower-on-reads.Asked,
-  lower-on-reads.Learnt,
-  insert-below-below t,
-  insert-below.Post,
-  rebuild-reads.Asked,
-  rebuild-reads.Learnt,
-) (insert-below-at t) insert-below.Post
-insert-below-lower-on-requires t c κs = search needs
-
-insert-below-sub-insert-below : (t : ℕ) → insert-below-lts.Need-sub-insert-below (
-  insert-beside-reads.Asked,
-  insert-beside-reads.Learnt,
-  nothing-reads.Asked,
-  nothing-reads.Learnt,
-  inner-slot-reads.Asked,
-  inner-slot-reads.Learnt,
-  at-most-reads.Asked,
-  at-most-reads.Learnt,
-  lower-on-reads.Asked,
-  lower-on-reads.Learnt,
-  insert-below-below t,
-  insert-below.Post,
-  rebuild-reads.Asked,
-  rebuild-reads.Learnt,
-) (insert-below-at t) insert-below.Post
-insert-below-sub-insert-below t c = omega arith
-
-insert-below-insert-below-requires : (t : ℕ) → insert-below-lts.Need-insert-below-requires (
-  insert-beside-reads.Asked,
-  insert-beside-reads.Learnt,
-  nothing-reads.Asked,
-  nothing-reads.Learnt,
-  inner-slot-reads.Asked,
-  inner-slot-reads.Learnt,
-  at-most-reads.Asked,
-  at-most-reads.Learnt,
-  lower-on-reads.Asked,
-  lower-on-reads.Learnt,
-  insert-below-below t,
-  insert-below.Post,
-  rebuild-reads.Asked,
-  rebuild-reads.Learnt,
-) (insert-below-at t) insert-below.Post
-insert-below-insert-below-requires t c κs =
-    let opened = c .before .before .before .before in
-    let entry = opened .before .before .before .before .before .before .before .before in
-    (omega (arith, entry .pre .0), tt)
-
-insert-below-rebuild-requires : (t : ℕ) → insert-below-lts.Need-rebuild-requires (
-  insert-beside-reads.Asked,
-  insert-beside-reads.Learnt,
-  nothing-reads.Asked,
-  nothing-reads.Learnt,
-  inner-slot-reads.Asked,
-  inner-slot-reads.Learnt,
-  at-most-reads.Asked,
-  at-most-reads.Learnt,
-  lower-on-reads.Asked,
-  lower-on-reads.Learnt,
-  insert-below-below t,
-  insert-below.Post,
-  rebuild-reads.Asked,
-  rebuild-reads.Learnt,
-) (insert-below-at t) insert-below.Post
-insert-below-rebuild-requires t c κs = search needs
-
-insert-below-same-length-2 : (t : ℕ) → insert-below-lts.Need-same-length-2 (
-  insert-beside-reads.Asked,
-  insert-beside-reads.Learnt,
-  nothing-reads.Asked,
-  nothing-reads.Learnt,
-  inner-slot-reads.Asked,
-  inner-slot-reads.Learnt,
-  at-most-reads.Asked,
-  at-most-reads.Learnt,
-  lower-on-reads.Asked,
-  lower-on-reads.Learnt,
-  insert-below-below t,
-  insert-below.Post,
-  rebuild-reads.Asked,
-  rebuild-reads.Learnt,
-) (insert-below-at t) insert-below.Post
-insert-below-same-length-2 t c = search needs
-
-insert-below-returns-3 : (t : ℕ) → insert-below-lts.Need-returns-3 (
-  insert-beside-reads.Asked,
-  insert-beside-reads.Learnt,
-  nothing-reads.Asked,
-  nothing-reads.Learnt,
-  inner-slot-reads.Asked,
-  inner-slot-reads.Learnt,
-  at-most-reads.Asked,
-  at-most-reads.Learnt,
-  lower-on-reads.Asked,
-  lower-on-reads.Learnt,
-  insert-below-below t,
-  insert-below.Post,
-  rebuild-reads.Asked,
-  rebuild-reads.Learnt,
-) (insert-below-at t) insert-below.Post
-insert-below-returns-3 t c =
-    let below = c .before .before .before .before in
-    let opened = below .before .before .before .before .before in
-    let tested = opened .before .before in
-    let slot = tested .before .before in
-    inserted-step (slot .before .before .if1 .left) (slot .inner-slot .ensures) (tested .at-most .ensures) (opened .lower-on .ensures) (below .insert-below .ensures)
-    (c .before .rebuild .ensures)
-
-pub +insert-below-spec : {M : Type 1} → statement M
-+insert-below-spec = close μ-insert-below λ t. insert-below-lts.spec (
+-- what is asked and learnt of each call
+abbrev claims : ℕ → insert-below-lts.Claims
+claims t = (
   insert-beside-reads.Asked,
   insert-beside-reads.Learnt,
   nothing-reads.Asked,
@@ -292,8 +50,59 @@ pub +insert-below-spec : {M : Type 1} → statement M
   rebuild-reads.Asked,
   rebuild-reads.Learnt,
 )
-    (insert-below-at t)
-    insert-below.Post
+
+insert-below-insert-beside-requires : (t : ℕ) → insert-below-lts.Need-insert-beside-requires (claims t) (insert-below-at t) insert-below.Post
+insert-below-insert-beside-requires t c κs = search needs
+
+insert-below-same-length : (t : ℕ) → insert-below-lts.Need-same-length (claims t) (insert-below-at t) insert-below.Post
+insert-below-same-length t c = search needs
+
+insert-below-returns : (t : ℕ) → insert-below-lts.Need-returns (claims t) (insert-below-at t) insert-below.Post
+insert-below-returns t c = c .before .insert-beside .ensures _ (c .before .before .before .if1 .taken)
+
+insert-below-nothing-requires : (t : ℕ) → insert-below-lts.Need-nothing-requires (claims t) (insert-below-at t) insert-below.Post
+insert-below-nothing-requires t c κs = search needs
+
+insert-below-returns-2 : (t : ℕ) → insert-below-lts.Need-returns-2 (claims t) (insert-below-at t) insert-below.Post
+insert-below-returns-2 t c = inserted-none (c .before .before .if1 .left) (c .before .if2 .taken)
+
+insert-below-inner-slot-requires : (t : ℕ) → insert-below-lts.Need-inner-slot-requires (claims t) (insert-below-at t) insert-below.Post
+insert-below-inner-slot-requires t c κs = search needs
+
+insert-below-at-most-requires : (t : ℕ) → insert-below-lts.Need-at-most-requires (claims t) (insert-below-at t) insert-below.Post
+insert-below-at-most-requires t c κs = search needs
+
+insert-below-lower-on-requires : (t : ℕ) → insert-below-lts.Need-lower-on-requires (claims t) (insert-below-at t) insert-below.Post
+insert-below-lower-on-requires t c κs = search needs
+
+insert-below-sub-insert-below : (t : ℕ) → insert-below-lts.Need-sub-insert-below (claims t) (insert-below-at t) insert-below.Post
+insert-below-sub-insert-below t c = omega arith
+
+insert-below-insert-below-requires : (t : ℕ) → insert-below-lts.Need-insert-below-requires (claims t) (insert-below-at t) insert-below.Post
+insert-below-insert-below-requires t c κs =
+    let opened = c .before .before .before .before in
+    let entry = opened .before .before .before .before .before .before .before .before in
+    (omega (arith, entry .pre .0), tt)
+
+insert-below-rebuild-requires : (t : ℕ) → insert-below-lts.Need-rebuild-requires (claims t) (insert-below-at t) insert-below.Post
+insert-below-rebuild-requires t c κs = search needs
+
+insert-below-same-length-2 : (t : ℕ) → insert-below-lts.Need-same-length-2 (claims t) (insert-below-at t) insert-below.Post
+insert-below-same-length-2 t c = search needs
+
+insert-below-returns-3 : (t : ℕ) → insert-below-lts.Need-returns-3 (claims t) (insert-below-at t) insert-below.Post
+insert-below-returns-3 t c =
+    let below = c .before .before .before .before in
+    let opened = below .before .before .before .before .before in
+    let tested = opened .before .before in
+    let slot = tested .before .before in
+    inserted-step (slot .before .before .if1 .left) (slot .inner-slot .ensures) (tested .at-most .ensures) (opened .lower-on .ensures)
+    (below .insert-below .ensures) (c .before .rebuild .ensures)
+
+pub +insert-below-spec : {M : Type 1} → statement M
++insert-below-spec =
+    close μ-insert-below λ t.
+    insert-below-lts.spec (claims t) (insert-below-at t) insert-below.Post
     (insert-below-insert-beside-requires t)
     (insert-below-same-length t)
     (insert-below-returns t)

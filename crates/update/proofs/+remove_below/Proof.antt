@@ -32,295 +32,9 @@ remove-below-below t =
     (falls 1 remove-below-kinds.ps _<_ μ-remove-below t)
     remove-below.Pre
 
-remove-below-nothing-requires : (t : ℕ) → remove-below-lts.Need-nothing-requires (
-  nothing-reads.Asked,
-  nothing-reads.Learnt,
-  inner-slot-reads.Asked,
-  inner-slot-reads.Learnt,
-  is-less-reads.Asked,
-  is-less-reads.Learnt,
-  lower-on-reads.Asked,
-  lower-on-reads.Learnt,
-  remove-below-below t,
-  remove-below.Post,
-  seam-after-reads.Asked,
-  seam-after-reads.Learnt,
-  rebuild-reads.Asked,
-  rebuild-reads.Learnt,
-) (remove-below-at t) remove-below.Post
-remove-below-nothing-requires t c κs = search needs
-
-remove-below-returns : (t : ℕ) → remove-below-lts.Need-returns (
-  nothing-reads.Asked,
-  nothing-reads.Learnt,
-  inner-slot-reads.Asked,
-  inner-slot-reads.Learnt,
-  is-less-reads.Asked,
-  is-less-reads.Learnt,
-  lower-on-reads.Asked,
-  lower-on-reads.Learnt,
-  remove-below-below t,
-  remove-below.Post,
-  seam-after-reads.Asked,
-  seam-after-reads.Learnt,
-  rebuild-reads.Asked,
-  rebuild-reads.Learnt,
-) (remove-below-at t) remove-below.Post
-remove-below-returns t c = removed-single (c .before .if1 .taken) (c .nothing .ensures)
-
-remove-below-nothing-requires-2 : (t : ℕ) → remove-below-lts.Need-nothing-requires-2 (
-  nothing-reads.Asked,
-  nothing-reads.Learnt,
-  inner-slot-reads.Asked,
-  inner-slot-reads.Learnt,
-  is-less-reads.Asked,
-  is-less-reads.Learnt,
-  lower-on-reads.Asked,
-  lower-on-reads.Learnt,
-  remove-below-below t,
-  remove-below.Post,
-  seam-after-reads.Asked,
-  seam-after-reads.Learnt,
-  rebuild-reads.Asked,
-  rebuild-reads.Learnt,
-) (remove-below-at t) remove-below.Post
-remove-below-nothing-requires-2 t c κs = search needs
-
-remove-below-returns-2 : (t : ℕ) → remove-below-lts.Need-returns-2 (
-  nothing-reads.Asked,
-  nothing-reads.Learnt,
-  inner-slot-reads.Asked,
-  inner-slot-reads.Learnt,
-  is-less-reads.Asked,
-  is-less-reads.Learnt,
-  lower-on-reads.Asked,
-  lower-on-reads.Learnt,
-  remove-below-below t,
-  remove-below.Post,
-  seam-after-reads.Asked,
-  seam-after-reads.Learnt,
-  rebuild-reads.Asked,
-  rebuild-reads.Learnt,
-) (remove-below-at t) remove-below.Post
-remove-below-returns-2 t c = removed-none (c .before .before .if1 .left) (c .before .if2 .taken)
-
-remove-below-inner-slot-requires : (t : ℕ) → remove-below-lts.Need-inner-slot-requires (
-  nothing-reads.Asked,
-  nothing-reads.Learnt,
-  inner-slot-reads.Asked,
-  inner-slot-reads.Learnt,
-  is-less-reads.Asked,
-  is-less-reads.Learnt,
-  lower-on-reads.Asked,
-  lower-on-reads.Learnt,
-  remove-below-below t,
-  remove-below.Post,
-  seam-after-reads.Asked,
-  seam-after-reads.Learnt,
-  rebuild-reads.Asked,
-  rebuild-reads.Learnt,
-) (remove-below-at t) remove-below.Post
-remove-below-inner-slot-requires t c κs = search needs
-
-remove-below-is-less-requires : (t : ℕ) → remove-below-lts.Need-is-less-requires (
-  nothing-reads.Asked,
-  nothing-reads.Learnt,
-  inner-slot-reads.Asked,
-  inner-slot-reads.Learnt,
-  is-less-reads.Asked,
-  is-less-reads.Learnt,
-  lower-on-reads.Asked,
-  lower-on-reads.Learnt,
-  remove-below-below t,
-  remove-below.Post,
-  seam-after-reads.Asked,
-  seam-after-reads.Learnt,
-  rebuild-reads.Asked,
-  rebuild-reads.Learnt,
-) (remove-below-at t) remove-below.Post
-remove-below-is-less-requires t c κs = search needs
-
-remove-below-lower-on-requires : (t : ℕ) → remove-below-lts.Need-lower-on-requires (
-  nothing-reads.Asked,
-  nothing-reads.Learnt,
-  inner-slot-reads.Asked,
-  inner-slot-reads.Learnt,
-  is-less-reads.Asked,
-  is-less-reads.Learnt,
-  lower-on-reads.Asked,
-  lower-on-reads.Learnt,
-  remove-below-below t,
-  remove-below.Post,
-  seam-after-reads.Asked,
-  seam-after-reads.Learnt,
-  rebuild-reads.Asked,
-  rebuild-reads.Learnt,
-) (remove-below-at t) remove-below.Post
-remove-below-lower-on-requires t c κs = search needs
-
-remove-below-sub-remove-below : (t : ℕ) → remove-below-lts.Need-sub-remove-below (
-  nothing-reads.Asked,
-  nothing-reads.Learnt,
-  inner-slot-reads.Asked,
-  inner-slot-reads.Learnt,
-  is-less-reads.Asked,
-  is-less-reads.Learnt,
-  lower-on-reads.Asked,
-  lower-on-reads.Learnt,
-  remove-below-below t,
-  remove-below.Post,
-  seam-after-reads.Asked,
-  seam-after-reads.Learnt,
-  rebuild-reads.Asked,
-  rebuild-reads.Learnt,
-) (remove-below-at t) remove-below.Post
-remove-below-sub-remove-below t c = omega arith
-
-remove-below-remove-below-requires : (t : ℕ) → remove-below-lts.Need-remove-below-requires (
-  nothing-reads.Asked,
-  nothing-reads.Learnt,
-  inner-slot-reads.Asked,
-  inner-slot-reads.Learnt,
-  is-less-reads.Asked,
-  is-less-reads.Learnt,
-  lower-on-reads.Asked,
-  lower-on-reads.Learnt,
-  remove-below-below t,
-  remove-below.Post,
-  seam-after-reads.Asked,
-  seam-after-reads.Learnt,
-  rebuild-reads.Asked,
-  rebuild-reads.Learnt,
-) (remove-below-at t) remove-below.Post
-remove-below-remove-below-requires t c κs =
-    let opened = c .before .before .before .before in
-    let entry = opened .before .before .before .before .before .before .before .before in
-    (omega (arith, entry .pre .0), tt)
-
-remove-below-same-length : (t : ℕ) → remove-below-lts.Need-same-length (
-  nothing-reads.Asked,
-  nothing-reads.Learnt,
-  inner-slot-reads.Asked,
-  inner-slot-reads.Learnt,
-  is-less-reads.Asked,
-  is-less-reads.Learnt,
-  lower-on-reads.Asked,
-  lower-on-reads.Learnt,
-  remove-below-below t,
-  remove-below.Post,
-  seam-after-reads.Asked,
-  seam-after-reads.Learnt,
-  rebuild-reads.Asked,
-  rebuild-reads.Learnt,
-) (remove-below-at t) remove-below.Post
-remove-below-same-length t c = search needs
-
-remove-below-returns-3 : (t : ℕ) → remove-below-lts.Need-returns-3 (
-  nothing-reads.Asked,
-  nothing-reads.Learnt,
-  inner-slot-reads.Asked,
-  inner-slot-reads.Learnt,
-  is-less-reads.Asked,
-  is-less-reads.Learnt,
-  lower-on-reads.Asked,
-  lower-on-reads.Learnt,
-  remove-below-below t,
-  remove-below.Post,
-  seam-after-reads.Asked,
-  seam-after-reads.Learnt,
-  rebuild-reads.Asked,
-  rebuild-reads.Learnt,
-) (remove-below-at t) remove-below.Post
-remove-below-returns-3 t c =
-    let below = c .before .before .before .before in
-    let opened = below .before .before .before .before .before in
-    let tested = opened .before .before in
-    let slot = tested .before .before in
-    removed-emptied (slot .before .before .if1 .left) (slot .inner-slot .ensures) (tested .is-less .ensures) (opened .lower-on .ensures) (below .remove-below .ensures)
-    (c .before .if3 .taken)
-
-remove-below-seam-after-requires : (t : ℕ) → remove-below-lts.Need-seam-after-requires (
-  nothing-reads.Asked,
-  nothing-reads.Learnt,
-  inner-slot-reads.Asked,
-  inner-slot-reads.Learnt,
-  is-less-reads.Asked,
-  is-less-reads.Learnt,
-  lower-on-reads.Asked,
-  lower-on-reads.Learnt,
-  remove-below-below t,
-  remove-below.Post,
-  seam-after-reads.Asked,
-  seam-after-reads.Learnt,
-  rebuild-reads.Asked,
-  rebuild-reads.Learnt,
-) (remove-below-at t) remove-below.Post
-remove-below-seam-after-requires t c κs = search needs
-
-remove-below-rebuild-requires : (t : ℕ) → remove-below-lts.Need-rebuild-requires (
-  nothing-reads.Asked,
-  nothing-reads.Learnt,
-  inner-slot-reads.Asked,
-  inner-slot-reads.Learnt,
-  is-less-reads.Asked,
-  is-less-reads.Learnt,
-  lower-on-reads.Asked,
-  lower-on-reads.Learnt,
-  remove-below-below t,
-  remove-below.Post,
-  seam-after-reads.Asked,
-  seam-after-reads.Learnt,
-  rebuild-reads.Asked,
-  rebuild-reads.Learnt,
-) (remove-below-at t) remove-below.Post
-remove-below-rebuild-requires t c κs = search needs
-
-remove-below-same-length-2 : (t : ℕ) → remove-below-lts.Need-same-length-2 (
-  nothing-reads.Asked,
-  nothing-reads.Learnt,
-  inner-slot-reads.Asked,
-  inner-slot-reads.Learnt,
-  is-less-reads.Asked,
-  is-less-reads.Learnt,
-  lower-on-reads.Asked,
-  lower-on-reads.Learnt,
-  remove-below-below t,
-  remove-below.Post,
-  seam-after-reads.Asked,
-  seam-after-reads.Learnt,
-  rebuild-reads.Asked,
-  rebuild-reads.Learnt,
-) (remove-below-at t) remove-below.Post
-remove-below-same-length-2 t c = search needs
-
-remove-below-returns-4 : (t : ℕ) → remove-below-lts.Need-returns-4 (
-  nothing-reads.Asked,
-  nothing-reads.Learnt,
-  inner-slot-reads.Asked,
-  inner-slot-reads.Learnt,
-  is-less-reads.Asked,
-  is-less-reads.Learnt,
-  lower-on-reads.Asked,
-  lower-on-reads.Learnt,
-  remove-below-below t,
-  remove-below.Post,
-  seam-after-reads.Asked,
-  seam-after-reads.Learnt,
-  rebuild-reads.Asked,
-  rebuild-reads.Learnt,
-) (remove-below-at t) remove-below.Post
-remove-below-returns-4 t c =
-    let sought = c .before .before .before in
-    let left = sought .before .before in
-    let below = left .before .before .before in
-    let opened = below .before .before .before .before .before in
-    let tested = opened .before .before in
-    let slot = tested .before .before in
-    removed-step (slot .before .before .if1 .left) (slot .inner-slot .ensures) (tested .is-less .ensures) (opened .lower-on .ensures) (below .remove-below .ensures)
-    (left .if3 .left) (sought .seam-after .ensures) (c .before .rebuild .ensures)
-
-pub +remove-below-spec : {M : Type 1} → statement M
-+remove-below-spec = close μ-remove-below λ t. remove-below-lts.spec (
+-- what is asked and learnt of each call
+abbrev claims : ℕ → remove-below-lts.Claims
+claims t = (
   nothing-reads.Asked,
   nothing-reads.Learnt,
   inner-slot-reads.Asked,
@@ -336,8 +50,73 @@ pub +remove-below-spec : {M : Type 1} → statement M
   rebuild-reads.Asked,
   rebuild-reads.Learnt,
 )
-    (remove-below-at t)
-    remove-below.Post
+
+remove-below-nothing-requires : (t : ℕ) → remove-below-lts.Need-nothing-requires (claims t) (remove-below-at t) remove-below.Post
+remove-below-nothing-requires t c κs = search needs
+
+remove-below-returns : (t : ℕ) → remove-below-lts.Need-returns (claims t) (remove-below-at t) remove-below.Post
+remove-below-returns t c = removed-single (c .before .if1 .taken) (c .nothing .ensures)
+
+remove-below-nothing-requires-2 : (t : ℕ) → remove-below-lts.Need-nothing-requires-2 (claims t) (remove-below-at t) remove-below.Post
+remove-below-nothing-requires-2 t c κs = search needs
+
+remove-below-returns-2 : (t : ℕ) → remove-below-lts.Need-returns-2 (claims t) (remove-below-at t) remove-below.Post
+remove-below-returns-2 t c = removed-none (c .before .before .if1 .left) (c .before .if2 .taken)
+
+remove-below-inner-slot-requires : (t : ℕ) → remove-below-lts.Need-inner-slot-requires (claims t) (remove-below-at t) remove-below.Post
+remove-below-inner-slot-requires t c κs = search needs
+
+remove-below-is-less-requires : (t : ℕ) → remove-below-lts.Need-is-less-requires (claims t) (remove-below-at t) remove-below.Post
+remove-below-is-less-requires t c κs = search needs
+
+remove-below-lower-on-requires : (t : ℕ) → remove-below-lts.Need-lower-on-requires (claims t) (remove-below-at t) remove-below.Post
+remove-below-lower-on-requires t c κs = search needs
+
+remove-below-sub-remove-below : (t : ℕ) → remove-below-lts.Need-sub-remove-below (claims t) (remove-below-at t) remove-below.Post
+remove-below-sub-remove-below t c = omega arith
+
+remove-below-remove-below-requires : (t : ℕ) → remove-below-lts.Need-remove-below-requires (claims t) (remove-below-at t) remove-below.Post
+remove-below-remove-below-requires t c κs =
+    let opened = c .before .before .before .before in
+    let entry = opened .before .before .before .before .before .before .before .before in
+    (omega (arith, entry .pre .0), tt)
+
+remove-below-same-length : (t : ℕ) → remove-below-lts.Need-same-length (claims t) (remove-below-at t) remove-below.Post
+remove-below-same-length t c = search needs
+
+remove-below-returns-3 : (t : ℕ) → remove-below-lts.Need-returns-3 (claims t) (remove-below-at t) remove-below.Post
+remove-below-returns-3 t c =
+    let below = c .before .before .before .before in
+    let opened = below .before .before .before .before .before in
+    let tested = opened .before .before in
+    let slot = tested .before .before in
+    removed-emptied (slot .before .before .if1 .left) (slot .inner-slot .ensures) (tested .is-less .ensures) (opened .lower-on .ensures)
+    (below .remove-below .ensures) (c .before .if3 .taken)
+
+remove-below-seam-after-requires : (t : ℕ) → remove-below-lts.Need-seam-after-requires (claims t) (remove-below-at t) remove-below.Post
+remove-below-seam-after-requires t c κs = search needs
+
+remove-below-rebuild-requires : (t : ℕ) → remove-below-lts.Need-rebuild-requires (claims t) (remove-below-at t) remove-below.Post
+remove-below-rebuild-requires t c κs = search needs
+
+remove-below-same-length-2 : (t : ℕ) → remove-below-lts.Need-same-length-2 (claims t) (remove-below-at t) remove-below.Post
+remove-below-same-length-2 t c = search needs
+
+remove-below-returns-4 : (t : ℕ) → remove-below-lts.Need-returns-4 (claims t) (remove-below-at t) remove-below.Post
+remove-below-returns-4 t c =
+    let sought = c .before .before .before in
+    let left = sought .before .before in
+    let below = left .before .before .before in
+    let opened = below .before .before .before .before .before in
+    let tested = opened .before .before in
+    let slot = tested .before .before in
+    removed-step (slot .before .before .if1 .left) (slot .inner-slot .ensures) (tested .is-less .ensures) (opened .lower-on .ensures)
+    (below .remove-below .ensures) (left .if3 .left) (sought .seam-after .ensures) (c .before .rebuild .ensures)
+
+pub +remove-below-spec : {M : Type 1} → statement M
++remove-below-spec =
+    close μ-remove-below λ t.
+    remove-below-lts.spec (claims t) (remove-below-at t) remove-below.Post
     (remove-below-nothing-requires t)
     (remove-below-returns t)
     (remove-below-nothing-requires-2 t)

@@ -30,7 +30,9 @@ returns c =
     let right = c .before .before .before .before .before in
     let left = right .before .before in
     let a = left .before .before .before .before .args in
-    tall-left (towers-told _ 1 (a .l .tree) (a .r .tree) (left .height-in .ensures) (right .height-in2 .ensures) (c .before .before .before .before .above .ensures))
+    let l = a .l .tree in
+    let r = a .r .tree in
+    tall-left (towers-told _ 1 l r (left .height-in .ensures) (right .height-in2 .ensures) (c .before .before .before .before .above .ensures))
     (c .before .before .before .if1 .taken) (c .before .rotate .ensures)
 
 above-requires-2 : tie.Need-above-requires-2
@@ -49,7 +51,9 @@ returns-2 c =
     let right = c .before .before .before .before .before .before .before in
     let left = right .before .before in
     let a = left .before .before .before .before .args in
-    tall-right (towers-told _ 1 (a .r .tree) (a .l .tree) (right .height-in2 .ensures) (left .height-in .ensures) (c .before .before .before .before .above2 .ensures))
+    let l = a .l .tree in
+    let r = a .r .tree in
+    tall-right (towers-told _ 1 r l (right .height-in2 .ensures) (left .height-in .ensures) (c .before .before .before .before .above2 .ensures))
     (c .before .before .before .if2 .taken) (c .before .rotate2 .ensures)
 
 raise-requires : tie.Need-raise-requires
@@ -65,8 +69,10 @@ returns-3 c =
     let right = left-low .before .before in
     let left = right .before .before in
     let a = left .before .before .before .before .args in
-    none-tall (towers-told _ 1 (a .l .tree) (a .r .tree) (left .height-in .ensures) (right .height-in2 .ensures) (left-low .before .above .ensures)) (left-low .if1 .left)
-    (towers-told _ 1 (a .r .tree) (a .l .tree) (right .height-in2 .ensures) (left .height-in .ensures) (right-low .before .above2 .ensures)) (right-low .if2 .left)
+    let l = a .l .tree in
+    let r = a .r .tree in
+    none-tall (towers-told _ 1 l r (left .height-in .ensures) (right .height-in2 .ensures) (left-low .before .above .ensures)) (left-low .if1 .left)
+    (towers-told _ 1 r l (right .height-in2 .ensures) (left .height-in .ensures) (right-low .before .above2 .ensures)) (right-low .if2 .left)
     (c .before .raise .ensures)
 
 pub rebalance-spec : {M : Type 1} → statement M

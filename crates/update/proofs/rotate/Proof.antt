@@ -31,7 +31,8 @@ same-length : tie.Need-same-length
 same-length c =
     let far = c .before .before .before in
     let near = far .before .before .before .before in
-    far .raise-on2 .kept .0 ∙ near .raise-on .kept .0 ∙ near .before .before .before .before .before .before .before .before .before .before .before .lower-on .kept .0
+    let slot = near .before .before .before .before .before .before .before in
+    far .raise-on2 .kept .0 ∙ near .raise-on .kept .0 ∙ slot .before .before .before .before .lower-on .kept .0
 
 returns : tie.Need-returns
 returns c =
@@ -41,7 +42,8 @@ returns c =
     let tall-on = tested .before in
     let tall-off = tall-on .before .before in
     let slot = tall-off .before .before in
-    rotated-once (slot .before .before .before .before .lower-on .ensures) (read-le (tall-off .height .ensures) (tall-on .height2 .ensures) (tested .if1 .taken))
+    rotated-once (slot .before .before .before .before .lower-on .ensures)
+    (read-le (tall-off .height .ensures) (tall-on .height2 .ensures) (tested .if1 .taken))
     (near .raise-on .ensures) (slot .inner-slot .ensures) (far .raise-on2 .ensures) (c .sum .ensures)
 
 lower-on-requires-2 : tie.Need-lower-on-requires-2
@@ -68,7 +70,9 @@ same-length-2 c =
     let second = far .before .before .before .before .before .before in
     let first = second .before .before .before in
     let inner = first .before .before .before .before .before in
-    far .raise-on5 .kept .0 ∙ second .raise-on4 .kept .0 ∙ first .raise-on3 .kept .0 ∙ inner .lower-on2 .kept .0 ∙ inner .before .before .before .before .before .before .before .before .before .before .before .lower-on .kept .0
+    let slot = inner .before .before .before .before .before .before .before in
+    far .raise-on5 .kept .0 ∙ second .raise-on4 .kept .0 ∙ first .raise-on3 .kept .0 ∙ inner .lower-on2 .kept .0
+    ∙ slot .before .before .before .before .lower-on .kept .0
 
 returns-2 : tie.Need-returns-2
 returns-2 c =
@@ -80,7 +84,8 @@ returns-2 c =
     let tall-on = tested .before in
     let tall-off = tall-on .before .before in
     let slot = tall-off .before .before in
-    rotated-twice (slot .before .before .before .before .lower-on .ensures) (read-lt (tall-on .height2 .ensures) (tall-off .height .ensures) (tested .if1 .left))
+    rotated-twice (slot .before .before .before .before .lower-on .ensures)
+    (read-lt (tall-on .height2 .ensures) (tall-off .height .ensures) (tested .if1 .left))
     (inner .lower-on2 .ensures) (slot .inner-slot .ensures) (first .raise-on3 .ensures) (second .raise-on4 .ensures) (far .before .inner-slot2 .ensures)
     (far .raise-on5 .ensures) (c .sum-three .ensures)
 
