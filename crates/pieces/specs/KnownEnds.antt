@@ -35,7 +35,8 @@ unwritten : (p : Part Item) (w : Words) → PiecesOnly (partLeaves p) w w
 unwritten p w = record { cells = λ f s d. refl }
 
 -- every piece passes
-all-front : {w : Words} {x : ℕ} (test : Item → Bool) (p : Part Item) → Standing w x p → ((a : Item) → List·Memᴰ a (partLeaves p) → T (test a)) → Parted test p w w x 0
+all-front : {w : Words} {x : ℕ} (test : Item → Bool) (p : Part Item) → Standing w x p
+    → ((a : Item) → List·Memᴰ a (partLeaves p) → T (test a)) → Parted test p w w x 0
 unfolding splitP
 all-front {w} test none st f = record { in-front = st; behind = nothing w; only = unwritten none w }
 all-front {w} {x} test (some t) st f =
@@ -47,7 +48,8 @@ all-front {w} {x} test (some t) st f =
     }
 
 -- none does
-all-back : {w : Words} {x : ℕ} (test : Item → Bool) (p : Part Item) → Standing w x p → ((a : Item) → List·Memᴰ a (partLeaves p) → T (not (test a))) → Parted test p w w 0 x
+all-back : {w : Words} {x : ℕ} (test : Item → Bool) (p : Part Item) → Standing w x p
+    → ((a : Item) → List·Memᴰ a (partLeaves p) → T (not (test a))) → Parted test p w w 0 x
 unfolding splitP
 all-back {w} test none st f = record { in-front = nothing w; behind = st; only = unwritten none w }
 all-back {w} {x} test (some t) st f =
@@ -59,7 +61,8 @@ all-back {w} {x} test (some t) st f =
     }
 
 -- any other cut
-pub parted-by : {strict : Bool} {rate : ℤ} {x front back : ℕ} {w w′ : Words} {p : Part Item} → CutAt strict rate x w w′ front back → Standing w x p → Parted (inFront strict rate) p w w′ front back
+pub parted-by : {strict : Bool} {rate : ℤ} {x front back : ℕ} {w w′ : Words} {p : Part Item} → CutAt strict rate x w w′ front back → Standing w x p
+    → Parted (inFront strict rate) p w w′ front back
 parted-by {p} cut st = record { in-front = cut .in-front p st; behind = cut .behind p st; only = cut .only p st }
 
 -- ---- each answer of the code
@@ -69,7 +72,8 @@ module _ {u s x : ℕ} where
   behind-last {w} e =
       record {
         within = within-refl w;
-        parted = λ p st low. all-front (inFront false (cell w rateField u)) p st (λ a m. subst (λ i. T (leZ (cell w rateField i) (rateOf a))) (sym e) (low a m));
+        parted = λ p st low.
+            all-front (inFront false (cell w rateField u)) p st (λ a m. subst (λ i. T (leZ (cell w rateField i) (rateOf a))) (sym e) (low a m));
       }
 
   pub behind-cut : {rate : ℤ} {w w′ : Words} {front back : ℕ} → rate ≡ cell w rateField u → CutAt false rate x w w′ front back → CutBehind u s x w w′ front back

@@ -91,4 +91,7 @@ module _ {wl wr : Words} {u t v w p q : ℕ} (ep : p ≡ pointWord u t) (eq : q 
 
       pub chooses-on : leb u mostSlots && leb v mostSlots ≡ false → Chooses wl wr u t v w (record { u = Advance; v = Advance; done = false })
       chooses-on e =
-          record { stays = λ d. absurd (true≢false (sym d)); next = λ us ud vs vd b tu tv r d f g. stepped-on (pointed-by tu ep) (pointed-by tv eq) clear clear′ e d f g }
+          record {
+            stays = λ d. absurd (true≢false (sym d));
+            next = λ us ud vs vd b tu tv r d f g. stepped-on (pointed-by tu ep) (pointed-by tv eq) clear clear′ e d f g;
+          }

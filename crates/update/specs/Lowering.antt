@@ -76,7 +76,8 @@ forked {w} {x} {u} {v} {l} {r} {ql} {qr} held = go (held .tied) (held .stored)
 
 -- the whole envelope cut by the rate of s is cut behind s
 cut-behind : {θ : ℤ} {e a b : ℕ} {w w₁ : Words} {p : Part Item} (s : Item) → θ ≡ rateOf s → CutAt false θ e w w₁ a b → Standing w e p → Halved w₁ a b p (cutBehind items s p)
-cut-behind {a} {b} {w₁} {p} s d cut st = subst (λ test. Halved w₁ a b p (splitP test p)) (ap (inFront false) d ∙ sym (up-to-test s)) (halved (parted-by cut st) st)
+cut-behind {a} {b} {w₁} {p} s d cut st =
+    subst (λ test. Halved w₁ a b p (splitP test p)) (ap (inFront false) d ∙ sym (up-to-test s)) (halved (parted-by cut st) st)
 
 -- it is parted at the bridge: the front part ends at u, the back part begins with v
 record Parted (u v : Item) (c : Cut Item) : Type 0 where

@@ -119,5 +119,6 @@ module _ {w : Words} {side : Bool} {action : Action} {at d top : ℕ} where
   acts-pop e a = rw e (record { moved = λ n t. a .moved n t })
 
 -- a walk that stays, once its node was noted
-pub stays-noted : (w : Words) (side : Bool) (action : Action) {st st′ : List ℕ} {at d : ℕ} → action ≡ Stay → Noted st d at st′ → Does w side action (walk at st d) (walk at st′ d)
+pub stays-noted : (w : Words) (side : Bool) (action : Action) {st st′ : List ℕ} {at d : ℕ} → action ≡ Stay → Noted st d at st′
+    → Does w side action (walk at st d) (walk at st′ d)
 stays-noted w side action e n = rw e (record { at = refl; moved = λ s. noted-stood n s })
