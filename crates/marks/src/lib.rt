@@ -19,10 +19,7 @@ pub enum Mark {
 pub fn to_double(value: i64) -> f64
     ensures { λ r. ⌜ Doubled value r ⌝ }
 {
-    if value < -9_007_199_254_740_992 {
-        return 0.0;
-    }
-    if 9_007_199_254_740_992 < value {
+    if value < -9_007_199_254_740_992 || 9_007_199_254_740_992 < value {
         return 0.0;
     }
     value as f64
