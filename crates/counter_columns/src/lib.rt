@@ -73,7 +73,7 @@ fn number_in(text: &[u8]) -> i64
 }
 
 // The number whose justified decimal fills the columns: the only candidate is printed and compared.
-pub fn read_field(columns: &[u8]) -> Field
+fn read_field(columns: &[u8]) -> Field
     requires { ⌜ length (now columns) ≤ 18 ⌝ }
     ensures { λ r. ⌜ FieldRead (now (columns .entry)) r ⌝ }
 {
