@@ -28,12 +28,12 @@ fn bases() -> [u32; 241] {
 
 // Puts the lines into their slots.
 fn fill(part: &mut [i64], all: [u32; 241]) {
-    table::set_number(part, 0, 240);
+    table::set_number(part, table::CAPACITY, 240);
     for s in 1..241 {
         let slot = s as u32;
-        table::put_link(part, 0, slot, 1);
-        table::put_link(part, 1, slot, rate_of(s));
-        table::put_link(part, 2, slot, all[s]);
+        table::put_link(part, table::NUMBER, slot, 1);
+        table::put_link(part, table::RATE, slot, rate_of(s));
+        table::put_link(part, table::BASE, slot, all[s]);
     }
 }
 
@@ -100,26 +100,38 @@ fn main() {
     fill(&mut words, all);
     let l = build(&mut words, 0);
     let r = build(&mut words, 120);
-    say(b"first piece: ", descents::end(&words, 0, false, l), 1);
-    say(b"last piece: ", descents::end(&words, 0, true, l), 120);
-    say(b"found by rate: ", descents::find(&words, 0, 1, 950, l), 50);
+    say(
+        b"first piece: ",
+        descents::end(&words, table::PIECES, false, l),
+        1,
+    );
+    say(
+        b"last piece: ",
+        descents::end(&words, table::PIECES, true, l),
+        120,
+    );
+    say(
+        b"found by rate: ",
+        descents::find(&words, table::PIECES, table::RATE, 950, l),
+        50,
+    );
     let c = pieces::cut(&mut words, false, 950, l);
     let front = c.front;
     let back = c.back;
     say(
         b"last in front of the cut: ",
-        descents::end(&words, 0, true, front),
+        descents::end(&words, table::PIECES, true, front),
         50,
     );
     say(
         b"first behind it: ",
-        descents::end(&words, 0, false, back),
+        descents::end(&words, table::PIECES, false, back),
         51,
     );
     let y = pieces::cat(&mut words, front, back);
     say(
         b"last of both together: ",
-        descents::end(&words, 0, true, y),
+        descents::end(&words, table::PIECES, true, y),
         120,
     );
     let met = search::meet(&words, &words, y, r);
