@@ -32,7 +32,7 @@ fn side_of(load: i64, n: i64, d: i64) -> usize
 }
 
 // To a child, or off: what the words tell is no node of a tree of pieces. Each way off leaves the loop of a descent, so that no value waits for a test.
-pub enum Step {
+enum Step {
     To(usize),
     Off,
 }
@@ -76,7 +76,7 @@ pub fn descend(part: &[i64], root: u32, load: i64) -> Probe
     let mut x = root as usize;
     let mut probes: u32 = 0;
     while LEAVES < x {
-        if 24 <= probes {
+        if table::MOST_LEVELS <= probes {
             return Probe {
                 slot: 0,
                 probes: probes,
