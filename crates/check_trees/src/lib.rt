@@ -64,10 +64,7 @@ fn fill_leaf(part: &[i64], x: u32, scratch: &mut [u32; SCRATCH], at: usize) -> F
     requires { ⌜ length (now scratch) ≡ scratchLength ⌝ }
     ensures { λ r. ⌜ (x ≤ mostSlots → (k limit : ℕ) → Fills (now (part .entry)) k x limit (now (scratch .entry)) (now (scratch .exit)) at r) ⌝ }
 {
-    if x < 1 {
-        return nothing();
-    }
-    if table::capacity(part) < x {
+    if x < 1 || table::capacity(part) < x {
         return nothing();
     }
     if SCRATCH <= at {
@@ -104,10 +101,7 @@ fn cover(part: &[i64], tree: u8, x: u32, scratch: &[u32; SCRATCH], a: Filled, b:
     if last != table::inner_slot(x) {
         return nothing();
     }
-    if right + 1 < left {
-        return nothing();
-    }
-    if left + 1 < right {
+    if right + 1 < left || left + 1 < right {
         return nothing();
     }
     let height = table::height(part, tree, x);

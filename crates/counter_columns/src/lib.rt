@@ -27,10 +27,7 @@ fn with_byte(value: u64, byte: u8) -> u64
     requires { ⌜ value < 10 ^ 18 ⌝ }
     ensures { λ r. ⌜ r ≡ taken value byte ⌝ }
 {
-    if byte < b'0' {
-        return value;
-    }
-    if b'9' < byte {
+    if byte < b'0' || b'9' < byte {
         return value;
     }
     10 * value + (byte - b'0') as u64
@@ -76,7 +73,7 @@ fn number_in(text: &[u8]) -> i64
 }
 
 // The number whose justified decimal fills the columns: the only candidate is printed and compared.
-pub fn read_field(columns: &[u8]) -> Field
+fn read_field(columns: &[u8]) -> Field
     requires { ⌜ length (now columns) ≤ 18 ⌝ }
     ensures { λ r. ⌜ FieldRead (now (columns .entry)) r ⌝ }
 {
@@ -141,10 +138,7 @@ pub fn parse(line: &[u8]) -> Command
     if letter == b'Q' {
         return Command::Query(value);
     }
-    if letter != b'L' {
-        return Command::Unreadable;
-    }
-    if value != 0 {
+    if letter != b'L' || value != 0 {
         return Command::Unreadable;
     }
     Command::List

@@ -83,7 +83,7 @@ pub fn justify(column: &mut [u8], value: i64)
 }
 
 // The same in the `width` columns from `from`; the other bytes stay.
-pub fn put_number(out: &mut [u8], from: usize, width: usize, value: i64)
+fn put_number(out: &mut [u8], from: usize, width: usize, value: i64)
     requires { ⌜ from + width ≤ length (now out) ⌝ }
     ensures { λ _. ⌜ Puts from width value (now (out .entry)) (now (out .exit)) ⌝ }
 {

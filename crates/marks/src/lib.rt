@@ -16,20 +16,17 @@ pub enum Mark {
 }
 
 // An integer as a double: exact up to 2^53 either way. Further out, where the doubles have gaps, it is 0.
-pub fn to_double(value: i64) -> f64
+fn to_double(value: i64) -> f64
     ensures { λ r. ⌜ Doubled value r ⌝ }
 {
-    if value < -9_007_199_254_740_992 {
-        return 0.0;
-    }
-    if 9_007_199_254_740_992 < value {
+    if value < -9_007_199_254_740_992 || 9_007_199_254_740_992 < value {
         return 0.0;
     }
     value as f64
 }
 
 // The point of a crossing at n over d, whose price times d is p.
-pub fn crossing_point(n: i64, d: i64, p: i64) -> Point
+fn crossing_point(n: i64, d: i64, p: i64) -> Point
     ensures { λ r. ⌜ PointOf n d p r ⌝ }
 {
     let divisor = to_double(d);
@@ -45,7 +42,7 @@ pub fn open_end(rate: i64) -> Mark
 }
 
 // The mark of a point.
-pub fn point_mark(point: Point) -> Mark
+fn point_mark(point: Point) -> Mark
     ensures { λ r. ⌜ told r ≡ atPoint point ⌝ }
 {
     Mark::Crossing(point)

@@ -28,12 +28,12 @@ fn bases() -> [u32; 241] {
 
 // Puts the lines into their slots.
 fn fill(part: &mut [i64], all: [u32; 241]) {
-    table::set_number(part, 0, 240);
+    table::set_number(part, table::CAPACITY, 240);
     for s in 1..241 {
         let slot = s as u32;
-        table::put_link(part, 0, slot, 1);
-        table::put_link(part, 1, slot, rate_of(s));
-        table::put_link(part, 2, slot, all[s]);
+        table::put_link(part, table::NUMBER, slot, 1);
+        table::put_link(part, table::RATE, slot, rate_of(s));
+        table::put_link(part, table::BASE, slot, all[s]);
     }
 }
 
@@ -96,16 +96,28 @@ fn say(label: &[u8], told: u32, expected: u32) {
 
 // The ends of a tree of the left 120, and a piece found in it.
 fn ends(part: &[i64], l: u32) {
-    say(b"first piece: ", descents::end(part, 0, false, l), 1);
-    say(b"last piece: ", descents::end(part, 0, true, l), 120);
-    say(b"found by rate: ", descents::find(part, 0, 1, 950, l), 50);
+    say(
+        b"first piece: ",
+        descents::end(part, table::PIECES, false, l),
+        1,
+    );
+    say(
+        b"last piece: ",
+        descents::end(part, table::PIECES, true, l),
+        120,
+    );
+    say(
+        b"found by rate: ",
+        descents::find(part, table::PIECES, table::RATE, 950, l),
+        50,
+    );
 }
 
 // The tree cut in two, and the two put together again.
 fn halves(part: &mut [i64], l: u32) -> u32 {
     let c = pieces::cut(part, false, 950, l);
-    let last = descents::end(part, 0, true, c.front);
-    let first = descents::end(part, 0, false, c.back);
+    let last = descents::end(part, table::PIECES, true, c.front);
+    let first = descents::end(part, table::PIECES, false, c.back);
     say(b"last in front of the cut: ", last, 50);
     say(b"first behind it: ", first, 51);
     pieces::cat(part, c.front, c.back)

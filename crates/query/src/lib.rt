@@ -29,7 +29,7 @@ fn side_of(load: i64, n: i64, d: i64) -> usize
 }
 
 // To a child, or off: what the words tell is no node of a tree of pieces. Each way off leaves the loop of a descent, so that no value waits for a test.
-pub enum Step {
+enum Step {
     To(usize),
     Off,
 }

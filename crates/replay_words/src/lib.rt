@@ -28,10 +28,7 @@ fn read_short(code: i64, a: i64) -> Next
     if code == 3 {
         return Next::Query(a);
     }
-    if code != 4 {
-        return Next::Nothing;
-    }
-    if a < 0 {
+    if code != 4 || a < 0 {
         return Next::Nothing;
     }
     Next::Listing(a as usize)
@@ -48,10 +45,7 @@ fn read_call(code: i64, a: i64, b: i64, c: i64) -> Next
             base: c,
         };
     }
-    if b != 0 {
-        return Next::Nothing;
-    }
-    if c != 0 {
+    if b != 0 || c != 0 {
         return Next::Nothing;
     }
     read_short(code, a)
@@ -71,10 +65,7 @@ pub fn next_call(calls: &[i64]) -> Next
 fn five_and(n: usize, room: usize) -> bool
     ensures { λ r. ⌜ r ≡ leb (5 + n) room ⌝ }
 {
-    if room < 5 {
-        return false;
-    }
-    n <= room - 5
+    5 <= room && n <= room - 5
 }
 
 // There is a call, and `room` words are enough for its answer.

@@ -17,14 +17,14 @@ use walks::point;
 use walks::top;
 
 // The state of a search: u and v with their stacks, and whether it is finished.
-pub struct Search {
-    pub u: u32,
-    pub v: u32,
-    pub us: [u32; 24],
-    pub ud: usize,
-    pub vs: [u32; 24],
-    pub vd: usize,
-    pub done: bool,
+struct Search {
+    u: u32,
+    v: u32,
+    us: [u32; 24],
+    ud: usize,
+    vs: [u32; 24],
+    vd: usize,
+    done: bool,
 }
 
 // What a search finds: the slots of u and v, and its steps, the last included. On words that are no envelopes it may end unfinished.

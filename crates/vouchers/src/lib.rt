@@ -27,10 +27,7 @@ fn whole_units(price: i64) -> i64
 pub fn voucher_price(price: i64) -> Voucher
     ensures { λ r. ⌜ told r ≡ due price ⌝ }
 {
-    if price < -101_000_000_000 {
-        return Voucher::Declined(4);
-    }
-    if 101_000_000_000 < price {
+    if price < -101_000_000_000 || 101_000_000_000 < price {
         return Voucher::Declined(4);
     }
     Voucher::Units(whole_units(price))

@@ -1,7 +1,10 @@
 -- `check_trees::cover` meets its contract.
 use mathlib.Core.Path.{_∙_, sym}
+use mathlib.Core.Logic.{⊎-elim}
+use Prim.Native.Nat.{_+_}
 use native.Mathlib.Omega.{arith}
 use Rattle.check_trees.specs.Fills.{covers-not, covers}
+use borrow.Author.Tests.{ltb-true, ltb-false}
 use borrow.Author.Needs.{needs}
 use Rattle.check_trees.proofs.cover.Statement.{statement}
 use Rattle.check_trees.proofs.cover.Tie as tie
@@ -26,20 +29,18 @@ returns c =
 add-if2 : tie.Need-add-if2
 add-if2 c = search needs
 
+add-if3 : tie.Need-add-if3
+add-if3 c = search needs
+
 nothing-requires-2 : tie.Need-nothing-requires-2
 nothing-requires-2 c κs = search needs
 
 returns-2 : tie.Need-returns-2
-returns-2 c = covers-not (c .nothing2 .ensures) (λ p. omega (arith, p .left))
-
-add-if3 : tie.Need-add-if3
-add-if3 c = search needs
-
-nothing-requires-3 : tie.Need-nothing-requires-3
-nothing-requires-3 c κs = search needs
-
-returns-3 : tie.Need-returns-3
-returns-3 c = covers-not (c .nothing3 .ensures) (λ p. omega (arith, p .right))
+returns-2 c =
+    let args = c .before .before .before .before .before .args in
+    let lower = ltb-true (args .a .height + 1) (args .b .height) in
+    covers-not (c .nothing2 .ensures)
+    (λ p. ⊎-elim (λ y. omega (arith, p .left)) (λ y. let h = lower (y .1 .taken) in omega (arith, p .right)) (c .before .if2 .came))
 
 height-requires : tie.Need-height-requires
 height-requires c κs = search needs
@@ -47,23 +48,23 @@ height-requires c κs = search needs
 height-over-requires : tie.Need-height-over-requires
 height-over-requires c κs = search needs
 
-nothing-requires-4 : tie.Need-nothing-requires-4
-nothing-requires-4 c κs = search needs
+nothing-requires-3 : tie.Need-nothing-requires-3
+nothing-requires-3 c κs = search needs
+
+returns-3 : tie.Need-returns-3
+returns-3 c =
+    covers-not (c .nothing3 .ensures)
+    (λ p. c .before .if4 .taken (c .before .before .before .height .ensures ∙ p .stored ∙ sym (c .before .before .height-over .ensures)))
 
 returns-4 : tie.Need-returns-4
 returns-4 c =
-    covers-not (c .nothing4 .ensures)
-    (λ p. c .before .if4 .taken (c .before .before .before .height .ensures ∙ p .stored ∙ sym (c .before .before .height-over .ensures)))
-
-returns-5 : tie.Need-returns-5
-returns-5 c =
     let at-height = c .before .before in
     let at-if3 = at-height .before in
     let at-if2 = at-if3 .before in
     let at-if1 = at-if2 .before in
     let at-inner-slot = at-if1 .before in
     let entry′ = at-inner-slot .before in
-    covers (at-inner-slot .inner-slot .ensures) (sym (entry′ .entry .ensures) ∙ at-if1 .if1 .left) (at-if2 .if2 .left) (at-if3 .if3 .left)
+    covers (at-inner-slot .inner-slot .ensures) (sym (entry′ .entry .ensures) ∙ at-if1 .if1 .left) (at-if2 .if2 .left) (ltb-false _ _ (at-if3 .if3 .left))
     (at-height .height .ensures) (c .before .height-over .ensures) (c .if4 .left)
 
 pub cover-spec : {M : Type 1} → statement M
@@ -76,13 +77,11 @@ cover-spec =
     nothing-requires
     returns
     add-if2
+    add-if3
     nothing-requires-2
     returns-2
-    add-if3
-    nothing-requires-3
-    returns-3
     height-requires
     height-over-requires
-    nothing-requires-4
-    returns-4
-    returns-5)
+    nothing-requires-3
+    returns-3
+    returns-4)

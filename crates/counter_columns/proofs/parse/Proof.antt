@@ -1,9 +1,11 @@
 -- `counter_columns::parse` meets its contract: by the length, the letter, and what the columns hold.
 use mathlib.Core.Path.{_∙_, sym, ap}
+use mathlib.Core.Logic.{⊎-elim}
 use mir.Facts.{toZ-ofZ}
 use mir.Syntax.{w64}
 use mir.Val.{SFits, ofZ, toZ}
 use Rattle.counter_columns.specs.Commands.{wrong-length, wrong-letter, wrong-last, wrong-list, is-withdraw, is-query, is-list, last-number, last-bad}
+use borrow.Author.Tests.{eqb-true, eqb-false, not-true, not-false}
 use borrow.Author.Needs.{needs}
 use Rattle.counter_columns.proofs.parse.Statement.{statement}
 use Rattle.counter_columns.proofs.parse.Tie as tie
@@ -45,15 +47,22 @@ returns-5 c =
     (is-query _ _ (c .before .before .before .before .before .before .before .before .if1 .left) (c .if4 .taken) (last-number _ _ (c .before .before .before .before .before .last-columns .ensures) (c .before .before .before .value .given .1)))
 
 returns-6 : tie.Need-returns-6
-returns-6 c = wrong-letter _ (c .before .before .before .before .before .before .before .if2 .left) (c .before .before .if3 .left) (c .before .if4 .left) (c .if5 .taken)
+returns-6 c =
+    let at-value = c .before .before .before .before in
+    let at-last-columns = at-value .before .before in
+    ⊎-elim (λ y. wrong-letter _ (at-last-columns .before .if2 .left) (c .before .before .if3 .left) (c .before .if4 .left) (y .taken))
+    (λ y. wrong-list _ _ (y .0 .left) (last-number _ _ (at-last-columns .last-columns .ensures) (at-value .value .given .1)) (λ e. eqb-false _ _ (not-true _ (y .1 .taken)) (ap (ofZ w64) e)))
+    (c .if5 .came)
 
 returns-7 : tie.Need-returns-7
-returns-7 c = wrong-list _ _ (c .before .if5 .left) (last-number _ _ (c .before .before .before .before .before .before .before .last-columns .ensures) (c .before .before .before .before .before .value .given .1)) (λ e. c .if6 .taken (ap (ofZ w64) e))
-
-returns-8 : tie.Need-returns-8
-returns-8 c =
-    let f : SFits w64 (c .before .before .before .before .before .value .given .0 .0) = search needs in
-    is-list _ _ (c .before .before .before .before .before .before .before .before .before .before .if1 .left) (c .before .if5 .left) (last-number _ _ (c .before .before .before .before .before .before .before .last-columns .ensures) (c .before .before .before .before .before .value .given .1)) (sym (toZ-ofZ f) ∙ ap (toZ w64) (c .if6 .left))
+returns-7 c =
+    let at-value = c .before .before .before .before .before in
+    let at-last-columns = at-value .before .before in
+    let v = at-value .value .given .0 .0 in
+    let f : SFits w64 v = search needs in
+    is-list _ _ (at-last-columns .before .before .before .if1 .left) (c .before .if5 .left)
+    (last-number _ _ (at-last-columns .last-columns .ensures) (at-value .value .given .1))
+    (sym (toZ-ofZ f) ∙ ap (toZ w64) (eqb-true (ofZ w64 v) 0 (not-false _ (c .if6 .left))))
 
 pub parse-spec : {M : Type 1} → statement M
 parse-spec =
@@ -70,5 +79,4 @@ parse-spec =
     returns-4
     returns-5
     returns-6
-    returns-7
-    returns-8)
+    returns-7)

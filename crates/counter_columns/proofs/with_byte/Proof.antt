@@ -1,14 +1,13 @@
 -- `counter_columns::with_byte` meets its contract: by where the byte lies.
+use mathlib.Core.Logic.{⊎-elim}
+use borrow.Author.Tests.{ltb-true, ltb-false}
 use borrow.Author.Needs.{needs}
 use Rattle.counter_columns.specs.Values.{taken-below, taken-above, taken-inside}
 use Rattle.counter_columns.proofs.with_byte.Statement.{statement}
 use Rattle.counter_columns.proofs.with_byte.Tie as tie
 
 returns : tie.Need-returns
-returns c = taken-below _ _ (c .if1 .taken)
-
-returns-2 : tie.Need-returns-2
-returns-2 c = taken-above _ _ (c .before .if1 .left) (c .if2 .taken)
+returns c = ⊎-elim (λ y. taken-below _ _ (y .taken)) (λ y. taken-above _ _ (y .0 .left) (ltb-true _ _ (y .1 .taken))) (c .if1 .came)
 
 mul-result : tie.Need-mul-result
 mul-result c = search needs
@@ -19,8 +18,8 @@ cast-result c = search needs
 add-result : tie.Need-add-result
 add-result c = search needs
 
-returns-3 : tie.Need-returns-3
-returns-3 c = taken-inside _ _ (c .before .if1 .left) (c .if2 .left)
+returns-2 : tie.Need-returns-2
+returns-2 c = taken-inside _ _ (c .before .if1 .left) (ltb-false _ _ (c .if2 .left))
 
 pub with-byte-spec : {M : Type 1} → statement M
-with-byte-spec = tie.close (tie.spec returns returns-2 mul-result cast-result add-result returns-3)
+with-byte-spec = tie.close (tie.spec returns mul-result cast-result add-result returns-2)

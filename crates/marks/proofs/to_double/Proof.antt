@@ -1,5 +1,6 @@
 -- `marks::to_double` meets its contract: between the two tests the cast loses nothing, and outside them 0 is written.
 use mathlib.Core.Path.{_≡_, refl, sym, _∙_, subst}
+use mathlib.Core.Logic.{⊎-elim}
 use lib.IntN.{ℤ}
 use lib.Ieee.{Float, binary64, ofBits, ofInt}
 use mir.Syntax.{w64}
@@ -21,13 +22,9 @@ returns : tie.Need-returns
 returns c =
     let s = c .before in
     let z = s .args .value in
-    same z (ofBits binary64 0) (written ∙ sym (zero-below z (rw (toZ-ofZ w64 z (s .fits .value)) at (c .if1 .taken))))
-
-returns-2 : tie.Need-returns-2
-returns-2 c =
-    let s = c .before .before in
-    let z = s .args .value in
-    same z (ofBits binary64 0) (written ∙ sym (zero-above z (rw (toZ-ofZ w64 z (s .fits .value)) at (c .if2 .taken))))
+    let e = toZ-ofZ w64 z (s .fits .value) in
+    let zero = ⊎-elim (λ y. zero-below z (rw e at (y .taken))) (λ y. zero-above z (rw e at (y .1 .taken))) (c .if1 .came) in
+    same z (ofBits binary64 0) (written ∙ sym zero)
 
 int-to-float-result : tie.Need-int-to-float-result
 int-to-float-result c =
@@ -36,12 +33,12 @@ int-to-float-result c =
     let e = toZ-ofZ w64 z (s .fits .value) in
     rw e (cast-asks z (is-exact z (rw e at (c .before .before .if1 .left)) (rw e at (c .before .if2 .left))))
 
-returns-3 : tie.Need-returns-3
-returns-3 c =
+returns-2 : tie.Need-returns-2
+returns-2 c =
     let s = c .before .before .before in
     let z = s .args .value in
     let e = toZ-ofZ w64 z (s .fits .value) in
     rw e (same z (ofInt binary64 z) (sym (double-is z (is-exact z (rw e at (c .before .before .if1 .left)) (rw e at (c .before .if2 .left))))))
 
 pub to-double-spec : {M : Type 1} → statement M
-to-double-spec = tie.close (tie.spec returns returns-2 int-to-float-result returns-3)
+to-double-spec = tie.close (tie.spec returns int-to-float-result returns-2)

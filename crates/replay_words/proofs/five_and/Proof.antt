@@ -16,10 +16,12 @@ moved n room h = go (leb n (room - 5)) refl
     go false e = sym (lt-leb (5 + n) room (omega (arith, leb-false n (room - 5) e)))
 
 returns : tie.Need-returns
-returns c = sym (lt-leb (5 + c .before .args .n) (c .before .args .room) (omega (arith, c .if1 .taken)))
+returns c = moved (c .before .args .n) (c .before .args .room) (c .if1 .taken)
 
 returns-2 : tie.Need-returns-2
-returns-2 c = moved (c .before .args .n) (c .before .args .room) (omega (arith, c .if1 .left))
+returns-2 c =
+    let a = c .before .args in
+    lt-leb 5 (a .room) (c .if1 .left) ∙ sym (lt-leb (5 + a .n) (a .room) (omega (arith, c .if1 .left)))
 
 pub five-and-spec : {M : Type 1} → statement M
 five-and-spec = tie.close (tie.spec returns returns-2)

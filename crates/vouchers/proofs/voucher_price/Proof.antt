@@ -1,5 +1,6 @@
 -- `vouchers::voucher_price` meets its contract: each `return` tells what is due on its side of the span's ends.
 use mathlib.Core.Path.{sym}
+use mathlib.Core.Logic.{⊎-elim}
 use mir.Syntax.{w64}
 use mir.Val.{SFits}
 use mir.ValLaws.{toZ-ofZ}
@@ -10,12 +11,9 @@ use Rattle.vouchers.proofs.voucher_price.Tie as tie
 returns : tie.Need-returns
 returns c =
     let s = c .before in
-    sym (due-below (s .args .price) (rw (toZ-ofZ w64 (s .args .price) (s .fits .price)) at (c .if1 .taken)))
-
-returns-2 : tie.Need-returns-2
-returns-2 c =
-    let s = c .before .before in
-    sym (due-above (s .args .price) (rw (toZ-ofZ w64 (s .args .price) (s .fits .price)) at (c .if2 .taken)))
+    let p = s .args .price in
+    let e = toZ-ofZ w64 p (s .fits .price) in
+    sym (⊎-elim (λ y. due-below p (rw e at (y .taken))) (λ y. due-above p (rw e at (y .1 .taken))) (c .if1 .came))
 
 whole-units-requires : tie.Need-whole-units-requires
 whole-units-requires c κs =
@@ -23,8 +21,8 @@ whole-units-requires c κs =
     let e = toZ-ofZ w64 (s .args .price) (s .fits .price) in
     rw e (in-span (s .args .price) (rw e at (c .before .if1 .left)) (rw e at (c .if2 .left)))
 
-returns-3 : tie.Need-returns-3
-returns-3 c =
+returns-2 : tie.Need-returns-2
+returns-2 c =
     let s = c .before .before .before in
     let e = toZ-ofZ w64 (s .args .price) (s .fits .price) in
     let f : SFits w64 (c .whole-units .result) = record { sfits = c .whole-units .ok } in
@@ -32,4 +30,4 @@ returns-3 c =
     (sym (due-inside (s .args .price) (rw e at (c .before .before .if1 .left)) (rw e at (c .before .if2 .left))))
 
 pub voucher-price-spec : {M : Type 1} → statement M
-voucher-price-spec = tie.close (tie.spec returns returns-2 whole-units-requires returns-3)
+voucher-price-spec = tie.close (tie.spec returns whole-units-requires returns-2)
