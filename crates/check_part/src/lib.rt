@@ -4,7 +4,7 @@ ghost use Rattle.check_trees.specs.Deciding.{Decides};
 ghost use Rattle.promises.specs.Promises.{Checks};
 
 // The free slots, then the offers with their envelopes, then the numbers over the slots that the offers left in the scratch array.
-pub fn book_stands(part: &[i64]) -> bool
+fn book_stands(part: &[i64]) -> bool
     ensures { λ r. ⌜ Decides r (BookStands (now (part .entry))) ⌝ }
 {
     if table::capacity(part) < 1 {

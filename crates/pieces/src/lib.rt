@@ -94,7 +94,7 @@ pub fn cat_at(part: &mut [i64], c: u32, l: u32, r: u32, s: u32, n: u32) -> u32
 }
 
 // The same, where the two pieces are not known.
-pub fn cat_in(part: &mut [i64], c: u32, l: u32, r: u32) -> u32
+fn cat_in(part: &mut [i64], c: u32, l: u32, r: u32) -> u32
     requires { ⌜ c ≡ cap (now part) ⌝ }
     ensures { λ x. ⌜ Catted l r (now (part .entry)) (now (part .exit)) x ⌝ }
 {

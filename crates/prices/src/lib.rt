@@ -41,7 +41,7 @@ fn denominator_in(part: &[i64], c: u32, slot: u32) -> i64
 }
 
 // The price of a slot's line at the load n over d, times d.
-pub fn price(part: &[i64], c: u32, slot: u32, n: i64, d: i64) -> i64
+fn price(part: &[i64], c: u32, slot: u32, n: i64, d: i64) -> i64
     requires { ⌜ Priced c (now part) n d ⌝ }
     ensures { λ r. ⌜ r ≡ priceIn (now (part .entry)) slot n d ⌝ }
 {

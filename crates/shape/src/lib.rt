@@ -7,7 +7,7 @@ ghost use Rattle.table.specs.Layout.{cap};
 ghost use Rattle.shape.specs.Sides.{rowOn, doubleOn, rotateOn, balanceOn};
 ghost use Rattle.nodes.specs.Joining.{Joined};
 ghost use Rattle.shape.specs.Rows.{Rowed};
-ghost use Rattle.shape.specs.Splices.{Spliced, towersAt};
+ghost use Rattle.shape.specs.Splices.{Spliced};
 ghost use Rattle.shape.specs.Merge.{Merged};
 use nodes::make_node;
 pub use nodes::make_node_in;
@@ -83,14 +83,6 @@ pub fn above(h: u32, other: u32) -> bool
     ensures { λ r. ⌜ r ≡ ltb (suc other) h ⌝ }
 {
     other + 1 < h
-}
-
-// Node `p` stands more than one higher than `q`.
-pub fn towers(part: &[i64], tree: u8, p: u32, q: u32) -> bool
-    ensures { λ r. ⌜ r ≡ towersAt (now (part .entry)) tree p q ⌝ }
-{
-    let hp = table::height(part, tree, p);
-    above(hp, table::height(part, tree, q))
 }
 
 // Joins two trees along the inner spine of `p`, as long as it towers over `q`. `limit` bounds the height of `p`, `c` is the capacity.

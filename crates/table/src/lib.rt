@@ -189,27 +189,6 @@ pub fn put_link(part: &mut [i64], field: usize, slot: u32, value: u32)
     put(part, field, slot, value as i64);
 }
 
-// Three fields of a slot. Their places are found before the first write, so that the capacity is read once.
-pub fn put_three(
-    part: &mut [i64],
-    slot: u32,
-    f: usize,
-    first: i64,
-    g: usize,
-    second: i64,
-    h: usize,
-    third: i64,
-)
-    ensures { λ _. ⌜ now (part .exit) ≡ cset (cset (cset (now (part .entry)) f slot first) g slot second) h slot third ⌝ }
-{
-    let x = spot(part, f, slot);
-    let y = spot(part, g, slot);
-    let z = spot(part, h, slot);
-    set_word(part, x, first);
-    set_word(part, y, second);
-    set_word(part, z, third);
-}
-
 // The field of a child in a tree. The trees are 0 the pieces, 1 the offers, 2 the numbers; the sides are false left, true right.
 pub fn child_field(tree: u8, side: bool) -> usize
     ensures { λ r. ⌜ r ≡ childField tree side ⌝ }
