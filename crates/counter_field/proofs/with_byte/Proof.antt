@@ -1,8 +1,8 @@
--- `counter_columns::with_byte` meets its contract: by where the byte lies.
+-- `counter_field::with_byte` meets its contract: by where the byte lies.
 use borrow.Author.Needs.{needs}
-use Rattle.counter_columns.specs.Values.{taken-below, taken-above, taken-inside}
-use Rattle.counter_columns.proofs.with_byte.Statement.{statement}
-use Rattle.counter_columns.proofs.with_byte.Tie as tie
+use Rattle.counter_field.specs.Values.{taken-below, taken-above, taken-inside}
+use Rattle.counter_field.proofs.with_byte.Statement.{statement}
+use Rattle.counter_field.proofs.with_byte.Tie as tie
 
 returns : tie.Need-returns
 returns c = taken-below _ _ (c .if1 .taken)
