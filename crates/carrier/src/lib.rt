@@ -88,7 +88,7 @@ pub extern "C" fn carrier_meet(
     if met.len() < 4 {
         return -100;
     }
-    telling::tell_met(
+    telling_more::tell_met(
         meet_books::meet(first, first_start, second, second_start),
         met,
     )
@@ -102,7 +102,7 @@ pub extern "C" fn carrier_mark(table: &[i64], start: usize, index: i64, mark: &m
     if mark.len() < 2 {
         return -100;
     }
-    telling::tell_mark(chart::mark(table, start, index), mark)
+    telling_more::tell_mark(chart::mark(table, start, index), mark)
 }
 
 // A price in whole units of 100 cents: 0, and the units in `units`.
@@ -113,7 +113,7 @@ pub extern "C" fn carrier_voucher(price: i64, units: &mut [i64]) -> i64
     if units.len() < 1 {
         return -100;
     }
-    telling::tell_voucher(vouchers::voucher_price(price), units)
+    telling_more::tell_voucher(vouchers::voucher_price(price), units)
 }
 
 // The place of the first piece, from which a reading goes on by carrier_piece; 0 where there is none.
@@ -122,7 +122,7 @@ pub extern "C" fn carrier_begin(table: &[i64], start: usize) -> i64
     ensures { λ r. ⌜ Begun start (now (table .entry)) r ⌝ }
 {
     let place = reading::first_place(table, start);
-    telling::place_number(reading::piece_at(table, start, place), place)
+    telling_more::place_number(reading::piece_at(table, start, place), place)
 }
 
 // Hands out the piece at a place: the place of the next, 0 past the last, and the piece's three words in `piece`.
@@ -135,5 +135,5 @@ pub extern "C" fn carrier_piece(table: &[i64], start: usize, place: i64, piece: 
     }
     let at = table::up_to(4_294_967_295, place);
     let next = reading::place_after(table, start, at);
-    telling::tell_piece(reading::piece_at(table, start, at), next, piece)
+    telling_more::tell_piece(reading::piece_at(table, start, at), next, piece)
 }

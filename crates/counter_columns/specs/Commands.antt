@@ -13,12 +13,12 @@ use lib.Dec.{eqb}
 use Rattle.plain.specs.Book.{Call, post, withdraw, query, listing}
 use Rattle.counter_columns.specs.declared.Command.{Command}
 use Rattle.counter_columns.specs.declared.Command.the-variants.{Post, Withdraw, Query, List as Listing, Unreadable}
-use Rattle.counter_columns.specs.declared.Field.{Field}
-use Rattle.counter_columns.specs.declared.Field.the-variants.{Number, Bad}
+use Rattle.counter_field.specs.declared.Field.{Field}
+use Rattle.counter_field.specs.declared.Field.the-variants.{Number, Bad}
 use Rattle.counter_print.specs.Texts.{space, decimal, FitsIn}
 use Rattle.counter_columns.specs.Columns.{lineOf, HasLine, IsLineOf}
-use Rattle.counter_columns.specs.Values.{told}
-use Rattle.counter_columns.specs.Reading.{Holds, FieldRead, holds-told}
+use Rattle.counter_field.specs.Values.{told}
+use Rattle.counter_field.specs.Reading.{Holds, FieldRead, holds-told}
 use Rattle.counter_print.specs.Sections.{between}
 use Rattle.counter_columns.specs.Lines.{letter, Shape, PostColumns, LastColumns, line-shape, shape-line, line-length}
 

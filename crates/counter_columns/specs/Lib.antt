@@ -1,10 +1,6 @@
 -- The lines of the calls: what they say.
 -- statement: the lines of the calls, as lists of bytes, without their newlines
 pub mod Columns
--- statement and lemmas: the number that a text tells: what its digits say, and negative where it has a minus
-pub mod Values
--- ways through the code: what the reading functions answer
-pub mod Reading
 -- statement and lemmas: a call's line, taken apart: it is 27 bytes long, and its letter and its columns tell the call
 pub mod Lines
 -- statement and lemmas: what `parse` answers: the command of the call whose line it was given, and `Unreadable` where it was given no call's

@@ -11,7 +11,7 @@ use Rattle.counter_print.specs.Texts.{space, decimal, justified, FitsIn}
 use Rattle.counter_columns.specs.Columns.{lastColumns, lineOf, HasLine, IsLineOf}
 use Rattle.counter_print.specs.Decimals.{fits-unsigned}
 use Rattle.counter_print.specs.Justified.{justified-width, justified-fits}
-use Rattle.counter_columns.specs.Reading.{Holds}
+use Rattle.counter_field.specs.Reading.{Holds}
 use Rattle.counter_print.specs.Sections.{between, parts-left, parts-middle, parts-right, two-parts, three-parts}
 
 -- ---- the parts of a line

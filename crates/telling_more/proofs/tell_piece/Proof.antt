@@ -1,4 +1,4 @@
--- `telling::tell_piece` meets its contract, variant by variant.
+-- `telling_more::tell_piece` meets its contract, variant by variant.
 use native.Mathlib.Omega.{arith}
 use lib.IntN.{pos}
 use mir.Syntax.{w64}
@@ -10,8 +10,8 @@ use lib.ListN.{length-set}
 use Rattle.answers.specs.Promises.{placeNumber, pieceOf}
 use Rattle.answers.specs.Answers.{tells, three}
 use borrow.Author.Needs.{needs}
-use Rattle.telling.proofs.tell_piece.Statement.{statement}
-use Rattle.telling.proofs.tell_piece.Tie as tie
+use Rattle.telling_more.proofs.tell_piece.Statement.{statement}
+use Rattle.telling_more.proofs.tell_piece.Tie as tie
 
 enum-known-h : tie.Need-enum-known-h
 enum-known-h c = search needs

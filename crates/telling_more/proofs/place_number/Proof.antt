@@ -1,4 +1,4 @@
--- `telling::place_number` meets its contract, variant by variant.
+-- `telling_more::place_number` meets its contract, variant by variant.
 use mathlib.Core.Path.{_≡_, refl, sym, _∙_, ap}
 use native.Mathlib.Omega.{arith}
 use lib.IntN.{pos}
@@ -9,8 +9,8 @@ use Rattle.reading.specs.declared.Handed.{Handed}
 use Rattle.reading.specs.Promises.{told}
 use Rattle.answers.specs.Promises.{placeNumber}
 use borrow.Author.Needs.{needs}
-use Rattle.telling.proofs.place_number.Statement.{statement}
-use Rattle.telling.proofs.place_number.Tie as tie
+use Rattle.telling_more.proofs.place_number.Statement.{statement}
+use Rattle.telling_more.proofs.place_number.Tie as tie
 
 enum-known-h : tie.Need-enum-known-h
 enum-known-h c = search needs

@@ -1,10 +1,10 @@
--- `counter_columns::value_in` meets its contract. The loop's invariant: the bytes passed say the value, which has no more digits than those.
+-- `counter_field::value_in` meets its contract. The loop's invariant: the bytes passed say the value, which has no more digits than those.
 use Prim.Native.Nat.{_-_}
 use native.Mathlib.Omega.{arith}
 use lib.ListN.{length}
-use Rattle.counter_columns.specs.Values.{ReadTo, read-none, read-more, read-all, read-small}
-use Rattle.counter_columns.proofs.value_in.Statement.{statement}
-use Rattle.counter_columns.proofs.value_in.Tie as tie
+use Rattle.counter_field.specs.Values.{ReadTo, read-none, read-more, read-all, read-small}
+use Rattle.counter_field.proofs.value_in.Statement.{statement}
+use Rattle.counter_field.proofs.value_in.Tie as tie
 
 abbrev Inv-loop : tie.InvT-loop
 Inv-loop text value₀ at₀ value at = ReadTo text value at

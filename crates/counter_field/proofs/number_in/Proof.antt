@@ -1,4 +1,4 @@
--- `counter_columns::number_in` meets its contract: by the sign.
+-- `counter_field::number_in` meets its contract: by the sign.
 use mathlib.Core.Path.{_≡_, _∙_, sym}
 use Prim.Native.Nat.{ℕ, suc, zero, _<_, _^_}
 use native.Mathlib.Omega.{arith}
@@ -7,9 +7,9 @@ use mir.Facts.{toZ-ofZ, toZ-pos}
 use mir.Syntax.{w64}
 use mir.Val.{SFits, toZ}
 use borrow.Author.Needs.{needs}
-use Rattle.counter_columns.specs.Values.{told-minus, told-plain}
-use Rattle.counter_columns.proofs.number_in.Statement.{statement}
-use Rattle.counter_columns.proofs.number_in.Tie as tie
+use Rattle.counter_field.specs.Values.{told-minus, told-plain}
+use Rattle.counter_field.proofs.number_in.Statement.{statement}
+use Rattle.counter_field.proofs.number_in.Tie as tie
 
 opposite : (v : ℕ) → v < 10 ^ 18 → SFits w64 (negℤ (pos v))
 opposite zero h = omega arith

@@ -1,4 +1,4 @@
--- `telling::tell_met` meets its contract, variant by variant.
+-- `telling_more::tell_met` meets its contract, variant by variant.
 use mathlib.Core.Path.{refl}
 use mir.Syntax.{w64}
 use mir.Val.{SFits}
@@ -9,8 +9,8 @@ use Rattle.meet_books.specs.Promises.{meetAnswer}
 use Rattle.answers.specs.Promises.{meetNumber, metOf}
 use Rattle.answers.specs.Answers.{tells, four}
 use borrow.Author.Needs.{needs}
-use Rattle.telling.proofs.tell_met.Statement.{statement}
-use Rattle.telling.proofs.tell_met.Tie as tie
+use Rattle.telling_more.proofs.tell_met.Statement.{statement}
+use Rattle.telling_more.proofs.tell_met.Tie as tie
 
 enum-known-m : tie.Need-enum-known-m
 enum-known-m c = search needs

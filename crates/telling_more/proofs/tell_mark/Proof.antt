@@ -1,4 +1,4 @@
--- `telling::tell_mark` meets its contract, variant by variant.
+-- `telling_more::tell_mark` meets its contract, variant by variant.
 use mathlib.Core.Path.{refl, _∙_, ap}
 use mir.Syntax.{w64}
 use mir.Val.{SFits}
@@ -8,8 +8,8 @@ use Rattle.chart.specs.Promises.{told}
 use Rattle.answers.specs.Promises.{markNumber}
 use Rattle.answers.specs.Answers.{tells, one, two, longer}
 use borrow.Author.Needs.{needs}
-use Rattle.telling.proofs.tell_mark.Statement.{statement}
-use Rattle.telling.proofs.tell_mark.Tie as tie
+use Rattle.telling_more.proofs.tell_mark.Statement.{statement}
+use Rattle.telling_more.proofs.tell_mark.Tie as tie
 
 enum-known-m : tie.Need-enum-known-m
 enum-known-m c = search needs

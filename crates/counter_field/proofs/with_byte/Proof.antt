@@ -1,10 +1,10 @@
--- `counter_columns::with_byte` meets its contract: by where the byte lies.
+-- `counter_field::with_byte` meets its contract: by where the byte lies.
 use mathlib.Core.Logic.{⊎-elim}
 use borrow.Author.Tests.{ltb-true, ltb-false}
 use borrow.Author.Needs.{needs}
-use Rattle.counter_columns.specs.Values.{taken-below, taken-above, taken-inside}
-use Rattle.counter_columns.proofs.with_byte.Statement.{statement}
-use Rattle.counter_columns.proofs.with_byte.Tie as tie
+use Rattle.counter_field.specs.Values.{taken-below, taken-above, taken-inside}
+use Rattle.counter_field.proofs.with_byte.Statement.{statement}
+use Rattle.counter_field.proofs.with_byte.Tie as tie
 
 returns : tie.Need-returns
 returns c = ⊎-elim (λ y. taken-below _ _ (y .taken)) (λ y. taken-above _ _ (y .0 .left) (ltb-true _ _ (y .1 .taken))) (c .if1 .came)

@@ -1,4 +1,4 @@
--- `counter_columns::read_field` meets its contract: the columns hold a number exactly where they are the one candidate's text.
+-- `counter_field::read_field` meets its contract: the columns hold a number exactly where they are the one candidate's text.
 use mathlib.Core.Path.{_∙_, sym}
 use mathlib.Core.Bool.{true≢false}
 use native.Mathlib.Omega.{arith}
@@ -7,9 +7,9 @@ use mir.Facts.{toZ-ofZ}
 use mir.Syntax.{w64}
 use mir.Val.{SFits}
 use borrow.Author.Needs.{needs}
-use Rattle.counter_columns.specs.Reading.{holds-none, candidate, held}
-use Rattle.counter_columns.proofs.read_field.Statement.{statement}
-use Rattle.counter_columns.proofs.read_field.Tie as tie
+use Rattle.counter_field.specs.Reading.{holds-none, candidate, held}
+use Rattle.counter_field.proofs.read_field.Statement.{statement}
+use Rattle.counter_field.proofs.read_field.Tie as tie
 
 returns : tie.Need-returns
 returns c z h = holds-none _ z (c .if1 .taken) h

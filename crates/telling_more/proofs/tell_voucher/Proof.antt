@@ -1,4 +1,4 @@
--- `telling::tell_voucher` meets its contract, variant by variant.
+-- `telling_more::tell_voucher` meets its contract, variant by variant.
 use mathlib.Core.Path.{refl}
 use mir.Syntax.{w64}
 use mir.Val.{SFits}
@@ -7,8 +7,8 @@ use Rattle.vouchers.specs.Told.{told}
 use Rattle.answers.specs.Promises.{refusal}
 use Rattle.answers.specs.Answers.{tells, one}
 use borrow.Author.Needs.{needs}
-use Rattle.telling.proofs.tell_voucher.Statement.{statement}
-use Rattle.telling.proofs.tell_voucher.Tie as tie
+use Rattle.telling_more.proofs.tell_voucher.Statement.{statement}
+use Rattle.telling_more.proofs.tell_voucher.Tie as tie
 
 enum-known-v : tie.Need-enum-known-v
 enum-known-v c = search needs

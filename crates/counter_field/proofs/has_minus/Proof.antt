@@ -1,11 +1,11 @@
--- `counter_columns::has_minus` meets its contract. The loop's invariant: no minus was passed.
+-- `counter_field::has_minus` meets its contract. The loop's invariant: no minus was passed.
 use mathlib.Core.Path.{refl}
 use Prim.Native.Nat.{_-_}
 use native.Mathlib.Omega.{arith}
 use lib.ListN.{length}
-use Rattle.counter_columns.specs.Values.{NoMinusTo, minus-found, minus-more, minus-never}
-use Rattle.counter_columns.proofs.has_minus.Statement.{statement}
-use Rattle.counter_columns.proofs.has_minus.Tie as tie
+use Rattle.counter_field.specs.Values.{NoMinusTo, minus-found, minus-more, minus-never}
+use Rattle.counter_field.proofs.has_minus.Statement.{statement}
+use Rattle.counter_field.proofs.has_minus.Tie as tie
 
 abbrev Inv-loop : tie.InvT-loop
 Inv-loop text at₀ at = NoMinusTo text at

@@ -7,10 +7,10 @@ use native.Mathlib.Omega.{arith}
 use lib.ListN.{length, take, drop}
 use lib.Seq.{length-take-le, take-at}
 use lib.IntN.{ℤ}
-use Rattle.counter_columns.specs.declared.Field.{Field}
-use Rattle.counter_columns.specs.declared.Field.the-variants.{Number, Bad}
+use Rattle.counter_field.specs.declared.Field.{Field}
+use Rattle.counter_field.specs.declared.Field.the-variants.{Number, Bad}
 use Rattle.counter_print.specs.Texts.{decimal, justified, FitsIn}
-use Rattle.counter_columns.specs.Values.{told, told-justified, told-fits}
+use Rattle.counter_field.specs.Values.{told, told-justified, told-fits}
 use Rattle.counter_print.specs.Justified.{justified-length}
 use Rattle.counter_print.specs.Printed.{Justifies}
 use Rattle.counter_print.specs.Decimals.{decimal-some}
