@@ -128,7 +128,9 @@ module _ {w : Words} {q from to : ℕ} {xs : List ℕ} (e : q ≡ 0) where
         long = refl;
         same = λ i h. refl;
         told = λ known. record {
-          sound = λ t. let d = eqb-true from to t in record { whole = none; root = e; over = ap (itemsAt w) (sym (span-none xs from to (omega arith))); pieces = tt; balanced = tt };
+          sound = λ t.
+              let d = eqb-true from to t in
+              record { whole = none; root = e; over = ap (itemsAt w) (sym (span-none xs from to (omega arith))); pieces = tt; balanced = tt };
           complete = λ p. eq-eqb from to (go known (p .whole) (p .root) (p .over));
         };
       }

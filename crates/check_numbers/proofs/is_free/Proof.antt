@@ -18,14 +18,16 @@ returns : tie.Need-returns
 returns c =
     let d = within refl in
     let two =
-    ⊎-elim (λ y. decides-also d (le-leb _ _ (y .0 .taken)) (within (y .1 .ensures)) (y .2)) (λ y. decides-stops d (lt-leb _ _ (y .0 .left)) (y .1)) (c .before .before .if1 .came) in
+    ⊎-elim (λ y. decides-also d (le-leb _ _ (y .0 .taken)) (within (y .1 .ensures)) (y .2))
+    (λ y. decides-stops d (lt-leb _ _ (y .0 .left)) (y .1)) (c .before .before .if1 .came) in
     free-by (decides-also two (c .before .if2 .taken) (decides-by (c .is-equal .ensures)) refl)
 
 returns-2 : tie.Need-returns-2
 returns-2 c =
     let d = within refl in
     let two =
-    ⊎-elim (λ y. decides-also d (le-leb _ _ (y .0 .taken)) (within (y .1 .ensures)) (y .2)) (λ y. decides-stops d (lt-leb _ _ (y .0 .left)) (y .1)) (c .before .if1 .came) in
+    ⊎-elim (λ y. decides-also d (le-leb _ _ (y .0 .taken)) (within (y .1 .ensures)) (y .2))
+    (λ y. decides-stops d (lt-leb _ _ (y .0 .left)) (y .1)) (c .before .if1 .came) in
     free-by (decides-stops two (c .if2 .left) refl)
 
 pub is-free-spec : {M : Type 1} → statement M

@@ -17,15 +17,20 @@ returns-2 c =
     let f = c .before .before .fits in
     let n = is-not (a .code) 1 (c .before .if1 .left) in
     ⊎-elim (λ y. reads-none (a .code) (a .a) (a .b) (a .c) n (is-not (a .b) 0 (y .taken)))
-    (λ y. reads-none-2 (a .code) (a .a) (a .b) (a .c) n (is (f .b) (omega arith) (y .0 .left)) (is-not (a .c) 0 (eqb-false _ _ (not-true _ (y .1 .taken))))) (c .if2 .came)
+    (λ y. reads-none-2 (a .code) (a .a) (a .b) (a .c) n (is (f .b) (omega arith) (y .0 .left)) (is-not (a .c) 0 (eqb-false _ _ (not-true _ (y .1 .taken)))))
+    (c .if2 .came)
 
 read-short-requires : tie.Need-read-short-requires
 read-short-requires c κs = search needs
 
 returns-3 : tie.Need-returns-3
 returns-3 c =
-    let a = c .before .before .before .before .args in let f = c .before .before .before .before .fits in
-    reads-short (a .code) (a .a) (a .b) (a .c) (is-not (a .code) 1 (c .before .before .before .if1 .left)) (is (f .b) (omega arith) (c .before .before .if2 .left)) (is (f .c) (omega arith) (eqb-true _ _ (not-false _ (c .before .if3 .left)))) (simp (toZ-ofZ, f .code, f .a) at (c .read-short .ensures))
+    let at-if2 = c .before .before in
+    let at-if1 = at-if2 .before in
+    let a = at-if1 .before .args in
+    let f = at-if1 .before .fits in
+    reads-short (a .code) (a .a) (a .b) (a .c) (is-not (a .code) 1 (at-if1 .if1 .left)) (is (f .b) (omega arith) (at-if2 .if2 .left))
+    (is (f .c) (omega arith) (eqb-true _ _ (not-false _ (c .before .if3 .left)))) (simp (toZ-ofZ, f .code, f .a) at (c .read-short .ensures))
 
 pub read-call-spec : {M : Type 1} → statement M
 read-call-spec = tie.close (tie.spec returns returns-2 read-short-requires returns-3)

@@ -24,13 +24,22 @@ returns-3 c =
     (c .if3 .came)
 
 cast-t6 : tie.Need-cast-t6
-cast-t6 c = let a = c .before .before .before .before .args in let f = c .before .before .before .before .fits in simp (toZ-ofZ, f .a) (some-room (a .a) (f .a) (simp (toZ-ofZ, f .a) at (c .if4 .left)) .0)
+cast-t6 c =
+    let entry = c .before .before .before .before in
+    let a = entry .args in
+    let f = entry .fits in
+    simp (toZ-ofZ, f .a) (some-room (a .a) (f .a) (simp (toZ-ofZ, f .a) at (c .if4 .left)) .0)
 
 returns-4 : tie.Need-returns-4
 returns-4 c =
-    let a = c .before .before .before .before .args in let f = c .before .before .before .before .fits in
+    let at-if2 = c .before .before in
+    let at-if1 = at-if2 .before in
+    let a = at-if1 .before .args in
+    let f = at-if1 .before .fits in
+    let n = is-not (a .code) 2 (at-if1 .if1 .left) in
+    let m = is-not (a .code) 3 (at-if2 .if2 .left) in
     simp (toZ-ofZ, f .a)
-    (some-room (a .a) (f .a) (simp (toZ-ofZ, f .a) at (c .if4 .left)) .1 ∙ short-listing (a .code) (a .a) (is-not (a .code) 2 (c .before .before .before .if1 .left)) (is-not (a .code) 3 (c .before .before .if2 .left)) (is (f .code) (omega arith) (c .before .if3 .left)))
+    (some-room (a .a) (f .a) (simp (toZ-ofZ, f .a) at (c .if4 .left)) .1 ∙ short-listing (a .code) (a .a) n m (is (f .code) (omega arith) (c .before .if3 .left)))
 
 pub read-short-spec : {M : Type 1} → statement M
 read-short-spec = tie.close (tie.spec returns returns-2 returns-3 cast-t6 returns-4)
