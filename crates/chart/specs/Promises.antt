@@ -1,6 +1,6 @@
 -- A book's chart marks (docs/REQUIREMENTS.md, 10.1), and what asking for one promises.
-use Prim.Native.Nat.{ℕ, suc}
-use mathlib.Core.Path.{_≡_, refl, ap}
+use Prim.Native.Nat.{ℕ}
+use mathlib.Core.Path.{_≡_}
 use mathlib.Core.List.{List, [], _∷_}
 use mathlib.Core.Option.{Option, none, some}
 use mathlib.Core.Bool.{not}
@@ -31,16 +31,6 @@ marksBehind own (next ∷ es) = crossing (crossingNumerator own next) (crossingD
 abbrev pub marks : List Offer → List Told
 marks [] = []
 marks (o ∷ es) = openEnd (o .rate) ∷ marksBehind o es
-
--- a listing of m pieces has m + 1 marks
-pub marks-count : (o : Offer) (es : List Offer) → length (marks (o ∷ es)) ≡ suc (length (o ∷ es))
-marks-count o [] = refl
-marks-count o (p ∷ es) = ap suc (marks-count p es)
-
--- the offers (3, 0), (1, 10) and (0, 40) cross at 10 / 2, for 30 / 2, and at 30 / 1, for 40 / 1
-pub three-pieces : marks (record { number = pos 1; rate = pos 3; base = pos 0 } ∷ record { number = pos 2; rate = pos 1; base = pos 10 } ∷ record { number = pos 3; rate = pos 0; base = pos 40 } ∷ [])
-    ≡ openEnd (pos 3) ∷ crossing (pos 10) (pos 2) (pos 30) ∷ crossing (pos 30) (pos 1) (pos 40) ∷ openEnd (pos 0) ∷ []
-three-pieces = refl
 
 -- ---- the plain book's answer
 

@@ -1,5 +1,5 @@
 -- What a query and a listing tell of a list of live offers, in the words of docs/REQUIREMENTS.md (3) and with no way of computing it.
--- `MeaningLaws` proves both of the plain book; `Demand2` (theorems) of the calls on a table.
+-- `MeaningLaws` proves both of the plain book; `demand-2` (theorems) of the calls on a table.
 use mathlib.Core.Path.{_≡_}
 use mathlib.Core.Logic.{_≢_, _↔_}
 use mathlib.Core.List.{List, List·Memᴰ, Pairwise}

@@ -5,8 +5,10 @@ pub mod Unique
 pub mod OneReading
 -- lemmas: from an answer back to the enum's case: a refusal's number tells the declined case, and an accepted answer its case with all its values
 pub mod AnswerCases
--- statement and lemmas: demand 2, about the calls
+-- statement: demand 2, about the calls
 pub mod Demand2
+-- theorem: demand 2 holds of every call
+pub mod AnswersExact
 -- lemmas: the sentences of demand 2 fix the answers: of offers in order, one number and price at a load, and one listing, word for word
 pub mod Fixes
 -- lemmas: from a searched pair's envelopes to the listing's sentence about offers

@@ -3,7 +3,7 @@
 pub mod Rule
 -- lemmas: what the voucher rule comes to
 pub mod RuleLaws
--- statement and lemmas: what a voucher call tells: the requirements' number and values (11, 16.5) for each case of its answer
+-- statement: what a voucher call tells: the requirements' number and values (11, 16.5) for each case of its answer
 pub mod Told
 -- ways through the code: what is due for a price in its span, and outside it
 pub mod Span

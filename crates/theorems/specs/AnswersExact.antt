@@ -1,0 +1,110 @@
+-- Demand 2 holds of every call: the promises give it on a table that stands for a book.
+use mathlib.Core.Path.{_≡_, refl, sym, _∙_, ap, subst}
+use mathlib.Core.List.{List, [], _∷_}
+use mathlib.Core.Option.{Option, none, some}
+use Prim.Native.Nat.{ℕ, _*_}
+use native.Mathlib.Omega.{arith}
+use lib.ListN.{length, take}
+use lib.IntN.{ℤ, pos, negsuc}
+use Rattle.offers.specs.Offers.{Offer as PlainOffer}
+use Rattle.plain.specs.Causes.{Cause, causeNumber, declined, Clear}
+use Rattle.plain.specs.Trials.{clear, declined-first}
+use Rattle.plain.specs.Book.{State, Call, post, withdraw, query, listing, refused, live, Outcome, holding, join, leave, trials, accepted, respond, step}
+use Rattle.plain.specs.MeaningLaws.{query-cheapest, listing-listing}
+use Rattle.dynamic.specs.OfferTree.{Held}
+use Rattle.table.specs.Items.{Item}
+use Rattle.form.specs.Form.{Book}
+use Rattle.form.specs.Live.{book-sound}
+use Rattle.book.specs.declared.Update.{Update}
+use Rattle.book.specs.declared.Update.the-variants.{Done, Declined as UpdateDeclined}
+use Rattle.book.specs.declared.Found.{Found}
+use Rattle.book.specs.declared.Found.the-variants.{Offer, Declined as FoundDeclined}
+use Rattle.book.specs.declared.Listed.{Listed}
+use Rattle.book.specs.declared.Listed.the-variants.{Pieces, Declined as ListingDeclined}
+use Rattle.book.specs.Promises.{partOf, counted, updateAnswer, foundAnswer, listingAnswer, Follows, Queries, Lists}
+use Rattle.book.specs.Numbered.{from-one, numbered}
+use Rattle.theorems.specs.AnswerCases.{refused-word}
+use Rattle.theorems.specs.Demand2.{Refuses, QueryTells, ListingTells, UpdateTells, Demand2}
+
+-- ---- a refusal
+
+a-refusal : (z : ℤ) → (n : ℕ) × (counted refused z ≡ refused n)
+a-refusal (pos n) = (n, refl)
+a-refusal (negsuc n) = (0, refl)
+
+-- a query past the trials is not refused
+query-accepted : (s : State) (q : ℤ) (n : ℕ) → Clear (trials s (query q)) → respond s (query q) none .answer ≡ refused n → ⊥
+query-accepted s q n k e = go (s .offers) k e
+  where
+    go :
+        (os : List PlainOffer) → Clear (trials (record { capacity = s .capacity; offers = os }) (query q)) →
+        respond (record { capacity = s .capacity; offers = os }) (query q) none .answer ≡ refused n → ⊥
+    go [] (load, (empty, _)) d = empty
+    go (o ∷ os) k d = let z : _≡_ {A = ℕ} 0 1 = cc in absurd (omega arith)
+
+query-refuses : (s : State) (q z : ℤ) → counted refused z ≡ step s (query q) .answer → Refuses (trials s (query q)) z
+query-refuses s q z e = go (declined (trials s (query q))) refl e
+  where
+    go : (d : Option Cause) → declined (trials s (query q)) ≡ d → counted refused z ≡ respond s (query q) d .answer → Refuses (trials s (query q)) z
+    go (some c) p a = (c, declined-first (trials s (query q)) c p, refused-word z (causeNumber c) (from-one c) a)
+    go none p a = let (n, b) = a-refusal z in absurd (query-accepted s q n (clear (trials s (query q)) p) (sym a ∙ b))
+
+listing-refuses : (s : State) (room : ℕ) (z : ℤ) → counted refused z ≡ step s (listing room) .answer → Refuses (trials s (listing room)) z
+listing-refuses s room z e = go (declined (trials s (listing room))) refl e
+  where
+    go :
+        (d : Option Cause) → declined (trials s (listing room)) ≡ d → counted refused z ≡ respond s (listing room) d .answer →
+        Refuses (trials s (listing room)) z
+    go (some c) p a = (c, declined-first (trials s (listing room)) c p, refused-word z (causeNumber c) (from-one c) a)
+    go none p a = let (n, b) = a-refusal z in let d : _≡_ {A = ℕ} 0 1 = cc in absurd (omega arith)
+
+-- ---- an update, by what it makes of the live offers where no cause applies
+
+module _ (s : State) (k : Call) (os : List PlainOffer) (a : accepted s k ≡ record { state = holding s os; answer = live (length os) }) where
+  said : {m : ℕ} → live m ≡ accepted s k .answer → m ≡ length os
+  said {m} e = let q : live m ≡ live (length os) = e ∙ ap (λ (o : Outcome). o .answer) a in cc
+
+  unsaid : {n : ℕ} → refused n ≡ accepted s k .answer → ⊥
+  unsaid {n} e = let q : refused n ≡ live (length os) = e ∙ ap (λ (o : Outcome). o .answer) a in let z : _≡_ {A = ℕ} 0 1 = cc in absurd (omega arith)
+
+  module _ (start : ℕ) (t t′ : List ℤ) where
+    update-by :
+        (d : Option Cause) → declined (trials s k) ≡ d → (u : Update) → updateAnswer u ≡ respond s k d .answer → (after : Option (Held Item)) →
+        Book (partOf t′ start) (respond s k d .state) after → ((n : ℕ) → updateAnswer u ≡ refused n → t′ ≡ t) → UpdateTells s k os start t t′ u
+    update-by none p (Done (pos m) x y z) e after b r =
+        (ap pos (said e), (after, subst (λ (o : Outcome). Book (partOf t′ start) (o .state) after) a b))
+    update-by none p (Done (negsuc m) x y z) e after b r = absurd (unsaid e)
+    update-by none p (UpdateDeclined z) e after b r = let (n, q) = a-refusal z in absurd (unsaid (sym q ∙ e))
+    update-by (some c) p (Done (pos m) x y z) e after b r = let q : _≡_ {A = ℕ} 0 1 = cc in absurd (omega arith)
+    update-by (some c) p (Done (negsuc m) x y z) e after b r = let l = from-one c in let q : 0 ≡ causeNumber c = cc in absurd (omega arith)
+    update-by (some c) p (UpdateDeclined z) e after b r = ((c, declined-first (trials s k) c p, refused-word z (causeNumber c) (from-one c) e), r (causeNumber c) e)
+
+    update-told : {held : Option (Held Item)} {u : Update} → Follows k s held start t t′ u → UpdateTells s k os start t t′ u
+    update-told {u} f = update-by (declined (trials s k)) refl u (f .answers) (f .after) (f .stands) (f .refusal)
+
+-- ---- the four calls
+
+module _ {start : ℕ} {t : List ℤ} {s : State} {held : Option (Held Item)} (b : Book (partOf t start) s held) where
+  query-told : {q : ℤ} {r : Found} → Queries q start t r → QueryTells s q r
+  query-told {q} {r} p = go r (p .answers s held b)
+    where
+      go : (r : Found) → foundAnswer r ≡ step s (query q) .answer → QueryTells s q r
+      go (Offer number price probes) e = query-cheapest s q number price (book-sound b) (sym e)
+      go (FoundDeclined z) e = query-refuses s q z e
+
+  listing-told : {out out′ : List ℤ} {r : Listed} → Lists start t out out′ r → ListingTells s (length out) r out′
+  listing-told {out} {out′} {r} p = go r (p .answers s held b)
+    where
+      go : (r : Listed) → listingAnswer r out′ ≡ step s (listing (length out)) .answer → ListingTells s (length out) r out′
+      go (Pieces (pos n)) e = (n, refl, listing-listing s (length out) n (take (3 * n) out′) (book-sound b) (sym e))
+      go (Pieces (negsuc n)) e = absurd (numbered s (listing (length out)) (sym e))
+      go (ListingDeclined z) e = listing-refuses s (length out) z e
+
+  pub demand-2 : Demand2 start t s
+  demand-2 =
+      record {
+        query-tells = query-told;
+        listing-tells = listing-told;
+        post-tells = λ {n} {r} {b = base} {t′} p. update-told s (post n r base) (join (record { number = n; rate = r; base = base }) (s .offers)) refl start t t′ (p .follows s held b);
+        withdraw-tells = λ {n} {t′} p. update-told s (withdraw n) (leave n (s .offers)) refl start t t′ (p .follows s held b);
+      }
