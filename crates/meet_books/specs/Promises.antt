@@ -22,7 +22,7 @@ use Rattle.dynamic.specs.Valid.{bookLines}
 use Rattle.dynamic.specs.SearchEnd.{Bridged}
 use Rattle.table.specs.Fields.{capacityWord}
 use Rattle.table.specs.Words.{word}
-use Rattle.table.specs.Items.{Item}
+use Rattle.table.specs.Items.{Item, offerOf}
 use Rattle.pieces.specs.Pieces.{items}
 use Rattle.form.specs.Form.{Book, numberOf, plainOffers}
 use Rattle.promises.specs.Promises.{partOf, rootPart}
@@ -66,7 +66,7 @@ pub record Found (held held′ : Option (Held Item)) (r : Met) : Type 0 where
   pub right-root : rootPart held′ ≡ some right
   pub bridged : Bridged items (bookLines held) (bookLines held′) left right
   pub answer : meetAnswer r ≡ met (numberOf (bridged .u)) (numberOf (bridged .v)) (pos (meet items left right .steps)) (pos (height left)) (pos (height right))
-  pub plainly : envelope (plainOffers held ++ plainOffers held′) ≡ map (λ (a : Item). a .offer) (bridged .upTo ++ bridged .u ∷ bridged .v ∷ bridged .from)
+  pub plainly : envelope (plainOffers held ++ plainOffers held′) ≡ map offerOf (bridged .upTo ++ bridged .u ∷ bridged .v ∷ bridged .from)
 
 -- on two books
 pub record Answers (held held′ : Option (Held Item)) (r : Met) : Type 0 where

@@ -60,26 +60,27 @@ listing-refuses s room z e = go (declined (trials s (listing room))) refl e
 
 -- ---- an update, by what it makes of the live offers where no cause applies
 
-module _ {s : State} {k : Call} {start : ℕ} {t t′ : List ℤ} (os : List PlainOffer) (a : accepted s k ≡ record { state = holding s os; answer = live (length os) }) where
+module _ (s : State) (k : Call) (os : List PlainOffer) (a : accepted s k ≡ record { state = holding s os; answer = live (length os) }) where
   said : {m : ℕ} → live m ≡ accepted s k .answer → m ≡ length os
   said {m} e = let q : live m ≡ live (length os) = e ∙ ap (λ (o : Outcome). o .answer) a in cc
 
   unsaid : {n : ℕ} → refused n ≡ accepted s k .answer → ⊥
   unsaid {n} e = let q : refused n ≡ live (length os) = e ∙ ap (λ (o : Outcome). o .answer) a in let z : _≡_ {A = ℕ} 0 1 = cc in absurd (omega arith)
 
-  update-by :
-      (d : Option Cause) → declined (trials s k) ≡ d → (u : Update) → updateAnswer u ≡ respond s k d .answer → (after : Option (Held Item)) →
-      Book (partOf t′ start) (respond s k d .state) after → ((n : ℕ) → updateAnswer u ≡ refused n → t′ ≡ t) → UpdateTells s k os start t t′ u
-  update-by none p (Done (pos m) x y z) e after b r =
-      (ap pos (said e), (after, subst (λ (o : Outcome). Book (partOf t′ start) (o .state) after) a b))
-  update-by none p (Done (negsuc m) x y z) e after b r = absurd (unsaid e)
-  update-by none p (UpdateDeclined z) e after b r = let (n, q) = a-refusal z in absurd (unsaid (sym q ∙ e))
-  update-by (some c) p (Done (pos m) x y z) e after b r = let q : _≡_ {A = ℕ} 0 1 = cc in absurd (omega arith)
-  update-by (some c) p (Done (negsuc m) x y z) e after b r = let l = from-one c in let q : 0 ≡ causeNumber c = cc in absurd (omega arith)
-  update-by (some c) p (UpdateDeclined z) e after b r = ((c, declined-first (trials s k) c p, refused-word z (causeNumber c) (from-one c) e), r (causeNumber c) e)
+  module _ (start : ℕ) (t t′ : List ℤ) where
+    update-by :
+        (d : Option Cause) → declined (trials s k) ≡ d → (u : Update) → updateAnswer u ≡ respond s k d .answer → (after : Option (Held Item)) →
+        Book (partOf t′ start) (respond s k d .state) after → ((n : ℕ) → updateAnswer u ≡ refused n → t′ ≡ t) → UpdateTells s k os start t t′ u
+    update-by none p (Done (pos m) x y z) e after b r =
+        (ap pos (said e), (after, subst (λ (o : Outcome). Book (partOf t′ start) (o .state) after) a b))
+    update-by none p (Done (negsuc m) x y z) e after b r = absurd (unsaid e)
+    update-by none p (UpdateDeclined z) e after b r = let (n, q) = a-refusal z in absurd (unsaid (sym q ∙ e))
+    update-by (some c) p (Done (pos m) x y z) e after b r = let q : _≡_ {A = ℕ} 0 1 = cc in absurd (omega arith)
+    update-by (some c) p (Done (negsuc m) x y z) e after b r = let l = from-one c in let q : 0 ≡ causeNumber c = cc in absurd (omega arith)
+    update-by (some c) p (UpdateDeclined z) e after b r = ((c, declined-first (trials s k) c p, refused-word z (causeNumber c) (from-one c) e), r (causeNumber c) e)
 
-  update-told : {held : Option (Held Item)} {u : Update} → Follows k s held start t t′ u → UpdateTells s k os start t t′ u
-  update-told {u} f = update-by (declined (trials s k)) refl u (f .answers) (f .after) (f .stands) (f .refusal)
+    update-told : {held : Option (Held Item)} {u : Update} → Follows k s held start t t′ u → UpdateTells s k os start t t′ u
+    update-told {u} f = update-by (declined (trials s k)) refl u (f .answers) (f .after) (f .stands) (f .refusal)
 
 -- ---- the four calls
 
@@ -104,6 +105,6 @@ module _ {start : ℕ} {t : List ℤ} {s : State} {held : Option (Held Item)} (b
       record {
         query-tells = query-told;
         listing-tells = listing-told;
-        post-tells = λ {n} {r} {b₀} p. update-told (join (record { number = n; rate = r; base = b₀ }) (s .offers)) refl (p .follows s held b);
-        withdraw-tells = λ {n} p. update-told (leave n (s .offers)) refl (p .follows s held b);
+        post-tells = λ {n} {r} {b = base} {t′} p. update-told s (post n r base) (join (record { number = n; rate = r; base = base }) (s .offers)) refl start t t′ (p .follows s held b);
+        withdraw-tells = λ {n} {t′} p. update-told s (withdraw n) (leave n (s .offers)) refl start t t′ (p .follows s held b);
       }
