@@ -90,7 +90,8 @@ module _ (k : Call) (start : ℕ) (t : List ℤ) where
 -- ---- a reading's step
 
 pub pieced-long : (start : ℕ) (t : List ℤ) (place : ℤ) {out out′ : List ℤ} {r : ℤ} {at : ℕ} → at ≡ placeOf place → 3 ≤ length out
-    → (s : Step) → Steps start t at s → Tells (placeNumber (s .next) (told (s .handed))) (pieceOf (told (s .handed))) out out′ r → Pieced start t place out out′ r
+    → (s : Step) → Steps start t at s → Tells (placeNumber (s .next) (told (s .handed))) (pieceOf (told (s .handed))) out out′ r →
+    Pieced start t place out out′ r
 pieced-long start t place e h s p q =
     lent-long 3 (Steps start t (placeOf place)) (λ x. placeNumber (x .next) (told (x .handed))) (λ x. pieceOf (told (x .handed))) h s
     (subst (λ (i : ℕ). Steps start t i s) e p) q

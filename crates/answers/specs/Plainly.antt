@@ -9,10 +9,8 @@ use native.Mathlib.Omega.{arith}
 use lib.ListN.{length, take, drop, length-append, length-map}
 use lib.IntN.{ℤ, pos, negsuc, negℤ}
 use lib.Ieee.{Float}
-use Rattle.plain.specs.Causes.{Cause, causeNumber}
+use Rattle.plain.specs.Causes.{Cause, causeNumber, FirstOf, Clear}
 use Rattle.plain.specs.Book.{State, Call, query, listing, Answer, refused, live, found, listed, step, envelope, pieceWords}
-use Rattle.plain.specs.Rules.{FirstOf}
-use Rattle.plain.specs.Sound.{Clear}
 use Rattle.trees.specs.Tree.{height}
 use Rattle.meeting.specs.Machine.{meet}
 use Rattle.dynamic.specs.OfferTree.{Held}
@@ -102,7 +100,8 @@ pub record MetAt (held held′ : Option (Held Item)) (out out′ : List ℤ) (r 
   pub found : MeetsAt held held′ m
   pub number : r ≡ numberOf (found .bridged .u)
   pub words :
-      out′ ≡ numberOf (found .bridged .v) ∷ pos (meet items (found .left) (found .right) .steps) ∷ pos (height (found .left)) ∷ pos (height (found .right)) ∷ drop 4 out
+      out′ ≡ numberOf (found .bridged .v) ∷ pos (meet items (found .left) (found .right) .steps) ∷ pos (height (found .left)) ∷ pos (height (found .right))
+      ∷ drop 4 out
 
 module _ {t t′ : List ℤ} {start start′ : ℕ} (plain plain′ : State) (held held′ : Option (Held Item))
     (book : Book (partOf t start) plain held) (book′ : Book (partOf t′ start′) plain′ held′)
@@ -145,7 +144,8 @@ record Stands (start : ℕ) (t : List ℤ) (n : ℕ) (r : ℤ) : Type 0 where
   before : Before (partOf t start) n place
 
 module _ {start : ℕ} {t : List ℤ} (plain : State) (held : Option (Held Item)) (book : Book (partOf t start) plain held) where
-  stood : (n m place : ℕ) {r : ℤ} → place ≤ 4_294_967_295 → r ≡ placeNumber place (listedAt (plainOffers held) m) → Before (partOf t start) n place → Stands start t n r
+  stood : (n m place : ℕ) {r : ℤ} → place ≤ 4_294_967_295 → r ≡ placeNumber place (listedAt (plainOffers held) m) → Before (partOf t start) n place →
+      Stands start t n r
   stood n m place h e b =
       let k = e ∙ place-is place (take 3 (drop (3 * m) (pieceWords (envelope (plainOffers held))))) in
       record { place = place; number = k; back = ap placeOf k ∙ upTo-in 4_294_967_295 place h; before = b }

@@ -11,14 +11,10 @@ use lib.Ieee.{Float}
 use Rattle.plain.specs.Book.{Call, post, withdraw}
 use Rattle.table.specs.Words.{upTo}
 use Rattle.promises.specs.declared.Opening.{Opening}
-use Rattle.promises.specs.declared.Opening.the-variants.{Opened as OpeningDone, Declined as OpeningDeclined}
 use Rattle.promises.specs.declared.Update.{Update}
-use Rattle.promises.specs.declared.Update.the-variants.{Done, Declined as UpdateDeclined}
 use Rattle.promises.specs.declared.Found.{Found}
-use Rattle.promises.specs.declared.Found.the-variants.{Offer, Declined as FoundDeclined}
 use Rattle.promises.specs.declared.Listed.{Listed}
-use Rattle.promises.specs.declared.Listed.the-variants.{Pieces, Declined as ListingDeclined}
-use Rattle.promises.specs.Promises.{Opens, Updates, Queries, Lists, Checks}
+use Rattle.promises.specs.Promises.{openingAnswer, updateTold, foundTold, listedTold, Opens, Updates, Queries, Lists, Checks}
 use Rattle.meet_books.specs.declared.Met.{Met}
 use Rattle.meet_books.specs.Promises.{MeetAnswer, refused, met, meetAnswer, MeetsBooks}
 use Rattle.marks.specs.Told.{Told as MarkTold}
@@ -39,21 +35,22 @@ refusal cause = negℤ (pos (natAbs cause))
 abbrev pub tooShort : ℤ
 tooShort = negℤ (pos 100)
 
+-- an accepted call's first value, or a refusal's number below 0
+abbrev pub firstOr : ℤ → List ℤ → ℤ
+firstOr cause [] = refusal cause
+firstOr cause (first ∷ more) = first
+
 abbrev pub openingNumber : Opening → ℤ
-openingNumber OpeningDone = pos 0
-openingNumber (OpeningDeclined cause) = refusal cause
+openingNumber r = refusal (openingAnswer r)
 
 abbrev pub updateNumber : Update → ℤ
-updateNumber (Done n k s h) = n
-updateNumber (UpdateDeclined cause) = refusal cause
+updateNumber r = firstOr (updateTold r .number) (updateTold r .values)
 
 abbrev pub foundNumber : Found → ℤ
-foundNumber (Offer number price probes) = number
-foundNumber (FoundDeclined cause) = refusal cause
+foundNumber r = firstOr (foundTold r .number) (foundTold r .values)
 
 abbrev pub listedNumber : Listed → ℤ
-listedNumber (Pieces n) = n
-listedNumber (ListingDeclined cause) = refusal cause
+listedNumber r = firstOr (listedTold r .number) (listedTold r .values)
 
 abbrev pub meetNumber : MeetAnswer → ℤ
 meetNumber (refused cause) = refusal cause
@@ -73,13 +70,16 @@ placeNumber next (pieceRefused cause) = refusal cause
 
 -- ---- the values that go with it
 
+-- behind the first
+abbrev pub laterOf : List ℤ → List ℤ
+laterOf [] = []
+laterOf (first ∷ more) = more
+
 abbrev pub countsOf : Update → List ℤ
-countsOf (Done n k s h) = k ∷ s ∷ h ∷ []
-countsOf (UpdateDeclined cause) = []
+countsOf r = laterOf (updateTold r .values)
 
 abbrev pub foundOf : Found → List ℤ
-foundOf (Offer number price probes) = price ∷ probes ∷ []
-foundOf (FoundDeclined cause) = []
+foundOf r = laterOf (foundTold r .values)
 
 abbrev pub metOf : MeetAnswer → List ℤ
 metOf (refused cause) = []

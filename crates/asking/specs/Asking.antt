@@ -10,9 +10,9 @@ use lib.Dec.{T, le→leb}
 use lib.IntN.{ℤ, pos, natAbs}
 use Rattle.lists.specs.Bools.{not-not, twice, said, denied}
 use Rattle.offers.specs.Offers.{loadInRange, priceAt}
-use Rattle.plain.specs.Causes.{Cause, bookEmpty, causeNumber}
+use Rattle.plain.specs.Causes.{Cause, bookEmpty, causeNumber, at-once, further, FirstOf}
 use Rattle.plain.specs.Book.{State, query, found, refused, Outcome, step}
-use Rattle.plain.specs.Rules.{at-once, further, step-declined}
+use Rattle.plain.specs.Rules.{step-declined}
 use Rattle.trees.specs.Tree.{Tree, leaves, first}
 use Rattle.trees.specs.Leaves.{first-leaf}
 use Rattle.trees.specs.Operations.{Part, partLeaves}
@@ -37,7 +37,6 @@ use Rattle.query.specs.Plain.{lookup-plain, offerOf}
 use Rattle.promises.specs.declared.Found.{Found}
 use Rattle.promises.specs.declared.Found.the-variants.{Offer, Declined}
 use Rattle.plain.specs.Book.{noBookAt}
-use Rattle.plain.specs.Rules.{FirstOf}
 use Rattle.promises.specs.Promises.{partOf, tableTrials, foundReturned, foundAnswer, Probes, ProbesIn, Queries}
 use Rattle.promises.specs.Plainly.{table-declined}
 use Rattle.promises.specs.LentPart.{whole-part}
@@ -48,12 +47,15 @@ use Rattle.filing.specs.Sought.{count-read, envelope-read}
 -- a load in range, on words that stand for a plain book
 pub record Asks (q : ℤ) (w : Words) (r : Found) : Type 0 where
   pub answers : (plain : State) (held : Option (Held Item)) → Book w plain held → T (loadInRange q) → foundAnswer r ≡ step plain (query q) .answer
-  pub probes : (plain : State) (held : Option (Held Item)) → Book w plain held → T (loadInRange q) → Probes held (foundReturned r .answer) (foundReturned r .beside)
+  pub probes : (plain : State) (held : Option (Held Item)) → Book w plain held → T (loadInRange q) →
+      Probes held (foundReturned r .answer) (foundReturned r .beside)
 
 pub asks-empty : {q : ℤ} {w : Words} {n : ℕ} → n ≡ upTo mostNodes (word w liveCountWord) → n < 1 → Asks q w (Declined (pos 9))
 asks-empty {q} {w} {n} e h =
     record {
-      answers = λ plain held b t. sym (ap (λ (o : Outcome). o .answer) (step-declined plain (query q) bookEmpty (further (twice (loadInRange q) t) (at-once (le→leb (length (plain .offers)) 0 (omega (arith, e, h, count-read b, live-length b)))))));
+      answers = λ plain held b t. sym (ap (λ (o : Outcome). o .answer)
+          (step-declined plain (query q) bookEmpty (further (twice (loadInRange q) t)
+          (at-once (le→leb (length (plain .offers)) 0 (omega (arith, e, h, count-read b, live-length b)))))));
       probes = λ plain held b t. refl;
     }
 
@@ -67,25 +69,44 @@ pub record Reads (q : ℤ) (w : Words) (root slot probes : ℕ) (number price : 
 abbrev pub Answered : (q number price : ℤ) (plain : State) (probes : ℕ) → Option (Held Item) → Type 0
 Answered q number price plain probes held = (found number price ≡ step plain (query q) .answer) × ProbesIn held number (pos probes)
 
-module _ (plain : State) {q : ℤ} {w : Words} {root slot probes : ℕ} {number price : ℤ} (f : Reads q w root slot probes number price) (range : T (loadInRange q)) where
+module _ (plain : State) {q : ℤ} {w : Words} {root slot probes : ℕ} {number price : ℤ} (f : Reads q w root slot probes number price)
+    (range : T (loadInRange q)) where
   module _ (h : Held Item) (b : Book w plain (some h)) where
     env : (t : Tree Item) → h .whole ≡ some t → Env items (bookLines (some h)) (leaves t)
     env t e = subst (λ (p : Part Item). Env items (bookLines (some h)) (partLeaves p)) e (valid-env items item-laws (b .offers .offers-in .right .valid))
 
     reached : (t : Tree Item) → h .whole ≡ some t → Answered q number price plain probes (some h)
-    reached t e = (ap (λ (z : ℤ). found z price) number-is ∙ ap (found (a .offer .number)) price-is ∙ sym (lookup-plain t plain q (book-sound b) (sym (b .stands-for)) (env t e) range), subst Leafy (sym e) (a, subst (λ (d : ℕ). LeafAt a d t) (sym (got .depth)) (lookup-leaf q t), sym number-is, refl))
+    reached t e = (
+      ap (λ (z : ℤ). found z price) number-is ∙ ap (found (a .offer .number)) price-is
+          ∙ sym (lookup-plain t plain q (book-sound b) (sym (b .stands-for)) (env t e) range),
+      subst Leafy (sym e) (a, subst (λ (d : ℕ). LeafAt a d t) (sym (got .depth)) (lookup-leaf q t), sym number-is, refl),
+    )
       where
         a : Item
         a = lookup q t .item
 
         Leafy : Part Item → Type 0
-        Leafy p = elim p [ none ↦ ⊥ | some t ↦ (a : Item) × LeafAt a (natAbs (pos probes)) t × (a .offer .number ≡ number) × (pos probes ≡ pos (natAbs (pos probes))) ]
+        Leafy p = elim p [
+          | none ↦ ⊥
+          | some t ↦ (a : Item) × LeafAt a (natAbs (pos probes)) t × (a .offer .number ≡ number)
+              × (pos probes ≡ pos (natAbs (pos probes)))
+        ]
 
         stand : Standing w (partRef (some t)) (some t)
         stand = subst (λ (p : Part Item). Standing w (partRef p) p) e (whole-standing (b .offers .offers-in))
 
         pieces : Pieces w root t
-        pieces = record { rep = record { kind = omega arith; root = f .at-root ∙ envelope-read b ∙ ap partRef e; slots = stand .slots; tied = stand .pieces .0 }; thread = stand .pieces .1; holds = stand .holds }
+        pieces = record {
+          rep = record {
+            kind = omega arith;
+            root = f .at-root ∙ envelope-read b ∙ ap partRef e;
+            slots = stand .slots;
+            tied =
+                stand .pieces .0;
+          };
+          thread = stand .pieces .1;
+          holds = stand .holds;
+        }
 
         got : Finds q t slot probes
         got = f .down .finds t pieces (low w (stand .slots) (stand .balanced)) range
@@ -97,14 +118,17 @@ module _ (plain : State) {q : ℤ} {w : Words} {root slot probes : ℕ} {number 
         price-is = f .priced ∙ ap (λ (s : ℕ). priceIn w s q) (got .item) ∙ price-kept q (stand .holds .held (leaf-mem (lookup-leaf q t))) range
 
     some-piece : (p : Part Item) → h .whole ≡ p → Answered q number price plain probes (some h)
-    some-piece none e = let k = env-some items item-laws (subst (λ (p : Part Item). Env items (bookLines (some h)) (partLeaves p)) e (valid-env items item-laws (b .offers .offers-in .right .valid))) (first (heldShape h)) (first-leaf (heldShape h)) in absurd (omega (arith, k))
+    some-piece none e = let k = env-some items item-laws (subst (λ (p : Part Item). Env items (bookLines (some h)) (partLeaves p)) e
+        (valid-env items item-laws (b .offers .offers-in .right .valid))) (first (heldShape h)) (first-leaf (heldShape h)) in absurd (omega (arith, k))
     some-piece (some t) e = reached t e
 
-  pub answered : {n : ℕ} → n ≡ upTo mostNodes (word w liveCountWord) → 1 ≤ n → (held : Option (Held Item)) → Book w plain held → Answered q number price plain probes held
+  pub answered : {n : ℕ} → n ≡ upTo mostNodes (word w liveCountWord) → 1 ≤ n → (held : Option (Held Item)) → Book w plain held →
+      Answered q number price plain probes held
   answered e h none b = absurd (omega (arith, e, h, count-read b))
   answered e h (some g) b = some-piece g b (g .whole) refl
 
-pub asks-found : {q : ℤ} {w : Words} {n root slot probes : ℕ} {number price : ℤ} → n ≡ upTo mostNodes (word w liveCountWord) → 1 ≤ n → Reads q w root slot probes number price → Asks q w (Offer number price (pos probes))
+pub asks-found : {q : ℤ} {w : Words} {n root slot probes : ℕ} {number price : ℤ} → n ≡ upTo mostNodes (word w liveCountWord) → 1 ≤ n →
+    Reads q w root slot probes number price → Asks q w (Offer number price (pos probes))
 asks-found e h f = record { answers = λ plain held b t. answered plain f t e h held b .0; probes = λ plain held b t. (answered plain f t e h held b .1, refl) }
 
 -- ---- on the table

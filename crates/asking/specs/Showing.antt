@@ -11,9 +11,9 @@ use lib.IntN.{ℤ, pos}
 use Rattle.lists.specs.Bools.{said, denied}
 use Rattle.envelopes.specs.Envelope.{Ordered, Ordered·nil}
 use Rattle.envelopes.specs.Small.{env-nil}
-use Rattle.plain.specs.Causes.{noBook}
+use Rattle.plain.specs.Causes.{noBook, FirstOf, at-once}
 use Rattle.plain.specs.Book.{State, listing, Outcome, listed, refused, pieceWords, noBookAt, step}
-use Rattle.plain.specs.Rules.{FirstOf, at-once, words-length}
+use Rattle.plain.specs.Rules.{words-length}
 use Rattle.trees.specs.Tree.{leaves}
 use Rattle.dynamic.specs.OfferTree.{Held}
 use Rattle.dynamic.specs.Valid.{bookLines}
@@ -39,7 +39,8 @@ pub record Shown (w : Words) (out out′ : List ℤ) (r : Listed) : Type 0 where
   pub refusal : (z : ℤ) → r ≡ Declined z → out′ ≡ out
   pub long : length out′ ≡ length out
   pub answers : (plain : State) (held : Option (Held Item)) → Book w plain held → listingAnswer r out′ ≡ step plain (listing (length out)) .answer
-  pub later : (plain : State) (held : Option (Held Item)) → Book w plain held → drop (writtenWords (listingAnswer r out′)) out′ ≡ drop (writtenWords (listingAnswer r out′)) out
+  pub later : (plain : State) (held : Option (Held Item)) → Book w plain held →
+      drop (writtenWords (listingAnswer r out′)) out′ ≡ drop (writtenWords (listingAnswer r out′)) out
 
 -- the output begins with the words of these pieces, and goes on as before
 record Laid (n : ℕ) (out out′ : List ℤ) (es : List Item) : Type 0 where
@@ -70,28 +71,47 @@ book-ordered {w} {held = held} b = whole-ordered held (live-whole w held (b .off
 module _ {w : Words} {root n : ℕ} {out out′ : List ℤ} (e : root ≡ upTo mostNodes (word w envelopeRootWord)) (k : Written w root out out′ n) where
   -- too short an output
   pub shown-short : length out < 3 * n → Shown w out out′ (Declined (pos 10))
-  shown-short h = record { refusal = λ z d. k .short h; long = k .long; answers = λ plain held b. go plain b (root-of b e); later = λ plain held b. ap (drop 0) (k .short h) }
+  shown-short h = record {
+    refusal = λ z d. k .short h;
+    long = k .long;
+    answers = λ plain held b. go plain b (root-of b e);
+    later =
+        λ plain held b. ap (drop 0) (k .short h);
+  }
     where
       go : (plain : State) {held : Option (Held Item)} → Book w plain held → Root w root held → refused 10 ≡ step plain (listing (length out)) .answer
       go plain b (bare z) = absurd (omega (arith, k .counted .none z))
-      go plain b (topped t f p) = sym (listing-short plain (sym (b .stands-for)) (book-ordered b) (p .env) (length out) (omega (arith, k .counted .is t (p .pieces) (p .balanced))))
+      go plain b (topped t f p) = sym (listing-short plain (sym (b .stands-for)) (book-ordered b) (p .env) (length out)
+          (omega (arith, k .counted .is t (p .pieces) (p .balanced))))
 
   -- every piece
   pub shown-all : 3 * n ≤ length out → Shown w out out′ (Pieces (pos n))
-  shown-all h = record { refusal = λ z d. absurd (pieces-declined d); long = k .long; answers = λ plain held b. go plain b (root-of b e); later = λ plain held b. behind (root-of b e) }
+  shown-all h = record {
+    refusal = λ z d. absurd (pieces-declined d);
+    long = k .long;
+    answers = λ plain held b. go plain b (root-of b e);
+    later =
+        λ plain held b. behind (root-of b e);
+  }
     where
       nothing : root ≡ 0 → Laid n out out′ []
       nothing z = record { count = k .counted .none z; words = k .none z ∙ ap (λ (m : ℕ). drop (3 * m) out) (sym (k .counted .none z)) }
 
-      go : (plain : State) {held : Option (Held Item)} → Book w plain held → Root w root held → listed n (take (3 * n) out′) ≡ step plain (listing (length out)) .answer
-      go plain b (bare z) = laid-answer (nothing z) ∙ sym (listing-plain {ls = []} {es = []} plain (sym (b .stands-for)) Ordered·nil (env-nil items) (length out) (omega arith))
+      go : (plain : State) {held : Option (Held Item)} → Book w plain held → Root w root held →
+          listed n (take (3 * n) out′) ≡ step plain (listing (length out)) .answer
+      go plain b (bare z) = laid-answer (nothing z) ∙ sym (listing-plain {ls = []} {es = []} plain (sym (b .stands-for)) Ordered·nil (env-nil items)
+          (length out) (omega arith))
       go plain b (topped t f p) =
           let l : Laid n out out′ (leaves t) = record { count = k .counted .is t (p .pieces) (p .balanced); words = k .words t (p .pieces) (p .balanced) h } in
           laid-answer l ∙ sym (listing-plain plain (sym (b .stands-for)) (book-ordered b) (p .env) (length out) (omega (arith, l .count)))
 
       behind : {held : Option (Held Item)} → Root w root held → drop (length (take (3 * n) out′)) out′ ≡ drop (length (take (3 * n) out′)) out
       behind (bare z) = laid-later {es = []} (nothing z)
-      behind (topped t f p) = laid-later {es = leaves t} (record { count = k .counted .is t (p .pieces) (p .balanced); words = k .words t (p .pieces) (p .balanced) h })
+      behind (topped t f p) = laid-later {es = leaves t} (record {
+        count = k .counted .is t (p .pieces) (p .balanced);
+        words =
+            k .words t (p .pieces) (p .balanced) h;
+      })
 
 -- ---- on a table
 

@@ -6,8 +6,8 @@ use Prim.Native.Nat.{ℕ, suc}
 use native.Mathlib.Omega.{arith}
 use lib.ListN.{length}
 use lib.IntN.{ℤ, pos}
+use Rattle.plain.specs.Causes.{Clear}
 use Rattle.plain.specs.Book.{State, Outcome, Call, post, withdraw, refused, live, join, leave, trials, holding, step}
-use Rattle.plain.specs.Sound.{Clear}
 use Rattle.plain.specs.Rules.{posts, withdraws}
 use Rattle.dynamic.specs.OfferTree.{Held}
 use Rattle.dynamic.specs.Work.{Work, bookInners}
@@ -70,7 +70,8 @@ done-follows start t q {t′ = t′} u e er =
       stands = subst (λ (o : Outcome). Book (partOf t′ start) (o .state) (u .after)) (sym e) (u .stands);
       refusal = λ m d. absurd (not-refused (sym (ap updateAnswer er) ∙ d));
       work = u .work;
-      counts = subst (λ (v : Update). Counts (updateReturned v .beside) (u .log)) (sym er) (λ i. pos (u .counts .searches i) ∷ pos (u .counts .steps i) ∷ pos (u .counts .heights i) ∷ []);
+      counts = subst (λ (v : Update). Counts (updateReturned v .beside) (u .log)) (sym er) (λ i. pos (u .counts .searches i) ∷ pos (u .counts .steps i) ∷
+          pos (u .counts .heights i) ∷ []);
     }
 
 pub follows-posted :

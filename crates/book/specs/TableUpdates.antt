@@ -10,10 +10,8 @@ use lib.Dec.{T}
 use lib.IntN.{ℤ, pos}
 use Rattle.lists.specs.Bools.{said, denied}
 use Rattle.offers.specs.Offers.{numberInRange, rateInRange, baseInRange}
-use Rattle.plain.specs.Causes.{Cause, causeNumber, numberOutOfRange, rateOutOfRange, baseOutOfRange}
+use Rattle.plain.specs.Causes.{Cause, causeNumber, numberOutOfRange, rateOutOfRange, baseOutOfRange, FirstOf, at-once, further, Clear}
 use Rattle.plain.specs.Book.{State, Call, post, withdraw, refused, join, leave, noBookAt, partLength, holding, step}
-use Rattle.plain.specs.Rules.{FirstOf, at-once, further}
-use Rattle.plain.specs.Sound.{Clear}
 use Rattle.dynamic.specs.OfferTree.{Held}
 use Rattle.table.specs.Fields.{capacityWord, mostNodes, numbersRootWord}
 use Rattle.table.specs.Words.{Words, word, upTo}
@@ -99,19 +97,26 @@ module _ (k : Call) (start : ℕ) (t t′ : List ℤ) where
               refusal = λ z d. et;
               outside = only-same et;
               same-part = ap (λ (u : List ℤ). word (partOf u start) capacityWord) et;
-              follows = λ plain held b. follows-declined start t k b (f plain held (subst (λ (u : Words). Book u plain held) (sym (whole-part t start)) b)) er et;
+              follows = λ plain held b. follows-declined start t k b (f plain held (subst (λ (u : Words). Book u plain held) (sym (whole-part t start)) b))
+                  er et;
             }
 
         pub updates-done :
-            {r : Update} {live searches steps heights : ℤ} → r ≡ Done live searches steps heights → (w′ : Words) → t′ ≡ take start t ++ (w′ ++ drop (length t - start) (drop start t)) → Kept (lent t start) w′ →
+            {r : Update} {live searches steps heights : ℤ} → r ≡ Done live searches steps heights → (w′ : Words) →
+            t′ ≡ take start t ++ (w′ ++ drop (length t - start) (drop start t)) → Kept (lent t start) w′ →
             ((plain : State) (held : Option (Held Item)) → Book (lent t start) plain held → partOf t′ start ≡ w′ → Follows k plain held start t t′ r) →
             Updates k start t t′ r
         updates-done er w′ et g f =
             record {
               declined = λ z g. absurd (not-clear g clear);
               refusal = λ z d. absurd (done-declined (sym er ∙ d));
-              outside = only-part t start w′ back low (record { long = kept .long; rest = λ i l. kept .rest i (omega (arith, l, book-cap t start (denied e h) .0)) });
-              same-part = ap (λ (u : Words). word u capacityWord) (part-back t start w′ back low) ∙ cap-there w′ (kept .room ∙ there .0) (there .1) .first ∙ sym (cap-there (partOf t start) (there .0) (there .1) .first);
+              outside = only-part t start w′ back low (record {
+                long = kept .long;
+                rest =
+                    λ i l. kept .rest i (omega (arith, l, book-cap t start (denied e h) .0));
+              });
+              same-part = ap (λ (u : Words). word u capacityWord) (part-back t start w′ back low) ∙ cap-there w′ (kept .room ∙ there .0) (there .1) .first
+                  ∙ sym (cap-there (partOf t start) (there .0) (there .1) .first);
               follows = λ plain held b. f plain held (subst (λ (u : Words). Book u plain held) (sym (whole-part t start)) b) (part-back t start w′ back low);
             }
           where
@@ -149,9 +154,11 @@ module _ (start : ℕ) (t t′ : List ℤ) {b d : Bool} (e : b ≡ noBookAt (len
         (subst (λ (v : Words). Updated v (holding plain (join (record { number = n; rate = r; base = z }) (plain .offers))) held (told .counts))
         (sym p) updated) count eu)
 
-  module _ (n : ℤ) (o : OutOfRange (withdraw n) d) (q : d ≡ false) {s : ℕ} (f : FoundNumber n (upTo mostNodes (word (lent t start) numbersRootWord)) (lent t start) s) where
+  module _ (n : ℤ) (o : OutOfRange (withdraw n) d) (q : d ≡ false) {s : ℕ} (f : FoundNumber n (upTo mostNodes (word (lent t start) numbersRootWord))
+      (lent t start) s) where
     pub withdraw-refused : s < 1 → t′ ≡ t → Updates (withdraw n) start t t′ (Declined (pos 8))
-    withdraw-refused l et = updates-refused (withdraw n) start t t′ e h o q (λ plain held b. withdraw-missing b n (o .denies q) (number-sought b f refl) (omega (arith, l))) refl et
+    withdraw-refused l et = updates-refused (withdraw n) start t t′ e h o q (λ plain held b. withdraw-missing b n (o .denies q) (number-sought b f refl)
+        (omega (arith, l))) refl et
 
     pub withdraw-accepted :
         {told : Told} {u : Update} →

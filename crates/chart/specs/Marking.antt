@@ -55,7 +55,8 @@ pub record PartMark (w : Words) (index : ℤ) (r : Marked) : Type 0 where
 abbrev pub crossingAt : Words → ℕ → Told
 crossingAt w s = crossing (numeratorAt w s) (denominatorAt w s) (crossingPriceAt w s)
 
-pub crossing-read : (w : Words) (s : ℕ) {n d p : ℤ} {x : Told} → n ≡ numeratorAt w s → d ≡ denominatorAt w s → p ≡ crossingPriceAt w s → x ≡ crossing n d p → x ≡ crossingAt w s
+pub crossing-read : (w : Words) (s : ℕ) {n d p : ℤ} {x : Told} → n ≡ numeratorAt w s → d ≡ denominatorAt w s → p ≡ crossingPriceAt w s →
+    x ≡ crossing n d p → x ≡ crossingAt w s
 crossing-read w s {n} {d} {p} a b c e =
     e ∙ ap (λ (z : ℤ). crossing z d p) a ∙ ap (λ (z : ℤ). crossing (numeratorAt w s) z p) b ∙ ap (crossing (numeratorAt w s) (denominatorAt w s)) c
 
@@ -64,7 +65,8 @@ crossing-read w s {n} {d} {p} a b c e =
 abbrev between-them : Offer → Offer → Told
 between-them a b = crossing (crossingNumerator a b) (crossingDenominator a b) (scaledPrice a b)
 
-behind-inner : (o : Offer) (xs : List Offer) (a b : Offer) (ys : List Offer) (d : Told) → getD (marksBehind o (xs ++ a ∷ b ∷ ys)) (suc (length xs)) d ≡ between-them a b
+behind-inner : (o : Offer) (xs : List Offer) (a b : Offer) (ys : List Offer) (d : Told) →
+    getD (marksBehind o (xs ++ a ∷ b ∷ ys)) (suc (length xs)) d ≡ between-them a b
 behind-inner o [] a b ys d = refl
 behind-inner o (x ∷ xs) a b ys d = behind-inner x xs a b ys d
 
@@ -115,12 +117,14 @@ mark-last {s} {n} {xs} k e d =
     ∙ ap (λ (i : ℕ). getD (marks (map offerOf (k .seen) ++ offerOf (k .here) ∷ [])) i d) (k .count ∙ ap suc (sym (length-map (k .seen) offerOf)))
     ∙ marks-last (map offerOf (k .seen)) (k .here .offer) d
 
-mark-inner : {s n : ℕ} {xs : List Item} (k : Passed s n xs) (f : Followed xs (k .seen) (k .here)) (d : Told) → getD (marks (offers-of xs)) n d ≡ between-them (k .here .offer) (f .next .offer)
+mark-inner : {s n : ℕ} {xs : List Item} (k : Passed s n xs) (f : Followed xs (k .seen) (k .here)) (d : Told) →
+    getD (marks (offers-of xs)) n d ≡ between-them (k .here .offer) (f .next .offer)
 unfolding offers-of
 mark-inner {s} {n} {xs} k f d =
     ap (λ (l : List Item). getD (marks (map offerOf l)) n d) (f .split)
     ∙ ap (λ (l : List Offer). getD (marks l) n d) (map-append offerOf (k .seen) (k .here ∷ f .next ∷ f .later))
-    ∙ ap (λ (i : ℕ). getD (marks (map offerOf (k .seen) ++ offerOf (k .here) ∷ offerOf (f .next) ∷ map offerOf (f .later))) i d) (k .count ∙ ap suc (sym (length-map (k .seen) offerOf)))
+    ∙ ap (λ (i : ℕ). getD (marks (map offerOf (k .seen) ++ offerOf (k .here) ∷ offerOf (f .next) ∷ map offerOf (f .later))) i d)
+    (k .count ∙ ap suc (sym (length-map (k .seen) offerOf)))
     ∙ marks-inner (map offerOf (k .seen)) (k .here .offer) (f .next .offer) (map offerOf (f .later)) d
 
 -- mark 0
@@ -153,7 +157,8 @@ module _ {w : Words} {root s n : ℕ} {t : Tree Item} (p : Pieces w root t) (k :
       next = isChain-append-cons-cons (k .here) (k .seen) .0 (subst (Threaded w) (f .split) (p .thread)) .1
 
       falls : Falls (k .here) (f .next)
-      falls = ordered-head items (ordered-right items (k .seen) (k .here ∷ f .next ∷ f .later) (subst (Ordered items) (f .split) o)) (f .next) (List·Memᴰ·head refl)
+      falls = ordered-head items (ordered-right items (k .seen) (k .here ∷ f .next ∷ f .later) (subst (Ordered items) (f .split) o)) (f .next)
+          (List·Memᴰ·head refl)
 
 -- ---- the answers
 
@@ -203,17 +208,27 @@ module _ {w : Words} {root m : ℕ} (er : root ≡ upTo mostNodes (word w envelo
   -- cause 13
   pub part-outside : (index : ℤ) → 1 ≤ m → T (not (between (pos 0) (pos m) index)) → PartMark w index (Declined (pos 13))
   part-outside index h o =
-      by-top h (λ g q. sym (ap (markOf (plainOffers (some g)) index) (declined-by (markTrials (plainOffers (some g)) index) noSuchMark (further (q .live) (at-once (subst (λ (n : ℕ). T (not (between (pos 0) (pos n) index))) (sym (q .many)) o))))))
+      by-top h (λ g q. sym (ap (markOf (plainOffers (some g)) index) (declined-by (markTrials (plainOffers (some g)) index) noSuchMark
+      (further (q .live) (at-once (subst (λ (n : ℕ). T (not (between (pos 0) (pos n) index))) (sym (q .many)) o))))))
 
   -- a mark that is there
-  accepted : (n : ℕ) → n ≤ m → (h : Held Item) (q : Topped h) → getD (marks (offers-of (leaves (q .tree)))) n (refusal noSuchMark) ≡ plainMark (plainOffers (some h)) (pos n)
+  accepted : (n : ℕ) → n ≤ m → (h : Held Item) (q : Topped h) →
+      getD (marks (offers-of (leaves (q .tree)))) n (refusal noSuchMark) ≡ plainMark (plainOffers (some h)) (pos n)
   unfolding offers-of
   accepted n l h q =
       ap (λ (es : List Offer). getD (marks es) n (refusal noSuchMark)) (sym (q .shown))
-      ∙ sym (ap (markOf (plainOffers (some h)) (pos n)) (not-declined (markTrials (plainOffers (some h)) (pos n)) (q .live, (not-T (not (between (pos 0) (pos (length (envelope (plainOffers (some h))))) (pos n))) (λ t. T-not (between (pos 0) (pos (length (envelope (plainOffers (some h))))) (pos n)) t inside), tt))))
+      ∙ sym (ap (markOf (plainOffers (some h)) (pos n)) (not-declined (markTrials (plainOffers (some h)) (pos n)) (
+        q .live,
+        (
+          not-T (not (between (pos 0) (pos (length (envelope (plainOffers (some h))))) (pos n)))
+              (λ t. T-not (between (pos 0) (pos (length (envelope (plainOffers (some h))))) (pos n)) t inside),
+          tt,
+        ),
+      )))
     where
       inside : T (between (pos 0) (pos (length (envelope (plainOffers (some h))))) (pos n))
-      inside = and-both (leZ (pos 0) (pos n)) (leZ (pos n) (pos (length (envelope (plainOffers (some h)))))) (omega (arith, intRules)) (omega (arith, intRules, q .many))
+      inside = and-both (leZ (pos 0) (pos n)) (leZ (pos n) (pos (length (envelope (plainOffers (some h)))))) (omega (arith, intRules))
+          (omega (arith, intRules, q .many))
 
   module _ {s : ℕ} (f : 1 ≤ m) where
     -- mark 0
@@ -253,7 +268,8 @@ index-below index m h = not-T (between (pos 0) (pos m) index) (λ t. omega (arit
 pub index-above : (index : ℤ) (m : ℕ) → ltZ (pos m) index ≡ true → T (not (between (pos 0) (pos m) index))
 index-above index m h = not-T (between (pos 0) (pos m) index) (λ t. omega (arith, intRules, range-parts (pos 0) index (pos m) t))
 
-pub index-there : (index : ℤ) {i m : ℕ} → ltZ index (pos 0) ≡ false → ltZ (pos m) index ≡ false → m ≤ mostSlots → i ≡ upTo mostSlots index → (index ≡ pos i) × (i ≤ m)
+pub index-there : (index : ℤ) {i m : ℕ} → ltZ index (pos 0) ≡ false → ltZ (pos m) index ≡ false → m ≤ mostSlots → i ≡ upTo mostSlots index →
+    (index ≡ pos i) × (i ≤ m)
 index-there (pos n) {i} {m} a b h e =
     let l : n ≤ m = omega (arith, intRules) in
     let u : i ≡ n = e ∙ upTo-in mostSlots n (omega arith) in

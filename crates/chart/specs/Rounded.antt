@@ -44,7 +44,8 @@ exact-all (o ∷ p ∷ es) r f = (
 
 pub sound-exact : (s : State) → Sound s → Exact (envelope (s .offers))
 sound-exact s h =
-    exact-all (envelope (s .offers)) (λ o j. h .ranged o (sublist-mem (keep-sublist _ (s .offers)) j)) (Pairwise·sublistᴰ (keep-sublist _ (s .offers)) (h .ordered))
+    exact-all (envelope (s .offers)) (λ o j. h .ranged o (sublist-mem (keep-sublist _ (s .offers)) j))
+    (Pairwise·sublistᴰ (keep-sublist _ (s .offers)) (h .ordered))
 
 pub part-exact : {w : Words} {s : State} {held : Option (Held Item)} → Book w s held → Exact (envelope (plainOffers held))
 part-exact {s} {held} b = subst (λ (os : List Offer). Exact (envelope os)) (sym (b .stands-for)) (sound-exact s (book-sound b))

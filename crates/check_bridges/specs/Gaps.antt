@@ -9,7 +9,8 @@ use lib.Signed.{leZ, ltZ}
 use mir.Syntax.{w64}
 use mir.Val.{SFits}
 use Rattle.offers.specs.Offers.{offerInRange, rateInRange, baseInRange}
-use Rattle.offers.specs.Sizes.{rate-of, base-of, numeratorInRange, denominatorInRange, base-gap-fits, base-gap-in-range, rate-gap-fits, rate-gap-in-range, cross-product-fits}
+use Rattle.offers.specs.Sizes.{rate-of, base-of, numeratorInRange, denominatorInRange, base-gap-fits, base-gap-in-range, rate-gap-fits}
+use Rattle.offers.specs.Sizes.{rate-gap-in-range, cross-product-fits}
 use Rattle.offers.specs.Bounded.{bounded-in}
 use Rattle.envelopes.specs.PseudoLines.{Figure}
 use Rattle.lines.specs.Lines.{cross-left}
@@ -86,6 +87,7 @@ module _ (w : Words) (a b : ℕ) {x y : ℤ} where
 pub products-safe : (w : Words) (a b c d : ℕ) {x y : ℤ} → x ≡ baseGap w a b → y ≡ rateGap w c d → SFits w64 (x *ℤ y)
 products-safe w a b c d e f = rw (e, f) (product-safe w a b c d)
 
-pub cross-told : (w : Words) (a b c d : ℕ) {x y p q : ℤ} → x ≡ baseGap w a b → y ≡ rateGap w c d → p ≡ baseGap w c d → q ≡ rateGap w a b → leZ (x *ℤ y) (p *ℤ q) ≡ crossAt w a b c d
+pub cross-told : (w : Words) (a b c d : ℕ) {x y p q : ℤ} → x ≡ baseGap w a b → y ≡ rateGap w c d → p ≡ baseGap w c d → q ≡ rateGap w a b →
+    leZ (x *ℤ y) (p *ℤ q) ≡ crossAt w a b c d
 unfolding crossAt
 cross-told w a b c d e f g h = rw (e, f, g, h)

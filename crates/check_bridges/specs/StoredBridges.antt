@@ -82,7 +82,8 @@ module _ {w : Words} {a b : ℕ} where
 abbrev pub ThreadedTo : Words → List ℕ → ℕ → ℕ → ℕ → Type 0
 ThreadedTo w xs from to i = Every (RangedHere w xs) from to → Every (NextHere w xs) from i
 
-module _ {w : Words} {xs : List ℕ} {from to i s t : ℕ} {r : Bool} (low : from ≤ i) (high : i + 1 < to) (es : s ≡ getD xs i 0) (et : t ≡ getD xs (i + 1) 0) (f : Follows w s t r) where
+module _ {w : Words} {xs : List ℕ} {from to i s t : ℕ} {r : Bool} (low : from ≤ i) (high : i + 1 < to) (es : s ≡ getD xs i 0) (et : t ≡ getD xs (i + 1) 0)
+    (f : Follows w s t r) where
   told-here : Every (RangedHere w xs) from to → Decides r (Next w (itemAt w (getD xs i 0)) (itemAt w (getD xs (i + 1) 0)))
   told-here h =
       rw (← es, ← et)

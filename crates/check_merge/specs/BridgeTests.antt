@@ -25,7 +25,8 @@ use Rattle.check_merge.specs.PieceTrees.{Known, AllKnown, span-mem}
 -- ---- the piece of a line, by its neighbours
 
 module _ (S : Figure) (a : ℕ → S .Line) (n : ℕ) (x : S .Point) where
-  pub piece-by : (i : ℕ) → i < n → ((k : ℕ) → suc k ≡ i → LeftOf S (S .cross (a k) (a i)) x) → (suc i < n → T (S .upTo x (S .cross (a i) (a (suc i))))) → InPiece S a n i x
+  pub piece-by : (i : ℕ) → i < n → ((k : ℕ) → suc k ≡ i → LeftOf S (S .cross (a k) (a i)) x) → (suc i < n → T (S .upTo x (S .cross (a i) (a (suc i))))) →
+      InPiece S a n i x
   piece-by zero h f g = record { inside = h; outer = tt; inner = g }
   piece-by (suc i) h f g = record { inside = h; outer = f i refl; inner = g }
 
@@ -40,7 +41,8 @@ items-length w [] = refl
 items-length w (s ∷ ss) = ap suc (items-length w ss)
 
 -- a stretch about one of its places
-pub items-about : (w : Words) (xs : List ℕ) (a b i : ℕ) → a ≤ i → i < b → itemsAt w (span xs a b) ≡ itemsAt w (span xs a i) ++ itemAt w (getD xs i 0) ∷ itemsAt w (span xs (suc i) b)
+pub items-about : (w : Words) (xs : List ℕ) (a b i : ℕ) → a ≤ i → i < b →
+    itemsAt w (span xs a b) ≡ itemsAt w (span xs a i) ++ itemAt w (getD xs i 0) ∷ itemsAt w (span xs (suc i) b)
 items-about w xs a b i h k =
     ap (itemsAt w) (span-cut xs a i b h (omega arith) ∙ ap (λ (zs : List ℕ). span xs a i ++ zs) (span-cons xs i b k))
     ∙ map-append (itemAt w) (span xs a i) (getD xs i 0 ∷ span xs (suc i) b)
@@ -54,7 +56,8 @@ behind w xs b k = itemAt w (getD xs (b - suc k) 0)
 
 module _ (w : Words) (xs : List ℕ) (a b : ℕ) where
   ahead-is : (k : ℕ) → k < length (itemsAt w (span xs a b)) → getD (itemsAt w (span xs a b)) k (itemAt w 0) ≡ ahead w xs a k
-  ahead-is k h = List·getD-map (itemAt w) (span xs a b) k 0 ∙ ap (itemAt w) (span-at xs a b k 0 (omega (arith, items-length w (span xs a b), span-length xs a b)))
+  ahead-is k h = List·getD-map (itemAt w) (span xs a b) k 0
+      ∙ ap (itemAt w) (span-at xs a b k 0 (omega (arith, items-length w (span xs a b), span-length xs a b)))
 
   behind-is : (k : ℕ) → k < length (itemsAt w (span xs a b)) → getD (reverse (itemsAt w (span xs a b))) k (itemAt w 0) ≡ behind w xs b k
   behind-is k h =
@@ -102,10 +105,12 @@ module _
     facing = env-facing items item-laws ls rs us vs (itemAt w 0) o E F
 
     before-left : (k : ℕ) → suc k < length us → T (items .before (A k) (A (suc k)))
-    before-left k h = subst₂ (λ (x y : Item). T (items .before x y)) (ahead-is w xs at mid k (omega arith)) (ahead-is w xs at mid (suc k) h) (facing .left .ordered k h)
+    before-left k h = subst₂ (λ (x y : Item). T (items .before x y)) (ahead-is w xs at mid k (omega arith)) (ahead-is w xs at mid (suc k) h)
+        (facing .left .ordered k h)
 
     before-right : (k : ℕ) → suc k < length vs → T (items .before (C (suc k)) (C k))
-    before-right k h = subst₂ (λ (x y : Item). T (items .before y x)) (behind-is w xs mid to k (omega arith)) (behind-is w xs mid to (suc k) h) (facing .right .ordered k h)
+    before-right k h = subst₂ (λ (x y : Item). T (items .before y x)) (behind-is w xs mid to k (omega arith)) (behind-is w xs mid to (suc k) h)
+        (facing .right .ordered k h)
 
     before-across : (k l : ℕ) → k < length us → l < length vs → T (items .before (A k) (C l))
     before-across k l h m = subst₂ (λ (x y : Item). T (items .before x y)) (ahead-is w xs at mid k h) (behind-is w xs mid to l m) (facing .apart k l h m)
@@ -141,7 +146,8 @@ module _
 
       right-inner-is : suc q < length vs → crossAt w (getD xs (to - suc (suc q)) 0) v u v ≡ items .upTo (items .cross (C (suc q)) (C q)) meeting
       right-inner-is h =
-          cross-is (range-at (to - suc (suc q)) (omega (arith, vs-length)) (omega (arith, vs-length))) range-v range-u range-v (before-right q h) (before-across p q hp hq)
+          cross-is (range-at (to - suc (suc q)) (omega (arith, vs-length)) (omega (arith, vs-length))) range-v range-u range-v (before-right q h)
+          (before-across p q hp hq)
 
       right-outer-is : (k : ℕ) → suc k ≡ q → crossAt w v (getD xs (to - suc k) 0) u v ≡ items .upTo (items .cross (C q) (C k)) meeting
       right-outer-is k e =
@@ -157,8 +163,10 @@ module _
                 (λ h. let i : at + p + 1 ≡ at + suc p = omega arith in said (left-inner-is h) (rw i at (B .left-inner (omega (arith, us-length)))));
             on-right =
                 piece-by (mirror items) C (length vs) meeting q hq
-                (λ k e. let i : to - suc q + 1 ≡ to - suc k = omega (arith, vs-length) in refuted (right-outer-is k e) (rw i at (B .right-outer (omega (arith, vs-length)))))
-                (λ h. let i : to - suc q - 1 ≡ to - suc (suc q) = omega (arith, vs-length) in said (right-inner-is h) (rw i at (B .right-inner (omega (arith, vs-length)))));
+                (λ k e. let i : to - suc q + 1 ≡ to - suc k = omega (arith, vs-length) in
+                refuted (right-outer-is k e) (rw i at (B .right-outer (omega (arith, vs-length)))))
+                (λ h. let i : to - suc q - 1 ≡ to - suc (suc q) = omega (arith, vs-length) in
+                said (right-inner-is h) (rw i at (B .right-inner (omega (arith, vs-length)))));
           }
 
       bridge-tests : Bridge items A (length us) C (length vs) p q → Bridges w xs at mid to (at + p) (to - suc q)
@@ -214,7 +222,8 @@ module _
       about : Bridge items (λ k. getD us k (itemAt w 0)) (length us) (λ k. getD (reverse vs) k (itemAt w 0)) (length vs) p q ↔ Env items (ls ++ rs) merged
       unfolding p q
       about =
-          merge-split items item-laws ls rs us vs merged (itemsAt w (span xs at i)) (itemsAt w (span xs (suc i) mid)) (itemsAt w (span xs mid j)) (itemsAt w (span xs (suc j) to))
+          merge-split items item-laws ls rs us vs merged (itemsAt w (span xs at i)) (itemsAt w (span xs (suc i) mid)) (itemsAt w (span xs mid j))
+          (itemsAt w (span xs (suc j) to))
           (itemAt w (getD xs i 0)) (itemAt w (getD xs j 0)) (itemAt w 0) p q (items-about w xs at mid i hi ki) (items-about w xs mid to j hj kj) refl
           (items-length w (span xs at i) ∙ span-length xs at i) (items-length w (span xs (suc j) to) ∙ span-length xs (suc j) to) o E F
 

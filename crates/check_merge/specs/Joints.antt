@@ -2,7 +2,8 @@
 use mathlib.Core.Path.{_≡_, refl, sym, _∙_, ap, ap₂, subst}
 use mathlib.Core.Bool.{Bool, true, false}
 use mathlib.Core.Logic.{_≢_}
-use mathlib.Core.List.{List, [], _∷_, _++_, map, map-append, append-assoc, List·Memᴰ, List·Memᴰ·append-cases, Memᴰ·append-left, Memᴰ·append-right, head-eq-of-cons-eq, tail-eq-of-cons-eq}
+use mathlib.Core.List.{List, [], _∷_, _++_, map, map-append, append-assoc, List·Memᴰ, List·Memᴰ·append-cases, Memᴰ·append-left, Memᴰ·append-right}
+use mathlib.Core.List.{head-eq-of-cons-eq, tail-eq-of-cons-eq}
 use mathlib.Core.Logic.{⊎-elim}
 use Prim.Native.Nat.{ℕ, zero, suc, _+_, _-_, _≤_, _<_}
 use native.Mathlib.Omega.{arith}
@@ -74,14 +75,18 @@ cut-at : (w : Words) (xs : List ℕ) (a b : ℕ) (B : List Item) (u : Item) (A :
 cut-at w xs a b B u A e =
     let n : b - a ≡ length B + suc (length A) = sym (items-length w (span xs a b) ∙ span-length xs a b) ∙ ap length e ∙ length-append B (u ∷ A) in
     let h : a + length B < b = omega arith in
-    let i : length (itemsAt w (span xs a (a + length B))) ≡ length B = items-length w (span xs a (a + length B)) ∙ span-length xs a (a + length B) ∙ omega arith in
+    let i : length (itemsAt w (span xs a (a + length B))) ≡ length B = items-length w (span xs a (a + length B)) ∙ span-length xs a (a + length B)
+    ∙ omega arith in
     let c = same-cut (itemsAt w (span xs a (a + length B))) B i (sym (items-about w xs a b (a + length B) (omega arith) h) ∙ e) in
     record { inside = h; here = c .1; front = c .0; back = c .2 }
 
 -- ---- no slot twice in a stretch in order
 
 first-place : (w : Words) (xs : List ℕ) (a b i : ℕ) → Ordered items (itemsAt w (span xs a b)) → a ≤ i → i < b → Every (λ k. getD xs k 0 ≢ getD xs i 0) a i
-first-place w xs a b i o h k = record { at = λ n l m e. item-laws .before-irrefl (itemAt w (getD xs i 0)) (subst (λ (s : ℕ). T (items .before (itemAt w s) (itemAt w (getD xs i 0)))) e (before n l m)) }
+first-place w xs a b i o h k = record {
+  at = λ n l m e. item-laws .before-irrefl (itemAt w (getD xs i 0))
+      (subst (λ (s : ℕ). T (items .before (itemAt w s) (itemAt w (getD xs i 0)))) e (before n l m));
+}
   where
     count : length (itemsAt w (span xs a b)) ≡ b - a
     count = items-length w (span xs a b) ∙ span-length xs a b
@@ -133,8 +138,10 @@ module _
     joint-known =
         stands-known stands (span xs at to)
         (λ a m.
-        ⊎-elim (λ i. Memᴰ·append-left (leaves r) (sublist-mem (decorated-env DL .sub) i)) (λ i. Memᴰ·append-right (leaves l) (sublist-mem (decorated-env DR .sub) i))
-        (List·Memᴰ·append-cases (itemsAt w (span xs at mid)) (subst (List·Memᴰ a) (ap (itemsAt w) (span-cut xs at mid to upper lower) ∙ map-append (itemAt w) (span xs at mid) (span xs mid to)) m)))
+        ⊎-elim (λ i. Memᴰ·append-left (leaves r) (sublist-mem (decorated-env DL .sub) i))
+        (λ i. Memᴰ·append-right (leaves l) (sublist-mem (decorated-env DR .sub) i))
+        (List·Memᴰ·append-cases (itemsAt w (span xs at mid)) (subst (List·Memᴰ a) (ap (itemsAt w) (span-cut xs at mid to upper lower)
+        ∙ map-append (itemAt w) (span xs at mid) (span xs mid to)) m)))
 
     module _ {i j : ℕ} (J : Joins w x xs at mid to i j) where
       u : Item
@@ -146,14 +153,16 @@ module _
       left-rest-in : RestIn w (DL .offers) (J .left-rest .tree .whole)
       left-rest-in =
           record {
-            root = sym (rest-is (DL .offers) (subst (Laid w offerTree (childAt w offerTree false x)) (sym (DL .shape-is)) (kids .left))) ∙ J .left-rest .word ∙ ap pos (J .left-rest .tree .root);
+            root = sym (rest-is (DL .offers) (subst (Laid w offerTree (childAt w offerTree false x)) (sym (DL .shape-is)) (kids .left)))
+                ∙ J .left-rest .word ∙ ap pos (J .left-rest .tree .root);
             pieces = J .left-rest .tree .pieces;
           }
 
       right-rest-in : RestIn w (DR .offers) (J .right-rest .tree .whole)
       right-rest-in =
           record {
-            root = sym (rest-is (DR .offers) (subst (Laid w offerTree (childAt w offerTree true x)) (sym (DR .shape-is)) (kids .right))) ∙ J .right-rest .word ∙ ap pos (J .right-rest .tree .root);
+            root = sym (rest-is (DR .offers) (subst (Laid w offerTree (childAt w offerTree true x)) (sym (DR .shape-is)) (kids .right)))
+                ∙ J .right-rest .word ∙ ap pos (J .right-rest .tree .root);
             pieces = J .right-rest .tree .pieces;
           }
 
@@ -166,38 +175,51 @@ module _
       joint-stored : Stored w joint
       unfolding joint u v
       joint-stored =
-          stored-fork (DL .stored) (DR .stored) (ap (linkAt w bridgeLeftField) seam-at ∙ J .u-at) (ap (linkAt w bridgeRightField) seam-at ∙ J .v-at) left-rest-in right-rest-in
+          stored-fork (DL .stored) (DR .stored) (ap (linkAt w bridgeLeftField) seam-at ∙ J .u-at) (ap (linkAt w bridgeRightField) seam-at ∙ J .v-at)
+          left-rest-in right-rest-in
 
       abbrev pieces : List Item
-      pieces = merged w xs at mid to (leaves l) (leaves r) (stands .ordered) (decorated-env DL) (decorated-env DR) joint-known upper lower i j (J .left-low) (J .left-high) (J .right-low) (J .right-high)
+      pieces = merged w xs at mid to (leaves l) (leaves r) (stands .ordered) (decorated-env DL) (decorated-env DR) joint-known upper lower i j (J .left-low)
+          (J .left-high) (J .right-low) (J .right-high)
 
       joint-valid : Valid items joint pieces
       unfolding joint u v
       joint-valid =
-          valid-fork (itemsAt w (span xs at i)) (itemsAt w (span xs (suc j) to)) (sym (append-snoc (itemsAt w (span xs at i)) (itemAt w (getD xs i 0)) (itemAt w (getD xs j 0) ∷ itemsAt w (span xs (suc j) to))))
+          valid-fork (itemsAt w (span xs at i)) (itemsAt w (span xs (suc j) to))
+          (sym (append-snoc (itemsAt w (span xs at i)) (itemAt w (getD xs i 0)) (itemAt w (getD xs j 0) ∷ itemsAt w (span xs (suc j) to))))
           (subst (Valid items (DL .offers))
-          (items-about w xs at mid i (J .left-low) (J .left-high) ∙ ap (λ (zs : List Item). itemsAt w (span xs at i) ++ itemAt w (getD xs i 0) ∷ zs) (sym (J .left-rest .tree .over))
+          (items-about w xs at mid i (J .left-low) (J .left-high) ∙ ap (λ (zs : List Item). itemsAt w (span xs at i) ++ itemAt w (getD xs i 0) ∷ zs)
+          (sym (J .left-rest .tree .over))
           ∙ sym (append-snoc (itemsAt w (span xs at i)) (itemAt w (getD xs i 0)) (partLeaves (J .left-rest .tree .whole))))
           (DL .valid))
           (subst (Valid items (DR .offers))
-          (items-about w xs mid to j (J .right-low) (J .right-high) ∙ ap (λ (zs : List Item). zs ++ itemAt w (getD xs j 0) ∷ itemsAt w (span xs (suc j) to)) (sym (J .right-rest .tree .over)))
+          (items-about w xs mid to j (J .right-low) (J .right-high) ∙ ap (λ (zs : List Item). zs ++ itemAt w (getD xs j 0) ∷ itemsAt w (span xs (suc j) to))
+          (sym (J .right-rest .tree .over)))
           (DR .valid))
           (J .left-rest .tree .balanced)
           (J .right-rest .tree .balanced)
           (subst (λ (t : Tree Item). Env items (leaves t) pieces) (ap₂ node (sym (DL .shape-is)) (sym (DR .shape-is)))
-          (bridges-merge w xs at mid to (leaves l) (leaves r) (stands .ordered) (decorated-env DL) (decorated-env DR) joint-known upper lower i j (J .left-low) (J .left-high) (J .right-low) (J .right-high) (J .bridges)))
+          (bridges-merge w xs at mid to (leaves l) (leaves r) (stands .ordered) (decorated-env DL) (decorated-env DR) joint-known upper lower i j
+          (J .left-low) (J .left-high) (J .right-low) (J .right-high) (J .bridges)))
 
       -- the pieces of both, in a row
       pieces-are : itemsAt w (span xs at (suc i) ++ span xs j to) ≡ pieces
       pieces-are =
           map-append (itemAt w) (span xs at (suc i)) (span xs j to)
           ∙ ap₂ _++_ (items-about w xs at (suc i) i (J .left-low) (omega arith)) (ap (itemsAt w) (span-cons xs j to (J .right-high)))
-          ∙ ap (λ (zs : List ℕ). (itemsAt w (span xs at i) ++ itemAt w (getD xs i 0) ∷ itemsAt w zs) ++ itemsAt w (getD xs j 0 ∷ span xs (suc j) to)) (span-none xs (suc i) (suc i) (omega arith))
+          ∙ ap (λ (zs : List ℕ). (itemsAt w (span xs at i) ++ itemAt w (getD xs i 0) ∷ itemsAt w zs) ++ itemsAt w (getD xs j 0 ∷ span xs (suc j) to))
+          (span-none xs (suc i) (suc i) (omega arith))
           ∙ append-snoc (itemsAt w (span xs at i)) (itemAt w (getD xs i 0)) (itemsAt w (getD xs j 0 ∷ span xs (suc j) to))
 
       pub joins-fork : Decorated w (node l r) (itemsAt w (span xs at (suc i) ++ span xs j to))
       unfolding joint
-      joins-fork = record { offers = joint; shape-is = ap₂ node (DL .shape-is) (DR .shape-is); stored = joint-stored; valid = subst (Valid items joint) (sym pieces-are) joint-valid }
+      joins-fork = record {
+        offers = joint;
+        shape-is = ap₂ node (DL .shape-is) (DR .shape-is);
+        stored = joint-stored;
+        valid =
+            subst (Valid items joint) (sym pieces-are) joint-valid;
+      }
 
     -- ---- conversely: a tree of offers that is right has such words
 
@@ -228,7 +250,8 @@ module _
       where
         left-pieces : itemsAt w (span xs at mid) ≡ upTo ++ u ∷ partLeaves ql
         left-pieces =
-            env-unique items item-laws (leaves l) (itemsAt w (span xs at mid)) ((upTo ++ u ∷ []) ++ partLeaves ql) (stands-left stands .ordered) (decorated-env DL)
+            env-unique items item-laws (leaves l) (itemsAt w (span xs at mid)) ((upTo ++ u ∷ []) ++ partLeaves ql) (stands-left stands .ordered)
+            (decorated-env DL)
             (subst (λ (t : Tree Item). Env items (leaves t) ((upTo ++ u ∷ []) ++ partLeaves ql)) el (valid-env items item-laws vl))
             ∙ append-snoc upTo u (partLeaves ql)
 
@@ -279,7 +302,8 @@ module _
                 u-first = first-place w xs at mid i (ordered-sublist items (decorated-env DL .sub) (stands-left stands .ordered)) low-i (cl .inside);
                 v-first = first-place w xs mid to j (ordered-sublist items (decorated-env DR .sub) (stands-right stands .ordered)) low-j (cr .inside);
                 bridges =
-                    merge-bridges w xs at mid to (leaves l) (leaves r) (stands .ordered) (decorated-env DL) (decorated-env DR) joint-known upper lower i j low-i (cl .inside) low-j (cr .inside)
+                    merge-bridges w xs at mid to (leaves l) (leaves r) (stands .ordered) (decorated-env DL) (decorated-env DR) joint-known upper lower i j
+                    low-i (cl .inside) low-j (cr .inside)
                     (subst (Env items (leaves l ++ leaves r)) whole-is (subst (λ (t : Tree Item). Env items (leaves t) es) (ap₂ node el er) E));
                 left-rest =
                     record {

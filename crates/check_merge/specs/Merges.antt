@@ -26,7 +26,8 @@ pub record Merges (w : Words) (x : ℕ) (xs xs′ : List ℕ) (at mid to : ℕ) 
   pub long : length xs′ ≡ length xs
   pub same : (i : ℕ) → i < at → getD xs′ i 0 ≡ getD xs i 0
   pub inside : r .ok ≡ true → (at < r .next) × (r .next ≤ secondHalf)
-  pub sound : AllKnown w (span xs at to) → r .ok ≡ true → (i : ℕ) × (j : ℕ) × Joins w x xs at mid to i j × (span xs′ at (r .next) ≡ span xs at (suc i) ++ span xs j to)
+  pub sound : AllKnown w (span xs at to) → r .ok ≡ true → (i : ℕ) × (j : ℕ) × Joins w x xs at mid to i j
+      × (span xs′ at (r .next) ≡ span xs at (suc i) ++ span xs j to)
   pub complete : AllKnown w (span xs at to) → (i j : ℕ) → Joins w x xs at mid to i j → r .ok ≡ true
 
 pub record Refuses (r : Walked) : Type 0 where
@@ -40,7 +41,8 @@ pub record Upper (xs xs′ : List ℕ) : Type 0 where
 pub upper-refl : {xs : List ℕ} → Upper xs xs
 upper-refl = record { long = refl; same = λ i h. refl }
 
-pub merges-not : {w : Words} {x at mid to : ℕ} {xs xs′ : List ℕ} {r : Walked} → Upper xs xs′ → at ≤ secondHalf → Refuses r → (AllKnown w (span xs at to) → (i j : ℕ) → Joins w x xs at mid to i j → ⊥) → Merges w x xs xs′ at mid to r
+pub merges-not : {w : Words} {x at mid to : ℕ} {xs xs′ : List ℕ} {r : Walked} → Upper xs xs′ → at ≤ secondHalf → Refuses r →
+    (AllKnown w (span xs at to) → (i j : ℕ) → Joins w x xs at mid to i j → ⊥) → Merges w x xs xs′ at mid to r
 merges-not u m e n =
     record {
       long = u .long;
@@ -83,11 +85,22 @@ pub record Middle (w : Words) (x : ℕ) (xs : List ℕ) (at mid to i j : ℕ) : 
   pub high : j < to
   pub bridges : Bridges w xs at mid to i j
 
-pub left-place : {w : Words} {x at mid to g s i : ℕ} {xs : List ℕ} → Two at mid to → g ≡ x - mostSlots → s ≡ linkAt w bridgeLeftField g → PlaceOf xs at mid s i → Left w x xs at mid to i
-left-place {w} {at} {mid} {i} {xs} two eg es P = record { two = two; place = subst (λ (n : ℕ). PlaceOf xs at mid n i) (es ∙ ap (linkAt w bridgeLeftField) eg) P }
+pub left-place : {w : Words} {x at mid to g s i : ℕ} {xs : List ℕ} → Two at mid to → g ≡ x - mostSlots → s ≡ linkAt w bridgeLeftField g →
+    PlaceOf xs at mid s i → Left w x xs at mid to i
+left-place {w} {at} {mid} {i} {xs} two eg es P = record {
+  two = two;
+  place =
+      subst (λ (n : ℕ). PlaceOf xs at mid n i) (es ∙ ap (linkAt w bridgeLeftField) eg) P;
+}
 
-pub right-place : {w : Words} {x at mid to g t i j : ℕ} {xs : List ℕ} → Left w x xs at mid to i → i < mid → g ≡ x - mostSlots → t ≡ linkAt w bridgeRightField g → PlaceOf xs mid to t j → Right w x xs at mid to i j
-right-place {w} {mid} {to} {j} {xs} left h eg et Q = record { left = left; high = h; place = subst (λ (n : ℕ). PlaceOf xs mid to n j) (et ∙ ap (linkAt w bridgeRightField) eg) Q }
+pub right-place : {w : Words} {x at mid to g t i j : ℕ} {xs : List ℕ} → Left w x xs at mid to i → i < mid → g ≡ x - mostSlots →
+    t ≡ linkAt w bridgeRightField g → PlaceOf xs mid to t j → Right w x xs at mid to i j
+right-place {w} {mid} {to} {j} {xs} left h eg et Q = record {
+  left = left;
+  high = h;
+  place =
+      subst (λ (n : ℕ). PlaceOf xs mid to n j) (et ∙ ap (linkAt w bridgeRightField) eg) Q;
+}
 
 module _ {w : Words} {x at mid to i : ℕ} {xs : List ℕ} (L : Left w x xs at mid to i) where
   place-i : (a b : ℕ) → Joins w x xs at mid to a b → i ≡ a
@@ -126,7 +139,8 @@ pub record RestRight (w : Words) (x : ℕ) (xs xs₂ : List ℕ) (mid j : ℕ) (
   pub upper : Upper xs xs₂
   pub told : AllKnown w (span xs mid j) → Decides m (RestTree w (childAt w offerTree true x) (span xs mid j))
 
-pub rest-left : {w : Words} {x mid i l : ℕ} {xs xs₁ : List ℕ} {m : Bool} → l ≡ childAt w offerTree false x → Stays w l xs xs₁ (i + 1) mid m → RestLeft w x xs xs₁ mid i m
+pub rest-left : {w : Words} {x mid i l : ℕ} {xs xs₁ : List ℕ} {m : Bool} → l ≡ childAt w offerTree false x → Stays w l xs xs₁ (i + 1) mid m →
+    RestLeft w x xs xs₁ mid i m
 rest-left {w} {x} {mid} {i} {l} {xs} {m} el S =
     record {
       upper = record { long = S .long; same = S .same };
@@ -136,7 +150,8 @@ rest-left {w} {x} {mid} {i} {l} {xs} {m} el S =
           (subst (λ (n : ℕ). AllKnown w (span xs n mid) → Decides m (RestTree w l (span xs n mid))) e (S .told));
     }
 
-pub rest-right : {w : Words} {x mid j r : ℕ} {xs xs₁ xs₂ : List ℕ} {m : Bool} → Upper xs xs₁ → j ≤ secondHalf → r ≡ childAt w offerTree true x → Stays w r xs₁ xs₂ mid j m → RestRight w x xs xs₂ mid j m
+pub rest-right : {w : Words} {x mid j r : ℕ} {xs xs₁ xs₂ : List ℕ} {m : Bool} → Upper xs xs₁ → j ≤ secondHalf → r ≡ childAt w offerTree true x →
+    Stays w r xs₁ xs₂ mid j m → RestRight w x xs xs₂ mid j m
 rest-right {w} {x} {mid} {j} {r} {xs} {xs₁} {xs₂} {m} u h er S =
     record {
       upper = record { long = S .long ∙ u .long; same = λ i k. S .same i k ∙ u .same i k };
@@ -162,21 +177,26 @@ module _ {w : Words} {x at mid to i j : ℕ} {xs : List ℕ} (K : Middle w x xs 
   left-known known n k =
       known n
       (subst (List·Memᴰ n) (sym (span-cut xs at (suc i) to (omega (arith, low-i)) (omega (arith, two))))
-      (Memᴰ·append-right (span xs at (suc i)) (subst (List·Memᴰ n) (sym (span-cut xs (suc i) mid to high-i (two .lower))) (Memᴰ·append-left (span xs mid to) k))))
+      (Memᴰ·append-right (span xs at (suc i)) (subst (List·Memᴰ n) (sym (span-cut xs (suc i) mid to high-i (two .lower)))
+      (Memᴰ·append-left (span xs mid to) k))))
 
   right-known : AllKnown w (span xs at to) → AllKnown w (span xs mid j)
   right-known known n k =
       known n
       (subst (List·Memᴰ n) (sym (span-cut xs at mid to (two .upper) (two .lower)))
-      (Memᴰ·append-right (span xs at mid) (subst (List·Memᴰ n) (sym (span-cut xs mid j to low-j (omega (arith, K .high)))) (Memᴰ·append-left (span xs j to) k))))
+      (Memᴰ·append-right (span xs at mid) (subst (List·Memᴰ n) (sym (span-cut xs mid j to low-j (omega (arith, K .high))))
+      (Memᴰ·append-left (span xs j to) k))))
 
   pub merges-no-left : {xs₁ : List ℕ} {m : Bool} {r : Walked} → RestLeft w x xs xs₁ mid i m → m ≡ false → Refuses r → Merges w x xs xs₁ at mid to r
-  merges-no-left L e f = merges-not (L .upper) (omega (arith, two)) f (λ known a b k. never (L .told (left-known known) .complete (joins-here (K .right) a b k .left-rest)) e)
+  merges-no-left L e f = merges-not (L .upper) (omega (arith, two)) f
+      (λ known a b k. never (L .told (left-known known) .complete (joins-here (K .right) a b k .left-rest)) e)
 
   pub merges-no-right : {xs₂ : List ℕ} {m : Bool} {r : Walked} → RestRight w x xs xs₂ mid j m → m ≡ false → Refuses r → Merges w x xs xs₂ at mid to r
-  merges-no-right R e f = merges-not (R .upper) (omega (arith, two)) f (λ known a b k. never (R .told (right-known known) .complete (joins-here (K .right) a b k .right-rest)) e)
+  merges-no-right R e f = merges-not (R .upper) (omega (arith, two)) f
+      (λ known a b k. never (R .told (right-known known) .complete (joins-here (K .right) a b k .right-rest)) e)
 
-  pub merges-all : {xs₁ xs₂ xs₃ : List ℕ} {m n : Bool} → RestLeft w x xs xs₁ mid i m → m ≡ true → RestRight w x xs xs₂ mid j n → n ≡ true → Moved xs₂ xs₃ (i + 1) j (to - j) → Merges w x xs xs₃ at mid to (record { ok = true; next = i + 1 + (to - j) })
+  pub merges-all : {xs₁ xs₂ xs₃ : List ℕ} {m n : Bool} → RestLeft w x xs xs₁ mid i m → m ≡ true → RestRight w x xs xs₂ mid j n → n ≡ true →
+      Moved xs₂ xs₃ (i + 1) j (to - j) → Merges w x xs xs₃ at mid to (record { ok = true; next = i + 1 + (to - j) })
   merges-all {xs₁} {xs₂} {xs₃} L el R er M =
       record {
         long = M .long ∙ R .upper .long;

@@ -27,7 +27,8 @@ use Rattle.check_trees.specs.declared.Filled.{Filled}
 use Rattle.check_trees.specs.Stretches.{stretch, span, chain-span, span-chain, stretch-same, stretch-agrees, span-same, span-length, span-none}
 use Rattle.check_trees.specs.Deciding.{Decides, decides-yes, decides-no, Every, Agree}
 use Rattle.check_trees.specs.Loops.{RangedHere, NextHere}
-use Rattle.check_trees.specs.Laid.{itemAt, itemsAt, slotsOf, items-back, slots-back, slots-length, Placed, placed-at, AllPlaced, Laid, laid-unique, laid-node-high}
+use Rattle.check_trees.specs.Laid.{itemAt, itemsAt, slotsOf, items-back, slots-back, slots-length, Placed, placed-at, AllPlaced, Laid, laid-unique}
+use Rattle.check_trees.specs.Laid.{laid-node-high}
 use Rattle.check_trees.specs.Fills.{Written, Fills}
 use Rattle.check_trees.specs.FillWalks.{written-length}
 use Rattle.check_bridges.specs.Gaps.{InRange}
@@ -53,10 +54,12 @@ stretch-mem : (xs : List ℕ) (a n k : ℕ) → k < n → List·Memᴰ (getD xs 
 unfolding stretch
 stretch-mem xs a zero k h = absurd (omega arith)
 stretch-mem xs a (suc n) zero h = let e : a + 0 ≡ a = omega arith in List·Memᴰ·head (ap (λ (i : ℕ). getD xs i 0) e)
-stretch-mem xs a (suc n) (suc k) h = List·Memᴰ·tail (let e : suc a + k ≡ a + suc k = omega arith in subst (λ (i : ℕ). List·Memᴰ (getD xs i 0) (stretch xs (suc a) n)) e (stretch-mem xs (suc a) n k (omega arith)))
+stretch-mem xs a (suc n) (suc k) h = List·Memᴰ·tail (let e : suc a + k ≡ a + suc k = omega arith in
+    subst (λ (i : ℕ). List·Memᴰ (getD xs i 0) (stretch xs (suc a) n)) e (stretch-mem xs (suc a) n k (omega arith)))
 
 pub span-mem : (xs : List ℕ) (a b i : ℕ) → a ≤ i → i < b → List·Memᴰ (getD xs i 0) (span xs a b)
-span-mem xs a b i h k = let e : a + (i - a) ≡ i = omega arith in subst (λ (n : ℕ). List·Memᴰ (getD xs n 0) (span xs a b)) e (stretch-mem xs a (b - a) (i - a) (omega arith))
+span-mem xs a b i h k = let e : a + (i - a) ≡ i = omega arith in
+    subst (λ (n : ℕ). List·Memᴰ (getD xs n 0) (span xs a b)) e (stretch-mem xs a (b - a) (i - a) (omega arith))
 
 pub known-ranged : {w : Words} {xs : List ℕ} {a b : ℕ} → AllKnown w (span xs a b) → Every (RangedHere w xs) a b
 known-ranged {w} {xs} {a} {b} h = record { at = λ k l m. record { ranged = h (getD xs k 0) (span-mem xs a b k l m) .in-range .ranged } }
@@ -140,7 +143,8 @@ module _ {w : Words} {q from to : ℕ} {xs : List ℕ} (e : q ≡ 0) where
       go known (some (leaf a)) r o = absurd (omega (arith, known-placed (span xs from to) known a (subst (List·Memᴰ a) o (List·Memᴰ·head refl)) .low))
       go known (some (node t u)) r o = absurd (omega arith)
 
-module _ {w : Words} {q from to : ℕ} {xs xs′ : List ℕ} {f : Filled} (d : q ≡ 0 → ⊥) (l : from ≤ to) (h : to ≤ secondHalf) (F : Fills w pieceTree q mostLevels xs xs′ secondHalf f) where
+module _ {w : Words} {q from to : ℕ} {xs xs′ : List ℕ} {f : Filled} (d : q ≡ 0 → ⊥) (l : from ≤ to) (h : to ≤ secondHalf)
+    (F : Fills w pieceTree q mostLevels xs xs′ secondHalf f) where
   -- the stretch is as it was
   stretch-still : span xs′ from to ≡ span xs from to
   stretch-still = span-same xs′ xs from to (λ i a b. F .same i (omega arith))
@@ -167,7 +171,14 @@ module _ {w : Words} {q from to : ℕ} {xs xs′ : List ℕ} {f : Filled} (d : q
     written-is t = laid-unique (F .sound ok .tree) (t .tree) (F .sound ok .laid) (t .laid)
 
     next-is : (t : OverSlots w q (span xs from to)) → f .next ≡ secondHalf + (to - from)
-    next-is t = omega (arith, F .inside ok, written-length (F .sound ok), ap (λ (s : Tree Item). length (leaves s)) (written-is t), over-length t, span-length xs from to)
+    next-is t = omega (
+      arith,
+      F .inside ok,
+      written-length (F .sound ok),
+      ap (λ (s : Tree Item). length (leaves s)) (written-is t),
+      over-length t,
+      span-length xs from to,
+    )
 
     pub matches-not-long : (f .next ≡ secondHalf + (to - from) → ⊥) → Matches w q xs xs′ from to false
     matches-not-long n = matches-no refl (λ t. n (next-is t))
@@ -177,7 +188,8 @@ module _ {w : Words} {q from to : ℕ} {xs xs′ : List ℕ} {f : Filled} (d : q
       gap = omega arith
 
       pub matches-differ : {r : Bool} → Decides r (Agree xs′ from secondHalf (to - from)) → r ≡ false → Matches w q xs xs′ from to false
-      matches-differ D n = matches-no refl (λ t. never (D .complete (record { at = λ k a b. stretch-agrees xs′ xs′ from secondHalf (to - from) (both t) k b })) n)
+      matches-differ D n = matches-no refl
+          (λ t. never (D .complete (record { at = λ k a b. stretch-agrees xs′ xs′ from secondHalf (to - from) (both t) k b })) n)
         where
           both : OverSlots w q (span xs from to) → stretch xs′ from (to - from) ≡ stretch xs′ secondHalf (to - from)
           both t =
@@ -186,7 +198,12 @@ module _ {w : Words} {q from to : ℕ} {xs xs′ : List ℕ} {f : Filled} (d : q
 
       pub matches-rest : {r t : Bool} → Decides r (Agree xs′ from secondHalf (to - from)) → r ≡ true → Threads w xs′ from to t → Matches w q xs xs′ from to t
       matches-rest {r} {t} D n T =
-          record { long = F .long; same = λ i a. F .same i a; told = λ known. record { sound = found known; complete = λ p. threads known .complete (links known (over-tree known d p)) } }
+          record {
+            long = F .long;
+            same = λ i a. F .same i a;
+            told =
+                λ known. record { sound = found known; complete = λ p. threads known .complete (links known (over-tree known d p)) };
+          }
         where
           threads : AllKnown w (span xs from to) → Decides t (Every (NextHere w xs′) from (to - 1))
           threads known = T .told (known-ranged (subst (AllKnown w) (sym stretch-still) known))
@@ -194,7 +211,8 @@ module _ {w : Words} {q from to : ℕ} {xs xs′ : List ℕ} {f : Filled} (d : q
           over : leaves (F .sound ok .tree) ≡ itemsAt w (span xs from to)
           over =
               sym (items-back (leaves (F .sound ok .tree)) (F .sound ok .laid .placed))
-              ∙ ap (itemsAt w) (sym (F .sound ok .slots) ∙ ap (stretch xs′ secondHalf) gap ∙ sym (stretch-same xs′ xs′ from secondHalf (to - from) (λ k b. D .sound n .at k (omega arith) b)) ∙ stretch-still)
+              ∙ ap (itemsAt w) (sym (F .sound ok .slots) ∙ ap (stretch xs′ secondHalf) gap ∙ sym
+              (stretch-same xs′ xs′ from secondHalf (to - from) (λ k b. D .sound n .at k (omega arith) b)) ∙ stretch-still)
 
           found : AllKnown w (span xs from to) → t ≡ true → PieceTree w q (span xs from to)
           found known u =

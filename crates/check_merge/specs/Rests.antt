@@ -66,7 +66,12 @@ module _ {w : Words} {n q : ℕ} {b : Bool} (e : q ≡ restAt w n) (exact : Deci
 
   pub stays-not : {from to : ℕ} {xs : List ℕ} → b ≡ false → Stays w n xs xs from to false
   stays-not {from} {to} {xs} eb =
-      record { long = refl; same = λ i h. refl; told = λ known. decides-no (λ t. never (exact .complete (t .word ∙ ap pos (sym (read (span xs from to) known t)))) eb) }
+      record {
+        long = refl;
+        same = λ i h. refl;
+        told = λ known. decides-no
+            (λ t. never (exact .complete (t .word ∙ ap pos (sym (read (span xs from to) known t)))) eb);
+      }
 
   pub stays-rest : {from to : ℕ} {xs xs′ : List ℕ} {r : Bool} → b ≡ true → Matches w q xs xs′ from to r → Stays w n xs xs′ from to r
   stays-rest {from} {to} {xs} eb M =
@@ -74,6 +79,7 @@ module _ {w : Words} {n q : ℕ} {b : Bool} (e : q ≡ restAt w n) (exact : Deci
         long = M .long;
         same = M .same;
         told = λ known.
-            decides-as (λ p. record { root = q; word = exact .sound eb; tree = p }) (λ t. subst (λ (k : ℕ). PieceTree w k (span xs from to)) (sym (read (span xs from to) known t)) (t .tree))
+            decides-as (λ p. record { root = q; word = exact .sound eb; tree = p })
+            (λ t. subst (λ (k : ℕ). PieceTree w k (span xs from to)) (sym (read (span xs from to) known t)) (t .tree))
             (M .told known);
       }

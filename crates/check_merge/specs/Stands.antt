@@ -43,10 +43,20 @@ pub record Stands (w : Words) (x : ℕ) (t : Tree Item) : Type 0 where
 
 module _ {w : Words} {x : ℕ} {l r : Tree Item} (s : Stands w x (node l r)) where
   pub stands-left : Stands w (childAt w offerTree false x) l
-  stands-left = record { laid = laid-children (s .laid) .left; ranged = λ a m. s .ranged a (Memᴰ·append-left (leaves r) m); ordered = ordered-left items (leaves l) (leaves r) (s .ordered) }
+  stands-left = record {
+    laid = laid-children (s .laid) .left;
+    ranged = λ a m. s .ranged a (Memᴰ·append-left (leaves r) m);
+    ordered =
+        ordered-left items (leaves l) (leaves r) (s .ordered);
+  }
 
   pub stands-right : Stands w (childAt w offerTree true x) r
-  stands-right = record { laid = laid-children (s .laid) .right; ranged = λ a m. s .ranged a (Memᴰ·append-right (leaves l) m); ordered = ordered-right items (leaves l) (leaves r) (s .ordered) }
+  stands-right = record {
+    laid = laid-children (s .laid) .right;
+    ranged = λ a m. s .ranged a (Memᴰ·append-right (leaves l) m);
+    ordered =
+        ordered-right items (leaves l) (leaves r) (s .ordered);
+  }
 
 -- items in order are in slots of their own
 pub ordered-slots : {w : Words} {xs : List Item} → AllPlaced w xs → Ordered items xs → Pairwise Apart xs
@@ -67,7 +77,13 @@ module _ {w : Words} {x : ℕ} {t : Tree Item} (s : Stands w x t) where
   pub stands-held : {a : Item} → List·Memᴰ a (leaves t) → Held w a
   stands-held {a} m =
       let e = s .laid .placed a m .is in
-      record { number = ap (λ (b : Item). b .offer .number) (sym e); rate = ap (λ (b : Item). b .offer .rate) (sym e); base = ap (λ (b : Item). b .offer .base) (sym e); ranged = s .ranged a m }
+      record {
+        number = ap (λ (b : Item). b .offer .number) (sym e);
+        rate = ap (λ (b : Item). b .offer .rate) (sym e);
+        base =
+            ap (λ (b : Item). b .offer .base) (sym e);
+        ranged = s .ranged a m;
+      }
 
   pub stands-holds : Holds w (leaves t)
   stands-holds = record { held = stands-held }
@@ -76,7 +92,12 @@ module _ {w : Words} {x : ℕ} {t : Tree Item} (s : Stands w x t) where
   pub stands-known : (ss : List ℕ) → ((a : Item) → List·Memᴰ a (itemsAt w ss) → List·Memᴰ a (leaves t)) → AllKnown w ss
   stands-known (n ∷ ss) f m (List·Memᴰ·head e) =
       let i : List·Memᴰ (itemAt w n) (leaves t) = f (itemAt w n) (List·Memᴰ·head refl) in
-      rw e (record { low = s .laid .placed (itemAt w n) i .low; high = s .laid .placed (itemAt w n) i .high; in-range = record { ranged = s .ranged (itemAt w n) i } })
+      rw e (record {
+        low = s .laid .placed (itemAt w n) i .low;
+        high = s .laid .placed (itemAt w n) i .high;
+        in-range =
+            record { ranged = s .ranged (itemAt w n) i };
+      })
   stands-known (n ∷ ss) f m (List·Memᴰ·tail i) = stands-known ss (λ a j. f a (List·Memᴰ·tail j)) m i
 
 -- ---- with envelopes stored
@@ -96,4 +117,5 @@ rest-is {w} (single a) {x} h =
     rw (le-ltb mostSlots x (omega (arith, h .root, h .placed a (List·Memᴰ·head refl) .high, cap-most w))) (ap (cell w leafRestField) (h .root))
 rest-is {w} (fork u v l ql qr r) {x} h =
     let here : x - mostSlots ≡ last (shape l) .slot = omega (arith, h .root) in
-    rw (lt-ltb mostSlots x (omega (arith, h .root, h .placed (last (shape l)) (Memᴰ·append-left (leaves (shape r)) (last-leaf (shape l))) .low))) (ap (cell w innerRestField) here)
+    rw (lt-ltb mostSlots x (omega (arith, h .root, h .placed (last (shape l)) (Memᴰ·append-left (leaves (shape r)) (last-leaf (shape l))) .low)))
+    (ap (cell w innerRestField) here)

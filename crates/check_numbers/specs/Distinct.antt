@@ -1,7 +1,8 @@
 -- Lists without repeats among others: one is no longer than a list that has all its members, and where both are as long they have the same.
 use mathlib.Core.Path.{_≡_, refl, sym, _∙_, ap}
 use mathlib.Core.Logic.{_≢_, ⊎-elim}
-use mathlib.Core.List.{List, [], _∷_, List·Memᴰ, List·Memᴰ·head, List·Memᴰ·tail, List·Memᴰ·cases-cons, List·Memᴰ·not-nil, Pairwise, Pairwise·of-cons, rel-of-pairwise-cons}
+use mathlib.Core.List.{List, [], _∷_, List·Memᴰ, List·Memᴰ·head, List·Memᴰ·tail, List·Memᴰ·cases-cons, List·Memᴰ·not-nil, Pairwise, Pairwise·of-cons}
+use mathlib.Core.List.{rel-of-pairwise-cons}
 use Prim.Native.Nat.{suc, _≤_}
 use native.Mathlib.Omega.{arith}
 use lib.ListN.{length}
@@ -45,7 +46,8 @@ module _ {A : Type 0} where
       go (no e) (no n) = no (λ m. ⊎-elim e n (List·Memᴰ·cases-cons m))
 
   -- members that can be told apart
-  pub among-all : (xs ys : List A) → Distinct xs → Among xs ys → length ys ≤ length xs → ((a b : A) → List·Memᴰ a xs → List·Memᴰ b ys → Dec (b ≡ a)) → Among ys xs
+  pub among-all : (xs ys : List A) → Distinct xs → Among xs ys → length ys ≤ length xs → ((a b : A) → List·Memᴰ a xs → List·Memᴰ b ys → Dec (b ≡ a)) →
+      Among ys xs
   among-all xs ys p f h d b m = go (member? b xs (λ a n. d a b n m))
     where
       go : Dec (List·Memᴰ b xs) → List·Memᴰ b xs

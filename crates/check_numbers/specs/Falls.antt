@@ -1,6 +1,7 @@
 -- Numbers that fall from slot to slot of a stretch fall along the items that stand there.
 use mathlib.Core.Path.{_≡_, sym, subst}
-use mathlib.Core.List.{List, _∷_, List·Memᴰ·cases-cons, IsChain, IsChain·nil, IsChain·singleton, IsChain·cons-cons, Pairwise·nil, Pairwise·isChain, rel-of-pairwise-cons}
+use mathlib.Core.List.{List, _∷_, List·Memᴰ·cases-cons, IsChain, IsChain·nil, IsChain·singleton, IsChain·cons-cons, Pairwise·nil, Pairwise·isChain}
+use mathlib.Core.List.{rel-of-pairwise-cons}
 use mathlib.Core.Logic.{⊎-elim}
 use Prim.Native.Nat.{ℕ, _-_}
 use native.Mathlib.Omega.{arith}
@@ -30,7 +31,8 @@ chain-falling {A} key (IsChain·cons-cons {a} {b} {l} h c) = go (chain-falling k
     go : Falling key (b ∷ l) → Falling key (a ∷ b ∷ l)
     go f =
         pairs-cons (λ x y. T-prop (ltZ (key y) (key x)))
-        (λ x m. ⊎-elim (λ (e : x ≡ b). subst (λ (y : A). T (ltZ (key y) (key a))) (sym e) h) (λ n. below (key a) (key b) (key x) h (rel-of-pairwise-cons f ∣ n ∣₁)) (List·Memᴰ·cases-cons m)) f
+        (λ x m. ⊎-elim (λ (e : x ≡ b). subst (λ (y : A). T (ltZ (key y) (key a))) (sym e) h)
+        (λ n. below (key a) (key b) (key x) h (rel-of-pairwise-cons f ∣ n ∣₁)) (List·Memᴰ·cases-cons m)) f
 
 -- the number of an item is above the next one's
 abbrev Above : Item → Item → Type 0

@@ -52,7 +52,13 @@ record Headed (w : Words) (s k : ℕ) : Type 0 where
 
 module _ {w : Words} {s k : ℕ} where
   chained-on : {t : ℕ} → IsFree w s → cell w nextFreeField s ≡ pos t → Chained w t k → Chained w s (suc k)
-  chained-on f e c = record { slots = s ∷ c .slots; first = refl; long = ap suc (c .long); chain = free-more (f .low) (f .high) (f .cleared) (e ∙ ap pos (c .first)) (c .chain) }
+  chained-on f e c = record {
+    slots = s ∷ c .slots;
+    first = refl;
+    long = ap suc (c .long);
+    chain =
+        free-more (f .low) (f .high) (f .cleared) (e ∙ ap pos (c .first)) (c .chain);
+  }
 
   headed : Chained w s (suc k) → Headed w s k
   headed c = go (c .slots) (c .first) (c .long) (c .chain)
@@ -115,7 +121,8 @@ chain-length : {w : Words} {ss ts : List ℕ} → FreeChain w ss → FreeChain w
 chain-length free-none free-none e = refl
 chain-length free-none (free-more l h z n f) e = absurd (omega arith)
 chain-length (free-more l h z n f) free-none e = absurd (omega arith)
-chain-length {w} (free-more {s} l h z n f) (free-more {s = s′} l′ h′ z′ n′ f′) e = ap suc (chain-length f f′ (sym (free-link s f n) ∙ ap (linkAt w nextFreeField) e ∙ free-link s′ f′ n′))
+chain-length {w} (free-more {s} l h z n f) (free-more {s = s′} l′ h′ z′ n′ f′) e =
+    ap suc (chain-length f f′ (sym (free-link s f n) ∙ ap (linkAt w nextFreeField) e ∙ free-link s′ f′ n′))
 
 -- the chain from one of its slots on
 record Onward (w : Words) (s k : ℕ) : Type 0 where
@@ -126,7 +133,13 @@ record Onward (w : Words) (s k : ℕ) : Type 0 where
 
 onward : {w : Words} {ss : List ℕ} {s : ℕ} → FreeChain w ss → List·Memᴰ s ss → Onward w s (length ss)
 onward {ss} f (List·Memᴰ·head e) = record { slots = ss; first = e; chain = f; short = omega arith }
-onward (free-more l h z n f) (List·Memᴰ·tail m) = let o = onward f m in record { slots = o .slots; first = o .first; chain = o .chain; short = omega (arith, o .short) }
+onward (free-more l h z n f) (List·Memᴰ·tail m) = let o = onward f m in record {
+  slots = o .slots;
+  first = o .first;
+  chain = o .chain;
+  short =
+      omega (arith, o .short);
+}
 
 pub chain-apart : {w : Words} {ss : List ℕ} → FreeChain w ss → Pairwise (λ (a b : ℕ). a ≢ b) ss
 chain-apart free-none = Pairwise·nil

@@ -74,7 +74,11 @@ pub record NumberTree (w : Words) (root : ℕ) (live : List Item) : Type 0 where
 -- it has as many leaves
 tree-length : {w : Words} {root : ℕ} {live : List Item} → Pairwise Apart live → (t : NumberTree w root live) → length (leaves (t .tree)) ≡ length live
 tree-length {live} p t =
-    omega (arith, among-length (leaves (t .tree)) live (falling-distinct (t .falling)) (t .all-live), among-length live (leaves (t .tree)) (apart-distinct p) (t .all-there))
+    omega (
+      arith,
+      among-length (leaves (t .tree)) live (falling-distinct (t .falling)) (t .all-live),
+      among-length live (leaves (t .tree)) (apart-distinct p) (t .all-there),
+    )
 
 -- the answer to whether there is one
 pub record Trees (w : Words) (root : ℕ) (xs xs′ : List ℕ) (n : ℕ) (r : Bool) : Type 0 where
@@ -104,7 +108,14 @@ module _ {w : Words} {root n : ℕ} {xs xs′ : List ℕ} {f : Filled} (h : n �
     written-is t = laid-unique U (t .tree) (F .sound ok .laid) (t .laid)
 
     pub trees-not-long : (f .next ≡ secondHalf + n → ⊥) → Trees w root xs xs′ n false
-    trees-not-long d = none-such (λ q t. d (omega (arith, F .inside ok, written-length (F .sound ok), ap (λ (s : Tree Item). length (leaves s)) (written-is t), tree-length q t, live-length w xs n)))
+    trees-not-long d = none-such (λ q t. d (omega (
+      arith,
+      F .inside ok,
+      written-length (F .sound ok),
+      ap (λ (s : Tree Item). length (leaves s)) (written-is t),
+      tree-length q t,
+      live-length w xs n,
+    )))
 
     leaves-at : leaves U ≡ itemsAt w (span xs′ secondHalf (f .next))
     leaves-at = sym (items-back (leaves U) (F .sound ok .laid .placed)) ∙ ap (itemsAt w) (sym (F .sound ok .slots))
@@ -112,7 +123,8 @@ module _ {w : Words} {root n : ℕ} {xs xs′ : List ℕ} {f : Filled} (h : n �
     module _ {b : Bool} (D : Decides b (Every (FallsHere w 0 xs′) secondHalf (f .next - 1))) where
       pub trees-not-falling : b ≡ false → Trees w root xs xs′ n false
       trees-not-falling e =
-          none-such (λ q t. never (D .complete (span-falling secondHalf (f .next) (subst (Falling numberOf) (sym (ap leaves (written-is t)) ∙ leaves-at) (t .falling)))) e)
+          none-such (λ q t. never
+          (D .complete (span-falling secondHalf (f .next) (subst (Falling numberOf) (sym (ap leaves (written-is t)) ∙ leaves-at) (t .falling)))) e)
 
       module _ (e : b ≡ true) (l : f .next ≡ secondHalf + n) where
         falls : Falling numberOf (leaves U)
@@ -125,7 +137,8 @@ module _ {w : Words} {root n : ℕ} {xs xs′ : List ℕ} {f : Filled} (h : n �
         lows p = record { at = λ k a b. omega (arith, same k b, p (itemAt w (getD xs k 0)) (live-mem w xs n k b) .low) }
 
         there : Every (HasHere w U xs′) 0 n → Among (liveAt w xs n) (leaves U)
-        there g = live-all w xs n (λ (a : Item). List·Memᴰ a (leaves U)) (λ k a. subst (λ (s : ℕ). List·Memᴰ (itemAt w s) (leaves U)) (same k a) (g .at k (omega arith) a .has))
+        there g = live-all w xs n (λ (a : Item). List·Memᴰ a (leaves U)) (λ k a. subst (λ (s : ℕ). List·Memᴰ (itemAt w s) (leaves U)) (same k a)
+            (g .at k (omega arith) a .has))
 
         one-item : AllPlaced w (liveAt w xs n) → (a b : Item) → List·Memᴰ a (liveAt w xs n) → List·Memᴰ b (leaves U) → Dec (b ≡ a)
         one-item p a b i j = go (ℕ-discrete (b .slot) (a .slot))
@@ -138,7 +151,14 @@ module _ {w : Words} {root n : ℕ} {xs xs′ : List ℕ} {f : Filled} (h : n �
         many = omega (arith, written-length (F .sound ok), live-length w xs n)
 
         pub trees-rest : {r : Bool} → SeeksAll w root xs′ n r → Trees w root xs xs′ n r
-        trees-rest {r} S = record { long = F .long; told = λ p q. record { sound = λ t. found p q (seen p .sound t); complete = λ t. seen p .complete (all t) } }
+        trees-rest {r} S = record {
+          long = F .long;
+          told = λ p q. record {
+            sound = λ t. found p q (seen p .sound t);
+            complete =
+                λ t. seen p .complete (all t);
+          };
+        }
           where
             seen : AllPlaced w (liveAt w xs n) → Decides r (Every (HasHere w U xs′) 0 n)
             seen p = S .told U (F .sound ok .laid) falls (lows p)
@@ -159,6 +179,7 @@ module _ {w : Words} {root n : ℕ} {xs xs′ : List ℕ} {f : Filled} (h : n �
                   at = λ k a b. record {
                     has =
                         subst (λ (s : ℕ). List·Memᴰ (itemAt w s) (leaves U)) (sym (same k b))
-                        (subst (List·Memᴰ (itemAt w (getD xs k 0))) (ap leaves (sym (written-is t))) (t .all-there (itemAt w (getD xs k 0)) (live-mem w xs n k b)));
+                        (subst (List·Memᴰ (itemAt w (getD xs k 0))) (ap leaves (sym (written-is t)))
+                        (t .all-there (itemAt w (getD xs k 0)) (live-mem w xs n k b)));
                   };
                 }

@@ -81,7 +81,8 @@ module _ {w : Words} {live : List Item} where
 
 -- ---- the ways through the code
 
-module _ {w : Words} {root n : ℕ} {xs : List ℕ} {b : Bool} (er : root ≡ upTo mostNodes (word w numbersRootWord)) (D : Decides b (word w numbersRootWord ≡ pos root)) where
+module _ {w : Words} {root n : ℕ} {xs : List ℕ} {b : Bool} (er : root ≡ upTo mostNodes (word w numbersRootWord))
+    (D : Decides b (word w numbersRootWord ≡ pos root)) where
   pub tallies-told : b ≡ false → Tallies w xs xs n false
   tallies-told e = record { long = refl; sound = λ p q t. absurd (never t refl); complete = λ p q m. absurd (never (D .complete (root-exact er p m)) e) }
 
@@ -97,7 +98,12 @@ module _ {w : Words} {root n : ℕ} {xs : List ℕ} {b : Bool} (er : root ≡ up
         empty : n ≡ 0 → Numbered w (liveAt w xs n)
         empty g =
             rw (ap (itemsAt w) (span-none xs 0 n (omega arith)))
-            (record { numbers = none; numbers-root = D .sound e ∙ ap pos z; numbers-in = record { tied = tt; balanced = tt; falling = Pairwise·nil; all-live = λ a m. m; all-there = λ a m. m } })
+            (record {
+              numbers = none;
+              numbers-root = D .sound e ∙ ap pos z;
+              numbers-in =
+                  record { tied = tt; balanced = tt; falling = Pairwise·nil; all-live = λ a m. m; all-there = λ a m. m };
+            })
 
     pub tallies-tree : {xs′ : List ℕ} {r : Bool} → (root ≡ 0 → ⊥) → Trees w root xs xs′ n r → Tallies w xs xs′ n r
     tallies-tree d T =

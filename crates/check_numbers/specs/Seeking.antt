@@ -51,7 +51,8 @@ module _ {w : Words} {root : ℕ} (t : Tree Item) (L : Laid w numberTree root t)
     where
       apart : (a b : Item) → ∥ List·Memᴰ a (leaves t) ∥₁ → ∥ List·Memᴰ b (leaves t) ∥₁ → T (ltZ (numberOf b) (numberOf a)) → Apart a b
       apart a b m n h e =
-          ∥∥₁-elim m (λ p q. absurd p) (λ i. ∥∥₁-elim n (λ p q. absurd p) (λ j. falling-differ {a = a} {b = b} h (placed-one (L .placed a i) (L .placed b j) e)))
+          ∥∥₁-elim m (λ p q. absurd p) (λ i. ∥∥₁-elim n (λ p q. absurd p) (λ j. falling-differ {a = a} {b =
+          b} h (placed-one (L .placed a i) (L .placed b j) e)))
 
   laid-keyed : Keyed w numberField numberOf (leaves t)
   laid-keyed = record { read = λ {a} m. sym (ap numberOf (L .placed a m .is)) }
@@ -64,7 +65,11 @@ pub seeks : {w : Words} {root s y : ℕ} {z : ℤ} → z ≡ cell w numberField 
 seeks {w} {root} {s} {y} {z} e f = record { told = told }
   where
     told : (t : Tree Item) → Laid w numberTree root t → Falling numberOf (leaves t) → 1 ≤ s → Decides (eqb y s) (List·Memᴰ (itemAt w s) (leaves t))
-    told t L F l = record { sound = λ q. sound (find numberOf z t) refl (sym is ∙ eqb-true y s q); complete = λ m. eq-eqb y s (is ∙ ap foundAt (find-complete numberOf z t F (record { inside = m; keyed = sym e }))) }
+    told t L F l = record {
+      sound = λ q. sound (find numberOf z t) refl (sym is ∙ eqb-true y s q);
+      complete =
+          λ m. eq-eqb y s (is ∙ ap foundAt (find-complete numberOf z t F (record { inside = m; keyed = sym e })));
+    }
       where
         is : y ≡ foundAt (find numberOf z t)
         is = f .is t numberOf (laid-rep t L F) (L .balanced) (laid-keyed t L F)
@@ -82,7 +87,8 @@ pub record HasHere (w : Words) (t : Tree Item) (xs : List ℕ) (k : ℕ) : Type 
   pub has : List·Memᴰ (itemAt w (getD xs k 0)) (leaves t)
 
 pub record SeeksAll (w : Words) (root : ℕ) (xs : List ℕ) (n : ℕ) (r : Bool) : Type 0 where
-  pub told : (t : Tree Item) → Laid w numberTree root t → Falling numberOf (leaves t) → Every (λ k. 1 ≤ getD xs k 0) 0 n → Decides r (Every (HasHere w t xs) 0 n)
+  pub told : (t : Tree Item) → Laid w numberTree root t → Falling numberOf (leaves t) → Every (λ k. 1 ≤ getD xs k 0) 0 n →
+      Decides r (Every (HasHere w t xs) 0 n)
 
 -- all up to place i were found
 pub record Sought (w : Words) (root : ℕ) (xs : List ℕ) (n i : ℕ) : Type 0 where
@@ -92,7 +98,8 @@ pub sought-none : {w : Words} {root n : ℕ} {xs : List ℕ} → Sought w root x
 sought-none = record { so-far = λ t L F l. every-none (omega arith) }
 
 module _ {w : Words} {root n i s : ℕ} {b : Bool} (xs : List ℕ) (h : i < n) (es : s ≡ getD xs i 0) (S : Seeks w root s b) where
-  here : (t : Tree Item) → Laid w numberTree root t → Falling numberOf (leaves t) → Every (λ k. 1 ≤ getD xs k 0) 0 n → Decides b (List·Memᴰ (itemAt w s) (leaves t))
+  here : (t : Tree Item) → Laid w numberTree root t → Falling numberOf (leaves t) → Every (λ k. 1 ≤ getD xs k 0) 0 n →
+      Decides b (List·Memᴰ (itemAt w s) (leaves t))
   here t L F l = S .told t L F (omega (arith, l .at i (omega arith) h))
 
   pub sought-more : Sought w root xs n i → b ≡ true → Sought w root xs n (i + 1)

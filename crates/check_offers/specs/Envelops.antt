@@ -40,7 +40,11 @@ pub record Envelops (w : Words) (x e : ℕ) (xs xs′ : List ℕ) (r : Bool) : T
 module _ {w : Words} {x : ℕ} {xs xs₁ : List ℕ} {a : Walked} (A : Walks w x mostLevels xs xs₁ 0 a) where
   pub envelops-not : {e : ℕ} → a .ok ≡ false → Envelops w x e xs xs₁ false
   envelops-not f =
-      record { long = A .long; told = λ t s. decides-no (λ v. never (A .complete t s (stands-low s) (omega (arith, stands-most s)) (partLeaves (v .whole)) (v .decorated)) f) }
+      record {
+        long = A .long;
+        told =
+            λ t s. decides-no (λ v. never (A .complete t s (stands-low s) (omega (arith, stands-most s)) (partLeaves (v .whole)) (v .decorated)) f);
+      }
 
   module _ (ok : a .ok ≡ true) {t : Tree Item} (s : Stands w x t) where
     known : AllKnown w (span xs₁ 0 (a .next))
@@ -48,14 +52,22 @@ module _ {w : Words} {x : ℕ} {xs xs₁ : List ℕ} {a : Walked} (A : Walks w x
 
     over-pieces : {e : ℕ} → PieceTree w e (span xs₁ 0 (a .next)) → Enveloped w e t
     over-pieces p =
-        record { whole = p .whole; root = p .root; decorated = subst (Decorated w t) (sym (p .over)) (A .sound t s ok); pieces = p .pieces; balanced = p .balanced }
+        record {
+          whole = p .whole;
+          root = p .root;
+          decorated = subst (Decorated w t) (sym (p .over)) (A .sound t s ok);
+          pieces = p .pieces;
+          balanced =
+              p .balanced;
+        }
 
     pieces-over : {e : ℕ} → Enveloped w e t → PieceTree w e (span xs₁ 0 (a .next))
     pieces-over v =
         record {
           whole = v .whole;
           root = v .root;
-          over = env-unique items item-laws (leaves t) (partLeaves (v .whole)) (itemsAt w (span xs₁ 0 (a .next))) (s .ordered) (decorated-env (v .decorated)) (decorated-env (A .sound t s ok));
+          over = env-unique items item-laws (leaves t) (partLeaves (v .whole)) (itemsAt w (span xs₁ 0 (a .next))) (s .ordered)
+              (decorated-env (v .decorated)) (decorated-env (A .sound t s ok));
           pieces = v .pieces;
           balanced = v .balanced;
         }
@@ -64,5 +76,9 @@ module _ {w : Words} {x : ℕ} {xs xs₁ : List ℕ} {a : Walked} (A : Walks w x
   envelops-rest ok M =
       record {
         long = M .long ∙ A .long;
-        told = λ t s. record { sound = λ o. over-pieces ok s (M .told (known ok s) .sound o); complete = λ v. M .told (known ok s) .complete (pieces-over ok s v) };
+        told = λ t s. record {
+          sound = λ o. over-pieces ok s (M .told (known ok s) .sound o);
+          complete =
+              λ v. M .told (known ok s) .complete (pieces-over ok s v);
+        };
       }

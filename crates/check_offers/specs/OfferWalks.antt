@@ -43,7 +43,8 @@ walks-as {w} {x} {y} {limit} {at} {xs} {xs′} {r} e f = subst (λ (z : ℕ). Wa
 pub record NoEnvelope (w : Words) (x limit at : ℕ) : Type 0 where
   pub refuted : (t : Tree Item) → Stands w x t → height t ≤ limit → at + length (leaves t) ≤ secondHalf → (es : List Item) → Decorated w t es → ⊥
 
-pub walks-not : {w : Words} {x limit at : ℕ} {xs xs′ : List ℕ} {r : Walked} → length xs′ ≡ length xs → ((i : ℕ) → i < at → getD xs′ i 0 ≡ getD xs i 0) → r .ok ≡ false → NoEnvelope w x limit at → Walks w x limit xs xs′ at r
+pub walks-not : {w : Words} {x limit at : ℕ} {xs xs′ : List ℕ} {r : Walked} → length xs′ ≡ length xs → ((i : ℕ) → i < at → getD xs′ i 0 ≡ getD xs i 0) →
+    r .ok ≡ false → NoEnvelope w x limit at → Walks w x limit xs xs′ at r
 walks-not n s e f =
     record {
       long = n;
@@ -59,7 +60,8 @@ module _ {x at : ℕ} {xs : List ℕ} (leafy : x ≤ mostSlots) where
   pub walks-full : {r : Walked} → secondHalf ≤ at → Refuses r → (w : Words) (limit : ℕ) → Walks w x limit xs xs at r
   walks-full h f w limit = walks-not refl (λ i k. refl) (f .not) (record { refuted = λ t p q m es d. omega (arith, some-leaf t) })
 
-  pub walks-leaf : length xs ≡ scratchLength → at < secondHalf → (w : Words) (limit : ℕ) → Walks w x limit xs (set xs at x) at (record { ok = true; next = at + 1 })
+  pub walks-leaf : length xs ≡ scratchLength → at < secondHalf → (w : Words) (limit : ℕ) →
+      Walks w x limit xs (set xs at x) at (record { ok = true; next = at + 1 })
   walks-leaf n h w limit =
       record {
         long = length-set xs at x;
@@ -75,7 +77,12 @@ module _ {x at : ℕ} {xs : List ℕ} (leafy : x ≤ mostSlots) where
       go : (t : Tree Item) → Stands w x t → Decorated w t (itemsAt w (span (set xs at x) at (at + 1)))
       go (leaf a) p =
           let e : a ≡ itemAt w x = p .laid .placed a (List·Memᴰ·head refl) .is ∙ ap (itemAt w) (sym (p .laid .root)) in
-          subst (Decorated w (leaf a)) (ap (λ (b : Item). b ∷ []) e ∙ sym slots) (record { offers = single a; shape-is = refl; stored = stored-single; valid = valid-single })
+          subst (Decorated w (leaf a)) (ap (λ (b : Item). b ∷ []) e ∙ sym slots) (record {
+            offers = single a;
+            shape-is = refl;
+            stored = stored-single;
+            valid = valid-single;
+          })
       go (node l r) p = absurd (omega (arith, laid-node-high (p .laid)))
 
 -- ---- the limit is used up
@@ -114,7 +121,8 @@ parted {w} {l} {r} {es} d = go (d .offers) (d .shape-is) (d .stored) (d .valid)
 pieces-most : {w : Words} {t : Tree Item} (ss : List ℕ) → Decorated w t (itemsAt w ss) → length ss ≤ length (leaves t)
 pieces-most {w} ss d = omega (arith, sub-length (decorated-env d .sub), items-length w ss)
 
-module _ {w : Words} {x limit at : ℕ} {xs xs₁ : List ℕ} {a : Walked} (d : mostSlots < x) (more : limit ≡ 0 → ⊥) (A : Walks w (childAt w offerTree false x) (limit - 1) xs xs₁ at a) where
+module _ {w : Words} {x limit at : ℕ} {xs xs₁ : List ℕ} {a : Walked} (d : mostSlots < x) (more : limit ≡ 0 →
+    ⊥) (A : Walks w (childAt w offerTree false x) (limit - 1) xs xs₁ at a) where
   pub walks-left-not : a .ok ≡ false → Walks w x limit xs xs₁ at a
   walks-left-not e = walks-not (A .long) (A .same) e (record { refuted = go })
     where
@@ -135,7 +143,13 @@ module _ {w : Words} {x limit at : ℕ} {xs xs₁ : List ℕ} {a : Walked} (d : 
         go (node l r) p q m es c =
             never
             (B .complete r (stands-right p) (omega arith)
-            (omega (arith, length-append (leaves l) (leaves r), A .inside oa, pieces-most (span xs₁ at (a .next)) (A .sound l (stands-left p) oa), span-length xs₁ at (a .next)))
+            (omega (
+              arith,
+              length-append (leaves l) (leaves r),
+              A .inside oa,
+              pieces-most (span xs₁ at (a .next)) (A .sound l (stands-left p) oa),
+              span-length xs₁ at (a .next),
+            ))
             (parted c .right-pieces) (parted c .right))
             e
 
@@ -144,7 +158,8 @@ module _ {w : Words} {x limit at : ℕ} {xs xs₁ : List ℕ} {a : Walked} (d : 
       walked-two = record { upper = omega (arith, A .inside oa); lower = omega (arith, B .inside ob); room = B .inside ob .1 }
 
       left-now : (l r : Tree Item) → Stands w x (node l r) → Decorated w l (itemsAt w (span xs₂ at (a .next)))
-      left-now l r p = subst (λ (zs : List ℕ). Decorated w l (itemsAt w zs)) (sym (span-same xs₂ xs₁ at (a .next) (λ i h k. B .same i k))) (A .sound l (stands-left p) oa)
+      left-now l r p = subst (λ (zs : List ℕ). Decorated w l (itemsAt w zs)) (sym (span-same xs₂ xs₁ at (a .next) (λ i h k. B .same i k)))
+          (A .sound l (stands-left p) oa)
 
       pub walks-node : {xs₃ : List ℕ} {r : Walked} → Merges w x xs₂ xs₃ at (a .next) (b .next) r → Walks w x limit xs xs₃ at r
       walks-node {xs₃} {r} M =
@@ -162,7 +177,8 @@ module _ {w : Words} {x limit at : ℕ} {xs xs₁ : List ℕ} {a : Walked} (d : 
               let DL = left-now l s p in
               let DR = B .sound s (stands-right p) ob in
               let m = M .sound (joint-known xs₂ p DL DR (walked-two .upper) (walked-two .lower)) o in
-              subst (λ (zs : List ℕ). Decorated w (node l s) (itemsAt w zs)) (sym (m .3)) (joins-fork xs₂ p DL DR (walked-two .upper) (walked-two .lower) (m .2))
+              subst (λ (zs : List ℕ). Decorated w (node l s) (itemsAt w zs)) (sym (m .3)) (joins-fork xs₂ p DL DR (walked-two .upper) (walked-two .lower)
+              (m .2))
 
           passes : (t : Tree Item) → Stands w x t → height t ≤ limit → at + length (leaves t) ≤ secondHalf → (es : List Item) → Decorated w t es → r .ok ≡ true
           passes (leaf c) p q m es c′ = absurd (omega (arith, laid-leaf-low (p .laid)))

@@ -41,7 +41,8 @@ offers-none {w} {xs} {n} {r} e D = subst (λ (m : ℕ). Offers w xs xs m r) (sym
 
 -- ---- some offers
 
-module _ {w : Words} {n x e : ℕ} (some-live : n ≡ 0 → ⊥) (ex : x ≡ upTo mostNodes (word w offersRootWord)) (ee : e ≡ upTo mostNodes (word w envelopeRootWord)) where
+module _ {w : Words} {n x e : ℕ} (some-live : n ≡ 0 → ⊥) (ex : x ≡ upTo mostNodes (word w offersRootWord))
+    (ee : e ≡ upTo mostNodes (word w envelopeRootWord)) where
   at : (s : OffersFound w n) → OffersAt w x e n (bookLines (s .held))
   at s = offers-complete some-live ex ee s
 
@@ -55,7 +56,12 @@ module _ {w : Words} {n x e : ℕ} (some-live : n ≡ 0 → ⊥) (ex : x ≡ upT
     module _ {xs xs₁ : List ℕ} {b : Bool} (O : Orders w x xs xs₁ n b) where
       pub offers-no-order : b ≡ false → Offers w xs xs₁ n false
       offers-no-order f =
-          offers-no (O .long) (λ s. never (O .told .complete (record { tree = at s .tree; stands = at s .stands; count = ap length (at s .lines-are) ∙ at s .count })) f)
+          offers-no (O .long) (λ s. never (O .told .complete (record {
+            tree = at s .tree;
+            stands = at s .stands;
+            count =
+                ap length (at s .lines-are) ∙ at s .count;
+          })) f)
 
       module _ {xs₂ : List ℕ} {v : Bool} (E : Envelops w x e xs₁ xs₂ v) where
         pub offers-no-envelope : v ≡ false → Offers w xs xs₂ n false
@@ -75,7 +81,15 @@ module _ {w : Words} {n x e : ℕ} (some-live : n ≡ 0 → ⊥) (ex : x ≡ upT
             found : OffersFound w n
             found =
                 offers-sound
-                (record { header = H .sound oh; tree = over .tree; stands = over .stands; lines-are = refl; count = over .count; enveloped = E .told (over .tree) (over .stands) .sound ov })
+                (record {
+                  header = H .sound oh;
+                  tree = over .tree;
+                  stands = over .stands;
+                  lines-are = refl;
+                  count = over .count;
+                  enveloped =
+                      E .told (over .tree) (over .stands) .sound ov;
+                })
 
             listed : f .ok ≡ true → (s : OffersFound w n) → itemsAt w (span xs₃ 0 n) ≡ bookLines (s .held)
             listed o s =

@@ -81,11 +81,14 @@ module _ {w : Words} {x e : ℕ} {h : Held Item} (g : HeldIn w x e h) where
 reads : (w : Words) (i : ℕ) {x y : ℕ} → x ≡ upTo mostNodes (word w i) → word w i ≡ pos y → y ≤ mostNodes → x ≡ y
 reads w i {y = y} p q h = p ∙ ap (upTo mostNodes) q ∙ upTo-in mostNodes y h
 
-pub offers-complete : {w : Words} {x e n : ℕ} → (n ≡ 0 → ⊥) → x ≡ upTo mostNodes (word w offersRootWord) → e ≡ upTo mostNodes (word w envelopeRootWord) → (s : OffersFound w n) → OffersAt w x e n (bookLines (s .held))
-offers-complete {w} {x} {e} {n} some-live ex ee s = go (s .held) (s .offers .offers-root) (s .offers .envelope-root) (s .offers .live-count) (s .count) (s .offers .offers-in)
+pub offers-complete : {w : Words} {x e n : ℕ} → (n ≡ 0 → ⊥) → x ≡ upTo mostNodes (word w offersRootWord) → e ≡ upTo mostNodes (word w envelopeRootWord) →
+    (s : OffersFound w n) → OffersAt w x e n (bookLines (s .held))
+offers-complete {w} {x} {e} {n} some-live ex ee s = go (s .held) (s .offers .offers-root) (s .offers .envelope-root) (s .offers .live-count) (s .count)
+    (s .offers .offers-in)
   where
     go :
-        (o : Option (Held Item)) → word w offersRootWord ≡ pos (offersRef o) → word w envelopeRootWord ≡ pos (envelopeRef o) → word w liveCountWord ≡ pos (length (bookLines o)) →
+        (o : Option (Held Item)) → word w offersRootWord ≡ pos (offersRef o) → word w envelopeRootWord ≡ pos (envelopeRef o) →
+        word w liveCountWord ≡ pos (length (bookLines o)) →
         length (bookLines o) ≡ n → OffersIn w o → OffersAt w x e n (bookLines o)
     go none a b c d g = absurd (some-live (sym d))
     go (some h) a b c d g =
@@ -103,6 +106,7 @@ offers-complete {w} {x} {e} {n} some-live ex ee s = go (s .held) (s .offers .off
 pub offers-none-complete : {w : Words} → OffersFound w 0 → Header w 0 0 0
 offers-none-complete {w} s = go (s .held) (s .offers .offers-root) (s .offers .envelope-root) (s .offers .live-count) (s .count)
   where
-    go : (o : Option (Held Item)) → word w offersRootWord ≡ pos (offersRef o) → word w envelopeRootWord ≡ pos (envelopeRef o) → word w liveCountWord ≡ pos (length (bookLines o)) → length (bookLines o) ≡ 0 → Header w 0 0 0
+    go : (o : Option (Held Item)) → word w offersRootWord ≡ pos (offersRef o) → word w envelopeRootWord ≡ pos (envelopeRef o) →
+        word w liveCountWord ≡ pos (length (bookLines o)) → length (bookLines o) ≡ 0 → Header w 0 0 0
     go none a b c d = record { offers-root = a; envelope-root = b; live-count = c }
     go (some h) a b c d = absurd (omega (arith, some-leaf (heldShape h)))

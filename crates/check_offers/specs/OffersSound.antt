@@ -24,7 +24,8 @@ use Rattle.check_offers.specs.OffersFound.{OffersFound, OffersAt}
 abbrev with-whole : OfferTree Item → Part Item → Held Item
 with-whole o p = record { tree = o; whole = p }
 
-held-in : {w : Words} {x : ℕ} {o : OfferTree Item} {p : Part Item} → Stands w x (shape o) → Stored w o → Valid items o (partLeaves p) → PartIn w p → AvlP p → HeldIn w (refOf (shape o)) (partRef p) (with-whole o p)
+held-in : {w : Words} {x : ℕ} {o : OfferTree Item} {p : Part Item} → Stands w x (shape o) → Stored w o → Valid items o (partLeaves p) → PartIn w p →
+    AvlP p → HeldIn w (refOf (shape o)) (partRef p) (with-whole o p)
 held-in s st va i b =
     record {
       root = refl;
@@ -67,4 +68,13 @@ offers-sound {w} {x} {e} {n} {lines} a =
     many = ap (λ (t : Tree Item). length (leaves t)) (d .shape-is) ∙ ap length (a .lines-are) ∙ a .count
 
 pub offers-none-sound : {w : Words} → Header w 0 0 0 → OffersFound w 0
-offers-none-sound h = record { held = none; offers = record { offers-root = h .offers-root; envelope-root = h .envelope-root; live-count = h .live-count; offers-in = tt }; count = refl }
+offers-none-sound h = record {
+  held = none;
+  offers = record {
+    offers-root = h .offers-root;
+    envelope-root = h .envelope-root;
+    live-count = h .live-count;
+    offers-in = tt;
+  };
+  count = refl;
+}

@@ -38,7 +38,8 @@ span-line w xs a b k l h =
 
 module _ {w : Words} {xs : List ℕ} where
   -- the first of a stretch stands before all others
-  head-first : (a n : ℕ) → ((k : ℕ) → a ≤ k → k < a + n → FallsHere w 1 xs k) → (b : Item) → List·Memᴰ b (itemsAt w (stretch xs (suc a) n)) → T (items .before (itemAt w (getD xs a 0)) b)
+  head-first : (a n : ℕ) → ((k : ℕ) → a ≤ k → k < a + n → FallsHere w 1 xs k) → (b : Item) → List·Memᴰ b (itemsAt w (stretch xs (suc a) n)) →
+      T (items .before (itemAt w (getD xs a 0)) b)
   unfolding stretch
   head-first a zero f b m = elim m [ ]
   head-first a (suc n) f b m = go m (head-first (suc a) n (λ k l h. f k (omega arith) (omega arith)) b)
@@ -46,14 +47,17 @@ module _ {w : Words} {xs : List ℕ} where
       next : T (items .before (itemAt w (getD xs a 0)) (itemAt w (getD xs (suc a) 0)))
       next = rw add-one at (f a (omega arith) (omega arith) .falls)
 
-      go : List·Memᴰ b (itemAt w (getD xs (suc a) 0) ∷ itemsAt w (stretch xs (suc (suc a)) n)) → (List·Memᴰ b (itemsAt w (stretch xs (suc (suc a)) n)) → T (items .before (itemAt w (getD xs (suc a) 0)) b)) → T (items .before (itemAt w (getD xs a 0)) b)
+      go : List·Memᴰ b (itemAt w (getD xs (suc a) 0) ∷ itemsAt w (stretch xs (suc (suc a)) n)) →
+          (List·Memᴰ b (itemsAt w (stretch xs (suc (suc a)) n)) → T (items .before (itemAt w (getD xs (suc a) 0)) b)) →
+          T (items .before (itemAt w (getD xs a 0)) b)
       go (List·Memᴰ·head e) g = subst (λ (c : Item). T (items .before (itemAt w (getD xs a 0)) c)) (sym e) next
       go (List·Memᴰ·tail i) g = item-laws .before-trans (itemAt w (getD xs a 0)) (itemAt w (getD xs (suc a) 0)) b next (g i)
 
   ordered-stretch : (a n : ℕ) → ((k : ℕ) → a ≤ k → k + 1 < a + n → FallsHere w 1 xs k) → Ordered items (itemsAt w (stretch xs a n))
   unfolding stretch
   ordered-stretch a zero f = Ordered·nil
-  ordered-stretch a (suc n) f = Ordered·cons (head-first a n (λ k l h. f k l (omega arith))) (ordered-stretch (suc a) n (λ k l h. f k (omega arith) (omega arith)))
+  ordered-stretch a (suc n) f = Ordered·cons (head-first a n (λ k l h. f k l (omega arith)))
+      (ordered-stretch (suc a) n (λ k l h. f k (omega arith) (omega arith)))
 
   pub ordered-span : (a b : ℕ) → Every (FallsHere w 1 xs) a (b - 1) → Ordered items (itemsAt w (span xs a b))
   ordered-span a b e = ordered-stretch a (b - a) (λ k l h. e .at k l (omega arith))
@@ -64,7 +68,8 @@ module _ {w : Words} {xs : List ℕ} where
       falls : (k : ℕ) → a ≤ k → k < b - 1 → T (items .before (itemAt w (getD xs k 0)) (itemAt w (getD xs (k + 1) 0)))
       falls k l h =
           subst₂ (λ (c d : Item). T (items .before c d)) (span-line w xs a b k l (omega arith)) (span-line w xs a b (k + 1) (omega arith) (omega arith))
-          (ordered-at items (itemsAt w (span xs a b)) o (itemAt w 0) (k - a) (k + 1 - a) (omega arith) (omega (arith, items-length w (span xs a b), span-length xs a b)))
+          (ordered-at items (itemsAt w (span xs a b)) o (itemAt w 0) (k - a) (k + 1 - a) (omega arith)
+          (omega (arith, items-length w (span xs a b), span-length xs a b)))
 
   -- ---- offers in range along a stretch
 
@@ -137,7 +142,14 @@ module _ {w : Words} {x : ℕ} {xs xs′ : List ℕ} {f : Filled} (F : Fills w o
         orders-not-ranged g = orders-no (λ s. never (R .complete (span-ranged 0 (f .next) (subst AllRanged (items-are s) (s .stands .ranged)))) g)
 
         pub orders-rest : {r : Bool} → b ≡ true → Decides r (Every (FallsHere w 1 xs′) 0 (f .next - 1)) → Orders w x xs xs′ n r
-        orders-rest {r} g D = record { long = F .long; told = record { sound = found; complete = λ s. D .complete (span-ordered 0 (f .next) (subst (Ordered items) (items-are s) (s .stands .ordered))) } }
+        orders-rest {r} g D = record {
+          long = F .long;
+          told = record {
+            sound = found;
+            complete =
+                λ s. D .complete (span-ordered 0 (f .next) (subst (Ordered items) (items-are s) (s .stands .ordered)));
+          };
+        }
           where
             found : r ≡ true → StandsOver w x n
             found o =

@@ -24,7 +24,8 @@ use Rattle.check_trees.specs.Fills.{Written, Fills, NoTree, Fails, fills
 slots-last : (t : Tree Item) → getD (slotsOf (leaves t)) (length (leaves t) - 1) 0 ≡ last t .slot
 slots-last t =
     ap (λ (zs : List ℕ). getD zs (length (leaves t) - 1) 0) (ap slotsOf (leaves-last t) ∙ slots-append (start t) (last t ∷ []))
-    ∙ getD-at (slotsOf (start t)) (last t .slot) [] 0 (length (leaves t) - 1) (slots-length (start t) ∙ omega (arith, ap length (leaves-last t), length-append (start t) (last t ∷ [])))
+    ∙ getD-at (slotsOf (start t)) (last t .slot) [] 0 (length (leaves t) - 1) (slots-length (start t)
+    ∙ omega (arith, ap length (leaves-last t), length-append (start t) (last t ∷ [])))
 
 module _ {w : Words} {k x a b h : ℕ} {xs : List ℕ} (g : Written w k x xs a b h) where
   pub written-length : b - a ≡ length (leaves (g .tree))
@@ -48,7 +49,8 @@ fills-deep {w} {k} {x} {limit} {at} d e f = fills-none f (record { refuted = go 
 
 -- ---- the two children
 
-module _ {w : Words} {k x limit at : ℕ} {xs xs₁ : List ℕ} {a : Filled} (d : mostSlots < x) (more : limit ≡ 0 → ⊥) (A : Fills w k (childAt w k false x) (limit - 1) xs xs₁ at a) where
+module _ {w : Words} {k x limit at : ℕ} {xs xs₁ : List ℕ} {a : Filled} (d : mostSlots < x) (more : limit ≡ 0 →
+    ⊥) (A : Fills w k (childAt w k false x) (limit - 1) xs xs₁ at a) where
   pub fills-left-not : a .ok ≡ false → Fills w k x limit xs xs₁ at a
   fills-left-not e = fills-not (A .long) (A .same) (record { not = e; flat = A .low }) (record { refuted = go })
     where

@@ -17,7 +17,8 @@ use Rattle.table.specs.Rep.{childAt, heightAt, height-at-most, refOf, tied-leaf
 use Rattle.check_trees.specs.Scratch.{scratchLength}
 use Rattle.check_trees.specs.declared.Filled.{Filled}
 use Rattle.check_trees.specs.Stretches.{span, span-one, span-cut, span-same, span-length, span-cons, span-at}
-use Rattle.check_trees.specs.Laid.{itemAt, slotsOf, slots-append, slots-length, Placed, placed-at, Laid, laid-leaf-low, laid-node-high, Children, laid-children, laid-node, laid-unique}
+use Rattle.check_trees.specs.Laid.{itemAt, slotsOf, slots-append, slots-length, Placed, placed-at, Laid, laid-leaf-low, laid-node-high}
+use Rattle.check_trees.specs.Laid.{Children, laid-children, laid-node, laid-unique}
 
 -- the tree at node x, its leaves' slots between the places a and b
 pub record Written (w : Words) (k x : ℕ) (xs : List ℕ) (a b h : ℕ) : Type 0 where
@@ -45,7 +46,8 @@ pub record Fails (r : Filled) : Type 0 where
   pub not : r .ok ≡ false
   pub flat : r .height ≤ mostNodes
 
-pub fills-not : {w : Words} {k x limit at : ℕ} {xs xs′ : List ℕ} {r : Filled} → length xs′ ≡ length xs → ((i : ℕ) → i < at → getD xs′ i 0 ≡ getD xs i 0) → Fails r → NoTree w k x limit at → Fills w k x limit xs xs′ at r
+pub fills-not : {w : Words} {k x limit at : ℕ} {xs xs′ : List ℕ} {r : Filled} → length xs′ ≡ length xs → ((i : ℕ) → i < at → getD xs′ i 0 ≡ getD xs i 0) →
+    Fails r → NoTree w k x limit at → Fills w k x limit xs xs′ at r
 fills-not n s e f =
     record {
       long = n;
@@ -85,7 +87,8 @@ module _ {w : Words} {x at : ℕ} (leafy : x ≤ mostSlots) where
   pub fills-leaf-full : {xs : List ℕ} {r : Filled} → Fails r → scratchLength ≤ at → (k limit : ℕ) → Fills w k x limit xs xs at r
   fills-leaf-full f h k limit = fills-none f (record { refuted = λ t p q m. omega (arith, some-leaf t) })
 
-  pub fills-leaf : {c : ℕ} {xs : List ℕ} → length xs ≡ scratchLength → 1 ≤ x → c ≡ cap w → x ≤ c → at < scratchLength → (k limit : ℕ) → Fills w k x limit xs (set xs at x) at (record { ok = true; next = at + 1; height = 0 })
+  pub fills-leaf : {c : ℕ} {xs : List ℕ} → length xs ≡ scratchLength → 1 ≤ x → c ≡ cap w → x ≤ c → at < scratchLength → (k limit : ℕ) →
+      Fills w k x limit xs (set xs at x) at (record { ok = true; next = at + 1; height = 0 })
   fills-leaf {c} {xs} n l e h m k limit =
       record {
         long = length-set xs at x;
@@ -94,7 +97,12 @@ module _ {w : Words} {x at : ℕ} (leafy : x ≤ mostSlots) where
         inside = λ t. omega arith;
         sound = λ t. record {
           tree = leaf (itemAt w x);
-          laid = record { root = refl; placed = λ a i. subst (Placed w) (sym (List·Memᴰ·eq-of-singleton i)) (placed-at l (omega arith)); tied = tied-leaf; balanced = avl-leaf };
+          laid = record {
+            root = refl;
+            placed = λ a i. subst (Placed w) (sym (List·Memᴰ·eq-of-singleton i)) (placed-at l (omega arith));
+            tied = tied-leaf;
+            balanced = avl-leaf;
+          };
           slots = let p : at + 1 ≡ suc at = omega arith in rw (p, span-one (set xs at x) at, getD-set-same xs at x 0 (omega arith));
           tall = refl;
         };
@@ -124,7 +132,8 @@ pub record Covers (w : Words) (k x : ℕ) (xs : List ℕ) (a b r : Filled) : Typ
   pub tall : r .ok ≡ true → r .height ≡ suc (max (a .height) (b .height))
   pub complete : Levelled w k x (getD xs (a .next - 1) 0) (a .height) (b .height) → r .ok ≡ true
 
-pub covers-not : {w : Words} {k x : ℕ} {xs : List ℕ} {a b r : Filled} → Fails r → (Levelled w k x (getD xs (a .next - 1) 0) (a .height) (b .height) → ⊥) → Covers w k x xs a b r
+pub covers-not : {w : Words} {k x : ℕ} {xs : List ℕ} {a b r : Filled} → Fails r → (Levelled w k x (getD xs (a .next - 1) 0) (a .height) (b .height) → ⊥) →
+    Covers w k x xs a b r
 covers-not e f =
     record {
       low = e .flat;
@@ -134,7 +143,9 @@ covers-not e f =
       complete = λ p. absurd (f p);
     }
 
-pub covers : {w : Words} {k x s h n : ℕ} {xs : List ℕ} {a b : Filled} → s ≡ x - mostSlots → getD xs (a .next - 1) 0 ≡ s → a .height ≤ b .height + 1 → b .height ≤ a .height + 1 → h ≡ heightAt w k x → n ≡ suc (max (a .height) (b .height)) → h ≡ n → Covers w k x xs a b (record { ok = true; next = b .next; height = h })
+pub covers : {w : Words} {k x s h n : ℕ} {xs : List ℕ} {a b : Filled} → s ≡ x - mostSlots → getD xs (a .next - 1) 0 ≡ s → a .height ≤ b .height + 1 →
+    b .height ≤ a .height + 1 → h ≡ heightAt w k x → n ≡ suc (max (a .height) (b .height)) → h ≡ n →
+    Covers w k x xs a b (record { ok = true; next = b .next; height = h })
 covers {w} {k} {x} es e l r eh en d =
     record {
       low = omega (arith, height-at-most w k x);

@@ -88,15 +88,26 @@ module _ {w : Words} {k x : ℕ} where
       go : Tied w k (node l r) → Avl (node l r) → Children w k x l r
       go (tied-node tl tr el er eh) (avl-node al ar hl hr) =
           record {
-            left = record { root = ap (linkAt w (childField k false)) here ∙ el; placed = λ a m. h .placed a (Memᴰ·append-left (leaves r) m); tied = tl; balanced = al };
-            right = record { root = ap (linkAt w (childField k true)) here ∙ er; placed = λ a m. h .placed a (Memᴰ·append-right (leaves l) m); tied = tr; balanced = ar };
+            left = record {
+              root = ap (linkAt w (childField k false)) here ∙ el;
+              placed = λ a m. h .placed a (Memᴰ·append-left (leaves r) m);
+              tied = tl;
+              balanced = al;
+            };
+            right = record {
+              root = ap (linkAt w (childField k true)) here ∙ er;
+              placed = λ a m. h .placed a (Memᴰ·append-right (leaves l) m);
+              tied = tr;
+              balanced = ar;
+            };
             seam = here;
             stored = ap (linkAt w (heightField k)) here ∙ eh;
             level = hl;
             level′ = hr;
           }
 
-  pub laid-node : {l r : Tree Item} → Laid w k (childAt w k false x) l → Laid w k (childAt w k true x) r → x - mostSlots ≡ last l .slot → mostSlots < x → heightAt w k x ≡ suc (max (height l) (height r)) → height l ≤ suc (height r) → height r ≤ suc (height l) → Laid w k x (node l r)
+  pub laid-node : {l r : Tree Item} → Laid w k (childAt w k false x) l → Laid w k (childAt w k true x) r → x - mostSlots ≡ last l .slot → mostSlots < x →
+      heightAt w k x ≡ suc (max (height l) (height r)) → height l ≤ suc (height r) → height r ≤ suc (height l) → Laid w k x (node l r)
   laid-node {l} {r} a b here d eh hl hr =
       record {
         root = omega arith;

@@ -60,7 +60,8 @@ pub record Moving (xs xs′ : List ℕ) (to from k : ℕ) : Type 0 where
 pub moving-none : {xs : List ℕ} {to from : ℕ} → Moving xs xs to from 0
 moving-none = record { so-far = record { long = refl; front = λ i h. refl; moved = λ j h. absurd (omega arith) }; back = λ i h. refl }
 
-pub moving-more : {xs xs′ : List ℕ} {to from k v : ℕ} → to ≤ from → to + k < length xs → Moving xs xs′ to from k → v ≡ getD xs′ (from + k) 0 → Moving xs (set xs′ (to + k) v) to from (k + 1)
+pub moving-more : {xs xs′ : List ℕ} {to from k v : ℕ} → to ≤ from → to + k < length xs → Moving xs xs′ to from k → v ≡ getD xs′ (from + k) 0 →
+    Moving xs (set xs′ (to + k) v) to from (k + 1)
 moving-more {xs} {xs′} {to} {from} {k} {v} le room g e =
     record {
       so-far =

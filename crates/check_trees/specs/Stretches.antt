@@ -100,7 +100,8 @@ module _ {A : Type 0} (R : A → A → Type 0) (f : ℕ → A) (xs : List ℕ) w
   stretch-chain a (suc zero) c k l m = absurd (omega arith)
   stretch-chain a (suc (suc n)) (IsChain·cons-cons p c) k l m = go (ℕ-discrete k a) (stretch-chain (suc a) (suc n) c)
     where
-      go : Dec (k ≡ a) → ((k : ℕ) → suc a ≤ k → k + 1 < suc a + suc n → R (f (getD xs k 0)) (f (getD xs (k + 1) 0))) → R (f (getD xs k 0)) (f (getD xs (k + 1) 0))
+      go : Dec (k ≡ a) → ((k : ℕ) → suc a ≤ k → k + 1 < suc a + suc n → R (f (getD xs k 0)) (f (getD xs (k + 1) 0))) →
+          R (f (getD xs k 0)) (f (getD xs (k + 1) 0))
       go (yes e) h = rw e (subst (λ (i : ℕ). R (f (getD xs a 0)) (f (getD xs i 0))) (sym (add-one a)) p)
       go (no e) h = h k (omega arith) (omega arith)
 

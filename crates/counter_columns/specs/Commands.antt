@@ -48,7 +48,12 @@ decode line =
 
 shape-tells : (k : Call) (line : List ℕ) → Shape k line → some (decode line) ≡ asCommand k
 unfolding decode
-shape-tells (post n r b) line s = rw (s .0, holds-told (between 1 7 line) n (s .1 .first), holds-told (between 7 15 line) r (s .1 .second), holds-told (between 15 27 line) b (s .1 .third))
+shape-tells (post n r b) line s = rw (
+  s .0,
+  holds-told (between 1 7 line) n (s .1 .first),
+  holds-told (between 7 15 line) r (s .1 .second),
+  holds-told (between 15 27 line) b (s .1 .third),
+)
 shape-tells (withdraw n) line s = rw (s .0, holds-told (between 15 27 line) n (s .1 .last))
 shape-tells (query q) line s = rw (s .0, holds-told (between 15 27 line) q (s .1 .last))
 shape-tells (listing room) line s = rw (s .0)

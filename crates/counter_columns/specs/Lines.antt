@@ -109,7 +109,8 @@ section-length : (a b : ℕ) (t : List ℕ) → a + b ≤ length t → length (t
 section-length a b t h = length-take-le b (drop a t) (rw length-drop (omega arith))
 
 post-line : (b₀ : ℕ) (t : List ℕ) (number rate base : ℤ) → length t ≡ 26 → PostColumns (b₀ ∷ t) number rate base
-    → (FitsIn 6 number × FitsIn 8 rate × FitsIn 12 base) × (b₀ ∷ t ≡ b₀ ∷ justified 6 (decimal number) ++ justified 8 (decimal rate) ++ justified 12 (decimal base))
+    → (FitsIn 6 number × FitsIn 8 rate × FitsIn 12 base) × (b₀ ∷ t ≡ b₀ ∷ justified 6 (decimal number) ++ justified 8 (decimal rate) ++ justified 12
+    (decimal base))
 post-line b₀ t number rate base e p = (
   (columns-fit 6 _ number l₁ (p .first), columns-fit 8 _ rate l₂ (p .second), columns-fit 12 _ base l₃ (p .third)),
   ap (λ (u : List ℕ). b₀ ∷ u) (three-parts 6 8 12 t e

@@ -27,7 +27,8 @@ kept-command text = go (decLe (length text) 28)
     go : Dec (length text ≤ 28) → commandOf (take 28 text) ≡ commandOf text
     go (yes h) = ap commandOf (take-all 28 text h)
     go (no h) =
-        parsed-unique (take 28 text) _ _ (command-parsed (take 28 text)) (wrong-length (take 28 text) (λ e. omega (arith, length-take-le 28 text (omega arith))))
+        parsed-unique (take 28 text) _ _ (command-parsed (take 28 text))
+        (wrong-length (take 28 text) (λ e. omega (arith, length-take-le 28 text (omega arith))))
         ∙ parsed-unique text _ _ (wrong-length text (λ e. omega arith)) (command-parsed text)
 
 -- the line in the first `kept` of some bytes
@@ -47,10 +48,12 @@ pub record CountsKept (line : Line) (t t′ : List ℤ) (out out′ : List ℕ) 
 pub front-none : (bytes : List ℕ) (kept : ℕ) (t : List ℤ) (out : List ℕ) → length bytes < kept → CountsFront bytes kept t t out out 0
 front-none bytes kept t out h = record { within = omega arith; outside = untouched (capacityAt t 0) 0 t; same-part = refl; counts = λ k. absurd (omega arith) }
 
-pub front-all : {bytes : List ℕ} {kept : ℕ} {t t′ : List ℤ} {out out′ : List ℕ} {n : ℕ} → Counts (take kept bytes) t t′ out out′ n → CountsFront bytes kept t t′ out out′ n
+pub front-all : {bytes : List ℕ} {kept : ℕ} {t t′ : List ℤ} {out out′ : List ℕ} {n : ℕ} → Counts (take kept bytes) t t′ out out′ n →
+    CountsFront bytes kept t t′ out out′ n
 front-all c = record { within = c .within; outside = c .outside; same-part = c .same-part; counts = λ k. c }
 
-pub counts-kept : {line : Line} {t t′ : List ℤ} {out out′ : List ℕ} {n : ℕ} → CountsFront (line .bytes) (line .length) t t′ out out′ n → CountsKept line t t′ out out′ n
+pub counts-kept : {line : Line} {t t′ : List ℤ} {out out′ : List ℕ} {n : ℕ} → CountsFront (line .bytes) (line .length) t t′ out out′ n →
+    CountsKept line t t′ out out′ n
 counts-kept c =
     record {
       within = c .within;
@@ -69,9 +72,17 @@ pub record Feeds (byte : ℕ) (line line′ : Line) (t t′ : List ℤ) (out out
   pub ends : byte ≡ newline → Keeps line′ [] × CountsKept line t t′ out out′ n
 
 pub feeds-on : {byte : ℕ} {line line′ : Line} (t : List ℤ) (out : List ℕ) → byte ≢ newline → Pushes line byte line′ → Feeds byte line line′ t t out out 0
-feeds-on t out h p = record { within = omega arith; outside = untouched (capacityAt t 0) 0 t; same-part = refl; grows = λ _. (p, refl, refl, refl); ends = λ e. absurd (h e) }
+feeds-on t out h p = record {
+  within = omega arith;
+  outside = untouched (capacityAt t 0) 0 t;
+  same-part = refl;
+  grows = λ _. (p, refl, refl, refl);
+  ends =
+      λ e. absurd (h e);
+}
 
-pub feeds-line : {byte : ℕ} {line line′ : Line} {t t′ : List ℤ} {out out′ : List ℕ} {n : ℕ} → byte ≡ newline → Keeps line′ [] → CountsKept line t t′ out out′ n → Feeds byte line line′ t t′ out out′ n
+pub feeds-line : {byte : ℕ} {line line′ : Line} {t t′ : List ℤ} {out out′ : List ℕ} {n : ℕ} → byte ≡ newline → Keeps line′ [] →
+    CountsKept line t t′ out out′ n → Feeds byte line line′ t t′ out out′ n
 feeds-line e k c = record { within = c .within; outside = c .outside; same-part = c .same-part; grows = λ h. absurd (h e); ends = λ _. (k, c) }
 
 -- ---- the end of the input
@@ -94,7 +105,8 @@ finishes-none t out e =
       last = λ b text k. absurd (omega (arith, kept-all k (omega arith)));
     }
 
-pub finishes-line : {line : Line} {t t′ : List ℤ} {out out′ : List ℕ} {n : ℕ} → line .length ≢ 0 → CountsKept line t t′ out out′ n → Finishes line t t′ out out′ n
+pub finishes-line : {line : Line} {t t′ : List ℤ} {out out′ : List ℕ} {n : ℕ} → line .length ≢ 0 → CountsKept line t t′ out out′ n →
+    Finishes line t t′ out out′ n
 finishes-line some c =
     record {
       within = c .within;

@@ -43,13 +43,15 @@ pub data Lines : List ℤ → List (List ℕ) → List ℕ → Type 0 where
       Lines t′ lines bytes →
       Lines t (line ∷ lines) (take n out′ ++ bytes)
 
-lines-told : {t : List ℤ} {lines : List (List ℕ)} {bytes : List ℕ} → Lines t lines bytes → (s : State) (held : Option (Held Item)) → Book (partOf t 0) s held → bytes ≡ toldAll s lines
+lines-told : {t : List ℤ} {lines : List (List ℕ)} {bytes : List ℕ} → Lines t lines bytes → (s : State) (held : Option (Held Item)) →
+    Book (partOf t 0) s held → bytes ≡ toldAll s lines
 lines-told no-lines s held book = refl
 lines-told (line-more {line = line} {lines} h counts rest) s held book =
     let p = counts .obeys h .follows s held book in
     line-told line lines s p (lines-told rest (told s line .state) (p .after) (p .stands))
 
-pub every-line : {t t₀ : List ℤ} {lines : List (List ℕ)} {bytes : List ℕ} (r : Opening) → Opens (pos capacity) 0 t t₀ r → Clear (openTrials (length t) 0 (pos capacity))
+pub every-line : {t t₀ : List ℤ} {lines : List (List ℕ)} {bytes : List ℕ} (r : Opening) → Opens (pos capacity) 0 t t₀ r →
+    Clear (openTrials (length t) 0 (pos capacity))
     → Lines t₀ lines bytes → bytes ≡ toldAll (opened (pos capacity)) lines
 every-line r o clear l = lines-told l (opened (pos capacity)) none (o .accepted clear .1)
 
@@ -69,13 +71,15 @@ pub data Input : List ℤ → Line → List ℕ → List ℕ → Type 0 where
       Input t′ line′ input bytes →
       Input t line (byte ∷ input) (take n out′ ++ bytes)
 
-input-told : {t : List ℤ} {line : Line} {input bytes : List ℕ} → Input t line input bytes → (text : List ℕ) → Keeps line text → (s : State) (held : Option (Held Item)) → Book (partOf t 0) s held
+input-told : {t : List ℤ} {line : Line} {input bytes : List ℕ} → Input t line input bytes → (text : List ℕ) → Keeps line text →
+    (s : State) (held : Option (Held Item)) → Book (partOf t 0) s held
     → bytes ≡ toldAll s (linesFrom text input)
 input-told (at-end {out′ = out′} h f) [] k s held book = ap (λ (n : ℕ). take n out′) (f .no-more k .2)
 input-told (at-end h f) (b ∷ text) k s held book =
     let p = f .last b text k .obeys h .follows s held book in
     printed (p .prints) ∙ sym (append-nil (told s (b ∷ text) .bytes))
-input-told (byte-more {t} {t′} {line} {line′} {byte = b} {input} {out} {out′} {bytes} {n} h f rest) text k s held book = go (ℕ-discrete b newline) (λ text k s held book. input-told rest text k s held book)
+input-told (byte-more {t} {t′} {line} {line′} {byte = b} {input} {out} {out′} {bytes} {n} h f rest) text k s held book =
+    go (ℕ-discrete b newline) (λ text k s held book. input-told rest text k s held book)
   where
     More : Type 0
     More = (text : List ℕ) → Keeps line′ text → (s : State) (held : Option (Held Item)) → Book (partOf t′ 0) s held → bytes ≡ toldAll s (linesFrom text input)
@@ -90,6 +94,7 @@ input-told (byte-more {t} {t′} {line} {line′} {byte = b} {input} {out} {out�
         rw (ne-eqb b newline e, q .3) (more (text ++ b ∷ []) (q .0 .keeps text k) s held (subst (λ (w : List ℤ). Book (partOf w 0) s held) (sym (q .1)) book))
 
 -- From an accepted opening and no line yet.
-pub every-input : {t t₀ : List ℤ} {line : Line} {input bytes : List ℕ} (r : Opening) → Opens (pos capacity) 0 t t₀ r → Clear (openTrials (length t) 0 (pos capacity))
+pub every-input : {t t₀ : List ℤ} {line : Line} {input bytes : List ℕ} (r : Opening) → Opens (pos capacity) 0 t t₀ r →
+    Clear (openTrials (length t) 0 (pos capacity))
     → Keeps line [] → Input t₀ line input bytes → bytes ≡ output input
 every-input r o clear k i = input-told i [] k (opened (pos capacity)) none (o .accepted clear .1)

@@ -72,7 +72,8 @@ minus-spaces (suc k) t = minus-spaces k t
 no-minus : (t : List ℕ) → T (every isDigit t) → hasMinus t ≡ false
 unfolding hasMinus
 no-minus [] h = refl
-no-minus (b ∷ t) h = rw (ne-eqb b minus (λ e. omega (arith, leb→le 48 b (and-left (leb 48 b) (leb b 57) (and-left (isDigit b) (every isDigit t) h))))) (no-minus t (and-right (isDigit b) (every isDigit t) h))
+no-minus (b ∷ t) h = rw (ne-eqb b minus (λ e. omega (arith, leb→le 48 b (and-left (leb 48 b) (leb b 57) (and-left (isDigit b) (every isDigit t) h)))))
+    (no-minus t (and-right (isDigit b) (every isDigit t) h))
 
 minus-numeral : (n : ℕ) → hasMinus (numeral n) ≡ false
 minus-numeral n = no-minus (numeral n) (numeral-characters n)
@@ -119,11 +120,16 @@ unfolding valueFrom hasMinus taken
 value-small [] i v h = omega (arith, ten {i = i} {j = i + 0 - 0} (omega arith))
 value-small (b ∷ t) i v h = go (eqb b minus) refl (value-small t)
   where
-    go : (m : Bool) → eqb b minus ≡ m → ((j u : ℕ) → u < 10 ^ j → Small j t (hasMinus t) (valueFrom u t)) → Small i (b ∷ t) (m || hasMinus t) (valueFrom (taken v b) t)
+    go : (m : Bool) → eqb b minus ≡ m → ((j u : ℕ) → u < 10 ^ j → Small j t (hasMinus t) (valueFrom u t)) →
+        Small i (b ∷ t) (m || hasMinus t) (valueFrom (taken v b) t)
     go true e rest =
         let q : b ≡ minus = eqb-true b minus e in
         rw q (omega (arith, rest i v h, ten {i = i + length t - bit (hasMinus t)} {j = i + suc (length t) - 1} (omega arith)))
-    go false e rest = omega (arith, rest (suc i) (taken v b) (taken-small v b i h), ten {i = suc i + length t - bit (hasMinus t)} {j = i + suc (length t) - bit (hasMinus t)} (omega arith))
+    go false e rest = omega (
+      arith,
+      rest (suc i) (taken v b) (taken-small v b i h),
+      ten {i = suc i + length t - bit (hasMinus t)} {j = i + suc (length t) - bit (hasMinus t)} (omega arith),
+    )
 
 some-power : (k n : ℕ) → suc n < 10 ^ k → 0 < k
 some-power zero n h = absurd (omega (arith, pow-zero 10))

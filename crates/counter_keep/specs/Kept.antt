@@ -40,10 +40,12 @@ pub pushes-full : (line : Line) (byte : ℕ) → 28 ≤ line .length → Pushes 
 pushes-full line byte h =
     record { keeps = λ text k. record { room = k .room; few = k .few; front = k .front ∙ sym (take-append-le 28 text (byte ∷ []) (kept-some k h)) } }
 
-pub pushes-one : (line : Line) (byte : ℕ) → line .length < 28 → Pushes line byte (record { bytes = set (line .bytes) (line .length) byte; length = line .length + 1 })
+pub pushes-one : (line : Line) (byte : ℕ) → line .length < 28 →
+    Pushes line byte (record { bytes = set (line .bytes) (line .length) byte; length = line .length + 1 })
 pushes-one line byte h = record { keeps = λ text k. keeps text k (kept-all k h) }
   where
-    keeps : (text : List ℕ) → Keeps line text → length text ≡ line .length → Keeps (record { bytes = set (line .bytes) (line .length) byte; length = line .length + 1 }) (text ++ byte ∷ [])
+    keeps : (text : List ℕ) → Keeps line text → length text ≡ line .length →
+        Keeps (record { bytes = set (line .bytes) (line .length) byte; length = line .length + 1 }) (text ++ byte ∷ [])
     keeps text k e =
         record {
           room = length-set (line .bytes) (line .length) byte ∙ k .room;

@@ -32,17 +32,21 @@ use Rattle.counter_line.specs.Fitting.{shown, Roomy, answer-fits, refusa
 -- ---- the lines of an answer are the plain book's
 
 -- where the answer is the plain book's
-plainly : {letter : ℕ} {a : Answer} {before after : List ℕ} {n : ℕ} {t : List ℤ} (k : Call) (s : State) (held : Option (Held Item)) → Book (partOf t 0) s held → Roomy k
+plainly : {letter : ℕ} {a : Answer} {before after : List ℕ} {n : ℕ} {t : List ℤ} (k : Call) (s : State) (held : Option (Held Item)) →
+    Book (partOf t 0) s held → Roomy k
     → a ≡ step s k .answer → Replies letter (shown k) a before after n
     → Prints (answered letter (shown k) (step s k .answer)) before after n
 plainly {letter} {a} {before} {after} {n} {t} k s held book roomy e r =
     subst (λ (x : Answer). Prints (answered letter (shown k) x) before after n) e
-    (r .prints (subst (Fits (shown k)) (sym e) (answer-fits (s .capacity) (s .offers) (omega (arith, book .capacity, cap-most (partOf t 0))) (book-sound book) k roomy)))
+    (r .prints (subst (Fits (shown k)) (sym e) (answer-fits (s .capacity) (s .offers) (omega (arith, book .capacity, cap-most (partOf t 0)))
+    (book-sound book) k roomy)))
 
 -- where it is a refusal, whatever the words are
-refusing : {letter : ℕ} {number : ℤ} {a : Answer} {before after : List ℕ} {n : ℕ} (z : Cause) → a ≡ refused (causeNumber z) → Replies letter number a before after n
+refusing : {letter : ℕ} {number : ℤ} {a : Answer} {before after : List ℕ} {n : ℕ} (z : Cause) → a ≡ refused (causeNumber z) →
+    Replies letter number a before after n
     → Prints (answered letter number (refused (causeNumber z))) before after n
-refusing {letter} {number} {before = before} {after} {n} z e r = subst (λ (x : Answer). Replies letter number x before after n) e r .prints (refusal-fits number z)
+refusing {letter} {number} {before = before} {after} {n} z e r =
+    subst (λ (x : Answer). Replies letter number x before after n) e r .prints (refusal-fits number z)
 
 -- ---- a listing's lines
 
@@ -72,26 +76,44 @@ command-is {line} p e = subst (Parsed line) e p
 
 pub counts-short : (line : List ℕ) (t : List ℤ) (out : List ℕ) → length out < most → Counts line t t out out 0
 counts-short line t out h =
-    record { short = λ _. (refl, refl, refl); within = omega arith; outside = untouched (capacityAt t 0) 0 t; same-part = refl; obeys = λ g. absurd (omega arith) }
+    record {
+      short = λ _. (refl, refl, refl);
+      within = omega arith;
+      outside = untouched (capacityAt t 0) 0 t;
+      same-part = refl;
+      obeys =
+          λ g. absurd (omega arith);
+    }
 
 -- lines of one command
-pub counts-alike : {line line′ : List ℕ} {t t′ : List ℤ} {out out′ : List ℕ} {n : ℕ} → commandOf line ≡ commandOf line′ → Counts line t t′ out out′ n → Counts line′ t t′ out out′ n
+pub counts-alike : {line line′ : List ℕ} {t t′ : List ℤ} {out out′ : List ℕ} {n : ℕ} → commandOf line ≡ commandOf line′ → Counts line t t′ out out′ n →
+    Counts line′ t t′ out out′ n
 counts-alike {t = t} {t′} {out} {out′} {n} e c =
-    record { short = c .short; within = c .within; outside = c .outside; same-part = c .same-part; obeys = λ h. subst (λ (m : Command). Obeys m t t′ out out′ n) e (c .obeys h) }
+    record {
+      short = c .short;
+      within = c .within;
+      outside = c .outside;
+      same-part = c .same-part;
+      obeys =
+          λ h. subst (λ (m : Command). Obeys m t t′ out out′ n) e (c .obeys h);
+    }
 
 -- a post or a withdrawal
-updated : {t t′ : List ℤ} {out out′ : List ℕ} {n letter : ℕ} (k : Call) {u : Update} (s : State) (held : Option (Held Item)) → Book (partOf t 0) s held → Roomy k → Updates k 0 t t′ u
+updated : {t t′ : List ℤ} {out out′ : List ℕ} {n letter : ℕ} (k : Call) {u : Update} (s : State) (held : Option (Held Item)) → Book (partOf t 0) s held →
+    Roomy k → Updates k 0 t t′ u
     → Replies letter (shown k) (updateAnswer u) out out′ n
     → Stands (record { state = step s k .state; bytes = answered letter (shown k) (step s k .answer) }) t′ out out′ n
 updated k s held book roomy u r =
     let f = u .follows s held book in
     record { after = f .after; stands = f .stands; prints = plainly k s held book roomy (f .answers) r }
 
-left : {t t′ : List ℤ} {k : Call} {u : Update} → Updates k 0 t t′ u → (s : State) (held : Option (Held Item)) → Book (partOf t 0) s held → (j : ℕ) → step s k .answer ≡ refused j → t′ ≡ t
+left : {t t′ : List ℤ} {k : Call} {u : Update} → Updates k 0 t t′ u → (s : State) (held : Option (Held Item)) → Book (partOf t 0) s held → (j : ℕ) →
+    step s k .answer ≡ refused j → t′ ≡ t
 left u s held book j e = let f = u .follows s held book in f .refusal j (f .answers ∙ e)
 
 module _ {line : List ℕ} {t : List ℤ} {out out′ : List ℕ} {n : ℕ} (long : most ≤ length out) where
-  by-command : {t′ : List ℤ} (m : Command) → Parsed line m → n ≤ length out → OnlyPart (capacityAt t 0) 0 t t′ → word (partOf t′ 0) capacityWord ≡ word (partOf t 0) capacityWord → Obeys m t t′ out out′ n → Counts line t t′ out out′ n
+  by-command : {t′ : List ℤ} (m : Command) → Parsed line m → n ≤ length out → OnlyPart (capacityAt t 0) 0 t t′ →
+      word (partOf t′ 0) capacityWord ≡ word (partOf t 0) capacityWord → Obeys m t t′ out out′ n → Counts line t t′ out out′ n
   by-command {t′} m p within outside same o =
       record {
         short = λ h. absurd (omega (arith, long));
@@ -124,7 +146,8 @@ module _ {line : List ℕ} {t : List ℤ} {out out′ : List ℕ} {n : ℕ} (lon
       })
 
   -- a line that only asks
-  asking : (m : Command) → Parsed line m → n ≤ length out → ((z : Cause) → Declines t m z → Prints (answered (letterOf m) (named m) (refused (causeNumber z))) out out′ n)
+  asking : (m : Command) → Parsed line m → n ≤ length out →
+      ((z : Cause) → Declines t m z → Prints (answered (letterOf m) (named m) (refused (causeNumber z))) out out′ n)
       → ((s : State) → outcome s m .state ≡ s)
       → ((s : State) (held : Option (Held Item)) → Book (partOf t 0) s held → Prints (answered (letterOf m) (named m) (outcome s m .answer)) out out′ n)
       → Counts line t t out out′ n
@@ -134,10 +157,16 @@ module _ {line : List ℕ} {t : List ℤ} {out out′ : List ℕ} {n : ℕ} (lon
         asks = λ _. refl;
         declined = λ z f. (refl, declined z f);
         refusal = λ s held book k e. refl;
-        follows = λ s held book. record { after = held; stands = subst (λ (o : State). Book (partOf t 0) o held) (sym (same s)) book; prints = prints s held book };
+        follows = λ s held book. record {
+          after = held;
+          stands = subst (λ (o : State). Book (partOf t 0) o held) (sym (same s)) book;
+          prints =
+              prints s held book;
+        };
       })
 
-  pub asked : (load : ℤ) {f : Found} → Parsed line (Query load) → Queries load 0 t f → Replies 81 (pos 0) (foundAnswer f) out out′ n → Counts line t t out out′ n
+  pub asked : (load : ℤ) {f : Found} → Parsed line (Query load) → Queries load 0 t f → Replies 81 (pos 0) (foundAnswer f) out out′ n →
+      Counts line t t out out′ n
   asked load p f r =
       asking (Query load) p (r .within) (λ z d. refusing z (f .declined z d) r) (λ s. asked-state s load)
       (λ s held book. plainly (query load) s held book tt (f .answers s held book) r)

@@ -12,7 +12,9 @@ use Rattle.lists.specs.Places.{sublist-mem}
 use Rattle.lists.specs.Bools.{not-not}
 use Rattle.offers.specs.Offers.{Offer, numberInRange, loadInRange, offerInRange, priceAt, crossingNumerator, crossingDenominator, precedes}
 use Rattle.offers.specs.Sizes.{number-of, rate-of, base-of, number-size, number-is, price-at-size, base-gap-size, rate-gap-size}
-use Rattle.plain.specs.Causes.{Cause, declined, causeNumber, capacityOutOfRange, tableTooShort, noBook, numberOutOfRange, rateOutOfRange, baseOutOfRange, loadOutOfRange, priceOutOfRange, numberLive, rateLive, bookFull, numberNotLive, bookEmpty, outputTooShort, unreadableLine, ratesNotApart, noSuchMark}
+use Rattle.plain.specs.Causes.{Cause, declined, causeNumber, capacityOutOfRange, tableTooShort, noBook, numberOutOfRange, rateOutOfRange}
+use Rattle.plain.specs.Causes.{baseOutOfRange, loadOutOfRange, priceOutOfRange, numberLive, rateLive, bookFull, numberNotLive, bookEmpty}
+use Rattle.plain.specs.Causes.{outputTooShort, unreadableLine, ratesNotApart, noSuchMark}
 use Rattle.plain.specs.Book.{State, Call, post, withdraw, query, listing, refused, live, cheapest, envelope, pieceWords, trials, respond, accepted, step}
 use Rattle.plain.specs.Trials.{clear}
 use Rattle.plain.specs.Sound.{Sound, step-sound}
@@ -91,7 +93,8 @@ module _ (c : ℕ) (os : List Offer) (small : c ≤ mostSlots) (sound : Sound (r
   abbrev s : State
   s = record { capacity = c; offers = os }
 
-  found-fits : (q : ℤ) → T (loadInRange q) → (os : List Offer) → Pairwise (λ a b. T (precedes a b)) os → ((o : Offer) → List·Memᴰ o os → T (offerInRange o)) → Fits (pos 0) (accepted (record { capacity = c; offers = os }) (query q) .answer)
+  found-fits : (q : ℤ) → T (loadInRange q) → (os : List Offer) → Pairwise (λ a b. T (precedes a b)) os →
+      ((o : Offer) → List·Memᴰ o os → T (offerInRange o)) → Fits (pos 0) (accepted (record { capacity = c; offers = os }) (query q) .answer)
   found-fits q t [] p r = refusal-fits (pos 0) bookEmpty
   found-fits q t (o ∷ os) p r =
       let b = cheapest q o os in

@@ -182,7 +182,8 @@ answers letter refusal offer value second b₀ b₁ b₂ b₃ b₄ h₀ h₄ p�
     record {
       text = λ f₁ f₂ f₃ f₄.
           take-suc-set b₄ 38 newline h₄
-          ∙ ap (λ (t : List ℕ). t ++ newline ∷ []) (puts-more p₄ f₄ (puts-more p₃ f₃ (puts-more p₂ f₂ (puts-more p₁ f₁ (take-suc-set b₀ 0 letter (omega arith))))));
+          ∙ ap (λ (t : List ℕ). t ++ newline ∷ []) (puts-more p₄ f₄
+          (puts-more p₃ f₃ (puts-more p₂ f₂ (puts-more p₁ f₁ (take-suc-set b₀ 0 letter (omega arith))))));
       rest =
           drop-set-lt 39 b₄ 38 newline (omega arith) ∙ puts-rest p₄ (omega arith) ∙ puts-rest p₃ (omega arith) ∙ puts-rest p₂ (omega arith)
           ∙ puts-rest p₁ (omega arith) ∙ drop-set-lt 39 b₀ 0 letter (omega arith);

@@ -27,7 +27,8 @@ abbrev pub putBack : ℕ → List ℕ → List ℕ → List ℕ
 putBack i l part = take i l ++ (part ++ drop (length l - i) (drop i l))
 
 back : (l part : List ℕ) (i : ℕ) → putBack i l part ≡ take i l ++ part
-back l part i = ap (λ (t : List ℕ). take i l ++ t) (ap (λ (t : List ℕ). part ++ t) (drop-of-length-le (drop i l) {i = length l - i} (omega (arith, length-drop i l))) ∙ append-nil part)
+back l part i = ap (λ (t : List ℕ). take i l ++ t) (ap (λ (t : List ℕ). part ++ t) (drop-of-length-le (drop i l) {i =
+    length l - i} (omega (arith, length-drop i l))) ∙ append-nil part)
 
 -- ---- a listing's lines
 
@@ -37,7 +38,8 @@ pub record PieceLine (ws : List ℤ) (i : ℕ) (before after : List ℕ) : Type 
   pub line : Answers 69 (pos 0) (word ws (3 * i)) (word ws (3 * i + 1)) (word ws (3 * i + 2)) (drop (39 * i) before) (drop (39 * i) after)
 
 pub piece-line : {ws : List ℤ} {i : ℕ} {before part : List ℕ} {a b d : ℤ} → 39 * i + 39 ≤ length before
-    → a ≡ word ws (3 * i) → b ≡ word ws (3 * i + 1) → d ≡ word ws (3 * i + 2) → Answers 69 (pos 0) a b d (take (length before - 39 * i) (drop (39 * i) before)) part → PieceLine ws i before (putBack (39 * i) before part)
+    → a ≡ word ws (3 * i) → b ≡ word ws (3 * i + 1) → d ≡ word ws (3 * i + 2) →
+    Answers 69 (pos 0) a b d (take (length before - 39 * i) (drop (39 * i) before)) part → PieceLine ws i before (putBack (39 * i) before part)
 piece-line {ws} {i} {before} {part} h ea eb ed answers =
     record {
       front = rw (back before part (39 * i)) (take-at (take (39 * i) before) part (39 * i) e);
@@ -84,7 +86,8 @@ pieces-more {ws} {before} {mid} {after} {i} hw p q l =
           ∙ ap (λ (v : List ℤ). take (39 * i) mid ++ pieceLines v) (three ws (3 * i) hw)
           ∙ sym (append-assoc (take (39 * i) mid) own (pieceLines (drop (3 * i + 3) ws)))
           ∙ (λ k. sym (taken (piece f)) k ++ pieceLines (drop (next k) ws));
-      rest = ap (λ (j : ℕ). drop j after) (sym wider) ∙ sym (drop-drop 39 (39 * i) after) ∙ q .line .rest ∙ ap (drop 39) (p .rest) ∙ drop-drop 39 (39 * i) before ∙ ap (λ (j : ℕ). drop j before) wider;
+      rest = ap (λ (j : ℕ). drop j after) (sym wider) ∙ sym (drop-drop 39 (39 * i) after) ∙ q .line .rest ∙ ap (drop 39) (p .rest)
+          ∙ drop-drop 39 (39 * i) before ∙ ap (λ (j : ℕ). drop j before) wider;
     }
   where
     next : 3 * i + 3 ≡ 3 * (i + 1)
@@ -99,15 +102,18 @@ pieces-more {ws} {before} {mid} {after} {i} hw p q l =
     piece : PiecesFit ws → PiecesFit (word ws (3 * i) ∷ word ws (3 * i + 1) ∷ word ws (3 * i + 2) ∷ drop (3 * i + 3) ws)
     piece f = subst PiecesFit (three ws (3 * i) hw) (p .fits f)
 
-    taken : FitsIn 6 (word ws (3 * i)) × FitsIn 14 (word ws (3 * i + 1)) × FitsIn 14 (word ws (3 * i + 2)) × PiecesFit (drop (3 * i + 3) ws) → take (39 * (i + 1)) after ≡ take (39 * i) mid ++ own
-    taken g = ap (λ (j : ℕ). take j after) (sym wider) ∙ take-add (39 * i) 39 after ∙ (λ k. q .front k ++ q .line .text (zero-fits 3 (omega arith)) (g .0) (g .1) (g .2) k)
+    taken : FitsIn 6 (word ws (3 * i)) × FitsIn 14 (word ws (3 * i + 1)) × FitsIn 14 (word ws (3 * i + 2)) × PiecesFit (drop (3 * i + 3) ws) →
+        take (39 * (i + 1)) after ≡ take (39 * i) mid ++ own
+    taken g = ap (λ (j : ℕ). take j after) (sym wider) ∙ take-add (39 * i) 39 after
+        ∙ (λ k. q .front k ++ q .line .text (zero-fits 3 (omega arith)) (g .0) (g .1) (g .2) k)
 
 -- ---- all of them, and the listing's own line
 
 -- After the lines of all pieces.
 pieces-all : {ws : List ℤ} {before after : List ℕ} {m : ℕ} → PiecesTo ws before after m → length ws ≡ 3 * m → PiecesFit ws → take (39 * m) after ≡ pieceLines ws
 unfolding pieceLines
-pieces-all {ws} {after = after} {m} p e f = sym (p .text f ∙ ap (λ (v : List ℤ). take (39 * m) after ++ pieceLines v) (drop-of-length-le ws {i = 3 * m} (omega arith)) ∙ append-nil (take (39 * m) after))
+pieces-all {ws} {after = after} {m} p e f = sym (p .text f ∙ ap (λ (v : List ℤ). take (39 * m) after ++ pieceLines v)
+    (drop-of-length-le ws {i = 3 * m} (omega arith)) ∙ append-nil (take (39 * m) after))
 
 pieces-listed : {ws : List ℤ} {before mid last : List ℕ} (m : ℕ) → length ws ≡ 3 * m → 39 * m + 39 ≤ length before → PiecesTo ws before mid m
     → Answers 76 (pos 0) (pos 0) (pos m) (pos 0) (drop (39 * m) mid) last → Replies 76 (pos 0) (listed m ws) before (take (39 * m) mid ++ last) (39 * m + 39)
@@ -119,12 +125,14 @@ pieces-listed {ws} {before} {mid} {last} m e h p a = record { within = h; prints
     prints : PiecesFit ws → FitsIn 14 (pos m) → Prints (pieceLines ws ++ own) before (take (39 * m) mid ++ last) (39 * m + 39)
     prints f g =
         let o = one-line a (zero-fits 3 (omega arith)) (zero-fits 6 (omega arith)) g (zero-fits 14 (omega arith)) in
-        let n : 39 * m + 39 ≡ length (pieceLines ws ++ own) = sym (length-append (pieceLines ws) own ∙ omega (arith, o .count, ap length (pieces-all p e f), length-take-le (39 * m) mid (omega (arith, p .long)))) in
+        let n : 39 * m + 39 ≡ length (pieceLines ws ++ own) = sym (length-append (pieceLines ws) own
+        ∙ omega (arith, o .count, ap length (pieces-all p e f), length-take-le (39 * m) mid (omega (arith, p .long)))) in
         record {
           whole =
               (λ k. pieces-all p e f k ++ o .whole k)
               ∙ sym (append-assoc (pieceLines ws) own (drop (length own) (drop (39 * m) mid)))
-              ∙ ap (λ (t : List ℕ). (pieceLines ws ++ own) ++ t) (ap (λ (j : ℕ). drop j (drop (39 * m) mid)) (sym (o .count)) ∙ ap (drop 39) (p .rest) ∙ drop-drop 39 (39 * m) before ∙ ap (λ (j : ℕ). drop j before) n);
+              ∙ ap (λ (t : List ℕ). (pieceLines ws ++ own) ++ t) (ap (λ (j : ℕ). drop j (drop (39 * m) mid)) (sym (o .count)) ∙ ap (drop 39) (p .rest)
+              ∙ drop-drop 39 (39 * m) before ∙ ap (λ (j : ℕ). drop j before) n);
           count = n;
         }
 
@@ -145,6 +153,7 @@ listed-line z pieces {before} {mid} {last} e h n q p a = rw (back mid last (39 *
         subst (λ (j : ℕ). Replies 76 (pos 0) (listed j (take (3 * j) pieces)) before (take (39 * n) mid ++ last) (39 * n + 39)) d
         (pieces-listed n (length-take-le (3 * n) pieces (omega (arith, few))) (omega (arith, few)) p (subst Own (sym d) a))
 
-    go : (z : ℤ) → n ≡ upTo 64 z → Answers 76 (pos 0) (pos 0) z (pos 0) (drop (39 * n) mid) last → Replies 76 (pos 0) (counted (λ m. listed m (take (3 * m) pieces)) z) before (take (39 * n) mid ++ last) (39 * n + 39)
+    go : (z : ℤ) → n ≡ upTo 64 z → Answers 76 (pos 0) (pos 0) z (pos 0) (drop (39 * n) mid) last →
+        Replies 76 (pos 0) (counted (λ m. listed m (take (3 * m) pieces)) z) before (take (39 * n) mid ++ last) (39 * n + 39)
     go (pos m) q a = record { within = omega (arith, few); prints = λ f. exact m (q ∙ upTo-in 64 m (f .2)) a .prints f }
     go (negsuc m) q a = record { within = omega (arith, few); prints = λ f. absurd (omega (arith, f .0)) }

@@ -39,18 +39,27 @@ pub record Replies (letter : ℕ) (number : ℤ) (a : Answer) (before after : Li
 
 -- ---- one line
 
-pub answer-length : (letter : ℕ) (refusal offer value second : ℤ) → FitsIn 3 refusal → FitsIn 6 offer → FitsIn 14 value → FitsIn 14 second → length (answerLine letter refusal offer value second) ≡ 39
+pub answer-length : (letter : ℕ) (refusal offer value second : ℤ) → FitsIn 3 refusal → FitsIn 6 offer → FitsIn 14 value → FitsIn 14 second →
+    length (answerLine letter refusal offer value second) ≡ 39
 unfolding answerLine
 answer-length letter refusal offer value second f₁ f₂ f₃ f₄ =
     simp length-append
-    (omega (arith, justified-width 3 (decimal refusal) f₁, justified-width 6 (decimal offer) f₂, justified-width 14 (decimal value) f₃, justified-width 14 (decimal second) f₄))
+    (omega (
+      arith,
+      justified-width 3 (decimal refusal) f₁,
+      justified-width 6 (decimal offer) f₂,
+      justified-width 14 (decimal value) f₃,
+      justified-width 14 (decimal second) f₄,
+    ))
 
-pub one-line : {letter : ℕ} {refusal offer value second : ℤ} {before after : List ℕ} → Answers letter refusal offer value second before after → FitsIn 3 refusal → FitsIn 6 offer → FitsIn 14 value → FitsIn 14 second
+pub one-line : {letter : ℕ} {refusal offer value second : ℤ} {before after : List ℕ} → Answers letter refusal offer value second before after →
+    FitsIn 3 refusal → FitsIn 6 offer → FitsIn 14 value → FitsIn 14 second
     → Prints (answerLine letter refusal offer value second) before after 39
 one-line {letter} {refusal} {offer} {value} {second} {before} {after} a f₁ f₂ f₃ f₄ =
     let l = answer-length letter refusal offer value second f₁ f₂ f₃ f₄ in
     record {
-      whole = sym (take-append-drop 39 after) ∙ (λ i. a .text f₁ f₂ f₃ f₄ i ++ a .rest i) ∙ ap (λ (n : ℕ). answerLine letter refusal offer value second ++ drop n before) (sym l);
+      whole = sym (take-append-drop 39 after) ∙ (λ i. a .text f₁ f₂ f₃ f₄ i ++ a .rest i) ∙ ap
+          (λ (n : ℕ). answerLine letter refusal offer value second ++ drop n before) (sym l);
       count = sym l;
     }
 
@@ -58,7 +67,11 @@ one-line {letter} {refusal} {offer} {value} {second} {before} {after} a f₁ f�
 
 module _ {letter : ℕ} {number : ℤ} {before after : List ℕ} (long : 39 ≤ length before) where
   pub refused-line : (z : ℤ) → Answers letter z (pos 0) (pos 0) (pos 0) before after → Replies letter number (counted refused z) before after 39
-  refused-line (pos n) a = record { within = long; prints = λ f. one-line a (f .1) (zero-fits 6 (omega arith)) (zero-fits 14 (omega arith)) (zero-fits 14 (omega arith)) }
+  refused-line (pos n) a = record {
+    within = long;
+    prints =
+        λ f. one-line a (f .1) (zero-fits 6 (omega arith)) (zero-fits 14 (omega arith)) (zero-fits 14 (omega arith));
+  }
   refused-line (negsuc n) a = record { within = long; prints = λ f. absurd (omega (arith, f .0)) }
 
   pub live-line : (z : ℤ) → Answers letter (pos 0) number z (pos 0) before after → Replies letter number (counted live z) before after 39

@@ -52,7 +52,8 @@ still-known e h = e ∙ sym (within-cap h)
 
 -- ---- a leaf, or nothing
 
-pub halved-leaf : {k f x limit : ℕ} {b : Bool} {w : Words} (least : ℤ) (d : Bool) → x ≤ mostSlots → b ≡ leZ least (cell w f x) → b ≡ d → Halving k f least x limit w w (cond d x 0) (cond d 0 x)
+pub halved-leaf : {k f x limit : ℕ} {b : Bool} {w : Words} (least : ℤ) (d : Bool) → x ≤ mostSlots → b ≡ leZ least (cell w f x) → b ≡ d →
+    Halving k f least x limit w w (cond d x 0) (cond d 0 x)
 unfolding split splitP
 halved-leaf {k} {f} {x} {limit} {b} {w} least d h e g = record { within = within-refl w; made = made }
   where
@@ -64,9 +65,11 @@ halved-leaf {k} {f} {x} {limit} {b} {w} least d h e g = record { within = within
     one true i r = record { front = r; back = empty (r .kind); only = only-refl k (i ∷ []) w; all-front = λ e. refl; all-back = λ e. refl }
     one false i r = record { front = empty (r .kind); back = r; only = only-refl k (i ∷ []) w; all-front = λ e. refl; all-back = λ e. refl }
 
-    made : (p : Part Item) (key : Item → ℤ) → RepP w k x p → AvlP p → partHeight p ≤ limit → Keyed w f key (partLeaves p) → Halved k w w (cond d x 0) (cond d 0 x) (partLeaves p) (splitP (from key least) p)
+    made : (p : Part Item) (key : Item → ℤ) → RepP w k x p → AvlP p → partHeight p ≤ limit → Keyed w f key (partLeaves p) →
+        Halved k w w (cond d x 0) (cond d 0 x) (partLeaves p) (splitP (from key least) p)
     made none key r a n q = nothing d r
-    made (some (leaf i)) key r a n q = subst (λ c. Halved k w w (cond d x 0) (cond d 0 x) (i ∷ []) (cond c (allFront (leaf i)) (allBack (leaf i)))) told (one d i r)
+    made (some (leaf i)) key r a n q = subst (λ c. Halved k w w (cond d x 0) (cond d 0 x) (i ∷ []) (cond c (allFront (leaf i)) (allBack (leaf i)))) told
+        (one d i r)
       where
         told : d ≡ from key least i
         told = sym g ∙ e ∙ ap (leZ least) (ap (cell w f) (r .root) ∙ q .read (List·Memᴰ·head refl))
@@ -98,7 +101,8 @@ at-node : {k f x limit y z : ℕ} {w w′ : Words} (least : ℤ) → mostSlots <
 unfolding splitP
 at-node {k} {f} {x} {limit} {y} {z} {w} {w′} least h g step = record { within = g; made = made }
   where
-    made : (p : Part Item) (key : Item → ℤ) → RepP w k x p → AvlP p → partHeight p ≤ limit → Keyed w f key (partLeaves p) → Halved k w w′ y z (partLeaves p) (splitP (from key least) p)
+    made : (p : Part Item) (key : Item → ℤ) → RepP w k x p → AvlP p → partHeight p ≤ limit → Keyed w f key (partLeaves p) →
+        Halved k w w′ y z (partLeaves p) (splitP (from key least) p)
     made none key r a n q = absurd (omega (arith, h, r .root))
     made (some (leaf i)) key r a n q = absurd (omega (arith, h, leaf-low (rep-some r)))
     made (some (node s t)) key r a n q = step s t key r a n q
@@ -108,24 +112,31 @@ pub halved-over : {k f x limit y z : ℕ} {w : Words} (least : ℤ) → mostSlot
 halved-over {w} least h e = at-node least h (within-refl w) (λ s t key r a n q. absurd (omega (arith, n, e)))
 
 -- what the test tells of the seam
-seam-test : {w : Words} {k f x g : ℕ} {b : Bool} {s t : Tree Item} {key : Item → ℤ} (least : ℤ) → g ≡ x - mostSlots → b ≡ leZ least (cell w f g) → RepP w k x (some (node s t)) → Keyed w f key (leaves s ++ leaves t) → b ≡ from key least (last s)
+seam-test : {w : Words} {k f x g : ℕ} {b : Bool} {s t : Tree Item} {key : Item → ℤ} (least : ℤ) → g ≡ x - mostSlots → b ≡ leZ least (cell w f g) →
+    RepP w k x (some (node s t)) → Keyed w f key (leaves s ++ leaves t) → b ≡ from key least (last s)
 seam-test {w} {f} {s} {t} least eg eb rep q =
     eb ∙ ap (leZ least) (ap (cell w f) (eg ∙ parents (rep-some rep) .seam-at) ∙ q .read (Memᴰ·append-left (leaves t) (last-leaf s)))
 
 -- what the recursion says of a child
-cut-right : {k f x limit r y z : ℕ} {w w₁ : Words} {s t : Tree Item} {key : Item → ℤ} (least : ℤ) → r ≡ childAt w k true x → Halving k f least r (limit - 1) w w₁ y z
-    → RepP w k x (some (node s t)) → Avl t → height (node s t) ≤ limit → Keyed w f key (leaves s ++ leaves t) → Halved k w w₁ y z (leaves t) (split (from key least) t)
+cut-right : {k f x limit r y z : ℕ} {w w₁ : Words} {s t : Tree Item} {key : Item → ℤ} (least : ℤ) → r ≡ childAt w k true x →
+    Halving k f least r (limit - 1) w w₁ y z
+    → RepP w k x (some (node s t)) → Avl t → height (node s t) ≤ limit → Keyed w f key (leaves s ++ leaves t) →
+    Halved k w w₁ y z (leaves t) (split (from key least) t)
 unfolding splitP
 cut-right {s} {t} {key} least er rec rep a n q =
     let o = parents (rep-some rep) in
-    rec .made (some t) key (record { kind = rep .kind; root = er ∙ o .right-at; slots = slots-right (leaves s) (rep .slots); tied = o .tied-right }) a (omega (arith, n)) (keyed-right (leaves s) q)
+    rec .made (some t) key (record { kind = rep .kind; root = er ∙ o .right-at; slots = slots-right (leaves s) (rep .slots); tied = o .tied-right }) a
+    (omega (arith, n)) (keyed-right (leaves s) q)
 
-cut-left : {k f x limit l y z : ℕ} {w w₁ : Words} {s t : Tree Item} {key : Item → ℤ} (least : ℤ) → l ≡ childAt w k false x → Halving k f least l (limit - 1) w w₁ y z
-    → RepP w k x (some (node s t)) → Avl s → height (node s t) ≤ limit → Keyed w f key (leaves s ++ leaves t) → Halved k w w₁ y z (leaves s) (split (from key least) s)
+cut-left : {k f x limit l y z : ℕ} {w w₁ : Words} {s t : Tree Item} {key : Item → ℤ} (least : ℤ) → l ≡ childAt w k false x →
+    Halving k f least l (limit - 1) w w₁ y z
+    → RepP w k x (some (node s t)) → Avl s → height (node s t) ≤ limit → Keyed w f key (leaves s ++ leaves t) →
+    Halved k w w₁ y z (leaves s) (split (from key least) s)
 unfolding splitP
 cut-left {s} {t} {key} least el rec rep a n q =
     let o = parents (rep-some rep) in
-    rec .made (some s) key (record { kind = rep .kind; root = el ∙ o .left-at; slots = slots-left (leaves t) (rep .slots); tied = o .tied-left }) a (omega (arith, n)) (keyed-left (leaves t) q)
+    rec .made (some s) key (record { kind = rep .kind; root = el ∙ o .left-at; slots = slots-left (leaves t) (rep .slots); tied = o .tied-left }) a
+    (omega (arith, n)) (keyed-left (leaves t) q)
 
 -- ---- nothing is cut off
 
@@ -139,67 +150,92 @@ none-part {p = some t} r e = let n : _≡_ {A = ℕ} 0 1 = cc in absurd (omega a
 
 whole-front : {w : Words} {k x : ℕ} {c : Cut Item} {t : Tree Item} → Whole t c → c .back ≡ none → RepP w k x (some t) → Halved k w w x 0 (leaves t) c
 whole-front {w} {k} {x} {c} {t} h e r =
-    record { front = subst (RepP w k x) (sym (h .front e)) r; back = subst (RepP w k 0) (sym e) (empty (r .kind)); only = only-refl k (leaves t) w; all-front = λ d. refl; all-back = λ d. refl }
+    record {
+      front = subst (RepP w k x) (sym (h .front e)) r;
+      back = subst (RepP w k 0) (sym e) (empty (r .kind));
+      only = only-refl k (leaves t) w;
+      all-front = λ d. refl;
+      all-back = λ d. refl;
+    }
 
 whole-back : {w : Words} {k x : ℕ} {c : Cut Item} {t : Tree Item} → Whole t c → c .front ≡ none → RepP w k x (some t) → Halved k w w 0 x (leaves t) c
 whole-back {w} {k} {x} {c} {t} h e r =
-    record { front = subst (RepP w k 0) (sym e) (empty (r .kind)); back = subst (RepP w k x) (sym (h .back e)) r; only = only-refl k (leaves t) w; all-front = λ d. refl; all-back = λ d. refl }
+    record {
+      front = subst (RepP w k 0) (sym e) (empty (r .kind));
+      back = subst (RepP w k x) (sym (h .back e)) r;
+      only = only-refl k (leaves t) w;
+      all-front = λ d. refl;
+      all-back = λ d. refl;
+    }
 
-module _ {k f x limit g r y z : ℕ} {b : Bool} {w w₁ : Words} (least : ℤ) (inner : mostSlots < x) (eg : g ≡ x - mostSlots) (eb : b ≡ leZ least (cell w f g)) where
-  pub whole-right : b ≡ true → r ≡ childAt w k true x → Halving k f least r (limit - 1) w w₁ y z → z ≡ 0 → Halving k f least x limit w w₁ x 0
-  whole-right e er rec ez = at-node least inner (rec .within) step
-    where
-      step : (s t : Tree Item) (key : Item → ℤ) → RepP w k x (some (node s t)) → Avl (node s t) → height (node s t) ≤ limit → Keyed w f key (leaves s ++ leaves t) → Halved k w w₁ x 0 (leaves s ++ leaves t) (split (from key least) (node s t))
-      step s t key rep (avl-node a₁ a₂ h₁ h₂) n q =
-          subst (λ u. Halved k w u x 0 (leaves s ++ leaves t) (split test (node s t))) (sym (cut .all-front empty-back))
-          (whole-front (split-whole test (avl-node a₁ a₂ h₁ h₂)) (ap (λ (c : Cut Item). c .back) (split-right test s t passes) ∙ empty-back) rep)
-        where
-          test : Item → Bool
-          test = from key least
+module _ {k f x limit g r y z : ℕ} {b : Bool} {w w₁ : Words} (least : ℤ) (inner : mostSlots < x) (eg : g ≡ x - mostSlots) (eb : b ≡ leZ least (cell w f g))
+  where
+    pub whole-right : b ≡ true → r ≡ childAt w k true x → Halving k f least r (limit - 1) w w₁ y z → z ≡ 0 → Halving k f least x limit w w₁ x 0
+    whole-right e er rec ez = at-node least inner (rec .within) step
+      where
+        step : (s t : Tree Item) (key : Item → ℤ) → RepP w k x (some (node s t)) → Avl (node s t) → height (node s t) ≤ limit →
+            Keyed w f key (leaves s ++ leaves t) → Halved k w w₁ x 0 (leaves s ++ leaves t) (split (from key least) (node s t))
+        step s t key rep (avl-node a₁ a₂ h₁ h₂) n q =
+            subst (λ u. Halved k w u x 0 (leaves s ++ leaves t) (split test (node s t))) (sym (cut .all-front empty-back))
+            (whole-front (split-whole test (avl-node a₁ a₂ h₁ h₂)) (ap (λ (c : Cut Item). c .back) (split-right test s t passes) ∙ empty-back) rep)
+          where
+            test : Item → Bool
+            test = from key least
 
-          passes : T (test (last s))
-          passes = subst T (sym e ∙ seam-test least eg eb rep q) tt
+            passes : T (test (last s))
+            passes = subst T (sym e ∙ seam-test least eg eb rep q) tt
 
-          o : Parents w k x s t
-          o = parents (rep-some rep)
+            o : Parents w k x s t
+            o = parents (rep-some rep)
 
-          cut : Halved k w w₁ y z (leaves t) (split test t)
-          cut = cut-right least er rec rep a₂ n q
+            cut : Halved k w w₁ y z (leaves t) (split test t)
+            cut = cut-right least er rec rep a₂ n q
 
-          empty-back : split test t .back ≡ none
-          empty-back = part-none (cut .back) ez
+            empty-back : split test t .back ≡ none
+            empty-back = part-none (cut .back) ez
 
-  pub whole-left : b ≡ false → r ≡ childAt w k false x → Halving k f least r (limit - 1) w w₁ y z → y ≡ 0 → Halving k f least x limit w w₁ 0 x
-  whole-left e er rec ey = at-node least inner (rec .within) step
-    where
-      step : (s t : Tree Item) (key : Item → ℤ) → RepP w k x (some (node s t)) → Avl (node s t) → height (node s t) ≤ limit → Keyed w f key (leaves s ++ leaves t) → Halved k w w₁ 0 x (leaves s ++ leaves t) (split (from key least) (node s t))
-      step s t key rep (avl-node a₁ a₂ h₁ h₂) n q =
-          subst (λ u. Halved k w u 0 x (leaves s ++ leaves t) (split test (node s t))) (sym (cut .all-back empty-front))
-          (whole-back (split-whole test (avl-node a₁ a₂ h₁ h₂)) (ap (λ (c : Cut Item). c .front) (split-left test s t fails) ∙ empty-front) rep)
-        where
-          test : Item → Bool
-          test = from key least
+    pub whole-left : b ≡ false → r ≡ childAt w k false x → Halving k f least r (limit - 1) w w₁ y z → y ≡ 0 → Halving k f least x limit w w₁ 0 x
+    whole-left e er rec ey = at-node least inner (rec .within) step
+      where
+        step : (s t : Tree Item) (key : Item → ℤ) → RepP w k x (some (node s t)) → Avl (node s t) → height (node s t) ≤ limit →
+            Keyed w f key (leaves s ++ leaves t) → Halved k w w₁ 0 x (leaves s ++ leaves t) (split (from key least) (node s t))
+        step s t key rep (avl-node a₁ a₂ h₁ h₂) n q =
+            subst (λ u. Halved k w u 0 x (leaves s ++ leaves t) (split test (node s t))) (sym (cut .all-back empty-front))
+            (whole-back (split-whole test (avl-node a₁ a₂ h₁ h₂)) (ap (λ (c : Cut Item). c .front) (split-left test s t fails) ∙ empty-front) rep)
+          where
+            test : Item → Bool
+            test = from key least
 
-          fails : T (not (test (last s)))
-          fails = subst (λ d. T (not d)) (sym e ∙ seam-test least eg eb rep q) tt
+            fails : T (not (test (last s)))
+            fails = subst (λ d. T (not d)) (sym e ∙ seam-test least eg eb rep q) tt
 
-          cut : Halved k w w₁ y z (leaves s) (split test s)
-          cut = cut-left least er rec rep a₁ n q
+            cut : Halved k w w₁ y z (leaves s) (split test s)
+            cut = cut-left least er rec rep a₁ n q
 
-          empty-front : split test s .front ≡ none
-          empty-front = part-none (cut .front) ey
+            empty-front : split test s .front ≡ none
+            empty-front = part-none (cut .front) ey
 
 -- ---- a node is cut through
 
-module _ {k f x limit g l r y z v : ℕ} {b : Bool} {w w₁ w₂ : Words} (least : ℤ) (inner : mostSlots < x) (eg : g ≡ x - mostSlots) (eb : b ≡ leZ least (cell w f g)) where
-  pub halved-right : b ≡ true → r ≡ childAt w k true x → Halving k f least r (limit - 1) w w₁ y z → z ≢ 0 → l ≡ childAt w₁ k false x → Merged k g l y w₁ w₂ v → Halving k f least x limit w w₂ v z
+module _ {k f x limit g l r y z v : ℕ} {b : Bool} {w w₁ w₂ : Words} (least : ℤ) (inner : mostSlots < x) (eg : g ≡ x - mostSlots)
+    (eb : b ≡ leZ least (cell w f g)) where
+  pub halved-right : b ≡ true → r ≡ childAt w k true x → Halving k f least r (limit - 1) w w₁ y z → z ≢ 0 → l ≡ childAt w₁ k false x →
+      Merged k g l y w₁ w₂ v → Halving k f least x limit w w₂ v z
   unfolding split splitP
   halved-right e er rec nz el j = at-node least inner (within-trans (rec .within) (j .within)) step
     where
-      step : (s t : Tree Item) (key : Item → ℤ) → RepP w k x (some (node s t)) → Avl (node s t) → height (node s t) ≤ limit → Keyed w f key (leaves s ++ leaves t) → Halved k w w₂ v z (leaves s ++ leaves t) (split (from key least) (node s t))
+      step : (s t : Tree Item) (key : Item → ℤ) → RepP w k x (some (node s t)) → Avl (node s t) → height (node s t) ≤ limit →
+          Keyed w f key (leaves s ++ leaves t) → Halved k w w₂ v z (leaves s ++ leaves t) (split (from key least) (node s t))
       step s t key rep (avl-node a₁ a₂ h₁ h₂) n q =
           subst (λ d. Halved k w w₂ v z (leaves s ++ leaves t) (cond d (afterLeft s c) (beforeRight (split test s) t))) (sym e ∙ seam-test least eg eb rep q)
-          (record { front = m .rep; back = done .0; only = done .1; all-front = λ d. absurd (nz (none-part (cut .back) d)); all-back = λ d. absurd (not-left s (c .front) d) })
+          (record {
+            front = m .rep;
+            back = done .0;
+            only = done .1;
+            all-front = λ d. absurd (nz (none-part (cut .back) d));
+            all-back =
+                λ d. absurd (not-left s (c .front) d);
+          })
         where
           test : Item → Bool
           test = from key least
@@ -221,7 +257,8 @@ module _ {k f x limit g l r y z v : ℕ} {b : Bool} {w w₁ w₂ : Words} (least
 
           -- the node itself was not touched
           same : childAt w₁ k false x ≡ childAt w k false x
-          same = ap (upTo mostNodes) (cut .only .cells (childField k false) (x - mostSlots) (λ h. slots-across (leaves s) (rep .slots) (at (last-leaf s) (o .seam-at)) (h .1)))
+          same = ap (upTo mostNodes) (cut .only .cells (childField k false) (x - mostSlots)
+              (λ h. slots-across (leaves s) (rep .slots) (at (last-leaf s) (o .seam-at)) (h .1)))
 
           pair : PairP w₁ k l y (some s) (c .front)
           pair =
@@ -243,14 +280,23 @@ module _ {k f x limit g l r y z v : ℕ} {b : Bool} {w w₁ w₂ : Words} (least
               (λ i x. rw (← order) (in-left (partLeaves (c .back)) x))
               (λ i x y. slots-across (partLeaves (joinP (some s) (c .front))) slots x y)
 
-  pub halved-left : b ≡ false → l ≡ childAt w k false x → r ≡ childAt w k true x → Halving k f least l (limit - 1) w w₁ y z → y ≢ 0 → Merged k g z r w₁ w₂ v → Halving k f least x limit w w₂ y v
+  pub halved-left : b ≡ false → l ≡ childAt w k false x → r ≡ childAt w k true x → Halving k f least l (limit - 1) w w₁ y z → y ≢ 0 →
+      Merged k g z r w₁ w₂ v → Halving k f least x limit w w₂ y v
   unfolding split splitP
   halved-left e el er rec ny j = at-node least inner (within-trans (rec .within) (j .within)) step
     where
-      step : (s t : Tree Item) (key : Item → ℤ) → RepP w k x (some (node s t)) → Avl (node s t) → height (node s t) ≤ limit → Keyed w f key (leaves s ++ leaves t) → Halved k w w₂ y v (leaves s ++ leaves t) (split (from key least) (node s t))
+      step : (s t : Tree Item) (key : Item → ℤ) → RepP w k x (some (node s t)) → Avl (node s t) → height (node s t) ≤ limit →
+          Keyed w f key (leaves s ++ leaves t) → Halved k w w₂ y v (leaves s ++ leaves t) (split (from key least) (node s t))
       step s t key rep (avl-node a₁ a₂ h₁ h₂) n q =
           subst (λ d. Halved k w w₂ y v (leaves s ++ leaves t) (cond d (afterLeft s (split test t)) (beforeRight c t))) (sym e ∙ seam-test least eg eb rep q)
-          (record { front = done .0; back = m .rep; only = done .1; all-front = λ d. absurd (not-right (c .back) t d); all-back = λ d. absurd (ny (none-part (cut .front) d)) })
+          (record {
+            front = done .0;
+            back = m .rep;
+            only = done .1;
+            all-front = λ d. absurd (not-right (c .back) t d);
+            all-back =
+                λ d. absurd (ny (none-part (cut .front) d));
+          })
         where
           test : Item → Bool
           test = from key least

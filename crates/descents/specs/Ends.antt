@@ -54,8 +54,13 @@ down-end : (side : Bool) (l r : Tree Item) → endOf side (pick side l r) ≡ en
 down-end false l r = refl
 down-end true l r = refl
 
-pub going-on : {w : Words} {k x y limit z : ℕ} {side : Bool} → Going w k side x y limit → mostSlots < y → z ≡ childAt w k side y → Going w k side x z (limit - 1)
-going-on {w} {k} {x} {y} {limit} {z} {side} g h e = record { is = λ t r a. step t (g .is t r a .here) (g .is t r a .rep) (g .is t r a .same) (g .is t r a .high); none = λ d. absurd (omega (arith, h, g .none d)) }
+pub going-on : {w : Words} {k x y limit z : ℕ} {side : Bool} → Going w k side x y limit → mostSlots < y → z ≡ childAt w k side y →
+    Going w k side x z (limit - 1)
+going-on {w} {k} {x} {y} {limit} {z} {side} g h e = record {
+  is =
+      λ t r a. step t (g .is t r a .here) (g .is t r a .rep) (g .is t r a .same) (g .is t r a .high);
+  none = λ d. absurd (omega (arith, h, g .none d));
+}
   where
     step : (t u : Tree Item) → Rep w k y u → endOf side u ≡ endOf side t → height u ≤ limit → Nearer w k side z (limit - 1) t
     step t (leaf a) r d n = absurd (omega (arith, h, leaf-low r))
@@ -64,7 +69,10 @@ going-on {w} {k} {x} {y} {limit} {z} {side} g h e = record { is = λ t r a. step
 
 -- the limit is used up, which no balanced tree comes to
 pub going-over : {w : Words} {k x y limit r : ℕ} {side : Bool} → Going w k side x y limit → mostSlots < y → limit ≡ 0 → Ended w k side x r
-going-over {w} {k} {x} {y} {limit} {r} {side} g h e = record { is = λ t q a. absurd (tall (g .is t q a .here) (g .is t q a .rep) (g .is t q a .high)); none = λ d. absurd (omega (arith, h, g .none d)) }
+going-over {w} {k} {x} {y} {limit} {r} {side} g h e = record {
+  is = λ t q a. absurd (tall (g .is t q a .here) (g .is t q a .rep) (g .is t q a .high));
+  none = λ d. absurd (omega (arith, h, g .none d));
+}
   where
     tall : (u : Tree Item) → Rep w k y u → height u ≤ limit → ⊥
     tall (leaf a) q n = omega (arith, h, leaf-low q)

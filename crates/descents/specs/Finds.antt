@@ -51,20 +51,24 @@ down-keyed : {w : Words} {f : ℕ} {key : Item → ℤ} (side : Bool) (l r : Tre
 down-keyed false l r q = keyed-left (leaves r) q
 down-keyed true l r q = keyed-right (leaves l) q
 
-down-find : (key : Item → ℤ) (sought : ℤ) (b : Bool) (l r : Tree Item) → b ≡ ltZ sought (key (last l)) → find key sought (pick b l r) ≡ find key sought (node l r)
+down-find : (key : Item → ℤ) (sought : ℤ) (b : Bool) (l r : Tree Item) → b ≡ ltZ sought (key (last l)) →
+    find key sought (pick b l r) ≡ find key sought (node l r)
 unfolding find
 down-find key sought true l r e = ap (λ c. cond c (find key sought r) (find key sought l)) e
 down-find key sought false l r e = ap (λ c. cond c (find key sought r) (find key sought l)) e
 
-pub looking-on : {w : Words} {k f x y limit g z : ℕ} {b : Bool} (sought : ℤ) → Looking w k f sought x y limit → mostSlots < y → g ≡ y - mostSlots → b ≡ ltZ sought (cell w f g) → z ≡ childAt w k b y
+pub looking-on : {w : Words} {k f x y limit g z : ℕ} {b : Bool} (sought : ℤ) → Looking w k f sought x y limit → mostSlots < y → g ≡ y - mostSlots →
+    b ≡ ltZ sought (cell w f g) → z ≡ childAt w k b y
     → Looking w k f sought x z (limit - 1)
 looking-on {w} {k} {f} {x} {y} {limit} {g} {z} {b} sought j h eg eb e =
     record {
-      is = λ t key r a q. step t key (j .is t key r a q .here) (j .is t key r a q .rep) (j .is t key r a q .keyed) (j .is t key r a q .same) (j .is t key r a q .high);
+      is = λ t key r a q. step t key (j .is t key r a q .here) (j .is t key r a q .rep) (j .is t key r a q .keyed) (j .is t key r a q .same)
+          (j .is t key r a q .high);
       nothing = λ d. absurd (omega (arith, h, j .nothing d));
     }
   where
-    step : (t : Tree Item) (key : Item → ℤ) (u : Tree Item) → Rep w k y u → Keyed w f key (leaves u) → find key sought u ≡ find key sought t → height u ≤ limit → Closer w k f sought z (limit - 1) t key
+    step : (t : Tree Item) (key : Item → ℤ) (u : Tree Item) → Rep w k y u → Keyed w f key (leaves u) → find key sought u ≡ find key sought t →
+        height u ≤ limit → Closer w k f sought z (limit - 1) t key
     step t key (leaf a) r q d n = absurd (omega (arith, h, leaf-low r))
     step t key (node l s) r q d n =
         record {
@@ -80,13 +84,18 @@ looking-on {w} {k} {f} {x} {y} {limit} {g} {z} {b} sought j h eg eb e =
 
 pub looking-over : {w : Words} {k f x y limit r : ℕ} {sought : ℤ} → Looking w k f sought x y limit → mostSlots < y → limit ≡ 0 → Found w k f sought x r
 looking-over {w} {k} {f} {x} {y} {limit} j h e =
-    record { is = λ t key r a q. absurd (tall (j .is t key r a q .here) (j .is t key r a q .rep) (j .is t key r a q .high)); nothing = λ d. absurd (omega (arith, h, j .nothing d)) }
+    record {
+      is = λ t key r a q. absurd (tall (j .is t key r a q .here) (j .is t key r a q .rep) (j .is t key r a q .high));
+      nothing =
+          λ d. absurd (omega (arith, h, j .nothing d));
+    }
   where
     tall : (u : Tree Item) → Rep w k y u → height u ≤ limit → ⊥
     tall (leaf a) q n = omega (arith, h, leaf-low q)
     tall (node l s) q n = omega (arith, n, e)
 
-pub looking-ends : {w : Words} {k f x y limit : ℕ} {b : Bool} (sought : ℤ) (d : Bool) → Looking w k f sought x y limit → y ≤ mostSlots → b ≡ leZ (cell w f y) sought && leZ sought (cell w f y) → b ≡ d
+pub looking-ends : {w : Words} {k f x y limit : ℕ} {b : Bool} (sought : ℤ) (d : Bool) → Looking w k f sought x y limit → y ≤ mostSlots →
+    b ≡ leZ (cell w f y) sought && leZ sought (cell w f y) → b ≡ d
     → Found w k f sought x (cond d y 0)
 unfolding find
 looking-ends {w} {k} {f} {x} {y} {limit} {b} sought d j h eb e =
@@ -99,7 +108,8 @@ looking-ends {w} {k} {f} {x} {y} {limit} {b} sought d j h eb e =
     zero-either true i = i
     zero-either false i = refl
 
-    stop : (t : Tree Item) (key : Item → ℤ) (u : Tree Item) → Rep w k y u → Keyed w f key (leaves u) → find key sought u ≡ find key sought t → cond d y 0 ≡ foundAt (find key sought t)
+    stop : (t : Tree Item) (key : Item → ℤ) (u : Tree Item) → Rep w k y u → Keyed w f key (leaves u) → find key sought u ≡ find key sought t →
+        cond d y 0 ≡ foundAt (find key sought t)
     stop t key (leaf a) r q i = one d told ∙ ap foundAt i
       where
         told : d ≡ leZ (key a) sought && leZ sought (key a)

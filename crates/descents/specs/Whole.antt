@@ -39,7 +39,11 @@ module _ {A : Type 0} where
       let cr = split-whole test pr in
       cond-both (Whole (node l r)) (test (last l))
       (λ t. record { front = λ e. ap (joinP (some l)) (cr .front e) ∙ ap some (join-level l r hl hr); back = λ e. absurd (not-left l (split test r .front) e) })
-      (λ t. record { front = λ e. absurd (not-right (split test l .back) r e); back = λ e. ap (λ p. joinP p (some r)) (cl .back e) ∙ ap some (join-level l r hl hr) })
+      (λ t. record {
+        front = λ e. absurd (not-right (split test l .back) r e);
+        back = λ e. ap (λ p. joinP p (some r)) (cl .back e)
+            ∙ ap some (join-level l r hl hr);
+      })
 
   -- where every leaf passes, nothing is behind; where none does, nothing is in front
   pub none-behind : (test : A → Bool) (t : Tree A) → ((a : A) → List·Memᴰ a (leaves t) → T (test a)) → split test t .back ≡ none

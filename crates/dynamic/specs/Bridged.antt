@@ -18,7 +18,7 @@ use Rattle.trees.specs.Tree.{Tree, leaves, first}
 use Rattle.trees.specs.Leaves.{some-leaf}
 use Rattle.meeting.specs.Machine.{left, right}
 use Rattle.meeting.specs.Meets.{size, lineFrom, meets}
-pub use Rattle.dynamic.specs.SearchEnd.{Bridged}
+use Rattle.dynamic.specs.SearchEnd.{Bridged}
 
 -- ---- a chain counted from its last line
 
@@ -34,7 +34,8 @@ module _ (S : Figure) where
             rw (e, f) (K .turning k (omega arith));
       }
 
-module _ (S : Figure) (L : PseudoLines S) (ls rs : List (S .Line)) (o : Ordered S (ls ++ rs)) (tl tr : Tree (S .Line)) (E : Env S ls (leaves tl)) (F : Env S rs (leaves tr)) where
+module _ (S : Figure) (L : PseudoLines S) (ls rs : List (S .Line)) (o : Ordered S (ls ++ rs)) (tl tr : Tree (S .Line)) (E : Env S ls (leaves tl))
+    (F : Env S rs (leaves tr)) where
   pub faces : (d : S .Line) → Facing S (lineFrom left tl d) (size tl) (lineFrom right tr d) (size tr)
   faces d =
       record {
@@ -65,7 +66,8 @@ module _ (S : Figure) (L : PseudoLines S) (ls rs : List (S .Line)) (o : Ordered 
         left-pieces = split-at (leaves tl) i d hi;
         right-pieces = split-at (leaves tr) k d (omega arith);
         merged =
-            merge-split S L ls rs (leaves tl) (leaves tr) (take i (leaves tl) ++ a i ∷ c j ∷ drop (suc k) (leaves tr)) (take i (leaves tl)) (drop (suc i) (leaves tl))
+            merge-split S L ls rs (leaves tl) (leaves tr) (take i (leaves tl) ++ a i ∷ c j ∷ drop (suc k) (leaves tr)) (take i (leaves tl))
+            (drop (suc i) (leaves tl))
             (take k (leaves tr)) (drop (suc k) (leaves tr)) (a i) (c j) d i j (split-at (leaves tl) i d hi) (split-at (leaves tr) k d (omega arith)) refl
             (length-take-le i (leaves tl) (omega arith)) (length-drop (suc k) (leaves tr) ∙ omega arith) o E F .0 H;
         met = meets S L tl tr d i j (faces d) G;

@@ -2,7 +2,8 @@
 -- and its inner nodes but for the one that goes or comes.
 use mathlib.Core.Path.{_≡_, refl, sym, ap, subst, _∙_}
 use mathlib.Core.Logic.{⊎-elim}
-use mathlib.Core.List.{List, [], _∷_, _++_, append-assoc, append-nil, List·Memᴰ, List·Memᴰ·head, List·Memᴰ·tail, List·Memᴰ·cases-cons, Sublistᴰ, Sublistᴰ·cons-cons, Sublistᴰ·refl, Sublistᴰ·nil-sublist, Sublistᴰ·append}
+use mathlib.Core.List.{List, [], _∷_, _++_, append-assoc, append-nil, List·Memᴰ, List·Memᴰ·head, List·Memᴰ·tail, List·Memᴰ·cases-cons, Sublistᴰ}
+use mathlib.Core.List.{Sublistᴰ·cons-cons, Sublistᴰ·refl, Sublistᴰ·nil-sublist, Sublistᴰ·append}
 use mathlib.Core.Option.{Option, none, some}
 use Rattle.trees.specs.Tree.{node, leaves}
 use Rattle.meeting.specs.Machine.{Side, left, right}
@@ -65,7 +66,8 @@ module _ {A : Type 0} {h : Held A} where
   single-inners {hs} e (added-here d) = ap (λ ns. ns ++ innersOf hs) (ap (λ x. inners (heldShape x)) (sym d) ∙ e)
   single-inners e (added-there {x} m) = ap (λ ns. inners (heldShape x) ++ ns) (single-inners e m)
 
-  pub added-all : {P : Held A → Type 0} {hs ks : List (Held A)} → Added h hs ks → P h → ((x : Held A) → List·Memᴰ x hs → P x) → (x : Held A) → List·Memᴰ x ks → P x
+  pub added-all : {P : Held A → Type 0} {hs ks : List (Held A)} → Added h hs ks → P h → ((x : Held A) → List·Memᴰ x hs → P x) → (x : Held A) →
+      List·Memᴰ x ks → P x
   added-all {P} (added-here d) p f x i = ⊎-elim (λ e. subst P (d ∙ sym e) p) (f x) (List·Memᴰ·cases-cons i)
   added-all {P} (added-there m) p f x i =
       ⊎-elim (λ e. f x (List·Memᴰ·head e)) (λ j. added-all {P = P} m p (λ y k. f y (List·Memᴰ·tail k)) x j) (List·Memᴰ·cases-cons i)
@@ -99,12 +101,14 @@ module _ {A : Type 0} {l r h : Held A} where
   whole-in (merged-there m) = List·Memᴰ·tail (whole-in m)
 
   -- what holds of all but the two holds of all but the one
-  pub merge-all : {P : Held A → Type 0} {hs ks : List (Held A)} → Merged l r h hs ks → P h → ((x : Held A) → List·Memᴰ x hs → P x) → (x : Held A) → List·Memᴰ x ks → P x
+  pub merge-all : {P : Held A → Type 0} {hs ks : List (Held A)} → Merged l r h hs ks → P h → ((x : Held A) → List·Memᴰ x hs → P x) → (x : Held A) →
+      List·Memᴰ x ks → P x
   merge-all {P} merged-here p f x i = ⊎-elim (λ (e : x ≡ h). subst P (sym e) p) (λ j. f x (List·Memᴰ·tail (List·Memᴰ·tail j))) (List·Memᴰ·cases-cons i)
   merge-all {P} (merged-there {x = y} m) p f x i =
       ⊎-elim (λ (e : x ≡ y). f x (List·Memᴰ·head e)) (λ k. merge-all m p (λ z j. f z (List·Memᴰ·tail j)) x k) (List·Memᴰ·cases-cons i)
 
-  pub part-all : {P : Held A → Type 0} {hs ks : List (Held A)} → Merged l r h hs ks → P l → P r → ((x : Held A) → List·Memᴰ x ks → P x) → (x : Held A) → List·Memᴰ x hs → P x
+  pub part-all : {P : Held A → Type 0} {hs ks : List (Held A)} → Merged l r h hs ks → P l → P r → ((x : Held A) → List·Memᴰ x ks → P x) → (x : Held A) →
+      List·Memᴰ x hs → P x
   part-all {P} merged-here p q f x i =
       ⊎-elim
       (λ (e : x ≡ l). subst P (sym e) p)
@@ -125,7 +129,8 @@ module _ {A : Type 0} {l r h : Held A} where
   merged-lines e merged-here = rw (e, append-assoc)
   merged-lines e (merged-there {x} m) = ap (λ ls. leaves (heldShape x) ++ ls) (merged-lines e m)
 
-  pub merged-inners : {hs ks : List (Held A)} → heldShape h ≡ node (heldShape l) (heldShape r) → Merged l r h hs ks → Added (above l r) (innersOf hs) (innersOf ks)
+  pub merged-inners : {hs ks : List (Held A)} → heldShape h ≡ node (heldShape l) (heldShape r) → Merged l r h hs ks →
+      Added (above l r) (innersOf hs) (innersOf ks)
   merged-inners e merged-here = rw (e, append-assoc) (added-between (inners (heldShape l)) _)
   merged-inners e (merged-there {x} m) = added-behind (inners (heldShape x)) (merged-inners e m)
 
@@ -146,7 +151,8 @@ module _ {A : Type 0} where
   merged-row [] m = m
   merged-row (h ∷ hs) m = merged-row hs (merged-there m)
 
-  merged-seen : (side : Side) {o i h : Held A} {hs ks : List (Held A)} → Merged o i h hs ks → (ys : List (Held A)) → MergedOn side o i h (rowOn side hs ys) (rowOn side ks ys)
+  merged-seen : (side : Side) {o i h : Held A} {hs ks : List (Held A)} → Merged o i h hs ks → (ys : List (Held A)) →
+      MergedOn side o i h (rowOn side hs ys) (rowOn side ks ys)
   merged-seen left merged-here ys = merged-here
   merged-seen left (merged-there m) ys = merged-there (merged-seen left m ys)
   merged-seen right (merged-here {hs}) ys = merged-row hs merged-here

@@ -41,7 +41,8 @@ climbs {h} {f} {g} {k} e p q low high = record { near = omega arith; far = omega
 
 -- ---- what an insertion makes of a subtree of height h
 
-pub record Grown (S : Figure) (before : List (Inner (S .Line))) (live : List (S .Line)) (row : List (Held (S .Line))) (h : ℕ) (m : Made (S .Line)) : Type 0 where
+pub record Grown (S : Figure) (before : List (Inner (S .Line))) (live : List (S .Line)) (row : List (Held (S .Line))) (h : ℕ) (m : Made (S .Line)) :
+    Type 0 where
   pub kept : Kept S before live row (m .log)
   pub low : h ≤ heldHeight (m .held)
   pub high : heldHeight (m .held) ≤ suc h
@@ -91,7 +92,8 @@ module _ (S : Figure) (L : PseudoLines S) {before : List (Inner (S .Line))} {liv
 module _ (S : Figure) (L : PseudoLines S) (before : List (Inner (S .Line))) (live : List (S .Line)) (o : Ordered S live) (s : S .Line) where
   -- two single lines side by side
   raised-pair :
-      (xs ys : List (Held (S .Line))) (l r : Held (S .Line)) → heldHeight l ≡ 0 → heldHeight r ≡ 0 → Kept S before live (xs ++ l ∷ r ∷ ys) [] → Grown S before live (xs ++ raise S l r .held ∷ ys) 0 (raise S l r)
+      (xs ys : List (Held (S .Line))) (l r : Held (S .Line)) → heldHeight l ≡ 0 → heldHeight r ≡ 0 → Kept S before live (xs ++ l ∷ r ∷ ys) [] →
+      Grown S before live (xs ++ raise S l r .held ∷ ys) 0 (raise S l r)
   raised-pair xs ys l r p q k =
       let m : Merged l r (raise S l r .held) (xs ++ l ∷ r ∷ ys) (xs ++ raise S l r .held ∷ ys) = merged-behind xs merged-here in
       let R = raised-on S L left k m (omega arith) (omega arith) in
@@ -127,12 +129,14 @@ module _ (S : Figure) (L : PseudoLines S) (before : List (Inner (S .Line))) (liv
       cond-both (λ m. Grown S before live (xs ++ m .held ∷ ys) (heldHeight h) m) (S .before s (last (shape l)))
       (λ t. grown-left S L xs ys a
       (on-left (c .front .whole) xs (c .back ∷ ys) old k₁
-      (lines-left (linesOf xs) (placed S s (leaves (shape l))) (leaves (shape r)) (linesOf ys) d (placed-left S s (leaves (shape l)) (leaves (shape r)) (last-leaf (shape l)) t))))
+      (lines-left (linesOf xs) (placed S s (leaves (shape l))) (leaves (shape r)) (linesOf ys) d
+      (placed-left S s (leaves (shape l)) (leaves (shape r)) (last-leaf (shape l)) t))))
       (λ t. grown-right S L xs ys a
       (rw append-snoc at
       (on-right (c .back .whole) (xs ++ c .front ∷ []) ys old k₂
       (lines-right xs (c .front) (placed S s (leaves (shape r))) (linesOf ys) d
-      (placed-right S s (leaves (shape l)) (leaves (shape r)) (none-behind S L s (shape l) (ordered-left S (leaves (shape l)) (leaves (shape r)) (w .ordered)) t))))))
+      (placed-right S s (leaves (shape l)) (leaves (shape r))
+      (none-behind S L s (shape l) (ordered-left S (leaves (shape l)) (leaves (shape r)) (w .ordered)) t))))))
 
   pub inserted : (t : OfferTree (S .Line)) → Inserts t
   inserted (single a) = inserted-single a

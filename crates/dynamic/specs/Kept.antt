@@ -16,13 +16,15 @@ use Rattle.dynamic.specs.Work.{Inner, inners, Searched, Floor, stepsOf, 
 use Rattle.dynamic.specs.Lower.{whole-lower}
 use Rattle.dynamic.specs.Raise.{raised-shape, raised-steps, whole-raise}
 use Rattle.dynamic.specs.Floors.{Added, added-last, floor-drop, floor-add}
-use Rattle.dynamic.specs.Forests.{linesOf, innersOf, single-inners, added-all, added-in, Merged, MergedOn, left-in, right-in, whole-in, merge-all, part-all, merged-sub, merged-lines, merged-inners}
+use Rattle.dynamic.specs.Forests.{linesOf, innersOf, single-inners, added-all, added-in, Merged, MergedOn, left-in, right-in, whole-in}
+use Rattle.dynamic.specs.Forests.{merge-all, part-all, merged-sub, merged-lines, merged-inners}
 
 abbrev pub heldHeight : {A : Type 0} → Held A → ℕ
 heldHeight h = height (heldShape h)
 
 -- `before` are the inner nodes before the update, `live` the lines after it.
-pub record Kept (S : Figure) (before : List (Inner (S .Line))) (live : List (S .Line)) (row : List (Held (S .Line))) (log : List (Pair (S .Line))) : Type 0 where
+pub record Kept (S : Figure) (before : List (Inner (S .Line))) (live : List (S .Line)) (row : List (Held (S .Line))) (log : List (Pair (S .Line))) :
+    Type 0 where
   pub ordered : Ordered S live
   pub lines : linesOf row ≡ live
   pub whole : (h : Held (S .Line)) → List·Memᴰ h row → Whole S h
@@ -68,12 +70,14 @@ searched-more S {live} log f s q m = ⊎-elim (f q) (λ i. subst (Searched S liv
 -- ---- before the first search
 
 -- a row with an empty log, and other lines that are to stay
-pub started : (S : Figure) {before : List (Inner (S .Line))} {live : List (S .Line)} {row : List (Held (S .Line))} → Ordered S live → linesOf row ≡ live → ((h : Held (S .Line)) → List·Memᴰ h row → Whole S h) → Floor S before (innersOf row) [] → Kept S before live row []
+pub started : (S : Figure) {before : List (Inner (S .Line))} {live : List (S .Line)} {row : List (Held (S .Line))} → Ordered S live → linesOf row ≡ live →
+    ((h : Held (S .Line)) → List·Memᴰ h row → Whole S h) → Floor S before (innersOf row) [] → Kept S before live row []
 started S o e w f = record { ordered = o; lines = e; whole = w; searched = λ p m. absurd (List·Memᴰ·not-nil m); few-steps = omega arith; floor = f }
 
 -- a single line joins the row, or leaves it
 module _ (S : Figure) {before : List (Inner (S .Line))} {old live : List (S .Line)} {h : Held (S .Line)} {row more : List (Held (S .Line))} where
-  pub line-joins : Kept S before old row [] → Added h row more → Whole S h → inners (heldShape h) ≡ [] → Ordered S live → linesOf more ≡ live → Kept S before live more []
+  pub line-joins : Kept S before old row [] → Added h row more → Whole S h → inners (heldShape h) ≡ [] → Ordered S live → linesOf more ≡ live →
+      Kept S before live more []
   line-joins k a w e o l = started S o l (added-all a w (k .whole)) (rw (single-inners e a) (k .floor))
 
   pub line-leaves : Kept S before old more [] → Added h row more → inners (heldShape h) ≡ [] → Ordered S live → linesOf row ≡ live → Kept S before live row []
@@ -89,7 +93,8 @@ pub record Parted (S : Figure) (h : Held (S .Line)) (c : Lowered (S .Line)) : Ty
   pub level : Above (c .front) (c .back) h
 
 -- Two neighbours made one, by one search.
-pub record Raises (S : Figure) (before : List (Inner (S .Line))) (live : List (S .Line)) (row : List (Held (S .Line))) (log : List (Pair (S .Line))) (l r : Held (S .Line)) (m : Made (S .Line)) : Type 0 where
+pub record Raises (S : Figure) (before : List (Inner (S .Line))) (live : List (S .Line)) (row : List (Held (S .Line))) (log : List (Pair (S .Line)))
+    (l r : Held (S .Line)) (m : Made (S .Line)) : Type 0 where
   pub kept : Kept S before live row (log ++ m .log)
   pub level : Above l r (m .held)
   pub one : length (m .log) ≡ 1

@@ -57,7 +57,8 @@ module _ (S : Figure) (L : PseudoLines S) where
       Valid S r (partLeaves qr ++ v ∷ from) →
       Halves (cutBehind S (last (shape l)) e) (upTo ++ u ∷ []) (v ∷ from)
   fork-halves u v l r ql qr e upTo from o p vl vr =
-      cut-halves (shape l) (leaves (shape r)) e (upTo ++ u ∷ []) (v ∷ from) o p (λ a m. sublist-mem (valid-env S L vl .sub) (Memᴰ·append-left (partLeaves ql) m))
+      cut-halves (shape l) (leaves (shape r)) e (upTo ++ u ∷ []) (v ∷ from) o p
+      (λ a m. sublist-mem (valid-env S L vl .sub) (Memᴰ·append-left (partLeaves ql) m))
       (λ a m. sublist-mem (valid-env S L vr .sub) (Memᴰ·append-right (partLeaves qr) m))
 
   lower-valid :
@@ -91,7 +92,8 @@ module _ (S : Figure) (L : PseudoLines S) where
             };
       }
 
-  pub whole-lower : {u v : S .Line} {l r : OfferTree (S .Line)} {ql qr : Part (S .Line)} {h : Held (S .Line)} → Whole S h → h .tree ≡ fork u v l ql qr r → LowersTo S l r (lower S h)
+  pub whole-lower : {u v : S .Line} {l r : OfferTree (S .Line)} {ql qr : Part (S .Line)} {h : Held (S .Line)} → Whole S h → h .tree ≡ fork u v l ql qr r →
+      LowersTo S l r (lower S h)
   whole-lower {u} {v} {l} {r} {ql} {qr} {h} w q =
       let w′ : Whole S (hold (fork u v l ql qr r) (h .whole)) = subst (λ (t : OfferTree (S .Line)). Whole S (hold t (h .whole))) q w in
       subst (λ (t : OfferTree (S .Line)). LowersTo S l r (lower S (hold t (h .whole)))) (sym q)

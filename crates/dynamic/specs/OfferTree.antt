@@ -1,4 +1,5 @@
--- The tree of offers (docs/REQUIREMENTS.md, 5.1; its source [1], section 3): leaves are lines in order; a fork keeps for each child the part of its envelope that is not on the fork's.
+-- The tree of offers (docs/REQUIREMENTS.md, 5.1; its source [1], section 3): leaves are lines in order; a fork keeps for each child the part of its
+-- envelope that is not on the fork's.
 -- A node is never handled without its whole envelope in hand, as one piece tree; below it only the rests are stored.
 use mathlib.Core.Bool.{not}
 use mathlib.Core.List.{List, [], _∷_, _++_}

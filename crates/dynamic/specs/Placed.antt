@@ -18,7 +18,8 @@ module _ {A : Type 0} where
   keep-append p [] ys = refl
   keep-append p (x ∷ xs) ys = step (p x) (keep-append p xs ys)
     where
-      step : (b : Bool) → keep p (xs ++ ys) ≡ keep p xs ++ keep p ys → cond b (x ∷ keep p (xs ++ ys)) (keep p (xs ++ ys)) ≡ cond b (x ∷ keep p xs) (keep p xs) ++ keep p ys
+      step : (b : Bool) → keep p (xs ++ ys) ≡ keep p xs ++ keep p ys →
+          cond b (x ∷ keep p (xs ++ ys)) (keep p (xs ++ ys)) ≡ cond b (x ∷ keep p xs) (keep p xs) ++ keep p ys
       step true e = ap (λ l. x ∷ l) e
       step false e = e
 
@@ -51,7 +52,8 @@ module _ (S : Figure) (s : S .Line) where
   placed-mem [] x m = List·Memᴰ·cases-cons m
   placed-mem (p ∷ ps) x m = step (S .before s p) m (placed-mem ps x)
     where
-      step : (b : Bool) → List·Memᴰ x (cond b (s ∷ p ∷ ps) (p ∷ placed S s ps)) → (List·Memᴰ x (placed S s ps) → (x ≡ s) ⊎ List·Memᴰ x ps) → (x ≡ s) ⊎ List·Memᴰ x (p ∷ ps)
+      step : (b : Bool) → List·Memᴰ x (cond b (s ∷ p ∷ ps) (p ∷ placed S s ps)) → (List·Memᴰ x (placed S s ps) → (x ≡ s) ⊎ List·Memᴰ x ps) →
+          (x ≡ s) ⊎ List·Memᴰ x (p ∷ ps)
       step true n ih = List·Memᴰ·cases-cons n
       step false n ih = ⊎-elim (λ e. inr (List·Memᴰ·head e)) (λ i. ⊎-elim inl (λ j. inr (List·Memᴰ·tail j)) (ih i)) (List·Memᴰ·cases-cons n)
 
@@ -88,11 +90,14 @@ module _ (S : Figure) (L : PseudoLines S) (s : S .Line) where
           (ordered-head S o b) (placed-mem S s ps b m)
 
   pub without-one : {a : S .Line} → s ≡ a → without S s (a ∷ []) ≡ []
-  without-one {a} e = subst (λ c. without S s (c ∷ []) ≡ []) e (cond-no (S .before s s || S .before s s) (s ∷ []) [] (not-T (S .before s s || S .before s s) (λ t. L .before-irrefl s (⊎-elim (λ u. u) (λ u. u) (or-cases (S .before s s) (S .before s s) t)))))
+  without-one {a} e = subst (λ c. without S s (c ∷ []) ≡ []) e
+      (cond-no (S .before s s || S .before s s) (s ∷ []) [] (not-T (S .before s s || S .before s s)
+      (λ t. L .before-irrefl s (⊎-elim (λ u. u) (λ u. u) (or-cases (S .before s s) (S .before s s) t)))))
 
   -- ---- the last line of a subtree decides for all
 
-  pub none-behind : (t : Tree (S .Line)) → Ordered S (leaves t) → T (not (S .before s (last t))) → (x : S .Line) → List·Memᴰ x (leaves t) → T (not (S .before s x))
+  pub none-behind : (t : Tree (S .Line)) → Ordered S (leaves t) → T (not (S .before s (last t))) → (x : S .Line) → List·Memᴰ x (leaves t) →
+      T (not (S .before s x))
   none-behind t o h x m =
       not-T (S .before s x)
       (λ u. T-not (S .before s (last t)) h

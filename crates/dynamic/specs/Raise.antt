@@ -4,7 +4,8 @@ use mathlib.Core.Path.{_≡_, refl, sym, _∙_, ap}
 use mathlib.Core.Logic.{inl, inr, ⊎-elim}
 use mathlib.Core.Bool.{not}
 use mathlib.Core.Option.{none, some}
-use mathlib.Core.List.{List, [], _∷_, _++_, List·Memᴰ, List·Memᴰ·head, List·Memᴰ·append-cases, List·Memᴰ·cases-cons, List·Memᴰ·eq-of-singleton, List·Memᴰ·not-nil, Sublistᴰ}
+use mathlib.Core.List.{List, [], _∷_, _++_, List·Memᴰ, List·Memᴰ·head, List·Memᴰ·append-cases, List·Memᴰ·cases-cons, List·Memᴰ·eq-of-singleton}
+use mathlib.Core.List.{List·Memᴰ·not-nil, Sublistᴰ}
 use lib.Dec.{T, not-T, T-not}
 use lib.Seq.{append-snoc}
 use Rattle.envelopes.specs.PseudoLines.{Figure, PseudoLines}
@@ -131,7 +132,8 @@ module _ (S : Figure) (L : PseudoLines S) where
         right-rest = split (λ x. S .before x v) b .front;
         forked = refl;
         whole =
-            whole-fork S L u v (G .upTo) (G .beyond) (G .short) (G .from) l r a b (rw p (G .left-pieces)) (rw q (G .right-pieces)) (rw (p, q) (G .merged)) wl wr o g;
+            whole-fork S L u v (G .upTo) (G .beyond) (G .short) (G .from) l r a b (rw p (G .left-pieces)) (rw q (G .right-pieces)) (rw (p, q) (G .merged))
+            wl wr o g;
         pair = record { front = a; back = b };
         logged = refl;
         searched = λ live s.

@@ -5,7 +5,9 @@ use native.Mathlib.Omega.{arith}
 use mathlib.Core.Path.{_≡_, refl, sym, _∙_, ap}
 use mathlib.Core.Logic.{⊎-elim, _≢_}
 use mathlib.Core.HLevel.{¬-prop, Π-prop}
-use mathlib.Core.List.{List, [], _∷_, _++_, append-assoc, List·Memᴰ, List·Memᴰ·head, List·Memᴰ·tail, List·Memᴰ·cases-cons, Memᴰ·append-left, Memᴰ·append-right, List·Permᴰ, List·Permᴰ·nil, List·Permᴰ·cons, List·Permᴰ·swap, List·Permᴰ·trans, Permᴰ·refl, Permᴰ·symm, Permᴰ·append-left, Permᴰ·append-right, List·Permᴰ·append-comm, Permᴰ·pairwise, Pairwise, Pairwise·nil}
+use mathlib.Core.List.{List, [], _∷_, _++_, append-assoc, List·Memᴰ, List·Memᴰ·head, List·Memᴰ·tail, List·Memᴰ·cases-cons, Memᴰ·append-left}
+use mathlib.Core.List.{Memᴰ·append-right, List·Permᴰ, List·Permᴰ·nil, List·Permᴰ·cons, List·Permᴰ·swap, List·Permᴰ·trans, Permᴰ·refl, Permᴰ·symm}
+use mathlib.Core.List.{Permᴰ·append-left, Permᴰ·append-right, List·Permᴰ·append-comm, Permᴰ·pairwise, Pairwise, Pairwise·nil}
 use lib.ListN.{length, length-append}
 use Rattle.lists.specs.Members.{pairs-cons}
 use Rattle.envelopes.specs.PseudoLines.{Figure, PseudoLines}
@@ -107,14 +109,16 @@ module _ {A : Type 0} {R : A → A → Type 0} (isProp : (a b : A) → IsProp (R
   parts-between [] h = Pairwise·nil
   parts-between (p ∷ ps) h =
       let k = parted (partLeaves p) h in
-      pairs-cons (λ p q. Π-prop (λ a. Π-prop (λ b. Π-prop (λ i. Π-prop (λ j. isProp a b))))) (λ q m a b i j. k .across i (lines-mem m j)) (parts-between ps (k .right))
+      pairs-cons (λ p q. Π-prop (λ a. Π-prop (λ b. Π-prop (λ i. Π-prop (λ j. isProp a b))))) (λ q m a b i j. k .across i (lines-mem m j))
+      (parts-between ps (k .right))
 
 module _ (S : Figure) where
   pub trees-rearranged : {h : Held (S .Line)} → Whole S h → List·Permᴰ (partLines (pieceTrees h)) (leaves (shape (h .tree)))
   trees-rearranged {h} w = rw (lines-rests (h .tree)) (rearranged S w)
 
   -- What holds of any two leaves, either way round, holds of any two lines of the whole and the stored parts, ..
-  module _ {R : S .Line → S .Line → Type 0} (isProp : (a b : S .Line) → IsProp (R a b)) (symmetric : (a b : S .Line) → R a b → R b a) {h : Held (S .Line)} (w : Whole S h) (p : Pairwise R (leaves (shape (h .tree)))) where
+  module _ {R : S .Line → S .Line → Type 0} (isProp : (a b : S .Line) → IsProp (R a b)) (symmetric : (a b : S .Line) → R a b →
+      R b a) {h : Held (S .Line)} (w : Whole S h) (p : Pairwise R (leaves (shape (h .tree)))) where
     pub lines-apart : Pairwise R (partLeaves (h .whole) ++ stored (h .tree))
     lines-apart = Permᴰ·pairwise isProp symmetric (Permᴰ·symm (rearranged S w)) p
 

@@ -16,7 +16,8 @@ use Rattle.dynamic.specs.Forests.{rowOn, merged-here, merged-there, merg
 use Rattle.dynamic.specs.Kept.{Kept, heldHeight, Above, lowered-on, raised-on}
 
 -- What a rotation makes where the taller sibling has height h.
-record Rotated (S : Figure) (before : List (Inner (S .Line))) (live : List (S .Line)) (row : List (Held (S .Line))) (log : List (Pair (S .Line))) (h : ℕ) (m : Made (S .Line)) : Type 0 where
+record Rotated (S : Figure) (before : List (Inner (S .Line))) (live : List (S .Line)) (row : List (Held (S .Line))) (log : List (Pair (S .Line))) (h : ℕ)
+    (m : Made (S .Line)) : Type 0 where
   kept : Kept S before live row (log ++ m .log)
   low : h ≤ heldHeight (m .held)
   high : heldHeight (m .held) ≤ suc h
@@ -32,7 +33,8 @@ pub balances-turned : {l r h : ℕ} → Balances l r h → Balances r l h
 balances-turned {l} {r} {h} b = record { low = omega (arith, b .low); high = omega (arith, b .high); level = λ p q. b .level q p ∙ omega arith }
 
 -- What rebalancing makes of the siblings l and r.
-pub record Joined (S : Figure) (before : List (Inner (S .Line))) (live : List (S .Line)) (row : List (Held (S .Line))) (log : List (Pair (S .Line))) (l r : Held (S .Line)) (m : Made (S .Line)) : Type 0 where
+pub record Joined (S : Figure) (before : List (Inner (S .Line))) (live : List (S .Line)) (row : List (Held (S .Line))) (log : List (Pair (S .Line)))
+    (l r : Held (S .Line)) (m : Made (S .Line)) : Type 0 where
   pub kept : Kept S before live row (log ++ m .log)
   pub heights : Balances (heldHeight l) (heldHeight r) (heldHeight (m .held))
   pub few : length (m .log) ≤ 3
@@ -46,14 +48,16 @@ record Doubled (t o p q s x : ℕ) : Type 0 where
   x-level : x ≡ suc (max o p) → (x ≤ suc (suc (max q s))) × (max q s ≤ x) × (t ≤ suc (max x (suc (max q s)))) × (suc (max x (suc (max q s))) ≤ suc t)
 
 doubled :
-    {t o i p q s : ℕ} (x : ℕ) → t ≡ suc (suc s) → t ≡ suc (max o i) → o ≤ suc i → i ≤ suc o → i ≡ suc (max p q) → p ≤ suc q → q ≤ suc p → o < i → Doubled t o p q s x
+    {t o i p q s : ℕ} (x : ℕ) → t ≡ suc (suc s) → t ≡ suc (max o i) → o ≤ suc i → i ≤ suc o → i ≡ suc (max p q) → p ≤ suc q → q ≤ suc p → o < i →
+    Doubled t o p q s x
 doubled x e a ao ai b bp bq lt = omega arith
 
 -- Three neighbours made one: the inner two first, then the outer one with them.
 abbrev gather : (S : Figure) → Side → (o i s : Held (S .Line)) → Made (S .Line)
 gather S side o i s = andThen (raiseOn S side i s) (λ y. raiseOn S side o y)
 
-record Gathered (S : Figure) (before : List (Inner (S .Line))) (live : List (S .Line)) (row : List (Held (S .Line))) (log : List (Pair (S .Line))) (o i s : Held (S .Line)) (m : Made (S .Line)) : Type 0 where
+record Gathered (S : Figure) (before : List (Inner (S .Line))) (live : List (S .Line)) (row : List (Held (S .Line))) (log : List (Pair (S .Line)))
+    (o i s : Held (S .Line)) (m : Made (S .Line)) : Type 0 where
   kept : Kept S before live row (log ++ m .log)
   higher : heldHeight (m .held) ≡ suc (max (heldHeight o) (suc (max (heldHeight i) (heldHeight s))))
   two : length (m .log) ≡ 2
@@ -98,11 +102,18 @@ module _ (S : Figure) (L : PseudoLines S) (before : List (Inner (S .Line))) (liv
           heldHeight o < heldHeight i →
           After log (heldHeight tall) (andThen (raiseOn S side o p) (λ x. gather S side x q s))
       rotated-twice o i p q k a b lt =
-          let d = doubled (heldHeight (raiseOn S side o p .held)) e (a .higher) (a .left-level) (a .right-level) (b .higher) (b .left-level) (b .right-level) lt in
+          let d = doubled (heldHeight (raiseOn S side o p .held)) e (a .higher) (a .left-level) (a .right-level) (b .higher) (b .left-level)
+          (b .right-level) lt in
           let X = raised-on S L side k (merged-on side xs merged-here ys) (d .o-level) (d .p-level) in
           let (xq, qx, low, high) = d .x-level (X .level .higher) in
           let G = gathered (raiseOn S side o p .held) q s (X .kept) (d .q-level) (d .s-level) xq qx in
-          record { kept = rw append-assoc at (G .kept); low = rw (G .higher) low; high = rw (G .higher) high; few = rw (length-append, X .one, G .two) (omega arith) }
+          record {
+            kept = rw append-assoc at (G .kept);
+            low = rw (G .higher) low;
+            high = rw (G .higher) high;
+            few =
+                rw (length-append, X .one, G .two) (omega arith);
+          }
 
       rotated : Kept S before live (xs ++ rowOn side (tall ∷ s ∷ []) ys) log → After log (heldHeight tall) (rotate S side tall s)
       unfolding rotate

@@ -50,7 +50,8 @@ abbrev pub Shorter : {A : Type 0} → ℕ → Option (Held A) → Type 0
 Shorter h none = h ≡ 0
 Shorter h (some r) = (heldHeight r ≤ h) × (h ≤ suc (heldHeight r))
 
-pub record Shrunk (S : Figure) (before : List (Inner (S .Line))) (live : List (S .Line)) (row : List (Held (S .Line))) (h : ℕ) (m : Removed (S .Line)) : Type 0 where
+pub record Shrunk (S : Figure) (before : List (Inner (S .Line))) (live : List (S .Line)) (row : List (Held (S .Line))) (h : ℕ) (m : Removed (S .Line)) :
+    Type 0 where
   pub kept : Kept S before live row (m .log)
   pub heights : Shorter h (m .rest)
   pub few : length (m .log) ≤ 3 * h
@@ -72,7 +73,8 @@ module _ (S : Figure) (L : PseudoLines S) {before : List (Inner (S .Line))} {liv
       {h f g : Held (S .Line)} (xs ys : List (Held (S .Line))) (rest : Option (Held (S .Line))) (log : List (Pair (S .Line))) →
       Above f g h →
       Shrunk S before live (xs ++ (rowOf rest ++ g ∷ ys)) (heldHeight f) (record { rest = rest; log = log }) →
-      Shrunk S before live (xs ++ (rowOf (besideRight S (record { rest = rest; log = log }) g .rest) ++ ys)) (heldHeight h) (besideRight S (record { rest = rest; log = log }) g)
+      Shrunk S before live (xs ++ (rowOf (besideRight S (record { rest = rest; log = log }) g .rest) ++ ys)) (heldHeight h)
+      (besideRight S (record { rest = rest; log = log }) g)
   shrunk-left xs ys none log a G = record { kept = G .kept; heights = omega arith; few = omega arith }
   shrunk-left {g = g} xs ys (some l) log a G =
       let C = falls (a .higher) (a .left-level) (a .right-level) (G .heights .0) (G .heights .1) in
@@ -83,7 +85,8 @@ module _ (S : Figure) (L : PseudoLines S) {before : List (Inner (S .Line))} {liv
       {h f g : Held (S .Line)} (xs ys : List (Held (S .Line))) (rest : Option (Held (S .Line))) (log : List (Pair (S .Line))) →
       Above g f h →
       Shrunk S before live (xs ++ g ∷ (rowOf rest ++ ys)) (heldHeight f) (record { rest = rest; log = log }) →
-      Shrunk S before live (xs ++ (rowOf (besideLeft S g (record { rest = rest; log = log }) .rest) ++ ys)) (heldHeight h) (besideLeft S g (record { rest = rest; log = log }))
+      Shrunk S before live (xs ++ (rowOf (besideLeft S g (record { rest = rest; log = log }) .rest) ++ ys)) (heldHeight h)
+      (besideLeft S g (record { rest = rest; log = log }))
   shrunk-right xs ys none log a G = record { kept = G .kept; heights = omega arith; few = omega arith }
   shrunk-right {g = g} xs ys (some r) log b G =
       let a = above-turned b in
@@ -130,10 +133,12 @@ module _ (S : Figure) (L : PseudoLines S) (before : List (Inner (S .Line))) (liv
     in-left t =
         ⊎-elim
         (λ i. i)
-        (λ i. absurd (T-not (S .before (last (shape l)) s) t (ordered-apart S (leaves (shape l)) (leaves (shape r)) ord (last (shape l)) s (last-leaf (shape l)) i)))
+        (λ i. absurd (T-not (S .before (last (shape l)) s) t (ordered-apart S (leaves (shape l)) (leaves (shape r)) ord (last (shape l)) s
+        (last-leaf (shape l)) i)))
         (List·Memᴰ·append-cases (leaves (shape l)) m)
 
-    right-stays : T (not (S .before (last (shape l)) s)) → without S s (leaves (shape l) ++ leaves (shape r)) ≡ without S s (leaves (shape l)) ++ leaves (shape r)
+    right-stays : T (not (S .before (last (shape l)) s)) → without S s (leaves (shape l) ++ leaves (shape r)) ≡ without S s (leaves (shape l)) ++ leaves
+        (shape r)
     right-stays t =
         without-append S s (leaves (shape l)) (leaves (shape r))
         ∙ ap (λ ls. without S s (leaves (shape l)) ++ ls)

@@ -19,7 +19,8 @@ pub data Event : Type 0 where
 
 -- the book after some events
 unfoldable pub book : Option (Held Offer) → List Event → Option (Held Offer)
-unfolding insert remove rebalance rotate raiseBy lowerTree split splitP join joinR joinL balance rotateRight rotateLeft doubleRight doubleLeft meet run step compare onOrAbove advance retreat pop recede ended counted
+unfolding insert remove rebalance rotate raiseBy lowerTree split splitP join joinR joinL balance rotateRight rotateLeft doubleRight doubleLeft meet run step
+    compare onOrAbove advance retreat pop recede ended counted
 book h [] = h
 book h (posts o ∷ es) = book (some (posted offerFigure o h .held)) es
 book h (leaves o ∷ es) = book (withdrawn offerFigure o h .rest) es
@@ -118,5 +119,6 @@ pub same-listing : bookEnvelope (book none (before-last ++ (leaves cover ∷ [])
 same-listing = uncovered ∙ sym freshly-listed
 
 -- 410 and 455 kg, unreduced
-pub between-410-and-455 : crossingNumerator a4 a5 ∷ crossingDenominator a4 a5 ∷ crossingNumerator a5 a6 ∷ crossingDenominator a5 a6 ∷ [] ≡ pos 2050 ∷ pos 5 ∷ pos 2275 ∷ pos 5 ∷ []
+pub between-410-and-455 : crossingNumerator a4 a5 ∷ crossingDenominator a4 a5 ∷ crossingNumerator a5 a6 ∷ crossingDenominator a5 a6 ∷ [] ≡ pos 2050 ∷ pos 5
+    ∷ pos 2275 ∷ pos 5 ∷ []
 between-410-and-455 = refl

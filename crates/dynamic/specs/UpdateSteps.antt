@@ -59,7 +59,8 @@ module _ (S : Figure) (L : PseudoLines S) where
   rebalance-whole {l} {r} wl wr o hl hr =
       let e : linesOf (l ∷ r ∷ []) ≡ leaves (heldShape l) ++ leaves (heldShape r) = ap (λ ls. leaves (heldShape l) ++ ls) (append-nil (leaves (heldShape r))) in
       let k : Kept S (innersOf (l ∷ r ∷ [])) (linesOf (l ∷ r ∷ [])) (l ∷ r ∷ []) [] =
-      started S (rw e o) refl (all-cons {P = Whole S} wl (all-cons {P = Whole S} wr (λ h m. absurd (List·Memᴰ·not-nil m)))) (floor-old S (innersOf (l ∷ r ∷ [])) _ (λ n m. m))
+      started S (rw e o) refl (all-cons {P = Whole S} wl (all-cons {P = Whole S} wr (λ h m. absurd (List·Memᴰ·not-nil m))))
+      (floor-old S (innersOf (l ∷ r ∷ [])) _ (λ n m. m))
       in
       let J = rebalanced S L (innersOf (l ∷ r ∷ [])) (linesOf (l ∷ r ∷ [])) [] [] l r k hl hr in
       record {
@@ -72,12 +73,14 @@ module _ (S : Figure) (L : PseudoLines S) where
   module _ (s : S .Line) {h : Held (S .Line)} (w : Whole S h) where
     pub insert-whole : New S s (leaves (heldShape h)) → Gains S s h (insert S s (h .tree) (h .whole))
     insert-whole n =
-        let G = inserted S L (inners (heldShape h)) (placed S s (leaves (heldShape h))) (placed-ordered S L s (leaves (heldShape h)) (w .ordered) n) s (h .tree) (h .whole) [] [] (leaves (heldShape h)) (opened S h w) (append-nil _) in
+        let G = inserted S L (inners (heldShape h)) (placed S s (leaves (heldShape h))) (placed-ordered S L s (leaves (heldShape h)) (w .ordered) n) s
+        (h .tree) (h .whole) [] [] (leaves (heldShape h)) (opened S h w) (append-nil _) in
         record { whole = G .kept .whole _ (List·Memᴰ·head refl); lines = sym (append-nil _) ∙ G .kept .lines; low = G .low; high = G .high; few = G .few }
 
     pub remove-whole : List·Memᴰ s (leaves (heldShape h)) → Loses S s h (remove S s (h .tree) (h .whole))
     remove-whole m =
-        let G = removed S L (inners (heldShape h)) (without S s (leaves (heldShape h))) (without-ordered S s (w .ordered)) s (h .tree) (h .whole) [] [] (leaves (heldShape h)) (opened S h w) m (append-nil _) in
+        let G = removed S L (inners (heldShape h)) (without S s (leaves (heldShape h))) (without-ordered S s (w .ordered)) s (h .tree) (h .whole) [] []
+        (leaves (heldShape h)) (opened S h w) m (append-nil _) in
         let rest = remove S s (h .tree) (h .whole) .rest in
         let k = rw (append-nil (rowOf rest)) at (G .kept) in
         record { whole = whole-row S rest (k .whole); lines = sym (lines-row rest) ∙ k .lines; heights = G .heights; few = G .few }

@@ -52,7 +52,8 @@ module _ (S : Figure) where
           floor = rw inners-row at (u .kept .floor);
         }
 
-  updated-whole : {before : Option (Held (S .Line))} (after : Option (Held (S .Line))) {live : List (S .Line)} {log : List (Pair (S .Line))} → Updates S before after live log → WholeBook S after
+  updated-whole : {before : Option (Held (S .Line))} (after : Option (Held (S .Line))) {live : List (S .Line)} {log : List (Pair (S .Line))} →
+      Updates S before after live log → WholeBook S after
   updated-whole none u = tt
   updated-whole (some h) u = u .kept .whole h (List·Memᴰ·head refl)
 
@@ -64,20 +65,24 @@ module _ (S : Figure) (L : PseudoLines S) where
   book-listed (some h) w = env-listed S L (leaves (heldShape h)) _ (w .ordered) (valid-env S L (w .valid))
 
   module _ (s : S .Line) where
-    pub posts : (st : Option (Held (S .Line))) → WholeBook S st → New S s (bookLines st) → Updates S st (some (posted S s st .held)) (placed S s (bookLines st)) (posted S s st .log)
+    pub posts : (st : Option (Held (S .Line))) → WholeBook S st → New S s (bookLines st) →
+        Updates S st (some (posted S s st .held)) (placed S s (bookLines st)) (posted S s st .log)
     posts none w n =
         record {
           kept = started S (alone-whole S s .ordered) refl (λ x m. subst (Whole S) (sym (List·Memᴰ·eq-of-singleton m)) (alone-whole S s)) floor-none;
           few = omega arith;
         }
     posts (some h) w n =
-        let G = inserted S L (inners (heldShape h)) (placed S s (leaves (heldShape h))) (placed-ordered S L s (leaves (heldShape h)) (w .ordered) n) s (h .tree) (h .whole) [] [] (leaves (heldShape h)) (opened S h w) (append-nil _) in
+        let G = inserted S L (inners (heldShape h)) (placed S s (leaves (heldShape h))) (placed-ordered S L s (leaves (heldShape h)) (w .ordered) n) s
+        (h .tree) (h .whole) [] [] (leaves (heldShape h)) (opened S h w) (append-nil _) in
         record { kept = G .kept; few = omega (arith, G .few, log-height (w .balanced)) }
 
-    pub withdraws : (st : Option (Held (S .Line))) → WholeBook S st → List·Memᴰ s (bookLines st) → Updates S st (withdrawn S s st .rest) (without S s (bookLines st)) (withdrawn S s st .log)
+    pub withdraws : (st : Option (Held (S .Line))) → WholeBook S st → List·Memᴰ s (bookLines st) →
+        Updates S st (withdrawn S s st .rest) (without S s (bookLines st)) (withdrawn S s st .log)
     withdraws none w m = absurd (List·Memᴰ·not-nil m)
     withdraws (some h) w m =
-        let G = removed S L (inners (heldShape h)) (without S s (leaves (heldShape h))) (without-ordered S s (w .ordered)) s (h .tree) (h .whole) [] [] (leaves (heldShape h)) (opened S h w) m (append-nil _) in
+        let G = removed S L (inners (heldShape h)) (without S s (leaves (heldShape h))) (without-ordered S s (w .ordered)) s (h .tree) (h .whole) [] []
+        (leaves (heldShape h)) (opened S h w) m (append-nil _) in
         record { kept = rw append-nil at (G .kept); few = omega (arith, G .few, log-height (w .balanced)) }
 
     -- ---- post

@@ -8,7 +8,8 @@ use Rattle.envelopes.specs.PseudoLines.{Figure}
 use Rattle.trees.specs.Tree.{height, last}
 use Rattle.trees.specs.Operations.{Part, towers}
 use Rattle.meeting.specs.Machine.{Side, left, right}
-use Rattle.dynamic.specs.OfferTree.{OfferTree, single, fork, shape, Held, hold, alone, heldShape, Pair, Made, made, andThen, Lowered, outer, inner, lower, raise, raiseOn}
+use Rattle.dynamic.specs.OfferTree.{OfferTree, single, fork, shape, Held, hold, alone, heldShape, Pair, Made, made, andThen, Lowered, outer}
+use Rattle.dynamic.specs.OfferTree.{inner, lower, raise, raiseOn}
 
 -- What a withdrawal leaves: nothing, or a tree with its envelope; and the pairs searched.
 pub record Removed (A : Type 0) : Type 0 where
@@ -27,7 +28,8 @@ module _ (S : Figure) where
   unfoldable pub rotate : Side → Held (S .Line) → Held (S .Line) → Made (S .Line)
   rotate side tall short =
       let c = lower S tall in
-      cond (leb (height (heldShape (inner side c))) (height (heldShape (outer side c)))) (rotateOnce side c short) (rotateTwice side c (lower S (inner side c)) short)
+      cond (leb (height (heldShape (inner side c))) (height (heldShape (outer side c)))) (rotateOnce side c short)
+      (rotateTwice side c (lower S (inner side c)) short)
 
   -- two siblings whose heights differ by at most 2
   unfoldable pub rebalance : Held (S .Line) → Held (S .Line) → Made (S .Line)
@@ -45,10 +47,18 @@ module _ (S : Figure) where
 
   -- a child that is left, beside its sibling
   abbrev pub besideRight : Removed (S .Line) → Held (S .Line) → Removed (S .Line)
-  besideRight m r = elim (m .rest) [ none ↦ record { rest = some r; log = m .log } | some l ↦ let n = rebalance l r in record { rest = some (n .held); log = m .log ++ n .log } ]
+  besideRight m r = elim (m .rest) [
+    | none ↦ record { rest = some r; log = m .log }
+    | some l ↦ let n = rebalance l r in
+        record { rest = some (n .held); log = m .log ++ n .log }
+  ]
 
   abbrev pub besideLeft : Held (S .Line) → Removed (S .Line) → Removed (S .Line)
-  besideLeft l m = elim (m .rest) [ none ↦ record { rest = some l; log = m .log } | some r ↦ let n = rebalance l r in record { rest = some (n .held); log = m .log ++ n .log } ]
+  besideLeft l m = elim (m .rest) [
+    | none ↦ record { rest = some l; log = m .log }
+    | some r ↦ let n = rebalance l r in
+        record { rest = some (n .held); log = m .log ++ n .log }
+  ]
 
   unfoldable pub remove : S .Line → OfferTree (S .Line) → Part (S .Line) → Removed (S .Line)
   remove s (single a) e = record { rest = none; log = [] }

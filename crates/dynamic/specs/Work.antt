@@ -64,9 +64,11 @@ pub record Holds (S : Figure) (n : Inner (S .Line)) (p : Pair (S .Line)) : Type 
 -- Each inner node either was there before, or has a pair of its own in the log: that pair is taken out for the nodes that follow.
 pub data Floor (S : Figure) (before : List (Inner (S .Line))) : List (Inner (S .Line)) → List (Pair (S .Line)) → Type 0 where
   floor-none : {log : List (Pair (S .Line))} → Floor S before [] log
-  floor-had : {n : Inner (S .Line)} {ns : List (Inner (S .Line))} {log : List (Pair (S .Line))} → Had before n → Floor S before ns log → Floor S before (n ∷ ns) log
+  floor-had : {n : Inner (S .Line)} {ns : List (Inner (S .Line))} {log : List (Pair (S .Line))} → Had before n → Floor S before ns log →
+      Floor S before (n ∷ ns) log
   floor-own :
-      {n : Inner (S .Line)} {ns : List (Inner (S .Line))} {log : List (Pair (S .Line))} (xs : List (Pair (S .Line))) (p : Pair (S .Line)) (ys : List (Pair (S .Line))) →
+      {n : Inner (S .Line)} {ns : List (Inner (S .Line))} {log : List (Pair (S .Line))} (xs : List (Pair (S .Line))) (p : Pair (S .Line))
+      (ys : List (Pair (S .Line))) →
       log ≡ xs ++ p ∷ ys →
       Holds S n p →
       Floor S before ns (xs ++ ys) →

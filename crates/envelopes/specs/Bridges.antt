@@ -31,7 +31,8 @@ module _ (S : Figure) (L : PseudoLines S) (a : ℕ → S .Line) (m : ℕ) (c : �
       go : (t : ℕ) → k < t → t < m → PastOuter S a t (S .cross (a i) (c j)) → LeftOf S (S .cross (a k) (a (suc k))) (S .cross (a i) (c j))
       go zero h b o = absurd (omega arith)
       go (suc t) h b o =
-          upto-left-trans S L (S .cross (a k) (a (suc k))) (S .cross (a t) (a (suc t))) (S .cross (a i) (c j)) (turns-upto S L a m (F .left) k t (omega arith) b) o
+          upto-left-trans S L (S .cross (a k) (a (suc k))) (S .cross (a t) (a (suc t))) (S .cross (a i) (c j))
+          (turns-upto S L a m (F .left) k t (omega arith) b) o
 
   pub ends-right : (k : ℕ) → i ≤ k → suc k < m → T (S .upTo (S .cross (a i) (c j)) (S .cross (a k) (a (suc k))))
   ends-right k h b =

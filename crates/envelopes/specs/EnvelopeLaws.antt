@@ -3,7 +3,9 @@ use Prim.Native.Nat.{ℕ, zero, suc, _<_}
 use native.Mathlib.Nat.{not-suc-le-zero, le-of-suc-le-suc}
 use mathlib.Core.Path.{_≡_, refl, sym, subst, _∙_, ap₂}
 use mathlib.Core.Logic.{_⊎_, inl, inr, ⊎-elim, _≢_}
-use mathlib.Core.List.{List, [], _∷_, _++_, reverse, reverseAux, List·Memᴰ, List·Memᴰ·head, List·Memᴰ·tail, List·Memᴰ·cases-cons, List·Memᴰ·append-cases, List·Memᴰ·not-nil, Memᴰ·append-left, Memᴰ·append-right, Sublistᴰ, Sublistᴰ·slnil, Sublistᴰ·cons, Sublistᴰ·cons-cons, Pairwise, Pairwise·nil}
+use mathlib.Core.List.{List, [], _∷_, _++_, reverse, reverseAux, List·Memᴰ, List·Memᴰ·head, List·Memᴰ·tail, List·Memᴰ·cases-cons}
+use mathlib.Core.List.{List·Memᴰ·append-cases, List·Memᴰ·not-nil, Memᴰ·append-left, Memᴰ·append-right, Sublistᴰ, Sublistᴰ·slnil, Sublistᴰ·cons}
+use mathlib.Core.List.{Sublistᴰ·cons-cons, Pairwise, Pairwise·nil}
 use lib.Dec.{T, T-prop}
 use lib.ListN.{length, getD}
 use Rattle.lists.specs.Members.{pairs-cons}
@@ -86,10 +88,12 @@ module _ (S : Figure) (L : PseudoLines S) where
   not-both a b p q = L .before-irrefl a (L .before-trans a b a p q)
 
   -- two lines of an ordered list are one, or one of them is before the other
-  pub compare-lines : {ls : List (S .Line)} → Ordered S ls → {a b : S .Line} → List·Memᴰ a ls → List·Memᴰ b ls → (a ≡ b) ⊎ (T (S .before a b) ⊎ T (S .before b a))
+  pub compare-lines : {ls : List (S .Line)} → Ordered S ls → {a b : S .Line} → List·Memᴰ a ls → List·Memᴰ b ls →
+      (a ≡ b) ⊎ (T (S .before a b) ⊎ T (S .before b a))
   compare-lines (Ordered·cons {a = l} {ls = ls} h o) {a} {b} m n = step (List·Memᴰ·cases-cons m) (List·Memᴰ·cases-cons n) (λ m′ n′. compare-lines o m′ n′)
     where
-      step : (a ≡ l) ⊎ List·Memᴰ a ls → (b ≡ l) ⊎ List·Memᴰ b ls → (List·Memᴰ a ls → List·Memᴰ b ls → (a ≡ b) ⊎ (T (S .before a b) ⊎ T (S .before b a))) → (a ≡ b) ⊎ (T (S .before a b) ⊎ T (S .before b a))
+      step : (a ≡ l) ⊎ List·Memᴰ a ls → (b ≡ l) ⊎ List·Memᴰ b ls → (List·Memᴰ a ls → List·Memᴰ b ls → (a ≡ b) ⊎ (T (S .before a b) ⊎ T (S .before b a))) →
+          (a ≡ b) ⊎ (T (S .before a b) ⊎ T (S .before b a))
       step (inl p) (inl q) ih = inl (p ∙ sym q)
       step (inl p) (inr n′) ih = inr (inl (subst (λ (c : S .Line). T (S .before c b)) (sym p) (h b n′)))
       step (inr m′) (inl q) ih = inr (inr (subst (λ (c : S .Line). T (S .before c a)) (sym q) (h a m′)))
@@ -97,19 +101,23 @@ module _ (S : Figure) (L : PseudoLines S) where
 
   -- two ordered lists with the same members are one list
   pub same-members :
-      (es fs : List (S .Line)) → Ordered S es → Ordered S fs → ((a : S .Line) → List·Memᴰ a es → List·Memᴰ a fs) → ((a : S .Line) → List·Memᴰ a fs → List·Memᴰ a es) → es ≡ fs
+      (es fs : List (S .Line)) → Ordered S es → Ordered S fs → ((a : S .Line) → List·Memᴰ a es → List·Memᴰ a fs) →
+      ((a : S .Line) → List·Memᴰ a fs → List·Memᴰ a es) → es ≡ fs
   same-members [] [] o p to from = refl
   same-members [] (f ∷ fs) o p to from = absurd (List·Memᴰ·not-nil (from f (List·Memᴰ·head refl)))
   same-members (e ∷ es) [] o p to from = absurd (List·Memᴰ·not-nil (to e (List·Memᴰ·head refl)))
   same-members (e ∷ es) (f ∷ fs) o p to from =
       ap₂ {C = List (S .Line)} (λ (a : S .Line) (l : List (S .Line)). a ∷ l) heads
       (same-members es fs (ordered-tail S o) (ordered-tail S p)
-      (λ a m. ⊎-elim (λ (q : a ≡ f). absurd (before-other e a (ordered-head S o a m) (heads ∙ sym q))) (λ n. n) (List·Memᴰ·cases-cons (to a (List·Memᴰ·tail m))))
-      (λ a m. ⊎-elim (λ (q : a ≡ e). absurd (before-other f a (ordered-head S p a m) (sym heads ∙ sym q))) (λ n. n) (List·Memᴰ·cases-cons (from a (List·Memᴰ·tail m)))))
+      (λ a m. ⊎-elim (λ (q : a ≡ f). absurd (before-other e a (ordered-head S o a m) (heads ∙ sym q))) (λ n. n)
+      (List·Memᴰ·cases-cons (to a (List·Memᴰ·tail m))))
+      (λ a m. ⊎-elim (λ (q : a ≡ e). absurd (before-other f a (ordered-head S p a m) (sym heads ∙ sym q))) (λ n. n)
+      (List·Memᴰ·cases-cons (from a (List·Memᴰ·tail m)))))
     where
       heads : e ≡ f
       heads =
           ⊎-elim
           (λ (q : e ≡ f). q)
-          (λ m. ⊎-elim (λ (q : f ≡ e). sym q) (λ n. absurd (not-both e f (ordered-head S o f n) (ordered-head S p e m))) (List·Memᴰ·cases-cons (from f (List·Memᴰ·head refl))))
+          (λ m. ⊎-elim (λ (q : f ≡ e). sym q) (λ n. absurd (not-both e f (ordered-head S o f n) (ordered-head S p e m)))
+          (List·Memᴰ·cases-cons (from f (List·Memᴰ·head refl))))
           (List·Memᴰ·cases-cons (to e (List·Memᴰ·head refl)))

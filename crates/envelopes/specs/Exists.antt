@@ -144,7 +144,12 @@ module _ (S : Figure) (L : PseudoLines S) (a : ℕ → S .Line) (m : ℕ) (c : �
         i,
         j,
         record {
-          on-left = record { inside = P .inside; outer = clear-outer S L a m c n F i j (P .inside) (Q .inside) (P .clear); inner = clear-inner S L a m c n F i j P Q };
+          on-left = record {
+            inside = P .inside;
+            outer = clear-outer S L a m c n F i j (P .inside) (Q .inside) (P .clear);
+            inner =
+                clear-inner S L a m c n F i j P Q;
+          };
           on-right = record {
             inside = Q .inside;
             outer = clear-outer (mirror S) M c n a m G j i (Q .inside) (P .inside) (Q .clear);
@@ -206,5 +211,6 @@ pub bridge-unique : (S : Figure)
     → (i ≡ i′) × (j ≡ j′)
 bridge-unique S L a m c n F i j i′ j′ B B′ = (
   bridge-unique-left S L a m c n F i j i′ j′ B B′,
-  bridge-unique-left (mirror S) (mirror-laws S L) c n a m (facing-mirror S a m c n F) j i j′ i′ (bridge-mirror S a m c n i j B) (bridge-mirror S a m c n i′ j′ B′),
+  bridge-unique-left (mirror S) (mirror-laws S L) c n a m (facing-mirror S a m c n F) j i j′ i′ (bridge-mirror S a m c n i j B)
+      (bridge-mirror S a m c n i′ j′ B′),
 )

@@ -12,7 +12,8 @@ use Rattle.lists.specs.Filter.{every, every-at, every-all, keep-sublist, keep-p
 use Rattle.lists.specs.Places.{all-cons, mem-at, sublist-mem}
 use Rattle.lists.specs.Bools.{and-both, and-left, and-right}
 use Rattle.envelopes.specs.PseudoLines.{Figure, LeftOf, PseudoLines, mirror, mirror-laws}
-use Rattle.envelopes.specs.Crossing.{price-refl, point-refl, below-le, left-upto-trans, upto-left-trans, left-trans, left-of-cross, right-of-cross, le-upto-cross, below-left-of-cross, below-right-of-cross}
+use Rattle.envelopes.specs.Crossing.{price-refl, point-refl, below-le, left-upto-trans, upto-left-trans, left-trans, left-of-cross}
+use Rattle.envelopes.specs.Crossing.{right-of-cross, le-upto-cross, below-left-of-cross, below-right-of-cross}
 use Rattle.envelopes.specs.Bridge.{Chain}
 use Rattle.envelopes.specs.Envelope.{Ordered, Env, Cheapest, First, stays, listed}
 use Rattle.envelopes.specs.EnvelopeLaws.{ordered-head, ordered-tail, ordered-sublist, ordered-at, before-other, not-both, compare-lines}
@@ -23,7 +24,8 @@ Stays S ls e = (a b : S .Line) → List·Memᴰ a ls → List·Memᴰ b ls → T
 
 module _ (S : Figure) where
   -- to be the first speaks of members only
-  pub first-among-fewer : (ls ms : List (S .Line)) (e : S .Line) (x : S .Point) → ((a : S .Line) → List·Memᴰ a ms → List·Memᴰ a ls) → List·Memᴰ e ms → First S ls e x → First S ms e x
+  pub first-among-fewer : (ls ms : List (S .Line)) (e : S .Line) (x : S .Point) → ((a : S .Line) → List·Memᴰ a ms → List·Memᴰ a ls) → List·Memᴰ e ms →
+      First S ls e x → First S ms e x
   first-among-fewer ls ms e x i m f = record { one-of = m; least = λ l n. f .least l (i l n); earlier = λ l n. f .earlier l (i l n) }
 
   -- so does to stay, and of both sides alike
@@ -79,11 +81,21 @@ module _ (S : Figure) (L : PseudoLines S) where
   last-crossing e [] = inl (λ a m. absurd (List·Memᴰ·not-nil m))
   last-crossing e (l ∷ ls) = step (T? (S .before l e)) (last-crossing e ls)
     where
-      larger : (m : S .Line) → Last S ls e m → T (S .before l e) → T (S .upTo (S .cross l e) (S .cross m e)) ⊎ T (S .upTo (S .cross m e) (S .cross l e)) → (m : S .Line) × Last S (l ∷ ls) e m
+      larger : (m : S .Line) → Last S ls e m → T (S .before l e) → T (S .upTo (S .cross l e) (S .cross m e)) ⊎ T (S .upTo (S .cross m e) (S .cross l e)) →
+          (m : S .Line) × Last S (l ∷ ls) e m
       larger m (i, p, f) q (inl u) = (m, (List·Memᴰ·tail i, p, all-cons (λ _. u) f))
-      larger m (i, p, f) q (inr u) = (l, (List·Memᴰ·head refl, q, all-cons (λ _. point-refl S L (S .cross l e)) (λ a n r. L .point-trans (S .cross a e) (S .cross m e) (S .cross l e) (f a n r) u)))
+      larger m (i, p, f) q (inr u) = (
+        l,
+        (
+          List·Memᴰ·head refl,
+          q,
+          all-cons (λ _. point-refl S L (S .cross l e)) (λ a n r. L .point-trans (S .cross a e) (S .cross m e) (S .cross l e)
+              (f a n r) u),
+        ),
+      )
 
-      step : Dec (T (S .before l e)) → ((a : S .Line) → List·Memᴰ a ls → ¬ T (S .before a e)) ⊎ ((m : S .Line) × Last S ls e m) → ((a : S .Line) → List·Memᴰ a (l ∷ ls) → ¬ T (S .before a e)) ⊎ ((m : S .Line) × Last S (l ∷ ls) e m)
+      step : Dec (T (S .before l e)) → ((a : S .Line) → List·Memᴰ a ls → ¬ T (S .before a e)) ⊎ ((m : S .Line) × Last S ls e m) →
+          ((a : S .Line) → List·Memᴰ a (l ∷ ls) → ¬ T (S .before a e)) ⊎ ((m : S .Line) × Last S (l ∷ ls) e m)
       step (no n) (inl f) = inl (all-cons n f)
       step (no n) (inr (m, (i, p, f))) = inr (m, (List·Memᴰ·tail i, p, all-cons (λ q. absurd (n q)) f))
       step (yes q) (inl f) = inr (l, (List·Memᴰ·head refl, q, all-cons (λ _. point-refl S L (S .cross l e)) (λ a n r. absurd (f a n r))))
@@ -186,12 +198,14 @@ module _ (S : Figure) (L : PseudoLines S) where
   first-among x (k ∷ ls) o m = first-of x k ls o
 
   -- ordered lines that all stay among themselves make up a chain
-  pub stays-chain : (es : List (S .Line)) → Ordered S es → ((e : S .Line) → List·Memᴰ e es → Stays S es e) → (d : S .Line) → Chain S (λ i. getD es i d) (length es)
+  pub stays-chain : (es : List (S .Line)) → Ordered S es → ((e : S .Line) → List·Memᴰ e es → Stays S es e) → (d : S .Line) →
+      Chain S (λ i. getD es i d) (length es)
   stays-chain es o h d =
       record {
         ordered = λ i q. ordered-at S es o d i (suc i) (omega arith) q;
         turning = λ i q.
-            h (getD es (suc i) d) (mem-at es (suc i) d (omega arith)) (getD es i d) (getD es (suc (suc i)) d) (mem-at es i d (omega arith)) (mem-at es (suc (suc i)) d q)
+            h (getD es (suc i) d) (mem-at es (suc i) d (omega arith)) (getD es i d) (getD es (suc (suc i)) d) (mem-at es i d (omega arith))
+            (mem-at es (suc (suc i)) d q)
             (ordered-at S es o d i (suc i) (omega arith) (omega arith)) (ordered-at S es o d (suc i) (suc (suc i)) (omega arith) q);
       }
 
@@ -200,6 +214,7 @@ module _ (S : Figure) (L : PseudoLines S) where
   listed-env ls o =
       record {
         sub = listed-sub S ls;
-        chain = stays-chain (listed S ls) (ordered-sublist S (listed-sub S ls) o) (λ e m a b i k. listed-stays S ls e m a b (listed-one S ls a i) (listed-one S ls b k));
+        chain = stays-chain (listed S ls) (ordered-sublist S (listed-sub S ls) o) (λ e m a b i k. listed-stays S ls e m a b (listed-one S ls a i)
+            (listed-one S ls b k));
         low = λ x l m. let (e, f) = first-among x ls o m in (e, first-listed ls e x f, f .least l m);
       }

@@ -3,7 +3,9 @@ use Prim.Native.Nat.{ℕ, suc, _-_, _<_}
 use native.Mathlib.Omega.{arith}
 use mathlib.Core.Path.{_≡_, refl, sym, subst, _∙_}
 use mathlib.Core.Logic.{_⊎_, inl, inr, ⊎-elim, _↔_}
-use mathlib.Core.List.{List, _∷_, _++_, reverse, List·Memᴰ, List·Memᴰ·head, List·Memᴰ·tail, List·Memᴰ·cases-cons, List·Memᴰ·append-cases, Memᴰ·append-left, Memᴰ·append-right, Sublistᴰ, Sublistᴰ·refl, Sublistᴰ·trans, Sublistᴰ·append, Sublistᴰ·cons-cons, Sublistᴰ·nil-sublist}
+use mathlib.Core.List.{List, _∷_, _++_, reverse, List·Memᴰ, List·Memᴰ·head, List·Memᴰ·tail, List·Memᴰ·cases-cons, List·Memᴰ·append-cases}
+use mathlib.Core.List.{Memᴰ·append-left, Memᴰ·append-right, Sublistᴰ, Sublistᴰ·refl, Sublistᴰ·trans, Sublistᴰ·append, Sublistᴰ·cons-cons}
+use mathlib.Core.List.{Sublistᴰ·nil-sublist}
 use lib.Dec.{T}
 use lib.ListN.{length, getD, length-append, length-reverse, length-drop, take, drop}
 use lib.Seq.{append-snoc, getD-append-seam, split-at, length-take-le, take-suc, drop-cons}
@@ -14,7 +16,8 @@ use Rattle.envelopes.specs.Bridge.{InPiece, Facing, Bridge}
 use Rattle.envelopes.specs.Chains.{turn-in-piece}
 use Rattle.envelopes.specs.Envelope.{Ordered, Env, First, listed}
 use Rattle.envelopes.specs.EnvelopeLaws.{ordered-head, ordered-left, ordered-right, ordered-apart, ordered-sublist, not-both, same-members}
-use Rattle.envelopes.specs.Listed.{Stays, first-among-fewer, stays-among, stays-mirror, listed-sub, listed-one, listed-stays, stays-listed, first-stays, listed-env}
+use Rattle.envelopes.specs.Listed.{Stays, first-among-fewer, stays-among, stays-mirror, listed-sub, listed-one, listed-stays, stays-listed}
+use Rattle.envelopes.specs.Listed.{first-stays, listed-env}
 use Rattle.envelopes.specs.Query.{query, first-in-piece, env-listed, env-mirror}
 
 -- ms are the lines of ls and rs, the first all before the second.
@@ -50,14 +53,16 @@ module _ (S : Figure) (L : PseudoLines S) (ls rs ms : List (S .Line)) (J : Both 
       }
 
   -- with an earlier line a, all three on the left, and a right line b: at the crossing with u the line is on or below b
-  stays-across : (e a b : S .Line) → Stays S ls e → T (S .before e u) → List·Memᴰ e ls → List·Memᴰ a ls → List·Memᴰ b rs → T (S .before a e) → LeftOf S (S .cross a e) (S .cross e b)
+  stays-across : (e a b : S .Line) → Stays S ls e → T (S .before e u) → List·Memᴰ e ls → List·Memᴰ a ls → List·Memᴰ b rs → T (S .before a e) →
+      LeftOf S (S .cross a e) (S .cross e b)
   stays-across e a b h r i m n p =
       let x : S .Point = S .cross e u in
       let q : S .Point = S .cross u v in
       left-upto-trans S L (S .cross a e) x (S .cross e b) (h a u m (M .on-left .one-of) p r)
       (le-upto-cross S L e b x (J .apart e b i n)
       (L .price-trans e u b x (L .cross-le e u r)
-      (L .fall u b x q (J .apart u b (M .on-left .one-of) n) (under-right b n) (left-upto S L x q (below-right-of-cross S L e u q r (M .on-left .earlier e i r))))))
+      (L .fall u b x q (J .apart u b (M .on-left .one-of) n) (under-right b n)
+      (left-upto S L x q (below-right-of-cross S L e u q r (M .on-left .earlier e i r))))))
 
   stays-both : (e : S .Line) → List·Memᴰ e ls → Stays S ls e → (e ≡ u) ⊎ T (S .before e u) → Stays S ms e
   stays-both e i h (inl r) = subst (λ (c : S .Line). Stays S ms c) (sym r) (first-stays S L ms u (S .cross u v) first-both)
@@ -97,7 +102,13 @@ module _
     (F : Env S rs (C ++ v ∷ D))
   where
     both : Both S ls rs (ls ++ rs)
-    both = record { left = λ a. Memᴰ·append-left rs; right = λ a. Memᴰ·append-right ls; either = λ a. List·Memᴰ·append-cases ls; apart = ordered-apart S ls rs o }
+    both = record {
+      left = λ a. Memᴰ·append-left rs;
+      right = λ a. Memᴰ·append-right ls;
+      either = λ a. List·Memᴰ·append-cases ls;
+      apart =
+          ordered-apart S ls rs o;
+    }
 
     ordered-ls : Ordered S ls
     ordered-ls = ordered-left S ls rs o
@@ -131,7 +142,8 @@ module _
           let k : List·Memᴰ e rs = listed-one S rs e i in
           stays-listed S (ls ++ rs) e (Memᴰ·append-right ls k)
           (stays-mirror (mirror S) (ls ++ rs) e
-          (stays-both (mirror S) (mirror-laws S L) rs ls (ls ++ rs) (both-mirror S ls rs (ls ++ rs) both) v u (meet-mirror S ls rs u v M) e k (stays-mirror S rs e (listed-stays S rs e i)) w))
+          (stays-both (mirror S) (mirror-laws S L) rs ls (ls ++ rs) (both-mirror S ls rs (ls ++ rs) both) v u (meet-mirror S ls rs u v M) e k
+          (stays-mirror S rs e (listed-stays S rs e i)) w))
 
       merged-listed : B ++ u ∷ v ∷ D ≡ listed S (ls ++ rs)
       merged-listed =
@@ -145,7 +157,8 @@ module _
               (λ n.
               ⊎-elim
               (λ (q : e ≡ u). keeps-left e (Memᴰ·append-right B (List·Memᴰ·head q)) (inl q))
-              (λ k. keeps-right e (Memᴰ·append-right C k) (⊎-elim inl (λ t. inr (ordered-head S (ordered-right S C (v ∷ D) ordered-right-pieces) e t)) (List·Memᴰ·cases-cons k)))
+              (λ k. keeps-right e (Memᴰ·append-right C k) (⊎-elim inl (λ t. inr (ordered-head S (ordered-right S C (v ∷ D) ordered-right-pieces) e t))
+              (List·Memᴰ·cases-cons k)))
               (List·Memᴰ·cases-cons n))
               (List·Memᴰ·append-cases B m)
 
@@ -168,7 +181,8 @@ module _
               ⊎-elim
               (λ n.
               absurd
-              (goes-both (mirror S) (mirror-laws S L) rs ls (ls ++ rs) (both-mirror S ls rs (ls ++ rs) both) v u (meet-mirror S ls rs u v M) e i (stays-mirror S (ls ++ rs) e h)
+              (goes-both (mirror S) (mirror-laws S L) rs ls (ls ++ rs) (both-mirror S ls rs (ls ++ rs) both) v u (meet-mirror S ls rs u v M) e i
+              (stays-mirror S (ls ++ rs) e h)
               (ordered-apart S C (v ∷ D) ordered-right-pieces e v n (List·Memᴰ·head refl))))
               (λ n. Memᴰ·append-right B (List·Memᴰ·tail n))
               (List·Memᴰ·append-cases C
@@ -185,7 +199,8 @@ module _
           on-right =
               record {
                 one-of = one-right;
-                least = λ l n. L .price-trans v u l (S .cross u v) (L .cross-ge u v (ordered-apart S ls rs o u v one-left one-right)) (first .least l (Memᴰ·append-right ls n));
+                least = λ l n. L .price-trans v u l (S .cross u v) (L .cross-ge u v (ordered-apart S ls rs o u v one-left one-right))
+                    (first .least l (Memᴰ·append-right ls n));
                 earlier = λ l n p.
                     left-of-cross S L v l (S .cross u v) p
                     (stays u l (Memᴰ·append-left rs one-left) (Memᴰ·append-right ls n) (ordered-apart S ls rs o u v one-left one-right) p);
@@ -202,7 +217,8 @@ module _
         first = neighbours-first S L (ls ++ rs) B D u v G
 
         stays : Stays S (ls ++ rs) v
-        stays = listed-stays S (ls ++ rs) v (subst (List·Memᴰ v) (env-listed S L (ls ++ rs) (B ++ u ∷ v ∷ D) o G) (Memᴰ·append-right B (List·Memᴰ·tail (List·Memᴰ·head refl))))
+        stays = listed-stays S (ls ++ rs) v (subst (List·Memᴰ v) (env-listed S L (ls ++ rs) (B ++ u ∷ v ∷ D) o G)
+            (Memᴰ·append-right B (List·Memᴰ·tail (List·Memᴰ·head refl))))
 
 -- The two envelopes face each other.
 pub env-facing :
@@ -235,7 +251,8 @@ module _ (S : Figure) (L : PseudoLines S) (ls rs A C : List (S .Line)) (o : Orde
         on-right = first-among-fewer (mirror S) (reverse rs) rs (getD (reverse C) j d) q (λ a. mem-reverse) (mem-unreverse rs (f .one-of)) f;
       }
 
-  pub meet-bridges : i < length A → j < length C → Meet S ls rs (getD A i d) (getD (reverse C) j d) → Bridge S (λ k. getD A k d) (length A) (λ k. getD (reverse C) k d) (length C) i j
+  pub meet-bridges : i < length A → j < length C → Meet S ls rs (getD A i d) (getD (reverse C) j d) →
+      Bridge S (λ k. getD A k d) (length A) (λ k. getD (reverse C) k d) (length C) i j
   meet-bridges p q M =
       let x : S .Point = S .cross (getD A i d) (getD (reverse C) j d) in
       let f : First (mirror S) (reverse rs) (getD (reverse C) j d) x =
@@ -254,14 +271,16 @@ pub merge :
     Ordered S (ls ++ rs) →
     Env S ls (B ++ u ∷ A) →
     Env S rs (C ++ v ∷ D) →
-    Bridge S (λ k. getD (B ++ u ∷ A) k d) (length (B ++ u ∷ A)) (λ k. getD (reverse (C ++ v ∷ D)) k d) (length (C ++ v ∷ D)) (length B) (length D) ↔ Env S (ls ++ rs) (B ++ u ∷ v ∷ D)
+    Bridge S (λ k. getD (B ++ u ∷ A) k d) (length (B ++ u ∷ A)) (λ k. getD (reverse (C ++ v ∷ D)) k d) (length (C ++ v ∷ D)) (length B) (length D) ↔ Env S
+    (ls ++ rs) (B ++ u ∷ v ∷ D)
 merge S L ls rs B A C D u v d o E F =
     let p : getD (B ++ u ∷ A) (length B) d ≡ u = getD-append-seam B u A d in
     let q : getD (reverse (C ++ v ∷ D)) (length D) d ≡ v = getD-reverse-about C v D d in
     let r : Ordered S rs = ordered-right S ls rs o in (
       λ b. meet-merges S L ls rs B A C D u v o E F (rw (p, q) at (bridge-meets S L ls rs (B ++ u ∷ A) (C ++ v ∷ D) r E F d (length B) (length D) b)),
       λ G.
-          meet-bridges S L ls rs (B ++ u ∷ A) (C ++ v ∷ D) r E F d (length B) (length D) (omega (arith, length-append B (u ∷ A))) (omega (arith, length-append C (v ∷ D)))
+          meet-bridges S L ls rs (B ++ u ∷ A) (C ++ v ∷ D) r E F d (length B) (length D) (omega (arith, length-append B (u ∷ A)))
+          (omega (arith, length-append C (v ∷ D)))
           (rw (p, q) (merged-meets S L ls rs B A C D u v o E F G)),
     )
 

@@ -23,12 +23,21 @@ module _ (S : Figure) (L : PseudoLines S) where
       let (y, u) = L .left-of x in
       (y, record { inside = P .inside; outer = tt; inner = λ q. L .point-trans y x (S .cross (a zero) (a (suc zero))) (left-upto S L y x u) (P .inner q) }, u)
   room a n (suc k) x P =
-      let (y, t, u) = L .between (S .cross (a k) (a (suc k))) x (P .outer) in
-      (y, record { inside = P .inside; outer = t; inner = λ q. L .point-trans y x (S .cross (a (suc k)) (a (suc (suc k)))) (left-upto S L y x u) (P .inner q) }, u)
+      let (y, t, u) = L .between (S .cross (a k) (a (suc k))) x (P .outer) in (
+        y,
+        record {
+          inside = P .inside;
+          outer = t;
+          inner = λ q. L .point-trans y x (S .cross (a (suc k)) (a (suc (suc k)))) (left-upto S L y x u)
+              (P .inner q);
+        },
+        u,
+      )
 
   -- in its piece a line of the envelope is at or below every line ..
   query-least :
-      {ls es : List (S .Line)} → Env S ls es → (d : S .Line) (k : ℕ) (x : S .Point) → InPiece S (λ i. getD es i d) (length es) k x → (l : S .Line) → List·Memᴰ l ls → T (S .atMost (getD es k d) l x)
+      {ls es : List (S .Line)} → Env S ls es → (d : S .Line) (k : ℕ) (x : S .Point) → InPiece S (λ i. getD es i d) (length es) k x → (l : S .Line) →
+      List·Memᴰ l ls → T (S .atMost (getD es k d) l x)
   query-least {ls} {es} E d k x P l m =
       let (e, i, h) = E .low x l m in
       let (j, b, q) = place-of d i in
@@ -37,7 +46,8 @@ module _ (S : Figure) (L : PseudoLines S) where
       h
 
   -- .. and strictly below the earlier ones: the first in order of all the lines that have the least price there
-  pub query : {ls es : List (S .Line)} → Env S ls es → (d : S .Line) (k : ℕ) (x : S .Point) → InPiece S (λ i. getD es i d) (length es) k x → First S ls (getD es k d) x
+  pub query : {ls es : List (S .Line)} → Env S ls es → (d : S .Line) (k : ℕ) (x : S .Point) → InPiece S (λ i. getD es i d) (length es) k x →
+      First S ls (getD es k d) x
   query {ls} {es} E d k x P =
       let (y, Q, u) = room (λ i. getD es i d) (length es) k x P in
       record {
@@ -48,12 +58,14 @@ module _ (S : Figure) (L : PseudoLines S) where
 
   -- .. and only there
   pub first-in-piece :
-      {ls es : List (S .Line)} → Env S ls es → (d : S .Line) (k : ℕ) (x : S .Point) → k < length es → First S ls (getD es k d) x → InPiece S (λ i. getD es i d) (length es) k x
+      {ls es : List (S .Line)} → Env S ls es → (d : S .Line) (k : ℕ) (x : S .Point) → k < length es → First S ls (getD es k d) x →
+      InPiece S (λ i. getD es i d) (length es) k x
   first-in-piece {ls} {es} E d k x b f =
       record {
         inside = b;
         outer = outside k b f;
-        inner = λ q. le-upto-cross S L (getD es k d) (getD es (suc k) d) x (C .ordered k q) (f .least (getD es (suc k) d) (sublist-mem (E .sub) (mem-at es (suc k) d q)));
+        inner = λ q. le-upto-cross S L (getD es k d) (getD es (suc k) d) x (C .ordered k q)
+            (f .least (getD es (suc k) d) (sublist-mem (E .sub) (mem-at es (suc k) d q)));
       }
     where
       C : Chain S (λ i. getD es i d) (length es)
@@ -62,7 +74,8 @@ module _ (S : Figure) (L : PseudoLines S) where
       outside : (k : ℕ) → k < length es → First S ls (getD es k d) x → PastOuter S (λ i. getD es i d) k x
       outside zero b f = tt
       outside (suc k) b f =
-          below-right-of-cross S L (getD es k d) (getD es (suc k) d) x (C .ordered k b) (f .earlier (getD es k d) (sublist-mem (E .sub) (mem-at es k d (omega arith))) (C .ordered k b))
+          below-right-of-cross S L (getD es k d) (getD es (suc k) d) x (C .ordered k b)
+          (f .earlier (getD es k d) (sublist-mem (E .sub) (mem-at es k d (omega arith))) (C .ordered k b))
 
   -- every line of an envelope is the first among the lowest somewhere
   pub env-first : {ls es : List (S .Line)} → Env S ls es → (e : S .Line) → List·Memᴰ e es → (x : S .Point) × First S ls e x
@@ -101,7 +114,8 @@ module _ (S : Figure) (L : PseudoLines S) where
   env-mirror ls es o E =
       let r : Ordered (mirror S) (reverse ls) = ordered-reverse S ls o in
       rw
-      (same-members (mirror S) (mirror-laws S L) (reverse es) (listed (mirror S) (reverse ls)) (ordered-reverse S es (ordered-sublist S (E .sub) o)) (ordered-sublist (mirror S) (listed-sub (mirror S) (reverse ls)) r)
+      (same-members (mirror S) (mirror-laws S L) (reverse es) (listed (mirror S) (reverse ls)) (ordered-reverse S es (ordered-sublist S (E .sub) o))
+      (ordered-sublist (mirror S) (listed-sub (mirror S) (reverse ls)) r)
       (λ e m.
       let i : List·Memᴰ e (listed S ls) = subst (List·Memᴰ e) (env-listed ls es o E) (mem-unreverse es m) in
       stays-listed (mirror S) (reverse ls) e (mem-reverse (listed-one S ls e i))

@@ -23,7 +23,8 @@ local-next c j leafy = refl
 local-next c zero inner = refl
 local-next c (suc j) inner = inr refl
 
-module _ (S : Figure) (L : PseudoLines S) (a : ℕ → S .Line) (m : ℕ) (c : ℕ → S .Line) (n : ℕ) (F : Facing S a m c n) (istar jstar : ℕ) (B : Bridge S a m c n istar jstar) where
+module _ (S : Figure) (L : PseudoLines S) (a : ℕ → S .Line) (m : ℕ) (c : ℕ → S .Line) (n : ℕ) (F : Facing S a m c n) (istar jstar : ℕ)
+    (B : Bridge S a m c n istar jstar) where
   -- left of the bridge's crossing the left line of the bridge is strictly below every right line, so the left envelope is too
   fact-one : (i j : ℕ) (k h : Kind) → i < m → j < n → One S a i k c j h → istar < i
   fact-one zero j k h b g o = absurd o
@@ -57,7 +58,8 @@ module _ (S : Figure) (L : PseudoLines S) (a : ℕ → S .Line) (m : ℕ) (c : �
                   let meet : S .Point = S .cross (a istar) (c jstar) in
                   let upto : T (S .upTo Y X) =
                   L .point-trans Y meet X
-                  (ends-right (mirror S) (mirror-laws S L) c n a m (facing-mirror S a m c n F) jstar istar (bridge-mirror S a m c n istar jstar B) j (omega arith) g)
+                  (ends-right (mirror S) (mirror-laws S L) c n a m (facing-mirror S a m c n F) jstar istar (bridge-mirror S a m c n istar jstar B) j
+                  (omega arith) g)
                   (ends-right S L a m c n F istar jstar B i (omega arith) b)
                   in
                   let at-Y : T (S .atMost (c (suc j)) (a (suc i)) Y) =
@@ -88,7 +90,8 @@ module _ (S : Figure) (L : PseudoLines S) (a : ℕ → S .Line) (m : ℕ) (c : �
               refl,
               L .fall (a istar) (c j) Y (S .cross (a istar) (c jstar)) (F .apart istar j (B .on-left .inside) (omega arith))
                   (bridge-lowest-right S L a m c n F istar jstar B j (omega arith))
-                  (ends-right (mirror S) (mirror-laws S L) c n a m (facing-mirror S a m c n F) jstar istar (bridge-mirror S a m c n istar jstar B) j (omega arith) g),
+                  (ends-right (mirror S) (mirror-laws S L) c n a m (facing-mirror S a m c n F) jstar istar (bridge-mirror S a m c n istar jstar B) j
+                  (omega arith) g),
             ))
       ]
 

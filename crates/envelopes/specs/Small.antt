@@ -10,7 +10,12 @@ use Rattle.envelopes.specs.Crossing.{price-refl}
 use Rattle.envelopes.specs.Envelope.{Ordered, Ordered·nil, Ordered·cons, Env}
 
 pub env-nil : (S : Figure) → Env S [] []
-env-nil S = record { sub = Sublistᴰ·refl []; chain = λ d. record { ordered = λ i h. absurd (omega arith); turning = λ i h. absurd (omega arith) }; low = λ x l m. absurd (List·Memᴰ·not-nil m) }
+env-nil S = record {
+  sub = Sublistᴰ·refl [];
+  chain = λ d. record { ordered = λ i h. absurd (omega arith); turning = λ i h. absurd (omega arith) };
+  low =
+      λ x l m. absurd (List·Memᴰ·not-nil m);
+}
 
 module _ (S : Figure) where
   pub ordered-one : (a : S .Line) → Ordered S (a ∷ [])

@@ -80,10 +80,12 @@ pub agree-cset : (w : Words) (f s : ℕ) (z : ℤ) → Agree (Elsewhere s) w (cs
 agree-cset w f s z = record { room = cset-cap w f s z; cells = λ g t d. cset-other w f s z (λ e. d (e .1)) }
 
 -- nodes of the numbers; fields of envelopes
-pub agree-only : {D : ℕ → ℕ → Type 0} {xs : List Item} {w w′ : Words} → Within w w′ → Only numberTree xs w w′ → ((f s : ℕ) → D f s → Field numberTree f → ⊥) → Agree D w w′
+pub agree-only : {D : ℕ → ℕ → Type 0} {xs : List Item} {w w′ : Words} → Within w w′ → Only numberTree xs w w′ →
+    ((f s : ℕ) → D f s → Field numberTree f → ⊥) → Agree D w w′
 agree-only g h no-number = record { room = within-cap g; cells = λ f s d. h .cells f s (λ q. no-number f s d (q .0)) }
 
-pub agree-touched : {D : ℕ → ℕ → Type 0} {xs : List Item} {w w′ : Words} → Within w w′ → Touched xs w w′ → ((f s : ℕ) → D f s → EnvelopeField f → ⊥) → Agree D w w′
+pub agree-touched : {D : ℕ → ℕ → Type 0} {xs : List Item} {w w′ : Words} → Within w w′ → Touched xs w w′ → ((f s : ℕ) → D f s → EnvelopeField f → ⊥) →
+    Agree D w w′
 agree-touched g h no-envelope = record { room = within-cap g; cells = λ f s d. h .cells f s (λ q. no-envelope f s d (q .0)) }
 
 -- ---- the header

@@ -64,7 +64,15 @@ module _
         joined = p .joined;
         headed =
             headed w₄
-            (omega (arith, b .some-slot, b .capacity, fills .agree .room, within-cap (p .added .within), root-room w₂ (pos root′) (p .rooted), joined-room (p .joined)))
+            (omega (
+              arith,
+              b .some-slot,
+              b .capacity,
+              fills .agree .room,
+              within-cap (p .added .within),
+              root-room w₂ (pos root′) (p .rooted),
+              joined-room (p .joined),
+            ))
             (p .headed);
       }
     where
@@ -123,9 +131,11 @@ module _
 -- ---- the header on the way
 
 -- after a slot was filled and its number added
-pub post-header : {s : ℕ} {o : Offer} {w w₁ w₂ w₃ : Words} (z : ℤ) → Filled s o w w₁ → Within w₁ w₂ → w₃ ≡ wset w₂ numbersRootWord z → (i : ℕ) → i < 64 → i ≢ 4 → i ≢ 5 → word w₃ i ≡ word w i
+pub post-header : {s : ℕ} {o : Offer} {w w₁ w₂ w₃ : Words} (z : ℤ) → Filled s o w w₁ → Within w₁ w₂ → w₃ ≡ wset w₂ numbersRootWord z → (i : ℕ) → i < 64 →
+    i ≢ 4 → i ≢ 5 → word w₃ i ≡ word w i
 post-header {w₂} z f g e i h d d′ = ap (λ (v : Words). word v i) e ∙ wset-other w₂ 4 i z d ∙ header-kept g i h ∙ f .header i h d′
 
 -- after a number was dropped and its item removed
-pub withdraw-header : {w w₁ w₂ w₃ : Words} (z : ℤ) → Within w w₁ → w₂ ≡ wset w₁ numbersRootWord z → Within w₂ w₃ → (i : ℕ) → i < 64 → i ≢ 4 → word w₃ i ≡ word w i
+pub withdraw-header : {w w₁ w₂ w₃ : Words} (z : ℤ) → Within w w₁ → w₂ ≡ wset w₁ numbersRootWord z → Within w₂ w₃ → (i : ℕ) → i < 64 → i ≢ 4 →
+    word w₃ i ≡ word w i
 withdraw-header {w₁} z f e g i h d = header-kept g i h ∙ ap (λ (v : Words). word v i) e ∙ wset-other w₁ 4 i z d ∙ header-kept f i h

@@ -42,7 +42,8 @@ heights-few (p ∷ ps) h =
     let l = h p (List·Memᴰ·head refl) in
     omega (arith, l .front, l .back, heights-few ps (λ q m. h q (List·Memᴰ·tail m)))
 
-module _ {before after : Option (Held Item)} {log : List (Pair Item)} (few : length (bookLines before) ≤ mostSlots) (few′ : length (bookLines after) ≤ mostSlots) (work : Work items before after log) where
+module _ {before after : Option (Held Item)} {log : List (Pair Item)} (few : length (bookLines before) ≤ mostSlots)
+    (few′ : length (bookLines after) ≤ mostSlots) (work : Work items before after log) where
   pub searches-most : length log ≤ 100
   searches-most = omega (arith, work .few-searches, B-full {n = max (length (bookLines before)) (length (bookLines after))} (omega arith))
 

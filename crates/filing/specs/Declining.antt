@@ -13,10 +13,9 @@ use lib.IntN.{ℤ}
 use Rattle.lists.specs.Bools.{and-both, not-not}
 use Rattle.lists.specs.Tests.{any}
 use Rattle.offers.specs.Offers.{Offer, offerInRange, numberInRange, rateInRange, baseInRange}
-use Rattle.plain.specs.Causes.{Cause, Trial, numberLive, rateLive, bookFull, numberNotLive}
+use Rattle.plain.specs.Causes.{Cause, Trial, numberLive, rateLive, bookFull, numberNotLive, Clear, FirstOf, at-once, further}
 use Rattle.plain.specs.Book.{State, Outcome, post, withdraw, refused, hasNumber, hasRate, rangeTrials, bookTrials, trials, step}
-use Rattle.plain.specs.Sound.{Clear}
-use Rattle.plain.specs.Rules.{FirstOf, at-once, further, step-declined}
+use Rattle.plain.specs.Rules.{step-declined}
 use Rattle.dynamic.specs.OfferTree.{Held}
 use Rattle.dynamic.specs.Valid.{bookLines}
 use Rattle.table.specs.Words.{Words}
@@ -55,16 +54,20 @@ refusing s n = record { state = s; answer = refused n }
 
 module _ {w : Words} {plain : State} {held : Option (Held Item)} (b : Book w plain held) where
   is-live : {n : ℤ} {s : ℕ} → Sought numberOf n (bookLines held) s → s ≢ 0 → T (any (hasNumber n) (plain .offers))
-  is-live {n} f h = let (a, m, e, d) = sought-item f h in subst (λ (os : List Offer). T (any (hasNumber n) os)) (b .stands-for) (keyed-any (λ o. o .number) n (bookLines held) m e)
+  is-live {n} f h = let (a, m, e, d) = sought-item f h in subst (λ (os : List Offer). T (any (hasNumber n) os)) (b .stands-for)
+      (keyed-any (λ o. o .number) n (bookLines held) m e)
 
   not-live : {n : ℤ} {s : ℕ} → Sought numberOf n (bookLines held) s → s ≡ 0 → T (not (any (hasNumber n) (plain .offers)))
-  not-live {n} f h = subst (λ (os : List Offer). T (not (any (hasNumber n) os))) (b .stands-for) (keyed-none (λ o. o .number) n (bookLines held) (sought-none (live-slots w held (b .offers .offers-in)) f h))
+  not-live {n} f h = subst (λ (os : List Offer). T (not (any (hasNumber n) os))) (b .stands-for)
+      (keyed-none (λ o. o .number) n (bookLines held) (sought-none (live-slots w held (b .offers .offers-in)) f h))
 
   rate-live : {r : ℤ} {s : ℕ} → Sought rateOf r (bookLines held) s → s ≢ 0 → T (any (hasRate r) (plain .offers))
-  rate-live {r} f h = let (a, m, e, d) = sought-item f h in subst (λ (os : List Offer). T (any (hasRate r) os)) (b .stands-for) (keyed-any (λ o. o .rate) r (bookLines held) m e)
+  rate-live {r} f h = let (a, m, e, d) = sought-item f h in
+      subst (λ (os : List Offer). T (any (hasRate r) os)) (b .stands-for) (keyed-any (λ o. o .rate) r (bookLines held) m e)
 
   rate-not-live : {r : ℤ} {s : ℕ} → Sought rateOf r (bookLines held) s → s ≡ 0 → T (not (any (hasRate r) (plain .offers)))
-  rate-not-live {r} f h = subst (λ (os : List Offer). T (not (any (hasRate r) os))) (b .stands-for) (keyed-none (λ o. o .rate) r (bookLines held) (sought-none (live-slots w held (b .offers .offers-in)) f h))
+  rate-not-live {r} f h = subst (λ (os : List Offer). T (not (any (hasRate r) os))) (b .stands-for)
+      (keyed-none (λ o. o .rate) r (bookLines held) (sought-none (live-slots w held (b .offers .offers-in)) f h))
 
   module _ (n r z : ℤ) {s : ℕ} (ranged : Clear (rangeTrials (post n r z))) (by-number : Sought numberOf n (bookLines held) s) where
     pub post-number-live : s ≢ 0 → step plain (post n r z) ≡ refusing plain 5
@@ -72,13 +75,15 @@ module _ {w : Words} {plain : State} {held : Option (Held Item)} (b : Book w pla
 
     module _ {u : ℕ} (new : s ≡ 0) (by-rate : Sought rateOf r (bookLines held) u) where
       pub post-rate-live : u ≢ 0 → step plain (post n r z) ≡ refusing plain 6
-      post-rate-live h = step-declined plain (post n r z) rateLive (first-behind (rangeTrials (post n r z)) ranged (further (not-live by-number new) (at-once (rate-live by-rate h))))
+      post-rate-live h = step-declined plain (post n r z) rateLive
+          (first-behind (rangeTrials (post n r z)) ranged (further (not-live by-number new) (at-once (rate-live by-rate h))))
 
       pub post-full : u ≡ 0 → plain .capacity ≤ length (bookLines held) → step plain (post n r z) ≡ refusing plain 7
       post-full e h =
           step-declined plain (post n r z) bookFull
           (first-behind (rangeTrials (post n r z)) ranged
-          (further (not-live by-number new) (further (rate-not-live by-rate e) (at-once (le→leb (plain .capacity) (length (plain .offers)) (omega (arith, live-length b)))))))
+          (further (not-live by-number new) (further (rate-not-live by-rate e)
+          (at-once (le→leb (plain .capacity) (length (plain .offers)) (omega (arith, live-length b)))))))
 
       pub post-clear : u ≡ 0 → length (bookLines held) < plain .capacity → Clear (trials plain (post n r z))
       post-clear e h =
@@ -92,4 +97,5 @@ module _ {w : Words} {plain : State} {held : Option (Held Item)} (b : Book w pla
         (first-behind (rangeTrials (withdraw n)) ranged (at-once (not-live by-number h)))
 
     pub withdraw-clear : s ≢ 0 → Clear (trials plain (withdraw n))
-    withdraw-clear h = clear-append (rangeTrials (withdraw n)) (bookTrials plain (withdraw n)) ranged (not-T (not (any (hasNumber n) (plain .offers))) (λ t. T-not (any (hasNumber n) (plain .offers)) t (is-live by-number h)), tt)
+    withdraw-clear h = clear-append (rangeTrials (withdraw n)) (bookTrials plain (withdraw n)) ranged
+        (not-T (not (any (hasNumber n) (plain .offers))) (λ t. T-not (any (hasNumber n) (plain .offers)) t (is-live by-number h)), tt)

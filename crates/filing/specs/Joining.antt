@@ -37,7 +37,8 @@ pub placed-join : (a : Item) (ls : List Item) → map offerOf (placed items a ls
 placed-join a [] = refl
 placed-join a (p ∷ ps) = go (precedes (a .offer) (p .offer)) (placed-join a ps)
   where
-    go : (b : Bool) → map offerOf (placed items a ps) ≡ join (a .offer) (map offerOf ps) → map offerOf (cond b (a ∷ p ∷ ps) (p ∷ placed items a ps)) ≡ cond b (a .offer ∷ p .offer ∷ map offerOf ps) (p .offer ∷ join (a .offer) (map offerOf ps))
+    go : (b : Bool) → map offerOf (placed items a ps) ≡ join (a .offer) (map offerOf ps) →
+        map offerOf (cond b (a ∷ p ∷ ps) (p ∷ placed items a ps)) ≡ cond b (a .offer ∷ p .offer ∷ map offerOf ps) (p .offer ∷ join (a .offer) (map offerOf ps))
     go true e = refl
     go false e = ap {B = List Offer} (λ (l : List Offer). p .offer ∷ l) e
 
@@ -49,7 +50,8 @@ pub in-placed : (a : Item) (ls : List Item) {x : Item} → List·Memᴰ x (a ∷
 in-placed a [] m = m
 in-placed a (p ∷ ps) {x} m = go (precedes (a .offer) (p .offer)) (List·Memᴰ·cases-cons m) (in-placed a ps)
   where
-    go : (b : Bool) → (x ≡ a) ⊎ List·Memᴰ x (p ∷ ps) → (List·Memᴰ x (a ∷ ps) → List·Memᴰ x (placed items a ps)) → List·Memᴰ x (cond b (a ∷ p ∷ ps) (p ∷ placed items a ps))
+    go : (b : Bool) → (x ≡ a) ⊎ List·Memᴰ x (p ∷ ps) → (List·Memᴰ x (a ∷ ps) → List·Memᴰ x (placed items a ps)) →
+        List·Memᴰ x (cond b (a ∷ p ∷ ps) (p ∷ placed items a ps))
     go true (inl e) rec = List·Memᴰ·head e
     go true (inr n) rec = List·Memᴰ·tail n
     go false (inl e) rec = List·Memᴰ·tail (rec (List·Memᴰ·head e))
@@ -121,5 +123,15 @@ module _ (w : Words) (a : Item) where
             kept = one-held holds;
             slots = slots;
             new = new;
-            held = record { root = ex; envelope = ee; slots = o .slots; kept = o .kept; tied = o .tied; stored = o .stored; pieces = o .pieces; right = o .right };
+            held = record {
+              root = ex;
+              envelope = ee;
+              slots = o .slots;
+              kept = o .kept;
+              tied = o .tied;
+              stored = o .stored;
+              pieces = o .pieces;
+              right =
+                  o .right;
+            };
           }

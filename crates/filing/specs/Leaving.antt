@@ -74,7 +74,8 @@ without-length {a} (Ordered·cons {a = x} {ls} h o) m = go (List·Memᴰ·cases-
         (sym
         (cond-no (test x) (x ∷ without items a ls) (without items a ls) (not-T (test x) (λ t. either-other items item-laws a x (either-side a x t) (sym e)))
         ∙ without-all items a ls (λ y i. or-left (items .before a y) (items .before y a) (subst (λ (z : Item). T (items .before z y)) (sym e) (h y i)))))
-    go (inr n) rec = ap suc (rec n ∙ sym (ap length (cond-yes (test x) (x ∷ without items a ls) (without items a ls) (or-right (items .before a x) (items .before x a) (h a n)))))
+    go (inr n) rec = ap suc
+        (rec n ∙ sym (ap length (cond-yes (test x) (x ∷ without items a ls) (without items a ls) (or-right (items .before a x) (items .before x a) (h a n)))))
 
 -- ---- the plain book leaves out the same
 
@@ -111,7 +112,17 @@ left-book (some g) i =
     record {
       root = i .root;
       envelope = i .envelope;
-      offers = record { root = refl; envelope = refl; slots = i .slots; kept = i .kept; tied = i .tied; stored = i .stored; pieces = i .pieces; right = i .right };
+      offers = record {
+        root = refl;
+        envelope = refl;
+        slots = i .slots;
+        kept = i .kept;
+        tied = i .tied;
+        stored = i .stored;
+        pieces = i .pieces;
+        right =
+            i .right;
+      };
     }
 
 pub record LeavingIn (a : Item) (held : Option (Held Item)) (w w′ : Words) (m : Outcome) : Type 0 where
@@ -136,5 +147,15 @@ leaves-in w a (some g) {s} {x} es ex ee o i r =
         record {
           slot = es;
           member = i;
-          held = record { root = ex; envelope = ee; slots = o .slots; kept = o .kept; tied = o .tied; stored = o .stored; pieces = o .pieces; right = o .right };
+          held = record {
+            root = ex;
+            envelope = ee;
+            slots = o .slots;
+            kept = o .kept;
+            tied = o .tied;
+            stored = o .stored;
+            pieces = o .pieces;
+            right =
+                o .right;
+          };
         }

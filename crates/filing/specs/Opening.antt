@@ -12,7 +12,8 @@ use lib.IntN.{ℤ, pos}
 use borrow.Author.Tests.{le-leb}
 use Rattle.lists.specs.Members.{pairs-cons}
 use Rattle.plain.specs.Book.{opened}
-use Rattle.table.specs.Fields.{capacityWord, envelopeRootWord, firstFreeWord, liveCountWord, mostSlots, nextFreeField, numberField, numbersRootWord, offersRootWord}
+use Rattle.table.specs.Fields.{capacityWord, envelopeRootWord, firstFreeWord, liveCountWord, mostSlots, nextFreeField, numberField, numbersRootWord}
+use Rattle.table.specs.Fields.{offersRootWord}
 use Rattle.table.specs.Words.{Words, word, wset, wset-length, wset-same, wset-other, upTo, upTo-in}
 use Rattle.table.specs.Layout.{cap, fitting, cell, cset, Valid, cset-same, cset-other}
 use Rattle.table.specs.Rep.{Within, within-cap, within-refl, within-trans, within-cset}
@@ -48,7 +49,8 @@ written w i z e =
 
 pub begun :
     (w : Words) {w₀ w₁ w₂ w₃ w₄ w₅ : Words} {c : ℕ} → 1 ≤ c → c ≤ mostSlots → 64 * (c + 1) ≤ length w →
-    w₀ ≡ wset w capacityWord (pos c) → w₁ ≡ wset w₀ offersRootWord (pos 0) → w₂ ≡ wset w₁ envelopeRootWord (pos 0) → w₃ ≡ wset w₂ liveCountWord (pos 0) → w₄ ≡ wset w₃ numbersRootWord (pos 0) → w₅ ≡ wset w₄ firstFreeWord (pos 1) →
+    w₀ ≡ wset w capacityWord (pos c) → w₁ ≡ wset w₀ offersRootWord (pos 0) → w₂ ≡ wset w₁ envelopeRootWord (pos 0) → w₃ ≡ wset w₂ liveCountWord (pos 0) →
+    w₄ ≡ wset w₃ numbersRootWord (pos 0) → w₅ ≡ wset w₄ firstFreeWord (pos 1) →
     Begun c w₅
 begun w {w₀} {w₁} {w₂} {w₃} {w₄} {w₅} {c} low high room e₀ e₁ e₂ e₃ e₄ e₅ =
     let s₀ = written w 0 (pos c) e₀ in
@@ -61,7 +63,8 @@ begun w {w₀} {w₁} {w₂} {w₃} {w₄} {w₅} {c} low high room e₀ e₁ e�
       low = low;
       high = high;
       room = omega arith;
-      first = s₅ .other 0 (omega arith) ∙ s₄ .other 0 (omega arith) ∙ s₃ .other 0 (omega arith) ∙ s₂ .other 0 (omega arith) ∙ s₁ .other 0 (omega arith) ∙ s₀ .same (omega arith);
+      first = s₅ .other 0 (omega arith) ∙ s₄ .other 0 (omega arith) ∙ s₃ .other 0 (omega arith) ∙ s₂ .other 0 (omega arith) ∙ s₁ .other 0 (omega arith)
+          ∙ s₀ .same (omega arith);
       offers-root = s₅ .other 1 (omega arith) ∙ s₄ .other 1 (omega arith) ∙ s₃ .other 1 (omega arith) ∙ s₂ .other 1 (omega arith) ∙ s₁ .same (omega arith);
       envelope-root = s₅ .other 2 (omega arith) ∙ s₄ .other 2 (omega arith) ∙ s₃ .other 2 (omega arith) ∙ s₂ .same (omega arith);
       live-count = s₅ .other 3 (omega arith) ∙ s₄ .other 3 (omega arith) ∙ s₃ .same (omega arith);
@@ -83,7 +86,13 @@ pub record Laid (c n : ℕ) (w w′ : Words) : Type 0 where
   pub end : (s : ℕ) → 1 ≤ s → s ≤ n → s ≡ c → cell w′ nextFreeField s ≡ pos 0
 
 pub laid-none : (c : ℕ) (w : Words) → Laid c 0 w w
-laid-none c w = record { within = within-refl w; number = λ s l h. absurd (omega arith); next = λ s l h k. absurd (omega arith); end = λ s l h k. absurd (omega arith) }
+laid-none c w = record {
+  within = within-refl w;
+  number = λ s l h. absurd (omega arith);
+  next = λ s l h k. absurd (omega arith);
+  end =
+      λ s l h k. absurd (omega arith);
+}
 
 pub laid-more :
     {c n m : ℕ} {w w₀ w₁ w₂ : Words} → cap w ≡ c → Laid c n w w₀ → n < c →
@@ -93,7 +102,8 @@ laid-more {c} {n} {m} {w} {w₀} {w₁} {w₂} fits l h e₁ e₂ inner last =
     record {
       within = within-trans (l .within) (within-trans to₁ to₂);
       number = λ s low high. by s (decLe s n) (λ k. old 0 s k ∙ l .number s low k) (λ d. ap (cell w₂ numberField) d ∙ new₀) high;
-      next = λ s low high k. by s (decLe s n) (λ q. old 3 s q ∙ l .next s low q k) (λ d. ap (cell w₂ nextFreeField) d ∙ new₃ ∙ ap pos (inner (omega arith) ∙ ap suc (sym d))) high;
+      next = λ s low high k. by s (decLe s n) (λ q. old 3 s q ∙ l .next s low q k) (λ d. ap (cell w₂ nextFreeField) d ∙ new₃
+          ∙ ap pos (inner (omega arith) ∙ ap suc (sym d))) high;
       end = λ s low high k. by s (decLe s n) (λ q. absurd (omega arith)) (λ d. ap (cell w₂ nextFreeField) d ∙ new₃ ∙ ap pos (last (sym d ∙ k))) high;
     }
   where

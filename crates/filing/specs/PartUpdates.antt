@@ -7,13 +7,12 @@ use Prim.Native.Nat.{ℕ, suc, _+_, _*_, _-_, _≤_, _<_}
 use native.Mathlib.Omega.{arith}
 use lib.ListN.{length}
 use lib.IntN.{ℤ, pos}
-use Rattle.plain.specs.Causes.{Cause, causeNumber}
+use Rattle.plain.specs.Causes.{Cause, causeNumber, FirstOf, Clear}
 use Rattle.plain.specs.Book.{State, Call, post, join, leave, rangeTrials, trials, holding, step}
-use Rattle.plain.specs.Rules.{FirstOf}
-use Rattle.plain.specs.Sound.{Clear}
 use Rattle.dynamic.specs.OfferTree.{Held}
 use Rattle.dynamic.specs.Valid.{bookLines}
-use Rattle.table.specs.Fields.{baseField, envelopeRootWord, liveCountWord, mostNodes, nextFreeField, numberField, numbersRootWord, offerTree, offersRootWord, rateField}
+use Rattle.table.specs.Fields.{baseField, envelopeRootWord, liveCountWord, mostNodes, nextFreeField, numberField, numbersRootWord, offerTree}
+use Rattle.table.specs.Fields.{offersRootWord, rateField}
 use Rattle.table.specs.Words.{Words, word, wset, wset-length, wset-other, upTo, upTo-most}
 use Rattle.table.specs.Layout.{cap, cset, cset-length, cset-cap, cset-rest, header-cap, beyond-outside}
 use Rattle.table.specs.Free.{firstFree, taken, given}
@@ -56,7 +55,12 @@ kept-same : {w w′ : Words} → w′ ≡ w → Kept w w′
 kept-same e = record { long = ap length e; room = ap cap e; rest = λ i h. ap (λ (v : Words). word v i) e }
 
 kept-header : (w : Words) (i : ℕ) (z : ℤ) → 1 ≤ i → i < 64 → Kept w (wset w i z)
-kept-header w i z low high = record { long = wset-length w i z; room = header-cap w i z low high; rest = λ j h. wset-other w i j z (λ e. omega (arith, e, high, h)) }
+kept-header w i z low high = record {
+  long = wset-length w i z;
+  room = header-cap w i z low high;
+  rest =
+      λ j h. wset-other w i j z (λ e. omega (arith, e, high, h));
+}
 
 kept-cell : (w : Words) (f s : ℕ) (z : ℤ) → Kept w (cset w f s z)
 kept-cell w f s z = record { long = cset-length w f s z; room = cset-cap w f s z; rest = λ i h. cset-rest w f s z (beyond-outside w h) }
@@ -72,7 +76,8 @@ kept-joined (joins-among nz i) = kept-within (i .within)
 
 kept-filling : (n r z : ℤ) (s : ℕ) (w : Words) → Kept w (filling n r z s w)
 kept-filling n r z s w =
-    then (then (then (kept-header w 5 _ (omega arith) (omega arith)) (kept-cell (taken w) 0 s n)) (kept-cell (cset (taken w) numberField s n) 1 s r)) (kept-cell (cset (cset (taken w) numberField s n) rateField s r) 2 s z)
+    then (then (then (kept-header w 5 _ (omega arith) (omega arith)) (kept-cell (taken w) 0 s n)) (kept-cell (cset (taken w) numberField s n) 1 s r))
+    (kept-cell (cset (cset (taken w) numberField s n) rateField s r) 2 s z)
 
 kept-rooting : (x : InHand) (n : ℕ) (w : Words) → Kept w (rooting x n w)
 kept-rooting x n w =
@@ -83,10 +88,13 @@ kept-rooting x n w =
 
 kept-given : (w : Words) (s : ℕ) → Kept w (given w s)
 kept-given w s =
-    then (then (kept-cell w 0 s (pos 0)) (kept-cell (cset w numberField s (pos 0)) 3 s (pos (firstFree w)))) (kept-header (cset (cset w numberField s (pos 0)) nextFreeField s (pos (firstFree w))) 5 (pos s) (omega arith) (omega arith))
+    then (then (kept-cell w 0 s (pos 0)) (kept-cell (cset w numberField s (pos 0)) 3 s (pos (firstFree w))))
+    (kept-header (cset (cset w numberField s (pos 0)) nextFreeField s (pos (firstFree w))) 5 (pos s) (omega arith) (omega arith))
 
-pub filled-in : (n r z : ℤ) (w : Words) (s : ℕ) {w₁ w₂ w₃ w₄ : Words} → w₁ ≡ taken w → w₂ ≡ cset w₁ numberField s n → w₃ ≡ cset w₂ rateField s r → w₄ ≡ cset w₃ baseField s z → w₄ ≡ filling n r z s w
-filled-in n r z w s e₁ e₂ e₃ e₄ = e₄ ∙ ap (λ (v : Words). cset v baseField s z) (e₃ ∙ ap (λ (v : Words). cset v rateField s r) (e₂ ∙ ap (λ (v : Words). cset v numberField s n) e₁))
+pub filled-in : (n r z : ℤ) (w : Words) (s : ℕ) {w₁ w₂ w₃ w₄ : Words} → w₁ ≡ taken w → w₂ ≡ cset w₁ numberField s n → w₃ ≡ cset w₂ rateField s r →
+    w₄ ≡ cset w₃ baseField s z → w₄ ≡ filling n r z s w
+filled-in n r z w s e₁ e₂ e₃ e₄ = e₄ ∙ ap (λ (v : Words). cset v baseField s z)
+    (e₃ ∙ ap (λ (v : Words). cset v rateField s r) (e₂ ∙ ap (λ (v : Words). cset v numberField s n) e₁))
 
 pub rooted-in :
     (w : Words) (x : InHand) (n : ℕ) {w₁ w₂ w₃ : Words} →
@@ -99,15 +107,18 @@ rooted-in w x n e₁ e₂ e₃ = e₃ ∙ ap (λ (v : Words). wset v liveCountWo
 pub read-most : (z : ℤ) {n : ℕ} → n ≡ upTo mostNodes z → n ≤ mostNodes
 read-most z e = omega (arith, e, upTo-most mostNodes z)
 
-pub found-at : {n : ℤ} {w : Words} {root s : ℕ} → root ≡ upTo mostNodes (word w numbersRootWord) → FoundNumber n root w s → FoundNumber n (upTo mostNodes (word w numbersRootWord)) w s
+pub found-at : {n : ℤ} {w : Words} {root s : ℕ} → root ≡ upTo mostNodes (word w numbersRootWord) → FoundNumber n root w s →
+    FoundNumber n (upTo mostNodes (word w numbersRootWord)) w s
 found-at {n} {w} {s} e f = subst (λ (i : ℕ). FoundNumber n i w s) e f
 
 -- ---- post
 
 -- the number of the cause for which a post in range is declined, or 0
 pub record PostCause (n r : ℤ) (w : Words) (m : ℕ) : Type 0 where
-  pub declines : (z : ℤ) (plain : State) (held : Option (Held Item)) → Book w plain held → Clear (rangeTrials (post n r z)) → 0 < m → step plain (post n r z) ≡ refusing plain m
-  pub clears : (z : ℤ) (plain : State) (held : Option (Held Item)) → Book w plain held → Clear (rangeTrials (post n r z)) → m ≤ 0 → Clear (trials plain (post n r z)) × Postable (record { number = n; rate = r; base = z }) (plain .capacity) (bookLines held)
+  pub declines : (z : ℤ) (plain : State) (held : Option (Held Item)) → Book w plain held → Clear (rangeTrials (post n r z)) → 0 < m →
+      step plain (post n r z) ≡ refusing plain m
+  pub clears : (z : ℤ) (plain : State) (held : Option (Held Item)) → Book w plain held → Clear (rangeTrials (post n r z)) → m ≤ 0 →
+      Clear (trials plain (post n r z)) × Postable (record { number = n; rate = r; base = z }) (plain .capacity) (bookLines held)
 
 module _ (n r : ℤ) (w : Words) {root s : ℕ} (er : root ≡ upTo mostNodes (word w numbersRootWord)) (f : FoundNumber n root w s) where
   pub cause-number : 0 < s → PostCause n r w 5
@@ -129,7 +140,8 @@ module _ (n r : ℤ) (w : Words) {root s : ℕ} (er : root ≡ upTo mostNodes (w
       pub cause-full : m ≤ i → PostCause n r w 7
       cause-full h =
           record {
-            declines = λ z plain held b g q. post-full b n r z g (number-sought b f er) (omega (arith, low)) (rate-sought b d ex) (omega (arith, least)) (omega (arith, h, em, ei, b .capacity, count-read b));
+            declines = λ z plain held b g q. post-full b n r z g (number-sought b f er) (omega (arith, low)) (rate-sought b d ex) (omega (arith, least))
+                (omega (arith, h, em, ei, b .capacity, count-read b));
             clears = λ z plain held b g q. absurd (omega (arith, q));
           }
 
@@ -148,7 +160,8 @@ module _ (n r : ℤ) (w : Words) {root s : ℕ} (er : root ≡ upTo mostNodes (w
 pub record PostDone (n r z : ℤ) (w w′ : Words) (t : Told) : Type 0 where
   pub kept : Kept w w′
   pub done :
-      (plain : State) (held : Option (Held Item)) → Book w plain held → Postable (record { number = n; rate = r; base = z }) (plain .capacity) (bookLines held) →
+      (plain : State) (held : Option (Held Item)) → Book w plain held →
+      Postable (record { number = n; rate = r; base = z }) (plain .capacity) (bookLines held) →
       Updated w′ (holding plain (join (record { number = n; rate = r; base = z }) (plain .offers))) held (t .counts) × (t .live ≡ suc (length (plain .offers)))
 
 pub posted-part :

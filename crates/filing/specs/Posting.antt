@@ -11,8 +11,8 @@ use lib.Dec.{T}
 use lib.IntN.{ℤ, pos}
 use Rattle.lists.specs.Members.{pairs-cons}
 use Rattle.offers.specs.Offers.{Offer, offerInRange}
+use Rattle.plain.specs.Causes.{Clear}
 use Rattle.plain.specs.Book.{State, post, join, rangeTrials, holding}
-use Rattle.plain.specs.Sound.{Clear}
 use Rattle.trees.specs.Operations.{Part}
 use Rattle.dynamic.specs.OfferTree.{Held, Pair}
 use Rattle.dynamic.specs.Updates.{posted}
@@ -36,7 +36,9 @@ use Rattle.update.specs.declared.Counts.{Counts}
 use Rattle.update.specs.declared.Made.{Made as Outcome}
 use Rattle.filing.specs.Sought.{Sought, sought-none, numbers-at, offers-read, envelope-read, capacity-most, live-most}
 use Rattle.filing.specs.Declining.{clear-offer}
-use Rattle.filing.specs.Agree.{Agree, Everywhere, FreeHere, agree-trans, agree-less, agree-header, agree-only, agree-touched, header-kept, header-set, offers-number, numbers-envelope, free-number, free-envelope, held-agree, offers-agree, numbers-agree, free-agree}
+use Rattle.filing.specs.Agree.{Agree, Everywhere, FreeHere, agree-trans, agree-less, agree-header, agree-only, agree-touched, header-kept}
+use Rattle.filing.specs.Agree.{header-set, offers-number, numbers-envelope, free-number, free-envelope, held-agree, offers-agree, numbers-agree}
+use Rattle.filing.specs.Agree.{free-agree}
 use Rattle.filing.specs.Writing.{rootsOf, Filled, Headed, FirstFree, first-free}
 use Rattle.filing.specs.Counts.{Exact, counts-exact}
 use Rattle.filing.specs.Joining.{placed-join, placed-length, in-placed, rate-new, Joined, JoinedIn, joins}
@@ -111,13 +113,22 @@ module _
   slots₁ : Slots (cap w₁) (itemAt s o ∷ bookLines held)
   slots₁ =
       record {
-        low = λ {a = y} m. ⊎-elim {C = 1 ≤ y .slot} (λ (q : y ≡ itemAt s o). omega (arith, ap (λ (z : Item). z .slot) q, free .low)) (numbers₁ .slots .low) (List·Memᴰ·cases-cons m);
-        high = λ {a = y} m. ⊎-elim {C = y .slot ≤ cap w₁} (λ (q : y ≡ itemAt s o). omega (arith, ap (λ (z : Item). z .slot) q, free .high, steps .filled .agree .room)) (numbers₁ .slots .high) (List·Memᴰ·cases-cons m);
+        low = λ {a = y} m. ⊎-elim {C = 1 ≤ y .slot} (λ (q : y ≡ itemAt s o). omega (arith, ap (λ (z : Item). z .slot) q, free .low)) (numbers₁ .slots .low)
+            (List·Memᴰ·cases-cons m);
+        high = λ {a = y} m. ⊎-elim {C = y .slot ≤ cap w₁} (λ (q : y ≡ itemAt s o). omega (
+          arith,
+          ap (λ (z : Item). z .slot) q,
+          free .high,
+          steps .filled .agree .room,
+        )) (numbers₁ .slots .high) (List·Memᴰ·cases-cons m);
         apart = pairs-cons (λ y z. ¬-prop) (λ y m d. free .not-live (at m d)) (numbers₁ .slots .apart);
       }
 
   holds₁ : Holds w₁ (itemAt s o ∷ bookLines held)
-  holds₁ = record { held = λ {a = y} m. ⊎-elim {C = HeldAt w₁ y} (λ (q : y ≡ itemAt s o). subst (HeldAt w₁) (sym q) here) (numbers₁ .holds .held) (List·Memᴰ·cases-cons m) }
+  holds₁ = record {
+    held = λ {a = y} m. ⊎-elim {C = HeldAt w₁ y} (λ (q : y ≡ itemAt s o). subst (HeldAt w₁) (sym q) here) (numbers₁ .holds .held)
+        (List·Memᴰ·cases-cons m);
+  }
     where
       here : HeldAt w₁ (itemAt s o)
       here = record { number = steps .filled .number; rate = steps .filled .rate; base = steps .filled .base; ranged = new .ranged }
@@ -171,7 +182,8 @@ module _
   numbers-at′ : NumbersAt w′ root′ (itemAt s o ∷ bookLines held) numbers′
   numbers-at′ =
       numbers-agree
-      (agree-trans (agree-touched (joined₄ .within) (joined₄ .touched) (numbers-envelope (itemAt s o ∷ bookLines held))) (agree-less (λ f t d. tt) (steps .headed .agree)))
+      (agree-trans (agree-touched (joined₄ .within) (joined₄ .touched) (numbers-envelope (itemAt s o ∷ bookLines held)))
+      (agree-less (λ f t d. tt) (steps .headed .agree)))
       numbers₃
 
   numbers-in′ : NumbersIn w′ (bookLines (afterPost s o held)) numbers′
@@ -249,5 +261,6 @@ module _
         log = posted items (itemAt s o) held .log;
         stands = posted-book;
         work = done;
-        counts = counts-exact (omega (arith, live-most b, capacity-most b)) (omega (arith, live-most posted-book, capacity-most posted-book)) done (joined₄ .counted);
+        counts = counts-exact (omega (arith, live-most b, capacity-most b)) (omega (arith, live-most posted-book, capacity-most posted-book)) done
+            (joined₄ .counted);
       }

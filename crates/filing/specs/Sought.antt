@@ -46,7 +46,8 @@ module _ {A : Type 0} (test : A → Bool) where
   any-some [] t = absurd t
   any-some (x ∷ xs) t = go (test x) refl t (any-some xs)
     where
-      go : (b : Bool) → test x ≡ b → T (not (not b && every (λ o. not (test o)) xs)) → (T (any test xs) → (o : A) × List·Memᴰ o xs × T (test o)) → (o : A) × List·Memᴰ o (x ∷ xs) × T (test o)
+      go : (b : Bool) → test x ≡ b → T (not (not b && every (λ o. not (test o)) xs)) → (T (any test xs) → (o : A) × List·Memᴰ o xs × T (test o)) →
+          (o : A) × List·Memᴰ o (x ∷ xs) × T (test o)
       go true e t rec = (x, List·Memᴰ·head refl, subst T (sym e) tt)
       go false e t rec = let (o, m, u) = rec t in (o, List·Memᴰ·tail m, u)
 
@@ -55,10 +56,12 @@ module _ {A : Type 0} (test : A → Bool) where
 
 module _ (key : Offer → ℤ) (n : ℤ) (live : List Item) where
   pub keyed-any : {a : Item} → List·Memᴰ a live → key (a .offer) ≡ n → T (any (λ o. equal (key o) n) (map offerOf live))
-  keyed-any {a} m e = not-failed (any (λ o. equal (key o) n) (map offerOf live)) (λ t. unequal (key (a .offer)) n (none-at (λ o. equal (key o) n) (map offerOf live) t (a .offer) (Memᴰ·map offerOf m)) e)
+  keyed-any {a} m e = not-failed (any (λ o. equal (key o) n) (map offerOf live))
+      (λ t. unequal (key (a .offer)) n (none-at (λ o. equal (key o) n) (map offerOf live) t (a .offer) (Memᴰ·map offerOf m)) e)
 
   pub keyed-none : ((a : Item) → List·Memᴰ a live → key (a .offer) ≢ n) → T (not (any (λ o. equal (key o) n) (map offerOf live)))
-  keyed-none h = not-any (λ o. equal (key o) n) (map offerOf live) (λ o m. not-T (equal (key o) n) (λ t. let (a, i, e) = Memᴰ·of-map offerOf live m in h a i (ap key e ∙ equal-eq (key o) n t)))
+  keyed-none h = not-any (λ o. equal (key o) n) (map offerOf live) (λ o m. not-T (equal (key o) n) (λ t. let (a, i, e) = Memᴰ·of-map offerOf live m in
+      h a i (ap key e ∙ equal-eq (key o) n t)))
 
 -- ---- what a search told
 
@@ -93,10 +96,12 @@ sought-by key n live {s} found missing = go (any (λ o. equal (key o) n) (map of
 
     gone : T (not (any (λ o. equal (key o) n) (map offerOf live))) → Sought (λ a. key (a .offer)) n live s
     gone t =
-        let no-one : (a : Item) → List·Memᴰ a live → key (a .offer) ≢ n = λ a m. unequal (key (a .offer)) n (none-at (λ o. equal (key o) n) (map offerOf live) t (a .offer) (Memᴰ·map offerOf m)) in
+        let no-one : (a : Item) → List·Memᴰ a live → key (a .offer) ≢ n =
+        λ a m. unequal (key (a .offer)) n (none-at (λ o. equal (key o) n) (map offerOf live) t (a .offer) (Memᴰ·map offerOf m)) in
         nowhere no-one (missing no-one)
 
-    go : (b : Bool) → (T b → T (any (λ o. equal (key o) n) (map offerOf live))) → (T (not b) → T (not (any (λ o. equal (key o) n) (map offerOf live)))) → Sought (λ a. key (a .offer)) n live s
+    go : (b : Bool) → (T b → T (any (λ o. equal (key o) n) (map offerOf live))) → (T (not b) → T (not (any (λ o. equal (key o) n) (map offerOf live)))) →
+        Sought (λ a. key (a .offer)) n live s
     go true f g = here (f tt)
     go false f g = gone (g tt)
 
@@ -148,7 +153,13 @@ module _ {w : Words} {plain : State} {held : Option (Held Item)} (b : Book w pla
 
   pub numbers-at : {root : ℕ} → root ≡ upTo mostNodes (word w numbersRootWord) → NumbersAt w root (bookLines held) (b .numbers .numbers)
   numbers-at e =
-      record { root-is = e ∙ numbers-read; slots = live-slots w held (b .offers .offers-in); holds = live-holds w held (b .offers .offers-in); numbers = b .numbers .numbers-in }
+      record {
+        root-is = e ∙ numbers-read;
+        slots = live-slots w held (b .offers .offers-in);
+        holds = live-holds w held (b .offers .offers-in);
+        numbers =
+            b .numbers .numbers-in;
+      }
 
   -- ---- the two searches
 

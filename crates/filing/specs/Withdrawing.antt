@@ -30,7 +30,8 @@ use Rattle.numbers.specs.Numbers.{NumbersAt, Dropped}
 use Rattle.table.specs.Items.{offerOf}
 use Rattle.form.specs.Live.{live-slots, live-holds, live-whole, whole-ordered, slot-tells, number-tells}
 use Rattle.filing.specs.Sought.{Sought, sought-item, numbers-at, offers-read, envelope-read, capacity-most, live-most}
-use Rattle.filing.specs.Agree.{Agree, Everywhere, FreeHere, agree-trans, agree-less, agree-header, agree-only, agree-touched, header-kept, header-set, offers-number, numbers-envelope, free-number, free-envelope, offers-agree, numbers-agree, free-agree}
+use Rattle.filing.specs.Agree.{Agree, Everywhere, FreeHere, agree-trans, agree-less, agree-header, agree-only, agree-touched, header-kept}
+use Rattle.filing.specs.Agree.{header-set, offers-number, numbers-envelope, free-number, free-envelope, offers-agree, numbers-agree, free-agree}
 use Rattle.filing.specs.Writing.{rootsOf, Headed, Freed, free-not-live}
 use Rattle.filing.specs.Counts.{counts-exact}
 use Rattle.filing.specs.Leaving.{without-live, without-other, without-slots, in-without, without-length, without-leave, LeavingIn, leaves-in}
@@ -71,7 +72,8 @@ module _
 
   -- what is left has other slots
   not-there : (t : ℕ) → In t (without items a (bookLines held)) → t ≢ s
-  not-there t (at m d) q = without-other a (bookLines held) m (slot-tells (live-slots w held (b .offers .offers-in)) (without-live a (bookLines held) m) (live .member) (sym d ∙ q ∙ live .slot))
+  not-there t (at m d) q = without-other a (bookLines held) m (slot-tells (live-slots w held (b .offers .offers-in)) (without-live a (bookLines held) m)
+      (live .member) (sym d ∙ q ∙ live .slot))
 
   -- the free slots are others
   not-free : (t : ℕ) → List·Memᴰ t (b .free .free) → t ≢ s
@@ -81,7 +83,8 @@ module _
 
   dropped₁ : (q : Part Item) × NumbersAt w₁ root′ (without items a (bookLines held)) q
   dropped₁ =
-      steps .dropped .made a (bookLines held) (without items a (bookLines held)) (b .numbers .numbers) (numbers-at b (steps .numbers-root)) (live .member) (live .number-is)
+      steps .dropped .made a (bookLines held) (without items a (bookLines held)) (b .numbers .numbers) (numbers-at b (steps .numbers-root)) (live .member)
+      (live .number-is)
       (λ y m. without-live a (bookLines held) m)
       (λ y m. without-other a (bookLines held) m)
       (λ y m d. in-without ordered (live .member) m d)
@@ -156,7 +159,8 @@ module _
   free-chain′ =
       free-more slot-low (omega (arith, free-kept .room, slot-high)) (steps .freed .number)
       (steps .freed .next
-      ∙ ap pos (ap (upTo mostNodes) (header-before 5 (omega arith) (omega arith) (omega arith) ∙ b .free .first-free) ∙ upTo-in mostNodes (head0 (b .free .free)) (omega (arith, chain-head (b .free .free-chain), cap-most w))))
+      ∙ ap pos (ap (upTo mostNodes) (header-before 5 (omega arith) (omega arith) (omega arith) ∙ b .free .first-free)
+      ∙ upTo-in mostNodes (head0 (b .free .free)) (omega (arith, chain-head (b .free .free-chain), cap-most w))))
       (free-agree free-kept (b .free .free-chain))
 
   numbers-root′ : word w′ numbersRootWord ≡ pos (partRef numbers′)
@@ -213,5 +217,6 @@ module _
         log = withdrawn items a held .log;
         stands = withdrawn-book;
         work = done;
-        counts = counts-exact (omega (arith, live-most b, capacity-most b)) (omega (arith, live-most withdrawn-book, capacity-most withdrawn-book)) done (left₃ .counted);
+        counts = counts-exact (omega (arith, live-most b, capacity-most b)) (omega (arith, live-most withdrawn-book, capacity-most withdrawn-book)) done
+            (left₃ .counted);
       }

@@ -79,13 +79,16 @@ module _ (w : Words) (s : ℕ) (low : 1 ≤ s) (high : s ≤ cap w) where
   here : (v : Words) (f : ℕ) → f < 32 → cap v ≡ cap w → Valid v f s
   here v f h e = record { low = low; high = omega arith; field = h }
 
-  pub filled : {w₁ w₂ w₃ w₄ : Words} (o : Offer) → w₁ ≡ wset w firstFreeWord (pos (linkAt w nextFreeField s)) → w₂ ≡ cset w₁ numberField s (o .number) → w₃ ≡ cset w₂ rateField s (o .rate) → w₄ ≡ cset w₃ baseField s (o .base) → Filled s o w w₄
+  pub filled : {w₁ w₂ w₃ w₄ : Words} (o : Offer) → w₁ ≡ wset w firstFreeWord (pos (linkAt w nextFreeField s)) → w₂ ≡ cset w₁ numberField s (o .number) →
+      w₃ ≡ cset w₂ rateField s (o .rate) → w₄ ≡ cset w₃ baseField s (o .base) → Filled s o w w₄
   filled {w₁} {w₂} {w₃} {w₄} o e₁ e₂ e₃ e₄ =
       record {
-        number = ap (at 0) e₄ ∙ cset-other w₃ 2 s (o .base) (λ q. omega (arith, q .0)) ∙ ap (at 0) e₃ ∙ cset-other w₂ 1 s (o .rate) (λ q. omega (arith, q .0)) ∙ ap (at 0) e₂ ∙ cset-same (o .number) (here w₁ 0 (omega arith) (g₁ .room));
+        number = ap (at 0) e₄ ∙ cset-other w₃ 2 s (o .base) (λ q. omega (arith, q .0)) ∙ ap (at 0) e₃
+            ∙ cset-other w₂ 1 s (o .rate) (λ q. omega (arith, q .0)) ∙ ap (at 0) e₂ ∙ cset-same (o .number) (here w₁ 0 (omega arith) (g₁ .room));
         rate = ap (at 1) e₄ ∙ cset-other w₃ 2 s (o .base) (λ q. omega (arith, q .0)) ∙ ap (at 1) e₃ ∙ cset-same (o .rate) (here w₂ 1 (omega arith) (g₂ .room));
         base = ap (at 2) e₄ ∙ cset-same (o .base) (here w₃ 2 (omega arith) (g₃ .room));
-        first = head 5 (omega arith) ∙ ap (λ (v : Words). word v firstFreeWord) e₁ ∙ header-set w 5 (pos (linkAt w nextFreeField s)) (omega arith) (omega arith);
+        first = head 5 (omega arith) ∙ ap (λ (v : Words). word v firstFreeWord) e₁ ∙ header-set w 5 (pos (linkAt w nextFreeField s)) (omega arith)
+            (omega arith);
         header = λ i h d. head i h ∙ ap (λ (v : Words). word v i) e₁ ∙ wset-other w 5 i (pos (linkAt w nextFreeField s)) d;
         agree = g₄;
       }
@@ -111,7 +114,8 @@ module _ (w : Words) (s : ℕ) (low : 1 ≤ s) (high : s ≤ cap w) where
           ∙ ap (λ (v : Words). word v i) e₃ ∙ cset-rest w₂ 1 s (o .rate) (header-outside w₂ h)
           ∙ ap (λ (v : Words). word v i) e₂ ∙ cset-rest w₁ 0 s (o .number) (header-outside w₁ h)
 
-  freed : {w₁ w₂ w₃ : Words} → w₁ ≡ cset w numberField s (pos 0) → w₂ ≡ cset w₁ nextFreeField s (pos (firstFree w)) → w₃ ≡ wset w₂ firstFreeWord (pos s) → Freed s w w₃
+  freed : {w₁ w₂ w₃ : Words} → w₁ ≡ cset w numberField s (pos 0) → w₂ ≡ cset w₁ nextFreeField s (pos (firstFree w)) → w₃ ≡ wset w₂ firstFreeWord (pos s) →
+      Freed s w w₃
   freed {w₁} {w₂} {w₃} e₁ e₂ e₃ =
       record {
         number = last 0 ∙ ap (at 0) e₂ ∙ cset-other w₁ 3 s z (λ q. omega (arith, q .0)) ∙ ap (at 0) e₁ ∙ cset-same (pos 0) (here w 0 (omega arith) refl);
@@ -192,7 +196,8 @@ pub free-not-live : {w : Words} {ss : List ℕ} {live : List Item} {s : ℕ} →
 free-not-live {w} {live} {s} chain holds m (at {a} i e) = go chain m
   where
     never : cell w numberField (a .slot) ≡ pos 0 → ⊥
-    never d = zero (holds .held i .number) d (and-left (numberInRange (a .offer .number)) (rateInRange (a .offer .rate)) (and-left (numberInRange (a .offer .number) && rateInRange (a .offer .rate)) (baseInRange (a .offer .base)) (holds .held i .ranged)))
+    never d = zero (holds .held i .number) d (and-left (numberInRange (a .offer .number)) (rateInRange (a .offer .rate))
+        (and-left (numberInRange (a .offer .number) && rateInRange (a .offer .rate)) (baseInRange (a .offer .base)) (holds .held i .ranged)))
       where
         zero : {z n : ℤ} → z ≡ n → z ≡ pos 0 → T (numberInRange n) → ⊥
         zero {n} p q t = omega (arith, intRules, range-low (pos 1) n (pos 9_999) t)
@@ -202,14 +207,17 @@ free-not-live {w} {live} {s} chain holds m (at {a} i e) = go chain m
     go (free-more low high zero next more) (List·Memᴰ·tail n) = go more n
 
 pub first-free :
-    {w : Words} {plain : State} {s : ℕ} {held : Option (Held Item)} → Book w plain held → length (bookLines held) < plain .capacity → s ≡ upTo mostNodes (word w firstFreeWord) →
+    {w : Words} {plain : State} {s : ℕ} {held : Option (Held Item)} → Book w plain held → length (bookLines held) < plain .capacity →
+    s ≡ upTo mostNodes (word w firstFreeWord) →
     (others : List ℕ) × FirstFree w (bookLines held) s others
 first-free {w} {s = s} {held} b room e =
     let f = b .free in
-    go (f .free) (f .first-free) (f .free-chain) (f .free-apart) (f .slots-used) (omega (arith, room, b .capacity)) (λ t. free-not-live (f .free-chain) (live-holds w held (b .offers .offers-in)))
+    go (f .free) (f .first-free) (f .free-chain) (f .free-apart) (f .slots-used) (omega (arith, room, b .capacity))
+    (λ t. free-not-live (f .free-chain) (live-holds w held (b .offers .offers-in)))
   where
     go :
-        (free : List ℕ) → word w firstFreeWord ≡ pos (head0 free) → FreeChain w free → Pairwise (λ (a b : ℕ). a ≢ b) free → length free + length (bookLines held) ≡ cap w → length (bookLines held) < cap w →
+        (free : List ℕ) → word w firstFreeWord ≡ pos (head0 free) → FreeChain w free → Pairwise (λ (a b : ℕ). a ≢ b) free →
+        length free + length (bookLines held) ≡ cap w → length (bookLines held) < cap w →
         ((t : ℕ) → List·Memᴰ t free → In t (bookLines held) → ⊥) →
         (others : List ℕ) × FirstFree w (bookLines held) s others
     go [] f chain apart used room no-one = absurd (omega arith)

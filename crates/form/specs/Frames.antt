@@ -21,7 +21,8 @@ use Rattle.table.specs.Items.{Item, In, at, in-left, in-right, Slots, slots-lef
 use Rattle.table.specs.Rep.{childField, Field, a-child, a-height, Tied, tied-leaf, tied-node, Within, within-cap, Only}
 use Rattle.table.specs.Threads.{Holds, Threaded, holds-left, holds-still, threaded-still, leads-in}
 use Rattle.pieces.specs.Pieces.{items, PartIn, PieceField, of-node, of-numerator, of-denominator, of-next, PiecesOnly, Standing}
-use Rattle.form.specs.Stored.{RestIn, Stored, stored-single, stored-fork, HeldIn, EnvelopeField, of-pieces, of-offers, of-bridge-u, of-bridge-v, of-inner-rest, of-leaf-rest, Touched}
+use Rattle.form.specs.Stored.{RestIn, Stored, stored-single, stored-fork, HeldIn, EnvelopeField, of-pieces, of-offers, of-bridge-u, of-bridge-v}
+use Rattle.form.specs.Stored.{of-inner-rest, of-leaf-rest, Touched}
 
 -- ---- fields
 
@@ -134,7 +135,12 @@ module _ {w w′ : Words} where
   threaded-same : {xs : List Item} → Threaded w xs → Same PieceField xs w w′ → Threaded w′ xs
   threaded-same h q =
       threaded-still h
-      (λ s k. record { next = q .cells 19 s (of-next refl) (leads-in k); numerator = q .cells 6 s (of-numerator refl) (leads-in k); denominator = q .cells 7 s (of-denominator refl) (leads-in k) })
+      (λ s k. record {
+        next = q .cells 19 s (of-next refl) (leads-in k);
+        numerator = q .cells 6 s (of-numerator refl) (leads-in k);
+        denominator =
+            q .cells 7 s (of-denominator refl) (leads-in k);
+      })
 
   pub part-same : (p : Part Item) → PartIn w p → Same PieceField (partLeaves p) w w′ → PartIn w′ p
   part-same none h q = tt
@@ -144,10 +150,19 @@ module _ {w w′ : Words} where
   holds-same h q =
       holds-still h (λ s i. record { number = q .cells 0 s (omega arith) i; rate = q .cells 1 s (omega arith) i; base = q .cells 2 s (omega arith) i })
 
-  pub rest-same : (t : OfferTree Item) {q : Part Item} → RestIn w t q → Same RestField (leaves (shape t)) w w′ → Same PieceField (partLeaves q) w w′ → RestIn w′ t q
-  rest-same (single a) {q} h rests pieces = record { root = rests .cells 21 _ (leaf-rest refl) (at (last-leaf (shape (single a))) refl) ∙ h .root; pieces = part-same q (h .pieces) pieces }
+  pub rest-same : (t : OfferTree Item) {q : Part Item} → RestIn w t q → Same RestField (leaves (shape t)) w w′ → Same PieceField (partLeaves q) w w′ →
+      RestIn w′ t q
+  rest-same (single a) {q} h rests pieces = record {
+    root = rests .cells 21 _ (leaf-rest refl) (at (last-leaf (shape (single a))) refl) ∙ h .root;
+    pieces =
+        part-same q (h .pieces) pieces;
+  }
   rest-same (fork u v l ql qr r) {q} h rests pieces =
-      record { root = rests .cells 20 _ (inner-rest refl) (in-left (leaves (shape r)) (at (last-leaf (shape l)) refl)) ∙ h .root; pieces = part-same q (h .pieces) pieces }
+      record {
+        root = rests .cells 20 _ (inner-rest refl) (in-left (leaves (shape r)) (at (last-leaf (shape l)) refl)) ∙ h .root;
+        pieces =
+            part-same q (h .pieces) pieces;
+      }
 
   pub stored-same : {t : OfferTree Item} → Stored w t → Same RestField (leaves (shape t)) w w′ → Same PieceField (stored t) w w′ → Stored w′ t
   stored-same stored-single rests pieces = stored-single
@@ -249,7 +264,14 @@ module _ {w w′ : Words} (within : Within w w′) where
 
   pub standing-same : {x : ℕ} {p : Part Item} → Standing w x p → Same OfferField (partLeaves p) w w′ → Same PieceField (partLeaves p) w w′ → Standing w′ x p
   standing-same {p} st offers pieces =
-      record { root = st .root; slots = slots-within (st .slots); holds = holds-same (st .holds) offers; balanced = st .balanced; pieces = part-same p (st .pieces) pieces }
+      record {
+        root = st .root;
+        slots = slots-within (st .slots);
+        holds = holds-same (st .holds) offers;
+        balanced = st .balanced;
+        pieces =
+            part-same p (st .pieces) pieces;
+      }
 
   pub standing-still : {x : ℕ} {p : Part Item} {ys : List Item} → Standing w x p → Touched ys w w′ → Disjoint (partLeaves p) ys → Standing w′ x p
   standing-still {p} st g d = standing-same st (touched-offers g (partLeaves p)) (touched-else g PieceField d)

@@ -56,7 +56,8 @@ module _ {w : Words} {plain : State} {held : Option (Held Item)} (b : Book w pla
 
   numbers-apart : Pairwise (λ x y. numberOf x ≢ numberOf y) (bookLines held)
   numbers-apart =
-      Pairwise·imp-of-mem (λ x y m n d e. ∥∥₁-elim m (λ p q. absurd p) (λ i. ∥∥₁-elim n (λ p q. absurd p) (λ j. d (ap (λ (a : Item). a .slot) (number-tells i j e)))))
+      Pairwise·imp-of-mem (λ x y m n d e. ∥∥₁-elim m (λ p q. absurd p)
+      (λ i. ∥∥₁-elim n (λ p q. absurd p) (λ j. d (ap (λ (a : Item). a .slot) (number-tells i j e)))))
       (live-slots w held (b .offers .offers-in) .apart)
 
 -- ---- the plain book
@@ -70,7 +71,8 @@ book-sound {w} {plain} {held} b =
     record {
       capacity-low = b .some-slot;
       capacity-high = omega (arith, b .capacity, cap-most w);
-      ordered = subst (Pairwise (λ x y. T (precedes x y))) (b .stands-for) (Pairwise·map (λ x y. T-prop (precedes x y)) offerOf (λ x y t. t) (ordered-pairs (whole-ordered held (live-whole w held offers))));
+      ordered = subst (Pairwise (λ x y. T (precedes x y))) (b .stands-for) (Pairwise·map (λ x y. T-prop (precedes x y)) offerOf (λ x y t. t)
+          (ordered-pairs (whole-ordered held (live-whole w held offers))));
       numbered = subst (Pairwise (λ x y. x .number ≢ y .number)) (b .stands-for) (Pairwise·map (λ x y. ¬-prop) offerOf (λ x y d. d) (numbers-apart b));
       ranged = λ o m.
           let (a, i, e) = Memᴰ·of-map offerOf (bookLines held) (subst (List·Memᴰ o) (sym (b .stands-for)) m) in

@@ -32,14 +32,16 @@ rest-word : (w : Words) (t : OfferTree Item) → Slots (cap w) (leaves (shape t)
 rest-word w (single a) s = rw (le-ltb mostSlots (a .slot) (omega (arith, s .high (List·Memᴰ·head refl), cap-most w))) refl
 rest-word w (fork u v l ql qr r) s =
     let here : mostSlots + last (shape l) .slot - mostSlots ≡ last (shape l) .slot = omega arith in
-    rw (lt-ltb mostSlots (mostSlots + last (shape l) .slot) (omega (arith, s .low (Memᴰ·append-left (leaves (shape r)) (last-leaf (shape l)))))) (ap (cell w innerRestField) here)
+    rw (lt-ltb mostSlots (mostSlots + last (shape l) .slot) (omega (arith, s .low (Memᴰ·append-left (leaves (shape r)) (last-leaf (shape l))))))
+    (ap (cell w innerRestField) here)
 
 -- a piece tree's number is that of a node
 part-small : {c : ℕ} (q : Part Item) → Slots c (partLeaves q) → c ≤ mostSlots → partRef q ≤ mostNodes
 part-small none s h = omega arith
 part-small (some t) s h = ref-high t s h
 
-pub rest-at : {w : Words} (t : OfferTree Item) (q : Part Item) → Slots (cap w) (leaves (shape t)) → Slots (cap w) (partLeaves q) → RestIn w t q → restAt w (refOf (shape t)) ≡ partRef q
+pub rest-at : {w : Words} (t : OfferTree Item) (q : Part Item) → Slots (cap w) (leaves (shape t)) → Slots (cap w) (partLeaves q) → RestIn w t q →
+    restAt w (refOf (shape t)) ≡ partRef q
 rest-at {w} t q s own h = ap (upTo mostNodes) (rest-word w t s ∙ h .root) ∙ upTo-in mostNodes (partRef q) (part-small q own (cap-most w))
 
 -- ---- the ways through the code

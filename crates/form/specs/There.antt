@@ -30,5 +30,9 @@ unfolding cap
 cap-there w {c} e h = go (leb (64 * (upTo mostSlots (word w capacityWord) + 1)) (length w)) refl e
   where
     go : (b : Bool) → leb (64 * (upTo mostSlots (word w capacityWord) + 1)) (length w) ≡ b → cond b (upTo mostSlots (word w capacityWord)) 0 ≡ c → There w c
-    go true d k = record { first = upTo-above mostSlots (word w capacityWord) k h; room = omega (arith, k, leb-true (64 * (upTo mostSlots (word w capacityWord) + 1)) (length w) d) }
+    go true d k = record {
+      first = upTo-above mostSlots (word w capacityWord) k h;
+      room =
+          omega (arith, k, leb-true (64 * (upTo mostSlots (word w capacityWord) + 1)) (length w) d);
+    }
     go false d k = absurd (omega arith)

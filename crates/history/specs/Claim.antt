@@ -65,17 +65,21 @@ listed-state s room = go (declined (trials s (listing room)))
     go none = refl
 
 -- what one call does to a part that stands for a plain book
-pub record OneCall {start : ℕ} {t : List ℤ} {k : Call} {t′ : List ℤ} {a : Answer} (s : State) (held : Option (Held Item)) (p : Happens start t k t′ a) : Type 0 where
+pub record OneCall {start : ℕ} {t : List ℤ} {k : Call} {t′ : List ℤ} {a : Answer} (s : State) (held : Option (Held Item)) (p : Happens start t k t′ a) :
+    Type 0 where
   pub mid : Option (Held Item)
   pub stands : Book (partOf t′ start) (step s k .state) mid
   pub told : a ≡ step s k .answer
   pub kept : Kept s start p held mid
 
 -- a call that leaves the words and the plain book
-unmoved : (start : ℕ) {t t′ : List ℤ} {s s′ : State} {held : Option (Held Item)} → t′ ≡ t → s′ ≡ s → Book (partOf t start) s held → Book (partOf t′ start) s′ held
-unmoved start {t} {s′ = s′} {held} d e book = subst (λ (u : List ℤ). Book (partOf u start) s′ held) (sym d) (subst (λ (x : State). Book (partOf t start) x held) (sym e) book)
+unmoved : (start : ℕ) {t t′ : List ℤ} {s s′ : State} {held : Option (Held Item)} → t′ ≡ t → s′ ≡ s → Book (partOf t start) s held →
+    Book (partOf t′ start) s′ held
+unmoved start {t} {s′ = s′} {held} d e book = subst (λ (u : List ℤ). Book (partOf u start) s′ held) (sym d)
+    (subst (λ (x : State). Book (partOf t start) x held) (sym e) book)
 
-pub one-call : {start : ℕ} {t : List ℤ} {k : Call} {t′ : List ℤ} {a : Answer} (s : State) (held : Option (Held Item)) (p : Happens start t k t′ a) → Book (partOf t start) s held → OneCall s held p
+pub one-call : {start : ℕ} {t : List ℤ} {k : Call} {t′ : List ℤ} {a : Answer} (s : State) (held : Option (Held Item)) (p : Happens start t k t′ a) →
+    Book (partOf t start) s held → OneCall s held p
 one-call s held (by-update c u p e) book =
     let f = p .follows s held book in
     record { mid = f .after; stands = f .stands; told = e ∙ f .answers; kept = (f, refl, low-pairs (f .work)) }
@@ -132,5 +136,6 @@ pub every-history :
 every-history c r p clear h = (p .accepted clear .0, from-book h (opened c) none refl (p .accepted clear .1))
 
 -- so the part passes the check
-pub history-passes : {c start : ℕ} {t : List ℤ} {ks : List Call} {as′ : List Answer} {t′ : List ℤ} {s : State} {held : Option (Held Item)} {h : History c start t ks as′ t′} → Claim s held h → Passes start t′
+pub history-passes : {c start : ℕ} {t : List ℤ} {ks : List Call} {as′ : List Answer} {t′ : List ℤ} {s : State} {held : Option (Held Item)}
+    {h : History c start t ks as′ t′} → Claim s held h → Passes start t′
 history-passes {ks = ks} {s = s} q = (after s ks, q .held, q .stands)

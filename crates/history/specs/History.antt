@@ -29,7 +29,8 @@ pub data Changes : Call → Type 0 where
 pub data Happens (start : ℕ) (t : List ℤ) : Call → List ℤ → Answer → Type 0 where
   by-update : {k : Call} {t′ : List ℤ} {a : Answer} → Changes k → (u : Update) → Updates k start t t′ u → a ≡ updateAnswer u → Happens start t k t′ a
   by-query : {t′ : List ℤ} {a : Answer} (q : ℤ) (f : Found) → Queries q start t f → t′ ≡ t → a ≡ foundAnswer f → Happens start t (query q) t′ a
-  by-listing : {t′ : List ℤ} {a : Answer} {room : ℕ} (out out′ : List ℤ) (l : Listed) → Lists start t out out′ l → room ≡ length out → t′ ≡ t → a ≡ listingAnswer l out′ → Happens start t (listing room) t′ a
+  by-listing : {t′ : List ℤ} {a : Answer} {room : ℕ} (out out′ : List ℤ) (l : Listed) → Lists start t out out′ l → room ≡ length out → t′ ≡ t →
+      a ≡ listingAnswer l out′ → Happens start t (listing room) t′ a
 
 -- A list of calls with their answers, from the words `t` to the words `t′`.
 pub data History (c start : ℕ) : List ℤ → List Call → List Answer → List ℤ → Type 0 where
@@ -43,17 +44,20 @@ pub data History (c start : ℕ) : List ℤ → List Call → List Answer → Li
 
 -- every tree that went into a search is at most 2 × B(n) high over its n leaves
 abbrev pub LowPairs : List (Pair Item) → Type 0
-LowPairs log = (p : Pair Item) → List·Memᴰ p log → (height (p .front) ≤ 2 * B (length (leaves (p .front)))) × (height (p .back) ≤ 2 * B (length (leaves (p .back))))
+LowPairs log = (p : Pair Item) → List·Memᴰ p log → (height (p .front) ≤ 2 * B (length (leaves (p .front))))
+    × (height (p .back) ≤ 2 * B (length (leaves (p .back))))
 
 -- What each call of a history is held to, from one offer tree to the next: an update's log of searched pairs with k, s, H and the floor,
 -- a query's probes.
-abbrev pub Kept : (s : State) (start : ℕ) {t : List ℤ} {k : Call} {t′ : List ℤ} {a : Answer} → Happens start t k t′ a → (before after : Option (Held Item)) → Type 0
+abbrev pub Kept : (s : State) (start : ℕ) {t : List ℤ} {k : Call} {t′ : List ℤ} {a : Answer} → Happens start t k t′ a →
+    (before after : Option (Held Item)) → Type 0
 Kept s start {t} {k} {t′} (by-update c u p e) held held′ = (f : Follows k s held start t t′ u) × (f .after ≡ held′) × LowPairs (f .log)
 Kept s start (by-query q f p d e) held held′ = Probes held (foundReturned f .answer) (foundReturned f .beside) × (held ≡ held′)
 Kept s start (by-listing out out′ l p m d e) held held′ = held ≡ held′
 
 -- each on the plain book that the calls before it left
-abbrev pub EachCall : {c start : ℕ} {t : List ℤ} {ks : List Call} {as′ : List Answer} {t′ : List ℤ} (s : State) → History c start t ks as′ t′ → (before after : Option (Held Item)) → Type 0
+abbrev pub EachCall : {c start : ℕ} {t : List ℤ} {ks : List Call} {as′ : List Answer} {t′ : List ℤ} (s : State) → History c start t ks as′ t′ →
+    (before after : Option (Held Item)) → Type 0
 EachCall s finished held held′ = held ≡ held′
 EachCall {start = start} s (next {k = k} q p rest) held held′ = (mid : Option (Held Item)) × Kept s start p held mid × EachCall (step s k .state) rest mid held′
 
@@ -62,11 +66,13 @@ EachCall {start = start} s (next {k = k} q p rest) held held′ = (mid : Option 
 -- every tree of a book is at most 2 × B(n) high over its n leaves
 abbrev pub Low : Option (Held Item) → Type 0
 Low none = Unit {0}
-Low (some h) = (height (heldShape h) ≤ 2 * B (length (leaves (heldShape h)))) × ((p : Part Item) → List·Memᴰ p (pieceTrees h) → partHeight p ≤ 2 * B (length (partLeaves p)))
+Low (some h) = (height (heldShape h) ≤ 2 * B (length (leaves (heldShape h)))) × ((p : Part Item) → List·Memᴰ p (pieceTrees h) →
+    partHeight p ≤ 2 * B (length (partLeaves p)))
 
 -- The part passes the check and stands for the plain book's offers, the answers in order are the plain book's, every tree is low, and each update
 -- has its list of searched pairs. `every-history` (Claim) proves it from an accepted opening on.
-pub record Claim {c start : ℕ} {t : List ℤ} {ks : List Call} {as′ : List Answer} {t′ : List ℤ} (s : State) (before : Option (Held Item)) (h : History c start t ks as′ t′) : Type 0 where
+pub record Claim {c start : ℕ} {t : List ℤ} {ks : List Call} {as′ : List Answer} {t′ : List ℤ} (s : State) (before : Option (Held Item))
+    (h : History c start t ks as′ t′) : Type 0 where
   pub held : Option (Held Item)
   -- the part passes the check, and its leaves hold exactly the plain book's offers, in order
   pub stands : Book (partOf t′ start) (after s ks) held

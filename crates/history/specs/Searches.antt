@@ -22,7 +22,8 @@ module _ (S : Figure) {before : List (Inner (S .Line))} where
   floor-count (floor-had h f) (Sublistᴰ·cons s) new = floor-count f s new
   floor-count (floor-had h f) (Sublistᴰ·cons-cons e s) new = absurd (new _ (List·Memᴰ·head refl) (subst (Had before) (sym e) h))
   floor-count (floor-own xs p ys e h f) (Sublistᴰ·cons s) new = let k = floor-count f s new in omega (arith, one-less xs p ys e)
-  floor-count (floor-own xs p ys e h f) (Sublistᴰ·cons-cons d s) new = let k = floor-count f s (λ n m. new n (List·Memᴰ·tail m)) in omega (arith, one-less xs p ys e)
+  floor-count (floor-own xs p ys e h f) (Sublistᴰ·cons-cons d s) new = let k = floor-count f s (λ n m. new n (List·Memᴰ·tail m)) in
+      omega (arith, one-less xs p ys e)
 
 pub many-searches :
     (S : Figure) {before after : Option (Held (S .Line))} {log : List (Pair (S .Line))} → Work S before after log →

@@ -41,7 +41,8 @@ neg-N (negsuc n) = refl
 subℕ-parts : (a b : ℕ) → P (subℕ a b) + b ≡ N (subℕ a b) + a
 subℕ-parts a b = go (ltb a b) (ltb→lt a b) (nltb→le a b)
   where
-    go : (c : Bool) → (T c → a < b) → (T (not c) → b ≤ a) → P (cond c (negsuc (b - suc a)) (pos (a - b))) + b ≡ N (cond c (negsuc (b - suc a)) (pos (a - b))) + a
+    go : (c : Bool) → (T c → a < b) → (T (not c) → b ≤ a) →
+        P (cond c (negsuc (b - suc a)) (pos (a - b))) + b ≡ N (cond c (negsuc (b - suc a)) (pos (a - b))) + a
     go true f g = let h : a < b = f tt in omega arith
     go false f g = let h : b ≤ a = g tt in omega arith
 
@@ -232,7 +233,35 @@ unequal-parts a b t e = T-not (leZ a b && leZ b a) t (parts-equal a b e)
 pub parts-unequal : (a b : ℤ) → P a + N b ≢ P b + N a → T (not (leZ a b && leZ b a))
 parts-unequal a b f = not-T (leZ a b && leZ b a) (λ t. f (equal-parts a b t))
 
-pub ruleset intRules = (le-parts, parts-le, lt-parts, parts-lt, nle-parts, parts-nle, nlt-parts, parts-nlt, le-true-parts, parts-le-true, lt-true-parts, parts-lt-true, le-false-parts, parts-le-false, lt-false-parts, parts-lt-false, eq-parts, parts-eq, ≤ℤ-parts, <ℤ-parts, parts-≤ℤ, parts-<ℤ, within-parts, equal-parts, parts-equal, unequal-parts, parts-unequal)
+pub ruleset intRules = (
+  le-parts,
+  parts-le,
+  lt-parts,
+  parts-lt,
+  nle-parts,
+  parts-nle,
+  nlt-parts,
+  parts-nlt,
+  le-true-parts,
+  parts-le-true,
+  lt-true-parts,
+  parts-lt-true,
+  le-false-parts,
+  parts-le-false,
+  lt-false-parts,
+  parts-lt-false,
+  eq-parts,
+  parts-eq,
+  ≤ℤ-parts,
+  <ℤ-parts,
+  parts-≤ℤ,
+  parts-<ℤ,
+  within-parts,
+  equal-parts,
+  parts-equal,
+  unequal-parts,
+  parts-unequal,
+)
 
 -- what the test of equality says
 pub equal-is : (a b : ℤ) → a ≡ b → T (equal a b)

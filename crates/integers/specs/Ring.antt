@@ -14,7 +14,8 @@ use lib.Dec.{T}
 use lib.IntN.{ℤ, pos, negsuc, negℤ, _+ℤ_, _-ℤ_, _*ℤ_}
 use lib.Signed.{leZ, ltZ}
 use Rattle.lists.specs.Bools.{same-test}
-use Rattle.integers.specs.Parts.{P, N, intRules, neg-P, neg-N, add-parts, sub-parts, mul-P, mul-N, le-parts, lt-parts, parts-le, parts-lt, eq-parts, parts-eq}
+use Rattle.integers.specs.Parts.{P, N, intRules, neg-P, neg-N, add-parts, sub-parts, mul-P, mul-N, le-parts, lt-parts, parts-le, parts-lt}
+use Rattle.integers.specs.Parts.{eq-parts, parts-eq}
 
 infixl 6 _:+_ _:-_
 infixl 7 _:*_
@@ -62,7 +63,12 @@ parts (nat n) = omega arith
 parts (neg a) = omega (arith, parts a, neg-P ⟦ a ⟧, neg-N ⟦ a ⟧)
 parts (a :+ b) = omega (arith, parts a, parts b, add-parts ⟦ a ⟧ ⟦ b ⟧)
 parts (a :- b) = omega (arith, parts a, parts b, sub-parts ⟦ a ⟧ ⟦ b ⟧)
-parts (a :* b) = omega (arith, mul-P ⟦ a ⟧ ⟦ b ⟧, mul-N ⟦ a ⟧ ⟦ b ⟧, product (P ⟦ a ⟧) (N ⟦ a ⟧) (plus a) (minus a) (P ⟦ b ⟧) (N ⟦ b ⟧) (plus b) (minus b) (parts a) (parts b))
+parts (a :* b) = omega (
+  arith,
+  mul-P ⟦ a ⟧ ⟦ b ⟧,
+  mul-N ⟦ a ⟧ ⟦ b ⟧,
+  product (P ⟦ a ⟧) (N ⟦ a ⟧) (plus a) (minus a) (P ⟦ b ⟧) (N ⟦ b ⟧) (plus b) (minus b) (parts a) (parts b),
+)
 
 -- ---- proving
 

@@ -63,7 +63,8 @@ negated-price b r b′ r′ d n =
 
 negated-lt : (a b : ℤ) → ltZ (negℤ b) (negℤ a) ≡ ltZ a b
 negated-lt a b =
-    same-test (ltZ (negℤ b) (negℤ a)) (ltZ a b) (λ h. omega (arith, intRules, neg-parts a, neg-parts b)) (λ h. omega (arith, intRules, neg-parts a, neg-parts b))
+    same-test (ltZ (negℤ b) (negℤ a)) (ltZ a b) (λ h. omega (arith, intRules, neg-parts a, neg-parts b))
+    (λ h. omega (arith, intRules, neg-parts a, neg-parts b))
 
 abbrev pub bidFigure : (A : Type 0) (rate base : A → ℤ) → Figure
 bidFigure A rate base = lineFigure A (λ a. negℤ (rate a)) (λ a. negℤ (base a))

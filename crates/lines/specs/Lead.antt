@@ -60,30 +60,40 @@ module _ (B : ℤ) (r : ℕ) (x : RationalLoad) where
   to-below h = by-le (quoted B r x) (nat 0) (omega arith)
 
 module _ (x y : RationalLoad) where
-  order : T (atOrLeft x y) → P (x .numerator) * suc (y .above) + N (y .numerator) * suc (x .above) ≤ P (y .numerator) * suc (x .above) + N (x .numerator) * suc (y .above)
+  order : T (atOrLeft x y) → P (x .numerator) * suc (y .above) + N (y .numerator) * suc (x .above) ≤ P (y .numerator) * suc (x .above) + N (x .numerator) *
+      suc (y .above)
   order t = omega (arith, from-le (var (x .numerator) :* nat (suc (y .above))) (var (y .numerator) :* nat (suc (x .above))) t)
 
-  order-strict : ¬ T (atOrLeft y x) → P (x .numerator) * suc (y .above) + N (y .numerator) * suc (x .above) < P (y .numerator) * suc (x .above) + N (x .numerator) * suc (y .above)
+  order-strict : ¬ T (atOrLeft y x) → P (x .numerator) * suc (y .above) + N (y .numerator) * suc (x .above) < P (y .numerator) * suc (x .above) + N
+      (x .numerator) * suc (y .above)
   order-strict f =
-      omega (arith, from-lt (var (x .numerator) :* nat (suc (y .above))) (var (y .numerator) :* nat (suc (x .above))) (parts-lt (x .numerator *ℤ denominator y) (y .numerator *ℤ denominator x) (no-le-parts (y .numerator *ℤ denominator x) (x .numerator *ℤ denominator y) f)))
+      omega (
+        arith,
+        from-lt (var (x .numerator) :* nat (suc (y .above))) (var (y .numerator) :* nat (suc (x .above)))
+            (parts-lt (x .numerator *ℤ denominator y) (y .numerator *ℤ denominator x)
+            (no-le-parts (y .numerator *ℤ denominator x) (x .numerator *ℤ denominator y) f)),
+      )
 
 -- ---- the core, over integers
 
 pub rises : (B R : ℤ) (x y : RationalLoad) → T (ltZ (pos 0) R) → T (atOrLeft x y) → T (leZ (pos 0) (lead B R x)) → T (leZ (pos 0) (lead B R y))
 rises B (negsuc r) x y a h k = absurd a
 rises B (pos r) x y a h k =
-    to-above B r y (core (P B) (N B) r (P (x .numerator)) (N (x .numerator)) (P (y .numerator)) (N (y .numerator)) (suc (x .above)) (suc (y .above)) (omega arith) (order x y h) (from-above B r x k))
+    to-above B r y (core (P B) (N B) r (P (x .numerator)) (N (x .numerator)) (P (y .numerator)) (N (y .numerator)) (suc (x .above)) (suc (y .above))
+    (omega arith) (order x y h) (from-above B r x k))
 
 pub rises-strictly : (B R : ℤ) (x y : RationalLoad) → T (ltZ (pos 0) R) → ¬ T (atOrLeft y x) → T (leZ (pos 0) (lead B R x)) → T (ltZ (pos 0) (lead B R y))
 rises-strictly B (negsuc r) x y a h k = absurd a
 rises-strictly B (pos r) x y a h k =
-    to-strict B r y (core-strict (P B) (N B) r (P (x .numerator)) (N (x .numerator)) (P (y .numerator)) (N (y .numerator)) (suc (x .above)) (suc (y .above)) (omega (arith, intRules)) (order-strict x y h) (from-above B r x k))
+    to-strict B r y (core-strict (P B) (N B) r (P (x .numerator)) (N (x .numerator)) (P (y .numerator)) (N (y .numerator)) (suc (x .above)) (suc (y .above))
+    (omega (arith, intRules)) (order-strict x y h) (from-above B r x k))
 
 -- the same from right to left: the core with positive and negative parts, and the points, exchanged
 pub falls : (B R : ℤ) (x y : RationalLoad) → T (ltZ (pos 0) R) → T (atOrLeft x y) → T (leZ (lead B R y) (pos 0)) → T (leZ (lead B R x) (pos 0))
 falls B (negsuc r) x y a h k = absurd a
 falls B (pos r) x y a h k =
-    to-below B r x (core (N B) (P B) r (N (y .numerator)) (P (y .numerator)) (N (x .numerator)) (P (x .numerator)) (suc (y .above)) (suc (x .above)) (omega arith) (omega (arith, order x y h)) (from-below B r y k))
+    to-below B r x (core (N B) (P B) r (N (y .numerator)) (P (y .numerator)) (N (x .numerator)) (P (x .numerator)) (suc (y .above)) (suc (x .above))
+    (omega arith) (omega (arith, order x y h)) (from-below B r y k))
 
 -- ---- x is at or left of y exactly where the line with base −N of x and rate D of x is not below 0 at y
 

@@ -72,7 +72,8 @@ module _ (A : Type 0) (rate base : A → ℤ) where
   cross-denominator a b h = above-is (rate a -ℤ rate b) (gap-above (rate a) (rate b) h)
 
   -- at the crossing both lines have one price
-  pub cross-price : (a b : A) → T (F .before a b) → base a *ℤ denominator (F .cross a b) +ℤ rate a *ℤ (F .cross a b) .numerator ≡ base b *ℤ denominator (F .cross a b) +ℤ rate b *ℤ (F .cross a b) .numerator
+  pub cross-price : (a b : A) → T (F .before a b) → base a *ℤ denominator (F .cross a b) +ℤ rate a *ℤ (F .cross a b) .numerator ≡ base b *ℤ denominator
+      (F .cross a b) +ℤ rate b *ℤ (F .cross a b) .numerator
   cross-price a b h =
       let p = var (base a) in
       let q = var (base b) in
@@ -99,7 +100,8 @@ module _ (A : Type 0) (rate base : A → ℤ) where
             (rises (base a -ℤ base b) (rate a -ℤ rate b) x y (gap-above (rate a) (rate b) p) u (subst T (leads (base a) (rate a) (base b) (rate b) x) h));
         rise-strict =
             λ a b x y p h l k.
-            let s = rises-strictly (base a -ℤ base b) (rate a -ℤ rate b) x y (gap-above (rate a) (rate b) p) l (subst T (leads (base a) (rate a) (base b) (rate b) x) h) in
+            let s = rises-strictly (base a -ℤ base b) (rate a -ℤ rate b) x y (gap-above (rate a) (rate b) p) l
+            (subst T (leads (base a) (rate a) (base b) (rate b) x) h) in
             let t = subst T (trails (base a) (rate a) (base b) (rate b) y) k in
             omega (arith, intRules);
         fall =
@@ -130,11 +132,14 @@ module _ (A : Type 0) (rate base : A → ℤ) where
   whole-left a b q h = ap₂ leZ (ap (λ (d : ℤ). q *ℤ d) (cross-denominator a b h)) (times-one (base b -ℤ base a))
 
   -- a crossing is at another or left of it
-  pub cross-left : (a b c d : A) → T (F .before a b) → T (F .before c d) → F .upTo (F .cross a b) (F .cross c d) ≡ leZ ((base b -ℤ base a) *ℤ (rate c -ℤ rate d)) ((base d -ℤ base c) *ℤ (rate a -ℤ rate b))
+  pub cross-left : (a b c d : A) → T (F .before a b) → T (F .before c d) →
+      F .upTo (F .cross a b) (F .cross c d) ≡ leZ ((base b -ℤ base a) *ℤ (rate c -ℤ rate d)) ((base d -ℤ base c) *ℤ (rate a -ℤ rate b))
   cross-left a b c d h k =
       ap₂ leZ (ap (λ (z : ℤ). (base b -ℤ base a) *ℤ z) (cross-denominator c d k)) (ap (λ (z : ℤ). (base d -ℤ base c) *ℤ z) (cross-denominator a b h))
 
   -- two lines compared at a crossing of two others
-  pub price-at-cross : (l m a b : A) → T (F .before a b) → F .atMost l m (F .cross a b) ≡ leZ (base l *ℤ (rate a -ℤ rate b) +ℤ rate l *ℤ (base b -ℤ base a)) (base m *ℤ (rate a -ℤ rate b) +ℤ rate m *ℤ (base b -ℤ base a))
+  pub price-at-cross : (l m a b : A) → T (F .before a b) →
+      F .atMost l m (F .cross a b) ≡ leZ (base l *ℤ (rate a -ℤ rate b) +ℤ rate l *ℤ (base b -ℤ base a))
+      (base m *ℤ (rate a -ℤ rate b) +ℤ rate m *ℤ (base b -ℤ base a))
   price-at-cross l m a b h =
       ap (λ (d : ℤ). leZ (base l *ℤ d +ℤ rate l *ℤ (base b -ℤ base a)) (base m *ℤ d +ℤ rate m *ℤ (base b -ℤ base a))) (cross-denominator a b h)

@@ -36,15 +36,19 @@ pub at-most-whole : (a b : Offer) (q : ℤ) → offerFigure .atMost a b (whole q
 at-most-whole a b q = whole-price Offer (λ o. o .rate) (λ o. o .base) a b q
 
 -- a query's test: the load is at or left of the crossing
-pub query-test : (a b : Offer) (q : ℤ) → T (precedes a b) → offerFigure .upTo (whole q) (offerFigure .cross a b) ≡ leZ (q *ℤ crossingDenominator a b) (crossingNumerator a b)
+pub query-test : (a b : Offer) (q : ℤ) → T (precedes a b) →
+    offerFigure .upTo (whole q) (offerFigure .cross a b) ≡ leZ (q *ℤ crossingDenominator a b) (crossingNumerator a b)
 query-test a b q h = whole-left Offer (λ o. o .rate) (λ o. o .base) a b q h
 
 -- the comparison of two crossings
-pub crossing-test : (a b c d : Offer) → T (precedes a b) → T (precedes c d) → offerFigure .upTo (offerFigure .cross a b) (offerFigure .cross c d) ≡ leZ (crossingNumerator a b *ℤ crossingDenominator c d) (crossingNumerator c d *ℤ crossingDenominator a b)
+pub crossing-test : (a b c d : Offer) → T (precedes a b) → T (precedes c d) →
+    offerFigure .upTo (offerFigure .cross a b) (offerFigure .cross c d) ≡ leZ (crossingNumerator a b *ℤ crossingDenominator c d)
+    (crossingNumerator c d *ℤ crossingDenominator a b)
 crossing-test a b c d h k = cross-left Offer (λ o. o .rate) (λ o. o .base) a b c d h k
 
 -- two offers' prices at the crossing of a and b
-pub price-test : (l m a b : Offer) → T (precedes a b) → offerFigure .atMost l m (offerFigure .cross a b) ≡ leZ (l .base *ℤ crossingDenominator a b +ℤ l .rate *ℤ crossingNumerator a b) (m .base *ℤ crossingDenominator a b +ℤ m .rate *ℤ crossingNumerator a b)
+pub price-test : (l m a b : Offer) → T (precedes a b) → offerFigure .atMost l m (offerFigure .cross a b) ≡ leZ
+    (l .base *ℤ crossingDenominator a b +ℤ l .rate *ℤ crossingNumerator a b) (m .base *ℤ crossingDenominator a b +ℤ m .rate *ℤ crossingNumerator a b)
 price-test l m a b h = price-at-cross Offer (λ o. o .rate) (λ o. o .base) l m a b h
 
 -- ---- strictly
@@ -52,6 +56,8 @@ price-test l m a b h = price-at-cross Offer (λ o. o .rate) (λ o. o .base) l m 
 pub strictly-cheaper : (a b : Offer) (x : RationalLoad) → Below offerFigure a b x ↔ T (ltZ (priceTimesD a x) (priceTimesD b x))
 strictly-cheaper a b x = not-le-is-lt (priceTimesD b x) (priceTimesD a x)
 
-pub strictly-left : (a b c d : Offer) → T (precedes a b) → T (precedes c d) → LeftOf offerFigure (offerFigure .cross a b) (offerFigure .cross c d) ↔ T (ltZ (crossingNumerator a b *ℤ crossingDenominator c d) (crossingNumerator c d *ℤ crossingDenominator a b))
+pub strictly-left : (a b c d : Offer) → T (precedes a b) → T (precedes c d) →
+    LeftOf offerFigure (offerFigure .cross a b) (offerFigure .cross c d) ↔ T
+    (ltZ (crossingNumerator a b *ℤ crossingDenominator c d) (crossingNumerator c d *ℤ crossingDenominator a b))
 strictly-left a b c d h k =
     rw (crossing-test c d a b k h) (not-le-is-lt (crossingNumerator c d *ℤ crossingDenominator a b) (crossingNumerator a b *ℤ crossingDenominator c d))

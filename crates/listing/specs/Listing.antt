@@ -40,7 +40,8 @@ abbrev pub pieceAt : Words → ℕ → Bool → List ℤ → ℕ → List ℤ
 pieceAt w s last out k = wset (wset (wset out k (cell w numberField s)) (k + 1) (crossingWord w 6 s last)) (k + 2) (crossingWord w 7 s last)
 
 pub piece-put :
-    (w : Words) (s : ℕ) (last : Bool) (out : List ℤ) (k : ℕ) {x y z : ℤ} {out₁ out₂ out₃ : List ℤ} → x ≡ cell w numberField s → y ≡ crossingWord w 6 s last → z ≡ crossingWord w 7 s last →
+    (w : Words) (s : ℕ) (last : Bool) (out : List ℤ) (k : ℕ) {x y z : ℤ} {out₁ out₂ out₃ : List ℤ} → x ≡ cell w numberField s →
+    y ≡ crossingWord w 6 s last → z ≡ crossingWord w 7 s last →
     out₁ ≡ wset out k x → out₂ ≡ wset out₁ (k + 1) y → out₃ ≡ wset out₂ (k + 2) z → out₃ ≡ pieceAt w s last out k
 piece-put w s last out k ex ey ez e₁ e₂ e₃ = rw (e₃, e₂, e₁, ex, ey, ez)
 
@@ -50,7 +51,8 @@ three-words : (done base : List ℤ) (k : ℕ) (x y z : ℤ) → length done ≡
 unfolding wset
 three-words done base k x y z e h =
     rw (add-one k, add-two k)
-    (sets-eq (x ∷ y ∷ z ∷ []) (done ++ drop k base) k room ∙ ap (λ l. (l ++ x ∷ y ∷ z ∷ []) ++ drop (k + 3) (done ++ drop k base)) (take-at done (drop k base) k e) ∙ ap (λ l. (done ++ x ∷ y ∷ z ∷ []) ++ l) later)
+    (sets-eq (x ∷ y ∷ z ∷ []) (done ++ drop k base) k room ∙ ap (λ l. (l ++ x ∷ y ∷ z ∷ []) ++ drop (k + 3) (done ++ drop k base))
+    (take-at done (drop k base) k e) ∙ ap (λ l. (done ++ x ∷ y ∷ z ∷ []) ++ l) later)
   where
     room : k + 3 ≤ length (done ++ drop k base)
     room = omega (arith, length-append done (drop k base), length-drop k base)
@@ -80,7 +82,8 @@ pub record Halfway (w : Words) (xs : List Item) (base : List ℤ) (s i : ℕ) (o
   pub total : done ++ pieceWords (map offerOf todo) ≡ pieceWords (map offerOf xs)
   pub now : out ≡ done ++ drop (3 * i) base
 
-module _ {w : Words} {xs : List Item} {base : List ℤ} {s i : ℕ} {out : List ℤ} (h : Halfway w xs base s i out) (room : 3 * length xs ≤ length base) (more : i < length xs) where
+module _ {w : Words} {xs : List Item} {base : List ℤ} {s i : ℕ} {out : List ℤ} (h : Halfway w xs base s i out) (room : 3 * length xs ≤ length base)
+    (more : i < length xs) where
   put : (x y z : ℤ) → wset (wset (wset out (3 * i) x) (3 * i + 1) y) (3 * i + 2) z ≡ (h .done ++ x ∷ y ∷ z ∷ []) ++ drop (3 * (i + 1)) base
   put x y z =
       let next : 3 * i + 3 ≡ 3 * (i + 1) = omega arith in
@@ -108,28 +111,44 @@ module _ {w : Words} {xs : List Item} {base : List ℤ} {s i : ℕ} {out : List 
       }
 
   -- the last piece is told by the count
-  pub halfway-step : (last : Bool) → (last ≡ true → suc i ≡ length xs) → (last ≡ false → suc i < length xs) → Halfway w xs base (linkAt w nextPieceField s) (i + 1) (pieceAt w s last out (3 * i))
+  pub halfway-step : (last : Bool) → (last ≡ true → suc i ≡ length xs) → (last ≡ false → suc i < length xs) →
+      Halfway w xs base (linkAt w nextPieceField s) (i + 1) (pieceAt w s last out (3 * i))
   halfway-step last y n = go last y n (h .todo) (h .thread) (h .holds) (h .head) (h .left) (h .total)
     where
       number : (a : Item) (ys : List Item) → Holds w (a ∷ ys) → s ≡ a .slot → cell w numberField s ≡ a .offer .number
       number a ys k e = ap (cell w numberField) e ∙ k .held (List·Memᴰ·head refl) .number
 
-      go : (last : Bool) → (last ≡ true → suc i ≡ length xs) → (last ≡ false → suc i < length xs) → (todo : List Item) → Threaded w todo → Holds w todo → HeadAt s todo → i + length todo ≡ length xs → h .done ++ pieceWords (map offerOf todo) ≡ pieceWords (map offerOf xs) → Halfway w xs base (linkAt w nextPieceField s) (i + 1) (pieceAt w s last out (3 * i))
+      go : (last : Bool) → (last ≡ true → suc i ≡ length xs) → (last ≡ false → suc i < length xs) → (todo : List Item) → Threaded w todo → Holds w todo →
+          HeadAt s todo → i + length todo ≡ length xs → h .done ++ pieceWords (map offerOf todo) ≡ pieceWords (map offerOf xs) →
+          Halfway w xs base (linkAt w nextPieceField s) (i + 1) (pieceAt w s last out (3 * i))
       go last y n [] c k e l t = absurd (omega arith)
       go true y n (a ∷ []) c k e l t = onward true a [] (number a [] k e) refl refl refl IsChain·nil k tt l t
       go false y n (a ∷ []) c k e l t = absurd (omega (arith, n refl))
       go true y n (a ∷ b ∷ ys) c k e l t = absurd (omega (arith, y refl))
       go false y n (a ∷ b ∷ ys) (IsChain·cons-cons g c) k e l t =
-          onward false a (b ∷ ys) (number a (b ∷ ys) k e) (ap (cell w numeratorField) e ∙ g .numerator) (ap (cell w denominatorField) e ∙ g .denominator) refl c k (ap (linkAt w nextPieceField) e ∙ g .next) l t
+          onward false a (b ∷ ys) (number a (b ∷ ys) k e) (ap (cell w numeratorField) e ∙ g .numerator) (ap (cell w denominatorField) e ∙ g .denominator)
+          refl c k (ap (linkAt w nextPieceField) e ∙ g .next) l t
 
 pub halfway-begins : {w : Words} {x s : ℕ} {t : Tree Item} (base : List ℤ) → Pieces w x t → s ≡ first t .slot → Halfway w (leaves t) base s 0 base
 halfway-begins {w} {x} {s} {t} base p e =
-    record { done = []; todo = leaves t; thread = p .thread; holds = p .holds; head = rw (leaves-first t) e; size = refl; left = omega arith; total = refl; now = refl }
+    record {
+      done = [];
+      todo = leaves t;
+      thread = p .thread;
+      holds = p .holds;
+      head = rw (leaves-first t) e;
+      size = refl;
+      left = omega arith;
+      total = refl;
+      now = refl;
+    }
 
-pub halfway-ends : {w : Words} {xs : List Item} {base : List ℤ} {s i : ℕ} {out : List ℤ} → Halfway w xs base s i out → length xs ≤ i → out ≡ pieceWords (map offerOf xs) ++ drop (3 * i) base
+pub halfway-ends : {w : Words} {xs : List Item} {base : List ℤ} {s i : ℕ} {out : List ℤ} → Halfway w xs base s i out → length xs ≤ i →
+    out ≡ pieceWords (map offerOf xs) ++ drop (3 * i) base
 halfway-ends {w} {xs} {base} {s} {i} {out} h f = go (h .todo) (h .left) (h .total)
   where
-    go : (todo : List Item) → i + length todo ≡ length xs → h .done ++ pieceWords (map offerOf todo) ≡ pieceWords (map offerOf xs) → out ≡ pieceWords (map offerOf xs) ++ drop (3 * i) base
+    go : (todo : List Item) → i + length todo ≡ length xs → h .done ++ pieceWords (map offerOf todo) ≡ pieceWords (map offerOf xs) →
+        out ≡ pieceWords (map offerOf xs) ++ drop (3 * i) base
     go [] l t = h .now ∙ ap (λ ws. ws ++ drop (3 * i) base) (sym (append-nil (h .done)) ∙ t)
     go (a ∷ ys) l t = absurd (omega arith)
 
@@ -146,7 +165,8 @@ writing-begins n base e =
     record { within = omega arith; long = refl; untouched = λ z. refl; halfway = λ t p a. halfway-begins base p (e .is t (p .rep) a) }
 
 module _ {w : Words} {root n : ℕ} {base : List ℤ} (c : Counted w root n) (room : 3 * n ≤ length base) where
-  pub writing-goes-on : {s s′ i : ℕ} {out out′ : List ℤ} (last : Bool) → Writing w root n base s i out → i < n → (last ≡ true → suc i ≡ n) → (last ≡ false → suc i < n) → out′ ≡ pieceAt w s last out (3 * i) → s′ ≡ linkAt w nextPieceField s → Writing w root n base s′ (i + 1) out′
+  pub writing-goes-on : {s s′ i : ℕ} {out out′ : List ℤ} (last : Bool) → Writing w root n base s i out → i < n → (last ≡ true → suc i ≡ n) →
+      (last ≡ false → suc i < n) → out′ ≡ pieceAt w s last out (3 * i) → s′ ≡ linkAt w nextPieceField s → Writing w root n base s′ (i + 1) out′
   writing-goes-on {s} {s′} {i} {out} {out′} last g f y z e d =
       record {
         within = omega arith;

@@ -110,7 +110,8 @@ module _ {w : Words} {t : Tree Item} {x z s n : ℕ} (p : Pieces w x t) (end : z
   not-all e = go (k .ahead) (k .split)
     where
       go : (ys : List Item) → leaves t ≡ k .seen ++ k .here ∷ ys → n < length (leaves t)
-      go [] d = absurd (e (k .slot ∙ ap (λ (a : Item). a .slot) (sym (List·Memᴰ·eq-of-singleton (last-in (k .seen) (k .here) [] (start t) (last t) (sym d ∙ leaves-last t)))) ∙ sym end))
+      go [] d = absurd (e (k .slot ∙ ap (λ (a : Item). a .slot)
+          (sym (List·Memᴰ·eq-of-singleton (last-in (k .seen) (k .here) [] (start t) (last t) (sym d ∙ leaves-last t)))) ∙ sym end))
       go (y ∷ ys) d = omega (arith, ap length d, length-append (k .seen) (k .here ∷ y ∷ ys), k .count)
 
   pub go-on : s ≢ z → Passed (linkAt w nextPieceField s) (n + 1) (leaves t)

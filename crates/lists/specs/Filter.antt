@@ -2,7 +2,8 @@
 use mathlib.Core.Path.{_≡_, refl, sym, subst, ap}
 use mathlib.Core.Logic.{_⊎_, inl, inr, ⊎-elim}
 use mathlib.Core.Bool.{Bool, true, false, _&&_, cond}
-use mathlib.Core.List.{List, map, [], _∷_, List·Memᴰ, List·Memᴰ·head, List·Memᴰ·tail, List·Memᴰ·cases-cons, Sublistᴰ, Sublistᴰ·slnil, Sublistᴰ·cons, Sublistᴰ·cons-cons}
+use mathlib.Core.List.{List, map, [], _∷_, List·Memᴰ, List·Memᴰ·head, List·Memᴰ·tail, List·Memᴰ·cases-cons, Sublistᴰ, Sublistᴰ·slnil, Sublistᴰ·cons}
+use mathlib.Core.List.{Sublistᴰ·cons-cons}
 use lib.Dec.{T}
 use Rattle.lists.specs.Bools.{and-both, and-left, and-right}
 
@@ -17,7 +18,8 @@ module _ {A : Type 0} where
 
   pub every-at : (p : A → Bool) (l : List A) → T (every p l) → (a : A) → List·Memᴰ a l → T (p a)
   every-at p (x ∷ xs) t a m =
-      ⊎-elim (λ (e : a ≡ x). subst (λ (y : A). T (p y)) (sym e) (and-left (p x) (every p xs) t)) (λ m′. every-at p xs (and-right (p x) (every p xs) t) a m′) (List·Memᴰ·cases-cons m)
+      ⊎-elim (λ (e : a ≡ x). subst (λ (y : A). T (p y)) (sym e) (and-left (p x) (every p xs) t)) (λ m′. every-at p xs (and-right (p x) (every p xs) t) a m′)
+      (List·Memᴰ·cases-cons m)
 
   pub every-all : (p : A → Bool) (l : List A) → ((a : A) → List·Memᴰ a l → T (p a)) → T (every p l)
   every-all p [] h = tt
@@ -61,6 +63,7 @@ module _ {A B : Type 0} where
   keep-map p f [] = refl
   keep-map p f (x ∷ xs) = step (p (f x)) (keep-map p f xs)
     where
-      step : (b : Bool) → keep p (map f xs) ≡ map f (keep (λ a. p (f a)) xs) → cond b (f x ∷ keep p (map f xs)) (keep p (map f xs)) ≡ map f (cond b (x ∷ keep (λ a. p (f a)) xs) (keep (λ a. p (f a)) xs))
+      step : (b : Bool) → keep p (map f xs) ≡ map f (keep (λ a. p (f a)) xs) →
+          cond b (f x ∷ keep p (map f xs)) (keep p (map f xs)) ≡ map f (cond b (x ∷ keep (λ a. p (f a)) xs) (keep (λ a. p (f a)) xs))
       step true e = ap {B = List B} (λ (r : List B). f x ∷ r) e
       step false e = e

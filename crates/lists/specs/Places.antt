@@ -4,7 +4,8 @@ use native.Mathlib.Nat.{not-suc-le-zero, le-of-suc-le-suc}
 use native.Mathlib.Omega.{arith}
 use mathlib.Core.Path.{_≡_, refl, sym, ap, subst, _∙_}
 use mathlib.Core.Logic.{_⊎_, inl, inr, ⊎-elim}
-use mathlib.Core.List.{List, [], _∷_, _++_, reverse, reverseAux, reverse-append, reverse-cons, reverse-reverse, List·Memᴰ, List·Memᴰ·head, List·Memᴰ·tail, List·Memᴰ·cases-cons, List·Memᴰ·not-nil, Sublistᴰ, Sublistᴰ·slnil, Sublistᴰ·cons, Sublistᴰ·cons-cons}
+use mathlib.Core.List.{List, [], _∷_, _++_, reverse, reverseAux, reverse-append, reverse-cons, reverse-reverse, List·Memᴰ, List·Memᴰ·head}
+use mathlib.Core.List.{List·Memᴰ·tail, List·Memᴰ·cases-cons, List·Memᴰ·not-nil, Sublistᴰ, Sublistᴰ·slnil, Sublistᴰ·cons, Sublistᴰ·cons-cons}
 use lib.ListN.{length, getD, take, drop, length-drop, length-reverse}
 use lib.Seq.{append-snoc, getD-at, split-at}
 
@@ -45,7 +46,8 @@ module _ {A : Type 0} where
 
   -- counted from the last, that element stands after those behind it
   pub getD-reverse-about : (xs : List A) (y : A) (ys : List A) (d : A) → getD (reverse (xs ++ y ∷ ys)) (length ys) d ≡ y
-  getD-reverse-about xs y ys d = ap (λ (r : List A). getD r (length ys) d) (reverse-about xs y ys) ∙ getD-at (reverse ys) y (reverse xs) d (length ys) (length-reverse ys)
+  getD-reverse-about xs y ys d = ap (λ (r : List A). getD r (length ys) d) (reverse-about xs y ys)
+      ∙ getD-at (reverse ys) y (reverse xs) d (length ys) (length-reverse ys)
 
   -- counted from the last
   pub getD-reverse : (l : List A) (j : ℕ) (d : A) → j < length l → getD (reverse l) j d ≡ getD l (length l - suc j) d

@@ -11,7 +11,8 @@ use Rattle.lists.specs.Bools.{and-both}
 use Rattle.integers.specs.Parts.{intRules, natAbs-parts, gap-above}
 use Rattle.integers.specs.Magnitude.{natAbs-within}
 use Rattle.offers.specs.Offers.{Offer, offerInRange, precedes, between, crossingNumerator, crossingDenominator}
-use Rattle.offers.specs.Sizes.{rate-of, base-of, numeratorInRange, denominatorInRange, numerator-size, denominator-size, base-gap-in-range, rate-gap-in-range, scaled-price-size}
+use Rattle.offers.specs.Sizes.{rate-of, base-of, numeratorInRange, denominatorInRange, numerator-size, denominator-size, base-gap-in-range}
+use Rattle.offers.specs.Sizes.{rate-gap-in-range, scaled-price-size}
 use Rattle.marks.specs.Quotient.{exact, divisible, quotient, plusZero}
 
 -- the price of a piece at its crossing with the next, times the crossing's denominator
@@ -39,7 +40,12 @@ module _ (own next : Offer) (ho : T (offerInRange own)) (hn : T (offerInRange ne
   load-divisible = over-denominator (crossingNumerator own next) (omega (arith, numerator-size (crossingNumerator own next) numerator-range))
 
   pub price-divisible : T (divisible (scaledPrice own next) (crossingDenominator own next))
-  price-divisible = over-denominator (scaledPrice own next) (omega (arith, scaled-price-size (own .base) (own .rate) (crossingNumerator own next) (crossingDenominator own next) (base-of own ho) (rate-of own ho) numerator-range denominator-range))
+  price-divisible = over-denominator (scaledPrice own next)
+      (omega (
+        arith,
+        scaled-price-size (own .base) (own .rate) (crossingNumerator own next) (crossingDenominator own next) (base-of own ho) (rate-of own ho)
+            numerator-range denominator-range,
+      ))
 
 -- ---- examples: 7 / 3 is rounded to 53 digits, a whole quotient is exact, and zero gives +0
 

@@ -3,7 +3,8 @@ use Prim.Native.Nat.{ℕ, zero, suc, _+_, _-_, _*_, _/_, _^_, _≤_, _<_}
 use mathlib.Core.Path.{_≡_, refl, sym, ap, _∙_, subst}
 use mathlib.Core.Logic.{_≢_}
 use mathlib.Core.Bool.{Bool, true, false, cond}
-use native.Mathlib.Nat.{le-refl, le-trans, lt-of-le-of-lt, mul-pos, mul-le-mul, mul-le-mul-right, div-le-self, eq-of-mul-eq-mul-right, zero-mul, mul-one, zero-lt-suc}
+use native.Mathlib.Nat.{le-refl, le-trans, lt-of-le-of-lt, mul-pos, mul-le-mul, mul-le-mul-right, div-le-self, eq-of-mul-eq-mul-right, zero-mul}
+use native.Mathlib.Nat.{mul-one, zero-lt-suc}
 use native.Mathlib.Omega.{arith}
 use lib.Dec.{T, eqb, eqb→eq, lit≤, lit<, le→leb, lt→ltb}
 use lib.Signed.{ltZ}
@@ -38,7 +39,8 @@ module _ (f : Format) (a c : ℕ) (A : 0 < a) (a-most : a ≤ 2 ^ prec f) (C : 0
   enough : prec f ≤ size (a * 2 ^ low f / c)
   enough =
       let p = prec f in
-      let x : 2 ^ (p - 1) * c ≤ 2 ^ (p - 1 + p) = subst (λ (t : ℕ). 2 ^ (p - 1) * c ≤ t) (sym (pow-add 2 (p - 1) p)) (mul-le-mul (le-refl (2 ^ (p - 1))) c-most) in
+      let x : 2 ^ (p - 1) * c ≤ 2 ^ (p - 1 + p) = subst (λ (t : ℕ). 2 ^ (p - 1) * c ≤ t) (sym (pow-add 2 (p - 1) p))
+      (mul-le-mul (le-refl (2 ^ (p - 1))) c-most) in
       let y : 1 * 2 ^ low f ≤ a * 2 ^ low f = mul-le-mul-right (2 ^ low f) A in
       normal-of-fraction f a c C (le-trans x (le-trans (pow-mono (room f .0)) (omega (arith, y))))
 
@@ -47,7 +49,8 @@ module _ (f : Format) (a c : ℕ) (A : 0 < a) (a-most : a ≤ 2 ^ prec f) (C : 0
       let p = prec f in
       let n = a * 2 ^ low f in
       let k = drop p n c in
-      let w : n < 2 ^ (p + low f + 1) = lt-of-le-of-lt (subst (λ (t : ℕ). n ≤ t) (sym (pow-add 2 p (low f))) (mul-le-mul-right (2 ^ low f) a-most)) (pow-lt (more p (low f))) in
+      let w : n < 2 ^ (p + low f + 1) = lt-of-le-of-lt (subst (λ (t : ℕ). n ≤ t) (sym (pow-add 2 p (low f))) (mul-le-mul-right (2 ^ low f) a-most))
+      (pow-lt (more p (low f))) in
       let z : size (n / c) ≤ p + low f + 1 = size-le (n / c) (p + low f + 1) (lt-of-le-of-lt (div-le-self n c) w) in
       let g : grid f a c ≤ 2 ^ (p + k) = subst (λ (t : ℕ). grid f a c ≤ t) (sym (pow-add 2 p k)) (mul-le-mul-right (2 ^ k) (kept-most p n c (two f) enough)) in
       lt-of-le-of-lt (le-trans g (pow-mono (together (size (n / c)) p (p + low f + 1) enough z))) (pow-lt (room f .1))
@@ -83,7 +86,8 @@ div-whole f (fin s′ m e) (fin t′ n d) s t a c C v w = go (eqb n 0) (eqb→eq
         → cond b (cond (eqb m 0) nan (inf (unlike s′ t′))) (round f (unlike s′ t′) (m * up e * down d) (n * up d * down e)) ≡ round f (unlike s t) a c
     go true z = absurd (never (z tt))
     go false z =
-        round-same f (unlike s′ t′) (m * up e * down d) (n * up d * down e) a c (mul-pos Y (down-pos e)) C (cross (m * up e) (n * up d) (down e) (down d) a c (v .1) (w .1))
+        round-same f (unlike s′ t′) (m * up e * down d) (n * up d * down e) a c (mul-pos Y (down-pos e)) C
+        (cross (m * up e) (n * up d) (down e) (down d) a c (v .1) (w .1))
         ∙ ap (λ (b : Bool). round f (unlike b t′) a c) (v .0)
         ∙ ap (λ (b : Bool). round f (unlike s b) a c) (w .0)
 

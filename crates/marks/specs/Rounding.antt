@@ -4,7 +4,8 @@ use Prim.Native.Nat.{ℕ, zero, suc, _+_, _-_, _*_, _/_, _%_, _^_, _≤_, _<_, c
 use mathlib.Core.Path.{_≡_, refl, sym, ap, _∙_, subst}
 use mathlib.Core.Logic.{_⊎_, inl, inr}
 use mathlib.Core.Bool.{Bool, not}
-use native.Mathlib.Nat.{le-refl, le-suc, le-trans, le-of-mul-le-mul-right, eq-of-mul-eq-mul-right, eq-or-lt-of-le, mul-pos, mul-le-mul-right, mod-lt, div-add-mod', le-div-iff-mul-le, div-div-eq-div-mul, two-pow-succ}
+use native.Mathlib.Nat.{le-refl, le-suc, le-trans, le-of-mul-le-mul-right, eq-of-mul-eq-mul-right, eq-or-lt-of-le, mul-pos, mul-le-mul-right, mod-lt}
+use native.Mathlib.Nat.{div-add-mod', le-div-iff-mul-le, div-div-eq-div-mul, two-pow-succ}
 use native.Mathlib.Omega.{arith}
 use lib.Dec.{T, isLe, isEq, eqb, leb→le, nleb→lt, eqb→eq, eqb-refl}
 use lib.Arith.{lt-of-le-ne}
@@ -65,8 +66,10 @@ module _ (p n c : ℕ) (P : 2 ≤ p) (enough : p ≤ size (n / c)) where
   kept-least =
       let u = c * 2 ^ drop p n c in
       let j : p - 1 + drop p n c < size (n / c) = omega arith in
-      let h : 2 ^ (p - 1) * 2 ^ drop p n c ≤ n / c = subst (λ (x : ℕ). x ≤ n / c) (pow-add 2 (p - 1) (drop p n c)) (size-reaches (n / c) (p - 1 + drop p n c) j) in
-      le-trans (subst (λ (x : ℕ). 2 ^ (p - 1) ≤ x) (div-div-eq-div-mul n c (2 ^ drop p n c)) (le-div-iff-mul-le (pow-pos (drop p n c)) .1 h)) (nearest-ge (n / u) (compare (n % u * 2) u))
+      let h : 2 ^ (p - 1) * 2 ^ drop p n c ≤ n / c = subst (λ (x : ℕ). x ≤ n / c) (pow-add 2 (p - 1) (drop p n c))
+      (size-reaches (n / c) (p - 1 + drop p n c) j) in
+      le-trans (subst (λ (x : ℕ). 2 ^ (p - 1) ≤ x) (div-div-eq-div-mul n c (2 ^ drop p n c)) (le-div-iff-mul-le (pow-pos (drop p n c)) .1 h))
+      (nearest-ge (n / u) (compare (n % u * 2) u))
 
 -- ---- x is m × 2 ^ e with all digits, and a / c is at most half of 2 ^ e off. 2 ^ e is the fraction up e / down e.
 
@@ -96,7 +99,11 @@ to-fraction a c m j l u d L e h = (
 same-value : (x : Float) (s : Bool) (m j l u d : ℕ) → 0 < l → u * l ≡ j * d → HasValue x s (m * j) l → HasValue x s (m * u) d
 same-value nan s m j l u d L e h = h
 same-value (inf t) s m j l u d L e h = h
-same-value (fin t n g) s m j l u d L e h = (h .0, eq-of-mul-eq-mul-right l L (n * up g * d) (m * u * down g) (omega (arith, ap (λ (t : ℕ). t * d) (h .1), ap (λ (t : ℕ). m * down g * t) e)))
+same-value (fin t n g) s m j l u d L e h = (
+  h .0,
+  eq-of-mul-eq-mul-right l L (n * up g * d) (m * u * down g)
+      (omega (arith, ap (λ (t : ℕ). t * d) (h .1), ap (λ (t : ℕ). m * down g * t) e)),
+)
 
 power : (j l : ℕ) → up (minus j l) * 2 ^ l ≡ 2 ^ j * down (minus j l)
 power j l = omega (arith, minus-val 1 j l)
@@ -148,4 +155,5 @@ module _ (f : Format) (s : Bool) (a c : ℕ) (C : 0 < c) (enough : prec f ≤ si
       let k = drop p n c in
       let q = kept p n c in
       subst (λ (x : Float). Near f x s a c) (sym (round-is f s a c))
-      (settle f (units f s q k) s a c q k (units-val f s q k under) (kept-least p n c (two f) enough) (closest-half n (c * 2 ^ k) (mul-pos C (pow-pos k))) (eq-or-lt-of-le (kept-most p n c (two f) enough)))
+      (settle f (units f s q k) s a c q k (units-val f s q k under) (kept-least p n c (two f) enough) (closest-half n (c * 2 ^ k) (mul-pos C (pow-pos k)))
+      (eq-or-lt-of-le (kept-most p n c (two f) enough)))

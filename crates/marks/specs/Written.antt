@@ -42,7 +42,8 @@ same-digits t m n zero zero a b c d e = (omega arith, refl)
 same-digits t m n zero (suc j) a b c d e = absurd (too-long t m n (2 ^ j) c b (pow-pos j) (subst (λ (p : ℕ). m * 1 ≡ n * p) (two-pow-succ j) e))
 same-digits t m n (suc i) zero a b c d e = absurd (too-long t n m (2 ^ i) a d (pow-pos i) (subst (λ (p : ℕ). n * 1 ≡ m * p) (two-pow-succ i) (sym e)))
 same-digits t m n (suc i) (suc j) a b c d e =
-    let r = same-digits t m n i j a b c d (halves (2 ^ i) (2 ^ j) (subst (λ (p : ℕ). m * p ≡ n * (2 ^ j + 2 ^ j)) (two-pow-succ i) (subst (λ (p : ℕ). m * 2 ^ suc i ≡ n * p) (two-pow-succ j) e))) in
+    let r = same-digits t m n i j a b c d (halves (2 ^ i) (2 ^ j) (subst (λ (p : ℕ). m * p ≡ n * (2 ^ j + 2 ^ j)) (two-pow-succ i)
+    (subst (λ (p : ℕ). m * 2 ^ suc i ≡ n * p) (two-pow-succ j) e))) in
     (r .0, ap suc (r .1))
   where
     halves : (p q : ℕ) → m * (p + p) ≡ n * (q + q) → m * p ≡ n * q
@@ -61,7 +62,8 @@ pub written-once : (x : Float) (m e n g : ℤ) → Is x m e → Full m → Is x 
 written-once nan m e n g v a w b = absurd v
 written-once (inf t) m e n g v a w b = absurd v
 written-once (fin t k h) m e n g v a w b =
-    let i : natAbs m * (up e * down g) ≡ natAbs n * (up g * down e) = cancel (k * up h) (natAbs m) (natAbs n) (up e) (up g) (down e) (down g) (down h) (down-pos h) (v .1) (w .1) in
+    let i : natAbs m * (up e * down g) ≡ natAbs n * (up g * down e) =
+    cancel (k * up h) (natAbs m) (natAbs n) (up e) (up g) (down e) (down g) (down h) (down-pos h) (v .1) (w .1) in
     let j : natAbs m * 2 ^ lift e g ≡ natAbs n * 2 ^ lift g e = rw (← lift-is e g, ← lift-is g e) i in
     let r = same-digits (2 ^ 52) (natAbs m) (natAbs n) (lift e g) (lift g e) (a .0) (a .1) (b .0) (b .1) j in
     (same-sign m n (sym (v .0) ∙ w .0) (r .0), same-lift e g (r .1))

@@ -39,7 +39,8 @@ AllBefore ls rs = (a b : Item) → List·Memᴰ a ls → List·Memᴰ b rs → T
 -- what the code's test says of two books that are not empty
 pub record SetsApart (w w′ : Words) (r : Bool) : Type 0 where
   pub apart : r ≡ true → {s s′ : State} {h h′ : Held Item} → Book w s (some h) → Book w′ s′ (some h′) → AllBefore (bookLines (some h)) (bookLines (some h′))
-  pub mixed : r ≡ false → {s s′ : State} {h h′ : Held Item} → Book w s (some h) → Book w′ s′ (some h′) → T (any (λ a. any (λ b. not (ltZ (b .rate) (a .rate))) (plainOffers (some h′))) (plainOffers (some h)))
+  pub mixed : r ≡ false → {s s′ : State} {h h′ : Held Item} → Book w s (some h) → Book w′ s′ (some h′) →
+      T (any (λ a. any (λ b. not (ltZ (b .rate) (a .rate))) (plainOffers (some h′))) (plainOffers (some h)))
 
 -- ---- the ends decide
 
@@ -47,7 +48,8 @@ pub record SetsApart (w w′ : Words) (r : Bool) : Type 0 where
 from-first : (t : Tree Item) → Ordered items (leaves t) → (a : Item) → List·Memᴰ a (leaves t) → (a ≡ first t) ⊎ T (items .before (first t) a)
 from-first (leaf x) o a m = inl (List·Memᴰ·eq-of-singleton m)
 from-first (node l r) o a m =
-    ⊎-elim (λ k. from-first l (ordered-left items (leaves l) (leaves r) o) a k) (λ k. inr (ordered-apart items (leaves l) (leaves r) o (first l) a (first-leaf l) k)) (List·Memᴰ·append-cases (leaves l) m)
+    ⊎-elim (λ k. from-first l (ordered-left items (leaves l) (leaves r) o) a k)
+    (λ k. inr (ordered-apart items (leaves l) (leaves r) o (first l) a (first-leaf l) k)) (List·Memᴰ·append-cases (leaves l) m)
 
 ends-decide : (s t : Tree Item) → Ordered items (leaves s) → Ordered items (leaves t) → T (items .before (last s) (first t)) → AllBefore (leaves s) (leaves t)
 ends-decide s t o p h a b m n = go (up-to-last s (ordered-pairs o) m) (from-first t p b n)
@@ -59,10 +61,12 @@ ends-decide s t o p h a b m n = go (up-to-last s (ordered-pairs o) m) (from-firs
     go (inr k) (inr q) = omega (arith, intRules)
 
 -- a pair that is not in order is found by the trial
-some-mixed : (ls rs : List Item) {a b : Item} → List·Memᴰ a ls → List·Memᴰ b rs → T (not (items .before a b)) → T (any (λ x. any (λ y. not (ltZ (y .rate) (x .rate))) (map offerOf rs)) (map offerOf ls))
+some-mixed : (ls rs : List Item) {a b : Item} → List·Memᴰ a ls → List·Memᴰ b rs → T (not (items .before a b)) →
+    T (any (λ x. any (λ y. not (ltZ (y .rate) (x .rate))) (map offerOf rs)) (map offerOf ls))
 some-mixed ls rs {a} {b} m n t =
     not-failed (any (λ x. any (λ y. not (ltZ (y .rate) (x .rate))) os′) os)
-    (λ k. T-not (any (λ y. not (ltZ (y .rate) (rateOf a))) os′) (none-at (λ x. any (λ y. not (ltZ (y .rate) (x .rate))) os′) os k (a .offer) (Memᴰ·map offerOf m)) inner)
+    (λ k. T-not (any (λ y. not (ltZ (y .rate) (rateOf a))) os′) (none-at (λ x. any (λ y. not (ltZ (y .rate) (x .rate))) os′) os k (a .offer)
+    (Memᴰ·map offerOf m)) inner)
   where
     os : List Offer
     os = map offerOf ls
@@ -71,14 +75,17 @@ some-mixed ls rs {a} {b} m n t =
     os′ = map offerOf rs
 
     inner : T (any (λ y. not (ltZ (y .rate) (rateOf a))) os′)
-    inner = not-failed (any (λ y. not (ltZ (y .rate) (rateOf a))) os′) (λ k. T-not (not (ltZ (rateOf b) (rateOf a))) (none-at (λ y. not (ltZ (y .rate) (rateOf a))) os′ k (b .offer) (Memᴰ·map offerOf n)) t)
+    inner = not-failed (any (λ y. not (ltZ (y .rate) (rateOf a))) os′)
+        (λ k. T-not (not (ltZ (rateOf b) (rateOf a))) (none-at (λ y. not (ltZ (y .rate) (rateOf a))) os′ k (b .offer) (Memᴰ·map offerOf n)) t)
 
 -- and where every line of the one is before every line of the other there is none
 pub not-mixed : (ls rs : List Item) → AllBefore ls rs → T (not (any (λ x. any (λ y. not (ltZ (y .rate) (x .rate))) (map offerOf rs)) (map offerOf ls)))
 not-mixed ls rs h =
     not-any (λ x. any (λ y. not (ltZ (y .rate) (x .rate))) (map offerOf rs)) (map offerOf ls)
     (λ o m. not-any (λ y. not (ltZ (y .rate) (o .rate))) (map offerOf rs)
-    (λ p n. let (a, i, d) = Memᴰ·of-map offerOf ls m in let (b, j, e) = Memᴰ·of-map offerOf rs n in twice (ltZ (p .rate) (o .rate)) (subst (λ (z : Offer). T (ltZ (p .rate) (z .rate))) d (subst (λ (z : Offer). T (ltZ (z .rate) (rateOf a))) e (h a b i j)))))
+    (λ p n. let (a, i, d) = Memᴰ·of-map offerOf ls m in let (b, j, e) = Memᴰ·of-map offerOf rs n in
+    twice (ltZ (p .rate) (o .rate)) (subst (λ (z : Offer). T (ltZ (p .rate) (z .rate))) d
+    (subst (λ (z : Offer). T (ltZ (z .rate) (rateOf a))) e (h a b i j)))))
 
 -- ---- the ends that the code found
 
@@ -87,19 +94,24 @@ module _ {w : Words} {s : State} {x : ℕ} {h : Held Item} (b : Book w s (some h
   offers-rep = record { kind = omega arith; root = at-root ∙ offers-read b; slots = b .offers .offers-in .slots; tied = b .offers .offers-in .tied }
 
   last-rate : {e : ℕ} → Ended w offerTree true x e → cell w rateField e ≡ rateOf (last (heldShape h))
-  last-rate f = ap (cell w rateField) (f .is (heldShape h) offers-rep (b .offers .offers-in .right .balanced)) ∙ b .offers .offers-in .kept .held (last-leaf (heldShape h)) .rate
+  last-rate f = ap (cell w rateField) (f .is (heldShape h) offers-rep (b .offers .offers-in .right .balanced))
+      ∙ b .offers .offers-in .kept .held (last-leaf (heldShape h)) .rate
 
   first-rate : {e : ℕ} → Ended w offerTree false x e → cell w rateField e ≡ rateOf (first (heldShape h))
-  first-rate f = ap (cell w rateField) (f .is (heldShape h) offers-rep (b .offers .offers-in .right .balanced)) ∙ b .offers .offers-in .kept .held (first-leaf (heldShape h)) .rate
+  first-rate f = ap (cell w rateField) (f .is (heldShape h) offers-rep (b .offers .offers-in .right .balanced))
+      ∙ b .offers .offers-in .kept .held (first-leaf (heldShape h)) .rate
 
 pub sets-apart :
     {w w′ : Words} {x y a b : ℕ} {rate : ℤ} {r : Bool} →
-    x ≡ upTo mostNodes (word w offersRootWord) → y ≡ upTo mostNodes (word w′ offersRootWord) → Ended w offerTree true x a → Ended w′ offerTree false y b → rate ≡ cell w′ rateField b → r ≡ ltZ rate (cell w rateField a) →
+    x ≡ upTo mostNodes (word w offersRootWord) → y ≡ upTo mostNodes (word w′ offersRootWord) → Ended w offerTree true x a → Ended w′ offerTree false y b →
+    rate ≡ cell w′ rateField b → r ≡ ltZ rate (cell w rateField a) →
     SetsApart w w′ r
 sets-apart {w} {w′} {x} {y} {a} {b} {rate} {r} ex ey ea eb er e =
     record {
-      apart = λ d {s} {s′} {h} {h′} p q. ends-decide (heldShape h) (heldShape h′) (p .offers .offers-in .right .ordered) (q .offers .offers-in .right .ordered) (subst T (sym d ∙ tested p q) tt);
-      mixed = λ d {s} {s′} {h} {h′} p q. some-mixed (bookLines (some h)) (bookLines (some h′)) (last-leaf (heldShape h)) (first-leaf (heldShape h′)) (subst (λ (z : Bool). T (not z)) (sym d ∙ tested p q) tt);
+      apart = λ d {s} {s′} {h} {h′} p q. ends-decide (heldShape h) (heldShape h′) (p .offers .offers-in .right .ordered)
+          (q .offers .offers-in .right .ordered) (subst T (sym d ∙ tested p q) tt);
+      mixed = λ d {s} {s′} {h} {h′} p q. some-mixed (bookLines (some h)) (bookLines (some h′)) (last-leaf (heldShape h)) (first-leaf (heldShape h′))
+          (subst (λ (z : Bool). T (not z)) (sym d ∙ tested p q) tt);
     }
   where
     tested : {s s′ : State} {h h′ : Held Item} → Book w s (some h) → Book w′ s′ (some h′) → r ≡ items .before (last (heldShape h)) (first (heldShape h′))

@@ -45,7 +45,8 @@ use Rattle.meet_books.specs.Apart.{AllBefore, SetsApart, not-mixed}
 -- ---- the search from the roots
 
 pub record Searches (w w′ : Words) (r : Met) : Type 0 where
-  pub finds : {s s′ : State} {h h′ : Held Item} → Book w s (some h) → Book w′ s′ (some h′) → AllBefore (bookLines (some h)) (bookLines (some h′)) → Found (some h) (some h′) r
+  pub finds : {s s′ : State} {h h′ : Held Item} → Book w s (some h) → Book w′ s′ (some h′) → AllBefore (bookLines (some h)) (bookLines (some h′)) →
+      Found (some h) (some h′) r
 
 -- what the code has read
 pub record Reads (w w′ : Words) (l r : ℕ) (m : Ended) (u v : ℤ) (hl hr : ℕ) : Type 0 where
@@ -86,21 +87,26 @@ module _ {w w′ : Words} {l r : ℕ} {m : Ended} {u v : ℤ} {hl hr : ℕ} (f :
 
     -- the envelope of both, as plain offers
     plain-envelope : envelope (map offerOf ls ++ map offerOf rs) ≡ map offerOf (about .upTo ++ about .u ∷ about .v ∷ about .from)
-    plain-envelope = ap envelope (sym (map-append offerOf ls rs)) ∙ sym (pieces-plain (ls ++ rs) (about .upTo ++ about .u ∷ about .v ∷ about .from) o (about .merged))
+    plain-envelope = ap envelope (sym (map-append offerOf ls rs))
+        ∙ sym (pieces-plain (ls ++ rs) (about .upTo ++ about .u ∷ about .v ∷ about .from) o (about .merged))
 
   pub searches : Searches w w′ (Meeting u v (pos (m .steps)) (pos hl) (pos hr))
   searches = record { finds = λ b b′ apart. go b b′ apart (root-of b (f .left-root)) (root-of b′ (f .right-root)) }
     where
-      go : {s s′ : State} {h h′ : Held Item} → Book w s (some h) → Book w′ s′ (some h′) → AllBefore (bookLines (some h)) (bookLines (some h′)) → Root w l (some h) → Root w′ r (some h′) → Found (some h) (some h′) (Meeting u v (pos (m .steps)) (pos hl) (pos hr))
+      go : {s s′ : State} {h h′ : Held Item} → Book w s (some h) → Book w′ s′ (some h′) → AllBefore (bookLines (some h)) (bookLines (some h′)) →
+          Root w l (some h) → Root w′ r (some h′) → Found (some h) (some h′) (Meeting u v (pos (m .steps)) (pos hl) (pos hr))
       go {h = h} {h′ = h′} b b′ apart (topped tl d p) (topped tr e q) =
-          let o : Ordered items (leaves (heldShape h) ++ leaves (heldShape h′)) = ordered-append items (leaves (heldShape h)) (leaves (heldShape h′)) (b .offers .offers-in .right .ordered) (b′ .offers .offers-in .right .ordered) apart in
+          let o : Ordered items (leaves (heldShape h) ++ leaves (heldShape h′)) =
+          ordered-append items (leaves (heldShape h)) (leaves (heldShape h′)) (b .offers .offers-in .right .ordered)
+          (b′ .offers .offers-in .right .ordered) apart in
           record {
             left = tl;
             right = tr;
             left-root = d;
             right-root = e;
             bridged = about p q o;
-            answer = λ i. met (number-u p q o i) (number-v p q o i) (pos (ends p q o .steps i)) (pos ((f .left-height ∙ rep-height (p .pieces .rep)) i)) (pos ((f .right-height ∙ rep-height (q .pieces .rep)) i));
+            answer = λ i. met (number-u p q o i) (number-v p q o i) (pos (ends p q o .steps i)) (pos ((f .left-height ∙ rep-height (p .pieces .rep)) i))
+                (pos ((f .right-height ∙ rep-height (q .pieces .rep)) i));
             plainly = plain-envelope p q o;
           }
 
@@ -110,13 +116,19 @@ pub record MeetsParts (w w′ : Words) (r : Met) : Type 0 where
   pub answers : (s s′ : State) (held held′ : Option (Held Item)) → Book w s held → Book w′ s′ held′ → Answers held held′ r
 
 -- declined by the first trial that applies
-declines : {held held′ : Option (Held Item)} {k : Cause} → FirstOf (meetTrials (plainOffers held) (plainOffers held′)) k → Answers held held′ (Declined (pos (causeNumber k)))
+declines : {held held′ : Option (Held Item)} {k : Cause} → FirstOf (meetTrials (plainOffers held) (plainOffers held′)) k →
+    Answers held held′ (Declined (pos (causeNumber k)))
 declines f = record { declined = λ z g. ap (λ (n : ℕ). refused (pos n)) (sym (one-cause f g)); accepted = λ g. absurd (not-clear f g) }
 
 -- what the count says of a book
 module _ {w : Words} {s : State} {held : Option (Held Item)} (b : Book w s held) {e : Bool} (t : e ≡ ltb (upTo mostNodes (word w liveCountWord)) 1) where
   bare-book : e ≡ true → T (leb (length (plainOffers held)) 0)
-  bare-book h = le→leb (length (plainOffers held)) 0 (omega (arith, ltb→lt (upTo mostNodes (word w liveCountWord)) 1 (said t h), count-read b, length-map (bookLines held) offerOf))
+  bare-book h = le→leb (length (plainOffers held)) 0 (omega (
+    arith,
+    ltb→lt (upTo mostNodes (word w liveCountWord)) 1 (said t h),
+    count-read b,
+    length-map (bookLines held) offerOf,
+  ))
 
   some-offer : e ≡ false → 1 ≤ length (bookLines held)
   some-offer h = omega (arith, nltb→le (upTo mostNodes (word w liveCountWord)) 1 (denied t h), count-read b)
@@ -126,11 +138,16 @@ module _ {w : Words} {s : State} {held : Option (Held Item)} (b : Book w s held)
 
 module _ {w w′ : Words} {e e′ : Bool} (t : e ≡ ltb (upTo mostNodes (word w liveCountWord)) 1) (t′ : e′ ≡ ltb (upTo mostNodes (word w′ liveCountWord)) 1) where
   pub second-empty : e′ ≡ true → MeetsParts w w′ (Declined (pos 9))
-  second-empty h = record { answers = λ s s′ held held′ b b′. declines (at-once (or-right (leb (length (plainOffers held)) 0) (leb (length (plainOffers held′)) 0) (bare-book b′ t′ h))) }
+  second-empty h = record {
+    answers = λ s s′ held held′ b b′. declines
+        (at-once (or-right (leb (length (plainOffers held)) 0) (leb (length (plainOffers held′)) 0) (bare-book b′ t′ h)));
+  }
 
   module _ {d : Bool} (s : SetsApart w w′ d) (h : e ≡ false) (h′ : e′ ≡ false) where
-    neither-empty : {s s′ : State} {held held′ : Option (Held Item)} → Book w s held → Book w′ s′ held′ → T (not (leb (length (plainOffers held)) 0 || leb (length (plainOffers held′)) 0))
-    neither-empty {held = held} {held′ = held′} b b′ = not-either (leb (length (plainOffers held)) 0) (leb (length (plainOffers held′)) 0) (live-book b t h) (live-book b′ t′ h′)
+    neither-empty : {s s′ : State} {held held′ : Option (Held Item)} → Book w s held → Book w′ s′ held′ →
+        T (not (leb (length (plainOffers held)) 0 || leb (length (plainOffers held′)) 0))
+    neither-empty {held = held} {held′ = held′} b b′ = not-either (leb (length (plainOffers held)) 0) (leb (length (plainOffers held′)) 0) (live-book b t h)
+        (live-book b′ t′ h′)
 
     pub not-apart : d ≡ false → MeetsParts w w′ (Declined (pos 12))
     not-apart n = record { answers = λ s s′ held held′ b b′. go held held′ b b′ }
@@ -144,7 +161,8 @@ module _ {w w′ : Words} {e e′ : Bool} (t : e ≡ ltb (upTo mostNodes (word w
     apart-found n {r} f = record { answers = λ s s′ held held′ b b′. go held held′ b b′ }
       where
         -- all rates apart: the trial does not apply
-        clear : {s s′ : State} (g g′ : Held Item) → Book w s (some g) → Book w′ s′ (some g′) → T (not (any (λ a. any (λ b. not (ltZ (b .rate) (a .rate))) (plainOffers (some g′))) (plainOffers (some g))))
+        clear : {s s′ : State} (g g′ : Held Item) → Book w s (some g) → Book w′ s′ (some g′) →
+            T (not (any (λ a. any (λ b. not (ltZ (b .rate) (a .rate))) (plainOffers (some g′))) (plainOffers (some g))))
         clear g g′ b b′ = not-mixed (bookLines (some g)) (bookLines (some g′)) (s .apart n b b′)
 
         go : {s s′ : State} (held held′ : Option (Held Item)) → Book w s held → Book w′ s′ held′ → Answers held held′ r
@@ -157,4 +175,7 @@ module _ {w w′ : Words} {e e′ : Bool} (t : e ≡ ltb (upTo mostNodes (word w
             }
 
 pub first-empty : {w w′ : Words} {e : Bool} → e ≡ ltb (upTo mostNodes (word w liveCountWord)) 1 → e ≡ true → MeetsParts w w′ (Declined (pos 9))
-first-empty t h = record { answers = λ s s′ held held′ b b′. declines (at-once (or-left (leb (length (plainOffers held)) 0) (leb (length (plainOffers held′)) 0) (bare-book b t h))) }
+first-empty t h = record {
+  answers = λ s s′ held held′ b b′. declines
+      (at-once (or-left (leb (length (plainOffers held)) 0) (leb (length (plainOffers held′)) 0) (bare-book b t h)));
+}

@@ -24,7 +24,9 @@ edgeOf a (suc i) = some (a i)
 -- of a tree of height H.
 pub data Stacked {A : Type 0} (side : Side) (a : ℕ → A) (H : ℕ) : List (Place A) → ℕ → Type 0 where
   bottom : Stacked side a H [] zero
-  on : {rest : List (Place A)} {lo mid hi : ℕ} {l r : Tree A} {e : Option A} → Stacked side a H rest lo → Spans side a lo (away side l r) mid → Spans side a mid (toward side l r) hi → e ≡ edgeOf a lo → length rest + height (node l r) ≤ H → Stacked side a H (record { tree = node l r; edge = e } ∷ rest) mid
+  on : {rest : List (Place A)} {lo mid hi : ℕ} {l r : Tree A} {e : Option A} → Stacked side a H rest lo → Spans side a lo (away side l r) mid →
+      Spans side a mid (toward side l r) hi → e ≡ edgeOf a lo → length rest + height (node l r) ≤ H →
+      Stacked side a H (record { tree = node l r; edge = e } ∷ rest) mid
 
 module _ {A : Type 0} where
   abbrev pub kind : Tree A → Kind
@@ -100,7 +102,8 @@ pub record Top {A : Type 0} (side : Side) (a : ℕ → A) (at : ℕ) (p : Place 
   pub ranked : rank (place .spans) ≡ at
   pub isInner : kind (p .tree) ≡ inner
 
-pub top-located : {A : Type 0} {side : Side} {a : ℕ → A} {H lo : ℕ} {top : Place A} {rest : List (Place A)} → Stacked side a H (top ∷ rest) lo → Top side a lo top
+pub top-located : {A : Type 0} {side : Side} {a : ℕ → A} {H lo : ℕ} {top : Place A} {rest : List (Place A)} → Stacked side a H (top ∷ rest) lo →
+    Top side a lo top
 top-located (on {lo = from} {hi = hi} st s t e b) = record { place = record { lo = from; hi = hi; spans = two s t; edged = e }; ranked = refl; isInner = refl }
 
 -- One side of a search: its lines from the outer end, how many they are, the place of the line that is looked for, and the tree's height.
@@ -150,11 +153,13 @@ module _ {A : Type 0} where
   topPoint side [] = none
   topPoint side (top ∷ rest) = pointAt side (top .tree) (top .edge)
 
-  edge-point : {side : Side} {a : ℕ → A} {H lo : ℕ} {stack : List (Place A)} → Stacked side a H stack lo → (x : A) → x ≡ a lo → endOf (edgeOf a lo) x ≡ topPoint side stack
+  edge-point : {side : Side} {a : ℕ → A} {H lo : ℕ} {stack : List (Place A)} → Stacked side a H stack lo → (x : A) → x ≡ a lo →
+      endOf (edgeOf a lo) x ≡ topPoint side stack
   edge-point bottom x p = refl
   edge-point (on st s t e b) x p = let (k, q, w) = nearest-at s in rw q (λ i. some (record { outer = sym w i; inner = (p ∙ sym (farthest-at t)) i }))
 
-  pub leaf-point : {side : Side} {g : Aim A} {h : Half A} (x : A) → Stands side g h → h .at .tree ≡ leaf x → pointAt side (leaf x) (h .at .edge) ≡ topPoint side (h .stack)
+  pub leaf-point : {side : Side} {g : Aim A} {h : Half A} (x : A) → Stands side g h → h .at .tree ≡ leaf x →
+      pointAt side (leaf x) (h .at .edge) ≡ topPoint side (h .stack)
   leaf-point x s p = rw (s .edged) (edge-point (s .stacked) x (at-leaf (rw p at (s .spans))))
     where
       at-leaf : {side : Side} {a : ℕ → A} {lo hi : ℕ} → Spans side a lo (leaf x) hi → x ≡ a lo

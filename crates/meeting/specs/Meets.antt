@@ -65,7 +65,8 @@ module _ {A : Type 0} (a : ℕ → A) (d : A) where
 
   spans-node : (side : Side) (l r : Tree A) → Spanned side (away side l r) → Spanned side (toward side l r) → Spanned side (node l r)
   spans-node side l r f g lo hi e c =
-      two (f lo (lo + size (away side l r)) refl (counts-away side lo l r c)) (g (lo + size (away side l r)) hi (omega (arith, size-node side l r)) (counts-toward side lo l r c))
+      two (f lo (lo + size (away side l r)) refl (counts-away side lo l r c)) (g (lo + size (away side l r)) hi (omega (arith, size-node side l r))
+      (counts-toward side lo l r c))
 
   leaf-line : (side : Side) (x : A) → lineFrom side (leaf x) d 0 ≡ x
   leaf-line left x = refl
@@ -98,7 +99,8 @@ pub record Met {A : Type 0} (limit : ℕ) (u v : A) (r : Result A) : Type 0 wher
 abbrev pub limit : {A : Type 0} → Tree A → Tree A → ℕ
 limit l r = 3 * (height l + height r) + 1
 
-abbrev pub root-stands : {A : Type 0} (side : Side) (t : Tree A) (g : Aim A) → g .tall ≡ height t → g .star < g .count → Spans side (g .line) 0 t (g .count) → Stands side g (half t none [])
+abbrev pub root-stands : {A : Type 0} (side : Side) (t : Tree A) (g : Aim A) → g .tall ≡ height t → g .star < g .count →
+    Spans side (g .line) 0 t (g .count) → Stands side g (half t none [])
 root-stands side t g e h s =
     record {
       lo = 0;

@@ -58,7 +58,8 @@ module _ {A : Type 0} where
   abbrev pub half : Tree A → Option A → List (Place A) → Half A
   half t e stack = record { at = record { tree = t; edge = e }; stack = stack }
 
-  abbrev standing : {side : Side} (g : Aim A) (t : Tree A) (e : Option A) (stack : List (Place A)) {lo hi : ℕ} → Stacked side (g .line) (g .tall) stack lo → Spans side (g .line) lo t hi → e ≡ edgeOf (g .line) lo → length stack + height t ≤ g .tall → hi ≤ g .count → g .star < hi → Stands side g (half t e stack)
+  abbrev standing : {side : Side} (g : Aim A) (t : Tree A) (e : Option A) (stack : List (Place A)) {lo hi : ℕ} → Stacked side (g .line) (g .tall) stack lo →
+      Spans side (g .line) lo t hi → e ≡ edgeOf (g .line) lo → length stack + height t ≤ g .tall → hi ≤ g .count → g .star < hi → Stands side g (half t e stack)
   standing g t e stack {lo} {hi} st p q b c d =
       record {
         lo = lo;
@@ -72,7 +73,9 @@ module _ {A : Type 0} where
       }
 
 module _ {A : Type 0} {side : Side} (g : Aim A) where
-  retreat-by : (t : Tree A) (e : Option A) (stack : List (Place A)) {lo hi : ℕ} (st : Stacked side (g .line) (g .tall) stack lo) (p : Spans side (g .line) lo t hi) (q : e ≡ edgeOf (g .line) lo) (b : length stack + height t ≤ g .tall) (c : hi ≤ g .count) (d : g .star < hi) → g .star < rank p → Moved (standing g t e stack st p q b c d) 0 0 (lo ≤ g .star) (retreat side (half t e stack))
+  retreat-by : (t : Tree A) (e : Option A) (stack : List (Place A)) {lo hi : ℕ} (st : Stacked side (g .line) (g .tall) stack lo)
+      (p : Spans side (g .line) lo t hi) (q : e ≡ edgeOf (g .line) lo) (b : length stack + height t ≤ g .tall) (c : hi ≤ g .count) (d : g .star < hi) →
+      g .star < rank p → Moved (standing g t e stack st p q b c d) 0 0 (lo ≤ g .star) (retreat side (half t e stack))
   unfolding retreat owes
   retreat-by t e stack st (one z) q b c d below =
       record {
@@ -93,7 +96,9 @@ module _ {A : Type 0} {side : Side} (g : Aim A) where
         depth = omega arith;
       }
 
-  advance-by : (t : Tree A) (e : Option A) (stack : List (Place A)) {lo hi : ℕ} (st : Stacked side (g .line) (g .tall) stack lo) (p : Spans side (g .line) lo t hi) (q : e ≡ edgeOf (g .line) lo) (b : length stack + height t ≤ g .tall) (c : hi ≤ g .count) (d : g .star < hi) → Moved (standing g t e stack st p q b c d) 0 1 (Inner t × (rank p ≤ g .star)) (advance side (half t e stack))
+  advance-by : (t : Tree A) (e : Option A) (stack : List (Place A)) {lo hi : ℕ} (st : Stacked side (g .line) (g .tall) stack lo)
+      (p : Spans side (g .line) lo t hi) (q : e ≡ edgeOf (g .line) lo) (b : length stack + height t ≤ g .tall) (c : hi ≤ g .count) (d : g .star < hi) →
+      Moved (standing g t e stack st p q b c d) 0 1 (Inner t × (rank p ≤ g .star)) (advance side (half t e stack))
   unfolding advance owes
   advance-by t e stack st (one z) q b c d =
       record {
@@ -109,14 +114,18 @@ module _ {A : Type 0} {side : Side} (g : Aim A) where
       let before : mid ≤ g .star → lo ≤ g .star = λ w. omega (arith, spans-some s) in
       record {
         after = standing g (toward side l r) _ _ (on st s s′ q b) s′ (nearest-edge s) (omega arith) c d;
-        no-more = deeper (decLe mid (g .star)) (decLe lo (g .star)) before (height (toward side l r)) (height (away side l r)) (height (node l r)) (owed (g .star) st) h k;
-        less = λ w. deeper-won (decLe mid (g .star)) (decLe lo (g .star)) before (height (toward side l r)) (height (away side l r)) (height (node l r)) (owed (g .star) st) h (w .1);
+        no-more = deeper (decLe mid (g .star)) (decLe lo (g .star)) before (height (toward side l r)) (height (away side l r)) (height (node l r))
+            (owed (g .star) st) h k;
+        less = λ w. deeper-won (decLe mid (g .star)) (decLe lo (g .star)) before (height (toward side l r)) (height (away side l r)) (height (node l r))
+            (owed (g .star) st) h (w .1);
         inside = λ w. w .1;
         depth = omega arith;
       }
 
   -- the popped node's away child owes one edge less than the stack did for it
-  pop-by : (t : Tree A) (e : Option A) (top : Place A) (rest : List (Place A)) {lo hi : ℕ} (st : Stacked side (g .line) (g .tall) (top ∷ rest) lo) (p : Spans side (g .line) lo t hi) (q : e ≡ edgeOf (g .line) lo) (b : length (top ∷ rest) + height t ≤ g .tall) (c : hi ≤ g .count) (d : g .star < hi) → g .star < lo → Moved (standing g t e (top ∷ rest) st p q b c d) 1 0 ⊥ (pop side top rest)
+  pop-by : (t : Tree A) (e : Option A) (top : Place A) (rest : List (Place A)) {lo hi : ℕ} (st : Stacked side (g .line) (g .tall) (top ∷ rest) lo)
+      (p : Spans side (g .line) lo t hi) (q : e ≡ edgeOf (g .line) lo) (b : length (top ∷ rest) + height t ≤ g .tall) (c : hi ≤ g .count) (d : g .star < hi)
+      → g .star < lo → Moved (standing g t e (top ∷ rest) st p q b c d) 1 0 ⊥ (pop side top rest)
   unfolding pop owes
   pop-by t e top rest (on {lo = from} {mid = mid} {l = l} {r = r} st s s′ z y) p q b c d below =
       record {
@@ -133,7 +142,8 @@ module _ {A : Type 0} {side : Side} (g : Aim A) where
   pub advance-moved : {h : Half A} (s : Stands side g h) → Moved s 0 1 (Inner (h .at .tree) × (rank (s .spans) ≤ g .star)) (advance side h)
   advance-moved {h} s = advance-by (h .at .tree) (h .at .edge) (h .stack) (s .stacked) (s .spans) (s .edged) (s .shallow) (s .bounded) (s .covers)
 
-  pub pop-moved : {t : Tree A} {e : Option A} {top : Place A} {rest : List (Place A)} (s : Stands side g (half t e (top ∷ rest))) → g .star < s .lo → Moved s 1 0 ⊥ (pop side top rest)
+  pub pop-moved : {t : Tree A} {e : Option A} {top : Place A} {rest : List (Place A)} (s : Stands side g (half t e (top ∷ rest))) → g .star < s .lo →
+      Moved s 1 0 ⊥ (pop side top rest)
   pop-moved {t} {e} {top} {rest} s below = pop-by t e top rest (s .stacked) (s .spans) (s .edged) (s .shallow) (s .bounded) (s .covers) below
 
 -- At the root all that is owed is the tree's height.

@@ -46,17 +46,20 @@ module _ (S : Figure) where
 
   run-reaches : {s s′ : State (S .Line)} {k : ℕ} → Reaches S s k s′ → (n m : ℕ) → m ≡ k + n → run S m s ≡ later k (run S n s′)
   run-reaches {s} here n m e = let p : m ≡ n = omega arith in rw p (later-none (run S n s))
-  run-reaches {s} (further {k = k} {s′ = t} {s″ = t′} w q) n m e = run-reaches w (suc n) m (omega arith) ∙ ap (later k) (run-some n t t′ q) ∙ later-counted k (run S n t′)
+  run-reaches {s} (further {k = k} {s′ = t} {s″ = t′} w q) n m e = run-reaches w (suc n) m (omega arith) ∙ ap (later k) (run-some n t t′ q)
+      ∙ later-counted k (run S n t′)
 
   -- where the steps end, `meet` has counted them and one more
-  pub reaches-end : {l r : Tree (S .Line)} {k : ℕ} {s : State (S .Line)} → Reaches S (start l r) k s → k < limit l r → step S s ≡ none → meet S l r ≡ ended true s (suc k)
+  pub reaches-end : {l r : Tree (S .Line)} {k : ℕ} {s : State (S .Line)} → Reaches S (start l r) k s → k < limit l r → step S s ≡ none →
+      meet S l r ≡ ended true s (suc k)
   unfolding meet
   reaches-end {l} {r} {k} {s} w h e =
       let n : ℕ = 3 * (height l + height r) - k in
       run-reaches w (suc n) (limit l r) (omega arith) ∙ ap (later k) (run-none n s e) ∙ later-ended k s
 
   -- what is reached is sound, and each step was paid for
-  pub reaches-sound : {M : Meeting S} {s s′ : State (S .Line)} {k : ℕ} (i : Sound M left (s .u) (s .v)) → Reaches S s k s′ → (j : Sound M left (s′ .u) (s′ .v)) × (potential j + k ≤ potential i)
+  pub reaches-sound : {M : Meeting S} {s s′ : State (S .Line)} {k : ℕ} (i : Sound M left (s .u) (s .v)) → Reaches S s k s′ →
+      (j : Sound M left (s′ .u) (s′ .v)) × (potential j + k ≤ potential i)
   reaches-sound i here = (i, omega arith)
   reaches-sound {M = M} i (further {k = k} {s′ = t} {s″ = t′} w q) =
       let (j, h) = reaches-sound i w in
@@ -82,7 +85,8 @@ kept {A = A} {side = side} {g = g} t s e =
       leaf-end = λ x p. leaf-point x s p;
     }
   where
-    inner-by : {a : ℕ → A} {H lo : ℕ} {top : Place A} {rest : List (Place A)} → Stacked side a H (top ∷ rest) lo → (l : Tree A) × (r : Tree A) × (top .tree ≡ node l r)
+    inner-by : {a : ℕ → A} {H lo : ℕ} {top : Place A} {rest : List (Place A)} → Stacked side a H (top ∷ rest) lo →
+        (l : Tree A) × (r : Tree A) × (top .tree ≡ node l r)
     inner-by (on {l = l} {r = r} st p q z b) = (l, r, refl)
 
 -- A search from the roots that is ready, after k steps.

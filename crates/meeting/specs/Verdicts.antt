@@ -40,15 +40,18 @@ module _ {S : Figure} (M : Meeting S) where
   other-above left i j k h p q w = ours-above right j i h k q p w
   other-above right i j k h p q w = ours-above left j i h k q p w
 
-  neither-above : (side : Side) (i j : ℕ) (k h : Kind) → i < aim side .count → j < aim (opposite side) .count → ¬ Ours side i j h → ¬ Other side i k j → (i ≤ aim side .star) ⊎ (j ≤ aim (opposite side) .star)
+  neither-above : (side : Side) (i j : ℕ) (k h : Kind) → i < aim side .count → j < aim (opposite side) .count → ¬ Ours side i j h → ¬ Other side i k j →
+      (i ≤ aim side .star) ⊎ (j ≤ aim (opposite side) .star)
   neither-above left i j k h p q w z = M .facts .f3 i j k h p q (rw above-left at w) (rw above-right at z)
   neither-above right i j k h p q w z = ⊎-swap (M .facts .f3 j i h k q p (rw above-left at z) (rw above-right at w))
 
-  ours-found : (side : Side) (i j : ℕ) (h : Kind) → i < aim side .count → j < aim (opposite side) .count → ¬ Ours side i j h → ¬ Other side i leafy j → i ≡ aim side .star → j ≤ aim (opposite side) .star
+  ours-found : (side : Side) (i j : ℕ) (h : Kind) → i < aim side .count → j < aim (opposite side) .count → ¬ Ours side i j h → ¬ Other side i leafy j →
+      i ≡ aim side .star → j ≤ aim (opposite side) .star
   ours-found left i j h p q w z e = M .facts .f4 i j h p q (rw above-left at w) (rw above-right at z) e
   ours-found right i j h p q w z e = M .facts .f5 j i h q p (rw above-left at z) (rw above-right at w) e
 
-  other-found : (side : Side) (i j : ℕ) (k : Kind) → i < aim side .count → j < aim (opposite side) .count → ¬ Ours side i j leafy → ¬ Other side i k j → j ≡ aim (opposite side) .star → i ≤ aim side .star
+  other-found : (side : Side) (i j : ℕ) (k : Kind) → i < aim side .count → j < aim (opposite side) .count → ¬ Ours side i j leafy → ¬ Other side i k j →
+      j ≡ aim (opposite side) .star → i ≤ aim side .star
   other-found left i j k p q w z e = ours-found right j i k q p z w e
   other-found right i j k p q w z e = ours-found left j i k q p z w e
 
@@ -64,7 +67,8 @@ module _ {S : Figure} (M : Meeting S) where
   Verdict side i k j h theirs = aim (opposite side) .star < j
   Verdict side i k j h neither = Apart side i k j h
 
-  verdict-by : (side : Side) (i : ℕ) (k : Kind) (j : ℕ) (h : Kind) → i < aim side .count → j < aim (opposite side) .count → (b c : Bool) → T b ↔ Ours side i j h → T c ↔ Other side i k j → Verdict side i k j h (caseOf b c)
+  verdict-by : (side : Side) (i : ℕ) (k : Kind) (j : ℕ) (h : Kind) → i < aim side .count → j < aim (opposite side) .count → (b c : Bool) →
+      T b ↔ Ours side i j h → T c ↔ Other side i k j → Verdict side i k j h (caseOf b c)
   verdict-by side i k j h p q true c w z = ours-above side i j k h p q (w .0 tt)
   verdict-by side i k j h p q false true w z = other-above side i j k h p q (z .0 tt)
   verdict-by side i k j h p q false false w z =
@@ -74,6 +78,9 @@ module _ {S : Figure} (M : Meeting S) where
         other = λ e. other-found side i j k p q (rw e at (w .1)) (z .1);
       }
 
-  pub verdict : (side : Side) {p q : Place (S .Line)} (s : Located side (aim side .line) p) (t : Located (opposite side) (aim (opposite side) .line) q) → rank (s .spans) < aim side .count → rank (t .spans) < aim (opposite side) .count → Verdict side (rank (s .spans)) (kind (p .tree)) (rank (t .spans)) (kind (q .tree)) (compare S side p q)
+  pub verdict : (side : Side) {p q : Place (S .Line)} (s : Located side (aim side .line) p) (t : Located (opposite side) (aim (opposite side) .line) q) →
+      rank (s .spans) < aim side .count → rank (t .spans) < aim (opposite side) .count →
+      Verdict side (rank (s .spans)) (kind (p .tree)) (rank (t .spans)) (kind (q .tree)) (compare S side p q)
   unfolding compare
-  verdict side {p} {q} s t b c = verdict-by side _ (kind (p .tree)) _ (kind (q .tree)) b c (onOrAbove S side p q) (onOrAbove S (opposite side) q p) (test S side s t) (test S (opposite side) t s)
+  verdict side {p} {q} s t b c = verdict-by side _ (kind (p .tree)) _ (kind (q .tree)) b c (onOrAbove S side p q) (onOrAbove S (opposite side) q p)
+      (test S side s t) (test S (opposite side) t s)

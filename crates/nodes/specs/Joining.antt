@@ -22,13 +22,15 @@ pub record Raised (k : ℕ) (side : Bool) (gap p q h : ℕ) (w w′ : Words) (x 
   pub joined : h ≡ suc (max (heightAt w k p) (heightAt w k q)) → Joined (nodeOn side) k side gap p q w w′ x
 
 -- by the two heights as read
-pub raised : {k gap p q h hp hq x : ℕ} {side : Bool} {w w′ : Words} → hp ≡ heightAt w k p → hq ≡ heightAt w k q → h ≡ suc (max hp hq) → Raised k side gap p q h w w′ x → Joined (nodeOn side) k side gap p q w w′ x
+pub raised : {k gap p q h hp hq x : ℕ} {side : Bool} {w w′ : Words} → hp ≡ heightAt w k p → hq ≡ heightAt w k q → h ≡ suc (max hp hq) →
+    Raised k side gap p q h w w′ x → Joined (nodeOn side) k side gap p q w w′ x
 raised ep eq e r = r .joined (omega (arith, ep, eq, e))
 
 -- ---- a node
 
 -- a slot that no part has
-pub no-gap : {shape : Tree Item → Tree Item → Tree Item} {k : ℕ} {side : Bool} {gap p q : ℕ} {w : Words} {x : ℕ} → mostSlots < gap → Joined shape k side gap p q w w x
+pub no-gap : {shape : Tree Item → Tree Item → Tree Item} {k : ℕ} {side : Bool} {gap p q : ℕ} {w : Words} {x : ℕ} → mostSlots < gap →
+    Joined shape k side gap p q w w x
 no-gap {side} {w} h =
     record { within = within-refl w; made = λ tp tq pair e. absurd (omega (arith, h, e, pair .slots .high (seam-in side tp tq), cap-most w)) }
 

@@ -2,7 +2,8 @@
 use mathlib.Core.Path.{_≡_, refl, sym, _∙_, ap, subst}
 use mathlib.Core.Logic.{_≢_, ⊎-elim}
 use mathlib.Core.Bool.{Bool, true}
-use mathlib.Core.List.{List, [], _∷_, _++_, append-assoc, List·Memᴰ, List·Memᴰ·head, List·Memᴰ·tail, List·Memᴰ·append-cases, List·Memᴰ·cases-cons, Memᴰ·append-left, Memᴰ·append-right, Pairwise, Pairwise·of-cons, rel-of-pairwise-cons, mem-append-left}
+use mathlib.Core.List.{List, [], _∷_, _++_, append-assoc, List·Memᴰ, List·Memᴰ·head, List·Memᴰ·tail, List·Memᴰ·append-cases, List·Memᴰ·cases-cons}
+use mathlib.Core.List.{Memᴰ·append-left, Memᴰ·append-right, Pairwise, Pairwise·of-cons, rel-of-pairwise-cons, mem-append-left}
 use mathlib.Core.Option.{Option, none, some}
 use Prim.Native.Nat.{ℕ}
 use native.Mathlib.Omega.{arith}
@@ -31,12 +32,14 @@ use Rattle.descents.specs.Ends.{Ended}
 use Rattle.pieces.specs.Cutting.{splitP-leaves}
 use Rattle.form.specs.Form.{numberOf}
 use Rattle.numbers.specs.Numbers.{NumbersAt, Added}
-use Rattle.numbers.specs.Trees.{among-in, among-holds, falling-slots, leaves-hold, numbers-rep, part-low, numbers-made, splitP-clean, seam-end, Beside, joined}
+use Rattle.numbers.specs.Trees.{among-in, among-holds, falling-slots, leaves-hold, numbers-rep, part-low, numbers-made, splitP-clean, seam-end}
+use Rattle.numbers.specs.Trees.{Beside, joined}
 
 -- ---- lists
 
 -- an item that falls in between
-falling-between : (a : Item) (xs ys : List Item) → Falling numberOf (xs ++ ys) → ((b : Item) → List·Memᴰ b xs → T (ltZ (numberOf a) (numberOf b))) → ((b : Item) → List·Memᴰ b ys → T (ltZ (numberOf b) (numberOf a)))
+falling-between : (a : Item) (xs ys : List Item) → Falling numberOf (xs ++ ys) → ((b : Item) → List·Memᴰ b xs → T (ltZ (numberOf a) (numberOf b))) →
+    ((b : Item) → List·Memᴰ b ys → T (ltZ (numberOf b) (numberOf a)))
     → Falling numberOf (xs ++ (a ∷ ys))
 falling-between a [] ys p above below = pairs-cons (λ x y. T-prop (ltZ (numberOf y) (numberOf x))) below p
 falling-between a (x ∷ xs) ys p above below =
@@ -45,7 +48,8 @@ falling-between a (x ∷ xs) ys p above below =
     first : (b : Item) → List·Memᴰ b (xs ++ (a ∷ ys)) → T (ltZ (numberOf b) (numberOf x))
     first b m =
         ⊎-elim (λ i. rel-of-pairwise-cons p ∣ Memᴰ·append-left ys i ∣₁)
-        (λ i. ⊎-elim (λ (e : b ≡ a). subst (λ (c : Item). T (ltZ (numberOf c) (numberOf x))) (sym e) (above x (List·Memᴰ·head refl))) (λ j. rel-of-pairwise-cons p ∣ Memᴰ·append-right xs j ∣₁) (List·Memᴰ·cases-cons i))
+        (λ i. ⊎-elim (λ (e : b ≡ a). subst (λ (c : Item). T (ltZ (numberOf c) (numberOf x))) (sym e) (above x (List·Memᴰ·head refl)))
+        (λ j. rel-of-pairwise-cons p ∣ Memᴰ·append-right xs j ∣₁) (List·Memᴰ·cases-cons i))
         (List·Memᴰ·append-cases xs m)
 
 among-between : {a : Item} {live : List Item} (xs ys : List Item) → Among (xs ++ ys) live → Among (xs ++ (a ∷ ys)) (a ∷ live)
@@ -85,7 +89,8 @@ record Newcomer (w : Words) (s root : ℕ) (a : Item) (live : List Item) (p : Pa
   holds : Holds w (a ∷ live)
   new : (b : Item) → List·Memᴰ b live → numberOf b ≢ numberOf a
 
-module _ {s root f b g y x : ℕ} {number : ℤ} {w w₁ w₂ w₃ : Words} {a : Item} {live : List Item} {p : Part Item} (k : Calls s root f b g y x number w w₁ w₂ w₃) (h : Newcomer w s root a live p) where
+module _ {s root f b g y x : ℕ} {number : ℤ} {w w₁ w₂ w₃ : Words} {a : Item} {live : List Item} {p : Part Item}
+    (k : Calls s root f b g y x number w w₁ w₂ w₃) (h : Newcomer w s root a live p) where
   test : Item → Bool
   test = from numberOf number
 
@@ -105,7 +110,8 @@ module _ {s root f b g y x : ℕ} {number : ℤ} {w w₁ w₂ w₃ : Words} {a :
   halves : Halved numberTree w w₁ f b (partLeaves p) (splitP (from numberOf number) p)
   halves =
       let r = numbers-rep p (h .numbers) in
-      k .cut .made p numberOf r (h .numbers .numbers .balanced) (part-low w p (r .slots) (h .numbers .numbers .balanced)) (keyed-numbers (leaves-hold p (h .numbers)))
+      k .cut .made p numberOf r (h .numbers .numbers .balanced) (part-low w p (r .slots) (h .numbers .numbers .balanced))
+      (keyed-numbers (leaves-hold p (h .numbers)))
 
   front-rep : RepP w₁ numberTree f front
   unfolding front
@@ -167,7 +173,13 @@ module _ {s root f b g y x : ℕ} {number : ℤ} {w w₁ w₂ w₃ : Words} {a :
   unfolding start
   made-start =
       joined (k .near) (seam-end front (some (leaf a)) (k .end) front-rep (balanced-both .0))
-      (record { left = front-rep; right = record { kind = omega arith; root = h .slot-is; slots = slots-right (partLeaves front) one; tied = tied-leaf }; slots = one; balanced-left = balanced-both .0; balanced-right = avl-leaf })
+      (record {
+        left = front-rep;
+        right = record { kind = omega arith; root = h .slot-is; slots = slots-right (partLeaves front) one; tied = tied-leaf };
+        slots = one;
+        balanced-left = balanced-both .0;
+        balanced-right = avl-leaf;
+      })
     where
       one : Slots (cap w₁) (partLeaves front ++ (a ∷ []))
       one = rw (within-cap (k .cut .within)) (subst (Slots (cap w)) (leaves-joinP front (some (leaf a))) (slots-left (partLeaves back) start-slots))
@@ -189,7 +201,14 @@ module _ {s root f b g y x : ℕ} {number : ℤ} {w w₁ w₂ w₃ : Words} {a :
   unfolding whole start
   made-whole =
       joined (k .far) (seam-new a front back (h .slot-is))
-      (record { left = made-start .rep; right = repP-still back back-rep (k .near .within) (made-start .only) (λ i u v. slots-across (partLeaves start) start-slots u v); slots = rw (within-cap (within-trans (k .cut .within) (k .near .within))) start-slots; balanced-left = start-balanced; balanced-right = balanced-both .1 })
+      (record {
+        left = made-start .rep;
+        right = repP-still back back-rep (k .near .within) (made-start .only)
+            (λ i u v. slots-across (partLeaves start) start-slots u v);
+        slots = rw (within-cap (within-trans (k .cut .within) (k .near .within))) start-slots;
+        balanced-left = start-balanced;
+        balanced-right = balanced-both .1;
+      })
 
   -- ---- the result
 
@@ -229,5 +248,6 @@ added {s} {root} {f} {b} {g} {y} {x} {number} {w} {w₁} {w₂} {w₃} r c e m�
     calls : Calls s root f b g y x number w w₁ w₂ w₃
     calls = record { read = r; cut = c; end = e; near = m₁; far = m₂ }
 
-    newcomer : (a : Item) (live : List Item) (p : Part Item) → NumbersAt w root live p → s ≡ a .slot → Slots (cap w) (a ∷ live) → Holds w (a ∷ live) → ((b : Item) → List·Memᴰ b live → numberOf b ≢ numberOf a) → Newcomer w s root a live p
+    newcomer : (a : Item) (live : List Item) (p : Part Item) → NumbersAt w root live p → s ≡ a .slot → Slots (cap w) (a ∷ live) → Holds w (a ∷ live) →
+        ((b : Item) → List·Memᴰ b live → numberOf b ≢ numberOf a) → Newcomer w s root a live p
     newcomer a live p n i j o d = record { numbers = n; slot-is = i; slots = j; holds = o; new = d }

@@ -29,7 +29,8 @@ use Rattle.numbers.specs.Thinning.{Thin, Thinned}
 
 -- ---- the number above an item's
 
-least-above : {w : Words} {live : List Item} (number : ℤ) (a : Item) → Holds w live → List·Memᴰ a live → numberOf a ≡ number → leastAbove number ≡ number +ℤ pos 1
+least-above : {w : Words} {live : List Item} (number : ℤ) (a : Item) → Holds w live → List·Memᴰ a live → numberOf a ≡ number →
+    leastAbove number ≡ number +ℤ pos 1
 least-above number a h m e =
     few (let k = range-parts (pos 1) (numberOf a) (pos 9_999) (number-of (a .offer) (h .held m .ranged)) in omega (arith, intRules))
   where
@@ -38,7 +39,8 @@ least-above number a h m e =
 
 -- ---- the tree thinned
 
-module _ {root x : ℕ} {w w′ : Words} {live : List Item} {p : Part Item} (number : ℤ) (k : Thinned (leastAbove number) root mostLevels w w′ x) (h : NumbersAt w root live p) where
+module _ {root x : ℕ} {w w′ : Words} {live : List Item} {p : Part Item} (number : ℤ) (k : Thinned (leastAbove number) root mostLevels w w′ x)
+    (h : NumbersAt w root live p) where
   thin : Thin (leastAbove number) w w′ x p
   thin =
       let r = numbers-rep p h in
@@ -51,7 +53,8 @@ module _ {root x : ℕ} {w w′ : Words} {live : List Item} {p : Part Item} (num
     above-is : numberOf a +ℤ pos 1 ≡ leastAbove number
     above-is = ap (λ (z : ℤ). z +ℤ pos 1) e ∙ sym (least-above number a (h .holds) here e)
 
-    drop-made : (others : List Item) → Among others live → ((c : Item) → List·Memᴰ c others → c ≢ a) → ((c : Item) → List·Memᴰ c live → c ≢ a → List·Memᴰ c others) → Slots (cap w) others → NumbersAt w′ x others (thin .left)
+    drop-made : (others : List Item) → Among others live → ((c : Item) → List·Memᴰ c others → c ≢ a) →
+        ((c : Item) → List·Memᴰ c live → c ≢ a → List·Memᴰ c others) → Slots (cap w) others → NumbersAt w′ x others (thin .left)
     drop-made others f d o s =
         numbers-made (thin .rep) (k .within) drop-only s (among-holds f (h .holds)) (thin .balanced) (Pairwise·sublistᴰ (thin .fewer) (h .numbers .falling))
         (λ c i. o c (h .numbers .all-live c (sublist-mem (thin .fewer) i)) (thin .gone (h .numbers .falling) a (h .numbers .all-there a here) above-is c i))

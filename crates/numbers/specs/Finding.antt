@@ -26,7 +26,8 @@ found-number {number} {root} {s} {w} f = record { found = found; missing = missi
 
     found : (live : List Item) (p : Part Item) → NumbersAt w root live p → (a : Item) → List·Memᴰ a live → numberOf a ≡ number → s ≡ a .slot
     found live none n a m e = absurd (List·Memᴰ·not-nil (n .numbers .all-there a m))
-    found live (some t) n a m e = result t n ∙ ap foundAt (find-complete numberOf number t (n .numbers .falling) (record { inside = n .numbers .all-there a m; keyed = e }))
+    found live (some t) n a m e = result t n ∙ ap foundAt (find-complete numberOf number t (n .numbers .falling)
+        (record { inside = n .numbers .all-there a m; keyed = e }))
 
     missing : (live : List Item) (p : Part Item) → NumbersAt w root live p → ((a : Item) → List·Memᴰ a live → numberOf a ≢ number) → s ≡ 0
     missing live none n no-one = f .nothing (n .root-is)

@@ -30,14 +30,18 @@ pub record FoundNumber (number : ℤ) (root : ℕ) (w : Words) (s : ℕ) : Type 
 pub record Added (s root : ℕ) (w w′ : Words) (root′ : ℕ) : Type 0 where
   pub within : Within w w′
   pub made :
-      (a : Item) (live : List Item) (p : Part Item) → NumbersAt w root live p → s ≡ a .slot → Slots (cap w) (a ∷ live) → Holds w (a ∷ live) → ((b : Item) → List·Memᴰ b live → numberOf b ≢ numberOf a) →
+      (a : Item) (live : List Item) (p : Part Item) → NumbersAt w root live p → s ≡ a .slot → Slots (cap w) (a ∷ live) → Holds w (a ∷ live) →
+      ((b : Item) → List·Memᴰ b live → numberOf b ≢ numberOf a) →
       (q : Part Item) × NumbersAt w′ root′ (a ∷ live) q
-  pub only : (a : Item) (live : List Item) (p : Part Item) → NumbersAt w root live p → s ≡ a .slot → Slots (cap w) (a ∷ live) → Holds w (a ∷ live) → ((b : Item) → List·Memᴰ b live → numberOf b ≢ numberOf a) → Only numberTree (a ∷ live) w w′
+  pub only : (a : Item) (live : List Item) (p : Part Item) → NumbersAt w root live p → s ≡ a .slot → Slots (cap w) (a ∷ live) → Holds w (a ∷ live) →
+      ((b : Item) → List·Memᴰ b live → numberOf b ≢ numberOf a) → Only numberTree (a ∷ live) w w′
 
 -- the item with that number leaves; where none has it, only the frame is told
 pub record Dropped (number : ℤ) (root : ℕ) (w w′ : Words) (root′ : ℕ) : Type 0 where
   pub within : Within w w′
   pub made :
-      (a : Item) (live rest : List Item) (p : Part Item) → NumbersAt w root live p → List·Memᴰ a live → numberOf a ≡ number → ((b : Item) → List·Memᴰ b rest → List·Memᴰ b live) → ((b : Item) → List·Memᴰ b rest → b ≢ a) → ((b : Item) → List·Memᴰ b live → b ≢ a → List·Memᴰ b rest) → Slots (cap w) rest →
+      (a : Item) (live rest : List Item) (p : Part Item) → NumbersAt w root live p → List·Memᴰ a live → numberOf a ≡ number →
+      ((b : Item) → List·Memᴰ b rest → List·Memᴰ b live) → ((b : Item) → List·Memᴰ b rest → b ≢ a) →
+      ((b : Item) → List·Memᴰ b live → b ≢ a → List·Memᴰ b rest) → Slots (cap w) rest →
       (q : Part Item) × NumbersAt w′ root′ rest q
   pub only : (live : List Item) (p : Part Item) → NumbersAt w root live p → Only numberTree live w w′

@@ -2,7 +2,8 @@
 use mathlib.Core.Path.{_≡_, refl, sym, _∙_, ap, subst}
 use mathlib.Core.Logic.{_≢_, ⊎-elim}
 use mathlib.Core.Bool.{Bool, true, false, not}
-use mathlib.Core.List.{List, [], _∷_, _++_, List·Memᴰ, List·Memᴰ·head, List·Memᴰ·append-cases, List·Memᴰ·cases-cons, Memᴰ·append-left, Memᴰ·append-right, Sublistᴰ, Sublistᴰ·append, Sublistᴰ·refl, Sublistᴰ·nil-sublist, Pairwise·sublistᴰ, Pairwise·nil}
+use mathlib.Core.List.{List, [], _∷_, _++_, List·Memᴰ, List·Memᴰ·head, List·Memᴰ·append-cases, List·Memᴰ·cases-cons, Memᴰ·append-left}
+use mathlib.Core.List.{Memᴰ·append-right, Sublistᴰ, Sublistᴰ·append, Sublistᴰ·refl, Sublistᴰ·nil-sublist, Pairwise·sublistᴰ, Pairwise·nil}
 use mathlib.Core.Option.{Option, none, some}
 use Prim.Native.Nat.{ℕ, _-_, _≤_, _<_}
 use native.Mathlib.Omega.{arith}
@@ -37,8 +38,10 @@ pub record Thin (least : ℤ) (w w′ : Words) (y : ℕ) (p : Part Item) : Type 
   pub balanced : AvlP left
   pub only : Only numberTree (partLeaves p) w w′
   pub fewer : Sublistᴰ (partLeaves left) (partLeaves p)
-  pub gone : Falling numberOf (partLeaves p) → (a : Item) → List·Memᴰ a (partLeaves p) → numberOf a +ℤ pos 1 ≡ least → (b : Item) → List·Memᴰ b (partLeaves left) → b ≢ a
-  pub kept : Falling numberOf (partLeaves p) → (a : Item) → List·Memᴰ a (partLeaves p) → numberOf a +ℤ pos 1 ≡ least → (b : Item) → List·Memᴰ b (partLeaves p) → b ≢ a → List·Memᴰ b (partLeaves left)
+  pub gone : Falling numberOf (partLeaves p) → (a : Item) → List·Memᴰ a (partLeaves p) → numberOf a +ℤ pos 1 ≡ least → (b : Item) →
+      List·Memᴰ b (partLeaves left) → b ≢ a
+  pub kept : Falling numberOf (partLeaves p) → (a : Item) → List·Memᴰ a (partLeaves p) → numberOf a +ℤ pos 1 ≡ least → (b : Item) →
+      List·Memᴰ b (partLeaves p) → b ≢ a → List·Memᴰ b (partLeaves left)
 
 pub record Thinned (least : ℤ) (x limit : ℕ) (w w′ : Words) (y : ℕ) : Type 0 where
   pub within : Within w w′
@@ -56,14 +59,32 @@ pub thinned-leaf : {x limit : ℕ} {w : Words} (least : ℤ) → x ≤ mostSlots
 thinned-leaf {x} {limit} {w} least h = record { within = within-refl w; made = made }
   where
     made : (p : Part Item) → RepP w numberTree x p → AvlP p → partHeight p ≤ limit → Keyed w numberField numberOf (partLeaves p) → Thin least w w 0 p
-    made none r a n k = record { left = none; rep = empty w; balanced = tt; only = only-refl 2 [] w; fewer = Sublistᴰ·refl []; gone = λ f a m. elim m [ ]; kept = λ f a m. elim m [ ] }
+    made none r a n k = record {
+      left = none;
+      rep = empty w;
+      balanced = tt;
+      only = only-refl 2 [] w;
+      fewer = Sublistᴰ·refl [];
+      gone = λ f a m. elim m [ ];
+      kept = λ f a m. elim m [ ];
+    }
     made (some (leaf i)) r a n k =
-        record { left = none; rep = empty w; balanced = tt; only = only-refl 2 (i ∷ []) w; fewer = Sublistᴰ·nil-sublist (i ∷ []); gone = λ f a m e b z. elim z [ ]; kept = λ f a m e b z d. absurd (d (one z ∙ sym (one m))) }
+        record {
+          left = none;
+          rep = empty w;
+          balanced = tt;
+          only = only-refl 2 (i ∷ []) w;
+          fewer = Sublistᴰ·nil-sublist (i ∷ []);
+          gone =
+              λ f a m e b z. elim z [ ];
+          kept = λ f a m e b z d. absurd (d (one z ∙ sym (one m)));
+        }
     made (some (node s t)) r a n k = absurd (omega (arith, h, r .root, slots-left (leaves t) (r .slots) .low (last-leaf s)))
 
 -- only an inner node has such a number
 at-node : {x limit y : ℕ} {w w′ : Words} (least : ℤ) → mostSlots < x → Within w w′
-    → ((s t : Tree Item) → RepP w numberTree x (some (node s t)) → Avl (node s t) → height (node s t) ≤ limit → Keyed w numberField numberOf (leaves s ++ leaves t) → Thin least w w′ y (some (node s t)))
+    → ((s t : Tree Item) → RepP w numberTree x (some (node s t)) → Avl (node s t) → height (node s t) ≤ limit →
+    Keyed w numberField numberOf (leaves s ++ leaves t) → Thin least w w′ y (some (node s t)))
     → Thinned least x limit w w′ y
 at-node {x} {limit} {y} {w} {w′} least h g step = record { within = g; made = made }
   where
@@ -88,15 +109,18 @@ seam-node g t none e = tt
 seam-node g t (some u) e = e
 
 -- what the test tells of the seam
-seam-test : {w : Words} {x g : ℕ} {b : Bool} {s t : Tree Item} (least : ℤ) → g ≡ x - mostSlots → b ≡ leZ least (cell w numberField g) → RepP w numberTree x (some (node s t)) → Keyed w numberField numberOf (leaves s ++ leaves t) → b ≡ leZ least (numberOf (last s))
+seam-test : {w : Words} {x g : ℕ} {b : Bool} {s t : Tree Item} (least : ℤ) → g ≡ x - mostSlots → b ≡ leZ least (cell w numberField g) →
+    RepP w numberTree x (some (node s t)) → Keyed w numberField numberOf (leaves s ++ leaves t) → b ≡ leZ least (numberOf (last s))
 seam-test {w} {s} {t} least eg eb rep q =
     eb ∙ ap (leZ least) (ap (cell w numberField) (eg ∙ parents (rep-some rep) .seam-at) ∙ q .read (Memᴰ·append-left (leaves t) (last-leaf s)))
 
-module _ {x limit g l r y z : ℕ} {b : Bool} {w w₁ w₂ : Words} (least : ℤ) (inner : mostSlots < x) (eg : g ≡ x - mostSlots) (eb : b ≡ leZ least (cell w numberField g)) (el : l ≡ childAt w numberTree false x) (er : r ≡ childAt w numberTree true x) where
+module _ {x limit g l r y z : ℕ} {b : Bool} {w w₁ w₂ : Words} (least : ℤ) (inner : mostSlots < x) (eg : g ≡ x - mostSlots)
+    (eb : b ≡ leZ least (cell w numberField g)) (el : l ≡ childAt w numberTree false x) (er : r ≡ childAt w numberTree true x) where
   pub thinned-right : b ≡ true → Thinned least r (limit - 1) w w₁ y → Merged numberTree g l y w₁ w₂ z → Thinned least x limit w w₂ z
   thinned-right e rec j = at-node least inner (within-trans (rec .within) (j .within)) step
     where
-      step : (s t : Tree Item) → RepP w numberTree x (some (node s t)) → Avl (node s t) → height (node s t) ≤ limit → Keyed w numberField numberOf (leaves s ++ leaves t) → Thin least w w₂ z (some (node s t))
+      step : (s t : Tree Item) → RepP w numberTree x (some (node s t)) → Avl (node s t) → height (node s t) ≤ limit →
+          Keyed w numberField numberOf (leaves s ++ leaves t) → Thin least w w₂ z (some (node s t))
       step s t rep (avl-node a₁ a₂ h₁ h₂) n q =
           record {
             left = joinP (some s) (c .left);
@@ -112,7 +136,8 @@ module _ {x limit g l r y z : ℕ} {b : Bool} {w w₁ w₂ : Words} (least : ℤ
           o = parents (rep-some rep)
 
           c : Thin least w w₁ y (some t)
-          c = rec .made (some t) (record { kind = rep .kind; root = er ∙ o .right-at; slots = slots-right (leaves s) (rep .slots); tied = o .tied-right }) a₂ (omega (arith, n)) (keyed-right (leaves s) q)
+          c = rec .made (some t) (record { kind = rep .kind; root = er ∙ o .right-at; slots = slots-right (leaves s) (rep .slots); tied = o .tied-right })
+              a₂ (omega (arith, n)) (keyed-right (leaves s) q)
 
           same : partLeaves (joinP (some s) (c .left)) ≡ leaves s ++ partLeaves (c .left)
           same = leaves-joinP (some s) (c .left)
@@ -127,7 +152,13 @@ module _ {x limit g l r y z : ℕ} {b : Bool} {w w₁ w₂ : Words} (least : ℤ
           m =
               joined j (seam-node g s (c .left) (eg ∙ o .seam-at))
               (record {
-                left = repP-still (some s) (record { kind = rep .kind; root = el ∙ o .left-at; slots = slots-left (leaves t) (rep .slots); tied = o .tied-left }) (rec .within) (c .only) (λ i u v. slots-across (leaves s) (rep .slots) v u);
+                left = repP-still (some s) (record {
+                  kind = rep .kind;
+                  root = el ∙ o .left-at;
+                  slots = slots-left (leaves t) (rep .slots);
+                  tied =
+                      o .tied-left;
+                }) (rec .within) (c .only) (λ i u v. slots-across (leaves s) (rep .slots) v u);
                 right = c .rep;
                 slots = rw (within-cap (rec .within)) (fewer-slots fewer-both (rep .slots));
                 balanced-left = a₁;
@@ -144,21 +175,28 @@ module _ {x limit g l r y z : ℕ} {b : Bool} {w w₁ w₂ : Words} (least : ℤ
               let z = passes in
               omega (arith, intRules, add-parts (numberOf a) (pos 1))
 
-          there : Falling numberOf (leaves s ++ leaves t) → (a : Item) → numberOf a +ℤ pos 1 ≡ least → List·Memᴰ a (leaves s ++ leaves t) → List·Memᴰ a (leaves t)
+          there : Falling numberOf (leaves s ++ leaves t) → (a : Item) → numberOf a +ℤ pos 1 ≡ least → List·Memᴰ a (leaves s ++ leaves t) →
+              List·Memᴰ a (leaves t)
           there f a d i = ⊎-elim (λ j. absurd (behind f a d j)) (λ j. j) (List·Memᴰ·append-cases (leaves s) i)
 
-          gone : Falling numberOf (leaves s ++ leaves t) → (a : Item) → List·Memᴰ a (leaves s ++ leaves t) → numberOf a +ℤ pos 1 ≡ least → (v : Item) → List·Memᴰ v (leaves s ++ partLeaves (c .left)) → v ≢ a
+          gone : Falling numberOf (leaves s ++ leaves t) → (a : Item) → List·Memᴰ a (leaves s ++ leaves t) → numberOf a +ℤ pos 1 ≡ least → (v : Item) →
+              List·Memᴰ v (leaves s ++ partLeaves (c .left)) → v ≢ a
           gone f a i d v k h =
-              ⊎-elim (λ j. behind f a d (subst (λ (u : Item). List·Memᴰ u (leaves s)) h j)) (λ j. c .gone (parted (leaves s) f .right) a (there f a d i) d v j h) (List·Memᴰ·append-cases (leaves s) k)
+              ⊎-elim (λ j. behind f a d (subst (λ (u : Item). List·Memᴰ u (leaves s)) h j)) (λ j. c .gone (parted (leaves s) f .right) a (there f a d i) d v
+              j h) (List·Memᴰ·append-cases (leaves s) k)
 
-          kept : Falling numberOf (leaves s ++ leaves t) → (a : Item) → List·Memᴰ a (leaves s ++ leaves t) → numberOf a +ℤ pos 1 ≡ least → (v : Item) → List·Memᴰ v (leaves s ++ leaves t) → v ≢ a → List·Memᴰ v (leaves s ++ partLeaves (c .left))
+          kept : Falling numberOf (leaves s ++ leaves t) → (a : Item) → List·Memᴰ a (leaves s ++ leaves t) → numberOf a +ℤ pos 1 ≡ least → (v : Item) →
+              List·Memᴰ v (leaves s ++ leaves t) → v ≢ a → List·Memᴰ v (leaves s ++ partLeaves (c .left))
           kept f a i d v k h =
-              ⊎-elim (λ j. Memᴰ·append-left (partLeaves (c .left)) j) (λ j. Memᴰ·append-right (leaves s) (c .kept (parted (leaves s) f .right) a (there f a d i) d v j h)) (List·Memᴰ·append-cases (leaves s) k)
+              ⊎-elim (λ j. Memᴰ·append-left (partLeaves (c .left)) j)
+              (λ j. Memᴰ·append-right (leaves s) (c .kept (parted (leaves s) f .right) a (there f a d i) d v j h)) (List·Memᴰ·append-cases (leaves s) k)
 
-  pub thinned-left : {p : ℕ} → b ≡ false → Thinned least l (limit - 1) w w₁ y → Ended w₁ numberTree true y p → Merged numberTree p y r w₁ w₂ z → Thinned least x limit w w₂ z
+  pub thinned-left : {p : ℕ} → b ≡ false → Thinned least l (limit - 1) w w₁ y → Ended w₁ numberTree true y p → Merged numberTree p y r w₁ w₂ z →
+      Thinned least x limit w w₂ z
   thinned-left {p} e rec end j = at-node least inner (within-trans (rec .within) (j .within)) step
     where
-      step : (s t : Tree Item) → RepP w numberTree x (some (node s t)) → Avl (node s t) → height (node s t) ≤ limit → Keyed w numberField numberOf (leaves s ++ leaves t) → Thin least w w₂ z (some (node s t))
+      step : (s t : Tree Item) → RepP w numberTree x (some (node s t)) → Avl (node s t) → height (node s t) ≤ limit →
+          Keyed w numberField numberOf (leaves s ++ leaves t) → Thin least w w₂ z (some (node s t))
       step s t rep (avl-node a₁ a₂ h₁ h₂) n q =
           record {
             left = joinP (c .left) (some t);
@@ -174,7 +212,8 @@ module _ {x limit g l r y z : ℕ} {b : Bool} {w w₁ w₂ : Words} (least : ℤ
           o = parents (rep-some rep)
 
           c : Thin least w w₁ y (some s)
-          c = rec .made (some s) (record { kind = rep .kind; root = el ∙ o .left-at; slots = slots-left (leaves t) (rep .slots); tied = o .tied-left }) a₁ (omega (arith, n)) (keyed-left (leaves t) q)
+          c = rec .made (some s) (record { kind = rep .kind; root = el ∙ o .left-at; slots = slots-left (leaves t) (rep .slots); tied = o .tied-left }) a₁
+              (omega (arith, n)) (keyed-left (leaves t) q)
 
           same : partLeaves (joinP (c .left) (some t)) ≡ partLeaves (c .left) ++ leaves t
           same = leaves-joinP (c .left) (some t)
@@ -190,7 +229,13 @@ module _ {x limit g l r y z : ℕ} {b : Bool} {w w₁ w₂ : Words} (least : ℤ
               joined j (seam-end (c .left) (some t) end (c .rep) (c .balanced))
               (record {
                 left = c .rep;
-                right = repP-still (some t) (record { kind = rep .kind; root = er ∙ o .right-at; slots = slots-right (leaves s) (rep .slots); tied = o .tied-right }) (rec .within) (c .only) (λ i u v. slots-across (leaves s) (rep .slots) u v);
+                right = repP-still (some t) (record {
+                  kind = rep .kind;
+                  root = er ∙ o .right-at;
+                  slots = slots-right (leaves s) (rep .slots);
+                  tied =
+                      o .tied-right;
+                }) (rec .within) (c .only) (λ i u v. slots-across (leaves s) (rep .slots) u v);
                 slots = rw (within-cap (rec .within)) (fewer-slots fewer-both (rep .slots));
                 balanced-left = c .balanced;
                 balanced-right = a₂;
@@ -206,13 +251,18 @@ module _ {x limit g l r y z : ℕ} {b : Bool} {w w₁ w₂ : Words} (least : ℤ
               let z = fails in
               omega (arith, intRules, add-parts (numberOf a) (pos 1))
 
-          there : Falling numberOf (leaves s ++ leaves t) → (a : Item) → numberOf a +ℤ pos 1 ≡ least → List·Memᴰ a (leaves s ++ leaves t) → List·Memᴰ a (leaves s)
+          there : Falling numberOf (leaves s ++ leaves t) → (a : Item) → numberOf a +ℤ pos 1 ≡ least → List·Memᴰ a (leaves s ++ leaves t) →
+              List·Memᴰ a (leaves s)
           there f a d i = ⊎-elim (λ j. j) (λ j. absurd (before f a d j)) (List·Memᴰ·append-cases (leaves s) i)
 
-          gone : Falling numberOf (leaves s ++ leaves t) → (a : Item) → List·Memᴰ a (leaves s ++ leaves t) → numberOf a +ℤ pos 1 ≡ least → (v : Item) → List·Memᴰ v (partLeaves (c .left) ++ leaves t) → v ≢ a
+          gone : Falling numberOf (leaves s ++ leaves t) → (a : Item) → List·Memᴰ a (leaves s ++ leaves t) → numberOf a +ℤ pos 1 ≡ least → (v : Item) →
+              List·Memᴰ v (partLeaves (c .left) ++ leaves t) → v ≢ a
           gone f a i d v k h =
-              ⊎-elim (λ j. c .gone (parted (leaves s) f .left) a (there f a d i) d v j h) (λ j. before f a d (subst (λ (u : Item). List·Memᴰ u (leaves t)) h j)) (List·Memᴰ·append-cases (partLeaves (c .left)) k)
+              ⊎-elim (λ j. c .gone (parted (leaves s) f .left) a (there f a d i) d v j h)
+              (λ j. before f a d (subst (λ (u : Item). List·Memᴰ u (leaves t)) h j)) (List·Memᴰ·append-cases (partLeaves (c .left)) k)
 
-          kept : Falling numberOf (leaves s ++ leaves t) → (a : Item) → List·Memᴰ a (leaves s ++ leaves t) → numberOf a +ℤ pos 1 ≡ least → (v : Item) → List·Memᴰ v (leaves s ++ leaves t) → v ≢ a → List·Memᴰ v (partLeaves (c .left) ++ leaves t)
+          kept : Falling numberOf (leaves s ++ leaves t) → (a : Item) → List·Memᴰ a (leaves s ++ leaves t) → numberOf a +ℤ pos 1 ≡ least → (v : Item) →
+              List·Memᴰ v (leaves s ++ leaves t) → v ≢ a → List·Memᴰ v (partLeaves (c .left) ++ leaves t)
           kept f a i d v k h =
-              ⊎-elim (λ j. Memᴰ·append-left (leaves t) (c .kept (parted (leaves s) f .left) a (there f a d i) d v j h)) (λ j. Memᴰ·append-right (partLeaves (c .left)) j) (List·Memᴰ·append-cases (leaves s) k)
+              ⊎-elim (λ j. Memᴰ·append-left (leaves t) (c .kept (parted (leaves s) f .left) a (there f a d i) d v j h))
+              (λ j. Memᴰ·append-right (partLeaves (c .left)) j) (List·Memᴰ·append-cases (leaves s) k)

@@ -45,7 +45,8 @@ falling-slots {w} {c} {xs} f s h p = record { low = λ {a} m. s .low (f a m); hi
     differ t e = omega (arith, intRules)
 
     apart : (a b : Item) → ∥ List·Memᴰ a xs ∥₁ → ∥ List·Memᴰ b xs ∥₁ → T (ltZ (numberOf b) (numberOf a)) → Apart a b
-    apart a b m n t e = ∥∥₁-elim m (λ p q. absurd p) (λ i. ∥∥₁-elim n (λ p q. absurd p) (λ j. differ t (sym (h .held i .number) ∙ ap (cell w numberField) e ∙ h .held j .number)))
+    apart a b m n t e = ∥∥₁-elim m (λ p q. absurd p) (λ i. ∥∥₁-elim n (λ p q. absurd p)
+        (λ j. differ t (sym (h .held i .number) ∙ ap (cell w numberField) e ∙ h .held j .number)))
 
 -- ---- the tree
 
@@ -110,7 +111,16 @@ pub record Beside (w : Words) (x y : ℕ) (p q : Part Item) : Type 0 where
   pub balanced-left : AvlP p
   pub balanced-right : AvlP q
 
-pub joined : {w w′ : Words} {g x y z : ℕ} {p q : Part Item} → Merged numberTree g x y w w′ z → Seam g p q → Beside w x y p q → MadeP numberTree w w′ z (joinP p q)
+pub joined : {w w′ : Words} {g x y z : ℕ} {p q : Part Item} → Merged numberTree g x y w w′ z → Seam g p q → Beside w x y p q →
+    MadeP numberTree w w′ z (joinP p q)
 joined {p} {q} j s b =
-    j .made p q (record { kind = b .left .kind; left = b .left .root; right = b .right .root; slots = b .slots; tied-left = b .left .tied; tied-right = b .right .tied }) s
+    j .made p q (record {
+      kind = b .left .kind;
+      left = b .left .root;
+      right = b .right .root;
+      slots = b .slots;
+      tied-left = b .left .tied;
+      tied-right =
+          b .right .tied;
+    }) s
     (b .balanced-left) (b .balanced-right)

@@ -18,14 +18,17 @@ use Rattle.table.specs.Fields.{denominatorField, mostNodes, nextPieceField, num
 use Rattle.table.specs.Words.{Words, upTo}
 use Rattle.table.specs.Layout.{cap, cap-most, cell, cset, linkAt, cset-cap, cset-other}
 use Rattle.table.specs.Items.{Item, In, at, in-left, in-right, Slots, slots-left, slots-right, slots-across}
-use Rattle.table.specs.Rep.{Field, a-child, a-height, childField, heightField, refOf, Tied, tied-leaf, tied-node, Rep, Within, within-cap, within-refl, within-trans, within-cset, Only}
+use Rattle.table.specs.Rep.{Field, a-child, a-height, childField, heightField, refOf, Tied, tied-leaf, tied-node, Rep, Within, within-cap}
+use Rattle.table.specs.Rep.{within-refl, within-trans, within-cset, Only}
 use Rattle.table.specs.Nodes.{ref-low}
 use Rattle.table.specs.PartTrees.{partRef, RepP, MadeP, PairP}
-use Rattle.table.specs.Threads.{Held, Holds, Next, Threaded, SameOffer, SameThread, Leads, leads-in, leads-last, chain-join, holds-still, holds-join, threaded-still, only-offer, only-thread, cset-offer, cset-thread, threading, threading-next}
+use Rattle.table.specs.Threads.{Held, Holds, Next, Threaded, SameOffer, SameThread, Leads, leads-in, leads-last, chain-join, holds-still, holds-join}
+use Rattle.table.specs.Threads.{threaded-still, only-offer, only-thread, cset-offer, cset-thread, threading, threading-next}
 use Rattle.shape.specs.Merge.{Merged}
 use Rattle.descents.specs.Ends.{Ended}
 use Rattle.prices.specs.Prices.{rateAt, baseAt}
-use Rattle.pieces.specs.Pieces.{PartIn, PieceField, of-node, of-numerator, of-denominator, of-next, PiecesOnly, Standing, Beside, Catted, EndsAt, BeginsAt, SeamAt, Seamed, CattedAfter, CattedBefore}
+use Rattle.pieces.specs.Pieces.{PartIn, PieceField, of-node, of-numerator, of-denominator, of-next, PiecesOnly, Standing, Beside, Catted}
+use Rattle.pieces.specs.Pieces.{EndsAt, BeginsAt, SeamAt, Seamed, CattedAfter, CattedBefore}
 
 -- ---- nothing on one side
 
@@ -62,7 +65,8 @@ threaded-known w f g h s x y z e d =
 
 tied-other : {k f : ℕ} {w : Words} {t : Tree Item} (s : ℕ) (z : ℤ) → ¬ Field k f → Tied w k t → Tied (cset w f s z) k t
 tied-other s z n tied-leaf = tied-leaf
-tied-other {k} {f} {w} s z n (tied-node {l} {r} ol or el er eh) = tied-node (tied-other s z n ol) (tied-other s z n or) (same (a-child false refl) ∙ el) (same (a-child true refl) ∙ er) (same (a-height refl) ∙ eh)
+tied-other {k} {f} {w} s z n (tied-node {l} {r} ol or el er eh) =
+    tied-node (tied-other s z n ol) (tied-other s z n or) (same (a-child false refl) ∙ el) (same (a-child true refl) ∙ er) (same (a-height refl) ∙ eh)
   where
     same : {g : ℕ} → Field k g → linkAt (cset w f s z) g (last l .slot) ≡ linkAt w g (last l .slot)
     same {g} i = ap (upTo mostNodes) (cset-other w f s z (λ e. n (subst (Field k) (e .0) i)))
@@ -90,7 +94,9 @@ module _ (w : Words) (a b : Item) where
 
   threading-within : Within w (threading w a b)
   unfolding w₁ w₂
-  threading-within = within-trans (within-cset w numeratorField (a .slot) (crossingNumerator (a .offer) (b .offer))) (within-trans (within-cset w₁ denominatorField (a .slot) (crossingDenominator (a .offer) (b .offer))) (within-cset w₂ nextPieceField (a .slot) (pos (b .slot))))
+  threading-within = within-trans (within-cset w numeratorField (a .slot) (crossingNumerator (a .offer) (b .offer)))
+      (within-trans (within-cset w₁ denominatorField (a .slot) (crossingDenominator (a .offer) (b .offer)))
+      (within-cset w₂ nextPieceField (a .slot) (pos (b .slot))))
 
   threading-offer : (s : ℕ) → SameOffer w (threading w a b) s
   unfolding w₁ w₂
@@ -106,11 +112,20 @@ module _ (w : Words) (a b : Item) where
       let p = cset-thread w 6 (a .slot) (crossingNumerator (a .offer) (b .offer)) d in
       let q = cset-thread w₁ 7 (a .slot) (crossingDenominator (a .offer) (b .offer)) d in
       let r = cset-thread w₂ 19 (a .slot) (pos (b .slot)) d in
-      record { next = r .next ∙ q .next ∙ p .next; numerator = r .numerator ∙ q .numerator ∙ p .numerator; denominator = r .denominator ∙ q .denominator ∙ p .denominator }
+      record {
+        next = r .next ∙ q .next ∙ p .next;
+        numerator = r .numerator ∙ q .numerator ∙ p .numerator;
+        denominator =
+            r .denominator ∙ q .denominator ∙ p .denominator;
+      }
 
   threading-only : {xs : List Item} → In (a .slot) xs → PiecesOnly xs w (threading w a b)
   unfolding w₁ w₂
-  threading-only {xs} i = record { cells = λ f s d. far w₂ 19 (of-next refl) (pos (b .slot)) f s d ∙ far w₁ 7 (of-denominator refl) (crossingDenominator (a .offer) (b .offer)) f s d ∙ far w 6 (of-numerator refl) (crossingNumerator (a .offer) (b .offer)) f s d }
+  threading-only {xs} i = record {
+    cells = λ f s d. far w₂ 19 (of-next refl) (pos (b .slot)) f s d
+        ∙ far w₁ 7 (of-denominator refl) (crossingDenominator (a .offer) (b .offer)) f s d ∙ far w 6 (of-numerator refl)
+        (crossingNumerator (a .offer) (b .offer)) f s d;
+  }
     where
       far : (v : Words) (g : ℕ) → PieceField g → (z : ℤ) (f s : ℕ) → ¬ (PieceField f × In s xs) → cell (cset v g (a .slot) z) f s ≡ cell v f s
       far v g p z f s d = cset-other v g (a .slot) z (λ e. d (subst PieceField (sym (e .0)) p, subst (λ (n : ℕ). In n xs) (sym (e .1)) i))
@@ -136,21 +151,27 @@ module _ {w : Words} {l r : ℕ} {tl tr′ : Tree Item} (b : Beside w l r (some 
   all-threaded =
       chain-join tl tr′
       (threaded-still (b .left .pieces .1) (λ s k. threading-thread w (last tl) (first tr′) (leads-last tl (b .left .slots) k)))
-      (threading-next w (last tl) (first tr′) (b .left .slots .low (last-leaf tl)) (b .left .slots .high (last-leaf tl)) (omega (arith, b .right .slots .high (first-leaf tr′), cap-most w)))
-      (threaded-still (b .right .pieces .1) (λ s k. threading-thread w (last tl) (first tr′) (λ e. slots-across (leaves tl) (b .slots) (at (last-leaf tl) e) (leads-in k))))
+      (threading-next w (last tl) (first tr′) (b .left .slots .low (last-leaf tl)) (b .left .slots .high (last-leaf tl))
+      (omega (arith, b .right .slots .high (first-leaf tr′), cap-most w)))
+      (threaded-still (b .right .pieces .1) (λ s k. threading-thread w (last tl) (first tr′)
+      (λ e. slots-across (leaves tl) (b .slots) (at (last-leaf tl) e) (leads-in k))))
 
   standing-joined : {w₄ : Words} {x : ℕ} → MadeP pieceTree (threading w (last tl) (first tr′)) w₄ x (some (join tl tr′)) → Standing w₄ x (some (join tl tr′))
   standing-joined m =
       record {
         root = m .rep .root;
         slots = m .rep .slots;
-        holds = rw (leaves-join tl tr′) (holds-still (holds-still (holds-join (b .left .holds) (b .right .holds)) (λ s i. threading-offer w (last tl) (first tr′) s)) (λ s i. only-offer (m .only) s));
+        holds = rw (leaves-join tl tr′) (holds-still (holds-still (holds-join (b .left .holds) (b .right .holds))
+            (λ s i. threading-offer w (last tl) (first tr′) s)) (λ s i. only-offer (m .only) s));
         balanced = near-join tl tr′ (b .left .balanced) (b .right .balanced) .avl;
         pieces = (m .rep .tied, rw (leaves-join tl tr′) (threaded-still all-threaded (λ s k. only-thread (m .only) (omega arith) s)));
       }
 
   only-joined : {w₄ : Words} {x : ℕ} → MadeP pieceTree (threading w (last tl) (first tr′)) w₄ x (some (join tl tr′)) → PiecesOnly (leaves tl ++ leaves tr′) w w₄
-  only-joined m = record { cells = λ f s d. m .only .cells f s (λ q. d (of-node (q .0), subst (In s) (leaves-join tl tr′) (q .1))) ∙ threading-only w (last tl) (first tr′) here .cells f s d }
+  only-joined m = record {
+    cells = λ f s d. m .only .cells f s (λ q. d (of-node (q .0), subst (In s) (leaves-join tl tr′) (q .1)))
+        ∙ threading-only w (last tl) (first tr′) here .cells f s d;
+  }
 
 -- what the code reads of an item that its slot holds
 rate-read : {w : Words} {a : Item} → Held w a → rateAt w (a .slot) ≡ a .offer .rate
@@ -163,7 +184,8 @@ standing-rep : {w : Words} {x : ℕ} {t : Tree Item} → Standing w x (some t) �
 standing-rep h = record { kind = omega arith; root = h .root; slots = h .slots; tied = h .pieces .0 }
 
 module _
-    {w w₃ : Words} {l r s n : ℕ} {tl tr′ : Tree Item} (wired : w₃ ≡ cset (cset (cset w numeratorField s (baseAt w n -ℤ baseAt w s)) denominatorField s (rateAt w s -ℤ rateAt w n)) nextPieceField s (pos n))
+    {w w₃ : Words} {l r s n : ℕ} {tl tr′ : Tree Item} (wired : w₃ ≡ cset (cset (cset w numeratorField s (baseAt w n -ℤ baseAt w s)) denominatorField s
+    (rateAt w s -ℤ rateAt w n)) nextPieceField s (pos n))
     (left-is : s ≡ last tl .slot) (right-is : n ≡ first tr′ .slot) (b : Beside w l r (some tl) (some tr′)) where
   wired-is : w₃ ≡ threading w (last tl) (first tr′)
   wired-is =
@@ -172,7 +194,8 @@ module _
       wired ∙ rw (left-is, right-is, base-read p, base-read q, rate-read p, rate-read q) refl
 
   joined : {w₄ : Words} {x : ℕ} → Merged pieceTree s l r w₃ w₄ x → MadeP pieceTree (threading w (last tl) (first tr′)) w₄ x (some (join tl tr′))
-  joined {w₄} {x} m = subst (λ (v : Words). Merged pieceTree s l r v w₄ x) wired-is m .made (some tl) (some tr′) (pair-threaded b) left-is (b .left .balanced) (b .right .balanced)
+  joined {w₄} {x} m = subst (λ (v : Words). Merged pieceTree s l r v w₄ x) wired-is m .made (some tl) (some tr′) (pair-threaded b) left-is
+      (b .left .balanced) (b .right .balanced)
 
   cat-root : {w₄ : Words} {x : ℕ} → Merged pieceTree s l r w₃ w₄ x → Standing w₄ x (some (join tl tr′))
   cat-root m = standing-joined b (joined m)
@@ -193,7 +216,9 @@ pub seamed :
 seamed {l} {r} {s} {n} {x} {N} {D} {w} {w₃} {w₄} nl nr eN eD e₃ m = record { within = within-trans written (m .within); root = root; only = only }
   where
     written : Within w w₃
-    written = subst (Within w) (sym e₃) (within-trans (within-cset w numeratorField s N) (within-trans (within-cset (cset w numeratorField s N) denominatorField s D) (within-cset (cset (cset w numeratorField s N) denominatorField s D) nextPieceField s (pos n))))
+    written = subst (Within w) (sym e₃) (within-trans (within-cset w numeratorField s N)
+        (within-trans (within-cset (cset w numeratorField s N) denominatorField s D) (within-cset (cset (cset w numeratorField s N) denominatorField s D)
+        nextPieceField s (pos n))))
 
     wired : w₃ ≡ cset (cset (cset w numeratorField s (baseAt w n -ℤ baseAt w s)) denominatorField s (rateAt w s -ℤ rateAt w n)) nextPieceField s (pos n)
     wired = e₃ ∙ rw (eN, eD) refl
@@ -234,13 +259,23 @@ catted {l} {r} {s} {n} {w} es en m = record { within = m .within; root = λ p q 
 
 -- one is, and the other is known
 pub catted-after : {l r s n x : ℕ} {w w′ : Words} → Ended w pieceTree false r n → Seamed l r s n w w′ x → CattedAfter l r s w w′ x
-catted-after {l} {r} {s} {n} {w} en m = record { within = m .within; root = λ p q b h. m .root p q b (ends p q b h); only = λ p q b h. m .only p q b (ends p q b h) }
+catted-after {l} {r} {s} {n} {w} en m = record {
+  within = m .within;
+  root = λ p q b h. m .root p q b (ends p q b h);
+  only =
+      λ p q b h. m .only p q b (ends p q b h);
+}
   where
     ends : (p q : Part Item) → Beside w l r p q → EndsAt s p → SeamAt s n p q
     ends p q b h = record { left-end = h; right-end = first-found en (b .right) }
 
 pub catted-before : {l r s n x : ℕ} {w w′ : Words} → Ended w pieceTree true l s → Seamed l r s n w w′ x → CattedBefore l r n w w′ x
-catted-before {l} {r} {s} {n} {w} es m = record { within = m .within; root = λ p q b h. m .root p q b (ends p q b h); only = λ p q b h. m .only p q b (ends p q b h) }
+catted-before {l} {r} {s} {n} {w} es m = record {
+  within = m .within;
+  root = λ p q b h. m .root p q b (ends p q b h);
+  only =
+      λ p q b h. m .only p q b (ends p q b h);
+}
   where
     ends : (p q : Part Item) → Beside w l r p q → BeginsAt n q → SeamAt s n p q
     ends p q b h = record { left-end = last-found es (b .left); right-end = h }

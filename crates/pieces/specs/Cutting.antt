@@ -24,7 +24,8 @@ use Rattle.table.specs.Items.{Item, In}
 use Rattle.table.specs.Rep.{Only}
 use Rattle.table.specs.Keys.{Keyed}
 use Rattle.table.specs.PartTrees.{TiedPart, RepP, low}
-use Rattle.table.specs.Threads.{Held, Holds, Threaded, holds-left, holds-right, holds-still, threaded-left, threaded-right, threaded-still, only-offer, only-thread}
+use Rattle.table.specs.Threads.{Held, Holds, Threaded, holds-left, holds-right, holds-still, threaded-left, threaded-right, threaded-still}
+use Rattle.table.specs.Threads.{only-offer, only-thread}
 use Rattle.descents.specs.Cuts.{from, Halving, Halved}
 use Rattle.pieces.specs.Pieces.{rateOf, PartIn, PieceField, of-node, PiecesOnly, Standing, inFront, CutAt}
 
@@ -35,8 +36,10 @@ unfolding split
 split-same test test′ (leaf x) f = ap (λ (b : Bool). cond b (allFront (leaf x)) (allBack (leaf x))) (f x (List·Memᴰ·head refl))
 split-same test test′ (node l r) f =
     ap (λ (b : Bool). cond b (afterLeft l (split test r)) (beforeRight (split test l) r)) (f (last l) (Memᴰ·append-left (leaves r) (last-leaf l)))
-    ∙ ap (λ (c : Cut Item). cond (test′ (last l)) (afterLeft l c) (beforeRight (split test l) r)) (split-same test test′ r (λ a m. f a (Memᴰ·append-right (leaves l) m)))
-    ∙ ap (λ (c : Cut Item). cond (test′ (last l)) (afterLeft l (split test′ r)) (beforeRight c r)) (split-same test test′ l (λ a m. f a (Memᴰ·append-left (leaves r) m)))
+    ∙ ap (λ (c : Cut Item). cond (test′ (last l)) (afterLeft l c) (beforeRight (split test l) r))
+    (split-same test test′ r (λ a m. f a (Memᴰ·append-right (leaves l) m)))
+    ∙ ap (λ (c : Cut Item). cond (test′ (last l)) (afterLeft l (split test′ r)) (beforeRight c r))
+    (split-same test test′ l (λ a m. f a (Memᴰ·append-left (leaves r) m)))
 
 splitP-same : (test test′ : Item → Bool) (p : Part Item) → ((a : Item) → List·Memᴰ a (partLeaves p) → test a ≡ test′ a) → splitP test p ≡ splitP test′ p
 unfolding splitP
@@ -62,12 +65,15 @@ same-cut true rate a h = go (ltZ rate (pos 1_000_000)) (λ t. t) (λ t. t)
     r : ℤ
     r = rateOf a
 
-    go : (b : Bool) → (T b → T (ltZ rate (pos 1_000_000))) → (T (not b) → T (not (ltZ rate (pos 1_000_000)))) → leZ (cond b (rate +ℤ pos 1) (pos 1_000_000)) r ≡ ltZ rate r
-    go true f g = same-test (leZ (rate +ℤ pos 1) r) (ltZ rate r) (λ t. omega (arith, intRules, add-parts rate (pos 1))) (λ t. omega (arith, intRules, add-parts rate (pos 1)))
+    go : (b : Bool) → (T b → T (ltZ rate (pos 1_000_000))) → (T (not b) → T (not (ltZ rate (pos 1_000_000)))) →
+        leZ (cond b (rate +ℤ pos 1) (pos 1_000_000)) r ≡ ltZ rate r
+    go true f g = same-test (leZ (rate +ℤ pos 1) r) (ltZ rate r) (λ t. omega (arith, intRules, add-parts rate (pos 1)))
+        (λ t. omega (arith, intRules, add-parts rate (pos 1)))
     go false f g =
         let over = g tt in
         let k = rate-of (a .offer) h in
-        same-test (leZ (pos 1_000_000) r) (ltZ rate r) (λ t. let z : ⊥ = omega (arith, intRules) in absurd z) (λ t. let z : ⊥ = omega (arith, intRules) in absurd z)
+        same-test (leZ (pos 1_000_000) r) (ltZ rate r) (λ t. let z : ⊥ = omega (arith, intRules) in absurd z) (λ t. let z : ⊥ = omega (arith, intRules) in
+        absurd z)
 
 -- ---- the parts of a cut stand
 
@@ -87,10 +93,12 @@ height-low : {w : Words} {x : ℕ} (p : Part Item) → Standing w x p → partHe
 height-low none h = omega arith
 height-low {w} (some t) h = low w (h .slots) (h .balanced)
 
-module _ (strict : Bool) (rate : ℤ) {x front back : ℕ} {w w′ : Words} (c : Halving pieceTree rateField (leastRate strict rate) x mostLevels w w′ front back) (p : Part Item) (h : Standing w x p) where
+module _ (strict : Bool) (rate : ℤ) {x front back : ℕ} {w w′ : Words} (c : Halving pieceTree rateField (leastRate strict rate) x mostLevels w w′ front back)
+    (p : Part Item) (h : Standing w x p) where
   halves : Halved pieceTree w w′ front back (partLeaves p) (splitP (inFront strict rate) p)
   halves =
-      subst (Halved pieceTree w w′ front back (partLeaves p)) (splitP-same (from rateOf (leastRate strict rate)) (inFront strict rate) p (λ a m. same-cut strict rate a (h .holds .held m .ranged)))
+      subst (Halved pieceTree w w′ front back (partLeaves p)) (splitP-same (from rateOf (leastRate strict rate)) (inFront strict rate) p
+      (λ a m. same-cut strict rate a (h .holds .held m .ranged)))
       (c .made p rateOf (standing-repP p h) (h .balanced) (height-low p h) (record { read = λ m. h .holds .held m .rate }))
 
   holds-after : Holds w′ (partLeaves (splitP (inFront strict rate) p .front) ++ partLeaves (splitP (inFront strict rate) p .back))
@@ -102,14 +110,29 @@ module _ (strict : Bool) (rate : ℤ) {x front back : ℕ} {w w′ : Words} (c :
   front-stands : Standing w′ front (splitP (inFront strict rate) p .front)
   front-stands =
       let o = splitP (inFront strict rate) p .front in
-      record { root = halves .front .root; slots = halves .front .slots; holds = holds-left (partLeaves (splitP (inFront strict rate) p .back)) holds-after; balanced = splitP-low (inFront strict rate) p (h .balanced) .front-avl; pieces = part-in o (halves .front .tied) (threaded-left (partLeaves (splitP (inFront strict rate) p .back)) threads-after) }
+      record {
+        root = halves .front .root;
+        slots = halves .front .slots;
+        holds = holds-left (partLeaves (splitP (inFront strict rate) p .back)) holds-after;
+        balanced = splitP-low (inFront strict rate) p (h .balanced) .front-avl;
+        pieces =
+            part-in o (halves .front .tied) (threaded-left (partLeaves (splitP (inFront strict rate) p .back)) threads-after);
+      }
 
   back-stands : Standing w′ back (splitP (inFront strict rate) p .back)
   back-stands =
       let o = splitP (inFront strict rate) p .back in
-      record { root = halves .back .root; slots = halves .back .slots; holds = holds-right (partLeaves (splitP (inFront strict rate) p .front)) holds-after; balanced = splitP-low (inFront strict rate) p (h .balanced) .back-avl; pieces = part-in o (halves .back .tied) (threaded-right (partLeaves (splitP (inFront strict rate) p .front)) threads-after) }
+      record {
+        root = halves .back .root;
+        slots = halves .back .slots;
+        holds = holds-right (partLeaves (splitP (inFront strict rate) p .front)) holds-after;
+        balanced = splitP-low (inFront strict rate) p (h .balanced) .back-avl;
+        pieces =
+            part-in o (halves .back .tied) (threaded-right (partLeaves (splitP (inFront strict rate) p .front)) threads-after);
+      }
 
-pub cut-at : (strict : Bool) (rate : ℤ) {x front back : ℕ} {w w′ : Words} → Halving pieceTree rateField (leastRate strict rate) x mostLevels w w′ front back → CutAt strict rate x w w′ front back
+pub cut-at : (strict : Bool) (rate : ℤ) {x front back : ℕ} {w w′ : Words} → Halving pieceTree rateField (leastRate strict rate) x mostLevels w w′ front back
+    → CutAt strict rate x w w′ front back
 cut-at strict rate c =
     record {
       within = c .within;

@@ -39,7 +39,8 @@ module _ (strict : Bool) (rate : ℤ) where
   unfolding leastRate
   least-most e t = rw (e, t)
 
-  pub cut-by : {least : ℤ} {x front back : ℕ} {w w′ : Words} → least ≡ leastRate strict rate → Halving pieceTree rateField least x mostLevels w w′ front back → CutAt strict rate x w w′ front back
+  pub cut-by : {least : ℤ} {x front back : ℕ} {w w′ : Words} → least ≡ leastRate strict rate →
+      Halving pieceTree rateField least x mostLevels w w′ front back → CutAt strict rate x w w′ front back
   cut-by {least} {x} {front} {back} {w} {w′} e h = cut-at strict rate (subst (λ z. Halving pieceTree rateField z x mostLevels w w′ front back) e h)
 
 -- ---- the crossing at a seam

@@ -12,7 +12,8 @@ use Rattle.lists.specs.Filter.{every, keep}
 use Rattle.lists.specs.Tests.{any}
 use Rattle.integers.specs.Equal.{equal}
 use Rattle.offers.specs.Offers.{Offer, between, numberInRange, rateInRange, baseInRange, loadInRange, priceAt, precedes, crossingNumerator, crossingDenominator}
-use Rattle.plain.specs.Causes.{Cause, Trial, _when_, declined, causeNumber, capacityOutOfRange, tableTooShort, numberOutOfRange, rateOutOfRange, baseOutOfRange, loadOutOfRange, numberLive, rateLive, bookFull, numberNotLive, bookEmpty, outputTooShort}
+use Rattle.plain.specs.Causes.{Cause, Trial, _when_, declined, causeNumber, capacityOutOfRange, tableTooShort, numberOutOfRange, rateOutOfRange}
+use Rattle.plain.specs.Causes.{baseOutOfRange, loadOutOfRange, numberLive, rateLive, bookFull, numberNotLive, bookEmpty, outputTooShort}
 
 pub record State : Type 0 where
   pub capacity : ℕ

@@ -1,9 +1,11 @@
--- Prices to prove (docs/REQUIREMENTS.md, 15.1): ten cases, each through the calls of a freshly opened book of capacity 64, as one table that the checker computes.
+-- Prices to prove (docs/REQUIREMENTS.md, 15.1): ten cases, each through the calls of a freshly opened book of capacity 64, as one table that the
+-- checker computes.
 use Prim.Native.Nat.{ℕ}
 use mathlib.Core.Path.{_≡_, refl}
 use mathlib.Core.List.{List, [], _∷_, _++_, map}
 use lib.IntN.{ℤ, pos, negℤ}
-use Rattle.plain.specs.Book.{State, Call, post, withdraw, query, listing, Answer, refused, live, found, listed, Opening, declined-opening, accepted-opening, opened, opening, after, answers}
+use Rattle.plain.specs.Book.{State, Call, post, withdraw, query, listing, Answer, refused, live, found, listed, Opening, declined-opening}
+use Rattle.plain.specs.Book.{accepted-opening, opened, opening, after, answers}
 
 -- Calls that make a book, and the answers of the calls asked of it then.
 pub record Row : Type 0 where
@@ -52,7 +54,8 @@ prices-to-prove = refl
 
 -- Crossings are not rounded: (0, 0), (−3, 7), (−6, 15) cross at 7/3 and 8/3, so the second is the cheapest only between two whole loads.
 abbrev pub between-loads : Row
-between-loads = row (falling ++ (post (pos 3) (negℤ (pos 6)) (pos 15) ∷ [])) (listing 9) (listed 3 (pos 1 ∷ pos 7 ∷ pos 3 ∷ pos 2 ∷ pos 8 ∷ pos 3 ∷ pos 3 ∷ pos 0 ∷ pos 0 ∷ []))
+between-loads = row (falling ++ (post (pos 3) (negℤ (pos 6)) (pos 15) ∷ [])) (listing 9)
+    (listed 3 (pos 1 ∷ pos 7 ∷ pos 3 ∷ pos 2 ∷ pos 8 ∷ pos 3 ∷ pos 3 ∷ pos 0 ∷ pos 0 ∷ []))
 
 pub listed-between-loads : answered between-loads ≡ between-loads .told
 listed-between-loads = refl
@@ -112,14 +115,18 @@ pub refusals-told : answered refusals ≡ refusals .told
 refusals-told = refl
 
 -- a book of one slot: full, then empty; nothing listed takes no room
-pub one-slot : answers (opened (pos 1)) (query (pos 0) ∷ listing 0 ∷ post (pos 9) (pos 1) (pos 2) ∷ post (pos 9) (pos 1) (pos 2) ∷ post (pos 8) (pos 2) (pos 2) ∷ withdraw (pos 9) ∷ query (pos 0) ∷ []) ≡ refused 9 ∷ listed 0 [] ∷ live 1 ∷ refused 5 ∷ refused 7 ∷ live 0 ∷ refused 9 ∷ []
+pub one-slot : answers (opened (pos 1)) (query (pos 0) ∷ listing 0 ∷ post (pos 9) (pos 1) (pos 2) ∷ post (pos 9) (pos 1) (pos 2) ∷ post (pos 8) (pos 2)
+    (pos 2) ∷ withdraw (pos 9) ∷ query (pos 0) ∷ []) ≡ refused 9 ∷ listed 0 [] ∷ live 1 ∷ refused 5 ∷ refused 7 ∷ live 0 ∷ refused 9 ∷ []
 one-slot = refl
 
 -- four pieces, and an opening of each kind
 pub four-pieces :
-    answers (opened (pos 4)) (post (pos 1) (pos 3) (pos 0) ∷ post (pos 2) (pos 2) (pos 1) ∷ post (pos 3) (pos 1) (pos 3) ∷ post (pos 4) (pos 0) (pos 6) ∷ listing 12 ∷ []) ≡
+    answers (opened (pos 4)) (post (pos 1) (pos 3) (pos 0) ∷ post (pos 2) (pos 2) (pos 1) ∷ post (pos 3) (pos 1) (pos 3) ∷ post (pos 4) (pos 0) (pos 6) ∷
+    listing 12 ∷ []) ≡
     live 1 ∷ live 2 ∷ live 3 ∷ live 4 ∷ listed 4 (pos 1 ∷ pos 1 ∷ pos 1 ∷ pos 2 ∷ pos 2 ∷ pos 1 ∷ pos 3 ∷ pos 3 ∷ pos 1 ∷ pos 4 ∷ pos 0 ∷ pos 0 ∷ []) ∷ []
 four-pieces = refl
 
-pub openings : opening 128 0 (pos 0) ∷ opening 128 1 (pos 4_097) ∷ opening 128 1 (pos 1) ∷ opening 127 0 (pos 1) ∷ opening 10 11 (pos 1) ∷ opening 128 0 (pos 1) ∷ [] ≡ declined-opening 1 ∷ declined-opening 1 ∷ declined-opening 2 ∷ declined-opening 2 ∷ declined-opening 2 ∷ accepted-opening (opened (pos 1)) ∷ []
+pub openings : opening 128 0 (pos 0) ∷ opening 128 1 (pos 4_097) ∷ opening 128 1 (pos 1) ∷ opening 127 0 (pos 1) ∷ opening 10 11 (pos 1) ∷ opening 128 0
+    (pos 1) ∷ [] ≡ declined-opening 1 ∷ declined-opening 1 ∷ declined-opening 2 ∷ declined-opening 2 ∷ declined-opening 2 ∷ accepted-opening
+    (opened (pos 1)) ∷ []
 openings = refl

@@ -28,10 +28,12 @@ envelope-listed os = ap (λ test. keep test os) (fun-ext λ e. ap (λ test. ever
   where
     same :
         (a e c : Offer) →
-        (not (precedes a e && precedes e c) || turns a e c) ≡ not (precedes a e && precedes e c && offerFigure .upTo (offerFigure .cross e c) (offerFigure .cross a e))
+        (not (precedes a e && precedes e c) || turns a e c) ≡ not (precedes a e && precedes e c && offerFigure .upTo (offerFigure .cross e c)
+        (offerFigure .cross a e))
     same a e c =
         as-one-test (precedes a e) (precedes e c) (turns a e c) (offerFigure .upTo (offerFigure .cross e c) (offerFigure .cross a e))
-        (λ p q. lt-as-le (crossingNumerator a e *ℤ crossingDenominator e c) (crossingNumerator e c *ℤ crossingDenominator a e) ∙ ap not (sym (crossing-test e c a e q p)))
+        (λ p q. lt-as-le (crossingNumerator a e *ℤ crossingDenominator e c) (crossingNumerator e c *ℤ crossingDenominator a e)
+        ∙ ap not (sym (crossing-test e c a e q p)))
 
 -- ---- the offers stand in order
 

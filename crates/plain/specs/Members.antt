@@ -31,7 +31,10 @@ post-adds o os = (mem-join o os, in-join o os)
 
 -- After a withdrawal: those that were live, with other numbers.
 pub withdraw-drops : (n : ℤ) (x : Offer) (os : List Offer) → List·Memᴰ x (leave n os) ↔ (List·Memᴰ x os × (x .number ≢ n))
-withdraw-drops n x os = (λ m. (sublist-mem (keep-sublist other os) m, unequal (x .number) n (keep-passes other os x m)), λ w. keep-in other os x (w .0) (not-T (equal (x .number) n) (λ t. w .1 (equal-eq (x .number) n t))))
+withdraw-drops n x os = (
+  λ m. (sublist-mem (keep-sublist other os) m, unequal (x .number) n (keep-passes other os x m)),
+  λ w. keep-in other os x (w .0) (not-T (equal (x .number) n) (λ t. w .1 (equal-eq (x .number) n t))),
+)
   where
     other : Offer → Bool
     other o = not (hasNumber n o)

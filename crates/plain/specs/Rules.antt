@@ -11,9 +11,10 @@ use lib.IntN.{ℤ, pos}
 use Rattle.lists.specs.Bools.{twice}
 use Rattle.offers.specs.Offers.{Offer, loadInRange, priceAt, crossingNumerator, crossingDenominator}
 use Rattle.plain.specs.Causes.{Cause, causeNumber, Clear}
-use Rattle.plain.specs.Book.{holding, State, Call, post, withdraw, query, listing, refused, live, found, listed, join, leave, cheapest, envelope, pieceWords, trials, step, respond, accepted}
-pub use Rattle.plain.specs.Causes.{FirstOf, at-once, further}
-pub use Rattle.plain.specs.Trials.{declined-by, not-declined}
+use Rattle.plain.specs.Book.{holding, State, Call, post, withdraw, query, listing, refused, live, found, listed, join, leave, cheapest}
+use Rattle.plain.specs.Book.{envelope, pieceWords, trials, step, respond, accepted}
+use Rattle.plain.specs.Causes.{FirstOf, at-once, further}
+use Rattle.plain.specs.Trials.{declined-by, not-declined}
 use Rattle.plain.specs.Sound.{length-join}
 use Rattle.plain.specs.Meaning.{PieceAt}
 
@@ -27,17 +28,34 @@ module _ (s : State) where
   step-accepted k c = ap (respond s k) (not-declined (trials s k) c)
 
   -- one offer more, and the count says so
-  pub posts : (n r b : ℤ) → Clear (trials s (post n r b)) → step s (post n r b) ≡ record { state = holding s (join (record { number = n; rate = r; base = b }) (s .offers)); answer = live (suc (length (s .offers))) }
-  posts n r b c = step-accepted (post n r b) c ∙ ap (λ m. record { state = holding s (join (record { number = n; rate = r; base = b }) (s .offers)); answer = live m }) (length-join (record { number = n; rate = r; base = b }) (s .offers))
+  pub posts : (n r b : ℤ) → Clear (trials s (post n r b)) →
+      step s (post n r b) ≡ record {
+        state = holding s (join (record { number = n; rate = r; base = b }) (s .offers));
+        answer =
+            live (suc (length (s .offers)));
+      }
+  posts n r b c = step-accepted (post n r b) c ∙ ap (λ m. record {
+    state = holding s (join (record { number = n; rate = r; base = b }) (s .offers));
+    answer = live m;
+  }) (length-join (record { number = n; rate = r; base = b }) (s .offers))
 
-  pub withdraws : (n : ℤ) → Clear (trials s (withdraw n)) → step s (withdraw n) ≡ record { state = holding s (leave n (s .offers)); answer = live (length (leave n (s .offers))) }
+  pub withdraws : (n : ℤ) → Clear (trials s (withdraw n)) → step s (withdraw n) ≡ record {
+    state = holding s (leave n (s .offers));
+    answer =
+        live (length (leave n (s .offers)));
+  }
   withdraws n c = step-accepted (withdraw n) c
 
-  pub lists : (room : ℕ) → Clear (trials s (listing room)) → step s (listing room) ≡ record { state = s; answer = listed (length (envelope (s .offers))) (pieceWords (envelope (s .offers))) }
+  pub lists : (room : ℕ) → Clear (trials s (listing room)) →
+      step s (listing room) ≡ record { state = s; answer = listed (length (envelope (s .offers))) (pieceWords (envelope (s .offers))) }
   lists room c = step-accepted (listing room) c
 
 -- a book with an offer answers a load in range
-pub finds : (c : ℕ) (o : Offer) (os : List Offer) (q : ℤ) → T (loadInRange q) → step (record { capacity = c; offers = o ∷ os }) (query q) ≡ record { state = record { capacity = c; offers = o ∷ os }; answer = found (cheapest q o os .number) (priceAt (cheapest q o os) q) }
+pub finds : (c : ℕ) (o : Offer) (os : List Offer) (q : ℤ) → T (loadInRange q) → step (record { capacity = c; offers = o ∷ os }) (query q) ≡ record {
+  state =
+      record { capacity = c; offers = o ∷ os };
+  answer = found (cheapest q o os .number) (priceAt (cheapest q o os) q);
+}
 finds c o os q t = step-accepted (record { capacity = c; offers = o ∷ os }) (query q) (twice (loadInRange q) t, (lt→nleb (suc (length os)) 0 (omega arith), tt))
 
 -- ---- a listing's words
@@ -48,12 +66,18 @@ words-length (o ∷ []) = refl
 words-length (o ∷ p ∷ ps) = let e = words-length (p ∷ ps) in omega arith
 
 later : {ws : List ℤ} {a b c n u v : ℤ} {i : ℕ} → PieceAt ws i n u v → PieceAt (a ∷ b ∷ c ∷ ws) (suc i) n u v
-later {ws} {a} {b} {c} {i} h = record { first = at (3 * suc i) (3 * i) (omega arith) ∙ h .first; second = at (3 * suc i + 1) (3 * i + 1) (omega arith) ∙ h .second; third = at (3 * suc i + 2) (3 * i + 2) (omega arith) ∙ h .third }
+later {ws} {a} {b} {c} {i} h = record {
+  first = at (3 * suc i) (3 * i) (omega arith) ∙ h .first;
+  second = at (3 * suc i + 1) (3 * i + 1) (omega arith) ∙ h .second;
+  third = at (3 * suc i + 2) (3 * i + 2) (omega arith) ∙ h .third;
+}
   where
     at : (m n : ℕ) → m ≡ suc (suc (suc n)) → getD (a ∷ b ∷ c ∷ ws) m (pos 0) ≡ getD ws n (pos 0)
     at m n e = rw e refl
 
-pub words-inner : (es : List Offer) (i : ℕ) (d : Offer) → suc i < length es → PieceAt (pieceWords es) i (getD es i d .number) (crossingNumerator (getD es i d) (getD es (suc i) d)) (crossingDenominator (getD es i d) (getD es (suc i) d))
+pub words-inner : (es : List Offer) (i : ℕ) (d : Offer) → suc i < length es →
+    PieceAt (pieceWords es) i (getD es i d .number) (crossingNumerator (getD es i d) (getD es (suc i) d))
+    (crossingDenominator (getD es i d) (getD es (suc i) d))
 words-inner [] i d h = absurd (omega arith)
 words-inner (o ∷ []) i d h = absurd (omega arith)
 words-inner (o ∷ p ∷ ps) zero d h = record { first = refl; second = refl; third = refl }

@@ -3,7 +3,8 @@
 use mathlib.Core.Path.{_≡_, refl, sym, subst, ap}
 use mathlib.Core.Logic.{_⊎_, inl, inr, ⊎-elim, _≢_}
 use mathlib.Core.HLevel.{¬-prop}
-use mathlib.Core.List.{List, [], _∷_, List·Memᴰ, List·Memᴰ·head, List·Memᴰ·tail, List·Memᴰ·cases-cons, Pairwise, Pairwise·nil, Pairwise·of-cons, rel-of-pairwise-cons, Pairwise·sublistᴰ, Sublistᴰ}
+use mathlib.Core.List.{List, [], _∷_, List·Memᴰ, List·Memᴰ·head, List·Memᴰ·tail, List·Memᴰ·cases-cons, Pairwise, Pairwise·nil, Pairwise·of-cons}
+use mathlib.Core.List.{rel-of-pairwise-cons, Pairwise·sublistᴰ, Sublistᴰ}
 use mathlib.Core.Option.{Option, none, some}
 use mathlib.Core.Bool.{Bool, true, false, not, _&&_, cond}
 use Prim.Native.Nat.{ℕ, suc, _≤_}
@@ -20,9 +21,10 @@ use Rattle.integers.specs.Parts.{intRules, le-or-lt, range-parts, unequal}
 use Rattle.integers.specs.Equal.{equal}
 use Rattle.offers.specs.Offers.{Offer, between, numberInRange, rateInRange, baseInRange, offerInRange, precedes}
 use Rattle.plain.specs.Causes.{Cause, declined}
-pub use Rattle.plain.specs.Causes.{Clear}
+use Rattle.plain.specs.Causes.{Clear}
 use Rattle.plain.specs.Trials.{clear}
-use Rattle.plain.specs.Book.{State, Call, post, withdraw, query, listing, refused, hasNumber, hasRate, join, leave, trials, accepted-opening, opened, openingBy, opening, openTrials, accepted, respond, step, after}
+use Rattle.plain.specs.Book.{State, Call, post, withdraw, query, listing, refused, hasNumber, hasRate, join, leave, trials, accepted-opening}
+use Rattle.plain.specs.Book.{opened, openingBy, opening, openTrials, accepted, respond, step, after}
 
 pub record Sound (s : State) : Type 0 where
   pub capacity-low : 1 ≤ s .capacity
@@ -55,9 +57,12 @@ precedes-trans : (a b c : Offer) → T (precedes a b) → T (precedes b c) → T
 precedes-trans a b c p q = omega (arith, intRules)
 
 -- A relation that holds of the new offer and each old one, the earlier first, still holds of all pairs.
-join-pairs : {R : Offer → Offer → Type 0} → ((x y : Offer) → IsProp (R x y)) → (o : Offer) (os : List Offer) → Pairwise (λ a b. T (precedes a b)) os → Pairwise R os → ((q : Offer) → List·Memᴰ q os → T (precedes o q) → R o q) → ((q : Offer) → List·Memᴰ q os → T (not (precedes o q)) → R q o) → Pairwise R (join o os)
+join-pairs : {R : Offer → Offer → Type 0} → ((x y : Offer) → IsProp (R x y)) → (o : Offer) (os : List Offer) → Pairwise (λ a b. T (precedes a b)) os →
+    Pairwise R os → ((q : Offer) → List·Memᴰ q os → T (precedes o q) → R o q) → ((q : Offer) → List·Memᴰ q os → T (not (precedes o q)) → R q o) →
+    Pairwise R (join o os)
 join-pairs prop o [] p h f g = pairs-cons prop (λ b m. elim m [ ]) h
-join-pairs {R} prop o (x ∷ xs) p h f g = go (precedes o x) (λ t. t) (λ t. t) (join-pairs prop o xs (Pairwise·of-cons p) (Pairwise·of-cons h) (λ q m. f q (List·Memᴰ·tail m)) (λ q m. g q (List·Memᴰ·tail m)))
+join-pairs {R} prop o (x ∷ xs) p h f g = go (precedes o x) (λ t. t) (λ t. t)
+    (join-pairs prop o xs (Pairwise·of-cons p) (Pairwise·of-cons h) (λ q m. f q (List·Memᴰ·tail m)) (λ q m. g q (List·Memᴰ·tail m)))
   where
     later : T (precedes o x) → (b : Offer) → (b ≡ x) ⊎ List·Memᴰ b xs → R o b
     later t b (inl e) = f b (List·Memᴰ·head e) (subst (λ (y : Offer). T (precedes o y)) (sym e) t)
@@ -67,7 +72,8 @@ join-pairs {R} prop o (x ∷ xs) p h f g = go (precedes o x) (λ t. t) (λ t. t)
     earlier t b (inl e) = subst (λ (y : Offer). R x y) (sym e) (g x (List·Memᴰ·head refl) t)
     earlier t b (inr m) = rel-of-pairwise-cons h ∣ m ∣₁
 
-    go : (b : Bool) → (T b → T (precedes o x)) → (T (not b) → T (not (precedes o x))) → Pairwise R (join o xs) → Pairwise R (cond b (o ∷ x ∷ xs) (x ∷ join o xs))
+    go : (b : Bool) → (T b → T (precedes o x)) → (T (not b) → T (not (precedes o x))) → Pairwise R (join o xs) →
+        Pairwise R (cond b (o ∷ x ∷ xs) (x ∷ join o xs))
     go true yes-is no-is rec = pairs-cons prop (λ b m. later (yes-is tt) b (List·Memᴰ·cases-cons m)) h
     go false yes-is no-is rec = pairs-cons prop (λ b m. earlier (no-is tt) b (mem-join o xs m)) rec
 
@@ -83,8 +89,10 @@ post-sound s n r b h (cn, (cr, (cb, (live-n, (live-r, (full, _)))))) =
     record {
       capacity-low = h .capacity-low;
       capacity-high = h .capacity-high;
-      ordered = join-pairs (λ x y. T-prop (precedes x y)) o os (h .ordered) (h .ordered) (λ q m t. t) (λ q m t. other-rate q o (none-at (hasRate r) os live-r q m) t);
-      numbered = join-pairs (λ x y. ¬-prop) o os (h .ordered) (h .numbered) (λ q m t e. unequal (q .number) n (none-at (hasNumber n) os live-n q m) (sym e)) (λ q m t. unequal (q .number) n (none-at (hasNumber n) os live-n q m));
+      ordered = join-pairs (λ x y. T-prop (precedes x y)) o os (h .ordered) (h .ordered) (λ q m t. t)
+          (λ q m t. other-rate q o (none-at (hasRate r) os live-r q m) t);
+      numbered = join-pairs (λ x y. ¬-prop) o os (h .ordered) (h .numbered) (λ q m t e. unequal (q .number) n (none-at (hasNumber n) os live-n q m) (sym e))
+          (λ q m t. unequal (q .number) n (none-at (hasNumber n) os live-n q m));
       ranged = λ x m. ⊎-elim (λ e. subst (λ (y : Offer). T (offerInRange y)) (sym e) inRange) (h .ranged x) (mem-join o os m);
       fits = let k = nleb→lt (s .capacity) (length os) full in let e = length-join o os in omega arith;
     }
@@ -96,7 +104,8 @@ post-sound s n r b h (cn, (cr, (cb, (live-n, (live-r, (full, _)))))) =
     o = record { number = n; rate = r; base = b }
 
     inRange : T (offerInRange o)
-    inRange = and-both (numberInRange n && rateInRange r) (baseInRange b) (and-both (numberInRange n) (rateInRange r) (not-not (numberInRange n) cn) (not-not (rateInRange r) cr)) (not-not (baseInRange b) cb)
+    inRange = and-both (numberInRange n && rateInRange r) (baseInRange b) (and-both (numberInRange n) (rateInRange r) (not-not (numberInRange n) cn)
+        (not-not (rateInRange r) cr)) (not-not (baseInRange b) cb)
 
 withdraw-sound : (s : State) (n : ℤ) → Sound s → Sound (accepted s (withdraw n) .state)
 withdraw-sound s n h =
@@ -124,7 +133,14 @@ opened-sound words start c s e = go (declined (openTrials words start c)) refl e
     fresh : (c : ℤ) → T (between (pos 1) (pos 4_096) c) → Sound (opened c)
     fresh (pos n) t =
         let (l, h) = range-parts (pos 1) (pos n) (pos 4_096) t in
-        record { capacity-low = omega arith; capacity-high = omega arith; ordered = Pairwise·nil; numbered = Pairwise·nil; ranged = λ o m. elim m [ ]; fits = omega arith }
+        record {
+          capacity-low = omega arith;
+          capacity-high = omega arith;
+          ordered = Pairwise·nil;
+          numbered = Pairwise·nil;
+          ranged = λ o m. elim m [ ];
+          fits = omega arith;
+        }
     fresh (negsuc n) t = absurd t
 
     go : (d : Option Cause) → declined (openTrials words start c) ≡ d → openingBy c d ≡ accepted-opening s → Sound s

@@ -1,3 +1,4 @@
 -- What a comparison of two envelopes reads.
--- ways through the code: what the search reads of a slot, safe whatever the words are: a rate, a base, a numerator or a denominator that is out of range reads 0
+-- ways through the code: what the search reads of a slot, safe whatever the words are: a rate, a base, a numerator or a denominator that is out of
+-- range reads 0
 pub mod Prices

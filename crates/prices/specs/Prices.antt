@@ -92,7 +92,8 @@ abbrev pub atMostAt : Words → ℕ → Words → ℕ → Bool
 atMostAt w p v s = leZ (priceIn v s (numeratorAt w p) (denominatorAt w p)) (priceIn w p (numeratorAt w p) (denominatorAt w p))
 
 -- by what the code computed
-pub compared : (w : Words) (p : ℕ) (v : Words) (s : ℕ) (n d y z : ℤ) → n ≡ numeratorAt w p → d ≡ denominatorAt w p → y ≡ priceIn w p n d → z ≡ priceIn v s n d → leZ z y ≡ atMostAt w p v s
+pub compared : (w : Words) (p : ℕ) (v : Words) (s : ℕ) (n d y z : ℤ) → n ≡ numeratorAt w p → d ≡ denominatorAt w p → y ≡ priceIn w p n d →
+    z ≡ priceIn v s n d → leZ z y ≡ atMostAt w p v s
 compared w p v s n d y z a b c e = rw (e, c, a, b)
 
 -- the slot in which a node is kept
@@ -118,7 +119,8 @@ module _ (w : Words) (p : ℕ) (v : Words) (x : ℕ) where
   above-missing h = rw (lt-ltb p 1 h)
 
   -- each answer of the code: n and d are the crossing kept in slot p, y is the price there of slot p's line, z that of slot s's
-  module _ {n d y z : ℤ} {s : ℕ} (some : 1 ≤ p) (en : n ≡ numeratorAt w p) (ed : d ≡ denominatorAt w p) (ey : y ≡ priceIn w p n d) (kept : s ≡ keptIn x) (ez : z ≡ priceIn v s n d) where
+  module _ {n d y z : ℤ} {s : ℕ} (some : 1 ≤ p) (en : n ≡ numeratorAt w p) (ed : d ≡ denominatorAt w p) (ey : y ≡ priceIn w p n d) (kept : s ≡ keptIn x)
+      (ez : z ≡ priceIn v s n d) where
     first-test : atMostAt w p v (keptIn x) ≡ leZ z y
     first-test = rw (← kept) (sym (compared w p v s n d y z en ed ey ez))
 

@@ -20,7 +20,11 @@ module _ (t : List ℤ) (start : ℕ) where
   -- where there is no book for any call, none passes
   pub checks-none : {b : Bool} → b ≡ noBookAt (length t) start (word (partOf t start) capacityWord) → b ≡ true → Checks start t false
   checks-none e h =
-      record { sound = λ k. absurd (true≢false (sym k)); complete = λ p. absurd (T-not (noBookAt (length t) start (word (partOf t start) capacityWord)) (book-there start t (p .2)) (said e h)) }
+      record {
+        sound = λ k. absurd (true≢false (sym k));
+        complete =
+            λ p. absurd (T-not (noBookAt (length t) start (word (partOf t start) capacityWord)) (book-there start t (p .2)) (said e h));
+      }
 
   pub checks-part : {r : Bool} → Decides r (BookStands (take (length t - start) (drop start t))) → Checks start t r
   checks-part {r} d = go (subst (λ (w : Words). Decides r (BookStands w)) (whole-part t start) d)

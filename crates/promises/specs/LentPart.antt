@@ -14,9 +14,8 @@ use borrow.Author.Tests.{le-leb}
 use Rattle.lists.specs.Bools.{and-left, and-right, not-not, is-true, neither, is-false, or-left, denied, said}
 use Rattle.integers.specs.Parts.{intRules}
 use Rattle.offers.specs.Offers.{between}
-use Rattle.plain.specs.Causes.{Cause, causeNumber}
+use Rattle.plain.specs.Causes.{Cause, causeNumber, FirstOf, at-once, further}
 use Rattle.plain.specs.Book.{State, noBookAt, partLength}
-use Rattle.plain.specs.Rules.{FirstOf, at-once, further}
 use Rattle.dynamic.specs.OfferTree.{Held}
 use Rattle.table.specs.Fields.{capacityWord, mostSlots}
 use Rattle.table.specs.Words.{Words, word, upTo, upTo-in}
@@ -61,32 +60,38 @@ book-start t start e h = go (word (partOf t start) capacityWord) (denied e h)
   where
     go : (z : ℤ) → T (not (noBookAt (length t) start z)) → start ≤ length t
     go z k =
-        let x = neither (ltb (length t) start || ltb (length t - start) 128 || not (between (pos 1) (pos mostSlots) z)) (ltb (length t - start) (partLength (natAbs z))) k in
+        let x = neither (ltb (length t) start || ltb (length t - start) 128 || not (between (pos 1) (pos mostSlots) z))
+        (ltb (length t - start) (partLength (natAbs z))) k in
         let y = neither (ltb (length t) start || ltb (length t - start) 128) (not (between (pos 1) (pos mostSlots) z)) (x .0) in
         nltb→le (length t) start (neither (ltb (length t) start) (ltb (length t - start) 128) (y .0) .0)
 
 -- the capacity told, where the first word is in range and its part is not cut short
-capacity-is : (w : Words) (z : ℤ) → word w capacityWord ≡ z → T (between (pos 1) (pos mostSlots) z) → partLength (natAbs z) ≤ length w → (cap w ≡ natAbs z) × (1 ≤ natAbs z)
+capacity-is : (w : Words) (z : ℤ) → word w capacityWord ≡ z → T (between (pos 1) (pos mostSlots) z) → partLength (natAbs z) ≤ length w →
+    (cap w ≡ natAbs z) × (1 ≤ natAbs z)
 unfolding cap
 capacity-is w z e t h =
     let (a, b, d) = told-is z t in
     (ap (fitting (length w)) (ap (upTo mostSlots) e ∙ a) ∙ rw (le-leb (64 * (natAbs z + 1)) (length w) h), b)
 
 -- where there is a book, the first word is the capacity
-pub book-cap : (t : List ℤ) (start : ℕ) → T (not (noBookAt (length t) start (word (partOf t start) capacityWord))) → (cap (partOf t start) ≡ natAbs (word (partOf t start) capacityWord)) × (1 ≤ natAbs (word (partOf t start) capacityWord))
+pub book-cap : (t : List ℤ) (start : ℕ) → T (not (noBookAt (length t) start (word (partOf t start) capacityWord))) →
+    (cap (partOf t start) ≡ natAbs (word (partOf t start) capacityWord)) × (1 ≤ natAbs (word (partOf t start) capacityWord))
 book-cap t start h = go (word (partOf t start) capacityWord) refl h
   where
     go : (z : ℤ) → word (partOf t start) capacityWord ≡ z → T (not (noBookAt (length t) start z)) → (cap (partOf t start) ≡ natAbs z) × (1 ≤ natAbs z)
     go z e k =
-        let x = neither (ltb (length t) start || ltb (length t - start) 128 || not (between (pos 1) (pos mostSlots) z)) (ltb (length t - start) (partLength (natAbs z))) k in
+        let x = neither (ltb (length t) start || ltb (length t - start) 128 || not (between (pos 1) (pos mostSlots) z))
+        (ltb (length t - start) (partLength (natAbs z))) k in
         let y = neither (ltb (length t) start || ltb (length t - start) 128) (not (between (pos 1) (pos mostSlots) z)) (x .0) in
         capacity-is (partOf t start) z e (not-not (between (pos 1) (pos mostSlots) z) (y .1))
         (omega (arith, length-drop start t, nltb→le (length t - start) (partLength (natAbs z)) (x .1)))
 
-pub cap-none : (t : List ℤ) (start : ℕ) {n : ℕ} → n ≡ cap (take (length t - start) (drop start t)) → n < 1 → true ≡ noBookAt (length t) start (word (partOf t start) capacityWord)
+pub cap-none : (t : List ℤ) (start : ℕ) {n : ℕ} → n ≡ cap (take (length t - start) (drop start t)) → n < 1 →
+    true ≡ noBookAt (length t) start (word (partOf t start) capacityWord)
 cap-none t start {n} e h = go (noBookAt (length t) start (word (partOf t start) capacityWord)) (book-cap t start)
   where
-    go : (b : Bool) → (T (not b) → (cap (partOf t start) ≡ natAbs (word (partOf t start) capacityWord)) × (1 ≤ natAbs (word (partOf t start) capacityWord))) → true ≡ b
+    go : (b : Bool) → (T (not b) → (cap (partOf t start) ≡ natAbs (word (partOf t start) capacityWord)) × (1 ≤ natAbs (word (partOf t start) capacityWord)))
+        → true ≡ b
     go true f = refl
     go false f = let (p, q) = f tt in absurd (omega (arith, p, q, e, ap cap (whole-part t start)))
 
@@ -120,7 +125,8 @@ module _ (t : List ℤ) (start : ℕ) (w′ : List ℤ) {t′ : List ℤ} (e : t
       }
 
 -- the end of the part lent is the table's
-pub lent-back : (t : List ℤ) (start : ℕ) (w′ : List ℤ) {t′ : List ℤ} → t′ ≡ take start t ++ (w′ ++ drop (length t - start) (drop start t)) → t′ ≡ take start t ++ w′
+pub lent-back : (t : List ℤ) (start : ℕ) (w′ : List ℤ) {t′ : List ℤ} → t′ ≡ take start t ++ (w′ ++ drop (length t - start) (drop start t)) →
+    t′ ≡ take start t ++ w′
 lent-back t start w′ e = e ∙ ap (λ (u : List ℤ). take start t ++ (w′ ++ u)) none-left ∙ ap (λ (u : List ℤ). take start t ++ u) (append-nil w′)
   where
     none-left : drop (length t - start) (drop start t) ≡ []

@@ -7,7 +7,9 @@ use Prim.Native.Nat.{ℕ, _≤_}
 use native.Mathlib.Omega.{arith}
 use lib.IntN.{ℤ}
 use Rattle.offers.specs.Offers.{Offer}
-use Rattle.plain.specs.Causes.{Cause, declined, causeNumber, capacityOutOfRange, tableTooShort, noBook, numberOutOfRange, rateOutOfRange, baseOutOfRange, loadOutOfRange, priceOutOfRange, numberLive, rateLive, bookFull, numberNotLive, bookEmpty, outputTooShort, unreadableLine, ratesNotApart, noSuchMark}
+use Rattle.plain.specs.Causes.{Cause, declined, causeNumber, capacityOutOfRange, tableTooShort, noBook, numberOutOfRange, rateOutOfRange}
+use Rattle.plain.specs.Causes.{baseOutOfRange, loadOutOfRange, priceOutOfRange, numberLive, rateLive, bookFull, numberNotLive, bookEmpty}
+use Rattle.plain.specs.Causes.{outputTooShort, unreadableLine, ratesNotApart, noSuchMark}
 use Rattle.plain.specs.Book.{State, Call, post, withdraw, query, listing, Answer, refused, live, found, listed, trials, respond, accepted, step}
 
 pub from-one : (c : Cause) → 1 ≤ causeNumber c

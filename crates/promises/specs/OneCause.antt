@@ -4,9 +4,8 @@ use mathlib.Core.List.{List}
 use mathlib.Core.Option.{Option, none, some}
 use Prim.Native.Nat.{ℕ}
 use native.Mathlib.Omega.{arith}
-use Rattle.plain.specs.Causes.{Cause, Trial, causeNumber}
-use Rattle.plain.specs.Rules.{FirstOf, declined-by, not-declined}
-use Rattle.plain.specs.Sound.{Clear}
+use Rattle.plain.specs.Trials.{declined-by, not-declined}
+use Rattle.plain.specs.Causes.{Cause, Trial, causeNumber, FirstOf, Clear}
 
 number : Option Cause → ℕ
 number none = 0

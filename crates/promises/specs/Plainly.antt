@@ -12,9 +12,9 @@ use lib.Signed.{leZ}
 use Rattle.lists.specs.Bools.{and-both, not-not, or-no}
 use Rattle.integers.specs.Parts.{intRules}
 use Rattle.offers.specs.Offers.{between}
-use Rattle.plain.specs.Causes.{Cause, causeNumber}
+use Rattle.plain.specs.Causes.{Cause, causeNumber, FirstOf, at-once, further}
 use Rattle.plain.specs.Book.{State, Call, bookTrials, noBookAt, partLength, step}
-use Rattle.plain.specs.Rules.{FirstOf, at-once, further, step-declined}
+use Rattle.plain.specs.Rules.{step-declined}
 use Rattle.dynamic.specs.OfferTree.{Held}
 use Rattle.table.specs.Fields.{capacityWord, mostSlots}
 use Rattle.table.specs.Words.{word}
@@ -45,13 +45,17 @@ cap-book start t {c} e low = subst (λ (z : ℤ). T (not (noBookAt (length t) st
         or-no (ltb (length t) start || ltb (length t - start) 128 || not (between (pos 1) (pos mostSlots) (pos c))) _
         (or-no (ltb (length t) start || ltb (length t - start) 128) _
         (or-no (ltb (length t) start) _ (λ q. omega (arith, long, ltb→lt (length t) start q)) (λ q. omega (arith, low, long, ltb→lt (length t - start) 128 q)))
-        (λ q. T-not (between (pos 1) (pos mostSlots) (pos c)) q (and-both (leZ (pos 1) (pos c)) (leZ (pos c) (pos mostSlots)) (omega (arith, intRules, low)) (omega (arith, intRules, high)))))
+        (λ q. T-not (between (pos 1) (pos mostSlots) (pos c)) q (and-both (leZ (pos 1) (pos c)) (leZ (pos c) (pos mostSlots)) (omega (arith, intRules, low))
+        (omega (arith, intRules, high)))))
         (λ q. omega (arith, long, ltb→lt (length t - start) (partLength c) q))
 
-pub book-there : (start : ℕ) (t : List ℤ) {plain : State} {held : Option (Held Item)} → Book (partOf t start) plain held → T (not (noBookAt (length t) start (word (partOf t start) capacityWord)))
+pub book-there : (start : ℕ) (t : List ℤ) {plain : State} {held : Option (Held Item)} → Book (partOf t start) plain held →
+    T (not (noBookAt (length t) start (word (partOf t start) capacityWord)))
 book-there start t b = cap-book start t (b .capacity) (b .some-slot)
 
 -- so the trials on words of any content decide for the plain book
-pub table-declined : (start : ℕ) (t : List ℤ) (k : Call) {plain : State} {held : Option (Held Item)} {z : Cause} → Book (partOf t start) plain held → FirstOf (tableTrials t start k) z → step plain k ≡ refusing plain (causeNumber z)
-table-declined start t k {plain} {held} {z} b (at-once h) = absurd (T-not (noBookAt (length t) start (word (partOf t start) capacityWord)) (book-there start t b) h)
+pub table-declined : (start : ℕ) (t : List ℤ) (k : Call) {plain : State} {held : Option (Held Item)} {z : Cause} → Book (partOf t start) plain held →
+    FirstOf (tableTrials t start k) z → step plain k ≡ refusing plain (causeNumber z)
+table-declined start t k {plain} {held} {z} b (at-once h) =
+    absurd (T-not (noBookAt (length t) start (word (partOf t start) capacityWord)) (book-there start t b) h)
 table-declined start t k {plain} {held} {z} b (further h f) = step-declined plain k z (first-append (bookTrials plain k) f)

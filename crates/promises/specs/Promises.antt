@@ -8,10 +8,9 @@ use mathlib.Core.Option.{Option, none, some}
 use Prim.Native.Nat.{ℕ, _+_, _*_}
 use lib.ListN.{length, take, drop}
 use lib.IntN.{ℤ, pos, negsuc, natAbs}
-use Rattle.plain.specs.Causes.{Cause, noBook, Trial, _when_, causeNumber}
-use Rattle.plain.specs.Book.{State, Call, query, listing, Answer, refused, live, found, listed, Opening as Plainly, declined-opening, accepted-opening, opening, opened, openTrials, rangeTrials, noBookAt, partLength, step}
-use Rattle.plain.specs.Rules.{FirstOf}
-use Rattle.plain.specs.Sound.{Clear}
+use Rattle.plain.specs.Causes.{Cause, noBook, Trial, _when_, causeNumber, FirstOf, Clear}
+use Rattle.plain.specs.Book.{State, Call, query, listing, Answer, refused, live, found, listed, Opening as Plainly, declined-opening}
+use Rattle.plain.specs.Book.{accepted-opening, opening, opened, openTrials, rangeTrials, noBookAt, partLength, step}
 use Rattle.trees.specs.Operations.{Part}
 use Rattle.dynamic.specs.OfferTree.{Held, Pair}
 use Rattle.dynamic.specs.Work.{Work, stepsOf, heightsOf}
@@ -61,6 +60,27 @@ abbrev pub counted : (ℕ → Answer) → ℤ → Answer
 counted f (pos n) = f n
 counted f (negsuc n) = refused 0
 
+-- Each case of an answer as a number and values: a refusal's number and none, or 0 and the values of the case. One definition for each enum: what is
+-- said of an answer, here and where it is told as numbers, goes by it.
+pub record Told : Type 0 where
+  pub number : ℤ
+  pub values : List ℤ
+
+-- the live count, k, s and H
+abbrev pub updateTold : Update → Told
+updateTold (Done n k s h) = record { number = pos 0; values = n ∷ k ∷ s ∷ h ∷ [] }
+updateTold (UpdateDeclined c) = record { number = c; values = [] }
+
+-- the offer, its price and the probes
+abbrev pub foundTold : Found → Told
+foundTold (Offer number price probes) = record { number = pos 0; values = number ∷ price ∷ probes ∷ [] }
+foundTold (FoundDeclined c) = record { number = c; values = [] }
+
+-- the count of pieces
+abbrev pub listedTold : Listed → Told
+listedTold (Pieces m) = record { number = pos 0; values = m ∷ [] }
+listedTold (ListingDeclined c) = record { number = c; values = [] }
+
 -- an opening's: 0 alone, or a refusal's number
 abbrev pub openingAnswer : Opening → ℤ
 openingAnswer Opened = pos 0
@@ -71,26 +91,31 @@ abbrev pub plainOpening : Plainly → ℤ
 plainOpening (accepted-opening s) = pos 0
 plainOpening (declined-opening n) = pos n
 
--- All that a call returned: what the plain book answers, and beside it the values that the plain book leaves open. One definition for each
--- enum gives the number and the values of each case.
+-- All that a call returned: what the plain book answers, and beside it the values that the plain book leaves open.
 pub record Returned : Type 0 where
   pub answer : Answer
   pub beside : List ℤ
 
--- beside a live count k, s and H
+-- a count, and beside it the values that follow
+abbrev pub countedBy : (ℕ → Answer) → ℤ → List ℤ → Returned
+countedBy f c [] = record { answer = counted refused c; beside = [] }
+countedBy f c (n ∷ more) = record { answer = counted f n; beside = more }
+
+-- an offer and its price
+abbrev pub pricedBy : ℤ → List ℤ → Returned
+pricedBy c [] = record { answer = counted refused c; beside = [] }
+pricedBy c (number ∷ []) = record { answer = counted refused c; beside = [] }
+pricedBy c (number ∷ price ∷ more) = record { answer = found number price; beside = more }
+
+-- beside a live count k, s and H; beside an offer and its price the probes; a listing with the words that the output then begins with
 abbrev pub updateReturned : Update → Returned
-updateReturned (Done n k s h) = record { answer = counted live n; beside = k ∷ s ∷ h ∷ [] }
-updateReturned (UpdateDeclined c) = record { answer = counted refused c; beside = [] }
+updateReturned r = countedBy live (updateTold r .number) (updateTold r .values)
 
--- beside an offer and its price the probes
 abbrev pub foundReturned : Found → Returned
-foundReturned (Offer number price probes) = record { answer = found number price; beside = probes ∷ [] }
-foundReturned (FoundDeclined c) = record { answer = counted refused c; beside = [] }
+foundReturned r = pricedBy (foundTold r .number) (foundTold r .values)
 
--- with the words that the output then begins with
 abbrev pub listingReturned : Listed → List ℤ → Returned
-listingReturned (Pieces m) out = record { answer = counted (λ n. listed n (take (3 * n) out)) m; beside = [] }
-listingReturned (ListingDeclined c) out = record { answer = counted refused c; beside = [] }
+listingReturned r out = countedBy (λ n. listed n (take (3 * n) out)) (listedTold r .number) (listedTold r .values)
 
 -- the plain book's part of each
 abbrev pub updateAnswer : Update → Answer
@@ -144,7 +169,11 @@ rootPart (some h) = h .whole
 
 -- it has a leaf at the depth of the probes, with the offer named
 abbrev pub ProbesIn : Option (Held Item) → ℤ → ℤ → Type 0
-ProbesIn held number probes = elim (rootPart held) [ none ↦ ⊥ | some t ↦ (a : Item) × LeafAt a (natAbs probes) t × (a .offer .number ≡ number) × (probes ≡ pos (natAbs probes)) ]
+ProbesIn held number probes = elim (rootPart held) [
+  | none ↦ ⊥
+  | some t ↦ (a : Item) × LeafAt a (natAbs probes) t × (a .offer .number ≡ number)
+      × (probes ≡ pos (natAbs probes))
+]
 
 -- the values beside a query's answer: where an offer is named, its probes
 abbrev pub Probes : Option (Held Item) → Answer → List ℤ → Type 0
@@ -174,7 +203,8 @@ pub record Lists (start : ℕ) (t out out′ : List ℤ) (r : Listed) : Type 0 w
   pub long : length out′ ≡ length out
   pub answers : (s : State) (held : Option (Held Item)) → Book (partOf t start) s held → listingAnswer r out′ ≡ step s (listing (length out)) .answer
   -- later output words keep their contents
-  pub later : (s : State) (held : Option (Held Item)) → Book (partOf t start) s held → drop (writtenWords (listingAnswer r out′)) out′ ≡ drop (writtenWords (listingAnswer r out′)) out
+  pub later : (s : State) (held : Option (Held Item)) → Book (partOf t start) s held →
+      drop (writtenWords (listingAnswer r out′)) out′ ≡ drop (writtenWords (listingAnswer r out′)) out
 
 -- ---- check
 

@@ -41,7 +41,8 @@ top (some t) e s v =
       env = valid-env items item-laws v;
     })
 
-pub root-of : {w : Words} {plain : State} {root : ℕ} {held : Option (Held Item)} → Book w plain held → root ≡ upTo mostNodes (word w envelopeRootWord) → Root w root held
+pub root-of : {w : Words} {plain : State} {root : ℕ} {held : Option (Held Item)} → Book w plain held → root ≡ upTo mostNodes (word w envelopeRootWord) →
+    Root w root held
 root-of {w} {root = root} {held} b e = go held (b .offers .offers-in) (e ∙ envelope-read b)
   where
     go : (held : Option (Held Item)) → OffersIn w held → root ≡ envelopeRef held → Root w root held

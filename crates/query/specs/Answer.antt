@@ -26,7 +26,8 @@ module _ (a : ℕ → Item) (n : ℕ) (K : Chain items a n) (q : ℤ) where
   UpTo hi = hi < n → T (items .upTo (whole q) (items .cross (a (pred hi)) (a hi)))
 
   -- the code's test is the figure's
-  test-is : (k : ℕ) → suc k < n → {b c : Item} → b ≡ a k → c ≡ a (suc k) → items .upTo (whole q) (items .cross (a k) (a (suc k))) ≡ atOrLeft q (b .offer) (c .offer)
+  test-is : (k : ℕ) → suc k < n → {b c : Item} → b ≡ a k → c ≡ a (suc k) →
+      items .upTo (whole q) (items .cross (a k) (a (suc k))) ≡ atOrLeft q (b .offer) (c .offer)
   test-is k h {b} {c} e d = rw (e, d) (whole-left Item rateOf baseOf (a k) (a (suc k)) q (K .ordered k h))
 
   -- between two parts of the tree
@@ -61,7 +62,8 @@ module _ (a : ℕ → Item) (n : ℕ) (K : Chain items a n) (q : ℤ) where
   reached-place (node l r) (two {mid} s t) h o u =
       go (atOrLeft q (last l .offer) (first r .offer)) refl (reached-place l s (omega (arith, spans-some t)) o) (λ p. reached-place r t h p u)
     where
-      go : (b : Bool) → atOrLeft q (last l .offer) (first r .offer) ≡ b → (UpTo mid → Place (lookup q l .item)) → (PastOuter items a mid (whole q) → Place (lookup q r .item)) → Place (cond b (lookup q l) (lookup q r) .item)
+      go : (b : Bool) → atOrLeft q (last l .offer) (first r .offer) ≡ b → (UpTo mid → Place (lookup q l .item)) →
+          (PastOuter items a mid (whole q) → Place (lookup q r .item)) → Place (cond b (lookup q l) (lookup q r) .item)
       go true e f g = f (up-to-seam s t h e)
       go false e f g = g (past-seam s t h e)
 

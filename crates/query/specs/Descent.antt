@@ -41,7 +41,8 @@ pub ongoing-start : (w : Words) (root : ℕ) (q : ℤ) → Ongoing w root q root
 ongoing-start w root q = record { below = λ t p h. record { tree = t; pieces = p; item = refl; depth = omega arith; high = omega arith } }
 
 -- to a child
-step-to : {w : Words} {q : ℤ} {t : Tree Item} {x y probes : ℕ} (s : Tree Item) (b : Below w q t x probes) → lookup q (b .tree) ≡ deeper (lookup q s) → height s < height (b .tree) → Pieces w y s → Below w q t y (probes + 1)
+step-to : {w : Words} {q : ℤ} {t : Tree Item} {x y probes : ℕ} (s : Tree Item) (b : Below w q t x probes) → lookup q (b .tree) ≡ deeper (lookup q s) →
+    height s < height (b .tree) → Pieces w y s → Below w q t y (probes + 1)
 step-to s b k h p =
     record { tree = s; pieces = p; item = b .item ∙ ap (λ z. z .item) k; depth = omega (arith, b .depth, ap (λ z. z .depth) k); high = omega (arith, b .high) }
 
@@ -70,11 +71,16 @@ ongoing-leaf {q} g d =
     record { finds = λ t p k h. let b = g .below t p h in let (a, s, e) = at-leaf (b .pieces) d in at-end a b s e }
 
 -- no node of a tree of pieces is without a child on the load's side
-pub ongoing-off : {w : Words} {root x probes : ℕ} {q : ℤ} → Ongoing w root q x probes → mostSlots < x → 0 ≡ towardAt w x q → (slot found : ℕ) → Descended w root q slot found
+pub ongoing-off : {w : Words} {root x probes : ℕ} {q : ℤ} → Ongoing w root q x probes → mostSlots < x → 0 ≡ towardAt w x q → (slot found : ℕ) →
+    Descended w root q slot found
 ongoing-off g d e slot found =
-    record { finds = λ t p k h. let b = ongoing-step g d e .below t p h in absurd (omega (arith, b .pieces .rep .root, ref-low (b .tree) (b .pieces .rep .slots))) }
+    record {
+      finds = λ t p k h. let b = ongoing-step g d e .below t p h in
+          absurd (omega (arith, b .pieces .rep .root, ref-low (b .tree) (b .pieces .rep .slots)));
+    }
 
 -- a tree at most mostLevels high has a leaf after mostLevels probes
-pub ongoing-limit : {w : Words} {root x probes : ℕ} {q : ℤ} → Ongoing w root q x probes → mostSlots < x → mostLevels ≤ probes → (slot found : ℕ) → Descended w root q slot found
+pub ongoing-limit : {w : Words} {root x probes : ℕ} {q : ℤ} → Ongoing w root q x probes → mostSlots < x → mostLevels ≤ probes → (slot found : ℕ) →
+    Descended w root q slot found
 ongoing-limit {q} g d l slot found =
     record { finds = λ t p k h. let b = g .below t p h in let o = opened q (b .pieces) h d in absurd (omega (arith, b .high, ap height (o .shape))) }

@@ -83,7 +83,11 @@ module _ (w : Words) (c x : ℕ) (e : c ≡ cap w) (low : mostSlots < x) (high :
     pub toward-there : upTo mostNodes (getD w (at + side) (pos 0)) ≡ childToward w s q
     unfolding childToward
     toward-there =
-        rw (← group-cell 7 3 (omega arith) (omega arith), ← group-cell 6 2 (omega arith) (omega arith), is-true (within 200_000 ourD) (not-not (within 200_000 ourD) (failed d)))
+        rw (
+          ← group-cell 7 3 (omega arith) (omega arith),
+          ← group-cell 6 2 (omega arith) (omega arith),
+          is-true (within 200_000 ourD) (not-not (within 200_000 ourD) (failed d)),
+        )
         (ap (upTo mostNodes) (group-cell (childField pieceTree (rightOf q ourN ourD)) side (omega (arith, t .told)) (omega (arith, t .low))))
 
     -- it is no number of a node
@@ -95,7 +99,12 @@ module _ (w : Words) (c x : ℕ) (e : c ≡ cap w) (low : mostSlots < x) (high :
 pub price-none : (w : Words) (c s : ℕ) (q : ℤ) → c ≡ cap w → ¬ ((1 ≤ s) × (s ≤ c)) → pos 0 ≡ priceIn w s q
 unfolding priceIn
 price-none w c s q e h =
-    rw (← cell-none {f = 1} gone, ← cell-none {f = 2} gone, bounded-in (negℤ (pos 1_000_000_000)) (pos 1_000_000_000) (pos 0) tt, bounded-in (negℤ (pos 100_000)) (pos 100_000) (pos 0) tt)
+    rw (
+      ← cell-none {f = 1} gone,
+      ← cell-none {f = 2} gone,
+      bounded-in (negℤ (pos 1_000_000_000)) (pos 1_000_000_000) (pos 0) tt,
+      bounded-in (negℤ (pos 100_000)) (pos 100_000) (pos 0) tt,
+    )
     (by-eq (nat 0) (nat 0 :+ nat 0 :* var (clamped 1_000_000 q)) (omega arith))
   where
     gone : {f : ℕ} → ¬ Valid w f s

@@ -38,21 +38,25 @@ first-names {ls} {z} {q} f =
     record {
       live = Memᴰ·map offerOf (f .one-of);
       least = λ x m. let (c, i, e) = Memᴰ·of-map offerOf ls m in subst (λ o. T (leZ (priceAt (z .offer) q) (priceAt o q))) e (least c i);
-      highest = λ x m. let (c, i, e) = Memᴰ·of-map offerOf ls m in subst (λ o. priceAt o q ≡ priceAt (z .offer) q → T (leZ (o .rate) (z .offer .rate))) e (highest c i);
+      highest = λ x m. let (c, i, e) = Memᴰ·of-map offerOf ls m in
+          subst (λ o. priceAt o q ≡ priceAt (z .offer) q → T (leZ (o .rate) (z .offer .rate))) e (highest c i);
     }
   where
     least : (c : Item) → List·Memᴰ c ls → T (leZ (priceAt (z .offer) q) (priceAt (c .offer) q))
     least c i = subst T (whole-price Item rateOf baseOf z c q) (f .least c i)
 
     highest : (c : Item) → List·Memᴰ c ls → priceAt (c .offer) q ≡ priceAt (z .offer) q → T (leZ (c .offer .rate) (z .offer .rate))
-    highest c i p = ⊎-elim (λ g. g) (λ g. absurd (f .earlier c i g (subst T (sym (whole-price Item rateOf baseOf c z q)) (omega (arith, intRules))))) (le-or-lt (c .offer .rate) (z .offer .rate))
+    highest c i p = ⊎-elim (λ g. g) (λ g. absurd (f .earlier c i g (subst T (sym (whole-price Item rateOf baseOf c z q)) (omega (arith, intRules)))))
+        (le-or-lt (c .offer .rate) (z .offer .rate))
 
 -- and no other
 one-name : {os : List Offer} {o p : Offer} (q : ℤ) → Ordered offerFigure os → Names q os o → Names q os p → o ≡ p
-one-name {os} {o} {p} q h m n = ⊎-elim (λ e. e) (⊎-elim (λ g. absurd (later m n g)) (λ g. absurd (later n m g))) (compare-lines offerFigure offerLaws h (m .live) (n .live))
+one-name {os} {o} {p} q h m n = ⊎-elim (λ e. e) (⊎-elim (λ g. absurd (later m n g)) (λ g. absurd (later n m g)))
+    (compare-lines offerFigure offerLaws h (m .live) (n .live))
   where
     later : {a b : Offer} → Names q os a → Names q os b → T (precedes a b) → ⊥
-    later {a} {b} k l g = let i = k .least b (l .live) in let j = l .least a (k .live) in let r = l .highest a (k .live) (omega (arith, intRules)) in omega (arith, intRules)
+    later {a} {b} k l g = let i = k .least b (l .live) in let j = l .least a (k .live) in let r = l .highest a (k .live) (omega (arith, intRules)) in
+        omega (arith, intRules)
 
 pub lookup-plain : {ls : List Item} (t : Tree Item) (s : State) (q : ℤ) → Sound s → s .offers ≡ map offerOf ls → Env items ls (leaves t) → T (loadInRange q)
     → step s (query q) .answer ≡ found (lookup q t .item .offer .number) (priceAt (lookup q t .item .offer) q)
@@ -67,7 +71,8 @@ lookup-plain {ls} t s q h e E r = go (s .offers) e (h .ordered)
     same : {o : Offer} {os : List Offer} → (o ∷ os) ≡ map offerOf ls → Pairwise (λ a b. T (precedes a b)) (o ∷ os) → cheapest q o os ≡ z .offer
     same {o} {os} d p = one-name q (in-order p) (cheapest-names q o os p) (subst (λ xs. Names q xs (z .offer)) (sym d) names)
 
-    go : (os : List Offer) → os ≡ map offerOf ls → Pairwise (λ a b. T (precedes a b)) os → step (record { capacity = s .capacity; offers = os }) (query q) .answer ≡ found (z .offer .number) (priceAt (z .offer) q)
+    go : (os : List Offer) → os ≡ map offerOf ls → Pairwise (λ a b. T (precedes a b)) os →
+        step (record { capacity = s .capacity; offers = os }) (query q) .answer ≡ found (z .offer .number) (priceAt (z .offer) q)
     go [] d p = absurd (List·Memᴰ·not-nil (subst (List·Memᴰ (z .offer)) (sym d) (names .live)))
     go (o ∷ os) d p = rw (is-true (loadInRange q) r, lt-leb (length (o ∷ os)) 0 (omega arith)) (ap (λ (x : Offer). found (x .number) (priceAt x q)) (same d p))
 
@@ -75,7 +80,8 @@ lookup-plain {ls} t s q h e E r = go (s .offers) e (h .ordered)
 
 -- the pieces are those of the plain listing
 pub pieces-plain : (ls es : List Item) → Ordered items ls → Env items ls es → map offerOf es ≡ envelope (map offerOf ls)
-pieces-plain ls es o E = ap (map offerOf) (env-listed items item-laws ls es o E) ∙ sym (listed-map offerFigure offerOf ls) ∙ sym (envelope-listed (map offerOf ls))
+pieces-plain ls es o E = ap (map offerOf) (env-listed items item-laws ls es o E) ∙ sym (listed-map offerFigure offerOf ls)
+    ∙ sym (envelope-listed (map offerOf ls))
 
 module _ {ls es : List Item} (s : State) (same : s .offers ≡ map offerOf ls) (o : Ordered items ls) (E : Env items ls es) where
   shown : envelope (s .offers) ≡ map offerOf es

@@ -46,7 +46,8 @@ pieces-right {w} {l} {r} p t e =
     }
 
 -- the crossing that the node keeps decides as the two pieces beside it do
-seam-toward : {w : Words} {x : ℕ} {l r : Tree Item} (q : ℤ) → Pieces w x (node l r) → T (loadInRange q) → childToward w (last l .slot) q ≡ linkAt w (childField pieceTree (not (atOrLeft q (last l .offer) (first r .offer)))) (last l .slot)
+seam-toward : {w : Words} {x : ℕ} {l r : Tree Item} (q : ℤ) → Pieces w x (node l r) → T (loadInRange q) →
+    childToward w (last l .slot) q ≡ linkAt w (childField pieceTree (not (atOrLeft q (last l .offer) (first r .offer)))) (last l .slot)
 unfolding childToward rightOf
 seam-toward {w} {x} {l} {r} q p h =
     let n = chain-seam l r (p .thread) in
@@ -59,7 +60,8 @@ seam-toward {w} {x} {l} {r} q p h =
     ranged a m = rate-of (a .offer) (p .holds .held m .ranged)
 
     near : T (denominatorInRange d)
-    near = rate-gap-in-range (last l .offer .rate) (first r .offer .rate) (ranged (last l) (Memᴰ·append-left (leaves r) (last-leaf l))) (ranged (first r) (Memᴰ·append-right (leaves l) (first-leaf r)))
+    near = rate-gap-in-range (last l .offer .rate) (first r .offer .rate) (ranged (last l) (Memᴰ·append-left (leaves r) (last-leaf l)))
+        (ranged (first r) (Memᴰ·append-right (leaves l) (first-leaf r)))
 
 -- the child on the load's side
 pub record Opened (w : Words) (x : ℕ) (q : ℤ) (t : Tree Item) : Type 0 where
@@ -94,4 +96,10 @@ at-leaf {t = node l r} p h = absurd (omega (arith, p .rep .root, slots-left (lea
 pub price-kept : {w : Words} {a : Item} (q : ℤ) → Held w a → T (loadInRange q) → priceIn w (a .slot) q ≡ priceAt (a .offer) q
 unfolding priceIn
 price-kept {w} {a} q k h =
-    rw (k .base, k .rate, bounded-in _ _ q h, bounded-in _ _ (a .offer .base) (base-of (a .offer) (k .ranged)), bounded-in _ _ (a .offer .rate) (rate-of (a .offer) (k .ranged)))
+    rw (
+      k .base,
+      k .rate,
+      bounded-in _ _ q h,
+      bounded-in _ _ (a .offer .base) (base-of (a .offer) (k .ranged)),
+      bounded-in _ _ (a .offer .rate) (rate-of (a .offer) (k .ranged)),
+    )

@@ -44,7 +44,8 @@ pub record Sided (q n d : ℤ) (side : ℕ) : Type 0 where
 
 -- the child, on the load's side, of the inner node kept in slot s; 0 where there is none
 unfoldable pub childToward : Words → ℕ → ℤ → ℕ
-childToward w s q = cond (within 200_000 (cell w denominatorField s)) (linkAt w (childField pieceTree (rightOf q (cell w numeratorField s) (cell w denominatorField s))) s) 0
+childToward w s q = cond (within 200_000 (cell w denominatorField s))
+    (linkAt w (childField pieceTree (rightOf q (cell w numeratorField s) (cell w denominatorField s))) s) 0
 
 abbrev pub towardAt : Words → ℕ → ℤ → ℕ
 towardAt w x q = childToward w (x - mostSlots) q

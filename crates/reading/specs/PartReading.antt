@@ -58,9 +58,11 @@ no-piece k = omega (arith, ap length (k .split), length-append (k .seen) (k .her
 
 words-behind : (xs : List Offer) (a : Offer) (ys : List Offer) → drop (3 * length xs) (pieceWords (xs ++ a ∷ ys)) ≡ pieceWords (a ∷ ys)
 words-behind [] a ys = refl
-words-behind (x ∷ xs) a ys = let e : 3 * suc (length xs) ≡ suc (suc (suc (3 * length xs))) = omega arith in ap (λ (n : ℕ). drop n (pieceWords (x ∷ (xs ++ a ∷ ys)))) e ∙ step xs (words-behind xs a ys)
+words-behind (x ∷ xs) a ys = let e : 3 * suc (length xs) ≡ suc (suc (suc (3 * length xs))) = omega arith in
+    ap (λ (n : ℕ). drop n (pieceWords (x ∷ (xs ++ a ∷ ys)))) e ∙ step xs (words-behind xs a ys)
   where
-    step : (xs : List Offer) → drop (3 * length xs) (pieceWords (xs ++ a ∷ ys)) ≡ pieceWords (a ∷ ys) → drop (suc (suc (suc (3 * length xs)))) (pieceWords (x ∷ (xs ++ a ∷ ys))) ≡ pieceWords (a ∷ ys)
+    step : (xs : List Offer) → drop (3 * length xs) (pieceWords (xs ++ a ∷ ys)) ≡ pieceWords (a ∷ ys) →
+        drop (suc (suc (suc (3 * length xs)))) (pieceWords (x ∷ (xs ++ a ∷ ys))) ≡ pieceWords (a ∷ ys)
     step [] h = h
     step (y ∷ xs) h = h
 
@@ -77,7 +79,8 @@ module _ {p : ℕ} (n : ℕ) {xs : List Item} (k : Passed p (n + 1) xs) where
 
 module _ {w : Words} {root : ℕ} (er : root ≡ upTo mostNodes (word w envelopeRootWord)) where
   -- by cases of the root
-  by-root : (A : List Item → Type 0) {s : State} {held : Option (Held Item)} → Book w s held → (root ≡ 0 → A []) → ((t : Tree Item) → Top w root (bookLines held) t → A (leaves t)) → A (rootPieces held)
+  by-root : (A : List Item → Type 0) {s : State} {held : Option (Held Item)} → Book w s held → (root ≡ 0 → A []) →
+      ((t : Tree Item) → Top w root (bookLines held) t → A (leaves t)) → A (rootPieces held)
   by-root A {s} {held} b f g = go held (root-of b er) g
     where
       go : (held : Option (Held Item)) → Root w root held → ((t : Tree Item) → Top w root (bookLines held) t → A (leaves t)) → A (rootPieces held)
@@ -88,7 +91,14 @@ module _ {w : Words} {root : ℕ} (er : root ≡ upTo mostNodes (word w envelope
   first-begins {r} e = record { stands = λ s held b. by-root (λ xs. PlaceOf xs 0 r) b (λ z. past-last (omega arith) (e .none z)) begin }
     where
       begin : {ls : List Item} (t : Tree Item) → Top w root ls t → PlaceOf (leaves t) 0 r
-      begin t p = at-piece (record { seen = []; here = first t; ahead = rest t; split = leaves-first t; slot = e .is t (p .pieces .rep) (p .balanced); count = refl })
+      begin t p = at-piece (record {
+        seen = [];
+        here = first t;
+        ahead = rest t;
+        split = leaves-first t;
+        slot = e .is t (p .pieces .rep) (p .balanced);
+        count = refl;
+      })
 
   -- a place that is none is past the last
   pub none-past : {s : State} {n p : ℕ} {held : Option (Held Item)} → Book w s held → p < 1 → Before w n p → length (rootPieces held) ≤ n
@@ -100,29 +110,48 @@ module _ {w : Words} {root : ℕ} (er : root ≡ upTo mostNodes (word w envelope
 
   module _ {z p : ℕ} (end : Ended w pieceTree true root z) where
     pub after-last : p ≡ z → PartMoves w p 0
-    after-last d = record { on = λ n k. record { stands = λ s held b. by-root (λ xs. PlaceOf xs n p → PlaceOf xs (n + 1) 0) b (λ y q. past-last (omega arith) refl) (over n) (k .stands s held b) } }
+    after-last d = record {
+      on = λ n k. record {
+        stands = λ s held b. by-root (λ xs. PlaceOf xs n p →
+            PlaceOf xs (n + 1) 0) b (λ y q. past-last (omega arith) refl) (over n) (k .stands s held b);
+      };
+    }
       where
         over : (n : ℕ) {ls : List Item} (t : Tree Item) → Top w root ls t → PlaceOf (leaves t) n p → PlaceOf (leaves t) (n + 1) 0
         over n t q (at-piece k) = past-last (omega (arith, all-passed (q .pieces) (end .is t (q .pieces .rep) (q .balanced)) k d)) refl
         over n t q (past-last l e) = past-last (omega arith) refl
 
     pub after-next : {r : ℕ} → 1 ≤ p → p ≢ z → r ≡ linkAt w nextPieceField p → PartMoves w p r
-    after-next {r} h d f = record { on = λ n k. record { stands = λ s held b. by-root (λ xs. PlaceOf xs n p → PlaceOf xs (n + 1) r) b (λ y q. nowhere n q) (over n) (k .stands s held b) } }
+    after-next {r} h d f =
+        record {
+          on = λ n k. record {
+            stands = λ s held b. by-root (λ xs. PlaceOf xs n p → PlaceOf xs (n + 1) r) b (λ y q. nowhere n q) (over n)
+                (k .stands s held b);
+          };
+        }
       where
         nowhere : (n : ℕ) → PlaceOf [] n p → PlaceOf [] (n + 1) r
         nowhere n (at-piece k) = absurd (no-piece k)
         nowhere n (past-last l e) = absurd (omega (arith, h, e))
 
         over : (n : ℕ) {ls : List Item} (t : Tree Item) → Top w root ls t → PlaceOf (leaves t) n p → PlaceOf (leaves t) (n + 1) r
-        over n t q (at-piece k) = at-piece (subst (λ (u : ℕ). Passed u (n + 1 + 1) (leaves t)) (sym f) (go-on (q .pieces) (end .is t (q .pieces .rep) (q .balanced)) k d))
+        over n t q (at-piece k) = at-piece (subst (λ (u : ℕ). Passed u (n + 1 + 1) (leaves t)) (sym f)
+            (go-on (q .pieces) (end .is t (q .pieces .rep) (q .balanced)) k d))
         over n t q (past-last l e) = absurd (omega (arith, h, e))
 
 pub after-none : {w : Words} {p : ℕ} → p < 1 → PartMoves w p 0
-after-none {w} {p} h = record { on = λ n k. record { stands = λ s held b. past-last (omega (arith, none-past {w = w} {root = upTo mostNodes (word w envelopeRootWord)} refl b h k)) refl } }
+after-none {w} {p} h =
+    record {
+      on = λ n k. record {
+        stands = λ s held b. past-last
+            (omega (arith, none-past {w = w} {root = upTo mostNodes (word w envelopeRootWord)} refl b h k)) refl;
+      };
+    }
 
 -- at the end a reading stays
 pub stays-past : {w : Words} {n p : ℕ} (m : ℕ) → n ≤ m → p < 1 → Before w n p → Before w m 0
-stays-past {w} {n} {p} m l h k = record { stands = λ s held b. past-last (omega (arith, none-past {w = w} {root = upTo mostNodes (word w envelopeRootWord)} refl b h k)) refl }
+stays-past {w} {n} {p} m l h k =
+    record { stands = λ s held b. past-last (omega (arith, none-past {w = w} {root = upTo mostNodes (word w envelopeRootWord)} refl b h k)) refl }
 
 -- ---- handing out
 
@@ -130,7 +159,8 @@ stays-past {w} {n} {p} m l h k = record { stands = λ s held b. past-last (omega
 pub listed-is : {w : Words} {s : State} {held : Option (Held Item)} → Book w s held → envelope (plainOffers held) ≡ map offerOf (rootPieces held)
 listed-is {w} {s} {held} b = go held b (root-of {root = upTo mostNodes (word w envelopeRootWord)} b refl)
   where
-    go : (held : Option (Held Item)) → Book w s held → Root w (upTo mostNodes (word w envelopeRootWord)) held → envelope (plainOffers held) ≡ map offerOf (rootPieces held)
+    go : (held : Option (Held Item)) → Book w s held → Root w (upTo mostNodes (word w envelopeRootWord)) held →
+        envelope (plainOffers held) ≡ map offerOf (rootPieces held)
     go none b (bare z) = refl
     go (some h) b (topped t e p) =
         subst (λ (q : Part Item). envelope (plainOffers (some h)) ≡ map offerOf (partLeaves q)) (sym e)
@@ -141,24 +171,48 @@ no-words : (es : List Offer) (n : ℕ) → length es ≤ n → take 3 (drop (3 *
 no-words es n h = ap (take 3) (drop-of-length-le (pieceWords es) {i = 3 * n} (omega (arith, words-length es)))
 
 pub hands-end : {w : Words} {p : ℕ} {r : Handed} → told r ≡ ended → p < 1 → PartHands w p r
-hands-end {w} {p} e h = record { answers = λ n k s held b. e ∙ ap pieceOf (sym (no-words (envelope (plainOffers held)) n (omega (arith, ap length (listed-is b), length-map (rootPieces held) offerOf, none-past {w = w} {root = upTo mostNodes (word w envelopeRootWord)} refl b h k)))) }
+hands-end {w} {p} e h = record {
+  answers = λ n k s held b. e
+      ∙ ap pieceOf (sym (no-words (envelope (plainOffers held)) n (omega (
+        arith,
+        ap length (listed-is b),
+        length-map (rootPieces held) offerOf,
+        none-past {w = w} {root = upTo mostNodes (word w envelopeRootWord)} refl b h k,
+      ))));
+}
 
 -- at a piece
-module _ {w : Words} {root z p : ℕ} {last : Bool} {number u v : ℤ} (er : root ≡ upTo mostNodes (word w envelopeRootWord)) (end : Ended w pieceTree true root z) (low : 1 ≤ p)
+module _ {w : Words} {root z p : ℕ} {last : Bool} {number u v : ℤ} (er : root ≡ upTo mostNodes (word w envelopeRootWord))
+    (end : Ended w pieceTree true root z) (low : 1 ≤ p)
     (yes-last : last ≡ true → p ≡ z) (not-last : last ≡ false → p ≢ z)
     (en : number ≡ cell w numberField p) (eu : u ≡ crossingWord w 6 p last) (ev : v ≡ crossingWord w 7 p last) where
   module _ (n : ℕ) {ls : List Item} (t : Tree Item) (q : Top w root ls t) (k : Passed p (n + 1) (leaves t)) where
     number-is : number ≡ k .here .offer .number
-    number-is = en ∙ ap (cell w numberField) (k .slot) ∙ q .pieces .holds .held (subst (List·Memᴰ (k .here)) (sym (k .split)) (Memᴰ·append-right (k .seen) (List·Memᴰ·head refl))) .number
+    number-is = en ∙ ap (cell w numberField) (k .slot) ∙ q .pieces .holds .held
+        (subst (List·Memᴰ (k .here)) (sym (k .split)) (Memᴰ·append-right (k .seen) (List·Memᴰ·head refl))) .number
 
     three : (b : Bool) (ys : List Item) → last ≡ b → leaves t ≡ k .seen ++ k .here ∷ ys → number ∷ u ∷ v ∷ [] ≡ take 3 (pieceWords (map offerOf (k .here ∷ ys)))
-    three true [] e d = ap (λ (x : ℤ). x ∷ u ∷ v ∷ []) number-is ∙ ap (λ (x : ℤ). k .here .offer .number ∷ x ∷ v ∷ []) (eu ∙ ap (crossingWord w 6 p) e) ∙ ap (λ (x : ℤ). k .here .offer .number ∷ pos 0 ∷ x ∷ []) (ev ∙ ap (crossingWord w 7 p) e)
-    three true (y ∷ ys) e d = absurd (omega (arith, all-passed (q .pieces) (end .is t (q .pieces .rep) (q .balanced)) k (yes-last e), ap length d, length-append (k .seen) (k .here ∷ y ∷ ys), k .count))
-    three false [] e d = absurd (omega (arith, not-all (q .pieces) (end .is t (q .pieces .rep) (q .balanced)) k (not-last e), ap length d, length-append (k .seen) (k .here ∷ []), k .count))
+    three true [] e d = ap (λ (x : ℤ). x ∷ u ∷ v ∷ []) number-is ∙ ap (λ (x : ℤ). k .here .offer .number ∷ x ∷ v ∷ []) (eu ∙ ap (crossingWord w 6 p) e)
+        ∙ ap (λ (x : ℤ). k .here .offer .number ∷ pos 0 ∷ x ∷ []) (ev ∙ ap (crossingWord w 7 p) e)
+    three true (y ∷ ys) e d = absurd (omega (
+      arith,
+      all-passed (q .pieces) (end .is t (q .pieces .rep) (q .balanced)) k (yes-last e),
+      ap length d,
+      length-append (k .seen) (k .here ∷ y ∷ ys),
+      k .count,
+    ))
+    three false [] e d = absurd (omega (
+      arith,
+      not-all (q .pieces) (end .is t (q .pieces .rep) (q .balanced)) k (not-last e),
+      ap length d,
+      length-append (k .seen) (k .here ∷ []),
+      k .count,
+    ))
     three false (y ∷ ys) e d =
         ap (λ (x : ℤ). x ∷ u ∷ v ∷ []) number-is
         ∙ ap (λ (x : ℤ). k .here .offer .number ∷ x ∷ v ∷ []) (eu ∙ ap (crossingWord w 6 p) e ∙ ap (cell w numeratorField) (k .slot) ∙ next .numerator)
-        ∙ ap (λ (x : ℤ). k .here .offer .number ∷ crossingNumerator (k .here .offer) (y .offer) ∷ x ∷ []) (ev ∙ ap (crossingWord w 7 p) e ∙ ap (cell w denominatorField) (k .slot) ∙ next .denominator)
+        ∙ ap (λ (x : ℤ). k .here .offer .number ∷ crossingNumerator (k .here .offer) (y .offer) ∷ x ∷ [])
+        (ev ∙ ap (crossingWord w 7 p) e ∙ ap (cell w denominatorField) (k .slot) ∙ next .denominator)
       where
         next : Next w (k .here) y
         next = isChain-append-cons-cons (k .here) (k .seen) .0 (subst (Threaded w) d (q .pieces .thread)) .1
@@ -167,16 +221,22 @@ module _ {w : Words} {root z p : ℕ} {last : Bool} {number u v : ℤ} (er : roo
     here-words = three last (k .ahead) refl (k .split) ∙ ap (take 3) (sym (words-at n k (k .ahead) (k .split)))
 
   pub hands-piece : PartHands w p (Piece number u v)
-  hands-piece = record { answers = λ n k s held b. ap pieceOf (words n (by-root er (λ xs. PlaceOf xs n p → number ∷ u ∷ v ∷ [] ≡ take 3 (drop (3 * n) (pieceWords (map offerOf xs)))) b (λ y q. nowhere n q) (over n) (k .stands s held b)) (listed-is b)) }
+  hands-piece = record {
+    answers = λ n k s held b. ap pieceOf
+        (words n (by-root er (λ xs. PlaceOf xs n p → number ∷ u ∷ v ∷ [] ≡ take 3 (drop (3 * n) (pieceWords (map offerOf xs)))) b (λ y q. nowhere n q)
+        (over n) (k .stands s held b)) (listed-is b));
+  }
     where
-      words : (n : ℕ) {os es : List Offer} → number ∷ u ∷ v ∷ [] ≡ take 3 (drop (3 * n) (pieceWords es)) → os ≡ es → number ∷ u ∷ v ∷ [] ≡ take 3 (drop (3 * n) (pieceWords os))
+      words : (n : ℕ) {os es : List Offer} → number ∷ u ∷ v ∷ [] ≡ take 3 (drop (3 * n) (pieceWords es)) → os ≡ es →
+          number ∷ u ∷ v ∷ [] ≡ take 3 (drop (3 * n) (pieceWords os))
       words n e d = e ∙ ap (λ (l : List Offer). take 3 (drop (3 * n) (pieceWords l))) (sym d)
 
       nowhere : (n : ℕ) → PlaceOf [] n p → number ∷ u ∷ v ∷ [] ≡ take 3 (drop (3 * n) [])
       nowhere n (at-piece k) = absurd (no-piece k)
       nowhere n (past-last l e) = absurd (omega (arith, low, e))
 
-      over : (n : ℕ) {ls : List Item} (t : Tree Item) → Top w root ls t → PlaceOf (leaves t) n p → number ∷ u ∷ v ∷ [] ≡ take 3 (drop (3 * n) (pieceWords (map offerOf (leaves t))))
+      over : (n : ℕ) {ls : List Item} (t : Tree Item) → Top w root ls t → PlaceOf (leaves t) n p →
+          number ∷ u ∷ v ∷ [] ≡ take 3 (drop (3 * n) (pieceWords (map offerOf (leaves t))))
       over n t q (at-piece k) = here-words n t q k
       over n t q (past-last l e) = absurd (omega (arith, low, e))
 
@@ -191,7 +251,11 @@ module _ (start : ℕ) (t : List ℤ) {no : Bool} (e : no ≡ noBookAt (length t
     after-no-book p = record { nowhere = λ z g. refl; on = λ n k. record { stands = λ s held b. absurd (no-form t start e d b) } }
 
     pub hands-no-book : (p : ℕ) → Hands start t p (Declined (pos 3))
-    hands-no-book p = record { declined = λ z g. ap (λ (n : ℕ). refused (pos n)) (sym (no-book-cause t start g)); answers = λ n k s held b. absurd (no-form t start e d b) }
+    hands-no-book p = record {
+      declined = λ z g. ap (λ (n : ℕ). refused (pos n)) (sym (no-book-cause t start g));
+      answers =
+          λ n k s held b. absurd (no-form t start e d b);
+    }
 
   module _ (d : no ≡ false) where
     -- there is a book
@@ -199,7 +263,11 @@ module _ (start : ℕ) (t : List ℤ) {no : Bool} (e : no ≡ noBookAt (length t
     not-nowhere z f = not-clear f (denied e d, tt)
 
     pub hands-there : {p : ℕ} {r : Handed} → PartHands (take (length t - start) (drop start t)) p r → Hands start t p r
-    hands-there {p} {r} k = record { declined = λ z f. absurd (not-nowhere z f); answers = subst (λ (w : Words). PartHands w p r) (whole-part t start) k .answers }
+    hands-there {p} {r} k = record {
+      declined = λ z f. absurd (not-nowhere z f);
+      answers =
+          subst (λ (w : Words). PartHands w p r) (whole-part t start) k .answers;
+    }
 
     pub first-there : {p : ℕ} → Before (take (length t - start) (drop start t)) 0 p → Starts start t p
     first-there {p} k = record { nowhere = λ z f. absurd (not-nowhere z f); before = subst (λ (w : Words). Before w 0 p) (whole-part t start) k }

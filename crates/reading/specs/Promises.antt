@@ -80,4 +80,5 @@ pub record Moves (start : ℕ) (t : List ℤ) (place r : ℕ) : Type 0 where
 -- what is handed out at a place
 pub record Hands (start : ℕ) (t : List ℤ) (place : ℕ) (r : Handed) : Type 0 where
   pub declined : (z : Cause) → FirstOf (noBookTrial t start ∷ []) z → told r ≡ refusal z
-  pub answers : (n : ℕ) → Before (partOf t start) n place → (s : State) (held : Option (Held Item)) → Book (partOf t start) s held → told r ≡ listedAt (plainOffers held) n
+  pub answers : (n : ℕ) → Before (partOf t start) n place → (s : State) (held : Option (Held Item)) → Book (partOf t start) s held →
+      told r ≡ listedAt (plainOffers held) n

@@ -58,14 +58,17 @@ stands {table} {start} (onward {n} {r} {q} m a) =
       same-table = a .same-table ∙ k .same-table;
       same-start = a .same-start ∙ k .same-start;
       nowhere = rw (← k .same-table, ← k .same-start) (a .moves .nowhere);
-      before = subst (λ (i : ℕ). Before (partOf (now table) start) i (q .place)) (add-one n) (rw (← k .same-table, ← k .same-start) (a .moves .on n (rw (k .same-table, k .same-start) (k .before))));
+      before = subst (λ (i : ℕ). Before (partOf (now table) start) i (q .place)) (add-one n)
+          (rw (← k .same-table, ← k .same-start) (a .moves .on n (rw (k .same-table, k .same-start) (k .before))));
     }
 
 -- After n steps it hands out the n-th piece as listed, or the end; and it is declined where there is no book.
-pub every-step : {table : RefT (List ℤ)} {start n : ℕ} {r : Reading} {s : Handed} → Moved table start n r → Hands (r .start) (now (r .table)) (r .place) s → HandsAt start (now table) n s
+pub every-step : {table : RefT (List ℤ)} {start n : ℕ} {r : Reading} {s : Handed} → Moved table start n r → Hands (r .start) (now (r .table)) (r .place) s →
+    HandsAt start (now table) n s
 every-step {table} {start} {n} {r} {s} m h =
     let k = stands m in
-    hands-at (k .before) (subst (λ (i : ℕ). Hands i (now table) (r .place) s) (k .same-start) (subst (λ (x : RefT (List ℤ)). Hands (r .start) (now x) (r .place) s) (k .same-table) h))
+    hands-at (k .before) (subst (λ (i : ℕ). Hands i (now table) (r .place) s) (k .same-start)
+    (subst (λ (x : RefT (List ℤ)). Hands (r .start) (now x) (r .place) s) (k .same-table) h))
 
 -- where there is no book it stands at place 0
 pub every-place : {table : RefT (List ℤ)} {start n : ℕ} {r : Reading} → Moved table start n r → Nowhere start (now table) (r .place)

@@ -55,8 +55,10 @@ pub record Resumes (start : ℕ) (t t′ calls out out′ : List ℤ) (r : Repla
   pub outside : OnlyPart (capacityAt t start) start t t′
   -- where the part passes the check
   pub claim : (s : State) (held : Option (Held Item)) → Book (partOf t start) s held → Claim s held (made (s .capacity) .history)
-  pub right : (s : State) (held : Option (Held Item)) → Book (partOf t start) s held → told (runnable calls (length out)) out′ ≡ answers s (runnable calls (length out))
-  pub spares : (s : State) (held : Option (Held Item)) → Book (partOf t start) s held → Spares (runnable calls (length out)) (answers s (runnable calls (length out))) out out′
+  pub right : (s : State) (held : Option (Held Item)) → Book (partOf t start) s held →
+      told (runnable calls (length out)) out′ ≡ answers s (runnable calls (length out))
+  pub spares : (s : State) (held : Option (Held Item)) → Book (partOf t start) s held →
+      Spares (runnable calls (length out)) (answers s (runnable calls (length out))) out out′
 
 -- After an accepted opening, with its answer and the words `t₀` that it left.
 pub record Begun (c : ℤ) (start : ℕ) (t t′ calls out out′ : List ℤ) (r : Replayed) : Type 0 where

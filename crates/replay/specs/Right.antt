@@ -59,11 +59,13 @@ query-told : (q : ℤ) (a : Found) (out : List ℤ) → foundAnswer a ≢ refuse
 query-told q (Offer n p s) out f = refl
 query-told q (FoundDeclined z) out f = refusal-told (query q) z (pos 0) (pos 0) out f
 
-listing-told : (room : ℕ) (l : Listed) (out : List ℤ) → listingAnswer l (take room out) ≢ refused 0 → byWords (listing room) (listedWords l) out ≡ listingAnswer l (take room out)
+listing-told : (room : ℕ) (l : Listed) (out : List ℤ) → listingAnswer l (take room out) ≢ refused 0 →
+    byWords (listing room) (listedWords l) out ≡ listingAnswer l (take room out)
 listing-told room (Pieces m) out f = refl
 listing-told room (ListingDeclined z) out f = refusal-told (listing room) z (pos 0) (pos 0) out f
 
-one-told : {start : ℕ} {t : List ℤ} {k : Call} {t′ : List ℤ} {a : Answer} (p : Happens start t k t′ a) (ws ws′ : List ℤ) → TellsOne p ws ws′ → a ≢ refused 0 → byWords k ws′ (drop 5 ws′) ≡ a
+one-told : {start : ℕ} {t : List ℤ} {k : Call} {t′ : List ℤ} {a : Answer} (p : Happens start t k t′ a) (ws ws′ : List ℤ) → TellsOne p ws ws′ →
+    a ≢ refused 0 → byWords k ws′ (drop 5 ws′) ≡ a
 one-told (by-update (posting n r b) u p e) ws ws′ h f = first-words (post n r b) ws′ (drop 5 ws′) h ∙ post-told n r b u (drop 5 ws′) (λ q. f (e ∙ q)) ∙ sym e
 one-told (by-update (withdrawing n) u p e) ws ws′ h f = first-words (withdraw n) ws′ (drop 5 ws′) h ∙ withdraw-told n u (drop 5 ws′) (λ q. f (e ∙ q)) ∙ sym e
 one-told (by-query q u p d e) ws ws′ h f = first-words (query q) ws′ (drop 5 ws′) h ∙ query-told q u (drop 5 ws′) (λ z. f (e ∙ z)) ∙ sym e
@@ -71,7 +73,8 @@ one-told (by-listing {room} out out′ l p m d e) ws ws′ (h, b, o) f =
     let q = e ∙ ap (listingAnswer l) (sym o) in
     first-words (listing room) ws′ (drop 5 ws′) h ∙ listing-told room l (drop 5 ws′) (λ z. f (q ∙ z)) ∙ sym q
 
-pub told-right : {c start : ℕ} {t : List ℤ} {ks : List Call} {as′ : List Answer} {t′ : List ℤ} (h : History c start t ks as′ t′) (ws ws′ : List ℤ) → Tells h ws ws′ → (s : State) → as′ ≡ answers s ks → told ks ws′ ≡ as′
+pub told-right : {c start : ℕ} {t : List ℤ} {ks : List Call} {as′ : List Answer} {t′ : List ℤ} (h : History c start t ks as′ t′) (ws ws′ : List ℤ) →
+    Tells h ws ws′ → (s : State) → as′ ≡ answers s ks → told ks ws′ ≡ as′
 told-right finished ws ws′ w s e = refl
 told-right (next {k} {ks} {a} {as′} alike p rest) ws ws′ (x, y) s e =
     let this : a ≡ step s k .answer = cc in
@@ -101,5 +104,8 @@ pub spares-right :
 spares-right finished ws ws′ w s held same book = tt
 spares-right {start = start} (next {t} {t₁} {k = k} alike p rest) ws ws′ (x, y) s held same book =
     let here = book-alike book (subst (λ (n : ℕ). Alike n (partOf t start) (partOf t₁ start)) (sym same) alike) in
-    let o = one-call s held p here in
-    (one-spares p ws ws′ x s held here, spares-right rest (drop (stretch k) ws) (drop (stretch k) ws′) y (step s k .state) (o .mid) (step-capacity s k ∙ same) (o .stands))
+    let o = one-call s held p here in (
+      one-spares p ws ws′ x s held here,
+      spares-right rest (drop (stretch k) ws) (drop (stretch k) ws′) y (step s k .state) (o .mid)
+          (step-capacity s k ∙ same) (o .stands),
+    )

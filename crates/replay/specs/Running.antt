@@ -55,7 +55,8 @@ front-middle m l r h =
     back : drop 5 (take (5 + m) l) ≡ take m (drop 5 l)
     back = ap (drop 5) (take-add 5 m l) ∙ drop-at (take 5 l) (take m (drop 5 l)) 5 (length-take-le 5 l (omega arith))
 
-tells-front : {start : ℕ} {t : List ℤ} {k : Call} {t′ : List ℤ} {a : Answer} (p : Happens start t k t′ a) (ws ws′ r : List ℤ) → stretch k ≤ length ws′ → TellsOne p ws ws′ → TellsOne p ws (take (stretch k) ws′ ++ r)
+tells-front : {start : ℕ} {t : List ℤ} {k : Call} {t′ : List ℤ} {a : Answer} (p : Happens start t k t′ a) (ws ws′ r : List ℤ) → stretch k ≤ length ws′ →
+    TellsOne p ws ws′ → TellsOne p ws (take (stretch k) ws′ ++ r)
 tells-front (by-update (posting n q b) u p e) ws ws′ r h w = front-take 5 5 ws′ r (omega arith) h ∙ w
 tells-front (by-update (withdrawing n) u p e) ws ws′ r h w = front-take 5 5 ws′ r (omega arith) h ∙ w
 tells-front (by-query q f p d e) ws ws′ r h w = front-take 5 5 ws′ r (omega arith) h ∙ w
@@ -74,7 +75,8 @@ made-next {c} {start} {t} {k} ws ws₁ ws′ h p m =
       history = next (alike-itself c (partOf t start)) (p .happens) (m .history);
       tells = (
         tells-front (p .happens) ws ws₁ ws′ h (p .tells),
-        subst (λ (l : List ℤ). Tells (m .history) (drop (stretch k) ws) l) (sym (drop-at (take (stretch k) ws₁) ws′ (stretch k) (length-take-le (stretch k) ws₁ h))) (m .tells),
+        subst (λ (l : List ℤ). Tells (m .history) (drop (stretch k) ws) l)
+            (sym (drop-at (take (stretch k) ws₁) ws′ (stretch k) (length-take-le (stretch k) ws₁ h))) (m .tells),
       );
     }
 
@@ -89,7 +91,8 @@ pub record Going (start : ℕ) (t₀ t calls out₀ out : List ℤ) (n at : ℕ)
   pub outside : OnlyPart (capacityAt t₀ start) start t₀ t
   pub same-part : capacityAt t start ≡ capacityAt t₀ start
   pub counted : length (runnable calls (length out₀)) ≡ n + length (runnable (drop (4 * n) calls) (length out₀ - at))
-  pub onward : (c : ℕ) {t′ ws′ : List ℤ} → Made c start t t′ (runnable (drop (4 * n) calls) (length out₀ - at)) (drop at out₀) ws′ → Made c start t₀ t′ (runnable calls (length out₀)) out₀ (take at out ++ ws′)
+  pub onward : (c : ℕ) {t′ ws′ : List ℤ} → Made c start t t′ (runnable (drop (4 * n) calls) (length out₀ - at)) (drop at out₀) ws′ →
+      Made c start t₀ t′ (runnable calls (length out₀)) out₀ (take at out ++ ws′)
 
 pub going-none : (start : ℕ) (t calls out : List ℤ) → Going start t t calls out out 0 0
 going-none start t calls out =
@@ -133,7 +136,8 @@ module _ {start : ℕ} {t₀ t calls out₀ out : List ℤ} {n at : ℕ} (g : Go
       none-left = runnable-none (drop (4 * n) calls) (length out₀ - at) (ap (λ (m : ℕ). fitting (nextCall (drop (4 * n) calls)) m) (sym left-long) ∙ f)
 
       last : (c : ℕ) → Made c start t t (runnable (drop (4 * n) calls) (length out₀ - at)) (drop at out₀) (drop at out)
-      last c = subst (λ (ks : List Call). Made c start t t ks (drop at out₀) (drop at out)) (sym none-left) (record { answered = []; history = finished; tells = g .behind })
+      last c = subst (λ (ks : List Call). Made c start t t ks (drop at out₀) (drop at out)) (sym none-left)
+          (record { answered = []; history = finished; tells = g .behind })
 
       whole : take at out ++ drop at out ≡ out
       whole = take-append-drop at out
@@ -164,7 +168,8 @@ module _ {start : ℕ} {t₀ t calls out₀ out : List ℤ} {n at : ℕ} (g : Go
           words = omega (arith, next-words (drop (4 * n) calls) (r .reads), length-drop (4 * n) calls);
           placed = omega (arith, fit, g .placed);
           long = ap length e ∙ length-append (take at out) ws₁ ∙ omega (arith, front, long₁, g .long, g .placed);
-          behind = sym (drop-drop (stretch k) at out₁) ∙ ap (drop (stretch k)) tail ∙ p .later ∙ ap (drop (stretch k)) (g .behind) ∙ drop-drop (stretch k) at out₀;
+          behind = sym (drop-drop (stretch k) at out₁) ∙ ap (drop (stretch k)) tail ∙ p .later ∙ ap (drop (stretch k)) (g .behind)
+              ∙ drop-drop (stretch k) at out₀;
           outside = only-then (g .outside) (g .same-part) (inside .outside);
           same-part = inside .same-part ∙ g .same-part;
           counted = g .counted ∙ omega (arith, ap length on);
@@ -190,18 +195,22 @@ module _ {start : ℕ} {t₀ t calls out₀ out : List ℤ} {n at : ℕ} (g : Go
         joined ws′ = sym (append-assoc (take at out) (take (stretch k) ws₁) ws′) ∙ ap (λ (l : List ℤ). l ++ ws′) (sym upto)
           where
             upto : take (at + stretch k) out₁ ≡ take at out ++ take (stretch k) ws₁
-            upto = take-add at (stretch k) out₁ ∙ ap (λ (l : List ℤ). take at out₁ ++ take (stretch k) l) tail ∙ ap (λ (l : List ℤ). l ++ take (stretch k) ws₁) (ap (take at) e ∙ take-at (take at out) ws₁ at front)
+            upto = take-add at (stretch k) out₁ ∙ ap (λ (l : List ℤ). take at out₁ ++ take (stretch k) l) tail
+                ∙ ap (λ (l : List ℤ). l ++ take (stretch k) ws₁) (ap (take at) e ∙ take-at (take at out) ws₁ at front)
 
-        onward₁ : (c : ℕ) {t′ ws′ : List ℤ} → Made c start t₁ t′ (runnable (drop (4 * (n + 1)) calls) (length out₀ - (at + stretch k))) (drop (at + stretch k) out₀) ws′ → Made c start t₀ t′ (runnable calls (length out₀)) out₀ (take (at + stretch k) out₁ ++ ws′)
+        onward₁ : (c : ℕ) {t′ ws′ : List ℤ} → Made c start t₁ t′ (runnable (drop (4 * (n + 1)) calls) (length out₀ - (at + stretch k)))
+            (drop (at + stretch k) out₀) ws′ → Made c start t₀ t′ (runnable calls (length out₀)) out₀ (take (at + stretch k) out₁ ++ ws′)
         onward₁ c {t′} {ws′} m =
             subst (λ (l : List ℤ). Made c start t₀ t′ (runnable calls (length out₀)) out₀ l) (joined ws′)
             (g .onward c (subst (λ (ks : List Call). Made c start t t′ ks (drop at out₀) (take (stretch k) ws₁ ++ ws′)) (sym on) here))
           where
             m₁ : Made c start t₁ t′ (runnable (drop (4 * (n + 1)) calls) (length out₀ - (at + stretch k))) (drop (stretch k) (drop at out)) ws′
-            m₁ = subst (λ (l : List ℤ). Made c start t₁ t′ (runnable (drop (4 * (n + 1)) calls) (length out₀ - (at + stretch k))) l ws′) (sym (ap (drop (stretch k)) (g .behind) ∙ drop-drop (stretch k) at out₀)) m
+            m₁ = subst (λ (l : List ℤ). Made c start t₁ t′ (runnable (drop (4 * (n + 1)) calls) (length out₀ - (at + stretch k))) l ws′)
+                (sym (ap (drop (stretch k)) (g .behind) ∙ drop-drop (stretch k) at out₀)) m
 
             here : Made c start t t′ (k ∷ runnable (drop (4 * (n + 1)) calls) (length out₀ - (at + stretch k))) (drop at out₀) (take (stretch k) ws₁ ++ ws′)
-            here = subst (λ (l : List ℤ). Made c start t t′ (k ∷ runnable (drop (4 * (n + 1)) calls) (length out₀ - (at + stretch k))) l (take (stretch k) ws₁ ++ ws′)) (g .behind) (made-next (drop at out) ws₁ ws′ fits₁ p m₁)
+            here = subst (λ (l : List ℤ). Made c start t t′ (k ∷ runnable (drop (4 * (n + 1)) calls) (length out₀ - (at + stretch k))) l
+                (take (stretch k) ws₁ ++ ws′)) (g .behind) (made-next (drop at out) ws₁ ws′ fits₁ p m₁)
 
 -- ---- a turn, on the words as they are lent
 
@@ -211,7 +220,8 @@ lent l at = take (length l - at) (drop at l)
 module _ {start : ℕ} {t₀ t t₁ calls out₀ out : List ℤ} {n at used : ℕ} (ws₁ out₁ : List ℤ) (g : Going start t₀ t calls out₀ out n at)
     (s : Step start t t₁ (lent calls (4 * n)) (lent out at) ws₁ used) (e : out₁ ≡ take at out ++ (ws₁ ++ drop (length out - at) (drop at out))) where
   turn : Step start t t₁ (drop (4 * n) calls) (drop at out) ws₁ used
-  turn = subst (λ (cs : List ℤ). Step start t t₁ cs (drop at out) ws₁ used) (whole-part calls (4 * n)) (subst (λ (ws : List ℤ). Step start t t₁ (lent calls (4 * n)) ws ws₁ used) (whole-part out at) s)
+  turn = subst (λ (cs : List ℤ). Step start t t₁ cs (drop at out) ws₁ used) (whole-part calls (4 * n))
+      (subst (λ (ws : List ℤ). Step start t t₁ (lent calls (4 * n)) ws ws₁ used) (whole-part out at) s)
 
   back : out₁ ≡ take at out ++ ws₁
   back = lent-back out at ws₁ e

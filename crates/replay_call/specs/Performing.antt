@@ -46,7 +46,8 @@ module _ (ws : List ℤ) {ws′ : List ℤ} (five : List ℤ) (n : length five �
   five-long = ap length e ∙ length-append five (drop 5 ws) ∙ omega (arith, n, length-drop 5 ws)
 
 module _ {start : ℕ} {t : List ℤ} (ws : List ℤ) {ws′ : List ℤ} (h : 5 ≤ length ws) where
-  pub posts : {t′ : List ℤ} {u : Update} (n r b : ℤ) → Updates (post n r b) start t t′ u → ws′ ≡ updateWords u ++ drop 5 ws → Performed (post n r b) start t t′ ws ws′
+  pub posts : {t′ : List ℤ} {u : Update} (n r b : ℤ) → Updates (post n r b) start t t′ u → ws′ ≡ updateWords u ++ drop 5 ws →
+      Performed (post n r b) start t t′ ws ws′
   posts {t′} {u} n r b p e =
       record {
         answer = updateAnswer u;
@@ -56,7 +57,8 @@ module _ {start : ℕ} {t : List ℤ} (ws : List ℤ) {ws′ : List ℤ} (h : 5 
         later = five-drop ws (updateWords u) (update-five u) h e;
       }
 
-  pub withdraws : {t′ : List ℤ} {u : Update} (n : ℤ) → Updates (withdraw n) start t t′ u → ws′ ≡ updateWords u ++ drop 5 ws → Performed (withdraw n) start t t′ ws ws′
+  pub withdraws : {t′ : List ℤ} {u : Update} (n : ℤ) → Updates (withdraw n) start t t′ u → ws′ ≡ updateWords u ++ drop 5 ws →
+      Performed (withdraw n) start t t′ ws ws′
   withdraws {t′} {u} n p e =
       record {
         answer = updateAnswer u;
@@ -105,7 +107,8 @@ lists {start} {t} ws {ws₁} {ws′} {out′} {l} room h p e₁ e =
     h₁ = omega (arith, long₁)
 
     back : drop 5 ws′ ≡ out′ ++ drop room (drop 5 ws)
-    back = five-drop ws₁ (listedWords l) (listed-five l) h₁ e ∙ ap (drop 5) e₁ ∙ drop-at (take 5 ws) (out′ ++ drop room (drop 5 ws)) 5 (length-take-le 5 ws (omega arith))
+    back = five-drop ws₁ (listedWords l) (listed-five l) h₁ e ∙ ap (drop 5) e₁ ∙ drop-at (take 5 ws) (out′ ++ drop room (drop 5 ws)) 5
+        (length-take-le 5 ws (omega arith))
 
 -- its end is told as the words in front and the room
 pub lists-to :
@@ -124,14 +127,19 @@ some-words (withdraw n) = omega arith
 some-words (query q) = omega arith
 some-words (listing room) = omega arith
 
-pub step-none : {start : ℕ} {t : List ℤ} (cs ws : List ℤ) {asked : Option Call} → asked ≡ nextCall cs → fitting asked (length ws) ≡ false → Step start t t cs ws ws 0
+pub step-none : {start : ℕ} {t : List ℤ} (cs ws : List ℤ) {asked : Option Call} → asked ≡ nextCall cs → fitting asked (length ws) ≡ false →
+    Step start t t cs ws ws 0
 step-none cs ws e f = record { stopped = λ h. (ap (λ (k : Option Call). fitting k (length ws)) (sym e) ∙ f, refl, refl); ran = λ h. absurd (omega arith) }
 
 pub step-some :
     {start : ℕ} {t t′ : List ℤ} (cs ws ws′ : List ℤ) (asked : Option Call) {used : ℕ} →
     asked ≡ nextCall cs → fitting asked (length ws) ≡ true → Performs asked start t t′ ws ws′ used → Step start t t′ cs ws ws′ used
 step-some cs ws ws′ none e f p = absurd p
-step-some cs ws ws′ (some k) e f p = record { stopped = λ h. absurd (omega (arith, h, p .1, some-words k)); ran = λ h. (k, record { reads = sym e; fits = f }, p .0, p .1) }
+step-some cs ws ws′ (some k) e f p = record {
+  stopped = λ h. absurd (omega (arith, h, p .1, some-words k));
+  ran =
+      λ h. (k, record { reads = sym e; fits = f }, p .0, p .1);
+}
 
 module _ {asked : Option Call} {k : Call} (e : asked ≡ some k) where
   pub call-fits : (room : ℕ) → fitting asked room ≡ true → stretch k ≤ room

@@ -98,7 +98,8 @@ too-few (a ∷ b ∷ []) h = refl
 too-few (a ∷ b ∷ c ∷ []) h = refl
 too-few (a ∷ b ∷ c ∷ d ∷ ws) h = absurd (omega arith)
 
-pub four : {k : Option Call} (ws : List ℤ) → 4 ≤ length ws → k ≡ callOf (getD ws 0 (pos 0)) (getD ws 1 (pos 0)) (getD ws 2 (pos 0)) (getD ws 3 (pos 0)) → k ≡ nextCall ws
+pub four : {k : Option Call} (ws : List ℤ) → 4 ≤ length ws → k ≡ callOf (getD ws 0 (pos 0)) (getD ws 1 (pos 0)) (getD ws 2 (pos 0)) (getD ws 3 (pos 0)) →
+    k ≡ nextCall ws
 four [] h e = absurd (omega arith)
 four (a ∷ []) h e = absurd (omega arith)
 four (a ∷ b ∷ []) h e = absurd (omega arith)
@@ -119,7 +120,8 @@ runnable-none (a ∷ b ∷ c ∷ d ∷ ws) room e = go (callOf a b c d) e
     go none q = refl
     go (some k) q = rw q
 
-pub runnable-next : (ws : List ℤ) (room : ℕ) {k : Call} → nextCall ws ≡ some k → leb (stretch k) room ≡ true → runnable ws room ≡ k ∷ runnable (drop 4 ws) (room - stretch k)
+pub runnable-next : (ws : List ℤ) (room : ℕ) {k : Call} → nextCall ws ≡ some k → leb (stretch k) room ≡ true →
+    runnable ws room ≡ k ∷ runnable (drop 4 ws) (room - stretch k)
 unfolding runnable
 runnable-next [] room e f = cc
 runnable-next (a ∷ []) room e f = cc

@@ -5,19 +5,16 @@ use mathlib.Core.Path.{_≡_}
 use mathlib.Core.List.{List, [], _∷_, _++_}
 use mathlib.Core.Option.{Option, none, some}
 use mathlib.Core.Bool.{Bool, true, false, _&&_, cond}
-use Prim.Native.Nat.{ℕ, _+_, _*_, _-_, _≤_}
+use Prim.Native.Nat.{ℕ, zero, suc, _+_, _*_, _-_, _≤_}
 use lib.ListN.{length, take, drop, getD}
 use lib.IntN.{ℤ, pos, negsuc}
 use lib.Dec.{leb}
 use Rattle.integers.specs.Equal.{equal}
 use Rattle.plain.specs.Book.{Call, post, withdraw, query, listing, Answer, refused, live, found, listed}
 use Rattle.promises.specs.declared.Update.{Update}
-use Rattle.promises.specs.declared.Update.the-variants.{Done, Declined as UpdateDeclined}
 use Rattle.promises.specs.declared.Found.{Found}
-use Rattle.promises.specs.declared.Found.the-variants.{Offer, Declined as FoundDeclined}
 use Rattle.promises.specs.declared.Listed.{Listed}
-use Rattle.promises.specs.declared.Listed.the-variants.{Pieces, Declined as ListingDeclined}
-use Rattle.promises.specs.Promises.{counted, writtenWords}
+use Rattle.promises.specs.Promises.{counted, updateTold, foundTold, listedTold, writtenWords}
 
 -- ---- calls
 
@@ -94,18 +91,21 @@ pub record Run (calls : List ℤ) (room : ℕ) (ks : List Call) : Type 0 where
 
 -- ---- answers: a refusal's number, or 0 and four values
 
+-- so many words: the values, and zeros behind them
+abbrev pub padded : ℕ → List ℤ → List ℤ
+padded zero values = []
+padded (suc n) [] = pos 0 ∷ padded n []
+padded (suc n) (value ∷ values) = value ∷ padded n values
+
 abbrev pub updateWords : Update → List ℤ
-updateWords (Done n k s h) = pos 0 ∷ n ∷ k ∷ s ∷ h ∷ []
-updateWords (UpdateDeclined c) = c ∷ pos 0 ∷ pos 0 ∷ pos 0 ∷ pos 0 ∷ []
+updateWords r = updateTold r .number ∷ padded 4 (updateTold r .values)
 
 abbrev pub foundWords : Found → List ℤ
-foundWords (Offer number price probes) = pos 0 ∷ number ∷ price ∷ probes ∷ pos 0 ∷ []
-foundWords (FoundDeclined c) = c ∷ pos 0 ∷ pos 0 ∷ pos 0 ∷ pos 0 ∷ []
+foundWords r = foundTold r .number ∷ padded 4 (foundTold r .values)
 
 -- the words written follow
 abbrev pub listedWords : Listed → List ℤ
-listedWords (Pieces m) = pos 0 ∷ m ∷ pos 0 ∷ pos 0 ∷ pos 0 ∷ []
-listedWords (ListingDeclined c) = c ∷ pos 0 ∷ pos 0 ∷ pos 0 ∷ pos 0 ∷ []
+listedWords r = listedTold r .number ∷ padded 4 (listedTold r .values)
 
 -- ---- and read off again
 

@@ -49,11 +49,13 @@ short-words a b {k} e = second (equal a (pos 2)) refl e
     fourth true f q = words 4 f ∙ listed b q
     fourth false f q = let z : _≡_ {A = ℕ} 0 1 = cc in absurd (omega arith)
 
-    third : (x : Bool) → equal a (pos 3) ≡ x → cond x (some (query b)) (cond (equal a (pos 4)) (listingOf b) none) ≡ some k → a ∷ b ∷ pos 0 ∷ pos 0 ∷ [] ≡ encode k
+    third : (x : Bool) → equal a (pos 3) ≡ x → cond x (some (query b)) (cond (equal a (pos 4)) (listingOf b) none) ≡ some k →
+        a ∷ b ∷ pos 0 ∷ pos 0 ∷ [] ≡ encode k
     third true f q = let r : query b ≡ k = cc in words 3 f ∙ ap encode r
     third false f q = fourth (equal a (pos 4)) refl q
 
-    second : (x : Bool) → equal a (pos 2) ≡ x → cond x (some (withdraw b)) (cond (equal a (pos 3)) (some (query b)) (cond (equal a (pos 4)) (listingOf b) none)) ≡ some k → a ∷ b ∷ pos 0 ∷ pos 0 ∷ [] ≡ encode k
+    second : (x : Bool) → equal a (pos 2) ≡ x → cond x (some (withdraw b))
+        (cond (equal a (pos 3)) (some (query b)) (cond (equal a (pos 4)) (listingOf b) none)) ≡ some k → a ∷ b ∷ pos 0 ∷ pos 0 ∷ [] ≡ encode k
     second true f q = let r : withdraw b ≡ k = cc in words 2 f ∙ ap encode r
     second false f q = third (equal a (pos 3)) refl q
 
@@ -65,7 +67,8 @@ call-words a b c d {k} e = first (equal a (pos 1)) refl e
     padded true false p q f = let z : _≡_ {A = ℕ} 0 1 = cc in absurd (omega arith)
     padded false y p q f = let z : _≡_ {A = ℕ} 0 1 = cc in absurd (omega arith)
 
-    first : (x : Bool) → equal a (pos 1) ≡ x → cond x (some (post b c d)) (cond (equal c (pos 0) && equal d (pos 0)) (shortCall a b) none) ≡ some k → a ∷ b ∷ c ∷ d ∷ [] ≡ encode k
+    first : (x : Bool) → equal a (pos 1) ≡ x → cond x (some (post b c d)) (cond (equal c (pos 0) && equal d (pos 0)) (shortCall a b) none) ≡ some k →
+        a ∷ b ∷ c ∷ d ∷ [] ≡ encode k
     first true f q = let r : post b c d ≡ k = cc in ap (λ (z : ℤ). z ∷ b ∷ c ∷ d ∷ []) (same-is a (pos 1) f) ∙ ap encode r
     first false f q = padded (equal c (pos 0)) (equal d (pos 0)) refl refl q
 
@@ -76,7 +79,8 @@ run-none calls room f =
     let e : room - 0 ≡ room = omega arith in
     record { words = refl; fits = omega arith; ends = ap (fitting (nextCall calls)) e ∙ f }
 
-run-next : (a b c d : ℤ) (ws : List ℤ) (room : ℕ) (k : Call) (ks : List Call) → callOf a b c d ≡ some k → leb (stretch k) room ≡ true → Run ws (room - stretch k) ks → Run (a ∷ b ∷ c ∷ d ∷ ws) room (k ∷ ks)
+run-next : (a b c d : ℤ) (ws : List ℤ) (room : ℕ) (k : Call) (ks : List Call) → callOf a b c d ≡ some k → leb (stretch k) room ≡ true →
+    Run ws (room - stretch k) ks → Run (a ∷ b ∷ c ∷ d ∷ ws) room (k ∷ ks)
 run-next a b c d ws room k ks e f r =
     let h : stretch k ≤ room = leb-true (stretch k) room f in
     let n : 4 * length (k ∷ ks) ≡ 4 + 4 * length ks = omega arith in
@@ -97,7 +101,8 @@ run-reach (a ∷ b ∷ []) room = run-none (a ∷ b ∷ []) room refl
 run-reach (a ∷ b ∷ c ∷ []) room = run-none (a ∷ b ∷ c ∷ []) room refl
 run-reach (a ∷ b ∷ c ∷ d ∷ ws) room = go (callOf a b c d) refl (run-reach ws)
   where
-    test : (k : Call) → callOf a b c d ≡ some k → ((m : ℕ) → Run ws m (runnable ws m)) → (x : Bool) → leb (stretch k) room ≡ x → Run (a ∷ b ∷ c ∷ d ∷ ws) room (cond x (k ∷ runnable ws (room - stretch k)) [])
+    test : (k : Call) → callOf a b c d ≡ some k → ((m : ℕ) → Run ws m (runnable ws m)) → (x : Bool) → leb (stretch k) room ≡ x →
+        Run (a ∷ b ∷ c ∷ d ∷ ws) room (cond x (k ∷ runnable ws (room - stretch k)) [])
     test k e f true q = run-next a b c d ws room k (runnable ws (room - stretch k)) e q (f (room - stretch k))
     test k e f false q = run-none (a ∷ b ∷ c ∷ d ∷ ws) room (ap (λ (o : Option Call). fitting o room) e ∙ q)
 

@@ -14,7 +14,8 @@ use Rattle.prices.specs.Prices.{aboveAt}
 use Rattle.walks.specs.Walks.{Walk}
 use Rattle.walks.specs.CodeMoves.{Topped, Pointed, pointWord, pointed-by}
 use Rattle.walks.specs.Actions.{walk, Does, sided}
-use Rattle.search.specs.SearchSteps.{uOf, vOf, Receded, Stepped, receded-bottom, receded-leaf, receded-mine, receded-theirs, receded-neither, stepped-mine, stepped-theirs, stepped-done, stepped-on}
+use Rattle.search.specs.SearchSteps.{uOf, vOf, Receded, Stepped, receded-bottom, receded-leaf, receded-mine, receded-theirs, receded-neither}
+use Rattle.search.specs.SearchSteps.{stepped-mine, stepped-theirs, stepped-done, stepped-on}
 
 -- ---- the promises
 
@@ -23,7 +24,8 @@ pub record Recedes (ours other : Words) (side : Bool) (x t y p : ℕ) (m : Move)
   pub mine : Action
   pub theirs : Action
   pub is : m ≡ sided side mine theirs
-  pub next : {st st′ : List ℕ} {d d′ : ℕ} → Topped (walk x st d) t → Pointed (walk y st′ d′) p → {h k : Walk} → Does ours side mine (walk x st d) h → Does other (not side) theirs (walk y st′ d′) k → Receded ours other side (walk x st d) (walk y st′ d′) h k
+  pub next : {st st′ : List ℕ} {d d′ : ℕ} → Topped (walk x st d) t → Pointed (walk y st′ d′) p → {h k : Walk} → Does ours side mine (walk x st d) h →
+      Does other (not side) theirs (walk y st′ d′) k → Receded ours other side (walk x st d) (walk y st′ d′) h k
 
 abbrev pub state : ℕ → List ℕ → ℕ → ℕ → List ℕ → ℕ → Bool → Search
 state u us ud v vs vd done =
@@ -39,7 +41,8 @@ state u us ud v vs vd done =
 
 pub record Chooses (wl wr : Words) (u t v w : ℕ) (m : Move) : Type 0 where
   pub stays : m .done ≡ true → (m .u ≡ Stay) × (m .v ≡ Stay)
-  pub next : (us : List ℕ) (ud : ℕ) (vs : List ℕ) (vd : ℕ) (b : Bool) → Topped (walk u us ud) t → Topped (walk v vs vd) w → (r : Search) → r .done ≡ m .done → Does wl false (m .u) (walk u us ud) (uOf r) → Does wr true (m .v) (walk v vs vd) (vOf r) → Stepped wl wr (state u us ud v vs vd b) r
+  pub next : (us : List ℕ) (ud : ℕ) (vs : List ℕ) (vd : ℕ) (b : Bool) → Topped (walk u us ud) t → Topped (walk v vs vd) w → (r : Search) →
+      r .done ≡ m .done → Does wl false (m .u) (walk u us ud) (uOf r) → Does wr true (m .v) (walk v vs vd) (vOf r) → Stepped wl wr (state u us ud v vs vd b) r
 
 -- ---- each answer of the code
 

@@ -179,7 +179,8 @@ going-start e = record { going = λ F. rw e (begun F) }
 
 -- what a step makes of a search under way
 abbrev Turned : Words → Words → Tree Item → Tree Item → Search → ℕ → Type 0
-Turned wl wr tl tr r k = ((r .done ≡ true) × Answers (record { u = r .u; v = r .v; steps = k; done = true }) (meet itemFigure tl tr)) ⊎ ((r .done ≡ false) × Underway wl wr tl tr r k)
+Turned wl wr tl tr r k = ((r .done ≡ true) × Answers (record { u = r .u; v = r .v; steps = k; done = true }) (meet itemFigure tl tr)) ⊎
+    ((r .done ≡ false) × Underway wl wr tl tr r k)
 
 module _ {wl wr : Words} {tl tr : Tree Item} {s : Search} {k : ℕ} (g : Underway wl wr tl tr s k) where
   fares-u : Fares wl false (uOf s) (g .state .u)
@@ -189,11 +190,13 @@ module _ {wl wr : Words} {tl tr : Tree Item} {s : Search} {k : ℕ} (g : Underwa
   fares-v = record { aim = g .meeting .rightAim; low = g .right-tall; stands = g .sound .them; stood = g .stood .v }
 
   -- one step of the machine is one of the steps that are left
-  turned-by : {r : Search} (n : ℕ) → n + k ≡ limit tl tr → potential (g .sound) < n → meet itemFigure tl tr ≡ later k (run itemFigure n (g .state)) → (o : Option (State Item)) → step itemFigure (g .state) ≡ o → Progress (g .meeting) (g .sound) o → After wl wr s r o → Turned wl wr tl tr r (k + 1)
+  turned-by : {r : Search} (n : ℕ) → n + k ≡ limit tl tr → potential (g .sound) < n → meet itemFigure tl tr ≡ later k (run itemFigure n (g .state)) →
+      (o : Option (State Item)) → step itemFigure (g .state) ≡ o → Progress (g .meeting) (g .sound) o → After wl wr s r o → Turned wl wr tl tr r (k + 1)
   unfolding run ended counted
   turned-by zero b p e o q z a = absurd (omega arith)
   turned-by {r} (suc n) b p e none q z a =
-      let f : meet itemFigure tl tr ≡ later k (ended true (g .state) 1) = e ∙ ap (λ (o : Option (State Item)). later k (elim o [ none ↦ ended true (g .state) 1 | some s′ ↦ counted (run itemFigure n s′) ])) q in
+      let f : meet itemFigure tl tr ≡ later k (ended true (g .state) 1) =
+      e ∙ ap (λ (o : Option (State Item)). later k (elim o [ none ↦ ended true (g .state) 1 | some s′ ↦ counted (run itemFigure n s′) ])) q in
       inl (
         a .0,
         record {
@@ -209,7 +212,8 @@ module _ {wl wr : Words} {tl tr : Tree Item} {s : Search} {k : ℕ} (g : Underwa
         },
       )
   turned-by {r} (suc n) b p e (some s′) q (j, less) a =
-      let f : meet itemFigure tl tr ≡ later k (counted (run itemFigure n s′)) = e ∙ ap (λ (o : Option (State Item)). later k (elim o [ none ↦ ended true (g .state) 1 | some s′ ↦ counted (run itemFigure n s′) ])) q in
+      let f : meet itemFigure tl tr ≡ later k (counted (run itemFigure n s′)) =
+      e ∙ ap (λ (o : Option (State Item)). later k (elim o [ none ↦ ended true (g .state) 1 | some s′ ↦ counted (run itemFigure n s′) ])) q in
       inr (
         a .0,
         record {
@@ -228,7 +232,8 @@ module _ {wl wr : Words} {tl tr : Tree Item} {s : Search} {k : ℕ} (g : Underwa
 
   turned : {r : Search} → Stepped wl wr s r → Turned wl wr tl tr r (k + 1)
   turned {r} z =
-      turned-by (g .left-over) (g .budget) (g .owed) (g .same) (step itemFigure (g .state)) refl (step-sound (g .meeting) (g .state) (g .sound)) (z .moved fares-u fares-v)
+      turned-by (g .left-over) (g .budget) (g .owed) (g .same) (step itemFigure (g .state)) refl (step-sound (g .meeting) (g .state) (g .sound))
+      (z .moved fares-u fares-v)
 
 -- ---- each answer of the loop
 

@@ -1,5 +1,5 @@
-// The meeting of two envelopes that are kept in tables: the search of docs/REQUIREMENTS.md, 6 (its source [1], section 4), by two walks that carry a stack each.
-// Every function takes any words. Left is false, right is true; toward is the way to the other envelope, away the way to the outer end.
+// The meeting of two envelopes that are kept in tables: the search of docs/REQUIREMENTS.md, 6 (its source [1], section 4), by two walks that carry a
+// stack each. Every function takes any words. Left is false, right is true; toward is the way to the other envelope, away the way to the outer end.
 ghost use mathlib.Core.Path.{_≡_};
 ghost use mathlib.Core.Bool.{_&&_};
 ghost use lib.Dec.{leb};

@@ -31,4 +31,8 @@ module _ {k gap p q hp hq x : ℕ} {side : Bool} {w w′ : Words} (ep : hp ≡ h
       (λ tp tq pair. sym (balance-on side tp tq ∙ rw (no-tower (pair-one pair) (pair-other pair) ep eq h, tower (pair-other pair) (pair-one pair) eq ep d)))
 
   pub balanced-level : hp ≤ hq + 1 → hq ≤ hp + 1 → Joined (nodeOn side) k side gap p q w w′ x → Joined (balanceOn side) k side gap p q w w′ x
-  balanced-level h d j = reshaped j (λ tp tq pair. sym (balance-on side tp tq ∙ rw (no-tower (pair-one pair) (pair-other pair) ep eq h, no-tower (pair-other pair) (pair-one pair) eq ep d)))
+  balanced-level h d j =
+      reshaped j (λ tp tq pair. sym (balance-on side tp tq ∙ rw (
+        no-tower (pair-one pair) (pair-other pair) ep eq h,
+        no-tower (pair-other pair) (pair-one pair) eq ep d,
+      )))

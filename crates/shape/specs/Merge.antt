@@ -27,7 +27,11 @@ pub merged-right : {k gap l r : ℕ} {w : Words} → l ≡ 0 → Merged k gap l 
 merged-right {k} {gap} {l} {r} {w} e = record { within = within-refl w; made = made }
   where
     made : (pl pr : Part Item) → PairP w k l r pl pr → Seam gap pl pr → AvlP pl → AvlP pr → MadeP k w w r (joinP pl pr)
-    made none pr p d a b = record { rep = record { kind = p .kind; root = p .right; slots = p .slots; tied = p .tied-right }; only = only-refl k (partLeaves pr) w }
+    made none pr p d a b = record {
+      rep = record { kind = p .kind; root = p .right; slots = p .slots; tied = p .tied-right };
+      only =
+          only-refl k (partLeaves pr) w;
+    }
     made (some t) pr p d a b = absurd (omega (arith, e, p .left, ref-low t (slots-left (partLeaves pr) (p .slots))))
 
 pub merged-left : {k gap l r : ℕ} {w : Words} → r ≡ 0 → Merged k gap l r w w l
@@ -36,7 +40,11 @@ merged-left {k} {gap} {l} {r} {w} e = record { within = within-refl w; made = ma
     made : (pl pr : Part Item) → PairP w k l r pl pr → Seam gap pl pr → AvlP pl → AvlP pr → MadeP k w w l (joinP pl pr)
     made pl (some t) p d a b = absurd (omega (arith, e, p .right, ref-low t (slots-right (partLeaves pl) (p .slots))))
     made none none p d a b = record { rep = record { kind = p .kind; root = p .left; slots = p .slots; tied = tt }; only = only-refl k _ w }
-    made (some t) none p d a b = record { rep = record { kind = p .kind; root = p .left; slots = slots-left [] (p .slots); tied = p .tied-left }; only = only-refl k _ w }
+    made (some t) none p d a b = record {
+      rep = record { kind = p .kind; root = p .left; slots = slots-left [] (p .slots); tied = p .tied-left };
+      only =
+          only-refl k _ w;
+    }
 
 -- both parts are there
 both : {k gap l r x : ℕ} {w w′ : Words} → l ≢ 0 → r ≢ 0 → Within w w′
@@ -46,26 +54,38 @@ both {k} {gap} {l} {r} {x} {w} {w′} nl nr g f = record { within = g; made = ma
     made : (pl pr : Part Item) → PairP w k l r pl pr → Seam gap pl pr → AvlP pl → AvlP pr → MadeP k w w′ x (joinP pl pr)
     made none pr p d a b = absurd (nl (p .left))
     made (some t) none p d a b = absurd (nr (p .right))
-    made (some s) (some t) p d a b = made-some (f s t (record { kind = p .kind; one = p .left; other = p .right; slots = p .slots; tied-one = p .tied-left; tied-other = p .tied-right }) d a b)
+    made (some s) (some t) p d a b =
+        made-some (f s t (record { kind = p .kind; one = p .left; other = p .right; slots = p .slots; tied-one = p .tied-left; tied-other = p .tied-right })
+        d a b)
 
 -- ---- the three ways of `join`
 
-pub merged-one : {k gap l r limit x : ℕ} {b : Bool} {w w′ : Words} → l ≢ 0 → r ≢ 0 → 24 ≤ limit → b ≡ towersAt w k l r → b ≡ true → Spliced k false gap l r limit w w′ x → Merged k gap l r w w′ x
+pub merged-one : {k gap l r limit x : ℕ} {b : Bool} {w w′ : Words} → l ≢ 0 → r ≢ 0 → 24 ≤ limit → b ≡ towersAt w k l r → b ≡ true →
+    Spliced k false gap l r limit w w′ x → Merged k gap l r w w′ x
 unfolding join
 merged-one {w} nl nr n eb e j =
     both nl nr (j .within)
-    (λ tl tr pair d a b. made-as (sym (rw (sym (towers-read (pair-one pair) (pair-other pair)) ∙ sym eb ∙ e))) (j .made tl tr pair d (omega (arith, n, low w (pair-one pair .slots) a))))
+    (λ tl tr pair d a b. made-as (sym (rw (sym (towers-read (pair-one pair) (pair-other pair)) ∙ sym eb ∙ e)))
+    (j .made tl tr pair d (omega (arith, n, low w (pair-one pair .slots) a))))
 
-pub merged-other : {k gap l r limit x : ℕ} {b c : Bool} {w w′ : Words} → l ≢ 0 → r ≢ 0 → 24 ≤ limit → b ≡ towersAt w k l r → b ≡ false → c ≡ towersAt w k r l → c ≡ true
+pub merged-other : {k gap l r limit x : ℕ} {b c : Bool} {w w′ : Words} → l ≢ 0 → r ≢ 0 → 24 ≤ limit → b ≡ towersAt w k l r → b ≡ false →
+    c ≡ towersAt w k r l → c ≡ true
     → Spliced k true gap r l limit w w′ x → Merged k gap l r w w′ x
 unfolding join
 merged-other {w} nl nr n eb e ec f j =
     both nl nr (j .within)
-    (λ tl tr pair d a b. made-as (sym (rw (sym (towers-read (pair-one pair) (pair-other pair)) ∙ sym eb ∙ e, sym (towers-read (pair-other pair) (pair-one pair)) ∙ sym ec ∙ f))) (j .made tr tl (pair-flip pair) d (omega (arith, n, low w (pair-other pair .slots) b))))
+    (λ tl tr pair d a b. made-as (sym (rw (
+      sym (towers-read (pair-one pair) (pair-other pair)) ∙ sym eb ∙ e,
+      sym (towers-read (pair-other pair) (pair-one pair)) ∙ sym ec ∙ f,
+    )))
+    (j .made tr tl (pair-flip pair) d (omega (arith, n, low w (pair-other pair .slots) b))))
 
 pub merged-level : {k gap l r x : ℕ} {b c : Bool} {w w′ : Words} → l ≢ 0 → r ≢ 0 → b ≡ towersAt w k l r → b ≡ false → c ≡ towersAt w k r l → c ≡ false
     → Joined (nodeOn false) k false gap l r w w′ x → Merged k gap l r w w′ x
 unfolding join
 merged-level nl nr eb e ec f j =
     both nl nr (j .within)
-    (λ tl tr pair d a b. made-as (sym (rw (sym (towers-read (pair-one pair) (pair-other pair)) ∙ sym eb ∙ e, sym (towers-read (pair-other pair) (pair-one pair)) ∙ sym ec ∙ f))) (j .made tl tr pair d))
+    (λ tl tr pair d a b. made-as (sym (rw (
+      sym (towers-read (pair-one pair) (pair-other pair)) ∙ sym eb ∙ e,
+      sym (towers-read (pair-other pair) (pair-one pair)) ∙ sym ec ∙ f,
+    ))) (j .made tl tr pair d))

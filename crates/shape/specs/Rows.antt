@@ -12,11 +12,13 @@ use Rattle.shape.specs.Sides.{rowOn, seam-first}
 use Rattle.nodes.specs.Joining.{Joined}
 
 -- a tree that shares no slot with the one that was made stands as before
-pub tied-beside : {k y : ℕ} {w w′ : Words} {ty tq : Tree Item} → Made k w w′ y ty → Tied w k tq → ((s : ℕ) → In s (leaves ty) → In s (leaves tq) → ⊥) → Tied w′ k tq
+pub tied-beside : {k y : ℕ} {w w′ : Words} {ty tq : Tree Item} → Made k w w′ y ty → Tied w k tq → ((s : ℕ) → In s (leaves ty) → In s (leaves tq) → ⊥) →
+    Tied w′ k tq
 tied-beside m t d = tied-still t (m .only) (λ s i j. d s j (inner-in i))
 
 -- the tree that was made, on a side, and one that stood beside it
-pub pair-made : {k y q : ℕ} {w w′ : Words} {ty tq : Tree Item} (side : Bool) → Within w w′ → Made k w w′ y ty → q ≡ refOf tq → Tied w k tq → Slots (cap w) (leaves (nodeOn side ty tq)) → Pair w′ k side y q ty tq
+pub pair-made : {k y q : ℕ} {w w′ : Words} {ty tq : Tree Item} (side : Bool) → Within w w′ → Made k w w′ y ty → q ≡ refOf tq → Tied w k tq →
+    Slots (cap w) (leaves (nodeOn side ty tq)) → Pair w′ k side y q ty tq
 pair-made {ty} {tq} side g m e t s =
     record {
       kind = m .rep .kind;
@@ -27,7 +29,8 @@ pair-made {ty} {tq} side g m e t s =
       tied-other = tied-beside m t (λ n i j. on-across ty tq side s i j);
     }
 
-pub pair-beside : {k p y : ℕ} {w w′ : Words} {tp ty : Tree Item} (side : Bool) → Within w w′ → Made k w w′ y ty → p ≡ refOf tp → Tied w k tp → Slots (cap w) (leaves (nodeOn side tp ty)) → Pair w′ k side p y tp ty
+pub pair-beside : {k p y : ℕ} {w w′ : Words} {tp ty : Tree Item} (side : Bool) → Within w w′ → Made k w w′ y ty → p ≡ refOf tp → Tied w k tp →
+    Slots (cap w) (leaves (nodeOn side tp ty)) → Pair w′ k side p y tp ty
 pair-beside {tp} {ty} side g m e t s =
     record {
       kind = m .rep .kind;
@@ -39,7 +42,8 @@ pair-beside {tp} {ty} side g m e t s =
     }
 
 -- a tree made of one that was made before
-pub made-then : {k y x : ℕ} {w w′ w″ : Words} {ty t : Tree Item} → Made k w w′ y ty → Made k w′ w″ x t → ((s : ℕ) → In s (leaves ty) → In s (leaves t)) → Made k w w″ x t
+pub made-then : {k y x : ℕ} {w w′ w″ : Words} {ty t : Tree Item} → Made k w w′ y ty → Made k w′ w″ x t → ((s : ℕ) → In s (leaves ty) → In s (leaves t)) →
+    Made k w w″ x t
 made-then a b sub = record { rep = b .rep; only = only-trans (only-more sub (a .only)) (b .only) }
 
 pub made-as : {k x : ℕ} {w w′ : Words} {s t : Tree Item} → s ≡ t → Made k w w′ x s → Made k w w′ x t
@@ -64,7 +68,14 @@ pub record Rowed (shape : Tree Item → Tree Item → Tree Item → Tree Item) (
 
 pub row-pair : {w : Words} {k p m q : ℕ} {side : Bool} {tp tm tq : Tree Item} → Row w k side p m q tp tm tq → Pair w k side m q tm tq
 row-pair {side} {tp} {tm} {tq} r =
-    record { kind = r .kind; one = r .middle; other = r .other; slots = on-other tp (nodeOn side tm tq) side (r .slots); tied-one = r .tied-middle; tied-other = r .tied-other }
+    record {
+      kind = r .kind;
+      one = r .middle;
+      other = r .other;
+      slots = on-other tp (nodeOn side tm tq) side (r .slots);
+      tied-one = r .tied-middle;
+      tied-other = r .tied-other;
+    }
 
 pub row-one : {w : Words} {k p m q : ℕ} {side : Bool} {tp tm tq : Tree Item} → Row w k side p m q tp tm tq → Rep w k p tp
 row-one {side} {tp} {tm} {tq} r = record { kind = r .kind; root = r .one; slots = on-one tp (nodeOn side tm tq) side (r .slots); tied = r .tied-one }
@@ -73,11 +84,14 @@ pub row-middle : {w : Words} {k p m q : ℕ} {side : Bool} {tp tm tq : Tree Item
 row-middle r = pair-one (row-pair r)
 
 -- a node over the last two, then one over that and the first
-pub rowed : {k near far p m q y x : ℕ} {side : Bool} {w w₁ w₂ : Words} → Joined (nodeOn side) k side far m q w w₁ y → Joined (nodeOn side) k side near p y w₁ w₂ x → Rowed (rowOn side) k side near far p m q w w₂ x
+pub rowed : {k near far p m q y x : ℕ} {side : Bool} {w w₁ w₂ : Words} → Joined (nodeOn side) k side far m q w w₁ y →
+    Joined (nodeOn side) k side near p y w₁ w₂ x → Rowed (rowOn side) k side near far p m q w w₂ x
 rowed {k} {near} {far} {p} {m} {q} {y} {x} {side} {w} {w₁} {w₂} a b = record { within = within-trans (a .within) (b .within); made = made }
   where
-    made : (tp tm tq : Tree Item) → Row w k side p m q tp tm tq → near ≡ seam side tp tm .slot → far ≡ seam side tm tq .slot → Made k w w₂ x (rowOn side tp tm tq)
+    made : (tp tm tq : Tree Item) → Row w k side p m q tp tm tq → near ≡ seam side tp tm .slot → far ≡ seam side tm tq .slot →
+        Made k w w₂ x (rowOn side tp tm tq)
     made tp tm tq r e d =
         let first = a .made tm tq (row-pair r) d in
-        made-then first (b .made tp (nodeOn side tm tq) (pair-beside side (a .within) first (r .one) (r .tied-one) (r .slots)) (e ∙ ap (λ (i : Item). i .slot) (sym (seam-first side tp tm tq))))
+        made-then first (b .made tp (nodeOn side tm tq) (pair-beside side (a .within) first (r .one) (r .tied-one) (r .slots))
+        (e ∙ ap (λ (i : Item). i .slot) (sym (seam-first side tp tm tq))))
         (λ s i. in-other side tp (nodeOn side tm tq) i)

@@ -80,7 +80,8 @@ unfolding rotateRight rotateLeft
 rotate-leaf false a q = refl
 rotate-leaf true a q = refl
 
-pub rotate-node : (side : Bool) (p m q : Tree Item) → rotateOn side (nodeOn side p m) q ≡ cond (leb (height m) (height p)) (rowOn side p m q) (doubleOn side p m q)
+pub rotate-node : (side : Bool) (p m q : Tree Item) → rotateOn side (nodeOn side p m) q ≡ cond (leb (height m) (height p)) (rowOn side p m q)
+    (doubleOn side p m q)
 unfolding rotateRight rotateLeft
 rotate-node false p m q = refl
 rotate-node true p m q = refl
@@ -92,7 +93,8 @@ swap x y z true false h = refl
 swap x y z false true h = refl
 swap x y z false false h = refl
 
-pub balance-on : (side : Bool) (p q : Tree Item) → balanceOn side p q ≡ cond (towers p q) (rotateOn side p q) (cond (towers q p) (rotateOn (not side) q p) (nodeOn side p q))
+pub balance-on : (side : Bool) (p q : Tree Item) → balanceOn side p q ≡ cond (towers p q) (rotateOn side p q)
+    (cond (towers q p) (rotateOn (not side) q p) (nodeOn side p q))
 unfolding balance
 balance-on false p q = refl
 balance-on true p q = swap (rotateRight q p) (rotateLeft q p) (node q p) (towers q p) (towers p q) (towers-apart q p)
@@ -102,7 +104,8 @@ unfolding joinR joinL
 join-leaf false a q = refl
 join-leaf true a q = refl
 
-pub join-node : (side : Bool) (p m q : Tree Item) → joinOn side (nodeOn side p m) q ≡ cond (towers (nodeOn side p m) q) (balanceOn side p (joinOn side m q)) (nodeOn side (nodeOn side p m) q)
+pub join-node : (side : Bool) (p m q : Tree Item) → joinOn side (nodeOn side p m) q ≡ cond (towers (nodeOn side p m) q) (balanceOn side p (joinOn side m q))
+    (nodeOn side (nodeOn side p m) q)
 unfolding joinR joinL
 join-node false p m q = refl
 join-node true p m q = refl

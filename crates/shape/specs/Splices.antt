@@ -46,22 +46,32 @@ inner-ref {t = node l s} r h = omega (arith, r .root, slots-left (leaves s) (r .
 flat : (t : Tree Item) (u : Tree Item) → height t ≤ 0 → towers t u ≡ false
 flat t u h = le-ltb (suc (height u)) (height t) (omega arith)
 
-pub spliced-low : {k gap p q limit x : ℕ} {side b : Bool} {w w′ : Words} → b ≡ towersAt w k p q → b ≡ false → Joined (nodeOn side) k side gap p q w w′ x → Spliced k side gap p q limit w w′ x
+pub spliced-low : {k gap p q limit x : ℕ} {side b : Bool} {w w′ : Words} → b ≡ towersAt w k p q → b ≡ false → Joined (nodeOn side) k side gap p q w w′ x →
+    Spliced k side gap p q limit w w′ x
 spliced-low {side} eb e j =
-    record { within = j .within; made = λ tp tq pair d low. made-as (sym (join-low side tp tq (sym (towers-read (pair-one pair) (pair-other pair)) ∙ sym eb ∙ e))) (j .made tp tq pair d) }
+    record {
+      within = j .within;
+      made = λ tp tq pair d low. made-as
+          (sym (join-low side tp tq (sym (towers-read (pair-one pair) (pair-other pair)) ∙ sym eb ∙ e))) (j .made tp tq pair d);
+    }
 
-pub spliced-none : {k gap p q limit x : ℕ} {side : Bool} {w w′ : Words} → limit ≡ 0 → Joined (nodeOn side) k side gap p q w w′ x → Spliced k side gap p q limit w w′ x
+pub spliced-none : {k gap p q limit x : ℕ} {side : Bool} {w w′ : Words} → limit ≡ 0 → Joined (nodeOn side) k side gap p q w w′ x →
+    Spliced k side gap p q limit w w′ x
 spliced-none {side} e j =
     record { within = j .within; made = λ tp tq pair d low. made-as (sym (join-low side tp tq (flat tp tq (omega (arith, low, e))))) (j .made tp tq pair d) }
 
-pub spliced : {k gap p q limit a m g y x : ℕ} {side b : Bool} {w w₁ w₂ : Words} → b ≡ towersAt w k p q → b ≡ true → a ≡ childAt w k side p → m ≡ childAt w k (not side) p → g ≡ p - mostSlots
+pub spliced : {k gap p q limit a m g y x : ℕ} {side b : Bool} {w w₁ w₂ : Words} → b ≡ towersAt w k p q → b ≡ true → a ≡ childAt w k side p →
+    m ≡ childAt w k (not side) p → g ≡ p - mostSlots
     → Spliced k side gap m q (limit - 1) w w₁ y → Joined (balanceOn side) k side g a y w₁ w₂ x → Spliced k side gap p q limit w w₂ x
-spliced {k} {gap} {p} {q} {limit} {a} {m} {g} {y} {x} {side} {b} {w} {w₁} {w₂} eb e ea em eg rec j = record { within = within-trans (rec .within) (j .within); made = made }
+spliced {k} {gap} {p} {q} {limit} {a} {m} {g} {y} {x} {side} {b} {w} {w₁} {w₂} eb e ea em eg rec j =
+    record { within = within-trans (rec .within) (j .within); made = made }
   where
     made : (tp tq : Tree Item) → Pair w k side p q tp tq → gap ≡ seam side tp tq .slot → height tp ≤ limit → Made k w w₂ x (joinOn side tp tq)
     made tp tq pair d low =
         made-as (sym shape)
-        (made-then lower (j .made ta (joinOn side tm tq) (pair-beside side (rec .within) lower (row .one) (row .tied-one) slots) (eg ∙ o .seam-at ∙ slot-of (sym (seam-join side ta tm tq)))) (λ s i. rw (balance-leaves side ta (joinOn side tm tq)) (in-other side ta (joinOn side tm tq) i)))
+        (made-then lower (j .made ta (joinOn side tm tq) (pair-beside side (rec .within) lower (row .one) (row .tied-one) slots)
+        (eg ∙ o .seam-at ∙ slot-of (sym (seam-join side ta tm tq))))
+        (λ s i. rw (balance-leaves side ta (joinOn side tm tq)) (in-other side ta (joinOn side tm tq) i)))
       where
         high : towers tp tq ≡ true
         high = sym (towers-read (pair-one pair) (pair-other pair)) ∙ sym eb ∙ e

@@ -9,7 +9,8 @@ use lib.ListN.{length}
 use lib.IntN.{pos}
 use Rattle.table.specs.Fields.{firstFreeWord, mostNodes, mostSlots, nextFreeField, numberField}
 use Rattle.table.specs.Words.{Words, word, wset, wset-length, wset-same, wset-other, upTo, upTo-in}
-use Rattle.table.specs.Layout.{cap, cap-most, cell, cset, linkAt, Outside, outside-of, place-low, place-in, cset-length, cset-cap, cset-rest, cset-same, cset-other, header-cap, header-cell}
+use Rattle.table.specs.Layout.{cap, cap-most, cell, cset, linkAt, Outside, outside-of, place-low, place-in, cset-length, cset-cap, cset-rest}
+use Rattle.table.specs.Layout.{cset-same, cset-other, header-cap, header-cell}
 
 -- the first of a list, and 0 of none
 abbrev pub head0 : List ℕ → ℕ
@@ -18,7 +19,8 @@ head0 (s ∷ ss) = s
 
 pub data FreeChain (w : Words) : List ℕ → Type 0 where
   free-none : FreeChain w []
-  free-more : {s : ℕ} {ss : List ℕ} → 1 ≤ s → s ≤ cap w → cell w numberField s ≡ pos 0 → cell w nextFreeField s ≡ pos (head0 ss) → FreeChain w ss → FreeChain w (s ∷ ss)
+  free-more : {s : ℕ} {ss : List ℕ} → 1 ≤ s → s ≤ cap w → cell w numberField s ≡ pos 0 → cell w nextFreeField s ≡ pos (head0 ss) → FreeChain w ss →
+      FreeChain w (s ∷ ss)
 
 -- the free slots are ss
 pub record FreeSlots (w : Words) (ss : List ℕ) : Type 0 where
@@ -34,10 +36,12 @@ pub free-link : {w : Words} {ss : List ℕ} (s : ℕ) → FreeChain w ss → cel
 free-link {ss} s f n = ap (upTo mostNodes) n ∙ upTo-in mostNodes (head0 ss) (omega (arith, head-most ss f))
 
 -- a chain whose slots were not touched
-pub chain-still : {w w′ : Words} {ss : List ℕ} → FreeChain w ss → cap w′ ≡ cap w → ((s : ℕ) → List·Memᴰ s ss → cell w′ numberField s ≡ cell w numberField s) → ((s : ℕ) → List·Memᴰ s ss → cell w′ nextFreeField s ≡ cell w nextFreeField s) → FreeChain w′ ss
+pub chain-still : {w w′ : Words} {ss : List ℕ} → FreeChain w ss → cap w′ ≡ cap w → ((s : ℕ) → List·Memᴰ s ss → cell w′ numberField s ≡ cell w numberField s)
+    → ((s : ℕ) → List·Memᴰ s ss → cell w′ nextFreeField s ≡ cell w nextFreeField s) → FreeChain w′ ss
 chain-still free-none c e d = free-none
 chain-still (free-more {s} l h z n f) c e d =
-    free-more l (omega (arith, c)) (e s (List·Memᴰ·head refl) ∙ z) (d s (List·Memᴰ·head refl) ∙ n) (chain-still f c (λ t m. e t (List·Memᴰ·tail m)) (λ t m. d t (List·Memᴰ·tail m)))
+    free-more l (omega (arith, c)) (e s (List·Memᴰ·head refl) ∙ z) (d s (List·Memᴰ·head refl) ∙ n)
+    (chain-still f c (λ t m. e t (List·Memᴰ·tail m)) (λ t m. d t (List·Memᴰ·tail m)))
 
 -- ---- a slot is taken
 
@@ -61,7 +65,8 @@ took {w} {s} {ss} f = go (f .chain)
     go (free-more l h z n g) =
         record {
           first = wset-same w firstFreeWord _ (long w l h) ∙ ap pos (ap (linkAt w nextFreeField) (first-free f) ∙ free-link s g n);
-          chain = chain-still g (header-cap w firstFreeWord _ (omega arith) (omega arith)) (λ t m. header-cell w firstFreeWord _ (omega arith) (omega arith) numberField t) (λ t m. header-cell w firstFreeWord _ (omega arith) (omega arith) nextFreeField t);
+          chain = chain-still g (header-cap w firstFreeWord _ (omega arith) (omega arith)) (λ t m. header-cell w firstFreeWord _ (omega arith) (omega arith)
+              numberField t) (λ t m. header-cell w firstFreeWord _ (omega arith) (omega arith) nextFreeField t);
         }
 
 -- every other word is as before
@@ -97,7 +102,15 @@ given-word w s {i} o d = wset-other _ firstFreeWord i _ d ∙ cset-rest w₁ nex
 
 pub gave : {w : Words} {s : ℕ} {ss : List ℕ} → FreeSlots w ss → 1 ≤ s → s ≤ cap w → ((t : ℕ) → List·Memᴰ t ss → t ≢ s) → FreeSlots (given w s) (s ∷ ss)
 gave {w} {s} {ss} f l h d =
-    record { first = wset-same w₂ firstFreeWord (pos s) (omega (arith, long w l h, cset-length w numberField s (pos 0), cset-length w₁ nextFreeField s (pos (firstFree w)))); chain = free-more l (omega (arith, given-cap w s)) number next rest }
+    record {
+      first = wset-same w₂ firstFreeWord (pos s) (omega (
+        arith,
+        long w l h,
+        cset-length w numberField s (pos 0),
+        cset-length w₁ nextFreeField s (pos (firstFree w)),
+      ));
+      chain = free-more l (omega (arith, given-cap w s)) number next rest;
+    }
   where
     w₁ : Words
     w₁ = cset w numberField s (pos 0)
@@ -112,8 +125,10 @@ gave {w} {s} {ss} f l h d =
 
     next : cell (given w s) nextFreeField s ≡ pos (head0 ss)
     next =
-        header-cell w₂ firstFreeWord (pos s) (omega arith) (omega arith) nextFreeField s ∙ cset-same (pos (firstFree w)) (record { low = l; high = omega (arith, cset-cap w numberField s (pos 0)); field = omega arith })
+        header-cell w₂ firstFreeWord (pos s) (omega arith) (omega arith) nextFreeField s ∙ cset-same (pos (firstFree w))
+        (record { low = l; high = omega (arith, cset-cap w numberField s (pos 0)); field = omega arith })
         ∙ ap pos (first-free f)
 
     rest : FreeChain (given w s) ss
-    rest = chain-still (f .chain) (given-cap w s) (λ t m. given-cell w s numberField t (λ q. d t m (q .1)) (λ q. d t m (q .1))) (λ t m. given-cell w s nextFreeField t (λ q. d t m (q .1)) (λ q. d t m (q .1)))
+    rest = chain-still (f .chain) (given-cap w s) (λ t m. given-cell w s numberField t (λ q. d t m (q .1)) (λ q. d t m (q .1)))
+        (λ t m. given-cell w s nextFreeField t (λ q. d t m (q .1)) (λ q. d t m (q .1)))

@@ -12,7 +12,9 @@ use Rattle.table.specs.Fields.{mostNodes, mostSlots}
 use Rattle.table.specs.Words.{Words, word, word-out, upTo, upTo-in}
 use Rattle.table.specs.Layout.{cap, cap-most, cell, cset, linkAt, spot-out, Valid, cset-same, cset-other}
 use Rattle.table.specs.Items.{Item, In, at, in-left, in-right, Slots, slots-left, slots-right, slots-across, height-most}
-use Rattle.table.specs.Rep.{childField, heightField, a-child, a-height, childAt, heightAt, refOf, nodeOn, seam, Tied, tied-node, tied-still, Rep, Within, within-cap, within-refl, within-trans, within-cset, Only, only-trans, only-cset, Inner, inner-in, inner-last}
+use Rattle.table.specs.Rep.{childField, heightField, a-child, a-height, childAt, heightAt, refOf, nodeOn, seam, Tied, tied-node, tied-still}
+use Rattle.table.specs.Rep.{Rep, Within, within-cap, within-refl, within-trans, within-cset, Only, only-trans, only-cset, Inner, inner-in}
+use Rattle.table.specs.Rep.{inner-last}
 
 -- ---- the root's number
 
@@ -56,7 +58,14 @@ parents {w} {k} {x} {l} {r} h = go (h .tied)
 
     go : Tied w k (node l r) → Parents w k x l r
     go (tied-node tl tr el er eh) =
-        record { left-at = ap (linkAt w (childField k false)) here ∙ el; right-at = ap (linkAt w (childField k true)) here ∙ er; seam-at = here; tied-left = tl; tied-right = tr }
+        record {
+          left-at = ap (linkAt w (childField k false)) here ∙ el;
+          right-at = ap (linkAt w (childField k true)) here ∙ er;
+          seam-at = here;
+          tied-left =
+              tl;
+          tied-right = tr;
+        }
 
 -- a leaf has no such number
 pub leaf-low : {w : Words} {k x : ℕ} {a : Item} → Rep w k x (leaf a) → x ≤ mostSlots
@@ -79,9 +88,29 @@ opened {w} {k} {x} {t = node l r} side h d = go side (parents h)
   where
     go : (side : Bool) → Parents w k x l r → Opened w k side x (node l r)
     go false p =
-        record { one = l; other = r; shape = refl; one-at = p .left-at; other-at = p .right-at; seam-at = p .seam-at; tied-one = p .tied-left; tied-other = p .tied-right }
+        record {
+          one = l;
+          other = r;
+          shape = refl;
+          one-at = p .left-at;
+          other-at = p .right-at;
+          seam-at = p .seam-at;
+          tied-one = p .tied-left;
+          tied-other =
+              p .tied-right;
+        }
     go true p =
-        record { one = r; other = l; shape = refl; one-at = p .right-at; other-at = p .left-at; seam-at = p .seam-at; tied-one = p .tied-right; tied-other = p .tied-left }
+        record {
+          one = r;
+          other = l;
+          shape = refl;
+          one-at = p .right-at;
+          other-at = p .left-at;
+          seam-at = p .seam-at;
+          tied-one = p .tied-right;
+          tied-other =
+              p .tied-left;
+        }
 
 -- ---- two trees side by side
 
@@ -138,7 +167,9 @@ pub height-on : (side : Bool) (tp tq : Tree Item) → height (nodeOn side tp tq)
 height-on false tp tq = refl
 height-on true tp tq = omega arith
 
-pub tied-on : {w : Words} {k : ℕ} {tp tq : Tree Item} (side : Bool) → Tied w k tp → Tied w k tq → linkAt w (childField k side) (seam side tp tq .slot) ≡ refOf tp → linkAt w (childField k (not side)) (seam side tp tq .slot) ≡ refOf tq → linkAt w (heightField k) (seam side tp tq .slot) ≡ suc (max (height tp) (height tq)) → Tied w k (nodeOn side tp tq)
+pub tied-on : {w : Words} {k : ℕ} {tp tq : Tree Item} (side : Bool) → Tied w k tp → Tied w k tq →
+    linkAt w (childField k side) (seam side tp tq .slot) ≡ refOf tp → linkAt w (childField k (not side)) (seam side tp tq .slot) ≡ refOf tq →
+    linkAt w (heightField k) (seam side tp tq .slot) ≡ suc (max (height tp) (height tq)) → Tied w k (nodeOn side tp tq)
 tied-on false a b ep eq eh = tied-node a b ep eq eh
 tied-on true a b ep eq eh = tied-node b a eq ep (omega (arith, eh))
 
@@ -241,9 +272,16 @@ made-here {w} {k} {p} {q} {side} {tp} {tq} pair h e =
         (tied-still (pair .tied-other) one-slot (λ s i j. away-other tp tq side (pair .slots) i (in-single j)))
         (linked (wired-one w k side gap p q h (pair .kind) low high) (pair .one) (ref-high tp (on-one tp tq side (pair .slots)) (cap-most w)))
         (linked (wired-other w k side gap p q h (pair .kind) low high) (pair .other) (ref-high tq (on-other tp tq side (pair .slots)) (cap-most w)))
-        (linked (wired-height w k side gap p q h (pair .kind) low high) tall (omega (arith, height-on side tp tq, height-most (nodeOn side tp tq) (pair .slots), cap-most w)))
+        (linked (wired-height w k side gap p q h (pair .kind) low high) tall (omega (
+          arith,
+          height-on side tp tq,
+          height-most (nodeOn side tp tq) (pair .slots),
+          cap-most w,
+        )))
 
 -- writing a node's words makes its tree
-pub made-node : {w : Words} {k p q : ℕ} {side : Bool} {tp tq : Tree Item} → Pair w k side p q tp tq → (gap h : ℕ) → gap ≡ seam side tp tq .slot → h ≡ suc (max (heightAt w k p) (heightAt w k q))
+pub made-node : {w : Words} {k p q : ℕ} {side : Bool} {tp tq : Tree Item} → Pair w k side p q tp tq → (gap h : ℕ) → gap ≡ seam side tp tq .slot →
+    h ≡ suc (max (heightAt w k p) (heightAt w k q))
     → Made k w (wired w k side gap p q h) (mostSlots + gap) (nodeOn side tp tq)
-made-node {w} {k} {p} {q} {side} {tp} {tq} pair gap h d e = subst (λ g. Made k w (wired w k side g p q h) (mostSlots + g) (nodeOn side tp tq)) (sym d) (made-here pair h e)
+made-node {w} {k} {p} {q} {side} {tp} {tq} pair gap h d e =
+    subst (λ g. Made k w (wired w k side g p q h) (mostSlots + g) (nodeOn side tp tq)) (sym d) (made-here pair h e)

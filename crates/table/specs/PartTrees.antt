@@ -39,12 +39,14 @@ made-some m = record { rep = record { kind = m .rep .kind; root = m .rep .root; 
 pub rep-some : {w : Words} {k x : ℕ} {t : Tree Item} → RepP w k x (some t) → Rep w k x t
 rep-some r = record { kind = r .kind; root = r .root; slots = r .slots; tied = r .tied }
 
-pub tiedP-still : {k : ℕ} {xs : List Item} {w w′ : Words} (p : Part Item) → TiedPart w k p → Only k xs w w′ → ((s : ℕ) → In s xs → In s (partLeaves p) → ⊥) → TiedPart w′ k p
+pub tiedP-still : {k : ℕ} {xs : List Item} {w w′ : Words} (p : Part Item) → TiedPart w k p → Only k xs w w′ →
+    ((s : ℕ) → In s xs → In s (partLeaves p) → ⊥) → TiedPart w′ k p
 tiedP-still none t g d = tt
 tiedP-still (some u) t g d = tied-still t g (λ s i j. d s j (inner-in i))
 
 -- a part that shares no slot with what was written stands as before
-pub repP-still : {k x : ℕ} {xs : List Item} {w w′ : Words} (p : Part Item) → RepP w k x p → Within w w′ → Only k xs w w′ → ((s : ℕ) → In s xs → In s (partLeaves p) → ⊥) → RepP w′ k x p
+pub repP-still : {k x : ℕ} {xs : List Item} {w w′ : Words} (p : Part Item) → RepP w k x p → Within w w′ → Only k xs w w′ →
+    ((s : ℕ) → In s xs → In s (partLeaves p) → ⊥) → RepP w′ k x p
 repP-still p r g o d = record { kind = r .kind; root = r .root; slots = rw (within-cap g) (r .slots); tied = tiedP-still p (r .tied) o d }
 
 -- a balanced tree in a table is at most mostLevels high

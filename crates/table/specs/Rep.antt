@@ -109,7 +109,8 @@ pub only-more : {k : ℕ} {xs ys : List Item} {w w′ : Words} → ((s : ℕ) �
 only-more sub g = record { cells = λ f s d. g .cells f s (λ h. d (h .0, sub s (h .1))) }
 
 pub only-cset : {k f s : ℕ} {xs : List Item} (w : Words) (z : ℤ) → Field k f → In s xs → Only k xs w (cset w f s z)
-only-cset {k} {f} {s} {xs} w z i h = record { cells = λ f′ s′ d. cset-other w f s z (λ e. d (subst (Field k) (sym (e .0)) i, subst (λ n. In n xs) (sym (e .1)) h)) }
+only-cset {k} {f} {s} {xs} w z i h =
+    record { cells = λ f′ s′ d. cset-other w f s z (λ e. d (subst (Field k) (sym (e .0)) i, subst (λ n. In n xs) (sym (e .1)) h)) }
 
 -- ---- the words of a tree whose nodes were not touched
 

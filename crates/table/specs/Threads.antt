@@ -3,7 +3,8 @@
 use mathlib.Core.Path.{_≡_, refl, sym, _∙_, ap, subst}
 use mathlib.Core.Logic.{_≢_, ⊎-elim}
 use mathlib.Core.Bool.{Bool, true, false}
-use mathlib.Core.List.{List, [], _∷_, _++_, append-assoc, List·Memᴰ, List·Memᴰ·head, List·Memᴰ·tail, Memᴰ·append-left, Memᴰ·append-right, List·Memᴰ·append-cases, IsChain, IsChain·nil, IsChain·singleton, IsChain·cons-cons}
+use mathlib.Core.List.{List, [], _∷_, _++_, append-assoc, List·Memᴰ, List·Memᴰ·head, List·Memᴰ·tail, Memᴰ·append-left, Memᴰ·append-right}
+use mathlib.Core.List.{List·Memᴰ·append-cases, IsChain, IsChain·nil, IsChain·singleton, IsChain·cons-cons}
 use mathlib.Mathlib.Data.List.Chain.{IsChain·left-of-append, IsChain·right-of-append, isChain-append-cons-cons}
 use Prim.Native.Nat.{ℕ, _+_, _≤_, _<_}
 use native.Mathlib.Omega.{arith}
@@ -115,7 +116,12 @@ pub holds-still : {w w′ : Words} {xs : List Item} → Holds w xs → ((s : ℕ
 holds-still h same = record { held = λ {a} m. held-still (same (a .slot) (at m refl)) (h .held m) }
 
 next-still : {w w′ : Words} {a b : Item} → SameThread w w′ (a .slot) → Next w a b → Next w′ a b
-next-still q g = record { next = ap (upTo mostNodes) (q .next) ∙ g .next; numerator = q .numerator ∙ g .numerator; denominator = q .denominator ∙ g .denominator }
+next-still q g = record {
+  next = ap (upTo mostNodes) (q .next) ∙ g .next;
+  numerator = q .numerator ∙ g .numerator;
+  denominator =
+      q .denominator ∙ g .denominator;
+}
 
 pub threaded-still : {w w′ : Words} {xs : List Item} → Threaded w xs → ((s : ℕ) → Leads s xs → SameThread w w′ s) → Threaded w′ xs
 threaded-still IsChain·nil same = IsChain·nil
@@ -190,8 +196,10 @@ pub threading-next : (w : Words) (a b : Item) → 1 ≤ a .slot → a .slot ≤ 
 threading-next w a b low high h =
     record {
       next = ap (upTo mostNodes) (cset-same (pos (b .slot)) (has w₂ nextPieceField (omega arith) (omega (arith, c₂)))) ∙ upTo-in mostNodes (b .slot) h;
-      numerator = cset-other w₂ nextPieceField (a .slot) (pos (b .slot)) (λ e. omega (arith, e .0)) ∙ cset-other w₁ denominatorField (a .slot) _ (λ e. omega (arith, e .0)) ∙ cset-same _ (has w numeratorField (omega arith) (omega arith));
-      denominator = cset-other w₂ nextPieceField (a .slot) (pos (b .slot)) (λ e. omega (arith, e .0)) ∙ cset-same _ (has w₁ denominatorField (omega arith) (omega (arith, c₁)));
+      numerator = cset-other w₂ nextPieceField (a .slot) (pos (b .slot)) (λ e. omega (arith, e .0))
+          ∙ cset-other w₁ denominatorField (a .slot) _ (λ e. omega (arith, e .0)) ∙ cset-same _ (has w numeratorField (omega arith) (omega arith));
+      denominator = cset-other w₂ nextPieceField (a .slot) (pos (b .slot)) (λ e. omega (arith, e .0))
+          ∙ cset-same _ (has w₁ denominatorField (omega arith) (omega (arith, c₁)));
     }
   where
     w₁ : Words

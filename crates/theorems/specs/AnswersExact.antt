@@ -77,7 +77,10 @@ module _ (s : State) (k : Call) (os : List PlainOffer) (a : accepted s k ≡ rec
     update-by none p (UpdateDeclined z) e after b r = let (n, q) = a-refusal z in absurd (unsaid (sym q ∙ e))
     update-by (some c) p (Done (pos m) x y z) e after b r = let q : _≡_ {A = ℕ} 0 1 = cc in absurd (omega arith)
     update-by (some c) p (Done (negsuc m) x y z) e after b r = let l = from-one c in let q : 0 ≡ causeNumber c = cc in absurd (omega arith)
-    update-by (some c) p (UpdateDeclined z) e after b r = ((c, declined-first (trials s k) c p, refused-word z (causeNumber c) (from-one c) e), r (causeNumber c) e)
+    update-by (some c) p (UpdateDeclined z) e after b r = (
+      (c, declined-first (trials s k) c p, refused-word z (causeNumber c) (from-one c) e),
+      r (causeNumber c) e,
+    )
 
     update-told : {held : Option (Held Item)} {u : Update} → Follows k s held start t t′ u → UpdateTells s k os start t t′ u
     update-told {u} f = update-by (declined (trials s k)) refl u (f .answers) (f .after) (f .stands) (f .refusal)
@@ -105,6 +108,7 @@ module _ {start : ℕ} {t : List ℤ} {s : State} {held : Option (Held Item)} (b
       record {
         query-tells = query-told;
         listing-tells = listing-told;
-        post-tells = λ {n} {r} {b = base} {t′} p. update-told s (post n r base) (join (record { number = n; rate = r; base = base }) (s .offers)) refl start t t′ (p .follows s held b);
+        post-tells = λ {n} {r} {b = base} {t′} p. update-told s (post n r base) (join (record { number = n; rate = r; base = base }) (s .offers)) refl start
+            t t′ (p .follows s held b);
         withdraw-tells = λ {n} {t′} p. update-told s (withdraw n) (leave n (s .offers)) refl start t t′ (p .follows s held b);
       }

@@ -38,7 +38,8 @@ ListingTells s room (ListingDeclined z) out = Refuses (trials s (listing room)) 
 
 -- The part stands for the book with these live offers, and their count is told; a declined call leaves every word.
 abbrev pub UpdateTells : State → Call → List PlainOffer → ℕ → (t t′ : List ℤ) → Update → Type 0
-UpdateTells s k os start t t′ (Done n pairs steps heights) = (n ≡ pos (length os)) × ((after : Option (Held Item)) × Book (partOf t′ start) (holding s os) after)
+UpdateTells s k os start t t′ (Done n pairs steps heights) =
+    (n ≡ pos (length os)) × ((after : Option (Held Item)) × Book (partOf t′ start) (holding s os) after)
 UpdateTells s k os start t t′ (UpdateDeclined z) = Refuses (trials s k) z × (t′ ≡ t)
 
 -- Of a table whose part stands for the plain book s, and of every call on it.

@@ -50,7 +50,8 @@ module _ (w : Words) where
   same-rest q q′ h h′ p p′ e e′ d = same-part 0 q q′ h h′ (pieces-tied q p) (pieces-tied q′ p′) (number-of e e′ d)
 
   pub same-offers :
-      (t t′ : OfferTree Item) {es es′ : List Item} → AllLie w (leaves (shape t)) → AllLie w (leaves (shape t′)) → Tied w offerTree (shape t) → Tied w offerTree (shape t′) →
+      (t t′ : OfferTree Item) {es es′ : List Item} → AllLie w (leaves (shape t)) → AllLie w (leaves (shape t′)) → Tied w offerTree (shape t) →
+      Tied w offerTree (shape t′) →
       Stored w t → Stored w t′ → Valid items t es → Valid items t′ es′ → refOf (shape t) ≡ refOf (shape t′) → t ≡ t′
   same-offers (single a) (single b) h h′ p p′ s s′ v v′ e = ap single (same-item (h a (List·Memᴰ·head refl) .held) (h′ b (List·Memᴰ·head refl) .held) e)
   same-offers (single a) (fork u v l ql qr r) h h′ p p′ s s′ y y′ e =

@@ -2,7 +2,8 @@
 -- stored with it holds exactly the lines of its own envelope that are not on the node's, in order.
 use mathlib.Core.Path.{_≡_, refl, sym, subst}
 use mathlib.Core.Logic.{_⊎_, inl, inr, ⊎-elim, _↔_}
-use mathlib.Core.List.{List, [], _∷_, _++_, List·Memᴰ, Memᴰ·append-left, Memᴰ·append-right, List·Memᴰ·append-cases, Sublistᴰ, Sublistᴰ·slnil, Sublistᴰ·cons, Sublistᴰ·cons-cons, Sublistᴰ·refl}
+use mathlib.Core.List.{List, [], _∷_, _++_, List·Memᴰ, Memᴰ·append-left, Memᴰ·append-right, List·Memᴰ·append-cases, Sublistᴰ, Sublistᴰ·slnil}
+use mathlib.Core.List.{Sublistᴰ·cons, Sublistᴰ·cons-cons, Sublistᴰ·refl}
 use Rattle.lists.specs.Places.{sublist-mem}
 use Rattle.envelopes.specs.PseudoLines.{Figure, PseudoLines}
 use Rattle.envelopes.specs.Envelope.{Env, Ordered}

@@ -36,7 +36,12 @@ module _ {A : Type 0} where
   unfolding doubleRight
   near-doubleRight a (leaf x) r pa pm pr e f = absurd (omega arith)
   near-doubleRight a (node b c) r pa (avl-node pb pc hb hc) pr e f =
-      record { avl = avl-node (avl-node pa pb (omega arith) (omega arith)) (avl-node pc pr (omega arith) (omega arith)) (omega arith) (omega arith); low = omega arith; high = omega arith }
+      record {
+        avl = avl-node (avl-node pa pb (omega arith) (omega arith)) (avl-node pc pr (omega arith) (omega arith)) (omega arith) (omega arith);
+        low =
+            omega arith;
+        high = omega arith;
+      }
 
   near-rotateRight : (l r : Tree A) → Avl l → Avl r → height l ≡ suc (suc (height r)) → Near (height l) (rotateRight l r)
   unfolding rotateRight
@@ -61,7 +66,8 @@ module _ {A : Type 0} where
 
   -- ---- balance
 
-  pub near-balance : (l r : Tree A) → Avl l → Avl r → height l ≤ suc (suc (height r)) → height r ≤ suc (suc (height l)) → Near (max (height l) (height r)) (balance l r)
+  pub near-balance : (l r : Tree A) → Avl l → Avl r → height l ≤ suc (suc (height r)) → height r ≤ suc (suc (height l)) →
+      Near (max (height l) (height r)) (balance l r)
   unfolding balance
   near-balance l r pl pr hl hr =
       by-heights (Near (max (height l) (height r))) l r (λ t. near-is (near-rotateRight l r pl pr (omega arith)) (omega arith))
@@ -80,10 +86,12 @@ module _ {A : Type 0} where
       cond-both (Near (max (height (node a b)) (height r))) (towers (node a b) r) (λ t. climb (ltb→lt _ _ t) (near-joinR b r pb pr (omega (arith, ltb→lt))))
       (λ t. near-node (node a b) r (avl-node pa pb ha hb) pr (nltb→le _ _ t) h)
     where
-      climb : suc (height r) < height (node a b) → Near (max (height b) (height r)) (joinR b r) → Near (max (height (node a b)) (height r)) (balance a (joinR b r))
+      climb : suc (height r) < height (node a b) → Near (max (height b) (height r)) (joinR b r) →
+          Near (max (height (node a b)) (height r)) (balance a (joinR b r))
       climb tall n = go (decLe (height (joinR b r)) (suc (height a))) (near-balance a (joinR b r) pa (n .avl) (omega arith) (omega arith))
         where
-          go : Dec (height (joinR b r) ≤ suc (height a)) → Near (max (height a) (height (joinR b r))) (balance a (joinR b r)) → Near (max (height (node a b)) (height r)) (balance a (joinR b r))
+          go : Dec (height (joinR b r) ≤ suc (height a)) → Near (max (height a) (height (joinR b r))) (balance a (joinR b r)) →
+              Near (max (height (node a b)) (height r)) (balance a (joinR b r))
           go (yes le) m =
               let same = height-balance-level a (joinR b r) (omega arith) le in
               record { avl = m .avl; low = omega arith; high = omega arith }
@@ -92,12 +100,14 @@ module _ {A : Type 0} where
   near-joinL : (l r : Tree A) → Avl l → Avl r → height l ≤ suc (height r) → Near (max (height l) (height r)) (joinL l r)
   near-joinL l r pl pr h =
       near-mirror (joinL l r)
-      (rw mirror-joinL (near-is (near-joinR (mirror r) (mirror l) (avl-mirror pr) (avl-mirror pl) (simp height-mirror h)) (simp height-mirror (max-comm (height r) (height l)))))
+      (rw mirror-joinL (near-is (near-joinR (mirror r) (mirror l) (avl-mirror pr) (avl-mirror pl) (simp height-mirror h))
+      (simp height-mirror (max-comm (height r) (height l)))))
 
   pub near-join : (l r : Tree A) → Avl l → Avl r → Near (max (height l) (height r)) (join l r)
   unfolding join
   near-join l r pl pr =
-      by-heights (Near (max (height l) (height r))) l r (λ t. near-joinR l r pl pr (omega arith)) (λ t. near-joinL l r pl pr (omega arith)) (near-node l r pl pr)
+      by-heights (Near (max (height l) (height r))) l r (λ t. near-joinR l r pl pr (omega arith)) (λ t. near-joinL l r pl pr (omega arith))
+      (near-node l r pl pr)
 
   -- ---- parts
 

@@ -1,6 +1,7 @@
 -- The leaves of what the operations make: none is lost, doubled or moved.
 use mathlib.Core.Path.{_≡_, refl, sym, ap, _∙_}
-use mathlib.Core.List.{List, [], _∷_, _++_, append-assoc, append-nil, reverse, reverse-append, head-eq-of-cons-eq, List·Memᴰ, List·Memᴰ·head, Memᴰ·append-left, Memᴰ·append-right}
+use mathlib.Core.List.{List, [], _∷_, _++_, append-assoc, append-nil, reverse, reverse-append, head-eq-of-cons-eq, List·Memᴰ, List·Memᴰ·head}
+use mathlib.Core.List.{Memᴰ·append-left, Memᴰ·append-right}
 use mathlib.Core.Option.{none, some}
 use Prim.Native.Nat.{_≤_}
 use native.Mathlib.Omega.{arith}
@@ -26,7 +27,8 @@ module _ {A : Type 0} where
   unfolding rotateRight
   leaves-rotateRight (leaf x) r = refl
   leaves-rotateRight (node a m) r =
-      cond-both (λ t. leaves t ≡ (leaves a ++ leaves m) ++ leaves r) (leb (height m) (height a)) (λ t. simp append-assoc) (λ t. simp (append-assoc, leaves-doubleRight))
+      cond-both (λ t. leaves t ≡ (leaves a ++ leaves m) ++ leaves r) (leb (height m) (height a)) (λ t. simp append-assoc)
+      (λ t. simp (append-assoc, leaves-doubleRight))
 
   leaves-rotateLeft : (l r : Tree A) → leaves (rotateLeft l r) ≡ leaves l ++ leaves r
   unfolding rotateLeft

@@ -35,7 +35,8 @@ module _ {A : Type 0} where
   mirror-cond b x y = cond-map mirror b x y
 
   -- if g is the mirror image of f, then f is that of g
-  turned : (f g : Tree A → Tree A → Tree A) → ((l r : Tree A) → mirror (f l r) ≡ g (mirror r) (mirror l)) → (l r : Tree A) → mirror (g l r) ≡ f (mirror r) (mirror l)
+  turned : (f g : Tree A → Tree A → Tree A) → ((l r : Tree A) → mirror (f l r) ≡ g (mirror r) (mirror l)) → (l r : Tree A) →
+      mirror (g l r) ≡ f (mirror r) (mirror l)
   turned f g e l r =
       let back : mirror (f (mirror r) (mirror l)) ≡ g l r = simp (e, mirror-mirror) in
       sym (ap mirror back) ∙ mirror-mirror (f (mirror r) (mirror l))

@@ -3,7 +3,9 @@ use mathlib.Core.Path.{_≡_, refl, sym, ap, ap₂, subst}
 use mathlib.Core.Logic.{_⊎_, inl, inr, ⊎-elim}
 use mathlib.Core.HLevel.{Π-prop}
 use mathlib.Core.Bool.{Bool, not}
-use mathlib.Core.List.{List, [], _∷_, _++_, List·Memᴰ, List·Memᴰ·head, List·Memᴰ·tail, List·Memᴰ·append-cases, List·Memᴰ·eq-of-singleton, Memᴰ·append-right, mem-append-left, head-eq-of-cons-eq, tail-eq-of-cons-eq, Pairwise, Pairwise·nil, Pairwise·cons, Pairwise·of-cons, Pairwise·imp, rel-of-pairwise-cons}
+use mathlib.Core.List.{List, [], _∷_, _++_, List·Memᴰ, List·Memᴰ·head, List·Memᴰ·tail, List·Memᴰ·append-cases, List·Memᴰ·eq-of-singleton}
+use mathlib.Core.List.{Memᴰ·append-right, mem-append-left, head-eq-of-cons-eq, tail-eq-of-cons-eq, Pairwise, Pairwise·nil, Pairwise·cons}
+use mathlib.Core.List.{Pairwise·of-cons, Pairwise·imp, rel-of-pairwise-cons}
 use native.Mathlib.Omega.{arith}
 use lib.Dec.{T, T-not, T-prop}
 use lib.IntN.{ℤ}
@@ -75,7 +77,8 @@ module _ {A : Type 0} where
   -- where keys fall, no leaf's is below the last one's
   pub last-lowest : (key : A → ℤ) (t : Tree A) → Falling key (leaves t) → {a : A} → List·Memᴰ a (leaves t) → T (leZ (key (last t)) (key a))
   last-lowest key t p {a} m =
-      ⊎-elim (λ (e : a ≡ last t). let k : key a ≡ key (last t) = ap key e in omega (arith, intRules)) (λ (h : T (ltZ (key (last t)) (key a))). omega (arith, intRules))
+      ⊎-elim (λ (e : a ≡ last t). let k : key a ≡ key (last t) = ap key e in omega (arith, intRules))
+      (λ (h : T (ltZ (key (last t)) (key a))). omega (arith, intRules))
       (up-to-last t p m)
 
   -- where keys fall, a key tells its owner
@@ -84,7 +87,8 @@ module _ {A : Type 0} where
 
   -- ---- a list is cut in one way only
 
-  pub one-cut : (test : A → Bool) (xs us : List A) {ys vs : List A} → xs ++ ys ≡ us ++ vs → All test xs → All test us → None test ys → None test vs → (xs ≡ us) × (ys ≡ vs)
+  pub one-cut : (test : A → Bool) (xs us : List A) {ys vs : List A} → xs ++ ys ≡ us ++ vs → All test xs → All test us → None test ys → None test vs →
+      (xs ≡ us) × (ys ≡ vs)
   one-cut test [] [] e p q n k = (refl, e)
   one-cut test [] (u ∷ us) e p q n k = absurd (T-not (test u) (n u (rw e (List·Memᴰ·head refl))) (q u (List·Memᴰ·head refl)))
   one-cut test (x ∷ xs) [] e p q n k = absurd (T-not (test x) (k x (rw (← e) (List·Memᴰ·head refl))) (p x (List·Memᴰ·head refl)))

@@ -44,8 +44,15 @@ module _ {A : Type 0} where
       let q = parted (leaves l) p in
       let cl = split-clean test l (q .left) in
       let cr = split-clean test r (q .right) in
-      cond-both (Clean test) (test (last l)) (λ t. record { passing = all-joinP test (some l) (split test r .front) (front t (q .left)) (cr .passing); failing = cr .failing })
-      (λ t. record { passing = cl .passing; failing = all-joinP (λ a. not (test a)) (split test l .back) (some r) (cl .failing) (back t (λ a m. q .across (last-leaf l) m)) })
+      cond-both (Clean test) (test (last l)) (λ t. record {
+        passing = all-joinP test (some l) (split test r .front) (front t (q .left)) (cr .passing);
+        failing = cr .failing;
+      })
+      (λ t. record {
+        passing = cl .passing;
+        failing = all-joinP (λ a. not (test a)) (split test l .back) (some r) (cl .failing)
+            (back t (λ a m. q .across (last-leaf l) m));
+      })
     where
       front : T (test (last l)) → Turning test (leaves l) → All test (leaves l)
       front t q a m = ⊎-elim (λ (e : a ≡ last l). subst (λ c. T (test c)) (sym e) t) (λ f. f t) (up-to-last l q m)

@@ -13,7 +13,8 @@ use Rattle.lists.specs.Bools.{cond-yes, cond-no, cond-again}
 use Rattle.integers.specs.Equal.{equal}
 use Rattle.integers.specs.Parts.{equal-eq, equal-is}
 use Rattle.trees.specs.Tree.{Tree, leaf, node, height, last, mirror, Avl, avl-node}
-use Rattle.trees.specs.Operations.{towers, doubleRight, doubleLeft, rotateRight, rotateLeft, balance, joinR, joinL, join, split, afterLeft, beforeRight, allFront, allBack, find}
+use Rattle.trees.specs.Operations.{towers, doubleRight, doubleLeft, rotateRight, rotateLeft, balance, joinR, joinL, join, split, afterLeft}
+use Rattle.trees.specs.Operations.{beforeRight, allFront, allBack, find}
 use Rattle.trees.specs.Mirror.{mirror-injective, height-mirror, avl-mirror, mirror-balance, mirror-joinL, mirror-join}
 
 module _ {A : Type 0} where
@@ -77,7 +78,8 @@ module _ {A : Type 0} where
   pub join-right : (l c d : Tree A) → Avl (node c d) → suc (height l) < height (node c d) → join l (node c d) ≡ balance (join l c) d
   join-right l c d p h =
       mirror-injective (join l (node c d)) (balance (join l c) d)
-      (mirror-join l (node c d) ∙ join-left (mirror d) (mirror c) (mirror l) (avl-mirror p) (simp height-mirror (omega arith)) ∙ simp (mirror-balance, mirror-join))
+      (mirror-join l (node c d) ∙ join-left (mirror d) (mirror c) (mirror l) (avl-mirror p) (simp height-mirror (omega arith))
+      ∙ simp (mirror-balance, mirror-join))
 
   -- ---- split
 

@@ -36,7 +36,8 @@ use Rattle.update.specs.declared.Held.{Held as InHand}
 use Rattle.update.specs.declared.Counts.{Counts}
 use Rattle.update.specs.declared.Made.{Made as Outcome}
 use Rattle.update.specs.declared.Opened.{Opened}
-use Rattle.form.specs.Frames.{Inside, Disjoint, disjoint-across, holds-same, slots-rearranged, inside-rearranged, slots-within, touched-offers, held-still, touched-trans, touched-more}
+use Rattle.form.specs.Frames.{Inside, Disjoint, disjoint-across, holds-same, slots-rearranged, inside-rearranged, slots-within, touched-offers}
+use Rattle.form.specs.Frames.{held-still, touched-trans, touched-more}
 use Rattle.form.specs.Disjoint.{in-cases, inside-refl, inside-left, inside-right, inside-join, disjoint-both, disjoint-turned, slots-join}
 use Rattle.update.specs.Neighbours.{sideOf, inner-high, seam-rate, Neighbours, LoweredOn, RaisedOn, Opens, opens, Raises, raises}
 use Rattle.update.specs.Counting.{Summed, counted-two}
@@ -63,7 +64,12 @@ inserted {w} enough c =
 -- where the limit is used up at an inner node, nothing is promised
 pub inserted-spent : {slot : ℕ} {x : InHand} {m : Outcome} {w : Words} → mostSlots < x .tree → InsertedBelow 0 slot x w w m
 inserted-spent {w} inside =
-    record { within = within-refl w; made = λ a t f d. absurd (omega (arith, inner-high (f .held) inside)); touched = λ a t f d. absurd (omega (arith, inner-high (f .held) inside)) }
+    record {
+      within = within-refl w;
+      made = λ a t f d. absurd (omega (arith, inner-high (f .held) inside));
+      touched =
+          λ a t f d. absurd (omega (arith, inner-high (f .held) inside));
+    }
 
 record Inserts (w w′ : Words) (m : Outcome) (a : Item) (t : Held Item) : Type 0 where
   made : MadeIn w′ m (insert items a (t .tree) (t .whole))
@@ -89,20 +95,32 @@ in-front side a b d = same-test (ltZ b a) (not (leZ a b)) (λ t. omega (arith, i
 -- its slot is the root of its tree and of its envelope
 pub alone-held : {w : Words} {slot : ℕ} {a : Item} → slot ≡ a .slot → Slots (cap w) (a ∷ []) → Holds w (a ∷ []) → HeldIn w slot slot (alone a)
 alone-held {a} e s h =
-    record { root = e; envelope = e; slots = s; kept = h; tied = tied-leaf; stored = stored-single; pieces = (tied-leaf, IsChain·singleton a); right = alone-whole items a }
+    record {
+      root = e;
+      envelope = e;
+      slots = s;
+      kept = h;
+      tied = tied-leaf;
+      stored = stored-single;
+      pieces = (tied-leaf, IsChain·singleton a);
+      right =
+          alone-whole items a;
+    }
 
 -- ---- beside a single line
 
 two-ordered : {a b : Item} → T (items .before a b) → Ordered items (a ∷ b ∷ [])
 two-ordered {a} {b} t =
-    Ordered·cons (λ c m. subst (λ d. T (items .before a d)) (sym (List·Memᴰ·eq-of-singleton m)) t) (Ordered·cons (λ c m. absurd (List·Memᴰ·not-nil m)) Ordered·nil)
+    Ordered·cons (λ c m. subst (λ d. T (items .before a d)) (sym (List·Memᴰ·eq-of-singleton m)) t)
+    (Ordered·cons (λ c m. absurd (List·Memᴰ·not-nil m)) Ordered·nil)
 
 -- on the side that the test tells
 beside-ordered : (side : Bool) (a b : Item) → New items a (b ∷ []) → items .before a b ≡ not side → Ordered items (leaves (nodeOn side (leaf a) (leaf b)))
 beside-ordered false a b n d = two-ordered (subst T (sym d) tt)
 beside-ordered true a b n d = two-ordered (⊎-elim (λ t. absurd (subst T d t)) (λ t. t) (n b (List·Memᴰ·head refl)))
 
-beside-slots : {c : ℕ} (side : Bool) (a b : Item) → Slots c (a ∷ []) → Slots c (b ∷ []) → Disjoint (a ∷ []) (b ∷ []) → Slots c (leaves (nodeOn side (leaf a) (leaf b)))
+beside-slots : {c : ℕ} (side : Bool) (a b : Item) → Slots c (a ∷ []) → Slots c (b ∷ []) → Disjoint (a ∷ []) (b ∷ []) →
+    Slots c (leaves (nodeOn side (leaf a) (leaf b)))
 beside-slots false a b s t d = slots-join s t d
 beside-slots true a b s t d = slots-join t s (disjoint-turned d)
 
@@ -132,7 +150,8 @@ inserted-leaf {side} {θ} {w} {w′} {limit} {slot} {gap} {x} {m} single-line ra
       where
         way : items .before a b ≡ not side
         way =
-            in-front side (rateOf a) (rateOf b) (test ∙ ap₂ leZ (newcomer-rate f rate) (ap (cell w rateField) (f .held .root) ∙ f .held .kept .held (List·Memᴰ·head refl) .rate))
+            in-front side (rateOf a) (rateOf b) (test ∙ ap₂ leZ (newcomer-rate f rate) (ap (cell w rateField) (f .held .root)
+            ∙ f .held .kept .held (List·Memᴰ·head refl) .rate))
 
         R : Raises side w w′ m (alone a) (hold (single b) p)
         R =
@@ -173,7 +192,8 @@ module _
         made = subst (MadeIn w₃ out) (sym (insert-on side a t high way)) (record { held = R .held; counted = counted-two (M .counted) (R .counted) counts });
         touched =
             touched-trans (touched-more (λ n j. inside-right (a ∷ []) n j) (p .touched))
-            (touched-trans (touched-more (inside-join (a ∷ []) (inside-left (leaves U)) (λ n j. inside-right (a ∷ []) n (back n (in-one side O I j)))) ins-touched)
+            (touched-trans (touched-more (inside-join (a ∷ []) (inside-left (leaves U)) (λ n j. inside-right (a ∷ []) n (back n (in-one side O I j))))
+            ins-touched)
             (touched-more all-inside (reb .touched g i next near)));
       }
     where
@@ -222,7 +242,8 @@ module _
           record {
             slot = f .slot;
             kept = holds-same (f .kept) (touched-offers (p .touched) (a ∷ []));
-            slots = slots-join (slots-within (low₁ .within) (newcomer-own f)) (p .outer-held .slots) (disjoint-both (inside-refl (a ∷ [])) (λ n j. in-one side O I j) apart);
+            slots = slots-join (slots-within (low₁ .within) (newcomer-own f)) (p .outer-held .slots)
+                (disjoint-both (inside-refl (a ∷ [])) (λ n j. in-one side O I j) apart);
             new = λ y j. new y (mem-one side O I j);
             held = p .outer-held;
           }
@@ -249,11 +270,14 @@ module _
       next =
           record {
             outer-held = M .held;
-            inner-held = held-still (ins .within) (p .inner-held) ins-touched (λ n j q. ⊎-elim (λ b. apart n b (in-other side O I j)) (λ b. on-across O I side slots b j) (in-cases (a ∷ []) q));
-            at-seam = m-is ∙ p .at-seam ∙ ap (λ (b : Item). b .slot) (sym (grown-seam a O I (heldShape g) (G .lines) side (p .outer-held .right .ordered) (G .whole .ordered) way));
+            inner-held = held-still (ins .within) (p .inner-held) ins-touched
+                (λ n j q. ⊎-elim (λ b. apart n b (in-other side O I j)) (λ b. on-across O I side slots b j) (in-cases (a ∷ []) q));
+            at-seam = m-is ∙ p .at-seam ∙ ap (λ (b : Item). b .slot)
+                (sym (grown-seam a O I (heldShape g) (G .lines) side (p .outer-held .right .ordered) (G .whole .ordered) way));
             slots =
                 subst (Slots (cap w₂)) (sym row)
-                (slots-rearranged (placed-rearranged items a (leaves (nodeOn side O I))) (slots-within (ins .within) (slots-within (low₁ .within) (slots-join (newcomer-own f) slots apart))));
+                (slots-rearranged (placed-rearranged items a (leaves (nodeOn side O I)))
+                (slots-within (ins .within) (slots-within (low₁ .within) (slots-join (newcomer-own f) slots apart))));
             ordered = subst (Ordered items) (sym row) (placed-ordered items item-laws a (leaves (nodeOn side O I)) ordered new);
           }
 

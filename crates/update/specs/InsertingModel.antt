@@ -2,7 +2,8 @@
 use mathlib.Core.Path.{_≡_, refl, sym, _∙_, ap, subst}
 use mathlib.Core.Logic.{_⊎_, inl, inr, ⊎-elim}
 use mathlib.Core.Bool.{Bool, true, false, not}
-use mathlib.Core.List.{List, [], _∷_, _++_, List·Memᴰ, List·Memᴰ·tail, List·Memᴰ·cases-cons, List·Permᴰ, List·Permᴰ·cons, List·Permᴰ·swap, List·Permᴰ·trans, Permᴰ·refl, Permᴰ·symm}
+use mathlib.Core.List.{List, [], _∷_, _++_, List·Memᴰ, List·Memᴰ·tail, List·Memᴰ·cases-cons, List·Permᴰ, List·Permᴰ·cons, List·Permᴰ·swap}
+use mathlib.Core.List.{List·Permᴰ·trans, Permᴰ·refl, Permᴰ·symm}
 use Prim.Native.Nat.{_≤_}
 use native.Mathlib.Omega.{arith}
 use lib.Dec.{T}
@@ -33,7 +34,8 @@ module _ (S : Figure) (s : S .Line) where
   placed-rearranged [] = Permᴰ·refl (s ∷ [])
   placed-rearranged (p ∷ ps) =
       let ih = placed-rearranged ps in
-      cond-both (λ ls. List·Permᴰ ls (s ∷ p ∷ ps)) (S .before s p) (λ t. Permᴰ·refl (s ∷ p ∷ ps)) (λ t. List·Permᴰ·trans (List·Permᴰ·cons refl ih) (List·Permᴰ·swap refl refl))
+      cond-both (λ ls. List·Permᴰ ls (s ∷ p ∷ ps)) (S .before s p) (λ t. Permᴰ·refl (s ∷ p ∷ ps))
+      (λ t. List·Permᴰ·trans (List·Permᴰ·cons refl ih) (List·Permᴰ·swap refl refl))
 
 -- in front of the last line of a tree: that one stays the last
 pub placed-last :
@@ -53,7 +55,8 @@ placed-last S L s t t′ o o′ e b = ⊎-elim sym (λ after. absurd (beyond aft
 
     beyond : T (S .before (last t) (last t′)) → (last t′ ≡ s) ⊎ List·Memᴰ (last t′) (leaves t) → ⊥
     beyond after (inl d) = not-both S L (last t) s (subst (λ c. T (S .before (last t) c)) d after) b
-    beyond after (inr m) = ⊎-elim (λ d. L .before-irrefl (last t) (subst (λ c. T (S .before (last t) c)) d after)) (λ u. not-both S L (last t) (last t′) after u) (up-to-last t (ordered-pairs o) m)
+    beyond after (inr m) = ⊎-elim (λ d. L .before-irrefl (last t) (subst (λ c. T (S .before (last t) c)) d after))
+        (λ u. not-both S L (last t) (last t′) after u) (up-to-last t (ordered-pairs o) m)
 
 -- ---- which way
 
@@ -71,7 +74,8 @@ module _ (a : Item) where
       (side : Bool) (u v : Item) (l r : OfferTree Item) (ql qr p : Part Item) →
       items .before a (last (shape l)) ≡ not side →
       insert items a (fork u v l ql qr r) p
-      ≡ andThen (insert items a (outer (sideOf side) (lower items (hold (fork u v l ql qr r) p)) .tree) (outer (sideOf side) (lower items (hold (fork u v l ql qr r) p)) .whole))
+      ≡ andThen (insert items a (outer (sideOf side) (lower items (hold (fork u v l ql qr r) p)) .tree)
+      (outer (sideOf side) (lower items (hold (fork u v l ql qr r) p)) .whole))
       (λ o. rebalanceOn side o (inner (sideOf side) (lower items (hold (fork u v l ql qr r) p))))
   unfolding insert lowerTree
   insert-fork false u v l r ql qr p d = rw d
@@ -83,16 +87,19 @@ pub insert-on :
     1 ≤ heldHeight h →
     items .before a (seam side (heldShape (outer (sideOf side) (lower items h))) (heldShape (inner (sideOf side) (lower items h)))) ≡ not side →
     insert items a (h .tree) (h .whole)
-    ≡ andThen (insert items a (outer (sideOf side) (lower items h) .tree) (outer (sideOf side) (lower items h) .whole)) (λ o. rebalanceOn side o (inner (sideOf side) (lower items h)))
+    ≡ andThen (insert items a (outer (sideOf side) (lower items h) .tree) (outer (sideOf side) (lower items h) .whole))
+    (λ o. rebalanceOn side o (inner (sideOf side) (lower items h)))
 unfolding lowerTree
 insert-on side a h high d = go side (h .tree) (h .whole) high d
   where
     go :
         (side : Bool) (t : OfferTree Item) (p : Part Item) →
         1 ≤ height (shape t) →
-        items .before a (seam side (heldShape (outer (sideOf side) (lower items (hold t p)))) (heldShape (inner (sideOf side) (lower items (hold t p))))) ≡ not side →
+        items .before a (seam side (heldShape (outer (sideOf side) (lower items (hold t p)))) (heldShape (inner (sideOf side) (lower items (hold t p))))) ≡
+        not side →
         insert items a t p
-        ≡ andThen (insert items a (outer (sideOf side) (lower items (hold t p)) .tree) (outer (sideOf side) (lower items (hold t p)) .whole)) (λ o. rebalanceOn side o (inner (sideOf side) (lower items (hold t p))))
+        ≡ andThen (insert items a (outer (sideOf side) (lower items (hold t p)) .tree) (outer (sideOf side) (lower items (hold t p)) .whole))
+        (λ o. rebalanceOn side o (inner (sideOf side) (lower items (hold t p))))
     go side (single b) p high d = absurd (omega arith)
     go false (fork u v l ql qr r) p high d = insert-fork a false u v l r ql qr p d
     go true (fork u v l ql qr r) p high d = insert-fork a true u v l r ql qr p d
@@ -106,8 +113,10 @@ module _ (a : Item) (O I G : Tree Item) (lines : leaves G ≡ placed items a (le
       items .before a (seam side O I) ≡ not side →
       leaves (nodeOn side G I) ≡ placed items a (leaves (nodeOn side O I))
   grown-row false o d = ap (λ xs. xs ++ leaves I) lines ∙ sym (placed-left items a (leaves O) (leaves I) (last-leaf O) (passed d))
-  grown-row true o d = ap (λ xs. leaves I ++ xs) lines ∙ sym (placed-right items a (leaves I) (leaves O) (none-behind items item-laws a I (ordered-other O I true o) (failed d)))
+  grown-row true o d = ap (λ xs. leaves I ++ xs) lines ∙ sym
+      (placed-right items a (leaves I) (leaves O) (none-behind items item-laws a I (ordered-other O I true o) (failed d)))
 
-  pub grown-seam : (side : Bool) → Ordered items (leaves O) → Ordered items (leaves G) → items .before a (seam side O I) ≡ not side → seam side G I ≡ seam side O I
+  pub grown-seam : (side : Bool) → Ordered items (leaves O) → Ordered items (leaves G) → items .before a (seam side O I) ≡ not side →
+      seam side G I ≡ seam side O I
   grown-seam false o o′ d = placed-last items item-laws a O G o o′ lines (passed d)
   grown-seam true o o′ d = refl

@@ -28,7 +28,9 @@ use Rattle.update.specs.Steps.{HandIn, LoweredIn}
 use Rattle.update.specs.declared.Held.{Held as InHand}
 use Rattle.update.specs.declared.Lowered.{Lowered}
 use Rattle.form.specs.RestWords.{restAt, rest-at}
-use Rattle.form.specs.Frames.{RestField, bridge-u, bridge-v, rests-apart, Disjoint, disjoint-across, tied-same, holds-same, rest-same, stored-same, held-slots, held-holds, whole-standing, whole-inside, stored-inside, pieces-offers, pieces-tree, pieces-rests, pieces-else, pieces-touched, slots-within, standing-still, pieces-trans, pieces-more, touched-more}
+use Rattle.form.specs.Frames.{RestField, bridge-u, bridge-v, rests-apart, Disjoint, disjoint-across, tied-same, holds-same, rest-same, stored-same}
+use Rattle.form.specs.Frames.{held-slots, held-holds, whole-standing, whole-inside, stored-inside, pieces-offers, pieces-tree, pieces-rests}
+use Rattle.form.specs.Frames.{pieces-else, pieces-touched, slots-within, standing-still, pieces-trans, pieces-more, touched-more}
 use Rattle.update.specs.RaisingModel.{up-to-test, last-of, first-of}
 use Rattle.pieces.specs.KnownEnds.{parted-by}
 use Rattle.update.specs.RaisingCuts.{Halved, halved}
@@ -50,7 +52,8 @@ pub record Forked (w : Words) (x : ℕ) (u v : Item) (l r : OfferTree Item) (ql 
   pub rest-left : RestIn w l ql
   pub rest-right : RestIn w r qr
 
-pub forked : {w : Words} {x e : ℕ} {u v : Item} {l r : OfferTree Item} {ql qr p : Part Item} → HeldIn w x e (hold (fork u v l ql qr r) p) → Forked w x u v l r ql qr
+pub forked : {w : Words} {x e : ℕ} {u v : Item} {l r : OfferTree Item} {ql qr p : Part Item} → HeldIn w x e (hold (fork u v l ql qr r) p) →
+    Forked w x u v l r ql qr
 forked {w} {x} {u} {v} {l} {r} {ql} {qr} held = go (held .tied) (held .stored)
   where
     here : x - mostSlots ≡ last (shape l) .slot
@@ -75,7 +78,8 @@ forked {w} {x} {u} {v} {l} {r} {ql} {qr} held = go (held .tied) (held .stored)
 -- ---- the cut
 
 -- the whole envelope cut by the rate of s is cut behind s
-cut-behind : {θ : ℤ} {e a b : ℕ} {w w₁ : Words} {p : Part Item} (s : Item) → θ ≡ rateOf s → CutAt false θ e w w₁ a b → Standing w e p → Halved w₁ a b p (cutBehind items s p)
+cut-behind : {θ : ℤ} {e a b : ℕ} {w w₁ : Words} {p : Part Item} (s : Item) → θ ≡ rateOf s → CutAt false θ e w w₁ a b → Standing w e p →
+    Halved w₁ a b p (cutBehind items s p)
 cut-behind {a} {b} {w₁} {p} s d cut st =
     subst (λ test. Halved w₁ a b p (splitP test p)) (ap (inFront false) d ∙ sym (up-to-test s)) (halved (parted-by cut st) st)
 
@@ -89,7 +93,8 @@ parted {u} {v} {l} {r} {ql} {qr} {p} whole = go (whole .valid)
   where
     go : Valid items (fork u v l ql qr r) (partLeaves p) → Parted u v (cutBehind items (last (shape l)) p)
     go (valid-fork upTo from e vl vr al ar E) =
-        let h : Halves (cutBehind items (last (shape l)) p) (upTo ++ u ∷ []) (v ∷ from) = fork-halves items item-laws u v l r ql qr p upTo from (whole .ordered) e vl vr in
+        let h : Halves (cutBehind items (last (shape l)) p) (upTo ++ u ∷ []) (v ∷ from) =
+        fork-halves items item-laws u v l r ql qr p upTo from (whole .ordered) e vl vr in
         record {
           front = λ t d. last-of t upTo u (sym (ap partLeaves d) ∙ h .before);
           back = λ t d. first-of t v from (sym (ap partLeaves d) ∙ h .after);
@@ -172,8 +177,10 @@ joins {w} {w₁} {w₂} {a′} {b′} {p} {q} {p′} {q′} one other side ends 
     later : Beside w₁ a′ b′ p′ q′
     later =
         record {
-          left = standing-still (one .within) (side′ .left) (pieces-touched only₁) (disjoint-both (inside-left (partLeaves q′)) (inside-refl _) (disjoint-turned d));
-          right = standing-still (one .within) (side′ .right) (pieces-touched only₁) (disjoint-both (inside-right (partLeaves p′)) (inside-refl _) (disjoint-turned d));
+          left = standing-still (one .within) (side′ .left) (pieces-touched only₁) (disjoint-both (inside-left (partLeaves q′)) (inside-refl _)
+              (disjoint-turned d));
+          right = standing-still (one .within) (side′ .right) (pieces-touched only₁) (disjoint-both (inside-right (partLeaves p′)) (inside-refl _)
+              (disjoint-turned d));
           slots = slots-within (one .within) (side′ .slots);
         }
 
@@ -251,10 +258,13 @@ module _
   lowers-fork =
       record {
         front =
-            child-held within pieces (calls .left ∙ f .left-at) (slots-left (leaves (shape R)) (held .slots)) (holds-left (leaves (shape R)) (held .kept)) (f .tied-left) (f .stored-left)
-            (disjoint-turned (disjoint-join (partLeaves P) (d .p-sl) (disjoint-join (partLeaves QL) (d .ql-sl) (disjoint-turned (d .sl-qr))))) (joined .one) (whole .front);
+            child-held within pieces (calls .left ∙ f .left-at) (slots-left (leaves (shape R)) (held .slots)) (holds-left (leaves (shape R)) (held .kept))
+            (f .tied-left) (f .stored-left)
+            (disjoint-turned (disjoint-join (partLeaves P) (d .p-sl) (disjoint-join (partLeaves QL) (d .ql-sl) (disjoint-turned (d .sl-qr))))) (joined .one)
+            (whole .front);
         back =
-            child-held within pieces (calls .right ∙ f .right-at) (slots-right (leaves (shape L)) (held .slots)) (holds-right (leaves (shape L)) (held .kept)) (f .tied-right) (f .stored-right)
+            child-held within pieces (calls .right ∙ f .right-at) (slots-right (leaves (shape L)) (held .slots))
+            (holds-right (leaves (shape L)) (held .kept)) (f .tied-right) (f .stored-right)
             (disjoint-turned (disjoint-join (partLeaves P) (d .p-sr) (disjoint-join (partLeaves QL) (d .ql-sr) (d .qr-sr)))) (joined .other) (whole .back);
         touched =
             touched-more
@@ -320,12 +330,23 @@ module _
       joined : Joins w₁ w₃ (lowered .left .envelope) (lowered .right .envelope) (c .front) QL QR (c .back)
       joined =
           joins (calls .front) (calls .back)
-          (record { left = k .front; right = ql₁; slots = slots-join (k .front .slots) (ql₁ .slots) (disjoint-both (k .front-inside) (inside-refl _) (d .p-ql)) })
+          (record {
+            left = k .front;
+            right = ql₁;
+            slots = slots-join (k .front .slots) (ql₁ .slots)
+                (disjoint-both (k .front-inside) (inside-refl _) (d .p-ql));
+          })
           (λ t i. left-bridge ∙ sym (ap slot-of (bridge .front t i)))
-          (record { left = qr₁; right = k .back; slots = slots-join (qr₁ .slots) (k .back .slots) (disjoint-turned (disjoint-both (k .back-inside) (inside-refl _) (d .p-qr))) })
+          (record {
+            left = qr₁;
+            right = k .back;
+            slots = slots-join (qr₁ .slots) (k .back .slots)
+                (disjoint-turned (disjoint-both (k .back-inside) (inside-refl _) (d .p-qr)));
+          })
           (λ o t i. bridge-still m (bridge-v refl) o ∙ right-bridge ∙ sym (ap slot-of (bridge .back t i)))
           (disjoint-join (partLeaves (c .front))
-          (disjoint-turned (disjoint-join (partLeaves QR) (disjoint-turned (disjoint-both (k .front-inside) (inside-refl _) (d .p-qr))) (disjoint-turned (k .apart))))
+          (disjoint-turned (disjoint-join (partLeaves QR) (disjoint-turned (disjoint-both (k .front-inside) (inside-refl _) (d .p-qr)))
+          (disjoint-turned (k .apart))))
           (disjoint-turned (disjoint-join (partLeaves QR) (disjoint-turned (d .ql-qr)) (disjoint-both (k .back-inside) (inside-refl _) (d .p-ql)))))
 
       within : Within w w₃
@@ -335,7 +356,8 @@ module _
       pieces = pieces-trans (pieces-more (inside-left (partLeaves QL ++ partLeaves QR)) cutting)
           (pieces-more
           (inside-join (partLeaves (c .front) ++ partLeaves QL)
-          (inside-join (partLeaves (c .front)) (λ n i. inside-left _ n (k .front-inside n i)) (λ n i. inside-right (partLeaves P) n (inside-left (partLeaves QR) n i)))
+          (inside-join (partLeaves (c .front)) (λ n i. inside-left _ n (k .front-inside n i))
+          (λ n i. inside-right (partLeaves P) n (inside-left (partLeaves QR) n i)))
           (inside-join (partLeaves QR) (λ n i. inside-right (partLeaves P) n (inside-right (partLeaves QL) n i)) (λ n i. inside-left _ n (k .back-inside n i))))
           (joined .only))
 

@@ -166,7 +166,8 @@ pub seam-rate :
     cell w rateField m ≡ rateOf (seam side (heldShape o) (heldShape i))
 seam-rate {side} {w} {o} {i} held p d =
     ap (cell w rateField) (d ∙ p .at-seam)
-    ∙ held .kept .held (subst (λ t. List·Memᴰ (seam side (heldShape o) (heldShape i)) (leaves t)) (sym (p .shaped)) (seam-in side (heldShape o) (heldShape i))) .rate
+    ∙ held .kept .held (subst (λ t. List·Memᴰ (seam side (heldShape o) (heldShape i)) (leaves t)) (sym (p .shaped))
+    (seam-in side (heldShape o) (heldShape i))) .rate
 
 -- o and i raised to one
 pub record Raises (side : Bool) (w w′ : Words) (m : Outcome) (o i : Held Item) : Type 0 where

@@ -87,7 +87,8 @@ module _
       record {
         held =
             record {
-              held = subst (HandIn w₈ (m .held)) (sym (R .held)) (held-raised sib cuts wires seam (calls .cat) at-u at-v (subst (Whole items) (R .held) (R .whole)));
+              held = subst (HandIn w₈ (m .held)) (sym (R .held)) (held-raised sib cuts wires seam (calls .cat) at-u at-v
+                  (subst (Whole items) (R .held) (R .whole)));
               counted = subst (λ log. Counted log (m .counts)) (sym (R .logged)) counted;
             };
         touched = touched sib cuts wires seam (calls .cat);
@@ -100,7 +101,13 @@ module _
       back = subst (Standing w (y .envelope)) (R .right-is) (whole-standing (sib .right))
 
       ends : Ends u v (m .counts .steps) (meet items (R .front) (R .back))
-      ends = calls .met .met (R .front) (R .back) (record { left = front; right = back; left-low = standing-low front; right-low = standing-low back; facing = R .facing })
+      ends = calls .met .met (R .front) (R .back) (record {
+        left = front;
+        right = back;
+        left-low = standing-low front;
+        right-low = standing-low back;
+        facing = R .facing;
+      })
 
       at-u : u ≡ R .u .slot
       at-u = ends .at-left ∙ ap refOf (R .met .atLeft)
@@ -182,7 +189,8 @@ pub raised :
     w₇ ≡ cset w₆ bridgeRightField gap (pos v) →
     Seamed lf rb u v w₇ w₈ (m .held .envelope) →
     RaisedIn gap x y w w₈ m
-raised {gap} {u} {v} {lf} {lb} {rf} {rb} {x} {y} {m} {w} {w₁} {w₂} {w₃} {w₄} {w₅} {w₆} {w₇} {w₈} once met heights cut-left cut-right rest-left rest-right above eu ev cat =
+raised {gap} {u} {v} {lf} {lb} {rf} {rb} {x} {y} {m} {w} {w₁} {w₂} {w₃} {w₄} {w₅} {w₆} {w₇} {w₈} once met heights cut-left cut-right rest-left rest-right
+    above eu ev cat =
     record {
       within =
           within-trans (cut-left .within)

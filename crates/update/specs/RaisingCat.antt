@@ -18,7 +18,9 @@ use Rattle.pieces.specs.Pieces.{items, PieceField, PiecesOnly, Standing, Beside
 use Rattle.form.specs.Stored.{RestIn, Stored, stored-fork, HeldIn, Touched, nodeSlot, restField}
 use Rattle.update.specs.Steps.{Siblings}
 use Rattle.update.specs.declared.Held.{Held as InHand}
-use Rattle.form.specs.Frames.{Inside, Disjoint, disjoint-across, bridge-u, bridge-v, same-link, tied-same, part-same, holds-same, held-slots, whole-inside, stored-inside, pieces-tree, pieces-rests, pieces-else, pieces-touched, slots-within, touched-offers, touched-trans, touched-more}
+use Rattle.form.specs.Frames.{Inside, Disjoint, disjoint-across, bridge-u, bridge-v, same-link, tied-same, part-same, holds-same, held-slots}
+use Rattle.form.specs.Frames.{whole-inside, stored-inside, pieces-tree, pieces-rests, pieces-else, pieces-touched, slots-within, touched-offers}
+use Rattle.form.specs.Frames.{touched-trans, touched-more}
 use Rattle.form.specs.Disjoint.{inside-refl, inside-trans, inside-left, inside-right, inside-join, disjoint-both, disjoint-join, disjoint-turned, slots-join}
 use Rattle.update.specs.RaisingRests.{Tells, tells-field, tells-in, rest-field, node-in, Retold, stored-retold}
 use Rattle.update.specs.RaisingCuts.{Halved, halved-same, wholes-apart, AfterCuts}
@@ -29,7 +31,8 @@ use Rattle.update.specs.RaisingWires.{Wires, left-untold, right-untold, 
 -- the words before the first cut, after the second, after the bridge, and at the end
 module _
     {w w₁ w₂ w₃ : Words} {gap lf lb rf rb z e mu mv : ℕ} {x y : InHand} {l r : Held Item} {c d : Cut Item} (sib : Siblings w gap x y l r)
-    (cuts : AfterCuts w w₁ l r c d lf lb rf rb) (wires : AfterWires (l .tree) (r .tree) w₁ w₂ z lb rf mu mv) (seam : SeamAt mu mv (c .front) (d .back)) (cat : Seamed lf rb mu mv w₂ w₃ e) where
+    (cuts : AfterCuts w w₁ l r c d lf lb rf rb) (wires : AfterWires (l .tree) (r .tree) w₁ w₂ z lb rf mu mv) (seam : SeamAt mu mv (c .front) (d .back))
+    (cat : Seamed lf rb mu mv w₂ w₃ e) where
   -- no piece is written between
   left-halves : Halved w₂ lf lb (l .whole) c
   left-halves = halved-same (wires .within) (cuts .left) (touched-offers (wired-touched (wires .only)) _) (wired-pieces (wires .only) _)
@@ -89,7 +92,8 @@ module _
         })
 
   -- a part of a whole that is not kept
-  rest-stored : {n : ℕ} {q : Part Item} (t : OfferTree Item) → cell w₂ (restField t) (nodeSlot t) ≡ pos n → Standing w₂ n q → Disjoint (partLeaves q) (partLeaves (c .front) ++ partLeaves (d .back)) → RestIn w₃ t q
+  rest-stored : {n : ℕ} {q : Part Item} (t : OfferTree Item) → cell w₂ (restField t) (nodeSlot t) ≡ pos n → Standing w₂ n q →
+      Disjoint (partLeaves q) (partLeaves (c .front) ++ partLeaves (d .back)) → RestIn w₃ t q
   rest-stored {q} t at-node st apart =
       record {
         root = pieces-rests kept (leaves (shape t)) .cells _ _ (rest-field t refl) (node-in t refl) ∙ at-node ∙ ap pos (st .root);
@@ -102,10 +106,12 @@ module _
   whole-raised = cat .root (c .front) (d .back) beside seam
 
   front-apart : Disjoint (partLeaves (c .back)) (partLeaves (c .front) ++ partLeaves (d .back))
-  front-apart = disjoint-turned (disjoint-join (partLeaves (c .front)) (left-halves .apart) (disjoint-turned (disjoint-both (left-halves .back-inside) (right-halves .back-inside) (wholes-apart sib))))
+  front-apart = disjoint-turned (disjoint-join (partLeaves (c .front)) (left-halves .apart)
+      (disjoint-turned (disjoint-both (left-halves .back-inside) (right-halves .back-inside) (wholes-apart sib))))
 
   back-apart : Disjoint (partLeaves (d .front)) (partLeaves (c .front) ++ partLeaves (d .back))
-  back-apart = disjoint-turned (disjoint-join (partLeaves (c .front)) (disjoint-both (left-halves .front-inside) (right-halves .front-inside) (wholes-apart sib)) (disjoint-turned (right-halves .apart)))
+  back-apart = disjoint-turned (disjoint-join (partLeaves (c .front)) (disjoint-both (left-halves .front-inside) (right-halves .front-inside)
+      (wholes-apart sib)) (disjoint-turned (right-halves .apart)))
 
   sides : Disjoint (leaves (heldShape l)) (leaves (heldShape r))
   sides = disjoint-across (leaves (heldShape l)) (sib .slots)

@@ -15,7 +15,8 @@ use Rattle.table.specs.Rep.{Within, within-trans}
 use Rattle.pieces.specs.Pieces.{PieceField, PiecesOnly, Standing, Parted}
 use Rattle.update.specs.Steps.{Siblings}
 use Rattle.update.specs.declared.Held.{Held as InHand}
-use Rattle.form.specs.Frames.{OfferField, Same, same-inside, Inside, Disjoint, disjoint-across, whole-inside, whole-standing, pieces-touched, standing-same, standing-still, pieces-trans, pieces-more}
+use Rattle.form.specs.Frames.{OfferField, Same, same-inside, Inside, Disjoint, disjoint-across, whole-inside, whole-standing, pieces-touched}
+use Rattle.form.specs.Frames.{standing-same, standing-still, pieces-trans, pieces-more}
 use Rattle.form.specs.Disjoint.{inside-left, inside-right, disjoint-both, disjoint-turned}
 
 -- ---- one cut
@@ -49,7 +50,8 @@ halved {test} {w} {p} cut st =
     all : cutLeaves c ≡ partLeaves p
     all = cut-leaves test p
 
-pub halved-same : {a b : ℕ} {w w′ : Words} {p : Part Item} {c : Cut Item} → Within w w′ → Halved w a b p c → Same OfferField (partLeaves p) w w′ → Same PieceField (partLeaves p) w w′ → Halved w′ a b p c
+pub halved-same : {a b : ℕ} {w w′ : Words} {p : Part Item} {c : Cut Item} → Within w w′ → Halved w a b p c → Same OfferField (partLeaves p) w w′ →
+    Same PieceField (partLeaves p) w w′ → Halved w′ a b p c
 halved-same within h offers pieces =
     record {
       front = standing-same within (h .front) (same-inside (h .front-inside) offers) (same-inside (h .front-inside) pieces);
@@ -82,7 +84,13 @@ pub after-cuts :
 after-cuts {w} {w₁} {w₂} {lf} {lb} {rf} {rb} {y = y} {test} {test′} {l} {r} s wc c wd d =
     record {
       within = within-trans wc wd;
-      left = record { front = still (near .front) (near .front-inside); back = still (near .back) (near .back-inside); front-inside = near .front-inside; back-inside = near .back-inside; apart = near .apart };
+      left = record {
+        front = still (near .front) (near .front-inside);
+        back = still (near .back) (near .back-inside);
+        front-inside = near .front-inside;
+        back-inside = near .back-inside;
+        apart = near .apart;
+      };
       right = halved cut far;
       only = pieces-trans (pieces-more (inside-left (partLeaves (r .whole))) (c .only)) (pieces-more (inside-right (partLeaves (l .whole))) (cut .only));
     }

@@ -3,7 +3,8 @@ use mathlib.Core.Path.{_≡_, refl, sym, _∙_, ap, ap₂, subst, fun-ext}
 use mathlib.Core.Bool.{Bool, true, false, not}
 use mathlib.Core.Logic.{⊎-elim}
 use mathlib.Core.Option.{none, some}
-use mathlib.Core.List.{List, [], _∷_, _++_, List·Memᴰ, List·Memᴰ·head, List·Memᴰ·append-cases, List·Memᴰ·eq-of-singleton, Memᴰ·append-right, reverse, reverse-append, head-eq-of-cons-eq}
+use mathlib.Core.List.{List, [], _∷_, _++_, List·Memᴰ, List·Memᴰ·head, List·Memᴰ·append-cases, List·Memᴰ·eq-of-singleton, Memᴰ·append-right, reverse}
+use mathlib.Core.List.{reverse-append, head-eq-of-cons-eq}
 use native.Mathlib.Omega.{arith}
 use lib.Dec.{T}
 use lib.Signed.{leZ, ltZ}
@@ -21,7 +22,8 @@ use Rattle.meeting.specs.Meets.{Met, limit, FacingTrees}
 use Rattle.dynamic.specs.OfferTree.{OfferTree, shape, Held, hold, heldShape, Made, bridged, raiseBy, raise}
 use Rattle.dynamic.specs.Valid.{Whole}
 use Rattle.dynamic.specs.Lower.{valid-env}
-use Rattle.dynamic.specs.Bridged.{Bridged, faces, search-bridges}
+use Rattle.dynamic.specs.SearchEnd.{Bridged}
+use Rattle.dynamic.specs.Bridged.{faces, search-bridges}
 use Rattle.dynamic.specs.Raise.{some-piece, whole-raise, split-behind, split-front}
 use Rattle.table.specs.Items.{Item}
 use Rattle.pieces.specs.Pieces.{items, item-laws, rateOf, inFront, NoneAbove}
@@ -82,12 +84,14 @@ module _ (a : Tree Item) (xs : List Item) (u : Item) (ys : List Item) (o : Order
 
   kept-last : (t : Tree Item) → split (inFront false (rateOf u)) a .front ≡ some t → last t ≡ u
   kept-last t d =
-      let h : Halves (split (inFront false (rateOf u)) a) (xs ++ u ∷ []) ys = subst (λ (f : Item → Bool). Halves (split f a) (xs ++ u ∷ []) ys) (up-to-test u) (split-behind items item-laws xs u ys about a e) in
+      let h : Halves (split (inFront false (rateOf u)) a) (xs ++ u ∷ []) ys =
+      subst (λ (f : Item → Bool). Halves (split f a) (xs ++ u ∷ []) ys) (up-to-test u) (split-behind items item-laws xs u ys about a e) in
       last-of t xs u (sym (ap partLeaves d) ∙ h .before)
 
   kept-first : (t : Tree Item) → split (inFront true (rateOf u)) a .back ≡ some t → first t ≡ u
   kept-first t d =
-      let h : Halves (split (inFront true (rateOf u)) a) xs (u ∷ ys) = subst (λ (f : Item → Bool). Halves (split f a) xs (u ∷ ys)) (before-test u) (split-front items item-laws xs u ys about a e) in
+      let h : Halves (split (inFront true (rateOf u)) a) xs (u ∷ ys) =
+      subst (λ (f : Item → Bool). Halves (split f a) xs (u ∷ ys)) (before-test u) (split-front items item-laws xs u ys about a e) in
       first-of t u ys (sym (ap partLeaves d) ∙ h .after)
 
 -- the last line of a tree has the lowest rate, the first one the highest
@@ -110,7 +114,8 @@ highest (node l r) o a m = ⊎-elim (highest l (ordered-left items (leaves l) (l
         omega (arith, intRules)
 
 module _ (l r : OfferTree Item) where
-  parts : (p q : Part Item) → Whole items (hold l p) → Whole items (hold r q) → Ordered items (leaves (shape l) ++ leaves (shape r)) → Whole items (raiseBy items p q (hold l p) (hold r q) .held) → Raising (hold l p) (hold r q) (raiseBy items p q (hold l p) (hold r q))
+  parts : (p q : Part Item) → Whole items (hold l p) → Whole items (hold r q) → Ordered items (leaves (shape l) ++ leaves (shape r)) →
+      Whole items (raiseBy items p q (hold l p) (hold r q) .held) → Raising (hold l p) (hold r q) (raiseBy items p q (hold l p) (hold r q))
   unfolding raiseBy splitP
   parts none q wl wr o g = absurd (some-piece items item-laws (wl .valid))
   parts (some a) none wl wr o g = absurd (some-piece items item-laws (wr .valid))
@@ -146,6 +151,7 @@ module _ (l r : OfferTree Item) where
         whole = g;
       }
 
-pub raising : {l r : Held Item} → Whole items l → Whole items r → Ordered items (leaves (heldShape l) ++ leaves (heldShape r)) → Avl (node (heldShape l) (heldShape r)) → Raising l r (raise items l r)
+pub raising : {l r : Held Item} → Whole items l → Whole items r → Ordered items (leaves (heldShape l) ++ leaves (heldShape r)) →
+    Avl (node (heldShape l) (heldShape r)) → Raising l r (raise items l r)
 raising {l} {r} wl wr o g =
     parts (l .tree) (r .tree) (l .whole) (r .whole) wl wr o (whole-raise items item-laws {l = l} {r = r} wl wr o g .whole)

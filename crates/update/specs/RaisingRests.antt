@@ -96,8 +96,16 @@ module _ {w w′ : Words} where
       (stored-retold sr (record { cells = λ f s i. g .cells f s (below-right i) }) (same-inside (λ s i. in-right front (in-right (partLeaves qr) i)) pieces))
       (ap (upTo mostNodes) (g .cells 10 _ (tells-u refl refl)) ∙ eu)
       (ap (upTo mostNodes) (g .cells 11 _ (tells-v refl refl)) ∙ ev)
-      (record { root = g .cells _ _ (rest-left refl refl) ∙ rl .root; pieces = part-same ql (rl .pieces) (same-inside (λ s i. in-left back (in-left (stored l) i)) pieces) })
-      (record { root = g .cells _ _ (rest-right refl refl) ∙ rr .root; pieces = part-same qr (rr .pieces) (same-inside (λ s i. in-right front (in-left (stored r) i)) pieces) })
+      (record {
+        root = g .cells _ _ (rest-left refl refl) ∙ rl .root;
+        pieces =
+            part-same ql (rl .pieces) (same-inside (λ s i. in-left back (in-left (stored l) i)) pieces);
+      })
+      (record {
+        root = g .cells _ _ (rest-right refl refl) ∙ rr .root;
+        pieces =
+            part-same qr (rr .pieces) (same-inside (λ s i. in-right front (in-left (stored r) i)) pieces);
+      })
     where
       front : List Item
       front = partLeaves ql ++ stored l
@@ -119,7 +127,8 @@ rest-within {x} {q} {w} {w′} h = go (decLe x mostSlots)
     go (yes d) = subst (Within w) (sym (h .of-leaf d)) (within-cset w 21 x (pos q))
     go (no d) = subst (Within w) (sym (h .of-inner (omega arith))) (within-cset w 20 (x - mostSlots) (pos q))
 
-pub rest-written : {x q : ℕ} {w w′ : Words} (t : OfferTree Item) → Slots (cap w) (leaves (shape t)) → x ≡ refOf (shape t) → RestSet x q w w′ → w′ ≡ cset w (restField t) (nodeSlot t) (pos q)
+pub rest-written : {x q : ℕ} {w w′ : Words} (t : OfferTree Item) → Slots (cap w) (leaves (shape t)) → x ≡ refOf (shape t) → RestSet x q w w′ →
+    w′ ≡ cset w (restField t) (nodeSlot t) (pos q)
 rest-written {x} {q} {w} (single a) s e h = h .of-leaf (omega (arith, s .high (List·Memᴰ·head refl), cap-most w)) ∙ ap (λ n. cset w leafRestField n (pos q)) e
 rest-written {x} {q} {w} (fork u v l ql qr r) s e h =
     h .of-inner (omega (arith, s .low (Memᴰ·append-left (leaves (shape r)) (last-leaf (shape l)))))

@@ -23,6 +23,11 @@ pub met-in : {w : Words} {x y : ℕ} {m : Met} → Meets w w x y m → MetIn w x
 met-in meets =
     record {
       met = λ tl tr f.
-          let a = meets .met {tl = tl} {tr = tr} (record { left-kept = kept (f .left) (f .left-low); right-kept = kept (f .right) (f .right-low); facing = f .facing }) in
+          let a = meets .met {tl = tl} {tr = tr} (record {
+            left-kept = kept (f .left) (f .left-low);
+            right-kept = kept (f .right) (f .right-low);
+            facing =
+                f .facing;
+          }) in
           record { at-left = a .u; at-right = a .v; counted = a .steps };
     }

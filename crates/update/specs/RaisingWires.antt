@@ -186,7 +186,8 @@ valid-rest {w} t s = go (node-in t refl)
     go : In (nodeSlot t) (leaves (shape t)) → Valid w (restField t) (nodeSlot t)
     go (at m e) = record { low = omega (arith, s .low m); high = omega (arith, s .high m); field = omega (arith, a-rest t) }
 
-module _ {w w₁ w₂ : Words} {gap lx rx a b : ℕ} {l r : OfferTree Item} (given : Unwired w gap lx rx l r) (set-left : RestSet lx a w w₁) (set-right : RestSet rx b w₁ w₂) where
+module _ {w w₁ w₂ : Words} {gap lx rx a b : ℕ} {l r : OfferTree Item} (given : Unwired w gap lx rx l r) (set-left : RestSet lx a w w₁)
+    (set-right : RestSet rx b w₁ w₂) where
   after-rests : AfterRests l r w w₂ a b
   after-rests =
       record {
@@ -224,7 +225,8 @@ module _ {w w₂ w₃ w₄ w₅ : Words} {gap lx rx x a b u v : ℕ} {l r : Offe
         right-rest = kept r ∙ rests .right;
         left-end = number (small .0) (elsewhere pv (λ h. omega (arith, h .0)) ∙ here pu (valid 10 (omega arith) within));
         right-end = number (small .1) (here pv (valid 11 (omega arith) (within-trans within (put-within pu))));
-        only = wired-trans (rests .only) (wired-trans (wired-only (made .only)) (wired-trans (put-wired pu (wires-u refl refl)) (put-wired pv (wires-v refl refl))));
+        only = wired-trans (rests .only) (wired-trans (wired-only (made .only))
+            (wired-trans (put-wired pu (wires-u refl refl)) (put-wired pv (wires-v refl refl))));
       }
     where
       within : Within w w₃

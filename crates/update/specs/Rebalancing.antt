@@ -99,7 +99,17 @@ near-turned : {l r : Held Item} → Near l r → Near r l
 near-turned n = record { left = n .right; right = n .left }
 
 pub rebalanced-on-left : {gap : ℕ} {x y : InHand} {m : Outcome} {w w′ : Words} → RebalancedIn gap x y w w′ m → RebalancedOn false gap x y w w′ m
-rebalanced-on-left c = record { within = c .within; made = λ o i n d. c .made o i (neighbours-left n) d; touched = λ o i n d. c .touched o i (neighbours-left n) d }
+rebalanced-on-left c = record {
+  within = c .within;
+  made = λ o i n d. c .made o i (neighbours-left n) d;
+  touched =
+      λ o i n d. c .touched o i (neighbours-left n) d;
+}
 
 pub rebalanced-on-right : {gap : ℕ} {x y : InHand} {m : Outcome} {w w′ : Words} → RebalancedIn gap y x w w′ m → RebalancedOn true gap x y w w′ m
-rebalanced-on-right c = record { within = c .within; made = λ o i n d. c .made i o (neighbours-right n) (near-turned d); touched = λ o i n d. c .touched i o (neighbours-right n) (near-turned d) }
+rebalanced-on-right c = record {
+  within = c .within;
+  made = λ o i n d. c .made i o (neighbours-right n) (near-turned d);
+  touched =
+      λ o i n d. c .touched i o (neighbours-right n) (near-turned d);
+}

@@ -54,7 +54,13 @@ pub record RemovedBelow (limit slot : ℕ) (x : InHand) (w w′ : Words) (m : Ou
 -- no subtree in a table is higher than 24
 pub removed : {limit slot : ℕ} {x : InHand} {m : Outcome} {w w′ : Words} → 24 ≤ limit → RemovedBelow limit slot x w w′ m → RemovedIn slot x w w′ m
 removed {limit} {slot} {x} {w} enough c =
-    record { within = c .within; rest = λ a t f. c .made a t f (room a t f) .rest; counted = λ a t f. c .made a t f (room a t f) .counted; touched = λ a t f. c .touched a t f (room a t f) }
+    record {
+      within = c .within;
+      rest = λ a t f. c .made a t f (room a t f) .rest;
+      counted = λ a t f. c .made a t f (room a t f) .counted;
+      touched =
+          λ a t f. c .touched a t f (room a t f);
+    }
   where
     room : (a : Item) (t : Held Item) → Leaver w slot x a t → heldHeight t ≤ limit
     room a t f = omega (arith, low w (f .held .slots) (f .held .right .balanced))
@@ -62,7 +68,12 @@ removed {limit} {slot} {x} {w} enough c =
 -- where the limit is used up at an inner node, nothing is promised
 pub removed-spent : {slot : ℕ} {x : InHand} {m : Outcome} {w : Words} → mostSlots < x .tree → RemovedBelow 0 slot x w w m
 removed-spent {w} inside =
-    record { within = within-refl w; made = λ a t f d. absurd (omega (arith, inner-high (f .held) inside)); touched = λ a t f d. absurd (omega (arith, inner-high (f .held) inside)) }
+    record {
+      within = within-refl w;
+      made = λ a t f d. absurd (omega (arith, inner-high (f .held) inside));
+      touched =
+          λ a t f d. absurd (omega (arith, inner-high (f .held) inside));
+    }
 
 record Removes (w w′ : Words) (m : Outcome) (a : Item) (t : Held Item) : Type 0 where
   made : LeavesIn w′ m (remove items a (t .tree) (t .whole))
@@ -174,7 +185,12 @@ module _
       ordered = subst (λ u. Ordered items (leaves u)) (p .shaped) (f .held .right .ordered)
 
       leaver : Leaver w₁ slot (c .on) a o
-      leaver = record { slot = f .slot; member = stands-on a O I side ordered (subst (λ u. List·Memᴰ a (leaves u)) (p .shaped) (f .member)) way; held = p .outer-held }
+      leaver = record {
+        slot = f .slot;
+        member = stands-on a O I side ordered (subst (λ u. List·Memᴰ a (leaves u)) (p .shaped) (f .member)) way;
+        held =
+            p .outer-held;
+      }
 
       room : heldHeight o ≤ limit′
       room = omega (arith, p .level .higher)
@@ -245,13 +261,18 @@ module _
             }
 
         near : Near g i
-        near = record { left = omega (arith, b .loses .heights .0, b .opened .level .left-level); right = omega (arith, b .loses .heights .1, b .opened .level .right-level) }
+        near = record {
+          left = omega (arith, b .loses .heights .0, b .opened .level .left-level);
+          right =
+              omega (arith, b .loses .heights .1, b .opened .level .right-level);
+        }
 
         R : MadeIn w₃ m₂ (rebalanceOn side g i)
         R = reb .made g i next near
 
         inside-t : Inside (leaves (nodeOn side (heldShape g) I)) (leaves (heldShape t))
-        inside-t n (at j d) = subst (λ u. In n (leaves u)) (sym (b .opened .shaped)) (at (sublist-mem (left-row a O I (heldShape g) (b .loses .lines) side) j) d)
+        inside-t n (at j d) = subst (λ u. In n (leaves u)) (sym (b .opened .shaped))
+            (at (sublist-mem (left-row a O I (heldShape g) (b .loses .lines) side) j) d)
 
     -- what is left of the child is rebalanced with its sibling
     pub removed-inner : RemovedBelow limit slot x w w₃ (record { held = m₂ .held; counts = n })

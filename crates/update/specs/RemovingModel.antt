@@ -35,7 +35,8 @@ module _ (a : Item) where
       (side : Bool) (u v : Item) (l r : OfferTree Item) (ql qr p : Part Item) →
       items .before (last (shape l)) a ≡ side →
       remove items a (fork u v l ql qr r) p
-      ≡ besideOn side (remove items a (outer (sideOf side) (lower items (hold (fork u v l ql qr r) p)) .tree) (outer (sideOf side) (lower items (hold (fork u v l ql qr r) p)) .whole))
+      ≡ besideOn side (remove items a (outer (sideOf side) (lower items (hold (fork u v l ql qr r) p)) .tree)
+      (outer (sideOf side) (lower items (hold (fork u v l ql qr r) p)) .whole))
       (inner (sideOf side) (lower items (hold (fork u v l ql qr r) p)))
   unfolding remove lowerTree
   remove-fork false u v l r ql qr p d = rw d
@@ -46,16 +47,19 @@ module _ (a : Item) where
       1 ≤ heldHeight h →
       items .before (seam side (heldShape (outer (sideOf side) (lower items h))) (heldShape (inner (sideOf side) (lower items h)))) a ≡ side →
       remove items a (h .tree) (h .whole)
-      ≡ besideOn side (remove items a (outer (sideOf side) (lower items h) .tree) (outer (sideOf side) (lower items h) .whole)) (inner (sideOf side) (lower items h))
+      ≡ besideOn side (remove items a (outer (sideOf side) (lower items h) .tree) (outer (sideOf side) (lower items h) .whole))
+      (inner (sideOf side) (lower items h))
   unfolding lowerTree
   remove-on side h high d = go side (h .tree) (h .whole) high d
     where
       go :
           (side : Bool) (t : OfferTree Item) (p : Part Item) →
           1 ≤ height (shape t) →
-          items .before (seam side (heldShape (outer (sideOf side) (lower items (hold t p)))) (heldShape (inner (sideOf side) (lower items (hold t p))))) a ≡ side →
+          items .before (seam side (heldShape (outer (sideOf side) (lower items (hold t p)))) (heldShape (inner (sideOf side) (lower items (hold t p))))) a
+          ≡ side →
           remove items a t p
-          ≡ besideOn side (remove items a (outer (sideOf side) (lower items (hold t p)) .tree) (outer (sideOf side) (lower items (hold t p)) .whole)) (inner (sideOf side) (lower items (hold t p)))
+          ≡ besideOn side (remove items a (outer (sideOf side) (lower items (hold t p)) .tree) (outer (sideOf side) (lower items (hold t p)) .whole))
+          (inner (sideOf side) (lower items (hold t p)))
       go side (single b) p high d = absurd (omega arith)
       go false (fork u v l ql qr r) p high d = remove-fork false u v l r ql qr p d
       go true (fork u v l ql qr r) p high d = remove-fork true u v l r ql qr p d

@@ -62,7 +62,8 @@ gathered {side} {w} {w₁} {w₂} {m} {gap} {x} {y} {z} {m₁} {m₂} {o} {i} {s
       held = Z .made .held;
       counted-inner = Y .made .counted;
       counted-outer = Z .made .counted;
-      touched = touched-trans (touched-more (λ n j. in-other side O (nodeOn side I S) j) (Y .touched)) (subst (λ a. Touched (leaves (nodeOn side O a)) w₁ w₂) (Y .shaped) (Z .touched));
+      touched = touched-trans (touched-more (λ n j. in-other side O (nodeOn side I S) j) (Y .touched))
+          (subst (λ a. Touched (leaves (nodeOn side O a)) w₁ w₂) (Y .shaped) (Z .touched));
     }
   where
     O : Tree Item
@@ -123,7 +124,8 @@ module _
         middle-held = p .inner-held;
         short-held = held-still within (n .inner-held) (p .touched) (λ k a b. on-across (heldShape tall) (heldShape s) side (n .slots) b a);
         outer-seam = p .at-seam;
-        short-seam = n .at-seam ∙ ap (λ (a : Item). a .slot) (ap (λ t. seam side t (heldShape s)) (p .shaped) ∙ seam-last side (heldShape o) (heldShape i) (heldShape s));
+        short-seam = n .at-seam ∙ ap (λ (a : Item). a .slot) (ap (λ t. seam side t (heldShape s)) (p .shaped)
+            ∙ seam-last side (heldShape o) (heldShape i) (heldShape s));
         slots = subst (Slots (cap w₁)) row (slots-within within (n .slots));
         ordered = subst (Ordered items) row (n .ordered);
       }
@@ -155,7 +157,8 @@ rotated :
 rotated within f = record { within = within; made = λ t s n e. f t s n e .made; touched = λ t s n e. f t s n e .touched }
 
 module _ (side : Side) (tall short : Held Item) where
-  rotate-once : heldHeight (inner side (lower items tall)) ≤ heldHeight (outer side (lower items tall)) → rotate items side tall short ≡ rotateOnce items side (lower items tall) short
+  rotate-once : heldHeight (inner side (lower items tall)) ≤ heldHeight (outer side (lower items tall)) →
+      rotate items side tall short ≡ rotateOnce items side (lower items tall) short
   unfolding rotate
   rotate-once le = rw (le-leb (heldHeight (inner side (lower items tall))) (heldHeight (outer side (lower items tall))) le)
 

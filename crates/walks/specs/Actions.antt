@@ -16,7 +16,8 @@ use Rattle.walks.specs.declared.Action.the-variants.{Stay, Retreat, Adva
 use Rattle.walks.specs.declared.Move.{Move}
 use Rattle.walks.specs.declared.Stand.{Stand}
 use Rattle.walks.specs.Walks.{Walk, Stood, stacks-set}
-use Rattle.walks.specs.CodeMoves.{Topped, topIn, topped-by, Retreated, Advanced, Popped, retreat-leaf, retreat-node, advance-leaf, advance-full, advance-node, pop-empty, pop-node}
+use Rattle.walks.specs.CodeMoves.{Topped, topIn, topped-by, Retreated, Advanced, Popped, retreat-leaf, retreat-node, advance-leaf, advance-full}
+use Rattle.walks.specs.CodeMoves.{advance-node, pop-empty, pop-node}
 
 abbrev pub walk : ℕ → List ℕ → ℕ → Walk
 walk at stack depth = record { at = at; stack = stack; depth = depth }

@@ -36,7 +36,8 @@ pub record Advanced (w : Words) (side : Bool) (h r : Walk) : Type 0 where
   pub moved : {m : Half Item} → Stood w h m → length (m .stack) + height (m .at .tree) ≤ 24 → Stood w r (advance (sideOf side) m)
 
 pub record Popped (w : Words) (side : Bool) (h r : Walk) : Type 0 where
-  pub moved : {t : Tree Item} {e : Option Item} {top : Place Item} {rest : List (Place Item)} → Stood w h (half t e (top ∷ rest)) → Stood w r (pop (sideOf side) top rest)
+  pub moved : {t : Tree Item} {e : Option Item} {top : Place Item} {rest : List (Place Item)} → Stood w h (half t e (top ∷ rest)) →
+      Stood w r (pop (sideOf side) top rest)
 
 -- ---- why: the top and the point
 
@@ -92,11 +93,13 @@ module _ {w : Words} (side : Bool) {h : Walk} {m : Half Item} (s : Stood w h m) 
       go (leaf a) p = record { here = p; stacks = s .stacks; room = s .room }
       go (node l r) p = absurd (omega (arith, inner-high p))
 
-  pub retreat-node : mostSlots < h .at → (x : ℕ) → x ≡ childAt w pieceTree side (h .at) → Stood w (record { at = x; stack = h .stack; depth = h .depth }) (retreat (sideOf side) m)
+  pub retreat-node : mostSlots < h .at → (x : ℕ) → x ≡ childAt w pieceTree side (h .at) →
+      Stood w (record { at = x; stack = h .stack; depth = h .depth }) (retreat (sideOf side) m)
   unfolding retreat
   retreat-node k x e = go (m .at .tree) (s .here)
     where
-      go : (t : Tree Item) → Pieces w (h .at) t → Stood w (record { at = x; stack = h .stack; depth = h .depth }) (retreat (sideOf side) (half t (m .at .edge) (m .stack)))
+      go : (t : Tree Item) → Pieces w (h .at) t → Stood w (record { at = x; stack = h .stack; depth = h .depth })
+          (retreat (sideOf side) (half t (m .at .edge) (m .stack)))
       go (leaf a) p = absurd (omega (arith, leaf-low p))
       go (node l r) p = record { here = rw e (pieces-away side p); stacks = s .stacks; room = s .room }
 
@@ -116,11 +119,13 @@ module _ {w : Words} (side : Bool) {h : Walk} {m : Half Item} (s : Stood w h m) 
       go (leaf a) p b = omega (arith, leaf-low p)
       go (node l r) p b = omega (arith, stacks-depth (s .stacks))
 
-  pub advance-node : mostSlots < h .at → h .depth < 24 → (x : ℕ) → x ≡ childAt w pieceTree (not side) (h .at) → Stood w (record { at = x; stack = set (h .stack) (h .depth) (h .at); depth = h .depth + 1 }) (advance (sideOf side) m)
+  pub advance-node : mostSlots < h .at → h .depth < 24 → (x : ℕ) → x ≡ childAt w pieceTree (not side) (h .at) →
+      Stood w (record { at = x; stack = set (h .stack) (h .depth) (h .at); depth = h .depth + 1 }) (advance (sideOf side) m)
   unfolding advance
   advance-node k f x e = go (m .at .tree) (s .here)
     where
-      go : (t : Tree Item) → Pieces w (h .at) t → Stood w (record { at = x; stack = set (h .stack) (h .depth) (h .at); depth = h .depth + 1 }) (advance (sideOf side) (half t (m .at .edge) (m .stack)))
+      go : (t : Tree Item) → Pieces w (h .at) t → Stood w (record { at = x; stack = set (h .stack) (h .depth) (h .at); depth = h .depth + 1 })
+          (advance (sideOf side) (half t (m .at .edge) (m .stack)))
       go (leaf a) p = absurd (omega (arith, leaf-low p))
       go (node l r) p =
           record {
@@ -140,11 +145,13 @@ module _ {w : Words} {h : Walk} {t : Tree Item} {e : Option Item} {top : Place I
       go : {d : ℕ} {top : Place Item} {rest : List (Place Item)} → Stacks w (h .stack) d (top ∷ rest) → y ≡ refOf (top .tree) → Pieces w y (top .tree)
       go (pushed p z) q = rw (q ∙ sym (p .rep .root)) p
 
-  pub pop-node : (side : Bool) (x y : ℕ) → y ≡ refOf (top .tree) → x ≡ childAt w pieceTree side y → Stood w (record { at = x; stack = h .stack; depth = h .depth - 1 }) (pop (sideOf side) top rest)
+  pub pop-node : (side : Bool) (x y : ℕ) → y ≡ refOf (top .tree) → x ≡ childAt w pieceTree side y →
+      Stood w (record { at = x; stack = h .stack; depth = h .depth - 1 }) (pop (sideOf side) top rest)
   unfolding pop
   pop-node side x y q a = go (s .stacks) q
     where
-      go : {d : ℕ} {top : Place Item} {rest : List (Place Item)} → Stacks w (h .stack) d (top ∷ rest) → y ≡ refOf (top .tree) → Stood w (record { at = x; stack = h .stack; depth = d - 1 }) (pop (sideOf side) top rest)
+      go : {d : ℕ} {top : Place Item} {rest : List (Place Item)} → Stacks w (h .stack) d (top ∷ rest) → y ≡ refOf (top .tree) →
+          Stood w (record { at = x; stack = h .stack; depth = d - 1 }) (pop (sideOf side) top rest)
       go (pushed {d = d} {rest = rest} p z) q =
           record {
             here = rw (a, q, ← p .rep .root) (pieces-away side p);

@@ -33,7 +33,9 @@ abbrev pub scaled : Item → ℤ → ℤ → ℤ
 scaled e n d = baseOf e *ℤ d +ℤ rateOf e *ℤ n
 
 -- two items' prices at the crossing of a and b
-pub price-test : (e m a b : Item) → Falls a b → itemFigure .atMost e m (itemFigure .cross a b) ≡ leZ (scaled e (crossingNumerator (a .offer) (b .offer)) (crossingDenominator (a .offer) (b .offer))) (scaled m (crossingNumerator (a .offer) (b .offer)) (crossingDenominator (a .offer) (b .offer)))
+pub price-test : (e m a b : Item) → Falls a b → itemFigure .atMost e m (itemFigure .cross a b) ≡ leZ
+    (scaled e (crossingNumerator (a .offer) (b .offer)) (crossingDenominator (a .offer) (b .offer)))
+    (scaled m (crossingNumerator (a .offer) (b .offer)) (crossingDenominator (a .offer) (b .offer)))
 price-test e m a b h = price-at-cross Item rateOf baseOf e m a b h
 
 -- at their crossing two lines have one price, so a third is compared with either
@@ -46,6 +48,7 @@ local-same (leaf e) a b h = same-at-cross e a b h
 local-same (node l r) a b h = λ i. same-at-cross (last l) a b h i || same-at-cross (first r) a b h i
 
 -- Seen from either side, an inner node's point is the crossing of the last line left of it and the first line right of it, and its price is the former's.
-pub point-above : (side : Side) (l r : Tree Item) (e : Option Item) (t : Tree Item) → Falls (last l) (first r) → crossingOnOrAbove itemFigure side (pointAt side (node l r) e) t ≡ localAtMost itemFigure t (last l) (itemFigure .cross (last l) (first r))
+pub point-above : (side : Side) (l r : Tree Item) (e : Option Item) (t : Tree Item) → Falls (last l) (first r) →
+    crossingOnOrAbove itemFigure side (pointAt side (node l r) e) t ≡ localAtMost itemFigure t (last l) (itemFigure .cross (last l) (first r))
 point-above left l r e t h = refl
 point-above right l r e t h = local-same t (last l) (first r) h

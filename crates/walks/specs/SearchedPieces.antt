@@ -48,7 +48,13 @@ module _ {w : Words} {x : ℕ} {l r : Tree Item} (p : Pieces w x (node l r)) whe
   pub pieces-left : Pieces w (childAt w pieceTree false x) l
   pieces-left =
       record {
-        rep = record { kind = p .rep .kind; root = ap (linkAt w (childField pieceTree false)) seam-at ∙ at-left (p .rep .tied); slots = slots-left (leaves r) (p .rep .slots); tied = tied-left (p .rep .tied) };
+        rep = record {
+          kind = p .rep .kind;
+          root = ap (linkAt w (childField pieceTree false)) seam-at ∙ at-left (p .rep .tied);
+          slots =
+              slots-left (leaves r) (p .rep .slots);
+          tied = tied-left (p .rep .tied);
+        };
         holds = holds-left (leaves r) (p .holds);
         threaded = IsChain·left-of-append (leaves r) (p .threaded);
         falling = IsChain·left-of-append (leaves r) (p .falling);
@@ -63,7 +69,13 @@ module _ {w : Words} {x : ℕ} {l r : Tree Item} (p : Pieces w x (node l r)) whe
   pub pieces-right : Pieces w (childAt w pieceTree true x) r
   pieces-right =
       record {
-        rep = record { kind = p .rep .kind; root = ap (linkAt w (childField pieceTree true)) seam-at ∙ at-right (p .rep .tied); slots = slots-right (leaves l) (p .rep .slots); tied = tied-right (p .rep .tied) };
+        rep = record {
+          kind = p .rep .kind;
+          root = ap (linkAt w (childField pieceTree true)) seam-at ∙ at-right (p .rep .tied);
+          slots =
+              slots-right (leaves l) (p .rep .slots);
+          tied = tied-right (p .rep .tied);
+        };
         holds = holds-right (leaves l) (p .holds);
         threaded = IsChain·right-of-append (leaves l) (p .threaded);
         falling = IsChain·right-of-append (leaves l) (p .falling);
@@ -79,7 +91,8 @@ pub pieces-away : {w : Words} {x : ℕ} {l r : Tree Item} (side : Bool) → Piec
 pieces-away false p = pieces-left p
 pieces-away true p = pieces-right p
 
-pub pieces-toward : {w : Words} {x : ℕ} {l r : Tree Item} (side : Bool) → Pieces w x (node l r) → Pieces w (childAt w pieceTree (not side) x) (toward (sideOf side) l r)
+pub pieces-toward : {w : Words} {x : ℕ} {l r : Tree Item} (side : Bool) → Pieces w x (node l r) →
+    Pieces w (childAt w pieceTree (not side) x) (toward (sideOf side) l r)
 pieces-toward false p = pieces-right p
 pieces-toward true p = pieces-left p
 
@@ -105,7 +118,8 @@ module _ {w : Words} {a b : Item} (h : Held w a) (k : Held w b) (n : Next w a b)
   gap-ranged =
       let g : ℤ = rateOf a -ℤ rateOf b in
       and-both (leZ (pos 0) g) (leZ g (pos 200_000)) (above (gap-above (rateOf a) (rateOf b) f))
-      (and-right (leZ (negℤ (pos 200_000)) g) (leZ g (pos 200_000)) (rate-gap-in-range (rateOf a) (rateOf b) (rate-of (a .offer) (h .ranged)) (rate-of (b .offer) (k .ranged))))
+      (and-right (leZ (negℤ (pos 200_000)) g) (leZ g (pos 200_000)) (rate-gap-in-range (rateOf a) (rateOf b) (rate-of (a .offer) (h .ranged))
+      (rate-of (b .offer) (k .ranged))))
     where
       above : T (ltZ (pos 0) (rateOf a -ℤ rateOf b)) → T (leZ (pos 0) (rateOf a -ℤ rateOf b))
       above t = omega (arith, intRules)
@@ -141,7 +155,8 @@ seam-of {l} {r} p =
     }
 
 -- The code compares the crossing at a node with the local envelope of another as the machine does.
-pub seam-above : {w v : Words} {x y : ℕ} {l r t : Tree Item} → Pieces w x (node l r) → Pieces v y t → aboveAt w (last l .slot) v y ≡ localAtMost itemFigure t (last l) (itemFigure .cross (last l) (first r))
+pub seam-above : {w v : Words} {x y : ℕ} {l r t : Tree Item} → Pieces w x (node l r) → Pieces v y t →
+    aboveAt w (last l .slot) v y ≡ localAtMost itemFigure t (last l) (itemFigure .cross (last l) (first r))
 seam-above {w} {v} {x} {y} {l} {r} {t = leaf e} p q =
     let s = seam-of p in
     above-one w (last l .slot) v y (s .some) (leaf-low q)

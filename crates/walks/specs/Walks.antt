@@ -30,7 +30,8 @@ pub record Walk : Type 0 where
 -- the first d words of the stack are the nodes pushed, the top last
 pub data Stacks (w : Words) (st : List ℕ) : ℕ → List (Place Item) → Type 0 where
   empty : Stacks w st 0 []
-  pushed : {d : ℕ} {l r : Tree Item} {e : Option Item} {rest : List (Place Item)} → Pieces w (getD st d 0) (node l r) → Stacks w st d rest → Stacks w st (suc d) (record { tree = node l r; edge = e } ∷ rest)
+  pushed : {d : ℕ} {l r : Tree Item} {e : Option Item} {rest : List (Place Item)} → Pieces w (getD st d 0) (node l r) → Stacks w st d rest →
+      Stacks w st (suc d) (record { tree = node l r; edge = e } ∷ rest)
 
 pub record Stood (w : Words) (h : Walk) (m : Half Item) : Type 0 where
   pub here : Pieces w (h .at) (m .at .tree)
@@ -56,7 +57,8 @@ stacks-set k x h empty = empty
 stacks-set {w} {st} k x h (pushed {d = d} {l} {r} p s) =
     pushed (subst (λ (z : ℕ). Pieces w z (node l r)) (sym (getD-set-other st k d x 0 (λ e. omega arith))) p) (stacks-set k x (omega arith) s)
 
-pub stacks-push : {w : Words} {st : List ℕ} {d x : ℕ} {l r : Tree Item} {e : Option Item} {rest : List (Place Item)} → Pieces w x (node l r) → Stacks w st d rest → d < length st → Stacks w (set st d x) (suc d) (record { tree = node l r; edge = e } ∷ rest)
+pub stacks-push : {w : Words} {st : List ℕ} {d x : ℕ} {l r : Tree Item} {e : Option Item} {rest : List (Place Item)} → Pieces w x (node l r) →
+    Stacks w st d rest → d < length st → Stacks w (set st d x) (suc d) (record { tree = node l r; edge = e } ∷ rest)
 stacks-push {w} {st} {d} {x} {l} {r} p s h =
     pushed (subst (λ (z : ℕ). Pieces w z (node l r)) (sym (getD-set-same st d x 0 h)) p) (stacks-set d x (omega arith) s)
 
@@ -76,12 +78,15 @@ pointSlot (leaf a) st = topSlot st
 pointSlot (node l r) st = last l .slot
 
 -- the crossing kept at an inner node, compared
-pub node-above : {w v : Words} {x y : ℕ} {l r : Tree Item} (side : Side) (e : Option Item) (q : Place Item) → Pieces w x (node l r) → Pieces v y (q .tree) → aboveAt w (last l .slot) v y ≡ onOrAbove itemFigure side (record { tree = node l r; edge = e }) q
+pub node-above : {w v : Words} {x y : ℕ} {l r : Tree Item} (side : Side) (e : Option Item) (q : Place Item) → Pieces w x (node l r) → Pieces v y (q .tree) →
+    aboveAt w (last l .slot) v y ≡ onOrAbove itemFigure side (record { tree = node l r; edge = e }) q
 unfolding onOrAbove
 node-above {l} {r} side e q p z = seam-above p z ∙ sym (point-above side l r e (q .tree) (seam-of p .falls))
 
 -- so is a half's point, of a leaf that of the stack's top
-point-by : {w v : Words} {x y : ℕ} {st : List ℕ} {d : ℕ} (side : Side) (g : Aim Item) (t : Tree Item) (e : Option Item) (ps : List (Place Item)) (q : Place Item) → Stands side g (half t e ps) → Pieces w x t → Stacks w st d ps → Pieces v y (q .tree) → aboveAt w (pointSlot t ps) v y ≡ onOrAbove itemFigure side (record { tree = t; edge = e }) q
+point-by : {w v : Words} {x y : ℕ} {st : List ℕ} {d : ℕ} (side : Side) (g : Aim Item) (t : Tree Item) (e : Option Item) (ps : List (Place Item))
+    (q : Place Item) → Stands side g (half t e ps) → Pieces w x t → Stacks w st d ps → Pieces v y (q .tree) →
+    aboveAt w (pointSlot t ps) v y ≡ onOrAbove itemFigure side (record { tree = t; edge = e }) q
 unfolding onOrAbove
 point-by side g (node l r) e ps q s p k z = node-above side e q p z
 point-by {w} {v} {y = y} side g (leaf a) e [] q s p empty z =
@@ -92,5 +97,6 @@ point-by {w} {v} {y = y} side g (leaf a) e (top ∷ rest) q s p (pushed {l = l} 
     ∙ node-above side e′ q b z
     ∙ sym (ap (λ (c : Option (Crossing Item)). crossingOnOrAbove itemFigure side c (q .tree)) (leaf-point a s refl))
 
-pub half-above : {w v : Words} {y : ℕ} {side : Bool} {h : Walk} {m : Half Item} → Fares w side h m → (q : Place Item) → Pieces v y (q .tree) → aboveAt w (pointSlot (m .at .tree) (m .stack)) v y ≡ onOrAbove itemFigure (sideOf side) (m .at) q
+pub half-above : {w v : Words} {y : ℕ} {side : Bool} {h : Walk} {m : Half Item} → Fares w side h m → (q : Place Item) → Pieces v y (q .tree) →
+    aboveAt w (pointSlot (m .at .tree) (m .stack)) v y ≡ onOrAbove itemFigure (sideOf side) (m .at) q
 half-above {side} {m = m} f q z = point-by (sideOf side) (f .aim) (m .at .tree) (m .at .edge) (m .stack) q (f .stands) (f .stood .here) (f .stood .stacks) z

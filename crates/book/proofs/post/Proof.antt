@@ -81,21 +81,24 @@ returns-3 c =
 
 mul-post-part : tie.Need-mul-post-part
 mul-post-part c =
-    let at-if1 = c .before .before .before .before .before .before in
+    let at-before = c .before .before .before .before .before in
+    let at-if1 = at-before .before in
     let at-no-book = at-if1 .before in
     let entry = at-no-book .before .before in
     omega (arith, book-start (entry .args .table .now) (entry .args .start) (at-no-book .no-book .ensures) (at-if1 .if1 .left))
 
 sub-post-part : tie.Need-sub-post-part
 sub-post-part c =
-    let at-if1 = c .before .before .before .before .before .before in
+    let at-before = c .before .before .before .before .before in
+    let at-if1 = at-before .before in
     let at-no-book = at-if1 .before in
     let entry = at-no-book .before .before in
     omega (arith, book-start (entry .args .table .now) (entry .args .start) (at-no-book .no-book .ensures) (at-if1 .if1 .left))
 
 part-post-part-start : tie.Need-part-post-part-start
 part-post-part-start c =
-    let at-if1 = c .before .before .before .before .before .before in
+    let at-before = c .before .before .before .before .before in
+    let at-if1 = at-before .before in
     let at-no-book = at-if1 .before in
     let entry = at-no-book .before .before in
     omega (arith, book-start (entry .args .table .now) (entry .args .start) (at-no-book .no-book .ensures) (at-if1 .if1 .left))

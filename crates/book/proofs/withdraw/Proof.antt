@@ -74,21 +74,24 @@ returns-3 c =
 
 mul-withdraw-part : tie.Need-mul-withdraw-part
 mul-withdraw-part c =
-    let at-if1 = c .before .before .before .before .before .before in
+    let at-before = c .before .before .before .before .before in
+    let at-if1 = at-before .before in
     let at-no-book = at-if1 .before in
     let entry = at-no-book .before .before in
     omega (arith, book-start (entry .args .table .now) (entry .args .start) (at-no-book .no-book .ensures) (at-if1 .if1 .left))
 
 sub-withdraw-part : tie.Need-sub-withdraw-part
 sub-withdraw-part c =
-    let at-if1 = c .before .before .before .before .before .before in
+    let at-before = c .before .before .before .before .before in
+    let at-if1 = at-before .before in
     let at-no-book = at-if1 .before in
     let entry = at-no-book .before .before in
     omega (arith, book-start (entry .args .table .now) (entry .args .start) (at-no-book .no-book .ensures) (at-if1 .if1 .left))
 
 part-withdraw-part-start : tie.Need-part-withdraw-part-start
 part-withdraw-part-start c =
-    let at-if1 = c .before .before .before .before .before .before in
+    let at-before = c .before .before .before .before .before in
+    let at-if1 = at-before .before in
     let at-no-book = at-if1 .before in
     let entry = at-no-book .before .before in
     omega (arith, book-start (entry .args .table .now) (entry .args .start) (at-no-book .no-book .ensures) (at-if1 .if1 .left))

@@ -21,10 +21,14 @@ same-length c = search needs
 
 returns-2 : tie.Need-returns-2
 returns-2 c =
-    let s = c .before .before .before .before .before .before .before in
-    let h = c .before .before .before .before .before .if1 .left in
-    let a = c .before .before .before .before .mark in
-    let t = c .before .before .tell-mark in
+    let at-tell-mark = c .before .before in
+    let at-mark = at-tell-mark .before .before in
+    let at-if1 = at-mark .before in
+    let at-before = at-if1 .before in
+    let s = at-before .before in
+    let h = at-if1 .if1 .left in
+    let a = at-mark .mark in
+    let t = at-tell-mark .tell-mark in
     let r : SFits w64 (t .result) = record { sfits = t .ok } in
     simp (toZ-ofZ, r) (lent-long _ _ _ _ h (a .result) (simp (toZ-ofZ, s .fits .index) at (a .ensures)) (t .ensures))
 

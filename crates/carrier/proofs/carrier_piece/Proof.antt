@@ -29,16 +29,26 @@ same-length c = search needs
 
 returns-2 : tie.Need-returns-2
 returns-2 c =
-    let s = c .before .before .before .before .before .before .before in
-    let h = c .before .before .before .before .before .before .if1 .left in
-    let e = c .before .before .before .before .before .up-to .ensures in
-    let q = c .before .before .before .before .place-after in
-    let a = c .before .before .before .piece-at in
-    let t = c .before .tell-piece in
+    let at-tell-piece = c .before in
+    let at-piece-at = at-tell-piece .before .before in
+    let at-place-after = at-piece-at .before in
+    let at-up-to = at-place-after .before in
+    let at-before = at-up-to .before in
+    let s = at-before .before in
+    let h = at-before .if1 .left in
+    let e = at-up-to .up-to .ensures in
+    let q = at-place-after .place-after in
+    let a = at-piece-at .piece-at in
+    let t = at-tell-piece .tell-piece in
     let r : SFits w64 (t .result) = record { sfits = t .ok } in
     let k : Step = record { handed = a .result; next = q .result } in
     simp (toZ-ofZ, r)
-    (pieced-long _ _ (s .args .place) (simp (toZ-ofZ, s .fits .place) at e) h k (record { small = omega (arith, q .ok); hands = a .ensures; moves = q .ensures }) (t .ensures))
+    (pieced-long _ _ (s .args .place) (simp (toZ-ofZ, s .fits .place) at e) h k (record {
+      small = omega (arith, q .ok);
+      hands = a .ensures;
+      moves =
+          q .ensures;
+    }) (t .ensures))
 
 pub carrier-piece-spec : {M : Type 1} → statement M
 carrier-piece-spec =

@@ -24,10 +24,13 @@ same-length-2 c = search needs
 
 returns-2 : tie.Need-returns-2
 returns-2 c =
-    let s = c .before .before .before .before .before .before .before in
-    let h = c .before .before .before .before .before .before .if1 .left in
-    let a = c .before .before .before .before .withdraw .ensures in
-    let t = c .before .tell-update in
+    let at-tell-update = c .before in
+    let at-withdraw = at-tell-update .before .before .before in
+    let at-before = at-withdraw .before .before in
+    let s = at-before .before in
+    let h = at-before .if1 .left in
+    let a = at-withdraw .withdraw .ensures in
+    let t = at-tell-update .tell-update in
     let r : SFits w64 (t .result) = record { sfits = t .ok } in
     simp (toZ-ofZ, r) (updated-long _ _ _ h _ (simp (toZ-ofZ, s .fits .number) at a) (t .ensures))
 

@@ -108,7 +108,8 @@ returns-5 c =
     (m .ensures .few) (simp (toZ-ofZ, s .fits .index) at (at-up-to .up-to .ensures)) in
     let f : SFits w64 (c .before .rate2 .result) = record { sfits = c .before .rate2 .ok } in
     subst (λ (z : ℤ). PartMark (s .args .part .now) z (Mark (c .open-end2 .result))) (sym (j .0))
-    (part-last (at-envelope-root .envelope-root .ensures) (m .ensures) (at-if1 .if1 .left) (at-up-to .up-to .result) (at-if4 .if4 .left) (at-slot-of2 .slot-of2 .ensures)
+    (part-last (at-envelope-root .envelope-root .ensures) (m .ensures) (at-if1 .if1 .left) (at-up-to .up-to .result) (at-if4 .if4 .left)
+    (at-slot-of2 .slot-of2 .ensures)
     (at-if5 .if5 .taken) ((simp (toZ-ofZ, f) at (c .open-end2 .ensures)) ∙ ap openEnd (c .before .rate2 .ensures)))
 
 crossing-at-requires : tie.Need-crossing-at-requires
@@ -131,7 +132,8 @@ returns-6 c =
     index-there (s .args .index) (simp (toZ-ofZ, s .fits .index) at (at-if2 .if2 .left)) (simp (toZ-ofZ, s .fits .index, e) at (at-if3 .if3 .left))
     (m .ensures .few) (simp (toZ-ofZ, s .fits .index) at (at-up-to .up-to .ensures)) in
     subst (λ (z : ℤ). PartMark (s .args .part .now) z (Mark (c .crossing-at .result))) (sym (j .0))
-    (part-inner (at-envelope-root .envelope-root .ensures) (m .ensures) (at-if1 .if1 .left) (at-up-to .up-to .result) (at-if4 .if4 .left) (at-slot-of2 .slot-of2 .ensures)
+    (part-inner (at-envelope-root .envelope-root .ensures) (m .ensures) (at-if1 .if1 .left) (at-up-to .up-to .result) (at-if4 .if4 .left)
+    (at-slot-of2 .slot-of2 .ensures)
     (below (j .1) (c .before .if5 .left)) (c .crossing-at .ensures))
 
 pub part-mark-spec : {M : Type 1} → statement M

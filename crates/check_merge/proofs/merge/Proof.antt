@@ -3,7 +3,8 @@ use mathlib.Core.Path.{_∙_}
 use native.Mathlib.Omega.{arith}
 use borrow.Author.Needs.{needs}
 use borrow.Author.Tests.{not-true, not-false}
-use Rattle.check_merge.specs.Merges.{left-place, right-place, middle, merge-ends, merges-no-u, merges-no-v, merges-no-bridge, rest-left, rest-right, merges-no-left, merges-no-right, merges-all}
+use Rattle.check_merge.specs.Merges.{left-place, right-place, middle, merge-ends, merges-no-u, merges-no-v, merges-no-bridge, rest-left}
+use Rattle.check_merge.specs.Merges.{rest-right, merges-no-left, merges-no-right, merges-all}
 use Rattle.check_merge.proofs.merge.Statement.{statement}
 use Rattle.check_merge.proofs.merge.Tie as tie
 
@@ -175,7 +176,8 @@ sub-t21 c = search needs
 
 add-t22 : tie.Need-add-t22
 add-t22 c =
-    let at-if2 = c .before .before .before .before .before .before .before .before .before .before .before .before .before in
+    let at-before = c .before .before .before .before .before .before .before .before .before .before .before .before in
+    let at-if2 = at-before .before in
     let at-place2 = at-if2 .before in
     let at-if1 = at-place2 .before .before .before in
     let entry = at-if1 .before .before .before .before .before in

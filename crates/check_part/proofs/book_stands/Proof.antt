@@ -37,7 +37,8 @@ cast-numbers c = search needs
 
 numbers-requires : tie.Need-numbers-requires
 numbers-requires c κs =
-    let at-number-at = c .before .before .before .before .before .before in
+    let at-before = c .before .before .before .before .before in
+    let at-number-at = at-before .before in
     let entry = at-number-at .before .before .before in
     (search needs, omega (arith, at-number-at .number-at .ensures, upTo-most mostSlots (word (entry .args .part .now) liveCountWord)))
 

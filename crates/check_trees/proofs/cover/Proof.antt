@@ -37,10 +37,12 @@ nothing-requires-2 c κs = search needs
 
 returns-2 : tie.Need-returns-2
 returns-2 c =
-    let args = c .before .before .before .before .before .args in
+    let at-if2 = c .before in
+    let entry = at-if2 .before .before .before .before in
+    let args = entry .args in
     let lower = ltb-true (args .a .height + 1) (args .b .height) in
     covers-not (c .nothing2 .ensures)
-    (λ p. ⊎-elim (λ y. omega (arith, p .left)) (λ y. let h = lower (y .1 .taken) in omega (arith, p .right)) (c .before .if2 .came))
+    (λ p. ⊎-elim (λ y. omega (arith, p .left)) (λ y. let h = lower (y .1 .taken) in omega (arith, p .right)) (at-if2 .if2 .came))
 
 height-requires : tie.Need-height-requires
 height-requires c κs = search needs

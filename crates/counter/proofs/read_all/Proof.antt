@@ -22,13 +22,15 @@ read-block-requires c κs = tt
 
 same-length : tie.Need-same-length Inv-loop μ-loop
 same-length c =
-    let at-read-block = c .before .before .before .before .before .before in
+    let at-before = c .before .before .before .before .before in
+    let at-read-block = at-before .before in
     let at-loop = at-read-block .before .before .before .before in
     at-read-block .read-block .kept .0 ∙ at-loop .loop .inv .0
 
 same-length-2 : tie.Need-same-length-2 Inv-loop μ-loop
 same-length-2 c =
-    let at-read-block = c .before .before .before .before .before .before in
+    let at-before = c .before .before .before .before .before in
+    let at-read-block = at-before .before in
     let at-loop = at-read-block .before .before .before .before in
     at-read-block .read-block .kept .1 .1 .0 ∙ at-loop .loop .inv .1
 
@@ -43,7 +45,8 @@ loop-less c = omega arith
 
 loop-again : tie.Need-loop-again Inv-loop μ-loop
 loop-again c =
-    let at-read-block = c .before .before .before .before .before .before in
+    let at-before = c .before .before .before .before .before in
+    let at-read-block = at-before .before in
     let at-loop = at-read-block .before .before .before .before in
     (at-read-block .read-block .kept .0 ∙ at-loop .loop .inv .0, at-read-block .read-block .kept .1 .1 .0 ∙ at-loop .loop .inv .1)
 

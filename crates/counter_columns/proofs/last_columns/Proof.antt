@@ -34,7 +34,11 @@ read-field-requires : tie.Need-read-field-requires
 read-field-requires c κs = search needs
 
 returns : tie.Need-returns
-returns c = last-read (c .before .before .before .before .before .before .before .args .line .now) (c .read-field .result) (c .before .before .before .same .ensures .0 (c .before .before .if1 .taken)) (c .read-field .ensures)
+returns c =
+    let at-if1 = c .before .before in
+    let at-same = at-if1 .before in
+    let entry = at-same .before .before .before .before in
+    last-read (entry .args .line .now) (c .read-field .result) (at-same .same .ensures .0 (at-if1 .if1 .taken)) (c .read-field .ensures)
 
 returns-2 : tie.Need-returns-2
 returns-2 c z l = absurd (true≢false (sym (c .before .same .ensures .1 (l .blank)) ∙ c .if1 .left))

@@ -37,14 +37,20 @@ returns-3 c = wrong-last _ (c .before .before .before .if2 .left) (last-bad _ _ 
 returns-4 : tie.Need-returns-4
 returns-4 c =
     let f : SFits w64 (c .before .before .value .given .0 .0) = search needs in
+    let at-value = c .before .before in
+    let at-last-columns = at-value .before .before in
+    let at-if1 = at-last-columns .before .before .before in
     simp (toZ-ofZ, f)
-    (is-withdraw _ _ (c .before .before .before .before .before .before .before .if1 .left) (c .if3 .taken) (last-number _ _ (c .before .before .before .before .last-columns .ensures) (c .before .before .value .given .1)))
+    (is-withdraw _ _ (at-if1 .if1 .left) (c .if3 .taken) (last-number _ _ (at-last-columns .last-columns .ensures) (at-value .value .given .1)))
 
 returns-5 : tie.Need-returns-5
 returns-5 c =
     let f : SFits w64 (c .before .before .before .value .given .0 .0) = search needs in
+    let at-value = c .before .before .before in
+    let at-last-columns = at-value .before .before in
+    let at-if1 = at-last-columns .before .before .before in
     simp (toZ-ofZ, f)
-    (is-query _ _ (c .before .before .before .before .before .before .before .before .if1 .left) (c .if4 .taken) (last-number _ _ (c .before .before .before .before .before .last-columns .ensures) (c .before .before .before .value .given .1)))
+    (is-query _ _ (at-if1 .if1 .left) (c .if4 .taken) (last-number _ _ (at-last-columns .last-columns .ensures) (at-value .value .given .1)))
 
 returns-6 : tie.Need-returns-6
 returns-6 c =

@@ -26,7 +26,10 @@ enum-told : tie.Need-enum-told
 enum-told c = search needs
 
 returns : tie.Need-returns
-returns c = wrong-post _ (c .before .before .before .before .before .pre .1) (λ n r b p. bad-read _ _ (c .before .before .read-field .ensures) (c .enum-told .given .1) n (p .first))
+returns c =
+    let at-read-field = c .before .before in
+    let entry = at-read-field .before .before .before in
+    wrong-post _ (entry .pre .1) (λ n r b p. bad-read _ _ (at-read-field .read-field .ensures) (c .enum-told .given .1) n (p .first))
 
 sub-read-field-2 : tie.Need-sub-read-field-2
 sub-read-field-2 c = search needs
@@ -47,7 +50,10 @@ enum-told-2 : tie.Need-enum-told-2
 enum-told-2 c = search needs
 
 returns-2 : tie.Need-returns-2
-returns-2 c = wrong-post _ (c .before .before .before .before .before .before .before .before .before .before .pre .1) (λ n r b p. bad-read _ _ (c .before .before .read-field2 .ensures) (c .enum-told2 .given .1) r (p .second))
+returns-2 c =
+    let at-read-field2 = c .before .before in
+    let entry = at-read-field2 .before .before .before .before .before .before .before .before in
+    wrong-post _ (entry .pre .1) (λ n r b p. bad-read _ _ (at-read-field2 .read-field2 .ensures) (c .enum-told2 .given .1) r (p .second))
 
 sub-read-field-3 : tie.Need-sub-read-field-3
 sub-read-field-3 c = search needs
@@ -68,19 +74,29 @@ enum-told-3 : tie.Need-enum-told-3
 enum-told-3 c = search needs
 
 returns-3 : tie.Need-returns-3
-returns-3 c = wrong-post _ (c .before .before .before .before .before .before .before .before .before .before .before .before .before .before .before .pre .1) (λ n r b p. bad-read _ _ (c .before .before .read-field3 .ensures) (c .enum-told3 .given .1) b (p .third))
+returns-3 c =
+    let at-read-field3 = c .before .before in
+    let entry = at-read-field3 .before .before .before .before .before .before .before .before .before .before .before .before .before in
+    wrong-post _ (entry .pre .1) (λ n r b p. bad-read _ _ (at-read-field3 .read-field3 .ensures) (c .enum-told3 .given .1) b (p .third))
 
 returns-4 : tie.Need-returns-4
 returns-4 c =
     let f : SFits w64 (c .before .before .before .before .before .before .before .before .before .before .before .number .given .0 .0) = search needs in
     let g : SFits w64 (c .before .before .before .before .before .before .rate .given .0 .0) = search needs in
     let h : SFits w64 (c .before .base .given .0 .0) = search needs in
+    let at-base = c .before in
+    let at-read-field3 = at-base .before .before in
+    let at-rate = at-read-field3 .before .before .before in
+    let at-read-field2 = at-rate .before .before in
+    let at-number = at-read-field2 .before .before .before in
+    let at-read-field = at-number .before .before in
+    let entry = at-read-field .before .before .before in
     simp (toZ-ofZ, f, g, h)
-    (is-post _ _ _ _ (c .before .before .before .before .before .before .before .before .before .before .before .before .before .before .before .before .pre .0) (c .before .before .before .before .before .before .before .before .before .before .before .before .before .before .before .before .pre .1)
+    (is-post _ _ _ _ (entry .pre .0) (entry .pre .1)
     (record {
-      first = number-read _ _ (c .before .before .before .before .before .before .before .before .before .before .before .before .before .read-field .ensures) (c .before .before .before .before .before .before .before .before .before .before .before .number .given .1);
-      second = number-read _ _ (c .before .before .before .before .before .before .before .before .read-field2 .ensures) (c .before .before .before .before .before .before .rate .given .1);
-      third = number-read _ _ (c .before .before .before .read-field3 .ensures) (c .before .base .given .1);
+      first = number-read _ _ (at-read-field .read-field .ensures) (at-number .number .given .1);
+      second = number-read _ _ (at-read-field2 .read-field2 .ensures) (at-rate .rate .given .1);
+      third = number-read _ _ (at-read-field3 .read-field3 .ensures) (at-base .base .given .1);
     }))
 
 pub parse-post-spec : {M : Type 1} → statement M

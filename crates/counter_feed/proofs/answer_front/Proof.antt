@@ -10,7 +10,10 @@ returns : tie.Need-returns
 returns c = front-none _ _ _ _ (c .if1 .taken)
 
 slice-aggregate-answer : tie.Need-slice-aggregate-answer
-slice-aggregate-answer c = sym (length-take-le _ (c .before .before .before .before .before .args .bytes .now) (c .before .before .if1 .left))
+slice-aggregate-answer c =
+    let at-if1 = c .before .before in
+    let entry = at-if1 .before .before .before in
+    sym (length-take-le _ (entry .args .bytes .now) (at-if1 .if1 .left))
 
 answer-requires : tie.Need-answer-requires
 answer-requires c κs = search needs

@@ -23,7 +23,10 @@ same-length-2 : tie.Need-same-length-2
 same-length-2 c = search needs
 
 returns-2 : tie.Need-returns-2
-returns-2 c = feeds-line (c .before .before .before .before .before .before .before .if1 .left) (c .no-line .ensures) (c .before .before .before .before .answer-kept .ensures)
+returns-2 c =
+    let at-answer-kept = c .before .before .before .before in
+    let at-if1 = at-answer-kept .before .before .before in
+    feeds-line (at-if1 .if1 .left) (c .no-line .ensures) (at-answer-kept .answer-kept .ensures)
 
 pub feed-spec : {M : Type 1} → statement M
 feed-spec =

@@ -17,7 +17,10 @@ same-length-2 : tie.Need-same-length-2
 same-length-2 c = search needs
 
 returns-2 : tie.Need-returns-2
-returns-2 c = finishes-line (c .before .before .before .before .before .before .if1 .left) (c .before .before .before .answer-kept .ensures)
+returns-2 c =
+    let at-answer-kept = c .before .before .before in
+    let at-if1 = at-answer-kept .before .before .before in
+    finishes-line (at-if1 .if1 .left) (at-answer-kept .answer-kept .ensures)
 
 pub finish-spec : {M : Type 1} → statement M
 finish-spec = tie.close (tie.spec returns answer-kept-requires same-length same-length-2 returns-2)

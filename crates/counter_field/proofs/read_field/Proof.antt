@@ -27,27 +27,43 @@ justify-requires : tie.Need-justify-requires
 justify-requires c κs = search needs
 
 array-share-prefix-text : tie.Need-array-share-prefix-text
-array-share-prefix-text c = simp length-append (omega (arith, c .before .before .before .before .before .before .pre, simp length-take at (c .before .justify .kept .0)))
+array-share-prefix-text c =
+    let at-justify = c .before in
+    let entry = at-justify .before .before .before .before .before in
+    simp length-append (omega (arith, entry .pre, simp length-take at (at-justify .justify .kept .0)))
 
 slice-aggregate-same : tie.Need-slice-aggregate-same
-slice-aggregate-same c = simp (length-take, length-append) (omega (arith, c .before .before .before .before .before .before .before .pre, simp length-take at (c .before .before .justify .kept .0)))
+slice-aggregate-same c =
+    let at-justify = c .before .before in
+    let entry = at-justify .before .before .before .before .before in
+    simp (length-take, length-append) (omega (arith, entry .pre, simp length-take at (at-justify .justify .kept .0)))
 
 same-requires : tie.Need-same-requires
 same-requires c κs = search needs
 
 returns-2 : tie.Need-returns-2
 returns-2 c =
-    let f : SFits w64 (c .before .before .before .before .before .before .number-in .result) = record { sfits = c .before .before .before .before .before .before .number-in .ok } in
+    let at-same = c .before in
+    let at-justify = at-same .before .before .before in
+    let at-number-in = at-justify .before .before in
+    let at-if1 = at-number-in .before in
+    let entry = at-if1 .before .before in
+    let f : SFits w64 (at-number-in .number-in .result) = record { sfits = at-number-in .number-in .ok } in
     simp (toZ-ofZ, f)
-    (c .before .same .ensures .0 (c .if2 .taken)
-    ∙ candidate _ _ _ _ (c .before .before .before .before .before .before .before .if1 .left) (omega (arith, c .before .before .before .before .before .before .before .before .before .pre)) (c .before .before .before .before .before .before .number-in .ensures) (c .before .before .before .before .justify .kept .0)
-    (simp (toZ-ofZ, f) at (c .before .before .before .before .justify .ensures)))
+    (at-same .same .ensures .0 (c .if2 .taken)
+    ∙ candidate _ _ _ _ (at-if1 .if1 .left) (omega (arith, entry .pre)) (at-number-in .number-in .ensures) (at-justify .justify .kept .0)
+    (simp (toZ-ofZ, f) at (at-justify .justify .ensures)))
 
 returns-3 : tie.Need-returns-3
 returns-3 c z h =
-    let f : SFits w64 (c .before .before .before .before .before .before .number-in .result) = record { sfits = c .before .before .before .before .before .before .number-in .ok } in
+    let f : SFits w64 (c .before .before .before .before .before .before .number-in .result) =
+    record { sfits = c .before .before .before .before .before .before .number-in .ok } in
     absurd (true≢false (sym (c .before .same .ensures .1
-    (held _ _ _ _ (c .before .before .before .before .before .before .before .if1 .left) (omega (arith, c .before .before .before .before .before .before .before .before .before .pre)) (c .before .before .before .before .before .before .number-in .ensures) (c .before .before .before .before .justify .kept .0)
+    (held _ _ _ _ (c .before .before .before .before .before .before .before .if1 .left) (omega (
+      arith,
+      c .before .before .before .before .before .before .before .before .before .pre,
+    ))
+    (c .before .before .before .before .before .before .number-in .ensures) (c .before .before .before .before .justify .kept .0)
     (simp (toZ-ofZ, f) at (c .before .before .before .before .justify .ensures)) z h)) ∙ c .if2 .left))
 
 pub read-field-spec : {M : Type 1} → statement M

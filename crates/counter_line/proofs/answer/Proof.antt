@@ -33,8 +33,13 @@ returns-2 c =
     let f : SFits w64 (c .before .before .before .before .before .before .before .before .command .given .0 .0) = search needs in
     let g : SFits w64 (c .before .before .before .before .before .before .before .before .command .given .0 .1 .0) = search needs in
     let h : SFits w64 (c .before .before .before .before .before .before .before .before .command .given .0 .1 .1 .0) = search needs in
-    posted (c .before .before .before .before .before .before .before .before .before .before .before .if1 .left) _ _ _ (command-is (c .before .before .before .before .before .before .before .before .before .before .parse .ensures) (c .before .before .before .before .before .before .before .before .command .given .1))
-    (simp (toZ-ofZ, f, g, h) at (c .before .before .before .before .before .post .ensures)) (simp (toZ-ofZ, f) at (c .before .before .update-line .ensures))
+    let at-update-line = c .before .before in
+    let at-post = at-update-line .before .before .before in
+    let at-command = at-post .before .before .before in
+    let at-parse = at-command .before .before in
+    let at-if1 = at-parse .before in
+    posted (at-if1 .if1 .left) _ _ _ (command-is (at-parse .parse .ensures) (at-command .command .given .1))
+    (simp (toZ-ofZ, f, g, h) at (at-post .post .ensures)) (simp (toZ-ofZ, f) at (at-update-line .update-line .ensures))
 
 enum-known-command-2 : tie.Need-enum-known-command-2
 enum-known-command-2 c = search needs
@@ -54,8 +59,13 @@ same-length-4 c = search needs
 returns-3 : tie.Need-returns-3
 returns-3 c =
     let f : SFits w64 (c .before .before .before .before .before .before .before .before .command2 .given .0 .0) = search needs in
-    withdrawn (c .before .before .before .before .before .before .before .before .before .before .before .if1 .left) _ (command-is (c .before .before .before .before .before .before .before .before .before .before .parse .ensures) (c .before .before .before .before .before .before .before .before .command2 .given .1))
-    (simp (toZ-ofZ, f) at (c .before .before .before .before .before .withdraw .ensures)) (simp (toZ-ofZ, f) at (c .before .before .update-line2 .ensures))
+    let at-update-line2 = c .before .before in
+    let at-withdraw = at-update-line2 .before .before .before in
+    let at-command2 = at-withdraw .before .before .before in
+    let at-parse = at-command2 .before .before in
+    let at-if1 = at-parse .before in
+    withdrawn (at-if1 .if1 .left) _ (command-is (at-parse .parse .ensures) (at-command2 .command2 .given .1))
+    (simp (toZ-ofZ, f) at (at-withdraw .withdraw .ensures)) (simp (toZ-ofZ, f) at (at-update-line2 .update-line2 .ensures))
 
 enum-known-command-3 : tie.Need-enum-known-command-3
 enum-known-command-3 c = search needs
@@ -75,8 +85,13 @@ same-length-6 c = search needs
 returns-4 : tie.Need-returns-4
 returns-4 c =
     let f : SFits w64 (c .before .before .before .before .before .before .before .command3 .given .0 .0) = search needs in
-    asked (c .before .before .before .before .before .before .before .before .before .before .if1 .left) _ (command-is (c .before .before .before .before .before .before .before .before .before .parse .ensures) (c .before .before .before .before .before .before .before .command3 .given .1))
-    (simp (toZ-ofZ, f) at (c .before .before .before .before .query .ensures)) (c .before .before .found-line .ensures)
+    let at-found-line = c .before .before in
+    let at-query = at-found-line .before .before in
+    let at-command3 = at-query .before .before .before in
+    let at-parse = at-command3 .before .before in
+    let at-if1 = at-parse .before in
+    asked (at-if1 .if1 .left) _ (command-is (at-parse .parse .ensures) (at-command3 .command3 .given .1))
+    (simp (toZ-ofZ, f) at (at-query .query .ensures)) (at-found-line .found-line .ensures)
 
 enum-told : tie.Need-enum-told
 enum-told c = search needs
@@ -91,7 +106,12 @@ same-length-8 : tie.Need-same-length-8
 same-length-8 c = search needs
 
 returns-5 : tie.Need-returns-5
-returns-5 c = listed-all (c .before .before .before .before .before .before .before .before .if1 .left) (command-is (c .before .before .before .before .before .before .before .parse .ensures) (c .before .before .before .before .before .enum-told .given .1)) (c .before .before .list .ensures)
+returns-5 c =
+    let at-list = c .before .before in
+    let at-enum-told = at-list .before .before .before in
+    let at-parse = at-enum-told .before .before in
+    let at-if1 = at-parse .before in
+    listed-all (at-if1 .if1 .left) (command-is (at-parse .parse .ensures) (at-enum-told .enum-told .given .1)) (at-list .list .ensures)
 
 enum-told-2 : tie.Need-enum-told-2
 enum-told-2 c = search needs
@@ -103,7 +123,12 @@ same-length-9 : tie.Need-same-length-9
 same-length-9 c = search needs
 
 returns-6 : tie.Need-returns-6
-returns-6 c = unread (c .before .before .before .before .before .before .before .if1 .left) (command-is (c .before .before .before .before .before .before .parse .ensures) (c .before .before .before .before .enum-told2 .given .1)) (c .before .before .answer-line .ensures)
+returns-6 c =
+    let at-answer-line = c .before .before in
+    let at-enum-told2 = at-answer-line .before .before in
+    let at-parse = at-enum-told2 .before .before in
+    let at-if1 = at-parse .before in
+    unread (at-if1 .if1 .left) (command-is (at-parse .parse .ensures) (at-enum-told2 .enum-told2 .given .1)) (at-answer-line .answer-line .ensures)
 
 pub answer-spec : {M : Type 1} → statement M
 answer-spec =

@@ -21,7 +21,10 @@ same-length : tie.Need-same-length
 same-length c = search needs
 
 returns : tie.Need-returns
-returns c = lists-lines refl (c .before .before .before .before .before .before .listing .ensures) (c .before .before .listed-lines .ensures)
+returns c =
+    let at-listed-lines = c .before .before in
+    let at-listing = at-listed-lines .before .before .before .before in
+    lists-lines refl (at-listing .listing .ensures) (at-listed-lines .listed-lines .ensures)
 
 pub list-spec : {M : Type 1} → statement M
 list-spec =

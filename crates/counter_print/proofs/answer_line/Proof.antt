@@ -15,31 +15,61 @@ put-number-requires : tie.Need-put-number-requires
 put-number-requires c κs = simp length-set (omega (arith, c .before .before .pre))
 
 put-number-requires-2 : tie.Need-put-number-requires-2
-put-number-requires-2 c κs = omega (arith, simp length-set at (c .before .before .before .put-number .kept .0), c .before .before .before .before .before .before .pre)
+put-number-requires-2 c κs =
+    let at-put-number = c .before .before .before in
+    let entry = at-put-number .before .before .before in
+    omega (arith, simp length-set at (at-put-number .put-number .kept .0), entry .pre)
 
 put-number-requires-3 : tie.Need-put-number-requires-3
-put-number-requires-3 c κs = omega (arith, simp length-set at (c .before .before .before .put-number2 .kept .0 ∙ c .before .before .before .before .before .before .before .put-number .kept .0), c .before .before .before .before .before .before .before .before .before .before .pre)
+put-number-requires-3 c κs =
+    let at-put-number2 = c .before .before .before in
+    let at-put-number = at-put-number2 .before .before .before .before in
+    let entry = at-put-number .before .before .before in
+    omega (arith, simp length-set at (at-put-number2 .put-number2 .kept .0 ∙ at-put-number .put-number .kept .0), entry .pre)
 
 put-number-requires-4 : tie.Need-put-number-requires-4
-put-number-requires-4 c κs = omega (arith, simp length-set at (c .before .before .before .put-number3 .kept .0 ∙ c .before .before .before .before .before .before .before .put-number2 .kept .0 ∙ c .before .before .before .before .before .before .before .before .before .before .before .put-number .kept .0), c .before .before .before .before .before .before .before .before .before .before .before .before .before .before .pre)
+put-number-requires-4 c κs =
+    let at-put-number3 = c .before .before .before in
+    let at-put-number2 = at-put-number3 .before .before .before .before in
+    let at-put-number = at-put-number2 .before .before .before .before in
+    let entry = at-put-number .before .before .before in
+    omega (
+      arith,
+      simp length-set at (at-put-number3 .put-number3 .kept .0 ∙ at-put-number2 .put-number2 .kept .0 ∙ at-put-number .put-number .kept .0),
+      entry .pre,
+    )
 
-long : (c : tie.After-slice-known5) → length (c .before .before .put-number4 .last .0) ≡ length (c .before .before .before .before .before .before .before .before .before .before .before .before .before .before .before .before .before .args .out .now)
-long c = simp length-set at (c .before .before .put-number4 .kept .0 ∙ c .before .before .before .before .before .before .put-number3 .kept .0 ∙ c .before .before .before .before .before .before .before .before .before .before .put-number2 .kept .0 ∙ c .before .before .before .before .before .before .before .before .before .before .before .before .before .before .put-number .kept .0)
+long : (c : tie.After-slice-known5) → length (c .before .before .put-number4 .last .0) ≡ length
+    (c .before .before .before .before .before .before .before .before .before .before .before .before .before .before .before .before .before .args .out .now)
+long c =
+    let at-put-number4 = c .before .before in
+    let at-put-number3 = at-put-number4 .before .before .before .before in
+    let at-put-number2 = at-put-number3 .before .before .before .before in
+    let at-put-number = at-put-number2 .before .before .before .before in
+    simp length-set at (at-put-number4 .put-number4 .kept .0 ∙ at-put-number3 .put-number3 .kept .0 ∙ at-put-number2 .put-number2 .kept .0
+    ∙ at-put-number .put-number .kept .0)
 
 slice-write-out-2 : tie.Need-slice-write-out-2
-slice-write-out-2 c = omega (arith, long c, c .before .before .before .before .before .before .before .before .before .before .before .before .before .before .before .before .before .pre)
+slice-write-out-2 c =
+    let entry = c .before .before .before .before .before .before .before .before .before .before .before .before .before .before .before .before .before in
+    omega (arith, long c, entry .pre)
 
 same-length : tie.Need-same-length
 same-length c = simp length-set (long c)
 
 returns : tie.Need-returns
 returns c =
-    let f = c .before .before .before .before .before .before .before .before .before .before .before .before .before .before .before .before .before .fits in
-    answers _ _ _ _ _ _ _ _ _ _ (c .before .before .before .before .before .before .before .before .before .before .before .before .before .before .before .before .before .pre) (omega (arith, long c, c .before .before .before .before .before .before .before .before .before .before .before .before .before .before .before .before .before .pre))
-    (simp (toZ-ofZ, f .refusal) at (c .before .before .before .before .before .before .before .before .before .before .before .before .before .before .put-number .ensures))
-    (simp (toZ-ofZ, f .offer) at (c .before .before .before .before .before .before .before .before .before .before .put-number2 .ensures))
-    (simp (toZ-ofZ, f .value) at (c .before .before .before .before .before .before .put-number3 .ensures))
-    (simp (toZ-ofZ, f .second) at (c .before .before .put-number4 .ensures))
+    let at-put-number4 = c .before .before in
+    let at-put-number3 = at-put-number4 .before .before .before .before in
+    let at-put-number2 = at-put-number3 .before .before .before .before in
+    let at-put-number = at-put-number2 .before .before .before .before in
+    let entry = at-put-number .before .before .before in
+    let f = entry .fits in
+    answers _ _ _ _ _ _ _ _ _ _ (entry .pre) (omega (arith, long c, entry .pre))
+    (simp (toZ-ofZ, f .refusal) at (at-put-number .put-number .ensures))
+    (simp (toZ-ofZ, f .offer) at (at-put-number2 .put-number2 .ensures))
+    (simp (toZ-ofZ, f .value) at (at-put-number3 .put-number3 .ensures))
+    (simp (toZ-ofZ, f .second) at (at-put-number4 .put-number4 .ensures))
 
 pub answer-line-spec : {M : Type 1} → statement M
 answer-line-spec =

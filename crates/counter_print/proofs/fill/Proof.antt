@@ -28,7 +28,8 @@ loop-less : tie.Need-loop-less Inv-loop μ-loop
 loop-less c = omega arith
 
 loop-again : tie.Need-loop-again Inv-loop μ-loop
-loop-again c = filling-more (c .cut-last .result) (c .before .before .before .before .pre) (c .before .before .loop .inv) (c .before .loop-test .taken) (c .cut-last .ensures)
+loop-again c = filling-more (c .cut-last .result) (c .before .before .before .before .pre) (c .before .before .loop .inv) (c .before .loop-test .taken)
+    (c .cut-last .ensures)
 
 same-length : tie.Need-same-length Inv-loop μ-loop
 same-length c = c .before .loop .inv .size

@@ -34,10 +34,14 @@ same-length c = c .before .before .fill .kept .0 ∙ simp length-set
 
 returns-2 : tie.Need-returns-2
 returns-2 c =
-    let f = c .before .before .before .before .before .before .before .fits .value in
-    justifies-some _ _ _ _ (simp (toZ-ofZ, f) at (c .before .before .before .before .magnitude .ensures))
-    (c .before .before .before .before .before .if1 .left)
-    (simp (toZ-ofZ, f) at (c .before .before .fill .ensures))
+    let at-fill = c .before .before in
+    let at-magnitude = at-fill .before .before in
+    let at-if1 = at-magnitude .before in
+    let entry = at-if1 .before .before in
+    let f = entry .fits .value in
+    justifies-some _ _ _ _ (simp (toZ-ofZ, f) at (at-magnitude .magnitude .ensures))
+    (at-if1 .if1 .left)
+    (simp (toZ-ofZ, f) at (at-fill .fill .ensures))
 
 pub justify-spec : {M : Type 1} → statement M
 justify-spec =

@@ -25,9 +25,11 @@ same-length c = search needs
 
 returns : tie.Need-returns
 returns c =
-    let f = c .before .before .before .before .before .fits .value in
-    puts-part _ _ _ _ _ (c .before .before .before .before .before .pre) (c .before .before .justify .kept .0)
-    (simp (toZ-ofZ, f) at (c .before .before .justify .ensures))
+    let at-justify = c .before .before in
+    let entry = at-justify .before .before .before in
+    let f = entry .fits .value in
+    puts-part _ _ _ _ _ (entry .pre) (at-justify .justify .kept .0)
+    (simp (toZ-ofZ, f) at (at-justify .justify .ensures))
 
 pub put-number-spec : {M : Type 1} → statement M
 put-number-spec =

@@ -20,8 +20,11 @@ returns : tie.Need-returns
 returns c =
     let f : SFits w64 (c .before .before .before .before .before .found .given .0 .0) = search needs in
     let g : SFits w64 (c .before .before .before .before .before .found .given .0 .1 .0) = search needs in
-    rw (c .before .before .before .before .before .found .given .1)
-    (found-line (c .before .before .before .before .before .before .before .before .pre) _ _ (simp (toZ-ofZ, f, g) at (c .before .before .answer-line .ensures)))
+    let at-answer-line = c .before .before in
+    let at-found = at-answer-line .before .before .before in
+    let entry = at-found .before .before .before in
+    rw (at-found .found .given .1)
+    (found-line (entry .pre) _ _ (simp (toZ-ofZ, f, g) at (at-answer-line .answer-line .ensures)))
 
 enum-known-found-2 : tie.Need-enum-known-found-2
 enum-known-found-2 c = search needs
@@ -35,8 +38,11 @@ same-length-2 c = search needs
 returns-2 : tie.Need-returns-2
 returns-2 c =
     let f : SFits w64 (c .before .before .before .before .before .found2 .given .0 .0) = search needs in
-    rw (c .before .before .before .before .before .found2 .given .1)
-    (refused-line (c .before .before .before .before .before .before .before .before .pre) _ (simp (toZ-ofZ, f) at (c .before .before .answer-line2 .ensures)))
+    let at-answer-line2 = c .before .before in
+    let at-found2 = at-answer-line2 .before .before .before in
+    let entry = at-found2 .before .before .before in
+    rw (at-found2 .found2 .given .1)
+    (refused-line (entry .pre) _ (simp (toZ-ofZ, f) at (at-answer-line2 .answer-line2 .ensures)))
 
 pub found-line-spec : {M : Type 1} → statement M
 found-line-spec =

@@ -30,31 +30,45 @@ mul-at c = search needs
 
 slice-aggregate-piece-lines : tie.Need-slice-aggregate-piece-lines
 slice-aggregate-piece-lines c =
-    let n : c .before .up-to .result ≤ 64 = rw (c .before .up-to .ensures) (upTo-most 64 _) in
-    sym (length-take-le _ (c .before .before .before .before .before .before .args .pieces .now) (omega (arith, c .before .before .before .before .before .before .pre .1)))
+    let at-up-to = c .before in
+    let entry = at-up-to .before .before .before .before .before in
+    let n : at-up-to .up-to .result ≤ 64 = rw (at-up-to .up-to .ensures) (upTo-most 64 _) in
+    sym (length-take-le _ (entry .args .pieces .now) (omega (arith, entry .pre .1)))
 
 piece-lines-requires : tie.Need-piece-lines-requires
 piece-lines-requires c κs =
-    let n : c .before .before .up-to .result ≤ 64 = rw (c .before .before .up-to .ensures) (upTo-most 64 _) in
-    (length-take-le _ (c .before .before .before .before .before .before .before .args .pieces .now) (omega (arith, c .before .before .before .before .before .before .before .pre .1)), omega (arith, c .before .before .before .before .before .before .before .pre .0), n)
+    let at-up-to = c .before .before in
+    let entry = at-up-to .before .before .before .before .before in
+    let n : at-up-to .up-to .result ≤ 64 = rw (at-up-to .up-to .ensures) (upTo-most 64 _) in
+    (length-take-le _ (entry .args .pieces .now) (omega (arith, entry .pre .1)), omega (arith, entry .pre .0), n)
 
 sub-answer-line : tie.Need-sub-answer-line
 sub-answer-line c =
-    let n : c .before .before .before .before .before .up-to .result ≤ 64 = rw (c .before .before .before .before .before .up-to .ensures) (upTo-most 64 _) in
-    omega (arith, c .before .before .before .before .before .before .before .before .before .before .pre .0, c .before .before .piece-lines .kept .1 .1 .0)
+    let at-piece-lines = c .before .before in
+    let at-up-to = at-piece-lines .before .before .before in
+    let entry = at-up-to .before .before .before .before .before in
+    let n : at-up-to .up-to .result ≤ 64 = rw (at-up-to .up-to .ensures) (upTo-most 64 _) in
+    omega (arith, entry .pre .0, at-piece-lines .piece-lines .kept .1 .1 .0)
 
 part-answer-line-start : tie.Need-part-answer-line-start
 part-answer-line-start c =
-    let n : c .before .before .before .before .before .up-to .result ≤ 64 = rw (c .before .before .before .before .before .up-to .ensures) (upTo-most 64 _) in
-    omega (arith, c .before .before .before .before .before .before .before .before .before .before .pre .0, c .before .before .piece-lines .kept .1 .1 .0)
+    let at-piece-lines = c .before .before in
+    let at-up-to = at-piece-lines .before .before .before in
+    let entry = at-up-to .before .before .before .before .before in
+    let n : at-up-to .up-to .result ≤ 64 = rw (at-up-to .up-to .ensures) (upTo-most 64 _) in
+    omega (arith, entry .pre .0, at-piece-lines .piece-lines .kept .1 .1 .0)
 
 part-answer-line-end : tie.Need-part-answer-line-end
 part-answer-line-end c = search needs
 
 answer-line-requires : tie.Need-answer-line-requires
 answer-line-requires c κs =
-    let n : c .before .before .before .before .before .before .up-to .result ≤ 64 = rw (c .before .before .before .before .before .before .up-to .ensures) (upTo-most 64 _) in
-    part-long (c .before .before .before .piece-lines .last .1 .1 .0) (39 * c .before .before .before .before .before .before .up-to .result) 39 (omega (arith, c .before .before .before .before .before .before .before .before .before .before .before .pre .0, c .before .before .before .piece-lines .kept .1 .1 .0))
+    let at-piece-lines = c .before .before .before in
+    let at-up-to = at-piece-lines .before .before .before in
+    let entry = at-up-to .before .before .before .before .before in
+    let n : at-up-to .up-to .result ≤ 64 = rw (at-up-to .up-to .ensures) (upTo-most 64 _) in
+    part-long (at-piece-lines .piece-lines .last .1 .1 .0) (39 * at-up-to .up-to .result) 39
+    (omega (arith, entry .pre .0, at-piece-lines .piece-lines .kept .1 .1 .0))
 
 add-result : tie.Need-add-result
 add-result c = search needs
@@ -65,8 +79,14 @@ same-length c = search needs
 returns : tie.Need-returns
 returns c =
     let f : SFits w64 (c .before .before .before .before .before .before .before .before .before .before .before .listed .given .0 .0) = search needs in
-    rw (c .before .before .before .before .before .before .before .before .before .before .before .listed .given .1)
-    (listed-line _ (c .before .before .before .before .before .before .before .before .before .before .before .before .before .before .args .pieces .now) (c .before .before .before .before .before .before .before .before .before .before .before .before .before .before .pre .1) (c .before .before .before .before .before .before .before .before .before .before .before .before .before .before .pre .0) (c .before .before .before .before .before .before .before .before .before .up-to .result) (simp (toZ-ofZ, f) at (c .before .before .before .before .before .before .before .before .before .up-to .ensures)) (c .before .before .before .before .before .before .piece-lines .ensures) (simp (toZ-ofZ, f) at (c .before .before .answer-line .ensures)))
+    let at-answer-line = c .before .before in
+    let at-piece-lines = at-answer-line .before .before .before .before in
+    let at-up-to = at-piece-lines .before .before .before in
+    let at-listed = at-up-to .before .before in
+    let entry = at-listed .before .before .before in
+    rw (at-listed .listed .given .1)
+    (listed-line _ (entry .args .pieces .now) (entry .pre .1) (entry .pre .0) (at-up-to .up-to .result) (simp (toZ-ofZ, f) at (at-up-to .up-to .ensures))
+    (at-piece-lines .piece-lines .ensures) (simp (toZ-ofZ, f) at (at-answer-line .answer-line .ensures)))
 
 enum-known-listed-2 : tie.Need-enum-known-listed-2
 enum-known-listed-2 c = search needs
@@ -80,8 +100,11 @@ same-length-2 c = search needs
 returns-2 : tie.Need-returns-2
 returns-2 c =
     let f : SFits w64 (c .before .before .before .before .before .listed2 .given .0 .0) = search needs in
-    rw (c .before .before .before .before .before .listed2 .given .1)
-    (refused-line (omega (arith, c .before .before .before .before .before .before .before .before .pre .0)) _ (simp (toZ-ofZ, f) at (c .before .before .answer-line2 .ensures)))
+    let at-answer-line2 = c .before .before in
+    let at-listed2 = at-answer-line2 .before .before .before in
+    let entry = at-listed2 .before .before .before in
+    rw (at-listed2 .listed2 .given .1)
+    (refused-line (omega (arith, entry .pre .0)) _ (simp (toZ-ofZ, f) at (at-answer-line2 .answer-line2 .ensures)))
 
 pub listed-lines-spec : {M : Type 1} → statement M
 listed-lines-spec =

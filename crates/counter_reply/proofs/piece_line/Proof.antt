@@ -51,10 +51,16 @@ same-length c = search needs
 
 returns : tie.Need-returns
 returns c =
-    let a : SFits w64 (c .before .before .before .before .before .before .word-at .result) = record { sfits = c .before .before .before .before .before .before .word-at .ok } in
-    let b : SFits w64 (c .before .before .before .before .before .word-at2 .result) = record { sfits = c .before .before .before .before .before .word-at2 .ok } in
-    let d : SFits w64 (c .before .before .before .before .word-at3 .result) = record { sfits = c .before .before .before .before .word-at3 .ok } in
-    piece-line (c .before .before .before .before .before .before .before .before .pre .0) (c .before .before .before .before .before .before .word-at .ensures) (c .before .before .before .before .before .word-at2 .ensures) (c .before .before .before .before .word-at3 .ensures) (simp (toZ-ofZ, a, b, d) at (c .before .before .answer-line .ensures))
+    let at-answer-line = c .before .before in
+    let at-word-at3 = at-answer-line .before .before in
+    let at-word-at2 = at-word-at3 .before in
+    let at-word-at = at-word-at2 .before in
+    let entry = at-word-at .before .before in
+    let a : SFits w64 (at-word-at .word-at .result) = record { sfits = at-word-at .word-at .ok } in
+    let b : SFits w64 (at-word-at2 .word-at2 .result) = record { sfits = at-word-at2 .word-at2 .ok } in
+    let d : SFits w64 (at-word-at3 .word-at3 .result) = record { sfits = at-word-at3 .word-at3 .ok } in
+    piece-line (entry .pre .0) (at-word-at .word-at .ensures) (at-word-at2 .word-at2 .ensures) (at-word-at3 .word-at3 .ensures)
+    (simp (toZ-ofZ, a, b, d) at (at-answer-line .answer-line .ensures))
 
 pub piece-line-spec : {M : Type 1} → statement M
 piece-line-spec =

@@ -16,7 +16,10 @@ loop-holds : tie.Need-loop-holds Inv-loop μ-loop
 loop-holds c = (pieces-none _ _, omega arith)
 
 piece-line-requires : tie.Need-piece-line-requires Inv-loop μ-loop
-piece-line-requires c κs = (omega (arith, c .before .before .loop .inv .0 .long, c .before .before .before .before .pre .1, c .before .loop-test .taken), omega (arith, c .before .before .before .before .pre .2, c .before .loop-test .taken))
+piece-line-requires c κs = (
+  omega (arith, c .before .before .loop .inv .0 .long, c .before .before .before .before .pre .1, c .before .loop-test .taken),
+  omega (arith, c .before .before .before .before .pre .2, c .before .loop-test .taken),
+)
 
 add-i : tie.Need-add-i Inv-loop μ-loop
 add-i c = omega arith
@@ -25,7 +28,15 @@ loop-less : tie.Need-loop-less Inv-loop μ-loop
 loop-less c = omega arith
 
 loop-again : tie.Need-loop-again Inv-loop μ-loop
-loop-again c = (pieces-more (omega (arith, c .before .before .before .before .before .before .before .pre .0, c .before .before .before .before .loop-test .taken)) (c .before .before .before .before .before .loop .inv .0) (c .before .before .piece-line .ensures) (c .before .before .piece-line .kept .1 .1 .0), omega (arith, c .before .before .before .before .loop-test .taken))
+loop-again c =
+    let at-piece-line = c .before .before in
+    let at-loop-test = at-piece-line .before .before in
+    let at-loop = at-loop-test .before in
+    let entry = at-loop .before .before in (
+      pieces-more (omega (arith, entry .pre .0, at-loop-test .loop-test .taken)) (at-loop .loop .inv .0) (at-piece-line .piece-line .ensures)
+          (at-piece-line .piece-line .kept .1 .1 .0),
+      omega (arith, at-loop-test .loop-test .taken),
+    )
 
 same-length : tie.Need-same-length Inv-loop μ-loop
 same-length c = c .before .loop .inv .0 .long

@@ -19,9 +19,12 @@ same-length c = search needs
 returns : tie.Need-returns
 returns c =
     let f : SFits w64 (c .before .before .before .before .before .update .given .0 .0) = search needs in
-    let g = c .before .before .before .before .before .before .before .before .fits .number in
-    rw (c .before .before .before .before .before .update .given .1)
-    (live-line (c .before .before .before .before .before .before .before .before .pre) _ (simp (toZ-ofZ, f, g) at (c .before .before .answer-line .ensures)))
+    let at-answer-line = c .before .before in
+    let at-update = at-answer-line .before .before .before in
+    let entry = at-update .before .before .before in
+    let g = entry .fits .number in
+    rw (at-update .update .given .1)
+    (live-line (entry .pre) _ (simp (toZ-ofZ, f, g) at (at-answer-line .answer-line .ensures)))
 
 enum-known-update-2 : tie.Need-enum-known-update-2
 enum-known-update-2 c = search needs
@@ -35,8 +38,11 @@ same-length-2 c = search needs
 returns-2 : tie.Need-returns-2
 returns-2 c =
     let f : SFits w64 (c .before .before .before .before .before .update2 .given .0 .0) = search needs in
-    rw (c .before .before .before .before .before .update2 .given .1)
-    (refused-line (c .before .before .before .before .before .before .before .before .pre) _ (simp (toZ-ofZ, f) at (c .before .before .answer-line2 .ensures)))
+    let at-answer-line2 = c .before .before in
+    let at-update2 = at-answer-line2 .before .before .before in
+    let entry = at-update2 .before .before .before in
+    rw (at-update2 .update2 .given .1)
+    (refused-line (entry .pre) _ (simp (toZ-ofZ, f) at (at-answer-line2 .answer-line2 .ensures)))
 
 pub update-line-spec : {M : Type 1} → statement M
 update-line-spec =

@@ -27,7 +27,9 @@ abbrev split-in-below : ℕ → In 1 split-in-kinds.ps
 split-in-below t =
     and 1 split-in-kinds.ps (falls 1 split-in-kinds.ps _<_ μ-split-in t) split-in.Pre
 
-split-in-at-least-in-requires : (t : ℕ) → split-in-lts.Need-at-least-in-requires (
+-- what is asked of each call, and learnt from it
+abbrev split-in-claims : ℕ → split-in-lts.Claims
+split-in-claims t = (
   at-least-in-reads.Asked,
   at-least-in-reads.Learnt,
   inner-slot-reads.Asked,
@@ -38,383 +40,141 @@ split-in-at-least-in-requires : (t : ℕ) → split-in-lts.Need-at-least-in-requ
   split-in.Post,
   join-in-reads.Asked,
   join-in-reads.Learnt,
-) (split-in-at t) split-in.Post
+)
+
+split-in-at-least-in-requires : (t : ℕ) → split-in-lts.Need-at-least-in-requires (split-in-claims t) (split-in-at t) split-in.Post
 split-in-at-least-in-requires t c κs = c .before .before .pre .1
 
-split-in-same-length : (t : ℕ) → split-in-lts.Need-same-length (
-  at-least-in-reads.Asked,
-  at-least-in-reads.Learnt,
-  inner-slot-reads.Asked,
-  inner-slot-reads.Learnt,
-  child-in-reads.Asked,
-  child-in-reads.Learnt,
-  split-in-below t,
-  split-in.Post,
-  join-in-reads.Asked,
-  join-in-reads.Learnt,
-) (split-in-at t) split-in.Post
+split-in-same-length : (t : ℕ) → split-in-lts.Need-same-length (split-in-claims t) (split-in-at t) split-in.Post
 split-in-same-length t c = search needs
 
-split-in-returns : (t : ℕ) → split-in-lts.Need-returns (
-  at-least-in-reads.Asked,
-  at-least-in-reads.Learnt,
-  inner-slot-reads.Asked,
-  inner-slot-reads.Learnt,
-  child-in-reads.Asked,
-  child-in-reads.Learnt,
-  split-in-below t,
-  split-in.Post,
-  join-in-reads.Asked,
-  join-in-reads.Learnt,
-) (split-in-at t) split-in.Post
+split-in-returns : (t : ℕ) → split-in-lts.Need-returns (split-in-claims t) (split-in-at t) split-in.Post
 split-in-returns t c =
     let entry = c .before .before .before .before in
     halved-leaf _ true (c .before .before .before .if1 .taken) (simp (toZ-ofZ, entry .fits .least) at (c .before .at-least-in .ensures)) (c .if2 .taken)
 
-split-in-same-length-2 : (t : ℕ) → split-in-lts.Need-same-length-2 (
-  at-least-in-reads.Asked,
-  at-least-in-reads.Learnt,
-  inner-slot-reads.Asked,
-  inner-slot-reads.Learnt,
-  child-in-reads.Asked,
-  child-in-reads.Learnt,
-  split-in-below t,
-  split-in.Post,
-  join-in-reads.Asked,
-  join-in-reads.Learnt,
-) (split-in-at t) split-in.Post
+split-in-same-length-2 : (t : ℕ) → split-in-lts.Need-same-length-2 (split-in-claims t) (split-in-at t) split-in.Post
 split-in-same-length-2 t c = search needs
 
-split-in-returns-2 : (t : ℕ) → split-in-lts.Need-returns-2 (
-  at-least-in-reads.Asked,
-  at-least-in-reads.Learnt,
-  inner-slot-reads.Asked,
-  inner-slot-reads.Learnt,
-  child-in-reads.Asked,
-  child-in-reads.Learnt,
-  split-in-below t,
-  split-in.Post,
-  join-in-reads.Asked,
-  join-in-reads.Learnt,
-) (split-in-at t) split-in.Post
+split-in-returns-2 : (t : ℕ) → split-in-lts.Need-returns-2 (split-in-claims t) (split-in-at t) split-in.Post
 split-in-returns-2 t c =
     let entry = c .before .before .before .before in
     halved-leaf _ false (c .before .before .before .if1 .taken) (simp (toZ-ofZ, entry .fits .least) at (c .before .at-least-in .ensures)) (c .if2 .left)
 
-split-in-returns-3 : (t : ℕ) → split-in-lts.Need-returns-3 (
-  at-least-in-reads.Asked,
-  at-least-in-reads.Learnt,
-  inner-slot-reads.Asked,
-  inner-slot-reads.Learnt,
-  child-in-reads.Asked,
-  child-in-reads.Learnt,
-  split-in-below t,
-  split-in.Post,
-  join-in-reads.Asked,
-  join-in-reads.Learnt,
-) (split-in-at t) split-in.Post
+split-in-returns-3 : (t : ℕ) → split-in-lts.Need-returns-3 (split-in-claims t) (split-in-at t) split-in.Post
 split-in-returns-3 t c = halved-over _ (c .before .if1 .left) (c .if3 .taken)
 
-split-in-inner-slot-requires : (t : ℕ) → split-in-lts.Need-inner-slot-requires (
-  at-least-in-reads.Asked,
-  at-least-in-reads.Learnt,
-  inner-slot-reads.Asked,
-  inner-slot-reads.Learnt,
-  child-in-reads.Asked,
-  child-in-reads.Learnt,
-  split-in-below t,
-  split-in.Post,
-  join-in-reads.Asked,
-  join-in-reads.Learnt,
-) (split-in-at t) split-in.Post
+split-in-inner-slot-requires : (t : ℕ) → split-in-lts.Need-inner-slot-requires (split-in-claims t) (split-in-at t) split-in.Post
 split-in-inner-slot-requires t c κs = search needs
 
-split-in-at-least-in-requires-2 : (t : ℕ) → split-in-lts.Need-at-least-in-requires-2 (
-  at-least-in-reads.Asked,
-  at-least-in-reads.Learnt,
-  inner-slot-reads.Asked,
-  inner-slot-reads.Learnt,
-  child-in-reads.Asked,
-  child-in-reads.Learnt,
-  split-in-below t,
-  split-in.Post,
-  join-in-reads.Asked,
-  join-in-reads.Learnt,
-) (split-in-at t) split-in.Post
+split-in-at-least-in-requires-2 : (t : ℕ) → split-in-lts.Need-at-least-in-requires-2 (split-in-claims t) (split-in-at t) split-in.Post
 split-in-at-least-in-requires-2 t c κs = c .before .before .before .before .pre .1
 
-split-in-child-in-requires : (t : ℕ) → split-in-lts.Need-child-in-requires (
-  at-least-in-reads.Asked,
-  at-least-in-reads.Learnt,
-  inner-slot-reads.Asked,
-  inner-slot-reads.Learnt,
-  child-in-reads.Asked,
-  child-in-reads.Learnt,
-  split-in-below t,
-  split-in.Post,
-  join-in-reads.Asked,
-  join-in-reads.Learnt,
-) (split-in-at t) split-in.Post
-split-in-child-in-requires t c κs = c .before .before .before .before .before .before .before .pre .1
+split-in-child-in-requires : (t : ℕ) → split-in-lts.Need-child-in-requires (split-in-claims t) (split-in-at t) split-in.Post
+split-in-child-in-requires t c κs =
+    let entry = c .before .before .before .before .before .before .before in
+    entry .pre .1
 
-split-in-sub-split-in : (t : ℕ) → split-in-lts.Need-sub-split-in (
-  at-least-in-reads.Asked,
-  at-least-in-reads.Learnt,
-  inner-slot-reads.Asked,
-  inner-slot-reads.Learnt,
-  child-in-reads.Asked,
-  child-in-reads.Learnt,
-  split-in-below t,
-  split-in.Post,
-  join-in-reads.Asked,
-  join-in-reads.Learnt,
-) (split-in-at t) split-in.Post
+split-in-sub-split-in : (t : ℕ) → split-in-lts.Need-sub-split-in (split-in-claims t) (split-in-at t) split-in.Post
 split-in-sub-split-in t c = omega arith
 
-split-in-split-in-requires : (t : ℕ) → split-in-lts.Need-split-in-requires (
-  at-least-in-reads.Asked,
-  at-least-in-reads.Learnt,
-  inner-slot-reads.Asked,
-  inner-slot-reads.Learnt,
-  child-in-reads.Asked,
-  child-in-reads.Learnt,
-  split-in-below t,
-  split-in.Post,
-  join-in-reads.Asked,
-  join-in-reads.Learnt,
-) (split-in-at t) split-in.Post
-split-in-split-in-requires t c κs = let entry = c .before .before .before .before .before .before .before .before .before in (omega (arith, entry .pre .0), entry .pre .1)
+split-in-split-in-requires : (t : ℕ) → split-in-lts.Need-split-in-requires (split-in-claims t) (split-in-at t) split-in.Post
+split-in-split-in-requires t c κs =
+    let at-before = c .before .before .before .before .before .before .before .before in
+    let entry = at-before .before in (omega (arith, entry .pre .0), entry .pre .1)
 
-split-in-same-length-3 : (t : ℕ) → split-in-lts.Need-same-length-3 (
-  at-least-in-reads.Asked,
-  at-least-in-reads.Learnt,
-  inner-slot-reads.Asked,
-  inner-slot-reads.Learnt,
-  child-in-reads.Asked,
-  child-in-reads.Learnt,
-  split-in-below t,
-  split-in.Post,
-  join-in-reads.Asked,
-  join-in-reads.Learnt,
-) (split-in-at t) split-in.Post
+split-in-same-length-3 : (t : ℕ) → split-in-lts.Need-same-length-3 (split-in-claims t) (split-in-at t) split-in.Post
 split-in-same-length-3 t c = search needs
 
-split-in-returns-4 : (t : ℕ) → split-in-lts.Need-returns-4 (
-  at-least-in-reads.Asked,
-  at-least-in-reads.Learnt,
-  inner-slot-reads.Asked,
-  inner-slot-reads.Learnt,
-  child-in-reads.Asked,
-  child-in-reads.Learnt,
-  split-in-below t,
-  split-in.Post,
-  join-in-reads.Asked,
-  join-in-reads.Learnt,
-) (split-in-at t) split-in.Post
+split-in-returns-4 : (t : ℕ) → split-in-lts.Need-returns-4 (split-in-claims t) (split-in-at t) split-in.Post
 split-in-returns-4 t c =
-    let turned = c .before .before .before .before .before .before in
-    let tested = c .before .before .before .before .before .before .before in
-    let inner = c .before .before .before .before .before .before .before .before .before .before .before in
+    let at-split-in = c .before .before in
+    let at-child-in = at-split-in .before .before in
+    let at-before = at-child-in .before in
+    let at-before-2 = at-before .before in
+    let at-before-3 = at-before-2 .before .before .before .before in
+    let turned = at-before .before in
+    let tested = at-before-2 .before in
+    let inner = at-before-3 .before in
     let entry = inner .before in
     whole-right _ (inner .if1 .left) (tested .before .before .inner-slot .ensures) (simp (toZ-ofZ, entry .fits .least) at (tested .at-least-in2 .ensures))
-    (turned .if4 .taken) (c .before .before .before .before .child-in .ensures)
-    (simp (toZ-ofZ, entry .fits .least) at (c .before .before .split-in .ensures)) (c .if5 .taken)
+    (turned .if4 .taken) (at-child-in .child-in .ensures)
+    (simp (toZ-ofZ, entry .fits .least) at (at-split-in .split-in .ensures)) (c .if5 .taken)
 
-split-in-child-in-requires-2 : (t : ℕ) → split-in-lts.Need-child-in-requires-2 (
-  at-least-in-reads.Asked,
-  at-least-in-reads.Learnt,
-  inner-slot-reads.Asked,
-  inner-slot-reads.Learnt,
-  child-in-reads.Asked,
-  child-in-reads.Learnt,
-  split-in-below t,
-  split-in.Post,
-  join-in-reads.Asked,
-  join-in-reads.Learnt,
-) (split-in-at t) split-in.Post
-split-in-child-in-requires-2 t c κs = still-known (c .before .before .before .before .before .before .before .before .before .before .before .before .before .pre .1) (c .before .before .before .split-in .ensures .within)
+split-in-child-in-requires-2 : (t : ℕ) → split-in-lts.Need-child-in-requires-2 (split-in-claims t) (split-in-at t) split-in.Post
+split-in-child-in-requires-2 t c κs =
+    let at-split-in = c .before .before .before in
+    let entry = at-split-in .before .before .before .before .before .before .before .before .before .before in
+    still-known (entry .pre .1) (at-split-in .split-in .ensures .within)
 
-split-in-join-in-requires : (t : ℕ) → split-in-lts.Need-join-in-requires (
-  at-least-in-reads.Asked,
-  at-least-in-reads.Learnt,
-  inner-slot-reads.Asked,
-  inner-slot-reads.Learnt,
-  child-in-reads.Asked,
-  child-in-reads.Learnt,
-  split-in-below t,
-  split-in.Post,
-  join-in-reads.Asked,
-  join-in-reads.Learnt,
-) (split-in-at t) split-in.Post
-split-in-join-in-requires t c κs = still-known (c .before .before .before .before .before .before .before .before .before .before .before .before .before .before .before .pre .1) (c .before .before .before .before .before .split-in .ensures .within)
+split-in-join-in-requires : (t : ℕ) → split-in-lts.Need-join-in-requires (split-in-claims t) (split-in-at t) split-in.Post
+split-in-join-in-requires t c κs =
+    let at-split-in = c .before .before .before .before .before in
+    let entry = at-split-in .before .before .before .before .before .before .before .before .before .before in
+    still-known (entry .pre .1) (at-split-in .split-in .ensures .within)
 
-split-in-same-length-4 : (t : ℕ) → split-in-lts.Need-same-length-4 (
-  at-least-in-reads.Asked,
-  at-least-in-reads.Learnt,
-  inner-slot-reads.Asked,
-  inner-slot-reads.Learnt,
-  child-in-reads.Asked,
-  child-in-reads.Learnt,
-  split-in-below t,
-  split-in.Post,
-  join-in-reads.Asked,
-  join-in-reads.Learnt,
-) (split-in-at t) split-in.Post
+split-in-same-length-4 : (t : ℕ) → split-in-lts.Need-same-length-4 (split-in-claims t) (split-in-at t) split-in.Post
 split-in-same-length-4 t c = search needs
 
-split-in-returns-5 : (t : ℕ) → split-in-lts.Need-returns-5 (
-  at-least-in-reads.Asked,
-  at-least-in-reads.Learnt,
-  inner-slot-reads.Asked,
-  inner-slot-reads.Learnt,
-  child-in-reads.Asked,
-  child-in-reads.Learnt,
-  split-in-below t,
-  split-in.Post,
-  join-in-reads.Asked,
-  join-in-reads.Learnt,
-) (split-in-at t) split-in.Post
+split-in-returns-5 : (t : ℕ) → split-in-lts.Need-returns-5 (split-in-claims t) (split-in-at t) split-in.Post
 split-in-returns-5 t c =
-    let below = c .before .before .before .before .before .before .before in
+    let at-join-in = c .before in
+    let at-child-in2 = at-join-in .before .before in
+    let at-if5 = at-child-in2 .before .before in
+    let at-before = at-if5 .before in
+    let below = at-before .before in
     let turned = below .before .before .before .before in
     let tested = turned .before in
     let inner = tested .before .before .before .before in
     let entry = inner .before in
     halved-right _ (inner .if1 .left) (tested .before .before .inner-slot .ensures) (simp (toZ-ofZ, entry .fits .least) at (tested .at-least-in2 .ensures))
     (turned .if4 .taken) (below .before .before .child-in .ensures) (simp (toZ-ofZ, entry .fits .least) at (below .split-in .ensures))
-    (c .before .before .before .before .before .if5 .left) (c .before .before .before .child-in2 .ensures) (c .before .join-in .ensures)
+    (at-if5 .if5 .left) (at-child-in2 .child-in2 .ensures) (at-join-in .join-in .ensures)
 
-split-in-child-in-requires-3 : (t : ℕ) → split-in-lts.Need-child-in-requires-3 (
-  at-least-in-reads.Asked,
-  at-least-in-reads.Learnt,
-  inner-slot-reads.Asked,
-  inner-slot-reads.Learnt,
-  child-in-reads.Asked,
-  child-in-reads.Learnt,
-  split-in-below t,
-  split-in.Post,
-  join-in-reads.Asked,
-  join-in-reads.Learnt,
-) (split-in-at t) split-in.Post
-split-in-child-in-requires-3 t c κs = c .before .before .before .before .before .before .before .pre .1
+split-in-child-in-requires-3 : (t : ℕ) → split-in-lts.Need-child-in-requires-3 (split-in-claims t) (split-in-at t) split-in.Post
+split-in-child-in-requires-3 t c κs =
+    let entry = c .before .before .before .before .before .before .before in
+    entry .pre .1
 
-split-in-child-in-requires-4 : (t : ℕ) → split-in-lts.Need-child-in-requires-4 (
-  at-least-in-reads.Asked,
-  at-least-in-reads.Learnt,
-  inner-slot-reads.Asked,
-  inner-slot-reads.Learnt,
-  child-in-reads.Asked,
-  child-in-reads.Learnt,
-  split-in-below t,
-  split-in.Post,
-  join-in-reads.Asked,
-  join-in-reads.Learnt,
-) (split-in-at t) split-in.Post
-split-in-child-in-requires-4 t c κs = c .before .before .before .before .before .before .before .before .before .pre .1
+split-in-child-in-requires-4 : (t : ℕ) → split-in-lts.Need-child-in-requires-4 (split-in-claims t) (split-in-at t) split-in.Post
+split-in-child-in-requires-4 t c κs =
+    let entry = c .before .before .before .before .before .before .before .before .before in
+    entry .pre .1
 
-split-in-sub-split-in-2 : (t : ℕ) → split-in-lts.Need-sub-split-in-2 (
-  at-least-in-reads.Asked,
-  at-least-in-reads.Learnt,
-  inner-slot-reads.Asked,
-  inner-slot-reads.Learnt,
-  child-in-reads.Asked,
-  child-in-reads.Learnt,
-  split-in-below t,
-  split-in.Post,
-  join-in-reads.Asked,
-  join-in-reads.Learnt,
-) (split-in-at t) split-in.Post
+split-in-sub-split-in-2 : (t : ℕ) → split-in-lts.Need-sub-split-in-2 (split-in-claims t) (split-in-at t) split-in.Post
 split-in-sub-split-in-2 t c = omega arith
 
-split-in-split-in-requires-2 : (t : ℕ) → split-in-lts.Need-split-in-requires-2 (
-  at-least-in-reads.Asked,
-  at-least-in-reads.Learnt,
-  inner-slot-reads.Asked,
-  inner-slot-reads.Learnt,
-  child-in-reads.Asked,
-  child-in-reads.Learnt,
-  split-in-below t,
-  split-in.Post,
-  join-in-reads.Asked,
-  join-in-reads.Learnt,
-) (split-in-at t) split-in.Post
-split-in-split-in-requires-2 t c κs = let entry = c .before .before .before .before .before .before .before .before .before .before .before in (omega (arith, entry .pre .0), entry .pre .1)
+split-in-split-in-requires-2 : (t : ℕ) → split-in-lts.Need-split-in-requires-2 (split-in-claims t) (split-in-at t) split-in.Post
+split-in-split-in-requires-2 t c κs =
+    let at-before = c .before .before .before .before .before .before .before .before .before .before in
+    let entry = at-before .before in (omega (arith, entry .pre .0), entry .pre .1)
 
-split-in-same-length-5 : (t : ℕ) → split-in-lts.Need-same-length-5 (
-  at-least-in-reads.Asked,
-  at-least-in-reads.Learnt,
-  inner-slot-reads.Asked,
-  inner-slot-reads.Learnt,
-  child-in-reads.Asked,
-  child-in-reads.Learnt,
-  split-in-below t,
-  split-in.Post,
-  join-in-reads.Asked,
-  join-in-reads.Learnt,
-) (split-in-at t) split-in.Post
+split-in-same-length-5 : (t : ℕ) → split-in-lts.Need-same-length-5 (split-in-claims t) (split-in-at t) split-in.Post
 split-in-same-length-5 t c = search needs
 
-split-in-returns-6 : (t : ℕ) → split-in-lts.Need-returns-6 (
-  at-least-in-reads.Asked,
-  at-least-in-reads.Learnt,
-  inner-slot-reads.Asked,
-  inner-slot-reads.Learnt,
-  child-in-reads.Asked,
-  child-in-reads.Learnt,
-  split-in-below t,
-  split-in.Post,
-  join-in-reads.Asked,
-  join-in-reads.Learnt,
-) (split-in-at t) split-in.Post
+split-in-returns-6 : (t : ℕ) → split-in-lts.Need-returns-6 (split-in-claims t) (split-in-at t) split-in.Post
 split-in-returns-6 t c =
-    let turned = c .before .before .before .before .before .before .before .before in
+    let at-split-in2 = c .before .before in
+    let at-child-in3 = at-split-in2 .before .before .before .before in
+    let at-before = at-child-in3 .before in
+    let turned = at-before .before in
     let tested = turned .before in
     let inner = tested .before .before .before .before in
     let entry = inner .before in
     whole-left _ (inner .if1 .left) (tested .before .before .inner-slot .ensures) (simp (toZ-ofZ, entry .fits .least) at (tested .at-least-in2 .ensures))
-    (turned .if4 .left) (c .before .before .before .before .before .before .child-in3 .ensures)
-    (simp (toZ-ofZ, entry .fits .least) at (c .before .before .split-in2 .ensures)) (c .if6 .taken)
+    (turned .if4 .left) (at-child-in3 .child-in3 .ensures)
+    (simp (toZ-ofZ, entry .fits .least) at (at-split-in2 .split-in2 .ensures)) (c .if6 .taken)
 
-split-in-join-in-requires-2 : (t : ℕ) → split-in-lts.Need-join-in-requires-2 (
-  at-least-in-reads.Asked,
-  at-least-in-reads.Learnt,
-  inner-slot-reads.Asked,
-  inner-slot-reads.Learnt,
-  child-in-reads.Asked,
-  child-in-reads.Learnt,
-  split-in-below t,
-  split-in.Post,
-  join-in-reads.Asked,
-  join-in-reads.Learnt,
-) (split-in-at t) split-in.Post
-split-in-join-in-requires-2 t c κs = still-known (c .before .before .before .before .before .before .before .before .before .before .before .before .before .before .before .pre .1) (c .before .before .before .split-in2 .ensures .within)
+split-in-join-in-requires-2 : (t : ℕ) → split-in-lts.Need-join-in-requires-2 (split-in-claims t) (split-in-at t) split-in.Post
+split-in-join-in-requires-2 t c κs =
+    let at-split-in2 = c .before .before .before in
+    let entry = at-split-in2 .before .before .before .before .before .before .before .before .before .before .before .before in
+    still-known (entry .pre .1) (at-split-in2 .split-in2 .ensures .within)
 
-split-in-same-length-6 : (t : ℕ) → split-in-lts.Need-same-length-6 (
-  at-least-in-reads.Asked,
-  at-least-in-reads.Learnt,
-  inner-slot-reads.Asked,
-  inner-slot-reads.Learnt,
-  child-in-reads.Asked,
-  child-in-reads.Learnt,
-  split-in-below t,
-  split-in.Post,
-  join-in-reads.Asked,
-  join-in-reads.Learnt,
-) (split-in-at t) split-in.Post
+split-in-same-length-6 : (t : ℕ) → split-in-lts.Need-same-length-6 (split-in-claims t) (split-in-at t) split-in.Post
 split-in-same-length-6 t c = search needs
 
-split-in-returns-7 : (t : ℕ) → split-in-lts.Need-returns-7 (
-  at-least-in-reads.Asked,
-  at-least-in-reads.Learnt,
-  inner-slot-reads.Asked,
-  inner-slot-reads.Learnt,
-  child-in-reads.Asked,
-  child-in-reads.Learnt,
-  split-in-below t,
-  split-in.Post,
-  join-in-reads.Asked,
-  join-in-reads.Learnt,
-) (split-in-at t) split-in.Post
+split-in-returns-7 : (t : ℕ) → split-in-lts.Need-returns-7 (split-in-claims t) (split-in-at t) split-in.Post
 split-in-returns-7 t c =
     let below = c .before .before .before .before .before in
     let left = below .before .before .before .before in
@@ -423,7 +183,8 @@ split-in-returns-7 t c =
     let inner = tested .before .before .before .before in
     let entry = inner .before in
     halved-left _ (inner .if1 .left) (tested .before .before .inner-slot .ensures) (simp (toZ-ofZ, entry .fits .least) at (tested .at-least-in2 .ensures))
-    (turned .if4 .left) (left .child-in3 .ensures) (below .before .before .child-in4 .ensures) (simp (toZ-ofZ, entry .fits .least) at (below .split-in2 .ensures))
+    (turned .if4 .left) (left .child-in3 .ensures) (below .before .before .child-in4 .ensures)
+    (simp (toZ-ofZ, entry .fits .least) at (below .split-in2 .ensures))
     (c .before .before .before .if6 .left) (c .before .join-in2 .ensures)
 
 pub +split-in-spec : {M : Type 1} → statement M

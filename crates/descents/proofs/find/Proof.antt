@@ -37,16 +37,23 @@ loop-less : tie.Need-loop-less Inv-loop μ-loop
 loop-less c = omega arith
 
 loop-again : tie.Need-loop-again Inv-loop μ-loop
-loop-again c = looking-on _ (c .before .before .before .before .before .loop .inv) (c .before .before .before .before .loop-test .taken) (c .before .before .inner-slot .ensures) (c .before .is-above .ensures) (c .child .ensures)
+loop-again c =
+    let at-is-above = c .before in
+    let at-inner-slot = at-is-above .before in
+    let at-loop-test = at-inner-slot .before .before in
+    let at-loop = at-loop-test .before in
+    looking-on _ (at-loop .loop .inv) (at-loop-test .loop-test .taken) (at-inner-slot .inner-slot .ensures) (at-is-above .is-above .ensures) (c .child .ensures)
 
 is-equal-requires : tie.Need-is-equal-requires Inv-loop μ-loop
 is-equal-requires c κs = search needs
 
 returns-2 : tie.Need-returns-2 Inv-loop μ-loop
-returns-2 c = looking-ends _ true (simp (toZ-ofZ, c .before .before .before .before .fits .key) at (c .before .before .before .loop .inv)) (c .before .before .loop-test .left) (simp (toZ-ofZ, c .before .before .before .before .fits .key) at (c .before .is-equal .ensures)) (c .if2 .taken)
+returns-2 c = looking-ends _ true (simp (toZ-ofZ, c .before .before .before .before .fits .key) at (c .before .before .before .loop .inv))
+    (c .before .before .loop-test .left) (simp (toZ-ofZ, c .before .before .before .before .fits .key) at (c .before .is-equal .ensures)) (c .if2 .taken)
 
 returns-3 : tie.Need-returns-3 Inv-loop μ-loop
-returns-3 c = looking-ends _ false (simp (toZ-ofZ, c .before .before .before .before .fits .key) at (c .before .before .before .loop .inv)) (c .before .before .loop-test .left) (simp (toZ-ofZ, c .before .before .before .before .fits .key) at (c .before .is-equal .ensures)) (c .if2 .left)
+returns-3 c = looking-ends _ false (simp (toZ-ofZ, c .before .before .before .before .fits .key) at (c .before .before .before .loop .inv))
+    (c .before .before .loop-test .left) (simp (toZ-ofZ, c .before .before .before .before .fits .key) at (c .before .is-equal .ensures)) (c .if2 .left)
 
 pub find-spec : {M : Type 1} → statement M
 find-spec =

@@ -14,7 +14,10 @@ same-length : tie.Need-same-length
 same-length c = search needs
 
 returns : tie.Need-returns
-returns c = simp (toZ-ofZ, c .before .before .before .before .before .fits .least) at (c .before .split-in .ensures)
+returns c =
+    let at-split-in = c .before in
+    let entry = at-split-in .before .before .before .before in
+    simp (toZ-ofZ, entry .fits .least) at (at-split-in .split-in .ensures)
 
 pub split-spec : {M : Type 1} → statement M
 split-spec = tie.close (tie.spec capacity-requires split-in-requires same-length returns)

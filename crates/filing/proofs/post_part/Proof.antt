@@ -41,7 +41,9 @@ same-length c = search needs
 
 returns : tie.Need-returns
 returns c =
-    let at-join-in = c .before .before .before .before .before .before in
+    let at-set-roots = c .before in
+    let at-before = at-set-roots .before .before .before .before in
+    let at-join-in = at-before .before in
     let at-set-number = at-join-in .before .before .before in
     let at-add = at-set-number .before .before .before in
     let at-fill = at-add .before .before .before in
@@ -51,7 +53,7 @@ returns c =
     let f = at-numbers .before .before .fits in
     posted-part _ _ _ (at-numbers .number-at .ensures) (at-roots .roots .ensures) (at-count .number-at2 .ensures) (at-fill .fill .ensures .0)
     (simp (toZ-ofZ, f .number, f .rate, f .base) at (at-fill .fill .ensures .1)) (at-add .add .ensures) (at-set-number .set-number .ensures)
-    (at-join-in .join-in .ensures) (omega arith) (c .before .set-roots .ensures)
+    (at-join-in .join-in .ensures) (omega arith) (at-set-roots .set-roots .ensures)
 
 pub post-part-spec : {M : Type 1} → statement M
 post-part-spec =

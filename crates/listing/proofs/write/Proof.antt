@@ -45,17 +45,22 @@ cast-put-piece : tie.Need-cast-put-piece Inv-loop μ-loop
 cast-put-piece c = search needs
 
 mul-put-piece : tie.Need-mul-put-piece Inv-loop μ-loop
-mul-put-piece c = omega (arith, c .before .before .before .before .before .count .ensures .few)
+mul-put-piece c =
+    let at-count = c .before .before .before .before .before in
+    omega (arith, at-count .count .ensures .few)
 
 put-piece-requires : tie.Need-put-piece-requires Inv-loop μ-loop
-put-piece-requires c κs = omega (arith, c .before .before .before .before .before .count .ensures .few)
+put-piece-requires c κs =
+    let at-count = c .before .before .before .before .before in
+    omega (arith, at-count .count .ensures .few)
 
 link-requires : tie.Need-link-requires Inv-loop μ-loop
 link-requires c κs = search needs
 
 add-i : tie.Need-add-i Inv-loop μ-loop
 add-i c =
-    let at-count = c .before .before .before .before .before .before .before .before in
+    let at-before = c .before .before .before .before .before .before .before in
+    let at-count = at-before .before in
     omega (arith, at-count .count .ensures .few)
 
 loop-less : tie.Need-loop-less Inv-loop μ-loop

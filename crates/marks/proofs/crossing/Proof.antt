@@ -23,7 +23,11 @@ returns : tie.Need-returns
 unfolding twoValues
 returns c =
     let s = c .before .before in
-    let h = rw (toZ-ofZ w64 (s .args .n) (s .fits .n), toZ-ofZ w64 (s .args .d) (s .fits .d), toZ-ofZ w64 (s .args .p) (s .fits .p)) at (c .before .crossing-point .ensures) in
+    let h = rw (
+      toZ-ofZ w64 (s .args .n) (s .fits .n),
+      toZ-ofZ w64 (s .args .d) (s .fits .d),
+      toZ-ofZ w64 (s .args .p) (s .fits .p),
+    ) at (c .before .crossing-point .ensures) in
     c .point-mark .ensures ∙ ap₂ twoValues (h .load .is) (h .price .is)
 
 pub crossing-spec : {M : Type 1} → statement M

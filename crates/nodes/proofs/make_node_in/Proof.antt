@@ -13,7 +13,10 @@ height-in-requires-2 : tie.Need-height-in-requires-2
 height-in-requires-2 c κs = search needs
 
 taller-requires : tie.Need-taller-requires
-taller-requires c κs = (omega (arith, height-read _ _ _ (c .before .before .before .height-in .ensures)), omega (arith, height-read _ _ _ (c .before .height-in2 .ensures)))
+taller-requires c κs = (
+  omega (arith, height-read _ _ _ (c .before .before .before .height-in .ensures)),
+  omega (arith, height-read _ _ _ (c .before .height-in2 .ensures)),
+)
 
 set-node-requires : tie.Need-set-node-requires
 set-node-requires c κs = search needs

@@ -42,12 +42,20 @@ same-length c = search needs
 
 returns-2 : tie.Need-returns-2
 returns-2 c =
-    let a = c .before .before .before .before .before .before .before .args in
-    let f = c .before .before .before .before .before .before .before .fits in
+    let at-put-three-in = c .before in
+    let at-height-field = at-put-three-in .before in
+    let at-child-field2 = at-height-field .before in
+    let at-child-field = at-child-field2 .before in
+    let entry = at-child-field .before .before .before in
+    let a = entry .args in
+    let f = entry .fits in
     let vp : toZ w64 (a .p) ≡ pos (a .p) = toZ-pos w64 (omega (arith, f .p)) in
     let vq : toZ w64 (a .q) ≡ pos (a .q) = toZ-pos w64 (omega (arith, f .q)) in
     let vh : toZ w64 (a .h) ≡ pos (a .h) = toZ-pos w64 (omega (arith, f .h)) in
-    record { joined = λ e. joined-node e (c .before .before .before .before .child-field .ensures) refl (c .before .before .before .child-field2 .ensures) refl (c .before .before .height-field .ensures) (simp (vp, vq, vh) at (c .before .put-three-in .ensures)) }
+    record {
+      joined = λ e. joined-node e (at-child-field .child-field .ensures) refl (at-child-field2 .child-field2 .ensures) refl
+          (at-height-field .height-field .ensures) (simp (vp, vq, vh) at (at-put-three-in .put-three-in .ensures));
+    }
 
 pub set-node-spec : {M : Type 1} → statement M
 set-node-spec =

@@ -30,7 +30,9 @@ abbrev drop-below-below : ℕ → In 1 drop-below-kinds.ps
 drop-below-below t =
     and 1 drop-below-kinds.ps (falls 1 drop-below-kinds.ps _<_ μ-drop-below t) drop-below.Pre
 
-drop-below-returns : (t : ℕ) → drop-below-lts.Need-returns (
+-- what is asked of each call, and learnt from it
+abbrev drop-below-claims : ℕ → drop-below-lts.Claims
+drop-below-claims t = (
   inner-slot-reads.Asked,
   inner-slot-reads.Learnt,
   child-in-reads.Asked,
@@ -43,167 +45,48 @@ drop-below-returns : (t : ℕ) → drop-below-lts.Need-returns (
   join-in-reads.Learnt,
   end-in-reads.Asked,
   end-in-reads.Learnt,
-) (drop-below-at t) drop-below.Post
+)
+
+drop-below-returns : (t : ℕ) → drop-below-lts.Need-returns (drop-below-claims t) (drop-below-at t) drop-below.Post
 drop-below-returns t c = thinned-leaf _ (c .if1 .taken)
 
-drop-below-returns-2 : (t : ℕ) → drop-below-lts.Need-returns-2 (
-  inner-slot-reads.Asked,
-  inner-slot-reads.Learnt,
-  child-in-reads.Asked,
-  child-in-reads.Learnt,
-  at-least-in-reads.Asked,
-  at-least-in-reads.Learnt,
-  drop-below-below t,
-  drop-below.Post,
-  join-in-reads.Asked,
-  join-in-reads.Learnt,
-  end-in-reads.Asked,
-  end-in-reads.Learnt,
-) (drop-below-at t) drop-below.Post
+drop-below-returns-2 : (t : ℕ) → drop-below-lts.Need-returns-2 (drop-below-claims t) (drop-below-at t) drop-below.Post
 drop-below-returns-2 t c = thinned-over _ (c .before .if1 .left) (c .if2 .taken)
 
-drop-below-inner-slot-requires : (t : ℕ) → drop-below-lts.Need-inner-slot-requires (
-  inner-slot-reads.Asked,
-  inner-slot-reads.Learnt,
-  child-in-reads.Asked,
-  child-in-reads.Learnt,
-  at-least-in-reads.Asked,
-  at-least-in-reads.Learnt,
-  drop-below-below t,
-  drop-below.Post,
-  join-in-reads.Asked,
-  join-in-reads.Learnt,
-  end-in-reads.Asked,
-  end-in-reads.Learnt,
-) (drop-below-at t) drop-below.Post
+drop-below-inner-slot-requires : (t : ℕ) → drop-below-lts.Need-inner-slot-requires (drop-below-claims t) (drop-below-at t) drop-below.Post
 drop-below-inner-slot-requires t c κs = search needs
 
-drop-below-child-in-requires : (t : ℕ) → drop-below-lts.Need-child-in-requires (
-  inner-slot-reads.Asked,
-  inner-slot-reads.Learnt,
-  child-in-reads.Asked,
-  child-in-reads.Learnt,
-  at-least-in-reads.Asked,
-  at-least-in-reads.Learnt,
-  drop-below-below t,
-  drop-below.Post,
-  join-in-reads.Asked,
-  join-in-reads.Learnt,
-  end-in-reads.Asked,
-  end-in-reads.Learnt,
-) (drop-below-at t) drop-below.Post
+drop-below-child-in-requires : (t : ℕ) → drop-below-lts.Need-child-in-requires (drop-below-claims t) (drop-below-at t) drop-below.Post
 drop-below-child-in-requires t c κs = c .before .before .before .before .pre .1
 
-drop-below-child-in-requires-2 : (t : ℕ) → drop-below-lts.Need-child-in-requires-2 (
-  inner-slot-reads.Asked,
-  inner-slot-reads.Learnt,
-  child-in-reads.Asked,
-  child-in-reads.Learnt,
-  at-least-in-reads.Asked,
-  at-least-in-reads.Learnt,
-  drop-below-below t,
-  drop-below.Post,
-  join-in-reads.Asked,
-  join-in-reads.Learnt,
-  end-in-reads.Asked,
-  end-in-reads.Learnt,
-) (drop-below-at t) drop-below.Post
-drop-below-child-in-requires-2 t c κs = c .before .before .before .before .before .before .pre .1
+drop-below-child-in-requires-2 : (t : ℕ) → drop-below-lts.Need-child-in-requires-2 (drop-below-claims t) (drop-below-at t) drop-below.Post
+drop-below-child-in-requires-2 t c κs =
+    let entry = c .before .before .before .before .before .before in
+    entry .pre .1
 
-drop-below-at-least-in-requires : (t : ℕ) → drop-below-lts.Need-at-least-in-requires (
-  inner-slot-reads.Asked,
-  inner-slot-reads.Learnt,
-  child-in-reads.Asked,
-  child-in-reads.Learnt,
-  at-least-in-reads.Asked,
-  at-least-in-reads.Learnt,
-  drop-below-below t,
-  drop-below.Post,
-  join-in-reads.Asked,
-  join-in-reads.Learnt,
-  end-in-reads.Asked,
-  end-in-reads.Learnt,
-) (drop-below-at t) drop-below.Post
-drop-below-at-least-in-requires t c κs = c .before .before .before .before .before .before .before .before .pre .1
+drop-below-at-least-in-requires : (t : ℕ) → drop-below-lts.Need-at-least-in-requires (drop-below-claims t) (drop-below-at t) drop-below.Post
+drop-below-at-least-in-requires t c κs =
+    let entry = c .before .before .before .before .before .before .before .before in
+    entry .pre .1
 
-drop-below-sub-drop-below : (t : ℕ) → drop-below-lts.Need-sub-drop-below (
-  inner-slot-reads.Asked,
-  inner-slot-reads.Learnt,
-  child-in-reads.Asked,
-  child-in-reads.Learnt,
-  at-least-in-reads.Asked,
-  at-least-in-reads.Learnt,
-  drop-below-below t,
-  drop-below.Post,
-  join-in-reads.Asked,
-  join-in-reads.Learnt,
-  end-in-reads.Asked,
-  end-in-reads.Learnt,
-) (drop-below-at t) drop-below.Post
+drop-below-sub-drop-below : (t : ℕ) → drop-below-lts.Need-sub-drop-below (drop-below-claims t) (drop-below-at t) drop-below.Post
 drop-below-sub-drop-below t c = omega arith
 
-drop-below-drop-below-requires : (t : ℕ) → drop-below-lts.Need-drop-below-requires (
-  inner-slot-reads.Asked,
-  inner-slot-reads.Learnt,
-  child-in-reads.Asked,
-  child-in-reads.Learnt,
-  at-least-in-reads.Asked,
-  at-least-in-reads.Learnt,
-  drop-below-below t,
-  drop-below.Post,
-  join-in-reads.Asked,
-  join-in-reads.Learnt,
-  end-in-reads.Asked,
-  end-in-reads.Learnt,
-) (drop-below-at t) drop-below.Post
-drop-below-drop-below-requires t c κs = let entry = c .before .before .before .before .before .before .before .before .before .before .before in (omega (arith, entry .pre .0), entry .pre .1)
+drop-below-drop-below-requires : (t : ℕ) → drop-below-lts.Need-drop-below-requires (drop-below-claims t) (drop-below-at t) drop-below.Post
+drop-below-drop-below-requires t c κs =
+    let at-before = c .before .before .before .before .before .before .before .before .before .before in
+    let entry = at-before .before in (omega (arith, entry .pre .0), entry .pre .1)
 
-drop-below-join-in-requires : (t : ℕ) → drop-below-lts.Need-join-in-requires (
-  inner-slot-reads.Asked,
-  inner-slot-reads.Learnt,
-  child-in-reads.Asked,
-  child-in-reads.Learnt,
-  at-least-in-reads.Asked,
-  at-least-in-reads.Learnt,
-  drop-below-below t,
-  drop-below.Post,
-  join-in-reads.Asked,
-  join-in-reads.Learnt,
-  end-in-reads.Asked,
-  end-in-reads.Learnt,
-) (drop-below-at t) drop-below.Post
-drop-below-join-in-requires t c κs = still-known (c .before .before .before .before .before .before .before .before .before .before .before .before .before .before .pre .1) (c .before .before .drop-below .ensures .within)
+drop-below-join-in-requires : (t : ℕ) → drop-below-lts.Need-join-in-requires (drop-below-claims t) (drop-below-at t) drop-below.Post
+drop-below-join-in-requires t c κs =
+    let at-drop-below = c .before .before in
+    let entry = at-drop-below .before .before .before .before .before .before .before .before .before .before .before .before in
+    still-known (entry .pre .1) (at-drop-below .drop-below .ensures .within)
 
-drop-below-same-length : (t : ℕ) → drop-below-lts.Need-same-length (
-  inner-slot-reads.Asked,
-  inner-slot-reads.Learnt,
-  child-in-reads.Asked,
-  child-in-reads.Learnt,
-  at-least-in-reads.Asked,
-  at-least-in-reads.Learnt,
-  drop-below-below t,
-  drop-below.Post,
-  join-in-reads.Asked,
-  join-in-reads.Learnt,
-  end-in-reads.Asked,
-  end-in-reads.Learnt,
-) (drop-below-at t) drop-below.Post
+drop-below-same-length : (t : ℕ) → drop-below-lts.Need-same-length (drop-below-claims t) (drop-below-at t) drop-below.Post
 drop-below-same-length t c = search needs
 
-drop-below-returns-3 : (t : ℕ) → drop-below-lts.Need-returns-3 (
-  inner-slot-reads.Asked,
-  inner-slot-reads.Learnt,
-  child-in-reads.Asked,
-  child-in-reads.Learnt,
-  at-least-in-reads.Asked,
-  at-least-in-reads.Learnt,
-  drop-below-below t,
-  drop-below.Post,
-  join-in-reads.Asked,
-  join-in-reads.Learnt,
-  end-in-reads.Asked,
-  end-in-reads.Learnt,
-) (drop-below-at t) drop-below.Post
+drop-below-returns-3 : (t : ℕ) → drop-below-lts.Need-returns-3 (drop-below-claims t) (drop-below-at t) drop-below.Post
 drop-below-returns-3 t c =
     let below = c .before .before .before .before in
     let tested = below .before .before .before in
@@ -215,100 +98,30 @@ drop-below-returns-3 t c =
     (left .child-in .ensures) (right .child-in2 .ensures) (below .before .before .if3 .taken)
     (simp (toZ-ofZ, entry .fits .least) at (below .drop-below .ensures)) (c .before .join-in .ensures)
 
-drop-below-sub-drop-below-2 : (t : ℕ) → drop-below-lts.Need-sub-drop-below-2 (
-  inner-slot-reads.Asked,
-  inner-slot-reads.Learnt,
-  child-in-reads.Asked,
-  child-in-reads.Learnt,
-  at-least-in-reads.Asked,
-  at-least-in-reads.Learnt,
-  drop-below-below t,
-  drop-below.Post,
-  join-in-reads.Asked,
-  join-in-reads.Learnt,
-  end-in-reads.Asked,
-  end-in-reads.Learnt,
-) (drop-below-at t) drop-below.Post
+drop-below-sub-drop-below-2 : (t : ℕ) → drop-below-lts.Need-sub-drop-below-2 (drop-below-claims t) (drop-below-at t) drop-below.Post
 drop-below-sub-drop-below-2 t c = omega arith
 
-drop-below-drop-below-requires-2 : (t : ℕ) → drop-below-lts.Need-drop-below-requires-2 (
-  inner-slot-reads.Asked,
-  inner-slot-reads.Learnt,
-  child-in-reads.Asked,
-  child-in-reads.Learnt,
-  at-least-in-reads.Asked,
-  at-least-in-reads.Learnt,
-  drop-below-below t,
-  drop-below.Post,
-  join-in-reads.Asked,
-  join-in-reads.Learnt,
-  end-in-reads.Asked,
-  end-in-reads.Learnt,
-) (drop-below-at t) drop-below.Post
-drop-below-drop-below-requires-2 t c κs = let entry = c .before .before .before .before .before .before .before .before .before .before .before in (omega (arith, entry .pre .0), entry .pre .1)
+drop-below-drop-below-requires-2 : (t : ℕ) → drop-below-lts.Need-drop-below-requires-2 (drop-below-claims t) (drop-below-at t) drop-below.Post
+drop-below-drop-below-requires-2 t c κs =
+    let at-before = c .before .before .before .before .before .before .before .before .before .before in
+    let entry = at-before .before in (omega (arith, entry .pre .0), entry .pre .1)
 
-drop-below-end-in-requires : (t : ℕ) → drop-below-lts.Need-end-in-requires (
-  inner-slot-reads.Asked,
-  inner-slot-reads.Learnt,
-  child-in-reads.Asked,
-  child-in-reads.Learnt,
-  at-least-in-reads.Asked,
-  at-least-in-reads.Learnt,
-  drop-below-below t,
-  drop-below.Post,
-  join-in-reads.Asked,
-  join-in-reads.Learnt,
-  end-in-reads.Asked,
-  end-in-reads.Learnt,
-) (drop-below-at t) drop-below.Post
-drop-below-end-in-requires t c κs = still-known (c .before .before .before .before .before .before .before .before .before .before .before .before .before .before .pre .1) (c .before .before .drop-below2 .ensures .within)
+drop-below-end-in-requires : (t : ℕ) → drop-below-lts.Need-end-in-requires (drop-below-claims t) (drop-below-at t) drop-below.Post
+drop-below-end-in-requires t c κs =
+    let at-drop-below2 = c .before .before in
+    let entry = at-drop-below2 .before .before .before .before .before .before .before .before .before .before .before .before in
+    still-known (entry .pre .1) (at-drop-below2 .drop-below2 .ensures .within)
 
-drop-below-join-in-requires-2 : (t : ℕ) → drop-below-lts.Need-join-in-requires-2 (
-  inner-slot-reads.Asked,
-  inner-slot-reads.Learnt,
-  child-in-reads.Asked,
-  child-in-reads.Learnt,
-  at-least-in-reads.Asked,
-  at-least-in-reads.Learnt,
-  drop-below-below t,
-  drop-below.Post,
-  join-in-reads.Asked,
-  join-in-reads.Learnt,
-  end-in-reads.Asked,
-  end-in-reads.Learnt,
-) (drop-below-at t) drop-below.Post
-drop-below-join-in-requires-2 t c κs = still-known (c .before .before .before .before .before .before .before .before .before .before .before .before .before .before .before .before .pre .1) (c .before .before .before .before .drop-below2 .ensures .within)
+drop-below-join-in-requires-2 : (t : ℕ) → drop-below-lts.Need-join-in-requires-2 (drop-below-claims t) (drop-below-at t) drop-below.Post
+drop-below-join-in-requires-2 t c κs =
+    let at-drop-below2 = c .before .before .before .before in
+    let entry = at-drop-below2 .before .before .before .before .before .before .before .before .before .before .before .before in
+    still-known (entry .pre .1) (at-drop-below2 .drop-below2 .ensures .within)
 
-drop-below-same-length-2 : (t : ℕ) → drop-below-lts.Need-same-length-2 (
-  inner-slot-reads.Asked,
-  inner-slot-reads.Learnt,
-  child-in-reads.Asked,
-  child-in-reads.Learnt,
-  at-least-in-reads.Asked,
-  at-least-in-reads.Learnt,
-  drop-below-below t,
-  drop-below.Post,
-  join-in-reads.Asked,
-  join-in-reads.Learnt,
-  end-in-reads.Asked,
-  end-in-reads.Learnt,
-) (drop-below-at t) drop-below.Post
+drop-below-same-length-2 : (t : ℕ) → drop-below-lts.Need-same-length-2 (drop-below-claims t) (drop-below-at t) drop-below.Post
 drop-below-same-length-2 t c = search needs
 
-drop-below-returns-4 : (t : ℕ) → drop-below-lts.Need-returns-4 (
-  inner-slot-reads.Asked,
-  inner-slot-reads.Learnt,
-  child-in-reads.Asked,
-  child-in-reads.Learnt,
-  at-least-in-reads.Asked,
-  at-least-in-reads.Learnt,
-  drop-below-below t,
-  drop-below.Post,
-  join-in-reads.Asked,
-  join-in-reads.Learnt,
-  end-in-reads.Asked,
-  end-in-reads.Learnt,
-) (drop-below-at t) drop-below.Post
+drop-below-returns-4 : (t : ℕ) → drop-below-lts.Need-returns-4 (drop-below-claims t) (drop-below-at t) drop-below.Post
 drop-below-returns-4 t c =
     let ended = c .before .before .before in
     let below = ended .before .before .before in

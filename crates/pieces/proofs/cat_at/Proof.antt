@@ -49,8 +49,10 @@ put-three-in-requires c κs = search needs
 
 join-in-requires : tie.Need-join-in-requires
 join-in-requires c κs =
-    threaded-known _ _ _ _ _ _ _ _ (c .before .before .before .before .before .before .before .before .before .before .before .before .before .before .pre)
-    (c .before .before .put-three-in .ensures)
+    let at-put-three-in = c .before .before in
+    let entry = at-put-three-in .before .before .before .before .before .before .before .before .before .before .before .before in
+    threaded-known _ _ _ _ _ _ _ _ (entry .pre)
+    (at-put-three-in .put-three-in .ensures)
 
 same-length : tie.Need-same-length
 same-length c = search needs

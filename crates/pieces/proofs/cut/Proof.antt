@@ -14,7 +14,10 @@ same-length : tie.Need-same-length
 same-length c = search needs
 
 returns : tie.Need-returns
-returns c = simp (toZ-ofZ, c .before .before .before .before .before .fits .rate) at (c .before .cut-in .ensures)
+returns c =
+    let at-cut-in = c .before in
+    let entry = at-cut-in .before .before .before .before in
+    simp (toZ-ofZ, entry .fits .rate) at (at-cut-in .cut-in .ensures)
 
 pub cut-spec : {M : Type 1} → statement M
 cut-spec = tie.close (tie.spec capacity-requires cut-in-requires same-length returns)

@@ -30,65 +30,98 @@ kept-in-requires c κs = search needs
 
 price-requires-2 : tie.Need-price-requires-2
 price-requires-2 c κs =
-    let a = c .before .before .before .before .before .args in
-    let n = c .before .before .before .numerator-in in
-    let d = c .before .before .denominator-in in
+    let at-denominator-in = c .before .before in
+    let at-numerator-in = at-denominator-in .before in
+    let entry = at-numerator-in .before .before in
+    let a = entry .args in
+    let n = at-numerator-in .numerator-in in
+    let d = at-denominator-in .denominator-in in
     let fn : SFits w64 (n .result) = record { sfits = n .ok } in
     let fd : SFits w64 (d .result) = record { sfits = d .ok } in
-    simp (toZ-ofZ, fn, fd) (crossing-priced (a .ours .now) (a .p) (a .other .now) (c .before .before .before .before .before .pre .1) (n .ensures) (d .ensures))
+    simp (toZ-ofZ, fn, fd) (crossing-priced (a .ours .now) (a .p) (a .other .now) (entry .pre .1) (n .ensures) (d .ensures))
 
 returns-2 : tie.Need-returns-2
 returns-2 c =
-    let a = c .before .before .before .before .before .before .before .args in
-    let n = c .before .before .before .before .before .numerator-in in
-    let d = c .before .before .before .before .denominator-in in
+    let at-price2 = c .before in
+    let at-kept-in = at-price2 .before in
+    let at-price = at-kept-in .before in
+    let at-denominator-in = at-price .before in
+    let at-numerator-in = at-denominator-in .before in
+    let at-if1 = at-numerator-in .before in
+    let entry = at-if1 .before in
+    let a = entry .args in
+    let n = at-numerator-in .numerator-in in
+    let d = at-denominator-in .denominator-in in
     let fn : SFits w64 (n .result) = record { sfits = n .ok } in
     let fd : SFits w64 (d .result) = record { sfits = d .ok } in
-    let fy : SFits w64 (c .before .before .before .price .result) = record { sfits = c .before .before .before .price .ok } in
-    let fz : SFits w64 (c .before .price2 .result) = record { sfits = c .before .price2 .ok } in
-    above-first (a .ours .now) (a .p) (a .other .now) (a .x) (c .before .before .before .before .before .before .if1 .left) (n .ensures) (d .ensures)
-    (simp (toZ-ofZ, fn, fd) at (c .before .before .before .price .ensures)) (c .before .before .kept-in .ensures) (simp (toZ-ofZ, fn, fd) at (c .before .price2 .ensures))
+    let fy : SFits w64 (at-price .price .result) = record { sfits = at-price .price .ok } in
+    let fz : SFits w64 (at-price2 .price2 .result) = record { sfits = at-price2 .price2 .ok } in
+    above-first (a .ours .now) (a .p) (a .other .now) (a .x) (at-if1 .if1 .left) (n .ensures) (d .ensures)
+    (simp (toZ-ofZ, fn, fd) at (at-price .price .ensures)) (at-kept-in .kept-in .ensures) (simp (toZ-ofZ, fn, fd) at (at-price2 .price2 .ensures))
     (simp (toZ-ofZ, fy, fz) at (c .if2 .taken))
 
 returns-3 : tie.Need-returns-3
 returns-3 c =
-    let a = c .before .before .before .before .before .before .before .before .args in
-    let n = c .before .before .before .before .before .before .numerator-in in
-    let d = c .before .before .before .before .before .denominator-in in
+    let at-if2 = c .before in
+    let at-price2 = at-if2 .before in
+    let at-kept-in = at-price2 .before in
+    let at-price = at-kept-in .before in
+    let at-denominator-in = at-price .before in
+    let at-numerator-in = at-denominator-in .before in
+    let at-if1 = at-numerator-in .before in
+    let entry = at-if1 .before in
+    let a = entry .args in
+    let n = at-numerator-in .numerator-in in
+    let d = at-denominator-in .denominator-in in
     let fn : SFits w64 (n .result) = record { sfits = n .ok } in
     let fd : SFits w64 (d .result) = record { sfits = d .ok } in
-    let fy : SFits w64 (c .before .before .before .before .price .result) = record { sfits = c .before .before .before .before .price .ok } in
-    let fz : SFits w64 (c .before .before .price2 .result) = record { sfits = c .before .before .price2 .ok } in
-    above-leaf (a .ours .now) (a .p) (a .other .now) (a .x) (c .before .before .before .before .before .before .before .if1 .left) (n .ensures) (d .ensures)
-    (simp (toZ-ofZ, fn, fd) at (c .before .before .before .before .price .ensures)) (c .before .before .before .kept-in .ensures) (simp (toZ-ofZ, fn, fd) at (c .before .before .price2 .ensures))
-    (simp (toZ-ofZ, fy, fz) at (c .before .if2 .left)) (c .if3 .taken)
+    let fy : SFits w64 (at-price .price .result) = record { sfits = at-price .price .ok } in
+    let fz : SFits w64 (at-price2 .price2 .result) = record { sfits = at-price2 .price2 .ok } in
+    above-leaf (a .ours .now) (a .p) (a .other .now) (a .x) (at-if1 .if1 .left) (n .ensures) (d .ensures)
+    (simp (toZ-ofZ, fn, fd) at (at-price .price .ensures)) (at-kept-in .kept-in .ensures) (simp (toZ-ofZ, fn, fd) at (at-price2 .price2 .ensures))
+    (simp (toZ-ofZ, fy, fz) at (at-if2 .if2 .left)) (c .if3 .taken)
 
 link-in-requires : tie.Need-link-in-requires
-link-in-requires c κs = c .before .before .before .before .before .before .before .before .pre .1
+link-in-requires c κs =
+    let entry = c .before .before .before .before .before .before .before .before in
+    entry .pre .1
 
 price-requires-3 : tie.Need-price-requires-3
 price-requires-3 c κs =
-    let a = c .before .before .before .before .before .before .before .before .before .args in
-    let n = c .before .before .before .before .before .before .before .numerator-in in
-    let d = c .before .before .before .before .before .before .denominator-in in
+    let at-denominator-in = c .before .before .before .before .before .before in
+    let at-numerator-in = at-denominator-in .before in
+    let entry = at-numerator-in .before .before in
+    let a = entry .args in
+    let n = at-numerator-in .numerator-in in
+    let d = at-denominator-in .denominator-in in
     let fn : SFits w64 (n .result) = record { sfits = n .ok } in
     let fd : SFits w64 (d .result) = record { sfits = d .ok } in
-    simp (toZ-ofZ, fn, fd) (crossing-priced (a .ours .now) (a .p) (a .other .now) (c .before .before .before .before .before .before .before .before .before .pre .1) (n .ensures) (d .ensures))
+    simp (toZ-ofZ, fn, fd) (crossing-priced (a .ours .now) (a .p) (a .other .now) (entry .pre .1) (n .ensures) (d .ensures))
 
 returns-4 : tie.Need-returns-4
 returns-4 c =
-    let a = c .before .before .before .before .before .before .before .before .before .before .args in
-    let n = c .before .before .before .before .before .before .before .before .numerator-in in
-    let d = c .before .before .before .before .before .before .before .denominator-in in
+    let at-link-in = c .before in
+    let at-if3 = at-link-in .before in
+    let at-if2 = at-if3 .before in
+    let at-price2 = at-if2 .before in
+    let at-kept-in = at-price2 .before in
+    let at-price = at-kept-in .before in
+    let at-denominator-in = at-price .before in
+    let at-numerator-in = at-denominator-in .before in
+    let at-if1 = at-numerator-in .before in
+    let entry = at-if1 .before in
+    let a = entry .args in
+    let n = at-numerator-in .numerator-in in
+    let d = at-denominator-in .denominator-in in
     let fn : SFits w64 (n .result) = record { sfits = n .ok } in
     let fd : SFits w64 (d .result) = record { sfits = d .ok } in
-    let fy : SFits w64 (c .before .before .before .before .before .before .price .result) = record { sfits = c .before .before .before .before .before .before .price .ok } in
-    let fz : SFits w64 (c .before .before .before .before .price2 .result) = record { sfits = c .before .before .before .before .price2 .ok } in
+    let fy : SFits w64 (at-price .price .result) = record { sfits = at-price .price .ok } in
+    let fz : SFits w64 (at-price2 .price2 .result) = record { sfits = at-price2 .price2 .ok } in
     let ft : SFits w64 (c .price3 .result) = record { sfits = c .price3 .ok } in
     simp (toZ-ofZ, fy, ft)
-    (above-second (a .ours .now) (a .p) (a .other .now) (a .x) (c .before .before .before .before .before .before .before .before .before .if1 .left) (n .ensures) (d .ensures)
-    (simp (toZ-ofZ, fn, fd) at (c .before .before .before .before .before .before .price .ensures)) (c .before .before .before .before .before .kept-in .ensures) (simp (toZ-ofZ, fn, fd) at (c .before .before .before .before .price2 .ensures))
-    (simp (toZ-ofZ, fy, fz) at (c .before .before .before .if2 .left)) (c .before .before .if3 .left) (c .before .link-in .ensures) (simp (toZ-ofZ, fn, fd) at (c .price3 .ensures)))
+    (above-second (a .ours .now) (a .p) (a .other .now) (a .x) (at-if1 .if1 .left) (n .ensures) (d .ensures)
+    (simp (toZ-ofZ, fn, fd) at (at-price .price .ensures)) (at-kept-in .kept-in .ensures) (simp (toZ-ofZ, fn, fd) at (at-price2 .price2 .ensures))
+    (simp (toZ-ofZ, fy, fz) at (at-if2 .if2 .left)) (at-if3 .if3 .left) (at-link-in .link-in .ensures) (simp (toZ-ofZ, fn, fd) at (c .price3 .ensures)))
 
 pub above-spec : {M : Type 1} → statement M
 above-spec =

@@ -22,7 +22,8 @@ mul-result-2 : tie.Need-mul-result-2
 mul-result-2 c =
     let a = c .before .before .args in
     let f : SFits w64 (c .rate-in .result) = record { sfits = c .rate-in .ok } in
-    simp (toZ-ofZ, f, c .before .before .fits .n) (rate-product-fits (a .part .now) (a .slot) (c .rate-in .result) (a .n) (c .rate-in .ensures) (c .before .before .pre .above))
+    simp (toZ-ofZ, f, c .before .before .fits .n) (rate-product-fits (a .part .now) (a .slot) (c .rate-in .result) (a .n) (c .rate-in .ensures)
+    (c .before .before .pre .above))
 
 add-result : tie.Need-add-result
 add-result c =

@@ -46,10 +46,18 @@ address-requires : tie.Need-address-requires
 address-requires c κs = placed _ _ _ _ (c .before .before .capacity .ensures) (omega arith) (omega arith)
 
 add-bounded : tie.Need-add-bounded
-add-bounded c = omega (arith, data-small _ _ _ (c .before .before .before .capacity .ensures) (c .before .before .if1 .left) (c .before .if2 .left) (c .address .ensures))
+add-bounded c = omega (
+  arith,
+  data-small _ _ _ (c .before .before .before .capacity .ensures) (c .before .before .if1 .left) (c .before .if2 .left)
+      (c .address .ensures),
+)
 
 mul-bounded : tie.Need-mul-bounded
-mul-bounded c = omega (arith, data-small _ _ _ (c .before .before .before .capacity .ensures) (c .before .before .if1 .left) (c .before .if2 .left) (c .address .ensures))
+mul-bounded c = omega (
+  arith,
+  data-small _ _ _ (c .before .before .before .capacity .ensures) (c .before .before .if1 .left) (c .before .if2 .left)
+      (c .address .ensures),
+)
 
 shared-slice-copy-out-bounded : tie.Need-shared-slice-copy-out-bounded
 shared-slice-copy-out-bounded c =

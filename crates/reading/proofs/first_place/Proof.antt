@@ -19,7 +19,11 @@ sub-part-first : tie.Need-sub-part-first
 sub-part-first c = omega (arith, book-start (c .before .before .args .table .now) (c .before .before .args .start) (c .before .no-book .ensures) (c .if1 .left))
 
 part-part-first-start : tie.Need-part-part-first-start
-part-part-first-start c = omega (arith, book-start (c .before .before .args .table .now) (c .before .before .args .start) (c .before .no-book .ensures) (c .if1 .left))
+part-part-first-start c = omega (
+  arith,
+  book-start (c .before .before .args .table .now) (c .before .before .args .start) (c .before .no-book .ensures)
+      (c .if1 .left),
+)
 
 part-part-first-end : tie.Need-part-part-first-end
 part-part-first-end c = search needs
@@ -28,7 +32,8 @@ part-first-requires : tie.Need-part-first-requires
 part-first-requires c κs = search needs
 
 returns-2 : tie.Need-returns-2
-returns-2 c = first-there (c .before .before .before .before .args .start) (c .before .before .before .before .args .table .now) (c .before .before .before .no-book .ensures) (c .before .before .if1 .left) (c .part-first .ensures)
+returns-2 c = first-there (c .before .before .before .before .args .start) (c .before .before .before .before .args .table .now)
+    (c .before .before .before .no-book .ensures) (c .before .before .if1 .left) (c .part-first .ensures)
 
 pub first-place-spec : {M : Type 1} → statement M
 first-place-spec =

@@ -20,7 +20,8 @@ link-requires : tie.Need-link-requires
 link-requires c κs = search needs
 
 returns-3 : tie.Need-returns-3
-returns-3 c = after-next (c .before .before .before .envelope-root .ensures) (c .before .before .end .ensures) (c .before .before .before .before .if1 .left) (c .before .if2 .left) (c .link .ensures)
+returns-3 c = after-next (c .before .before .before .envelope-root .ensures) (c .before .before .end .ensures)
+    (c .before .before .before .before .if1 .left) (c .before .if2 .left) (c .link .ensures)
 
 pub part-after-spec : {M : Type 1} → statement M
 part-after-spec =

@@ -29,16 +29,22 @@ crossing-word-requires-2 c κs = search needs
 
 returns-2 : tie.Need-returns-2
 returns-2 c =
-    let n = c .before .before .get in
-    let u = c .before .crossing-word in
+    let at-crossing-word = c .before in
+    let at-get = at-crossing-word .before in
+    let at-end = at-get .before in
+    let at-envelope-root = at-end .before in
+    let at-if1 = at-envelope-root .before in
+    let entry = at-if1 .before in
+    let n = at-get .get in
+    let u = at-crossing-word .crossing-word in
     let v = c .crossing-word2 in
-    let p = c .before .before .before .before .before .before .args .place in
-    let z = c .before .before .before .end .result in
+    let p = entry .args .place in
+    let z = at-end .end .result in
     let fn : SFits w64 (n .result) = record { sfits = n .ok } in
     let fu : SFits w64 (u .result) = record { sfits = u .ok } in
     let fv : SFits w64 (v .result) = record { sfits = v .ok } in
     simp (toZ-ofZ, fn, fu, fv)
-    (hands-piece (c .before .before .before .before .envelope-root .ensures) (c .before .before .before .end .ensures) (c .before .before .before .before .before .if1 .left)
+    (hands-piece (at-envelope-root .envelope-root .ensures) (at-end .end .ensures) (at-if1 .if1 .left)
     (λ e. eqb-true p z e) (λ e. eqb-false p z e) (n .ensures) (u .ensures) (v .ensures))
 
 pub part-piece-spec : {M : Type 1} → statement M

@@ -10,7 +10,8 @@ no-book-requires : tie.Need-no-book-requires
 no-book-requires c κs = search needs
 
 returns : tie.Need-returns
-returns c = hands-no-book (c .before .before .args .start) (c .before .before .args .table .now) (c .before .no-book .ensures) (c .if1 .taken) (c .before .before .args .place)
+returns c = hands-no-book (c .before .before .args .start) (c .before .before .args .table .now) (c .before .no-book .ensures) (c .if1 .taken)
+    (c .before .before .args .place)
 
 mul-part-piece : tie.Need-mul-part-piece
 mul-part-piece c = omega (arith, book-start (c .before .before .args .table .now) (c .before .before .args .start) (c .before .no-book .ensures) (c .if1 .left))
@@ -19,7 +20,11 @@ sub-part-piece : tie.Need-sub-part-piece
 sub-part-piece c = omega (arith, book-start (c .before .before .args .table .now) (c .before .before .args .start) (c .before .no-book .ensures) (c .if1 .left))
 
 part-part-piece-start : tie.Need-part-part-piece-start
-part-part-piece-start c = omega (arith, book-start (c .before .before .args .table .now) (c .before .before .args .start) (c .before .no-book .ensures) (c .if1 .left))
+part-part-piece-start c = omega (
+  arith,
+  book-start (c .before .before .args .table .now) (c .before .before .args .start) (c .before .no-book .ensures)
+      (c .if1 .left),
+)
 
 part-part-piece-end : tie.Need-part-part-piece-end
 part-part-piece-end c = search needs
@@ -28,7 +33,8 @@ part-piece-requires : tie.Need-part-piece-requires
 part-piece-requires c κs = search needs
 
 returns-2 : tie.Need-returns-2
-returns-2 c = hands-there (c .before .before .before .before .args .start) (c .before .before .before .before .args .table .now) (c .before .before .before .no-book .ensures) (c .before .before .if1 .left) (c .part-piece .ensures)
+returns-2 c = hands-there (c .before .before .before .before .args .start) (c .before .before .before .before .args .table .now)
+    (c .before .before .before .no-book .ensures) (c .before .before .if1 .left) (c .part-piece .ensures)
 
 pub piece-at-spec : {M : Type 1} → statement M
 piece-at-spec =

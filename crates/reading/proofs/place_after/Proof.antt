@@ -10,7 +10,8 @@ no-book-requires : tie.Need-no-book-requires
 no-book-requires c κs = search needs
 
 returns : tie.Need-returns
-returns c = after-no-book (c .before .before .args .start) (c .before .before .args .table .now) (c .before .no-book .ensures) (c .if1 .taken) (c .before .before .args .place)
+returns c = after-no-book (c .before .before .args .start) (c .before .before .args .table .now) (c .before .no-book .ensures) (c .if1 .taken)
+    (c .before .before .args .place)
 
 mul-part-after : tie.Need-mul-part-after
 mul-part-after c = omega (arith, book-start (c .before .before .args .table .now) (c .before .before .args .start) (c .before .no-book .ensures) (c .if1 .left))
@@ -19,7 +20,11 @@ sub-part-after : tie.Need-sub-part-after
 sub-part-after c = omega (arith, book-start (c .before .before .args .table .now) (c .before .before .args .start) (c .before .no-book .ensures) (c .if1 .left))
 
 part-part-after-start : tie.Need-part-part-after-start
-part-part-after-start c = omega (arith, book-start (c .before .before .args .table .now) (c .before .before .args .start) (c .before .no-book .ensures) (c .if1 .left))
+part-part-after-start c = omega (
+  arith,
+  book-start (c .before .before .args .table .now) (c .before .before .args .start) (c .before .no-book .ensures)
+      (c .if1 .left),
+)
 
 part-part-after-end : tie.Need-part-part-after-end
 part-part-after-end c = search needs
@@ -28,7 +33,8 @@ part-after-requires : tie.Need-part-after-requires
 part-after-requires c κs = search needs
 
 returns-2 : tie.Need-returns-2
-returns-2 c = after-there (c .before .before .before .before .args .start) (c .before .before .before .before .args .table .now) (c .before .before .before .no-book .ensures) (c .before .before .if1 .left) (c .part-after .ensures)
+returns-2 c = after-there (c .before .before .before .before .args .start) (c .before .before .before .before .args .table .now)
+    (c .before .before .before .no-book .ensures) (c .before .before .if1 .left) (c .part-after .ensures)
 
 pub place-after-spec : {M : Type 1} → statement M
 place-after-spec =

@@ -32,7 +32,11 @@ loop-less : tie.Need-loop-less Inv-loop μ-loop
 loop-less c = omega arith
 
 loop-again : tie.Need-loop-again Inv-loop μ-loop
-loop-again c = let a = c .before .before .before .before .before .args in nearing-on (a .start) (a .table .now) (c .before .before .before .loop .inv) (c .before .before .loop-test .taken) (c .place-after .ensures)
+loop-again c =
+    let at-loop-test = c .before .before in
+    let at-loop = at-loop-test .before in
+    let entry = at-loop .before .before in
+    let a = entry .args in nearing-on (a .start) (a .table .now) (at-loop .loop .inv) (at-loop-test .loop-test .taken) (c .place-after .ensures)
 
 returns-2 : tie.Need-returns-2 Inv-loop μ-loop
 returns-2 c = nearing-ends (c .before .loop .inv) (c .loop-test .left)

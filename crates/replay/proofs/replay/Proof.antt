@@ -20,10 +20,14 @@ same-length c = search needs
 
 returns : tie.Need-returns
 returns c =
-    let f = c .before .before .before .before .before .before .fits in
-    let z : SFits w64 (c .before .opening .given .0 .0) = record { sfits = c .known-told .given .0 .1 } in
-    let same : toZ w64 (ofZ w64 (c .before .opening .given .0 .0)) ≡ c .before .opening .given .0 .0 = simp (toZ-ofZ, z) in
-    replays-none (simp (toZ-ofZ, f .capacity) at (c .before .before .before .before .«open» .ensures)) (c .before .before .before .before .before .before .args .calls .now) (c .before .before .before .before .before .before .args .answers .now) (c .before .opening .given .1) (ap unopened same)
+    let at-opening = c .before in
+    let at-before = at-opening .before .before in
+    let entry = at-before .before .before .before in
+    let f = entry .fits in
+    let z : SFits w64 (at-opening .opening .given .0 .0) = record { sfits = c .known-told .given .0 .1 } in
+    let same : toZ w64 (ofZ w64 (at-opening .opening .given .0 .0)) ≡ at-opening .opening .given .0 .0 = simp (toZ-ofZ, z) in
+    replays-none (simp (toZ-ofZ, f .capacity) at (at-before .before .«open» .ensures)) (entry .args .calls .now) (entry .args .answers .now)
+    (at-opening .opening .given .1) (ap unopened same)
 
 enum-told : tie.Need-enum-told
 enum-told c = search needs
@@ -38,7 +42,13 @@ same-length-3 : tie.Need-same-length-3
 same-length-3 c = search needs
 
 returns-2 : tie.Need-returns-2
-returns-2 c = let f = c .before .before .before .before .before .before .before .before .before .before .fits in replays-opened (simp (toZ-ofZ, f .capacity) at (c .before .before .before .before .before .before .before .before .«open» .ensures)) (c .before .before .before .before .before .enum-told .given .1) (c .before .before .resume .ensures)
+returns-2 c =
+    let at-resume = c .before .before in
+    let at-enum-told = at-resume .before .before .before in
+    let at-before = at-enum-told .before .before in
+    let entry = at-before .before .before .before in
+    let f = entry .fits in replays-opened (simp (toZ-ofZ, f .capacity) at (at-before .before .«open» .ensures)) (at-enum-told .enum-told .given .1)
+    (at-resume .resume .ensures)
 
 pub replay-spec : {M : Type 1} → statement M
 replay-spec =

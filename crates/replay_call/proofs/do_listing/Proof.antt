@@ -27,7 +27,11 @@ same-length : tie.Need-same-length
 same-length c = search needs
 
 returns : tie.Need-returns
-returns c = let a = c .before .before .before .before .before .before .args in lists-to (a .out .now) (a .room) (c .before .before .before .before .before .before .pre) (c .before .before .before .before .listing .ensures) refl (c .before .tell-listed .ensures)
+returns c =
+    let at-tell-listed = c .before in
+    let at-listing = at-tell-listed .before .before .before in
+    let entry = at-listing .before .before in
+    let a = entry .args in lists-to (a .out .now) (a .room) (entry .pre) (at-listing .listing .ensures) refl (at-tell-listed .tell-listed .ensures)
 
 pub do-listing-spec : {M : Type 1} → statement M
 do-listing-spec =

@@ -18,7 +18,12 @@ same-length-2 : tie.Need-same-length-2
 same-length-2 c = search needs
 
 returns : tie.Need-returns
-returns c = let a = c .before .before .before .before .before .before .args in let f = c .before .before .before .before .before .before .fits in posts (a .out .now) (c .before .before .before .before .before .before .pre) (a .number) (a .rate) (a .base) (simp (toZ-ofZ, f .number, f .rate, f .base) at (c .before .before .before .before .post .ensures)) (c .before .tell-update .ensures)
+returns c =
+    let at-tell-update = c .before in
+    let at-post = at-tell-update .before .before .before in
+    let entry = at-post .before .before in
+    let a = entry .args in let f = entry .fits in posts (a .out .now) (entry .pre) (a .number) (a .rate) (a .base)
+    (simp (toZ-ofZ, f .number, f .rate, f .base) at (at-post .post .ensures)) (at-tell-update .tell-update .ensures)
 
 pub do-post-spec : {M : Type 1} → statement M
 do-post-spec =

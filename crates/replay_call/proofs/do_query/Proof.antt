@@ -15,7 +15,9 @@ same-length : tie.Need-same-length
 same-length c = search needs
 
 returns : tie.Need-returns
-returns c = let a = c .before .before .before .before .args in let f = c .before .before .before .before .fits in asks (a .out .now) (c .before .before .before .before .pre) (a .load) (simp (toZ-ofZ, f .load) at (c .before .before .before .query .ensures)) (c .before .tell-found .ensures)
+returns c = let a = c .before .before .before .before .args in let f = c .before .before .before .before .fits in
+    asks (a .out .now) (c .before .before .before .before .pre) (a .load) (simp (toZ-ofZ, f .load) at (c .before .before .before .query .ensures))
+    (c .before .tell-found .ensures)
 
 pub do-query-spec : {M : Type 1} → statement M
 do-query-spec = tie.close (tie.spec query-requires tell-found-requires same-length returns)

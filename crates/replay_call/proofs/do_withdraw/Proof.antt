@@ -18,7 +18,12 @@ same-length-2 : tie.Need-same-length-2
 same-length-2 c = search needs
 
 returns : tie.Need-returns
-returns c = let a = c .before .before .before .before .before .before .args in let f = c .before .before .before .before .before .before .fits in withdraws (a .out .now) (c .before .before .before .before .before .before .pre) (a .number) (simp (toZ-ofZ, f .number) at (c .before .before .before .before .withdraw .ensures)) (c .before .tell-update .ensures)
+returns c =
+    let at-tell-update = c .before in
+    let at-withdraw = at-tell-update .before .before .before in
+    let entry = at-withdraw .before .before in
+    let a = entry .args in let f = entry .fits in withdraws (a .out .now) (entry .pre) (a .number)
+    (simp (toZ-ofZ, f .number) at (at-withdraw .withdraw .ensures)) (at-tell-update .tell-update .ensures)
 
 pub do-withdraw-spec : {M : Type 1} → statement M
 do-withdraw-spec =

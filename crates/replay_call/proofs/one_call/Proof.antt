@@ -22,10 +22,18 @@ same-length-2 : tie.Need-same-length-2
 same-length-2 c = search needs
 
 returns : tie.Need-returns
-returns c = let a = c .before .before .before .before .before .before .before .before .args in step-some (a .calls .now) (a .out .now) _ (asked (c .before .before .before .before .before .before .before .next-call .result)) (c .before .before .before .before .before .before .before .next-call .ensures) (sym (c .before .before .before .before .before .before .fits2 .ensures) ∙ c .before .before .before .before .before .if1 .taken) (c .before .before .perform .ensures)
+returns c =
+    let at-perform = c .before .before in
+    let at-if1 = at-perform .before .before .before in
+    let at-fits2 = at-if1 .before in
+    let at-next-call = at-fits2 .before in
+    let entry = at-next-call .before in
+    let a = entry .args in step-some (a .calls .now) (a .out .now) _ (asked (at-next-call .next-call .result)) (at-next-call .next-call .ensures)
+    (sym (at-fits2 .fits2 .ensures) ∙ at-if1 .if1 .taken) (at-perform .perform .ensures)
 
 returns-2 : tie.Need-returns-2
-returns-2 c = let a = c .before .before .before .args in step-none (a .calls .now) (a .out .now) (c .before .before .next-call .ensures) (sym (c .before .fits2 .ensures) ∙ c .if1 .left)
+returns-2 c = let a = c .before .before .before .args in
+    step-none (a .calls .now) (a .out .now) (c .before .before .next-call .ensures) (sym (c .before .fits2 .ensures) ∙ c .if1 .left)
 
 pub one-call-spec : {M : Type 1} → statement M
 one-call-spec =

@@ -18,28 +18,43 @@ enum-known-next : tie.Need-enum-known-next
 enum-known-next c = search needs
 
 do-post-requires : tie.Need-do-post-requires
-do-post-requires c κs = call-fits (ap asked (c .before .before .before .next .given .1)) (length (c .before .before .before .before .before .args .out .now)) (c .before .before .before .before .before .pre)
+do-post-requires c κs =
+    let at-next = c .before .before .before in
+    let entry = at-next .before .before in
+    call-fits (ap asked (at-next .next .given .1)) (length (entry .args .out .now)) (entry .pre)
 
 enum-known-next-2 : tie.Need-enum-known-next-2
 enum-known-next-2 c = search needs
 
 do-withdraw-requires : tie.Need-do-withdraw-requires
-do-withdraw-requires c κs = call-fits (ap asked (c .before .before .before .next2 .given .1)) (length (c .before .before .before .before .before .args .out .now)) (c .before .before .before .before .before .pre)
+do-withdraw-requires c κs =
+    let at-next2 = c .before .before .before in
+    let entry = at-next2 .before .before in
+    call-fits (ap asked (at-next2 .next2 .given .1)) (length (entry .args .out .now)) (entry .pre)
 
 enum-known-next-3 : tie.Need-enum-known-next-3
 enum-known-next-3 c = search needs
 
 do-query-requires : tie.Need-do-query-requires
-do-query-requires c κs = call-fits (ap asked (c .before .before .before .next3 .given .1)) (length (c .before .before .before .before .before .args .out .now)) (c .before .before .before .before .before .pre)
+do-query-requires c κs =
+    let at-next3 = c .before .before .before in
+    let entry = at-next3 .before .before in
+    call-fits (ap asked (at-next3 .next3 .given .1)) (length (entry .args .out .now)) (entry .pre)
 
 enum-known-next-4 : tie.Need-enum-known-next-4
 enum-known-next-4 c = search needs
 
 do-listing-requires : tie.Need-do-listing-requires
-do-listing-requires c κs = call-fits (ap asked (c .before .before .before .next4 .given .1)) (length (c .before .before .before .before .before .args .out .now)) (c .before .before .before .before .before .pre)
+do-listing-requires c κs =
+    let at-next4 = c .before .before .before in
+    let entry = at-next4 .before .before in
+    call-fits (ap asked (at-next4 .next4 .given .1)) (length (entry .args .out .now)) (entry .pre)
 
 add-result : tie.Need-add-result
-add-result c = omega (arith, call-fits (ap asked (c .before .before .before .before .before .next4 .given .1)) (length (c .before .before .before .before .before .before .before .args .out .now)) (c .before .before .before .before .before .before .before .pre))
+add-result c =
+    let at-next4 = c .before .before .before .before .before in
+    let entry = at-next4 .before .before in
+    omega (arith, call-fits (ap asked (at-next4 .next4 .given .1)) (length (entry .args .out .now)) (entry .pre))
 
 enum-told : tie.Need-enum-told
 enum-told c = search needs
@@ -52,12 +67,15 @@ same-length-2 c = search needs
 
 returns : tie.Need-returns
 returns c =
-    let v = c .before .before .before .before .before .before .next .given .0 in
-    let k = c .before .before .before .before .before .known-told .given in
+    let at-do-post = c .before .before in
+    let at-known-told = at-do-post .before .before .before in
+    let at-next = at-known-told .before in
+    let v = at-next .next .given .0 in
+    let k = at-known-told .known-told .given in
     let f0 : SFits w64 (v .0) = record { sfits = k .0 .1 } in
     let f1 : SFits w64 (v .1 .0) = record { sfits = k .1 .0 .1 } in
     let f2 : SFits w64 (v .1 .1 .0) = record { sfits = k .1 .1 .0 .1 } in
-    performs (ap asked (c .before .before .before .before .before .before .next .given .1)) (simp (toZ-ofZ, f0, f1, f2) at (c .before .before .do-post .ensures)) refl
+    performs (ap asked (at-next .next .given .1)) (simp (toZ-ofZ, f0, f1, f2) at (at-do-post .do-post .ensures)) refl
 
 same-length-3 : tie.Need-same-length-3
 same-length-3 c = search needs
@@ -67,10 +85,13 @@ same-length-4 c = search needs
 
 returns-2 : tie.Need-returns-2
 returns-2 c =
-    let v = c .before .before .before .before .before .before .next2 .given .0 in
-    let k = c .before .before .before .before .before .known-told2 .given in
+    let at-do-withdraw = c .before .before in
+    let at-known-told2 = at-do-withdraw .before .before .before in
+    let at-next2 = at-known-told2 .before in
+    let v = at-next2 .next2 .given .0 in
+    let k = at-known-told2 .known-told2 .given in
     let f0 : SFits w64 (v .0) = record { sfits = k .0 .1 } in
-    performs (ap asked (c .before .before .before .before .before .before .next2 .given .1)) (simp (toZ-ofZ, f0) at (c .before .before .do-withdraw .ensures)) refl
+    performs (ap asked (at-next2 .next2 .given .1)) (simp (toZ-ofZ, f0) at (at-do-withdraw .do-withdraw .ensures)) refl
 
 same-length-5 : tie.Need-same-length-5
 same-length-5 c = search needs
@@ -80,10 +101,13 @@ same-length-6 c = search needs
 
 returns-3 : tie.Need-returns-3
 returns-3 c =
-    let v = c .before .before .before .before .before .next3 .given .0 in
-    let k = c .before .before .before .before .known-told3 .given in
+    let at-do-query = c .before in
+    let at-known-told3 = at-do-query .before .before .before in
+    let at-next3 = at-known-told3 .before in
+    let v = at-next3 .next3 .given .0 in
+    let k = at-known-told3 .known-told3 .given in
     let f0 : SFits w64 (v .0) = record { sfits = k .0 .1 } in
-    performs (ap asked (c .before .before .before .before .before .next3 .given .1)) (simp (toZ-ofZ, f0) at (c .before .do-query .ensures)) refl
+    performs (ap asked (at-next3 .next3 .given .1)) (simp (toZ-ofZ, f0) at (at-do-query .do-query .ensures)) refl
 
 same-length-7 : tie.Need-same-length-7
 same-length-7 c = search needs
@@ -92,7 +116,10 @@ same-length-8 : tie.Need-same-length-8
 same-length-8 c = search needs
 
 returns-4 : tie.Need-returns-4
-returns-4 c = performs (ap asked (c .before .before .before .before .before .next4 .given .1)) (c .before .do-listing .ensures) refl
+returns-4 c =
+    let at-do-listing = c .before in
+    let at-next4 = at-do-listing .before .before .before .before in
+    performs (ap asked (at-next4 .next4 .given .1)) (at-do-listing .do-listing .ensures) refl
 
 returns-5 : tie.Need-returns-5
 returns-5 c = absurd (never (ap asked (c .enum-told .given .1)) (c .before .before .args .out .now) (c .before .before .pre))

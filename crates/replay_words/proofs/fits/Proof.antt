@@ -35,7 +35,8 @@ returns-3 : tie.Need-returns-3
 returns-3 c = ap (λ (n : Next). fitting (asked n) (c .before .before .args .room)) (sym (c .enum-told3 .given .1))
 
 returns-4 : tie.Need-returns-4
-returns-4 c = c .five-and .ensures ∙ ap (λ (n : Next). fitting (asked n) (c .before .before .before .before .args .room)) (sym (c .before .before .next .given .1))
+returns-4 c = c .five-and .ensures ∙ ap (λ (n : Next). fitting (asked n) (c .before .before .before .before .args .room))
+    (sym (c .before .before .next .given .1))
 
 returns-5 : tie.Need-returns-5
 returns-5 c = search needs

@@ -30,12 +30,18 @@ read-call-requires c κs = search needs
 
 returns-2 : tie.Need-returns-2
 returns-2 c =
-    let w = c .before .before .before .before .before .before .args .calls .now in
-    let x : SFits w64 (getD w 0 (pos 0)) = record { sfits = c .before .before .before .before .read-call-arg .given } in
-    let y : SFits w64 (getD w 1 (pos 0)) = record { sfits = c .before .before .before .read-call-arg2 .given } in
-    let z : SFits w64 (getD w 2 (pos 0)) = record { sfits = c .before .before .read-call-arg3 .given } in
-    let v : SFits w64 (getD w 3 (pos 0)) = record { sfits = c .before .read-call-arg4 .given } in
-    four w (omega (arith, c .before .before .before .before .before .if1 .left)) (simp (toZ-ofZ, x, y, z, v) at (c .read-call .ensures))
+    let at-read-call-arg4 = c .before in
+    let at-read-call-arg3 = at-read-call-arg4 .before in
+    let at-read-call-arg2 = at-read-call-arg3 .before in
+    let at-read-call-arg = at-read-call-arg2 .before in
+    let at-if1 = at-read-call-arg .before in
+    let entry = at-if1 .before in
+    let w = entry .args .calls .now in
+    let x : SFits w64 (getD w 0 (pos 0)) = record { sfits = at-read-call-arg .read-call-arg .given } in
+    let y : SFits w64 (getD w 1 (pos 0)) = record { sfits = at-read-call-arg2 .read-call-arg2 .given } in
+    let z : SFits w64 (getD w 2 (pos 0)) = record { sfits = at-read-call-arg3 .read-call-arg3 .given } in
+    let v : SFits w64 (getD w 3 (pos 0)) = record { sfits = at-read-call-arg4 .read-call-arg4 .given } in
+    four w (omega (arith, at-if1 .if1 .left)) (simp (toZ-ofZ, x, y, z, v) at (c .read-call .ensures))
 
 pub next-call-spec : {M : Type 1} → statement M
 next-call-spec =

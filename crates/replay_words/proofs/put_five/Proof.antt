@@ -37,7 +37,14 @@ same-length : tie.Need-same-length
 same-length c = search needs
 
 returns : tie.Need-returns
-returns c = let f = c .fits in simp (toZ-ofZ, f .a, f .b, f .c, f .d, f .e) (five (c .args .out .now) (c .args .a) (c .args .b) (c .args .c) (c .args .d) (c .args .e) (c .pre))
+returns c = let f = c .fits in simp (
+  toZ-ofZ,
+  f .a,
+  f .b,
+  f .c,
+  f .d,
+  f .e,
+) (five (c .args .out .now) (c .args .a) (c .args .b) (c .args .c) (c .args .d) (c .args .e) (c .pre))
 
 pub put-five-spec : {M : Type 1} → statement M
 put-five-spec =

@@ -9,7 +9,8 @@ use Rattle.replay_words.proofs.read_call.Statement.{statement}
 use Rattle.replay_words.proofs.read_call.Tie as tie
 
 returns : tie.Need-returns
-returns c = let a = c .before .args in let f = c .before .fits in simp (toZ-ofZ, f .a, f .b, f .c) (reads-post (a .code) (a .a) (a .b) (a .c) (is (f .code) (omega arith) (c .if1 .taken)))
+returns c = let a = c .before .args in let f = c .before .fits in
+    simp (toZ-ofZ, f .a, f .b, f .c) (reads-post (a .code) (a .a) (a .b) (a .c) (is (f .code) (omega arith) (c .if1 .taken)))
 
 returns-2 : tie.Need-returns-2
 returns-2 c =

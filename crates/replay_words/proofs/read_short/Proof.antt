@@ -8,10 +8,12 @@ use Rattle.replay_words.proofs.read_short.Statement.{statement}
 use Rattle.replay_words.proofs.read_short.Tie as tie
 
 returns : tie.Need-returns
-returns c = let a = c .before .args in let f = c .before .fits in simp (toZ-ofZ, f .a) (short-withdraw (a .code) (a .a) (is (f .code) (omega arith) (c .if1 .taken)))
+returns c = let a = c .before .args in let f = c .before .fits in
+    simp (toZ-ofZ, f .a) (short-withdraw (a .code) (a .a) (is (f .code) (omega arith) (c .if1 .taken)))
 
 returns-2 : tie.Need-returns-2
-returns-2 c = let a = c .before .before .args in let f = c .before .before .fits in simp (toZ-ofZ, f .a) (short-query (a .code) (a .a) (is-not (a .code) 2 (c .before .if1 .left)) (is (f .code) (omega arith) (c .if2 .taken)))
+returns-2 c = let a = c .before .before .args in let f = c .before .before .fits in
+    simp (toZ-ofZ, f .a) (short-query (a .code) (a .a) (is-not (a .code) 2 (c .before .if1 .left)) (is (f .code) (omega arith) (c .if2 .taken)))
 
 returns-3 : tie.Need-returns-3
 returns-3 c =
@@ -39,7 +41,8 @@ returns-4 c =
     let n = is-not (a .code) 2 (at-if1 .if1 .left) in
     let m = is-not (a .code) 3 (at-if2 .if2 .left) in
     simp (toZ-ofZ, f .a)
-    (some-room (a .a) (f .a) (simp (toZ-ofZ, f .a) at (c .if4 .left)) .1 ∙ short-listing (a .code) (a .a) n m (is (f .code) (omega arith) (c .before .if3 .left)))
+    (some-room (a .a) (f .a) (simp (toZ-ofZ, f .a) at (c .if4 .left)) .1 ∙ short-listing (a .code) (a .a) n m
+    (is (f .code) (omega arith) (c .before .if3 .left)))
 
 pub read-short-spec : {M : Type 1} → statement M
 read-short-spec = tie.close (tie.spec returns returns-2 returns-3 cast-t6 returns-4)

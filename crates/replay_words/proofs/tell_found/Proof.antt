@@ -28,22 +28,32 @@ same-length c = search needs
 
 returns : tie.Need-returns
 returns c =
-    let v = c .before .before .before .before .told .given .0 in
-    let k = c .before .before .before .known-told .given in
+    let at-put-five = c .before in
+    let at-known-told = at-put-five .before .before in
+    let at-told = at-known-told .before in
+    let entry = at-told .before .before in
+    let v = at-told .told .given .0 in
+    let k = at-known-told .known-told .given in
     let f0 : SFits w64 (v .0) = record { sfits = k .0 .1 } in
     let f1 : SFits w64 (v .1 .0) = record { sfits = k .1 .0 .1 } in
     let f2 : SFits w64 (v .1 .1 .0) = record { sfits = k .1 .1 .0 .1 } in
-    simp (toZ-ofZ, f0, f1, f2) at (c .before .put-five .ensures) ∙ ap (λ (u : Found). foundWords u ++ drop 5 (c .before .before .before .before .before .before .args .out .now)) (sym (c .before .before .before .before .told .given .1))
+    simp (toZ-ofZ, f0, f1, f2) at (at-put-five .put-five .ensures) ∙ ap (λ (u : Found). foundWords u ++ drop 5 (entry .args .out .now))
+    (sym (at-told .told .given .1))
 
 same-length-2 : tie.Need-same-length-2
 same-length-2 c = search needs
 
 returns-2 : tie.Need-returns-2
 returns-2 c =
-    let v = c .before .before .before .before .told2 .given .0 in
-    let k = c .before .before .before .known-told2 .given in
+    let at-put-five2 = c .before in
+    let at-known-told2 = at-put-five2 .before .before in
+    let at-told2 = at-known-told2 .before in
+    let entry = at-told2 .before .before in
+    let v = at-told2 .told2 .given .0 in
+    let k = at-known-told2 .known-told2 .given in
     let f0 : SFits w64 (v .0) = record { sfits = k .0 .1 } in
-    simp (toZ-ofZ, f0) at (c .before .put-five2 .ensures) ∙ ap (λ (u : Found). foundWords u ++ drop 5 (c .before .before .before .before .before .before .args .out .now)) (sym (c .before .before .before .before .told2 .given .1))
+    simp (toZ-ofZ, f0) at (at-put-five2 .put-five2 .ensures) ∙ ap (λ (u : Found). foundWords u ++ drop 5 (entry .args .out .now))
+    (sym (at-told2 .told2 .given .1))
 
 pub tell-found-spec : {M : Type 1} → statement M
 tell-found-spec =

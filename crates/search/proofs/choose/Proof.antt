@@ -48,11 +48,27 @@ both-leaves-requires c κs = search needs
 
 returns-3 : tie.Need-returns-3
 returns-3 c =
-    chooses-done (c .before .before .before .before .before .before .before .point .ensures) (c .before .before .before .before .before .before .point2 .ensures) (sym (c .before .before .before .before .before .above .ensures) ∙ c .before .before .before .before .if1 .left) (sym (c .before .before .before .above2 .ensures) ∙ c .before .before .if2 .left) (sym (c .before .both-leaves .ensures) ∙ c .if3 .taken)
+    let at-both-leaves = c .before in
+    let at-if2 = at-both-leaves .before in
+    let at-above2 = at-if2 .before in
+    let at-if1 = at-above2 .before in
+    let at-above = at-if1 .before in
+    let at-point2 = at-above .before in
+    let at-point = at-point2 .before in
+    chooses-done (at-point .point .ensures) (at-point2 .point2 .ensures) (sym (at-above .above .ensures) ∙ at-if1 .if1 .left)
+    (sym (at-above2 .above2 .ensures) ∙ at-if2 .if2 .left) (sym (at-both-leaves .both-leaves .ensures) ∙ c .if3 .taken)
 
 returns-4 : tie.Need-returns-4
 returns-4 c =
-    chooses-on (c .before .before .before .before .before .before .before .point .ensures) (c .before .before .before .before .before .before .point2 .ensures) (sym (c .before .before .before .before .before .above .ensures) ∙ c .before .before .before .before .if1 .left) (sym (c .before .before .before .above2 .ensures) ∙ c .before .before .if2 .left) (sym (c .before .both-leaves .ensures) ∙ c .if3 .left)
+    let at-both-leaves = c .before in
+    let at-if2 = at-both-leaves .before in
+    let at-above2 = at-if2 .before in
+    let at-if1 = at-above2 .before in
+    let at-above = at-if1 .before in
+    let at-point2 = at-above .before in
+    let at-point = at-point2 .before in
+    chooses-on (at-point .point .ensures) (at-point2 .point2 .ensures) (sym (at-above .above .ensures) ∙ at-if1 .if1 .left)
+    (sym (at-above2 .above2 .ensures) ∙ at-if2 .if2 .left) (sym (at-both-leaves .both-leaves .ensures) ∙ c .if3 .left)
 
 pub choose-spec : {M : Type 1} → statement M
 choose-spec =

@@ -27,7 +27,14 @@ pair-requires-3 : tie.Need-pair-requires-3
 pair-requires-3 c κs = search needs
 
 returns-3 : tie.Need-returns-3
-returns-3 c = recedes-mine (c .before .before .before .before .before .if1 .left) (c .before .before .before .before .if2 .left) (c .before .before .before .inner-slot .ensures) (c .pair3 .ensures) (sym (c .before .before .above .ensures) ∙ c .before .if3 .taken)
+returns-3 c =
+    let at-if3 = c .before in
+    let at-above = at-if3 .before in
+    let at-inner-slot = at-above .before in
+    let at-if2 = at-inner-slot .before in
+    let at-if1 = at-if2 .before in
+    recedes-mine (at-if1 .if1 .left) (at-if2 .if2 .left) (at-inner-slot .inner-slot .ensures) (c .pair3 .ensures)
+    (sym (at-above .above .ensures) ∙ at-if3 .if3 .taken)
 
 above-requires-2 : tie.Need-above-requires-2
 above-requires-2 c κs = search needs
@@ -37,14 +44,30 @@ pair-requires-4 c κs = search needs
 
 returns-4 : tie.Need-returns-4
 returns-4 c =
-    recedes-theirs (c .before .before .before .before .before .before .before .if1 .left) (c .before .before .before .before .before .before .if2 .left) (c .before .before .before .before .before .inner-slot .ensures) (sym (c .before .before .before .before .above .ensures) ∙ c .before .before .before .if3 .left) (c .pair4 .ensures) (sym (c .before .before .above2 .ensures) ∙ c .before .if4 .taken)
+    let at-if4 = c .before in
+    let at-above2 = at-if4 .before in
+    let at-if3 = at-above2 .before in
+    let at-above = at-if3 .before in
+    let at-inner-slot = at-above .before in
+    let at-if2 = at-inner-slot .before in
+    let at-if1 = at-if2 .before in
+    recedes-theirs (at-if1 .if1 .left) (at-if2 .if2 .left) (at-inner-slot .inner-slot .ensures) (sym (at-above .above .ensures) ∙ at-if3 .if3 .left)
+    (c .pair4 .ensures) (sym (at-above2 .above2 .ensures) ∙ at-if4 .if4 .taken)
 
 pair-requires-5 : tie.Need-pair-requires-5
 pair-requires-5 c κs = search needs
 
 returns-5 : tie.Need-returns-5
 returns-5 c =
-    recedes-neither (c .before .before .before .before .before .before .before .if1 .left) (c .before .before .before .before .before .before .if2 .left) (c .before .before .before .before .before .inner-slot .ensures) (sym (c .before .before .before .before .above .ensures) ∙ c .before .before .before .if3 .left) (c .pair5 .ensures) (sym (c .before .before .above2 .ensures) ∙ c .before .if4 .left)
+    let at-if4 = c .before in
+    let at-above2 = at-if4 .before in
+    let at-if3 = at-above2 .before in
+    let at-above = at-if3 .before in
+    let at-inner-slot = at-above .before in
+    let at-if2 = at-inner-slot .before in
+    let at-if1 = at-if2 .before in
+    recedes-neither (at-if1 .if1 .left) (at-if2 .if2 .left) (at-inner-slot .inner-slot .ensures) (sym (at-above .above .ensures) ∙ at-if3 .if3 .left)
+    (c .pair5 .ensures) (sym (at-above2 .above2 .ensures) ∙ at-if4 .if4 .left)
 
 pub recede-spec : {M : Type 1} → statement M
 recede-spec =

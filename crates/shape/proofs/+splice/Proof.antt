@@ -31,7 +31,9 @@ splice-at t = and 1 splice-kinds.ps (is 1 splice-kinds.ps μ-splice t) splice.Pr
 abbrev splice-below : ℕ → In 1 splice-kinds.ps
 splice-below t = and 1 splice-kinds.ps (falls 1 splice-kinds.ps _<_ μ-splice t) splice.Pre
 
-splice-make-node-requires : (t : ℕ) → splice-lts.Need-make-node-requires (
+-- what is asked of each call, and learnt from it
+abbrev splice-claims : ℕ → splice-lts.Claims
+splice-claims t = (
   make-node-reads.Asked,
   make-node-reads.Learnt,
   height-in-reads.Asked,
@@ -50,382 +52,95 @@ splice-make-node-requires : (t : ℕ) → splice-lts.Need-make-node-requires (
   taller-reads.Learnt,
   set-node-reads.Asked,
   set-node-reads.Learnt,
-) (splice-at t) splice.Post
+)
+
+splice-make-node-requires : (t : ℕ) → splice-lts.Need-make-node-requires (splice-claims t) (splice-at t) splice.Post
 splice-make-node-requires t c κs = search needs
 
-splice-same-length : (t : ℕ) → splice-lts.Need-same-length (
-  make-node-reads.Asked,
-  make-node-reads.Learnt,
-  height-in-reads.Asked,
-  height-in-reads.Learnt,
-  above-reads.Asked,
-  above-reads.Learnt,
-  child-in-reads.Asked,
-  child-in-reads.Learnt,
-  inner-slot-reads.Asked,
-  inner-slot-reads.Learnt,
-  splice-below t,
-  splice.Post,
-  balance-reads.Asked,
-  balance-reads.Learnt,
-  taller-reads.Asked,
-  taller-reads.Learnt,
-  set-node-reads.Asked,
-  set-node-reads.Learnt,
-) (splice-at t) splice.Post
+splice-same-length : (t : ℕ) → splice-lts.Need-same-length (splice-claims t) (splice-at t) splice.Post
 splice-same-length t c = search needs
 
-splice-returns : (t : ℕ) → splice-lts.Need-returns (
-  make-node-reads.Asked,
-  make-node-reads.Learnt,
-  height-in-reads.Asked,
-  height-in-reads.Learnt,
-  above-reads.Asked,
-  above-reads.Learnt,
-  child-in-reads.Asked,
-  child-in-reads.Learnt,
-  inner-slot-reads.Asked,
-  inner-slot-reads.Learnt,
-  splice-below t,
-  splice.Post,
-  balance-reads.Asked,
-  balance-reads.Learnt,
-  taller-reads.Asked,
-  taller-reads.Learnt,
-  set-node-reads.Asked,
-  set-node-reads.Learnt,
-) (splice-at t) splice.Post
+splice-returns : (t : ℕ) → splice-lts.Need-returns (splice-claims t) (splice-at t) splice.Post
 splice-returns t c = spliced-none (c .before .before .before .if1 .taken) (c .before .make-node .ensures)
 
-splice-height-in-requires : (t : ℕ) → splice-lts.Need-height-in-requires (
-  make-node-reads.Asked,
-  make-node-reads.Learnt,
-  height-in-reads.Asked,
-  height-in-reads.Learnt,
-  above-reads.Asked,
-  above-reads.Learnt,
-  child-in-reads.Asked,
-  child-in-reads.Learnt,
-  inner-slot-reads.Asked,
-  inner-slot-reads.Learnt,
-  splice-below t,
-  splice.Post,
-  balance-reads.Asked,
-  balance-reads.Learnt,
-  taller-reads.Asked,
-  taller-reads.Learnt,
-  set-node-reads.Asked,
-  set-node-reads.Learnt,
-) (splice-at t) splice.Post
+splice-height-in-requires : (t : ℕ) → splice-lts.Need-height-in-requires (splice-claims t) (splice-at t) splice.Post
 splice-height-in-requires t c κs = c .before .before .pre .1
 
-splice-height-in-requires-2 : (t : ℕ) → splice-lts.Need-height-in-requires-2 (
-  make-node-reads.Asked,
-  make-node-reads.Learnt,
-  height-in-reads.Asked,
-  height-in-reads.Learnt,
-  above-reads.Asked,
-  above-reads.Learnt,
-  child-in-reads.Asked,
-  child-in-reads.Learnt,
-  inner-slot-reads.Asked,
-  inner-slot-reads.Learnt,
-  splice-below t,
-  splice.Post,
-  balance-reads.Asked,
-  balance-reads.Learnt,
-  taller-reads.Asked,
-  taller-reads.Learnt,
-  set-node-reads.Asked,
-  set-node-reads.Learnt,
-) (splice-at t) splice.Post
+splice-height-in-requires-2 : (t : ℕ) → splice-lts.Need-height-in-requires-2 (splice-claims t) (splice-at t) splice.Post
 splice-height-in-requires-2 t c κs = c .before .before .before .before .pre .1
 
-splice-above-requires : (t : ℕ) → splice-lts.Need-above-requires (
-  make-node-reads.Asked,
-  make-node-reads.Learnt,
-  height-in-reads.Asked,
-  height-in-reads.Learnt,
-  above-reads.Asked,
-  above-reads.Learnt,
-  child-in-reads.Asked,
-  child-in-reads.Learnt,
-  inner-slot-reads.Asked,
-  inner-slot-reads.Learnt,
-  splice-below t,
-  splice.Post,
-  balance-reads.Asked,
-  balance-reads.Learnt,
-  taller-reads.Asked,
-  taller-reads.Learnt,
-  set-node-reads.Asked,
-  set-node-reads.Learnt,
-) (splice-at t) splice.Post
+splice-above-requires : (t : ℕ) → splice-lts.Need-above-requires (splice-claims t) (splice-at t) splice.Post
 splice-above-requires t c κs = omega (arith, height-read _ _ _ (c .height-in2 .ensures))
 
-splice-child-in-requires : (t : ℕ) → splice-lts.Need-child-in-requires (
-  make-node-reads.Asked,
-  make-node-reads.Learnt,
-  height-in-reads.Asked,
-  height-in-reads.Learnt,
-  above-reads.Asked,
-  above-reads.Learnt,
-  child-in-reads.Asked,
-  child-in-reads.Learnt,
-  inner-slot-reads.Asked,
-  inner-slot-reads.Learnt,
-  splice-below t,
-  splice.Post,
-  balance-reads.Asked,
-  balance-reads.Learnt,
-  taller-reads.Asked,
-  taller-reads.Learnt,
-  set-node-reads.Asked,
-  set-node-reads.Learnt,
-) (splice-at t) splice.Post
-splice-child-in-requires t c κs = c .before .before .before .before .before .before .before .before .pre .1
+splice-child-in-requires : (t : ℕ) → splice-lts.Need-child-in-requires (splice-claims t) (splice-at t) splice.Post
+splice-child-in-requires t c κs =
+    let entry = c .before .before .before .before .before .before .before .before in
+    entry .pre .1
 
-splice-child-in-requires-2 : (t : ℕ) → splice-lts.Need-child-in-requires-2 (
-  make-node-reads.Asked,
-  make-node-reads.Learnt,
-  height-in-reads.Asked,
-  height-in-reads.Learnt,
-  above-reads.Asked,
-  above-reads.Learnt,
-  child-in-reads.Asked,
-  child-in-reads.Learnt,
-  inner-slot-reads.Asked,
-  inner-slot-reads.Learnt,
-  splice-below t,
-  splice.Post,
-  balance-reads.Asked,
-  balance-reads.Learnt,
-  taller-reads.Asked,
-  taller-reads.Learnt,
-  set-node-reads.Asked,
-  set-node-reads.Learnt,
-) (splice-at t) splice.Post
-splice-child-in-requires-2 t c κs = c .before .before .before .before .before .before .before .before .before .before .pre .1
+splice-child-in-requires-2 : (t : ℕ) → splice-lts.Need-child-in-requires-2 (splice-claims t) (splice-at t) splice.Post
+splice-child-in-requires-2 t c κs =
+    let entry = c .before .before .before .before .before .before .before .before .before .before in
+    entry .pre .1
 
-splice-inner-slot-requires : (t : ℕ) → splice-lts.Need-inner-slot-requires (
-  make-node-reads.Asked,
-  make-node-reads.Learnt,
-  height-in-reads.Asked,
-  height-in-reads.Learnt,
-  above-reads.Asked,
-  above-reads.Learnt,
-  child-in-reads.Asked,
-  child-in-reads.Learnt,
-  inner-slot-reads.Asked,
-  inner-slot-reads.Learnt,
-  splice-below t,
-  splice.Post,
-  balance-reads.Asked,
-  balance-reads.Learnt,
-  taller-reads.Asked,
-  taller-reads.Learnt,
-  set-node-reads.Asked,
-  set-node-reads.Learnt,
-) (splice-at t) splice.Post
+splice-inner-slot-requires : (t : ℕ) → splice-lts.Need-inner-slot-requires (splice-claims t) (splice-at t) splice.Post
 splice-inner-slot-requires t c κs = search needs
 
-splice-sub-splice : (t : ℕ) → splice-lts.Need-sub-splice (
-  make-node-reads.Asked,
-  make-node-reads.Learnt,
-  height-in-reads.Asked,
-  height-in-reads.Learnt,
-  above-reads.Asked,
-  above-reads.Learnt,
-  child-in-reads.Asked,
-  child-in-reads.Learnt,
-  inner-slot-reads.Asked,
-  inner-slot-reads.Learnt,
-  splice-below t,
-  splice.Post,
-  balance-reads.Asked,
-  balance-reads.Learnt,
-  taller-reads.Asked,
-  taller-reads.Learnt,
-  set-node-reads.Asked,
-  set-node-reads.Learnt,
-) (splice-at t) splice.Post
+splice-sub-splice : (t : ℕ) → splice-lts.Need-sub-splice (splice-claims t) (splice-at t) splice.Post
 splice-sub-splice t c = omega arith
 
-splice-splice-requires : (t : ℕ) → splice-lts.Need-splice-requires (
-  make-node-reads.Asked,
-  make-node-reads.Learnt,
-  height-in-reads.Asked,
-  height-in-reads.Learnt,
-  above-reads.Asked,
-  above-reads.Learnt,
-  child-in-reads.Asked,
-  child-in-reads.Learnt,
-  inner-slot-reads.Asked,
-  inner-slot-reads.Learnt,
-  splice-below t,
-  splice.Post,
-  balance-reads.Asked,
-  balance-reads.Learnt,
-  taller-reads.Asked,
-  taller-reads.Learnt,
-  set-node-reads.Asked,
-  set-node-reads.Learnt,
-) (splice-at t) splice.Post
-splice-splice-requires t c κs = (omega (arith, c .before .before .before .before .before .before .before .before .before .before .before .before .before .pre .0), c .before .before .before .before .before .before .before .before .before .before .before .before .before .pre .1)
+splice-splice-requires : (t : ℕ) → splice-lts.Need-splice-requires (splice-claims t) (splice-at t) splice.Post
+splice-splice-requires t c κs =
+    let entry = c .before .before .before .before .before .before .before .before .before .before .before .before .before in
+    (omega (arith, entry .pre .0), entry .pre .1)
 
-splice-balance-requires : (t : ℕ) → splice-lts.Need-balance-requires (
-  make-node-reads.Asked,
-  make-node-reads.Learnt,
-  height-in-reads.Asked,
-  height-in-reads.Learnt,
-  above-reads.Asked,
-  above-reads.Learnt,
-  child-in-reads.Asked,
-  child-in-reads.Learnt,
-  inner-slot-reads.Asked,
-  inner-slot-reads.Learnt,
-  splice-below t,
-  splice.Post,
-  balance-reads.Asked,
-  balance-reads.Learnt,
-  taller-reads.Asked,
-  taller-reads.Learnt,
-  set-node-reads.Asked,
-  set-node-reads.Learnt,
-) (splice-at t) splice.Post
-splice-balance-requires t c κs = c .before .before .before .before .before .before .before .before .before .before .before .before .before .before .before .before .pre .1 ∙ sym (within-cap (c .before .before .splice .ensures .within))
+splice-balance-requires : (t : ℕ) → splice-lts.Need-balance-requires (splice-claims t) (splice-at t) splice.Post
+splice-balance-requires t c κs =
+    let at-splice = c .before .before in
+    let entry = at-splice .before .before .before .before .before .before .before .before .before .before .before .before .before .before in
+    entry .pre .1 ∙ sym (within-cap (at-splice .splice .ensures .within))
 
-splice-same-length-2 : (t : ℕ) → splice-lts.Need-same-length-2 (
-  make-node-reads.Asked,
-  make-node-reads.Learnt,
-  height-in-reads.Asked,
-  height-in-reads.Learnt,
-  above-reads.Asked,
-  above-reads.Learnt,
-  child-in-reads.Asked,
-  child-in-reads.Learnt,
-  inner-slot-reads.Asked,
-  inner-slot-reads.Learnt,
-  splice-below t,
-  splice.Post,
-  balance-reads.Asked,
-  balance-reads.Learnt,
-  taller-reads.Asked,
-  taller-reads.Learnt,
-  set-node-reads.Asked,
-  set-node-reads.Learnt,
-) (splice-at t) splice.Post
+splice-same-length-2 : (t : ℕ) → splice-lts.Need-same-length-2 (splice-claims t) (splice-at t) splice.Post
 splice-same-length-2 t c = search needs
 
-splice-returns-2 : (t : ℕ) → splice-lts.Need-returns-2 (
-  make-node-reads.Asked,
-  make-node-reads.Learnt,
-  height-in-reads.Asked,
-  height-in-reads.Learnt,
-  above-reads.Asked,
-  above-reads.Learnt,
-  child-in-reads.Asked,
-  child-in-reads.Learnt,
-  inner-slot-reads.Asked,
-  inner-slot-reads.Learnt,
-  splice-below t,
-  splice.Post,
-  balance-reads.Asked,
-  balance-reads.Learnt,
-  taller-reads.Asked,
-  taller-reads.Learnt,
-  set-node-reads.Asked,
-  set-node-reads.Learnt,
-) (splice-at t) splice.Post
-splice-returns-2 t c = spliced (towers-told _ _ _ _ (c .before .before .before .before .before .before .before .before .before .before .before .before .before .before .before .height-in .ensures) (c .before .before .before .before .before .before .before .before .before .before .before .before .before .height-in2 .ensures) (c .before .before .before .before .before .before .before .before .before .before .before .before .above .ensures)) (c .before .before .before .before .before .before .before .before .before .before .before .if2 .taken) (c .before .before .before .before .before .before .before .before .before .child-in .ensures) (c .before .before .before .before .before .before .before .child-in2 .ensures) (c .before .before .before .before .before .before .inner-slot .ensures) (c .before .before .before .before .splice .ensures) (c .before .balance .ensures)
+splice-returns-2 : (t : ℕ) → splice-lts.Need-returns-2 (splice-claims t) (splice-at t) splice.Post
+splice-returns-2 t c =
+    let at-balance = c .before in
+    let at-splice = at-balance .before .before .before in
+    let at-inner-slot = at-splice .before .before in
+    let at-child-in2 = at-inner-slot .before in
+    let at-child-in = at-child-in2 .before .before in
+    let at-if2 = at-child-in .before .before in
+    let at-above = at-if2 .before in
+    let at-height-in2 = at-above .before in
+    let at-height-in = at-height-in2 .before .before in
+    spliced (towers-told _ _ _ _ (at-height-in .height-in .ensures) (at-height-in2 .height-in2 .ensures) (at-above .above .ensures)) (at-if2 .if2 .taken)
+    (at-child-in .child-in .ensures) (at-child-in2 .child-in2 .ensures) (at-inner-slot .inner-slot .ensures) (at-splice .splice .ensures)
+    (at-balance .balance .ensures)
 
-splice-taller-requires : (t : ℕ) → splice-lts.Need-taller-requires (
-  make-node-reads.Asked,
-  make-node-reads.Learnt,
-  height-in-reads.Asked,
-  height-in-reads.Learnt,
-  above-reads.Asked,
-  above-reads.Learnt,
-  child-in-reads.Asked,
-  child-in-reads.Learnt,
-  inner-slot-reads.Asked,
-  inner-slot-reads.Learnt,
-  splice-below t,
-  splice.Post,
-  balance-reads.Asked,
-  balance-reads.Learnt,
-  taller-reads.Asked,
-  taller-reads.Learnt,
-  set-node-reads.Asked,
-  set-node-reads.Learnt,
-) (splice-at t) splice.Post
-splice-taller-requires t c κs = (omega (arith, height-read _ _ _ (c .before .before .before .before .before .height-in .ensures)), omega (arith, height-read _ _ _ (c .before .before .before .height-in2 .ensures)))
+splice-taller-requires : (t : ℕ) → splice-lts.Need-taller-requires (splice-claims t) (splice-at t) splice.Post
+splice-taller-requires t c κs =
+    let at-height-in2 = c .before .before .before in
+    let at-height-in = at-height-in2 .before .before in
+    (omega (arith, height-read _ _ _ (at-height-in .height-in .ensures)), omega (arith, height-read _ _ _ (at-height-in2 .height-in2 .ensures)))
 
-splice-set-node-requires : (t : ℕ) → splice-lts.Need-set-node-requires (
-  make-node-reads.Asked,
-  make-node-reads.Learnt,
-  height-in-reads.Asked,
-  height-in-reads.Learnt,
-  above-reads.Asked,
-  above-reads.Learnt,
-  child-in-reads.Asked,
-  child-in-reads.Learnt,
-  inner-slot-reads.Asked,
-  inner-slot-reads.Learnt,
-  splice-below t,
-  splice.Post,
-  balance-reads.Asked,
-  balance-reads.Learnt,
-  taller-reads.Asked,
-  taller-reads.Learnt,
-  set-node-reads.Asked,
-  set-node-reads.Learnt,
-) (splice-at t) splice.Post
-splice-set-node-requires t c κs = c .before .before .before .before .before .before .before .before .before .pre .1
+splice-set-node-requires : (t : ℕ) → splice-lts.Need-set-node-requires (splice-claims t) (splice-at t) splice.Post
+splice-set-node-requires t c κs =
+    let entry = c .before .before .before .before .before .before .before .before .before in
+    entry .pre .1
 
-splice-same-length-3 : (t : ℕ) → splice-lts.Need-same-length-3 (
-  make-node-reads.Asked,
-  make-node-reads.Learnt,
-  height-in-reads.Asked,
-  height-in-reads.Learnt,
-  above-reads.Asked,
-  above-reads.Learnt,
-  child-in-reads.Asked,
-  child-in-reads.Learnt,
-  inner-slot-reads.Asked,
-  inner-slot-reads.Learnt,
-  splice-below t,
-  splice.Post,
-  balance-reads.Asked,
-  balance-reads.Learnt,
-  taller-reads.Asked,
-  taller-reads.Learnt,
-  set-node-reads.Asked,
-  set-node-reads.Learnt,
-) (splice-at t) splice.Post
+splice-same-length-3 : (t : ℕ) → splice-lts.Need-same-length-3 (splice-claims t) (splice-at t) splice.Post
 splice-same-length-3 t c = search needs
 
-splice-returns-3 : (t : ℕ) → splice-lts.Need-returns-3 (
-  make-node-reads.Asked,
-  make-node-reads.Learnt,
-  height-in-reads.Asked,
-  height-in-reads.Learnt,
-  above-reads.Asked,
-  above-reads.Learnt,
-  child-in-reads.Asked,
-  child-in-reads.Learnt,
-  inner-slot-reads.Asked,
-  inner-slot-reads.Learnt,
-  splice-below t,
-  splice.Post,
-  balance-reads.Asked,
-  balance-reads.Learnt,
-  taller-reads.Asked,
-  taller-reads.Learnt,
-  set-node-reads.Asked,
-  set-node-reads.Learnt,
-) (splice-at t) splice.Post
-splice-returns-3 t c = spliced-low (towers-told _ _ _ _ (c .before .before .before .before .before .before .before .before .height-in .ensures) (c .before .before .before .before .before .before .height-in2 .ensures) (c .before .before .before .before .before .above .ensures)) (c .before .before .before .before .if2 .left) (raised (c .before .before .before .before .before .before .before .before .height-in .ensures) (c .before .before .before .before .before .before .height-in2 .ensures) (c .before .before .taller .ensures) (c .before .set-node .ensures))
+splice-returns-3 : (t : ℕ) → splice-lts.Need-returns-3 (splice-claims t) (splice-at t) splice.Post
+splice-returns-3 t c =
+    let at-set-node = c .before in
+    let at-taller = at-set-node .before in
+    let at-if2 = at-taller .before .before in
+    let at-above = at-if2 .before in
+    let at-height-in2 = at-above .before in
+    let at-height-in = at-height-in2 .before .before in
+    spliced-low (towers-told _ _ _ _ (at-height-in .height-in .ensures) (at-height-in2 .height-in2 .ensures) (at-above .above .ensures)) (at-if2 .if2 .left)
+    (raised (at-height-in .height-in .ensures) (at-height-in2 .height-in2 .ensures) (at-taller .taller .ensures) (at-set-node .set-node .ensures))
 
 pub +splice-spec : {M : Type 1} → statement M
 +splice-spec = close μ-splice λ t. splice-lts.spec (

@@ -23,7 +23,12 @@ same-length : tie.Need-same-length
 same-length c = search needs
 
 returns : tie.Need-returns
-returns c = balanced-one (c .before .before .before .before .before .before .height-in .ensures) (c .before .before .before .before .height-in2 .ensures) (c .before .before .before .if1 .taken) (c .before .rotate .ensures)
+returns c =
+    let at-rotate = c .before in
+    let at-if1 = at-rotate .before .before in
+    let at-height-in2 = at-if1 .before in
+    let at-height-in = at-height-in2 .before .before in
+    balanced-one (at-height-in .height-in .ensures) (at-height-in2 .height-in2 .ensures) (at-if1 .if1 .taken) (at-rotate .rotate .ensures)
 
 add-if2 : tie.Need-add-if2
 add-if2 c = omega (arith, height-read _ _ _ (c .before .before .before .height-in .ensures))
@@ -35,10 +40,20 @@ same-length-2 : tie.Need-same-length-2
 same-length-2 c = search needs
 
 returns-2 : tie.Need-returns-2
-returns-2 c = balanced-other (c .before .before .before .before .before .before .before .height-in .ensures) (c .before .before .before .before .before .height-in2 .ensures) (c .before .before .before .before .if1 .left) (c .before .before .before .if2 .taken) (c .before .rotate2 .ensures)
+returns-2 c =
+    let at-rotate2 = c .before in
+    let at-if2 = at-rotate2 .before .before in
+    let at-if1 = at-if2 .before in
+    let at-height-in2 = at-if1 .before in
+    let at-height-in = at-height-in2 .before .before in
+    balanced-other (at-height-in .height-in .ensures) (at-height-in2 .height-in2 .ensures) (at-if1 .if1 .left) (at-if2 .if2 .taken)
+    (at-rotate2 .rotate2 .ensures)
 
 taller-requires : tie.Need-taller-requires
-taller-requires c κs = (omega (arith, height-read _ _ _ (c .before .before .before .before .before .height-in .ensures)), omega (arith, height-read _ _ _ (c .before .before .before .height-in2 .ensures)))
+taller-requires c κs =
+    let at-height-in2 = c .before .before .before in
+    let at-height-in = at-height-in2 .before .before in
+    (omega (arith, height-read _ _ _ (at-height-in .height-in .ensures)), omega (arith, height-read _ _ _ (at-height-in2 .height-in2 .ensures)))
 
 set-node-requires : tie.Need-set-node-requires
 set-node-requires c κs = search needs
@@ -47,7 +62,15 @@ same-length-3 : tie.Need-same-length-3
 same-length-3 c = search needs
 
 returns-3 : tie.Need-returns-3
-returns-3 c = balanced-level (c .before .before .before .before .before .before .before .before .height-in .ensures) (c .before .before .before .before .before .before .height-in2 .ensures) (c .before .before .before .before .before .if1 .left) (c .before .before .before .before .if2 .left) (raised (c .before .before .before .before .before .before .before .before .height-in .ensures) (c .before .before .before .before .before .before .height-in2 .ensures) (c .before .before .taller .ensures) (c .before .set-node .ensures))
+returns-3 c =
+    let at-set-node = c .before in
+    let at-taller = at-set-node .before in
+    let at-if2 = at-taller .before .before in
+    let at-if1 = at-if2 .before in
+    let at-height-in2 = at-if1 .before in
+    let at-height-in = at-height-in2 .before .before in
+    balanced-level (at-height-in .height-in .ensures) (at-height-in2 .height-in2 .ensures) (at-if1 .if1 .left) (at-if2 .if2 .left)
+    (raised (at-height-in .height-in .ensures) (at-height-in2 .height-in2 .ensures) (at-taller .taller .ensures) (at-set-node .set-node .ensures))
 
 pub balance-spec : {M : Type 1} → statement M
 balance-spec =

@@ -32,7 +32,15 @@ same-length-2 : tie.Need-same-length-2
 same-length-2 c = search needs
 
 returns-2 : tie.Need-returns-2
-returns-2 c = doubled-node (c .before .before .before .before .before .before .before .before .before .before .before .if1 .left) (c .before .before .before .before .before .before .before .before .before .child .ensures) (c .before .before .before .before .before .before .before .child2 .ensures) (c .before .before .before .before .before .before .inner-slot .ensures) (c .before .before .before .before .make-node .ensures) (c .before .hang2 .ensures)
+returns-2 c =
+    let at-hang2 = c .before in
+    let at-make-node = at-hang2 .before .before .before in
+    let at-inner-slot = at-make-node .before .before in
+    let at-child2 = at-inner-slot .before in
+    let at-child = at-child2 .before .before in
+    let at-if1 = at-child .before .before in
+    doubled-node (at-if1 .if1 .left) (at-child .child .ensures) (at-child2 .child2 .ensures) (at-inner-slot .inner-slot .ensures)
+    (at-make-node .make-node .ensures) (at-hang2 .hang2 .ensures)
 
 pub double-spec : {M : Type 1} → statement M
 double-spec =

@@ -37,7 +37,17 @@ same-length-2 : tie.Need-same-length-2
 same-length-2 c = search needs
 
 returns-2 : tie.Need-returns-2
-returns-2 c = rotated true (c .before .before .before .before .before .before .before .before .before .before .before .before .before .if1 .left) (c .before .before .before .before .before .before .before .before .before .before .before .child .ensures) (c .before .before .before .before .before .before .before .before .before .child2 .ensures) (c .before .before .before .before .before .before .before .before .inner-slot .ensures) (c .before .before .before .before .height2 .ensures) (c .before .before .before .before .before .before .height .ensures) (le-leb _ _ (c .before .before .before .if2 .taken)) (c .before .hang .ensures)
+returns-2 c =
+    let at-hang = c .before in
+    let at-if2 = at-hang .before .before in
+    let at-height2 = at-if2 .before in
+    let at-height = at-height2 .before .before in
+    let at-inner-slot = at-height .before .before in
+    let at-child2 = at-inner-slot .before in
+    let at-child = at-child2 .before .before in
+    let at-if1 = at-child .before .before in
+    rotated true (at-if1 .if1 .left) (at-child .child .ensures) (at-child2 .child2 .ensures) (at-inner-slot .inner-slot .ensures)
+    (at-height2 .height2 .ensures) (at-height .height .ensures) (le-leb _ _ (at-if2 .if2 .taken)) (at-hang .hang .ensures)
 
 double-requires : tie.Need-double-requires
 double-requires c κs = search needs
@@ -46,7 +56,17 @@ same-length-3 : tie.Need-same-length-3
 same-length-3 c = search needs
 
 returns-3 : tie.Need-returns-3
-returns-3 c = rotated false (c .before .before .before .before .before .before .before .before .before .before .before .before .before .if1 .left) (c .before .before .before .before .before .before .before .before .before .before .before .child .ensures) (c .before .before .before .before .before .before .before .before .before .child2 .ensures) (c .before .before .before .before .before .before .before .before .inner-slot .ensures) (c .before .before .before .before .height2 .ensures) (c .before .before .before .before .before .before .height .ensures) (lt-leb _ _ (c .before .before .before .if2 .left)) (c .before .double .ensures)
+returns-3 c =
+    let at-double = c .before in
+    let at-if2 = at-double .before .before in
+    let at-height2 = at-if2 .before in
+    let at-height = at-height2 .before .before in
+    let at-inner-slot = at-height .before .before in
+    let at-child2 = at-inner-slot .before in
+    let at-child = at-child2 .before .before in
+    let at-if1 = at-child .before .before in
+    rotated false (at-if1 .if1 .left) (at-child .child .ensures) (at-child2 .child2 .ensures) (at-inner-slot .inner-slot .ensures)
+    (at-height2 .height2 .ensures) (at-height .height .ensures) (lt-leb _ _ (at-if2 .if2 .left)) (at-double .double .ensures)
 
 pub rotate-spec : {M : Type 1} → statement M
 rotate-spec =

@@ -15,7 +15,8 @@ link-in-requires : tie.Need-link-in-requires
 link-in-requires c κs = search needs
 
 returns : tie.Need-returns
-returns c = c .link-in .ensures ∙ ap₂ (linkAt (c .before .before .before .args .part .now)) (c .before .before .child-field .ensures) (c .before .inner-slot .ensures)
+returns c = c .link-in .ensures ∙ ap₂ (linkAt (c .before .before .before .args .part .now)) (c .before .before .child-field .ensures)
+    (c .before .inner-slot .ensures)
 
 pub child-in-spec : {M : Type 1} → statement M
 child-in-spec = tie.close (tie.spec child-field-requires inner-slot-requires link-in-requires returns)

@@ -17,7 +17,8 @@ word-at-requires c κs = search needs
 
 returns : tie.Need-returns
 unfolding cell
-returns c = let f : SFits w64 (c .word-at .result) = record { sfits = c .word-at .ok } in simp (toZ-ofZ, f) (c .word-at .ensures ∙ ap (word _) (c .before .spot .ensures))
+returns c = let f : SFits w64 (c .word-at .result) = record { sfits = c .word-at .ok } in
+    simp (toZ-ofZ, f) (c .word-at .ensures ∙ ap (word _) (c .before .spot .ensures))
 
 pub get-spec : {M : Type 1} → statement M
 get-spec = tie.close (tie.spec spot-requires word-at-requires returns)

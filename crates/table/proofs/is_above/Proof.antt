@@ -12,7 +12,8 @@ get-requires : tie.Need-get-requires
 get-requires c κs = search needs
 
 returns : tie.Need-returns
-returns c = let k = c .before .fits .key in let g : SFits w64 (c .get .result) = record { sfits = c .get .ok } in simp (toZ-ofZ, k, g) (ap (ltZ (c .before .args .key)) (c .get .ensures))
+returns c = let k = c .before .fits .key in let g : SFits w64 (c .get .result) = record { sfits = c .get .ok } in
+    simp (toZ-ofZ, k, g) (ap (ltZ (c .before .args .key)) (c .get .ensures))
 
 pub is-above-spec : {M : Type 1} → statement M
 is-above-spec = tie.close (tie.spec get-requires returns)

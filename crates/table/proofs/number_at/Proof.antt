@@ -15,7 +15,8 @@ up-to-requires : tie.Need-up-to-requires
 up-to-requires c κs = search needs
 
 returns : tie.Need-returns
-returns c = let f : SFits w64 (c .before .word-at .result) = record { sfits = c .before .word-at .ok } in (simp (toZ-ofZ, f) at (c .up-to .ensures)) ∙ ap (upTo _) (c .before .word-at .ensures)
+returns c = let f : SFits w64 (c .before .word-at .result) = record { sfits = c .before .word-at .ok } in
+    (simp (toZ-ofZ, f) at (c .up-to .ensures)) ∙ ap (upTo _) (c .before .word-at .ensures)
 
 pub number-at-spec : {M : Type 1} → statement M
 number-at-spec = tie.close (tie.spec word-at-requires up-to-requires returns)

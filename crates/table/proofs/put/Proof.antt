@@ -15,7 +15,11 @@ same-length : tie.Need-same-length
 same-length c = search needs
 
 returns : tie.Need-returns
-returns c = let v = c .before .before .before .before .before .fits .value in written-at _ _ _ _ _ _ (c .before .before .before .spot .ensures) (simp (toZ-ofZ, v) at (c .before .set-word .ensures))
+returns c =
+    let at-set-word = c .before in
+    let at-spot = at-set-word .before .before in
+    let entry = at-spot .before .before in
+    let v = entry .fits .value in written-at _ _ _ _ _ _ (at-spot .spot .ensures) (simp (toZ-ofZ, v) at (at-set-word .set-word .ensures))
 
 pub put-spec : {M : Type 1} → statement M
 put-spec = tie.close (tie.spec spot-requires set-word-requires same-length returns)

@@ -19,7 +19,8 @@ same-length : tie.Need-same-length
 same-length c = search needs
 
 returns : tie.Need-returns
-returns c = let v : toZ w64 (c .before .before .before .args .value) ≡ pos (c .before .before .before .args .value) = toZ-pos w64 (omega (arith, c .before .before .before .fits .value)) in simp v at (c .before .put .ensures)
+returns c = let v : toZ w64 (c .before .before .before .args .value) ≡ pos (c .before .before .before .args .value) =
+    toZ-pos w64 (omega (arith, c .before .before .before .fits .value)) in simp v at (c .before .put .ensures)
 
 pub put-link-spec : {M : Type 1} → statement M
 put-link-spec = tie.close (tie.spec cast-put put-requires same-length returns)

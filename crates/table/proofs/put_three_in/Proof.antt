@@ -28,14 +28,21 @@ same-length c = search needs
 
 returns : tie.Need-returns
 returns c =
-    let f = c .before .before .before .before .before .before .before .before .before .before .before .before .before .before .before .fits in
+    let at-set-word3 = c .before in
+    let at-set-word2 = at-set-word3 .before .before .before in
+    let at-set-word = at-set-word2 .before .before .before in
+    let at-spot-in3 = at-set-word .before .before in
+    let at-spot-in2 = at-spot-in3 .before .before in
+    let at-spot-in = at-spot-in2 .before .before in
+    let entry = at-spot-in .before .before in
+    let f = entry .fits in
     three-written _ _ _ _ _ _ _ _ _ _ _ _ _ _
-    (c .before .before .before .before .before .before .before .before .before .before .before .before .before .spot-in .ensures)
-    (c .before .before .before .before .before .before .before .before .before .before .before .spot-in2 .ensures)
-    (c .before .before .before .before .before .before .before .before .before .spot-in3 .ensures)
-    (simp (toZ-ofZ, f .first) at (c .before .before .before .before .before .before .before .set-word .ensures))
-    (simp (toZ-ofZ, f .second) at (c .before .before .before .before .set-word2 .ensures))
-    (simp (toZ-ofZ, f .third) at (c .before .set-word3 .ensures))
+    (at-spot-in .spot-in .ensures)
+    (at-spot-in2 .spot-in2 .ensures)
+    (at-spot-in3 .spot-in3 .ensures)
+    (simp (toZ-ofZ, f .first) at (at-set-word .set-word .ensures))
+    (simp (toZ-ofZ, f .second) at (at-set-word2 .set-word2 .ensures))
+    (simp (toZ-ofZ, f .third) at (at-set-word3 .set-word3 .ensures))
 
 pub put-three-in-spec : {M : Type 1} → statement M
 put-three-in-spec =

@@ -19,7 +19,8 @@ same-length : tie.Need-same-length
 same-length c = search needs
 
 returns : tie.Need-returns
-returns c = let v : toZ w64 (c .before .before .before .args .value) ≡ pos (c .before .before .before .args .value) = toZ-pos w64 (omega (arith, c .before .before .before .fits .value)) in simp v at (c .before .set-word .ensures)
+returns c = let v : toZ w64 (c .before .before .before .args .value) ≡ pos (c .before .before .before .args .value) =
+    toZ-pos w64 (omega (arith, c .before .before .before .fits .value)) in simp v at (c .before .set-word .ensures)
 
 pub set-number-spec : {M : Type 1} → statement M
 set-number-spec = tie.close (tie.spec cast-set-word set-word-requires same-length returns)

@@ -38,8 +38,13 @@ address-requires c κs =
 
 returns-5 : tie.Need-returns-5
 returns-5 c =
-    let e = cap-whole _ _ (c .before .before .before .before .before .number-at .ensures) (c .before .before .before .before .if1 .left) in
-    spot-there _ _ _ _ e (c .before .before .if3 .left) (c .before .if4 .left) (c .before .before .before .if2 .left) (c .address .ensures)
+    let at-if4 = c .before in
+    let at-if3 = at-if4 .before in
+    let at-if2 = at-if3 .before in
+    let at-if1 = at-if2 .before in
+    let at-number-at = at-if1 .before in
+    let e = cap-whole _ _ (at-number-at .number-at .ensures) (at-if1 .if1 .left) in
+    spot-there _ _ _ _ e (at-if3 .if3 .left) (at-if4 .if4 .left) (at-if2 .if2 .left) (c .address .ensures)
 
 pub spot-spec : {M : Type 1} → statement M
 spot-spec =

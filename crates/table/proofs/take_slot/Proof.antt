@@ -26,7 +26,11 @@ same-length : tie.Need-same-length
 same-length c = search needs
 
 returns : tie.Need-returns
-returns c = (c .before .before .before .before .before .number-at .ensures, words _ _ _ _ (c .before .before .before .before .before .number-at .ensures) (c .before .before .before .link .ensures) (c .before .set-number .ensures))
+returns c =
+    let at-set-number = c .before in
+    let at-link = at-set-number .before .before in
+    let at-number-at = at-link .before .before in
+    (at-number-at .number-at .ensures, words _ _ _ _ (at-number-at .number-at .ensures) (at-link .link .ensures) (at-set-number .set-number .ensures))
 
 pub take-slot-spec : {M : Type 1} → statement M
 take-slot-spec =

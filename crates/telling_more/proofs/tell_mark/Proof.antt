@@ -40,20 +40,26 @@ same-length c = search needs
 
 returns : tie.Need-returns
 returns c =
-    let s = c .before .before .before .before .before .before .before in
+    let at-shown = c .before in
+    let at-m = at-shown .before .before .before in
+    let at-before = at-m .before .before in
+    let s = at-before .before in
     let l = s .args .mark .now in
     tells (λ m. markNumber (told m .number) (told m .values)) (λ m. told m .values)
-    (c .before .before .before .before .m .given .1 ∙ ap Mark (c .before .shown .given .1)) refl (one l _ (longer l (s .pre)))
+    (at-m .m .given .1 ∙ ap Mark (at-shown .shown .given .1)) refl (one l _ (longer l (s .pre)))
 
 same-length-2 : tie.Need-same-length-2
 same-length-2 c = search needs
 
 returns-2 : tie.Need-returns-2
 returns-2 c =
-    let s = c .before .before .before .before .before .before .before in
+    let at-shown2 = c .before in
+    let at-m = at-shown2 .before .before .before in
+    let at-before = at-m .before .before in
+    let s = at-before .before in
     let l = s .args .mark .now in
     tells (λ m. markNumber (told m .number) (told m .values)) (λ m. told m .values)
-    (c .before .before .before .before .m .given .1 ∙ ap Mark (c .before .shown2 .given .1)) refl (two l _ _ (s .pre))
+    (at-m .m .given .1 ∙ ap Mark (at-shown2 .shown2 .given .1)) refl (two l _ _ (s .pre))
 
 returns-3 : tie.Need-returns-3
 returns-3 c =

@@ -40,7 +40,8 @@ rest-in-requires-2 c κs =
 
 put-behind-requires : tie.Need-put-behind-requires
 put-behind-requires c κs =
-    let severed = c .before .before .before .before .before .before in
+    let at-before = c .before .before .before .before .before in
+    let severed = at-before .before in
     let known = severed .before .before .before .before .before .before .before .before .before in
     still-known (known .capacity .ensures) (severed .cut-in .ensures .within)
 

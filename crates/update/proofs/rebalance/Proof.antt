@@ -17,7 +17,9 @@ height-in-requires-2 : tie.Need-height-in-requires-2
 height-in-requires-2 c κs = search needs
 
 above-requires : tie.Need-above-requires
-above-requires c κs = omega (arith, height-read _ 1 (c .before .before .before .before .before .before .args .r .tree) (c .height-in2 .ensures))
+above-requires c κs =
+    let entry = c .before .before .before .before .before .before in
+    omega (arith, height-read _ 1 (entry .args .r .tree) (c .height-in2 .ensures))
 
 rotate-requires : tie.Need-rotate-requires
 rotate-requires c κs = search needs
@@ -48,13 +50,17 @@ same-length-2 c = search needs
 
 returns-2 : tie.Need-returns-2
 returns-2 c =
-    let right = c .before .before .before .before .before .before .before in
+    let at-rotate2 = c .before in
+    let at-if2 = at-rotate2 .before .before in
+    let at-above2 = at-if2 .before in
+    let at-before = at-above2 .before .before in
+    let right = at-before .before in
     let left = right .before .before in
     let a = left .before .before .before .before .args in
     let l = a .l .tree in
     let r = a .r .tree in
-    tall-right (towers-told _ 1 r l (right .height-in2 .ensures) (left .height-in .ensures) (c .before .before .before .before .above2 .ensures))
-    (c .before .before .before .if2 .taken) (c .before .rotate2 .ensures)
+    tall-right (towers-told _ 1 r l (right .height-in2 .ensures) (left .height-in .ensures) (at-above2 .above2 .ensures))
+    (at-if2 .if2 .taken) (at-rotate2 .rotate2 .ensures)
 
 raise-requires : tie.Need-raise-requires
 raise-requires c κs = search needs
