@@ -42,7 +42,7 @@ use Rattle.promises.specs.Plainly.{table-declined}
 use Rattle.promises.specs.LentPart.{whole-part}
 use Rattle.promises.specs.OneCause.{one-cause, not-clear}
 use Rattle.form.specs.Live.{live-length, book-sound}
-use Rattle.filing.specs.Sought.{count-read, envelope-read}
+use Rattle.form.specs.HeaderWords.{count-read, envelope-read}
 
 -- a load in range, on words that stand for a plain book
 pub record Asks (q : ℤ) (w : Words) (r : Found) : Type 0 where

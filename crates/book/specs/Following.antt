@@ -18,7 +18,7 @@ use Rattle.form.specs.Form.{Book}
 use Rattle.promises.specs.declared.Update.{Update}
 use Rattle.promises.specs.declared.Update.the-variants.{Done, Declined as UpdateDeclined}
 use Rattle.promises.specs.Promises.{partOf, updateReturned, updateAnswer, Counts, Follows}
-use Rattle.filing.specs.Declining.{refusing}
+use Rattle.plain.specs.Rules.{refusing}
 use Rattle.filing.specs.Posting.{Updated}
 use Rattle.filing.specs.declared.Told.{Told}
 

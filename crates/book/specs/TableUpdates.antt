@@ -23,7 +23,8 @@ use Rattle.promises.specs.declared.Update.{Update}
 use Rattle.promises.specs.declared.Update.the-variants.{Done, Declined}
 use Rattle.promises.specs.Promises.{partOf, capacityAt, tableTrials, updateAnswer, OnlyPart, Updates, Follows}
 use Rattle.filing.specs.Sought.{number-sought}
-use Rattle.filing.specs.Declining.{refusing, withdraw-missing, withdraw-clear}
+use Rattle.plain.specs.Rules.{refusing}
+use Rattle.filing.specs.Declining.{withdraw-missing, withdraw-clear}
 use Rattle.form.specs.There.{cap-there}
 use Rattle.promises.specs.Plainly.{table-declined}
 use Rattle.book.specs.Following.{updateOf, follows-declined, follows-posted, follows-withdrawn}

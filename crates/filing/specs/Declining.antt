@@ -15,7 +15,8 @@ use Rattle.lists.specs.Tests.{any}
 use Rattle.offers.specs.Offers.{Offer, offerInRange, numberInRange, rateInRange, baseInRange}
 use Rattle.plain.specs.Causes.{Cause, Trial, numberLive, rateLive, bookFull, numberNotLive, Clear, FirstOf, at-once, further}
 use Rattle.plain.specs.Book.{State, Outcome, post, withdraw, refused, hasNumber, hasRate, rangeTrials, bookTrials, trials, step}
-use Rattle.plain.specs.Rules.{step-declined}
+use Rattle.plain.specs.Trials.{first-behind, clear-append}
+use Rattle.plain.specs.Rules.{step-declined, refusing}
 use Rattle.dynamic.specs.OfferTree.{Held}
 use Rattle.dynamic.specs.Valid.{bookLines}
 use Rattle.table.specs.Words.{Words}
@@ -25,30 +26,12 @@ use Rattle.form.specs.Form.{Book, numberOf}
 use Rattle.form.specs.Live.{live-slots, live-length}
 use Rattle.filing.specs.Sought.{Sought, sought-item, sought-none, keyed-any, keyed-none}
 
--- ---- trials one behind the other
-
-pub first-append : {ks : List Trial} {c : Cause} (ls : List Trial) → FirstOf ks c → FirstOf (ks ++ ls) c
-first-append ls (at-once t) = at-once t
-first-append ls (further t f) = further t (first-append ls f)
-
-pub first-behind : (ks : List Trial) {ls : List Trial} {c : Cause} → Clear ks → FirstOf ls c → FirstOf (ks ++ ls) c
-first-behind [] k f = f
-first-behind (t ∷ ks) k f = further (k .0) (first-behind ks (k .1) f)
-
-pub clear-append : (ks ls : List Trial) → Clear ks → Clear ls → Clear (ks ++ ls)
-clear-append [] ls k l = l
-clear-append (t ∷ ks) ls k l = (k .0, clear-append ks ls (k .1) l)
-
 -- a post in range is of an offer in range
 pub clear-offer : (n r z : ℤ) → Clear (rangeTrials (post n r z)) → T (offerInRange (record { number = n; rate = r; base = z }))
 clear-offer n r z k =
     and-both (numberInRange n && rateInRange r) (baseInRange z)
     (and-both (numberInRange n) (rateInRange r) (not-not (numberInRange n) (k .0)) (not-not (rateInRange r) (k .1 .0)))
     (not-not (baseInRange z) (k .1 .1 .0))
-
--- a declined call
-abbrev pub refusing : State → ℕ → Outcome
-refusing s n = record { state = s; answer = refused n }
 
 -- ---- on a part that stands for it
 

@@ -26,8 +26,10 @@ use Rattle.filing.specs.declared.Told.{Told}
 use Rattle.form.specs.Form.{Book}
 use Rattle.numbers.specs.Numbers.{FoundNumber, Added, Dropped}
 use Rattle.form.specs.Live.{live-length}
-use Rattle.filing.specs.Sought.{number-sought, rate-sought, count-read}
-use Rattle.filing.specs.Declining.{refusing, post-number-live, post-rate-live, post-full, post-clear}
+use Rattle.form.specs.HeaderWords.{count-read}
+use Rattle.filing.specs.Sought.{number-sought, rate-sought}
+use Rattle.plain.specs.Rules.{refusing}
+use Rattle.filing.specs.Declining.{post-number-live, post-rate-live, post-full, post-clear}
 use Rattle.filing.specs.Writing.{filling, rootsOf, rooting}
 use Rattle.filing.specs.Joining.{Joined, joins-alone, joins-among}
 use Rattle.filing.specs.Posting.{Updated, Postable, postable}

@@ -34,7 +34,8 @@ use Rattle.table.specs.Items.{offerOf}
 use Rattle.form.specs.Live.{live-slots, live-whole}
 use Rattle.update.specs.declared.Counts.{Counts}
 use Rattle.update.specs.declared.Made.{Made as Outcome}
-use Rattle.filing.specs.Sought.{Sought, sought-none, numbers-at, offers-read, envelope-read, capacity-most, live-most}
+use Rattle.form.specs.HeaderWords.{offers-read, envelope-read, capacity-most, live-most}
+use Rattle.filing.specs.Sought.{Sought, sought-none, numbers-at}
 use Rattle.filing.specs.Declining.{clear-offer}
 use Rattle.filing.specs.Agree.{Agree, Everywhere, FreeHere, agree-trans, agree-less, agree-header, agree-only, agree-touched, header-kept}
 use Rattle.filing.specs.Agree.{header-set, offers-number, numbers-envelope, free-number, free-envelope, held-agree, offers-agree, numbers-agree}

@@ -38,6 +38,7 @@ use Rattle.form.specs.Form.{Book, OffersIn, numberOf, offersRef, envelopeRef}
 use Rattle.numbers.specs.Numbers.{NumbersAt, FoundNumber}
 use Rattle.table.specs.Items.{offerOf}
 use Rattle.form.specs.Live.{live-slots, live-holds}
+use Rattle.form.specs.HeaderWords.{offers-read, numbers-read}
 
 -- ---- some live offer has a key, or none has
 
@@ -105,56 +106,13 @@ sought-by key n live {s} found missing = go (any (λ o. equal (key o) n) (map of
     go true f g = here (f tt)
     go false f g = gone (g tt)
 
--- ---- the header's words as numbers
-
-refs-high : {c : ℕ} (t : Tree Item) → ((a : Item) → List·Memᴰ a (leaves t) → a .slot ≤ c) → c ≤ mostSlots → refOf t ≤ mostNodes
-refs-high (leaf a) h k = omega (arith, h a (List·Memᴰ·head refl))
-refs-high (node l r) h k = omega (arith, h (last l) (Memᴰ·append-left (leaves r) (last-leaf l)))
-
-part-high : {c : ℕ} (p : Part Item) → ((a : Item) → List·Memᴰ a (partLeaves p) → a .slot ≤ c) → c ≤ mostSlots → partRef p ≤ mostNodes
-part-high none h k = omega arith
-part-high (some t) h k = refs-high t h k
-
-read-word : {z : ℤ} {n : ℕ} → z ≡ pos n → n ≤ mostNodes → upTo mostNodes z ≡ n
-read-word {n} e h = ap (upTo mostNodes) e ∙ upTo-in mostNodes n h
+-- ---- on a part that stands for it
 
 module _ {w : Words} {plain : State} {held : Option (Held Item)} (b : Book w plain held) where
-  pub live-most : length (bookLines held) ≤ plain .capacity
-  live-most = omega (arith, b .free .slots-used, b .capacity)
-
-  pub capacity-most : plain .capacity ≤ mostSlots
-  capacity-most = omega (arith, b .capacity, cap-most w)
-
-  -- the live count
-  pub count-read : upTo mostNodes (word w liveCountWord) ≡ length (bookLines held)
-  count-read = read-word (b .offers .live-count) (omega (arith, live-most, capacity-most))
-
-  -- the root of the offers
-  pub offers-read : upTo mostNodes (word w offersRootWord) ≡ offersRef held
-  offers-read = read-word (b .offers .offers-root) (high held (b .offers .offers-in))
-    where
-      high : (h : Option (Held Item)) → OffersIn w h → offersRef h ≤ mostNodes
-      high none o = omega arith
-      high (some h) o = refs-high (heldShape h) (λ a m. o .slots .high m) (cap-most w)
-
-  -- the root's envelope
-  pub envelope-read : upTo mostNodes (word w envelopeRootWord) ≡ envelopeRef held
-  envelope-read = read-word (b .offers .envelope-root) (high held (b .offers .offers-in))
-    where
-      high : (h : Option (Held Item)) → OffersIn w h → envelopeRef h ≤ mostNodes
-      high none o = omega arith
-      high (some h) o = part-high (h .whole) (λ a m. held-slots o .high (Memᴰ·append-left (stored (h .tree)) m)) (cap-most w)
-
-  -- the root of the numbers
-  pub numbers-read : upTo mostNodes (word w numbersRootWord) ≡ partRef (b .numbers .numbers)
-  numbers-read =
-      read-word (b .numbers .numbers-root)
-      (part-high (b .numbers .numbers) (λ a m. live-slots w held (b .offers .offers-in) .high (b .numbers .numbers-in .all-live a m)) (cap-most w))
-
   pub numbers-at : {root : ℕ} → root ≡ upTo mostNodes (word w numbersRootWord) → NumbersAt w root (bookLines held) (b .numbers .numbers)
   numbers-at e =
       record {
-        root-is = e ∙ numbers-read;
+        root-is = e ∙ numbers-read b;
         slots = live-slots w held (b .offers .offers-in);
         holds = live-holds w held (b .offers .offers-in);
         numbers =
@@ -167,7 +125,7 @@ module _ {w : Words} {plain : State} {held : Option (Held Item)} (b : Book w pla
   number-sought {n} f e = sought-by (λ o. o .number) n (bookLines held) (f .found _ _ (numbers-at e)) (f .missing _ _ (numbers-at e))
 
   pub rate-sought : {r : ℤ} {x s : ℕ} → Found w offerTree rateField r x s → x ≡ upTo mostNodes (word w offersRootWord) → Sought rateOf r (bookLines held) s
-  rate-sought {r} {x} {s} f e = go held (b .offers .offers-in) (e ∙ offers-read)
+  rate-sought {r} {x} {s} f e = go held (b .offers .offers-in) (e ∙ offers-read b)
     where
       go : (h : Option (Held Item)) → OffersIn w h → x ≡ offersRef h → Sought rateOf r (bookLines h) s
       go none o d = nowhere (λ a m. absurd (List·Memᴰ·not-nil m)) (f .nothing d)

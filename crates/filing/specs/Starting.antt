@@ -12,12 +12,8 @@ use Rattle.table.specs.Fields.{offersRootWord}
 use Rattle.table.specs.Words.{Words, word, wset, wset-length, wset-other}
 use Rattle.table.specs.Layout.{cap, cset, beyond-outside}
 use Rattle.form.specs.Form.{Book}
+use Rattle.form.specs.Local.{Beyond}
 use Rattle.filing.specs.Opening.{Begun, begun, begun-cap, Laid, laid-more, opened-book}
-
--- what a call leaves of the words lent to it: as many, and those past a part of capacity c as they were
-pub record Beyond (c : ℕ) (w w′ : Words) : Type 0 where
-  pub long : length w′ ≡ length w
-  pub rest : (i : ℕ) → partLength c ≤ i → word w′ i ≡ word w i
 
 -- ---- the header
 

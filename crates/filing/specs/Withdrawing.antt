@@ -29,7 +29,8 @@ use Rattle.update.specs.declared.Made.{Made as Outcome}
 use Rattle.numbers.specs.Numbers.{NumbersAt, Dropped}
 use Rattle.table.specs.Items.{offerOf}
 use Rattle.form.specs.Live.{live-slots, live-holds, live-whole, whole-ordered, slot-tells, number-tells}
-use Rattle.filing.specs.Sought.{Sought, sought-item, numbers-at, offers-read, envelope-read, capacity-most, live-most}
+use Rattle.form.specs.HeaderWords.{offers-read, envelope-read, capacity-most, live-most}
+use Rattle.filing.specs.Sought.{Sought, sought-item, numbers-at}
 use Rattle.filing.specs.Agree.{Agree, Everywhere, FreeHere, agree-trans, agree-less, agree-header, agree-only, agree-touched, header-kept}
 use Rattle.filing.specs.Agree.{header-set, offers-number, numbers-envelope, free-number, free-envelope, offers-agree, numbers-agree, free-agree}
 use Rattle.filing.specs.Writing.{rootsOf, Headed, Freed, free-not-live}

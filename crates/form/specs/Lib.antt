@@ -17,3 +17,5 @@ pub mod There
 pub mod Local
 -- lemmas: what a part's form says of its live items; and the plain book that it stands for is sound
 pub mod Live
+-- lemmas: the header's words of a book, read as numbers: the live count and the three roots
+pub mod HeaderWords

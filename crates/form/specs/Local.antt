@@ -2,7 +2,7 @@
 use mathlib.Core.Path.{_≡_, sym, _∙_, ap}
 use mathlib.Core.List.{List}
 use mathlib.Core.Option.{Option, none, some}
-use Prim.Native.Nat.{ℕ, _<_}
+use Prim.Native.Nat.{ℕ, _≤_, _<_}
 use native.Mathlib.Omega.{arith}
 use lib.ListN.{length}
 use Rattle.plain.specs.Book.{State, partLength}
@@ -23,6 +23,11 @@ use Rattle.form.specs.Form.{Book, OffersIn, OffersStand, Numbered, Freel
 pub record Alike (c : ℕ) (w w′ : Words) : Type 0 where
   pub long : length w′ ≡ length w
   pub words : (i : ℕ) → i < partLength c → word w′ i ≡ word w i
+
+-- what a call leaves of the words lent to it: as many, and those past a part of capacity c as they were
+pub record Beyond (c : ℕ) (w w′ : Words) : Type 0 where
+  pub long : length w′ ≡ length w
+  pub rest : (i : ℕ) → partLength c ≤ i → word w′ i ≡ word w i
 
 module _ {w w′ : Words} {c : ℕ} (fits : cap w ≡ c) (a : Alike c w w′) where
   pub alike-cap : cap w′ ≡ cap w

@@ -30,7 +30,8 @@ use Rattle.descents.specs.Ends.{Ended}
 use Rattle.pieces.specs.Pieces.{rateOf, items}
 use Rattle.form.specs.Form.{Book, plainOffers}
 use Rattle.table.specs.Items.{offerOf}
-use Rattle.filing.specs.Sought.{offers-read, not-any}
+use Rattle.form.specs.HeaderWords.{offers-read}
+use Rattle.filing.specs.Sought.{not-any}
 
 -- every line of the one before every line of the other
 abbrev pub AllBefore : (ls rs : List Item) → Type 0

@@ -34,7 +34,7 @@ use Rattle.search.specs.Runs.{Kept, Meets, Answers as SearchAnswers}
 use Rattle.pieces.specs.Pieces.{items, item-laws}
 use Rattle.query.specs.Plain.{offerOf, pieces-plain}
 use Rattle.form.specs.Form.{Book, numberOf, plainOffers}
-use Rattle.filing.specs.Sought.{count-read}
+use Rattle.form.specs.HeaderWords.{count-read}
 use Rattle.promises.specs.OneCause.{one-cause, not-clear}
 use Rattle.promises.specs.Rooted.{Root, topped, Top, root-of}
 use Rattle.meet_books.specs.declared.Met.{Met}

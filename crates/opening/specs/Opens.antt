@@ -22,7 +22,8 @@ use Rattle.promises.specs.declared.Opening.the-variants.{Opened, Declined}
 use Rattle.promises.specs.Promises.{partOf, openingAnswer, plainOpening, Opens, OnlyPart}
 use Rattle.promises.specs.OneCause.{one-cause, not-clear}
 use Rattle.promises.specs.LentPart.{part-back, only-part, whole-part, lent-back, told-is}
-use Rattle.filing.specs.Starting.{Beyond, Starts}
+use Rattle.form.specs.Local.{Beyond}
+use Rattle.filing.specs.Starting.{Starts}
 
 module _ (c : ℤ) (start : ℕ) (t t′ : List ℤ) where
   opens-declined : {r : Opening} {k : Cause} → FirstOf (openTrials (length t) start c) k → r ≡ Declined (pos (causeNumber k)) → t′ ≡ t → Opens c start t t′ r

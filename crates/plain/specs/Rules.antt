@@ -11,12 +11,16 @@ use lib.IntN.{ℤ, pos}
 use Rattle.lists.specs.Bools.{twice}
 use Rattle.offers.specs.Offers.{Offer, loadInRange, priceAt, crossingNumerator, crossingDenominator}
 use Rattle.plain.specs.Causes.{Cause, causeNumber, Clear}
-use Rattle.plain.specs.Book.{holding, State, Call, post, withdraw, query, listing, refused, live, found, listed, join, leave, cheapest}
+use Rattle.plain.specs.Book.{holding, State, Outcome, Call, post, withdraw, query, listing, refused, live, found, listed, join, leave, cheapest}
 use Rattle.plain.specs.Book.{envelope, pieceWords, trials, step, respond, accepted}
 use Rattle.plain.specs.Causes.{FirstOf, at-once, further}
 use Rattle.plain.specs.Trials.{declined-by, not-declined}
 use Rattle.plain.specs.Sound.{length-join}
 use Rattle.plain.specs.Meaning.{PieceAt}
+
+-- a declined call
+abbrev pub refusing : State → ℕ → Outcome
+refusing s n = record { state = s; answer = refused n }
 
 -- ---- what each call does
 

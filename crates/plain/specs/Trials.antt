@@ -1,6 +1,6 @@
 -- What a list of trials decides: no cause exactly when none applies, and a cause exactly when it is the first that applies.
 use mathlib.Core.Path.{_≡_, refl, subst}
-use mathlib.Core.List.{List, [], _∷_}
+use mathlib.Core.List.{List, [], _∷_, _++_}
 use mathlib.Core.Option.{none, some}
 use mathlib.Core.Bool.{Bool, true, false, not, cond}
 use Prim.Native.Nat.{ℕ}
@@ -50,3 +50,17 @@ declined-first (k ∷ ks) c e = go (k .applies) (λ t. t) (λ t. t) e (declined-
         (declined ks ≡ some c → FirstOf ks c) → FirstOf (k ∷ ks) c
     go true yes-is no-is p rec = let same : k .cause ≡ c = cc in subst (FirstOf (k ∷ ks)) same (at-once (yes-is tt))
     go false yes-is no-is p rec = further (no-is tt) (rec p)
+
+-- ---- trials one behind the other
+
+pub first-append : {ks : List Trial} {c : Cause} (ls : List Trial) → FirstOf ks c → FirstOf (ks ++ ls) c
+first-append ls (at-once t) = at-once t
+first-append ls (further t f) = further t (first-append ls f)
+
+pub first-behind : (ks : List Trial) {ls : List Trial} {c : Cause} → Clear ks → FirstOf ls c → FirstOf (ks ++ ls) c
+first-behind [] k f = f
+first-behind (t ∷ ks) k f = further (k .0) (first-behind ks (k .1) f)
+
+pub clear-append : (ks ls : List Trial) → Clear ks → Clear ls → Clear (ks ++ ls)
+clear-append [] ls k l = l
+clear-append (t ∷ ks) ls k l = (k .0, clear-append ks ls (k .1) l)

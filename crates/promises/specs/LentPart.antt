@@ -22,7 +22,7 @@ use Rattle.table.specs.Words.{Words, word, upTo, upTo-in}
 use Rattle.table.specs.Layout.{cap, fitting}
 use Rattle.table.specs.Items.{Item}
 use Rattle.form.specs.Form.{Book}
-use Rattle.filing.specs.Starting.{Beyond}
+use Rattle.form.specs.Local.{Beyond}
 use Rattle.promises.specs.Promises.{partOf, noBookTrial, OnlyPart}
 use Rattle.promises.specs.Plainly.{cap-book, book-there}
 

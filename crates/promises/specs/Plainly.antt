@@ -22,7 +22,8 @@ use Rattle.table.specs.Layout.{cap, cap-most}
 use Rattle.table.specs.Items.{Item}
 use Rattle.form.specs.Form.{Book}
 use Rattle.form.specs.There.{There, cap-there}
-use Rattle.filing.specs.Declining.{first-append, refusing}
+use Rattle.plain.specs.Trials.{first-append}
+use Rattle.plain.specs.Rules.{refusing}
 use Rattle.promises.specs.Promises.{partOf, tableTrials}
 
 -- ---- a part that has the form is there

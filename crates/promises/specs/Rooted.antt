@@ -19,7 +19,7 @@ use Rattle.pieces.specs.Pieces.{items, item-laws, Standing}
 use Rattle.form.specs.Frames.{whole-standing}
 use Rattle.form.specs.Form.{Book, OffersIn, envelopeRef}
 use Rattle.query.specs.QueriedPieces.{Pieces}
-use Rattle.filing.specs.Sought.{envelope-read}
+use Rattle.form.specs.HeaderWords.{envelope-read}
 
 -- the tree of the pieces of these lines
 pub record Top (w : Words) (root : ℕ) (ls : List Item) (t : Tree Item) : Type 0 where
