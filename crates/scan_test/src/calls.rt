@@ -6,44 +6,40 @@ use crate::tally::Tally;
 
 // ---- open, post and withdraw
 
-fn opening_same(r: book::Opening, cause: i64) -> bool {
-    match r {
-        book::Opening::Opened => cause == 0,
-        book::Opening::Declined(c) => {
-            if cause == 0 {
-                return false;
-            }
-            c == cause
-        }
-    }
-}
-
 // An opening that is to be declined for that cause; 0 for none.
 pub(crate) fn open(table: &mut [i64], start: usize, room: i64, cause: i64, t: Tally) -> Tally {
-    let r = book::open(table, start, room);
-    tally::counted(t, 0, 0, 0, opening_same(r, cause))
+    let same = match book::open(table, start, room) {
+        book::Opening::Opened => cause == 0,
+        book::Opening::Declined(c) => cause != 0 && c == cause,
+    };
+    tally::counted(t, 0, 0, 0, same)
 }
 
-fn update_same(r: book::Update, cause: i64, live: u32) -> bool {
-    match r {
+// Where no cause declines the call, writes an offer over the one with the number `old`; 0 is a vacant slot's.
+fn update(
+    os: &mut [i64; 192],
+    r: book::Update,
+    cause: i64,
+    old: i64,
+    number: i64,
+    rate: i64,
+    base: i64,
+    t: Tally,
+) -> Tally {
+    if cause == 0 {
+        let slot = slots::with_number(os, old);
+        slots::put(os, slot, number, rate, base);
+    }
+    let same = match r {
         book::Update::Done {
-            live: n,
+            live,
             k: _,
             s: _,
             h: _,
-        } => {
-            if cause != 0 {
-                return false;
-            }
-            n == live as i64
-        }
-        book::Update::Declined(c) => {
-            if cause == 0 {
-                return false;
-            }
-            c == cause
-        }
-    }
+        } => cause == 0 && live == slots::count(os) as i64,
+        book::Update::Declined(c) => cause != 0 && c == cause,
+    };
+    tally::counted(t, 0, 0, 0, same)
 }
 
 pub(crate) fn post(
@@ -58,8 +54,7 @@ pub(crate) fn post(
 ) -> Tally {
     let cause = expected::post_cause(os, room, number, rate, base);
     let r = book::post(table, start, number, rate, base);
-    expected::replace(os, cause, 0, number, rate, base);
-    tally::counted(t, 0, 0, 0, update_same(r, cause, slots::count(os)))
+    update(os, r, cause, 0, number, rate, base, t)
 }
 
 pub(crate) fn withdraw(
@@ -71,97 +66,48 @@ pub(crate) fn withdraw(
 ) -> Tally {
     let cause = expected::withdraw_cause(os, number);
     let r = book::withdraw(table, start, number);
-    expected::replace(os, cause, number, 0, 0, 0);
-    tally::counted(t, 0, 0, 0, update_same(r, cause, slots::count(os)))
+    update(os, r, cause, number, 0, 0, 0, t)
 }
 
-// ---- query
+// ---- query and listing
 
-fn found_same(os: &[i64; 192], load: i64, r: book::Found) -> bool {
-    let cause = expected::query_cause(os, load);
+// `is_open` says whether there is a book at `start`.
+pub(crate) fn query(
+    table: &[i64],
+    start: usize,
+    is_open: bool,
+    os: &[i64; 192],
+    load: i64,
+    t: Tally,
+) -> Tally {
+    let cause = expected::query_cause(is_open, os, load);
     let i = slots::cheapest(os, load);
-    match r {
+    let same = match book::query(table, start, load) {
         book::Found::Offer {
             number,
             price,
             probes: _,
-        } => {
-            if cause != 0 {
-                return false;
-            }
-            if number != slots::number(os, i) {
-                return false;
-            }
-            price == slots::price(os, i, load)
-        }
-        book::Found::Declined(c) => {
-            if cause == 0 {
-                return false;
-            }
-            c == cause
-        }
-    }
+        } => { cause == 0 && number == slots::number(os, i) && price == slots::price(os, i, load) }
+        book::Found::Declined(c) => cause != 0 && c == cause,
+    };
+    tally::counted(t, 1, 0, 0, same)
 }
 
-pub(crate) fn query(table: &[i64], start: usize, os: &[i64; 192], load: i64, t: Tally) -> Tally {
-    let r = book::query(table, start, load);
-    tally::counted(t, 1, 0, 0, found_same(os, load, r))
-}
-
-fn is_no_book(r: book::Found) -> bool {
-    match r {
-        book::Found::Offer {
-            number: _,
-            price: _,
-            probes: _,
-        } => false,
-        book::Found::Declined(c) => c == 3,
-    }
-}
-
-// At `start` there is no book.
-pub(crate) fn no_query(table: &[i64], start: usize, t: Tally) -> Tally {
-    tally::counted(t, 1, 0, 0, is_no_book(book::query(table, start, 5)))
-}
-
-// ---- listing
-
-// Of an output that was all 7: with room for the pieces it has their words and still 7 behind them, without it is declined and all 7.
-fn listing_same(os: &[i64; 192], out: &[i64], r: book::Listed) -> bool {
+// Of an output that is all 7: with room for the pieces it has their words and still 7 behind them, without it is declined and all 7.
+pub(crate) fn listing(
+    table: &[i64],
+    start: usize,
+    os: &[i64; 192],
+    out: &mut [i64],
+    t: Tally,
+) -> Tally {
     let blank = [7i64; 192];
     let mut words = [7i64; 192];
     let m = expected::put_pieces(os, &mut words);
-    match r {
-        book::Listed::Pieces(n) => {
-            if !expected::count_same(n, m) {
-                return false;
-            }
-            if out.len() / 3 < m {
-                return false;
-            }
-            expected::all_same(out, &words)
-        }
-        book::Listed::Declined(c) => {
-            if c != 10 {
-                return false;
-            }
-            if m <= out.len() / 3 {
-                return false;
-            }
-            expected::all_same(out, &blank)
-        }
-    }
-}
-
-pub(crate) fn listing(table: &[i64], start: usize, os: &[i64; 192], t: Tally) -> Tally {
-    let mut out = [7i64; 192];
-    let r = book::listing(table, start, &mut out);
-    tally::counted(t, 0, 1, 0, listing_same(os, &out, r))
-}
-
-// An output that lacks a word for two pieces.
-pub(crate) fn short_listing(table: &[i64], start: usize, os: &[i64; 192], t: Tally) -> Tally {
-    let mut out = [7i64; 5];
-    let r = book::listing(table, start, &mut out);
-    tally::counted(t, 0, 1, 0, listing_same(os, &out, r))
+    let fits = m as usize <= out.len() / 3;
+    let same = match book::listing(table, start, out) {
+        book::Listed::Pieces(n) => fits && n == m as i64 && expected::all_same(out, &words),
+        book::Listed::Declined(c) => !fits && c == 10 && expected::all_same(out, &blank),
+    };
+    tally::counted(t, 0, 1, 0, same)
 }

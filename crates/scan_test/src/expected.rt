@@ -22,28 +22,13 @@ pub(crate) fn post_cause(os: &[i64; 192], room: u32, number: i64, rate: i64, bas
     if slots::with_number(os, number) < 64 {
         return 5;
     }
-    if slots::has_rate(os, rate) {
+    if slots::has_rate(os, rate, rate) {
         return 6;
     }
     if room <= slots::count(os) {
         return 7;
     }
     0
-}
-
-// Where no cause declines the call, writes an offer over the one with the number `old`; 0 is a vacant slot's.
-pub(crate) fn replace(
-    os: &mut [i64; 192],
-    cause: i64,
-    old: i64,
-    number: i64,
-    rate: i64,
-    base: i64,
-) {
-    if cause == 0 {
-        let slot = slots::with_number(os, old);
-        slots::put(os, slot, number, rate, base);
-    }
 }
 
 pub(crate) fn withdraw_cause(os: &[i64; 192], number: i64) -> i64 {
@@ -56,7 +41,10 @@ pub(crate) fn withdraw_cause(os: &[i64; 192], number: i64) -> i64 {
     8
 }
 
-pub(crate) fn query_cause(os: &[i64; 192], load: i64) -> i64 {
+pub(crate) fn query_cause(is_open: bool, os: &[i64; 192], load: i64) -> i64 {
+    if !is_open {
+        return 3;
+    }
     if is_outside(-1_000_000, 1_000_000, load) {
         return 4;
     }
@@ -66,58 +54,40 @@ pub(crate) fn query_cause(os: &[i64; 192], load: i64) -> i64 {
     0
 }
 
-// The words of piece `k`, which is offer `i` with offer `j` as the next piece: 0 and 0 for its crossing where there is none.
-fn put_piece(os: &[i64; 192], words: &mut [i64; 192], k: usize, i: usize, j: usize) {
-    if k < 64 {
+// Writes the words of all pieces and tells how many pieces there are: of each its number and its crossing with the next, 0 and 0 where there is none.
+pub(crate) fn put_pieces(os: &[i64; 192], words: &mut [i64; 192]) -> u32 {
+    let mut i = slots::next_piece(os, 100_001);
+    for k in 0..64 {
+        if i > 63 {
+            return k as u32;
+        }
+        let j = slots::next_piece(os, slots::rate(os, i));
         words[3 * k] = slots::number(os, i);
         words[3 * k + 1] = 0;
         words[3 * k + 2] = 0;
         if j < 64 {
-            words[3 * k + 1] = slots::numerator(os, i, j);
-            words[3 * k + 2] = slots::denominator(os, i, j);
+            let x = slots::crossing(os, i, j);
+            let numerator = x.numerator;
+            let denominator = x.denominator;
+            words[3 * k + 1] = numerator;
+            words[3 * k + 2] = denominator;
         }
-    }
-}
-
-// Writes the words of all pieces and tells how many pieces there are.
-pub(crate) fn put_pieces(os: &[i64; 192], words: &mut [i64; 192]) -> usize {
-    let mut i = slots::next_piece(os, 100_001);
-    for k in 0..64 {
-        if i > 63 {
-            return k;
-        }
-        let j = slots::next_piece(os, slots::rate(os, i));
-        put_piece(os, words, k, i, j);
         i = j;
     }
     64
 }
 
-fn word_same(out: &[i64], words: &[i64; 192], k: usize) -> bool {
-    if k > 191 {
-        return false;
-    }
-    if k >= out.len() {
-        return false;
-    }
-    out[k] == words[k]
-}
-
 // Every word of the output, to its end.
 pub(crate) fn all_same(out: &[i64], words: &[i64; 192]) -> bool {
     for k in 0..out.len() {
-        if !word_same(out, words, k) {
+        if k > 191 {
+            return false;
+        }
+        if out[k] != words[k] {
             return false;
         }
     }
     true
-}
-
-pub(crate) fn count_same(n: i64, m: usize) -> bool {
-    if m > 64 {
-        return false;
-    }
-    n == m as i64
 }
 
 // ---- two books that meet
@@ -144,7 +114,10 @@ pub(crate) fn both(l: &[i64; 192], r: &[i64; 192]) -> [i64; 192] {
     all
 }
 
-pub(crate) fn meet_cause(l: &[i64; 192], r: &[i64; 192]) -> i64 {
+pub(crate) fn meet_cause(are_open: bool, l: &[i64; 192], r: &[i64; 192]) -> i64 {
+    if !are_open {
+        return 3;
+    }
     if slots::count(l) < 1 {
         return 9;
     }

@@ -14,24 +14,13 @@ use tally::Tally;
 fn sweep(table: &[i64], start: usize, os: &[i64; 192], kind: u32, t: Tally) -> Tally {
     let mut told = t;
     for j in 0..85 {
-        told = calls::query(table, start, os, makers::load(kind, j), told);
+        told = calls::query(table, start, true, os, makers::load(kind, j), told);
     }
-    told = calls::listing(table, start, os, told);
-    calls::short_listing(table, start, os, told)
-}
-
-// Posts the maker's offer.
-fn post_made(
-    table: &mut [i64],
-    start: usize,
-    os: &mut [i64; 192],
-    room: u32,
-    kind: u32,
-    m: makers::Maker,
-    t: Tally,
-) -> Tally {
-    let o = makers::made(kind, m);
-    calls::post(table, start, os, room, o.number, o.rate, o.base, t)
+    // The second output lacks a word for two pieces.
+    let mut out = [7i64; 192];
+    let mut short = [7i64; 5];
+    told = calls::listing(table, start, os, &mut out, told);
+    calls::listing(table, start, os, &mut short, told)
 }
 
 // Posts 30 offers, with a sweep after each.
@@ -47,7 +36,10 @@ fn fill(
     let mut m = makers::first();
     let posts: u32 = 30;
     for i in 0..posts {
-        told = post_made(table, start, os, room, kind, m, told);
+        let number = makers::number(kind, m.i);
+        let rate = makers::rate(kind, m);
+        let base = makers::base(kind, m);
+        told = calls::post(table, start, os, room, number, rate, base, told);
         told = sweep(table, start, os, kind, told);
         m = makers::next(m);
     }
@@ -115,14 +107,15 @@ fn summary(name: &[u8], t: Tally) {
 
 // Openings that are declined, one that just fits, and a query where there is no book.
 fn run_openings(table: &mut [i64], name: &[u8]) {
+    let none = [0i64; 192];
     let a = calls::open(table, 17, 0, 1, tally::nothing());
     let b = calls::open(table, 7000, 4_097, 1, a);
     let c = calls::open(table, 17, 4_096, 2, b);
     let d = calls::open(table, 7000, 1, 2, c);
     let e = calls::open(table, 5873, 1, 2, d);
-    let f = calls::no_query(table, 5873, e);
+    let f = calls::query(table, 5873, false, &none, 5, e);
     let g = calls::open(table, 5872, 1, 0, f);
-    let h = calls::no_query(table, 7000, g);
+    let h = calls::query(table, 7000, false, &none, 5, g);
     summary(name, h);
 }
 
@@ -139,22 +132,6 @@ fn run(table: &mut [i64], name: &[u8], kind: u32, room: u32) {
 }
 
 // Withdraws an offer from each book, and lets them meet after each.
-fn shrink_once(
-    table: &mut [i64],
-    l: &mut [i64; 192],
-    left: u32,
-    r: &mut [i64; 192],
-    right: u32,
-    i: u32,
-    t: Tally,
-) -> Tally {
-    let at = 7 * (i % 64);
-    let a = calls::withdraw(table, 17, l, makers::number(left, at % 30), t);
-    let b = meetings::meeting(table, 17, l, 3000, r, a);
-    let c = calls::withdraw(table, 3000, r, makers::number(right, (at + 7) % 30), b);
-    meetings::meeting(table, 17, l, 3000, r, c)
-}
-
 fn shrink(
     table: &mut [i64],
     l: &mut [i64; 192],
@@ -165,7 +142,11 @@ fn shrink(
 ) -> Tally {
     let mut told = t;
     for i in 0..30 {
-        told = shrink_once(table, l, left, r, right, i, told);
+        let at = 7 * (i % 64);
+        told = calls::withdraw(table, 17, l, makers::number(left, at % 30), told);
+        told = meetings::meeting(table, 17, l, 3000, r, true, told);
+        told = calls::withdraw(table, 3000, r, makers::number(right, (at + 7) % 30), told);
+        told = meetings::meeting(table, 17, l, 3000, r, true, told);
     }
     told
 }
@@ -176,17 +157,19 @@ fn run_pair(table: &mut [i64], name: &[u8], left: u32, right: u32) {
     let mut r = [0i64; 192];
     let a = calls::open(table, 17, 32, 0, tally::nothing());
     let b = calls::open(table, 3000, 30, 0, a);
-    let c = meetings::meeting(table, 17, &l, 3000, &r, b);
+    let c = meetings::meeting(table, 17, &l, 3000, &r, true, b);
     let d = fill(table, 17, &mut l, 32, left, c);
-    let e = meetings::meeting(table, 17, &l, 3000, &r, d);
+    let e = meetings::meeting(table, 17, &l, 3000, &r, true, d);
     let f = fill(table, 3000, &mut r, 30, right, e);
-    let g = meetings::meeting(table, 17, &l, 3000, &r, f);
-    let h = meetings::meeting(table, 3000, &r, 17, &l, g);
-    let i = meetings::meeting(table, 17, &l, 17, &l, h);
-    let j = meetings::no_meeting(table, 17, 5990, i);
-    let k = meetings::no_meeting(table, 17, 7000, j);
-    let m = shrink(table, &mut l, left, &mut r, right, k);
-    summary(name, m);
+    let g = meetings::meeting(table, 17, &l, 3000, &r, true, f);
+    let h = meetings::meeting(table, 3000, &r, 17, &l, true, g);
+    let i = meetings::meeting(table, 17, &l, 17, &l, true, h);
+    let j = meetings::meeting(table, 17, &l, 5990, &r, false, i);
+    let k = meetings::meeting(table, 5990, &r, 17, &l, false, j);
+    let m = meetings::meeting(table, 17, &l, 7000, &r, false, k);
+    let n = meetings::meeting(table, 7000, &r, 17, &l, false, m);
+    let o = shrink(table, &mut l, left, &mut r, right, n);
+    summary(name, o);
 }
 
 fn main() {

@@ -7,12 +7,6 @@ pub struct Maker {
     pub x: u32,
 }
 
-pub struct Offer {
-    pub number: i64,
-    pub rate: i64,
-    pub base: i64,
-}
-
 pub(crate) fn first() -> Maker {
     Maker {
         i: 0,
@@ -30,17 +24,22 @@ pub(crate) fn next(m: Maker) -> Maker {
     }
 }
 
-pub(crate) fn less(a: u32, b: u32) -> i64 {
+fn less(a: u32, b: u32) -> i64 {
     a as i64 - b as i64
 }
 
 // Kinds 0 and 2 touch the parabola's chain of tangents, 1 goes through one point, 3 to the ends of the ranges, 4 goes its own way, 5 has
 // small bases and so many ties, and 6 has all its rates below those of 0, 2 and 5.
-fn rate(kind: u32, m: Maker) -> i64 {
+pub(crate) fn rate(kind: u32, m: Maker) -> i64 {
     let i = m.i % 64;
     match kind {
         1 => less(300, 10 * i),
-        3 => end(i % 2, 100_000, i),
+        3 => {
+            if i % 2 < 1 {
+                return less(100_000, i);
+            }
+            less(i, 100_000)
+        }
         4 => less(106 * i % 601, 300),
         5 => less(15, i),
         6 => less(0, 20 + 2 * i),
@@ -48,21 +47,18 @@ fn rate(kind: u32, m: Maker) -> i64 {
     }
 }
 
-// Near the upper end or near the lower end.
-fn end(lower: u32, most: u32, i: u32) -> i64 {
-    if lower < 1 {
-        return less(most, i);
-    }
-    less(i, most)
-}
-
-fn base(kind: u32, m: Maker) -> i64 {
+pub(crate) fn base(kind: u32, m: Maker) -> i64 {
     let i = m.i % 64;
     let square = m.square % 4_096;
     match kind {
         0 => less(square + i % 2, 0),
         1 => less(7 + 50 * i, 1_500),
-        3 => end(i / 2 % 2, 1_000_000_000, i),
+        3 => {
+            if i / 2 % 2 < 1 {
+                return less(1_000_000_000, i);
+            }
+            less(i, 1_000_000_000)
+        }
         4 => less(m.x, 10_000),
         5 => less(m.x % 12, 0),
         6 => less(square + m.x % 50, 0),
@@ -78,17 +74,6 @@ pub(crate) fn number(kind: u32, i: u32) -> i64 {
     less(1 + i % 64, 0)
 }
 
-pub(crate) fn made(kind: u32, m: Maker) -> Offer {
-    let n = number(kind, m.i);
-    let r = rate(kind, m);
-    let b = base(kind, m);
-    Offer {
-        number: n,
-        rate: r,
-        base: b,
-    }
-}
-
 // The loads of a sweep: 81 in a row, the ends of the range, and one beyond each.
 pub(crate) fn load(kind: u32, j: u32) -> i64 {
     match j {
@@ -96,14 +81,12 @@ pub(crate) fn load(kind: u32, j: u32) -> i64 {
         82 => -1_000_000,
         83 => 1_000_001,
         84 => -1_000_001,
-        _ => row(kind, j % 81),
+        _ => {
+            let k = j % 81;
+            if kind == 3 {
+                return less(25_000 * k, 1_000_000);
+            }
+            less(k, 8)
+        }
     }
-}
-
-fn row(kind: u32, j: u32) -> i64 {
-    let k = j % 81;
-    if kind == 3 {
-        return less(25_000 * k, 1_000_000);
-    }
-    less(k, 8)
 }

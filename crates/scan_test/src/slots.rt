@@ -42,49 +42,34 @@ pub(crate) fn with_number(os: &[i64; 192], sought: i64) -> usize {
     64
 }
 
-pub(crate) fn has_rate(os: &[i64; 192], sought: i64) -> bool {
+// Some rate is from `low` to `high`.
+pub(crate) fn has_rate(os: &[i64; 192], low: i64, high: i64) -> bool {
     for i in 0..64 {
         if number(os, i) != 0 {
-            if rate(os, i) == sought {
+            let sought = rate(os, i);
+            if low <= sought && sought <= high {
                 return true;
             }
         }
     }
     false
-}
-
-fn one_more(os: &[i64; 192], i: usize, n: u32) -> u32 {
-    if number(os, i) != 0 {
-        return std::num::wrapping_add_u32(n, 1);
-    }
-    n
 }
 
 pub(crate) fn count(os: &[i64; 192]) -> u32 {
     let mut n: u32 = 0;
     for i in 0..64 {
-        n = one_more(os, i, n);
-    }
-    n
-}
-
-// Some rate of `r` is not below `rate`.
-fn reaches(r: &[i64; 192], least: i64) -> bool {
-    for i in 0..64 {
-        if number(r, i) != 0 {
-            if least <= rate(r, i) {
-                return true;
-            }
+        if number(os, i) != 0 {
+            n = std::num::wrapping_add_u32(n, 1);
         }
     }
-    false
+    n
 }
 
 // Some rate of `l` is not above some rate of `r`.
 pub(crate) fn mixed(l: &[i64; 192], r: &[i64; 192]) -> bool {
     for i in 0..64 {
         if number(l, i) != 0 {
-            if reaches(r, rate(l, i)) {
+            if has_rate(r, rate(l, i), 100_000) {
                 return true;
             }
         }
@@ -147,84 +132,60 @@ pub(crate) fn cheapest(os: &[i64; 192], load: i64) -> usize {
 
 // ---- the pieces
 
-// The crossing of two offers, the one with the higher rate first: numerator and denominator.
-pub(crate) fn numerator(os: &[i64; 192], i: usize, j: usize) -> i64 {
+pub struct Ratio {
+    pub numerator: i64,
+    pub denominator: i64,
+}
+
+// The crossing of two offers, the one with the higher rate first.
+pub(crate) fn crossing(os: &[i64; 192], i: usize, j: usize) -> Ratio {
     let a = bounded(-1_000_000_000, 1_000_000_000, base(os, i));
     let b = bounded(-1_000_000_000, 1_000_000_000, base(os, j));
-    b - a
-}
-
-pub(crate) fn denominator(os: &[i64; 192], i: usize, j: usize) -> i64 {
-    let a = bounded(-100_000, 100_000, rate(os, i));
-    let b = bounded(-100_000, 100_000, rate(os, j));
-    a - b
-}
-
-// The load n over d is less than the load m over e.
-fn is_less(n: i64, d: i64, m: i64, e: i64) -> bool {
-    let nn = bounded(-2_000_000_000, 2_000_000_000, n);
-    let mm = bounded(-2_000_000_000, 2_000_000_000, m);
-    let dd = bounded(-200_000, 200_000, d);
-    let ee = bounded(-200_000, 200_000, e);
-    nn * ee < mm * dd
+    let r = bounded(-100_000, 100_000, rate(os, i));
+    let s = bounded(-100_000, 100_000, rate(os, j));
+    Ratio {
+        numerator: b - a,
+        denominator: r - s,
+    }
 }
 
 // The crossing of a and b lies left of the crossing of c and d.
 fn crosses_before(os: &[i64; 192], a: usize, b: usize, c: usize, d: usize) -> bool {
-    is_less(
-        numerator(os, a, b),
-        denominator(os, a, b),
-        numerator(os, c, d),
-        denominator(os, c, d),
-    )
+    let x = crossing(os, a, b);
+    let y = crossing(os, c, d);
+    let nn = bounded(-2_000_000_000, 2_000_000_000, x.numerator);
+    let mm = bounded(-2_000_000_000, 2_000_000_000, y.numerator);
+    let dd = bounded(-200_000, 200_000, x.denominator);
+    let ee = bounded(-200_000, 200_000, y.denominator);
+    nn * ee < mm * dd
 }
 
-// Of two offers with a higher rate than e, the one that crosses e further right.
-fn later(os: &[i64; 192], e: usize, best: usize, i: usize) -> usize {
+// Of two offers with a higher rate than e, the one that crosses e further right; with `below`, of two with a lower rate the one further left.
+fn nearer(os: &[i64; 192], e: usize, below: bool, best: usize, i: usize) -> usize {
     if number(os, i) == 0 {
         return best;
     }
-    if rate(os, i) <= rate(os, e) {
+    let at = rate(os, i);
+    if at == rate(os, e) || below != (at < rate(os, e)) {
         return best;
     }
     if best > 63 {
         return i;
     }
-    if crosses_before(os, best, e, i, e) {
+    if below && crosses_before(os, e, i, e, best) {
+        return i;
+    }
+    if !below && crosses_before(os, best, e, i, e) {
         return i;
     }
     best
 }
 
-fn latest(os: &[i64; 192], e: usize) -> usize {
+// The slot whose crossing with e is the nearest on that side, or 64.
+fn nearest(os: &[i64; 192], e: usize, below: bool) -> usize {
     let mut best: usize = 64;
     for i in 0..64 {
-        best = later(os, e, best, i);
-    }
-    best
-}
-
-// Of two offers with a lower rate than e, the one that crosses e further left.
-fn earlier(os: &[i64; 192], e: usize, best: usize, i: usize) -> usize {
-    if number(os, i) == 0 {
-        return best;
-    }
-    if rate(os, e) <= rate(os, i) {
-        return best;
-    }
-    if best > 63 {
-        return i;
-    }
-    if crosses_before(os, e, i, e, best) {
-        return i;
-    }
-    best
-}
-
-fn earliest(os: &[i64; 192], e: usize) -> usize {
-    let mut best: usize = 64;
-    for i in 0..64 {
-        best = earlier(os, e, best, i);
+        best = nearer(os, e, below, best, i);
     }
     best
 }
@@ -234,8 +195,8 @@ fn is_piece(os: &[i64; 192], e: usize) -> bool {
     if number(os, e) == 0 {
         return false;
     }
-    let a = latest(os, e);
-    let c = earliest(os, e);
+    let a = nearest(os, e, false);
+    let c = nearest(os, e, true);
     if a > 63 {
         return true;
     }

@@ -18,20 +18,14 @@ pub(crate) fn nothing() -> Tally {
     }
 }
 
-fn differing(n: u32, same: bool) -> u32 {
-    if same {
-        return n;
-    }
-    std::num::wrapping_add_u32(n, 1)
-}
-
 // One call more, of which so many queries, listings and meetings.
 pub(crate) fn counted(t: Tally, queries: u32, listings: u32, meetings: u32, same: bool) -> Tally {
+    let differing = if same { 0 } else { 1 };
     Tally {
         calls: std::num::wrapping_add_u32(t.calls, 1),
         queries: std::num::wrapping_add_u32(t.queries, queries),
         listings: std::num::wrapping_add_u32(t.listings, listings),
         meetings: std::num::wrapping_add_u32(t.meetings, meetings),
-        differences: differing(t.differences, same),
+        differences: std::num::wrapping_add_u32(t.differences, differing),
     }
 }

@@ -18,8 +18,17 @@ first-requires c κs = search needs
 loop-holds : tie.Need-loop-holds Inv-loop μ-loop
 loop-holds c = search needs
 
-post-made-requires : tie.Need-post-made-requires Inv-loop μ-loop
-post-made-requires c κs = search needs
+number-requires : tie.Need-number-requires Inv-loop μ-loop
+number-requires c κs = search needs
+
+rate-requires : tie.Need-rate-requires Inv-loop μ-loop
+rate-requires c κs = search needs
+
+base-requires : tie.Need-base-requires Inv-loop μ-loop
+base-requires c κs = search needs
+
+post-requires : tie.Need-post-requires Inv-loop μ-loop
+post-requires c κs = search needs
 
 sweep-requires : tie.Need-sweep-requires Inv-loop μ-loop
 sweep-requires c κs = search needs
@@ -50,7 +59,10 @@ fill-spec =
     μ-loop
     first-requires
     loop-holds
-    post-made-requires
+    number-requires
+    rate-requires
+    base-requires
+    post-requires
     sweep-requires
     next-requires
     add-i

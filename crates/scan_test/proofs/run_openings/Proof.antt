@@ -22,22 +22,22 @@ open-requires-4 c κs = search needs
 open-requires-5 : tie.Need-open-requires-5
 open-requires-5 c κs = search needs
 
-no-query-requires : tie.Need-no-query-requires
-no-query-requires c κs = search needs
+query-requires : tie.Need-query-requires
+query-requires c κs = search needs
 
 open-requires-6 : tie.Need-open-requires-6
 open-requires-6 c κs = search needs
 
-no-query-requires-2 : tie.Need-no-query-requires-2
-no-query-requires-2 c κs = search needs
+query-requires-2 : tie.Need-query-requires-2
+query-requires-2 c κs = search needs
 
 summary-requires : tie.Need-summary-requires
 summary-requires c κs = search needs
 
 same-length : tie.Need-same-length
 same-length c =
-    let at-open6 = c .before .before .before .before in
-    let at-open5 = at-open6 .before .before .before .before .before in
+    let at-open6 = c .before .before .before .before .before in
+    let at-open5 = at-open6 .before .before .before .before .before .before in
     let at-open4 = at-open5 .before .before .before in
     let at-open3 = at-open4 .before .before .before in
     let at-open2 = at-open3 .before .before .before in
@@ -58,9 +58,9 @@ run-openings-spec =
     open-requires-3
     open-requires-4
     open-requires-5
-    no-query-requires
+    query-requires
     open-requires-6
-    no-query-requires-2
+    query-requires-2
     summary-requires
     same-length
     returns)

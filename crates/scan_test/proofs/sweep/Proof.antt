@@ -28,11 +28,17 @@ loop-less c = search needs
 loop-again : tie.Need-loop-again Inv-loop μ-loop
 loop-again c = search needs
 
+slice-aggregate-listing : tie.Need-slice-aggregate-listing Inv-loop μ-loop
+slice-aggregate-listing c = search needs
+
 listing-requires : tie.Need-listing-requires Inv-loop μ-loop
 listing-requires c κs = search needs
 
-short-listing-requires : tie.Need-short-listing-requires Inv-loop μ-loop
-short-listing-requires c κs = search needs
+slice-aggregate-listing-2 : tie.Need-slice-aggregate-listing-2 Inv-loop μ-loop
+slice-aggregate-listing-2 c = search needs
+
+listing-requires-2 : tie.Need-listing-requires-2 Inv-loop μ-loop
+listing-requires-2 c κs = search needs
 
 returns : tie.Need-returns Inv-loop μ-loop
 returns c = search needs
@@ -49,6 +55,8 @@ sweep-spec =
     add-j
     loop-less
     loop-again
+    slice-aggregate-listing
     listing-requires
-    short-listing-requires
+    slice-aggregate-listing-2
+    listing-requires-2
     returns)

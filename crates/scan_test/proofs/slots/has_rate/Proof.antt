@@ -5,10 +5,10 @@ use Rattle.scan_test.proofs.slots.has_rate.Statement.{statement}
 use Rattle.scan_test.proofs.slots.has_rate.Tie as tie
 
 abbrev Inv-loop : tie.InvT-loop
-Inv-loop os sought i₀ i = i ≤ 64
+Inv-loop os low high i₀ i = i ≤ 64
 
 abbrev μ-loop : tie.MeasureT-loop
-μ-loop os sought i₀ i = 64 - i
+μ-loop os low high i₀ i = 64 - i
 
 loop-holds : tie.Need-loop-holds Inv-loop μ-loop
 loop-holds c = search needs

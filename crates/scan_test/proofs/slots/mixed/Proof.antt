@@ -19,8 +19,8 @@ number-requires c κs = search needs
 rate-requires : tie.Need-rate-requires Inv-loop μ-loop
 rate-requires c κs = search needs
 
-reaches-requires : tie.Need-reaches-requires Inv-loop μ-loop
-reaches-requires c κs = search needs
+has-rate-requires : tie.Need-has-rate-requires Inv-loop μ-loop
+has-rate-requires c κs = search needs
 
 returns : tie.Need-returns Inv-loop μ-loop
 returns c = search needs
@@ -46,7 +46,7 @@ mixed-spec =
     loop-holds
     number-requires
     rate-requires
-    reaches-requires
+    has-rate-requires
     returns
     add-i
     loop-less
