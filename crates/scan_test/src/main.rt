@@ -64,7 +64,7 @@ fn drain(
     told
 }
 
-// Posts with values out of range.
+// Posts with a number or a rate out of range.
 fn posts_outside(
     table: &mut [i64],
     start: usize,
@@ -75,19 +75,30 @@ fn posts_outside(
     let a = calls::post(table, start, os, room, 0, 50, 0, t);
     let b = calls::post(table, start, os, room, 10_000, 50, 0, a);
     let c = calls::post(table, start, os, room, 77, 100_001, 0, b);
-    let d = calls::post(table, start, os, room, 77, -100_001, 0, c);
-    let e = calls::post(table, start, os, room, 77, 50, 1_000_000_001, d);
-    calls::post(table, start, os, room, 77, 50, -1_000_000_001, e)
+    calls::post(table, start, os, room, 77, -100_001, 0, c)
 }
 
-// A number that may be live, a rate that may be, and numbers that are not.
+// A base out of range, a number that may be live, and a rate that may be.
+fn posts_refused(
+    table: &mut [i64],
+    start: usize,
+    os: &mut [i64; 192],
+    room: u32,
+    t: Tally,
+) -> Tally {
+    let a = calls::post(table, start, os, room, 77, 50, 1_000_000_001, t);
+    let b = calls::post(table, start, os, room, 77, 50, -1_000_000_001, a);
+    let c = calls::post(table, start, os, room, 8, 51, 0, b);
+    calls::post(table, start, os, room, 77, 100, 0, c)
+}
+
+// Such posts, and numbers that are not live.
 fn refusals(table: &mut [i64], start: usize, os: &mut [i64; 192], room: u32, t: Tally) -> Tally {
     let a = posts_outside(table, start, os, room, t);
-    let b = calls::post(table, start, os, room, 8, 51, 0, a);
-    let c = calls::post(table, start, os, room, 77, 100, 0, b);
-    let d = calls::withdraw(table, start, os, 0, c);
-    let e = calls::withdraw(table, start, os, 77, d);
-    calls::withdraw(table, start, os, 78, e)
+    let b = posts_refused(table, start, os, room, a);
+    let c = calls::withdraw(table, start, os, 0, b);
+    let d = calls::withdraw(table, start, os, 77, c);
+    calls::withdraw(table, start, os, 78, d)
 }
 
 fn say(label: &[u8], n: u32) {
@@ -105,14 +116,19 @@ fn summary(name: &[u8], t: Tally) {
     io::write_all(STDOUT_FILENO, b"\n");
 }
 
-// Openings that are declined, one that just fits, and a query where there is no book.
-fn run_openings(table: &mut [i64], name: &[u8]) {
-    let none = [0i64; 192];
-    let a = calls::open(table, 17, 0, 1, tally::nothing());
+// Openings that are declined.
+fn openings_declined(table: &mut [i64], t: Tally) -> Tally {
+    let a = calls::open(table, 17, 0, 1, t);
     let b = calls::open(table, 7000, 4_097, 1, a);
     let c = calls::open(table, 17, 4_096, 2, b);
     let d = calls::open(table, 7000, 1, 2, c);
-    let e = calls::open(table, 5873, 1, 2, d);
+    calls::open(table, 5873, 1, 2, d)
+}
+
+// Those, one that just fits, and a query where there is no book.
+fn run_openings(table: &mut [i64], name: &[u8]) {
+    let none = [0i64; 192];
+    let e = openings_declined(table, tally::nothing());
     let f = calls::query(table, 5873, false, &none, 5, e);
     let g = calls::open(table, 5872, 1, 0, f);
     let h = calls::query(table, 7000, false, &none, 5, g);
@@ -151,7 +167,18 @@ fn shrink(
     told
 }
 
-// Two books in one table that meet: empty, one of them empty, in either order, with itself, with no book, and while both shrink.
+// Two books meet in either order, one with itself, and one with no book.
+fn meet_all(table: &[i64], l: &[i64; 192], r: &[i64; 192], t: Tally) -> Tally {
+    let a = meetings::meeting(table, 17, l, 3000, r, true, t);
+    let b = meetings::meeting(table, 3000, r, 17, l, true, a);
+    let c = meetings::meeting(table, 17, l, 17, l, true, b);
+    let d = meetings::meeting(table, 17, l, 5990, r, false, c);
+    let e = meetings::meeting(table, 5990, r, 17, l, false, d);
+    let f = meetings::meeting(table, 17, l, 7000, r, false, e);
+    meetings::meeting(table, 7000, r, 17, l, false, f)
+}
+
+// Two books in one table that meet: empty, one of them empty, in each way, and while both shrink.
 fn run_pair(table: &mut [i64], name: &[u8], left: u32, right: u32) {
     let mut l = [0i64; 192];
     let mut r = [0i64; 192];
@@ -161,26 +188,24 @@ fn run_pair(table: &mut [i64], name: &[u8], left: u32, right: u32) {
     let d = fill(table, 17, &mut l, 32, left, c);
     let e = meetings::meeting(table, 17, &l, 3000, &r, true, d);
     let f = fill(table, 3000, &mut r, 30, right, e);
-    let g = meetings::meeting(table, 17, &l, 3000, &r, true, f);
-    let h = meetings::meeting(table, 3000, &r, 17, &l, true, g);
-    let i = meetings::meeting(table, 17, &l, 17, &l, true, h);
-    let j = meetings::meeting(table, 17, &l, 5990, &r, false, i);
-    let k = meetings::meeting(table, 5990, &r, 17, &l, false, j);
-    let m = meetings::meeting(table, 17, &l, 7000, &r, false, k);
-    let n = meetings::meeting(table, 7000, &r, 17, &l, false, m);
-    let o = shrink(table, &mut l, left, &mut r, right, n);
-    summary(name, o);
+    let g = meet_all(table, &l, &r, f);
+    let h = shrink(table, &mut l, left, &mut r, right, g);
+    summary(name, h);
+}
+
+fn run_books(table: &mut [i64]) {
+    run_openings(table, b"openings");
+    run(table, b"offers that touch", 0, 32);
+    run(table, b"one point", 1, 32);
+    run(table, b"hidden offers", 2, 32);
+    run(table, b"ends of the ranges", 3, 32);
+    run(table, b"no rule", 4, 40);
+    run(table, b"ties", 5, 32);
 }
 
 fn main() {
     let mut words = [5i64; 6000];
-    run_openings(&mut words, b"openings");
-    run(&mut words, b"offers that touch", 0, 32);
-    run(&mut words, b"one point", 1, 32);
-    run(&mut words, b"hidden offers", 2, 32);
-    run(&mut words, b"ends of the ranges", 3, 32);
-    run(&mut words, b"no rule", 4, 40);
-    run(&mut words, b"ties", 5, 32);
+    run_books(&mut words);
     run(&mut words, b"capacity 1", 5, 1);
     run(&mut words, b"full at 20", 4, 20);
     run_pair(&mut words, b"touching offers meet", 0, 6);

@@ -7,11 +7,8 @@ use Rattle.scan_test.proofs.refusals.Tie as tie
 posts-outside-requires : tie.Need-posts-outside-requires
 posts-outside-requires c κs = search needs
 
-post-requires : tie.Need-post-requires
-post-requires c κs = search needs
-
-post-requires-2 : tie.Need-post-requires-2
-post-requires-2 c κs = search needs
+posts-refused-requires : tie.Need-posts-refused-requires
+posts-refused-requires c κs = search needs
 
 withdraw-requires : tie.Need-withdraw-requires
 withdraw-requires c κs = search needs
@@ -26,11 +23,10 @@ same-length : tie.Need-same-length
 same-length c =
     let at-withdraw2 = c .before .before .before .before .before in
     let at-withdraw = at-withdraw2 .before .before .before .before in
-    let at-post2 = at-withdraw .before .before .before .before in
-    let at-post = at-post2 .before .before .before .before in
-    let at-posts-outside = at-post .before .before .before .before in
-    c .before .withdraw3 .kept .0 ∙ at-withdraw2 .withdraw2 .kept .0 ∙ at-withdraw .withdraw .kept .0 ∙ at-post2 .post2 .kept .0 ∙ at-post .post .kept .0
-    ∙ at-posts-outside .posts-outside .kept .0
+    let at-refused = at-withdraw .before .before .before .before in
+    let at-outside = at-refused .before .before .before .before in
+    c .before .withdraw3 .kept .0 ∙ at-withdraw2 .withdraw2 .kept .0 ∙ at-withdraw .withdraw .kept .0 ∙ at-refused .posts-refused .kept .0
+    ∙ at-outside .posts-outside .kept .0
 
 returns : tie.Need-returns
 returns c = search needs
@@ -40,8 +36,7 @@ refusals-spec =
     tie.close
     (tie.spec
     posts-outside-requires
-    post-requires
-    post-requires-2
+    posts-refused-requires
     withdraw-requires
     withdraw-requires-2
     withdraw-requires-3

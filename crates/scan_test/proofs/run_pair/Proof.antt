@@ -25,26 +25,8 @@ meeting-requires-2 c κs = search needs
 fill-requires-2 : tie.Need-fill-requires-2
 fill-requires-2 c κs = search needs
 
-meeting-requires-3 : tie.Need-meeting-requires-3
-meeting-requires-3 c κs = search needs
-
-meeting-requires-4 : tie.Need-meeting-requires-4
-meeting-requires-4 c κs = search needs
-
-meeting-requires-5 : tie.Need-meeting-requires-5
-meeting-requires-5 c κs = search needs
-
-meeting-requires-6 : tie.Need-meeting-requires-6
-meeting-requires-6 c κs = search needs
-
-meeting-requires-7 : tie.Need-meeting-requires-7
-meeting-requires-7 c κs = search needs
-
-meeting-requires-8 : tie.Need-meeting-requires-8
-meeting-requires-8 c κs = search needs
-
-meeting-requires-9 : tie.Need-meeting-requires-9
-meeting-requires-9 c κs = search needs
+meet-all-requires : tie.Need-meet-all-requires
+meet-all-requires c κs = search needs
 
 shrink-requires : tie.Need-shrink-requires
 shrink-requires c κs = search needs
@@ -55,9 +37,7 @@ summary-requires c κs = search needs
 same-length : tie.Need-same-length
 same-length c =
     let at-shrink = c .before .before in
-    let at-meeting6 = at-shrink .before .before .before .before .before .before .before .before .before .before .before .before .before .before .before .before in
-    let at-meeting3 = at-meeting6 .before .before .before .before .before .before .before .before .before .before .before .before in
-    let at-fill2 = at-meeting3 .before .before .before .before .before in
+    let at-fill2 = at-shrink .before .before .before .before .before .before .before .before .before in
     let at-fill = at-fill2 .before .before .before .before .before .before .before .before in
     let at-open2 = at-fill .before .before .before .before .before .before .before .before in
     let at-open = at-open2 .before .before .before in
@@ -77,13 +57,7 @@ run-pair-spec =
     fill-requires
     meeting-requires-2
     fill-requires-2
-    meeting-requires-3
-    meeting-requires-4
-    meeting-requires-5
-    meeting-requires-6
-    meeting-requires-7
-    meeting-requires-8
-    meeting-requires-9
+    meet-all-requires
     shrink-requires
     summary-requires
     same-length

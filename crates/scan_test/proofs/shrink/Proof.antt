@@ -42,12 +42,14 @@ meeting-requires-2 c κs = search needs
 
 add-i : tie.Need-add-i Inv-loop μ-loop
 add-i c =
-    let at-test = c .before .before .before .before .before .before .before .before .before .before .before .before .before .before .before .before .before .before in
+    let at-withdraw = c .before .before .before .before .before .before .before .before .before .before .before .before .before .before in
+    let at-test = at-withdraw .before .before .before .before in
     omega (arith, at-test .loop-test .taken)
 
 loop-less : tie.Need-loop-less Inv-loop μ-loop
 loop-less c =
-    let at-test = c .before .before .before .before .before .before .before .before .before .before .before .before .before .before .before .before .before .before in
+    let at-withdraw = c .before .before .before .before .before .before .before .before .before .before .before .before .before .before in
+    let at-test = at-withdraw .before .before .before .before in
     omega (arith, at-test .loop-test .taken)
 
 loop-again : tie.Need-loop-again Inv-loop μ-loop
