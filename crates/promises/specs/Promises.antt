@@ -60,8 +60,8 @@ abbrev pub counted : (ℕ → Answer) → ℤ → Answer
 counted f (pos n) = f n
 counted f (negsuc n) = refused 0
 
--- Each case of an answer as a number and values: a refusal's number and none, or 0 and the values of the case. One definition for each enum: what is
--- said of an answer, here and where it is told as numbers, goes by it.
+-- Each case of an answer as a number and values: a refusal's number and none, or 0 and the values of the case. One definition for each enum: the
+-- promises' answers go by it, and so does what tells an answer as numbers.
 pub record Told : Type 0 where
   pub number : ℤ
   pub values : List ℤ

@@ -9,7 +9,8 @@ use lib.IntN.{ℤ, pos, negsuc}
 use Rattle.offers.specs.Offers.{Offer as PlainOffer}
 use Rattle.plain.specs.Causes.{Cause, causeNumber, declined, Clear}
 use Rattle.plain.specs.Trials.{clear, declined-first}
-use Rattle.plain.specs.Book.{State, Call, post, withdraw, query, listing, refused, live, Outcome, holding, join, leave, trials, accepted, respond, step}
+use Rattle.plain.specs.Book.{State, Call, post, withdraw, query, listing, Answer, refused, live, found, listed, Outcome, holding, join, leave, trials}
+use Rattle.plain.specs.Book.{accepted, respond, step}
 use Rattle.plain.specs.MeaningLaws.{query-cheapest, listing-listing}
 use Rattle.dynamic.specs.OfferTree.{Held}
 use Rattle.table.specs.Items.{Item}
@@ -31,6 +32,14 @@ use Rattle.theorems.specs.Demand2.{Refuses, QueryTells, ListingTells, Up
 a-refusal : (z : ℤ) → (n : ℕ) × (counted refused z ≡ refused n)
 a-refusal (pos n) = (n, refl)
 a-refusal (negsuc n) = (0, refl)
+
+-- a call that is not refused met no cause
+answered-clear : (s : State) (k : Call) (a : Answer) → ((n : ℕ) → a ≡ refused n → ⊥) → a ≡ step s k .answer → Clear (trials s k)
+answered-clear s k a unlike e = go (declined (trials s k)) refl e
+  where
+    go : (d : Option Cause) → declined (trials s k) ≡ d → a ≡ respond s k d .answer → Clear (trials s k)
+    go (some c) p q = absurd (unlike (causeNumber c) q)
+    go none p q = clear (trials s k) p
 
 -- a query past the trials is not refused
 query-accepted : (s : State) (q : ℤ) (n : ℕ) → Clear (trials s (query q)) → respond s (query q) none .answer ≡ refused n → ⊥
@@ -72,7 +81,7 @@ module _ (s : State) (k : Call) (os : List PlainOffer) (a : accepted s k ≡ rec
         (d : Option Cause) → declined (trials s k) ≡ d → (u : Update) → updateAnswer u ≡ respond s k d .answer → (after : Option (Held Item)) →
         Book (partOf t′ start) (respond s k d .state) after → ((n : ℕ) → updateAnswer u ≡ refused n → t′ ≡ t) → UpdateTells s k os start t t′ u
     update-by none p (Done (pos m) x y z) e after b r =
-        (ap pos (said e), (after, subst (λ (o : Outcome). Book (partOf t′ start) (o .state) after) a b))
+        (clear (trials s k) p, ap pos (said e), (after, subst (λ (o : Outcome). Book (partOf t′ start) (o .state) after) a b))
     update-by none p (Done (negsuc m) x y z) e after b r = absurd (unsaid e)
     update-by none p (UpdateDeclined z) e after b r = let (n, q) = a-refusal z in absurd (unsaid (sym q ∙ e))
     update-by (some c) p (Done (pos m) x y z) e after b r = let q : _≡_ {A = ℕ} 0 1 = cc in absurd (omega arith)
@@ -92,14 +101,20 @@ module _ {start : ℕ} {t : List ℤ} {s : State} {held : Option (Held Item)} (b
   query-told {q} {r} p = go r (p .answers s held b)
     where
       go : (r : Found) → foundAnswer r ≡ step s (query q) .answer → QueryTells s q r
-      go (Offer number price probes) e = query-cheapest s q number price (book-sound b) (sym e)
+      go (Offer number price probes) e = (
+        answered-clear s (query q) (found number price) (λ n h. let z : _≡_ {A = ℕ} 0 1 = cc in absurd (omega arith)) e,
+        query-cheapest s q number price (book-sound b) (sym e),
+      )
       go (FoundDeclined z) e = query-refuses s q z e
 
   listing-told : {out out′ : List ℤ} {r : Listed} → Lists start t out out′ r → ListingTells s (length out) r out′
   listing-told {out} {out′} {r} p = go r (p .answers s held b)
     where
       go : (r : Listed) → listingAnswer r out′ ≡ step s (listing (length out)) .answer → ListingTells s (length out) r out′
-      go (Pieces (pos n)) e = (n, refl, listing-listing s (length out) n (take (3 * n) out′) (book-sound b) (sym e))
+      go (Pieces (pos n)) e = (
+        answered-clear s (listing (length out)) (listed n (take (3 * n) out′)) (λ m h. let z : _≡_ {A = ℕ} 0 1 = cc in absurd (omega arith)) e,
+        (n, refl, listing-listing s (length out) n (take (3 * n) out′) (book-sound b) (sym e)),
+      )
       go (Pieces (negsuc n)) e = absurd (numbered s (listing (length out)) (sym e))
       go (ListingDeclined z) e = listing-refuses s (length out) z e
 

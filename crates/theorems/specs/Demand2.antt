@@ -8,7 +8,7 @@ use Prim.Native.Nat.{ℕ, _*_}
 use lib.ListN.{length, take}
 use lib.IntN.{ℤ, pos}
 use Rattle.offers.specs.Offers.{Offer as PlainOffer}
-use Rattle.plain.specs.Causes.{Cause, Trial, causeNumber, FirstOf}
+use Rattle.plain.specs.Causes.{Cause, Trial, causeNumber, Clear, FirstOf}
 use Rattle.plain.specs.Book.{State, Call, post, withdraw, query, listing, holding, join, leave, trials}
 use Rattle.plain.specs.Meaning.{Cheapest, Listing}
 use Rattle.dynamic.specs.OfferTree.{Held}
@@ -26,20 +26,20 @@ use Rattle.promises.specs.Promises.{partOf, Updates, Queries, Lists}
 abbrev pub Refuses : List Trial → ℤ → Type 0
 Refuses ks z = (c : Cause) × FirstOf ks c × (z ≡ pos (causeNumber c))
 
--- The least price, and the first offer in order that has it.
+-- No cause applies: the least price, and the first offer in order that has it.
 abbrev pub QueryTells : State → ℤ → Found → Type 0
-QueryTells s q (Offer number price probes) = Cheapest (s .offers) q number price
+QueryTells s q (Offer number price probes) = Clear (trials s (query q)) × Cheapest (s .offers) q number price
 QueryTells s q (FoundDeclined z) = Refuses (trials s (query q)) z
 
--- In order, exactly the offers that at some rational load are strictly cheaper than every other, each with its crossing with the next.
+-- No cause applies: in order, exactly the offers that at some rational load are strictly cheaper than every other, each with its crossing with the next.
 abbrev pub ListingTells : State → ℕ → Listed → List ℤ → Type 0
-ListingTells s room (Pieces m) out = (n : ℕ) × (m ≡ pos n) × Listing (s .offers) n (take (3 * n) out)
+ListingTells s room (Pieces m) out = Clear (trials s (listing room)) × ((n : ℕ) × (m ≡ pos n) × Listing (s .offers) n (take (3 * n) out))
 ListingTells s room (ListingDeclined z) out = Refuses (trials s (listing room)) z
 
--- The part stands for the book with these live offers, and their count is told; a declined call leaves every word.
+-- No cause applies: the part stands for the book with these live offers, and their count is told; a declined call leaves every word.
 abbrev pub UpdateTells : State → Call → List PlainOffer → ℕ → (t t′ : List ℤ) → Update → Type 0
 UpdateTells s k os start t t′ (Done n pairs steps heights) =
-    (n ≡ pos (length os)) × ((after : Option (Held Item)) × Book (partOf t′ start) (holding s os) after)
+    Clear (trials s k) × (n ≡ pos (length os)) × ((after : Option (Held Item)) × Book (partOf t′ start) (holding s os) after)
 UpdateTells s k os start t t′ (UpdateDeclined z) = Refuses (trials s k) z × (t′ ≡ t)
 
 -- Of a table whose part stands for the plain book s, and of every call on it.
