@@ -7,7 +7,7 @@ use Prim.Native.Nat.{ℕ, _-_, _≤_, _<_}
 use native.Mathlib.Omega.{arith}
 use lib.ListN.{length, take, drop}
 use lib.Dec.{T, le→leb}
-use lib.IntN.{ℤ, pos, natAbs}
+use lib.IntN.{ℤ, pos}
 use Rattle.lists.specs.Bools.{not-not, twice, said, denied}
 use Rattle.offers.specs.Offers.{loadInRange, priceAt}
 use Rattle.plain.specs.Causes.{Cause, bookEmpty, causeNumber, at-once, further, FirstOf}
@@ -37,7 +37,7 @@ use Rattle.query.specs.Plain.{lookup-plain, offerOf}
 use Rattle.promises.specs.declared.Found.{Found}
 use Rattle.promises.specs.declared.Found.the-variants.{Offer, Declined}
 use Rattle.plain.specs.Book.{noBookAt}
-use Rattle.promises.specs.Promises.{partOf, tableTrials, foundReturned, foundAnswer, Probes, ProbesIn, Queries}
+use Rattle.promises.specs.Promises.{partOf, tableTrials, foundTold, foundAnswer, Probes, ProbesIn, Queries}
 use Rattle.promises.specs.Plainly.{table-declined}
 use Rattle.promises.specs.LentPart.{whole-part}
 use Rattle.promises.specs.OneCause.{one-cause, not-clear}
@@ -48,7 +48,7 @@ use Rattle.form.specs.HeaderWords.{count-read, envelope-read}
 pub record Asks (q : ℤ) (w : Words) (r : Found) : Type 0 where
   pub answers : (plain : State) (held : Option (Held Item)) → Book w plain held → T (loadInRange q) → foundAnswer r ≡ step plain (query q) .answer
   pub probes : (plain : State) (held : Option (Held Item)) → Book w plain held → T (loadInRange q) →
-      Probes held (foundReturned r .answer) (foundReturned r .beside)
+      Probes held (foundTold r .values)
 
 pub asks-empty : {q : ℤ} {w : Words} {n : ℕ} → n ≡ upTo mostNodes (word w liveCountWord) → n < 1 → Asks q w (Declined (pos 9))
 asks-empty {q} {w} {n} e h =
@@ -56,7 +56,7 @@ asks-empty {q} {w} {n} e h =
       answers = λ plain held b t. sym (ap (λ (o : Outcome). o .answer)
           (step-declined plain (query q) bookEmpty (further (twice (loadInRange q) t)
           (at-once (le→leb (length (plain .offers)) 0 (omega (arith, e, h, count-read b, live-length b)))))));
-      probes = λ plain held b t. refl;
+      probes = λ plain held b t. tt;
     }
 
 -- what the code has read
@@ -79,18 +79,11 @@ module _ (plain : State) {q : ℤ} {w : Words} {root slot probes : ℕ} {number 
     reached t e = (
       ap (λ (z : ℤ). found z price) number-is ∙ ap (found (a .offer .number)) price-is
           ∙ sym (lookup-plain t plain q (book-sound b) (sym (b .stands-for)) (env t e) range),
-      subst Leafy (sym e) (a, subst (λ (d : ℕ). LeafAt a d t) (sym (got .depth)) (lookup-leaf q t), sym number-is, refl),
+      (t, a, probes, e, subst (λ (d : ℕ). LeafAt a d t) (sym (got .depth)) (lookup-leaf q t), sym number-is, refl),
     )
       where
         a : Item
         a = lookup q t .item
-
-        Leafy : Part Item → Type 0
-        Leafy p = elim p [
-          | none ↦ ⊥
-          | some t ↦ (a : Item) × LeafAt a (natAbs (pos probes)) t × (a .offer .number ≡ number)
-              × (pos probes ≡ pos (natAbs (pos probes)))
-        ]
 
         stand : Standing w (partRef (some t)) (some t)
         stand = subst (λ (p : Part Item). Standing w (partRef p) p) e (whole-standing (b .offers .offers-in))
@@ -129,7 +122,7 @@ module _ (plain : State) {q : ℤ} {w : Words} {root slot probes : ℕ} {number 
 
 pub asks-found : {q : ℤ} {w : Words} {n root slot probes : ℕ} {number price : ℤ} → n ≡ upTo mostNodes (word w liveCountWord) → 1 ≤ n →
     Reads q w root slot probes number price → Asks q w (Offer number price (pos probes))
-asks-found e h f = record { answers = λ plain held b t. answered plain f t e h held b .0; probes = λ plain held b t. (answered plain f t e h held b .1, refl) }
+asks-found e h f = record { answers = λ plain held b t. answered plain f t e h held b .0; probes = λ plain held b t. answered plain f t e h held b .1 }
 
 -- ---- on the table
 
@@ -139,7 +132,7 @@ module _ (q : ℤ) (t : List ℤ) (start : ℕ) where
       record {
         declined = λ z g. ap refused (sym (one-cause f g));
         answers = λ plain held b. sym (ap (λ (o : Outcome). o .answer) (table-declined start t (query q) b f));
-        probes = λ plain held b. refl;
+        probes = λ plain held b. tt;
       }
 
   pub queries-none : {b : Bool} → b ≡ noBookAt (length t) start (word (partOf t start) capacityWord) → b ≡ true → Queries q start t (Declined (pos 3))

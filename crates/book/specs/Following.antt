@@ -17,7 +17,7 @@ use Rattle.pieces.specs.Pieces.{items}
 use Rattle.form.specs.Form.{Book}
 use Rattle.promises.specs.declared.Update.{Update}
 use Rattle.promises.specs.declared.Update.the-variants.{Done, Declined as UpdateDeclined}
-use Rattle.promises.specs.Promises.{partOf, updateReturned, updateAnswer, Counts, Follows}
+use Rattle.promises.specs.Promises.{partOf, updateTold, updateAnswer, Counts, Follows}
 use Rattle.plain.specs.Rules.{refusing}
 use Rattle.filing.specs.Posting.{Updated}
 use Rattle.filing.specs.declared.Told.{Told}
@@ -45,7 +45,7 @@ follows-declined start t k {plain} {m} {held} {t′} {r} b e er et =
       stands = subst (λ (o : Outcome). Book (partOf t′ start) (o .state) held) (sym e) (subst (λ (u : List ℤ). Book (partOf u start) plain held) (sym et) b);
       refusal = λ n d. et;
       work = idle-work held;
-      counts = subst (λ (u : Update). Counts (updateReturned u .beside) []) (sym er) refl;
+      counts = subst (λ (u : Update). Counts (updateTold u .values) []) (sym er) refl;
     }
 
 -- ---- an accepted one
@@ -70,7 +70,7 @@ done-follows start t q {t′ = t′} u e er =
       stands = subst (λ (o : Outcome). Book (partOf t′ start) (o .state) (u .after)) (sym e) (u .stands);
       refusal = λ m d. absurd (not-refused (sym (ap updateAnswer er) ∙ d));
       work = u .work;
-      counts = subst (λ (v : Update). Counts (updateReturned v .beside) (u .log)) (sym er) (λ i. pos (u .counts .searches i) ∷ pos (u .counts .steps i) ∷
+      counts = subst (λ (v : Update). Counts (updateTold v .values) (u .log)) (sym er) (λ i. pos (u .counts .searches i) ∷ pos (u .counts .steps i) ∷
           pos (u .counts .heights i) ∷ []);
     }
 

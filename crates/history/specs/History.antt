@@ -8,7 +8,6 @@ use lib.ListN.{length}
 use lib.IntN.{ℤ}
 use Rattle.integers.specs.Log.{B}
 use Rattle.plain.specs.Book.{State, Call, post, withdraw, query, listing, Answer, step, after, answers}
-use Rattle.trees.specs.Tree.{height, leaves}
 use Rattle.trees.specs.Operations.{Part, partLeaves, partHeight}
 use Rattle.dynamic.specs.OfferTree.{Held, heldShape, Pair}
 use Rattle.dynamic.specs.Rearranged.{pieceTrees}
@@ -18,7 +17,7 @@ use Rattle.promises.specs.declared.Found.{Found}
 use Rattle.promises.specs.declared.Listed.{Listed}
 use Rattle.form.specs.Form.{Book}
 use Rattle.form.specs.Local.{Alike}
-use Rattle.promises.specs.Promises.{partOf, Updates, Follows, Queries, Probes, Lists, updateAnswer, foundReturned, foundAnswer, listingAnswer}
+use Rattle.promises.specs.Promises.{partOf, Updates, Follows, Queries, Probes, Lists, foundTold, updateAnswer, foundAnswer, listingAnswer}
 
 -- The calls that change a book: each is an update.
 pub data Changes : Call → Type 0 where
@@ -42,17 +41,20 @@ pub data History (c start : ℕ) : List ℤ → List Call → List Answer → Li
       History c start t₂ ks as′ t′ →
       History c start t (k ∷ ks) (a ∷ as′) t′
 
--- every tree that went into a search is at most 2 × B(n) high over its n leaves
+-- A tree is at most 2 × B(n) high over its n leaves.
+abbrev pub LowTree : Part Item → Type 0
+LowTree p = partHeight p ≤ 2 * B (length (partLeaves p))
+
+-- every tree that went into a search
 abbrev pub LowPairs : List (Pair Item) → Type 0
-LowPairs log = (p : Pair Item) → List·Memᴰ p log → (height (p .front) ≤ 2 * B (length (leaves (p .front))))
-    × (height (p .back) ≤ 2 * B (length (leaves (p .back))))
+LowPairs log = (p : Pair Item) → List·Memᴰ p log → LowTree (some (p .front)) × LowTree (some (p .back))
 
 -- What each call of a history is held to, from one offer tree to the next: an update's log of searched pairs with k, s, H and the floor,
 -- a query's probes.
 abbrev pub Kept : (s : State) (start : ℕ) {t : List ℤ} {k : Call} {t′ : List ℤ} {a : Answer} → Happens start t k t′ a →
     (before after : Option (Held Item)) → Type 0
 Kept s start {t} {k} {t′} (by-update c u p e) held held′ = (f : Follows k s held start t t′ u) × (f .after ≡ held′) × LowPairs (f .log)
-Kept s start (by-query q f p d e) held held′ = Probes held (foundReturned f .answer) (foundReturned f .beside) × (held ≡ held′)
+Kept s start (by-query q f p d e) held held′ = Probes held (foundTold f .values) × (held ≡ held′)
 Kept s start (by-listing out out′ l p m d e) held held′ = held ≡ held′
 
 -- each on the plain book that the calls before it left
@@ -63,11 +65,10 @@ EachCall {start = start} s (next {k = k} q p rest) held held′ = (mid : Option 
 
 -- ---- demand 3: one claim about a whole list of calls
 
--- every tree of a book is at most 2 × B(n) high over its n leaves
+-- the tree of offers, and every tree of pieces
 abbrev pub Low : Option (Held Item) → Type 0
 Low none = Unit {0}
-Low (some h) = (height (heldShape h) ≤ 2 * B (length (leaves (heldShape h)))) × ((p : Part Item) → List·Memᴰ p (pieceTrees h) →
-    partHeight p ≤ 2 * B (length (partLeaves p)))
+Low (some h) = LowTree (some (heldShape h)) × ((p : Part Item) → List·Memᴰ p (pieceTrees h) → LowTree p)
 
 -- The part passes the check and stands for the plain book's offers, the answers in order are the plain book's, every tree is low, and each update
 -- has its list of searched pairs. `every-history` (Claim) proves it from an accepted opening on.
@@ -79,5 +80,5 @@ pub record Claim {c start : ℕ} {t : List ℤ} {ks : List Call} {as′ : List A
   -- refusals' numbers, live counts, prices, offers named, piece counts and words written
   pub told : as′ ≡ answers s ks
   pub low : Low held
-  pub low-numbers : partHeight (stands .numbers .numbers) ≤ 2 * B (length (partLeaves (stands .numbers .numbers)))
+  pub low-numbers : LowTree (stands .numbers .numbers)
   pub each : EachCall s h before held

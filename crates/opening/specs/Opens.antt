@@ -2,7 +2,7 @@
 use mathlib.Core.Path.{_≡_, refl, sym, _∙_, ap, subst}
 use mathlib.Core.Bool.{Bool, true, false, not, _||_}
 use mathlib.Core.List.{List, _++_}
-use mathlib.Core.Option.{Option, none, some}
+use mathlib.Core.Option.{Option, none}
 use Prim.Native.Nat.{ℕ, suc, _+_, _*_, _-_, _≤_, _<_}
 use native.Mathlib.Omega.{arith}
 use lib.ListN.{length, take, drop}
@@ -19,7 +19,7 @@ use Rattle.table.specs.Words.{Words, upTo}
 use Rattle.form.specs.Form.{Book}
 use Rattle.promises.specs.declared.Opening.{Opening}
 use Rattle.promises.specs.declared.Opening.the-variants.{Opened, Declined}
-use Rattle.promises.specs.Promises.{partOf, openingAnswer, plainOpening, Opens, OnlyPart}
+use Rattle.promises.specs.Promises.{partOf, openingAnswer, Opens, OnlyPart}
 use Rattle.promises.specs.OneCause.{one-cause, not-clear}
 use Rattle.promises.specs.LentPart.{part-back, only-part, whole-part, lent-back, told-is}
 use Rattle.form.specs.Local.{Beyond}
@@ -28,7 +28,7 @@ use Rattle.filing.specs.Starting.{Starts}
 module _ (c : ℤ) (start : ℕ) (t t′ : List ℤ) where
   opens-declined : {r : Opening} {k : Cause} → FirstOf (openTrials (length t) start c) k → r ≡ Declined (pos (causeNumber k)) → t′ ≡ t → Opens c start t t′ r
   opens-declined {k = k} f er et = record {
-    answers = ap openingAnswer er ∙ ap (λ (d : Option Cause). plainOpening (openingBy c d))
+    answers = ap openingAnswer er ∙ ap (λ (d : Option Cause). pos (openingBy d))
         (sym (declined-by (openTrials (length t) start c) k f));
     declined = λ z g. (er ∙ ap (λ (n : ℕ). Declined (pos n)) (sym (one-cause f g)), et);
     accepted = λ g. absurd (not-clear f g);
@@ -62,7 +62,7 @@ module _ (c : ℤ) (start : ℕ) (t t′ : List ℤ) where
         t′ ≡ take start t ++ (w′ ++ drop (length t - start) (drop start t)) → Opens c start t t′ Opened
     opens-done low room w′ g et =
         record {
-          answers = ap (λ (d : Option Cause). plainOpening (openingBy c d)) (sym (not-declined (openTrials (length t) start c) clears));
+          answers = ap (λ (d : Option Cause). pos (openingBy d)) (sym (not-declined (openTrials (length t) start c) clears));
           declined = λ z f. absurd (not-clear f clears);
           accepted = λ k. (
             refl,

@@ -127,38 +127,32 @@ trials s k = rangeTrials k ++ bookTrials s k
 abbrev pub opened : ℤ → State
 opened c = record { capacity = natAbs c; offers = [] }
 
--- What opening a table of so many words answers: a refusal's number, or 0 alone and the book.
-pub data Opening : Type 0 where
-  declined-opening : ℕ → Opening
-  accepted-opening : State → Opening
+-- What opening a table of so many words answers: a refusal's number, or 0 alone.
+abbrev pub openingBy : Option Cause → ℕ
+openingBy none = 0
+openingBy (some k) = causeNumber k
 
-abbrev pub openingBy : ℤ → Option Cause → Opening
-openingBy c none = accepted-opening (opened c)
-openingBy c (some k) = declined-opening (causeNumber k)
-
-abbrev pub opening : (words start : ℕ) → ℤ → Opening
-opening words start c = openingBy c (declined (openTrials words start c))
+abbrev pub opening : (words start : ℕ) → ℤ → ℕ
+opening words start c = openingBy (declined (openTrials words start c))
 
 -- The book with other live offers.
 abbrev pub holding : State → List Offer → State
 holding s os = record { capacity = s .capacity; offers = os }
 
+-- The same, with their count.
+abbrev pub changed : State → List Offer → Outcome
+changed s os = record { state = holding s os; answer = live (length os) }
+
 -- What an accepted call does.
 abbrev pub accepted : State → Call → Outcome
-accepted s (post n r b) =
-    let os = join (record { number = n; rate = r; base = b }) (s .offers) in
-    record { state = holding s os; answer = live (length os) }
-accepted s (withdraw n) =
-    let os = leave n (s .offers) in
-    record { state = holding s os; answer = live (length os) }
+accepted s (post n r b) = changed s (join (record { number = n; rate = r; base = b }) (s .offers))
+accepted s (withdraw n) = changed s (leave n (s .offers))
 accepted s (query q) = record { state = s; answer = answerOf (s .offers) }
   where
     answerOf : List Offer → Answer
     answerOf [] = refused (causeNumber bookEmpty)  -- idle: an empty book declines the query
     answerOf (o ∷ os) = let best = cheapest q o os in found (best .number) (priceAt best q)
-accepted s (listing room) =
-    let es = envelope (s .offers) in
-    record { state = s; answer = listed (length es) (pieceWords es) }
+accepted s (listing room) = record { state = s; answer = listed (length (envelope (s .offers))) (pieceWords (envelope (s .offers))) }
 
 abbrev pub respond : State → Call → Option Cause → Outcome
 respond s k none = accepted s k

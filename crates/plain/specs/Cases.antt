@@ -4,8 +4,8 @@ use Prim.Native.Nat.{ℕ}
 use mathlib.Core.Path.{_≡_, refl}
 use mathlib.Core.List.{List, [], _∷_, _++_, map}
 use lib.IntN.{ℤ, pos, negℤ}
-use Rattle.plain.specs.Book.{State, Call, post, withdraw, query, listing, Answer, refused, live, found, listed, Opening, declined-opening}
-use Rattle.plain.specs.Book.{accepted-opening, opened, opening, after, answers}
+use Rattle.plain.specs.Book.{State, Call, post, withdraw, query, listing, Answer, refused, live, found, listed}
+use Rattle.plain.specs.Book.{opened, opening, after, answers}
 
 -- Calls that make a book, and the answers of the calls asked of it then.
 pub record Row : Type 0 where
@@ -126,7 +126,7 @@ pub four-pieces :
     live 1 ∷ live 2 ∷ live 3 ∷ live 4 ∷ listed 4 (pos 1 ∷ pos 1 ∷ pos 1 ∷ pos 2 ∷ pos 2 ∷ pos 1 ∷ pos 3 ∷ pos 3 ∷ pos 1 ∷ pos 4 ∷ pos 0 ∷ pos 0 ∷ []) ∷ []
 four-pieces = refl
 
-pub openings : opening 128 0 (pos 0) ∷ opening 128 1 (pos 4_097) ∷ opening 128 1 (pos 1) ∷ opening 127 0 (pos 1) ∷ opening 10 11 (pos 1) ∷ opening 128 0
-    (pos 1) ∷ [] ≡ declined-opening 1 ∷ declined-opening 1 ∷ declined-opening 2 ∷ declined-opening 2 ∷ declined-opening 2 ∷ accepted-opening
-    (opened (pos 1)) ∷ []
+pub openings :
+    opening 128 0 (pos 0) ∷ opening 128 1 (pos 4_097) ∷ opening 128 1 (pos 1) ∷ opening 127 0 (pos 1) ∷ opening 10 11 (pos 1) ∷ opening 128 0 (pos 1) ∷ [] ≡
+    1 ∷ 1 ∷ 2 ∷ 2 ∷ 2 ∷ 0 ∷ []
 openings = refl

@@ -23,8 +23,8 @@ use Rattle.offers.specs.Offers.{Offer, between, numberInRange, rateInRange, bas
 use Rattle.plain.specs.Causes.{Cause, declined}
 use Rattle.plain.specs.Causes.{Clear}
 use Rattle.plain.specs.Trials.{clear}
-use Rattle.plain.specs.Book.{State, Call, post, withdraw, query, listing, refused, hasNumber, hasRate, join, leave, trials, accepted-opening}
-use Rattle.plain.specs.Book.{opened, openingBy, opening, openTrials, accepted, respond, step, after}
+use Rattle.plain.specs.Book.{State, Call, post, withdraw, query, listing, refused, hasNumber, hasRate, join, leave, trials}
+use Rattle.plain.specs.Book.{opened, openTrials, accepted, respond, step, after}
 
 pub record Sound (s : State) : Type 0 where
   pub capacity-low : 1 ≤ s .capacity
@@ -127,8 +127,8 @@ accepted-sound s (withdraw n) h c = withdraw-sound s n h
 accepted-sound s (query q) h c = h
 accepted-sound s (listing room) h c = h
 
-pub opened-sound : (words start : ℕ) (c : ℤ) (s : State) → opening words start c ≡ accepted-opening s → Sound s
-opened-sound words start c s e = go (declined (openTrials words start c)) refl e
+pub opened-sound : (words start : ℕ) (c : ℤ) → Clear (openTrials words start c) → Sound (opened c)
+opened-sound words start c (range, rest) = fresh c (not-not (between (pos 1) (pos 4_096) c) range)
   where
     fresh : (c : ℤ) → T (between (pos 1) (pos 4_096) c) → Sound (opened c)
     fresh (pos n) t =
@@ -142,15 +142,6 @@ opened-sound words start c s e = go (declined (openTrials words start c)) refl e
           fits = omega arith;
         }
     fresh (negsuc n) t = absurd t
-
-    go : (d : Option Cause) → declined (openTrials words start c) ≡ d → openingBy c d ≡ accepted-opening s → Sound s
-    go none d a =
-        let (range, rest) = clear (openTrials words start c) d in
-        subst Sound (opening-is a) (fresh c (not-not (between (pos 1) (pos 4_096) c) range))
-      where
-        opening-is : accepted-opening (opened c) ≡ accepted-opening s → opened c ≡ s
-        opening-is p = cc
-    go (some k) d a = let z : _≡_ {A = ℕ} 0 1 = cc in absurd (omega arith)
 
 pub step-sound : (s : State) (k : Call) → Sound s → Sound (step s k .state)
 step-sound s k h = go (declined (trials s k)) refl

@@ -6,11 +6,12 @@ use mathlib.Core.Bool.{Bool, true}
 use mathlib.Core.List.{List, [], _∷_}
 use mathlib.Core.Option.{Option, none, some}
 use Prim.Native.Nat.{ℕ, _+_, _*_}
-use lib.ListN.{length, take, drop}
+use lib.ListN.{length, take, drop, getD}
 use lib.IntN.{ℤ, pos, negsuc, natAbs}
 use Rattle.plain.specs.Causes.{Cause, noBook, Trial, _when_, causeNumber, FirstOf, Clear}
-use Rattle.plain.specs.Book.{State, Call, query, listing, Answer, refused, live, found, listed, Opening as Plainly, declined-opening}
-use Rattle.plain.specs.Book.{accepted-opening, opening, opened, openTrials, rangeTrials, noBookAt, partLength, step}
+use Rattle.plain.specs.Book.{State, Call, query, listing, Answer, refused, live, found, listed}
+use Rattle.plain.specs.Book.{opening, opened, openTrials, rangeTrials, noBookAt, partLength, step}
+use Rattle.trees.specs.Tree.{Tree}
 use Rattle.trees.specs.Operations.{Part}
 use Rattle.dynamic.specs.OfferTree.{Held, Pair}
 use Rattle.dynamic.specs.Work.{Work, stepsOf, heightsOf}
@@ -86,60 +87,40 @@ abbrev pub openingAnswer : Opening → ℤ
 openingAnswer Opened = pos 0
 openingAnswer (OpeningDeclined c) = c
 
--- the plain book's
-abbrev pub plainOpening : Plainly → ℤ
-plainOpening (accepted-opening s) = pos 0
-plainOpening (declined-opening n) = pos n
-
--- All that a call returned: what the plain book answers, and beside it the values that the plain book leaves open.
-pub record Returned : Type 0 where
-  pub answer : Answer
-  pub beside : List ℤ
-
--- a count, and beside it the values that follow
-abbrev pub countedBy : (ℕ → Answer) → ℤ → List ℤ → Returned
-countedBy f c [] = record { answer = counted refused c; beside = [] }
-countedBy f c (n ∷ more) = record { answer = counted f n; beside = more }
+-- The plain book's answer of a number and values: a refusal where there are none, or a count. The values that follow it the plain book leaves open.
+abbrev pub countedBy : (ℕ → Answer) → ℤ → List ℤ → Answer
+countedBy f c [] = counted refused c
+countedBy f c (n ∷ more) = counted f n
 
 -- an offer and its price
-abbrev pub pricedBy : ℤ → List ℤ → Returned
-pricedBy c [] = record { answer = counted refused c; beside = [] }
-pricedBy c (number ∷ []) = record { answer = counted refused c; beside = [] }
-pricedBy c (number ∷ price ∷ more) = record { answer = found number price; beside = more }
+abbrev pub pricedBy : ℤ → List ℤ → Answer
+pricedBy c [] = counted refused c
+pricedBy c (number ∷ []) = counted refused c
+pricedBy c (number ∷ price ∷ more) = found number price
 
--- beside a live count k, s and H; beside an offer and its price the probes; a listing with the words that the output then begins with
-abbrev pub updateReturned : Update → Returned
-updateReturned r = countedBy live (updateTold r .number) (updateTold r .values)
-
-abbrev pub foundReturned : Found → Returned
-foundReturned r = pricedBy (foundTold r .number) (foundTold r .values)
-
-abbrev pub listingReturned : Listed → List ℤ → Returned
-listingReturned r out = countedBy (λ n. listed n (take (3 * n) out)) (listedTold r .number) (listedTold r .values)
-
--- the plain book's part of each
 abbrev pub updateAnswer : Update → Answer
-updateAnswer r = updateReturned r .answer
+updateAnswer r = countedBy live (updateTold r .number) (updateTold r .values)
 
 abbrev pub foundAnswer : Found → Answer
-foundAnswer r = foundReturned r .answer
+foundAnswer r = pricedBy (foundTold r .number) (foundTold r .values)
 
+-- with the words that the output then begins with
 abbrev pub listingAnswer : Listed → List ℤ → Answer
-listingAnswer r out = listingReturned r out .answer
+listingAnswer r out = countedBy (λ n. listed n (take (3 * n) out)) (listedTold r .number) (listedTold r .values)
 
 -- ---- open
 
 pub record Opens (c : ℤ) (start : ℕ) (t t′ : List ℤ) (r : Opening) : Type 0 where
-  pub answers : openingAnswer r ≡ plainOpening (opening (length t) start c)
+  pub answers : openingAnswer r ≡ pos (opening (length t) start c)
   pub declined : (k : Cause) → FirstOf (openTrials (length t) start c) k → (r ≡ OpeningDeclined (pos (causeNumber k))) × (t′ ≡ t)
   pub accepted : Clear (openTrials (length t) start c) → (r ≡ Opened) × Book (partOf t′ start) (opened c) none × OnlyPart (natAbs c) start t t′
 
 -- ---- post and withdraw
 
--- the values beside an update's answer: k, s and H are those of the log; a declined call has none, and no log
+-- the values of an update: behind the live count k, s and H, which are those of the log; a declined call has none, and no log
 abbrev pub Counts : List ℤ → List (Pair Item) → Type 0
 Counts [] log = log ≡ []
-Counts (k ∷ more) log = k ∷ more ≡ pos (length log) ∷ pos (stepsOf items log) ∷ pos (heightsOf log) ∷ []
+Counts (n ∷ more) log = more ≡ pos (length log) ∷ pos (stepsOf items log) ∷ pos (heightsOf log) ∷ []
 
 -- on a part that stands for the plain book s
 pub record Follows (k : Call) (s : State) (held : Option (Held Item)) (start : ℕ) (t t′ : List ℤ) (r : Update) : Type 0 where
@@ -149,7 +130,7 @@ pub record Follows (k : Call) (s : State) (held : Option (Held Item)) (start : �
   pub stands : Book (partOf t′ start) (step s k .state) after
   pub refusal : (n : ℕ) → updateAnswer r ≡ refused n → t′ ≡ t
   pub work : Work items held after log
-  pub counts : Counts (updateReturned r .beside) log
+  pub counts : Counts (updateTold r .values) log
 
 pub record Updates (k : Call) (start : ℕ) (t t′ : List ℤ) (r : Update) : Type 0 where
   pub declined : (z : Cause) → FirstOf (tableTrials t start k) z → (updateAnswer r ≡ refused (causeNumber z)) × (t′ ≡ t)
@@ -169,24 +150,18 @@ rootPart (some h) = h .whole
 
 -- it has a leaf at the depth of the probes, with the offer named
 abbrev pub ProbesIn : Option (Held Item) → ℤ → ℤ → Type 0
-ProbesIn held number probes = elim (rootPart held) [
-  | none ↦ ⊥
-  | some t ↦ (a : Item) × LeafAt a (natAbs probes) t × (a .offer .number ≡ number)
-      × (probes ≡ pos (natAbs probes))
-]
+ProbesIn held number probes =
+    (t : Tree Item) × (a : Item) × (n : ℕ) × (rootPart held ≡ some t) × LeafAt a n t × (a .offer .number ≡ number) × (probes ≡ pos n)
 
--- the values beside a query's answer: where an offer is named, its probes
-abbrev pub Probes : Option (Held Item) → Answer → List ℤ → Type 0
-Probes held (found number price) [] = ⊥
-Probes held (found number price) (probes ∷ more) = ProbesIn held number probes × (more ≡ [])
-Probes held (refused n) beside = beside ≡ []
-Probes held (live n) beside = beside ≡ []
-Probes held (listed n ws) beside = beside ≡ []
+-- the values of a query: where an offer is named, its probes come third
+abbrev pub Probes : Option (Held Item) → List ℤ → Type 0
+Probes held [] = Unit {0}
+Probes held (number ∷ more) = ProbesIn held number (getD more 1 (pos 0))
 
 pub record Queries (q : ℤ) (start : ℕ) (t : List ℤ) (r : Found) : Type 0 where
   pub declined : (z : Cause) → FirstOf (tableTrials t start (query q)) z → foundAnswer r ≡ refused (causeNumber z)
   pub answers : (s : State) (held : Option (Held Item)) → Book (partOf t start) s held → foundAnswer r ≡ step s (query q) .answer
-  pub probes : (s : State) (held : Option (Held Item)) → Book (partOf t start) s held → Probes held (foundReturned r .answer) (foundReturned r .beside)
+  pub probes : (s : State) (held : Option (Held Item)) → Book (partOf t start) s held → Probes held (foundTold r .values)
 
 -- ---- listing, into an output lent with it
 

@@ -17,7 +17,7 @@ use Rattle.promises.specs.declared.Found.{Found}
 use Rattle.promises.specs.declared.Found.the-variants.{Offer, Declined as FoundDeclined}
 use Rattle.promises.specs.declared.Listed.{Listed}
 use Rattle.promises.specs.declared.Listed.the-variants.{Pieces, Declined as ListingDeclined}
-use Rattle.promises.specs.Promises.{partOf, counted, Returned, updateReturned, foundReturned, updateAnswer, foundAnswer, listingAnswer, Updates, Queries, Lists}
+use Rattle.promises.specs.Promises.{partOf, counted, updateTold, foundTold, updateAnswer, foundAnswer, listingAnswer, Updates, Queries, Lists}
 use Rattle.promises.specs.Numbered.{numbered}
 
 -- a refusal told by a word is told by its number
@@ -38,15 +38,15 @@ update-live (Done (negsuc m) k s h) n e = let z : _≡_ {A = ℕ} 0 1 = cc in ab
 update-live (UpdateDeclined (pos m)) n e = let z : _≡_ {A = ℕ} 0 1 = cc in absurd (omega arith)
 update-live (UpdateDeclined (negsuc m)) n e = let z : _≡_ {A = ℕ} 0 1 = cc in absurd (omega arith)
 
--- all that it returned tells the case with all its values
-pub update-returned : (r : Update) (n : ℕ) (k s h : ℤ) → updateReturned r ≡ record { answer = live n; beside = k ∷ s ∷ h ∷ [] } → r ≡ Done (pos n) k s h
-update-returned r n k s h e = go (update-live r n (ap (λ (x : Returned). x .answer) e))
-  where
-    values : (k′ s′ h′ : ℤ) → k′ ∷ s′ ∷ h′ ∷ [] ≡ k ∷ s ∷ h ∷ [] → Done (pos n) k′ s′ h′ ≡ Done (pos n) k s h
-    values k′ s′ h′ d = let a : k′ ≡ k = cc in let b : s′ ≡ s = cc in let c : h′ ≡ h = cc in λ i. Done (pos n) (a i) (b i) (c i)
-
-    go : (k′ s′ h′ : ℤ) × (r ≡ Done (pos n) k′ s′ h′) → r ≡ Done (pos n) k s h
-    go (k′, s′, h′, f) = f ∙ values k′ s′ h′ (sym (ap (λ (x : Update). updateReturned x .beside) f) ∙ ap (λ (x : Returned). x .beside) e)
+-- the values tell the case
+pub update-values : (r : Update) (n k s h : ℤ) → updateTold r .values ≡ n ∷ k ∷ s ∷ h ∷ [] → r ≡ Done n k s h
+update-values (Done n′ k′ s′ h′) n k s h e =
+    let a : n′ ≡ n = cc in
+    let b : k′ ≡ k = cc in
+    let c : s′ ≡ s = cc in
+    let d : h′ ≡ h = cc in
+    λ i. Done (a i) (b i) (c i) (d i)
+update-values (UpdateDeclined z) n k s h e = let x : _≡_ {A = ℕ} 0 1 = cc in absurd (omega arith)
 
 -- ---- query
 
@@ -59,16 +59,13 @@ query-found (Offer m p probes) number price e = let d : m ≡ number = cc in let
 query-found (FoundDeclined (pos m)) number price e = let z : _≡_ {A = ℕ} 0 1 = cc in absurd (omega arith)
 query-found (FoundDeclined (negsuc m)) number price e = let z : _≡_ {A = ℕ} 0 1 = cc in absurd (omega arith)
 
-pub query-returned :
-    (r : Found) (number price probes : ℤ) → foundReturned r ≡ record { answer = found number price; beside = probes ∷ [] } →
-    r ≡ Offer number price probes
-query-returned r number price probes e = go (query-found r number price (ap (λ (x : Returned). x .answer) e))
-  where
-    value : (p : ℤ) → p ∷ [] ≡ probes ∷ [] → Offer number price p ≡ Offer number price probes
-    value p d = let a : p ≡ probes = cc in λ i. Offer number price (a i)
-
-    go : (p : ℤ) × (r ≡ Offer number price p) → r ≡ Offer number price probes
-    go (p, f) = f ∙ value p (sym (ap (λ (x : Found). foundReturned x .beside) f) ∙ ap (λ (x : Returned). x .beside) e)
+pub query-values : (r : Found) (number price probes : ℤ) → foundTold r .values ≡ number ∷ price ∷ probes ∷ [] → r ≡ Offer number price probes
+query-values (Offer m p n) number price probes e =
+    let a : m ≡ number = cc in
+    let b : p ≡ price = cc in
+    let c : n ≡ probes = cc in
+    λ i. Offer (a i) (b i) (c i)
+query-values (FoundDeclined z) number price probes e = let x : _≡_ {A = ℕ} 0 1 = cc in absurd (omega arith)
 
 -- ---- listing
 
