@@ -24,7 +24,7 @@ use Rattle.numbers.specs.Numbers.{Added, Dropped}
 use Rattle.form.specs.Live.{live-slots}
 use Rattle.filing.specs.Agree.{agree-header, header-kept}
 use Rattle.filing.specs.Writing.{filling, rootsOf, rooting, filled, freed-given, headed, first-free, Filled, Headed}
-use Rattle.filing.specs.Joining.{Joined, joins-alone, joins-among}
+use Rattle.filing.specs.JoinedOffers.{Joined, joins-alone, joins-among}
 use Rattle.filing.specs.Posting.{Updated, PostSteps, Postable, posted-plain}
 use Rattle.filing.specs.Withdrawing.{WithdrawSteps, LiveAt, withdrawn-plain, withdrawn-count}
 

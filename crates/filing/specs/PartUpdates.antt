@@ -27,11 +27,12 @@ use Rattle.form.specs.Form.{Book}
 use Rattle.numbers.specs.Numbers.{FoundNumber, Added, Dropped}
 use Rattle.form.specs.Live.{live-length}
 use Rattle.form.specs.HeaderWords.{count-read}
+use Rattle.form.specs.Roots.{offersRoot}
 use Rattle.filing.specs.Sought.{number-sought, rate-sought}
 use Rattle.plain.specs.Rules.{refusing}
 use Rattle.filing.specs.Declining.{post-number-live, post-rate-live, post-full, post-clear}
 use Rattle.filing.specs.Writing.{filling, rootsOf, rooting}
-use Rattle.filing.specs.Joining.{Joined, joins-alone, joins-among}
+use Rattle.filing.specs.JoinedOffers.{Joined, joins-alone, joins-among}
 use Rattle.filing.specs.Posting.{Updated, Postable, postable}
 use Rattle.filing.specs.Withdrawing.{live-at}
 use Rattle.filing.specs.Calls.{WithdrawWrites, post-done, withdraw-done, withdraw-count}
@@ -130,7 +131,7 @@ module _ (n r : ℤ) (w : Words) {root s : ℕ} (er : root ≡ upTo mostNodes (w
         clears = λ z plain held b g q. absurd (omega (arith, q));
       }
 
-  module _ {x u : ℕ} (low : s ≤ 0) (ex : x ≡ upTo mostNodes (word w offersRootWord)) (d : Found w offerTree rateField r x u) where
+  module _ {x u : ℕ} (low : s ≤ 0) (ex : x ≡ offersRoot w) (d : Found w offerTree rateField r x u) where
     pub cause-rate : 0 < u → PostCause n r w 6
     cause-rate h =
         record {

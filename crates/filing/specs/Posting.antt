@@ -42,7 +42,7 @@ use Rattle.filing.specs.Agree.{header-set, offers-number, numbers-envelo
 use Rattle.filing.specs.Agree.{free-agree}
 use Rattle.filing.specs.Writing.{rootsOf, Filled, Headed, FirstFree, first-free}
 use Rattle.filing.specs.Counts.{Exact, counts-exact}
-use Rattle.filing.specs.Joining.{placed-join, placed-length, in-placed, rate-new, Joined, JoinedIn, joins}
+use Rattle.filing.specs.JoinedOffers.{placed-join, placed-length, in-placed, rate-new, Joined, JoinedIn, joins}
 
 -- What an update gives in the end: the part stands for this plain book, with a log of those counts.
 pub record Updated (w′ : Words) (plain : State) (held : Option (Held Item)) (n : Counts) : Type 0 where

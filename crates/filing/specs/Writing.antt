@@ -23,6 +23,7 @@ use Rattle.table.specs.Items.{Item, In, at}
 use Rattle.table.specs.Threads.{Holds}
 use Rattle.form.specs.Form.{Book, FreeChain, free-more, head0}
 use Rattle.form.specs.Live.{live-holds}
+use Rattle.form.specs.Roots.{envelopeRoot, offersRoot}
 use Rattle.filing.specs.Agree.{Agree, Everywhere, Elsewhere, agree-trans, agree-less, agree-header, agree-cset, header-set}
 use Rattle.update.specs.declared.Held.{Held as InHand}
 
@@ -34,13 +35,9 @@ filling n r z s w = cset (cset (cset (taken w) numberField s n) rateField s r) b
 
 -- the roots that the header tells
 abbrev pub rootsOf : Words → InHand
-rootsOf w = record { tree = upTo mostNodes (word w offersRootWord); envelope = upTo mostNodes (word w envelopeRootWord) }
+rootsOf w = record { tree = offersRoot w; envelope = envelopeRoot w }
 
-pub roots-read :
-    (w : Words) {x e : ℕ} →
-    x ≡ upTo mostNodes (word w offersRootWord) →
-    e ≡ upTo mostNodes (word w envelopeRootWord) →
-    record { tree = x; envelope = e } ≡ rootsOf w
+pub roots-read : (w : Words) {x e : ℕ} → x ≡ offersRoot w → e ≡ envelopeRoot w → record { tree = x; envelope = e } ≡ rootsOf w
 roots-read w p q = λ i. record { tree = p i; envelope = q i }
 
 -- the roots and the live count

@@ -8,7 +8,7 @@ ghost use Rattle.table.specs.Words.{word, upTo};
 ghost use Rattle.table.specs.Free.{firstFree};
 ghost use Rattle.descents.specs.Finds.{Found};
 ghost use Rattle.numbers.specs.Numbers.{FoundNumber};
-ghost use Rattle.filing.specs.Joining.{Joined};
+ghost use Rattle.filing.specs.JoinedOffers.{Joined};
 ghost use Rattle.filing.specs.Starting.{Heading, Lays, Starts};
 ghost use Rattle.filing.specs.Writing.{filling, rootsOf, rooting};
 ghost use Rattle.filing.specs.PartUpdates.{PostCause, PostDone, WithdrawDone};
@@ -70,7 +70,7 @@ pub fn post_cause(part: &[i64], number: i64, rate: i64) -> u32
     if 0 < numbers::find(part, root, number) {
         return 5;
     }
-    let x = table::number_at(part, table::OFFERS_ROOT, table::MOST_NODES);
+    let x = form::offers_root(part);
     if 0 < find_rate(part, x, rate) {
         return 6;
     }
@@ -97,11 +97,9 @@ fn fill(part: &mut [i64], number: i64, rate: i64, base: i64) -> u32
 fn roots(part: &[i64]) -> update::Held
     ensures { λ r. ⌜ r ≡ rootsOf (now (part .entry)) ⌝ }
 {
-    let x = table::number_at(part, table::OFFERS_ROOT, table::MOST_NODES);
-    let e = table::number_at(part, table::ENVELOPE_ROOT, table::MOST_NODES);
     update::Held {
-        tree: x,
-        envelope: e,
+        tree: form::offers_root(part),
+        envelope: form::envelope_root(part),
     }
 }
 
