@@ -1,8 +1,9 @@
 // A book's part as its calls change it: laid out empty, an offer posted, an offer withdrawn; and what declines a post. The calls themselves,
 // with their guards, are book's.
 ghost use mathlib.Core.Path.{_≡_};
-ghost use Prim.Native.Nat.{_+_, _*_, _-_, _≤_};
+ghost use Prim.Native.Nat.{_-_, _≤_};
 ghost use lib.ListN.{length};
+ghost use Rattle.plain.specs.Book.{partLength};
 ghost use Rattle.table.specs.Fields.{mostNodes, mostSlots, numbersRootWord, offerTree, rateField};
 ghost use Rattle.table.specs.Words.{word, upTo};
 ghost use Rattle.table.specs.Free.{firstFree};
@@ -48,7 +49,7 @@ fn lay(part: &mut [i64], capacity: u32)
 
 // An empty book on words enough for it.
 pub fn start_book(part: &mut [i64], capacity: u32)
-    requires { ⌜ (1 ≤ capacity) × (capacity ≤ mostSlots) × (64 * (capacity + 1) ≤ length (now part)) ⌝ }
+    requires { ⌜ (1 ≤ capacity) × (capacity ≤ mostSlots) × (partLength capacity ≤ length (now part)) ⌝ }
     ensures { λ _. ⌜ Starts capacity (now (part .entry)) (now (part .exit)) ⌝ }
 {
     begin(part, capacity);
