@@ -43,10 +43,7 @@ fn part_mark(part: &[i64], index: i64) -> Marked
     if m < 1 {
         return Marked::Declined(9);
     }
-    if index < 0 {
-        return Marked::Declined(13);
-    }
-    if (m as i64) < index {
+    if index < 0 || (m as i64) < index {
         return Marked::Declined(13);
     }
     let i = table::up_to(table::MOST_SLOTS, index);
