@@ -1,6 +1,6 @@
 // Chart marks of a book: open ends at both sides of its listing, and between them the crossings of neighbouring pieces.
 ghost use mathlib.Core.Path.{_≡_};
-ghost use Rattle.marks.specs.Told.{told};
+ghost use Rattle.marks.specs.MarkTold.{told};
 ghost use Rattle.chart.specs.Promises.{Marks};
 ghost use Rattle.chart.specs.ChartWalks.{SlotOf};
 ghost use Rattle.chart.specs.Marking.{crossingAt, PartMark};

@@ -7,7 +7,7 @@ use lib.IntN.{ℤ, pos}
 use mir.Facts.{toZ-ofZ, toZ-pos}
 use mir.Syntax.{w64}
 use mir.Val.{SFits, toZ}
-use Rattle.marks.specs.Told.{openEnd}
+use Rattle.marks.specs.MarkTold.{openEnd}
 use Rattle.chart.specs.declared.Marked.the-variants.{Mark}
 use Rattle.chart.specs.Marking.{PartMark, part-empty, part-outside, part-first, part-last, part-inner, index-below, index-above, index-there}
 use borrow.Author.Needs.{needs}
