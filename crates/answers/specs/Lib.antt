@@ -4,4 +4,4 @@ pub mod Promises
 -- ways through the code: what the answers' functions do, case by case
 pub mod Answers
 -- lemmas: on tables that pass the check each number, and what goes with it, is the plain book's
-pub mod Plainly
+pub mod PlainNumbers

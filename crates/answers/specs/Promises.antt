@@ -17,11 +17,11 @@ use Rattle.promises.specs.declared.Listed.{Listed}
 use Rattle.promises.specs.Promises.{openingAnswer, updateTold, foundTold, listedTold, Opens, Updates, Queries, Lists, Checks}
 use Rattle.meet_books.specs.declared.Met.{Met}
 use Rattle.meet_books.specs.Promises.{MeetAnswer, refused, met, meetAnswer, MeetsBooks}
-use Rattle.marks.specs.Told.{Told as MarkTold}
+use Rattle.marks.specs.MarkTold.{Told as MarkTold}
 use Rattle.chart.specs.declared.Marked.{Marked}
 use Rattle.chart.specs.Promises.{told as markTold, Marks}
 use Rattle.vouchers.specs.declared.Voucher.{Voucher}
-use Rattle.vouchers.specs.Told.{told as voucherTold, due}
+use Rattle.vouchers.specs.VoucherTold.{told as voucherTold, due}
 use Rattle.reading.specs.declared.Handed.{Handed}
 use Rattle.reading.specs.Promises.{Told as PieceTold, piece, ended, refused as pieceRefused, told as pieceTold, Starts, Moves, Hands}
 

@@ -6,9 +6,8 @@ use mathlib.Core.Option.{Option}
 use Prim.Native.Nat.{ℕ, _+_, _-_, _≤_, _<_}
 use native.Mathlib.Omega.{arith}
 use lib.ListN.{length, take, drop}
-use lib.Dec.{T}
 use lib.IntN.{ℤ, pos}
-use Rattle.lists.specs.Bools.{said, denied}
+use Rattle.lists.specs.Bools.{said, denied, never}
 use Rattle.offers.specs.Offers.{numberInRange, rateInRange, baseInRange}
 use Rattle.plain.specs.Causes.{Cause, causeNumber, numberOutOfRange, rateOutOfRange, baseOutOfRange, FirstOf, at-once, further, Clear}
 use Rattle.plain.specs.Book.{State, Call, post, withdraw, refused, join, leave, noBookAt, partLength, holding, step}
@@ -37,12 +36,12 @@ use Rattle.filing.specs.PartUpdates.{OutOfRange, Kept, PostCause, PostDone, Wit
 -- ---- the ranges, as the code tests them
 
 module _ (n r z : ℤ) {b : Bool} (e : b ≡ not (numberInRange n)) where
-  pub number-out : b ≡ true → OutOfRange (post n r z) true
-  number-out h = record { says = λ q. (numberOutOfRange, at-once (said e h), refl); denies = λ q. absurd (subst T q tt) }
+  pub number-out : b ≡ true → OutOfRange (post n r z) b
+  number-out h = record { says = λ q. (numberOutOfRange, at-once (said e h), refl); denies = λ q. absurd (never h q) }
 
   module _ {d : Bool} (h : b ≡ false) (e′ : d ≡ not (rateInRange r)) where
-    pub rate-out : d ≡ true → OutOfRange (post n r z) true
-    rate-out k = record { says = λ q. (rateOutOfRange, further (denied e h) (at-once (said e′ k)), refl); denies = λ q. absurd (subst T q tt) }
+    pub rate-out : d ≡ true → OutOfRange (post n r z) d
+    rate-out k = record { says = λ q. (rateOutOfRange, further (denied e h) (at-once (said e′ k)), refl); denies = λ q. absurd (never k q) }
 
     pub base-out : {f : Bool} → d ≡ false → f ≡ not (baseInRange z) → OutOfRange (post n r z) f
     base-out k e″ =

@@ -30,13 +30,9 @@ fn done(told: filing::Told) -> Update
 fn offer_outside(number: i64, rate: i64, base: i64) -> bool
     ensures { λ r. ⌜ OutOfRange (post number rate base) r ⌝ }
 {
-    if query::outside(1, 9_999, number) {
-        return true;
-    }
-    if query::outside(-100_000, 100_000, rate) {
-        return true;
-    }
-    query::outside(-1_000_000_000, 1_000_000_000, base)
+    query::outside(1, 9_999, number)
+        || query::outside(-100_000, 100_000, rate)
+        || query::outside(-1_000_000_000, 1_000_000_000, base)
 }
 
 // Posts an offer to the book at `start`.

@@ -5,7 +5,7 @@ use mathlib.Core.List.{List, [], _∷_}
 use lib.ListN.{length}
 use lib.IntN.{pos}
 use Rattle.offers.specs.Offers.{Offer}
-use Rattle.marks.specs.Told.{openEnd, crossing}
+use Rattle.marks.specs.MarkTold.{openEnd, crossing}
 use Rattle.chart.specs.Promises.{marks}
 
 -- a listing of m pieces has m + 1 marks

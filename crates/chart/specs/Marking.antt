@@ -19,7 +19,7 @@ use Rattle.envelopes.specs.EnvelopeLaws.{ordered-sublist, ordered-right, ordere
 use Rattle.plain.specs.Causes.{bookEmpty, noSuchMark, at-once, further}
 use Rattle.plain.specs.Book.{State, envelope, noBookAt}
 use Rattle.plain.specs.Trials.{declined-by, not-declined}
-use Rattle.marks.specs.Told.{Told, openEnd, crossing}
+use Rattle.marks.specs.MarkTold.{Told, openEnd, crossing}
 use Rattle.marks.specs.Crossings.{scaledPrice}
 use Rattle.trees.specs.Tree.{Tree, leaves}
 use Rattle.trees.specs.Leaves.{some-leaf}

@@ -11,7 +11,7 @@ use Rattle.offers.specs.Offers.{Offer, between, crossingNumerator, crossingDeno
 use Rattle.plain.specs.Causes.{Cause, bookEmpty, noSuchMark, Trial, _when_, declined, causeNumber, FirstOf}
 use Rattle.plain.specs.Book.{State, envelope}
 use Rattle.marks.specs.Quotient.{double, quotient, divisible, Is, Quotient}
-use Rattle.marks.specs.Told.{Told, told as markTold, openEnd, crossing}
+use Rattle.marks.specs.MarkTold.{Told, told as markTold, openEnd, crossing}
 use Rattle.marks.specs.Crossings.{scaledPrice}
 use Rattle.dynamic.specs.OfferTree.{Held}
 use Rattle.table.specs.Items.{Item}

@@ -1,6 +1,6 @@
 // Chart marks of a book: open ends at both sides of its listing, and between them the crossings of neighbouring pieces.
 ghost use mathlib.Core.Path.{_≡_};
-ghost use Rattle.marks.specs.Told.{told};
+ghost use Rattle.marks.specs.MarkTold.{told};
 ghost use Rattle.chart.specs.Promises.{Marks};
 ghost use Rattle.chart.specs.ChartWalks.{SlotOf};
 ghost use Rattle.chart.specs.Marking.{crossingAt, PartMark};
@@ -43,10 +43,7 @@ fn part_mark(part: &[i64], index: i64) -> Marked
     if m < 1 {
         return Marked::Declined(9);
     }
-    if index < 0 {
-        return Marked::Declined(13);
-    }
-    if (m as i64) < index {
+    if index < 0 || (m as i64) < index {
         return Marked::Declined(13);
     }
     let i = table::up_to(table::MOST_SLOTS, index);

@@ -11,11 +11,11 @@ use Rattle.trees.specs.Tree.{leaves}
 use Rattle.trees.specs.Operations.{Part, partLeaves}
 use Rattle.dynamic.specs.OfferTree.{Held, heldShape}
 use Rattle.dynamic.specs.Valid.{bookLines}
-use Rattle.table.specs.Fields.{numberTree}
+use Rattle.table.specs.Fields.{nextFreeField, numberField, numberTree}
 use Rattle.table.specs.Words.{Words, word, wset, wset-same}
 use Rattle.table.specs.Layout.{cap, cell, cset, cset-cap, cset-other, header-outside, header-cap, header-cell}
 use Rattle.table.specs.Items.{Item, In, at}
-use Rattle.table.specs.Rep.{Field, a-child, a-height, Within, within-cap, Only}
+use Rattle.table.specs.Rep.{childField, heightField, Field, a-child, a-height, Within, within-cap, Only}
 use Rattle.table.specs.PartTrees.{TiedPart}
 use Rattle.pieces.specs.Pieces.{of-node, of-numerator, of-denominator, of-next}
 use Rattle.form.specs.Stored.{HeldIn, EnvelopeField, of-pieces, of-offers, of-bridge-u, of-bridge-v, of-inner-rest, of-leaf-rest, Touched}
@@ -28,10 +28,10 @@ use Rattle.form.specs.There.{cap-there}
 
 -- a field of envelopes is neither an offer's, nor the next free slot, nor a node of the numbers
 record OfEnvelope (f : ℕ) : Type 0 where
-  high : 4 ≤ f
-  no-left : f ≢ 12
-  no-right : f ≢ 13
-  no-height : f ≢ 18
+  high : nextFreeField < f
+  no-left : f ≢ childField numberTree false
+  no-right : f ≢ childField numberTree true
+  no-height : f ≢ heightField numberTree
 
 of-envelope : {f : ℕ} → EnvelopeField f → OfEnvelope f
 of-envelope (of-pieces (of-node (a-child false e))) = omega arith
@@ -48,7 +48,7 @@ of-envelope (of-bridge-v e) = omega arith
 of-envelope (of-inner-rest e) = omega arith
 of-envelope (of-leaf-rest e) = omega arith
 
-number-field : {f : ℕ} → Field numberTree f → (12 ≤ f) × (EnvelopeField f → ⊥)
+number-field : {f : ℕ} → Field numberTree f → (childField numberTree false ≤ f) × (EnvelopeField f → ⊥)
 number-field (a-child false e) = (omega arith, λ p. of-envelope p .no-left e)
 number-field (a-child true e) = (omega arith, λ p. of-envelope p .no-right e)
 number-field (a-height e) = (omega arith, λ p. of-envelope p .no-height e)
@@ -108,7 +108,7 @@ NumbersHere xs f s = (OfferField f ⊎ Field numberTree f) × In s xs
 
 -- the chain of these free slots
 abbrev pub FreeHere : List ℕ → ℕ → ℕ → Type 0
-FreeHere ss f s = ((f ≡ 0) ⊎ (f ≡ 3)) × List·Memᴰ s ss
+FreeHere ss f s = ((f ≡ numberField) ⊎ (f ≡ nextFreeField)) × List·Memᴰ s ss
 
 pub offers-number : (xs : List Item) (f s : ℕ) → OffersHere xs f s → Field numberTree f → ⊥
 offers-number xs f s (inl h, i) n = omega (arith, number-field n .0)
@@ -118,7 +118,7 @@ pub numbers-envelope : (xs : List Item) (f s : ℕ) → NumbersHere xs f s → E
 numbers-envelope xs f s (inl h, i) p = omega (arith, of-envelope p .high)
 numbers-envelope xs f s (inr h, i) p = number-field h .1 p
 
-free-low : (ss : List ℕ) (f s : ℕ) → FreeHere ss f s → f ≤ 3
+free-low : (ss : List ℕ) (f s : ℕ) → FreeHere ss f s → f ≤ nextFreeField
 free-low ss f s (inl e, i) = omega arith
 free-low ss f s (inr e, i) = omega arith
 
@@ -178,6 +178,6 @@ module _ {w w′ : Words} where
   free-agree g free-none = free-none
   free-agree g (free-more {s} {ss} low high zero next more) =
       free-more low (rw (g .room) high)
-      (g .cells 0 s (inl refl, List·Memᴰ·head refl) ∙ zero)
-      (g .cells 3 s (inr refl, List·Memᴰ·head refl) ∙ next)
+      (g .cells numberField s (inl refl, List·Memᴰ·head refl) ∙ zero)
+      (g .cells nextFreeField s (inr refl, List·Memᴰ·head refl) ∙ next)
       (free-agree (agree-less (λ f t d. (d .0, List·Memᴰ·tail (d .1))) g) more)

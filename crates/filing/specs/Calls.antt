@@ -1,8 +1,7 @@
 -- The writes of a post and of a withdrawal, each as the code makes it, in the order of the code.
 use mathlib.Core.Path.{_≡_, refl, sym, _∙_, ap}
-use mathlib.Core.Logic.{_≢_}
 use mathlib.Core.Option.{Option}
-use Prim.Native.Nat.{ℕ, suc, _<_}
+use Prim.Native.Nat.{ℕ, suc}
 use native.Mathlib.Omega.{arith}
 use lib.ListN.{length}
 use lib.IntN.{ℤ, pos}
@@ -11,26 +10,26 @@ use Rattle.plain.specs.Book.{State, join, leave, holding}
 use Rattle.dynamic.specs.OfferTree.{Held}
 use Rattle.dynamic.specs.Valid.{bookLines}
 use Rattle.table.specs.Fields.{firstFreeWord, mostNodes, nextFreeField, numbersRootWord}
-use Rattle.table.specs.Words.{Words, word, wset, wset-other, upTo}
+use Rattle.table.specs.Words.{Words, word, wset, upTo}
 use Rattle.table.specs.Layout.{cap, linkAt}
 use Rattle.table.specs.Free.{firstFree, given}
 use Rattle.table.specs.Items.{Item}
-use Rattle.table.specs.Rep.{Within, within-cap}
+use Rattle.table.specs.Rep.{within-cap}
 use Rattle.update.specs.Steps.{RemovedIn}
 use Rattle.update.specs.declared.Held.{Held as InHand}
 use Rattle.update.specs.declared.Made.{Made as Outcome}
 use Rattle.form.specs.Form.{Book}
 use Rattle.numbers.specs.Numbers.{Added, Dropped}
 use Rattle.form.specs.Live.{live-slots}
-use Rattle.filing.specs.Agree.{agree-header, header-kept}
+use Rattle.filing.specs.Agree.{agree-header}
 use Rattle.filing.specs.Writing.{filling, rootsOf, rooting, filled, freed-given, headed, first-free, Filled, Headed}
-use Rattle.filing.specs.Joining.{Joined, joins-alone, joins-among}
+use Rattle.filing.specs.JoinedOffers.{Joined, joins-alone, joins-among}
 use Rattle.filing.specs.Posting.{Updated, PostSteps, Postable, posted-plain}
 use Rattle.filing.specs.Withdrawing.{WithdrawSteps, LiveAt, withdrawn-plain, withdrawn-count}
 
 -- the root of the numbers is set
 root-room : (w : Words) (z : ℤ) {w′ : Words} → w′ ≡ wset w numbersRootWord z → cap w′ ≡ cap w
-root-room w z e = ap cap e ∙ agree-header w 4 z (omega arith) (omega arith) .room
+root-room w z e = ap cap e ∙ agree-header w numbersRootWord z (omega arith) (omega arith) .room
 
 -- ---- post
 
@@ -127,15 +126,3 @@ module _
   -- the count written is the plain book's
   pub withdraw-count : suc n ≡ length (bookLines held) → n ≡ length (leave number (plain .offers))
   withdraw-count count = withdrawn-count a b live withdraw-steps count
-
--- ---- the header on the way
-
--- after a slot was filled and its number added
-pub post-header : {s : ℕ} {o : Offer} {w w₁ w₂ w₃ : Words} (z : ℤ) → Filled s o w w₁ → Within w₁ w₂ → w₃ ≡ wset w₂ numbersRootWord z → (i : ℕ) → i < 64 →
-    i ≢ 4 → i ≢ 5 → word w₃ i ≡ word w i
-post-header {w₂} z f g e i h d d′ = ap (λ (v : Words). word v i) e ∙ wset-other w₂ 4 i z d ∙ header-kept g i h ∙ f .header i h d′
-
--- after a number was dropped and its item removed
-pub withdraw-header : {w w₁ w₂ w₃ : Words} (z : ℤ) → Within w w₁ → w₂ ≡ wset w₁ numbersRootWord z → Within w₂ w₃ → (i : ℕ) → i < 64 → i ≢ 4 →
-    word w₃ i ≡ word w i
-withdraw-header {w₁} z f e g i h d = header-kept g i h ∙ ap (λ (v : Words). word v i) e ∙ wset-other w₁ 4 i z d ∙ header-kept f i h

@@ -12,7 +12,7 @@ use Rattle.trees.specs.Height.{height-full}
 use Rattle.dynamic.specs.OfferTree.{Held, Pair}
 use Rattle.dynamic.specs.Valid.{bookLines}
 use Rattle.dynamic.specs.Work.{Work, Searched, stepsOf, heightsOf}
-use Rattle.table.specs.Fields.{mostSlots}
+use Rattle.table.specs.Fields.{mostLevels, mostSlots}
 use Rattle.table.specs.Items.{Item}
 use Rattle.pieces.specs.Pieces.{items}
 use Rattle.update.specs.Steps.{Counted}
@@ -24,8 +24,8 @@ pub record Exact (log : List (Pair Item)) (n : Counts) : Type 0 where
   pub heights : n .heights ≡ heightsOf log
 
 record Low (p : Pair Item) : Type 0 where
-  front : height (p .front) ≤ 24
-  back : height (p .back) ≤ 24
+  front : height (p .front) ≤ mostLevels
+  back : height (p .back) ≤ mostLevels
 
 searched-low : {live : List Item} {p : Pair Item} → length live ≤ mostSlots → Searched items live p → Low p
 searched-low h s =
@@ -36,7 +36,7 @@ searched-low h s =
       back = height-full (s .right-balanced) (omega (arith, sub-length (s .right-envelope .sub)));
     }
 
-heights-few : (log : List (Pair Item)) → ((p : Pair Item) → List·Memᴰ p log → Low p) → heightsOf log ≤ 48 * length log
+heights-few : (log : List (Pair Item)) → ((p : Pair Item) → List·Memᴰ p log → Low p) → heightsOf log ≤ 2 * mostLevels * length log
 heights-few [] h = omega arith
 heights-few (p ∷ ps) h =
     let l = h p (List·Memᴰ·head refl) in

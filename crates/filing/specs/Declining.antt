@@ -2,9 +2,9 @@
 use mathlib.Core.Path.{_≡_, subst}
 use mathlib.Core.Logic.{_≢_}
 use mathlib.Core.Bool.{not, _&&_}
-use mathlib.Core.List.{List, [], _∷_, _++_}
+use mathlib.Core.List.{List}
 use mathlib.Core.Option.{Option}
-use Prim.Native.Nat.{ℕ, _+_, _-_, _≤_, _<_}
+use Prim.Native.Nat.{ℕ, _≤_, _<_}
 use native.Mathlib.Omega.{arith}
 use lib.ListN.{length}
 use lib.Dec.{T, T-not, not-T, le→leb}
@@ -13,8 +13,8 @@ use lib.IntN.{ℤ}
 use Rattle.lists.specs.Bools.{and-both, not-not}
 use Rattle.lists.specs.Tests.{any}
 use Rattle.offers.specs.Offers.{Offer, offerInRange, numberInRange, rateInRange, baseInRange}
-use Rattle.plain.specs.Causes.{Cause, Trial, numberLive, rateLive, bookFull, numberNotLive, Clear, FirstOf, at-once, further}
-use Rattle.plain.specs.Book.{State, Outcome, post, withdraw, refused, hasNumber, hasRate, rangeTrials, bookTrials, trials, step}
+use Rattle.plain.specs.Causes.{numberLive, rateLive, bookFull, numberNotLive, Clear, at-once, further}
+use Rattle.plain.specs.Book.{State, post, withdraw, hasNumber, hasRate, rangeTrials, bookTrials, trials, step}
 use Rattle.plain.specs.Trials.{first-behind, clear-append}
 use Rattle.plain.specs.Rules.{step-declined, refusing}
 use Rattle.dynamic.specs.OfferTree.{Held}

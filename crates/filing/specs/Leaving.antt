@@ -1,7 +1,7 @@
 -- An item leaves the tree of offers, as its offer leaves the plain book.
 use mathlib.Core.Path.{_≡_, refl, sym, _∙_, ap, subst}
 use mathlib.Core.Logic.{_≢_, _⊎_, inl, inr, ⊎-elim}
-use mathlib.Core.Bool.{Bool, true, false, not, _||_}
+use mathlib.Core.Bool.{Bool, not, _||_}
 use mathlib.Core.List.{List, [], _∷_, map, List·Memᴰ, List·Memᴰ·head, List·Memᴰ·tail, List·Memᴰ·not-nil, List·Memᴰ·cases-cons, Sublistᴰ, Pairwise·sublistᴰ}
 use mathlib.Core.Option.{Option, none, some}
 use Prim.Native.Nat.{ℕ, suc}
@@ -10,7 +10,7 @@ use lib.Dec.{T, not-T}
 use lib.IntN.{ℤ}
 use Rattle.lists.specs.Filter.{keep, keep-sublist, keep-passes, keep-in, keep-map}
 use Rattle.lists.specs.Places.{sublist-mem}
-use Rattle.lists.specs.Bools.{same-test, cond-yes, cond-no, or-left, or-right}
+use Rattle.lists.specs.Bools.{same-test, cond-yes, cond-no, or-left, or-right, or-cases}
 use Rattle.integers.specs.Equal.{equal}
 use Rattle.integers.specs.Parts.{equal-eq, unequal}
 use Rattle.envelopes.specs.Envelope.{Ordered, Ordered·cons}
@@ -34,11 +34,7 @@ use Rattle.table.specs.Items.{offerOf}
 -- ---- the items but one
 
 either-side : (a x : Item) → T (items .before a x || items .before x a) → T (items .before a x) ⊎ T (items .before x a)
-either-side a x t = go (items .before a x) (items .before x a) t
-  where
-    go : (p q : Bool) → T (p || q) → T p ⊎ T q
-    go true q t = inl tt
-    go false q t = inr t
+either-side a x t = or-cases (items .before a x) (items .before x a) t
 
 module _ (a : Item) (ls : List Item) where
   pub without-sublist : Sublistᴰ (without items a ls) ls

@@ -10,7 +10,7 @@ pub mod Writing
 -- lemmas: the counts of an update are exact: no log of a book comes near 2 ^ 32 searches, steps or heights
 pub mod Counts
 -- ways through the code: an item joins the tree of offers: alone where there is none, or inserted among those that are there
-pub mod Joining
+pub mod JoinedOffers
 -- lemmas: a post on a part that stands for a plain book
 pub mod Posting
 -- lemmas: an item leaves the tree of offers, as its offer leaves the plain book

@@ -4,14 +4,14 @@ use mathlib.Core.Logic.{_≢_}
 use mathlib.Core.HLevel.{¬-prop}
 use mathlib.Core.List.{List, [], _∷_, List·Memᴰ, List·Memᴰ·head, List·Memᴰ·tail, Pairwise, Pairwise·nil}
 use mathlib.Core.Option.{none}
-use Prim.Native.Nat.{ℕ, zero, suc, _+_, _*_, _≤_, _<_}
+use Prim.Native.Nat.{ℕ, zero, suc, _+_, _≤_, _<_}
 use native.Mathlib.Decide.{decLe}
 use native.Mathlib.Omega.{arith}
 use lib.ListN.{length}
 use lib.IntN.{ℤ, pos}
 use borrow.Author.Tests.{le-leb}
 use Rattle.lists.specs.Members.{pairs-cons}
-use Rattle.plain.specs.Book.{opened}
+use Rattle.plain.specs.Book.{opened, partLength}
 use Rattle.table.specs.Fields.{capacityWord, envelopeRootWord, firstFreeWord, liveCountWord, mostSlots, nextFreeField, numberField, numbersRootWord}
 use Rattle.table.specs.Fields.{offersRootWord}
 use Rattle.table.specs.Words.{Words, word, wset, wset-length, wset-same, wset-other, upTo, upTo-in}
@@ -25,7 +25,7 @@ use Rattle.filing.specs.Agree.{header-kept}
 pub record Begun (c : ℕ) (w : Words) : Type 0 where
   pub low : 1 ≤ c
   pub high : c ≤ mostSlots
-  pub room : 64 * (c + 1) ≤ length w
+  pub room : partLength c ≤ length w
   pub first : word w capacityWord ≡ pos c
   pub offers-root : word w offersRootWord ≡ pos 0
   pub envelope-root : word w envelopeRootWord ≡ pos 0
@@ -48,33 +48,35 @@ written w i z e =
     }
 
 pub begun :
-    (w : Words) {w₀ w₁ w₂ w₃ w₄ w₅ : Words} {c : ℕ} → 1 ≤ c → c ≤ mostSlots → 64 * (c + 1) ≤ length w →
+    (w : Words) {w₀ w₁ w₂ w₃ w₄ w₅ : Words} {c : ℕ} → 1 ≤ c → c ≤ mostSlots → partLength c ≤ length w →
     w₀ ≡ wset w capacityWord (pos c) → w₁ ≡ wset w₀ offersRootWord (pos 0) → w₂ ≡ wset w₁ envelopeRootWord (pos 0) → w₃ ≡ wset w₂ liveCountWord (pos 0) →
     w₄ ≡ wset w₃ numbersRootWord (pos 0) → w₅ ≡ wset w₄ firstFreeWord (pos 1) →
     Begun c w₅
 begun w {w₀} {w₁} {w₂} {w₃} {w₄} {w₅} {c} low high room e₀ e₁ e₂ e₃ e₄ e₅ =
-    let s₀ = written w 0 (pos c) e₀ in
-    let s₁ = written w₀ 1 (pos 0) e₁ in
-    let s₂ = written w₁ 2 (pos 0) e₂ in
-    let s₃ = written w₂ 3 (pos 0) e₃ in
-    let s₄ = written w₃ 4 (pos 0) e₄ in
-    let s₅ = written w₄ 5 (pos 1) e₅ in
+    let s₀ = written w capacityWord (pos c) e₀ in
+    let s₁ = written w₀ offersRootWord (pos 0) e₁ in
+    let s₂ = written w₁ envelopeRootWord (pos 0) e₂ in
+    let s₃ = written w₂ liveCountWord (pos 0) e₃ in
+    let s₄ = written w₃ numbersRootWord (pos 0) e₄ in
+    let s₅ = written w₄ firstFreeWord (pos 1) e₅ in
     record {
       low = low;
       high = high;
       room = omega arith;
-      first = s₅ .other 0 (omega arith) ∙ s₄ .other 0 (omega arith) ∙ s₃ .other 0 (omega arith) ∙ s₂ .other 0 (omega arith) ∙ s₁ .other 0 (omega arith)
-          ∙ s₀ .same (omega arith);
-      offers-root = s₅ .other 1 (omega arith) ∙ s₄ .other 1 (omega arith) ∙ s₃ .other 1 (omega arith) ∙ s₂ .other 1 (omega arith) ∙ s₁ .same (omega arith);
-      envelope-root = s₅ .other 2 (omega arith) ∙ s₄ .other 2 (omega arith) ∙ s₃ .other 2 (omega arith) ∙ s₂ .same (omega arith);
-      live-count = s₅ .other 3 (omega arith) ∙ s₄ .other 3 (omega arith) ∙ s₃ .same (omega arith);
-      numbers-root = s₅ .other 4 (omega arith) ∙ s₄ .same (omega arith);
+      first = s₅ .other capacityWord (omega arith) ∙ s₄ .other capacityWord (omega arith) ∙ s₃ .other capacityWord (omega arith)
+          ∙ s₂ .other capacityWord (omega arith) ∙ s₁ .other capacityWord (omega arith) ∙ s₀ .same (omega arith);
+      offers-root = s₅ .other offersRootWord (omega arith) ∙ s₄ .other offersRootWord (omega arith) ∙ s₃ .other offersRootWord (omega arith)
+          ∙ s₂ .other offersRootWord (omega arith) ∙ s₁ .same (omega arith);
+      envelope-root = s₅ .other envelopeRootWord (omega arith) ∙ s₄ .other envelopeRootWord (omega arith) ∙ s₃ .other envelopeRootWord (omega arith)
+          ∙ s₂ .same (omega arith);
+      live-count = s₅ .other liveCountWord (omega arith) ∙ s₄ .other liveCountWord (omega arith) ∙ s₃ .same (omega arith);
+      numbers-root = s₅ .other numbersRootWord (omega arith) ∙ s₄ .same (omega arith);
       first-free = s₅ .same (omega arith);
     }
 
 pub begun-cap : {c : ℕ} {w : Words} → Begun c w → cap w ≡ c
 unfolding cap
-begun-cap {c} {w} b = ap (fitting (length w)) (ap (upTo mostSlots) (b .first) ∙ upTo-in mostSlots c (b .high)) ∙ rw (le-leb (64 * (c + 1)) (length w) (b .room))
+begun-cap {c} {w} b = ap (fitting (length w)) (ap (upTo mostSlots) (b .first) ∙ upTo-in mostSlots c (b .high)) ∙ rw (le-leb (partLength c) (length w) (b .room))
 
 -- ---- the slots, one after another
 
@@ -101,8 +103,8 @@ pub laid-more :
 laid-more {c} {n} {m} {w} {w₀} {w₁} {w₂} fits l h e₁ e₂ inner last =
     record {
       within = within-trans (l .within) (within-trans to₁ to₂);
-      number = λ s low high. by s (decLe s n) (λ k. old 0 s k ∙ l .number s low k) (λ d. ap (cell w₂ numberField) d ∙ new₀) high;
-      next = λ s low high k. by s (decLe s n) (λ q. old 3 s q ∙ l .next s low q k) (λ d. ap (cell w₂ nextFreeField) d ∙ new₃
+      number = λ s low high. by s (decLe s n) (λ k. old numberField s k ∙ l .number s low k) (λ d. ap (cell w₂ numberField) d ∙ new₀) high;
+      next = λ s low high k. by s (decLe s n) (λ q. old nextFreeField s q ∙ l .next s low q k) (λ d. ap (cell w₂ nextFreeField) d ∙ new₃
           ∙ ap pos (inner (omega arith) ∙ ap suc (sym d))) high;
       end = λ s low high k. by s (decLe s n) (λ q. absurd (omega arith)) (λ d. ap (cell w₂ nextFreeField) d ∙ new₃ ∙ ap pos (last (sym d ∙ k))) high;
     }
@@ -112,26 +114,28 @@ laid-more {c} {n} {m} {w} {w₀} {w₁} {w₂} fits l h e₁ e₂ inner last =
     by s (no k) f g h = g (omega arith)
 
     to₁ : Within w₀ w₁
-    to₁ = rw e₁ (within-cset w₀ 0 (suc n) (pos 0))
+    to₁ = rw e₁ (within-cset w₀ numberField (suc n) (pos 0))
 
     to₂ : Within w₁ w₂
-    to₂ = rw e₂ (within-cset w₁ 3 (suc n) (pos m))
+    to₂ = rw e₂ (within-cset w₁ nextFreeField (suc n) (pos m))
 
     here : (v : Words) (f : ℕ) → f < 32 → cap v ≡ cap w → Valid v f (suc n)
     here v f k d = record { low = omega arith; high = omega arith; field = k }
 
     old : (f s : ℕ) → s ≤ n → cell w₂ f s ≡ cell w₀ f s
     old f s k =
-        ap (λ (v : Words). cell v f s) e₂ ∙ cset-other w₁ 3 (suc n) (pos m) (λ q. omega (arith, q .1))
-        ∙ ap (λ (v : Words). cell v f s) e₁ ∙ cset-other w₀ 0 (suc n) (pos 0) (λ q. omega (arith, q .1))
+        ap (λ (v : Words). cell v f s) e₂ ∙ cset-other w₁ nextFreeField (suc n) (pos m) (λ q. omega (arith, q .1))
+        ∙ ap (λ (v : Words). cell v f s) e₁ ∙ cset-other w₀ numberField (suc n) (pos 0) (λ q. omega (arith, q .1))
 
     new₀ : cell w₂ numberField (suc n) ≡ pos 0
     new₀ =
-        ap (λ (v : Words). cell v numberField (suc n)) e₂ ∙ cset-other w₁ 3 (suc n) (pos m) (λ q. omega (arith, q .0))
-        ∙ ap (λ (v : Words). cell v numberField (suc n)) e₁ ∙ cset-same (pos 0) (here w₀ 0 (omega arith) (within-cap (l .within)))
+        ap (λ (v : Words). cell v numberField (suc n)) e₂ ∙ cset-other w₁ nextFreeField (suc n) (pos m) (λ q. omega (arith, q .0))
+        ∙ ap (λ (v : Words). cell v numberField (suc n)) e₁ ∙ cset-same (pos 0) (here w₀ numberField (omega arith) (within-cap (l .within)))
 
     new₃ : cell w₂ nextFreeField (suc n) ≡ pos m
-    new₃ = ap (λ (v : Words). cell v nextFreeField (suc n)) e₂ ∙ cset-same (pos m) (here w₁ 3 (omega arith) (within-cap to₁ ∙ within-cap (l .within)))
+    new₃ =
+        ap (λ (v : Words). cell v nextFreeField (suc n)) e₂
+        ∙ cset-same (pos m) (here w₁ nextFreeField (omega arith) (within-cap to₁ ∙ within-cap (l .within)))
 
 -- ---- the chain of all slots
 
@@ -177,21 +181,21 @@ module _ {c : ℕ} {w w′ : Words} (b : Begun c w) (l : Laid c c w w′) where
         some-slot = b .low;
         offers =
             record {
-              offers-root = header-kept (l .within) 1 (omega arith) ∙ b .offers-root;
-              envelope-root = header-kept (l .within) 2 (omega arith) ∙ b .envelope-root;
-              live-count = header-kept (l .within) 3 (omega arith) ∙ b .live-count;
+              offers-root = header-kept (l .within) offersRootWord (omega arith) ∙ b .offers-root;
+              envelope-root = header-kept (l .within) envelopeRootWord (omega arith) ∙ b .envelope-root;
+              live-count = header-kept (l .within) liveCountWord (omega arith) ∙ b .live-count;
               offers-in = tt;
             };
         numbers =
             record {
               numbers = none;
-              numbers-root = header-kept (l .within) 4 (omega arith) ∙ b .numbers-root;
+              numbers-root = header-kept (l .within) numbersRootWord (omega arith) ∙ b .numbers-root;
               numbers-in = record { tied = tt; balanced = tt; falling = Pairwise·nil; all-live = λ a m. m; all-there = λ a m. m };
             };
         free =
             record {
               free = upward c 1;
-              first-free = header-kept (l .within) 5 (omega arith) ∙ b .first-free ∙ ap pos (sym (upward-head c 1 (b .low)));
+              first-free = header-kept (l .within) firstFreeWord (omega arith) ∙ b .first-free ∙ ap pos (sym (upward-head c 1 (b .low)));
               free-chain = chain c 1 (omega arith) (omega arith);
               free-apart = upward-apart c 1;
               slots-used = omega (arith, fits, upward-length c 1);

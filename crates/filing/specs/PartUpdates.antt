@@ -3,15 +3,15 @@ use mathlib.Core.Path.{_≡_, refl, _∙_, ap, subst}
 use mathlib.Core.Bool.{Bool, true, false}
 use mathlib.Core.List.{List, [], _∷_, List·Memᴰ, List·Memᴰ·not-nil}
 use mathlib.Core.Option.{Option}
-use Prim.Native.Nat.{ℕ, suc, _+_, _*_, _-_, _≤_, _<_}
+use Prim.Native.Nat.{ℕ, suc, _-_, _≤_, _<_}
 use native.Mathlib.Omega.{arith}
 use lib.ListN.{length}
 use lib.IntN.{ℤ, pos}
 use Rattle.plain.specs.Causes.{Cause, causeNumber, FirstOf, Clear}
-use Rattle.plain.specs.Book.{State, Call, post, join, leave, rangeTrials, trials, holding, step}
+use Rattle.plain.specs.Book.{State, Call, post, join, leave, partLength, rangeTrials, trials, holding, step}
 use Rattle.dynamic.specs.OfferTree.{Held}
 use Rattle.dynamic.specs.Valid.{bookLines}
-use Rattle.table.specs.Fields.{baseField, envelopeRootWord, liveCountWord, mostNodes, nextFreeField, numberField, numbersRootWord, offerTree}
+use Rattle.table.specs.Fields.{baseField, envelopeRootWord, firstFreeWord, liveCountWord, mostNodes, nextFreeField, numberField, numbersRootWord, offerTree}
 use Rattle.table.specs.Fields.{offersRootWord, rateField}
 use Rattle.table.specs.Words.{Words, word, wset, wset-length, wset-other, upTo, upTo-most}
 use Rattle.table.specs.Layout.{cap, cset, cset-length, cset-cap, cset-rest, header-cap, beyond-outside}
@@ -27,11 +27,12 @@ use Rattle.form.specs.Form.{Book}
 use Rattle.numbers.specs.Numbers.{FoundNumber, Added, Dropped}
 use Rattle.form.specs.Live.{live-length}
 use Rattle.form.specs.HeaderWords.{count-read}
+use Rattle.form.specs.Roots.{offersRoot}
 use Rattle.filing.specs.Sought.{number-sought, rate-sought}
 use Rattle.plain.specs.Rules.{refusing}
 use Rattle.filing.specs.Declining.{post-number-live, post-rate-live, post-full, post-clear}
 use Rattle.filing.specs.Writing.{filling, rootsOf, rooting}
-use Rattle.filing.specs.Joining.{Joined, joins-alone, joins-among}
+use Rattle.filing.specs.JoinedOffers.{Joined, joins-alone, joins-among}
 use Rattle.filing.specs.Posting.{Updated, Postable, postable}
 use Rattle.filing.specs.Withdrawing.{live-at}
 use Rattle.filing.specs.Calls.{WithdrawWrites, post-done, withdraw-done, withdraw-count}
@@ -48,7 +49,7 @@ pub record OutOfRange (k : Call) (b : Bool) : Type 0 where
 pub record Kept (w w′ : Words) : Type 0 where
   pub long : length w′ ≡ length w
   pub room : cap w′ ≡ cap w
-  pub rest : (i : ℕ) → 64 * (cap w + 1) ≤ i → word w′ i ≡ word w i
+  pub rest : (i : ℕ) → partLength (cap w) ≤ i → word w′ i ≡ word w i
 
 then : {w w′ w″ : Words} → Kept w w′ → Kept w′ w″ → Kept w w″
 then f g = record { long = g .long ∙ f .long; room = g .room ∙ f .room; rest = λ i h. g .rest i (omega (arith, h, f .room)) ∙ f .rest i h }
@@ -78,20 +79,24 @@ kept-joined (joins-among nz i) = kept-within (i .within)
 
 kept-filling : (n r z : ℤ) (s : ℕ) (w : Words) → Kept w (filling n r z s w)
 kept-filling n r z s w =
-    then (then (then (kept-header w 5 _ (omega arith) (omega arith)) (kept-cell (taken w) 0 s n)) (kept-cell (cset (taken w) numberField s n) 1 s r))
-    (kept-cell (cset (cset (taken w) numberField s n) rateField s r) 2 s z)
+    let w₁ = cset (taken w) numberField s n in
+    let w₂ = cset w₁ rateField s r in
+    then (then (then (kept-header w firstFreeWord _ (omega arith) (omega arith)) (kept-cell (taken w) numberField s n)) (kept-cell w₁ rateField s r))
+    (kept-cell w₂ baseField s z)
 
 kept-rooting : (x : InHand) (n : ℕ) (w : Words) → Kept w (rooting x n w)
 kept-rooting x n w =
     let w₁ = wset w offersRootWord (pos (x .tree)) in
     let w₂ = wset w₁ envelopeRootWord (pos (x .envelope)) in
-    then (then (kept-header w 1 (pos (x .tree)) (omega arith) (omega arith)) (kept-header w₁ 2 (pos (x .envelope)) (omega arith) (omega arith)))
-    (kept-header w₂ 3 (pos n) (omega arith) (omega arith))
+    then
+    (then (kept-header w offersRootWord (pos (x .tree)) (omega arith) (omega arith))
+    (kept-header w₁ envelopeRootWord (pos (x .envelope)) (omega arith) (omega arith)))
+    (kept-header w₂ liveCountWord (pos n) (omega arith) (omega arith))
 
 kept-given : (w : Words) (s : ℕ) → Kept w (given w s)
 kept-given w s =
-    then (then (kept-cell w 0 s (pos 0)) (kept-cell (cset w numberField s (pos 0)) 3 s (pos (firstFree w))))
-    (kept-header (cset (cset w numberField s (pos 0)) nextFreeField s (pos (firstFree w))) 5 (pos s) (omega arith) (omega arith))
+    then (then (kept-cell w numberField s (pos 0)) (kept-cell (cset w numberField s (pos 0)) nextFreeField s (pos (firstFree w))))
+    (kept-header (cset (cset w numberField s (pos 0)) nextFreeField s (pos (firstFree w))) firstFreeWord (pos s) (omega arith) (omega arith))
 
 pub filled-in : (n r z : ℤ) (w : Words) (s : ℕ) {w₁ w₂ w₃ w₄ : Words} → w₁ ≡ taken w → w₂ ≡ cset w₁ numberField s n → w₃ ≡ cset w₂ rateField s r →
     w₄ ≡ cset w₃ baseField s z → w₄ ≡ filling n r z s w
@@ -130,7 +135,7 @@ module _ (n r : ℤ) (w : Words) {root s : ℕ} (er : root ≡ upTo mostNodes (w
         clears = λ z plain held b g q. absurd (omega (arith, q));
       }
 
-  module _ {x u : ℕ} (low : s ≤ 0) (ex : x ≡ upTo mostNodes (word w offersRootWord)) (d : Found w offerTree rateField r x u) where
+  module _ {x u : ℕ} (low : s ≤ 0) (ex : x ≡ offersRoot w) (d : Found w offerTree rateField r x u) where
     pub cause-rate : 0 < u → PostCause n r w 6
     cause-rate h =
         record {
@@ -183,7 +188,7 @@ posted-part n r z {w} {w₁} {w₂} {w₃} {w₄} {w′} {s} {root} {root′} {i
     record {
       kept =
           then (then (then (then (then (then (kept-filling n r z s w) (kept-same e₁)) (kept-within (added .within)))
-          (then (kept-header w₂ 4 (pos root′) (omega arith) (omega arith)) (kept-same e₃))) (kept-joined joined))
+          (then (kept-header w₂ numbersRootWord (pos root′) (omega arith) (omega arith)) (kept-same e₃))) (kept-joined joined))
           (kept-rooting (m .held) live w₄)) (kept-same e′′);
       done = λ plain held b new. (
         post-done (record { number = n; rate = r; base = z }) b new
@@ -224,8 +229,9 @@ pub withdrawn-part :
 withdrawn-part n {w} {w₁} {w₂} {w₃} {w₄} {w′} {s} {root} {root′} {i} {live} {x} {m} er ex ei dropped e₂ removed el e₄ e′′ =
     record {
       kept =
-          then (then (then (then (then (then (kept-within (dropped .within)) (then (kept-header w₁ 4 (pos root′) (omega arith) (omega arith)) (kept-same e₂)))
-          (kept-within (removed .within))) (kept-rooting (m .held) live w₃)) (kept-same e₄)) (kept-given w₄ s)) (kept-same e′′);
+          then (then (then (then (then (then (kept-within (dropped .within))
+          (then (kept-header w₁ numbersRootWord (pos root′) (omega arith) (omega arith)) (kept-same e₂))) (kept-within (removed .within)))
+          (kept-rooting (m .held) live w₃)) (kept-same e₄)) (kept-given w₄ s)) (kept-same e′′);
       done = finish;
     }
   where

@@ -42,7 +42,7 @@ use Rattle.filing.specs.Agree.{header-set, offers-number, numbers-envelo
 use Rattle.filing.specs.Agree.{free-agree}
 use Rattle.filing.specs.Writing.{rootsOf, Filled, Headed, FirstFree, first-free}
 use Rattle.filing.specs.Counts.{Exact, counts-exact}
-use Rattle.filing.specs.Joining.{placed-join, placed-length, in-placed, rate-new, Joined, JoinedIn, joins}
+use Rattle.filing.specs.JoinedOffers.{placed-join, placed-length, in-placed, rate-new, Joined, JoinedIn, joins}
 
 -- What an update gives in the end: the part stands for this plain book, with a log of those counts.
 pub record Updated (w′ : Words) (plain : State) (held : Option (Held Item)) (n : Counts) : Type 0 where
@@ -146,7 +146,7 @@ module _
   numbers′ = added₂ .0
 
   rooted₃ : Agree Everywhere w₂ w₃
-  rooted₃ = rw (steps .rooted) (agree-header w₂ 4 (pos root′) (omega arith) (omega arith))
+  rooted₃ = rw (steps .rooted) (agree-header w₂ numbersRootWord (pos root′) (omega arith) (omega arith))
 
   numbers₃ : NumbersAt w₃ root′ (itemAt s o ∷ bookLines held) numbers′
   unfolding numbers′
@@ -210,19 +210,20 @@ module _
 
   numbers-root′ : word w′ numbersRootWord ≡ pos (partRef numbers′)
   numbers-root′ =
-      steps .headed .header 4 (omega arith) (omega arith)
-      ∙ header-kept (joined₄ .within) 4 (omega arith)
+      steps .headed .header numbersRootWord (omega arith) (omega arith)
+      ∙ header-kept (joined₄ .within) numbersRootWord (omega arith)
       ∙ ap (λ (v : Words). word v numbersRootWord) (steps .rooted)
-      ∙ header-set w₂ 4 (pos root′) (omega (arith, free .low, slots₁ .high (List·Memᴰ·head refl), within-cap (steps .added .within))) (omega arith)
+      ∙ header-set w₂ numbersRootWord (pos root′) (omega (arith, free .low, slots₁ .high (List·Memᴰ·head refl), within-cap (steps .added .within)))
+      (omega arith)
       ∙ ap pos (numbers-at′ .root-is)
 
   first-free′ : word w′ firstFreeWord ≡ pos (head0 others)
   first-free′ =
-      steps .headed .header 5 (omega arith) (omega arith)
-      ∙ header-kept (joined₄ .within) 5 (omega arith)
+      steps .headed .header firstFreeWord (omega arith) (omega arith)
+      ∙ header-kept (joined₄ .within) firstFreeWord (omega arith)
       ∙ ap (λ (v : Words). word v firstFreeWord) (steps .rooted)
-      ∙ wset-other w₂ 4 5 (pos root′) (omega arith)
-      ∙ header-kept (steps .added .within) 5 (omega arith)
+      ∙ wset-other w₂ numbersRootWord firstFreeWord (pos root′) (omega arith)
+      ∙ header-kept (steps .added .within) firstFreeWord (omega arith)
       ∙ steps .filled .first
       ∙ ap pos (free .next)
 

@@ -2,13 +2,12 @@
 use mathlib.Core.Path.{_≡_, refl, sym, _∙_, ap, subst}
 use mathlib.Core.Logic.{_≢_}
 use mathlib.Core.Bool.{Bool, true, false, not, _&&_}
-use mathlib.Core.List.{List, [], _∷_, map, List·Memᴰ, List·Memᴰ·head, List·Memᴰ·tail, List·Memᴰ·not-nil, Memᴰ·append-left, Memᴰ·map, Memᴰ·of-map}
+use mathlib.Core.List.{List, [], _∷_, map, List·Memᴰ, List·Memᴰ·head, List·Memᴰ·tail, List·Memᴰ·not-nil, Memᴰ·map, Memᴰ·of-map}
 use mathlib.Core.Option.{Option, none, some}
-use Prim.Native.Nat.{ℕ, _≤_}
+use Prim.Native.Nat.{ℕ}
 use native.Mathlib.Omega.{arith}
-use lib.ListN.{length}
 use lib.Dec.{T, T-not, not-T}
-use lib.IntN.{ℤ, pos}
+use lib.IntN.{ℤ}
 use Rattle.lists.specs.Filter.{every}
 use Rattle.lists.specs.Tests.{any, none-at}
 use Rattle.lists.specs.Bools.{not-failed}
@@ -17,24 +16,19 @@ use Rattle.integers.specs.Parts.{equal-eq, unequal}
 use Rattle.offers.specs.Offers.{Offer}
 use Rattle.plain.specs.Book.{State}
 use Rattle.envelopes.specs.EnvelopeLaws.{ordered-pairs}
-use Rattle.trees.specs.Tree.{Tree, leaf, node, leaves, last}
-use Rattle.trees.specs.Leaves.{last-leaf}
-use Rattle.trees.specs.Operations.{Part, partLeaves, find}
+use Rattle.trees.specs.Tree.{leaves}
+use Rattle.trees.specs.Operations.{find}
 use Rattle.trees.specs.Order.{Falling}
 use Rattle.trees.specs.Find.{find-complete, none-find}
 use Rattle.dynamic.specs.OfferTree.{Held, heldShape}
 use Rattle.dynamic.specs.Valid.{bookLines}
-use Rattle.dynamic.specs.Rearranged.{stored}
-use Rattle.table.specs.Fields.{envelopeRootWord, liveCountWord, mostNodes, mostSlots, numbersRootWord, offerTree, offersRootWord, rateField}
-use Rattle.table.specs.Words.{Words, word, upTo, upTo-in}
-use Rattle.table.specs.Layout.{cap-most}
+use Rattle.table.specs.Fields.{mostNodes, numbersRootWord, offerTree, rateField}
+use Rattle.table.specs.Words.{Words, word, upTo}
 use Rattle.table.specs.Items.{Item, Slots}
-use Rattle.table.specs.Rep.{refOf}
-use Rattle.table.specs.PartTrees.{partRef}
 use Rattle.descents.specs.Finds.{Found, foundAt}
 use Rattle.pieces.specs.Pieces.{rateOf}
-use Rattle.form.specs.Frames.{held-slots}
-use Rattle.form.specs.Form.{Book, OffersIn, numberOf, offersRef, envelopeRef}
+use Rattle.form.specs.Form.{Book, OffersIn, numberOf, offersRef}
+use Rattle.form.specs.Roots.{offersRoot}
 use Rattle.numbers.specs.Numbers.{NumbersAt, FoundNumber}
 use Rattle.table.specs.Items.{offerOf}
 use Rattle.form.specs.Live.{live-slots, live-holds}
@@ -124,7 +118,7 @@ module _ {w : Words} {plain : State} {held : Option (Held Item)} (b : Book w pla
   pub number-sought : {n : ℤ} {root s : ℕ} → FoundNumber n root w s → root ≡ upTo mostNodes (word w numbersRootWord) → Sought numberOf n (bookLines held) s
   number-sought {n} f e = sought-by (λ o. o .number) n (bookLines held) (f .found _ _ (numbers-at e)) (f .missing _ _ (numbers-at e))
 
-  pub rate-sought : {r : ℤ} {x s : ℕ} → Found w offerTree rateField r x s → x ≡ upTo mostNodes (word w offersRootWord) → Sought rateOf r (bookLines held) s
+  pub rate-sought : {r : ℤ} {x s : ℕ} → Found w offerTree rateField r x s → x ≡ offersRoot w → Sought rateOf r (bookLines held) s
   rate-sought {r} {x} {s} f e = go held (b .offers .offers-in) (e ∙ offers-read b)
     where
       go : (h : Option (Held Item)) → OffersIn w h → x ≡ offersRef h → Sought rateOf r (bookLines h) s

@@ -2,7 +2,7 @@
 use mathlib.Core.Path.{_≡_, refl, sym, _∙_, ap, subst}
 use mathlib.Core.Logic.{_≢_}
 use mathlib.Core.Option.{none}
-use Prim.Native.Nat.{ℕ, suc, _+_, _*_, _-_, _≤_, _<_}
+use Prim.Native.Nat.{ℕ, suc, _≤_, _<_}
 use native.Mathlib.Omega.{arith}
 use lib.ListN.{length}
 use lib.IntN.{ℤ, pos}
@@ -20,8 +20,8 @@ use Rattle.filing.specs.Opening.{Begun, begun, begun-cap, Laid, laid-mor
 -- six words at the front are written
 pub record Heading (c : ℕ) (w w′ : Words) : Type 0 where
   pub long : length w′ ≡ length w
-  pub rest : (i : ℕ) → 6 ≤ i → word w′ i ≡ word w i
-  pub begins : 1 ≤ c → c ≤ mostSlots → 64 * (c + 1) ≤ length w → Begun c w′
+  pub rest : (i : ℕ) → firstFreeWord < i → word w′ i ≡ word w i
+  pub begins : 1 ≤ c → c ≤ mostSlots → partLength c ≤ length w → Begun c w′
 
 after : (w w′ : Words) (i : ℕ) (z : ℤ) → w′ ≡ wset w i z → (j : ℕ) → j ≢ i → word w′ j ≡ word w j
 after w w′ i z e j h = ap (λ (v : Words). word v j) e ∙ wset-other w i j z h
@@ -33,11 +33,12 @@ pub heading :
     Heading c w w₅
 heading w w₀ w₁ w₂ w₃ w₄ w₅ c e₀ e₁ e₂ e₃ e₄ e₅ =
     record {
-      long = ap length e₅ ∙ wset-length w₄ 5 (pos 1) ∙ ap length e₄ ∙ wset-length w₃ 4 (pos 0) ∙ ap length e₃ ∙ wset-length w₂ 3 (pos 0) ∙ ap length e₂
-          ∙ wset-length w₁ 2 (pos 0) ∙ ap length e₁ ∙ wset-length w₀ 1 (pos 0) ∙ ap length e₀ ∙ wset-length w 0 (pos c);
-      rest = λ i h. after w₄ w₅ 5 (pos 1) e₅ i (λ q. omega (arith, q, h)) ∙ after w₃ w₄ 4 (pos 0) e₄ i (λ q. omega (arith, q, h))
-          ∙ after w₂ w₃ 3 (pos 0) e₃ i (λ q. omega (arith, q, h)) ∙ after w₁ w₂ 2 (pos 0) e₂ i (λ q. omega (arith, q, h))
-          ∙ after w₀ w₁ 1 (pos 0) e₁ i (λ q. omega (arith, q, h)) ∙ after w w₀ 0 (pos c) e₀ i (λ q. omega (arith, q, h));
+      long = ap length e₅ ∙ wset-length w₄ firstFreeWord (pos 1) ∙ ap length e₄ ∙ wset-length w₃ numbersRootWord (pos 0) ∙ ap length e₃
+          ∙ wset-length w₂ liveCountWord (pos 0) ∙ ap length e₂ ∙ wset-length w₁ envelopeRootWord (pos 0) ∙ ap length e₁
+          ∙ wset-length w₀ offersRootWord (pos 0) ∙ ap length e₀ ∙ wset-length w capacityWord (pos c);
+      rest = λ i h. after w₄ w₅ firstFreeWord (pos 1) e₅ i (λ q. omega (arith, q, h)) ∙ after w₃ w₄ numbersRootWord (pos 0) e₄ i (λ q. omega (arith, q, h))
+          ∙ after w₂ w₃ liveCountWord (pos 0) e₃ i (λ q. omega (arith, q, h)) ∙ after w₁ w₂ envelopeRootWord (pos 0) e₂ i (λ q. omega (arith, q, h))
+          ∙ after w₀ w₁ offersRootWord (pos 0) e₁ i (λ q. omega (arith, q, h)) ∙ after w w₀ capacityWord (pos c) e₀ i (λ q. omega (arith, q, h));
       begins = λ low high room. begun w low high room e₀ e₁ e₂ e₃ e₄ e₅;
     }
 
@@ -83,7 +84,7 @@ pub record Starts (c : ℕ) (w w′ : Words) : Type 0 where
   pub stands : Book w′ (opened (pos c)) none
   pub beyond : Beyond c w w′
 
-pub starts : {c : ℕ} {w w₀ w′ : Words} → 1 ≤ c → c ≤ mostSlots → 64 * (c + 1) ≤ length w → Heading c w w₀ → Lays c w₀ w′ → Starts c w w′
+pub starts : {c : ℕ} {w w₀ w′ : Words} → 1 ≤ c → c ≤ mostSlots → partLength c ≤ length w → Heading c w w₀ → Lays c w₀ w′ → Starts c w w′
 starts {c} {w} {w₀} {w′} low high room g l =
     record {
       stands = opened-book b laid;

@@ -16,7 +16,7 @@ use Rattle.dynamic.specs.OfferTree.{Held}
 use Rattle.dynamic.specs.Updates.{withdrawn}
 use Rattle.dynamic.specs.Valid.{bookLines, without}
 use Rattle.dynamic.specs.Updated.{withdrawn-lines, withdrawn-work}
-use Rattle.table.specs.Fields.{mostNodes, numberTree, numbersRootWord}
+use Rattle.table.specs.Fields.{envelopeRootWord, firstFreeWord, liveCountWord, mostNodes, numberTree, numbersRootWord, offersRootWord}
 use Rattle.table.specs.Words.{Words, word, wset, wset-other, upTo, upTo-in}
 use Rattle.table.specs.Layout.{cap, cap-most}
 use Rattle.table.specs.Items.{Item, In, at}
@@ -98,7 +98,7 @@ module _
   numbers′ = dropped₁ .0
 
   rooted₂ : Agree Everywhere w₁ w₂
-  rooted₂ = rw (steps .rooted) (agree-header w₁ 4 (pos root′) (omega arith) (omega arith))
+  rooted₂ = rw (steps .rooted) (agree-header w₁ numbersRootWord (pos root′) (omega arith) (omega arith))
 
   offers₂ : OffersIn w₂ held
   offers₂ =
@@ -148,29 +148,29 @@ module _
   slot-high = omega (arith, live .slot, live-slots w held (b .offers .offers-in) .high (live .member))
 
   -- what the header held before
-  header-before : (i : ℕ) → 4 ≤ i → i < 64 → i ≢ 4 → word w₄ i ≡ word w i
+  header-before : (i : ℕ) → liveCountWord < i → i < 64 → i ≢ numbersRootWord → word w₄ i ≡ word w i
   header-before i l g d =
       steps .headed .header i l g
       ∙ header-kept (left₃ .within) i g
       ∙ ap (λ (v : Words). word v i) (steps .rooted)
-      ∙ wset-other w₁ 4 i (pos root′) d
+      ∙ wset-other w₁ numbersRootWord i (pos root′) d
       ∙ header-kept (steps .dropped .within) i g
 
   free-chain′ : FreeChain w′ (s ∷ b .free .free)
   free-chain′ =
       free-more slot-low (omega (arith, free-kept .room, slot-high)) (steps .freed .number)
       (steps .freed .next
-      ∙ ap pos (ap (upTo mostNodes) (header-before 5 (omega arith) (omega arith) (omega arith) ∙ b .free .first-free)
+      ∙ ap pos (ap (upTo mostNodes) (header-before firstFreeWord (omega arith) (omega arith) (omega arith) ∙ b .free .first-free)
       ∙ upTo-in mostNodes (head0 (b .free .free)) (omega (arith, chain-head (b .free .free-chain), cap-most w))))
       (free-agree free-kept (b .free .free-chain))
 
   numbers-root′ : word w′ numbersRootWord ≡ pos (partRef numbers′)
   numbers-root′ =
-      steps .freed .header 4 (omega arith) (omega arith)
-      ∙ steps .headed .header 4 (omega arith) (omega arith)
-      ∙ header-kept (left₃ .within) 4 (omega arith)
+      steps .freed .header numbersRootWord (omega arith) (omega arith)
+      ∙ steps .headed .header numbersRootWord (omega arith) (omega arith)
+      ∙ header-kept (left₃ .within) numbersRootWord (omega arith)
       ∙ ap (λ (v : Words). word v numbersRootWord) (steps .rooted)
-      ∙ header-set w₁ 4 (pos root′) (omega (arith, slot-low, slot-high, within-cap (steps .dropped .within))) (omega arith)
+      ∙ header-set w₁ numbersRootWord (pos root′) (omega (arith, slot-low, slot-high, within-cap (steps .dropped .within))) (omega arith)
       ∙ ap pos (numbers-at′ .root-is)
 
   fewer : length (bookLines held) ≡ suc (length (bookLines (withdrawn items a held .rest)))
@@ -188,9 +188,9 @@ module _
         some-slot = b .some-slot;
         offers =
             record {
-              offers-root = steps .freed .header 1 (omega arith) (omega arith) ∙ steps .headed .root ∙ ap pos (left₃ .left .root);
-              envelope-root = steps .freed .header 2 (omega arith) (omega arith) ∙ steps .headed .envelope ∙ ap pos (left₃ .left .envelope);
-              live-count = steps .freed .header 3 (omega arith) (omega arith) ∙ steps .headed .count ∙ ap pos (omega (arith, fewer));
+              offers-root = steps .freed .header offersRootWord (omega arith) (omega arith) ∙ steps .headed .root ∙ ap pos (left₃ .left .root);
+              envelope-root = steps .freed .header envelopeRootWord (omega arith) (omega arith) ∙ steps .headed .envelope ∙ ap pos (left₃ .left .envelope);
+              live-count = steps .freed .header liveCountWord (omega arith) (omega arith) ∙ steps .headed .count ∙ ap pos (omega (arith, fewer));
               offers-in = offers′;
             };
         numbers = record { numbers = numbers′; numbers-root = numbers-root′; numbers-in = numbers-in′ };

@@ -23,6 +23,7 @@ use Rattle.table.specs.Items.{Item, In, at}
 use Rattle.table.specs.Threads.{Holds}
 use Rattle.form.specs.Form.{Book, FreeChain, free-more, head0}
 use Rattle.form.specs.Live.{live-holds}
+use Rattle.form.specs.Roots.{envelopeRoot, offersRoot}
 use Rattle.filing.specs.Agree.{Agree, Everywhere, Elsewhere, agree-trans, agree-less, agree-header, agree-cset, header-set}
 use Rattle.update.specs.declared.Held.{Held as InHand}
 
@@ -34,13 +35,9 @@ filling n r z s w = cset (cset (cset (taken w) numberField s n) rateField s r) b
 
 -- the roots that the header tells
 abbrev pub rootsOf : Words → InHand
-rootsOf w = record { tree = upTo mostNodes (word w offersRootWord); envelope = upTo mostNodes (word w envelopeRootWord) }
+rootsOf w = record { tree = offersRoot w; envelope = envelopeRoot w }
 
-pub roots-read :
-    (w : Words) {x e : ℕ} →
-    x ≡ upTo mostNodes (word w offersRootWord) →
-    e ≡ upTo mostNodes (word w envelopeRootWord) →
-    record { tree = x; envelope = e } ≡ rootsOf w
+pub roots-read : (w : Words) {x e : ℕ} → x ≡ offersRoot w → e ≡ envelopeRoot w → record { tree = x; envelope = e } ≡ rootsOf w
 roots-read w p q = λ i. record { tree = p i; envelope = q i }
 
 -- the roots and the live count
@@ -54,7 +51,7 @@ pub record Filled (s : ℕ) (o : Offer) (w w′ : Words) : Type 0 where
   pub rate : cell w′ rateField s ≡ o .rate
   pub base : cell w′ baseField s ≡ o .base
   pub first : word w′ firstFreeWord ≡ pos (linkAt w nextFreeField s)
-  pub header : (i : ℕ) → i < 64 → i ≢ 5 → word w′ i ≡ word w i
+  pub header : (i : ℕ) → i < 64 → i ≢ firstFreeWord → word w′ i ≡ word w i
   pub agree : Agree (Elsewhere s) w w′
 
 -- ---- a slot is given back: it is then the first free slot
@@ -63,7 +60,7 @@ pub record Freed (s : ℕ) (w w′ : Words) : Type 0 where
   pub number : cell w′ numberField s ≡ pos 0
   pub next : cell w′ nextFreeField s ≡ pos (firstFree w)
   pub first : word w′ firstFreeWord ≡ pos s
-  pub header : (i : ℕ) → i < 64 → i ≢ 5 → word w′ i ≡ word w i
+  pub header : (i : ℕ) → i < 64 → i ≢ firstFreeWord → word w′ i ≡ word w i
   pub agree : Agree (Elsewhere s) w w′
 
 -- ---- the root of the offers, its envelope and the live count are set
@@ -72,7 +69,7 @@ pub record Headed (x : InHand) (n : ℕ) (w w′ : Words) : Type 0 where
   pub root : word w′ offersRootWord ≡ pos (x .tree)
   pub envelope : word w′ envelopeRootWord ≡ pos (x .envelope)
   pub count : word w′ liveCountWord ≡ pos n
-  pub header : (i : ℕ) → 4 ≤ i → i < 64 → word w′ i ≡ word w i
+  pub header : (i : ℕ) → liveCountWord < i → i < 64 → word w′ i ≡ word w i
   pub agree : Agree Everywhere w w′
 
 module _ (w : Words) (s : ℕ) (low : 1 ≤ s) (high : s ≤ cap w) where
@@ -83,13 +80,15 @@ module _ (w : Words) (s : ℕ) (low : 1 ≤ s) (high : s ≤ cap w) where
       w₃ ≡ cset w₂ rateField s (o .rate) → w₄ ≡ cset w₃ baseField s (o .base) → Filled s o w w₄
   filled {w₁} {w₂} {w₃} {w₄} o e₁ e₂ e₃ e₄ =
       record {
-        number = ap (at 0) e₄ ∙ cset-other w₃ 2 s (o .base) (λ q. omega (arith, q .0)) ∙ ap (at 0) e₃
-            ∙ cset-other w₂ 1 s (o .rate) (λ q. omega (arith, q .0)) ∙ ap (at 0) e₂ ∙ cset-same (o .number) (here w₁ 0 (omega arith) (g₁ .room));
-        rate = ap (at 1) e₄ ∙ cset-other w₃ 2 s (o .base) (λ q. omega (arith, q .0)) ∙ ap (at 1) e₃ ∙ cset-same (o .rate) (here w₂ 1 (omega arith) (g₂ .room));
-        base = ap (at 2) e₄ ∙ cset-same (o .base) (here w₃ 2 (omega arith) (g₃ .room));
-        first = head 5 (omega arith) ∙ ap (λ (v : Words). word v firstFreeWord) e₁ ∙ header-set w 5 (pos (linkAt w nextFreeField s)) (omega arith)
-            (omega arith);
-        header = λ i h d. head i h ∙ ap (λ (v : Words). word v i) e₁ ∙ wset-other w 5 i (pos (linkAt w nextFreeField s)) d;
+        number = ap (at numberField) e₄ ∙ cset-other w₃ baseField s (o .base) (λ q. omega (arith, q .0)) ∙ ap (at numberField) e₃
+            ∙ cset-other w₂ rateField s (o .rate) (λ q. omega (arith, q .0)) ∙ ap (at numberField) e₂
+            ∙ cset-same (o .number) (here w₁ numberField (omega arith) (g₁ .room));
+        rate = ap (at rateField) e₄ ∙ cset-other w₃ baseField s (o .base) (λ q. omega (arith, q .0)) ∙ ap (at rateField) e₃
+            ∙ cset-same (o .rate) (here w₂ rateField (omega arith) (g₂ .room));
+        base = ap (at baseField) e₄ ∙ cset-same (o .base) (here w₃ baseField (omega arith) (g₃ .room));
+        first = head firstFreeWord (omega arith) ∙ ap (λ (v : Words). word v firstFreeWord) e₁
+            ∙ header-set w firstFreeWord (pos (linkAt w nextFreeField s)) (omega arith) (omega arith);
+        header = λ i h d. head i h ∙ ap (λ (v : Words). word v i) e₁ ∙ wset-other w firstFreeWord i (pos (linkAt w nextFreeField s)) d;
         agree = g₄;
       }
     where
@@ -97,34 +96,35 @@ module _ (w : Words) (s : ℕ) (low : 1 ≤ s) (high : s ≤ cap w) where
       at f v = cell v f s
 
       g₁ : Agree (Elsewhere s) w w₁
-      g₁ = rw e₁ (agree-less (λ f t d. tt) (agree-header w 5 (pos (linkAt w nextFreeField s)) (omega arith) (omega arith)))
+      g₁ = rw e₁ (agree-less (λ f t d. tt) (agree-header w firstFreeWord (pos (linkAt w nextFreeField s)) (omega arith) (omega arith)))
 
       g₂ : Agree (Elsewhere s) w w₂
-      g₂ = agree-trans g₁ (rw e₂ (agree-cset w₁ 0 s (o .number)))
+      g₂ = agree-trans g₁ (rw e₂ (agree-cset w₁ numberField s (o .number)))
 
       g₃ : Agree (Elsewhere s) w w₃
-      g₃ = agree-trans g₂ (rw e₃ (agree-cset w₂ 1 s (o .rate)))
+      g₃ = agree-trans g₂ (rw e₃ (agree-cset w₂ rateField s (o .rate)))
 
       g₄ : Agree (Elsewhere s) w w₄
-      g₄ = agree-trans g₃ (rw e₄ (agree-cset w₃ 2 s (o .base)))
+      g₄ = agree-trans g₃ (rw e₄ (agree-cset w₃ baseField s (o .base)))
 
       head : (i : ℕ) → i < 64 → word w₄ i ≡ word w₁ i
       head i h =
-          ap (λ (v : Words). word v i) e₄ ∙ cset-rest w₃ 2 s (o .base) (header-outside w₃ h)
-          ∙ ap (λ (v : Words). word v i) e₃ ∙ cset-rest w₂ 1 s (o .rate) (header-outside w₂ h)
-          ∙ ap (λ (v : Words). word v i) e₂ ∙ cset-rest w₁ 0 s (o .number) (header-outside w₁ h)
+          ap (λ (v : Words). word v i) e₄ ∙ cset-rest w₃ baseField s (o .base) (header-outside w₃ h)
+          ∙ ap (λ (v : Words). word v i) e₃ ∙ cset-rest w₂ rateField s (o .rate) (header-outside w₂ h)
+          ∙ ap (λ (v : Words). word v i) e₂ ∙ cset-rest w₁ numberField s (o .number) (header-outside w₁ h)
 
   freed : {w₁ w₂ w₃ : Words} → w₁ ≡ cset w numberField s (pos 0) → w₂ ≡ cset w₁ nextFreeField s (pos (firstFree w)) → w₃ ≡ wset w₂ firstFreeWord (pos s) →
       Freed s w w₃
   freed {w₁} {w₂} {w₃} e₁ e₂ e₃ =
       record {
-        number = last 0 ∙ ap (at 0) e₂ ∙ cset-other w₁ 3 s z (λ q. omega (arith, q .0)) ∙ ap (at 0) e₁ ∙ cset-same (pos 0) (here w 0 (omega arith) refl);
-        next = last 3 ∙ ap (at 3) e₂ ∙ cset-same z (here w₁ 3 (omega arith) (g₁ .room));
-        first = ap (λ (v : Words). word v firstFreeWord) e₃ ∙ header-set w₂ 5 (pos s) (omega (arith, g₂ .room)) (omega arith);
+        number = last numberField ∙ ap (at numberField) e₂ ∙ cset-other w₁ nextFreeField s z (λ q. omega (arith, q .0)) ∙ ap (at numberField) e₁
+            ∙ cset-same (pos 0) (here w numberField (omega arith) refl);
+        next = last nextFreeField ∙ ap (at nextFreeField) e₂ ∙ cset-same z (here w₁ nextFreeField (omega arith) (g₁ .room));
+        first = ap (λ (v : Words). word v firstFreeWord) e₃ ∙ header-set w₂ firstFreeWord (pos s) (omega (arith, g₂ .room)) (omega arith);
         header = λ i h d.
-            ap (λ (v : Words). word v i) e₃ ∙ wset-other w₂ 5 i (pos s) d
-            ∙ ap (λ (v : Words). word v i) e₂ ∙ cset-rest w₁ 3 s z (header-outside w₁ h)
-            ∙ ap (λ (v : Words). word v i) e₁ ∙ cset-rest w 0 s (pos 0) (header-outside w h);
+            ap (λ (v : Words). word v i) e₃ ∙ wset-other w₂ firstFreeWord i (pos s) d
+            ∙ ap (λ (v : Words). word v i) e₂ ∙ cset-rest w₁ nextFreeField s z (header-outside w₁ h)
+            ∙ ap (λ (v : Words). word v i) e₁ ∙ cset-rest w numberField s (pos 0) (header-outside w h);
         agree = agree-trans g₂ (agree-less (λ f t d. tt) g₃);
       }
     where
@@ -135,13 +135,13 @@ module _ (w : Words) (s : ℕ) (low : 1 ≤ s) (high : s ≤ cap w) where
       z = pos (firstFree w)
 
       g₁ : Agree (Elsewhere s) w w₁
-      g₁ = rw e₁ (agree-cset w 0 s (pos 0))
+      g₁ = rw e₁ (agree-cset w numberField s (pos 0))
 
       g₂ : Agree (Elsewhere s) w w₂
-      g₂ = agree-trans g₁ (rw e₂ (agree-cset w₁ 3 s z))
+      g₂ = agree-trans g₁ (rw e₂ (agree-cset w₁ nextFreeField s z))
 
       g₃ : Agree Everywhere w₂ w₃
-      g₃ = rw e₃ (agree-header w₂ 5 (pos s) (omega arith) (omega arith))
+      g₃ = rw e₃ (agree-header w₂ firstFreeWord (pos s) (omega arith) (omega arith))
 
       last : (f : ℕ) → cell w₃ f s ≡ cell w₂ f s
       last f = g₃ .cells f s tt
@@ -153,11 +153,11 @@ module _ (w : Words) (s : ℕ) (low : 1 ≤ s) (high : s ≤ cap w) where
 pub headed : (w : Words) → 1 ≤ cap w → {w′ : Words} {x : InHand} {n : ℕ} → w′ ≡ rooting x n w → Headed x n w w′
 headed w low {w′} {x} {n} e =
     record {
-      root = at₃ 1 (omega arith) ∙ at₂ 1 (omega arith) ∙ header-set w 1 (pos (x .tree)) low (omega arith);
-      envelope = at₃ 2 (omega arith) ∙ header-set w₁ 2 (pos (x .envelope)) (omega (arith, g₁ .room)) (omega arith);
-      count = ap (λ (v : Words). word v liveCountWord) e ∙ header-set w₂ 3 (pos n) (omega (arith, g₂ .room)) (omega arith);
-      header = λ i h k. at₃ i (omega arith) ∙ at₂ i (omega arith) ∙ wset-other w 1 i (pos (x .tree)) (omega arith);
-      agree = agree-trans g₂ (rw e (agree-header w₂ 3 (pos n) (omega arith) (omega arith)));
+      root = at₃ offersRootWord (omega arith) ∙ at₂ offersRootWord (omega arith) ∙ header-set w offersRootWord (pos (x .tree)) low (omega arith);
+      envelope = at₃ envelopeRootWord (omega arith) ∙ header-set w₁ envelopeRootWord (pos (x .envelope)) (omega (arith, g₁ .room)) (omega arith);
+      count = ap (λ (v : Words). word v liveCountWord) e ∙ header-set w₂ liveCountWord (pos n) (omega (arith, g₂ .room)) (omega arith);
+      header = λ i h k. at₃ i (omega arith) ∙ at₂ i (omega arith) ∙ wset-other w offersRootWord i (pos (x .tree)) (omega arith);
+      agree = agree-trans g₂ (rw e (agree-header w₂ liveCountWord (pos n) (omega arith) (omega arith)));
     }
   where
     w₁ : Words
@@ -166,17 +166,17 @@ headed w low {w′} {x} {n} e =
     w₂ : Words
     w₂ = wset w₁ envelopeRootWord (pos (x .envelope))
 
-    at₂ : (i : ℕ) → i ≢ 2 → word w₂ i ≡ word w₁ i
-    at₂ i d = wset-other w₁ 2 i (pos (x .envelope)) d
+    at₂ : (i : ℕ) → i ≢ envelopeRootWord → word w₂ i ≡ word w₁ i
+    at₂ i d = wset-other w₁ envelopeRootWord i (pos (x .envelope)) d
 
-    at₃ : (i : ℕ) → i ≢ 3 → word w′ i ≡ word w₂ i
-    at₃ i d = ap (λ (v : Words). word v i) e ∙ wset-other w₂ 3 i (pos n) d
+    at₃ : (i : ℕ) → i ≢ liveCountWord → word w′ i ≡ word w₂ i
+    at₃ i d = ap (λ (v : Words). word v i) e ∙ wset-other w₂ liveCountWord i (pos n) d
 
     g₁ : Agree Everywhere w w₁
-    g₁ = agree-header w 1 (pos (x .tree)) (omega arith) (omega arith)
+    g₁ = agree-header w offersRootWord (pos (x .tree)) (omega arith) (omega arith)
 
     g₂ : Agree Everywhere w w₂
-    g₂ = agree-trans g₁ (agree-header w₁ 2 (pos (x .envelope)) (omega arith) (omega arith))
+    g₂ = agree-trans g₁ (agree-header w₁ envelopeRootWord (pos (x .envelope)) (omega arith) (omega arith))
 
 -- ---- the free slots of a book
 

@@ -1,14 +1,15 @@
 // A book's part as its calls change it: laid out empty, an offer posted, an offer withdrawn; and what declines a post. The calls themselves,
 // with their guards, are book's.
 ghost use mathlib.Core.Path.{_≡_};
-ghost use Prim.Native.Nat.{_+_, _*_, _-_, _≤_};
+ghost use Prim.Native.Nat.{_-_, _≤_};
 ghost use lib.ListN.{length};
+ghost use Rattle.plain.specs.Book.{partLength};
 ghost use Rattle.table.specs.Fields.{mostNodes, mostSlots, numbersRootWord, offerTree, rateField};
 ghost use Rattle.table.specs.Words.{word, upTo};
 ghost use Rattle.table.specs.Free.{firstFree};
 ghost use Rattle.descents.specs.Finds.{Found};
 ghost use Rattle.numbers.specs.Numbers.{FoundNumber};
-ghost use Rattle.filing.specs.Joining.{Joined};
+ghost use Rattle.filing.specs.JoinedOffers.{Joined};
 ghost use Rattle.filing.specs.Starting.{Heading, Lays, Starts};
 ghost use Rattle.filing.specs.Writing.{filling, rootsOf, rooting};
 ghost use Rattle.filing.specs.PartUpdates.{PostCause, PostDone, WithdrawDone};
@@ -48,7 +49,7 @@ fn lay(part: &mut [i64], capacity: u32)
 
 // An empty book on words enough for it.
 pub fn start_book(part: &mut [i64], capacity: u32)
-    requires { ⌜ (1 ≤ capacity) × (capacity ≤ mostSlots) × (64 * (capacity + 1) ≤ length (now part)) ⌝ }
+    requires { ⌜ (1 ≤ capacity) × (capacity ≤ mostSlots) × (partLength capacity ≤ length (now part)) ⌝ }
     ensures { λ _. ⌜ Starts capacity (now (part .entry)) (now (part .exit)) ⌝ }
 {
     begin(part, capacity);
@@ -70,7 +71,7 @@ pub fn post_cause(part: &[i64], number: i64, rate: i64) -> u32
     if 0 < numbers::find(part, root, number) {
         return 5;
     }
-    let x = table::number_at(part, table::OFFERS_ROOT, table::MOST_NODES);
+    let x = form::offers_root(part);
     if 0 < find_rate(part, x, rate) {
         return 6;
     }
@@ -97,11 +98,9 @@ fn fill(part: &mut [i64], number: i64, rate: i64, base: i64) -> u32
 fn roots(part: &[i64]) -> update::Held
     ensures { λ r. ⌜ r ≡ rootsOf (now (part .entry)) ⌝ }
 {
-    let x = table::number_at(part, table::OFFERS_ROOT, table::MOST_NODES);
-    let e = table::number_at(part, table::ENVELOPE_ROOT, table::MOST_NODES);
     update::Held {
-        tree: x,
-        envelope: e,
+        tree: form::offers_root(part),
+        envelope: form::envelope_root(part),
     }
 }
 

@@ -1,7 +1,7 @@
 // Chart marks: the doubles of open ends and crossings.
 ghost use mathlib.Core.Path.{_≡_};
 ghost use Rattle.marks.specs.Quotient.{Doubled};
-ghost use Rattle.marks.specs.Told.{told, atPoint, openEnd, crossing, PointOf};
+ghost use Rattle.marks.specs.MarkTold.{told, atPoint, openEnd, crossing, PointOf};
 
 // Where two pieces cross.
 pub struct Point {

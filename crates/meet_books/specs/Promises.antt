@@ -4,7 +4,7 @@
 use mathlib.Core.Path.{_≡_}
 use mathlib.Core.Bool.{not, _||_}
 use mathlib.Core.List.{List, [], _∷_, _++_, map}
-use mathlib.Core.Option.{Option, none, some}
+use mathlib.Core.Option.{Option, some}
 use Prim.Native.Nat.{ℕ}
 use lib.ListN.{length}
 use lib.Dec.{leb}
@@ -15,7 +15,6 @@ use Rattle.offers.specs.Offers.{Offer}
 use Rattle.plain.specs.Causes.{Cause, noBook, bookEmpty, ratesNotApart, Trial, _when_, causeNumber, FirstOf, Clear}
 use Rattle.plain.specs.Book.{State, noBookAt, envelope}
 use Rattle.trees.specs.Tree.{Tree, height}
-use Rattle.trees.specs.Operations.{Part}
 use Rattle.meeting.specs.Machine.{meet}
 use Rattle.dynamic.specs.OfferTree.{Held}
 use Rattle.dynamic.specs.Valid.{bookLines}

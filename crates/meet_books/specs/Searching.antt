@@ -1,5 +1,6 @@
 -- The meeting on two parts: the search from their roots, and put together with the trials.
 use mathlib.Core.Path.{_≡_, refl, sym, _∙_, ap, subst}
+use mathlib.Core.Logic.{_⊎_, ⊎-elim}
 use mathlib.Core.Bool.{Bool, true, false, not, _||_}
 use mathlib.Core.List.{List, _∷_, _++_, map, List·Memᴰ, List·Memᴰ·head, Memᴰ·append-right, map-append}
 use mathlib.Core.Option.{Option, none, some}
@@ -11,7 +12,7 @@ use lib.ListN.{length, length-map}
 use lib.IntN.{ℤ, pos}
 use lib.Signed.{ltZ}
 use Rattle.lists.specs.Tests.{any}
-use Rattle.lists.specs.Bools.{or-left, or-right, not-either, said, denied}
+use Rattle.lists.specs.Bools.{or-left, or-right, not-either, denied}
 use Rattle.envelopes.specs.Envelope.{Ordered}
 use Rattle.envelopes.specs.EnvelopeLaws.{ordered-append}
 use Rattle.plain.specs.Causes.{Cause, causeNumber, FirstOf, at-once, further}
@@ -120,29 +121,29 @@ declines : {held held′ : Option (Held Item)} {k : Cause} → FirstOf (meetTria
     Answers held held′ (Declined (pos (causeNumber k)))
 declines f = record { declined = λ z g. ap (λ (n : ℕ). refused (pos n)) (sym (one-cause f g)); accepted = λ g. absurd (not-clear f g) }
 
--- what the count says of a book
-module _ {w : Words} {s : State} {held : Option (Held Item)} (b : Book w s held) {e : Bool} (t : e ≡ ltb (upTo mostNodes (word w liveCountWord)) 1) where
-  bare-book : e ≡ true → T (leb (length (plainOffers held)) 0)
-  bare-book h = le→leb (length (plainOffers held)) 0 (omega (
-    arith,
-    ltb→lt (upTo mostNodes (word w liveCountWord)) 1 (said t h),
-    count-read b,
-    length-map (bookLines held) offerOf,
-  ))
+-- what the count says of a book: no offer is live, or some are
+bare-book : {w : Words} {s : State} {held : Option (Held Item)} → Book w s held → T (ltb (upTo mostNodes (word w liveCountWord)) 1) →
+    T (leb (length (plainOffers held)) 0)
+bare-book {w} {held = held} b h =
+    le→leb (length (plainOffers held)) 0
+    (omega (arith, ltb→lt (upTo mostNodes (word w liveCountWord)) 1 h, count-read b, length-map (bookLines held) offerOf))
 
+module _ {w : Words} {s : State} {held : Option (Held Item)} (b : Book w s held) {e : Bool} (t : e ≡ ltb (upTo mostNodes (word w liveCountWord)) 1) where
   some-offer : e ≡ false → 1 ≤ length (bookLines held)
   some-offer h = omega (arith, nltb→le (upTo mostNodes (word w liveCountWord)) 1 (denied t h), count-read b)
 
   live-book : e ≡ false → T (not (leb (length (plainOffers held)) 0))
   live-book h = lt→nleb (length (plainOffers held)) 0 (omega (arith, some-offer h, length-map (bookLines held) offerOf))
 
-module _ {w w′ : Words} {e e′ : Bool} (t : e ≡ ltb (upTo mostNodes (word w liveCountWord)) 1) (t′ : e′ ≡ ltb (upTo mostNodes (word w′ liveCountWord)) 1) where
-  pub second-empty : e′ ≡ true → MeetsParts w w′ (Declined (pos 9))
-  second-empty h = record {
-    answers = λ s s′ held held′ b b′. declines
-        (at-once (or-right (leb (length (plainOffers held)) 0) (leb (length (plainOffers held′)) 0) (bare-book b′ t′ h)));
-  }
+pub one-empty : {w w′ : Words} → T (ltb (upTo mostNodes (word w liveCountWord)) 1) ⊎ T (ltb (upTo mostNodes (word w′ liveCountWord)) 1) →
+    MeetsParts w w′ (Declined (pos 9))
+one-empty k = record {
+  answers = λ s s′ held held′ b b′. declines
+      (at-once (⊎-elim (λ h. or-left (leb (length (plainOffers held)) 0) (leb (length (plainOffers held′)) 0) (bare-book b h))
+      (λ h. or-right (leb (length (plainOffers held)) 0) (leb (length (plainOffers held′)) 0) (bare-book b′ h)) k));
+}
 
+module _ {w w′ : Words} {e e′ : Bool} (t : e ≡ ltb (upTo mostNodes (word w liveCountWord)) 1) (t′ : e′ ≡ ltb (upTo mostNodes (word w′ liveCountWord)) 1) where
   module _ {d : Bool} (s : SetsApart w w′ d) (h : e ≡ false) (h′ : e′ ≡ false) where
     neither-empty : {s s′ : State} {held held′ : Option (Held Item)} → Book w s held → Book w′ s′ held′ →
         T (not (leb (length (plainOffers held)) 0 || leb (length (plainOffers held′)) 0))
@@ -173,9 +174,3 @@ module _ {w w′ : Words} {e e′ : Bool} (t : e ≡ ltb (upTo mostNodes (word w
               declined = λ z k. absurd (not-clear k (neither-empty b b′, (clear g g′ b b′, tt)));
               accepted = λ k. f .finds b b′ (s .apart n b b′);
             }
-
-pub first-empty : {w w′ : Words} {e : Bool} → e ≡ ltb (upTo mostNodes (word w liveCountWord)) 1 → e ≡ true → MeetsParts w w′ (Declined (pos 9))
-first-empty t h = record {
-  answers = λ s s′ held held′ b b′. declines
-      (at-once (or-left (leb (length (plainOffers held)) 0) (leb (length (plainOffers held′)) 0) (bare-book b t h)));
-}

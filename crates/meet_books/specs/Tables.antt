@@ -1,13 +1,14 @@
 -- The meeting on two tables: cause 3, and then the two parts.
 use mathlib.Core.Path.{_≡_, sym, ap, subst}
-use mathlib.Core.Bool.{Bool, true, false}
+use mathlib.Core.Logic.{_⊎_, ⊎-elim}
+use mathlib.Core.Bool.{Bool, false}
 use mathlib.Core.List.{List}
 use Prim.Native.Nat.{ℕ, _-_}
 use lib.ListN.{length, take, drop}
-use lib.Dec.{T-not}
+use lib.Dec.{T, T-not}
 use lib.IntN.{ℤ, pos}
-use Rattle.lists.specs.Bools.{or-left, or-right, not-either, said, denied}
-use Rattle.plain.specs.Causes.{noBook, FirstOf, at-once}
+use Rattle.lists.specs.Bools.{or-exactly, not-either, denied}
+use Rattle.plain.specs.Causes.{at-once}
 use Rattle.plain.specs.Book.{noBookAt}
 use Rattle.table.specs.Fields.{capacityWord}
 use Rattle.table.specs.Words.{Words, word}
@@ -17,44 +18,29 @@ use Rattle.promises.specs.LentPart.{whole-part}
 use Rattle.promises.specs.OneCause.{one-cause, not-clear}
 use Rattle.meet_books.specs.declared.Met.{Met}
 use Rattle.meet_books.specs.declared.Met.the-variants.{Declined}
-use Rattle.meet_books.specs.Promises.{noBookTrials, refused, MeetsBooks}
+use Rattle.meet_books.specs.Promises.{refused, MeetsBooks}
 use Rattle.meet_books.specs.Searching.{MeetsParts}
 
-module _ (t : List ℤ) (start : ℕ) (t′ : List ℤ) (start′ : ℕ) {n : Bool} where
-  pub first-missing : n ≡ noBookAt (length t) start (word (partOf t start) capacityWord) → n ≡ true → MeetsBooks t start t′ start′ (Declined (pos 3))
-  first-missing e h =
-      record {
-        declined = λ z g. ap (λ (k : ℕ). refused (pos k)) (sym (one-cause none-there g));
-        answers = λ s s′ held held′ b b′. absurd (T-not (noBookAt (length t) start (word (partOf t start) capacityWord)) (book-there start t b) (said e h));
-      }
-    where
-      none-there : FirstOf (noBookTrials t start t′ start′) noBook
-      none-there = at-once (or-left (noBookAt (length t) start (word (partOf t start) capacityWord))
-          (noBookAt (length t′) start′ (word (partOf t′ start′) capacityWord)) (said e h))
+-- there is no book at `start`
+abbrev missing : List ℤ → ℕ → Bool
+missing t start = noBookAt (length t) start (word (partOf t start) capacityWord)
 
-  pub second-missing : n ≡ noBookAt (length t′) start′ (word (partOf t′ start′) capacityWord) → n ≡ true → MeetsBooks t start t′ start′ (Declined (pos 3))
-  second-missing e h =
+module _ (t : List ℤ) (start : ℕ) (t′ : List ℤ) (start′ : ℕ) where
+  pub one-missing : T (missing t start) ⊎ T (missing t′ start′) → MeetsBooks t start t′ start′ (Declined (pos 3))
+  one-missing k =
+      let none-there = at-once (or-exactly (missing t start) (missing t′ start′) .1 k) in
       record {
-        declined = λ z g. ap (λ (k : ℕ). refused (pos k)) (sym (one-cause none-there g));
-        answers = λ s s′ held held′ b b′. absurd (T-not (noBookAt (length t′) start′ (word (partOf t′ start′) capacityWord)) (book-there start′ t′ b′)
-            (said e h));
+        declined = λ z g. ap (λ (n : ℕ). refused (pos n)) (sym (one-cause none-there g));
+        answers = λ s s′ held held′ b b′. absurd (⊎-elim (T-not (missing t start) (book-there start t b))
+            (T-not (missing t′ start′) (book-there start′ t′ b′)) k);
       }
-    where
-      none-there : FirstOf (noBookTrials t start t′ start′) noBook
-      none-there = at-once (or-right (noBookAt (length t) start (word (partOf t start) capacityWord))
-          (noBookAt (length t′) start′ (word (partOf t′ start′) capacityWord)) (said e h))
 
-  module _ {n′ : Bool} (e : n ≡ noBookAt (length t) start (word (partOf t start) capacityWord)) (h : n ≡ false)
-      (e′ : n′ ≡ noBookAt (length t′) start′ (word (partOf t′ start′) capacityWord)) (h′ : n′ ≡ false) where
+  module _ {n n′ : Bool} (e : n ≡ missing t start) (h : n ≡ false) (e′ : n′ ≡ missing t′ start′) (h′ : n′ ≡ false) where
     pub both-there : {r : Met} → MeetsParts (take (length t - start) (drop start t)) (take (length t′ - start′) (drop start′ t′)) r →
         MeetsBooks t start t′ start′ r
     both-there {r} m =
         record {
-          declined = λ z g. absurd (not-clear g (
-            not-either (noBookAt (length t) start (word (partOf t start) capacityWord))
-                (noBookAt (length t′) start′ (word (partOf t′ start′) capacityWord)) (denied e h) (denied e′ h′),
-            tt,
-          ));
+          declined = λ z g. absurd (not-clear g (not-either (missing t start) (missing t′ start′) (denied e h) (denied e′ h′), tt));
           answers = parts .answers;
         }
       where

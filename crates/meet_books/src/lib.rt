@@ -64,10 +64,7 @@ fn search_roots(left: &[i64], right: &[i64]) -> Met
 fn meet_parts(left: &[i64], right: &[i64]) -> Met
     ensures { λ r. ⌜ MeetsParts (now (left .entry)) (now (right .entry)) r ⌝ }
 {
-    if is_empty(left) {
-        return Met::Declined(9);
-    }
-    if is_empty(right) {
+    if is_empty(left) || is_empty(right) {
         return Met::Declined(9);
     }
     if stand_apart(left, right) {
@@ -80,10 +77,7 @@ fn meet_parts(left: &[i64], right: &[i64]) -> Met
 pub fn meet(left: &[i64], left_start: usize, right: &[i64], right_start: usize) -> Met
     ensures { λ r. ⌜ MeetsBooks (now (left .entry)) «left_start» (now (right .entry)) «right_start» r ⌝ }
 {
-    if promises::no_book(left, left_start) {
-        return Met::Declined(3);
-    }
-    if promises::no_book(right, right_start) {
+    if promises::no_book(left, left_start) || promises::no_book(right, right_start) {
         return Met::Declined(3);
     }
     meet_parts(&left[left_start..], &right[right_start..])

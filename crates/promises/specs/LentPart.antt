@@ -3,15 +3,15 @@ use mathlib.Core.Path.{_≡_, refl, sym, _∙_, ap}
 use mathlib.Core.Bool.{Bool, true, false, not, _||_}
 use mathlib.Core.List.{List, [], _∷_, _++_}
 use mathlib.Core.Option.{Option}
-use Prim.Native.Nat.{ℕ, _+_, _*_, _-_, _≤_, _<_}
+use Prim.Native.Nat.{ℕ, _+_, _-_, _≤_, _<_}
 use native.Mathlib.Omega.{arith}
 use lib.ListN.{length, take, drop, length-drop, length-append, drop-of-length-le, take-append-drop}
 use lib.Seq.{take-all, take-at, drop-at, drop-drop, length-take-le, ext-getD, getD-drop}
-use lib.Dec.{T, T-not, ltb, lt→ltb, nltb→le}
+use lib.Dec.{T, T-not, ltb, ltb→lt, nltb→le}
 use lib.IntN.{ℤ, pos, negsuc, natAbs}
 use lib.Signed.{leZ}
-use borrow.Author.Tests.{le-leb}
-use Rattle.lists.specs.Bools.{and-left, and-right, not-not, is-true, neither, is-false, or-left, denied, said}
+use borrow.Author.Tests.{le-leb, lt-ltb}
+use Rattle.lists.specs.Bools.{and-left, and-right, not-not, neither, not-failed, same-test, denied, said}
 use Rattle.integers.specs.Parts.{intRules}
 use Rattle.offers.specs.Offers.{between}
 use Rattle.plain.specs.Causes.{Cause, causeNumber, FirstOf, at-once, further}
@@ -33,18 +33,8 @@ module _ (t : List ℤ) (start : ℕ) where
   pub whole-part : take (length t - start) (drop start t) ≡ partOf t start
   whole-part = take-all (length t - start) (drop start t) (omega (arith, length-drop start t))
 
-  pub beyond-none : length t < start → true ≡ noBookAt (length t) start (word (partOf t start) capacityWord)
-  beyond-none h =
-      sym (is-true (noBookAt (length t) start z)
-      (or-left (ltb (length t) start || ltb (length t - start) 128 || not (between (pos 1) (pos mostSlots) z)) (ltb (length t - start) (partLength (natAbs z)))
-      (or-left (ltb (length t) start || ltb (length t - start) 128) (not (between (pos 1) (pos mostSlots) z))
-      (or-left (ltb (length t) start) (ltb (length t - start) 128) (lt→ltb (length t) start h)))))
-    where
-      z : ℤ
-      z = word (partOf t start) capacityWord
-
-  pub cap-some : {n : ℕ} → n ≡ cap (take (length t - start) (drop start t)) → 1 ≤ n → false ≡ noBookAt (length t) start (word (partOf t start) capacityWord)
-  cap-some e h = sym (is-false (noBookAt (length t) start (word (partOf t start) capacityWord)) (cap-book start t (ap cap (sym whole-part) ∙ sym e) h))
+  pub beyond-none : length t < start → ltb (length t) start ≡ noBookAt (length t) start (word (partOf t start) capacityWord)
+  beyond-none h = rw (lt-ltb (length t) start h)
 
 -- a word in range, as a number
 pub told-is : (z : ℤ) → T (between (pos 1) (pos mostSlots) z) → (upTo mostSlots z ≡ natAbs z) × (1 ≤ natAbs z) × (natAbs z ≤ mostSlots)
@@ -71,7 +61,7 @@ capacity-is : (w : Words) (z : ℤ) → word w capacityWord ≡ z → T (between
 unfolding cap
 capacity-is w z e t h =
     let (a, b, d) = told-is z t in
-    (ap (fitting (length w)) (ap (upTo mostSlots) e ∙ a) ∙ rw (le-leb (64 * (natAbs z + 1)) (length w) h), b)
+    (ap (fitting (length w)) (ap (upTo mostSlots) e ∙ a) ∙ rw (le-leb (partLength (natAbs z)) (length w) h), b)
 
 -- where there is a book, the first word is the capacity
 pub book-cap : (t : List ℤ) (start : ℕ) → T (not (noBookAt (length t) start (word (partOf t start) capacityWord))) →
@@ -86,14 +76,19 @@ book-cap t start h = go (word (partOf t start) capacityWord) refl h
         capacity-is (partOf t start) z e (not-not (between (pos 1) (pos mostSlots) z) (y .1))
         (omega (arith, length-drop start t, nltb→le (length t - start) (partLength (natAbs z)) (x .1)))
 
-pub cap-none : (t : List ℤ) (start : ℕ) {n : ℕ} → n ≡ cap (take (length t - start) (drop start t)) → n < 1 →
-    true ≡ noBookAt (length t) start (word (partOf t start) capacityWord)
-cap-none t start {n} e h = go (noBookAt (length t) start (word (partOf t start) capacityWord)) (book-cap t start)
+-- there is a book just where the words tell a capacity
+pub cap-tells : (t : List ℤ) (start : ℕ) {n : ℕ} → n ≡ cap (take (length t - start) (drop start t)) →
+    ltb n 1 ≡ noBookAt (length t) start (word (partOf t start) capacityWord)
+cap-tells t start {n} e =
+    same-test (ltb n 1) no-book
+    (λ k. not-failed no-book (λ h. let (p, q) = book-cap t start h in omega (arith, p, q, told, ltb→lt n 1 k)))
+    (λ k. not-failed (ltb n 1) (λ h. T-not no-book (cap-book start t (sym told) (nltb→le n 1 h)) k))
   where
-    go : (b : Bool) → (T (not b) → (cap (partOf t start) ≡ natAbs (word (partOf t start) capacityWord)) × (1 ≤ natAbs (word (partOf t start) capacityWord)))
-        → true ≡ b
-    go true f = refl
-    go false f = let (p, q) = f tt in absurd (omega (arith, p, q, e, ap cap (whole-part t start)))
+    no-book : Bool
+    no-book = noBookAt (length t) start (word (partOf t start) capacityWord)
+
+    told : n ≡ cap (partOf t start)
+    told = e ∙ ap cap (whole-part t start)
 
 -- where there is none, no part has the form, and the number is 3
 module _ (t : List ℤ) (start : ℕ) {no : Bool} (e : no ≡ noBookAt (length t) start (word (partOf t start) capacityWord)) (d : no ≡ true) where

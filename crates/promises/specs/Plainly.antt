@@ -1,15 +1,15 @@
 -- A part that has the form is there for every call, and the trials on words of any content decide for the plain book that it stands for.
 use mathlib.Core.Path.{_≡_, sym, subst}
-use mathlib.Core.Bool.{Bool, true, false, not, _||_}
+use mathlib.Core.Bool.{not, _||_}
 use mathlib.Core.List.{List}
 use mathlib.Core.Option.{Option}
-use Prim.Native.Nat.{ℕ, _+_, _*_, _-_, _≤_}
+use Prim.Native.Nat.{ℕ, _-_, _≤_}
 use native.Mathlib.Omega.{arith}
 use lib.ListN.{length, length-drop}
 use lib.Dec.{T, T-not, not-T, ltb, ltb→lt}
 use lib.IntN.{ℤ, pos}
 use lib.Signed.{leZ}
-use Rattle.lists.specs.Bools.{and-both, not-not, or-no}
+use Rattle.lists.specs.Bools.{and-both, or-no}
 use Rattle.integers.specs.Parts.{intRules}
 use Rattle.offers.specs.Offers.{between}
 use Rattle.plain.specs.Causes.{Cause, causeNumber, FirstOf, at-once, further}
@@ -38,7 +38,7 @@ cap-book start t {c} e low = subst (λ (z : ℤ). T (not (noBookAt (length t) st
     high : c ≤ mostSlots
     high = omega (arith, e, cap-most (partOf t start))
 
-    long : 64 * (c + 1) ≤ length t - start
+    long : partLength c ≤ length t - start
     long = omega (arith, there .room, length-drop start t)
 
     no-cause : T (noBookAt (length t) start (pos c)) → ⊥

@@ -38,11 +38,5 @@ pub enum Listed {
 pub fn no_book(table: &[i64], start: usize) -> bool
     ensures { λ r. ⌜ r ≡ noBookAt (length (now (table .entry))) start (word (partOf (now (table .entry)) start) capacityWord) ⌝ }
 {
-    if table.len() < start {
-        return true;
-    }
-    if table::capacity(&table[start..]) < 1 {
-        return true;
-    }
-    false
+    table.len() < start || table::capacity(&table[start..]) < 1
 }

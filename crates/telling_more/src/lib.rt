@@ -5,7 +5,7 @@ ghost use lib.ListN.{length};
 ghost use Rattle.answers.specs.Promises.{refusal, meetNumber, markNumber, placeNumber, metOf, pieceOf, Tells};
 ghost use Rattle.meet_books.specs.Promises.{meetAnswer};
 ghost use Rattle.chart.specs.Promises.{told as markTold};
-ghost use Rattle.vouchers.specs.Told.{told as voucherTold};
+ghost use Rattle.vouchers.specs.VoucherTold.{told as voucherTold};
 ghost use Rattle.reading.specs.Promises.{told as pieceTold};
 use telling::below_zero;
 

@@ -10,7 +10,7 @@ use Rattle.integers.specs.Ranges.{too-low, too-high, in-range}
 use Rattle.offers.specs.Offers.{priceInRange}
 use Rattle.plain.specs.Causes.{priceOutOfRange}
 use Rattle.vouchers.specs.Rule.{voucherUnits}
-use Rattle.vouchers.specs.Told.{respond, due}
+use Rattle.vouchers.specs.VoucherTold.{respond, due}
 
 -- the ends of the span, as the code has them
 abbrev least : ℤ

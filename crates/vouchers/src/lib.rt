@@ -3,7 +3,7 @@ ghost use mathlib.Core.Path.{_≡_};
 ghost use lib.Dec.{T};
 ghost use Rattle.offers.specs.Offers.{priceInRange};
 ghost use Rattle.vouchers.specs.Rule.{voucherUnits};
-ghost use Rattle.vouchers.specs.Told.{told, due};
+ghost use Rattle.vouchers.specs.VoucherTold.{told, due};
 
 pub enum Voucher {
     // Whole units of 100 cents.

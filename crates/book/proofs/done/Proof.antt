@@ -23,7 +23,8 @@ cast-t5 c = search needs
 
 returns : tie.Need-returns
 returns c =
-    let t = c .before .before .before .before .args .told in
+    let at-live = c .before .before .before in
+    let t = at-live .before .args .told in
     let fits = c .struct-known4 .given in
     let v : toZ w64 (t .live) ≡ pos (t .live) = toZ-pos w64 (omega (arith, fits .0)) in
     let k : toZ w64 (t .counts .searches) ≡ pos (t .counts .searches) = toZ-pos w64 (omega (arith, fits .1 .0 .0)) in

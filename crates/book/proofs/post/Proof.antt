@@ -69,36 +69,41 @@ same-length-3 c = search needs
 
 returns-3 : tie.Need-returns-3
 returns-3 c =
-    let at-if2 = c .before .before .before .before in
+    let at-post-cause = c .before in
+    let at-if2 = at-post-cause .before .before .before in
     let at-offer-outside = at-if2 .before in
     let at-if1 = at-offer-outside .before in
     let at-no-book = at-if1 .before in
     let entry = at-no-book .before .before in
-    let v : toZ w64 (c .before .post-cause .result) ≡ pos (c .before .post-cause .result) = toZ-pos w64 (omega (arith, c .before .post-cause .ok)) in
+    let cause = at-post-cause .post-cause in
+    let v : toZ w64 (cause .result) ≡ pos (cause .result) = toZ-pos w64 (omega (arith, cause .ok)) in
     post-refused _ _ _ (at-no-book .no-book .ensures) (at-if1 .if1 .left) _ _ _
     (simp (toZ-ofZ, entry .fits .number, entry .fits .rate, entry .fits .base) at (at-offer-outside .offer-outside .ensures)) (at-if2 .if2 .left)
-    (simp (toZ-ofZ, entry .fits .number, entry .fits .rate) at (c .before .post-cause .ensures)) (c .if3 .taken) (simp v refl) refl
+    (simp (toZ-ofZ, entry .fits .number, entry .fits .rate) at (cause .ensures)) (c .if3 .taken) (simp v refl) refl
 
 mul-post-part : tie.Need-mul-post-part
 mul-post-part c =
-    let at-before = c .before .before .before .before .before in
-    let at-if1 = at-before .before in
+    let at-post-cause = c .before in
+    let at-if2 = at-post-cause .before .before .before in
+    let at-if1 = at-if2 .before .before in
     let at-no-book = at-if1 .before in
     let entry = at-no-book .before .before in
     omega (arith, book-start (entry .args .table .now) (entry .args .start) (at-no-book .no-book .ensures) (at-if1 .if1 .left))
 
 sub-post-part : tie.Need-sub-post-part
 sub-post-part c =
-    let at-before = c .before .before .before .before .before in
-    let at-if1 = at-before .before in
+    let at-post-cause = c .before in
+    let at-if2 = at-post-cause .before .before .before in
+    let at-if1 = at-if2 .before .before in
     let at-no-book = at-if1 .before in
     let entry = at-no-book .before .before in
     omega (arith, book-start (entry .args .table .now) (entry .args .start) (at-no-book .no-book .ensures) (at-if1 .if1 .left))
 
 part-post-part-start : tie.Need-part-post-part-start
 part-post-part-start c =
-    let at-before = c .before .before .before .before .before in
-    let at-if1 = at-before .before in
+    let at-post-cause = c .before in
+    let at-if2 = at-post-cause .before .before .before in
+    let at-if1 = at-if2 .before .before in
     let at-no-book = at-if1 .before in
     let entry = at-no-book .before .before in
     omega (arith, book-start (entry .args .table .now) (entry .args .start) (at-no-book .no-book .ensures) (at-if1 .if1 .left))

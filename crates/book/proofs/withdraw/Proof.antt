@@ -63,35 +63,39 @@ same-length-3 c = search needs
 
 returns-3 : tie.Need-returns-3
 returns-3 c =
-    let at-if2 = c .before .before .before .before in
+    let at-live-slot = c .before in
+    let at-if2 = at-live-slot .before .before .before in
     let at-outside = at-if2 .before in
     let at-if1 = at-outside .before in
     let at-no-book = at-if1 .before in
     let entry = at-no-book .before .before in
     withdraw-refused _ _ _ (at-no-book .no-book .ensures) (at-if1 .if1 .left) _
     (number-alone _ (simp (toZ-ofZ, entry .fits .number) at (at-outside .outside .ensures))) (at-if2 .if2 .left)
-    (simp (toZ-ofZ, entry .fits .number) at (c .before .live-slot .ensures)) (c .if3 .taken) refl
+    (simp (toZ-ofZ, entry .fits .number) at (at-live-slot .live-slot .ensures)) (c .if3 .taken) refl
 
 mul-withdraw-part : tie.Need-mul-withdraw-part
 mul-withdraw-part c =
-    let at-before = c .before .before .before .before .before in
-    let at-if1 = at-before .before in
+    let at-live-slot = c .before in
+    let at-if2 = at-live-slot .before .before .before in
+    let at-if1 = at-if2 .before .before in
     let at-no-book = at-if1 .before in
     let entry = at-no-book .before .before in
     omega (arith, book-start (entry .args .table .now) (entry .args .start) (at-no-book .no-book .ensures) (at-if1 .if1 .left))
 
 sub-withdraw-part : tie.Need-sub-withdraw-part
 sub-withdraw-part c =
-    let at-before = c .before .before .before .before .before in
-    let at-if1 = at-before .before in
+    let at-live-slot = c .before in
+    let at-if2 = at-live-slot .before .before .before in
+    let at-if1 = at-if2 .before .before in
     let at-no-book = at-if1 .before in
     let entry = at-no-book .before .before in
     omega (arith, book-start (entry .args .table .now) (entry .args .start) (at-no-book .no-book .ensures) (at-if1 .if1 .left))
 
 part-withdraw-part-start : tie.Need-part-withdraw-part-start
 part-withdraw-part-start c =
-    let at-before = c .before .before .before .before .before in
-    let at-if1 = at-before .before in
+    let at-live-slot = c .before in
+    let at-if2 = at-live-slot .before .before .before in
+    let at-if1 = at-if2 .before .before in
     let at-no-book = at-if1 .before in
     let entry = at-no-book .before .before in
     omega (arith, book-start (entry .args .table .now) (entry .args .start) (at-no-book .no-book .ensures) (at-if1 .if1 .left))

@@ -1,13 +1,13 @@
 -- `chart::part_mark` meets its contract: one lemma for each way out.
 use mathlib.Core.Path.{_≡_, sym, _∙_, ap, subst}
-use mathlib.Core.Logic.{_≢_}
+use mathlib.Core.Logic.{_≢_, ⊎-elim}
 use Prim.Native.Nat.{ℕ, _≤_, _<_}
 use native.Mathlib.Omega.{arith}
 use lib.IntN.{ℤ, pos}
 use mir.Facts.{toZ-ofZ, toZ-pos}
 use mir.Syntax.{w64}
 use mir.Val.{SFits, toZ}
-use Rattle.marks.specs.Told.{openEnd}
+use Rattle.marks.specs.MarkTold.{openEnd}
 use Rattle.chart.specs.declared.Marked.the-variants.{Mark}
 use Rattle.chart.specs.Marking.{PartMark, part-empty, part-outside, part-first, part-last, part-inner, index-below, index-above, index-there}
 use borrow.Author.Needs.{needs}
@@ -29,22 +29,20 @@ count-requires c κs = search needs
 returns : tie.Need-returns
 returns c = part-empty (c .before .before .envelope-root .ensures) (c .before .count .ensures) (c .before .before .before .args .index) (c .if1 .taken)
 
-returns-2 : tie.Need-returns-2
-returns-2 c =
-    let s = c .before .before .before .before in
-    part-outside (c .before .before .before .envelope-root .ensures) (c .before .before .count .ensures) (s .args .index) (c .before .if1 .left)
-    (index-below (s .args .index) _ (simp (toZ-ofZ, s .fits .index) at (c .if2 .taken)))
-
 cast-if3 : tie.Need-cast-if3
 cast-if3 c = search needs
 
-returns-3 : tie.Need-returns-3
-returns-3 c =
-    let s = c .before .before .before .before .before in
-    let m = c .before .before .before .count in
+returns-2 : tie.Need-returns-2
+returns-2 c =
+    let at-if1 = c .before in
+    let at-count = at-if1 .before in
+    let at-envelope-root = at-count .before in
+    let entry = at-envelope-root .before in
+    let m = at-count .count in
     let e : toZ w64 (m .result) ≡ pos (m .result) = toZ-pos w64 (omega (arith, m .ensures .few)) in
-    part-outside (c .before .before .before .before .envelope-root .ensures) (m .ensures) (s .args .index) (c .before .before .if1 .left)
-    (index-above (s .args .index) _ (simp (toZ-ofZ, s .fits .index, e) at (c .if3 .taken)))
+    part-outside (at-envelope-root .envelope-root .ensures) (m .ensures) (entry .args .index) (at-if1 .if1 .left)
+    (⊎-elim (λ y. index-below (entry .args .index) _ (simp (toZ-ofZ, entry .fits .index) at (y .taken)))
+    (λ y. index-above (entry .args .index) _ (simp (toZ-ofZ, entry .fits .index, e) at (y .1 .taken))) (c .if2 .came))
 
 up-to-requires : tie.Need-up-to-requires
 up-to-requires c κs = search needs
@@ -58,8 +56,8 @@ rate-requires c κs = search needs
 open-end-requires : tie.Need-open-end-requires
 open-end-requires c κs = search needs
 
-returns-4 : tie.Need-returns-4
-returns-4 c =
+returns-3 : tie.Need-returns-3
+returns-3 c =
     let at-slot-of = c .before .before in
     let at-if4 = at-slot-of .before in
     let at-up-to = at-if4 .before in
@@ -68,15 +66,15 @@ returns-4 c =
     let at-if1 = at-if2 .before in
     let at-count = at-if1 .before in
     let at-envelope-root = at-count .before in
-    let s = at-envelope-root .before in
+    let entry = at-envelope-root .before in
     let m = at-count .count in
     let e : toZ w64 (m .result) ≡ pos (m .result) = toZ-pos w64 (omega (arith, m .ensures .few)) in
     let j =
-    index-there (s .args .index) (simp (toZ-ofZ, s .fits .index) at (at-if2 .if2 .left)) (simp (toZ-ofZ, s .fits .index, e) at (at-if3 .if3 .left))
-    (m .ensures .few) (simp (toZ-ofZ, s .fits .index) at (at-up-to .up-to .ensures)) in
+    index-there (entry .args .index) (simp (toZ-ofZ, entry .fits .index) at (at-if2 .if2 .left)) (simp (toZ-ofZ, entry .fits .index, e) at (at-if3 .if3 .left))
+    (m .ensures .few) (simp (toZ-ofZ, entry .fits .index) at (at-up-to .up-to .ensures)) in
     let f : SFits w64 (c .before .rate .result) = record { sfits = c .before .rate .ok } in
-    let i : s .args .index ≡ pos 0 = j .0 ∙ ap pos (first (at-if4 .if4 .taken)) in
-    subst (λ (z : ℤ). PartMark (s .args .part .now) z (Mark (c .open-end .result))) (sym i)
+    let i : entry .args .index ≡ pos 0 = j .0 ∙ ap pos (first (at-if4 .if4 .taken)) in
+    subst (λ (z : ℤ). PartMark (entry .args .part .now) z (Mark (c .open-end .result))) (sym i)
     (part-first (at-envelope-root .envelope-root .ensures) (m .ensures) (at-if1 .if1 .left) (at-slot-of .slot-of .ensures)
     ((simp (toZ-ofZ, f) at (c .open-end .ensures)) ∙ ap openEnd (c .before .rate .ensures)))
 
@@ -89,8 +87,8 @@ rate-requires-2 c κs = search needs
 open-end-requires-2 : tie.Need-open-end-requires-2
 open-end-requires-2 c κs = search needs
 
-returns-5 : tie.Need-returns-5
-returns-5 c =
+returns-4 : tie.Need-returns-4
+returns-4 c =
     let at-if5 = c .before .before in
     let at-slot-of2 = at-if5 .before in
     let at-if4 = at-slot-of2 .before in
@@ -100,14 +98,14 @@ returns-5 c =
     let at-if1 = at-if2 .before in
     let at-count = at-if1 .before in
     let at-envelope-root = at-count .before in
-    let s = at-envelope-root .before in
+    let entry = at-envelope-root .before in
     let m = at-count .count in
     let e : toZ w64 (m .result) ≡ pos (m .result) = toZ-pos w64 (omega (arith, m .ensures .few)) in
     let j =
-    index-there (s .args .index) (simp (toZ-ofZ, s .fits .index) at (at-if2 .if2 .left)) (simp (toZ-ofZ, s .fits .index, e) at (at-if3 .if3 .left))
-    (m .ensures .few) (simp (toZ-ofZ, s .fits .index) at (at-up-to .up-to .ensures)) in
+    index-there (entry .args .index) (simp (toZ-ofZ, entry .fits .index) at (at-if2 .if2 .left)) (simp (toZ-ofZ, entry .fits .index, e) at (at-if3 .if3 .left))
+    (m .ensures .few) (simp (toZ-ofZ, entry .fits .index) at (at-up-to .up-to .ensures)) in
     let f : SFits w64 (c .before .rate2 .result) = record { sfits = c .before .rate2 .ok } in
-    subst (λ (z : ℤ). PartMark (s .args .part .now) z (Mark (c .open-end2 .result))) (sym (j .0))
+    subst (λ (z : ℤ). PartMark (entry .args .part .now) z (Mark (c .open-end2 .result))) (sym (j .0))
     (part-last (at-envelope-root .envelope-root .ensures) (m .ensures) (at-if1 .if1 .left) (at-up-to .up-to .result) (at-if4 .if4 .left)
     (at-slot-of2 .slot-of2 .ensures)
     (at-if5 .if5 .taken) ((simp (toZ-ofZ, f) at (c .open-end2 .ensures)) ∙ ap openEnd (c .before .rate2 .ensures)))
@@ -115,8 +113,8 @@ returns-5 c =
 crossing-at-requires : tie.Need-crossing-at-requires
 crossing-at-requires c κs = search needs
 
-returns-6 : tie.Need-returns-6
-returns-6 c =
+returns-5 : tie.Need-returns-5
+returns-5 c =
     let at-slot-of2 = c .before .before in
     let at-if4 = at-slot-of2 .before in
     let at-up-to = at-if4 .before in
@@ -125,13 +123,13 @@ returns-6 c =
     let at-if1 = at-if2 .before in
     let at-count = at-if1 .before in
     let at-envelope-root = at-count .before in
-    let s = at-envelope-root .before in
+    let entry = at-envelope-root .before in
     let m = at-count .count in
     let e : toZ w64 (m .result) ≡ pos (m .result) = toZ-pos w64 (omega (arith, m .ensures .few)) in
     let j =
-    index-there (s .args .index) (simp (toZ-ofZ, s .fits .index) at (at-if2 .if2 .left)) (simp (toZ-ofZ, s .fits .index, e) at (at-if3 .if3 .left))
-    (m .ensures .few) (simp (toZ-ofZ, s .fits .index) at (at-up-to .up-to .ensures)) in
-    subst (λ (z : ℤ). PartMark (s .args .part .now) z (Mark (c .crossing-at .result))) (sym (j .0))
+    index-there (entry .args .index) (simp (toZ-ofZ, entry .fits .index) at (at-if2 .if2 .left)) (simp (toZ-ofZ, entry .fits .index, e) at (at-if3 .if3 .left))
+    (m .ensures .few) (simp (toZ-ofZ, entry .fits .index) at (at-up-to .up-to .ensures)) in
+    subst (λ (z : ℤ). PartMark (entry .args .part .now) z (Mark (c .crossing-at .result))) (sym (j .0))
     (part-inner (at-envelope-root .envelope-root .ensures) (m .ensures) (at-if1 .if1 .left) (at-up-to .up-to .result) (at-if4 .if4 .left)
     (at-slot-of2 .slot-of2 .ensures)
     (below (j .1) (c .before .if5 .left)) (c .crossing-at .ensures))
@@ -143,17 +141,16 @@ part-mark-spec =
     envelope-root-requires
     count-requires
     returns
-    returns-2
     cast-if3
-    returns-3
+    returns-2
     up-to-requires
     slot-of-requires
     rate-requires
     open-end-requires
-    returns-4
+    returns-3
     slot-of-requires-2
     rate-requires-2
     open-end-requires-2
-    returns-5
+    returns-4
     crossing-at-requires
-    returns-6)
+    returns-5)

@@ -27,13 +27,14 @@ same-length c = search needs
 
 returns : tie.Need-returns
 returns c =
-    let at-set-number5 = c .before .before .before .before in
+    let at-set-number6 = c .before in
+    let at-set-number5 = at-set-number6 .before .before .before in
     let at-set-number4 = at-set-number5 .before .before .before in
     let at-set-number3 = at-set-number4 .before .before .before in
     let at-set-number2 = at-set-number3 .before .before .before in
     let at-set-number = at-set-number2 .before .before .before in
     heading _ _ _ _ _ _ _ _ (at-set-number .set-number .ensures) (at-set-number2 .set-number2 .ensures) (at-set-number3 .set-number3 .ensures)
-    (at-set-number4 .set-number4 .ensures) (at-set-number5 .set-number5 .ensures) (c .before .set-number6 .ensures)
+    (at-set-number4 .set-number4 .ensures) (at-set-number5 .set-number5 .ensures) (at-set-number6 .set-number6 .ensures)
 
 pub begin-spec : {M : Type 1} → statement M
 begin-spec =

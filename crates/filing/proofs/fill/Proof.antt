@@ -22,13 +22,14 @@ same-length c = search needs
 
 returns : tie.Need-returns
 returns c =
-    let at-put2 = c .before .before .before .before in
+    let at-put3 = c .before in
+    let at-put2 = at-put3 .before .before .before in
     let at-put = at-put2 .before .before .before in
     let at-take-slot = at-put .before .before .before in
     let entry = at-take-slot .before .before in (
       at-take-slot .take-slot .ensures .0,
       filled-in _ _ _ _ _ (at-take-slot .take-slot .ensures .1) (simp (toZ-ofZ, entry .fits .number) at (at-put .put .ensures))
-          (simp (toZ-ofZ, entry .fits .rate) at (at-put2 .put2 .ensures)) (simp (toZ-ofZ, entry .fits .base) at (c .before .put3 .ensures)),
+          (simp (toZ-ofZ, entry .fits .rate) at (at-put2 .put2 .ensures)) (simp (toZ-ofZ, entry .fits .base) at (at-put3 .put3 .ensures)),
     )
 
 pub fill-spec : {M : Type 1} → statement M

@@ -1,7 +1,7 @@
 -- `filing::join_in` meets its contract: alone, or inserted.
 use mathlib.Core.Path.{refl}
 use native.Mathlib.Omega.{arith}
-use Rattle.filing.specs.Joining.{joins-alone, joins-among}
+use Rattle.filing.specs.JoinedOffers.{joins-alone, joins-among}
 use borrow.Author.Needs.{needs}
 use Rattle.filing.proofs.join_in.Statement.{statement}
 use Rattle.filing.proofs.join_in.Tie as tie

@@ -37,11 +37,12 @@ loop-less c = omega arith
 
 loop-again : tie.Need-loop-again Inv-loop μ-loop
 loop-again c =
-    let at-put-link = c .before .before .before .before in
+    let at-put-link2 = c .before in
+    let at-put-link = at-put-link2 .before .before .before in
     let at-loop-test = at-put-link .before .before in
     let at-loop = at-loop-test .before in
     laying-more (at-loop .loop .inv) (omega arith) (omega (arith, at-loop-test .loop-test .taken)) (omega arith) (at-put-link .put-link .kept .0)
-    (c .before .put-link2 .kept .0) (at-put-link .put-link .ensures) (c .before .put-link2 .ensures)
+    (at-put-link2 .put-link2 .kept .0) (at-put-link .put-link .ensures) (at-put-link2 .put-link2 .ensures)
 
 put-link-requires-3 : tie.Need-put-link-requires-3 Inv-loop μ-loop
 put-link-requires-3 c κs = search needs
@@ -51,17 +52,19 @@ put-link-requires-4 c κs = search needs
 
 same-length : tie.Need-same-length Inv-loop μ-loop
 same-length c =
-    let at-put-link3 = c .before .before .before .before in
+    let at-put-link4 = c .before in
+    let at-put-link3 = at-put-link4 .before .before .before in
     let at-loop = at-put-link3 .before .before .before in
-    c .before .put-link4 .kept .0 ∙ at-put-link3 .put-link3 .kept .0 ∙ at-loop .loop .inv .long
+    at-put-link4 .put-link4 .kept .0 ∙ at-put-link3 .put-link3 .kept .0 ∙ at-loop .loop .inv .long
 
 returns : tie.Need-returns Inv-loop μ-loop
 returns c =
-    let at-put-link3 = c .before .before .before .before in
+    let at-put-link4 = c .before in
+    let at-put-link3 = at-put-link4 .before .before .before in
     let at-loop-test = at-put-link3 .before .before in
     let at-loop = at-loop-test .before in
-    laying-last (at-loop .loop .inv) (omega (arith, at-loop-test .loop-test .left)) (at-put-link3 .put-link3 .kept .0) (c .before .put-link4 .kept .0)
-    (at-put-link3 .put-link3 .ensures) (c .before .put-link4 .ensures)
+    laying-last (at-loop .loop .inv) (omega (arith, at-loop-test .loop-test .left)) (at-put-link3 .put-link3 .kept .0) (at-put-link4 .put-link4 .kept .0)
+    (at-put-link3 .put-link3 .ensures) (at-put-link4 .put-link4 .ensures)
 
 pub lay-spec : {M : Type 1} → statement M
 lay-spec =

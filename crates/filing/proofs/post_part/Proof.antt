@@ -30,7 +30,10 @@ join-in-requires c κs = search needs
 add-live : tie.Need-add-live
 add-live c =
     let at-join-in = c .before .before .before in
-    let at-count = at-join-in .before .before .before .before .before .before .before .before .before .before .before in
+    let at-set-number = at-join-in .before .before .before in
+    let at-add = at-set-number .before .before .before in
+    let at-fill = at-add .before .before .before in
+    let at-count = at-fill .before .before in
     omega (arith, read-most _ (at-count .number-at2 .ensures))
 
 set-roots-requires : tie.Need-set-roots-requires
@@ -42,8 +45,8 @@ same-length c = search needs
 returns : tie.Need-returns
 returns c =
     let at-set-roots = c .before in
-    let at-before = at-set-roots .before .before .before .before in
-    let at-join-in = at-before .before in
+    let at-joined = at-set-roots .before .before .before in
+    let at-join-in = at-joined .before .before in
     let at-set-number = at-join-in .before .before .before in
     let at-add = at-set-number .before .before .before in
     let at-fill = at-add .before .before .before in

@@ -18,10 +18,11 @@ same-length c = search needs
 
 returns : tie.Need-returns
 returns c =
-    let at-set-number2 = c .before .before .before .before in
+    let at-set-number3 = c .before in
+    let at-set-number2 = at-set-number3 .before .before .before in
     let at-set-number = at-set-number2 .before .before .before in
     let held = at-set-number .before .before .args .held in
-    rooted-in _ held _ (at-set-number .set-number .ensures) (at-set-number2 .set-number2 .ensures) (c .before .set-number3 .ensures)
+    rooted-in _ held _ (at-set-number .set-number .ensures) (at-set-number2 .set-number2 .ensures) (at-set-number3 .set-number3 .ensures)
 
 pub set-roots-spec : {M : Type 1} → statement M
 set-roots-spec =

@@ -8,16 +8,19 @@ begin-requires : tie.Need-begin-requires
 begin-requires c κs = search needs
 
 lay-requires : tie.Need-lay-requires
-lay-requires c κs = (c .before .before .before .before .pre .0, c .before .before .before .before .pre .1)
+lay-requires c κs =
+    let at-begin = c .before .before in
+    let entry = at-begin .before .before in (entry .pre .0, entry .pre .1)
 
 same-length : tie.Need-same-length
 same-length c = search needs
 
 returns : tie.Need-returns
 returns c =
-    let at-begin = c .before .before .before .before in
+    let at-lay = c .before in
+    let at-begin = at-lay .before .before .before in
     let entry = at-begin .before .before in
-    let p = entry .pre in starts (p .0) (p .1) (p .2) (at-begin .begin .ensures) (c .before .lay .ensures)
+    let p = entry .pre in starts (p .0) (p .1) (p .2) (at-begin .begin .ensures) (at-lay .lay .ensures)
 
 pub start-book-spec : {M : Type 1} → statement M
 start-book-spec = tie.close (tie.spec begin-requires lay-requires same-length returns)

@@ -37,9 +37,11 @@ same-length c = search needs
 
 returns : tie.Need-returns
 returns c =
-    let at-set-roots = c .before .before .before .before in
+    let at-give-slot = c .before in
+    let at-set-roots = at-give-slot .before .before .before in
     let at-one-less = at-set-roots .before .before in
-    let at-remove = at-one-less .before .before .before .before in
+    let at-rest = at-one-less .before .before in
+    let at-remove = at-rest .before .before in
     let at-set-number = at-remove .before .before .before in
     let at-drop-number = at-set-number .before .before .before in
     let at-count = at-drop-number .before .before in
@@ -48,7 +50,7 @@ returns c =
     let entry = at-numbers .before .before in
     withdrawn-part _ (at-numbers .number-at .ensures) (at-roots .roots .ensures) (at-count .number-at2 .ensures)
     (simp (toZ-ofZ, entry .fits .number) at (at-drop-number .drop-number .ensures)) (at-set-number .set-number .ensures) (at-remove .remove .ensures)
-    (at-one-less .one-less .ensures) (at-set-roots .set-roots .ensures) (c .before .give-slot .ensures)
+    (at-one-less .one-less .ensures) (at-set-roots .set-roots .ensures) (at-give-slot .give-slot .ensures)
 
 pub withdraw-part-spec : {M : Type 1} → statement M
 withdraw-part-spec =

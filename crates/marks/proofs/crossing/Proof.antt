@@ -6,7 +6,7 @@ use lib.Ieee.{Float}
 use mir.Syntax.{w64}
 use mir.ValLaws.{toZ-ofZ}
 use borrow.Author.Needs.{needs}
-use Rattle.marks.specs.Told.{Told}
+use Rattle.marks.specs.MarkTold.{Told}
 use Rattle.marks.proofs.crossing.Statement.{statement}
 use Rattle.marks.proofs.crossing.Tie as tie
 

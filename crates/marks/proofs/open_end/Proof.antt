@@ -7,7 +7,7 @@ use mir.Syntax.{w64}
 use mir.ValLaws.{toZ-ofZ}
 use borrow.Author.Needs.{needs}
 use Rattle.marks.specs.Quotient.{double}
-use Rattle.marks.specs.Told.{Told}
+use Rattle.marks.specs.MarkTold.{Told}
 use Rattle.marks.proofs.open_end.Statement.{statement}
 use Rattle.marks.proofs.open_end.Tie as tie
 

@@ -1,7 +1,9 @@
 -- `meet_books::meet` meets its contract: by its guards, and then the two parts.
+use mathlib.Core.Logic.{inl, inr, ⊎-elim}
 use native.Mathlib.Omega.{arith}
+use Rattle.lists.specs.Bools.{said}
 use Rattle.promises.specs.LentPart.{book-start}
-use Rattle.meet_books.specs.Tables.{first-missing, second-missing, both-there}
+use Rattle.meet_books.specs.Tables.{one-missing, both-there}
 use borrow.Author.Needs.{needs}
 use Rattle.meet_books.proofs.meet.Statement.{statement}
 use Rattle.meet_books.proofs.meet.Tie as tie
@@ -9,19 +11,15 @@ use Rattle.meet_books.proofs.meet.Tie as tie
 no-book-requires : tie.Need-no-book-requires
 no-book-requires c κs = search needs
 
-returns : tie.Need-returns
-returns c =
-    first-missing (c .before .before .args .left .now) (c .before .before .args .left-start) (c .before .before .args .right .now)
-    (c .before .before .args .right-start) (c .before .no-book .ensures) (c .if1 .taken)
-
 no-book-requires-2 : tie.Need-no-book-requires-2
 no-book-requires-2 c κs = search needs
 
-returns-2 : tie.Need-returns-2
-returns-2 c =
-    let entry = c .before .before .before .before in
-    second-missing (entry .args .left .now) (entry .args .left-start) (entry .args .right .now) (entry .args .right-start) (c .before .no-book2 .ensures)
-    (c .if2 .taken)
+returns : tie.Need-returns
+returns c =
+    let at-no-book = c .before in
+    let entry = at-no-book .before in
+    one-missing (entry .args .left .now) (entry .args .left-start) (entry .args .right .now) (entry .args .right-start)
+    (⊎-elim (λ y. inl (said (at-no-book .no-book .ensures) (y .taken))) (λ y. inr (said (y .1 .ensures) (y .2 .taken))) (c .if1 .came))
 
 mul-meet-parts : tie.Need-mul-meet-parts
 mul-meet-parts c =
@@ -71,8 +69,8 @@ part-meet-parts-end-2 c = search needs
 meet-parts-requires : tie.Need-meet-parts-requires
 meet-parts-requires c κs = search needs
 
-returns-3 : tie.Need-returns-3
-returns-3 c =
+returns-2 : tie.Need-returns-2
+returns-2 c =
     let at-if2 = c .before .before .before in
     let at-no-book2 = at-if2 .before in
     let at-if1 = at-no-book2 .before in
@@ -86,9 +84,8 @@ meet-spec =
     tie.close
     (tie.spec
     no-book-requires
-    returns
     no-book-requires-2
-    returns-2
+    returns
     mul-meet-parts
     sub-meet-parts
     part-meet-parts-start
@@ -98,4 +95,4 @@ meet-spec =
     part-meet-parts-start-2
     part-meet-parts-end-2
     meet-parts-requires
-    returns-3)
+    returns-2)

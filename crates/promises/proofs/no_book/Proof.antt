@@ -1,11 +1,8 @@
 -- `promises::no_book` meets its contract: by the capacity that the words from `start` on tell.
 use borrow.Author.Needs.{needs}
-use Rattle.promises.specs.LentPart.{beyond-none, cap-none, cap-some}
+use Rattle.promises.specs.LentPart.{beyond-none, cap-tells}
 use Rattle.promises.proofs.no_book.Statement.{statement}
 use Rattle.promises.proofs.no_book.Tie as tie
-
-returns : tie.Need-returns
-returns c = beyond-none (c .before .args .table .now) (c .before .args .start) (c .if1 .taken)
 
 mul-capacity : tie.Need-mul-capacity
 mul-capacity c = search needs
@@ -22,25 +19,20 @@ part-capacity-end c = search needs
 capacity-requires : tie.Need-capacity-requires
 capacity-requires c κs = search needs
 
-returns-2 : tie.Need-returns-2
-returns-2 c =
-    let entry = c .before .before .before .before in
-    cap-none (entry .args .table .now) (entry .args .start) (c .before .capacity .ensures) (c .if2 .taken)
+returns : tie.Need-returns
+returns c = beyond-none (c .before .args .table .now) (c .before .args .start) (c .if1 .taken)
 
-returns-3 : tie.Need-returns-3
-returns-3 c =
-    let entry = c .before .before .before .before in
-    cap-some (entry .args .table .now) (entry .args .start) (c .before .capacity .ensures) (c .if2 .left)
+returns-2 : tie.Need-returns-2
+returns-2 c = let entry = c .before .before .before in cap-tells (entry .args .table .now) (entry .args .start) (c .capacity .ensures)
 
 pub no-book-spec : {M : Type 1} → statement M
 no-book-spec =
     tie.close
     (tie.spec
-    returns
     mul-capacity
     sub-capacity
     part-capacity-start
     part-capacity-end
     capacity-requires
-    returns-2
-    returns-3)
+    returns
+    returns-2)

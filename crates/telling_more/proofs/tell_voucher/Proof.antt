@@ -3,7 +3,7 @@ use mathlib.Core.Path.{refl}
 use mir.Syntax.{w64}
 use mir.Val.{SFits}
 use mir.Facts.{toZ-ofZ}
-use Rattle.vouchers.specs.Told.{told}
+use Rattle.vouchers.specs.VoucherTold.{told}
 use Rattle.answers.specs.Promises.{refusal}
 use Rattle.answers.specs.Answers.{tells, one}
 use borrow.Author.Needs.{needs}

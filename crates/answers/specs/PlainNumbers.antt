@@ -30,7 +30,7 @@ use Rattle.promises.specs.Numbered.{numbered}
 use Rattle.meet_books.specs.declared.Met.{Met}
 use Rattle.meet_books.specs.Promises.{meetTrials, meetAnswer, Found as MeetsAt}
 use Rattle.chart.specs.Promises.{told as markTold, plainMark}
-use Rattle.vouchers.specs.Told.{told as voucherTold, due}
+use Rattle.vouchers.specs.VoucherTold.{told as voucherTold, due}
 use Rattle.reading.specs.Promises.{told as pieceTold, pieceOf as handedOf, listedAt, rootPieces, PlaceOf, at-piece, past-last, Before}
 use Rattle.reading.specs.PartReading.{none-past, listed-is}
 use Rattle.answers.specs.Promises.{refusal, updateNumber, foundNumber, listedNumber, meetNumber, markNumber, placeNumber, metOf, pieceOf, over}
