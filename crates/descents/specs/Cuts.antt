@@ -21,7 +21,7 @@ use Rattle.table.specs.Layout.{cap, cell}
 use Rattle.table.specs.Items.{Item, In, at, in-left, in-right, Slots, slots-left, slots-right, slots-across}
 use Rattle.table.specs.Rep.{childField, childAt, Within, within-cap, within-refl, within-trans, Only, only-refl, only-trans, only-more, tied-still, inner-in}
 use Rattle.table.specs.Nodes.{Parents, parents, leaf-low, ref-low}
-use Rattle.table.specs.PartTrees.{RepP, rep-some, MadeP, repP-still, PairP, Seam}
+use Rattle.table.specs.PartTrees.{RepP, rep-some, MadeP, repP-still, PairP, Seam, seam-left}
 use Rattle.table.specs.Keys.{Keyed, keyed-left, keyed-right}
 use Rattle.shape.specs.Merge.{Merged}
 use Rattle.descents.specs.Whole.{Whole, split-whole, not-left, not-right}
@@ -82,10 +82,6 @@ settled : {k u v : ℕ} {w w₁ w₂ : Words} {xs ys : List Item} {p q : Part It
     → ((s : ℕ) → In s ys → In s xs) → ((s : ℕ) → In s (partLeaves p) → In s xs) → ((s : ℕ) → In s (partLeaves p) → In s (partLeaves q) → ⊥)
     → RepP w₂ k u q × Only k xs w w₂
 settled {q} g o r m a b d = (repP-still q r g (m .only) d, only-trans (only-more a o) (only-more b (m .only)))
-
-seam-left : (g : ℕ) (t : Tree Item) (q : Part Item) → g ≡ last t .slot → Seam g (some t) q
-seam-left g t none e = tt
-seam-left g t (some u) e = e
 
 -- the last leaf of what is behind a cut is the tree's
 seam-right : (g : ℕ) (p q : Part Item) (s t : Tree Item) → partLeaves p ++ partLeaves q ≡ leaves s → g ≡ last s .slot → Seam g q (some t)

@@ -3,7 +3,7 @@ use mathlib.Core.Path.{_≡_, refl, sym, _∙_, ap, subst}
 use mathlib.Core.Logic.{_≢_, ⊎-elim}
 use mathlib.Core.Bool.{Bool, true, false, not}
 use mathlib.Core.List.{List, [], _∷_, _++_, List·Memᴰ, List·Memᴰ·head, List·Memᴰ·append-cases, List·Memᴰ·cases-cons, Memᴰ·append-left}
-use mathlib.Core.List.{Memᴰ·append-right, Sublistᴰ, Sublistᴰ·append, Sublistᴰ·refl, Sublistᴰ·nil-sublist, Pairwise·sublistᴰ, Pairwise·nil}
+use mathlib.Core.List.{Memᴰ·append-right, Sublistᴰ, Sublistᴰ·append, Sublistᴰ·refl, Sublistᴰ·nil-sublist, Pairwise·nil}
 use mathlib.Core.Option.{Option, none, some}
 use Prim.Native.Nat.{ℕ, _-_, _≤_, _<_}
 use native.Mathlib.Omega.{arith}
@@ -21,10 +21,10 @@ use Rattle.trees.specs.Order.{Falling, parted, last-lowest}
 use Rattle.table.specs.Fields.{mostSlots, numberField, numberTree}
 use Rattle.table.specs.Words.{Words}
 use Rattle.table.specs.Layout.{cap, cell}
-use Rattle.table.specs.Items.{Item, In, Slots, in-left, in-right, slots-left, slots-right, slots-across}
+use Rattle.table.specs.Items.{Item, In, in-left, in-right, slots-left, slots-right, slots-across, slots-sublist}
 use Rattle.table.specs.Rep.{childAt, Within, within-cap, within-refl, within-trans, Only, only-refl, only-trans, only-more}
 use Rattle.table.specs.Nodes.{Parents, parents, leaf-low, ref-low}
-use Rattle.table.specs.PartTrees.{RepP, rep-some, MadeP, Seam, repP-still}
+use Rattle.table.specs.PartTrees.{RepP, rep-some, MadeP, repP-still, seam-left}
 use Rattle.table.specs.Keys.{Keyed, keyed-left, keyed-right}
 use Rattle.shape.specs.Merge.{Merged}
 use Rattle.descents.specs.Ends.{Ended}
@@ -98,15 +98,8 @@ thinned-over {w} least h e = at-node least h (within-refl w) (λ s t r a n k. ab
 
 -- ---- a child is thinned
 
-fewer-slots : {c : ℕ} {xs ys : List Item} → Sublistᴰ xs ys → Slots c ys → Slots c xs
-fewer-slots l s = record { low = λ m. s .low (sublist-mem l m); high = λ m. s .high (sublist-mem l m); apart = Pairwise·sublistᴰ l (s .apart) }
-
 fewer-in : {xs ys : List Item} → Sublistᴰ xs ys → (s : ℕ) → In s xs → In s ys
 fewer-in l = among-in (λ a m. sublist-mem l m)
-
-seam-node : (g : ℕ) (t : Tree Item) (q : Part Item) → g ≡ last t .slot → Seam g (some t) q
-seam-node g t none e = tt
-seam-node g t (some u) e = e
 
 -- what the test tells of the seam
 seam-test : {w : Words} {x g : ℕ} {b : Bool} {s t : Tree Item} (least : ℤ) → g ≡ x - mostSlots → b ≡ leZ least (cell w numberField g) →
@@ -150,7 +143,7 @@ module _ {x limit g l r y z : ℕ} {b : Bool} {w w₁ w₂ : Words} (least : ℤ
 
           m : MadeP numberTree w₁ w₂ z (joinP (some s) (c .left))
           m =
-              joined j (seam-node g s (c .left) (eg ∙ o .seam-at))
+              joined j (seam-left g s (c .left) (eg ∙ o .seam-at))
               (record {
                 left = repP-still (some s) (record {
                   kind = rep .kind;
@@ -160,7 +153,7 @@ module _ {x limit g l r y z : ℕ} {b : Bool} {w w₁ w₂ : Words} (least : ℤ
                       o .tied-left;
                 }) (rec .within) (c .only) (λ i u v. slots-across (leaves s) (rep .slots) v u);
                 right = c .rep;
-                slots = rw (within-cap (rec .within)) (fewer-slots fewer-both (rep .slots));
+                slots = rw (within-cap (rec .within)) (slots-sublist fewer-both (rep .slots));
                 balanced-left = a₁;
                 balanced-right = c .balanced;
               })
@@ -236,7 +229,7 @@ module _ {x limit g l r y z : ℕ} {b : Bool} {w w₁ w₂ : Words} (least : ℤ
                   tied =
                       o .tied-right;
                 }) (rec .within) (c .only) (λ i u v. slots-across (leaves s) (rep .slots) u v);
-                slots = rw (within-cap (rec .within)) (fewer-slots fewer-both (rep .slots));
+                slots = rw (within-cap (rec .within)) (slots-sublist fewer-both (rep .slots));
                 balanced-left = c .balanced;
                 balanced-right = a₂;
               })

@@ -52,6 +52,9 @@ pub slots-right : {c : ℕ} (xs : List Item) {ys : List Item} → Slots c (xs ++
 slots-right xs s =
     record { low = λ m. s .low (Memᴰ·append-right xs m); high = λ m. s .high (Memᴰ·append-right xs m); apart = parted xs (s .apart) .right }
 
+pub slots-sublist : {c : ℕ} {xs ys : List Item} → Sublistᴰ xs ys → Slots c ys → Slots c xs
+slots-sublist d s = record { low = λ m. s .low (sublist-mem d m); high = λ m. s .high (sublist-mem d m); apart = Pairwise·sublistᴰ d (s .apart) }
+
 -- two lists one behind the other share no slot
 pub slots-across : {c s : ℕ} (xs : List Item) {ys : List Item} → Slots c (xs ++ ys) → In s xs → In s ys → ⊥
 slots-across xs s (at m e) (at n d) = parted xs (s .apart) .across m n (sym e ∙ d)

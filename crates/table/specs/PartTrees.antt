@@ -68,3 +68,7 @@ abbrev pub Seam : ℕ → Part Item → Part Item → Type 0
 Seam gap none pr = Unit {0}
 Seam gap (some tl) none = Unit {0}
 Seam gap (some tl) (some tr) = gap ≡ last tl .slot
+
+pub seam-left : (g : ℕ) (t : Tree Item) (q : Part Item) → g ≡ last t .slot → Seam g (some t) q
+seam-left g t none e = tt
+seam-left g t (some u) e = e

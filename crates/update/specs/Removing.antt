@@ -20,7 +20,7 @@ use Rattle.dynamic.specs.UpdateSteps.{Loses, remove-whole}
 use Rattle.table.specs.Fields.{mostSlots, offerTree, rateField}
 use Rattle.table.specs.Words.{Words}
 use Rattle.table.specs.Layout.{cap, cell}
-use Rattle.table.specs.Items.{Item, In, at, Slots}
+use Rattle.table.specs.Items.{Item, In, at, Slots, slots-sublist}
 use Rattle.table.specs.Rep.{nodeOn, seam, Rep, Within, within-refl, within-trans}
 use Rattle.table.specs.Nodes.{ref-low, on-across, in-one}
 use Rattle.table.specs.PartTrees.{low}
@@ -36,7 +36,7 @@ use Rattle.form.specs.Frames.{Inside, slots-within, held-still, touched-refl, t
 use Rattle.update.specs.Neighbours.{sideOf, held-rep, inner-high, seam-rate, Neighbours, LoweredOn, Opens, opens}
 use Rattle.update.specs.Counting.{Summed, counted-two}
 use Rattle.update.specs.Rebalancing.{rebalanceOn, RebalancedOn}
-use Rattle.update.specs.RemovingModel.{besideOn, remove-on, stands-on, left-row, slots-sublist}
+use Rattle.update.specs.RemovingModel.{besideOn, remove-on, stands-on, left-row}
 
 -- ---- what is promised
 

@@ -60,8 +60,8 @@ returns-4 c =
     (towers-told _ _ _ _ (other .height-in2 .ensures) (one .height-in .ensures) (right-towers .before .above2 .ensures)) (right-towers .if4 .taken)
     (c .before .splice2 .ensures)
 
-taller-requires : tie.Need-taller-requires
-taller-requires c κs =
+height-over-requires : tie.Need-height-over-requires
+height-over-requires c κs =
     let other = c .before .before .before .before .before in
     (omega (arith, height-read _ _ _ (other .before .before .height-in .ensures)), omega (arith, height-read _ _ _ (other .height-in2 .ensures)))
 
@@ -81,7 +81,7 @@ returns-5 c =
     merged-level (both .before .if1 .left) (both .if2 .left)
     (towers-told _ _ _ _ (one .height-in .ensures) (other .height-in2 .ensures) (left-low .before .above .ensures)) (left-low .if3 .left)
     (towers-told _ _ _ _ (other .height-in2 .ensures) (one .height-in .ensures) (right-low .before .above2 .ensures)) (right-low .if4 .left)
-    (raised (one .height-in .ensures) (other .height-in2 .ensures) (c .before .before .taller .ensures) (c .before .set-node .ensures))
+    (raised (one .height-in .ensures) (other .height-in2 .ensures) (c .before .before .height-over .ensures) (c .before .set-node .ensures))
 
 pub join-in-spec : {M : Type 1} → statement M
 join-in-spec =
@@ -99,7 +99,7 @@ join-in-spec =
     splice-requires-2
     same-length-2
     returns-4
-    taller-requires
+    height-over-requires
     set-node-requires
     same-length-3
     returns-5)
