@@ -16,9 +16,9 @@ ghost use Rattle.check_trees.specs.Loops.{FallsHere, RangedHere, NextHer
 ghost use Rattle.check_trees.specs.Fills.{Fails, Fills, Ended, Covers};
 
 // A scratch array has two halves, with an entry for each slot in either: what is read first, and what is compared with it.
-pub const SCRATCH: usize = 8192;
+pub const SECOND_HALF: usize = table::MOST_SLOTS as usize;
 
-pub const SECOND_HALF: usize = 4096;
+pub const SCRATCH: usize = 2 * SECOND_HALF;
 
 // Word `at` is that number, and not only read as such.
 pub fn tells(part: &[i64], at: usize, number: u32) -> bool

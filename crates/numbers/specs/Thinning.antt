@@ -58,7 +58,7 @@ thinned-leaf {x} {limit} {w} least h = record { within = within-refl w; made = m
       left = none;
       rep = repP-none (omega arith);
       balanced = tt;
-      only = only-refl 2 [] w;
+      only = only-refl numberTree [] w;
       fewer = Sublistᴰ·refl [];
       gone = λ f a m. elim m [ ];
       kept = λ f a m. elim m [ ];
@@ -68,7 +68,7 @@ thinned-leaf {x} {limit} {w} least h = record { within = within-refl w; made = m
           left = none;
           rep = repP-none (omega arith);
           balanced = tt;
-          only = only-refl 2 (i ∷ []) w;
+          only = only-refl numberTree (i ∷ []) w;
           fewer = Sublistᴰ·nil-sublist (i ∷ []);
           gone =
               λ f a m e b z. elim z [ ];
@@ -114,7 +114,7 @@ module _ {x limit g l r y z : ℕ} {b : Bool} {w w₁ w₂ : Words} (least : ℤ
             kept = λ f a i d v k h. rw same (kept f a i d v k h);
           }
         where
-          o : Parents w 2 x s t
+          o : Parents w numberTree x s t
           o = parents (rep-some rep)
 
           c : Thin least w w₁ y (some t)
@@ -190,7 +190,7 @@ module _ {x limit g l r y z : ℕ} {b : Bool} {w w₁ w₂ : Words} (least : ℤ
             kept = λ f a i d v k h. rw same (kept f a i d v k h);
           }
         where
-          o : Parents w 2 x s t
+          o : Parents w numberTree x s t
           o = parents (rep-some rep)
 
           c : Thin least w w₁ y (some s)

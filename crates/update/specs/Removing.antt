@@ -17,7 +17,7 @@ use Rattle.dynamic.specs.OfferTree.{OfferTree, single, fork, shape, Held, hold,
 use Rattle.dynamic.specs.Updates.{Removed, remove}
 use Rattle.dynamic.specs.Kept.{heldHeight}
 use Rattle.dynamic.specs.UpdateSteps.{Loses, remove-whole}
-use Rattle.table.specs.Fields.{mostSlots, offerTree, rateField}
+use Rattle.table.specs.Fields.{mostLevels, mostSlots, offerTree, rateField}
 use Rattle.table.specs.Words.{Words}
 use Rattle.table.specs.Layout.{cap, cell}
 use Rattle.table.specs.Items.{Item, In, at, Slots, slots-sublist}
@@ -52,7 +52,7 @@ pub record RemovedBelow (limit slot : ℕ) (x : InHand) (w w′ : Words) (m : Ou
   pub touched : (a : Item) (t : Held Item) → Leaver w slot x a t → heldHeight t ≤ limit → Touched (leaves (heldShape t)) w w′
 
 -- no subtree in a table is higher than 24
-pub removed : {limit slot : ℕ} {x : InHand} {m : Outcome} {w w′ : Words} → 24 ≤ limit → RemovedBelow limit slot x w w′ m → RemovedIn slot x w w′ m
+pub removed : {limit slot : ℕ} {x : InHand} {m : Outcome} {w w′ : Words} → mostLevels ≤ limit → RemovedBelow limit slot x w w′ m → RemovedIn slot x w w′ m
 removed {limit} {slot} {x} {w} enough c =
     record {
       within = c .within;

@@ -55,7 +55,8 @@ mul-bounded c = omega (
 
 shared-slice-copy-out-bounded : tie.Need-shared-slice-copy-out-bounded
 shared-slice-copy-out-bounded c =
-    data-in _ _ _ (c .before .before .before .capacity .ensures) (c .before .before .if1 .left) (c .before .if2 .left) (c .address .ensures) 2 (omega arith)
+    let at-if1 = c .before .before in
+    data-in _ _ _ (at-if1 .before .capacity .ensures) (at-if1 .if1 .left) (c .before .if2 .left) (c .address .ensures) baseField (omega arith)
 
 bounded-requires : tie.Need-bounded-requires
 bounded-requires c κs = search needs
@@ -82,7 +83,7 @@ shared-slice-copy-out-bounded-2 c =
     let at-if2 = at-address .before in
     let at-if1 = at-if2 .before in
     let at-capacity = at-if1 .before in
-    data-in _ _ _ (at-capacity .capacity .ensures) (at-if1 .if1 .left) (at-if2 .if2 .left) (at-address .address .ensures) 1 (omega arith)
+    data-in _ _ _ (at-capacity .capacity .ensures) (at-if1 .if1 .left) (at-if2 .if2 .left) (at-address .address .ensures) rateField (omega arith)
 
 bounded-requires-2 : tie.Need-bounded-requires-2
 bounded-requires-2 c κs = search needs
@@ -116,8 +117,8 @@ returns-3 c =
     let entry = at-capacity .before in
     let w = entry .args .part .now in
     let at = at-address .address .result in
-    let x : SFits w64 (getD w (at + 2) (pos 0)) = record { sfits = at-bounded-arg .bounded-arg .given } in
-    let y : SFits w64 (getD w (at + 1) (pos 0)) = record { sfits = at-bounded-arg2 .bounded-arg2 .given } in
+    let x : SFits w64 (getD w (at + baseField) (pos 0)) = record { sfits = at-bounded-arg .bounded-arg .given } in
+    let y : SFits w64 (getD w (at + rateField) (pos 0)) = record { sfits = at-bounded-arg2 .bounded-arg2 .given } in
     let b : SFits w64 (at-bounded .bounded .result) = record { sfits = at-bounded .bounded .ok } in
     let r : SFits w64 (c .before .bounded2 .result) = record { sfits = c .before .bounded2 .ok } in
     let l : SFits w64 (c .bounded3 .result) = record { sfits = c .bounded3 .ok } in
@@ -126,8 +127,8 @@ returns-3 c =
     simp (toZ-ofZ, b, r, l, p, s)
     (told _ _ _ (simp (toZ-ofZ, x) at (at-bounded .bounded .ensures)) (simp (toZ-ofZ, y) at (c .before .bounded2 .ensures))
     (simp (toZ-ofZ, entry .fits .load) at (c .bounded3 .ensures)) _ _
-    (data-cell _ _ _ (at-capacity .capacity .ensures) (at-if1 .if1 .left) (at-if2 .if2 .left) (at-address .address .ensures) 2 (omega arith))
-    (data-cell _ _ _ (at-capacity .capacity .ensures) (at-if1 .if1 .left) (at-if2 .if2 .left) (at-address .address .ensures) 1 (omega arith)))
+    (data-cell _ _ _ (at-capacity .capacity .ensures) (at-if1 .if1 .left) (at-if2 .if2 .left) (at-address .address .ensures) baseField (omega arith))
+    (data-cell _ _ _ (at-capacity .capacity .ensures) (at-if1 .if1 .left) (at-if2 .if2 .left) (at-address .address .ensures) rateField (omega arith)))
 
 pub price-spec : {M : Type 1} → statement M
 price-spec =

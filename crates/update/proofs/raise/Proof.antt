@@ -1,5 +1,6 @@
 -- `update::raise` meets its contract.
 use Prim.Native.Nat.{_+_}
+use Rattle.table.specs.Fields.{pieceTree}
 use Rattle.table.specs.Rep.{height-read}
 use Rattle.descents.specs.Cuts.{still-known}
 use Rattle.update.specs.CodeSteps.{still-put}
@@ -28,7 +29,11 @@ add-h : tie.Need-add-h
 add-h c =
     let left = c .before .before in
     let entry = left .before .before .before .before .before .before in
-    omega (arith, height-read _ 0 (entry .args .l .envelope) (left .height-in .ensures), height-read _ 0 (entry .args .r .envelope) (c .height-in2 .ensures))
+    omega (
+      arith,
+      height-read _ pieceTree (entry .args .l .envelope) (left .height-in .ensures),
+      height-read _ pieceTree (entry .args .r .envelope) (c .height-in2 .ensures),
+    )
 
 cut-behind-requires : tie.Need-cut-behind-requires
 cut-behind-requires c κs = search needs
