@@ -67,19 +67,27 @@ splice-height-in-requires : (t : ℕ) → splice-lts.Need-height-in-requires (sp
 splice-height-in-requires t c κs = c .before .before .pre .1
 
 splice-height-in-requires-2 : (t : ℕ) → splice-lts.Need-height-in-requires-2 (splice-claims t) (splice-at t) splice.Post
-splice-height-in-requires-2 t c κs = c .before .before .before .before .pre .1
+splice-height-in-requires-2 t c κs =
+    let at-height-in = c .before in
+    let entry = at-height-in .before .before .before in
+    entry .pre .1
 
 splice-above-requires : (t : ℕ) → splice-lts.Need-above-requires (splice-claims t) (splice-at t) splice.Post
 splice-above-requires t c κs = omega (arith, height-read _ _ _ (c .height-in2 .ensures))
 
 splice-child-in-requires : (t : ℕ) → splice-lts.Need-child-in-requires (splice-claims t) (splice-at t) splice.Post
 splice-child-in-requires t c κs =
-    let entry = c .before .before .before .before .before .before .before .before in
+    let at-above = c .before .before in
+    let at-height-in = at-above .before .before .before in
+    let entry = at-height-in .before .before .before in
     entry .pre .1
 
 splice-child-in-requires-2 : (t : ℕ) → splice-lts.Need-child-in-requires-2 (splice-claims t) (splice-at t) splice.Post
 splice-child-in-requires-2 t c κs =
-    let entry = c .before .before .before .before .before .before .before .before .before .before in
+    let at-child-in = c .before in
+    let at-above = at-child-in .before .before .before in
+    let at-height-in = at-above .before .before .before in
+    let entry = at-height-in .before .before .before in
     entry .pre .1
 
 splice-inner-slot-requires : (t : ℕ) → splice-lts.Need-inner-slot-requires (splice-claims t) (splice-at t) splice.Post
@@ -90,13 +98,21 @@ splice-sub-splice t c = omega arith
 
 splice-splice-requires : (t : ℕ) → splice-lts.Need-splice-requires (splice-claims t) (splice-at t) splice.Post
 splice-splice-requires t c κs =
-    let entry = c .before .before .before .before .before .before .before .before .before .before .before .before .before in
+    let at-inner-slot = c .before in
+    let at-child-in = at-inner-slot .before .before .before in
+    let at-above = at-child-in .before .before .before in
+    let at-height-in = at-above .before .before .before in
+    let entry = at-height-in .before .before .before in
     (omega (arith, entry .pre .0), entry .pre .1)
 
 splice-balance-requires : (t : ℕ) → splice-lts.Need-balance-requires (splice-claims t) (splice-at t) splice.Post
 splice-balance-requires t c κs =
     let at-splice = c .before .before in
-    let entry = at-splice .before .before .before .before .before .before .before .before .before .before .before .before .before .before in
+    let at-inner-slot = at-splice .before .before in
+    let at-child-in = at-inner-slot .before .before .before in
+    let at-above = at-child-in .before .before .before in
+    let at-height-in = at-above .before .before .before in
+    let entry = at-height-in .before .before .before in
     entry .pre .1 ∙ sym (within-cap (at-splice .splice .ensures .within))
 
 splice-same-length-2 : (t : ℕ) → splice-lts.Need-same-length-2 (splice-claims t) (splice-at t) splice.Post
@@ -125,7 +141,9 @@ splice-height-over-requires t c κs =
 
 splice-set-node-requires : (t : ℕ) → splice-lts.Need-set-node-requires (splice-claims t) (splice-at t) splice.Post
 splice-set-node-requires t c κs =
-    let entry = c .before .before .before .before .before .before .before .before .before in
+    let at-above = c .before .before .before in
+    let at-height-in = at-above .before .before .before in
+    let entry = at-height-in .before .before .before in
     entry .pre .1
 
 splice-same-length-3 : (t : ℕ) → splice-lts.Need-same-length-3 (splice-claims t) (splice-at t) splice.Post
