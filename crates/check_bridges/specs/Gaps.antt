@@ -9,7 +9,7 @@ use lib.Signed.{leZ, ltZ}
 use mir.Syntax.{w64}
 use mir.Val.{SFits}
 use Rattle.offers.specs.Offers.{offerInRange, rateInRange, baseInRange}
-use Rattle.offers.specs.Sizes.{rate-of, base-of, numeratorInRange, denominatorInRange, base-gap-fits, base-gap-in-range, rate-gap-fits}
+use Rattle.offers.specs.Sizes.{rate-of, base-of, numeratorInRange, denominatorInRange, base-gap-in-range}
 use Rattle.offers.specs.Sizes.{rate-gap-in-range, cross-product-fits}
 use Rattle.offers.specs.Bounded.{bounded-in}
 use Rattle.envelopes.specs.PseudoLines.{Figure}
@@ -41,17 +41,10 @@ baseGap w a b = baseAt w b -ℤ baseAt w a
 abbrev pub rateGap : Words → ℕ → ℕ → ℤ
 rateGap w a b = rateAt w a -ℤ rateAt w b
 
-module _ (w : Words) (a b : ℕ) where
-  pub base-gap-safe : SFits w64 (baseGap w a b)
-  base-gap-safe = base-gap-fits (baseAt w a) (baseAt w b) (base-ranged w a) (base-ranged w b)
-
-  pub rate-gap-safe : SFits w64 (rateGap w a b)
-  rate-gap-safe = rate-gap-fits (rateAt w a) (rateAt w b) (rate-ranged w a) (rate-ranged w b)
-
-  pub product-safe : (c d : ℕ) → SFits w64 (baseGap w a b *ℤ rateGap w c d)
-  product-safe c d =
-      cross-product-fits (baseGap w a b) (rateGap w c d) (base-gap-in-range (baseAt w a) (baseAt w b) (base-ranged w a) (base-ranged w b))
-      (rate-gap-in-range (rateAt w c) (rateAt w d) (rate-ranged w c) (rate-ranged w d))
+product-safe : (w : Words) (a b c d : ℕ) → SFits w64 (baseGap w a b *ℤ rateGap w c d)
+product-safe w a b c d =
+    cross-product-fits (baseGap w a b) (rateGap w c d) (base-gap-in-range (baseAt w a) (baseAt w b) (base-ranged w a) (base-ranged w b))
+    (rate-gap-in-range (rateAt w c) (rateAt w d) (rate-ranged w c) (rate-ranged w d))
 
 -- ---- the comparison
 
@@ -76,13 +69,6 @@ cross-is {w} {a} {b} {c} {d} ha hb hc hd p q =
     ∙ sym (cross-left Item rateOf baseOf (itemAt w a) (itemAt w b) (itemAt w c) (itemAt w d) p q)
 
 -- ---- as the code computes them
-
-module _ (w : Words) (a b : ℕ) {x y : ℤ} where
-  pub bases-safe : x ≡ baseAt w b → y ≡ baseAt w a → SFits w64 (x -ℤ y)
-  bases-safe d e = rw (d, e) (base-gap-safe w a b)
-
-  pub rates-safe : x ≡ rateAt w a → y ≡ rateAt w b → SFits w64 (x -ℤ y)
-  rates-safe d e = rw (d, e) (rate-gap-safe w a b)
 
 pub products-safe : (w : Words) (a b c d : ℕ) {x y : ℤ} → x ≡ baseGap w a b → y ≡ rateGap w c d → SFits w64 (x *ℤ y)
 products-safe w a b c d e f = rw (e, f) (product-safe w a b c d)

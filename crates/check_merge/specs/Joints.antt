@@ -130,7 +130,7 @@ module _
     (upper : at ≤ mid)
     (lower : mid ≤ to)
   where
-    kids : Children w 1 x l r
+    kids : Children w offerTree x l r
     kids = laid-children (stands .laid)
 
     -- all pieces of both hold offers

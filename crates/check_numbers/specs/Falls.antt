@@ -11,6 +11,7 @@ use lib.Signed.{ltZ}
 use Rattle.lists.specs.Members.{pairs-cons}
 use Rattle.integers.specs.Parts.{intRules}
 use Rattle.trees.specs.Order.{Falling}
+use Rattle.table.specs.Fields.{numberField}
 use Rattle.table.specs.Words.{Words}
 use Rattle.table.specs.Items.{Item}
 use Rattle.form.specs.Form.{numberOf}
@@ -39,8 +40,8 @@ abbrev Above : Item → Item → Type 0
 Above i j = T (ltZ (numberOf j) (numberOf i))
 
 module _ {w : Words} {xs : List ℕ} where
-  pub falling-span : (a b : ℕ) → Every (FallsHere w 0 xs) a (b - 1) → Falling numberOf (itemsAt w (span xs a b))
+  pub falling-span : (a b : ℕ) → Every (FallsHere w numberField xs) a (b - 1) → Falling numberOf (itemsAt w (span xs a b))
   falling-span a b e = chain-falling numberOf (chain-span Above (itemAt w) xs a b (λ k l m. e .at k l m .falls))
 
-  pub span-falling : (a b : ℕ) → Falling numberOf (itemsAt w (span xs a b)) → Every (FallsHere w 0 xs) a (b - 1)
+  pub span-falling : (a b : ℕ) → Falling numberOf (itemsAt w (span xs a b)) → Every (FallsHere w numberField xs) a (b - 1)
   span-falling a b p = record { at = λ k l m. record { falls = span-chain Above (itemAt w) xs a b (Pairwise·isChain p) k l m } }

@@ -12,7 +12,7 @@ use Rattle.lists.specs.Members.{Among}
 use Rattle.trees.specs.Tree.{Tree, leaves}
 use Rattle.trees.specs.Height.{height-full}
 use Rattle.trees.specs.Order.{Falling}
-use Rattle.table.specs.Fields.{mostLevels, numberTree}
+use Rattle.table.specs.Fields.{mostLevels, numberField, numberTree}
 use Rattle.table.specs.Words.{Words}
 use Rattle.table.specs.Items.{Item, Apart}
 use Rattle.form.specs.Form.{numberOf}
@@ -120,7 +120,7 @@ module _ {w : Words} {root n : ℕ} {xs xs′ : List ℕ} {f : Filled} (h : n �
     leaves-at : leaves U ≡ itemsAt w (span xs′ secondHalf (f .next))
     leaves-at = sym (items-back (leaves U) (F .sound ok .laid .placed)) ∙ ap (itemsAt w) (sym (F .sound ok .slots))
 
-    module _ {b : Bool} (D : Decides b (Every (FallsHere w 0 xs′) secondHalf (f .next - 1))) where
+    module _ {b : Bool} (D : Decides b (Every (FallsHere w numberField xs′) secondHalf (f .next - 1))) where
       pub trees-not-falling : b ≡ false → Trees w root xs xs′ n false
       trees-not-falling e =
           none-such (λ q t. never

@@ -92,8 +92,8 @@ offers-complete {w} {x} {e} {n} some-live ex ee s = go (s .held) (s .offers .off
         length (bookLines o) ≡ n → OffersIn w o → OffersAt w x e n (bookLines o)
     go none a b c d g = absurd (some-live (sym d))
     go (some h) a b c d g =
-        let px : x ≡ refOf (heldShape h) = reads w 1 ex a (held-root-most g) in
-        let pe : e ≡ partRef (h .whole) = reads w 2 ee b (held-envelope-most g) in
+        let px : x ≡ refOf (heldShape h) = reads w offersRootWord ex a (held-root-most g) in
+        let pe : e ≡ partRef (h .whole) = reads w envelopeRootWord ee b (held-envelope-most g) in
         record {
           header = record { offers-root = a ∙ ap pos (sym px); envelope-root = b ∙ ap pos (sym pe); live-count = c ∙ ap pos d };
           tree = heldShape h;

@@ -12,7 +12,7 @@ use Rattle.offers.specs.Offers.{offerInRange}
 use Rattle.envelopes.specs.Envelope.{Ordered, Ordered·nil, Ordered·cons}
 use Rattle.envelopes.specs.EnvelopeLaws.{ordered-at}
 use Rattle.trees.specs.Tree.{Tree, leaves, height}
-use Rattle.table.specs.Fields.{mostLevels, mostSlots, offerTree}
+use Rattle.table.specs.Fields.{mostLevels, mostSlots, offerTree, rateField}
 use Rattle.table.specs.Words.{Words}
 use Rattle.table.specs.Layout.{cap, cap-most}
 use Rattle.table.specs.Items.{Item, slots-most}
@@ -38,7 +38,7 @@ span-line w xs a b k l h =
 
 module _ {w : Words} {xs : List ℕ} where
   -- the first of a stretch stands before all others
-  head-first : (a n : ℕ) → ((k : ℕ) → a ≤ k → k < a + n → FallsHere w 1 xs k) → (b : Item) → List·Memᴰ b (itemsAt w (stretch xs (suc a) n)) →
+  head-first : (a n : ℕ) → ((k : ℕ) → a ≤ k → k < a + n → FallsHere w rateField xs k) → (b : Item) → List·Memᴰ b (itemsAt w (stretch xs (suc a) n)) →
       T (items .before (itemAt w (getD xs a 0)) b)
   unfolding stretch
   head-first a zero f b m = elim m [ ]
@@ -53,16 +53,16 @@ module _ {w : Words} {xs : List ℕ} where
       go (List·Memᴰ·head e) g = subst (λ (c : Item). T (items .before (itemAt w (getD xs a 0)) c)) (sym e) next
       go (List·Memᴰ·tail i) g = item-laws .before-trans (itemAt w (getD xs a 0)) (itemAt w (getD xs (suc a) 0)) b next (g i)
 
-  ordered-stretch : (a n : ℕ) → ((k : ℕ) → a ≤ k → k + 1 < a + n → FallsHere w 1 xs k) → Ordered items (itemsAt w (stretch xs a n))
+  ordered-stretch : (a n : ℕ) → ((k : ℕ) → a ≤ k → k + 1 < a + n → FallsHere w rateField xs k) → Ordered items (itemsAt w (stretch xs a n))
   unfolding stretch
   ordered-stretch a zero f = Ordered·nil
   ordered-stretch a (suc n) f = Ordered·cons (head-first a n (λ k l h. f k l (omega arith)))
       (ordered-stretch (suc a) n (λ k l h. f k (omega arith) (omega arith)))
 
-  pub ordered-span : (a b : ℕ) → Every (FallsHere w 1 xs) a (b - 1) → Ordered items (itemsAt w (span xs a b))
+  pub ordered-span : (a b : ℕ) → Every (FallsHere w rateField xs) a (b - 1) → Ordered items (itemsAt w (span xs a b))
   ordered-span a b e = ordered-stretch a (b - a) (λ k l h. e .at k l (omega arith))
 
-  pub span-ordered : (a b : ℕ) → Ordered items (itemsAt w (span xs a b)) → Every (FallsHere w 1 xs) a (b - 1)
+  pub span-ordered : (a b : ℕ) → Ordered items (itemsAt w (span xs a b)) → Every (FallsHere w rateField xs) a (b - 1)
   span-ordered a b o = record { at = λ k l h. record { falls = falls k l h } }
     where
       falls : (k : ℕ) → a ≤ k → k < b - 1 → T (items .before (itemAt w (getD xs k 0)) (itemAt w (getD xs (k + 1) 0)))
@@ -141,7 +141,7 @@ module _ {w : Words} {x : ℕ} {xs xs′ : List ℕ} {f : Filled} (F : Fills w o
         pub orders-not-ranged : b ≡ false → Orders w x xs xs′ n false
         orders-not-ranged g = orders-no (λ s. never (R .complete (span-ranged 0 (f .next) (subst AllRanged (items-are s) (s .stands .ranged)))) g)
 
-        pub orders-rest : {r : Bool} → b ≡ true → Decides r (Every (FallsHere w 1 xs′) 0 (f .next - 1)) → Orders w x xs xs′ n r
+        pub orders-rest : {r : Bool} → b ≡ true → Decides r (Every (FallsHere w rateField xs′) 0 (f .next - 1)) → Orders w x xs xs′ n r
         orders-rest {r} g D = record {
           long = F .long;
           told = record {

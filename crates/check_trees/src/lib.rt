@@ -1,12 +1,12 @@
 // Trees of a part, read into a scratch array and compared with what stands there. Any words are safe: every walk has a limit.
 ghost use mathlib.Core.Path.{_≡_};
 ghost use mathlib.Core.Bool.{true, false};
-ghost use Prim.Native.Nat.{ℕ, suc, max, _+_, _-_, _≤_, _<_};
+ghost use Prim.Native.Nat.{ℕ, _+_, _-_, _≤_, _<_};
 ghost use lib.ListN.{length, getD};
 ghost use lib.IntN.{pos};
 ghost use lib.Signed.{ltZ};
 ghost use Rattle.offers.specs.Offers.{between, offerInRange};
-ghost use Rattle.table.specs.Fields.{mostNodes, mostSlots};
+ghost use Rattle.table.specs.Fields.{mostSlots};
 ghost use Rattle.table.specs.Words.{word};
 ghost use Rattle.table.specs.Layout.{cell};
 ghost use Rattle.check_trees.specs.Scratch.{scratchLength};
@@ -16,9 +16,9 @@ ghost use Rattle.check_trees.specs.Loops.{FallsHere, RangedHere, NextHer
 ghost use Rattle.check_trees.specs.Fills.{Fails, Fills, Ended, Covers};
 
 // A scratch array has two halves, with an entry for each slot in either: what is read first, and what is compared with it.
-pub const SCRATCH: usize = 8192;
+pub const SECOND_HALF: usize = table::MOST_SLOTS as usize;
 
-pub const SECOND_HALF: usize = 4096;
+pub const SCRATCH: usize = 2 * SECOND_HALF;
 
 // Word `at` is that number, and not only read as such.
 pub fn tells(part: &[i64], at: usize, number: u32) -> bool
@@ -78,17 +78,6 @@ fn fill_leaf(part: &[i64], x: u32, scratch: &mut [u32; SCRATCH], at: usize) -> F
     }
 }
 
-// The height of a node over two trees.
-fn height_over(left: u32, right: u32) -> u32
-    requires { ⌜ (left ≤ mostNodes) × (right ≤ mostNodes) ⌝ }
-    ensures { λ r. ⌜ r ≡ suc (max left right) ⌝ }
-{
-    if left < right {
-        return right + 1;
-    }
-    left + 1
-}
-
 // Node `x` over the trees of the two walks, the first of which ended with the leaf in the slot where `x` is kept.
 fn cover(part: &[i64], tree: u8, x: u32, scratch: &[u32; SCRATCH], a: Filled, b: Filled) -> Filled
     requires { ⌜ Ended a b ⌝ }
@@ -105,7 +94,7 @@ fn cover(part: &[i64], tree: u8, x: u32, scratch: &[u32; SCRATCH], a: Filled, b:
         return nothing();
     }
     let height = table::height(part, tree, x);
-    if height != height_over(left, right) {
+    if height != table::height_over(left, right) {
         return nothing();
     }
     Filled {

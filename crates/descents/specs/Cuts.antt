@@ -3,7 +3,7 @@ use mathlib.Core.Path.{_≡_, refl, sym, _∙_, ap, subst, subst₂}
 use mathlib.Core.Logic.{_≢_}
 use mathlib.Core.Bool.{Bool, true, false, cond, not}
 use mathlib.Core.Option.{none, some}
-use mathlib.Core.List.{List, [], _∷_, _++_, append-assoc, List·Memᴰ·head, Pairwise·nil, Memᴰ·append-left}
+use mathlib.Core.List.{List, [], _∷_, _++_, append-assoc, List·Memᴰ·head, Memᴰ·append-left}
 use Prim.Native.Nat.{ℕ, _-_, _≤_, _<_}
 use native.Mathlib.Omega.{arith}
 use lib.Dec.{T}
@@ -21,7 +21,7 @@ use Rattle.table.specs.Layout.{cap, cell}
 use Rattle.table.specs.Items.{Item, In, at, in-left, in-right, Slots, slots-left, slots-right, slots-across}
 use Rattle.table.specs.Rep.{childField, childAt, Within, within-cap, within-refl, within-trans, Only, only-refl, only-trans, only-more, tied-still, inner-in}
 use Rattle.table.specs.Nodes.{Parents, parents, leaf-low, ref-low}
-use Rattle.table.specs.PartTrees.{RepP, rep-some, MadeP, repP-still, PairP, Seam}
+use Rattle.table.specs.PartTrees.{RepP, repP-none, rep-some, MadeP, repP-still, PairP, Seam, seam-left}
 use Rattle.table.specs.Keys.{Keyed, keyed-left, keyed-right}
 use Rattle.shape.specs.Merge.{Merged}
 use Rattle.descents.specs.Whole.{Whole, split-whole, not-left, not-right}
@@ -43,9 +43,6 @@ pub record Halving (k f : ℕ) (least : ℤ) (x limit : ℕ) (w w′ : Words) (y
   pub made : (p : Part Item) (key : Item → ℤ) → RepP w k x p → AvlP p → partHeight p ≤ limit → Keyed w f key (partLeaves p)
       → Halved k w w′ y z (partLeaves p) (splitP (from key least) p)
 
-empty : {w : Words} {k : ℕ} → k ≤ 2 → RepP w k 0 none
-empty h = record { kind = h; root = refl; slots = record { low = λ m. elim m [ ]; high = λ m. elim m [ ]; apart = Pairwise·nil }; tied = tt }
-
 -- a capacity that is known stays known
 pub still-known : {c : ℕ} {w w′ : Words} → c ≡ cap w → Within w w′ → c ≡ cap w′
 still-known e h = e ∙ sym (within-cap h)
@@ -58,12 +55,12 @@ unfolding split splitP
 halved-leaf {k} {f} {x} {limit} {b} {w} least d h e g = record { within = within-refl w; made = made }
   where
     nothing : (d : Bool) → RepP w k x none → Halved k w w (cond d x 0) (cond d 0 x) [] (record { front = none; back = none })
-    nothing true r = record { front = r; back = empty (r .kind); only = only-refl k [] w; all-front = λ e. refl; all-back = λ e. refl }
-    nothing false r = record { front = empty (r .kind); back = r; only = only-refl k [] w; all-front = λ e. refl; all-back = λ e. refl }
+    nothing true r = record { front = r; back = repP-none (r .kind); only = only-refl k [] w; all-front = λ e. refl; all-back = λ e. refl }
+    nothing false r = record { front = repP-none (r .kind); back = r; only = only-refl k [] w; all-front = λ e. refl; all-back = λ e. refl }
 
     one : (d : Bool) (i : Item) → RepP w k x (some (leaf i)) → Halved k w w (cond d x 0) (cond d 0 x) (i ∷ []) (cond d (allFront (leaf i)) (allBack (leaf i)))
-    one true i r = record { front = r; back = empty (r .kind); only = only-refl k (i ∷ []) w; all-front = λ e. refl; all-back = λ e. refl }
-    one false i r = record { front = empty (r .kind); back = r; only = only-refl k (i ∷ []) w; all-front = λ e. refl; all-back = λ e. refl }
+    one true i r = record { front = r; back = repP-none (r .kind); only = only-refl k (i ∷ []) w; all-front = λ e. refl; all-back = λ e. refl }
+    one false i r = record { front = repP-none (r .kind); back = r; only = only-refl k (i ∷ []) w; all-front = λ e. refl; all-back = λ e. refl }
 
     made : (p : Part Item) (key : Item → ℤ) → RepP w k x p → AvlP p → partHeight p ≤ limit → Keyed w f key (partLeaves p) →
         Halved k w w (cond d x 0) (cond d 0 x) (partLeaves p) (splitP (from key least) p)
@@ -82,10 +79,6 @@ settled : {k u v : ℕ} {w w₁ w₂ : Words} {xs ys : List Item} {p q : Part It
     → ((s : ℕ) → In s ys → In s xs) → ((s : ℕ) → In s (partLeaves p) → In s xs) → ((s : ℕ) → In s (partLeaves p) → In s (partLeaves q) → ⊥)
     → RepP w₂ k u q × Only k xs w w₂
 settled {q} g o r m a b d = (repP-still q r g (m .only) d, only-trans (only-more a o) (only-more b (m .only)))
-
-seam-left : (g : ℕ) (t : Tree Item) (q : Part Item) → g ≡ last t .slot → Seam g (some t) q
-seam-left g t none e = tt
-seam-left g t (some u) e = e
 
 -- the last leaf of what is behind a cut is the tree's
 seam-right : (g : ℕ) (p q : Part Item) (s t : Tree Item) → partLeaves p ++ partLeaves q ≡ leaves s → g ≡ last s .slot → Seam g q (some t)
@@ -112,7 +105,7 @@ pub halved-over : {k f x limit y z : ℕ} {w : Words} (least : ℤ) → mostSlot
 halved-over {w} least h e = at-node least h (within-refl w) (λ s t key r a n q. absurd (omega (arith, n, e)))
 
 -- what the test tells of the seam
-seam-test : {w : Words} {k f x g : ℕ} {b : Bool} {s t : Tree Item} {key : Item → ℤ} (least : ℤ) → g ≡ x - mostSlots → b ≡ leZ least (cell w f g) →
+pub seam-test : {w : Words} {k f x g : ℕ} {b : Bool} {s t : Tree Item} {key : Item → ℤ} (least : ℤ) → g ≡ x - mostSlots → b ≡ leZ least (cell w f g) →
     RepP w k x (some (node s t)) → Keyed w f key (leaves s ++ leaves t) → b ≡ from key least (last s)
 seam-test {w} {f} {s} {t} least eg eb rep q =
     eb ∙ ap (leZ least) (ap (cell w f) (eg ∙ parents (rep-some rep) .seam-at) ∙ q .read (Memᴰ·append-left (leaves t) (last-leaf s)))
@@ -152,7 +145,7 @@ whole-front : {w : Words} {k x : ℕ} {c : Cut Item} {t : Tree Item} → Whole t
 whole-front {w} {k} {x} {c} {t} h e r =
     record {
       front = subst (RepP w k x) (sym (h .front e)) r;
-      back = subst (RepP w k 0) (sym e) (empty (r .kind));
+      back = subst (RepP w k 0) (sym e) (repP-none (r .kind));
       only = only-refl k (leaves t) w;
       all-front = λ d. refl;
       all-back = λ d. refl;
@@ -161,7 +154,7 @@ whole-front {w} {k} {x} {c} {t} h e r =
 whole-back : {w : Words} {k x : ℕ} {c : Cut Item} {t : Tree Item} → Whole t c → c .front ≡ none → RepP w k x (some t) → Halved k w w 0 x (leaves t) c
 whole-back {w} {k} {x} {c} {t} h e r =
     record {
-      front = subst (RepP w k 0) (sym e) (empty (r .kind));
+      front = subst (RepP w k 0) (sym e) (repP-none (r .kind));
       back = subst (RepP w k x) (sym (h .back e)) r;
       only = only-refl k (leaves t) w;
       all-front = λ d. refl;

@@ -4,7 +4,7 @@ use mathlib.Core.Bool.{Bool, true, false}
 use Prim.Native.Nat.{ℕ, suc, _-_, _≤_, _<_}
 use native.Mathlib.Omega.{arith}
 use Rattle.trees.specs.Tree.{Tree, leaf, node, height, leaves, first, last, Avl}
-use Rattle.table.specs.Fields.{mostSlots}
+use Rattle.table.specs.Fields.{mostLevels, mostSlots}
 use Rattle.table.specs.Words.{Words}
 use Rattle.table.specs.Items.{Item, slots-left, slots-right}
 use Rattle.table.specs.Rep.{childAt, Rep}
@@ -34,7 +34,7 @@ pub record Going (w : Words) (k : ℕ) (side : Bool) (x y limit : ℕ) : Type 0 
   pub is : (t : Tree Item) → Rep w k x t → Avl t → Nearer w k side y limit t
   pub none : x ≡ 0 → y ≡ 0
 
-pub going-begins : (w : Words) (k : ℕ) (side : Bool) (x : ℕ) → Going w k side x x 24
+pub going-begins : (w : Words) (k : ℕ) (side : Bool) (x : ℕ) → Going w k side x x mostLevels
 going-begins w k side x = record { is = λ t r a. record { here = t; rep = r; same = refl; high = low w (r .slots) a }; none = λ e. e }
 
 -- a child of an inner node

@@ -10,7 +10,7 @@ use lib.Signed.{leZ, ltZ}
 use Rattle.trees.specs.Tree.{Tree, leaf, node, height, leaves, last, Avl}
 use Rattle.trees.specs.Operations.{find}
 use Rattle.trees.specs.Leaves.{last-leaf}
-use Rattle.table.specs.Fields.{mostSlots}
+use Rattle.table.specs.Fields.{mostLevels, mostSlots}
 use Rattle.table.specs.Words.{Words}
 use Rattle.table.specs.Layout.{cell}
 use Rattle.table.specs.Items.{Item}
@@ -44,7 +44,7 @@ pub record Looking (w : Words) (k f : ℕ) (sought : ℤ) (x y limit : ℕ) : Ty
   pub is : (t : Tree Item) (key : Item → ℤ) → Rep w k x t → Avl t → Keyed w f key (leaves t) → Closer w k f sought y limit t key
   pub nothing : x ≡ 0 → y ≡ 0
 
-pub looking-begins : (w : Words) (k f : ℕ) (sought : ℤ) (x : ℕ) → Looking w k f sought x x 24
+pub looking-begins : (w : Words) (k f : ℕ) (sought : ℤ) (x : ℕ) → Looking w k f sought x x mostLevels
 looking-begins w k f sought x = record { is = λ t key r a q. record { here = t; rep = r; keyed = q; same = refl; high = low w (r .slots) a }; nothing = λ e. e }
 
 down-keyed : {w : Words} {f : ℕ} {key : Item → ℤ} (side : Bool) (l r : Tree Item) → Keyed w f key (leaves (node l r)) → Keyed w f key (leaves (pick side l r))

@@ -2,13 +2,14 @@
 -- and joined.
 use Prim.Native.Nat.{ℕ, suc, _-_, _<_}
 use native.Mathlib.Omega.{arith}
-use mathlib.Core.Path.{_≡_, refl, sym, _∙_}
+use mathlib.Core.Path.{refl, sym, _∙_}
 use mathlib.Core.List.{List, _∷_, _++_, reverse}
 use lib.ListN.{length, getD, take, drop, length-drop}
 use lib.Seq.{split-at, length-take-le}
 use Rattle.lists.specs.Places.{mem-at, sublist-mem, getD-reverse}
-use Rattle.envelopes.specs.PseudoLines.{Figure, PseudoLines, mirror}
-use Rattle.envelopes.specs.Bridge.{Chain, Facing}
+use Rattle.envelopes.specs.PseudoLines.{Figure, PseudoLines}
+use Rattle.envelopes.specs.Bridge.{Facing}
+use Rattle.envelopes.specs.Chains.{reversed}
 use Rattle.envelopes.specs.SameLines.{bridge-same}
 use Rattle.envelopes.specs.Envelope.{Ordered, Env}
 use Rattle.envelopes.specs.EnvelopeLaws.{ordered-apart}
@@ -20,27 +21,13 @@ use Rattle.meeting.specs.Machine.{left, right}
 use Rattle.meeting.specs.Meets.{size, lineFrom, meets}
 use Rattle.dynamic.specs.SearchEnd.{Bridged}
 
--- ---- a chain counted from its last line
-
-module _ (S : Figure) where
-  chain-mirror : (a : ℕ → S .Line) (n : ℕ) → Chain S a n → Chain (mirror S) (λ i. a (n - suc i)) n
-  chain-mirror a n K =
-      record {
-        ordered = λ i h. let k : ℕ = n - suc (suc i) in let e : n - suc i ≡ suc k = omega arith in rw e (K .ordered k (omega arith));
-        turning = λ i h.
-            let k : ℕ = n - suc (suc (suc i)) in
-            let e : n - suc (suc i) ≡ suc k = omega arith in
-            let f : n - suc i ≡ suc (suc k) = omega arith in
-            rw (e, f) (K .turning k (omega arith));
-      }
-
 module _ (S : Figure) (L : PseudoLines S) (ls rs : List (S .Line)) (o : Ordered S (ls ++ rs)) (tl tr : Tree (S .Line)) (E : Env S ls (leaves tl))
     (F : Env S rs (leaves tr)) where
   pub faces : (d : S .Line) → Facing S (lineFrom left tl d) (size tl) (lineFrom right tr d) (size tr)
   faces d =
       record {
         left = E .chain d;
-        right = chain-mirror S (λ i. getD (leaves tr) i d) (size tr) (F .chain d);
+        right = reversed S (λ i. getD (leaves tr) i d) (size tr) (F .chain d);
         apart = λ i j h k.
             ordered-apart S ls rs o (lineFrom left tl d i) (lineFrom right tr d j) (sublist-mem (E .sub) (mem-at (leaves tl) i d h))
             (sublist-mem (F .sub) (mem-at (leaves tr) (size tr - suc j) d (omega arith)));

@@ -3,8 +3,9 @@
 use mathlib.Core.Path.{_≡_, refl, sym, ap, subst, _∙_}
 use mathlib.Core.Logic.{⊎-elim}
 use mathlib.Core.List.{List, [], _∷_, _++_, append-assoc, append-nil, List·Memᴰ, List·Memᴰ·head, List·Memᴰ·tail, List·Memᴰ·cases-cons, Sublistᴰ}
-use mathlib.Core.List.{Sublistᴰ·cons-cons, Sublistᴰ·refl, Sublistᴰ·nil-sublist, Sublistᴰ·append}
+use mathlib.Core.List.{Sublistᴰ·refl, Sublistᴰ·nil-sublist, Sublistᴰ·append}
 use mathlib.Core.Option.{Option, none, some}
+use Rattle.lists.specs.Places.{prefix-sub}
 use Rattle.trees.specs.Tree.{node, leaves}
 use Rattle.meeting.specs.Machine.{Side, left, right}
 use Rattle.dynamic.specs.OfferTree.{Held, heldShape}
@@ -51,10 +52,6 @@ module _ {A : Type 0} where
       ap (λ l. l ++ (rs ++ qs)) (lines-append xs (h ∷ []) ∙ ap (λ l. linesOf xs ++ l) (append-nil (leaves (heldShape h))))
       ∙ append-assoc (linesOf xs) (leaves (heldShape h)) (rs ++ qs)
       ∙ lines-left (linesOf xs) (leaves (heldShape h)) rs qs e d
-
-  pub prefix-sub : (xs ys : List A) → Sublistᴰ xs (xs ++ ys)
-  prefix-sub [] ys = Sublistᴰ·nil-sublist ys
-  prefix-sub (x ∷ xs) ys = Sublistᴰ·cons-cons refl (prefix-sub xs ys)
 
   -- the inner node above two subtrees
   abbrev pub above : Held A → Held A → Inner A

@@ -6,7 +6,7 @@ use mathlib.Core.HLevel.{¬-prop}
 use mathlib.Core.Bool.{Bool, true, false}
 use mathlib.Core.Option.{none, some}
 use mathlib.Core.List.{List, _++_, List·Permᴰ, Permᴰ·symm, Permᴰ·pairwise}
-use Prim.Native.Nat.{ℕ, _≤_}
+use Prim.Native.Nat.{ℕ, _≤_, _<_}
 use native.Mathlib.Omega.{arith}
 use lib.IntN.{ℤ}
 use Rattle.trees.specs.Tree.{Tree, leaves, last}
@@ -14,11 +14,12 @@ use Rattle.trees.specs.Leaves.{last-leaf}
 use Rattle.trees.specs.Operations.{Part, partLeaves}
 use Rattle.dynamic.specs.OfferTree.{OfferTree, single, fork, shape, Held, heldShape}
 use Rattle.dynamic.specs.Rearranged.{stored, rearranged, rearranged-mem}
-use Rattle.table.specs.Fields.{mostNodes, offerTree, pieceTree}
+use Rattle.table.specs.Fields.{baseField, bridgeLeftField, bridgeRightField, denominatorField, innerRestField, leafRestField, mostNodes}
+use Rattle.table.specs.Fields.{nextPieceField, numberField, numeratorField, offerTree, pieceTree, rateField}
 use Rattle.table.specs.Words.{Words, upTo}
 use Rattle.table.specs.Layout.{cap, cell, cset, linkAt, cset-other}
 use Rattle.table.specs.Items.{Item, In, at, in-left, in-right, Slots, slots-left, slots-across}
-use Rattle.table.specs.Rep.{childField, Field, a-child, a-height, Tied, tied-leaf, tied-node, Within, within-cap, Only}
+use Rattle.table.specs.Rep.{childField, heightField, Field, a-child, a-height, Tied, tied-leaf, tied-node, Within, within-cap, Only}
 use Rattle.table.specs.Threads.{Holds, Threaded, holds-left, holds-still, threaded-still, leads-in}
 use Rattle.pieces.specs.Pieces.{items, PartIn, PieceField, of-node, of-numerator, of-denominator, of-next, PiecesOnly, Standing}
 use Rattle.form.specs.Stored.{RestIn, Stored, stored-single, stored-fork, HeldIn, EnvelopeField, of-pieces, of-offers, of-bridge-u, of-bridge-v}
@@ -28,25 +29,25 @@ use Rattle.form.specs.Stored.{of-inner-rest, of-leaf-rest, Touched}
 
 -- the fields of an item's offer
 abbrev pub OfferField : ℕ → Type 0
-OfferField f = f ≤ 2
+OfferField f = f ≤ baseField
 
 -- the fields of a node's bridge, and of what stays with a node
 pub data RestField (f : ℕ) : Type 0 where
-  bridge-u : f ≡ 10 → RestField f
-  bridge-v : f ≡ 11 → RestField f
-  inner-rest : f ≡ 20 → RestField f
-  leaf-rest : f ≡ 21 → RestField f
+  bridge-u : f ≡ bridgeLeftField → RestField f
+  bridge-v : f ≡ bridgeRightField → RestField f
+  inner-rest : f ≡ innerRestField → RestField f
+  leaf-rest : f ≡ leafRestField → RestField f
 
 -- where fields of pieces are not
 record OfPieces (f : ℕ) : Type 0 where
-  no-offer : 3 ≤ f
-  no-left : f ≢ 8
-  no-right : f ≢ 9
-  no-height : f ≢ 17
-  no-bridge-u : f ≢ 10
-  no-bridge-v : f ≢ 11
-  no-inner-rest : f ≢ 20
-  no-leaf-rest : f ≢ 21
+  no-offer : baseField < f
+  no-left : f ≢ childField offerTree false
+  no-right : f ≢ childField offerTree true
+  no-height : f ≢ heightField offerTree
+  no-bridge-u : f ≢ bridgeLeftField
+  no-bridge-v : f ≢ bridgeRightField
+  no-inner-rest : f ≢ innerRestField
+  no-leaf-rest : f ≢ leafRestField
 
 of-pieces-field : {f : ℕ} → PieceField f → OfPieces f
 of-pieces-field {f} (of-node (a-child side e)) = child side e
@@ -136,10 +137,10 @@ module _ {w w′ : Words} where
   threaded-same h q =
       threaded-still h
       (λ s k. record {
-        next = q .cells 19 s (of-next refl) (leads-in k);
-        numerator = q .cells 6 s (of-numerator refl) (leads-in k);
+        next = q .cells nextPieceField s (of-next refl) (leads-in k);
+        numerator = q .cells numeratorField s (of-numerator refl) (leads-in k);
         denominator =
-            q .cells 7 s (of-denominator refl) (leads-in k);
+            q .cells denominatorField s (of-denominator refl) (leads-in k);
       })
 
   pub part-same : (p : Part Item) → PartIn w p → Same PieceField (partLeaves p) w w′ → PartIn w′ p
@@ -148,18 +149,23 @@ module _ {w w′ : Words} where
 
   pub holds-same : {xs : List Item} → Holds w xs → Same OfferField xs w w′ → Holds w′ xs
   holds-same h q =
-      holds-still h (λ s i. record { number = q .cells 0 s (omega arith) i; rate = q .cells 1 s (omega arith) i; base = q .cells 2 s (omega arith) i })
+      holds-still h
+      (λ s i. record {
+        number = q .cells numberField s (omega arith) i;
+        rate = q .cells rateField s (omega arith) i;
+        base = q .cells baseField s (omega arith) i;
+      })
 
   pub rest-same : (t : OfferTree Item) {q : Part Item} → RestIn w t q → Same RestField (leaves (shape t)) w w′ → Same PieceField (partLeaves q) w w′ →
       RestIn w′ t q
   rest-same (single a) {q} h rests pieces = record {
-    root = rests .cells 21 _ (leaf-rest refl) (at (last-leaf (shape (single a))) refl) ∙ h .root;
+    root = rests .cells leafRestField _ (leaf-rest refl) (at (last-leaf (shape (single a))) refl) ∙ h .root;
     pieces =
         part-same q (h .pieces) pieces;
   }
   rest-same (fork u v l ql qr r) {q} h rests pieces =
       record {
-        root = rests .cells 20 _ (inner-rest refl) (in-left (leaves (shape r)) (at (last-leaf (shape l)) refl)) ∙ h .root;
+        root = rests .cells innerRestField _ (inner-rest refl) (in-left (leaves (shape r)) (at (last-leaf (shape l)) refl)) ∙ h .root;
         pieces =
             part-same q (h .pieces) pieces;
       }
@@ -170,8 +176,8 @@ module _ {w w′ : Words} where
       stored-fork
       (stored-same sl (same-left (leaves (shape r)) rests) (same-right (partLeaves ql) front))
       (stored-same sr (same-right (leaves (shape l)) rests) (same-right (partLeaves qr) back))
-      (same-link 10 rests (bridge-u refl) here ∙ eu)
-      (same-link 11 rests (bridge-v refl) here ∙ ev)
+      (same-link bridgeLeftField rests (bridge-u refl) here ∙ eu)
+      (same-link bridgeRightField rests (bridge-v refl) here ∙ ev)
       (rest-same l rl (same-left (leaves (shape r)) rests) (same-left (stored l) front))
       (rest-same r rr (same-right (leaves (shape l)) rests) (same-left (stored r) back))
     where

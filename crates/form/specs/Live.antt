@@ -2,7 +2,7 @@
 use mathlib.Core.Path.{_≡_, ap, subst, sym, _∙_}
 use mathlib.Core.Logic.{_≢_, ∥∥₁-elim}
 use mathlib.Core.HLevel.{¬-prop}
-use mathlib.Core.List.{List, List·Memᴰ, Memᴰ·of-map, Pairwise, Pairwise·nil, Pairwise·map, Pairwise·imp, Pairwise·imp-of-mem}
+use mathlib.Core.List.{List, List·Memᴰ, Memᴰ·of-map, Pairwise, Pairwise·map, Pairwise·imp, Pairwise·imp-of-mem}
 use mathlib.Core.Option.{Option, none, some}
 use Prim.Native.Nat.{ℕ}
 use native.Mathlib.Omega.{arith}
@@ -19,7 +19,7 @@ use Rattle.dynamic.specs.OfferTree.{Held}
 use Rattle.dynamic.specs.Valid.{WholeBook, bookLines}
 use Rattle.table.specs.Words.{Words}
 use Rattle.table.specs.Layout.{cap, cap-most}
-use Rattle.table.specs.Items.{Item, offerOf, Slots}
+use Rattle.table.specs.Items.{Item, offerOf, Slots, slots-none}
 use Rattle.table.specs.Threads.{Holds}
 use Rattle.pieces.specs.Pieces.{items}
 use Rattle.form.specs.Form.{Book, OffersIn, numberOf}
@@ -28,7 +28,7 @@ use Rattle.form.specs.Form.{Book, OffersIn, numberOf}
 
 module _ (w : Words) where
   pub live-slots : (held : Option (Held Item)) → OffersIn w held → Slots (cap w) (bookLines held)
-  live-slots none o = record { low = λ m. elim m [ ]; high = λ m. elim m [ ]; apart = Pairwise·nil }
+  live-slots none o = slots-none
   live-slots (some h) o = o .slots
 
   pub live-holds : (held : Option (Held Item)) → OffersIn w held → Holds w (bookLines held)

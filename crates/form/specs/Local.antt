@@ -10,7 +10,8 @@ use Rattle.trees.specs.Operations.{Part}
 use Rattle.dynamic.specs.OfferTree.{Held}
 use Rattle.dynamic.specs.Valid.{bookLines}
 use Rattle.dynamic.specs.Rearranged.{stored}
-use Rattle.table.specs.Fields.{numberTree}
+use Rattle.table.specs.Fields.{capacityWord, envelopeRootWord, firstFreeWord, liveCountWord, nextFreeField}
+use Rattle.table.specs.Fields.{numberField, numberTree, numbersRootWord, offersRootWord}
 use Rattle.table.specs.Words.{Words, word, word-out}
 use Rattle.table.specs.Layout.{cap, cap-of, cell, place-high, Valid, valid?, spot, spot-of, spot-in, spot-out}
 use Rattle.table.specs.Items.{Item, Slots}
@@ -31,7 +32,7 @@ pub record Beyond (c : ℕ) (w w′ : Words) : Type 0 where
 
 module _ {w w′ : Words} {c : ℕ} (fits : cap w ≡ c) (a : Alike c w w′) where
   pub alike-cap : cap w′ ≡ cap w
-  alike-cap = cap-of w w′ (a .long) (a .words 0 (omega arith))
+  alike-cap = cap-of w w′ (a .long) (a .words capacityWord (omega arith))
 
   pub alike-cell : (f s : ℕ) → cell w′ f s ≡ cell w f s
   unfolding cell
@@ -70,7 +71,8 @@ module _ {w w′ : Words} {c : ℕ} (fits : cap w ≡ c) (a : Alike c w w′) wh
 
   alike-free : {ss : List ℕ} → FreeChain w ss → FreeChain w′ ss
   alike-free free-none = free-none
-  alike-free (free-more {s} {ss} low high zero next rest) = free-more low (rw alike-cap high) (alike-cell 0 s ∙ zero) (alike-cell 3 s ∙ next) (alike-free rest)
+  alike-free (free-more {s} {ss} low high zero next rest) =
+      free-more low (rw alike-cap high) (alike-cell numberField s ∙ zero) (alike-cell nextFreeField s ∙ next) (alike-free rest)
 
 pub book-alike : {w w′ : Words} {s : State} {held : Option (Held Item)} → Book w s held → Alike (s .capacity) w w′ → Book w′ s held
 book-alike {w} {w′} {s} {held} b a =
@@ -79,15 +81,15 @@ book-alike {w} {w′} {s} {held} b a =
       some-slot = b .some-slot;
       offers =
           record {
-            offers-root = header 1 (omega arith) ∙ o .offers-root;
-            envelope-root = header 2 (omega arith) ∙ o .envelope-root;
-            live-count = header 3 (omega arith) ∙ o .live-count;
+            offers-root = header offersRootWord (omega arith) ∙ o .offers-root;
+            envelope-root = header envelopeRootWord (omega arith) ∙ o .envelope-root;
+            live-count = header liveCountWord (omega arith) ∙ o .live-count;
             offers-in = alike-offers (b .capacity) a held (o .offers-in);
           };
       numbers =
           record {
             numbers = n .numbers;
-            numbers-root = header 4 (omega arith) ∙ n .numbers-root;
+            numbers-root = header numbersRootWord (omega arith) ∙ n .numbers-root;
             numbers-in =
                 record {
                   tied = alike-tied (b .capacity) a (n .numbers) (n .numbers-in .tied);
@@ -100,7 +102,7 @@ book-alike {w} {w′} {s} {held} b a =
       free =
           record {
             free = f .free;
-            first-free = header 5 (omega arith) ∙ f .first-free;
+            first-free = header firstFreeWord (omega arith) ∙ f .first-free;
             free-chain = alike-free (b .capacity) a (f .free-chain);
             free-apart = f .free-apart;
             slots-used = f .slots-used ∙ sym (alike-cap (b .capacity) a);

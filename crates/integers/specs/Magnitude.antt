@@ -1,15 +1,15 @@
 -- How large an integer expression gets: its magnitude is at most the same expression of its unknowns' magnitudes, with sums for differences.
 -- `fits64 e (omega (arith, ..))` so shows that a value fits an i64, with `mul-le-mul` of the unknowns' bounds in the list where there are products.
 use mathlib.Core.Path.{_≡_, refl}
-use mathlib.Core.Bool.{_&&_}
+use mathlib.Core.Bool.{_&&_, false, true≢false}
 use Prim.Native.Nat.{ℕ, zero, suc, _+_, _-_, _*_, _^_, _≤_, _<_}
 use native.Mathlib.Nat.{le-trans, mul-le-mul}
 use native.Mathlib.Omega.{arith}
 use lib.Dec.{T}
 use lib.IntN.{ℤ, pos, negsuc, negℤ, natAbs, _+ℤ_, _-ℤ_, _*ℤ_}
-use lib.Signed.{leZ, ltZ, mag}
+use lib.Signed.{leZ, ltZ, mag, nonNeg}
 use mir.Syntax.{Width, w64}
-use mir.Val.{SFits, hbits}
+use mir.Val.{Fits, SFits, hbits}
 use Rattle.lists.specs.Bools.{and-both}
 use Rattle.integers.specs.Parts.{P, N, intRules, natAbs-parts, natAbs-most, mag-natAbs, neg-P, neg-N, add-parts, sub-parts, mul-P, mul-N, within-parts}
 use Rattle.integers.specs.Ring.{Ex, var, nat, neg, _:+_, _:-_, _:*_, ⟦_⟧}
@@ -77,6 +77,11 @@ natAbs-within m z h = and-both (leZ (negsuc m) z) (leZ z (pos (suc m))) (omega (
 pub natAbs-is : (z : ℤ) → T (leZ (pos 0) z) → pos (natAbs z) ≡ z
 natAbs-is (pos n) t = refl
 natAbs-is (negsuc n) t = absurd t
+
+-- .. which an unsigned word holds
+pub natAbs-fits : (z : ℤ) → SFits w64 z → ltZ z (pos 0) ≡ false → T (nonNeg z) × Fits w64 (natAbs z)
+natAbs-fits (pos n) f e = (tt, omega arith)
+natAbs-fits (negsuc n) f e = absurd (true≢false e)
 
 -- ---- one line each
 

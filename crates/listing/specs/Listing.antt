@@ -37,11 +37,12 @@ crossingWord w f s last = cond last (pos 0) (cell w f s)
 
 -- the three words of the piece in slot s, from place k on
 abbrev pub pieceAt : Words → ℕ → Bool → List ℤ → ℕ → List ℤ
-pieceAt w s last out k = wset (wset (wset out k (cell w numberField s)) (k + 1) (crossingWord w 6 s last)) (k + 2) (crossingWord w 7 s last)
+pieceAt w s last out k =
+    wset (wset (wset out k (cell w numberField s)) (k + 1) (crossingWord w numeratorField s last)) (k + 2) (crossingWord w denominatorField s last)
 
 pub piece-put :
     (w : Words) (s : ℕ) (last : Bool) (out : List ℤ) (k : ℕ) {x y z : ℤ} {out₁ out₂ out₃ : List ℤ} → x ≡ cell w numberField s →
-    y ≡ crossingWord w 6 s last → z ≡ crossingWord w 7 s last →
+    y ≡ crossingWord w numeratorField s last → z ≡ crossingWord w denominatorField s last →
     out₁ ≡ wset out k x → out₂ ≡ wset out₁ (k + 1) y → out₃ ≡ wset out₂ (k + 2) z → out₃ ≡ pieceAt w s last out k
 piece-put w s last out k ex ey ez e₁ e₂ e₃ = rw (e₃, e₂, e₁, ex, ey, ez)
 
@@ -93,7 +94,8 @@ module _ {w : Words} {xs : List Item} {base : List ℤ} {s i : ℕ} {out : List 
 
   -- the piece of a is written, whose words are x, y and z
   onward :
-      (last : Bool) {x y z : ℤ} (a : Item) (ys : List Item) → cell w numberField s ≡ x → crossingWord w 6 s last ≡ y → crossingWord w 7 s last ≡ z →
+      (last : Bool) {x y z : ℤ} (a : Item) (ys : List Item) →
+      cell w numberField s ≡ x → crossingWord w numeratorField s last ≡ y → crossingWord w denominatorField s last ≡ z →
       pieceWords (map offerOf (a ∷ ys)) ≡ x ∷ y ∷ z ∷ pieceWords (map offerOf ys) → Threaded w ys → Holds w (a ∷ ys) → HeadAt (linkAt w nextPieceField s) ys →
       i + length (a ∷ ys) ≡ length xs → h .done ++ pieceWords (map offerOf (a ∷ ys)) ≡ pieceWords (map offerOf xs) →
       Halfway w xs base (linkAt w nextPieceField s) (i + 1) (pieceAt w s last out (3 * i))

@@ -6,6 +6,7 @@ use mathlib.Core.Path.{_≡_, refl, sym, ap, subst, _∙_}
 use mathlib.Core.Logic.{_⊎_, inl, inr, ⊎-elim}
 use mathlib.Core.List.{List, [], _∷_, _++_, reverse, reverseAux, reverse-append, reverse-cons, reverse-reverse, List·Memᴰ, List·Memᴰ·head}
 use mathlib.Core.List.{List·Memᴰ·tail, List·Memᴰ·cases-cons, List·Memᴰ·not-nil, Sublistᴰ, Sublistᴰ·slnil, Sublistᴰ·cons, Sublistᴰ·cons-cons}
+use mathlib.Core.List.{Sublistᴰ·nil-sublist}
 use lib.ListN.{length, getD, take, drop, length-drop, length-reverse}
 use lib.Seq.{append-snoc, getD-at, split-at}
 
@@ -27,6 +28,10 @@ module _ {A : Type 0} where
   sublist-mem Sublistᴰ·slnil m = m
   sublist-mem (Sublistᴰ·cons s) m = List·Memᴰ·tail (sublist-mem s m)
   sublist-mem (Sublistᴰ·cons-cons e s) m = ⊎-elim (λ q. List·Memᴰ·head (q ∙ e)) (λ m′. List·Memᴰ·tail (sublist-mem s m′)) (List·Memᴰ·cases-cons m)
+
+  pub prefix-sub : (xs ys : List A) → Sublistᴰ xs (xs ++ ys)
+  prefix-sub [] ys = Sublistᴰ·nil-sublist ys
+  prefix-sub (x ∷ xs) ys = Sublistᴰ·cons-cons refl (prefix-sub xs ys)
 
   mem-onto : {a : A} (l r : List A) → List·Memᴰ a l ⊎ List·Memᴰ a r → List·Memᴰ a (reverseAux l r)
   mem-onto [] r (inl m) = absurd (List·Memᴰ·not-nil m)

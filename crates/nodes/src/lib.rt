@@ -1,21 +1,8 @@
 // One node over two trees of the table.
 ghost use mathlib.Core.Path.{_≡_};
-ghost use Prim.Native.Nat.{suc, max, _≤_};
-ghost use Rattle.table.specs.Fields.{mostNodes};
 ghost use Rattle.table.specs.Layout.{cap};
 ghost use Rattle.table.specs.Rep.{nodeOn};
 ghost use Rattle.nodes.specs.Joining.{Joined, Raised};
-
-// The height of a node over two trees of given heights.
-pub fn taller(hp: u32, hq: u32) -> u32
-    requires { ⌜ hp ≤ mostNodes × hq ≤ mostNodes ⌝ }
-    ensures { λ r. ⌜ r ≡ suc (max hp hq) ⌝ }
-{
-    if hp < hq {
-        return hq + 1;
-    }
-    hp + 1
-}
 
 // One node of height `h` over two trees side by side, `p` on a side and `q` on the other, kept in the slot `gap` of the seam. `c` is the
 // capacity.
@@ -56,7 +43,7 @@ pub fn make_node_in(part: &mut [i64], c: u32, tree: u8, side: bool, gap: u32, p:
 {
     let hp = table::height_in(part, c, tree, p);
     let hq = table::height_in(part, c, tree, q);
-    set_node(part, c, tree, side, gap, p, q, taller(hp, hq))
+    set_node(part, c, tree, side, gap, p, q, table::height_over(hp, hq))
 }
 
 pub fn make_node(part: &mut [i64], tree: u8, side: bool, gap: u32, p: u32, q: u32) -> u32

@@ -1,9 +1,9 @@
 -- A leaf dropped on the way to a number: the way goes right of every leaf whose number is `least` or more.
-use mathlib.Core.Path.{_≡_, refl, sym, _∙_, ap, subst}
+use mathlib.Core.Path.{_≡_, sym, _∙_, subst}
 use mathlib.Core.Logic.{_≢_, ⊎-elim}
 use mathlib.Core.Bool.{Bool, true, false, not}
-use mathlib.Core.List.{List, [], _∷_, _++_, List·Memᴰ, List·Memᴰ·head, List·Memᴰ·append-cases, List·Memᴰ·cases-cons, Memᴰ·append-left}
-use mathlib.Core.List.{Memᴰ·append-right, Sublistᴰ, Sublistᴰ·append, Sublistᴰ·refl, Sublistᴰ·nil-sublist, Pairwise·sublistᴰ, Pairwise·nil}
+use mathlib.Core.List.{List, [], _∷_, _++_, List·Memᴰ, List·Memᴰ·head, List·Memᴰ·append-cases, List·Memᴰ·eq-of-singleton, Memᴰ·append-left}
+use mathlib.Core.List.{Memᴰ·append-right, Sublistᴰ, Sublistᴰ·append, Sublistᴰ·refl, Sublistᴰ·nil-sublist}
 use mathlib.Core.Option.{Option, none, some}
 use Prim.Native.Nat.{ℕ, _-_, _≤_, _<_}
 use native.Mathlib.Omega.{arith}
@@ -21,12 +21,13 @@ use Rattle.trees.specs.Order.{Falling, parted, last-lowest}
 use Rattle.table.specs.Fields.{mostSlots, numberField, numberTree}
 use Rattle.table.specs.Words.{Words}
 use Rattle.table.specs.Layout.{cap, cell}
-use Rattle.table.specs.Items.{Item, In, Slots, in-left, in-right, slots-left, slots-right, slots-across}
+use Rattle.table.specs.Items.{Item, In, in-left, in-right, slots-left, slots-right, slots-across, slots-sublist}
 use Rattle.table.specs.Rep.{childAt, Within, within-cap, within-refl, within-trans, Only, only-refl, only-trans, only-more}
 use Rattle.table.specs.Nodes.{Parents, parents, leaf-low, ref-low}
-use Rattle.table.specs.PartTrees.{RepP, rep-some, MadeP, Seam, repP-still}
+use Rattle.table.specs.PartTrees.{RepP, repP-none, rep-some, MadeP, repP-still, seam-left}
 use Rattle.table.specs.Keys.{Keyed, keyed-left, keyed-right}
 use Rattle.shape.specs.Merge.{Merged}
+use Rattle.descents.specs.Cuts.{seam-test}
 use Rattle.descents.specs.Ends.{Ended}
 use Rattle.form.specs.Form.{numberOf}
 use Rattle.numbers.specs.Trees.{among-in, seam-end, Beside, joined}
@@ -49,21 +50,15 @@ pub record Thinned (least : ℤ) (x limit : ℕ) (w w′ : Words) (y : ℕ) : Ty
 
 -- ---- a leaf, or nothing
 
-empty : (w : Words) → RepP w numberTree 0 none
-empty w = record { kind = omega arith; root = refl; slots = record { low = λ m. elim m [ ]; high = λ m. elim m [ ]; apart = Pairwise·nil }; tied = tt }
-
-one : {a i : Item} → List·Memᴰ a (i ∷ []) → a ≡ i
-one m = ⊎-elim (λ (e : _). e) (λ n. elim n [ ]) (List·Memᴰ·cases-cons m)
-
 pub thinned-leaf : {x limit : ℕ} {w : Words} (least : ℤ) → x ≤ mostSlots → Thinned least x limit w w 0
 thinned-leaf {x} {limit} {w} least h = record { within = within-refl w; made = made }
   where
     made : (p : Part Item) → RepP w numberTree x p → AvlP p → partHeight p ≤ limit → Keyed w numberField numberOf (partLeaves p) → Thin least w w 0 p
     made none r a n k = record {
       left = none;
-      rep = empty w;
+      rep = repP-none (omega arith);
       balanced = tt;
-      only = only-refl 2 [] w;
+      only = only-refl numberTree [] w;
       fewer = Sublistᴰ·refl [];
       gone = λ f a m. elim m [ ];
       kept = λ f a m. elim m [ ];
@@ -71,13 +66,13 @@ thinned-leaf {x} {limit} {w} least h = record { within = within-refl w; made = m
     made (some (leaf i)) r a n k =
         record {
           left = none;
-          rep = empty w;
+          rep = repP-none (omega arith);
           balanced = tt;
-          only = only-refl 2 (i ∷ []) w;
+          only = only-refl numberTree (i ∷ []) w;
           fewer = Sublistᴰ·nil-sublist (i ∷ []);
           gone =
               λ f a m e b z. elim z [ ];
-          kept = λ f a m e b z d. absurd (d (one z ∙ sym (one m)));
+          kept = λ f a m e b z d. absurd (d (List·Memᴰ·eq-of-singleton z ∙ sym (List·Memᴰ·eq-of-singleton m)));
         }
     made (some (node s t)) r a n k = absurd (omega (arith, h, r .root, slots-left (leaves t) (r .slots) .low (last-leaf s)))
 
@@ -98,21 +93,8 @@ thinned-over {w} least h e = at-node least h (within-refl w) (λ s t r a n k. ab
 
 -- ---- a child is thinned
 
-fewer-slots : {c : ℕ} {xs ys : List Item} → Sublistᴰ xs ys → Slots c ys → Slots c xs
-fewer-slots l s = record { low = λ m. s .low (sublist-mem l m); high = λ m. s .high (sublist-mem l m); apart = Pairwise·sublistᴰ l (s .apart) }
-
 fewer-in : {xs ys : List Item} → Sublistᴰ xs ys → (s : ℕ) → In s xs → In s ys
 fewer-in l = among-in (λ a m. sublist-mem l m)
-
-seam-node : (g : ℕ) (t : Tree Item) (q : Part Item) → g ≡ last t .slot → Seam g (some t) q
-seam-node g t none e = tt
-seam-node g t (some u) e = e
-
--- what the test tells of the seam
-seam-test : {w : Words} {x g : ℕ} {b : Bool} {s t : Tree Item} (least : ℤ) → g ≡ x - mostSlots → b ≡ leZ least (cell w numberField g) →
-    RepP w numberTree x (some (node s t)) → Keyed w numberField numberOf (leaves s ++ leaves t) → b ≡ leZ least (numberOf (last s))
-seam-test {w} {s} {t} least eg eb rep q =
-    eb ∙ ap (leZ least) (ap (cell w numberField) (eg ∙ parents (rep-some rep) .seam-at) ∙ q .read (Memᴰ·append-left (leaves t) (last-leaf s)))
 
 module _ {x limit g l r y z : ℕ} {b : Bool} {w w₁ w₂ : Words} (least : ℤ) (inner : mostSlots < x) (eg : g ≡ x - mostSlots)
     (eb : b ≡ leZ least (cell w numberField g)) (el : l ≡ childAt w numberTree false x) (er : r ≡ childAt w numberTree true x) where
@@ -132,7 +114,7 @@ module _ {x limit g l r y z : ℕ} {b : Bool} {w w₁ w₂ : Words} (least : ℤ
             kept = λ f a i d v k h. rw same (kept f a i d v k h);
           }
         where
-          o : Parents w 2 x s t
+          o : Parents w numberTree x s t
           o = parents (rep-some rep)
 
           c : Thin least w w₁ y (some t)
@@ -150,7 +132,7 @@ module _ {x limit g l r y z : ℕ} {b : Bool} {w w₁ w₂ : Words} (least : ℤ
 
           m : MadeP numberTree w₁ w₂ z (joinP (some s) (c .left))
           m =
-              joined j (seam-node g s (c .left) (eg ∙ o .seam-at))
+              joined j (seam-left g s (c .left) (eg ∙ o .seam-at))
               (record {
                 left = repP-still (some s) (record {
                   kind = rep .kind;
@@ -160,7 +142,7 @@ module _ {x limit g l r y z : ℕ} {b : Bool} {w w₁ w₂ : Words} (least : ℤ
                       o .tied-left;
                 }) (rec .within) (c .only) (λ i u v. slots-across (leaves s) (rep .slots) v u);
                 right = c .rep;
-                slots = rw (within-cap (rec .within)) (fewer-slots fewer-both (rep .slots));
+                slots = rw (within-cap (rec .within)) (slots-sublist fewer-both (rep .slots));
                 balanced-left = a₁;
                 balanced-right = c .balanced;
               })
@@ -208,7 +190,7 @@ module _ {x limit g l r y z : ℕ} {b : Bool} {w w₁ w₂ : Words} (least : ℤ
             kept = λ f a i d v k h. rw same (kept f a i d v k h);
           }
         where
-          o : Parents w 2 x s t
+          o : Parents w numberTree x s t
           o = parents (rep-some rep)
 
           c : Thin least w w₁ y (some s)
@@ -236,7 +218,7 @@ module _ {x limit g l r y z : ℕ} {b : Bool} {w w₁ w₂ : Words} (least : ℤ
                   tied =
                       o .tied-right;
                 }) (rec .within) (c .only) (λ i u v. slots-across (leaves s) (rep .slots) u v);
-                slots = rw (within-cap (rec .within)) (fewer-slots fewer-both (rep .slots));
+                slots = rw (within-cap (rec .within)) (slots-sublist fewer-both (rep .slots));
                 balanced-left = c .balanced;
                 balanced-right = a₂;
               })

@@ -17,7 +17,7 @@ use Rattle.trees.specs.Operations.{Part, partLeaves, partHeight, joinP, splitP}
 use Rattle.trees.specs.Balanced.{AvlP}
 use Rattle.trees.specs.Order.{Falling, Turning}
 use Rattle.trees.specs.Split.{Clean, split-clean}
-use Rattle.table.specs.Fields.{numberField, numberTree}
+use Rattle.table.specs.Fields.{mostLevels, numberField, numberTree}
 use Rattle.table.specs.Words.{Words}
 use Rattle.table.specs.Layout.{cap, cell}
 use Rattle.table.specs.Items.{Item, In, at, Slots, Apart}
@@ -64,7 +64,7 @@ module _ {w : Words} {root : ℕ} {live : List Item} (p : Part Item) (n : Number
       }
 
 -- a balanced tree in a table is low
-pub part-low : (w : Words) (p : Part Item) → Slots (cap w) (partLeaves p) → AvlP p → partHeight p ≤ 24
+pub part-low : (w : Words) (p : Part Item) → Slots (cap w) (partLeaves p) → AvlP p → partHeight p ≤ mostLevels
 part-low w none s a = omega arith
 part-low w (some t) s a = low w s a
 

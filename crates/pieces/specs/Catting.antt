@@ -71,7 +71,7 @@ tied-other {k} {f} {w} s z n (tied-node {l} {r} ol or el er eh) =
     same : {g : ℕ} → Field k g → linkAt (cset w f s z) g (last l .slot) ≡ linkAt w g (last l .slot)
     same {g} i = ap (upTo mostNodes) (cset-other w f s z (λ e. n (subst (Field k) (e .0) i)))
 
-no-node : {f : ℕ} → 6 ≤ f → f ≢ 16 → ¬ Field pieceTree f
+no-node : {f : ℕ} → numeratorField ≤ f → f ≢ heightField pieceTree → ¬ Field pieceTree f
 no-node {f} h d (a-child side e) = go side e
   where
     go : (side : Bool) → f ≡ childField pieceTree side → ⊥
@@ -101,17 +101,17 @@ module _ (w : Words) (a b : Item) where
   threading-offer : (s : ℕ) → SameOffer w (threading w a b) s
   unfolding w₁ w₂
   threading-offer s =
-      let p = cset-offer w 6 (a .slot) (crossingNumerator (a .offer) (b .offer)) (omega arith) s in
-      let q = cset-offer w₁ 7 (a .slot) (crossingDenominator (a .offer) (b .offer)) (omega arith) s in
-      let r = cset-offer w₂ 19 (a .slot) (pos (b .slot)) (omega arith) s in
+      let p = cset-offer w numeratorField (a .slot) (crossingNumerator (a .offer) (b .offer)) (omega arith) s in
+      let q = cset-offer w₁ denominatorField (a .slot) (crossingDenominator (a .offer) (b .offer)) (omega arith) s in
+      let r = cset-offer w₂ nextPieceField (a .slot) (pos (b .slot)) (omega arith) s in
       record { number = r .number ∙ q .number ∙ p .number; rate = r .rate ∙ q .rate ∙ p .rate; base = r .base ∙ q .base ∙ p .base }
 
   threading-thread : {s : ℕ} → s ≢ a .slot → SameThread w (threading w a b) s
   unfolding w₁ w₂
   threading-thread {s} d =
-      let p = cset-thread w 6 (a .slot) (crossingNumerator (a .offer) (b .offer)) d in
-      let q = cset-thread w₁ 7 (a .slot) (crossingDenominator (a .offer) (b .offer)) d in
-      let r = cset-thread w₂ 19 (a .slot) (pos (b .slot)) d in
+      let p = cset-thread w numeratorField (a .slot) (crossingNumerator (a .offer) (b .offer)) d in
+      let q = cset-thread w₁ denominatorField (a .slot) (crossingDenominator (a .offer) (b .offer)) d in
+      let r = cset-thread w₂ nextPieceField (a .slot) (pos (b .slot)) d in
       record {
         next = r .next ∙ q .next ∙ p .next;
         numerator = r .numerator ∙ q .numerator ∙ p .numerator;
@@ -122,8 +122,8 @@ module _ (w : Words) (a b : Item) where
   threading-only : {xs : List Item} → In (a .slot) xs → PiecesOnly xs w (threading w a b)
   unfolding w₁ w₂
   threading-only {xs} i = record {
-    cells = λ f s d. far w₂ 19 (of-next refl) (pos (b .slot)) f s d
-        ∙ far w₁ 7 (of-denominator refl) (crossingDenominator (a .offer) (b .offer)) f s d ∙ far w 6 (of-numerator refl)
+    cells = λ f s d. far w₂ nextPieceField (of-next refl) (pos (b .slot)) f s d
+        ∙ far w₁ denominatorField (of-denominator refl) (crossingDenominator (a .offer) (b .offer)) f s d ∙ far w numeratorField (of-numerator refl)
         (crossingNumerator (a .offer) (b .offer)) f s d;
   }
     where

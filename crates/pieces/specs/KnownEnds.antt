@@ -1,7 +1,7 @@
 -- A cut at an end of the tree: nothing is cut off, and nothing is written.
 use mathlib.Core.Path.{_≡_, refl, sym, _∙_, ap, subst}
 use mathlib.Core.Bool.{Bool, true, false, not}
-use mathlib.Core.List.{[], List·Memᴰ, Pairwise·nil}
+use mathlib.Core.List.{[], List·Memᴰ}
 use mathlib.Core.Option.{none, some}
 use Prim.Native.Nat.{ℕ}
 use native.Mathlib.Omega.{arith}
@@ -15,7 +15,7 @@ use Rattle.trees.specs.Operations.{Part, partLeaves, split, splitP}
 use Rattle.table.specs.Fields.{pieceTree, rateField}
 use Rattle.table.specs.Words.{Words}
 use Rattle.table.specs.Layout.{cell}
-use Rattle.table.specs.Items.{Item}
+use Rattle.table.specs.Items.{Item, slots-none}
 use Rattle.table.specs.Rep.{Rep, within-refl}
 use Rattle.descents.specs.Whole.{split-whole, none-behind, none-in-front}
 use Rattle.descents.specs.Ends.{Ended}
@@ -25,7 +25,7 @@ nothing : (w : Words) → Standing w 0 none
 nothing w =
     record {
       root = refl;
-      slots = record { low = λ m. elim m [ ]; high = λ m. elim m [ ]; apart = Pairwise·nil };
+      slots = slots-none;
       holds = record { held = λ m. elim m [ ] };
       balanced = tt;
       pieces = tt;

@@ -1,18 +1,16 @@
--- What the code of a cut computes with: the least rate in front, and that each value fits an i64.
+-- What the code of a cut computes with: the least rate in front, which fits an i64.
 use mathlib.Core.Path.{_≡_, refl, sym, subst}
 use mathlib.Core.Bool.{Bool, true, false, cond}
 use Prim.Native.Nat.{ℕ, suc, _+_, _^_, _<_}
 use native.Mathlib.Omega.{arith}
-use lib.IntN.{ℤ, pos, negsuc, natAbs, _+ℤ_, _-ℤ_}
+use lib.IntN.{ℤ, pos, negsuc, natAbs, _+ℤ_}
 use lib.Signed.{ltZ}
 use mir.Syntax.{w64}
 use mir.Val.{SFits}
 use Rattle.integers.specs.Parts.{intRules, add-parts}
 use Rattle.integers.specs.Magnitude.{fits, natAbs-gap}
-use Rattle.offers.specs.Sizes.{base-gap-fits, rate-gap-fits}
 use Rattle.table.specs.Fields.{mostLevels, pieceTree, rateField}
 use Rattle.table.specs.Words.{Words}
-use Rattle.prices.specs.Prices.{rateAt, baseAt, rate-ranged, base-ranged}
 use Rattle.descents.specs.Cuts.{Halving}
 use Rattle.pieces.specs.Pieces.{CutAt}
 use Rattle.pieces.specs.Cutting.{leastRate, cut-at}
@@ -42,12 +40,3 @@ module _ (strict : Bool) (rate : ℤ) where
   pub cut-by : {least : ℤ} {x front back : ℕ} {w w′ : Words} → least ≡ leastRate strict rate →
       Halving pieceTree rateField least x mostLevels w w′ front back → CutAt strict rate x w w′ front back
   cut-by {least} {x} {front} {back} {w} {w′} e h = cut-at strict rate (subst (λ z. Halving pieceTree rateField z x mostLevels w w′ front back) e h)
-
--- ---- the crossing at a seam
-
-module _ (w : Words) (s n : ℕ) (z z′ : ℤ) where
-  pub numerator-fits : z ≡ baseAt w s → z′ ≡ baseAt w n → SFits w64 (z′ -ℤ z)
-  numerator-fits e d = base-gap-fits z z′ (rw e (base-ranged w s)) (rw d (base-ranged w n))
-
-  pub denominator-fits : z ≡ rateAt w s → z′ ≡ rateAt w n → SFits w64 (z -ℤ z′)
-  denominator-fits e d = rate-gap-fits z z′ (rw e (rate-ranged w s)) (rw d (rate-ranged w n))

@@ -5,7 +5,7 @@ pub mod Pieces
 pub mod Catting
 -- lemmas: a piece tree cut by rate, as a step on words
 pub mod Cutting
--- ways through the code: what the code of a cut computes with: the least rate in front, and that each value fits an i64
+-- ways through the code: what the code of a cut computes with: the least rate in front, which fits an i64
 pub mod LeastRate
 -- ways through the code: a cut at an end of the tree: nothing is cut off, and nothing is written
 pub mod KnownEnds

@@ -4,7 +4,7 @@ use native.Mathlib.Omega.{arith}
 use mathlib.Core.Path.{_≡_, refl, sym}
 use mathlib.Core.Bool.{Bool, true, false, cond, _||_}
 use lib.Dec.{T, leb, ltb}
-use lib.IntN.{ℤ, pos, negsuc, negℤ, _+ℤ_, _*ℤ_}
+use lib.IntN.{ℤ, pos, negsuc, negℤ, _+ℤ_, _-ℤ_, _*ℤ_}
 use lib.Signed.{leZ}
 use borrow.Author.Tests.{le-leb, lt-leb, lt-ltb, le-ltb}
 use Rattle.lists.specs.Bools.{and-left, and-right, and-both, cond-itself, cond-or}
@@ -13,7 +13,7 @@ use Rattle.offers.specs.Offers.{between, rateInRange, baseInRange}
 use Rattle.offers.specs.Bounded.{bounded, bounded-ranged}
 use mir.Syntax.{w64}
 use mir.Val.{SFits}
-use Rattle.offers.specs.Sizes.{numeratorInRange, denominatorInRange, base-times-fits, rate-times-fits, scaled-price-fits}
+use Rattle.offers.specs.Sizes.{numeratorInRange, denominatorInRange, base-times-fits, rate-times-fits, scaled-price-fits, base-gap-fits, rate-gap-fits}
 use Rattle.table.specs.Fields.{baseField, denominatorField, mostSlots, nextPieceField, numeratorField, rateField}
 use Rattle.table.specs.Words.{Words}
 use Rattle.table.specs.Layout.{cap, cell, linkAt}
@@ -86,6 +86,14 @@ module _ (w : Words) (s : ℕ) where
 
   pub price-is : (b r n d : ℤ) → b ≡ baseAt w s → r ≡ rateAt w s → b *ℤ d +ℤ r *ℤ n ≡ priceIn w s n d
   price-is b r n d hb hr = rw (hb, hr)
+
+-- and so do numerator and denominator of the crossing of a and b
+module _ (w : Words) (a b : ℕ) {x y : ℤ} where
+  pub bases-fit : x ≡ baseAt w b → y ≡ baseAt w a → SFits w64 (x -ℤ y)
+  bases-fit d e = base-gap-fits y x (rw e (base-ranged w a)) (rw d (base-ranged w b))
+
+  pub rates-fit : x ≡ rateAt w a → y ≡ rateAt w b → SFits w64 (x -ℤ y)
+  rates-fit d e = rate-gap-fits x y (rw d (rate-ranged w a)) (rw e (rate-ranged w b))
 
 -- at the crossing kept in slot p of w, the line in slot s of v is at most the line in slot p
 abbrev pub atMostAt : Words → ℕ → Words → ℕ → Bool

@@ -10,7 +10,7 @@ use Rattle.lists.specs.Bools.{is-false, failed, passed, not-not, is-true}
 use Rattle.integers.specs.Ring.{var, nat, _:+_, _:*_, by-eq}
 use Rattle.offers.specs.Offers.{between, within}
 use Rattle.offers.specs.Bounded.{bounded-in}
-use Rattle.table.specs.Fields.{denominatorField, mostNodes, mostSlots, numberField, pieceNodeField, pieceTree}
+use Rattle.table.specs.Fields.{baseField, denominatorField, mostNodes, mostSlots, numberField, numeratorField, pieceNodeField, pieceTree, rateField}
 use Rattle.table.specs.Words.{Words, upTo, upTo-in, upTo-over, upTo-below}
 use Rattle.table.specs.Layout.{cap, place, Valid, cell, linkAt}
 use Rattle.table.specs.Cells.{cell-none, cell-inside, cell-there, place-small, placed}
@@ -53,7 +53,7 @@ module _ (w : Words) (c x : ℕ) (e : c ≡ cap w) (low : mostSlots < x) (high :
   abbrev s : ℕ
   s = x - mostSlots
 
-  group-at : (f j : ℕ) → f ≡ 4 + j → j < 4 → at + j ≡ place c f s
+  group-at : (f j : ℕ) → f ≡ pieceNodeField + j → j < 4 → at + j ≡ place c f s
   group-at f j d h = ap (λ (k : ℕ). k + j) told ∙ beside c s pieceNodeField j refl h ∙ ap (λ (k : ℕ). place c k s) (sym d)
 
   -- no sum that begins there wraps
@@ -61,9 +61,9 @@ module _ (w : Words) (c x : ℕ) (e : c ≡ cap w) (low : mostSlots < x) (high :
   group-small = omega (arith, told, place-small (placed w pieceNodeField s c e (omega arith) (omega arith)))
 
   pub group-in : (j : ℕ) → j < 4 → at + j < length w
-  group-in j h = cell-inside w (4 + j) s c e (omega arith) (omega arith) (omega arith) (group-at (4 + j) j refl h)
+  group-in j h = cell-inside w (pieceNodeField + j) s c e (omega arith) (omega arith) (omega arith) (group-at (pieceNodeField + j) j refl h)
 
-  group-cell : (f j : ℕ) → f ≡ 4 + j → j < 4 → getD w (at + j) (pos 0) ≡ cell w f s
+  group-cell : (f j : ℕ) → f ≡ pieceNodeField + j → j < 4 → getD w (at + j) (pos 0) ≡ cell w f s
   group-cell f j d h = cell-there w f s c e (omega arith) (omega arith) (omega arith) (group-at f j d h)
 
   -- the words of the group
@@ -76,7 +76,7 @@ module _ (w : Words) (c x : ℕ) (e : c ≡ cap w) (low : mostSlots < x) (high :
   -- a denominator out of range
   pub off-steep : (q : ℤ) → not (within 200_000 ourD) ≡ true → 0 ≡ childToward w s q
   unfolding childToward
-  off-steep q d = rw (← group-cell 7 3 (omega arith) (omega arith), is-false (within 200_000 ourD) (passed d))
+  off-steep q d = rw (← group-cell denominatorField 3 (omega arith) (omega arith), is-false (within 200_000 ourD) (passed d))
 
   module _ {q : ℤ} {side : ℕ} (t : Sided q ourN ourD side) (d : not (within 200_000 ourD) ≡ false) where
     -- the child's word
@@ -84,8 +84,8 @@ module _ (w : Words) (c x : ℕ) (e : c ≡ cap w) (low : mostSlots < x) (high :
     unfolding childToward
     toward-there =
         rw (
-          ← group-cell 7 3 (omega arith) (omega arith),
-          ← group-cell 6 2 (omega arith) (omega arith),
+          ← group-cell denominatorField 3 (omega arith) (omega arith),
+          ← group-cell numeratorField 2 (omega arith) (omega arith),
           is-true (within 200_000 ourD) (not-not (within 200_000 ourD) (failed d)),
         )
         (ap (upTo mostNodes) (group-cell (childField pieceTree (rightOf q ourN ourD)) side (omega (arith, t .told)) (omega (arith, t .low))))
@@ -100,8 +100,8 @@ pub price-none : (w : Words) (c s : ℕ) (q : ℤ) → c ≡ cap w → ¬ ((1 �
 unfolding priceIn
 price-none w c s q e h =
     rw (
-      ← cell-none {f = 1} gone,
-      ← cell-none {f = 2} gone,
+      ← cell-none {f = rateField} gone,
+      ← cell-none {f = baseField} gone,
       bounded-in (negℤ (pos 1_000_000_000)) (pos 1_000_000_000) (pos 0) tt,
       bounded-in (negℤ (pos 100_000)) (pos 100_000) (pos 0) tt,
     )

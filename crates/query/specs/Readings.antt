@@ -7,7 +7,9 @@ use native.Mathlib.Omega.{arith}
 use lib.Dec.{T}
 use lib.IntN.{ℤ, pos, negℤ, natAbs, _+ℤ_, _*ℤ_}
 use lib.Signed.{leZ}
-use Rattle.integers.specs.Magnitude.{natAbs-mul, within-natAbs}
+use mir.Syntax.{w64}
+use mir.Val.{SFits}
+use Rattle.integers.specs.Magnitude.{fits, natAbs-add, natAbs-mul, within-natAbs}
 use Rattle.offers.specs.Offers.{within}
 use Rattle.offers.specs.Bounded.{bounded}
 use Rattle.table.specs.Fields.{baseField, denominatorField, mostSlots, numeratorField, pieceTree, rateField}
@@ -32,6 +34,12 @@ clamped-size n z = go (within (suc n) z) (λ t. within-natAbs n z t)
 pub clamped-product : {x y : ℤ} (m n : ℕ) (a b : ℤ) → x ≡ clamped (suc m) a → y ≡ clamped (suc n) b → natAbs (x *ℤ y) ≤ suc m * suc n
 clamped-product {x} {y} m n a b d e =
     rw (d, e) (omega (arith, natAbs-mul (clamped (suc m) a) (clamped (suc n) b), mul-le-mul (clamped-size m a) (clamped-size n b)))
+
+-- base + rate × load
+pub price-fits : {b r l : ℤ} (x y q : ℤ) → b ≡ clamped 1_000_000_000 x → r ≡ clamped 100_000 y → l ≡ clamped 1_000_000 q → SFits w64 (b +ℤ r *ℤ l)
+price-fits {b} {r} {l} x y q eb er el =
+    let e : natAbs b ≤ 1_000_000_000 = rw eb (clamped-size 999_999_999 x) in
+    fits _ (omega (arith, natAbs-add b (r *ℤ l), clamped-product 99_999 999_999 y q er el))
 
 -- the load lies right of the crossing n / d
 unfoldable pub rightOf : ℤ → ℤ → ℤ → Bool

@@ -185,15 +185,16 @@ hands-end {w} {p} e h = record {
 module _ {w : Words} {root z p : ℕ} {last : Bool} {number u v : ℤ} (er : root ≡ upTo mostNodes (word w envelopeRootWord))
     (end : Ended w pieceTree true root z) (low : 1 ≤ p)
     (yes-last : last ≡ true → p ≡ z) (not-last : last ≡ false → p ≢ z)
-    (en : number ≡ cell w numberField p) (eu : u ≡ crossingWord w 6 p last) (ev : v ≡ crossingWord w 7 p last) where
+    (en : number ≡ cell w numberField p) (eu : u ≡ crossingWord w numeratorField p last) (ev : v ≡ crossingWord w denominatorField p last) where
   module _ (n : ℕ) {ls : List Item} (t : Tree Item) (q : Top w root ls t) (k : Passed p (n + 1) (leaves t)) where
     number-is : number ≡ k .here .offer .number
     number-is = en ∙ ap (cell w numberField) (k .slot) ∙ q .pieces .holds .held
         (subst (List·Memᴰ (k .here)) (sym (k .split)) (Memᴰ·append-right (k .seen) (List·Memᴰ·head refl))) .number
 
     three : (b : Bool) (ys : List Item) → last ≡ b → leaves t ≡ k .seen ++ k .here ∷ ys → number ∷ u ∷ v ∷ [] ≡ take 3 (pieceWords (map offerOf (k .here ∷ ys)))
-    three true [] e d = ap (λ (x : ℤ). x ∷ u ∷ v ∷ []) number-is ∙ ap (λ (x : ℤ). k .here .offer .number ∷ x ∷ v ∷ []) (eu ∙ ap (crossingWord w 6 p) e)
-        ∙ ap (λ (x : ℤ). k .here .offer .number ∷ pos 0 ∷ x ∷ []) (ev ∙ ap (crossingWord w 7 p) e)
+    three true [] e d = ap (λ (x : ℤ). x ∷ u ∷ v ∷ []) number-is
+        ∙ ap (λ (x : ℤ). k .here .offer .number ∷ x ∷ v ∷ []) (eu ∙ ap (crossingWord w numeratorField p) e)
+        ∙ ap (λ (x : ℤ). k .here .offer .number ∷ pos 0 ∷ x ∷ []) (ev ∙ ap (crossingWord w denominatorField p) e)
     three true (y ∷ ys) e d = absurd (omega (
       arith,
       all-passed (q .pieces) (end .is t (q .pieces .rep) (q .balanced)) k (yes-last e),
@@ -210,9 +211,10 @@ module _ {w : Words} {root z p : ℕ} {last : Bool} {number u v : ℤ} (er : roo
     ))
     three false (y ∷ ys) e d =
         ap (λ (x : ℤ). x ∷ u ∷ v ∷ []) number-is
-        ∙ ap (λ (x : ℤ). k .here .offer .number ∷ x ∷ v ∷ []) (eu ∙ ap (crossingWord w 6 p) e ∙ ap (cell w numeratorField) (k .slot) ∙ next .numerator)
+        ∙ ap (λ (x : ℤ). k .here .offer .number ∷ x ∷ v ∷ [])
+        (eu ∙ ap (crossingWord w numeratorField p) e ∙ ap (cell w numeratorField) (k .slot) ∙ next .numerator)
         ∙ ap (λ (x : ℤ). k .here .offer .number ∷ crossingNumerator (k .here .offer) (y .offer) ∷ x ∷ [])
-        (ev ∙ ap (crossingWord w 7 p) e ∙ ap (cell w denominatorField) (k .slot) ∙ next .denominator)
+        (ev ∙ ap (crossingWord w denominatorField p) e ∙ ap (cell w denominatorField) (k .slot) ∙ next .denominator)
       where
         next : Next w (k .here) y
         next = isChain-append-cons-cons (k .here) (k .seen) .0 (subst (Threaded w) d (q .pieces .thread)) .1

@@ -19,6 +19,7 @@ use Rattle.replay_words.specs.declared.Next.{Next}
 use Rattle.replay_words.specs.declared.Next.the-variants.{Post, Withdraw, Query, Listing, Nothing}
 use Rattle.replay_words.specs.Encoding.{listingOf, shortCall, callOf, nextCall, stretch, fitting, firstRun, runnable}
 use Rattle.lists.specs.Bools.{passed, is-true}
+use Rattle.integers.specs.Magnitude.{natAbs-fits}
 use Rattle.integers.specs.Equal.{equal}
 
 -- the call that was read
@@ -69,7 +70,7 @@ no-room (pos n) e = absurd (omega (arith, ltb-true n 0 e))
 no-room (negsuc n) e = refl
 
 pub some-room : (a : ℤ) → SFits w64 a → ltZ a (pos 0) ≡ false → (T (nonNeg a) × Fits w64 (natAbs a)) × (some (listing (natAbs a)) ≡ listingOf a)
-some-room (pos n) f e = ((tt, omega arith), refl)
+some-room (pos n) f e = (natAbs-fits (pos n) f e, refl)
 some-room (negsuc n) f e = absurd (true≢false e)
 
 -- ---- any call

@@ -130,9 +130,9 @@ started x y =
     record {
       u = x;
       v = y;
-      us = replicate 24 0;
+      us = replicate mostLevels 0;
       ud = 0;
-      vs = replicate 24 0;
+      vs = replicate mostLevels 0;
       vd = 0;
       done = false;
     }

@@ -12,7 +12,7 @@ use Rattle.trees.specs.Tree.{Tree, leaf, node, height}
 use Rattle.meeting.specs.Machine.{Side, opposite, isLeaf, Place, onOrAbove, Case, mine, theirs, neither, caseOf, compare, Half, State, pair, pop}
 use Rattle.meeting.specs.Machine.{second, recede, stepBy, step}
 use Rattle.meeting.specs.Moves.{half}
-use Rattle.table.specs.Fields.{mostSlots}
+use Rattle.table.specs.Fields.{mostLevels, mostSlots}
 use Rattle.table.specs.Words.{Words}
 use Rattle.table.specs.Items.{Item}
 use Rattle.table.specs.Rep.{refOf}
@@ -100,7 +100,7 @@ mine-case : (b c : Bool) → b ≡ true → caseOf b c ≡ mine
 mine-case b c e = ap (λ (d : Bool). caseOf d c) e
 
 -- a fared walk has room for what it may push
-roomy : {w : Words} {side : Bool} {h : Walk} {m : Half Item} → Fares w side h m → length (m .stack) + height (m .at .tree) ≤ 24
+roomy : {w : Words} {side : Bool} {h : Walk} {m : Half Item} → Fares w side h m → length (m .stack) + height (m .at .tree) ≤ mostLevels
 roomy f = omega (arith, f .stands .shallow, f .low)
 
 -- the stack's top, compared

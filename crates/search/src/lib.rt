@@ -11,6 +11,7 @@ ghost use Rattle.search.specs.Choices.{Recedes, Chooses};
 ghost use Rattle.search.specs.Runs.{started, Meets};
 use walks::Action;
 use walks::Move;
+use walks::STACK;
 use walks::act;
 use walks::pair;
 use walks::point;
@@ -20,9 +21,9 @@ use walks::top;
 struct Search {
     u: u32,
     v: u32,
-    us: [u32; 24],
+    us: [u32; STACK],
     ud: usize,
-    vs: [u32; 24],
+    vs: [u32; STACK],
     vd: usize,
     done: bool,
 }
@@ -79,10 +80,10 @@ fn choose(
     right: &[i64],
     k: u32,
     u: u32,
-    us: &[u32; 24],
+    us: &[u32; STACK],
     ud: usize,
     v: u32,
-    vs: &[u32; 24],
+    vs: &[u32; STACK],
     vd: usize,
 ) -> Move
     requires { ⌜ (c ≡ cap (now left)) × (k ≡ cap (now right)) ⌝ }
@@ -120,10 +121,10 @@ fn step(left: &[i64], c: u32, right: &[i64], k: u32, s: Search) -> Search
     let vd = s.vd;
     let mut us = s.us;
     let mut vs = s.vs;
-    if ud < 24 {
+    if ud < STACK {
         us[ud] = s.u;
     }
-    if vd < 24 {
+    if vd < STACK {
         vs[vd] = s.v;
     }
     let m = choose(left, c, right, k, s.u, &us, ud, s.v, &vs, vd);
@@ -159,9 +160,9 @@ fn start(l: u32, r: u32) -> Search
     Search {
         u: l,
         v: r,
-        us: [0; 24],
+        us: [0; STACK],
         ud: 0,
-        vs: [0; 24],
+        vs: [0; STACK],
         vd: 0,
         done: false,
     }

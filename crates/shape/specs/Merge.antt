@@ -9,6 +9,7 @@ use native.Mathlib.Omega.{arith}
 use Rattle.trees.specs.Tree.{Tree, last, Avl}
 use Rattle.trees.specs.Operations.{Part, partLeaves, join, joinP}
 use Rattle.trees.specs.Balanced.{AvlP}
+use Rattle.table.specs.Fields.{mostLevels}
 use Rattle.table.specs.Words.{Words}
 use Rattle.table.specs.Items.{Item, slots-left, slots-right}
 use Rattle.table.specs.Rep.{nodeOn, Within, within-refl, only-refl}
@@ -60,7 +61,7 @@ both {k} {gap} {l} {r} {x} {w} {w′} nl nr g f = record { within = g; made = ma
 
 -- ---- the three ways of `join`
 
-pub merged-one : {k gap l r limit x : ℕ} {b : Bool} {w w′ : Words} → l ≢ 0 → r ≢ 0 → 24 ≤ limit → b ≡ towersAt w k l r → b ≡ true →
+pub merged-one : {k gap l r limit x : ℕ} {b : Bool} {w w′ : Words} → l ≢ 0 → r ≢ 0 → mostLevels ≤ limit → b ≡ towersAt w k l r → b ≡ true →
     Spliced k false gap l r limit w w′ x → Merged k gap l r w w′ x
 unfolding join
 merged-one {w} nl nr n eb e j =
@@ -68,7 +69,7 @@ merged-one {w} nl nr n eb e j =
     (λ tl tr pair d a b. made-as (sym (rw (sym (towers-read (pair-one pair) (pair-other pair)) ∙ sym eb ∙ e)))
     (j .made tl tr pair d (omega (arith, n, low w (pair-one pair .slots) a))))
 
-pub merged-other : {k gap l r limit x : ℕ} {b c : Bool} {w w′ : Words} → l ≢ 0 → r ≢ 0 → 24 ≤ limit → b ≡ towersAt w k l r → b ≡ false →
+pub merged-other : {k gap l r limit x : ℕ} {b c : Bool} {w w′ : Words} → l ≢ 0 → r ≢ 0 → mostLevels ≤ limit → b ≡ towersAt w k l r → b ≡ false →
     c ≡ towersAt w k r l → c ≡ true
     → Spliced k true gap r l limit w w′ x → Merged k gap l r w w′ x
 unfolding join

@@ -3,7 +3,8 @@
 use mathlib.Core.Path.{_≡_, refl, sym, _∙_, ap}
 use mathlib.Core.Bool.{Bool, true, false, not, cond}
 use mathlib.Core.List.{_++_, append-assoc}
-use lib.Dec.{T, leb}
+use lib.Dec.{leb}
+use Rattle.lists.specs.Bools.{cond-swap}
 use Rattle.trees.specs.Tree.{Tree, leaf, node, height, leaves}
 use Rattle.trees.specs.Operations.{towers, doubleRight, doubleLeft, rotateRight, rotateLeft, balance, joinR, joinL}
 use Rattle.trees.specs.Leaves.{leaves-balance, leaves-joinR, leaves-joinL, same-last}
@@ -86,18 +87,11 @@ unfolding rotateRight rotateLeft
 rotate-node false p m q = refl
 rotate-node true p m q = refl
 
--- two tests that never both pass, in either order
-swap : {A : Type 0} (x y z : A) (b c : Bool) → (T b → T c → ⊥) → cond b x (cond c y z) ≡ cond c y (cond b x z)
-swap x y z true true h = absurd (h tt tt)
-swap x y z true false h = refl
-swap x y z false true h = refl
-swap x y z false false h = refl
-
 pub balance-on : (side : Bool) (p q : Tree Item) → balanceOn side p q ≡ cond (towers p q) (rotateOn side p q)
     (cond (towers q p) (rotateOn (not side) q p) (nodeOn side p q))
 unfolding balance
 balance-on false p q = refl
-balance-on true p q = swap (rotateRight q p) (rotateLeft q p) (node q p) (towers q p) (towers p q) (towers-apart q p)
+balance-on true p q = cond-swap (towers q p) (towers p q) (rotateRight q p) (rotateLeft q p) (node q p) (towers-apart q p)
 
 pub join-leaf : (side : Bool) (a : Item) (q : Tree Item) → joinOn side (leaf a) q ≡ nodeOn side (leaf a) q
 unfolding joinR joinL

@@ -12,7 +12,6 @@ ghost use Rattle.shape.specs.Merge.{Merged};
 use nodes::make_node;
 pub use nodes::make_node_in;
 use nodes::set_node;
-use nodes::taller;
 
 // Three trees in a row: a node over the last two, and one over the first and that. `near` is the first seam's slot, `far` the second's.
 fn hang(part: &mut [i64], tree: u8, side: bool, near: u32, far: u32, p: u32, m: u32, q: u32) -> u32
@@ -74,7 +73,7 @@ fn balance(part: &mut [i64], c: u32, tree: u8, side: bool, gap: u32, p: u32, q: 
     if hq > hp + 1 {
         return rotate(part, tree, !side, gap, q, p);
     }
-    set_node(part, c, tree, side, gap, p, q, taller(hp, hq))
+    set_node(part, c, tree, side, gap, p, q, table::height_over(hp, hq))
 }
 
 // One height is more than one above another.
@@ -111,7 +110,7 @@ fn splice(
         let y = splice(part, c, tree, side, gap, m, q, limit - 1);
         return balance(part, c, tree, side, g, a, y);
     }
-    set_node(part, c, tree, side, gap, p, q, taller(hp, hq))
+    set_node(part, c, tree, side, gap, p, q, table::height_over(hp, hq))
 }
 
 // Joins two balanced trees, either of which may be empty. `gap` is the slot of the last leaf of `l`, `c` the capacity.
@@ -133,7 +132,7 @@ pub fn join_in(part: &mut [i64], c: u32, tree: u8, gap: u32, l: u32, r: u32) -> 
     if above(hr, hl) {
         return splice(part, c, tree, true, gap, r, l, table::MOST_LEVELS);
     }
-    set_node(part, c, tree, false, gap, l, r, taller(hl, hr))
+    set_node(part, c, tree, false, gap, l, r, table::height_over(hl, hr))
 }
 
 pub fn join(part: &mut [i64], tree: u8, gap: u32, l: u32, r: u32) -> u32

@@ -2,7 +2,7 @@
 use mathlib.Core.Path.{_≡_, refl, sym, _∙_, ap}
 use mathlib.Core.Logic.{_≢_, ⊎-elim}
 use mathlib.Core.List.{List, [], _∷_, _++_, List·Memᴰ, List·Memᴰ·head, List·Memᴰ·cases-cons, Memᴰ·append-left, Memᴰ·append-right, Sublistᴰ}
-use mathlib.Core.List.{Sublistᴰ·slnil, Sublistᴰ·cons, Sublistᴰ·cons-cons, Sublistᴰ·refl, Pairwise, Pairwise·of-cons, Pairwise·sublistᴰ}
+use mathlib.Core.List.{Sublistᴰ·slnil, Sublistᴰ·cons, Sublistᴰ·cons-cons, Sublistᴰ·refl, Pairwise, Pairwise·nil, Pairwise·of-cons, Pairwise·sublistᴰ}
 use mathlib.Core.List.{rel-of-pairwise-cons}
 use Prim.Native.Nat.{ℕ, zero, suc, _≤_, _<_}
 use native.Mathlib.Decide.{ℕ-discrete}
@@ -21,7 +21,7 @@ pub record Item : Type 0 where
 abbrev pub offerOf : Item → Offer
 offerOf a = a .offer
 
-abbrev slotOf : Item → ℕ
+abbrev pub slotOf : Item → ℕ
 slotOf a = a .slot
 
 -- in two slots
@@ -44,6 +44,9 @@ pub record Slots (c : ℕ) (xs : List Item) : Type 0 where
   pub high : {a : Item} → List·Memᴰ a xs → a .slot ≤ c
   pub apart : Pairwise Apart xs
 
+pub slots-none : {c : ℕ} → Slots c []
+slots-none = record { low = λ m. elim m [ ]; high = λ m. elim m [ ]; apart = Pairwise·nil }
+
 pub slots-left : {c : ℕ} {xs : List Item} (ys : List Item) → Slots c (xs ++ ys) → Slots c xs
 slots-left {c} {xs} ys s =
     record { low = λ m. s .low (Memᴰ·append-left ys m); high = λ m. s .high (Memᴰ·append-left ys m); apart = parted xs (s .apart) .left }
@@ -51,6 +54,9 @@ slots-left {c} {xs} ys s =
 pub slots-right : {c : ℕ} (xs : List Item) {ys : List Item} → Slots c (xs ++ ys) → Slots c ys
 slots-right xs s =
     record { low = λ m. s .low (Memᴰ·append-right xs m); high = λ m. s .high (Memᴰ·append-right xs m); apart = parted xs (s .apart) .right }
+
+pub slots-sublist : {c : ℕ} {xs ys : List Item} → Sublistᴰ xs ys → Slots c ys → Slots c xs
+slots-sublist d s = record { low = λ m. s .low (sublist-mem d m); high = λ m. s .high (sublist-mem d m); apart = Pairwise·sublistᴰ d (s .apart) }
 
 -- two lists one behind the other share no slot
 pub slots-across : {c s : ℕ} (xs : List Item) {ys : List Item} → Slots c (xs ++ ys) → In s xs → In s ys → ⊥

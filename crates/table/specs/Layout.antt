@@ -260,7 +260,7 @@ link-most w f s = upTo-most mostNodes (cell w f s)
 
 module _ (w : Words) (i : ℕ) (z : ℤ) (low : 1 ≤ i) (high : i < 64) where
   pub header-cap : cap (wset w i z) ≡ cap w
-  header-cap = cap-of w (wset w i z) (wset-length w i z) (wset-other w i 0 z (λ e. omega (arith, e, low)))
+  header-cap = cap-of w (wset w i z) (wset-length w i z) (wset-other w i capacityWord z (λ e. omega (arith, e, low)))
 
   -- no field is there
   pub header-cell : (f s : ℕ) → cell (wset w i z) f s ≡ cell w f s

@@ -1,5 +1,5 @@
 -- Trees that may be empty, kept in words: node number 0 is the empty one.
-use mathlib.Core.Path.{_≡_}
+use mathlib.Core.Path.{_≡_, refl}
 use mathlib.Core.Option.{none, some}
 use mathlib.Core.List.{List, _++_}
 use Prim.Native.Nat.{ℕ, _≤_}
@@ -10,7 +10,7 @@ use Rattle.trees.specs.Height.{height-full}
 use Rattle.table.specs.Fields.{mostLevels}
 use Rattle.table.specs.Words.{Words}
 use Rattle.table.specs.Layout.{cap, cap-most}
-use Rattle.table.specs.Items.{Item, In, Slots, slots-most}
+use Rattle.table.specs.Items.{Item, In, Slots, slots-none, slots-most}
 use Rattle.table.specs.Rep.{refOf, Tied, tied-still, Rep, Within, within-cap, Only, inner-in}
 use Rattle.table.specs.Nodes.{Made}
 
@@ -27,6 +27,9 @@ pub record RepP (w : Words) (k x : ℕ) (p : Part Item) : Type 0 where
   pub root : x ≡ partRef p
   pub slots : Slots (cap w) (partLeaves p)
   pub tied : TiedPart w k p
+
+pub repP-none : {w : Words} {k : ℕ} → k ≤ 2 → RepP w k 0 none
+repP-none h = record { kind = h; root = refl; slots = slots-none; tied = tt }
 
 -- x is the root of p, and nothing but nodes of p was written
 pub record MadeP (k : ℕ) (w w′ : Words) (x : ℕ) (p : Part Item) : Type 0 where
@@ -68,3 +71,7 @@ abbrev pub Seam : ℕ → Part Item → Part Item → Type 0
 Seam gap none pr = Unit {0}
 Seam gap (some tl) none = Unit {0}
 Seam gap (some tl) (some tr) = gap ≡ last tl .slot
+
+pub seam-left : (g : ℕ) (t : Tree Item) (q : Part Item) → g ≡ last t .slot → Seam g (some t) q
+seam-left g t none e = tt
+seam-left g t (some u) e = e

@@ -11,7 +11,7 @@ use lib.ListN.{length}
 use lib.IntN.{ℤ}
 use Rattle.trees.specs.Tree.{Tree, leaf, node, height, leaves, last}
 use Rattle.trees.specs.Leaves.{last-leaf}
-use Rattle.table.specs.Fields.{mostNodes, mostSlots}
+use Rattle.table.specs.Fields.{capacityWord, mostNodes, mostSlots}
 use Rattle.table.specs.Words.{Words, word, upTo}
 use Rattle.table.specs.Layout.{cap, cap-of, cell, cset, linkAt, link-most, outside-of, Outside, header-outside, cset-length, cset-rest, cset-other}
 use Rattle.table.specs.Items.{Item, In, at, in-left, in-right, Slots, slots-right, slots-across}
@@ -84,7 +84,7 @@ pub record Within (w w′ : Words) : Type 0 where
   pub rest : (i : ℕ) → Outside w i → word w′ i ≡ word w i
 
 pub within-cap : {w w′ : Words} → Within w w′ → cap w′ ≡ cap w
-within-cap {w} {w′} h = cap-of w w′ (h .long) (h .rest 0 (header-outside w (omega arith)))
+within-cap {w} {w′} h = cap-of w w′ (h .long) (h .rest capacityWord (header-outside w (omega arith)))
 
 pub within-refl : (w : Words) → Within w w
 within-refl w = record { long = refl; rest = λ i o. refl }

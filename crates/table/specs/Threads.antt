@@ -14,7 +14,7 @@ use lib.ListN.{length}
 use Rattle.offers.specs.Offers.{offerInRange, crossingNumerator, crossingDenominator}
 use Rattle.trees.specs.Tree.{Tree, leaves, first, last}
 use Rattle.trees.specs.Leaves.{start, rest, leaves-first, leaves-last}
-use Rattle.table.specs.Fields.{baseField, denominatorField, mostNodes, nextPieceField, numberField, numeratorField, rateField}
+use Rattle.table.specs.Fields.{baseField, denominatorField, mostNodes, nextPieceField, numberField, numeratorField, pieceNodeField, rateField}
 use Rattle.table.specs.Words.{Words, upTo, upTo-in}
 use Rattle.table.specs.Layout.{cap, cell, cset, linkAt, Valid, cset-cap, cset-same, cset-other}
 use Rattle.table.specs.Items.{Item, In, at, Slots, slots-across}
@@ -130,18 +130,18 @@ threaded-still (IsChain·cons-cons {a = a} n h) same =
     IsChain·cons-cons (next-still (same (a .slot) (leads-here refl (omega arith))) n) (threaded-still h (λ s k. same s (leads-later k)))
 
 -- the nodes of a tree are in other fields
-field-high : {k f : ℕ} → Field k f → 4 ≤ f
+field-high : {k f : ℕ} → Field k f → pieceNodeField ≤ f
 field-high {k} {f} (a-child side e) = child side e
   where
-    child : (side : Bool) → f ≡ childField k side → 4 ≤ f
+    child : (side : Bool) → f ≡ childField k side → pieceNodeField ≤ f
     child false e = omega arith
     child true e = omega arith
 field-high (a-height e) = omega arith
 
-field-thread : {k f : ℕ} → Field k f → k ≤ 2 → (f ≢ 6) × (f ≢ 7) × (f ≢ 19)
+field-thread : {k f : ℕ} → Field k f → k ≤ 2 → (f ≢ numeratorField) × (f ≢ denominatorField) × (f ≢ nextPieceField)
 field-thread {k} {f} (a-child side e) h = child side e
   where
-    child : (side : Bool) → f ≡ childField k side → (f ≢ 6) × (f ≢ 7) × (f ≢ 19)
+    child : (side : Bool) → f ≡ childField k side → (f ≢ numeratorField) × (f ≢ denominatorField) × (f ≢ nextPieceField)
     child false e = omega arith
     child true e = omega arith
 field-thread (a-height e) h = omega arith
@@ -150,22 +150,22 @@ module _ {k : ℕ} {xs : List Item} {w w′ : Words} (g : Only k xs w w′) wher
   pub only-offer : (s : ℕ) → SameOffer w w′ s
   only-offer s =
       record {
-        number = g .cells 0 s (λ q. omega (arith, field-high (q .0)));
-        rate = g .cells 1 s (λ q. omega (arith, field-high (q .0)));
-        base = g .cells 2 s (λ q. omega (arith, field-high (q .0)));
+        number = g .cells numberField s (λ q. omega (arith, field-high (q .0)));
+        rate = g .cells rateField s (λ q. omega (arith, field-high (q .0)));
+        base = g .cells baseField s (λ q. omega (arith, field-high (q .0)));
       }
 
   pub only-thread : k ≤ 2 → (s : ℕ) → SameThread w w′ s
   only-thread h s =
       record {
-        next = g .cells 19 s (λ q. field-thread (q .0) h .2 refl);
-        numerator = g .cells 6 s (λ q. field-thread (q .0) h .0 refl);
-        denominator = g .cells 7 s (λ q. field-thread (q .0) h .1 refl);
+        next = g .cells nextPieceField s (λ q. field-thread (q .0) h .2 refl);
+        numerator = g .cells numeratorField s (λ q. field-thread (q .0) h .0 refl);
+        denominator = g .cells denominatorField s (λ q. field-thread (q .0) h .1 refl);
       }
 
 -- a write to another slot, or to another field, leaves what a slot holds
 module _ (w : Words) (f s : ℕ) (z : ℤ) where
-  pub cset-offer : 3 ≤ f → (s′ : ℕ) → SameOffer w (cset w f s z) s′
+  pub cset-offer : baseField < f → (s′ : ℕ) → SameOffer w (cset w f s z) s′
   cset-offer h s′ =
       record {
         number = cset-other w f s z (λ e. omega (arith, e .0));
@@ -209,10 +209,10 @@ threading-next w a b low high h =
     w₂ = cset w₁ denominatorField (a .slot) (crossingDenominator (a .offer) (b .offer))
 
     c₁ : cap w₁ ≡ cap w
-    c₁ = cset-cap w 6 (a .slot) _
+    c₁ = cset-cap w numeratorField (a .slot) _
 
     c₂ : cap w₂ ≡ cap w
-    c₂ = cset-cap w₁ 7 (a .slot) _ ∙ c₁
+    c₂ = cset-cap w₁ denominatorField (a .slot) _ ∙ c₁
 
     has : (v : Words) (f : ℕ) → f < 32 → a .slot ≤ cap v → Valid v f (a .slot)
     has v f b i = record { low = low; high = i; field = b }

@@ -1,11 +1,11 @@
 // The words of a book's part, by total accessors: whatever the words are, a read gives a value and a write stays inside the part.
 ghost use mathlib.Core.Path.{_≡_};
-ghost use Prim.Native.Nat.{_-_};
+ghost use Prim.Native.Nat.{suc, max, _-_, _≤_};
 ghost use lib.IntN.{pos};
 ghost use lib.Signed.{leZ, ltZ};
 ghost use Rattle.integers.specs.Equal.{equal};
 ghost use Rattle.offers.specs.Bounded.{bounded};
-ghost use Rattle.table.specs.Fields.{mostSlots};
+ghost use Rattle.table.specs.Fields.{mostSlots, mostNodes};
 ghost use Rattle.table.specs.Words.{word, wset, upTo};
 ghost use Rattle.table.specs.Layout.{cap, spot, cell, cset, linkAt, place};
 ghost use Rattle.table.specs.Free.{firstFree, taken, given};
@@ -227,6 +227,17 @@ pub fn height(part: &[i64], tree: u8, x: u32) -> u32
     ensures { λ r. ⌜ r ≡ heightAt (now (part .entry)) tree x ⌝ }
 {
     link(part, height_field(tree), inner_slot(x))
+}
+
+// The height of a node over two trees of given heights.
+pub fn height_over(left: u32, right: u32) -> u32
+    requires { ⌜ (left ≤ mostNodes) × (right ≤ mostNodes) ⌝ }
+    ensures { λ r. ⌜ r ≡ suc (max left right) ⌝ }
+{
+    if left < right {
+        return right + 1;
+    }
+    left + 1
 }
 
 // A slot's field is `key` or above.

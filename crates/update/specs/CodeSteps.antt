@@ -5,7 +5,7 @@ use Prim.Native.Nat.{ℕ, _-_, _≤_, _<_}
 use native.Mathlib.Omega.{arith}
 use lib.IntN.{pos, ℤ}
 use borrow.Author.Tests.{ltb-true, ltb-false}
-use Rattle.table.specs.Fields.{innerRestField, leafRestField, mostSlots}
+use Rattle.table.specs.Fields.{innerRestField, leafRestField, mostSlots, offerTree}
 use Rattle.table.specs.Words.{Words}
 use Rattle.table.specs.Layout.{cset, cap, cset-cap}
 use Rattle.shape.specs.Splices.{towersAt}
@@ -62,17 +62,17 @@ pub read-lt : {p q a b : ℕ} → a ≡ p → b ≡ q → a < b → p < q
 read-lt d e h = omega arith
 
 module _ {gap : ℕ} {x y : InHand} {m : Outcome} {w w′ : Words} where
-  pub tall-left : {a : Bool} → a ≡ towersAt w 1 (x .tree) (y .tree) → a ≡ true → RotatedIn false gap x y w w′ m → RebalancedIn gap x y w w′ m
+  pub tall-left : {a : Bool} → a ≡ towersAt w offerTree (x .tree) (y .tree) → a ≡ true → RotatedIn false gap x y w w′ m → RebalancedIn gap x y w w′ m
   tall-left d t c = rebalanced-left (ltb-true _ _ (sym d ∙ t)) c
 
-  pub tall-right : {a : Bool} → a ≡ towersAt w 1 (y .tree) (x .tree) → a ≡ true → RotatedIn true gap y x w w′ m → RebalancedIn gap x y w w′ m
+  pub tall-right : {a : Bool} → a ≡ towersAt w offerTree (y .tree) (x .tree) → a ≡ true → RotatedIn true gap y x w w′ m → RebalancedIn gap x y w w′ m
   tall-right d t c = rebalanced-right (ltb-true _ _ (sym d ∙ t)) c
 
   pub none-tall :
       {a b : Bool} →
-      a ≡ towersAt w 1 (x .tree) (y .tree) →
+      a ≡ towersAt w offerTree (x .tree) (y .tree) →
       a ≡ false →
-      b ≡ towersAt w 1 (y .tree) (x .tree) →
+      b ≡ towersAt w offerTree (y .tree) (x .tree) →
       b ≡ false →
       RaisedIn gap x y w w′ m →
       RebalancedIn gap x y w w′ m

@@ -21,7 +21,7 @@ use Rattle.dynamic.specs.Kept.{heldHeight}
 use Rattle.dynamic.specs.Placed.{New, placed-ordered}
 use Rattle.dynamic.specs.Inserted.{alone-whole}
 use Rattle.dynamic.specs.UpdateSteps.{Gains, insert-whole}
-use Rattle.table.specs.Fields.{mostSlots, rateField}
+use Rattle.table.specs.Fields.{mostLevels, mostSlots, rateField}
 use Rattle.table.specs.Words.{Words}
 use Rattle.table.specs.Layout.{cap, cell}
 use Rattle.table.specs.Items.{Item, In, Slots, slots-left}
@@ -53,7 +53,7 @@ pub record InsertedBelow (limit slot : ℕ) (x : InHand) (w w′ : Words) (m : O
   pub touched : (a : Item) (t : Held Item) → Newcomer w slot x a t → heldHeight t ≤ limit → Touched (a ∷ leaves (heldShape t)) w w′
 
 -- no subtree in a table is higher than 24
-pub inserted : {limit slot : ℕ} {x : InHand} {m : Outcome} {w w′ : Words} → 24 ≤ limit → InsertedBelow limit slot x w w′ m → InsertedIn slot x w w′ m
+pub inserted : {limit slot : ℕ} {x : InHand} {m : Outcome} {w w′ : Words} → mostLevels ≤ limit → InsertedBelow limit slot x w w′ m → InsertedIn slot x w w′ m
 inserted {w} enough c =
     record {
       within = c .within;

@@ -13,7 +13,7 @@ use Rattle.meeting.specs.Machine.{Result, meet}
 use Rattle.meeting.specs.Meets.{FacingTrees}
 use Rattle.dynamic.specs.OfferTree.{Held, heldShape, raise}
 use Rattle.dynamic.specs.Valid.{Whole}
-use Rattle.table.specs.Fields.{bridgeLeftField, bridgeRightField, offerTree, pieceTree, rateField}
+use Rattle.table.specs.Fields.{bridgeLeftField, bridgeRightField, mostLevels, offerTree, pieceTree, rateField}
 use Rattle.table.specs.Words.{Words}
 use Rattle.table.specs.Layout.{cap, cap-most, cell, cset}
 use Rattle.table.specs.Items.{Item, at, slots-most}
@@ -38,8 +38,8 @@ use Rattle.update.specs.RaisingCat.{touched, held-raised}
 pub record Faces (w : Words) (x y : ℕ) (tl tr : Tree Item) : Type 0 where
   pub left : Standing w x (some tl)
   pub right : Standing w y (some tr)
-  pub left-low : height tl ≤ 24
-  pub right-low : height tr ≤ 24
+  pub left-low : height tl ≤ mostLevels
+  pub right-low : height tr ≤ mostLevels
   pub facing : FacingTrees items tl tr (first tl)
 
 -- the nodes where the machine ends, and its steps
@@ -53,7 +53,7 @@ pub record MetIn (w : Words) (x y u v steps : ℕ) : Type 0 where
 
 -- ---- numbers
 
-pub standing-low : {w : Words} {x : ℕ} {t : Tree Item} → Standing w x (some t) → height t ≤ 24
+pub standing-low : {w : Words} {x : ℕ} {t : Tree Item} → Standing w x (some t) → height t ≤ mostLevels
 standing-low {w} {t} st = height-full (st .balanced) (omega (arith, slots-most (cap w) (leaves t) (st .slots), cap-most w))
 
 standing-height : {w : Words} {x : ℕ} {t : Tree Item} → Standing w x (some t) → heightAt w pieceTree x ≡ height t
@@ -139,7 +139,7 @@ module _
       by-v : cell w₁ rateField v ≡ rateOf (R .v)
       by-v =
           ap (cell w₁ rateField) at-v
-          ∙ pieces-offers (left-parted .only) (leaves (R .back)) .cells 1 (R .v .slot) (omega arith) (at (R .v-piece) refl)
+          ∙ pieces-offers (left-parted .only) (leaves (R .back)) .cells rateField (R .v .slot) (omega arith) (at (R .v-piece) refl)
           ∙ back .holds .held (R .v-piece) .rate
 
       right-parted : Standing w₁ (y .envelope) (r .whole) → Parted (inFront true (rateOf (R .v))) (r .whole) w₁ w₂ rf rb

@@ -9,6 +9,7 @@ use Rattle.trees.specs.Operations.{Part, Cut, partLeaves, joinP}
 use Rattle.dynamic.specs.OfferTree.{OfferTree, shape, Held, heldShape, bridged}
 use Rattle.dynamic.specs.Valid.{Whole}
 use Rattle.dynamic.specs.Rearranged.{stored}
+use Rattle.table.specs.Fields.{bridgeLeftField, bridgeRightField}
 use Rattle.table.specs.Words.{Words}
 use Rattle.table.specs.Layout.{cell}
 use Rattle.table.specs.Items.{Item, In, at}
@@ -140,8 +141,8 @@ module _
             stored-fork
             (still-stored (λ f s i. left-untold (sib .slots) i) (sib .left .stored) left-apart)
             (still-stored (λ f s i. right-untold (sib .slots) i) (sib .right .stored) right-apart)
-            (same-link 10 (pieces-rests kept (leaves (heldShape l))) (bridge-u refl) last-in ∙ wires .left-end ∙ eu)
-            (same-link 11 (pieces-rests kept (leaves (heldShape l))) (bridge-v refl) last-in ∙ wires .right-end ∙ ev)
+            (same-link bridgeLeftField (pieces-rests kept (leaves (heldShape l))) (bridge-u refl) last-in ∙ wires .left-end ∙ eu)
+            (same-link bridgeRightField (pieces-rests kept (leaves (heldShape l))) (bridge-v refl) last-in ∙ wires .right-end ∙ ev)
             (rest-stored (l .tree) (wires .left-rest) (left-halves .back) front-apart)
             (rest-stored (r .tree) (wires .right-rest) (right-halves .front) back-apart);
         pieces = whole-raised .pieces;

@@ -12,7 +12,7 @@ use Rattle.trees.specs.Leaves.{last-leaf}
 use Rattle.trees.specs.Operations.{Part, partLeaves}
 use Rattle.dynamic.specs.OfferTree.{OfferTree, single, fork, shape}
 use Rattle.dynamic.specs.Rearranged.{stored}
-use Rattle.table.specs.Fields.{innerRestField, leafRestField, mostNodes, mostSlots}
+use Rattle.table.specs.Fields.{bridgeLeftField, bridgeRightField, innerRestField, leafRestField, mostNodes, mostSlots}
 use Rattle.table.specs.Words.{Words, upTo}
 use Rattle.table.specs.Layout.{cap, cap-most, cell, cset}
 use Rattle.table.specs.Items.{Item, In, at, in-left, in-right, Slots, slots-left, slots-across}
@@ -25,8 +25,8 @@ use Rattle.form.specs.Frames.{RestField, bridge-u, bridge-v, inner-rest, leaf-r
 
 -- field f of slot s is an end of a bridge of t, or tells what stays with a node below t's root
 pub data Tells (f s : ℕ) : OfferTree Item → Type 0 where
-  tells-u : {u v : Item} {l r : OfferTree Item} {ql qr : Part Item} → f ≡ 10 → s ≡ last (shape l) .slot → Tells f s (fork u v l ql qr r)
-  tells-v : {u v : Item} {l r : OfferTree Item} {ql qr : Part Item} → f ≡ 11 → s ≡ last (shape l) .slot → Tells f s (fork u v l ql qr r)
+  tells-u : {u v : Item} {l r : OfferTree Item} {ql qr : Part Item} → f ≡ bridgeLeftField → s ≡ last (shape l) .slot → Tells f s (fork u v l ql qr r)
+  tells-v : {u v : Item} {l r : OfferTree Item} {ql qr : Part Item} → f ≡ bridgeRightField → s ≡ last (shape l) .slot → Tells f s (fork u v l ql qr r)
   rest-left : {u v : Item} {l r : OfferTree Item} {ql qr : Part Item} → f ≡ restField l → s ≡ nodeSlot l → Tells f s (fork u v l ql qr r)
   rest-right : {u v : Item} {l r : OfferTree Item} {ql qr : Part Item} → f ≡ restField r → s ≡ nodeSlot r → Tells f s (fork u v l ql qr r)
   below-left : {u v : Item} {l r : OfferTree Item} {ql qr : Part Item} → Tells f s l → Tells f s (fork u v l ql qr r)
@@ -40,7 +40,7 @@ pub node-in : {s : ℕ} (t : OfferTree Item) → s ≡ nodeSlot t → In s (leav
 node-in (single a) e = at (List·Memᴰ·head refl) e
 node-in (fork u v l ql qr r) e = in-left (leaves (shape r)) (at (last-leaf (shape l)) e)
 
-node-inner : {f s : ℕ} (t : OfferTree Item) → f ≡ restField t → f ≢ 21 → s ≡ nodeSlot t → Inner s (shape t)
+node-inner : {f s : ℕ} (t : OfferTree Item) → f ≡ restField t → f ≢ leafRestField → s ≡ nodeSlot t → Inner s (shape t)
 node-inner (single a) e d h = absurd (d e)
 node-inner (fork u v l ql qr r) e d h = of-root h
 
@@ -61,7 +61,7 @@ tells-in (below-left {l} {r} i) = in-left (leaves (shape r)) (tells-in i)
 tells-in (below-right {l} {r} i) = in-right (leaves (shape l)) (tells-in i)
 
 -- but for the leaves' rests, in slots of inner nodes
-tells-inner : {f s : ℕ} {t : OfferTree Item} → Tells f s t → f ≢ 21 → Inner s (shape t)
+tells-inner : {f s : ℕ} {t : OfferTree Item} → Tells f s t → f ≢ leafRestField → Inner s (shape t)
 tells-inner (tells-u e h) d = of-root h
 tells-inner (tells-v e h) d = of-root h
 tells-inner (rest-left {l} e h) d = of-left (node-inner l e d h)
@@ -70,7 +70,7 @@ tells-inner (below-left i) d = of-left (tells-inner i d)
 tells-inner (below-right i) d = of-right (tells-inner i d)
 
 -- so not in the slot of the last leaf
-pub tells-last : {c f s : ℕ} {t : OfferTree Item} → Slots c (leaves (shape t)) → Tells f s t → f ≢ 21 → s ≢ last (shape t) .slot
+pub tells-last : {c f s : ℕ} {t : OfferTree Item} → Slots c (leaves (shape t)) → Tells f s t → f ≢ leafRestField → s ≢ last (shape t) .slot
 tells-last h i d = inner-last h (tells-inner i d)
 
 -- what stays with the root of t is not told
@@ -94,8 +94,8 @@ module _ {w w′ : Words} where
       stored-fork
       (stored-retold sl (record { cells = λ f s i. g .cells f s (below-left i) }) (same-inside (λ s i. in-left back (in-right (partLeaves ql) i)) pieces))
       (stored-retold sr (record { cells = λ f s i. g .cells f s (below-right i) }) (same-inside (λ s i. in-right front (in-right (partLeaves qr) i)) pieces))
-      (ap (upTo mostNodes) (g .cells 10 _ (tells-u refl refl)) ∙ eu)
-      (ap (upTo mostNodes) (g .cells 11 _ (tells-v refl refl)) ∙ ev)
+      (ap (upTo mostNodes) (g .cells bridgeLeftField _ (tells-u refl refl)) ∙ eu)
+      (ap (upTo mostNodes) (g .cells bridgeRightField _ (tells-v refl refl)) ∙ ev)
       (record {
         root = g .cells _ _ (rest-left refl refl) ∙ rl .root;
         pieces =
@@ -124,8 +124,8 @@ pub rest-within : {x q : ℕ} {w w′ : Words} → RestSet x q w w′ → Within
 rest-within {x} {q} {w} {w′} h = go (decLe x mostSlots)
   where
     go : Dec (x ≤ mostSlots) → Within w w′
-    go (yes d) = subst (Within w) (sym (h .of-leaf d)) (within-cset w 21 x (pos q))
-    go (no d) = subst (Within w) (sym (h .of-inner (omega arith))) (within-cset w 20 (x - mostSlots) (pos q))
+    go (yes d) = subst (Within w) (sym (h .of-leaf d)) (within-cset w leafRestField x (pos q))
+    go (no d) = subst (Within w) (sym (h .of-inner (omega arith))) (within-cset w innerRestField (x - mostSlots) (pos q))
 
 pub rest-written : {x q : ℕ} {w w′ : Words} (t : OfferTree Item) → Slots (cap w) (leaves (shape t)) → x ≡ refOf (shape t) → RestSet x q w w′ →
     w′ ≡ cset w (restField t) (nodeSlot t) (pos q)

@@ -3,6 +3,7 @@ use mathlib.Core.Option.{some}
 use Prim.Native.Nat.{ℕ, _≤_}
 use native.Mathlib.Omega.{arith}
 use Rattle.trees.specs.Tree.{Tree, height}
+use Rattle.table.specs.Fields.{mostLevels}
 use Rattle.table.specs.Words.{Words}
 use Rattle.table.specs.Items.{Item}
 use Rattle.search.specs.declared.Met.{Met}
@@ -10,7 +11,7 @@ use Rattle.search.specs.Runs.{Kept, Meets}
 use Rattle.pieces.specs.Pieces.{Standing}
 use Rattle.update.specs.Raising.{MetIn}
 
-kept : {w : Words} {x : ℕ} {t : Tree Item} → Standing w x (some t) → height t ≤ 24 → Kept w x t
+kept : {w : Words} {x : ℕ} {t : Tree Item} → Standing w x (some t) → height t ≤ mostLevels → Kept w x t
 kept st low =
     record {
       rep = record { kind = omega arith; root = st .root; slots = st .slots; tied = st .pieces .0 };

@@ -9,11 +9,11 @@ use lib.IntN.{ℤ, pos}
 use Rattle.trees.specs.Tree.{node, leaves, last}
 use Rattle.trees.specs.Leaves.{last-leaf}
 use Rattle.dynamic.specs.OfferTree.{OfferTree, single, fork, shape}
-use Rattle.table.specs.Fields.{bridgeLeftField, bridgeRightField, mostNodes, offerTree}
+use Rattle.table.specs.Fields.{bridgeLeftField, bridgeRightField, innerRestField, leafRestField, mostNodes, offerTree}
 use Rattle.table.specs.Words.{Words, upTo, upTo-in}
 use Rattle.table.specs.Layout.{cap, cell, cset, linkAt, Valid, cset-same, cset-other}
 use Rattle.table.specs.Items.{Item, In, at, in-left, in-right, Slots, slots-left, slots-right, slots-across}
-use Rattle.table.specs.Rep.{childField, Field, a-child, a-height, refOf, nodeOn, Tied, Within, within-cap, within-trans, within-cset, Only}
+use Rattle.table.specs.Rep.{childField, heightField, Field, a-child, a-height, refOf, nodeOn, Tied, Within, within-cap, within-trans, within-cset, Only}
 use Rattle.table.specs.Nodes.{Made}
 use Rattle.nodes.specs.Joining.{Joined}
 use Rattle.pieces.specs.Pieces.{PieceField}
@@ -28,23 +28,23 @@ pub data Wires (l r : OfferTree Item) (f s : ℕ) : Type 0 where
   wires-left : f ≡ restField l → s ≡ nodeSlot l → Wires l r f s
   wires-right : f ≡ restField r → s ≡ nodeSlot r → Wires l r f s
   wires-node : Field offerTree f → In s (leaves (shape l) ++ leaves (shape r)) → Wires l r f s
-  wires-u : f ≡ 10 → s ≡ last (shape l) .slot → Wires l r f s
-  wires-v : f ≡ 11 → s ≡ last (shape l) .slot → Wires l r f s
+  wires-u : f ≡ bridgeLeftField → s ≡ last (shape l) .slot → Wires l r f s
+  wires-v : f ≡ bridgeRightField → s ≡ last (shape l) .slot → Wires l r f s
 
--- a rest's field is 20 or 21
+-- a rest's field is that of an inner node or of a leaf
 record Rest (f : ℕ) : Type 0 where
-  low : 20 ≤ f
-  high : f ≤ 21
+  low : innerRestField ≤ f
+  high : f ≤ leafRestField
 
 a-rest : (t : OfferTree Item) → Rest (restField t)
 a-rest (single a) = omega arith
 a-rest (fork u v l ql qr r) = omega arith
 
--- a field of the tree of offers is 8, 9 or 17
+-- a field of the tree of offers: none of a bridge's, and in front of the rests'
 record OfOffers (f : ℕ) : Type 0 where
-  low : f ≤ 17
-  no-bridge-u : f ≢ 10
-  no-bridge-v : f ≢ 11
+  low : f ≤ heightField offerTree
+  no-bridge-u : f ≢ bridgeLeftField
+  no-bridge-v : f ≢ bridgeRightField
 
 of-offers-field : {f : ℕ} → Field offerTree f → OfOffers f
 of-offers-field {f} (a-child side e) = child side e
@@ -223,8 +223,8 @@ module _ {w w₂ w₃ w₄ w₅ : Words} {gap lx rx x a b u v : ℕ} {l r : Offe
         tied = tied-same (tied-same (made .rep .tied) (tree-kept pu (node-apart (bridge-u refl)) _)) (tree-kept pv (node-apart (bridge-v refl)) _);
         left-rest = kept l ∙ rests .left;
         right-rest = kept r ∙ rests .right;
-        left-end = number (small .0) (elsewhere pv (λ h. omega (arith, h .0)) ∙ here pu (valid 10 (omega arith) within));
-        right-end = number (small .1) (here pv (valid 11 (omega arith) (within-trans within (put-within pu))));
+        left-end = number (small .0) (elsewhere pv (λ h. omega (arith, h .0)) ∙ here pu (valid bridgeLeftField (omega arith) within));
+        right-end = number (small .1) (here pv (valid bridgeRightField (omega arith) (within-trans within (put-within pu))));
         only = wired-trans (rests .only) (wired-trans (wired-only (made .only))
             (wired-trans (put-wired pu (wires-u refl refl)) (put-wired pv (wires-v refl refl))));
       }
@@ -232,10 +232,10 @@ module _ {w w₂ w₃ w₄ w₅ : Words} {gap lx rx x a b u v : ℕ} {l r : Offe
       within : Within w w₃
       within = within-trans (rests .within) (joined .within)
 
-      pu : Put 10 (last (shape l) .slot) (pos u) w₃ w₄
+      pu : Put bridgeLeftField (last (shape l) .slot) (pos u) w₃ w₄
       pu = record { put = eu ∙ ap (λ s. cset w₃ bridgeLeftField s (pos u)) (given .seam) }
 
-      pv : Put 11 (last (shape l) .slot) (pos v) w₄ w₅
+      pv : Put bridgeRightField (last (shape l) .slot) (pos v) w₄ w₅
       pv = record { put = ev ∙ ap (λ s. cset w₄ bridgeRightField s (pos v)) (given .seam) }
 
       made : Made offerTree w₂ w₃ x (node (shape l) (shape r))

@@ -17,10 +17,10 @@ use Rattle.dynamic.specs.OfferTree.{OfferTree, single, fork, shape, Held, hold,
 use Rattle.dynamic.specs.Updates.{Removed, remove}
 use Rattle.dynamic.specs.Kept.{heldHeight}
 use Rattle.dynamic.specs.UpdateSteps.{Loses, remove-whole}
-use Rattle.table.specs.Fields.{mostSlots, offerTree, rateField}
+use Rattle.table.specs.Fields.{mostLevels, mostSlots, offerTree, rateField}
 use Rattle.table.specs.Words.{Words}
 use Rattle.table.specs.Layout.{cap, cell}
-use Rattle.table.specs.Items.{Item, In, at, Slots}
+use Rattle.table.specs.Items.{Item, In, at, Slots, slots-sublist}
 use Rattle.table.specs.Rep.{nodeOn, seam, Rep, Within, within-refl, within-trans}
 use Rattle.table.specs.Nodes.{ref-low, on-across, in-one}
 use Rattle.table.specs.PartTrees.{low}
@@ -36,7 +36,7 @@ use Rattle.form.specs.Frames.{Inside, slots-within, held-still, touched-refl, t
 use Rattle.update.specs.Neighbours.{sideOf, held-rep, inner-high, seam-rate, Neighbours, LoweredOn, Opens, opens}
 use Rattle.update.specs.Counting.{Summed, counted-two}
 use Rattle.update.specs.Rebalancing.{rebalanceOn, RebalancedOn}
-use Rattle.update.specs.RemovingModel.{besideOn, remove-on, stands-on, left-row, slots-sublist}
+use Rattle.update.specs.RemovingModel.{besideOn, remove-on, stands-on, left-row}
 
 -- ---- what is promised
 
@@ -52,7 +52,7 @@ pub record RemovedBelow (limit slot : ℕ) (x : InHand) (w w′ : Words) (m : Ou
   pub touched : (a : Item) (t : Held Item) → Leaver w slot x a t → heldHeight t ≤ limit → Touched (leaves (heldShape t)) w w′
 
 -- no subtree in a table is higher than 24
-pub removed : {limit slot : ℕ} {x : InHand} {m : Outcome} {w w′ : Words} → 24 ≤ limit → RemovedBelow limit slot x w w′ m → RemovedIn slot x w w′ m
+pub removed : {limit slot : ℕ} {x : InHand} {m : Outcome} {w w′ : Words} → mostLevels ≤ limit → RemovedBelow limit slot x w w′ m → RemovedIn slot x w w′ m
 removed {limit} {slot} {x} {w} enough c =
     record {
       within = c .within;

@@ -2,12 +2,11 @@
 use mathlib.Core.Path.{_≡_, sym, subst}
 use mathlib.Core.Logic.{⊎-elim}
 use mathlib.Core.Bool.{Bool, true, false, _||_}
-use mathlib.Core.List.{List, List·Memᴰ, List·Memᴰ·append-cases, Sublistᴰ, Sublistᴰ·refl, Sublistᴰ·append, Pairwise·sublistᴰ}
-use Prim.Native.Nat.{ℕ, _≤_}
+use mathlib.Core.List.{List·Memᴰ, List·Memᴰ·append-cases, Sublistᴰ, Sublistᴰ·refl, Sublistᴰ·append}
+use Prim.Native.Nat.{_≤_}
 use native.Mathlib.Omega.{arith}
 use lib.Dec.{T}
 use Rattle.lists.specs.Filter.{keep-sublist}
-use Rattle.lists.specs.Places.{sublist-mem}
 use Rattle.envelopes.specs.Envelope.{Ordered}
 use Rattle.envelopes.specs.EnvelopeLaws.{ordered-left, ordered-apart}
 use Rattle.trees.specs.Tree.{Tree, height, leaves, last}
@@ -18,7 +17,7 @@ use Rattle.dynamic.specs.Updates.{Removed, besideLeft, besideRight, remove}
 use Rattle.dynamic.specs.Valid.{without}
 use Rattle.dynamic.specs.Kept.{heldHeight}
 use Rattle.dynamic.specs.Placed.{all-before}
-use Rattle.table.specs.Items.{Item, Slots}
+use Rattle.table.specs.Items.{Item}
 use Rattle.table.specs.Rep.{nodeOn, seam}
 use Rattle.pieces.specs.Pieces.{items, item-laws}
 use Rattle.update.specs.Neighbours.{sideOf}
@@ -93,6 +92,3 @@ module _ (a : Item) (O I G : Tree Item) (lines : leaves G ≡ without items a (l
   pub left-row : (side : Bool) → Sublistᴰ (leaves (nodeOn side G I)) (leaves (nodeOn side O I))
   left-row false = Sublistᴰ·append fewer (Sublistᴰ·refl (leaves I))
   left-row true = Sublistᴰ·append (Sublistᴰ·refl (leaves I)) fewer
-
-pub slots-sublist : {c : ℕ} {xs ys : List Item} → Sublistᴰ xs ys → Slots c ys → Slots c xs
-slots-sublist d s = record { low = λ m. s .low (sublist-mem d m); high = λ m. s .high (sublist-mem d m); apart = Pairwise·sublistᴰ d (s .apart) }

@@ -13,7 +13,7 @@ use Rattle.dynamic.specs.Kept.{heldHeight}
 use Rattle.table.specs.Fields.{mostSlots, offerTree}
 use Rattle.table.specs.Words.{Words}
 use Rattle.table.specs.Layout.{cap}
-use Rattle.table.specs.Items.{Item, In, Slots}
+use Rattle.table.specs.Items.{Item, slotOf, In, Slots}
 use Rattle.table.specs.Rep.{nodeOn, seam, heightAt, Within, within-trans}
 use Rattle.table.specs.Nodes.{on-one, on-other, on-across, in-one, in-other, height-on}
 use Rattle.shape.specs.Sides.{rowOn, row-leaves, four-leaves, seam-first, seam-last}
@@ -99,7 +99,7 @@ gathered {side} {w} {w₁} {w₂} {m} {gap} {x} {y} {z} {m₁} {m₂} {o} {i} {s
         record {
           outer-held = held-still (c .within) (t .outer-held) (Y .touched) (λ n a b. on-across O (nodeOn side I S) side (t .slots) a b);
           inner-held = Y .made .held;
-          at-seam = t .outer-seam ∙ ap (λ (a : Item). a .slot) (sym (seam-first side O I S) ∙ ap (seam side O) (sym (Y .shaped)));
+          at-seam = t .outer-seam ∙ ap slotOf (sym (seam-first side O I S) ∙ ap (seam side O) (sym (Y .shaped)));
           slots = subst (λ a. Slots (cap w₁) (leaves (nodeOn side O a))) (sym (Y .shaped)) (slots-within (c .within) (t .slots));
           ordered = subst (λ a. Ordered items (leaves (nodeOn side O a))) (sym (Y .shaped)) (t .ordered);
         }
@@ -124,7 +124,7 @@ module _
         middle-held = p .inner-held;
         short-held = held-still within (n .inner-held) (p .touched) (λ k a b. on-across (heldShape tall) (heldShape s) side (n .slots) b a);
         outer-seam = p .at-seam;
-        short-seam = n .at-seam ∙ ap (λ (a : Item). a .slot) (ap (λ t. seam side t (heldShape s)) (p .shaped)
+        short-seam = n .at-seam ∙ ap slotOf (ap (λ t. seam side t (heldShape s)) (p .shaped)
             ∙ seam-last side (heldShape o) (heldShape i) (heldShape s));
         slots = subst (Slots (cap w₁)) row (slots-within within (n .slots));
         ordered = subst (Ordered items) row (n .ordered);
@@ -273,9 +273,6 @@ parted {side} {w} {w₁} {w₂} {m} {gap} {x} {y} {z} {c} {m₁} {o} {i} {s} {p}
 
     Q : Tree Item
     Q = heldShape q
-
-    slotOf : Item → ℕ
-    slotOf a = a .slot
 
     same : leaves (nodeOn side O (nodeOn side I S)) ≡ leaves (nodeOn side (nodeOn side O P) (nodeOn side Q S))
     same = ap (λ a. leaves (rowOn side O a S)) (op .shaped) ∙ four-leaves side O P Q S

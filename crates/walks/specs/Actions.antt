@@ -7,7 +7,7 @@ use mathlib.Core.List.{List}
 use lib.ListN.{getD, set, length-set}
 use lib.Seq.{getD-set-other}
 use Rattle.meeting.specs.Machine.{Half}
-use Rattle.table.specs.Fields.{mostSlots, pieceTree}
+use Rattle.table.specs.Fields.{mostLevels, mostSlots, pieceTree}
 use Rattle.table.specs.Words.{Words}
 use Rattle.table.specs.Items.{Item}
 use Rattle.table.specs.Rep.{childAt}
@@ -24,14 +24,14 @@ walk at stack depth = record { at = at; stack = stack; depth = depth }
 
 -- the node is written where an advance finds it pushed; a full stack is left as it is
 pub data Noted (st : List ℕ) (d x : ℕ) : List ℕ → Type 0 where
-  noted : d < 24 → Noted st d x (set st d x)
-  full : 24 ≤ d → Noted st d x st
+  noted : d < mostLevels → Noted st d x (set st d x)
+  full : mostLevels ≤ d → Noted st d x st
 
 -- by the code's test
-pub noted-by : {st st′ : List ℕ} {d x : ℕ} → d < 24 → st′ ≡ set st d x → Noted st d x st′
+pub noted-by : {st st′ : List ℕ} {d x : ℕ} → d < mostLevels → st′ ≡ set st d x → Noted st d x st′
 noted-by k e = rw e (noted k)
 
-pub full-by : {st st′ : List ℕ} {d x : ℕ} → 24 ≤ d → st′ ≡ st → Noted st d x st′
+pub full-by : {st st′ : List ℕ} {d x : ℕ} → mostLevels ≤ d → st′ ≡ st → Noted st d x st′
 full-by k e = rw e (full k)
 
 noted-stood : {w : Words} {st st′ : List ℕ} {a d x : ℕ} {m : Half Item} → Noted st d x st′ → Stood w (walk a st d) m → Stood w (walk a st′ d) m
@@ -47,7 +47,7 @@ noted-top {h} {st} n e = topped-by st (same n) e
     same (noted k) i l = getD-set-other (h .stack) (h .depth) i (h .at) 0 (λ q. omega arith)
     same (full k) i l = refl
 
-noted-set : {st st′ : List ℕ} {d x : ℕ} → Noted st d x st′ → d < 24 → st′ ≡ set st d x
+noted-set : {st st′ : List ℕ} {d x : ℕ} → Noted st d x st′ → d < mostLevels → st′ ≡ set st d x
 noted-set (noted k) h = refl
 noted-set (full k) h = absurd (omega arith)
 
@@ -93,10 +93,11 @@ module _ {w : Words} {side : Bool} {at : ℕ} where
     pub advances-leaf : at ≤ mostSlots → Advances w side at d (record { at = at; depth = d })
     advances-leaf k = record { moved = λ n. record { moved = λ s b. advance-leaf side (noted-stood n s) k } }
 
-    pub advances-full : {r : Stand} → mostSlots < at → 24 ≤ d → Advances w side at d r
+    pub advances-full : {r : Stand} → mostSlots < at → mostLevels ≤ d → Advances w side at d r
     advances-full k f = record { moved = λ n. record { moved = λ s b. absurd (advance-full side s k b f) } }
 
-    pub advances-node : {x : ℕ} → mostSlots < at → d < 24 → x ≡ childAt w pieceTree (not side) at → Advances w side at d (record { at = x; depth = d + 1 })
+    pub advances-node : {x : ℕ} → mostSlots < at → d < mostLevels → x ≡ childAt w pieceTree (not side) at →
+        Advances w side at d (record { at = x; depth = d + 1 })
     advances-node {x} k f e = record { moved = λ n. rw (noted-set n f) (record { moved = λ s b. advance-node side s k f x e }) }
 
 module _ {w : Words} {side : Bool} {d top : ℕ} where

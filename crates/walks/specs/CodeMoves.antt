@@ -14,7 +14,7 @@ use lib.ListN.{length, getD, set, length-set, List·getD-eq-default}
 use Rattle.trees.specs.Tree.{Tree, leaf, node, height}
 use Rattle.meeting.specs.Machine.{Place, Half, advance, retreat, pop}
 use Rattle.meeting.specs.Moves.{half}
-use Rattle.table.specs.Fields.{mostSlots, pieceTree}
+use Rattle.table.specs.Fields.{mostLevels, mostSlots, pieceTree}
 use Rattle.table.specs.Words.{Words}
 use Rattle.table.specs.Items.{Item}
 use Rattle.table.specs.Rep.{childAt, refOf}
@@ -33,7 +33,7 @@ pub record Retreated (w : Words) (side : Bool) (h r : Walk) : Type 0 where
   pub moved : {m : Half Item} → Stood w h m → Stood w r (retreat (sideOf side) m)
 
 pub record Advanced (w : Words) (side : Bool) (h r : Walk) : Type 0 where
-  pub moved : {m : Half Item} → Stood w h m → length (m .stack) + height (m .at .tree) ≤ 24 → Stood w r (advance (sideOf side) m)
+  pub moved : {m : Half Item} → Stood w h m → length (m .stack) + height (m .at .tree) ≤ mostLevels → Stood w r (advance (sideOf side) m)
 
 pub record Popped (w : Words) (side : Bool) (h r : Walk) : Type 0 where
   pub moved : {t : Tree Item} {e : Option Item} {top : Place Item} {rest : List (Place Item)} → Stood w h (half t e (top ∷ rest)) →
@@ -58,7 +58,7 @@ module _ {w : Words} {h : Walk} {m : Half Item} (s : Stood w h m) where
       go empty k = refl
       go (pushed p z) k = absurd (omega arith)
 
-  pub top-over : 24 < h .depth → ⊥
+  pub top-over : mostLevels < h .depth → ⊥
   top-over k = omega (arith, stacks-room (s .stacks), s .room)
 
   pub top-at : 1 ≤ h .depth → getD (h .stack) (h .depth - 1) 0 ≡ topRef (m .stack)
@@ -112,14 +112,14 @@ module _ {w : Words} (side : Bool) {h : Walk} {m : Half Item} (s : Stood w h m) 
       go (node l r) p = absurd (omega (arith, inner-high p))
 
   -- an inner node's stack is not full
-  pub advance-full : mostSlots < h .at → length (m .stack) + height (m .at .tree) ≤ 24 → 24 ≤ h .depth → ⊥
+  pub advance-full : mostSlots < h .at → length (m .stack) + height (m .at .tree) ≤ mostLevels → mostLevels ≤ h .depth → ⊥
   advance-full k b f = go (m .at .tree) (s .here) b
     where
-      go : (t : Tree Item) → Pieces w (h .at) t → length (m .stack) + height t ≤ 24 → ⊥
+      go : (t : Tree Item) → Pieces w (h .at) t → length (m .stack) + height t ≤ mostLevels → ⊥
       go (leaf a) p b = omega (arith, leaf-low p)
       go (node l r) p b = omega (arith, stacks-depth (s .stacks))
 
-  pub advance-node : mostSlots < h .at → h .depth < 24 → (x : ℕ) → x ≡ childAt w pieceTree (not side) (h .at) →
+  pub advance-node : mostSlots < h .at → h .depth < mostLevels → (x : ℕ) → x ≡ childAt w pieceTree (not side) (h .at) →
       Stood w (record { at = x; stack = set (h .stack) (h .depth) (h .at); depth = h .depth + 1 }) (advance (sideOf side) m)
   unfolding advance
   advance-node k f x e = go (m .at .tree) (s .here)
@@ -163,7 +163,7 @@ module _ {w : Words} {h : Walk} {t : Tree Item} {e : Option Item} {top : Place I
 
 -- the node pushed last
 abbrev pub topIn : List ℕ → ℕ → ℕ
-topIn stack depth = cond (ltb depth 1) 0 (cond (ltb 24 depth) 0 (getD stack (depth - 1) 0))
+topIn stack depth = cond (ltb depth 1) 0 (cond (ltb mostLevels depth) 0 (getD stack (depth - 1) 0))
 
 abbrev pub pointWord : ℕ → ℕ → ℕ
 pointWord at top = cond (leb at mostSlots) (top - mostSlots) (at - mostSlots)
@@ -176,8 +176,8 @@ topped-by {h} st {t} same e = record { is = λ s. go s (decLt (h .depth) 1) }
     go s (yes k) = e ∙ rw (lt-ltb (h .depth) 1 k) (top-none s k)
     go s (no k) =
         let l : 1 ≤ h .depth = omega arith in
-        let n : h .depth ≤ 24 = omega (arith, stacks-room (s .stacks), s .room) in
-        e ∙ rw (le-ltb (h .depth) 1 l, le-ltb 24 (h .depth) n) (same (h .depth - 1) (omega arith) ∙ top-at s l)
+        let n : h .depth ≤ mostLevels = omega (arith, stacks-room (s .stacks), s .room) in
+        e ∙ rw (le-ltb (h .depth) 1 l, le-ltb mostLevels (h .depth) n) (same (h .depth - 1) (omega arith) ∙ top-at s l)
 
 pub pointed-by : {h : Walk} {t p : ℕ} → Topped h t → p ≡ pointWord (h .at) t → Pointed h p
 pointed-by {h} {t} {p} a e = record { is = λ s. go s (decLe (h .at) mostSlots) }

@@ -36,7 +36,7 @@ pub data Stacks (w : Words) (st : List ℕ) : ℕ → List (Place Item) → Type
 pub record Stood (w : Words) (h : Walk) (m : Half Item) : Type 0 where
   pub here : Pieces w (h .at) (m .at .tree)
   pub stacks : Stacks w (h .stack) (h .depth) (m .stack)
-  pub room : length (h .stack) ≡ 24
+  pub room : length (h .stack) ≡ mostLevels
 
 -- a walk that stands for a half which stands well, of a tree at most mostLevels high
 pub record Fares (w : Words) (side : Bool) (h : Walk) (m : Half Item) : Type 0 where

@@ -5,6 +5,9 @@ ghost use Rattle.table.specs.Layout.{cap};
 ghost use Rattle.walks.specs.CodeMoves.{topIn, pointWord};
 ghost use Rattle.walks.specs.Actions.{Retreats, Advances, Pops, Acts, sided};
 
+// A walk pushes a node for each level of its tree at most.
+pub const STACK: usize = table::MOST_LEVELS as usize;
+
 // What a walk does in a step.
 pub enum Action {
     Stay,
@@ -27,20 +30,20 @@ pub struct Stand {
 }
 
 // The node pushed last, and 0 where there is none. Most steps go without it, so that it is read where it is asked for.
-pub fn top(stack: &[u32; 24], depth: usize) -> u32
+pub fn top(stack: &[u32; STACK], depth: usize) -> u32
     ensures { λ r. ⌜ r ≡ topIn (now (stack .entry)) depth ⌝ }
 {
     if depth < 1 {
         return 0;
     }
-    if 24 < depth {
+    if STACK < depth {
         return 0;
     }
     stack[depth - 1]
 }
 
 // The slot that keeps the walk's point: an inner node's own, of a leaf that of the node pushed last.
-pub fn point(at: u32, stack: &[u32; 24], depth: usize) -> u32
+pub fn point(at: u32, stack: &[u32; STACK], depth: usize) -> u32
     ensures { λ r. ⌜ r ≡ pointWord at (topIn (now (stack .entry)) depth) ⌝ }
 {
     if at <= table::MOST_SLOTS {
@@ -71,7 +74,7 @@ fn advance(part: &[i64], c: u32, side: bool, at: u32, depth: usize) -> Stand
             depth: depth,
         };
     }
-    if 24 <= depth {
+    if STACK <= depth {
         return Stand {
             at: at,
             depth: depth,
@@ -107,7 +110,7 @@ pub fn act(
     side: bool,
     action: Action,
     at: u32,
-    stack: &[u32; 24],
+    stack: &[u32; STACK],
     depth: usize,
 ) -> Stand
     requires { ⌜ c ≡ cap (now part) ⌝ }

@@ -4,7 +4,7 @@ use lib.IntN.{ℤ, _-ℤ_}
 use mir.Facts.{toZ-ofZ}
 use mir.Syntax.{w64}
 use mir.Val.{SFits}
-use Rattle.check_bridges.specs.Gaps.{bases-safe}
+use Rattle.prices.specs.Prices.{bases-fit}
 use borrow.Author.Needs.{needs}
 use Rattle.check_bridges.proofs.base_gap.Statement.{statement}
 use Rattle.check_bridges.proofs.base_gap.Tie as tie
@@ -20,14 +20,14 @@ sub-result c =
     let p : SFits w64 (c .before .base .result) = record { sfits = c .before .base .ok } in
     let q : SFits w64 (c .base2 .result) = record { sfits = c .base2 .ok } in
     simp (toZ-ofZ, p, q)
-    (bases-safe (c .before .before .args .part .now) (c .before .before .args .a) (c .before .before .args .b) (c .before .base .ensures) (c .base2 .ensures))
+    (bases-fit (c .before .before .args .part .now) (c .before .before .args .a) (c .before .before .args .b) (c .before .base .ensures) (c .base2 .ensures))
 
 returns : tie.Need-returns
 returns c =
     let p : SFits w64 (c .before .base .result) = record { sfits = c .before .base .ok } in
     let q : SFits w64 (c .base2 .result) = record { sfits = c .base2 .ok } in
     let z =
-    bases-safe (c .before .before .args .part .now) (c .before .before .args .a) (c .before .before .args .b) (c .before .base .ensures)
+    bases-fit (c .before .before .args .part .now) (c .before .before .args .a) (c .before .before .args .b) (c .before .base .ensures)
     (c .base2 .ensures) in
     simp (toZ-ofZ, p, q, z) (ap₂ _-ℤ_ (c .before .base .ensures) (c .base2 .ensures))
 

@@ -4,7 +4,7 @@ use lib.IntN.{ℤ, _-ℤ_}
 use mir.Facts.{toZ-ofZ}
 use mir.Syntax.{w64}
 use mir.Val.{SFits}
-use Rattle.check_bridges.specs.Gaps.{rates-safe}
+use Rattle.prices.specs.Prices.{rates-fit}
 use borrow.Author.Needs.{needs}
 use Rattle.check_bridges.proofs.rate_gap.Statement.{statement}
 use Rattle.check_bridges.proofs.rate_gap.Tie as tie
@@ -20,14 +20,14 @@ sub-result c =
     let p : SFits w64 (c .before .rate .result) = record { sfits = c .before .rate .ok } in
     let q : SFits w64 (c .rate2 .result) = record { sfits = c .rate2 .ok } in
     simp (toZ-ofZ, p, q)
-    (rates-safe (c .before .before .args .part .now) (c .before .before .args .a) (c .before .before .args .b) (c .before .rate .ensures) (c .rate2 .ensures))
+    (rates-fit (c .before .before .args .part .now) (c .before .before .args .a) (c .before .before .args .b) (c .before .rate .ensures) (c .rate2 .ensures))
 
 returns : tie.Need-returns
 returns c =
     let p : SFits w64 (c .before .rate .result) = record { sfits = c .before .rate .ok } in
     let q : SFits w64 (c .rate2 .result) = record { sfits = c .rate2 .ok } in
     let z =
-    rates-safe (c .before .before .args .part .now) (c .before .before .args .a) (c .before .before .args .b) (c .before .rate .ensures)
+    rates-fit (c .before .before .args .part .now) (c .before .before .args .a) (c .before .before .args .b) (c .before .rate .ensures)
     (c .rate2 .ensures) in
     simp (toZ-ofZ, p, q, z) (ap₂ _-ℤ_ (c .before .rate .ensures) (c .rate2 .ensures))
 

@@ -1,6 +1,6 @@
 -- `counter_print::magnitude` meets its contract: one nearer to 0 a negative number's opposite fits too, and −2^63 needs that.
 use mathlib.Core.Path.{_≡_, refl, ap, _∙_}
-use mathlib.Core.Bool.{true, false, true≢false}
+use mathlib.Core.Bool.{true}
 use Prim.Native.Nat.{ℕ, zero, suc, _+_}
 use native.Mathlib.Omega.{arith}
 use borrow.Author.Needs.{needs}
@@ -11,6 +11,7 @@ use lib.Signed.{ltZ, nonNeg}
 use mir.Facts.{toZ-ofZ}
 use mir.Syntax.{w64}
 use mir.Val.{Fits, SFits}
+use Rattle.integers.specs.Magnitude.{natAbs-fits}
 use Rattle.counter_print.proofs.magnitude.Statement.{statement}
 use Rattle.counter_print.proofs.magnitude.Tie as tie
 
@@ -45,10 +46,6 @@ flips (negsuc n) f e =
       value = rw (flipped n) (omega arith);
     }
 
-upward : (z : ℤ) → SFits w64 z → ltZ z (pos 0) ≡ false → T (nonNeg z) × Fits w64 (natAbs z)
-upward (pos n) f e = (tt, omega arith)
-upward (negsuc n) f e = absurd (true≢false e)
-
 flips-at : (c : tie.Then1) → Flips (c .before .args .value)
 flips-at c = flips _ (c .before .fits .value) (simp (toZ-ofZ, c .before .fits .value) at (c .if1 .taken))
 
@@ -70,7 +67,7 @@ returns c = simp (toZ-ofZ, c .before .fits .value, flips-at c .near, flips-at c 
 cast-result-2 : tie.Need-cast-result-2
 cast-result-2 c =
     simp (toZ-ofZ, c .before .fits .value)
-    (upward _ (c .before .fits .value) (simp (toZ-ofZ, c .before .fits .value) at (c .if1 .left)))
+    (natAbs-fits _ (c .before .fits .value) (simp (toZ-ofZ, c .before .fits .value) at (c .if1 .left)))
 
 returns-2 : tie.Need-returns-2
 returns-2 c = search needs

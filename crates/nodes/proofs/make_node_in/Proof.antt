@@ -12,8 +12,8 @@ height-in-requires c κs = search needs
 height-in-requires-2 : tie.Need-height-in-requires-2
 height-in-requires-2 c κs = search needs
 
-taller-requires : tie.Need-taller-requires
-taller-requires c κs = (
+height-over-requires : tie.Need-height-over-requires
+height-over-requires c κs = (
   omega (arith, height-read _ _ _ (c .before .before .before .height-in .ensures)),
   omega (arith, height-read _ _ _ (c .before .height-in2 .ensures)),
 )
@@ -27,7 +27,7 @@ same-length c = search needs
 returns : tie.Need-returns
 returns c =
     let heights = c .before .before .before .before in
-    raised (heights .before .before .height-in .ensures) (heights .height-in2 .ensures) (c .before .before .taller .ensures) (c .before .set-node .ensures)
+    raised (heights .before .before .height-in .ensures) (heights .height-in2 .ensures) (c .before .before .height-over .ensures) (c .before .set-node .ensures)
 
 pub make-node-in-spec : {M : Type 1} → statement M
 make-node-in-spec =
@@ -35,7 +35,7 @@ make-node-in-spec =
     (tie.spec
     height-in-requires
     height-in-requires-2
-    taller-requires
+    height-over-requires
     set-node-requires
     same-length
     returns)

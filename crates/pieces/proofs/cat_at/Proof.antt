@@ -1,6 +1,6 @@
 -- `pieces::cat_at` meets its contract.
 use Rattle.pieces.specs.Catting.{threaded-known, catted-right, catted-left, seamed-any, seamed}
-use Rattle.pieces.specs.LeastRate.{numerator-fits, denominator-fits}
+use Rattle.prices.specs.Prices.{bases-fit, rates-fit}
 use native.Mathlib.Omega.{arith}
 use lib.IntN.{pos, _-ℤ_}
 use mathlib.Core.Path.{_≡_, ap₂}
@@ -27,7 +27,7 @@ sub-numerator : tie.Need-sub-numerator
 sub-numerator c =
     let f : SFits w64 (c .base-in2 .result) = record { sfits = c .base-in2 .ok } in
     let g : SFits w64 (c .before .before .base-in .result) = record { sfits = c .before .before .base-in .ok } in
-    simp (toZ-ofZ, f, g) (numerator-fits _ _ _ _ _ (c .base-in2 .ensures) (c .before .before .base-in .ensures))
+    simp (toZ-ofZ, f, g) (bases-fit _ _ _ (c .before .before .base-in .ensures) (c .base-in2 .ensures))
 
 rate-in-requires : tie.Need-rate-in-requires
 rate-in-requires c κs = search needs
@@ -39,7 +39,7 @@ sub-denominator : tie.Need-sub-denominator
 sub-denominator c =
     let f : SFits w64 (c .before .before .rate-in .result) = record { sfits = c .before .before .rate-in .ok } in
     let g : SFits w64 (c .rate-in2 .result) = record { sfits = c .rate-in2 .ok } in
-    simp (toZ-ofZ, f, g) (denominator-fits _ _ _ _ _ (c .before .before .rate-in .ensures) (c .rate-in2 .ensures))
+    simp (toZ-ofZ, f, g) (rates-fit _ _ _ (c .before .before .rate-in .ensures) (c .rate-in2 .ensures))
 
 cast-put-three-in : tie.Need-cast-put-three-in
 cast-put-three-in c = search needs
@@ -72,8 +72,8 @@ returns-3 c =
     let g : SFits w64 (base-n .base-in .result) = record { sfits = base-n .base-in .ok } in
     let f₂ : SFits w64 (rate-s .rate-in .result) = record { sfits = rate-s .rate-in .ok } in
     let g₂ : SFits w64 (rate-n .rate-in2 .result) = record { sfits = rate-n .rate-in2 .ok } in
-    let k = numerator-fits w (a .s) (a .n) _ _ (base-s .base-in2 .ensures) (base-n .base-in .ensures) in
-    let k₂ = denominator-fits w (a .s) (a .n) _ _ (rate-s .rate-in .ensures) (rate-n .rate-in2 .ensures) in
+    let k = bases-fit w (a .s) (a .n) (base-n .base-in .ensures) (base-s .base-in2 .ensures) in
+    let k₂ = rates-fit w (a .s) (a .n) (rate-s .rate-in .ensures) (rate-n .rate-in2 .ensures) in
     let vn : toZ w64 (a .n) ≡ pos (a .n) = toZ-pos w64 (omega (arith, entry .fits .n)) in
     seamed (both .before .if1 .left) (both .if2 .left) (ap₂ _-ℤ_ (base-n .base-in .ensures) (base-s .base-in2 .ensures))
     (ap₂ _-ℤ_ (rate-s .rate-in .ensures) (rate-n .rate-in2 .ensures)) (simp (toZ-ofZ, f, g, k, f₂, g₂, k₂, vn) at (written .put-three-in .ensures))

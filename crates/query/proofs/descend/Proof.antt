@@ -5,6 +5,7 @@ use native.Mathlib.Omega.{arith}
 use mir.Syntax.{w64}
 use mir.Val.{toZ}
 use mir.Facts.{toZ-ofZ}
+use Rattle.table.specs.Fields.{mostLevels}
 use Rattle.query.specs.Readings.{childOf}
 use Rattle.query.specs.Descent.{Ongoing, ongoing-start, ongoing-step, ongoing-leaf, ongoing-off, ongoing-limit}
 use borrow.Author.Needs.{needs}
@@ -19,7 +20,7 @@ abbrev Inv-loop : tie.InvT-loop
 Inv-loop part root load c x₀ probes₀ x probes = Ongoing part root (toZ w64 load) x probes
 
 abbrev μ-loop : tie.MeasureT-loop
-μ-loop part root load c x₀ probes₀ x probes = 24 - probes
+μ-loop part root load c x₀ probes₀ x probes = mostLevels - probes
 
 capacity-requires : tie.Need-capacity-requires Inv-loop μ-loop
 capacity-requires c κs = search needs

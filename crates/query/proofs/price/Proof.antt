@@ -1,19 +1,19 @@
 -- `query::price` meets its contract.
 use mathlib.Core.Path.{_≡_, _∙_, ap}
-use Prim.Native.Nat.{_+_, _≤_}
+use Prim.Native.Nat.{_+_}
 use native.Mathlib.Omega.{arith}
 use lib.ListN.{getD}
-use lib.IntN.{ℤ, pos, natAbs, _+ℤ_, _*ℤ_}
+use lib.IntN.{ℤ, pos, _+ℤ_, _*ℤ_}
 use mir.Syntax.{w64}
 use mir.Val.{SFits}
 use mir.Facts.{toZ-ofZ}
-use Rattle.integers.specs.Magnitude.{fits, natAbs-add}
+use Rattle.integers.specs.Magnitude.{fits}
 use Rattle.table.specs.Fields.{baseField, rateField}
 use Rattle.table.specs.Words.{Words}
 use Rattle.table.specs.Layout.{cell}
 use Rattle.table.specs.Cells.{placed}
 use Rattle.query.specs.Groups.{price-none, data-small, data-in, data-cell}
-use Rattle.query.specs.Readings.{clamped, clamped-size, clamped-product, priceIn}
+use Rattle.query.specs.Readings.{clamped, clamped-product, price-fits, priceIn}
 use borrow.Author.Needs.{needs}
 use Rattle.query.proofs.price.Statement.{statement}
 use Rattle.query.proofs.price.Tie as tie
@@ -22,12 +22,6 @@ use Rattle.query.proofs.price.Tie as tie
 module _ {b r l : ℤ} (x y q : ℤ) (eb : b ≡ clamped 1_000_000_000 x) (er : r ≡ clamped 100_000 y) (el : l ≡ clamped 1_000_000 q) where
   product-fits : SFits w64 (r *ℤ l)
   product-fits = fits _ (omega (arith, clamped-product 99_999 999_999 _ _ er el))
-
-  base-size : natAbs b ≤ 1_000_000_000
-  base-size = rw eb (clamped-size 999_999_999 x)
-
-  sum-fits : SFits w64 (b +ℤ r *ℤ l)
-  sum-fits = fits _ (omega (arith, natAbs-add b (r *ℤ l), base-size, clamped-product 99_999 999_999 _ _ er el))
 
   told : (w : Words) (s : _) → x ≡ cell w baseField s → y ≡ cell w rateField s → b +ℤ r *ℤ l ≡ priceIn w s q
   unfolding priceIn
@@ -61,7 +55,8 @@ mul-bounded c = omega (
 
 shared-slice-copy-out-bounded : tie.Need-shared-slice-copy-out-bounded
 shared-slice-copy-out-bounded c =
-    data-in _ _ _ (c .before .before .before .capacity .ensures) (c .before .before .if1 .left) (c .before .if2 .left) (c .address .ensures) 2 (omega arith)
+    let at-if1 = c .before .before in
+    data-in _ _ _ (at-if1 .before .capacity .ensures) (at-if1 .if1 .left) (c .before .if2 .left) (c .address .ensures) baseField (omega arith)
 
 bounded-requires : tie.Need-bounded-requires
 bounded-requires c κs = search needs
@@ -88,7 +83,7 @@ shared-slice-copy-out-bounded-2 c =
     let at-if2 = at-address .before in
     let at-if1 = at-if2 .before in
     let at-capacity = at-if1 .before in
-    data-in _ _ _ (at-capacity .capacity .ensures) (at-if1 .if1 .left) (at-if2 .if2 .left) (at-address .address .ensures) 1 (omega arith)
+    data-in _ _ _ (at-capacity .capacity .ensures) (at-if1 .if1 .left) (at-if2 .if2 .left) (at-address .address .ensures) rateField (omega arith)
 
 bounded-requires-2 : tie.Need-bounded-requires-2
 bounded-requires-2 c κs = search needs
@@ -108,7 +103,7 @@ add-result c =
     let r : SFits w64 (c .before .bounded2 .result) = record { sfits = c .before .bounded2 .ok } in
     let l : SFits w64 (c .bounded3 .result) = record { sfits = c .bounded3 .ok } in
     let p = product-fits _ _ _ (c .before .before .before .bounded .ensures) (c .before .bounded2 .ensures) (c .bounded3 .ensures) in
-    simp (toZ-ofZ, b, r, l, p) (sum-fits _ _ _ (c .before .before .before .bounded .ensures) (c .before .bounded2 .ensures) (c .bounded3 .ensures))
+    simp (toZ-ofZ, b, r, l, p) (price-fits _ _ _ (c .before .before .before .bounded .ensures) (c .before .bounded2 .ensures) (c .bounded3 .ensures))
 
 returns-3 : tie.Need-returns-3
 returns-3 c =
@@ -122,18 +117,18 @@ returns-3 c =
     let entry = at-capacity .before in
     let w = entry .args .part .now in
     let at = at-address .address .result in
-    let x : SFits w64 (getD w (at + 2) (pos 0)) = record { sfits = at-bounded-arg .bounded-arg .given } in
-    let y : SFits w64 (getD w (at + 1) (pos 0)) = record { sfits = at-bounded-arg2 .bounded-arg2 .given } in
+    let x : SFits w64 (getD w (at + baseField) (pos 0)) = record { sfits = at-bounded-arg .bounded-arg .given } in
+    let y : SFits w64 (getD w (at + rateField) (pos 0)) = record { sfits = at-bounded-arg2 .bounded-arg2 .given } in
     let b : SFits w64 (at-bounded .bounded .result) = record { sfits = at-bounded .bounded .ok } in
     let r : SFits w64 (c .before .bounded2 .result) = record { sfits = c .before .bounded2 .ok } in
     let l : SFits w64 (c .bounded3 .result) = record { sfits = c .bounded3 .ok } in
     let p = product-fits _ _ _ (at-bounded .bounded .ensures) (c .before .bounded2 .ensures) (c .bounded3 .ensures) in
-    let s = sum-fits _ _ _ (at-bounded .bounded .ensures) (c .before .bounded2 .ensures) (c .bounded3 .ensures) in
+    let s = price-fits _ _ _ (at-bounded .bounded .ensures) (c .before .bounded2 .ensures) (c .bounded3 .ensures) in
     simp (toZ-ofZ, b, r, l, p, s)
     (told _ _ _ (simp (toZ-ofZ, x) at (at-bounded .bounded .ensures)) (simp (toZ-ofZ, y) at (c .before .bounded2 .ensures))
     (simp (toZ-ofZ, entry .fits .load) at (c .bounded3 .ensures)) _ _
-    (data-cell _ _ _ (at-capacity .capacity .ensures) (at-if1 .if1 .left) (at-if2 .if2 .left) (at-address .address .ensures) 2 (omega arith))
-    (data-cell _ _ _ (at-capacity .capacity .ensures) (at-if1 .if1 .left) (at-if2 .if2 .left) (at-address .address .ensures) 1 (omega arith)))
+    (data-cell _ _ _ (at-capacity .capacity .ensures) (at-if1 .if1 .left) (at-if2 .if2 .left) (at-address .address .ensures) baseField (omega arith))
+    (data-cell _ _ _ (at-capacity .capacity .ensures) (at-if1 .if1 .left) (at-if2 .if2 .left) (at-address .address .ensures) rateField (omega arith)))
 
 pub price-spec : {M : Type 1} → statement M
 price-spec =

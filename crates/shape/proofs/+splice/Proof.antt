@@ -15,9 +15,9 @@ use Rattle.shape.proofs.above.Reads as above-reads
 use Rattle.shape.proofs.balance.Reads as balance-reads
 use Rattle.nodes.proofs.make_node.Reads as make-node-reads
 use Rattle.nodes.proofs.set_node.Reads as set-node-reads
-use Rattle.nodes.proofs.taller.Reads as taller-reads
 use Rattle.table.proofs.child_in.Reads as child-in-reads
 use Rattle.table.proofs.height_in.Reads as height-in-reads
+use Rattle.table.proofs.height_over.Reads as height-over-reads
 use Rattle.table.proofs.inner_slot.Reads as inner-slot-reads
 use Rattle.shape.proofs.+splice.{statement}
 use Rattle.shape.proofs.+splice.Tie.{close}
@@ -48,8 +48,8 @@ splice-claims t = (
   splice.Post,
   balance-reads.Asked,
   balance-reads.Learnt,
-  taller-reads.Asked,
-  taller-reads.Learnt,
+  height-over-reads.Asked,
+  height-over-reads.Learnt,
   set-node-reads.Asked,
   set-node-reads.Learnt,
 )
@@ -67,19 +67,27 @@ splice-height-in-requires : (t : ℕ) → splice-lts.Need-height-in-requires (sp
 splice-height-in-requires t c κs = c .before .before .pre .1
 
 splice-height-in-requires-2 : (t : ℕ) → splice-lts.Need-height-in-requires-2 (splice-claims t) (splice-at t) splice.Post
-splice-height-in-requires-2 t c κs = c .before .before .before .before .pre .1
+splice-height-in-requires-2 t c κs =
+    let at-height-in = c .before in
+    let entry = at-height-in .before .before .before in
+    entry .pre .1
 
 splice-above-requires : (t : ℕ) → splice-lts.Need-above-requires (splice-claims t) (splice-at t) splice.Post
 splice-above-requires t c κs = omega (arith, height-read _ _ _ (c .height-in2 .ensures))
 
 splice-child-in-requires : (t : ℕ) → splice-lts.Need-child-in-requires (splice-claims t) (splice-at t) splice.Post
 splice-child-in-requires t c κs =
-    let entry = c .before .before .before .before .before .before .before .before in
+    let at-above = c .before .before in
+    let at-height-in = at-above .before .before .before in
+    let entry = at-height-in .before .before .before in
     entry .pre .1
 
 splice-child-in-requires-2 : (t : ℕ) → splice-lts.Need-child-in-requires-2 (splice-claims t) (splice-at t) splice.Post
 splice-child-in-requires-2 t c κs =
-    let entry = c .before .before .before .before .before .before .before .before .before .before in
+    let at-child-in = c .before in
+    let at-above = at-child-in .before .before .before in
+    let at-height-in = at-above .before .before .before in
+    let entry = at-height-in .before .before .before in
     entry .pre .1
 
 splice-inner-slot-requires : (t : ℕ) → splice-lts.Need-inner-slot-requires (splice-claims t) (splice-at t) splice.Post
@@ -90,13 +98,21 @@ splice-sub-splice t c = omega arith
 
 splice-splice-requires : (t : ℕ) → splice-lts.Need-splice-requires (splice-claims t) (splice-at t) splice.Post
 splice-splice-requires t c κs =
-    let entry = c .before .before .before .before .before .before .before .before .before .before .before .before .before in
+    let at-inner-slot = c .before in
+    let at-child-in = at-inner-slot .before .before .before in
+    let at-above = at-child-in .before .before .before in
+    let at-height-in = at-above .before .before .before in
+    let entry = at-height-in .before .before .before in
     (omega (arith, entry .pre .0), entry .pre .1)
 
 splice-balance-requires : (t : ℕ) → splice-lts.Need-balance-requires (splice-claims t) (splice-at t) splice.Post
 splice-balance-requires t c κs =
     let at-splice = c .before .before in
-    let entry = at-splice .before .before .before .before .before .before .before .before .before .before .before .before .before .before in
+    let at-inner-slot = at-splice .before .before in
+    let at-child-in = at-inner-slot .before .before .before in
+    let at-above = at-child-in .before .before .before in
+    let at-height-in = at-above .before .before .before in
+    let entry = at-height-in .before .before .before in
     entry .pre .1 ∙ sym (within-cap (at-splice .splice .ensures .within))
 
 splice-same-length-2 : (t : ℕ) → splice-lts.Need-same-length-2 (splice-claims t) (splice-at t) splice.Post
@@ -117,15 +133,17 @@ splice-returns-2 t c =
     (at-child-in .child-in .ensures) (at-child-in2 .child-in2 .ensures) (at-inner-slot .inner-slot .ensures) (at-splice .splice .ensures)
     (at-balance .balance .ensures)
 
-splice-taller-requires : (t : ℕ) → splice-lts.Need-taller-requires (splice-claims t) (splice-at t) splice.Post
-splice-taller-requires t c κs =
+splice-height-over-requires : (t : ℕ) → splice-lts.Need-height-over-requires (splice-claims t) (splice-at t) splice.Post
+splice-height-over-requires t c κs =
     let at-height-in2 = c .before .before .before in
     let at-height-in = at-height-in2 .before .before in
     (omega (arith, height-read _ _ _ (at-height-in .height-in .ensures)), omega (arith, height-read _ _ _ (at-height-in2 .height-in2 .ensures)))
 
 splice-set-node-requires : (t : ℕ) → splice-lts.Need-set-node-requires (splice-claims t) (splice-at t) splice.Post
 splice-set-node-requires t c κs =
-    let entry = c .before .before .before .before .before .before .before .before .before in
+    let at-above = c .before .before .before in
+    let at-height-in = at-above .before .before .before in
+    let entry = at-height-in .before .before .before in
     entry .pre .1
 
 splice-same-length-3 : (t : ℕ) → splice-lts.Need-same-length-3 (splice-claims t) (splice-at t) splice.Post
@@ -134,13 +152,13 @@ splice-same-length-3 t c = search needs
 splice-returns-3 : (t : ℕ) → splice-lts.Need-returns-3 (splice-claims t) (splice-at t) splice.Post
 splice-returns-3 t c =
     let at-set-node = c .before in
-    let at-taller = at-set-node .before in
-    let at-if2 = at-taller .before .before in
+    let at-height-over = at-set-node .before in
+    let at-if2 = at-height-over .before .before in
     let at-above = at-if2 .before in
     let at-height-in2 = at-above .before in
     let at-height-in = at-height-in2 .before .before in
     spliced-low (towers-told _ _ _ _ (at-height-in .height-in .ensures) (at-height-in2 .height-in2 .ensures) (at-above .above .ensures)) (at-if2 .if2 .left)
-    (raised (at-height-in .height-in .ensures) (at-height-in2 .height-in2 .ensures) (at-taller .taller .ensures) (at-set-node .set-node .ensures))
+    (raised (at-height-in .height-in .ensures) (at-height-in2 .height-in2 .ensures) (at-height-over .height-over .ensures) (at-set-node .set-node .ensures))
 
 pub +splice-spec : {M : Type 1} → statement M
 +splice-spec = close μ-splice λ t. splice-lts.spec (
@@ -158,8 +176,8 @@ pub +splice-spec : {M : Type 1} → statement M
   splice.Post,
   balance-reads.Asked,
   balance-reads.Learnt,
-  taller-reads.Asked,
-  taller-reads.Learnt,
+  height-over-reads.Asked,
+  height-over-reads.Learnt,
   set-node-reads.Asked,
   set-node-reads.Learnt,
 )
@@ -179,7 +197,7 @@ pub +splice-spec : {M : Type 1} → statement M
     (splice-balance-requires t)
     (splice-same-length-2 t)
     (splice-returns-2 t)
-    (splice-taller-requires t)
+    (splice-height-over-requires t)
     (splice-set-node-requires t)
     (splice-same-length-3 t)
     (splice-returns-3 t)

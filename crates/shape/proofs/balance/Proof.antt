@@ -49,8 +49,8 @@ returns-2 c =
     balanced-other (at-height-in .height-in .ensures) (at-height-in2 .height-in2 .ensures) (at-if1 .if1 .left) (at-if2 .if2 .taken)
     (at-rotate2 .rotate2 .ensures)
 
-taller-requires : tie.Need-taller-requires
-taller-requires c κs =
+height-over-requires : tie.Need-height-over-requires
+height-over-requires c κs =
     let at-height-in2 = c .before .before .before in
     let at-height-in = at-height-in2 .before .before in
     (omega (arith, height-read _ _ _ (at-height-in .height-in .ensures)), omega (arith, height-read _ _ _ (at-height-in2 .height-in2 .ensures)))
@@ -64,13 +64,13 @@ same-length-3 c = search needs
 returns-3 : tie.Need-returns-3
 returns-3 c =
     let at-set-node = c .before in
-    let at-taller = at-set-node .before in
-    let at-if2 = at-taller .before .before in
+    let at-height-over = at-set-node .before in
+    let at-if2 = at-height-over .before .before in
     let at-if1 = at-if2 .before in
     let at-height-in2 = at-if1 .before in
     let at-height-in = at-height-in2 .before .before in
     balanced-level (at-height-in .height-in .ensures) (at-height-in2 .height-in2 .ensures) (at-if1 .if1 .left) (at-if2 .if2 .left)
-    (raised (at-height-in .height-in .ensures) (at-height-in2 .height-in2 .ensures) (at-taller .taller .ensures) (at-set-node .set-node .ensures))
+    (raised (at-height-in .height-in .ensures) (at-height-in2 .height-in2 .ensures) (at-height-over .height-over .ensures) (at-set-node .set-node .ensures))
 
 pub balance-spec : {M : Type 1} → statement M
 balance-spec =
@@ -86,7 +86,7 @@ balance-spec =
     rotate-requires-2
     same-length-2
     returns-2
-    taller-requires
+    height-over-requires
     set-node-requires
     same-length-3
     returns-3)

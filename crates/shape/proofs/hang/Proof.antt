@@ -14,7 +14,10 @@ same-length : tie.Need-same-length
 same-length c = search needs
 
 returns : tie.Need-returns
-returns c = rowed (c .before .before .before .before .make-node .ensures) (c .before .make-node2 .ensures)
+returns c =
+    let at-make-node2 = c .before in
+    let at-make-node = at-make-node2 .before .before .before in
+    rowed (at-make-node .make-node .ensures) (at-make-node2 .make-node2 .ensures)
 
 pub hang-spec : {M : Type 1} → statement M
 hang-spec = tie.close (tie.spec make-node-requires make-node-requires-2 same-length returns)

@@ -40,7 +40,10 @@ returns-3 c =
     (c .before .splice .ensures)
 
 above-requires-2 : tie.Need-above-requires-2
-above-requires-2 c κs = omega (arith, height-read _ _ _ (c .before .before .before .before .height-in .ensures))
+above-requires-2 c κs =
+    let at-above = c .before in
+    let at-height-in = at-above .before .before .before in
+    omega (arith, height-read _ _ _ (at-height-in .height-in .ensures))
 
 splice-requires-2 : tie.Need-splice-requires-2
 splice-requires-2 c κs = search needs
@@ -60,9 +63,10 @@ returns-4 c =
     (towers-told _ _ _ _ (other .height-in2 .ensures) (one .height-in .ensures) (right-towers .before .above2 .ensures)) (right-towers .if4 .taken)
     (c .before .splice2 .ensures)
 
-taller-requires : tie.Need-taller-requires
-taller-requires c κs =
-    let other = c .before .before .before .before .before in
+height-over-requires : tie.Need-height-over-requires
+height-over-requires c κs =
+    let at-above2 = c .before .before in
+    let other = at-above2 .before .before .before in
     (omega (arith, height-read _ _ _ (other .before .before .height-in .ensures)), omega (arith, height-read _ _ _ (other .height-in2 .ensures)))
 
 set-node-requires : tie.Need-set-node-requires
@@ -73,7 +77,8 @@ same-length-3 c = search needs
 
 returns-5 : tie.Need-returns-5
 returns-5 c =
-    let right-low = c .before .before .before .before in
+    let at-set-node = c .before in
+    let right-low = at-set-node .before .before .before in
     let left-low = right-low .before .before in
     let other = left-low .before .before in
     let one = other .before .before in
@@ -81,7 +86,7 @@ returns-5 c =
     merged-level (both .before .if1 .left) (both .if2 .left)
     (towers-told _ _ _ _ (one .height-in .ensures) (other .height-in2 .ensures) (left-low .before .above .ensures)) (left-low .if3 .left)
     (towers-told _ _ _ _ (other .height-in2 .ensures) (one .height-in .ensures) (right-low .before .above2 .ensures)) (right-low .if4 .left)
-    (raised (one .height-in .ensures) (other .height-in2 .ensures) (c .before .before .taller .ensures) (c .before .set-node .ensures))
+    (raised (one .height-in .ensures) (other .height-in2 .ensures) (at-set-node .before .height-over .ensures) (at-set-node .set-node .ensures))
 
 pub join-in-spec : {M : Type 1} → statement M
 join-in-spec =
@@ -99,7 +104,7 @@ join-in-spec =
     splice-requires-2
     same-length-2
     returns-4
-    taller-requires
+    height-over-requires
     set-node-requires
     same-length-3
     returns-5)

@@ -6,11 +6,9 @@ use native.Mathlib.Omega.{arith}
 use borrow.Author.Needs.{needs}
 use borrow.Author.Tests.{ltb-true}
 use lib.IntN.{ℤ, pos, negsuc, natAbs}
-use lib.Signed.{ltZ, nonNeg}
-use lib.Dec.{T}
-use mir.Val.{Fits, SFits}
-use mir.Syntax.{w64}
+use lib.Signed.{ltZ}
 use mir.Facts.{toZ-ofZ}
+use Rattle.integers.specs.Magnitude.{natAbs-fits}
 use Rattle.table.specs.Words.{upTo, upTo-in, upTo-over, upTo-below}
 use Rattle.table.proofs.up_to.Statement.{statement}
 use Rattle.table.proofs.up_to.Tie as tie
@@ -18,10 +16,6 @@ use Rattle.table.proofs.up_to.Tie as tie
 below : (most : ℕ) (z : ℤ) → ltZ z (pos 0) ≡ true → 0 ≡ upTo most z
 below most (pos n) e = absurd (omega (arith, ltb-true n 0 e))
 below most (negsuc n) e = sym (upTo-below most n)
-
-fits : (z : ℤ) → SFits w64 z → ltZ z (pos 0) ≡ false → T (nonNeg z) × Fits w64 (natAbs z)
-fits (pos n) f e = (tt, omega arith)
-fits (negsuc n) f e = absurd (true≢false e)
 
 over : (most : ℕ) (z : ℤ) → ltZ z (pos 0) ≡ false → most < natAbs z → 0 ≡ upTo most z
 over most (pos n) e h = sym (upTo-over most n h)
@@ -37,7 +31,7 @@ returns c = below _ _ (simp (toZ-ofZ, c .before .fits .value) at (c .if1 .taken)
 cast-number : tie.Need-cast-number
 cast-number c =
     simp (toZ-ofZ, c .before .fits .value)
-    (fits _ (c .before .fits .value) (simp (toZ-ofZ, c .before .fits .value) at (c .if1 .left)))
+    (natAbs-fits _ (c .before .fits .value) (simp (toZ-ofZ, c .before .fits .value) at (c .if1 .left)))
 
 returns-2 : tie.Need-returns-2
 returns-2 c = let f = c .before .before .fits .value in over _ _ (simp (toZ-ofZ, f) at (c .before .if1 .left)) (simp (toZ-ofZ, f) at (c .if2 .taken))

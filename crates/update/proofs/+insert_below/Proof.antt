@@ -80,8 +80,11 @@ insert-below-sub-insert-below t c = omega arith
 
 insert-below-insert-below-requires : (t : ℕ) → insert-below-lts.Need-insert-below-requires (claims t) (insert-below-at t) insert-below.Post
 insert-below-insert-below-requires t c κs =
-    let opened = c .before .before .before .before in
-    let entry = opened .before .before .before .before .before .before .before .before in
+    let at-off = c .before in
+    let opened = at-off .before .before .before in
+    let at-at-most = opened .before .before in
+    let at-if2 = at-at-most .before .before .before in
+    let entry = at-if2 .before .before .before in
     (omega (arith, entry .pre .0), tt)
 
 insert-below-rebuild-requires : (t : ℕ) → insert-below-lts.Need-rebuild-requires (claims t) (insert-below-at t) insert-below.Post
@@ -92,12 +95,14 @@ insert-below-same-length-2 t c = search needs
 
 insert-below-returns-3 : (t : ℕ) → insert-below-lts.Need-returns-3 (claims t) (insert-below-at t) insert-below.Post
 insert-below-returns-3 t c =
-    let below = c .before .before .before .before in
-    let opened = below .before .before .before .before .before in
+    let at-rebuild = c .before in
+    let below = at-rebuild .before .before .before in
+    let at-off = below .before .before in
+    let opened = at-off .before .before .before in
     let tested = opened .before .before in
     let slot = tested .before .before in
     inserted-step (slot .before .before .if1 .left) (slot .inner-slot .ensures) (tested .at-most .ensures) (opened .lower-on .ensures)
-    (below .insert-below .ensures) (c .before .rebuild .ensures)
+    (below .insert-below .ensures) (at-rebuild .rebuild .ensures)
 
 pub +insert-below-spec : {M : Type 1} → statement M
 +insert-below-spec =

@@ -77,8 +77,11 @@ remove-below-sub-remove-below t c = omega arith
 
 remove-below-remove-below-requires : (t : ℕ) → remove-below-lts.Need-remove-below-requires (claims t) (remove-below-at t) remove-below.Post
 remove-below-remove-below-requires t c κs =
-    let opened = c .before .before .before .before in
-    let entry = opened .before .before .before .before .before .before .before .before in
+    let at-off = c .before in
+    let opened = at-off .before .before .before in
+    let at-is-less = opened .before .before in
+    let at-if2 = at-is-less .before .before .before in
+    let entry = at-if2 .before .before .before in
     (omega (arith, entry .pre .0), tt)
 
 remove-below-same-length : (t : ℕ) → remove-below-lts.Need-same-length (claims t) (remove-below-at t) remove-below.Post
@@ -86,12 +89,14 @@ remove-below-same-length t c = search needs
 
 remove-below-returns-3 : (t : ℕ) → remove-below-lts.Need-returns-3 (claims t) (remove-below-at t) remove-below.Post
 remove-below-returns-3 t c =
-    let below = c .before .before .before .before in
-    let opened = below .before .before .before .before .before in
+    let at-if3 = c .before in
+    let below = at-if3 .before .before .before in
+    let at-off = below .before .before in
+    let opened = at-off .before .before .before in
     let tested = opened .before .before in
     let slot = tested .before .before in
     removed-emptied (slot .before .before .if1 .left) (slot .inner-slot .ensures) (tested .is-less .ensures) (opened .lower-on .ensures)
-    (below .remove-below .ensures) (c .before .if3 .taken)
+    (below .remove-below .ensures) (at-if3 .if3 .taken)
 
 remove-below-seam-after-requires : (t : ℕ) → remove-below-lts.Need-seam-after-requires (claims t) (remove-below-at t) remove-below.Post
 remove-below-seam-after-requires t c κs = search needs
@@ -107,7 +112,8 @@ remove-below-returns-4 t c =
     let sought = c .before .before .before in
     let left = sought .before .before in
     let below = left .before .before .before in
-    let opened = below .before .before .before .before .before in
+    let at-off = below .before .before in
+    let opened = at-off .before .before .before in
     let tested = opened .before .before in
     let slot = tested .before .before in
     removed-step (slot .before .before .if1 .left) (slot .inner-slot .ensures) (tested .is-less .ensures) (opened .lower-on .ensures)

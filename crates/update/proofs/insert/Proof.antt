@@ -1,4 +1,5 @@
 -- `update::insert` meets its contract.
+use Rattle.table.specs.Fields.{mostLevels}
 use Rattle.update.specs.Inserting.{inserted}
 use native.Mathlib.Omega.{arith}
 use borrow.Author.Needs.{needs}
@@ -12,7 +13,7 @@ same-length : tie.Need-same-length
 same-length c = search needs
 
 returns : tie.Need-returns
-returns c = inserted {limit = 24} (omega arith) (c .before .insert-below .ensures)
+returns c = inserted {limit = mostLevels} (omega arith) (c .before .insert-below .ensures)
 
 pub insert-spec : {M : Type 1} → statement M
 insert-spec = tie.close (tie.spec insert-below-requires same-length returns)

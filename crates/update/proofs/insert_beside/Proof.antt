@@ -14,8 +14,11 @@ same-length : tie.Need-same-length
 same-length c = search needs
 
 returns : tie.Need-returns
-returns c = λ limit single. inserted-back (c .before .before .before .before .at-most .ensures) (c .before .before .before .if1 .taken) single
-    (c .before .raise .ensures)
+returns c =
+    let at-raise = c .before in
+    let at-at-most = at-raise .before .before .before in
+    λ limit single. inserted-back (at-at-most .at-most .ensures) (at-raise .before .before .if1 .taken) single
+    (at-raise .raise .ensures)
 
 raise-requires-2 : tie.Need-raise-requires-2
 raise-requires-2 c κs = search needs
@@ -24,8 +27,11 @@ same-length-2 : tie.Need-same-length-2
 same-length-2 c = search needs
 
 returns-2 : tie.Need-returns-2
-returns-2 c = λ limit single. inserted-front (c .before .before .before .before .at-most .ensures) (c .before .before .before .if1 .left) single
-    (c .before .raise2 .ensures)
+returns-2 c =
+    let at-raise2 = c .before in
+    let at-at-most = at-raise2 .before .before .before in
+    λ limit single. inserted-front (at-at-most .at-most .ensures) (at-raise2 .before .before .if1 .left) single
+    (at-raise2 .raise2 .ensures)
 
 pub insert-beside-spec : {M : Type 1} → statement M
 insert-beside-spec =

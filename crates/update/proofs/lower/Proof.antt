@@ -29,27 +29,39 @@ cut-in-requires c κs = search needs
 rest-in-requires : tie.Need-rest-in-requires
 rest-in-requires c κs =
     let severed = c .before .before in
-    let known = severed .before .before .before .before .before .before .before .before .before in
+    let at-get-in-arg = severed .before .before .before in
+    let at-child-in-arg2 = at-get-in-arg .before .before .before in
+    let known = at-child-in-arg2 .before .before .before in
     still-known (known .capacity .ensures) (severed .cut-in .ensures .within)
 
 rest-in-requires-2 : tie.Need-rest-in-requires-2
 rest-in-requires-2 c κs =
-    let severed = c .before .before .before .before in
-    let known = severed .before .before .before .before .before .before .before .before .before in
+    let at-rest-in = c .before in
+    let severed = at-rest-in .before .before .before in
+    let at-get-in-arg = severed .before .before .before in
+    let at-child-in-arg2 = at-get-in-arg .before .before .before in
+    let known = at-child-in-arg2 .before .before .before in
     still-known (known .capacity .ensures) (severed .cut-in .ensures .within)
 
 put-behind-requires : tie.Need-put-behind-requires
 put-behind-requires c κs =
-    let at-before = c .before .before .before .before .before in
+    let at-rest-in = c .before .before .before in
+    let at-before = at-rest-in .before .before in
     let severed = at-before .before in
-    let known = severed .before .before .before .before .before .before .before .before .before in
+    let at-get-in-arg = severed .before .before .before in
+    let at-child-in-arg2 = at-get-in-arg .before .before .before in
+    let known = at-child-in-arg2 .before .before .before in
     still-known (known .capacity .ensures) (severed .cut-in .ensures .within)
 
 put-in-front-requires : tie.Need-put-in-front-requires
 put-in-front-requires c κs =
     let left = c .before .before in
-    let severed = left .before .before .before .before .before .before .before in
-    let known = severed .before .before .before .before .before .before .before .before .before in
+    let at-rest-in2 = left .before .before in
+    let at-rest-in = at-rest-in2 .before .before in
+    let severed = at-rest-in .before .before .before in
+    let at-get-in-arg = severed .before .before .before in
+    let at-child-in-arg2 = at-get-in-arg .before .before .before in
+    let known = at-child-in-arg2 .before .before .before in
     still-known (still-known (known .capacity .ensures) (severed .cut-in .ensures .within)) (left .put-behind .ensures .within)
 
 same-length : tie.Need-same-length
@@ -57,7 +69,8 @@ same-length c = search needs
 
 returns : tie.Need-returns
 returns c =
-    let left-put = c .before .before .before .before in
+    let at-put-in-front = c .before in
+    let left-put = at-put-in-front .before .before .before in
     let right-rest = left-put .before .before in
     let left-rest = right-rest .before .before in
     let severed = left-rest .before .before .before in
@@ -68,7 +81,7 @@ returns c =
     let f : SFits w64 (rated .get-in .result) = record { sfits = rated .get-in .ok } in
     lowered (left .child-in .ensures) (right .child-in2 .ensures) (slot .inner-slot .ensures) (rated .get-in .ensures)
     (simp (toZ-ofZ, f) at (severed .cut-in .ensures)) (left-rest .rest-in .ensures) (right-rest .rest-in2 .ensures) (left-put .put-behind .ensures)
-    (c .before .put-in-front .ensures)
+    (at-put-in-front .put-in-front .ensures)
 
 pub lower-spec : {M : Type 1} → statement M
 lower-spec =

@@ -1,5 +1,6 @@
 -- `update::raise` meets its contract.
 use Prim.Native.Nat.{_+_}
+use Rattle.table.specs.Fields.{pieceTree}
 use Rattle.table.specs.Rep.{height-read}
 use Rattle.descents.specs.Cuts.{still-known}
 use Rattle.update.specs.CodeSteps.{still-put}
@@ -27,8 +28,13 @@ height-in-requires-2 c κs = search needs
 add-h : tie.Need-add-h
 add-h c =
     let left = c .before .before in
-    let entry = left .before .before .before .before .before .before in
-    omega (arith, height-read _ 0 (entry .args .l .envelope) (left .height-in .ensures), height-read _ 0 (entry .args .r .envelope) (c .height-in2 .ensures))
+    let at-meet-in-arg = left .before .before .before in
+    let entry = at-meet-in-arg .before .before .before in
+    omega (
+      arith,
+      height-read _ pieceTree (entry .args .l .envelope) (left .height-in .ensures),
+      height-read _ pieceTree (entry .args .r .envelope) (c .height-in2 .ensures),
+    )
 
 cut-behind-requires : tie.Need-cut-behind-requires
 cut-behind-requires c κs = search needs
@@ -36,14 +42,18 @@ cut-behind-requires c κs = search needs
 cut-before-requires : tie.Need-cut-before-requires
 cut-before-requires c κs =
     let left-cut = c .before .before in
-    let known = left-cut .before .before .before .before .before .before .before .before in
+    let at-height-in2 = left-cut .before .before in
+    let at-height-in-arg = at-height-in2 .before .before .before in
+    let known = at-height-in-arg .before .before .before in
     still-known (known .capacity .ensures) (left-cut .cut-behind .ensures .within)
 
 set-rest-requires : tie.Need-set-rest-requires
 set-rest-requires c κs =
     let right-cut = c .before .before in
     let left-cut = right-cut .before .before .before in
-    let known = left-cut .before .before .before .before .before .before .before .before in
+    let at-height-in2 = left-cut .before .before in
+    let at-height-in-arg = at-height-in2 .before .before .before in
+    let known = at-height-in-arg .before .before .before in
     still-known (still-known (known .capacity .ensures) (left-cut .cut-behind .ensures .within)) (right-cut .cut-before .ensures .within)
 
 set-rest-requires-2 : tie.Need-set-rest-requires-2
@@ -51,7 +61,9 @@ set-rest-requires-2 c κs =
     let left-kept = c .before .before in
     let right-cut = left-kept .before .before .before in
     let left-cut = right-cut .before .before .before in
-    let known = left-cut .before .before .before .before .before .before .before .before in
+    let at-height-in2 = left-cut .before .before in
+    let at-height-in-arg = at-height-in2 .before .before .before in
+    let known = at-height-in-arg .before .before .before in
     let after-cuts = still-known (still-known (known .capacity .ensures) (left-cut .cut-behind .ensures .within)) (right-cut .cut-before .ensures .within) in
     still-known (after-cuts) (rest-within (left-kept .set-rest .ensures))
 
@@ -61,7 +73,9 @@ make-node-in-requires c κs =
     let left-kept = right-kept .before .before .before in
     let right-cut = left-kept .before .before .before in
     let left-cut = right-cut .before .before .before in
-    let known = left-cut .before .before .before .before .before .before .before .before in
+    let at-height-in2 = left-cut .before .before in
+    let at-height-in-arg = at-height-in2 .before .before .before in
+    let known = at-height-in-arg .before .before .before in
     let after-cuts = still-known (still-known (known .capacity .ensures) (left-cut .cut-behind .ensures .within)) (right-cut .cut-before .ensures .within) in
     still-known (still-known (after-cuts) (rest-within (left-kept .set-rest .ensures))) (rest-within (right-kept .set-rest2 .ensures))
 
@@ -72,7 +86,9 @@ put-link-in-requires c κs =
     let left-kept = right-kept .before .before .before in
     let right-cut = left-kept .before .before .before in
     let left-cut = right-cut .before .before .before in
-    let known = left-cut .before .before .before .before .before .before .before .before in
+    let at-height-in2 = left-cut .before .before in
+    let at-height-in-arg = at-height-in2 .before .before .before in
+    let known = at-height-in-arg .before .before .before in
     let after-cuts = still-known (still-known (known .capacity .ensures) (left-cut .cut-behind .ensures .within)) (right-cut .cut-before .ensures .within) in
     let after-rests = still-known (still-known (after-cuts) (rest-within (left-kept .set-rest .ensures))) (rest-within (right-kept .set-rest2 .ensures)) in
     still-known (after-rests) (made .make-node-in .ensures .within)
@@ -85,7 +101,9 @@ put-link-in-requires-2 c κs =
     let left-kept = right-kept .before .before .before in
     let right-cut = left-kept .before .before .before in
     let left-cut = right-cut .before .before .before in
-    let known = left-cut .before .before .before .before .before .before .before .before in
+    let at-height-in2 = left-cut .before .before in
+    let at-height-in-arg = at-height-in2 .before .before .before in
+    let known = at-height-in-arg .before .before .before in
     let after-cuts = still-known (still-known (known .capacity .ensures) (left-cut .cut-behind .ensures .within)) (right-cut .cut-before .ensures .within) in
     let after-rests = still-known (still-known (after-cuts) (rest-within (left-kept .set-rest .ensures))) (rest-within (right-kept .set-rest2 .ensures)) in
     still-put _ _ _ _ (still-known (after-rests) (made .make-node-in .ensures .within)) (linked-u .put-link-in .ensures)
@@ -99,7 +117,9 @@ cat-at-requires c κs =
     let left-kept = right-kept .before .before .before in
     let right-cut = left-kept .before .before .before in
     let left-cut = right-cut .before .before .before in
-    let known = left-cut .before .before .before .before .before .before .before .before in
+    let at-height-in2 = left-cut .before .before in
+    let at-height-in-arg = at-height-in2 .before .before .before in
+    let known = at-height-in-arg .before .before .before in
     let after-cuts = still-known (still-known (known .capacity .ensures) (left-cut .cut-behind .ensures .within)) (right-cut .cut-before .ensures .within) in
     let after-rests = still-known (still-known (after-cuts) (rest-within (left-kept .set-rest .ensures))) (rest-within (right-kept .set-rest2 .ensures)) in
     let after-u = still-put _ _ _ _ (still-known (after-rests) (made .make-node-in .ensures .within)) (linked-u .put-link-in .ensures) in
@@ -107,19 +127,21 @@ cat-at-requires c κs =
 
 same-length : tie.Need-same-length
 same-length c =
-    let linked-v = c .before .before .before .before in
+    let at-cat-at = c .before in
+    let linked-v = at-cat-at .before .before .before in
     let linked-u = linked-v .before .before .before in
     let made = linked-u .before .before .before in
     let right-kept = made .before .before .before in
     let left-kept = right-kept .before .before .before in
     let right-cut = left-kept .before .before .before in
     let left-cut = right-cut .before .before .before in
-    c .before .cat-at .kept .0 ∙ linked-v .put-link-in2 .kept .0 ∙ linked-u .put-link-in .kept .0 ∙ made .make-node-in .kept .0
+    at-cat-at .cat-at .kept .0 ∙ linked-v .put-link-in2 .kept .0 ∙ linked-u .put-link-in .kept .0 ∙ made .make-node-in .kept .0
     ∙ right-kept .set-rest2 .kept .0 ∙ left-kept .set-rest .kept .0 ∙ right-cut .cut-before .kept .0 ∙ left-cut .cut-behind .kept .0
 
 returns : tie.Need-returns
 returns c =
-    let linked-v = c .before .before .before .before in
+    let at-cat-at = c .before in
+    let linked-v = at-cat-at .before .before .before in
     let linked-u = linked-v .before .before .before in
     let made = linked-u .before .before .before in
     let right-kept = made .before .before .before in
@@ -131,7 +153,7 @@ returns c =
     let met = tall-left .before .before in
     raised refl (met-in (met .meet-in .ensures)) (ap₂ _+_ (tall-left .height-in .ensures) (tall-right .height-in2 .ensures))
     (left-cut .cut-behind .ensures) (right-cut .cut-before .ensures) (left-kept .set-rest .ensures) (right-kept .set-rest2 .ensures)
-    (made .make-node-in .ensures) (linked-u .put-link-in .ensures) (linked-v .put-link-in2 .ensures) (c .before .cat-at .ensures)
+    (made .make-node-in .ensures) (linked-u .put-link-in .ensures) (linked-v .put-link-in2 .ensures) (at-cat-at .cat-at .ensures)
 
 pub raise-spec : {M : Type 1} → statement M
 raise-spec =

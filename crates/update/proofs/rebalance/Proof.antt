@@ -1,5 +1,6 @@
 -- `update::rebalance` meets its contract.
 use native.Mathlib.Omega.{arith}
+use Rattle.table.specs.Fields.{offerTree}
 use Rattle.table.specs.Rep.{height-read}
 use Rattle.shape.specs.Splices.{towers-told}
 use Rattle.update.specs.CodeSteps.{tall-left, tall-right, none-tall}
@@ -18,8 +19,9 @@ height-in-requires-2 c κs = search needs
 
 above-requires : tie.Need-above-requires
 above-requires c κs =
-    let entry = c .before .before .before .before .before .before in
-    omega (arith, height-read _ 1 (entry .args .r .tree) (c .height-in2 .ensures))
+    let at-height-in-arg = c .before .before .before in
+    let entry = at-height-in-arg .before .before .before in
+    omega (arith, height-read _ offerTree (entry .args .r .tree) (c .height-in2 .ensures))
 
 rotate-requires : tie.Need-rotate-requires
 rotate-requires c κs = search needs
@@ -29,18 +31,25 @@ same-length c = search needs
 
 returns : tie.Need-returns
 returns c =
-    let right = c .before .before .before .before .before in
+    let at-rotate = c .before in
+    let at-above = at-rotate .before .before .before in
+    let right = at-above .before in
     let left = right .before .before in
-    let a = left .before .before .before .before .args in
+    let at-capacity = left .before .before in
+    let entry = at-capacity .before .before in
+    let a = entry .args in
     let l = a .l .tree in
     let r = a .r .tree in
-    tall-left (towers-told _ 1 l r (left .height-in .ensures) (right .height-in2 .ensures) (c .before .before .before .before .above .ensures))
-    (c .before .before .before .if1 .taken) (c .before .rotate .ensures)
+    tall-left (towers-told _ offerTree l r (left .height-in .ensures) (right .height-in2 .ensures) (at-above .above .ensures))
+    (at-rotate .before .before .if1 .taken) (at-rotate .rotate .ensures)
 
 above-requires-2 : tie.Need-above-requires-2
 above-requires-2 c κs =
-    let left = c .before .before .before .before in
-    omega (arith, height-read _ 1 (left .before .before .before .before .args .l .tree) (left .height-in .ensures))
+    let at-above = c .before in
+    let left = at-above .before .before .before in
+    let at-capacity = left .before .before in
+    let entry = at-capacity .before .before in
+    omega (arith, height-read _ offerTree (entry .args .l .tree) (left .height-in .ensures))
 
 rotate-requires-2 : tie.Need-rotate-requires-2
 rotate-requires-2 c κs = search needs
@@ -56,10 +65,12 @@ returns-2 c =
     let at-before = at-above2 .before .before in
     let right = at-before .before in
     let left = right .before .before in
-    let a = left .before .before .before .before .args in
+    let at-capacity = left .before .before in
+    let entry = at-capacity .before .before in
+    let a = entry .args in
     let l = a .l .tree in
     let r = a .r .tree in
-    tall-right (towers-told _ 1 r l (right .height-in2 .ensures) (left .height-in .ensures) (at-above2 .above2 .ensures))
+    tall-right (towers-told _ offerTree r l (right .height-in2 .ensures) (left .height-in .ensures) (at-above2 .above2 .ensures))
     (at-if2 .if2 .taken) (at-rotate2 .rotate2 .ensures)
 
 raise-requires : tie.Need-raise-requires
@@ -74,11 +85,13 @@ returns-3 c =
     let left-low = right-low .before .before in
     let right = left-low .before .before in
     let left = right .before .before in
-    let a = left .before .before .before .before .args in
+    let at-capacity = left .before .before in
+    let entry = at-capacity .before .before in
+    let a = entry .args in
     let l = a .l .tree in
     let r = a .r .tree in
-    none-tall (towers-told _ 1 l r (left .height-in .ensures) (right .height-in2 .ensures) (left-low .before .above .ensures)) (left-low .if1 .left)
-    (towers-told _ 1 r l (right .height-in2 .ensures) (left .height-in .ensures) (right-low .before .above2 .ensures)) (right-low .if2 .left)
+    none-tall (towers-told _ offerTree l r (left .height-in .ensures) (right .height-in2 .ensures) (left-low .before .above .ensures)) (left-low .if1 .left)
+    (towers-told _ offerTree r l (right .height-in2 .ensures) (left .height-in .ensures) (right-low .before .above2 .ensures)) (right-low .if2 .left)
     (c .before .raise .ensures)
 
 pub rebalance-spec : {M : Type 1} → statement M

@@ -30,19 +30,27 @@ sum-requires c κs = search needs
 same-length : tie.Need-same-length
 same-length c =
     let far = c .before .before .before in
-    let near = far .before .before .before .before in
-    let slot = near .before .before .before .before .before .before .before in
-    far .raise-on2 .kept .0 ∙ near .raise-on .kept .0 ∙ slot .before .before .before .before .lower-on .kept .0
+    let at-near = far .before .before in
+    let near = at-near .before .before in
+    let at-if1 = near .before .before in
+    let at-height = at-if1 .before .before .before in
+    let slot = at-height .before .before in
+    let at-off = slot .before in
+    let at-lower-on = at-off .before .before .before in
+    far .raise-on2 .kept .0 ∙ near .raise-on .kept .0 ∙ at-lower-on .lower-on .kept .0
 
 returns : tie.Need-returns
 returns c =
     let far = c .before .before .before in
-    let near = far .before .before .before .before in
+    let at-near = far .before .before in
+    let near = at-near .before .before in
     let tested = near .before .before in
     let tall-on = tested .before in
     let tall-off = tall-on .before .before in
     let slot = tall-off .before .before in
-    rotated-once (slot .before .before .before .before .lower-on .ensures)
+    let at-off = slot .before in
+    let at-lower-on = at-off .before .before .before in
+    rotated-once (at-lower-on .lower-on .ensures)
     (read-le (tall-off .height .ensures) (tall-on .height2 .ensures) (tested .if1 .taken))
     (near .raise-on .ensures) (slot .inner-slot .ensures) (far .raise-on2 .ensures) (c .sum .ensures)
 
@@ -67,24 +75,34 @@ sum-three-requires c κs = search needs
 same-length-2 : tie.Need-same-length-2
 same-length-2 c =
     let far = c .before .before .before in
-    let second = far .before .before .before .before .before .before in
+    let at-near2 = far .before .before .before in
+    let second = at-near2 .before .before .before in
     let first = second .before .before .before in
-    let inner = first .before .before .before .before .before in
-    let slot = inner .before .before .before .before .before .before .before in
+    let at-second = first .before .before in
+    let inner = at-second .before .before .before in
+    let at-if1 = inner .before .before in
+    let at-height = at-if1 .before .before .before in
+    let slot = at-height .before .before in
+    let at-off = slot .before in
+    let at-lower-on = at-off .before .before .before in
     far .raise-on5 .kept .0 ∙ second .raise-on4 .kept .0 ∙ first .raise-on3 .kept .0 ∙ inner .lower-on2 .kept .0
-    ∙ slot .before .before .before .before .lower-on .kept .0
+    ∙ at-lower-on .lower-on .kept .0
 
 returns-2 : tie.Need-returns-2
 returns-2 c =
     let far = c .before .before .before in
-    let second = far .before .before .before .before .before .before in
+    let at-near2 = far .before .before .before in
+    let second = at-near2 .before .before .before in
     let first = second .before .before .before in
-    let inner = first .before .before .before .before .before in
+    let at-second = first .before .before in
+    let inner = at-second .before .before .before in
     let tested = inner .before .before in
     let tall-on = tested .before in
     let tall-off = tall-on .before .before in
     let slot = tall-off .before .before in
-    rotated-twice (slot .before .before .before .before .lower-on .ensures)
+    let at-off = slot .before in
+    let at-lower-on = at-off .before .before .before in
+    rotated-twice (at-lower-on .lower-on .ensures)
     (read-lt (tall-on .height2 .ensures) (tall-off .height .ensures) (tested .if1 .left))
     (inner .lower-on2 .ensures) (slot .inner-slot .ensures) (first .raise-on3 .ensures) (second .raise-on4 .ensures) (far .before .inner-slot2 .ensures)
     (far .raise-on5 .ensures) (c .sum-three .ensures)

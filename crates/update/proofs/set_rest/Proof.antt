@@ -23,7 +23,10 @@ same-length-2 : tie.Need-same-length-2
 same-length-2 c = search needs
 
 returns-2 : tie.Need-returns-2
-returns-2 c = set-of-inner (c .before .before .before .before .if1 .left) (c .before .before .inner-slot .ensures) (c .before .put-link-in2 .ensures)
+returns-2 c =
+    let at-put-link-in2 = c .before in
+    let at-if1 = at-put-link-in2 .before .before .before in
+    set-of-inner (at-if1 .if1 .left) (at-put-link-in2 .before .inner-slot .ensures) (at-put-link-in2 .put-link-in2 .ensures)
 
 pub set-rest-spec : {M : Type 1} → statement M
 set-rest-spec =
