@@ -5,7 +5,7 @@ ghost use Rattle.table.specs.Layout.{cap};
 ghost use Rattle.walks.specs.CodeMoves.{topIn, pointWord};
 ghost use Rattle.walks.specs.Actions.{Retreats, Advances, Pops, Acts, sided};
 
-// A walk pushes a node for each level of its tree at most.
+// A walk pushes a node for each level of its tree at most, so that stacks of 24 suffice.
 pub const STACK: usize = table::MOST_LEVELS as usize;
 
 // What a walk does in a step.
