@@ -28,13 +28,13 @@ use Rattle.promises.specs.declared.Listed.the-variants.{Pieces, Declined as Lis
 use Rattle.promises.specs.Promises.{partOf, updateAnswer, foundAnswer, listingAnswer}
 use Rattle.promises.specs.Numbered.{numbered}
 use Rattle.meet_books.specs.declared.Met.{Met}
-use Rattle.meet_books.specs.Promises.{meetTrials, meetAnswer, Found as MeetsAt}
-use Rattle.chart.specs.Promises.{told as markTold, plainMark}
-use Rattle.vouchers.specs.VoucherTold.{told as voucherTold, due}
-use Rattle.reading.specs.Promises.{told as pieceTold, pieceOf as handedOf, listedAt, rootPieces, PlaceOf, at-piece, past-last, Before}
+use Rattle.meet_books.specs.Promises.{meetTrials, Found as MeetsAt}
+use Rattle.chart.specs.Promises.{plainMark}
+use Rattle.vouchers.specs.VoucherTold.{due}
+use Rattle.reading.specs.Promises.{pieceOf as handedOf, listedAt, rootPieces, PlaceOf, at-piece, past-last, Before}
 use Rattle.reading.specs.PartReading.{none-past, listed-is}
 use Rattle.answers.specs.Promises.{refusal, updateNumber, foundNumber, listedNumber, meetNumber, markNumber, placeNumber, metOf, pieceOf, over}
-use Rattle.answers.specs.Promises.{Updated, Queried, Listing, MetBooks, MarkAsked, Vouchered, Begun, Step, Steps, Pieced, placeOf}
+use Rattle.answers.specs.Promises.{Updated, Queried, Listing, MetBooks, MarkAsked, Vouchered, Begun, Steps, Pieced, placeOf}
 
 -- an answer of the plain book as one number
 abbrev pub answerNumber : Answer → ℤ

@@ -15,10 +15,7 @@ use Rattle.promises.specs.declared.Update.{Update}
 use Rattle.promises.specs.declared.Found.{Found}
 use Rattle.promises.specs.declared.Listed.{Listed}
 use Rattle.promises.specs.Promises.{openingAnswer, updateTold, foundTold, listedTold, Opens, Updates, Queries, Lists, Checks}
-use Rattle.meet_books.specs.declared.Met.{Met}
 use Rattle.meet_books.specs.Promises.{MeetAnswer, refused, met, meetAnswer, MeetsBooks}
-use Rattle.marks.specs.MarkTold.{Told as MarkTold}
-use Rattle.chart.specs.declared.Marked.{Marked}
 use Rattle.chart.specs.Promises.{told as markTold, Marks}
 use Rattle.vouchers.specs.declared.Voucher.{Voucher}
 use Rattle.vouchers.specs.VoucherTold.{told as voucherTold, due}

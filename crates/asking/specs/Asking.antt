@@ -33,7 +33,7 @@ use Rattle.query.specs.Lookup.{lookup, lookup-leaf, LeafAt, leaf-mem}
 use Rattle.query.specs.QueriedPieces.{Pieces, price-kept}
 use Rattle.query.specs.Readings.{priceIn}
 use Rattle.query.specs.Descent.{Descended, Finds}
-use Rattle.query.specs.Plain.{lookup-plain, offerOf}
+use Rattle.query.specs.Plain.{lookup-plain}
 use Rattle.promises.specs.declared.Found.{Found}
 use Rattle.promises.specs.declared.Found.the-variants.{Offer, Declined}
 use Rattle.plain.specs.Book.{noBookAt}

@@ -14,7 +14,7 @@ use lib.Ieee.{Float, nan, inf, fin, Format, binary32, binary64, prec, emax, low,
 use lib.Ieee.Digits.{size-le}
 use lib.Ieee.Fits.{down-pos, round-fits, two}
 use lib.Ieee.Exact.{HasValue, round-exact}
-use lib.Ieee.Order.{drop, kept}
+use lib.Ieee.Order.{drop}
 use lib.Ieee.Scale.{round-same, grid, overflow, normal-of-fraction}
 use lib.Ieee.Back.{round-whole, whole-unique}
 use Rattle.lists.specs.Bools.{and-left, and-right}

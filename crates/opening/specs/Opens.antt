@@ -3,7 +3,7 @@ use mathlib.Core.Path.{_≡_, refl, sym, _∙_, ap, subst}
 use mathlib.Core.Bool.{Bool, true, false, not, _||_}
 use mathlib.Core.List.{List, _++_}
 use mathlib.Core.Option.{Option, none}
-use Prim.Native.Nat.{ℕ, suc, _+_, _*_, _-_, _≤_, _<_}
+use Prim.Native.Nat.{ℕ, suc, _-_, _≤_, _<_}
 use native.Mathlib.Omega.{arith}
 use lib.ListN.{length, take, drop}
 use lib.Dec.{T, ltb, lt→ltb}
@@ -54,11 +54,11 @@ module _ (c : ℤ) (start : ℕ) (t t′ : List ℤ) where
     pub capacity-span : (1 ≤ n) × (n ≤ mostSlots)
     capacity-span = let (p, q, r) = told-is c ranged in (omega (arith, is-capacity, q), omega (arith, is-capacity, r))
 
-    pub opens-cut : length t - start < 64 * (n + 1) → t′ ≡ t → Opens c start t t′ (Declined (pos 2))
+    pub opens-cut : length t - start < partLength n → t′ ≡ t → Opens c start t t′ (Declined (pos 2))
     opens-cut s et = opens-short e h (or-right (ltb (length t) start) (ltb (length t - start) (partLength (natAbs c)))
         (lt→ltb (length t - start) (partLength (natAbs c)) (omega (arith, s, is-capacity)))) et
 
-    pub opens-done : start ≤ length t → 64 * (n + 1) ≤ length t - start → (w′ : Words) → Starts n (take (length t - start) (drop start t)) w′ →
+    pub opens-done : start ≤ length t → partLength n ≤ length t - start → (w′ : Words) → Starts n (take (length t - start) (drop start t)) w′ →
         t′ ≡ take start t ++ (w′ ++ drop (length t - start) (drop start t)) → Opens c start t t′ Opened
     opens-done low room w′ g et =
         record {

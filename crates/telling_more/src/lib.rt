@@ -32,6 +32,11 @@ pub fn tell_met(m: meet_books::Met, met: &mut [i64]) -> i64
     }
 }
 
+// A mark's two answers.
+const OPEN_END: i64 = 0;
+
+const CROSSING: i64 = 1;
+
 // A mark's answer: 0 for an open end, whose rate goes into `mark`, and 1 for a crossing, whose load and price do.
 pub fn tell_mark(m: chart::Marked, mark: &mut [f64]) -> i64
     requires { ⌜ 2 ≤ length (now mark) ⌝ }
@@ -41,12 +46,12 @@ pub fn tell_mark(m: chart::Marked, mark: &mut [f64]) -> i64
         chart::Marked::Mark(shown) => match shown {
             marks::Mark::OpenEnd(rate) => {
                 mark[0] = rate;
-                0
+                OPEN_END
             }
             marks::Mark::Crossing(point) => {
                 mark[0] = point.load;
                 mark[1] = point.price;
-                1
+                CROSSING
             }
         },
         chart::Marked::Declined(cause) => below_zero(cause),

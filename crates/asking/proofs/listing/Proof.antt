@@ -35,11 +35,12 @@ same-length c = search needs
 
 returns-2 : tie.Need-returns-2
 returns-2 c =
-    let at-if1 = c .before .before .before .before in
+    let at-show = c .before in
+    let at-if1 = at-show .before .before .before in
     let at-no-book = at-if1 .before in
     let entry = at-no-book .before in
     listing-done (entry .args .start) (entry .args .table .now) (entry .args .out .now) (at-no-book .no-book .ensures) (at-if1 .if1 .left)
-    (c .before .show .ensures)
+    (at-show .show .ensures)
 
 pub listing-spec : {M : Type 1} → statement M
 listing-spec =

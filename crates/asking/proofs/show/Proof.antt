@@ -26,7 +26,10 @@ same-length : tie.Need-same-length
 same-length c = search needs
 
 returns : tie.Need-returns
-returns c = shown-short (c .before .before .before .before .envelope-root .ensures) (c .before .before .write .ensures) (c .if1 .taken)
+returns c =
+    let at-write = c .before .before in
+    let at-envelope-root = at-write .before .before in
+    shown-short (at-envelope-root .envelope-root .ensures) (at-write .write .ensures) (c .if1 .taken)
 
 cast-t11 : tie.Need-cast-t11
 cast-t11 c = search needs

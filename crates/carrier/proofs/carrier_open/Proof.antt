@@ -17,11 +17,12 @@ same-length c = search needs
 
 returns : tie.Need-returns
 returns c =
-    let s = c .before .before .before .before in
-    let o = c .before .before .«open» in
+    let at-open = c .before .before in
+    let entry = at-open .before .before in
+    let o = at-open .«open» in
     let t = c .opening-number in
     let r : SFits w64 (t .result) = record { sfits = t .ok } in
-    simp (toZ-ofZ, r) (record { opening = o .result; opens = simp (toZ-ofZ, s .fits .capacity) at (o .ensures); number = t .ensures })
+    simp (toZ-ofZ, r) (record { opening = o .result; opens = simp (toZ-ofZ, entry .fits .capacity) at (o .ensures); number = t .ensures })
 
 pub carrier-open-spec : {M : Type 1} → statement M
 carrier-open-spec = tie.close (tie.spec open-requires opening-number-requires same-length returns)

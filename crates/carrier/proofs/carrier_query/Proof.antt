@@ -21,12 +21,14 @@ same-length c = search needs
 
 returns-2 : tie.Need-returns-2
 returns-2 c =
-    let s = c .before .before .before .before .before in
-    let h = c .before .before .before .before .if1 .left in
-    let a = c .before .before .before .query in
-    let t = c .before .tell-found in
+    let at-tell-found = c .before in
+    let at-query = at-tell-found .before .before in
+    let at-if1 = at-query .before in
+    let entry = at-if1 .before in
+    let a = at-query .query in
+    let t = at-tell-found .tell-found in
     let r : SFits w64 (t .result) = record { sfits = t .ok } in
-    simp (toZ-ofZ, r) (lent-long _ _ _ _ h (a .result) (simp (toZ-ofZ, s .fits .load) at (a .ensures)) (t .ensures))
+    simp (toZ-ofZ, r) (lent-long _ _ _ _ (at-if1 .if1 .left) (a .result) (simp (toZ-ofZ, entry .fits .load) at (a .ensures)) (t .ensures))
 
 pub carrier-query-spec : {M : Type 1} → statement M
 carrier-query-spec =

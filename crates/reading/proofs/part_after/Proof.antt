@@ -20,8 +20,12 @@ link-requires : tie.Need-link-requires
 link-requires c κs = search needs
 
 returns-3 : tie.Need-returns-3
-returns-3 c = after-next (c .before .before .before .envelope-root .ensures) (c .before .before .end .ensures)
-    (c .before .before .before .before .if1 .left) (c .before .if2 .left) (c .link .ensures)
+returns-3 c =
+    let at-if2 = c .before in
+    let at-end = at-if2 .before in
+    let at-envelope-root = at-end .before in
+    let at-if1 = at-envelope-root .before in
+    after-next (at-envelope-root .envelope-root .ensures) (at-end .end .ensures) (at-if1 .if1 .left) (at-if2 .if2 .left) (c .link .ensures)
 
 pub part-after-spec : {M : Type 1} → statement M
 part-after-spec =
