@@ -32,6 +32,11 @@ pub(crate) fn put(os: &mut [i64; 192], i: usize, number: i64, rate: i64, base: i
     }
 }
 
+// Slot i as slot j of `from` is.
+pub(crate) fn copy(os: &mut [i64; 192], i: usize, from: &[i64; 192], j: usize) {
+    put(os, i, number(from, j), rate(from, j), base(from, j));
+}
+
 // The slot with that number, or 64; of number 0 the first vacant one.
 pub(crate) fn with_number(os: &[i64; 192], sought: i64) -> usize {
     for i in 0..64 {
@@ -40,6 +45,23 @@ pub(crate) fn with_number(os: &[i64; 192], sought: i64) -> usize {
         }
     }
     64
+}
+
+// Where no cause declines the call, an offer in place of the one with the number `old`; 0 is a vacant slot's.
+pub(crate) fn written(
+    os: [i64; 192],
+    cause: i64,
+    old: i64,
+    number: i64,
+    rate: i64,
+    base: i64,
+) -> [i64; 192] {
+    let mut after = os;
+    if cause == 0 {
+        let slot = with_number(&os, old);
+        put(&mut after, slot, number, rate, base);
+    }
+    after
 }
 
 // Some rate is from `low` to `high`.
