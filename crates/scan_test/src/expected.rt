@@ -2,56 +2,33 @@
 use crate::slots;
 
 fn is_outside(low: i64, high: i64, value: i64) -> bool {
-    if value < low {
-        return true;
-    }
-    high < value
+    (value < low) | (high < value)
+}
+
+// A cause where its test holds, or else what the later tests told: with no way through the code of its own, a test costs the checker less.
+fn cause(test: bool, cause: i64, later: i64) -> i64 {
+    if test { cause } else { later }
 }
 
 // The number of the cause for which a post is declined, or 0.
 pub(crate) fn post_cause(os: &[i64; 192], room: u32, number: i64, rate: i64, base: i64) -> i64 {
-    if is_outside(1, 9_999, number) {
-        return 4;
-    }
-    if is_outside(-100_000, 100_000, rate) {
-        return 4;
-    }
-    if is_outside(-1_000_000_000, 1_000_000_000, base) {
-        return 4;
-    }
-    if slots::with_number(os, number) < 64 {
-        return 5;
-    }
-    if slots::has_rate(os, rate, rate) {
-        return 6;
-    }
-    if room <= slots::count(os) {
-        return 7;
-    }
-    0
+    let full = cause(room <= slots::count(os), 7, 0);
+    let rate_live = cause(slots::has_rate(os, rate, rate), 6, full);
+    let number_live = cause(slots::with_number(os, number) < 64, 5, rate_live);
+    let outside = is_outside(-100_000, 100_000, rate)
+        | is_outside(-1_000_000_000, 1_000_000_000, base);
+    cause(is_outside(1, 9_999, number) | outside, 4, number_live)
 }
 
 pub(crate) fn withdraw_cause(os: &[i64; 192], number: i64) -> i64 {
-    if is_outside(1, 9_999, number) {
-        return 4;
-    }
-    if slots::with_number(os, number) < 64 {
-        return 0;
-    }
-    8
+    let unknown = cause(slots::with_number(os, number) > 63, 8, 0);
+    cause(is_outside(1, 9_999, number), 4, unknown)
 }
 
 pub(crate) fn query_cause(is_open: bool, os: &[i64; 192], load: i64) -> i64 {
-    if !is_open {
-        return 3;
-    }
-    if is_outside(-1_000_000, 1_000_000, load) {
-        return 4;
-    }
-    if slots::count(os) < 1 {
-        return 9;
-    }
-    0
+    let empty = cause(slots::count(os) < 1, 9, 0);
+    let outside = cause(is_outside(-1_000_000, 1_000_000, load), 4, empty);
+    cause(!is_open, 3, outside)
 }
 
 // ---- the pieces
@@ -136,19 +113,9 @@ pub(crate) fn both(l: &[i64; 192], r: &[i64; 192]) -> [i64; 192] {
 }
 
 pub(crate) fn meet_cause(are_open: bool, l: &[i64; 192], r: &[i64; 192]) -> i64 {
-    if !are_open {
-        return 3;
-    }
-    if slots::count(l) < 1 {
-        return 9;
-    }
-    if slots::count(r) < 1 {
-        return 9;
-    }
-    if slots::mixed(l, r) {
-        return 12;
-    }
-    0
+    let mixed = cause(slots::mixed(l, r), 12, 0);
+    let empty = cause((slots::count(l) < 1) | (slots::count(r) < 1), 9, mixed);
+    cause(!are_open, 3, empty)
 }
 
 // The last piece of the left that has a piece of the right behind it, or 64.

@@ -123,26 +123,38 @@ fn shrink(w: World, left: u32, right: u32) -> World {
 
 // ---- the runs
 
+fn say_byte(c: u8) {
+    let byte = [c];
+    io::write_all(STDOUT_FILENO, &byte);
+}
+
+// The name of a run, with its colon.
+fn say_name(n: u32) {
+    let names =
+        b"openings:offers that touch:one point:hidden offers:ends of the ranges:no rule:ties:capacity 1:full at 20:\
+        touching offers meet:hidden offers meet:ties meet:mixed rates:";
+    let mut k: u32 = 0;
+    for i in 0..167 {
+        let c = names[i];
+        if k == n {
+            say_byte(c);
+        }
+        k = std::num::wrapping_add_u32(k, (c == b':') as u32);
+    }
+}
+
 fn say(label: &[u8], n: u32) {
     io::write_all(STDOUT_FILENO, label);
     io::print_decimal(STDOUT_FILENO, n as u64);
 }
 
-fn summary(name: &[u8], t: Tally) {
-    io::write_all(STDOUT_FILENO, name);
-    say(b": calls ", t.calls);
+fn summary(t: Tally) {
+    say(b" calls ", t.calls);
     say(b", queries ", t.queries);
     say(b", listings ", t.listings);
     say(b", meetings ", t.meetings);
     say(b", differences ", t.differences);
-    io::write_all(STDOUT_FILENO, b"\n");
-}
-
-// Prints what was told, and begins anew.
-fn ended(name: &[u8], w: World) -> World {
-    summary(name, w.told);
-    let words = w.words;
-    world::begin(words)
+    say_byte(b'\n');
 }
 
 // A query where there is no book.
@@ -153,18 +165,18 @@ fn ask_nothing(w: World, start: usize) -> World {
 }
 
 // Openings that are declined, one that just fits, and queries where there is no book.
-fn run_openings(w: World, name: &[u8]) -> World {
+fn run_openings(w: World) -> World {
     let a = calls::open(w, 17, 0, 1);
     let b = calls::open(a, 7000, 4_097, 1);
     let c = calls::open(b, 17, 4_096, 2);
     let d = calls::open(c, 7000, 1, 2);
     let e = calls::open(d, 5873, 1, 2);
     let f = calls::open(ask_nothing(e, 5873), 5872, 1, 0);
-    ended(name, ask_nothing(f, 7000))
+    ask_nothing(f, 7000)
 }
 
 // A book of one kind: filled, half emptied, filled again and emptied.
-fn run(w: World, name: &[u8], kind: u32, room: u32) -> World {
+fn run(w: World, kind: u32, room: u32) -> World {
     let p = Place {
         start: 17,
         room: room,
@@ -172,11 +184,11 @@ fn run(w: World, name: &[u8], kind: u32, room: u32) -> World {
     };
     let a = fill(calls::open(w, 17, room as i64, 0), p);
     let b = drain(refusals(a, p), p, 15);
-    ended(name, drain(fill(b, p), p, 32))
+    drain(fill(b, p), p, 32)
 }
 
 // Two books in one table that meet: empty, one of them empty, in each way, and while both shrink.
-fn run_pair(w: World, name: &[u8], kind: u32) -> World {
+fn run_pair(w: World, kind: u32) -> World {
     let p = Place {
         start: 17,
         room: 32,
@@ -190,24 +202,33 @@ fn run_pair(w: World, name: &[u8], kind: u32) -> World {
     let a = calls::open(calls::open(w, 17, 32, 0), 3000, 30, 0);
     let b = meet(fill(meet(a), p));
     let c = world::swapped(fill(world::swapped(b), q));
-    ended(name, shrink(meet_all(c), kind, 6))
+    shrink(meet_all(c), kind, 6)
 }
 
-fn run_books(w: World) -> World {
-    let a = run(w, b"offers that touch", 0, 32);
-    let b = run(a, b"one point", 1, 32);
-    let c = run(b, b"hidden offers", 2, 32);
-    let d = run(c, b"ends of the ranges", 3, 32);
-    let e = run(d, b"no rule", 4, 40);
-    let f = run(e, b"ties", 5, 32);
-    let g = run(f, b"capacity 1", 5, 1);
-    run(g, b"full at 20", 4, 20)
+// Of each run the kind of its book, or of the first of its two, and the room of a book alone.
+const KINDS: [u32; 13] = [0, 0, 1, 2, 3, 4, 5, 5, 4, 0, 2, 5, 4];
+
+const ROOMS: [u32; 13] = [0, 32, 32, 32, 32, 40, 32, 1, 20, 0, 0, 0, 0];
+
+fn run_nth(w: World, n: u32) -> World {
+    let kind = KINDS[n as usize % 13];
+    let room = ROOMS[n as usize % 13];
+    if n < 1 {
+        return run_openings(w);
+    }
+    if n < 9 {
+        return run(w, kind, room);
+    }
+    run_pair(w, kind)
 }
 
 fn main() {
-    let a = run_openings(world::begin([5i64; 6000]), b"openings");
-    let b = run_pair(run_books(a), b"touching offers meet", 0);
-    let c = run_pair(b, b"hidden offers meet", 2);
-    let d = run_pair(c, b"ties meet", 5);
-    run_pair(d, b"mixed rates", 4);
+    let mut words = [5i64; 6000];
+    for n in 0..13u32 {
+        let w = run_nth(world::begin(words), n);
+        say_name(n);
+        summary(w.told);
+        let after = w.words;
+        words = after;
+    }
 }
