@@ -1,72 +1,69 @@
-// Each call on a book beside the same call on the plain array; what differs is counted.
+// Each call on a book beside the same call on the plain slots; what differs is counted.
 use crate::expected;
 use crate::slots;
-use crate::tally;
-use crate::tally::Tally;
+use crate::world;
+use crate::world::Place;
+use crate::world::Tally;
+use crate::world::World;
 
 // ---- open, post and withdraw
 
 // An opening that is to be declined for that cause; 0 for none.
-pub(crate) fn open(table: &mut [i64], start: usize, room: i64, cause: i64, t: Tally) -> Tally {
-    let same = match book::open(table, start, room) {
+pub(crate) fn open(w: World, start: usize, room: i64, cause: i64) -> World {
+    let mut v = w;
+    let mut words = w.words;
+    let same = match book::open(&mut words, start, room) {
         book::Opening::Opened => cause == 0,
-        book::Opening::Declined(c) => cause != 0 && c == cause,
+        book::Opening::Declined(c) => (cause != 0) & (c == cause),
     };
-    tally::counted(t, 0, 0, 0, same)
+    let told = world::counted(w.told, 0, 0, 0, same);
+    v.words = words;
+    v.told = told;
+    v
 }
 
-// Where no cause declines the call, writes an offer over the one with the number `old`; 0 is a vacant slot's.
-fn update(
-    os: &mut [i64; 192],
-    r: book::Update,
-    cause: i64,
-    old: i64,
-    number: i64,
-    rate: i64,
-    base: i64,
-    t: Tally,
-) -> Tally {
-    if cause == 0 {
-        let slot = slots::with_number(os, old);
-        slots::put(os, slot, number, rate, base);
-    }
-    let same = match r {
+// An update that is to be declined for that cause, or where it is 0 to leave so many offers live.
+fn is_same(r: book::Update, cause: i64, count: u32) -> bool {
+    match r {
         book::Update::Done {
             live,
             k: _,
             s: _,
             h: _,
-        } => cause == 0 && live == slots::count(os) as i64,
-        book::Update::Declined(c) => cause != 0 && c == cause,
-    };
-    tally::counted(t, 0, 0, 0, same)
+        } => (cause == 0) & (live == count as i64),
+        book::Update::Declined(c) => (cause != 0) & (c == cause),
+    }
 }
 
-pub(crate) fn post(
-    table: &mut [i64],
-    start: usize,
-    os: &mut [i64; 192],
-    room: u32,
-    number: i64,
-    rate: i64,
-    base: i64,
-    t: Tally,
-) -> Tally {
-    let cause = expected::post_cause(os, room, number, rate, base);
-    let r = book::post(table, start, number, rate, base);
-    update(os, r, cause, 0, number, rate, base, t)
+// The world after an update of its book: the words and slots that it left.
+fn updated(w: World, words: [i64; 6000], os: [i64; 192], r: book::Update, cause: i64) -> World {
+    let other = w.other;
+    let same = is_same(r, cause, slots::count(&os));
+    let told = world::counted(w.told, 0, 0, 0, same);
+    World {
+        words: words,
+        os: os,
+        other: other,
+        told: told,
+    }
 }
 
-pub(crate) fn withdraw(
-    table: &mut [i64],
-    start: usize,
-    os: &mut [i64; 192],
-    number: i64,
-    t: Tally,
-) -> Tally {
-    let cause = expected::withdraw_cause(os, number);
-    let r = book::withdraw(table, start, number);
-    update(os, r, cause, number, 0, 0, 0, t)
+pub(crate) fn post(w: World, p: Place, number: i64, rate: i64, base: i64) -> World {
+    let mut words = w.words;
+    let os = w.os;
+    let cause = expected::post_cause(&os, p.room, number, rate, base);
+    let r = book::post(&mut words, p.start, number, rate, base);
+    let after = slots::written(os, cause, 0, number, rate, base);
+    updated(w, words, after, r, cause)
+}
+
+pub(crate) fn withdraw(w: World, start: usize, number: i64) -> World {
+    let mut words = w.words;
+    let os = w.os;
+    let cause = expected::withdraw_cause(&os, number);
+    let r = book::withdraw(&mut words, start, number);
+    let after = slots::written(os, cause, number, 0, 0, 0);
+    updated(w, words, after, r, cause)
 }
 
 // ---- query and listing
@@ -87,10 +84,12 @@ pub(crate) fn query(
             number,
             price,
             probes: _,
-        } => { cause == 0 && number == slots::number(os, i) && price == slots::price(os, i, load) }
-        book::Found::Declined(c) => cause != 0 && c == cause,
+        } => {
+            (cause == 0) & (number == slots::number(os, i)) & (price == slots::price(os, i, load))
+        }
+        book::Found::Declined(c) => (cause != 0) & (c == cause),
     };
-    tally::counted(t, 1, 0, 0, same)
+    world::counted(t, 1, 0, 0, same)
 }
 
 // Of an output that is all 7: with room for the pieces it has their words and still 7 behind them, without it is declined and all 7.
@@ -101,13 +100,12 @@ pub(crate) fn listing(
     out: &mut [i64],
     t: Tally,
 ) -> Tally {
-    let blank = [7i64; 192];
-    let mut words = [7i64; 192];
-    let m = expected::put_pieces(os, &mut words);
-    let fits = m as usize <= out.len() / 3;
+    let p = expected::all_pieces(os);
+    let fits = p.count as usize <= out.len() / 3;
+    let words = expected::words_listed(p, fits);
     let same = match book::listing(table, start, out) {
-        book::Listed::Pieces(n) => fits && n == m as i64 && expected::all_same(out, &words),
-        book::Listed::Declined(c) => !fits && c == 10 && expected::all_same(out, &blank),
+        book::Listed::Pieces(n) => fits & (n == p.count as i64),
+        book::Listed::Declined(c) => !fits & (c == 10),
     };
-    tally::counted(t, 0, 1, 0, same)
+    world::counted(t, 0, 1, 0, same & expected::all_same(out, &words))
 }

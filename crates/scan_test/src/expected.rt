@@ -2,92 +2,102 @@
 use crate::slots;
 
 fn is_outside(low: i64, high: i64, value: i64) -> bool {
-    if value < low {
-        return true;
-    }
-    high < value
+    (value < low) | (high < value)
+}
+
+// A cause where its test holds, or else what the later tests told: with no way through the code of its own, a test costs the checker less.
+fn cause(test: bool, cause: i64, later: i64) -> i64 {
+    if test { cause } else { later }
 }
 
 // The number of the cause for which a post is declined, or 0.
 pub(crate) fn post_cause(os: &[i64; 192], room: u32, number: i64, rate: i64, base: i64) -> i64 {
-    if is_outside(1, 9_999, number) {
-        return 4;
-    }
-    if is_outside(-100_000, 100_000, rate) {
-        return 4;
-    }
-    if is_outside(-1_000_000_000, 1_000_000_000, base) {
-        return 4;
-    }
-    if slots::with_number(os, number) < 64 {
-        return 5;
-    }
-    if slots::has_rate(os, rate, rate) {
-        return 6;
-    }
-    if room <= slots::count(os) {
-        return 7;
-    }
-    0
+    let full = cause(room <= slots::count(os), 7, 0);
+    let rate_live = cause(slots::has_rate(os, rate, rate), 6, full);
+    let number_live = cause(slots::with_number(os, number) < 64, 5, rate_live);
+    let outside = is_outside(-100_000, 100_000, rate)
+        | is_outside(-1_000_000_000, 1_000_000_000, base);
+    cause(is_outside(1, 9_999, number) | outside, 4, number_live)
 }
 
 pub(crate) fn withdraw_cause(os: &[i64; 192], number: i64) -> i64 {
-    if is_outside(1, 9_999, number) {
-        return 4;
-    }
-    if slots::with_number(os, number) < 64 {
-        return 0;
-    }
-    8
+    let unknown = cause(slots::with_number(os, number) > 63, 8, 0);
+    cause(is_outside(1, 9_999, number), 4, unknown)
 }
 
 pub(crate) fn query_cause(is_open: bool, os: &[i64; 192], load: i64) -> i64 {
-    if !is_open {
-        return 3;
-    }
-    if is_outside(-1_000_000, 1_000_000, load) {
-        return 4;
-    }
-    if slots::count(os) < 1 {
-        return 9;
-    }
-    0
+    let empty = cause(slots::count(os) < 1, 9, 0);
+    let outside = cause(is_outside(-1_000_000, 1_000_000, load), 4, empty);
+    cause(!is_open, 3, outside)
 }
 
-// Writes the words of all pieces and tells how many pieces there are: of each its number and its crossing with the next, 0 and 0 where there is none.
-pub(crate) fn put_pieces(os: &[i64; 192], words: &mut [i64; 192]) -> u32 {
-    let mut i = slots::next_piece(os, 100_001);
-    for k in 0..64 {
-        if i > 63 {
-            return k as u32;
-        }
-        let j = slots::next_piece(os, slots::rate(os, i));
-        words[3 * k] = slots::number(os, i);
-        words[3 * k + 1] = 0;
-        words[3 * k + 2] = 0;
-        if j < 64 {
-            let x = slots::crossing(os, i, j);
-            let numerator = x.numerator;
-            let denominator = x.denominator;
-            words[3 * k + 1] = numerator;
-            words[3 * k + 2] = denominator;
-        }
-        i = j;
+// ---- the pieces
+
+// How many pieces there are, and their words with 7 behind them.
+pub struct Pieces {
+    pub count: u32,
+    pub words: [i64; 192],
+}
+
+// Of each piece its number and its crossing with the next, 0 and 0 where there is none.
+fn put_piece(words: &mut [i64; 192], k: usize, number: i64, x: slots::Ratio) {
+    let numerator = x.numerator;
+    let denominator = x.denominator;
+    if k < 64 {
+        words[3 * k] = number;
+        words[3 * k + 1] = numerator;
+        words[3 * k + 2] = denominator;
     }
-    64
+}
+
+fn end(os: &[i64; 192], i: usize, j: usize) -> slots::Ratio {
+    if j > 63 {
+        return slots::Ratio {
+            numerator: 0,
+            denominator: 0,
+        };
+    }
+    slots::crossing(os, i, j)
+}
+
+pub(crate) fn all_pieces(os: &[i64; 192]) -> Pieces {
+    let mut words = [7i64; 192];
+    let mut i = slots::next_piece(os, 100_001);
+    let mut k: u32 = 0;
+    while k < 64 && i < 64 {
+        let j = slots::next_piece(os, slots::rate(os, i));
+        put_piece(&mut words, k as usize, slots::number(os, i), end(os, i, j));
+        i = j;
+        k = k + 1;
+    }
+    Pieces {
+        count: k,
+        words: words,
+    }
+}
+
+// What an output that is all 7 has after a listing.
+pub(crate) fn words_listed(p: Pieces, fits: bool) -> [i64; 192] {
+    if fits {
+        return p.words;
+    }
+    [7i64; 192]
+}
+
+fn has_word(words: &[i64; 192], k: usize, word: i64) -> bool {
+    if k < 192 {
+        return words[k] == word;
+    }
+    false
 }
 
 // Every word of the output, to its end.
 pub(crate) fn all_same(out: &[i64], words: &[i64; 192]) -> bool {
+    let mut same = true;
     for k in 0..out.len() {
-        if k > 191 {
-            return false;
-        }
-        if out[k] != words[k] {
-            return false;
-        }
+        same = same & has_word(words, k, out[k]);
     }
-    true
+    same
 }
 
 // ---- two books that meet
@@ -96,38 +106,16 @@ pub(crate) fn all_same(out: &[i64], words: &[i64; 192]) -> bool {
 pub(crate) fn both(l: &[i64; 192], r: &[i64; 192]) -> [i64; 192] {
     let mut all = [0i64; 192];
     for i in 0..32 {
-        slots::put(
-            &mut all,
-            i,
-            slots::number(l, i),
-            slots::rate(l, i),
-            slots::base(l, i),
-        );
-        slots::put(
-            &mut all,
-            i + 32,
-            slots::number(r, i),
-            slots::rate(r, i),
-            slots::base(r, i),
-        );
+        slots::copy(&mut all, i, l, i);
+        slots::copy(&mut all, i + 32, r, i);
     }
     all
 }
 
 pub(crate) fn meet_cause(are_open: bool, l: &[i64; 192], r: &[i64; 192]) -> i64 {
-    if !are_open {
-        return 3;
-    }
-    if slots::count(l) < 1 {
-        return 9;
-    }
-    if slots::count(r) < 1 {
-        return 9;
-    }
-    if slots::mixed(l, r) {
-        return 12;
-    }
-    0
+    let mixed = cause(slots::mixed(l, r), 12, 0);
+    let empty = cause((slots::count(l) < 1) | (slots::count(r) < 1), 9, mixed);
+    cause(!are_open, 3, empty)
 }
 
 // The last piece of the left that has a piece of the right behind it, or 64.

@@ -28,18 +28,21 @@ fn less(a: u32, b: u32) -> i64 {
     a as i64 - b as i64
 }
 
+// a less b, or where n is odd the other way round.
+fn turned(n: u32, a: u32, b: u32) -> i64 {
+    if n % 2 < 1 {
+        return less(a, b);
+    }
+    less(b, a)
+}
+
 // Kinds 0 and 2 touch the parabola's chain of tangents, 1 goes through one point, 3 to the ends of the ranges, 4 goes its own way, 5 has
 // small bases and so many ties, and 6 has all its rates below those of 0, 2 and 5.
 pub(crate) fn rate(kind: u32, m: Maker) -> i64 {
     let i = m.i % 64;
     match kind {
         1 => less(300, 10 * i),
-        3 => {
-            if i % 2 < 1 {
-                return less(100_000, i);
-            }
-            less(i, 100_000)
-        }
+        3 => turned(i, 100_000, i),
         4 => less(106 * i % 601, 300),
         5 => less(15, i),
         6 => less(0, 20 + 2 * i),
@@ -53,12 +56,7 @@ pub(crate) fn base(kind: u32, m: Maker) -> i64 {
     match kind {
         0 => less(square + i % 2, 0),
         1 => less(7 + 50 * i, 1_500),
-        3 => {
-            if i / 2 % 2 < 1 {
-                return less(1_000_000_000, i);
-            }
-            less(i, 1_000_000_000)
-        }
+        3 => turned(i / 2, 1_000_000_000, i),
         4 => less(m.x, 10_000),
         5 => less(m.x % 12, 0),
         6 => less(square + m.x % 50, 0),
@@ -88,5 +86,19 @@ pub(crate) fn load(kind: u32, j: u32) -> i64 {
             }
             less(k, 8)
         }
+    }
+}
+
+pub struct Offer {
+    pub number: i64,
+    pub rate: i64,
+    pub base: i64,
+}
+
+pub(crate) fn made(kind: u32, m: Maker) -> Offer {
+    Offer {
+        number: number(kind, m.i),
+        rate: rate(kind, m),
+        base: base(kind, m),
     }
 }

@@ -1,8 +1,8 @@
 // Two books that meet, beside a scan of the offers of both.
 use crate::expected;
 use crate::slots;
-use crate::tally;
-use crate::tally::Tally;
+use crate::world;
+use crate::world::Tally;
 
 // The book at `from` with offers `l` and the one at `to` with offers `r`; `are_open` says whether there is a book at both.
 pub(crate) fn meeting(
@@ -25,8 +25,8 @@ pub(crate) fn meeting(
             steps: _,
             hl: _,
             hr: _,
-        } => cause == 0 && u == slots::number(&all, i) && v == slots::number(&all, j),
-        meet_books::Met::Declined(c) => cause != 0 && c == cause,
+        } => (cause == 0) & (u == slots::number(&all, i)) & (v == slots::number(&all, j)),
+        meet_books::Met::Declined(c) => (cause != 0) & (c == cause),
     };
-    tally::counted(t, 0, 0, 1, same)
+    world::counted(t, 0, 0, 1, same)
 }

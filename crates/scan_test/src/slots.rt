@@ -32,6 +32,11 @@ pub(crate) fn put(os: &mut [i64; 192], i: usize, number: i64, rate: i64, base: i
     }
 }
 
+// Slot i as slot j of `from` is.
+pub(crate) fn copy(os: &mut [i64; 192], i: usize, from: &[i64; 192], j: usize) {
+    put(os, i, number(from, j), rate(from, j), base(from, j));
+}
+
 // The slot with that number, or 64; of number 0 the first vacant one.
 pub(crate) fn with_number(os: &[i64; 192], sought: i64) -> usize {
     for i in 0..64 {
@@ -42,39 +47,53 @@ pub(crate) fn with_number(os: &[i64; 192], sought: i64) -> usize {
     64
 }
 
+// Where no cause declines the call, an offer in place of the one with the number `old`; 0 is a vacant slot's.
+pub(crate) fn written(
+    os: [i64; 192],
+    cause: i64,
+    old: i64,
+    number: i64,
+    rate: i64,
+    base: i64,
+) -> [i64; 192] {
+    let mut after = os;
+    if cause == 0 {
+        let slot = with_number(&os, old);
+        put(&mut after, slot, number, rate, base);
+    }
+    after
+}
+
 // Some rate is from `low` to `high`.
 pub(crate) fn has_rate(os: &[i64; 192], low: i64, high: i64) -> bool {
+    let mut found = false;
     for i in 0..64 {
-        if number(os, i) != 0 {
-            let sought = rate(os, i);
-            if low <= sought && sought <= high {
-                return true;
-            }
-        }
+        let at = rate(os, i);
+        found = found | ((number(os, i) != 0) & (low <= at) & (at <= high));
     }
-    false
+    found
 }
 
 pub(crate) fn count(os: &[i64; 192]) -> u32 {
     let mut n: u32 = 0;
     for i in 0..64 {
-        if number(os, i) != 0 {
-            n = std::num::wrapping_add_u32(n, 1);
-        }
+        n = std::num::wrapping_add_u32(n, (number(os, i) != 0) as u32);
     }
     n
 }
 
 // Some rate of `l` is not above some rate of `r`.
 pub(crate) fn mixed(l: &[i64; 192], r: &[i64; 192]) -> bool {
+    let mut found = false;
     for i in 0..64 {
-        if number(l, i) != 0 {
-            if has_rate(r, rate(l, i), 100_000) {
-                return true;
-            }
-        }
+        found = found | ((number(l, i) != 0) & has_rate(r, rate(l, i), 100_000));
     }
-    false
+    found
+}
+
+// Of two slots the first where the test holds.
+fn either(test: bool, i: usize, j: usize) -> usize {
+    if test { i } else { j }
 }
 
 // ---- the cheapest
@@ -101,24 +120,10 @@ pub(crate) fn price(os: &[i64; 192], i: usize, load: i64) -> i64 {
 
 // Of two slots the cheaper, and of equal prices the one with the higher rate.
 fn cheaper(os: &[i64; 192], load: i64, best: usize, i: usize) -> usize {
-    if number(os, i) == 0 {
-        return best;
-    }
-    if best > 63 {
-        return i;
-    }
     let p = price(os, i, load);
     let q = price(os, best, load);
-    if p < q {
-        return i;
-    }
-    if q < p {
-        return best;
-    }
-    if rate(os, best) < rate(os, i) {
-        return i;
-    }
-    best
+    let wins = (p < q) | ((p == q) & (rate(os, best) < rate(os, i)));
+    either((number(os, i) != 0) & ((best > 63) | wins), i, best)
 }
 
 // The slot of the offer that a query names, or 64 where none is live.
@@ -160,25 +165,22 @@ fn crosses_before(os: &[i64; 192], a: usize, b: usize, c: usize, d: usize) -> bo
     nn * ee < mm * dd
 }
 
-// Of two offers with a higher rate than e, the one that crosses e further right; with `below`, of two with a lower rate the one further left.
+// Of two offers with a higher rate than e, whether i crosses e further right; with `below`, of two with a lower rate whether further left.
+fn is_nearer(os: &[i64; 192], e: usize, below: bool, best: usize, i: usize) -> bool {
+    if below {
+        return crosses_before(os, e, i, e, best);
+    }
+    crosses_before(os, best, e, i, e)
+}
+
+// The nearer of two slots, i only where its offer is on that side of e.
 fn nearer(os: &[i64; 192], e: usize, below: bool, best: usize, i: usize) -> usize {
-    if number(os, i) == 0 {
-        return best;
-    }
     let at = rate(os, i);
-    if at == rate(os, e) || below != (at < rate(os, e)) {
+    let mid = rate(os, e);
+    if (number(os, i) == 0) | (at == mid) | (below != (at < mid)) {
         return best;
     }
-    if best > 63 {
-        return i;
-    }
-    if below && crosses_before(os, e, i, e, best) {
-        return i;
-    }
-    if !below && crosses_before(os, best, e, i, e) {
-        return i;
-    }
-    best
+    either((best > 63) | is_nearer(os, e, below, best, i), i, best)
 }
 
 // The slot whose crossing with e is the nearest on that side, or 64.
@@ -197,28 +199,16 @@ fn is_piece(os: &[i64; 192], e: usize) -> bool {
     }
     let a = nearest(os, e, false);
     let c = nearest(os, e, true);
-    if a > 63 {
-        return true;
-    }
-    if c > 63 {
-        return true;
-    }
-    crosses_before(os, a, e, e, c)
+    (a > 63) | (c > 63) | crosses_before(os, a, e, e, c)
 }
 
+// Of two slots the one with the higher rate, i only where it is a piece below that rate.
 fn higher(os: &[i64; 192], below: i64, best: usize, i: usize) -> usize {
-    if below <= rate(os, i) {
+    let at = rate(os, i);
+    if (below <= at) | ((best < 64) & (at <= rate(os, best))) {
         return best;
     }
-    if best < 64 {
-        if rate(os, i) <= rate(os, best) {
-            return best;
-        }
-    }
-    if is_piece(os, i) {
-        return i;
-    }
-    best
+    either(is_piece(os, i), i, best)
 }
 
 // The piece with the highest rate below `below`, or 64.

@@ -1,16 +1,14 @@
--- `scan_test::drain` is safe and ends.
+-- `scan_test::drain` is safe and ends: n turns.
 use Prim.Native.Nat.{_≤_, _-_}
-use mathlib.Core.Path.{_≡_}
-use lib.ListN.{length}
 use borrow.Author.Needs.{needs}
 use Rattle.scan_test.proofs.drain.Statement.{statement}
 use Rattle.scan_test.proofs.drain.Tie as tie
 
 abbrev Inv-loop : tie.InvT-loop
-Inv-loop table₀ start os₀ kind n told₀ i₀ table os told i = (i ≤ n) × (length table ≡ length table₀)
+Inv-loop p n v₀ i₀ v i = i ≤ n
 
 abbrev μ-loop : tie.MeasureT-loop
-μ-loop table₀ start os₀ kind n told₀ i₀ table os told i = n - i
+μ-loop p n v₀ i₀ v i = n - i
 
 loop-holds : tie.Need-loop-holds Inv-loop μ-loop
 loop-holds c = search needs
@@ -36,9 +34,6 @@ loop-less c = search needs
 loop-again : tie.Need-loop-again Inv-loop μ-loop
 loop-again c = search needs
 
-same-length : tie.Need-same-length Inv-loop μ-loop
-same-length c = search needs
-
 returns : tie.Need-returns Inv-loop μ-loop
 returns c = search needs
 
@@ -56,5 +51,4 @@ drain-spec =
     add-i
     loop-less
     loop-again
-    same-length
     returns)

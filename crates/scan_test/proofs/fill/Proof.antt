@@ -1,16 +1,14 @@
--- `scan_test::fill` is safe and ends.
+-- `scan_test::fill` is safe and ends: 30 turns.
 use Prim.Native.Nat.{_≤_, _-_}
-use mathlib.Core.Path.{_≡_}
-use lib.ListN.{length}
 use borrow.Author.Needs.{needs}
 use Rattle.scan_test.proofs.fill.Statement.{statement}
 use Rattle.scan_test.proofs.fill.Tie as tie
 
 abbrev Inv-loop : tie.InvT-loop
-Inv-loop table₀ start os₀ room kind told₀ m₀ posts i₀ table os told m i = (i ≤ 30) × (length table ≡ length table₀)
+Inv-loop p v₀ m₀ i₀ v m i = i ≤ 30
 
 abbrev μ-loop : tie.MeasureT-loop
-μ-loop table₀ start os₀ room kind told₀ m₀ posts i₀ table os told m i = 30 - i
+μ-loop p v₀ m₀ i₀ v m i = 30 - i
 
 first-requires : tie.Need-first-requires Inv-loop μ-loop
 first-requires c κs = search needs
@@ -18,14 +16,8 @@ first-requires c κs = search needs
 loop-holds : tie.Need-loop-holds Inv-loop μ-loop
 loop-holds c = search needs
 
-number-requires : tie.Need-number-requires Inv-loop μ-loop
-number-requires c κs = search needs
-
-rate-requires : tie.Need-rate-requires Inv-loop μ-loop
-rate-requires c κs = search needs
-
-base-requires : tie.Need-base-requires Inv-loop μ-loop
-base-requires c κs = search needs
+made-requires : tie.Need-made-requires Inv-loop μ-loop
+made-requires c κs = search needs
 
 post-requires : tie.Need-post-requires Inv-loop μ-loop
 post-requires c κs = search needs
@@ -45,9 +37,6 @@ loop-less c = search needs
 loop-again : tie.Need-loop-again Inv-loop μ-loop
 loop-again c = search needs
 
-same-length : tie.Need-same-length Inv-loop μ-loop
-same-length c = search needs
-
 returns : tie.Need-returns Inv-loop μ-loop
 returns c = search needs
 
@@ -59,14 +48,11 @@ fill-spec =
     μ-loop
     first-requires
     loop-holds
-    number-requires
-    rate-requires
-    base-requires
+    made-requires
     post-requires
     sweep-requires
     next-requires
     add-i
     loop-less
     loop-again
-    same-length
     returns)

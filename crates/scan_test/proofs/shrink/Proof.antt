@@ -1,17 +1,14 @@
--- `scan_test::shrink` is safe and ends.
-use native.Mathlib.Omega.{arith}
+-- `scan_test::shrink` is safe and ends: 30 turns.
 use Prim.Native.Nat.{_≤_, _-_}
-use mathlib.Core.Path.{_≡_, _∙_}
-use lib.ListN.{length}
 use borrow.Author.Needs.{needs}
 use Rattle.scan_test.proofs.shrink.Statement.{statement}
 use Rattle.scan_test.proofs.shrink.Tie as tie
 
 abbrev Inv-loop : tie.InvT-loop
-Inv-loop table₀ l₀ left r₀ right told₀ i₀ table l r told i = (i ≤ 30) × (length table ≡ length table₀)
+Inv-loop left right v₀ i₀ v i = i ≤ 30
 
 abbrev μ-loop : tie.MeasureT-loop
-μ-loop table₀ l₀ left r₀ right told₀ i₀ table l r told i = 30 - i
+μ-loop left right v₀ i₀ v i = 30 - i
 
 loop-holds : tie.Need-loop-holds Inv-loop μ-loop
 loop-holds c = search needs
@@ -25,8 +22,11 @@ number-requires c κs = search needs
 withdraw-requires : tie.Need-withdraw-requires Inv-loop μ-loop
 withdraw-requires c κs = search needs
 
-meeting-requires : tie.Need-meeting-requires Inv-loop μ-loop
-meeting-requires c κs = search needs
+meet-requires : tie.Need-meet-requires Inv-loop μ-loop
+meet-requires c κs = search needs
+
+swapped-requires : tie.Need-swapped-requires Inv-loop μ-loop
+swapped-requires c κs = search needs
 
 add-number : tie.Need-add-number Inv-loop μ-loop
 add-number c = search needs
@@ -37,30 +37,20 @@ number-requires-2 c κs = search needs
 withdraw-requires-2 : tie.Need-withdraw-requires-2 Inv-loop μ-loop
 withdraw-requires-2 c κs = search needs
 
-meeting-requires-2 : tie.Need-meeting-requires-2 Inv-loop μ-loop
-meeting-requires-2 c κs = search needs
+swapped-requires-2 : tie.Need-swapped-requires-2 Inv-loop μ-loop
+swapped-requires-2 c κs = search needs
+
+meet-requires-2 : tie.Need-meet-requires-2 Inv-loop μ-loop
+meet-requires-2 c κs = search needs
 
 add-i : tie.Need-add-i Inv-loop μ-loop
-add-i c =
-    let at-withdraw = c .before .before .before .before .before .before .before .before .before .before .before .before .before .before in
-    let at-test = at-withdraw .before .before .before .before in
-    omega (arith, at-test .loop-test .taken)
+add-i c = search needs
 
 loop-less : tie.Need-loop-less Inv-loop μ-loop
-loop-less c =
-    let at-withdraw = c .before .before .before .before .before .before .before .before .before .before .before .before .before .before in
-    let at-test = at-withdraw .before .before .before .before in
-    omega (arith, at-test .loop-test .taken)
+loop-less c = search needs
 
 loop-again : tie.Need-loop-again Inv-loop μ-loop
-loop-again c =
-    let at-withdraw2 = c .before .before .before .before .before in
-    let at-withdraw = at-withdraw2 .before .before .before .before .before .before .before .before .before in
-    let at-test = at-withdraw .before .before .before .before in
-    (omega (arith, at-test .loop-test .taken), at-withdraw2 .withdraw2 .kept .0 ∙ at-withdraw .withdraw .kept .0 ∙ at-test .before .loop .inv .1)
-
-same-length : tie.Need-same-length Inv-loop μ-loop
-same-length c = search needs
+loop-again c = search needs
 
 returns : tie.Need-returns Inv-loop μ-loop
 returns c = search needs
@@ -75,13 +65,14 @@ shrink-spec =
     mul-at
     number-requires
     withdraw-requires
-    meeting-requires
+    meet-requires
+    swapped-requires
     add-number
     number-requires-2
     withdraw-requires-2
-    meeting-requires-2
+    swapped-requires-2
+    meet-requires-2
     add-i
     loop-less
     loop-again
-    same-length
     returns)

@@ -5,31 +5,22 @@ use Rattle.scan_test.proofs.expected.all_same.Statement.{statement}
 use Rattle.scan_test.proofs.expected.all_same.Tie as tie
 
 abbrev Inv-loop : tie.InvT-loop
-Inv-loop out words k₀ k-end k = k ≤ k-end
+Inv-loop out words same₀ k₀ k-end same k = k ≤ k-end
 
 abbrev μ-loop : tie.MeasureT-loop
-μ-loop out words k₀ k-end k = k-end - k
+μ-loop out words same₀ k₀ k-end same k = k-end - k
 
 loop-holds : tie.Need-loop-holds Inv-loop μ-loop
 loop-holds c = search needs
 
-returns : tie.Need-returns Inv-loop μ-loop
-returns c = search needs
+mul-has-word : tie.Need-mul-has-word Inv-loop μ-loop
+mul-has-word c = search needs
 
-mul-if2 : tie.Need-mul-if2 Inv-loop μ-loop
-mul-if2 c = search needs
+shared-slice-copy-out-has-word : tie.Need-shared-slice-copy-out-has-word Inv-loop μ-loop
+shared-slice-copy-out-has-word c = search needs
 
-shared-slice-copy-out-if2 : tie.Need-shared-slice-copy-out-if2 Inv-loop μ-loop
-shared-slice-copy-out-if2 c = search needs
-
-mul-if2-2 : tie.Need-mul-if2-2 Inv-loop μ-loop
-mul-if2-2 c = search needs
-
-element-copy-out-if2 : tie.Need-element-copy-out-if2 Inv-loop μ-loop
-element-copy-out-if2 c = search needs
-
-returns-2 : tie.Need-returns-2 Inv-loop μ-loop
-returns-2 c = search needs
+has-word-requires : tie.Need-has-word-requires Inv-loop μ-loop
+has-word-requires c κs = search needs
 
 add-k : tie.Need-add-k Inv-loop μ-loop
 add-k c = search needs
@@ -40,8 +31,8 @@ loop-less c = search needs
 loop-again : tie.Need-loop-again Inv-loop μ-loop
 loop-again c = search needs
 
-returns-3 : tie.Need-returns-3 Inv-loop μ-loop
-returns-3 c = search needs
+returns : tie.Need-returns Inv-loop μ-loop
+returns c = search needs
 
 pub all-same-spec : {M : Type 1} → statement M
 all-same-spec =
@@ -50,13 +41,10 @@ all-same-spec =
     Inv-loop
     μ-loop
     loop-holds
-    returns
-    mul-if2
-    shared-slice-copy-out-if2
-    mul-if2-2
-    element-copy-out-if2
-    returns-2
+    mul-has-word
+    shared-slice-copy-out-has-word
+    has-word-requires
     add-k
     loop-less
     loop-again
-    returns-3)
+    returns)

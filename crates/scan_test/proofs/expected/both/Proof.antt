@@ -13,32 +13,14 @@ abbrev μ-loop : tie.MeasureT-loop
 loop-holds : tie.Need-loop-holds Inv-loop μ-loop
 loop-holds c = search needs
 
-number-requires : tie.Need-number-requires Inv-loop μ-loop
-number-requires c κs = search needs
+copy-requires : tie.Need-copy-requires Inv-loop μ-loop
+copy-requires c κs = search needs
 
-rate-requires : tie.Need-rate-requires Inv-loop μ-loop
-rate-requires c κs = search needs
+add-copy : tie.Need-add-copy Inv-loop μ-loop
+add-copy c = search needs
 
-base-requires : tie.Need-base-requires Inv-loop μ-loop
-base-requires c κs = search needs
-
-put-requires : tie.Need-put-requires Inv-loop μ-loop
-put-requires c κs = search needs
-
-add-put : tie.Need-add-put Inv-loop μ-loop
-add-put c = search needs
-
-number-requires-2 : tie.Need-number-requires-2 Inv-loop μ-loop
-number-requires-2 c κs = search needs
-
-rate-requires-2 : tie.Need-rate-requires-2 Inv-loop μ-loop
-rate-requires-2 c κs = search needs
-
-base-requires-2 : tie.Need-base-requires-2 Inv-loop μ-loop
-base-requires-2 c κs = search needs
-
-put-requires-2 : tie.Need-put-requires-2 Inv-loop μ-loop
-put-requires-2 c κs = search needs
+copy-requires-2 : tie.Need-copy-requires-2 Inv-loop μ-loop
+copy-requires-2 c κs = search needs
 
 add-i : tie.Need-add-i Inv-loop μ-loop
 add-i c = search needs
@@ -59,15 +41,9 @@ both-spec =
     Inv-loop
     μ-loop
     loop-holds
-    number-requires
-    rate-requires
-    base-requires
-    put-requires
-    add-put
-    number-requires-2
-    rate-requires-2
-    base-requires-2
-    put-requires-2
+    copy-requires
+    add-copy
+    copy-requires-2
     add-i
     loop-less
     loop-again

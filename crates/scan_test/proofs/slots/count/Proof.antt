@@ -3,6 +3,7 @@ use Prim.Native.Nat.{_≤_, _-_}
 use borrow.Author.Needs.{needs}
 use Rattle.scan_test.proofs.slots.count.Statement.{statement}
 use Rattle.scan_test.proofs.slots.count.Tie as tie
+use Rattle.std.proofs.num.wrapping_add_u32.Reads as wrapping-add-u32-reads
 
 abbrev Inv-loop : tie.InvT-loop
 Inv-loop os n₀ i₀ n i = i ≤ 64
@@ -15,6 +16,9 @@ loop-holds c = search needs
 
 number-requires : tie.Need-number-requires Inv-loop μ-loop
 number-requires c κs = search needs
+
+cast-wrapping-add-u32 : tie.Need-cast-wrapping-add-u32 Inv-loop μ-loop
+cast-wrapping-add-u32 c = search needs
 
 wrapping-add-u32-requires : tie.Need-wrapping-add-u32-requires Inv-loop μ-loop
 wrapping-add-u32-requires c κs = search needs
@@ -39,6 +43,7 @@ count-spec =
     μ-loop
     loop-holds
     number-requires
+    cast-wrapping-add-u32
     wrapping-add-u32-requires
     add-i
     loop-less

@@ -5,22 +5,19 @@ use Rattle.scan_test.proofs.slots.has_rate.Statement.{statement}
 use Rattle.scan_test.proofs.slots.has_rate.Tie as tie
 
 abbrev Inv-loop : tie.InvT-loop
-Inv-loop os low high i₀ i = i ≤ 64
+Inv-loop os low high found₀ i₀ found i = i ≤ 64
 
 abbrev μ-loop : tie.MeasureT-loop
-μ-loop os low high i₀ i = 64 - i
+μ-loop os low high found₀ i₀ found i = 64 - i
 
 loop-holds : tie.Need-loop-holds Inv-loop μ-loop
 loop-holds c = search needs
 
-number-requires : tie.Need-number-requires Inv-loop μ-loop
-number-requires c κs = search needs
-
 rate-requires : tie.Need-rate-requires Inv-loop μ-loop
 rate-requires c κs = search needs
 
-returns : tie.Need-returns Inv-loop μ-loop
-returns c = search needs
+number-requires : tie.Need-number-requires Inv-loop μ-loop
+number-requires c κs = search needs
 
 add-i : tie.Need-add-i Inv-loop μ-loop
 add-i c = search needs
@@ -31,8 +28,8 @@ loop-less c = search needs
 loop-again : tie.Need-loop-again Inv-loop μ-loop
 loop-again c = search needs
 
-returns-2 : tie.Need-returns-2 Inv-loop μ-loop
-returns-2 c = search needs
+returns : tie.Need-returns Inv-loop μ-loop
+returns c = search needs
 
 pub has-rate-spec : {M : Type 1} → statement M
 has-rate-spec =
@@ -41,10 +38,9 @@ has-rate-spec =
     Inv-loop
     μ-loop
     loop-holds
-    number-requires
     rate-requires
-    returns
+    number-requires
     add-i
     loop-less
     loop-again
-    returns-2)
+    returns)

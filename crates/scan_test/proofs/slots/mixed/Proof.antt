@@ -5,10 +5,10 @@ use Rattle.scan_test.proofs.slots.mixed.Statement.{statement}
 use Rattle.scan_test.proofs.slots.mixed.Tie as tie
 
 abbrev Inv-loop : tie.InvT-loop
-Inv-loop l r i₀ i = i ≤ 64
+Inv-loop l r found₀ i₀ found i = i ≤ 64
 
 abbrev μ-loop : tie.MeasureT-loop
-μ-loop l r i₀ i = 64 - i
+μ-loop l r found₀ i₀ found i = 64 - i
 
 loop-holds : tie.Need-loop-holds Inv-loop μ-loop
 loop-holds c = search needs
@@ -22,9 +22,6 @@ rate-requires c κs = search needs
 has-rate-requires : tie.Need-has-rate-requires Inv-loop μ-loop
 has-rate-requires c κs = search needs
 
-returns : tie.Need-returns Inv-loop μ-loop
-returns c = search needs
-
 add-i : tie.Need-add-i Inv-loop μ-loop
 add-i c = search needs
 
@@ -34,8 +31,8 @@ loop-less c = search needs
 loop-again : tie.Need-loop-again Inv-loop μ-loop
 loop-again c = search needs
 
-returns-2 : tie.Need-returns-2 Inv-loop μ-loop
-returns-2 c = search needs
+returns : tie.Need-returns Inv-loop μ-loop
+returns c = search needs
 
 pub mixed-spec : {M : Type 1} → statement M
 mixed-spec =
@@ -47,8 +44,7 @@ mixed-spec =
     number-requires
     rate-requires
     has-rate-requires
-    returns
     add-i
     loop-less
     loop-again
-    returns-2)
+    returns)
