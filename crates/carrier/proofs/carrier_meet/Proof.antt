@@ -21,9 +21,11 @@ same-length c = search needs
 
 returns-2 : tie.Need-returns-2
 returns-2 c =
-    let h = c .before .before .before .before .if1 .left in
-    let a = c .before .before .before .meet in
-    let t = c .before .tell-met in
+    let at-tell-met = c .before in
+    let at-if1 = at-tell-met .before .before .before in
+    let h = at-if1 .if1 .left in
+    let a = at-tell-met .before .before .meet in
+    let t = at-tell-met .tell-met in
     let r : SFits w64 (t .result) = record { sfits = t .ok } in
     simp (toZ-ofZ, r) (lent-long _ _ _ _ h (a .result) (a .ensures) (t .ensures))
 

@@ -17,8 +17,9 @@ same-length c = search needs
 
 returns : tie.Need-returns
 returns c =
-    let s = c .before .before .before .before in
-    let o = c .before .before .«open» in
+    let at-table = c .before in
+    let s = at-table .before .before .before in
+    let o = at-table .before .«open» in
     let t = c .opening-number in
     let r : SFits w64 (t .result) = record { sfits = t .ok } in
     simp (toZ-ofZ, r) (record { opening = o .result; opens = simp (toZ-ofZ, s .fits .capacity) at (o .ensures); number = t .ensures })

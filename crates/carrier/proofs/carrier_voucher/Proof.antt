@@ -21,10 +21,12 @@ same-length c = search needs
 
 returns-2 : tie.Need-returns-2
 returns-2 c =
-    let s = c .before .before .before .before .before in
-    let h = c .before .before .before .before .if1 .left in
-    let a = c .before .before .before .voucher-price in
-    let t = c .before .tell-voucher in
+    let at-tell-voucher = c .before in
+    let at-if1 = at-tell-voucher .before .before .before in
+    let s = at-if1 .before in
+    let h = at-if1 .if1 .left in
+    let a = at-tell-voucher .before .before .voucher-price in
+    let t = at-tell-voucher .tell-voucher in
     let r : SFits w64 (t .result) = record { sfits = t .ok } in
     simp (toZ-ofZ, r) (lent-long _ _ _ _ h (a .result) (simp (toZ-ofZ, s .fits .price) at (a .ensures)) (t .ensures))
 

@@ -32,8 +32,11 @@ part-first-requires : tie.Need-part-first-requires
 part-first-requires c κs = search needs
 
 returns-2 : tie.Need-returns-2
-returns-2 c = first-there (c .before .before .before .before .args .start) (c .before .before .before .before .args .table .now)
-    (c .before .before .before .no-book .ensures) (c .before .before .if1 .left) (c .part-first .ensures)
+returns-2 c =
+    let at-if1 = c .before .before in
+    let entry = at-if1 .before .before in
+    first-there (entry .args .start) (entry .args .table .now)
+    (at-if1 .before .no-book .ensures) (at-if1 .if1 .left) (c .part-first .ensures)
 
 pub first-place-spec : {M : Type 1} → statement M
 first-place-spec =

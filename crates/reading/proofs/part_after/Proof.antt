@@ -20,8 +20,11 @@ link-requires : tie.Need-link-requires
 link-requires c κs = search needs
 
 returns-3 : tie.Need-returns-3
-returns-3 c = after-next (c .before .before .before .envelope-root .ensures) (c .before .before .end .ensures)
-    (c .before .before .before .before .if1 .left) (c .before .if2 .left) (c .link .ensures)
+returns-3 c =
+    let at-if2 = c .before in
+    let at-if1 = at-if2 .before .before .before in
+    after-next (at-if2 .before .before .envelope-root .ensures) (at-if2 .before .end .ensures)
+    (at-if1 .if1 .left) (at-if2 .if2 .left) (c .link .ensures)
 
 pub part-after-spec : {M : Type 1} → statement M
 part-after-spec =

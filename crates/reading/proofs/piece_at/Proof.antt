@@ -33,8 +33,11 @@ part-piece-requires : tie.Need-part-piece-requires
 part-piece-requires c κs = search needs
 
 returns-2 : tie.Need-returns-2
-returns-2 c = hands-there (c .before .before .before .before .args .start) (c .before .before .before .before .args .table .now)
-    (c .before .before .before .no-book .ensures) (c .before .before .if1 .left) (c .part-piece .ensures)
+returns-2 c =
+    let at-if1 = c .before .before in
+    let entry = at-if1 .before .before in
+    hands-there (entry .args .start) (entry .args .table .now)
+    (at-if1 .before .no-book .ensures) (at-if1 .if1 .left) (c .part-piece .ensures)
 
 pub piece-at-spec : {M : Type 1} → statement M
 piece-at-spec =

@@ -33,8 +33,11 @@ part-after-requires : tie.Need-part-after-requires
 part-after-requires c κs = search needs
 
 returns-2 : tie.Need-returns-2
-returns-2 c = after-there (c .before .before .before .before .args .start) (c .before .before .before .before .args .table .now)
-    (c .before .before .before .no-book .ensures) (c .before .before .if1 .left) (c .part-after .ensures)
+returns-2 c =
+    let at-if1 = c .before .before in
+    let entry = at-if1 .before .before in
+    after-there (entry .args .start) (entry .args .table .now)
+    (at-if1 .before .no-book .ensures) (at-if1 .if1 .left) (c .part-after .ensures)
 
 pub place-after-spec : {M : Type 1} → statement M
 place-after-spec =

@@ -60,12 +60,13 @@ returns-2 c =
 
 returns-3 : tie.Need-returns-3
 returns-3 c =
-    let s = c .before .before .before .before in
+    let at-h2 = c .before .before in
+    let s = at-h2 .before .before in
     let r : SFits w64 (c .below-zero .result) = record { sfits = c .below-zero .ok } in
-    let z : SFits w64 (c .before .before .h2 .given .0 .0) = record { sfits = c .before .known-told2 .given .0 .1 } in
+    let z : SFits w64 (at-h2 .h2 .given .0 .0) = record { sfits = c .before .known-told2 .given .0 .1 } in
     simp (toZ-ofZ, r)
     (tells (λ h. placeNumber (s .args .next) (told h)) (λ h. pieceOf (told h))
-    (c .before .before .h2 .given .1) (simp (toZ-ofZ, z) at (c .below-zero .ensures)) refl)
+    (at-h2 .h2 .given .1) (simp (toZ-ofZ, z) at (c .below-zero .ensures)) refl)
 
 pub tell-piece-spec : {M : Type 1} → statement M
 tell-piece-spec =
