@@ -26,9 +26,8 @@ returns-2 : tie.Need-returns-2
 returns-2 c =
     let at-tell-update = c .before in
     let at-post = at-tell-update .before .before .before in
-    let at-before = at-post .before .before in
-    let s = at-before .before in
-    let h = at-before .if1 .left in
+    let s = at-post .before .before .before in
+    let h = at-post .before .before .if1 .left in
     let a = at-post .post .ensures in
     let t = at-tell-update .tell-update in
     let r : SFits w64 (t .result) = record { sfits = t .ok } in

@@ -29,11 +29,12 @@ rate-gap-requires-2 c κs = search needs
 
 mul-result-2 : tie.Need-mul-result-2
 mul-result-2 c =
-    let entry = c .before .before .before .before in
-    let x : SFits w64 (c .before .base-gap2 .result) = record { sfits = c .before .base-gap2 .ok } in
+    let at-base-gap2 = c .before in
+    let entry = at-base-gap2 .before .before .before in
+    let x : SFits w64 (at-base-gap2 .base-gap2 .result) = record { sfits = at-base-gap2 .base-gap2 .ok } in
     let y : SFits w64 (c .rate-gap2 .result) = record { sfits = c .rate-gap2 .ok } in
     simp (toZ-ofZ, x, y)
-    (products-safe (entry .args .part .now) (entry .args .c) (entry .args .d) (entry .args .a) (entry .args .b) (c .before .base-gap2 .ensures)
+    (products-safe (entry .args .part .now) (entry .args .c) (entry .args .d) (entry .args .a) (entry .args .b) (at-base-gap2 .base-gap2 .ensures)
     (c .rate-gap2 .ensures))
 
 returns : tie.Need-returns

@@ -118,9 +118,12 @@ child-requires-2 c κs = search needs
 stays-requires-2 : tie.Need-stays-requires-2
 stays-requires-2 c κs =
     let at-stays = c .before .before .before in
-    let at-if2 = at-stays .before .before .before .before .before .before in
+    let at-if3 = at-stays .before .before .before in
+    let at-if2 = at-if3 .before .before .before in
     let at-place2 = at-if2 .before in
-    let entry = at-place2 .before .before .before .before .before .before .before .before in
+    let at-if1 = at-place2 .before .before .before in
+    let at-link = at-if1 .before .before in
+    let entry = at-link .before .before .before in
     (at-stays .stays .ensures .long ∙ entry .pre .0, at-place2 .place2 .ensures .low, omega (arith, at-if2 .if2 .left, entry .pre .1))
 
 refused-requires-5 : tie.Need-refused-requires-5
@@ -158,11 +161,14 @@ sub-shift c = search needs
 shift-requires : tie.Need-shift-requires
 shift-requires c κs =
     let at-stays2 = c .before .before in
-    let at-stays = at-stays2 .before .before .before .before in
-    let at-if2 = at-stays .before .before .before .before .before .before in
+    let at-child2 = at-stays2 .before .before in
+    let at-stays = at-child2 .before .before in
+    let at-if3 = at-stays .before .before .before in
+    let at-if2 = at-if3 .before .before .before in
     let at-place2 = at-if2 .before in
     let at-if1 = at-place2 .before .before .before in
-    let entry = at-if1 .before .before .before .before .before in (
+    let at-link = at-if1 .before .before in
+    let entry = at-link .before .before .before in (
       at-stays2 .stays2 .ensures .long ∙ at-stays .stays .ensures .long ∙ entry .pre .0,
       omega (arith, at-if1 .if1 .left, at-place2 .place2 .ensures),
       omega (arith, at-if2 .if2 .left, entry .pre .1),
@@ -176,11 +182,15 @@ sub-t21 c = search needs
 
 add-t22 : tie.Need-add-t22
 add-t22 c =
-    let at-before = c .before .before .before .before .before .before .before .before .before .before .before .before in
-    let at-if2 = at-before .before in
+    let at-if5 = c .before .before in
+    let at-child2 = at-if5 .before .before .before in
+    let at-stays = at-child2 .before .before in
+    let at-if3 = at-stays .before .before .before in
+    let at-if2 = at-if3 .before .before .before in
     let at-place2 = at-if2 .before in
     let at-if1 = at-place2 .before .before .before in
-    let entry = at-if1 .before .before .before .before .before in
+    let at-link = at-if1 .before .before in
+    let entry = at-link .before .before .before in
     omega (arith, at-if1 .if1 .left, at-place2 .place2 .ensures, at-if2 .if2 .left, entry .pre .1)
 
 returns-6 : tie.Need-returns-6

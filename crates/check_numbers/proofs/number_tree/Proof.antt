@@ -9,7 +9,10 @@ fill-requires : tie.Need-fill-requires
 fill-requires c κs = search needs
 
 returns : tie.Need-returns
-returns c = trees-not-filled (c .before .before .before .before .pre .1) (c .before .before .fill .ensures) (not-true _ (c .if1 .taken))
+returns c =
+    let at-fill = c .before .before in
+    let entry = at-fill .before .before in
+    trees-not-filled (entry .pre .1) (at-fill .fill .ensures) (not-true _ (c .if1 .taken))
 
 add-if2 : tie.Need-add-if2
 add-if2 c = search needs
@@ -25,10 +28,11 @@ falling-requires c κs = search needs
 
 returns-3 : tie.Need-returns-3
 returns-3 c =
-    let at-if1 = c .before .before .before .before in
+    let at-falling = c .before in
+    let at-if1 = at-falling .before .before .before in
     let at-fill = at-if1 .before .before in
     let entry = at-fill .before .before in
-    trees-not-falling (entry .pre .1) (at-fill .fill .ensures) (not-false _ (at-if1 .if1 .left)) (c .before .falling .ensures) (not-true _ (c .if3 .taken))
+    trees-not-falling (entry .pre .1) (at-fill .fill .ensures) (not-false _ (at-if1 .if1 .left)) (at-falling .falling .ensures) (not-true _ (c .if3 .taken))
 
 all-sought-requires : tie.Need-all-sought-requires
 all-sought-requires c κs = search needs

@@ -60,7 +60,10 @@ walk-sub-walk : (t : ℕ) → walk-lts.Need-sub-walk (walk-claims t) (walk-at t)
 walk-sub-walk t c = omega arith
 
 walk-walk-requires : (t : ℕ) → walk-lts.Need-walk-requires (walk-claims t) (walk-at t) walk.Post
-walk-walk-requires t c κs = (omega (arith, c .before .before .before .before .pre .0), c .before .before .before .before .pre .1)
+walk-walk-requires t c κs =
+    let at-child = c .before in
+    let entry = at-child .before .before .before in
+    (omega (arith, entry .pre .0), entry .pre .1)
 
 walk-returns-3 : (t : ℕ) → walk-lts.Need-returns-3 (walk-claims t) (walk-at t) walk.Post
 walk-returns-3 t c =
@@ -78,8 +81,10 @@ walk-sub-walk-2 t c = omega arith
 
 walk-walk-requires-2 : (t : ℕ) → walk-lts.Need-walk-requires-2 (walk-claims t) (walk-at t) walk.Post
 walk-walk-requires-2 t c κs =
-    let at-walk = c .before .before .before .before in
-    let entry = at-walk .before .before .before .before .before in
+    let at-child2 = c .before in
+    let at-walk = at-child2 .before .before .before in
+    let at-child = at-walk .before .before in
+    let entry = at-child .before .before .before in
     (omega (arith, entry .pre .0), at-walk .walk .ensures .long ∙ entry .pre .1)
 
 walk-returns-4 : (t : ℕ) → walk-lts.Need-returns-4 (walk-claims t) (walk-at t) walk.Post

@@ -20,7 +20,10 @@ matches-requires c κs =
     (at-walk .walk .ensures .long ∙ entry .pre, omega arith, at-walk .walk .ensures .inside (not-false _ (c .before .if1 .left)) .1)
 
 returns-2 : tie.Need-returns-2
-returns-2 c = envelops-rest (c .before .before .before .before .walk .ensures) (not-false _ (c .before .before .if1 .left)) (c .matches .ensures)
+returns-2 c =
+    let at-if1 = c .before .before in
+    let at-walk = at-if1 .before .before in
+    envelops-rest (at-walk .walk .ensures) (not-false _ (at-if1 .if1 .left)) (c .matches .ensures)
 
 pub enveloped-spec : {M : Type 1} → statement M
 enveloped-spec = tie.close (tie.spec walk-requires returns matches-requires returns-2)

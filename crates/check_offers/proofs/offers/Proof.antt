@@ -33,25 +33,27 @@ ordered-requires c κs = search needs
 
 returns-3 : tie.Need-returns-3
 returns-3 c =
-    let at-header2 = c .before .before .before .before in
+    let at-ordered = c .before in
+    let at-header2 = at-ordered .before .before .before in
     let at-envelope-root = at-header2 .before in
     let at-offers-root = at-envelope-root .before in
     let at-if1 = at-offers-root .before in
     offers-no-order (at-if1 .if1 .left) (at-offers-root .offers-root .ensures) (at-envelope-root .envelope-root .ensures) (at-header2 .header2 .ensures)
-    (c .before .ordered .ensures) (not-true _ (c .if3 .taken))
+    (at-ordered .ordered .ensures) (not-true _ (c .if3 .taken))
 
 enveloped-requires : tie.Need-enveloped-requires
 enveloped-requires c κs = search needs
 
 returns-4 : tie.Need-returns-4
 returns-4 c =
-    let at-ordered = c .before .before .before .before in
+    let at-enveloped = c .before in
+    let at-ordered = at-enveloped .before .before .before in
     let at-header2 = at-ordered .before .before .before in
     let at-envelope-root = at-header2 .before in
     let at-offers-root = at-envelope-root .before in
     let at-if1 = at-offers-root .before in
     offers-no-envelope (at-if1 .if1 .left) (at-offers-root .offers-root .ensures) (at-envelope-root .envelope-root .ensures) (at-header2 .header2 .ensures)
-    (at-ordered .ordered .ensures) (c .before .enveloped .ensures) (not-true _ (c .if4 .taken))
+    (at-ordered .ordered .ensures) (at-enveloped .enveloped .ensures) (not-true _ (c .if4 .taken))
 
 fill-requires : tie.Need-fill-requires
 fill-requires c κs = search needs

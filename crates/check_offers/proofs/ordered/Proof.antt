@@ -16,7 +16,10 @@ returns-2 : tie.Need-returns-2
 returns-2 c = orders-not-long (c .before .before .before .fill .ensures) (not-false _ (c .before .if1 .left)) (c .if2 .taken)
 
 all-ranged-requires : tie.Need-all-ranged-requires
-all-ranged-requires c κs = (omega arith, c .before .before .before .before .fill .ensures .inside (not-false _ (c .before .before .if1 .left)) .1)
+all-ranged-requires c κs =
+    let at-if2 = c .before in
+    let at-fill = at-if2 .before .before .before in
+    (omega arith, at-fill .fill .ensures .inside (not-false _ (at-if2 .before .if1 .left)) .1)
 
 returns-3 : tie.Need-returns-3
 returns-3 c =
@@ -28,7 +31,8 @@ returns-3 c =
 
 falling-requires : tie.Need-falling-requires
 falling-requires c κs =
-    let at-if1 = c .before .before .before .before .before in
+    let at-all-ranged = c .before .before in
+    let at-if1 = at-all-ranged .before .before .before in
     let at-fill = at-if1 .before .before in
     (omega arith, at-fill .fill .ensures .inside (not-false _ (at-if1 .if1 .left)) .1)
 

@@ -28,17 +28,18 @@ offers-requires c κs = search needs
 
 returns-3 : tie.Need-returns-3
 returns-3 c =
-    let at-free-slots = c .before .before .before .before in
+    let at-offers = c .before in
+    let at-free-slots = at-offers .before .before .before in
     let at-number-at = at-free-slots .before in
-    audits-no-offers (at-number-at .number-at .ensures) (at-free-slots .free-slots .ensures) (c .before .offers .ensures) (not-true _ (c .if3 .taken))
+    audits-no-offers (at-number-at .number-at .ensures) (at-free-slots .free-slots .ensures) (at-offers .offers .ensures) (not-true _ (c .if3 .taken))
 
 cast-numbers : tie.Need-cast-numbers
 cast-numbers c = search needs
 
 numbers-requires : tie.Need-numbers-requires
 numbers-requires c κs =
-    let at-before = c .before .before .before .before .before in
-    let at-number-at = at-before .before in
+    let at-scratch = c .before .before .before in
+    let at-number-at = at-scratch .before .before .before in
     let entry = at-number-at .before .before .before in
     (search needs, omega (arith, at-number-at .number-at .ensures, upTo-most mostSlots (word (entry .args .part .now) liveCountWord)))
 

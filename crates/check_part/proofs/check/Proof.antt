@@ -30,7 +30,10 @@ book-stands-requires : tie.Need-book-stands-requires
 book-stands-requires c κs = search needs
 
 returns-2 : tie.Need-returns-2
-returns-2 c = checks-part (c .before .before .before .before .args .table .now) (c .before .before .before .before .args .start) (c .book-stands .ensures)
+returns-2 c =
+    let at-if1 = c .before .before in
+    let entry = at-if1 .before .before in
+    checks-part (entry .args .table .now) (entry .args .start) (c .book-stands .ensures)
 
 pub check-spec : {M : Type 1} → statement M
 check-spec =

@@ -61,7 +61,10 @@ fill-sub-fill : (t : ℕ) → fill-lts.Need-sub-fill (fill-claims t) (fill-at t)
 fill-sub-fill t c = omega arith
 
 fill-fill-requires : (t : ℕ) → fill-lts.Need-fill-requires (fill-claims t) (fill-at t) fill.Post
-fill-fill-requires t c κs = (omega (arith, c .before .before .before .before .pre .0), c .before .before .before .before .pre .1)
+fill-fill-requires t c κs =
+    let at-child = c .before in
+    let entry = at-child .before .before .before in
+    (omega (arith, entry .pre .0), entry .pre .1)
 
 fill-returns-3 : (t : ℕ) → fill-lts.Need-returns-3 (fill-claims t) (fill-at t) fill.Post
 fill-returns-3 t c =
@@ -79,8 +82,10 @@ fill-sub-fill-2 t c = omega arith
 
 fill-fill-requires-2 : (t : ℕ) → fill-lts.Need-fill-requires-2 (fill-claims t) (fill-at t) fill.Post
 fill-fill-requires-2 t c κs =
-    let at-fill = c .before .before .before .before in
-    let entry = at-fill .before .before .before .before .before in
+    let at-child2 = c .before in
+    let at-fill = at-child2 .before .before .before in
+    let at-child = at-fill .before .before in
+    let entry = at-child .before .before .before in
     (omega (arith, entry .pre .0), at-fill .fill .ensures .long ∙ entry .pre .1)
 
 fill-returns-4 : (t : ℕ) → fill-lts.Need-returns-4 (fill-claims t) (fill-at t) fill.Post

@@ -38,7 +38,8 @@ nothing-requires-2 c κs = search needs
 returns-2 : tie.Need-returns-2
 returns-2 c =
     let at-if2 = c .before in
-    let entry = at-if2 .before .before .before .before in
+    let at-if1 = at-if2 .before in
+    let entry = at-if1 .before .before .before in
     let args = entry .args in
     let lower = ltb-true (args .a .height + 1) (args .b .height) in
     covers-not (c .nothing2 .ensures)

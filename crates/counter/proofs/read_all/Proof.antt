@@ -22,16 +22,18 @@ read-block-requires c κs = tt
 
 same-length : tie.Need-same-length Inv-loop μ-loop
 same-length c =
-    let at-before = c .before .before .before .before .before in
-    let at-read-block = at-before .before in
-    let at-loop = at-read-block .before .before .before .before in
+    let at-slice-known2 = c .before .before .before in
+    let at-read-block = at-slice-known2 .before .before .before in
+    let at-loop-test = at-read-block .before .before .before in
+    let at-loop = at-loop-test .before in
     at-read-block .read-block .kept .0 ∙ at-loop .loop .inv .0
 
 same-length-2 : tie.Need-same-length-2 Inv-loop μ-loop
 same-length-2 c =
-    let at-before = c .before .before .before .before .before in
-    let at-read-block = at-before .before in
-    let at-loop = at-read-block .before .before .before .before in
+    let at-slice-known2 = c .before .before .before in
+    let at-read-block = at-slice-known2 .before .before .before in
+    let at-loop-test = at-read-block .before .before .before in
+    let at-loop = at-loop-test .before in
     at-read-block .read-block .kept .1 .1 .0 ∙ at-loop .loop .inv .1
 
 returns : tie.Need-returns Inv-loop μ-loop
@@ -45,9 +47,10 @@ loop-less c = omega arith
 
 loop-again : tie.Need-loop-again Inv-loop μ-loop
 loop-again c =
-    let at-before = c .before .before .before .before .before in
-    let at-read-block = at-before .before in
-    let at-loop = at-read-block .before .before .before .before in
+    let at-slice-known2 = c .before .before .before in
+    let at-read-block = at-slice-known2 .before .before .before in
+    let at-loop-test = at-read-block .before .before .before in
+    let at-loop = at-loop-test .before in
     (at-read-block .read-block .kept .0 ∙ at-loop .loop .inv .0, at-read-block .read-block .kept .1 .1 .0 ∙ at-loop .loop .inv .1)
 
 same-length-3 : tie.Need-same-length-3 Inv-loop μ-loop

@@ -30,7 +30,8 @@ loop-less c = omega arith
 loop-again : tie.Need-loop-again Inv-loop μ-loop
 loop-again c =
     let at-take-byte = c .before .before .before in
-    let at-loop = at-take-byte .before .before .before .before .before in
+    let at-shared-slice-known2 = at-take-byte .before .before in
+    let at-loop = at-shared-slice-known2 .before .before .before in
     (at-take-byte .take-byte .kept .0 ∙ at-loop .loop .inv .0, at-take-byte .take-byte .kept .1 .1 .1 .0 ∙ at-loop .loop .inv .1)
 
 same-length : tie.Need-same-length Inv-loop μ-loop

@@ -14,7 +14,8 @@ slice-reshare-prefix-write-all c = search needs
 
 slice-aggregate-write-all : tie.Need-slice-aggregate-write-all
 slice-aggregate-write-all c =
-    let at-feed = c .before .before .before .before in
+    let at-out = c .before .before in
+    let at-feed = at-out .before .before in
     sym (length-take-le _ (at-feed .feed .last .1 .1 .1 .0) (omega (arith, at-feed .feed .ensures .within, at-feed .feed .kept .1 .1 .1 .0)))
 
 write-all-requires : tie.Need-write-all-requires

@@ -37,7 +37,8 @@ returns : tie.Need-returns
 returns c =
     let at-if1 = c .before .before in
     let at-same = at-if1 .before in
-    let entry = at-same .before .before .before .before in
+    let at-same-arg2 = at-same .before in
+    let entry = at-same-arg2 .before .before .before in
     last-read (entry .args .line .now) (c .read-field .result) (at-same .same .ensures .0 (at-if1 .if1 .taken)) (c .read-field .ensures)
 
 returns-2 : tie.Need-returns-2

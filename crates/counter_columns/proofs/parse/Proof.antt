@@ -54,16 +54,18 @@ returns-5 c =
 
 returns-6 : tie.Need-returns-6
 returns-6 c =
-    let at-value = c .before .before .before .before in
+    let at-if4 = c .before in
+    let at-value = at-if4 .before .before .before in
     let at-last-columns = at-value .before .before in
-    ⊎-elim (λ y. wrong-letter _ (at-last-columns .before .if2 .left) (c .before .before .if3 .left) (c .before .if4 .left) (y .taken))
+    ⊎-elim (λ y. wrong-letter _ (at-last-columns .before .if2 .left) (at-if4 .before .if3 .left) (at-if4 .if4 .left) (y .taken))
     (λ y. wrong-list _ _ (y .0 .left) (last-number _ _ (at-last-columns .last-columns .ensures) (at-value .value .given .1))
     (λ e. eqb-false _ _ (not-true _ (y .1 .taken)) (ap (ofZ w64) e)))
     (c .if5 .came)
 
 returns-7 : tie.Need-returns-7
 returns-7 c =
-    let at-value = c .before .before .before .before .before in
+    let at-if4 = c .before .before in
+    let at-value = at-if4 .before .before .before in
     let at-last-columns = at-value .before .before in
     let v = at-value .value .given .0 .0 in
     let f : SFits w64 v = search needs in

@@ -52,7 +52,9 @@ enum-told-2 c = search needs
 returns-2 : tie.Need-returns-2
 returns-2 c =
     let at-read-field2 = c .before .before in
-    let entry = at-read-field2 .before .before .before .before .before .before .before .before in
+    let at-number = at-read-field2 .before .before .before in
+    let at-read-field = at-number .before .before in
+    let entry = at-read-field .before .before .before in
     wrong-post _ (entry .pre .1) (λ n r b p. bad-read _ _ (at-read-field2 .read-field2 .ensures) (c .enum-told2 .given .1) r (p .second))
 
 sub-read-field-3 : tie.Need-sub-read-field-3
@@ -76,14 +78,15 @@ enum-told-3 c = search needs
 returns-3 : tie.Need-returns-3
 returns-3 c =
     let at-read-field3 = c .before .before in
-    let entry = at-read-field3 .before .before .before .before .before .before .before .before .before .before .before .before .before in
+    let at-rate = at-read-field3 .before .before .before in
+    let at-read-field2 = at-rate .before .before in
+    let at-number = at-read-field2 .before .before .before in
+    let at-read-field = at-number .before .before in
+    let entry = at-read-field .before .before .before in
     wrong-post _ (entry .pre .1) (λ n r b p. bad-read _ _ (at-read-field3 .read-field3 .ensures) (c .enum-told3 .given .1) b (p .third))
 
 returns-4 : tie.Need-returns-4
 returns-4 c =
-    let f : SFits w64 (c .before .before .before .before .before .before .before .before .before .before .before .number .given .0 .0) = search needs in
-    let g : SFits w64 (c .before .before .before .before .before .before .rate .given .0 .0) = search needs in
-    let h : SFits w64 (c .before .base .given .0 .0) = search needs in
     let at-base = c .before in
     let at-read-field3 = at-base .before .before in
     let at-rate = at-read-field3 .before .before .before in
@@ -91,6 +94,9 @@ returns-4 c =
     let at-number = at-read-field2 .before .before .before in
     let at-read-field = at-number .before .before in
     let entry = at-read-field .before .before .before in
+    let f : SFits w64 (at-number .number .given .0 .0) = record { sfits = at-read-field2 .before .before .known-told .given .0 .1 } in
+    let g : SFits w64 (at-rate .rate .given .0 .0) = record { sfits = at-read-field3 .before .before .known-told2 .given .0 .1 } in
+    let h : SFits w64 (at-base .base .given .0 .0) = record { sfits = c .known-told3 .given .0 .1 } in
     simp (toZ-ofZ, f, g, h)
     (is-post _ _ _ _ (entry .pre .0) (entry .pre .1)
     (record {

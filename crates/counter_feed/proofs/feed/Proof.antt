@@ -24,7 +24,8 @@ same-length-2 c = search needs
 
 returns-2 : tie.Need-returns-2
 returns-2 c =
-    let at-answer-kept = c .before .before .before .before in
+    let at-out = c .before .before in
+    let at-answer-kept = at-out .before .before in
     let at-if1 = at-answer-kept .before .before .before in
     feeds-line (at-if1 .if1 .left) (c .no-line .ensures) (at-answer-kept .answer-kept .ensures)
 

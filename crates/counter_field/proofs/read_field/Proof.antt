@@ -21,7 +21,10 @@ array-borrow-prefix-text : tie.Need-array-borrow-prefix-text
 array-borrow-prefix-text c = search needs
 
 slice-aggregate-justify : tie.Need-slice-aggregate-justify
-slice-aggregate-justify c = simp length-take (omega (arith, c .before .before .before .before .pre))
+slice-aggregate-justify c =
+    let at-number-in = c .before in
+    let entry = at-number-in .before .before .before in
+    simp length-take (omega (arith, entry .pre))
 
 justify-requires : tie.Need-justify-requires
 justify-requires c κs = search needs
@@ -29,13 +32,15 @@ justify-requires c κs = search needs
 array-share-prefix-text : tie.Need-array-share-prefix-text
 array-share-prefix-text c =
     let at-justify = c .before in
-    let entry = at-justify .before .before .before .before .before in
+    let at-number-in = at-justify .before .before in
+    let entry = at-number-in .before .before .before in
     simp length-append (omega (arith, entry .pre, simp length-take at (at-justify .justify .kept .0)))
 
 slice-aggregate-same : tie.Need-slice-aggregate-same
 slice-aggregate-same c =
     let at-justify = c .before .before in
-    let entry = at-justify .before .before .before .before .before in
+    let at-number-in = at-justify .before .before in
+    let entry = at-number-in .before .before .before in
     simp (length-take, length-append) (omega (arith, entry .pre, simp length-take at (at-justify .justify .kept .0)))
 
 same-requires : tie.Need-same-requires
@@ -56,15 +61,18 @@ returns-2 c =
 
 returns-3 : tie.Need-returns-3
 returns-3 c z h =
-    let f : SFits w64 (c .before .before .before .before .before .before .number-in .result) =
-    record { sfits = c .before .before .before .before .before .before .number-in .ok } in
-    absurd (true≢false (sym (c .before .same .ensures .1
-    (held _ _ _ _ (c .before .before .before .before .before .before .before .if1 .left) (omega (
+    let at-same = c .before in
+    let at-justify = at-same .before .before .before in
+    let at-number-in = at-justify .before .before in
+    let f : SFits w64 (at-number-in .number-in .result) =
+    record { sfits = at-number-in .number-in .ok } in
+    absurd (true≢false (sym (at-same .same .ensures .1
+    (held _ _ _ _ (at-number-in .before .if1 .left) (omega (
       arith,
-      c .before .before .before .before .before .before .before .before .before .pre,
+      at-number-in .before .before .before .pre,
     ))
-    (c .before .before .before .before .before .before .number-in .ensures) (c .before .before .before .before .justify .kept .0)
-    (simp (toZ-ofZ, f) at (c .before .before .before .before .justify .ensures)) z h)) ∙ c .if2 .left))
+    (at-number-in .number-in .ensures) (at-justify .justify .kept .0)
+    (simp (toZ-ofZ, f) at (at-justify .justify .ensures)) z h)) ∙ c .if2 .left))
 
 pub read-field-spec : {M : Type 1} → statement M
 read-field-spec =

@@ -19,7 +19,10 @@ shared-slice-read-with-byte : tie.Need-shared-slice-read-with-byte Inv-loop μ-l
 shared-slice-read-with-byte c = omega arith
 
 with-byte-requires : tie.Need-with-byte-requires Inv-loop μ-loop
-with-byte-requires c κs = read-small (c .before .before .loop .inv) (c .before .before .before .before .pre)
+with-byte-requires c κs =
+    let at-loop-test = c .before in
+    let entry = at-loop-test .before .before .before in
+    read-small (at-loop-test .before .loop .inv) (entry .pre)
 
 add-at : tie.Need-add-at Inv-loop μ-loop
 add-at c = omega arith

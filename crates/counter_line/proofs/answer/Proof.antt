@@ -30,14 +30,14 @@ same-length-2 c = search needs
 
 returns-2 : tie.Need-returns-2
 returns-2 c =
-    let f : SFits w64 (c .before .before .before .before .before .before .before .before .command .given .0 .0) = search needs in
-    let g : SFits w64 (c .before .before .before .before .before .before .before .before .command .given .0 .1 .0) = search needs in
-    let h : SFits w64 (c .before .before .before .before .before .before .before .before .command .given .0 .1 .1 .0) = search needs in
     let at-update-line = c .before .before in
     let at-post = at-update-line .before .before .before in
     let at-command = at-post .before .before .before in
     let at-parse = at-command .before .before in
     let at-if1 = at-parse .before in
+    let f : SFits w64 (at-command .command .given .0 .0) = search needs in
+    let g : SFits w64 (at-command .command .given .0 .1 .0) = search needs in
+    let h : SFits w64 (at-command .command .given .0 .1 .1 .0) = search needs in
     posted (at-if1 .if1 .left) _ _ _ (command-is (at-parse .parse .ensures) (at-command .command .given .1))
     (simp (toZ-ofZ, f, g, h) at (at-post .post .ensures)) (simp (toZ-ofZ, f) at (at-update-line .update-line .ensures))
 
@@ -58,12 +58,12 @@ same-length-4 c = search needs
 
 returns-3 : tie.Need-returns-3
 returns-3 c =
-    let f : SFits w64 (c .before .before .before .before .before .before .before .before .command2 .given .0 .0) = search needs in
     let at-update-line2 = c .before .before in
     let at-withdraw = at-update-line2 .before .before .before in
     let at-command2 = at-withdraw .before .before .before in
     let at-parse = at-command2 .before .before in
     let at-if1 = at-parse .before in
+    let f : SFits w64 (at-command2 .command2 .given .0 .0) = search needs in
     withdrawn (at-if1 .if1 .left) _ (command-is (at-parse .parse .ensures) (at-command2 .command2 .given .1))
     (simp (toZ-ofZ, f) at (at-withdraw .withdraw .ensures)) (simp (toZ-ofZ, f) at (at-update-line2 .update-line2 .ensures))
 
@@ -84,12 +84,12 @@ same-length-6 c = search needs
 
 returns-4 : tie.Need-returns-4
 returns-4 c =
-    let f : SFits w64 (c .before .before .before .before .before .before .before .command3 .given .0 .0) = search needs in
     let at-found-line = c .before .before in
     let at-query = at-found-line .before .before in
     let at-command3 = at-query .before .before .before in
     let at-parse = at-command3 .before .before in
     let at-if1 = at-parse .before in
+    let f : SFits w64 (at-command3 .command3 .given .0 .0) = search needs in
     asked (at-if1 .if1 .left) _ (command-is (at-parse .parse .ensures) (at-command3 .command3 .given .1))
     (simp (toZ-ofZ, f) at (at-query .query .ensures)) (at-found-line .found-line .ensures)
 

@@ -23,7 +23,8 @@ same-length c = search needs
 returns : tie.Need-returns
 returns c =
     let at-listed-lines = c .before .before in
-    let at-listing = at-listed-lines .before .before .before .before in
+    let at-pieces3 = at-listed-lines .before in
+    let at-listing = at-pieces3 .before .before .before in
     lists-lines refl (at-listing .listing .ensures) (at-listed-lines .listed-lines .ensures)
 
 pub list-spec : {M : Type 1} → statement M

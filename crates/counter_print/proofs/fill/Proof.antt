@@ -28,7 +28,10 @@ loop-less : tie.Need-loop-less Inv-loop μ-loop
 loop-less c = omega arith
 
 loop-again : tie.Need-loop-again Inv-loop μ-loop
-loop-again c = filling-more (c .cut-last .result) (c .before .before .before .before .pre) (c .before .before .loop .inv) (c .before .loop-test .taken)
+loop-again c =
+    let at-loop-test = c .before in
+    let entry = at-loop-test .before .before .before in
+    filling-more (c .cut-last .result) (entry .pre) (at-loop-test .before .loop .inv) (at-loop-test .loop-test .taken)
     (c .cut-last .ensures)
 
 same-length : tie.Need-same-length Inv-loop μ-loop

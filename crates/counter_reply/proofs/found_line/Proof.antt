@@ -18,11 +18,11 @@ same-length c = search needs
 
 returns : tie.Need-returns
 returns c =
-    let f : SFits w64 (c .before .before .before .before .before .found .given .0 .0) = search needs in
-    let g : SFits w64 (c .before .before .before .before .before .found .given .0 .1 .0) = search needs in
     let at-answer-line = c .before .before in
     let at-found = at-answer-line .before .before .before in
     let entry = at-found .before .before .before in
+    let f : SFits w64 (at-found .found .given .0 .0) = search needs in
+    let g : SFits w64 (at-found .found .given .0 .1 .0) = search needs in
     rw (at-found .found .given .1)
     (found-line (entry .pre) _ _ (simp (toZ-ofZ, f, g) at (at-answer-line .answer-line .ensures)))
 
@@ -37,10 +37,10 @@ same-length-2 c = search needs
 
 returns-2 : tie.Need-returns-2
 returns-2 c =
-    let f : SFits w64 (c .before .before .before .before .before .found2 .given .0 .0) = search needs in
     let at-answer-line2 = c .before .before in
     let at-found2 = at-answer-line2 .before .before .before in
     let entry = at-found2 .before .before .before in
+    let f : SFits w64 (at-found2 .found2 .given .0 .0) = search needs in
     rw (at-found2 .found2 .given .1)
     (refused-line (entry .pre) _ (simp (toZ-ofZ, f) at (at-answer-line2 .answer-line2 .ensures)))
 

@@ -31,14 +31,16 @@ mul-at c = search needs
 slice-aggregate-piece-lines : tie.Need-slice-aggregate-piece-lines
 slice-aggregate-piece-lines c =
     let at-up-to = c .before in
-    let entry = at-up-to .before .before .before .before .before in
+    let at-listed = at-up-to .before .before in
+    let entry = at-listed .before .before .before in
     let n : at-up-to .up-to .result ≤ 64 = rw (at-up-to .up-to .ensures) (upTo-most 64 _) in
     sym (length-take-le _ (entry .args .pieces .now) (omega (arith, entry .pre .1)))
 
 piece-lines-requires : tie.Need-piece-lines-requires
 piece-lines-requires c κs =
     let at-up-to = c .before .before in
-    let entry = at-up-to .before .before .before .before .before in
+    let at-listed = at-up-to .before .before in
+    let entry = at-listed .before .before .before in
     let n : at-up-to .up-to .result ≤ 64 = rw (at-up-to .up-to .ensures) (upTo-most 64 _) in
     (length-take-le _ (entry .args .pieces .now) (omega (arith, entry .pre .1)), omega (arith, entry .pre .0), n)
 
@@ -46,7 +48,8 @@ sub-answer-line : tie.Need-sub-answer-line
 sub-answer-line c =
     let at-piece-lines = c .before .before in
     let at-up-to = at-piece-lines .before .before .before in
-    let entry = at-up-to .before .before .before .before .before in
+    let at-listed = at-up-to .before .before in
+    let entry = at-listed .before .before .before in
     let n : at-up-to .up-to .result ≤ 64 = rw (at-up-to .up-to .ensures) (upTo-most 64 _) in
     omega (arith, entry .pre .0, at-piece-lines .piece-lines .kept .1 .1 .0)
 
@@ -54,7 +57,8 @@ part-answer-line-start : tie.Need-part-answer-line-start
 part-answer-line-start c =
     let at-piece-lines = c .before .before in
     let at-up-to = at-piece-lines .before .before .before in
-    let entry = at-up-to .before .before .before .before .before in
+    let at-listed = at-up-to .before .before in
+    let entry = at-listed .before .before .before in
     let n : at-up-to .up-to .result ≤ 64 = rw (at-up-to .up-to .ensures) (upTo-most 64 _) in
     omega (arith, entry .pre .0, at-piece-lines .piece-lines .kept .1 .1 .0)
 
@@ -65,7 +69,8 @@ answer-line-requires : tie.Need-answer-line-requires
 answer-line-requires c κs =
     let at-piece-lines = c .before .before .before in
     let at-up-to = at-piece-lines .before .before .before in
-    let entry = at-up-to .before .before .before .before .before in
+    let at-listed = at-up-to .before .before in
+    let entry = at-listed .before .before .before in
     let n : at-up-to .up-to .result ≤ 64 = rw (at-up-to .up-to .ensures) (upTo-most 64 _) in
     part-long (at-piece-lines .piece-lines .last .1 .1 .0) (39 * at-up-to .up-to .result) 39
     (omega (arith, entry .pre .0, at-piece-lines .piece-lines .kept .1 .1 .0))
@@ -78,12 +83,13 @@ same-length c = search needs
 
 returns : tie.Need-returns
 returns c =
-    let f : SFits w64 (c .before .before .before .before .before .before .before .before .before .before .before .listed .given .0 .0) = search needs in
     let at-answer-line = c .before .before in
-    let at-piece-lines = at-answer-line .before .before .before .before in
+    let at-out = at-answer-line .before .before .before in
+    let at-piece-lines = at-out .before in
     let at-up-to = at-piece-lines .before .before .before in
     let at-listed = at-up-to .before .before in
     let entry = at-listed .before .before .before in
+    let f : SFits w64 (at-listed .listed .given .0 .0) = search needs in
     rw (at-listed .listed .given .1)
     (listed-line _ (entry .args .pieces .now) (entry .pre .1) (entry .pre .0) (at-up-to .up-to .result) (simp (toZ-ofZ, f) at (at-up-to .up-to .ensures))
     (at-piece-lines .piece-lines .ensures) (simp (toZ-ofZ, f) at (at-answer-line .answer-line .ensures)))
@@ -99,10 +105,10 @@ same-length-2 c = search needs
 
 returns-2 : tie.Need-returns-2
 returns-2 c =
-    let f : SFits w64 (c .before .before .before .before .before .listed2 .given .0 .0) = search needs in
     let at-answer-line2 = c .before .before in
     let at-listed2 = at-answer-line2 .before .before .before in
     let entry = at-listed2 .before .before .before in
+    let f : SFits w64 (at-listed2 .listed2 .given .0 .0) = search needs in
     rw (at-listed2 .listed2 .given .1)
     (refused-line (omega (arith, entry .pre .0)) _ (simp (toZ-ofZ, f) at (at-answer-line2 .answer-line2 .ensures)))
 

@@ -16,10 +16,12 @@ loop-holds : tie.Need-loop-holds Inv-loop μ-loop
 loop-holds c = (pieces-none _ _, omega arith)
 
 piece-line-requires : tie.Need-piece-line-requires Inv-loop μ-loop
-piece-line-requires c κs = (
-  omega (arith, c .before .before .loop .inv .0 .long, c .before .before .before .before .pre .1, c .before .loop-test .taken),
-  omega (arith, c .before .before .before .before .pre .2, c .before .loop-test .taken),
-)
+piece-line-requires c κs =
+    let at-loop-test = c .before in
+    let entry = at-loop-test .before .before .before in (
+      omega (arith, at-loop-test .before .loop .inv .0 .long, entry .pre .1, at-loop-test .loop-test .taken),
+      omega (arith, entry .pre .2, at-loop-test .loop-test .taken),
+    )
 
 add-i : tie.Need-add-i Inv-loop μ-loop
 add-i c = omega arith

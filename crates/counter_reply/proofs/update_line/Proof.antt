@@ -18,10 +18,10 @@ same-length c = search needs
 
 returns : tie.Need-returns
 returns c =
-    let f : SFits w64 (c .before .before .before .before .before .update .given .0 .0) = search needs in
     let at-answer-line = c .before .before in
     let at-update = at-answer-line .before .before .before in
     let entry = at-update .before .before .before in
+    let f : SFits w64 (at-update .update .given .0 .0) = search needs in
     let g = entry .fits .number in
     rw (at-update .update .given .1)
     (live-line (entry .pre) _ (simp (toZ-ofZ, f, g) at (at-answer-line .answer-line .ensures)))
@@ -37,10 +37,10 @@ same-length-2 c = search needs
 
 returns-2 : tie.Need-returns-2
 returns-2 c =
-    let f : SFits w64 (c .before .before .before .before .before .update2 .given .0 .0) = search needs in
     let at-answer-line2 = c .before .before in
     let at-update2 = at-answer-line2 .before .before .before in
     let entry = at-update2 .before .before .before in
+    let f : SFits w64 (at-update2 .update2 .given .0 .0) = search needs in
     rw (at-update2 .update2 .given .1)
     (refused-line (entry .pre) _ (simp (toZ-ofZ, f) at (at-answer-line2 .answer-line2 .ensures)))
 

@@ -48,12 +48,18 @@ is-equal-requires : tie.Need-is-equal-requires Inv-loop μ-loop
 is-equal-requires c κs = search needs
 
 returns-2 : tie.Need-returns-2 Inv-loop μ-loop
-returns-2 c = looking-ends _ true (simp (toZ-ofZ, c .before .before .before .before .fits .key) at (c .before .before .before .loop .inv))
-    (c .before .before .loop-test .left) (simp (toZ-ofZ, c .before .before .before .before .fits .key) at (c .before .is-equal .ensures)) (c .if2 .taken)
+returns-2 c =
+    let at-is-equal = c .before in
+    let entry = at-is-equal .before .before .before in
+    looking-ends _ true (simp (toZ-ofZ, entry .fits .key) at (at-is-equal .before .before .loop .inv))
+    (at-is-equal .before .loop-test .left) (simp (toZ-ofZ, entry .fits .key) at (at-is-equal .is-equal .ensures)) (c .if2 .taken)
 
 returns-3 : tie.Need-returns-3 Inv-loop μ-loop
-returns-3 c = looking-ends _ false (simp (toZ-ofZ, c .before .before .before .before .fits .key) at (c .before .before .before .loop .inv))
-    (c .before .before .loop-test .left) (simp (toZ-ofZ, c .before .before .before .before .fits .key) at (c .before .is-equal .ensures)) (c .if2 .left)
+returns-3 c =
+    let at-is-equal = c .before in
+    let entry = at-is-equal .before .before .before in
+    looking-ends _ false (simp (toZ-ofZ, entry .fits .key) at (at-is-equal .before .before .loop .inv))
+    (at-is-equal .before .loop-test .left) (simp (toZ-ofZ, entry .fits .key) at (at-is-equal .is-equal .ensures)) (c .if2 .left)
 
 pub find-spec : {M : Type 1} → statement M
 find-spec =

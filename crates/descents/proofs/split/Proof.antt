@@ -16,7 +16,8 @@ same-length c = search needs
 returns : tie.Need-returns
 returns c =
     let at-split-in = c .before in
-    let entry = at-split-in .before .before .before .before in
+    let at-capacity = at-split-in .before .before in
+    let entry = at-capacity .before .before in
     simp (toZ-ofZ, entry .fits .least) at (at-split-in .split-in .ensures)
 
 pub split-spec : {M : Type 1} → statement M

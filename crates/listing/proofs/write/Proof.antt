@@ -39,19 +39,24 @@ loop-holds : tie.Need-loop-holds Inv-loop μ-loop
 loop-holds c = writing-begins _ _ (c .end .ensures)
 
 add-put-piece : tie.Need-add-put-piece Inv-loop μ-loop
-add-put-piece c = omega (arith, c .before .before .before .before .count .ensures .few)
+add-put-piece c =
+    let at-loop = c .before in
+    let at-count = at-loop .before .before .before in
+    omega (arith, at-count .count .ensures .few)
 
 cast-put-piece : tie.Need-cast-put-piece Inv-loop μ-loop
 cast-put-piece c = search needs
 
 mul-put-piece : tie.Need-mul-put-piece Inv-loop μ-loop
 mul-put-piece c =
-    let at-count = c .before .before .before .before .before in
+    let at-loop = c .before .before in
+    let at-count = at-loop .before .before .before in
     omega (arith, at-count .count .ensures .few)
 
 put-piece-requires : tie.Need-put-piece-requires Inv-loop μ-loop
 put-piece-requires c κs =
-    let at-count = c .before .before .before .before .before in
+    let at-loop = c .before .before in
+    let at-count = at-loop .before .before .before in
     omega (arith, at-count .count .ensures .few)
 
 link-requires : tie.Need-link-requires Inv-loop μ-loop
@@ -59,8 +64,9 @@ link-requires c κs = search needs
 
 add-i : tie.Need-add-i Inv-loop μ-loop
 add-i c =
-    let at-before = c .before .before .before .before .before .before .before in
-    let at-count = at-before .before in
+    let at-put-piece = c .before .before in
+    let at-loop = at-put-piece .before .before .before in
+    let at-count = at-loop .before .before .before in
     omega (arith, at-count .count .ensures .few)
 
 loop-less : tie.Need-loop-less Inv-loop μ-loop

@@ -26,8 +26,10 @@ same-length c = search needs
 
 returns : tie.Need-returns
 returns c =
-    let heights = c .before .before .before .before in
-    raised (heights .before .before .height-in .ensures) (heights .height-in2 .ensures) (c .before .before .height-over .ensures) (c .before .set-node .ensures)
+    let at-set-node = c .before in
+    let heights = at-set-node .before .before .before in
+    raised (heights .before .before .height-in .ensures) (heights .height-in2 .ensures) (at-set-node .before .height-over .ensures)
+    (at-set-node .set-node .ensures)
 
 pub make-node-in-spec : {M : Type 1} → statement M
 make-node-in-spec =

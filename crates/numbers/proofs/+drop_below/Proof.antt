@@ -57,16 +57,22 @@ drop-below-inner-slot-requires : (t : ℕ) → drop-below-lts.Need-inner-slot-re
 drop-below-inner-slot-requires t c κs = search needs
 
 drop-below-child-in-requires : (t : ℕ) → drop-below-lts.Need-child-in-requires (drop-below-claims t) (drop-below-at t) drop-below.Post
-drop-below-child-in-requires t c κs = c .before .before .before .before .pre .1
+drop-below-child-in-requires t c κs =
+    let at-inner-slot = c .before in
+    let entry = at-inner-slot .before .before .before in
+    entry .pre .1
 
 drop-below-child-in-requires-2 : (t : ℕ) → drop-below-lts.Need-child-in-requires-2 (drop-below-claims t) (drop-below-at t) drop-below.Post
 drop-below-child-in-requires-2 t c κs =
-    let entry = c .before .before .before .before .before .before in
+    let at-inner-slot = c .before .before .before in
+    let entry = at-inner-slot .before .before .before in
     entry .pre .1
 
 drop-below-at-least-in-requires : (t : ℕ) → drop-below-lts.Need-at-least-in-requires (drop-below-claims t) (drop-below-at t) drop-below.Post
 drop-below-at-least-in-requires t c κs =
-    let entry = c .before .before .before .before .before .before .before .before in
+    let at-child-in = c .before .before .before in
+    let at-inner-slot = at-child-in .before .before in
+    let entry = at-inner-slot .before .before .before in
     entry .pre .1
 
 drop-below-sub-drop-below : (t : ℕ) → drop-below-lts.Need-sub-drop-below (drop-below-claims t) (drop-below-at t) drop-below.Post
@@ -74,13 +80,19 @@ drop-below-sub-drop-below t c = omega arith
 
 drop-below-drop-below-requires : (t : ℕ) → drop-below-lts.Need-drop-below-requires (drop-below-claims t) (drop-below-at t) drop-below.Post
 drop-below-drop-below-requires t c κs =
-    let at-before = c .before .before .before .before .before .before .before .before .before .before in
-    let entry = at-before .before in (omega (arith, entry .pre .0), entry .pre .1)
+    let at-at-least-in = c .before .before in
+    let at-child-in-arg2 = at-at-least-in .before .before .before in
+    let at-inner-slot = at-child-in-arg2 .before .before .before in
+    let entry = at-inner-slot .before .before .before in
+    (omega (arith, entry .pre .0), entry .pre .1)
 
 drop-below-join-in-requires : (t : ℕ) → drop-below-lts.Need-join-in-requires (drop-below-claims t) (drop-below-at t) drop-below.Post
 drop-below-join-in-requires t c κs =
     let at-drop-below = c .before .before in
-    let entry = at-drop-below .before .before .before .before .before .before .before .before .before .before .before .before in
+    let at-at-least-in = at-drop-below .before .before .before in
+    let at-child-in-arg2 = at-at-least-in .before .before .before in
+    let at-inner-slot = at-child-in-arg2 .before .before .before in
+    let entry = at-inner-slot .before .before .before in
     still-known (entry .pre .1) (at-drop-below .drop-below .ensures .within)
 
 drop-below-same-length : (t : ℕ) → drop-below-lts.Need-same-length (drop-below-claims t) (drop-below-at t) drop-below.Post
@@ -88,34 +100,46 @@ drop-below-same-length t c = search needs
 
 drop-below-returns-3 : (t : ℕ) → drop-below-lts.Need-returns-3 (drop-below-claims t) (drop-below-at t) drop-below.Post
 drop-below-returns-3 t c =
-    let below = c .before .before .before .before in
+    let at-join-in = c .before in
+    let below = at-join-in .before .before .before in
     let tested = below .before .before .before in
     let right = tested .before .before in
     let left = right .before .before in
-    let inner = left .before .before .before .before in
+    let at-inner-slot = left .before .before in
+    let inner = at-inner-slot .before .before in
     let entry = inner .before in
-    thinned-right _ (inner .if1 .left) (left .before .before .inner-slot .ensures) (simp (toZ-ofZ, entry .fits .least) at (tested .at-least-in .ensures))
+    thinned-right _ (inner .if1 .left) (at-inner-slot .inner-slot .ensures) (simp (toZ-ofZ, entry .fits .least) at (tested .at-least-in .ensures))
     (left .child-in .ensures) (right .child-in2 .ensures) (below .before .before .if3 .taken)
-    (simp (toZ-ofZ, entry .fits .least) at (below .drop-below .ensures)) (c .before .join-in .ensures)
+    (simp (toZ-ofZ, entry .fits .least) at (below .drop-below .ensures)) (at-join-in .join-in .ensures)
 
 drop-below-sub-drop-below-2 : (t : ℕ) → drop-below-lts.Need-sub-drop-below-2 (drop-below-claims t) (drop-below-at t) drop-below.Post
 drop-below-sub-drop-below-2 t c = omega arith
 
 drop-below-drop-below-requires-2 : (t : ℕ) → drop-below-lts.Need-drop-below-requires-2 (drop-below-claims t) (drop-below-at t) drop-below.Post
 drop-below-drop-below-requires-2 t c κs =
-    let at-before = c .before .before .before .before .before .before .before .before .before .before in
-    let entry = at-before .before in (omega (arith, entry .pre .0), entry .pre .1)
+    let at-at-least-in = c .before .before in
+    let at-child-in-arg2 = at-at-least-in .before .before .before in
+    let at-inner-slot = at-child-in-arg2 .before .before .before in
+    let entry = at-inner-slot .before .before .before in
+    (omega (arith, entry .pre .0), entry .pre .1)
 
 drop-below-end-in-requires : (t : ℕ) → drop-below-lts.Need-end-in-requires (drop-below-claims t) (drop-below-at t) drop-below.Post
 drop-below-end-in-requires t c κs =
     let at-drop-below2 = c .before .before in
-    let entry = at-drop-below2 .before .before .before .before .before .before .before .before .before .before .before .before in
+    let at-at-least-in = at-drop-below2 .before .before .before in
+    let at-child-in-arg2 = at-at-least-in .before .before .before in
+    let at-inner-slot = at-child-in-arg2 .before .before .before in
+    let entry = at-inner-slot .before .before .before in
     still-known (entry .pre .1) (at-drop-below2 .drop-below2 .ensures .within)
 
 drop-below-join-in-requires-2 : (t : ℕ) → drop-below-lts.Need-join-in-requires-2 (drop-below-claims t) (drop-below-at t) drop-below.Post
 drop-below-join-in-requires-2 t c κs =
-    let at-drop-below2 = c .before .before .before .before in
-    let entry = at-drop-below2 .before .before .before .before .before .before .before .before .before .before .before .before in
+    let at-end-in = c .before in
+    let at-drop-below2 = at-end-in .before .before .before in
+    let at-at-least-in = at-drop-below2 .before .before .before in
+    let at-child-in-arg2 = at-at-least-in .before .before .before in
+    let at-inner-slot = at-child-in-arg2 .before .before .before in
+    let entry = at-inner-slot .before .before .before in
     still-known (entry .pre .1) (at-drop-below2 .drop-below2 .ensures .within)
 
 drop-below-same-length-2 : (t : ℕ) → drop-below-lts.Need-same-length-2 (drop-below-claims t) (drop-below-at t) drop-below.Post
@@ -128,9 +152,10 @@ drop-below-returns-4 t c =
     let tested = below .before .before .before in
     let right = tested .before .before in
     let left = right .before .before in
-    let inner = left .before .before .before .before in
+    let at-inner-slot = left .before .before in
+    let inner = at-inner-slot .before .before in
     let entry = inner .before in
-    thinned-left _ (inner .if1 .left) (left .before .before .inner-slot .ensures) (simp (toZ-ofZ, entry .fits .least) at (tested .at-least-in .ensures))
+    thinned-left _ (inner .if1 .left) (at-inner-slot .inner-slot .ensures) (simp (toZ-ofZ, entry .fits .least) at (tested .at-least-in .ensures))
     (left .child-in .ensures) (right .child-in2 .ensures) (below .before .before .if3 .left)
     (simp (toZ-ofZ, entry .fits .least) at (below .drop-below2 .ensures)) (ended .end-in .ensures) (c .before .join-in2 .ensures)
 

@@ -27,12 +27,13 @@ same-length c = search needs
 
 returns : tie.Need-returns
 returns c =
-    let at-join = c .before .before .before .before in
+    let at-join2 = c .before in
+    let at-join = at-join2 .before .before .before in
     let at-end = at-join .before .before in
     let at-split = at-end .before .before .before in
     let at-get = at-split .before .before in
     let f : SFits w64 (at-get .get .result) = record { sfits = at-get .get .ok } in
-    added (at-get .get .ensures) (simp (toZ-ofZ, f) at (at-split .split .ensures)) (at-end .end .ensures) (at-join .join .ensures) (c .before .join2 .ensures)
+    added (at-get .get .ensures) (simp (toZ-ofZ, f) at (at-split .split .ensures)) (at-end .end .ensures) (at-join .join .ensures) (at-join2 .join2 .ensures)
 
 pub add-spec : {M : Type 1} → statement M
 add-spec =

@@ -21,7 +21,8 @@ same-length c = search needs
 
 returns : tie.Need-returns
 returns c =
-    let above = c .before .before .before .before .before in
+    let at-capacity = c .before .before .before in
+    let above = at-capacity .before .before in
     let f = above .before .fits .number in
     let g : SFits w64 (above .least-above .result) = record { sfits = above .least-above .ok } in
     dropped (simp (toZ-ofZ, f) at (above .least-above .ensures)) (simp (toZ-ofZ, g) at (c .before .drop-below .ensures))

@@ -50,7 +50,10 @@ put-three-in-requires c κs = search needs
 join-in-requires : tie.Need-join-in-requires
 join-in-requires c κs =
     let at-put-three-in = c .before .before in
-    let entry = at-put-three-in .before .before .before .before .before .before .before .before .before .before .before .before in
+    let at-rate-in-arg2 = at-put-three-in .before .before .before in
+    let at-base-in2 = at-rate-in-arg2 .before .before .before in
+    let at-base-in-arg = at-base-in2 .before .before .before in
+    let entry = at-base-in-arg .before .before .before in
     threaded-known _ _ _ _ _ _ _ _ (entry .pre)
     (at-put-three-in .put-three-in .ensures)
 
@@ -59,7 +62,8 @@ same-length c = search needs
 
 returns-3 : tie.Need-returns-3
 returns-3 c =
-    let written = c .before .before .before .before in
+    let at-join-in = c .before in
+    let written = at-join-in .before .before .before in
     let rate-n = written .before .before in
     let rate-s = rate-n .before .before in
     let base-s = rate-s .before .before in
@@ -77,7 +81,7 @@ returns-3 c =
     let vn : toZ w64 (a .n) ≡ pos (a .n) = toZ-pos w64 (omega (arith, entry .fits .n)) in
     seamed (both .before .if1 .left) (both .if2 .left) (ap₂ _-ℤ_ (base-n .base-in .ensures) (base-s .base-in2 .ensures))
     (ap₂ _-ℤ_ (rate-s .rate-in .ensures) (rate-n .rate-in2 .ensures)) (simp (toZ-ofZ, f, g, k, f₂, g₂, k₂, vn) at (written .put-three-in .ensures))
-    (c .before .join-in .ensures)
+    (at-join-in .join-in .ensures)
 
 pub cat-at-spec : {M : Type 1} → statement M
 cat-at-spec =

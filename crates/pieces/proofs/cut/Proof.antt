@@ -16,7 +16,8 @@ same-length c = search needs
 returns : tie.Need-returns
 returns c =
     let at-cut-in = c .before in
-    let entry = at-cut-in .before .before .before .before in
+    let at-capacity = at-cut-in .before .before in
+    let entry = at-capacity .before .before in
     simp (toZ-ofZ, entry .fits .rate) at (at-cut-in .cut-in .ensures)
 
 pub cut-spec : {M : Type 1} → statement M

@@ -83,12 +83,15 @@ returns-3 c =
 
 link-in-requires : tie.Need-link-in-requires
 link-in-requires c κs =
-    let entry = c .before .before .before .before .before .before .before .before in
+    let at-price2 = c .before .before in
+    let at-denominator-in = at-price2 .before .before .before in
+    let entry = at-denominator-in .before .before .before in
     entry .pre .1
 
 price-requires-3 : tie.Need-price-requires-3
 price-requires-3 c κs =
-    let at-denominator-in = c .before .before .before .before .before .before in
+    let at-price2 = c .before .before .before in
+    let at-denominator-in = at-price2 .before .before .before in
     let at-numerator-in = at-denominator-in .before in
     let entry = at-numerator-in .before .before in
     let a = entry .args in

@@ -27,9 +27,11 @@ price-requires c κs =
 
 returns : tie.Need-returns
 returns c =
-    let a = c .before .before .before .before .args in
-    let n = c .before .before .before .numerator in
-    let d = c .before .before .denominator in
+    let at-capacity = c .before in
+    let entry = at-capacity .before .before .before in
+    let a = entry .args in
+    let n = at-capacity .before .before .numerator in
+    let d = at-capacity .before .denominator in
     let fn : SFits w64 (n .result) = record { sfits = n .ok } in
     let fd : SFits w64 (d .result) = record { sfits = d .ok } in
     let fp : SFits w64 (c .price .result) = record { sfits = c .price .ok } in

@@ -83,21 +83,24 @@ side-of-requires c κs = search needs
 
 add-z : tie.Need-add-z
 add-z c =
-    let at-address = c .before .before .before .before .before in
+    let at-if3 = c .before .before in
+    let at-address = at-if3 .before .before .before in
     let at-if2 = at-address .before in
     let at-if1 = at-if2 .before in
     omega (arith, c .side-of .ensures .low, group-small _ _ _ (at-if1 .before .pre) (at-if1 .if1 .left) (at-if2 .if2 .left) (at-address .address .ensures))
 
 mul-z : tie.Need-mul-z
 mul-z c =
-    let at-address = c .before .before .before .before .before in
+    let at-if3 = c .before .before in
+    let at-address = at-if3 .before .before .before in
     let at-if2 = at-address .before in
     let at-if1 = at-if2 .before in
     omega (arith, c .side-of .ensures .low, group-small _ _ _ (at-if1 .before .pre) (at-if1 .if1 .left) (at-if2 .if2 .left) (at-address .address .ensures))
 
 shared-slice-copy-out-z : tie.Need-shared-slice-copy-out-z
 shared-slice-copy-out-z c =
-    let at-address = c .before .before .before .before .before in
+    let at-if3 = c .before .before in
+    let at-address = at-if3 .before .before .before in
     let at-if2 = at-address .before in
     let at-if1 = at-if2 .before in
     group-in _ _ _ (at-if1 .before .pre) (at-if1 .if1 .left) (at-if2 .if2 .left) (at-address .address .ensures) _ (omega (arith, c .side-of .ensures .low))

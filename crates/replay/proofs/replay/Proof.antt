@@ -21,12 +21,12 @@ same-length c = search needs
 returns : tie.Need-returns
 returns c =
     let at-opening = c .before in
-    let at-before = at-opening .before .before in
-    let entry = at-before .before .before .before in
+    let at-table = at-opening .before .before in
+    let entry = at-table .before .before .before in
     let f = entry .fits in
     let z : SFits w64 (at-opening .opening .given .0 .0) = record { sfits = c .known-told .given .0 .1 } in
     let same : toZ w64 (ofZ w64 (at-opening .opening .given .0 .0)) ≡ at-opening .opening .given .0 .0 = simp (toZ-ofZ, z) in
-    replays-none (simp (toZ-ofZ, f .capacity) at (at-before .before .«open» .ensures)) (entry .args .calls .now) (entry .args .answers .now)
+    replays-none (simp (toZ-ofZ, f .capacity) at (at-table .before .«open» .ensures)) (entry .args .calls .now) (entry .args .answers .now)
     (at-opening .opening .given .1) (ap unopened same)
 
 enum-told : tie.Need-enum-told
@@ -45,9 +45,9 @@ returns-2 : tie.Need-returns-2
 returns-2 c =
     let at-resume = c .before .before in
     let at-enum-told = at-resume .before .before .before in
-    let at-before = at-enum-told .before .before in
-    let entry = at-before .before .before .before in
-    let f = entry .fits in replays-opened (simp (toZ-ofZ, f .capacity) at (at-before .before .«open» .ensures)) (at-enum-told .enum-told .given .1)
+    let at-table = at-enum-told .before .before in
+    let entry = at-table .before .before .before in
+    let f = entry .fits in replays-opened (simp (toZ-ofZ, f .capacity) at (at-table .before .«open» .ensures)) (at-enum-told .enum-told .given .1)
     (at-resume .resume .ensures)
 
 pub replay-spec : {M : Type 1} → statement M

@@ -56,7 +56,8 @@ same-length-2 c = search needs
 returns : tie.Need-returns Inv-loop μ-loop
 returns c =
     let at-one-call = c .before .before .before in
-    let at-loop = at-one-call .before .before .before .before in
+    let at-one-call-arg3 = at-one-call .before in
+    let at-loop = at-one-call-arg3 .before .before .before in
     turn-ends _ _ (at-loop .loop .inv) (at-one-call .one-call .ensures) refl (c .if1 .taken)
 
 add-n : tie.Need-add-n Inv-loop μ-loop
@@ -65,19 +66,22 @@ add-n c = search needs
 add-at : tie.Need-add-at Inv-loop μ-loop
 add-at c =
     let at-one-call = c .before .before .before in
-    let at-loop = at-one-call .before .before .before .before in
+    let at-one-call-arg3 = at-one-call .before in
+    let at-loop = at-one-call-arg3 .before .before .before in
     omega (arith, turn-goes _ _ (at-loop .loop .inv) (at-one-call .one-call .ensures) refl (c .if1 .left) .placed)
 
 loop-less : tie.Need-loop-less Inv-loop μ-loop
 loop-less c =
     let at-one-call = c .before .before .before in
-    let at-loop = at-one-call .before .before .before .before in
+    let at-one-call-arg3 = at-one-call .before in
+    let at-loop = at-one-call-arg3 .before .before .before in
     omega (arith, turn-goes _ _ (at-loop .loop .inv) (at-one-call .one-call .ensures) refl (c .if1 .left) .words)
 
 loop-again : tie.Need-loop-again Inv-loop μ-loop
 loop-again c =
     let at-one-call = c .before .before .before in
-    let at-loop = at-one-call .before .before .before .before in
+    let at-one-call-arg3 = at-one-call .before in
+    let at-loop = at-one-call-arg3 .before .before .before in
     turn-goes _ _ (at-loop .loop .inv) (at-one-call .one-call .ensures) refl (c .if1 .left)
 
 pub run-spec : {M : Type 1} → statement M

@@ -15,9 +15,12 @@ same-length : tie.Need-same-length
 same-length c = search needs
 
 returns : tie.Need-returns
-returns c = let a = c .before .before .before .before .args in let f = c .before .before .before .before .fits in
-    asks (a .out .now) (c .before .before .before .before .pre) (a .load) (simp (toZ-ofZ, f .load) at (c .before .before .before .query .ensures))
-    (c .before .tell-found .ensures)
+returns c =
+    let at-tell-found = c .before in
+    let entry = at-tell-found .before .before .before in
+    let a = entry .args in let f = entry .fits in
+    asks (a .out .now) (entry .pre) (a .load) (simp (toZ-ofZ, f .load) at (at-tell-found .before .before .query .ensures))
+    (at-tell-found .tell-found .ensures)
 
 pub do-query-spec : {M : Type 1} → statement M
 do-query-spec = tie.close (tie.spec query-requires tell-found-requires same-length returns)

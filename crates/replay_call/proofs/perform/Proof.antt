@@ -52,7 +52,8 @@ do-listing-requires c κs =
 
 add-result : tie.Need-add-result
 add-result c =
-    let at-next4 = c .before .before .before .before .before in
+    let at-do-listing-arg2 = c .before .before in
+    let at-next4 = at-do-listing-arg2 .before .before .before in
     let entry = at-next4 .before .before in
     omega (arith, call-fits (ap asked (at-next4 .next4 .given .1)) (length (entry .args .out .now)) (entry .pre))
 
@@ -118,7 +119,8 @@ same-length-8 c = search needs
 returns-4 : tie.Need-returns-4
 returns-4 c =
     let at-do-listing = c .before in
-    let at-next4 = at-do-listing .before .before .before .before in
+    let at-do-listing-arg2 = at-do-listing .before in
+    let at-next4 = at-do-listing-arg2 .before .before .before in
     performs (ap asked (at-next4 .next4 .given .1)) (at-do-listing .do-listing .ensures) refl
 
 returns-5 : tie.Need-returns-5

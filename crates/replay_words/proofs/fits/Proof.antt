@@ -35,8 +35,11 @@ returns-3 : tie.Need-returns-3
 returns-3 c = ap (λ (n : Next). fitting (asked n) (c .before .before .args .room)) (sym (c .enum-told3 .given .1))
 
 returns-4 : tie.Need-returns-4
-returns-4 c = c .five-and .ensures ∙ ap (λ (n : Next). fitting (asked n) (c .before .before .before .before .args .room))
-    (sym (c .before .before .next .given .1))
+returns-4 c =
+    let at-next = c .before .before in
+    let entry = at-next .before .before in
+    c .five-and .ensures ∙ ap (λ (n : Next). fitting (asked n) (entry .args .room))
+    (sym (at-next .next .given .1))
 
 returns-5 : tie.Need-returns-5
 returns-5 c = search needs

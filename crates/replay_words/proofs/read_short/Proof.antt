@@ -27,7 +27,8 @@ returns-3 c =
 
 cast-t6 : tie.Need-cast-t6
 cast-t6 c =
-    let entry = c .before .before .before .before in
+    let at-if3 = c .before in
+    let entry = at-if3 .before .before .before in
     let a = entry .args in
     let f = entry .fits in
     simp (toZ-ofZ, f .a) (some-room (a .a) (f .a) (simp (toZ-ofZ, f .a) at (c .if4 .left)) .0)

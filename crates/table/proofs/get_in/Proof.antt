@@ -23,21 +23,27 @@ address-requires c κs = placed _ _ _ _ (c .before .before .before .pre) (c .bef
 
 mul-result : tie.Need-mul-result
 mul-result c =
-    let p = placed _ _ _ _ (c .before .before .before .before .pre) (c .before .before .if2 .left) (c .before .if3 .left) in
+    let at-if3 = c .before in
+    let entry = at-if3 .before .before .before in
+    let p = placed _ _ _ _ (entry .pre) (at-if3 .before .if2 .left) (at-if3 .if3 .left) in
     omega (arith, place-small p, c .address .ensures)
 
 shared-slice-copy-out-result : tie.Need-shared-slice-copy-out-result
 shared-slice-copy-out-result c =
-    cell-inside _ _ _ _ (c .before .before .before .before .pre) (c .before .before .if2 .left) (c .before .if3 .left)
-    (c .before .before .before .if1 .left) (c .address .ensures)
+    let at-if3 = c .before in
+    let entry = at-if3 .before .before .before in
+    cell-inside _ _ _ _ (entry .pre) (at-if3 .before .if2 .left) (at-if3 .if3 .left)
+    (at-if3 .before .before .if1 .left) (c .address .ensures)
 
 returns-4 : tie.Need-returns-4
 returns-4 c =
-    let entry = c .before .before .before .before .before in
-    let z : SFits w64 (getD (entry .args .part .now) (c .before .address .result) (pos 0)) = record { sfits = c .result .given } in
+    let at-address = c .before in
+    let at-if1 = at-address .before .before .before in
+    let entry = at-if1 .before in
+    let z : SFits w64 (getD (entry .args .part .now) (at-address .address .result) (pos 0)) = record { sfits = c .result .given } in
     simp (toZ-ofZ, z)
-    (cell-there _ _ _ _ (entry .pre) (c .before .before .before .if2 .left) (c .before .before .if3 .left) (c .before .before .before .before .if1 .left)
-    (c .before .address .ensures))
+    (cell-there _ _ _ _ (entry .pre) (at-address .before .before .if2 .left) (at-address .before .if3 .left) (at-if1 .if1 .left)
+    (at-address .address .ensures))
 
 pub get-in-spec : {M : Type 1} → statement M
 get-in-spec =

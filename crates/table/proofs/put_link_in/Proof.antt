@@ -24,9 +24,10 @@ same-length c = search needs
 
 returns : tie.Need-returns
 returns c =
-    let entry = c .before .before .before .before .before in
+    let at-spot-in = c .before .before .before in
+    let entry = at-spot-in .before .before in
     let v : toZ w64 (entry .args .value) ≡ pos (entry .args .value) = toZ-pos w64 (omega (arith, entry .fits .value)) in
-    written-at _ _ _ _ _ _ (c .before .before .before .spot-in .ensures) (simp v at (c .before .set-word .ensures))
+    written-at _ _ _ _ _ _ (at-spot-in .spot-in .ensures) (simp v at (c .before .set-word .ensures))
 
 pub put-link-in-spec : {M : Type 1} → statement M
 put-link-in-spec =

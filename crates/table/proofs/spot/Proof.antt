@@ -33,8 +33,10 @@ returns-4 c = sym (spot-out (λ v. omega arith))
 
 address-requires : tie.Need-address-requires
 address-requires c κs =
-    let e = cap-whole _ _ (c .before .before .before .before .number-at .ensures) (c .before .before .before .if1 .left) in
-    placed _ _ _ _ e (c .before .if3 .left) (c .if4 .left)
+    let at-if3 = c .before in
+    let at-number-at = at-if3 .before .before .before in
+    let e = cap-whole _ _ (at-number-at .number-at .ensures) (at-if3 .before .before .if1 .left) in
+    placed _ _ _ _ e (at-if3 .if3 .left) (c .if4 .left)
 
 returns-5 : tie.Need-returns-5
 returns-5 c =

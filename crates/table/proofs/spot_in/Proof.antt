@@ -20,8 +20,10 @@ address-requires c κs = placed _ _ _ _ (c .before .before .before .pre) (c .bef
 
 returns-4 : tie.Need-returns-4
 returns-4 c =
-    spot-there _ _ _ _ (c .before .before .before .before .pre) (c .before .before .if2 .left) (c .before .if3 .left)
-    (c .before .before .before .if1 .left) (c .address .ensures)
+    let at-if3 = c .before in
+    let entry = at-if3 .before .before .before in
+    spot-there _ _ _ _ (entry .pre) (at-if3 .before .if2 .left) (at-if3 .if3 .left)
+    (at-if3 .before .before .if1 .left) (c .address .ensures)
 
 pub spot-in-spec : {M : Type 1} → statement M
 spot-in-spec = tie.close (tie.spec returns returns-2 returns-3 address-requires returns-4)

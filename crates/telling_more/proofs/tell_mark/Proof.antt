@@ -42,8 +42,7 @@ returns : tie.Need-returns
 returns c =
     let at-shown = c .before in
     let at-m = at-shown .before .before .before in
-    let at-before = at-m .before .before in
-    let s = at-before .before in
+    let s = at-m .before .before .before in
     let l = s .args .mark .now in
     tells (λ m. markNumber (told m .number) (told m .values)) (λ m. told m .values)
     (at-m .m .given .1 ∙ ap Mark (at-shown .shown .given .1)) refl (one l _ (longer l (s .pre)))
@@ -55,8 +54,7 @@ returns-2 : tie.Need-returns-2
 returns-2 c =
     let at-shown2 = c .before in
     let at-m = at-shown2 .before .before .before in
-    let at-before = at-m .before .before in
-    let s = at-before .before in
+    let s = at-m .before .before .before in
     let l = s .args .mark .now in
     tells (λ m. markNumber (told m .number) (told m .values)) (λ m. told m .values)
     (at-m .m .given .1 ∙ ap Mark (at-shown2 .shown2 .given .1)) refl (two l _ _ (s .pre))

@@ -46,8 +46,7 @@ rest-in-requires-2 c κs =
 put-behind-requires : tie.Need-put-behind-requires
 put-behind-requires c κs =
     let at-rest-in = c .before .before .before in
-    let at-before = at-rest-in .before .before in
-    let severed = at-before .before in
+    let severed = at-rest-in .before .before .before in
     let at-get-in-arg = severed .before .before .before in
     let at-child-in-arg2 = at-get-in-arg .before .before .before in
     let known = at-child-in-arg2 .before .before .before in
