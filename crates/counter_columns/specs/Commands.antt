@@ -20,7 +20,7 @@ use Rattle.counter_columns.specs.Columns.{lineOf, HasLine, IsLineOf}
 use Rattle.counter_field.specs.Values.{told}
 use Rattle.counter_field.specs.Reading.{Holds, FieldRead, holds-told}
 use Rattle.counter_print.specs.Sections.{between}
-use Rattle.counter_columns.specs.Lines.{letter, Shape, PostColumns, LastColumns, line-shape, shape-line, line-length}
+use Rattle.counter_columns.specs.CallLines.{letter, Shape, PostColumns, LastColumns, line-shape, shape-line, line-length}
 
 -- The command of a call, where it has one. A listing's room is no part of it.
 abbrev pub asCommand : Call → Option Command

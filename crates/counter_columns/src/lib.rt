@@ -1,7 +1,7 @@
 // The columns of the counter program: a call's line is read.
 ghost use mathlib.Core.Path.{_≡_};
 ghost use lib.ListN.{length};
-ghost use Rattle.counter_columns.specs.Lines.{letter};
+ghost use Rattle.counter_columns.specs.CallLines.{letter};
 ghost use Rattle.counter_columns.specs.Commands.{LastRead, Parsed};
 use counter_field::Field;
 use counter_field::read_field;

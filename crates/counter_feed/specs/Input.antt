@@ -14,7 +14,7 @@ use Rattle.table.specs.Fields.{capacityWord}
 use Rattle.table.specs.Words.{word}
 use Rattle.promises.specs.Promises.{partOf, capacityAt, OnlyPart}
 use Rattle.counter_keep.specs.declared.Line.{Line}
-use Rattle.counter_keep.specs.Kept.{Keeps, Pushes, kept-length, kept-all}
+use Rattle.counter_keep.specs.KeptBytes.{Keeps, Pushes, kept-length, kept-all}
 use Rattle.counter_line.specs.Promises.{Counts}
 use Rattle.counter_line.specs.Answering.{untouched, counts-alike}
 

@@ -2,6 +2,6 @@
 -- statement and lemmas: the input, byte by byte: at its newline a line is answered
 pub mod Input
 -- lemmas: whole inputs: whatever is read from the opening on, what is printed in all is the plain counter's output
-pub mod Whole
+pub mod WholeInputs
 -- lemmas: the sample, whole: six calls, and the bytes that the counter prints for them
 pub mod Sample

@@ -1,6 +1,6 @@
 // A line of the counter's input, kept byte by byte.
 ghost use mathlib.Core.List.{[]};
-ghost use Rattle.counter_keep.specs.Kept.{Keeps, Pushes};
+ghost use Rattle.counter_keep.specs.KeptBytes.{Keeps, Pushes};
 
 // A line so far: its first 28 bytes, and how many those are. No line of more than 27 bytes can be read, so the later ones do not matter.
 pub struct Line {

@@ -23,7 +23,7 @@ use Rattle.table.specs.Rep.{childField, childAt, Within, within-cap, within-ref
 use Rattle.table.specs.Nodes.{Parents, parents, leaf-low, ref-low}
 use Rattle.table.specs.PartTrees.{RepP, repP-none, rep-some, MadeP, repP-still, PairP, Seam, seam-left}
 use Rattle.table.specs.Keys.{Keyed, keyed-left, keyed-right}
-use Rattle.shape.specs.Merge.{Merged}
+use Rattle.shape.specs.JoinSteps.{Merged}
 use Rattle.descents.specs.Whole.{Whole, split-whole, not-left, not-right}
 
 -- the parts of a cut of xs, with roots x and y; nothing but nodes of xs was written, and nothing at all where a part is empty

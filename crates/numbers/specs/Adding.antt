@@ -26,7 +26,7 @@ use Rattle.table.specs.Rep.{Within, within-cap, within-trans, Only, only-trans,
 use Rattle.table.specs.Keys.{keyed-numbers}
 use Rattle.table.specs.PartTrees.{RepP, MadeP, Seam, repP-still}
 use Rattle.table.specs.Threads.{Holds}
-use Rattle.shape.specs.Merge.{Merged}
+use Rattle.shape.specs.JoinSteps.{Merged}
 use Rattle.descents.specs.Cuts.{from, Halving, Halved}
 use Rattle.descents.specs.Ends.{Ended}
 use Rattle.pieces.specs.Cutting.{splitP-leaves}

@@ -26,7 +26,7 @@ use Rattle.table.specs.Rep.{childAt, Within, within-cap, within-refl, within-tr
 use Rattle.table.specs.Nodes.{Parents, parents, leaf-low, ref-low}
 use Rattle.table.specs.PartTrees.{RepP, repP-none, rep-some, MadeP, repP-still, seam-left}
 use Rattle.table.specs.Keys.{Keyed, keyed-left, keyed-right}
-use Rattle.shape.specs.Merge.{Merged}
+use Rattle.shape.specs.JoinSteps.{Merged}
 use Rattle.descents.specs.Cuts.{seam-test}
 use Rattle.descents.specs.Ends.{Ended}
 use Rattle.form.specs.Form.{numberOf}

@@ -24,7 +24,7 @@ use Rattle.table.specs.Items.{Item, In, at, Slots, Apart}
 use Rattle.table.specs.Rep.{Within, within-cap, Only}
 use Rattle.table.specs.PartTrees.{RepP, rep-some, MadeP, PairP, Seam, low}
 use Rattle.table.specs.Threads.{Holds, holds-still, only-offer}
-use Rattle.shape.specs.Merge.{Merged}
+use Rattle.shape.specs.JoinSteps.{Merged}
 use Rattle.descents.specs.Ends.{Ended}
 use Rattle.form.specs.Form.{NumbersIn, numberOf}
 use Rattle.numbers.specs.Numbers.{NumbersAt}

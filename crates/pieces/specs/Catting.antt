@@ -24,7 +24,7 @@ use Rattle.table.specs.Nodes.{ref-low}
 use Rattle.table.specs.PartTrees.{partRef, RepP, MadeP, PairP}
 use Rattle.table.specs.Threads.{Held, Holds, Next, Threaded, SameOffer, SameThread, Leads, leads-in, leads-last, chain-join, holds-still, holds-join}
 use Rattle.table.specs.Threads.{threaded-still, only-offer, only-thread, cset-offer, cset-thread, threading, threading-next}
-use Rattle.shape.specs.Merge.{Merged}
+use Rattle.shape.specs.JoinSteps.{Merged}
 use Rattle.descents.specs.Ends.{Ended}
 use Rattle.prices.specs.Prices.{rateAt, baseAt}
 use Rattle.pieces.specs.Pieces.{PartIn, PieceField, of-node, of-numerator, of-denominator, of-next, PiecesOnly, Standing, Beside, Catted}

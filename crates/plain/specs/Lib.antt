@@ -12,7 +12,7 @@ pub mod Cases
 -- lemmas: what holds of the plain book after every list of calls
 pub mod Sound
 -- lemmas: who is live after a post and after a withdrawal
-pub mod Members
+pub mod LiveAfter
 -- lemmas: the plain book's calls, one by one: which trial declines, and what an accepted call answers and leaves
 pub mod Rules
 -- lemmas: a query's price is the least over all live offers, and the offer that it names has the highest rate among those at that price

@@ -10,4 +10,4 @@ pub mod Balance
 -- ways through the code: join, as steps on words: down the inner spine of the higher tree, and balance on the way back
 pub mod Splices
 -- ways through the code: join of two trees, either of which may be empty, as steps on words
-pub mod Merge
+pub mod JoinSteps

@@ -8,7 +8,7 @@ ghost use Rattle.shape.specs.Sides.{rowOn, doubleOn, rotateOn, balanceOn
 ghost use Rattle.nodes.specs.Joining.{Joined};
 ghost use Rattle.shape.specs.Rows.{Rowed};
 ghost use Rattle.shape.specs.Splices.{Spliced};
-ghost use Rattle.shape.specs.Merge.{Merged};
+ghost use Rattle.shape.specs.JoinSteps.{Merged};
 use nodes::make_node;
 pub use nodes::make_node_in;
 use nodes::set_node;

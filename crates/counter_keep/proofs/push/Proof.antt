@@ -1,5 +1,5 @@
 -- `counter_keep::push` meets its contract: the byte goes behind those that are kept, or is passed over.
-use Rattle.counter_keep.specs.Kept.{pushes-full, pushes-one}
+use Rattle.counter_keep.specs.KeptBytes.{pushes-full, pushes-one}
 use borrow.Author.Needs.{needs}
 use Rattle.counter_keep.proofs.push.Statement.{statement}
 use Rattle.counter_keep.proofs.push.Tie as tie

@@ -3,7 +3,7 @@ use native.Mathlib.Omega.{arith}
 use Rattle.table.specs.Rep.{height-read}
 use Rattle.nodes.specs.Joining.{raised}
 use Rattle.shape.specs.Splices.{towers-told}
-use Rattle.shape.specs.Merge.{merged-right, merged-left, merged-one, merged-other, merged-level}
+use Rattle.shape.specs.JoinSteps.{merged-right, merged-left, merged-one, merged-other, merged-level}
 use borrow.Author.Needs.{needs}
 use Rattle.shape.proofs.join_in.Statement.{statement}
 use Rattle.shape.proofs.join_in.Tie as tie

@@ -17,7 +17,7 @@ use Rattle.form.specs.Form.{Book}
 use Rattle.promises.specs.declared.Opening.{Opening}
 use Rattle.promises.specs.Promises.{partOf, Opens}
 use Rattle.counter_keep.specs.declared.Line.{Line}
-use Rattle.counter_keep.specs.Kept.{Keeps}
+use Rattle.counter_keep.specs.KeptBytes.{Keeps}
 use Rattle.counter_line.specs.Promises.{capacity, told, toldAll, linesFrom, output, most, Stands, Counts}
 use Rattle.counter_reply.specs.Answered.{Prints}
 use Rattle.counter_feed.specs.Input.{Feeds, Finishes}
