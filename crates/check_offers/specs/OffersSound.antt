@@ -8,7 +8,7 @@ use lib.IntN.{pos}
 use Rattle.trees.specs.Tree.{Tree, leaves}
 use Rattle.trees.specs.Operations.{Part, partLeaves}
 use Rattle.trees.specs.Balanced.{AvlP}
-use Rattle.dynamic.specs.OfferTree.{OfferTree, shape, Held}
+use Rattle.dynamic.specs.OfferTree.{OfferTree, shape, hold}
 use Rattle.dynamic.specs.Valid.{Valid}
 use Rattle.table.specs.Words.{Words}
 use Rattle.table.specs.Items.{Item}
@@ -21,11 +21,8 @@ use Rattle.check_offers.specs.Headers.{Header}
 use Rattle.check_offers.specs.OffersFound.{OffersFound, OffersAt}
 
 -- the tree with its envelope
-abbrev with-whole : OfferTree Item → Part Item → Held Item
-with-whole o p = record { tree = o; whole = p }
-
 held-in : {w : Words} {x : ℕ} {o : OfferTree Item} {p : Part Item} → Stands w x (shape o) → Stored w o → Valid items o (partLeaves p) → PartIn w p →
-    AvlP p → HeldIn w (refOf (shape o)) (partRef p) (with-whole o p)
+    AvlP p → HeldIn w (refOf (shape o)) (partRef p) (hold o p)
 held-in s st va i b =
     record {
       root = refl;
@@ -41,7 +38,7 @@ held-in s st va i b =
 pub offers-sound : {w : Words} {x e n : ℕ} {lines : List Item} → OffersAt w x e n lines → OffersFound w n
 offers-sound {w} {x} {e} {n} {lines} a =
     record {
-      held = some (with-whole o p);
+      held = some (hold o p);
       offers =
           record {
             offers-root = a .header .offers-root ∙ ap pos (s .laid .root);

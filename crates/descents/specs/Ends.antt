@@ -8,7 +8,7 @@ use Rattle.table.specs.Fields.{mostLevels, mostSlots}
 use Rattle.table.specs.Words.{Words}
 use Rattle.table.specs.Items.{Item, slots-left, slots-right}
 use Rattle.table.specs.Rep.{childAt, Rep}
-use Rattle.table.specs.Nodes.{parents, leaf-low}
+use Rattle.table.specs.Nodes.{parents, leaf-low, not-spent}
 use Rattle.table.specs.PartTrees.{low}
 use Rattle.shape.specs.Splices.{inner-ref}
 
@@ -69,14 +69,10 @@ going-on {w} {k} {x} {y} {limit} {z} {side} g h e = record {
 
 -- the limit is used up, which no balanced tree comes to
 pub going-over : {w : Words} {k x y limit r : ℕ} {side : Bool} → Going w k side x y limit → mostSlots < y → limit ≡ 0 → Ended w k side x r
-going-over {w} {k} {x} {y} {limit} {r} {side} g h e = record {
-  is = λ t q a. absurd (tall (g .is t q a .here) (g .is t q a .rep) (g .is t q a .high));
+going-over g h e = record {
+  is = λ t q a. absurd (not-spent (g .is t q a .here) h e (g .is t q a .rep) (g .is t q a .high));
   none = λ d. absurd (omega (arith, h, g .none d));
 }
-  where
-    tall : (u : Tree Item) → Rep w k y u → height u ≤ limit → ⊥
-    tall (leaf a) q n = omega (arith, h, leaf-low q)
-    tall (node l s) q n = omega (arith, n, e)
 
 end-leaf : (side : Bool) (a : Item) → endOf side (leaf a) ≡ a
 end-leaf false a = refl

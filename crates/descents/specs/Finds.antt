@@ -15,7 +15,7 @@ use Rattle.table.specs.Words.{Words}
 use Rattle.table.specs.Layout.{cell}
 use Rattle.table.specs.Items.{Item}
 use Rattle.table.specs.Rep.{childAt, Rep}
-use Rattle.table.specs.Nodes.{parents, leaf-low}
+use Rattle.table.specs.Nodes.{parents, leaf-low, not-spent}
 use Rattle.table.specs.PartTrees.{low}
 use Rattle.table.specs.Keys.{Keyed, keyed-left, keyed-right}
 use Rattle.shape.specs.Splices.{inner-ref}
@@ -83,16 +83,12 @@ looking-on {w} {k} {f} {x} {y} {limit} {g} {z} {b} sought j h eg eb e =
         told = eb ∙ ap (ltZ sought) (ap (cell w f) (eg ∙ parents r .seam-at) ∙ q .read (Memᴰ·append-left (leaves s) (last-leaf l)))
 
 pub looking-over : {w : Words} {k f x y limit r : ℕ} {sought : ℤ} → Looking w k f sought x y limit → mostSlots < y → limit ≡ 0 → Found w k f sought x r
-looking-over {w} {k} {f} {x} {y} {limit} j h e =
+looking-over j h e =
     record {
-      is = λ t key r a q. absurd (tall (j .is t key r a q .here) (j .is t key r a q .rep) (j .is t key r a q .high));
+      is = λ t key r a q. absurd (not-spent (j .is t key r a q .here) h e (j .is t key r a q .rep) (j .is t key r a q .high));
       nothing =
           λ d. absurd (omega (arith, h, j .nothing d));
     }
-  where
-    tall : (u : Tree Item) → Rep w k y u → height u ≤ limit → ⊥
-    tall (leaf a) q n = omega (arith, h, leaf-low q)
-    tall (node l s) q n = omega (arith, n, e)
 
 pub looking-ends : {w : Words} {k f x y limit : ℕ} {b : Bool} (sought : ℤ) (d : Bool) → Looking w k f sought x y limit → y ≤ mostSlots →
     b ≡ leZ (cell w f y) sought && leZ sought (cell w f y) → b ≡ d

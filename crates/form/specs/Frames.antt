@@ -306,9 +306,6 @@ touched-trans g h = record { cells = λ f s d. h .cells f s d ∙ g .cells f s d
 pub touched-more : {xs ys : List Item} {w w′ : Words} → Inside xs ys → Touched xs w w′ → Touched ys w w′
 touched-more sub g = record { cells = λ f s d. g .cells f s (λ h. d (h .0, sub s (h .1))) }
 
-pub pieces-refl : (xs : List Item) (w : Words) → PiecesOnly xs w w
-pieces-refl xs w = record { cells = λ f s d. refl }
-
 pub pieces-trans : {xs : List Item} {w w′ w″ : Words} → PiecesOnly xs w w′ → PiecesOnly xs w′ w″ → PiecesOnly xs w w″
 pieces-trans g h = record { cells = λ f s d. h .cells f s d ∙ g .cells f s d }
 

@@ -71,6 +71,11 @@ parents {w} {k} {x} {l} {r} h = go (h .tied)
 pub leaf-low : {w : Words} {k x : ℕ} {a : Item} → Rep w k x (leaf a) → x ≤ mostSlots
 leaf-low {w} h = omega (arith, h .root, h .slots .high (List·Memᴰ·head refl), cap-most w)
 
+-- at an inner node the limit is not used up
+pub not-spent : {w : Words} {k x limit : ℕ} (t : Tree Item) → mostSlots < x → limit ≡ 0 → Rep w k x t → height t ≤ limit → ⊥
+not-spent (leaf a) h e r n = omega (arith, leaf-low r)
+not-spent (node l r) h e q n = omega arith
+
 -- the same, seen from a side
 pub record Opened (w : Words) (k : ℕ) (side : Bool) (x : ℕ) (t : Tree Item) : Type 0 where
   pub one : Tree Item

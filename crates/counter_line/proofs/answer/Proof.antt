@@ -32,12 +32,13 @@ returns-2 : tie.Need-returns-2
 returns-2 c =
     let at-update-line = c .before .before in
     let at-post = at-update-line .before .before .before in
-    let at-command = at-post .before .before .before in
+    let at-known-told = at-post .before .before in
+    let at-command = at-known-told .before in
     let at-parse = at-command .before .before in
     let at-if1 = at-parse .before in
-    let f : SFits w64 (at-command .command .given .0 .0) = search needs in
-    let g : SFits w64 (at-command .command .given .0 .1 .0) = search needs in
-    let h : SFits w64 (at-command .command .given .0 .1 .1 .0) = search needs in
+    let f : SFits w64 (at-command .command .given .0 .0) = record { sfits = at-known-told .known-told .given .0 .1 } in
+    let g : SFits w64 (at-command .command .given .0 .1 .0) = record { sfits = at-known-told .known-told .given .1 .0 .1 } in
+    let h : SFits w64 (at-command .command .given .0 .1 .1 .0) = record { sfits = at-known-told .known-told .given .1 .1 .0 .1 } in
     posted (at-if1 .if1 .left) _ _ _ (command-is (at-parse .parse .ensures) (at-command .command .given .1))
     (simp (toZ-ofZ, f, g, h) at (at-post .post .ensures)) (simp (toZ-ofZ, f) at (at-update-line .update-line .ensures))
 
