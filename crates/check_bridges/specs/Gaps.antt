@@ -1,18 +1,17 @@
 -- Crossings of the lines that slots hold, compared by exact products. What is out of range reads 0, so that any words are safe;
 -- of offers in range the comparison is that of their crossings.
-use mathlib.Core.Path.{_≡_, refl, sym, _∙_, ap, ap₂}
-use mathlib.Core.Bool.{Bool, true, false}
+use mathlib.Core.Path.{_≡_, sym, _∙_, ap₂}
+use mathlib.Core.Bool.{Bool}
 use Prim.Native.Nat.{ℕ}
 use lib.Dec.{T}
 use lib.IntN.{ℤ, pos, negℤ, _-ℤ_, _*ℤ_}
-use lib.Signed.{leZ, ltZ}
+use lib.Signed.{leZ}
 use mir.Syntax.{w64}
 use mir.Val.{SFits}
-use Rattle.offers.specs.Offers.{offerInRange, rateInRange, baseInRange}
-use Rattle.offers.specs.Sizes.{rate-of, base-of, numeratorInRange, denominatorInRange, base-gap-in-range}
+use Rattle.offers.specs.Offers.{offerInRange}
+use Rattle.offers.specs.Sizes.{rate-of, base-of, base-gap-in-range}
 use Rattle.offers.specs.Sizes.{rate-gap-in-range, cross-product-fits}
 use Rattle.offers.specs.Bounded.{bounded-in}
-use Rattle.envelopes.specs.PseudoLines.{Figure}
 use Rattle.lines.specs.Lines.{cross-left}
 use Rattle.table.specs.Fields.{baseField, rateField}
 use Rattle.table.specs.Words.{Words}

@@ -1,7 +1,7 @@
 -- The four tests of a bridge say that the envelope of both sides is made of the left pieces up to u and the right ones from v.
-use mathlib.Core.Path.{_≡_, refl, sym, _∙_, ap, ap₂, subst, subst₂}
+use mathlib.Core.Path.{_≡_, refl, sym, _∙_, ap, subst, subst₂}
 use mathlib.Core.Logic.{_↔_}
-use mathlib.Core.List.{List, [], _∷_, _++_, map, map-append, reverse, List·Memᴰ}
+use mathlib.Core.List.{List, [], _∷_, _++_, map-append, reverse}
 use Prim.Native.Nat.{ℕ, zero, suc, _+_, _-_, _≤_, _<_}
 use native.Mathlib.Omega.{arith}
 use lib.Dec.{T}
@@ -19,8 +19,8 @@ use Rattle.pieces.specs.Pieces.{items, item-laws}
 use Rattle.check_trees.specs.Stretches.{span, span-length, span-at, span-cut, span-cons}
 use Rattle.check_trees.specs.Laid.{itemAt, itemsAt}
 use Rattle.check_bridges.specs.Gaps.{InRange, crossAt, cross-is}
-use Rattle.check_bridges.specs.StoredBridges.{Bridges, Ends}
-use Rattle.check_merge.specs.PieceTrees.{Known, AllKnown, span-mem}
+use Rattle.check_bridges.specs.StoredBridges.{Bridges}
+use Rattle.check_merge.specs.PieceTrees.{AllKnown, span-mem}
 
 -- ---- the piece of a line, by its neighbours
 

@@ -1,20 +1,19 @@
 -- The words of a node that join the pieces of its two children, and the same told of the tree of offers.
 use mathlib.Core.Path.{_≡_, refl, sym, _∙_, ap, ap₂, subst}
-use mathlib.Core.Bool.{Bool, true, false}
+use mathlib.Core.Bool.{true, false}
 use mathlib.Core.Logic.{_≢_}
-use mathlib.Core.List.{List, [], _∷_, _++_, map, map-append, append-assoc, List·Memᴰ, List·Memᴰ·append-cases, Memᴰ·append-left, Memᴰ·append-right}
+use mathlib.Core.List.{List, [], _∷_, _++_, map-append, List·Memᴰ, List·Memᴰ·append-cases, Memᴰ·append-left, Memᴰ·append-right}
 use mathlib.Core.List.{head-eq-of-cons-eq, tail-eq-of-cons-eq}
 use mathlib.Core.Logic.{⊎-elim}
-use Prim.Native.Nat.{ℕ, zero, suc, _+_, _-_, _≤_, _<_}
+use Prim.Native.Nat.{ℕ, suc, _+_, _-_, _≤_, _<_}
 use native.Mathlib.Omega.{arith}
 use lib.Dec.{T}
 use lib.ListN.{length, getD, length-append, List·getD-map}
 use lib.IntN.{pos}
 use lib.Seq.{append-snoc}
 use Rattle.lists.specs.Places.{sublist-mem}
-use Rattle.envelopes.specs.PseudoLines.{Figure, PseudoLines}
 use Rattle.envelopes.specs.Envelope.{Ordered, Env}
-use Rattle.envelopes.specs.EnvelopeLaws.{ordered-left, ordered-right, ordered-sublist, ordered-at}
+use Rattle.envelopes.specs.EnvelopeLaws.{ordered-sublist, ordered-at}
 use Rattle.envelopes.specs.Query.{env-unique}
 use Rattle.trees.specs.Tree.{Tree, leaf, node, leaves, last}
 use Rattle.trees.specs.Operations.{Part, partLeaves}
@@ -26,7 +25,7 @@ use Rattle.table.specs.Fields.{bridgeLeftField, bridgeRightField, mostSlots, of
 use Rattle.table.specs.Words.{Words}
 use Rattle.table.specs.Layout.{linkAt}
 use Rattle.table.specs.Items.{Item}
-use Rattle.table.specs.Rep.{childAt, refOf}
+use Rattle.table.specs.Rep.{childAt}
 use Rattle.pieces.specs.Pieces.{items, item-laws}
 use Rattle.form.specs.Stored.{RestIn, Stored, stored-fork}
 use Rattle.table.specs.PartTrees.{partRef}

@@ -1,16 +1,15 @@
 -- A piece tree over a stretch of slots: the ways through the code that looks for one.
-use mathlib.Core.Path.{_≡_, refl, sym, _∙_, ap, ap₂, subst}
+use mathlib.Core.Path.{_≡_, refl, sym, _∙_, ap, subst}
 use mathlib.Core.Bool.{Bool, true, false}
-use mathlib.Core.List.{List, [], _∷_, _++_, map, List·Memᴰ, List·Memᴰ·head, List·Memᴰ·tail}
-use mathlib.Core.Option.{Option, none, some}
+use mathlib.Core.List.{List, [], _∷_, List·Memᴰ, List·Memᴰ·head, List·Memᴰ·tail}
+use mathlib.Core.Option.{none, some}
 use Prim.Native.Nat.{ℕ, zero, suc, _+_, _-_, _≤_, _<_}
 use native.Mathlib.Omega.{arith}
 use lib.Dec.{eqb}
 use lib.ListN.{length, getD}
 use borrow.Author.Tests.{eqb-true, eq-eqb}
 use Rattle.lists.specs.Bools.{never}
-use Rattle.trees.specs.Tree.{Tree, leaf, node, height, leaves, Avl}
-use Rattle.trees.specs.Leaves.{last-leaf, some-leaf}
+use Rattle.trees.specs.Tree.{Tree, leaf, node, leaves}
 use Rattle.trees.specs.Operations.{Part, partLeaves}
 use Rattle.trees.specs.Balanced.{AvlP}
 use Rattle.trees.specs.Height.{height-full}
@@ -18,18 +17,16 @@ use Rattle.table.specs.Fields.{mostLevels, pieceTree}
 use Rattle.table.specs.Words.{Words}
 use Rattle.table.specs.Layout.{cap}
 use Rattle.table.specs.Items.{Item}
-use Rattle.table.specs.Rep.{refOf, Tied}
 use Rattle.table.specs.Threads.{Next, Threaded}
 use Rattle.table.specs.PartTrees.{partRef}
 use Rattle.pieces.specs.Pieces.{PartIn}
 use Rattle.check_trees.specs.Scratch.{secondHalf}
 use Rattle.check_trees.specs.declared.Filled.{Filled}
 use Rattle.check_trees.specs.Stretches.{stretch, span, chain-span, span-chain, stretch-same, stretch-agrees, span-same, span-length, span-none}
-use Rattle.check_trees.specs.Deciding.{Decides, decides-yes, decides-no, Every, Agree}
+use Rattle.check_trees.specs.Deciding.{Decides, Every, Agree}
 use Rattle.check_trees.specs.Loops.{RangedHere, NextHere}
-use Rattle.check_trees.specs.Laid.{itemAt, itemsAt, slotsOf, items-back, slots-back, slots-length, Placed, placed-at, AllPlaced, Laid, laid-unique}
-use Rattle.check_trees.specs.Laid.{laid-node-high}
-use Rattle.check_trees.specs.Fills.{Written, Fills}
+use Rattle.check_trees.specs.Laid.{itemAt, itemsAt, slotsOf, items-back, slots-back, Placed, placed-at, AllPlaced, Laid, laid-unique}
+use Rattle.check_trees.specs.Fills.{Fills}
 use Rattle.check_trees.specs.FillWalks.{written-length}
 use Rattle.check_bridges.specs.Gaps.{InRange}
 use Rattle.check_bridges.specs.StoredBridges.{Threads}

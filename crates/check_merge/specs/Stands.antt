@@ -1,20 +1,18 @@
 -- A subtree of offers whose shape, offers and order are known, and the envelopes that may be stored with it.
-use mathlib.Core.Path.{_≡_, refl, sym, _∙_, ap, ap₂, subst}
-use mathlib.Core.Bool.{Bool, true, false, cond}
+use mathlib.Core.Path.{_≡_, refl, sym, _∙_, ap, subst}
+use mathlib.Core.Bool.{true, false}
 use mathlib.Core.Logic.{_≢_}
 use mathlib.Core.HLevel.{¬-prop}
-use mathlib.Core.List.{List, [], _∷_, _++_, map, List·Memᴰ, List·Memᴰ·head, List·Memᴰ·tail, Memᴰ·append-left, Memᴰ·append-right, Pairwise, Pairwise·nil}
-use Prim.Native.Nat.{ℕ, suc, _+_, _-_, _≤_, _<_}
+use mathlib.Core.List.{List, _∷_, List·Memᴰ, List·Memᴰ·head, List·Memᴰ·tail, Memᴰ·append-left, Memᴰ·append-right, Pairwise, Pairwise·nil}
+use Prim.Native.Nat.{ℕ, _-_}
 use native.Mathlib.Omega.{arith}
 use lib.Dec.{T}
 use borrow.Author.Tests.{le-ltb, lt-ltb}
 use Rattle.lists.specs.Members.{pairs-cons}
-use Rattle.lists.specs.Places.{sublist-mem}
 use Rattle.offers.specs.Offers.{offerInRange}
-use Rattle.envelopes.specs.PseudoLines.{Figure, PseudoLines}
 use Rattle.envelopes.specs.Envelope.{Ordered, Ordered·nil, Ordered·cons, Env}
 use Rattle.envelopes.specs.EnvelopeLaws.{ordered-left, ordered-right}
-use Rattle.trees.specs.Tree.{Tree, leaf, node, leaves, last}
+use Rattle.trees.specs.Tree.{Tree, node, leaves, last}
 use Rattle.trees.specs.Leaves.{last-leaf}
 use Rattle.dynamic.specs.OfferTree.{OfferTree, single, fork, shape}
 use Rattle.dynamic.specs.Valid.{Valid}
@@ -23,13 +21,13 @@ use Rattle.table.specs.Fields.{innerRestField, leafRestField, mostSlots, offerT
 use Rattle.table.specs.Words.{Words}
 use Rattle.table.specs.Layout.{cap, cap-most, cell}
 use Rattle.table.specs.Items.{Item, Apart, Slots}
-use Rattle.table.specs.Rep.{childAt, refOf}
+use Rattle.table.specs.Rep.{childAt}
 use Rattle.table.specs.Threads.{Held, Holds}
 use Rattle.pieces.specs.Pieces.{items, item-laws}
 use Rattle.form.specs.Stored.{Stored, nodeSlot, restField}
 use Rattle.form.specs.RestWords.{restWord}
-use Rattle.check_trees.specs.Laid.{itemAt, itemsAt, Placed, AllPlaced, Laid, Children, laid-children}
-use Rattle.check_merge.specs.PieceTrees.{Known, AllKnown}
+use Rattle.check_trees.specs.Laid.{itemAt, itemsAt, AllPlaced, Laid, laid-children}
+use Rattle.check_merge.specs.PieceTrees.{AllKnown}
 
 -- ---- shape, offers and order
 

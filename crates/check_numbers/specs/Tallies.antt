@@ -1,18 +1,12 @@
 -- What the search for the tree of numbers tells.
 use mathlib.Core.Path.{_≡_}
-use mathlib.Core.Logic.{_≢_}
 use mathlib.Core.Bool.{Bool, true}
 use mathlib.Core.List.{List, Pairwise}
-use Prim.Native.Nat.{ℕ, _+_}
+use Prim.Native.Nat.{ℕ}
 use lib.ListN.{length}
-use lib.IntN.{pos}
-use Rattle.trees.specs.Operations.{Part}
-use Rattle.table.specs.Words.{Words, word}
-use Rattle.table.specs.Layout.{cap}
-use Rattle.table.specs.Free.{head0, FreeChain}
-use Rattle.table.specs.Items.{Item, Apart}
+use Rattle.table.specs.Words.{Words}
+use Rattle.table.specs.Items.{Apart}
 use Rattle.form.specs.Form.{Numbered}
-use Rattle.table.specs.PartTrees.{partRef}
 use Rattle.check_trees.specs.Stretches.{span}
 use Rattle.check_trees.specs.Laid.{itemsAt, AllPlaced}
 

@@ -1,8 +1,8 @@
 -- The walk over the tree of offers, by a function that calls itself on both children: what it promises, and the ways through its code.
-use mathlib.Core.Path.{_≡_, refl, sym, _∙_, ap, ap₂, subst}
-use mathlib.Core.Bool.{Bool, true, false}
-use mathlib.Core.List.{List, [], _∷_, _++_, List·Memᴰ·head}
-use Prim.Native.Nat.{ℕ, zero, suc, _+_, _-_, _≤_, _<_}
+use mathlib.Core.Path.{_≡_, refl, sym, _∙_, ap, subst}
+use mathlib.Core.Bool.{true, false}
+use mathlib.Core.List.{List, [], _∷_, List·Memᴰ·head}
+use Prim.Native.Nat.{ℕ, suc, _+_, _-_, _≤_, _<_}
 use native.Mathlib.Omega.{arith}
 use lib.ListN.{length, getD, set, length-set, length-append}
 use lib.Seq.{getD-set-same, getD-set-other}
@@ -24,7 +24,7 @@ use Rattle.check_trees.specs.Laid.{itemAt, itemsAt, laid-leaf-low, laid-node-hi
 use Rattle.check_merge.specs.declared.Walked.{Walked}
 use Rattle.check_merge.specs.BridgeTests.{items-length}
 use Rattle.check_merge.specs.Stands.{Stands, stands-left, stands-right, Decorated, decorated-env}
-use Rattle.check_merge.specs.Joints.{half-left, half-right, no-leaf, joint-known, joins-fork, Joined, decorated-joins}
+use Rattle.check_merge.specs.Joints.{half-left, half-right, no-leaf, joint-known, joins-fork, decorated-joins}
 use Rattle.check_merge.specs.Merges.{Refuses, Two, Merges}
 
 -- Where the shape, the offers and the order of a subtree are known, the walk goes through exactly where envelopes are stored with it, and then

@@ -5,11 +5,10 @@ use mathlib.Core.List.{List}
 use mathlib.Core.Option.{Option}
 use Prim.Native.Nat.{ℕ}
 use lib.ListN.{length}
-use lib.IntN.{pos}
 use Rattle.trees.specs.Tree.{Tree, leaves}
 use Rattle.dynamic.specs.OfferTree.{Held}
 use Rattle.dynamic.specs.Valid.{bookLines}
-use Rattle.table.specs.Words.{Words, word}
+use Rattle.table.specs.Words.{Words}
 use Rattle.table.specs.Items.{Item}
 use Rattle.form.specs.Form.{OffersStand}
 use Rattle.check_trees.specs.Stretches.{span}

@@ -1,8 +1,8 @@
 -- The walk over a tree that writes its leaves' slots into a scratch array: the ways through its code.
-use mathlib.Core.Path.{_≡_, refl, sym, _∙_, ap, ap₂, subst}
-use mathlib.Core.Bool.{Bool, true, false}
+use mathlib.Core.Path.{_≡_, sym, _∙_, ap, ap₂}
+use mathlib.Core.Bool.{true, false}
 use mathlib.Core.List.{List, [], _∷_, _++_}
-use Prim.Native.Nat.{ℕ, zero, suc, _+_, _-_, _≤_, _<_, max}
+use Prim.Native.Nat.{ℕ, suc, _+_, _-_, _≤_, _<_, max}
 use native.Mathlib.Omega.{arith}
 use lib.ListN.{length, getD, length-append}
 use lib.Seq.{getD-at}
@@ -15,9 +15,9 @@ use Rattle.table.specs.Items.{Item}
 use Rattle.table.specs.Rep.{childAt}
 use Rattle.check_trees.specs.Scratch.{scratchLength}
 use Rattle.check_trees.specs.declared.Filled.{Filled}
-use Rattle.check_trees.specs.Stretches.{span, span-cut, span-same, span-length, span-at}
-use Rattle.check_trees.specs.Laid.{slotsOf, slots-append, slots-length, Laid, laid-leaf-low, Children, laid-children, laid-node, laid-unique}
-use Rattle.check_trees.specs.Fills.{Written, Fills, NoTree, Fails, fills-not, fills-none, Levelled, Ended, Covers}
+use Rattle.check_trees.specs.Stretches.{span-cut, span-same, span-length, span-at}
+use Rattle.check_trees.specs.Laid.{slotsOf, slots-append, slots-length, Laid, laid-leaf-low, laid-children, laid-node, laid-unique}
+use Rattle.check_trees.specs.Fills.{Written, Fills, Fails, fills-not, fills-none, Levelled, Ended, Covers}
 
 -- ---- what was written
 

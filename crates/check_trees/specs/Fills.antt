@@ -1,24 +1,23 @@
 -- A tree's leaves written into a scratch array, in order: what the walk promises, and the ways through its code.
-use mathlib.Core.Path.{_≡_, refl, sym, _∙_, ap, ap₂, subst}
+use mathlib.Core.Path.{_≡_, refl, sym, _∙_, subst}
 use mathlib.Core.Bool.{true, false}
-use mathlib.Core.List.{List, [], _∷_, _++_, List·Memᴰ, List·Memᴰ·head, List·Memᴰ·eq-of-singleton}
-use Prim.Native.Nat.{ℕ, zero, suc, _+_, _-_, _≤_, _<_, max}
+use mathlib.Core.List.{List, List·Memᴰ·head, List·Memᴰ·eq-of-singleton}
+use Prim.Native.Nat.{ℕ, suc, _+_, _-_, _≤_, _<_, max}
 use native.Mathlib.Omega.{arith}
-use lib.ListN.{length, getD, set, length-set, length-append}
+use lib.ListN.{length, getD, set, length-set}
 use lib.Seq.{getD-set-same, getD-set-other}
 use Rattle.lists.specs.Bools.{never}
-use Rattle.trees.specs.Tree.{Tree, leaf, node, height, leaves, last, Avl, avl-leaf}
-use Rattle.trees.specs.Leaves.{last-leaf, some-leaf, leaves-last, start}
+use Rattle.trees.specs.Tree.{Tree, leaf, node, height, leaves, avl-leaf}
+use Rattle.trees.specs.Leaves.{some-leaf}
 use Rattle.table.specs.Fields.{mostNodes, mostSlots}
 use Rattle.table.specs.Words.{Words}
 use Rattle.table.specs.Layout.{cap}
 use Rattle.table.specs.Items.{Item}
-use Rattle.table.specs.Rep.{childAt, heightAt, height-at-most, refOf, tied-leaf}
+use Rattle.table.specs.Rep.{heightAt, height-at-most, tied-leaf}
 use Rattle.check_trees.specs.Scratch.{scratchLength}
 use Rattle.check_trees.specs.declared.Filled.{Filled}
-use Rattle.check_trees.specs.Stretches.{span, span-one, span-cut, span-same, span-length, span-cons, span-at}
-use Rattle.check_trees.specs.Laid.{itemAt, slotsOf, slots-append, slots-length, Placed, placed-at, Laid, laid-leaf-low, laid-node-high}
-use Rattle.check_trees.specs.Laid.{Children, laid-children, laid-node, laid-unique}
+use Rattle.check_trees.specs.Stretches.{span, span-one}
+use Rattle.check_trees.specs.Laid.{itemAt, slotsOf, Placed, placed-at, Laid, laid-node-high}
 
 -- the tree at node x, its leaves' slots between the places a and b
 pub record Written (w : Words) (k x : ℕ) (xs : List ℕ) (a b h : ℕ) : Type 0 where

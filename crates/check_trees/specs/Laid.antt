@@ -1,19 +1,18 @@
 -- A balanced tree laid out in words: each leaf is the item that its slot holds. The words determine the tree.
-use mathlib.Core.Path.{_≡_, refl, sym, _∙_, ap, ap₂, subst}
+use mathlib.Core.Path.{_≡_, refl, sym, _∙_, ap, ap₂}
 use mathlib.Core.Bool.{true, false}
 use mathlib.Core.List.{List, [], _∷_, _++_, map, List·Memᴰ, List·Memᴰ·head, List·Memᴰ·tail, List·Memᴰ·append-cases, Memᴰ·append-left, Memᴰ·append-right}
 use mathlib.Core.Logic.{⊎-elim}
-use Prim.Native.Nat.{ℕ, zero, suc, _+_, _-_, _≤_, _<_, max}
+use Prim.Native.Nat.{ℕ, suc, _-_, _≤_, _<_, max}
 use native.Mathlib.Omega.{arith}
 use lib.ListN.{length}
-use lib.IntN.{ℤ}
-use Rattle.trees.specs.Tree.{Tree, leaf, node, height, leaves, last, Avl, avl-leaf, avl-node}
+use Rattle.trees.specs.Tree.{Tree, leaf, node, height, leaves, last, Avl, avl-node}
 use Rattle.trees.specs.Leaves.{last-leaf}
 use Rattle.table.specs.Fields.{baseField, mostSlots, numberField, rateField}
 use Rattle.table.specs.Words.{Words}
 use Rattle.table.specs.Layout.{cap, cap-most, cell, linkAt}
 use Rattle.table.specs.Items.{Item}
-use Rattle.table.specs.Rep.{childField, heightField, childAt, heightAt, refOf, Tied, tied-leaf, tied-node}
+use Rattle.table.specs.Rep.{childField, heightField, childAt, heightAt, refOf, Tied, tied-node}
 
 -- ---- items by their slots
 

@@ -1,10 +1,10 @@
 -- What the loops over a stretch of the scratch array look for, and a stretch moved down.
-use mathlib.Core.Path.{_≡_, refl, sym, _∙_, ap}
+use mathlib.Core.Path.{_≡_, refl, sym, _∙_}
 use mathlib.Core.Logic.{_≢_}
 use mathlib.Core.Bool.{Bool, true, false, true≢false}
 use mathlib.Core.List.{List}
-use Prim.Native.Nat.{ℕ, zero, suc, _+_, _-_, _≤_, _<_}
-use native.Mathlib.Decide.{decLt, ℕ-discrete}
+use Prim.Native.Nat.{ℕ, _+_, _≤_, _<_}
+use native.Mathlib.Decide.{ℕ-discrete}
 use native.Mathlib.Omega.{arith}
 use lib.Dec.{T}
 use lib.ListN.{length, getD, set, length-set}
@@ -16,7 +16,7 @@ use Rattle.table.specs.Words.{Words}
 use Rattle.table.specs.Layout.{cell}
 use Rattle.table.specs.Threads.{Next}
 use Rattle.check_trees.specs.Laid.{itemAt}
-use Rattle.check_trees.specs.Deciding.{Every, every-none, every-more}
+use Rattle.check_trees.specs.Deciding.{Every}
 
 -- a field falls from one entry's slot to the next one's
 pub record FallsHere (w : Words) (f : ℕ) (xs : List ℕ) (k : ℕ) : Type 0 where

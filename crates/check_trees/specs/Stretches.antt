@@ -1,11 +1,11 @@
 -- Stretches of a scratch array: the numbers from one place up to another. Reading is total, so no bound on the array is asked.
 use mathlib.Core.Path.{_≡_, refl, sym, _∙_, ap, ap₂, subst}
-use mathlib.Core.List.{List, [], _∷_, _++_, map, List·Memᴰ, List·Memᴰ·head, List·Memᴰ·tail, IsChain, IsChain·nil, IsChain·singleton, IsChain·cons-cons}
+use mathlib.Core.List.{List, [], _∷_, _++_, map, IsChain, IsChain·nil, IsChain·singleton, IsChain·cons-cons}
 use Prim.Native.Nat.{ℕ, zero, suc, _+_, _-_, _≤_, _<_}
-use native.Mathlib.Decide.{decLe, ℕ-discrete}
+use native.Mathlib.Decide.{ℕ-discrete}
 use native.Mathlib.Numerals.{add-one}
 use native.Mathlib.Omega.{arith}
-use lib.ListN.{length, getD, take, drop}
+use lib.ListN.{length, getD}
 
 -- n numbers from place a on
 unfoldable pub stretch : List ℕ → ℕ → ℕ → List ℕ

@@ -12,7 +12,7 @@ ghost use Rattle.table.specs.Layout.{cell};
 ghost use Rattle.check_trees.specs.Scratch.{scratchLength};
 ghost use Rattle.check_trees.specs.Deciding.{Decides, Every, Agree};
 ghost use Rattle.check_trees.specs.Laid.{itemAt};
-ghost use Rattle.check_trees.specs.Loops.{FallsHere, RangedHere, NextHere, PlaceOf, Moved};
+ghost use Rattle.check_trees.specs.Loops.{FallsHere, RangedHere, PlaceOf, Moved};
 ghost use Rattle.check_trees.specs.Fills.{Fails, Fills, Ended, Covers};
 
 // A scratch array has two halves, with an entry for each slot in either: what is read first, and what is compared with it.

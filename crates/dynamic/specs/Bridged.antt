@@ -4,7 +4,7 @@ use Prim.Native.Nat.{ℕ, suc, _-_, _<_}
 use native.Mathlib.Omega.{arith}
 use mathlib.Core.Path.{refl, sym, _∙_}
 use mathlib.Core.List.{List, _∷_, _++_, reverse}
-use lib.ListN.{length, getD, take, drop, length-drop}
+use lib.ListN.{getD, take, drop, length-drop}
 use lib.Seq.{split-at, length-take-le}
 use Rattle.lists.specs.Places.{mem-at, sublist-mem, getD-reverse}
 use Rattle.envelopes.specs.PseudoLines.{Figure, PseudoLines}

@@ -9,7 +9,7 @@ use Rattle.envelopes.specs.PseudoLines.{Figure, PseudoLines}
 use Rattle.envelopes.specs.Envelope.{Ordered, Env}
 use Rattle.envelopes.specs.EnvelopeLaws.{ordered-left, ordered-right, ordered-apart, not-both, ordered-pairs}
 use Rattle.envelopes.specs.Small.{env-one}
-use Rattle.trees.specs.Tree.{Tree, leaf, node, leaves, last, Avl, avl-node}
+use Rattle.trees.specs.Tree.{Tree, node, leaves, last, Avl, avl-node}
 use Rattle.trees.specs.Operations.{Part, Cut, partLeaves}
 use Rattle.trees.specs.Leaves.{leaves-joinP, last-leaf}
 use Rattle.trees.specs.Balanced.{AvlP, near-joinP}

@@ -3,8 +3,7 @@
 -- A node is never handled without its whole envelope in hand, as one piece tree; below it only the rests are stored.
 use mathlib.Core.Bool.{not}
 use mathlib.Core.List.{List, [], _∷_, _++_}
-use mathlib.Core.Option.{Option, none, some}
-use Prim.Native.Nat.{ℕ}
+use mathlib.Core.Option.{none, some}
 use Rattle.envelopes.specs.PseudoLines.{Figure}
 use Rattle.trees.specs.Tree.{Tree, leaf, node, first, last}
 use Rattle.trees.specs.Operations.{Part, Cut, split, splitP, joinP}

@@ -10,7 +10,7 @@ use Rattle.envelopes.specs.PseudoLines.{Figure}
 use Rattle.envelopes.specs.Envelope.{Env}
 use Rattle.trees.specs.Tree.{Tree, leaf, node, height, leaves, Avl}
 use Rattle.meeting.specs.Machine.{meet}
-use Rattle.dynamic.specs.OfferTree.{OfferTree, shape, Held, Pair}
+use Rattle.dynamic.specs.OfferTree.{shape, Held, Pair}
 use Rattle.dynamic.specs.Valid.{bookLines}
 
 -- ---- the counts

@@ -1,8 +1,8 @@
 -- Pseudo-lines: what the geometry of envelopes rests on, and nothing else (docs/REQUIREMENTS.md, source [1], section 2).
 -- The operations are tests that compute; the laws are a record over them. Every theorem of this crate is proved from the laws alone.
 -- The mirror image of a figure is a figure, so what is proved of the left holds of the right.
-use mathlib.Core.Bool.{Bool, true, false}
-use mathlib.Core.Logic.{_⊎_, inl, inr}
+use mathlib.Core.Bool.{Bool}
+use mathlib.Core.Logic.{_⊎_}
 use lib.Dec.{T}
 
 pub record Figure : Type 1 where

@@ -2,7 +2,7 @@
 use mathlib.Core.Path.{_≡_, ap, subst, sym, _∙_}
 use mathlib.Core.Logic.{_≢_, ∥∥₁-elim}
 use mathlib.Core.HLevel.{¬-prop}
-use mathlib.Core.List.{List, List·Memᴰ, Memᴰ·of-map, Pairwise, Pairwise·map, Pairwise·imp, Pairwise·imp-of-mem}
+use mathlib.Core.List.{List, List·Memᴰ, Memᴰ·of-map, Pairwise, Pairwise·map, Pairwise·imp-of-mem}
 use mathlib.Core.Option.{Option, none, some}
 use Prim.Native.Nat.{ℕ}
 use native.Mathlib.Omega.{arith}

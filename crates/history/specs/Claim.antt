@@ -1,19 +1,15 @@
 -- The proof of the claim about a history (`Claim`, in History): from an accepted opening, whatever the capacity, the start and the words were, and
 -- after any list of posts, withdrawals, queries and listings, refused ones among them.
 use mathlib.Core.Path.{_≡_, refl, sym, _∙_, ap, subst}
-use mathlib.Core.List.{List, _∷_, List·Memᴰ}
+use mathlib.Core.List.{List, _∷_}
 use mathlib.Core.Option.{Option, none, some}
-use Prim.Native.Nat.{ℕ, _*_, _≤_}
+use Prim.Native.Nat.{ℕ}
 use lib.ListN.{length}
 use lib.IntN.{ℤ, natAbs}
-use Rattle.integers.specs.Log.{B}
 use Rattle.plain.specs.Causes.{Cause, declined, Clear}
 use Rattle.plain.specs.Book.{State, Call, post, withdraw, query, listing, Answer, opened, openTrials, trials, respond, step, after, answers}
-use Rattle.trees.specs.Tree.{height, leaves}
-use Rattle.trees.specs.Operations.{Part, partLeaves, partHeight}
 use Rattle.trees.specs.Height.{log-height, log-heightP}
-use Rattle.dynamic.specs.OfferTree.{Held, heldShape, Pair}
-use Rattle.dynamic.specs.Rearranged.{pieceTrees}
+use Rattle.dynamic.specs.OfferTree.{Held, Pair}
 use Rattle.dynamic.specs.Heights.{offers-height, piece-height}
 use Rattle.dynamic.specs.Work.{Work}
 use Rattle.table.specs.Items.{Item}
@@ -23,7 +19,7 @@ use Rattle.promises.specs.declared.Opening.the-variants.{Opened}
 use Rattle.form.specs.Form.{Book, OffersIn}
 use Rattle.form.specs.Local.{Alike, book-alike}
 use Rattle.promises.specs.Promises.{partOf, Opens, Passes}
-use Rattle.history.specs.History.{Happens, by-update, by-query, by-listing, History, finished, next, LowPairs, Kept, EachCall}
+use Rattle.history.specs.History.{Happens, by-update, by-query, by-listing, History, finished, next, LowPairs, Kept}
 pub use Rattle.history.specs.History.{Low, Claim}
 
 -- ---- heights

@@ -3,15 +3,15 @@
 use mathlib.Core.Path.{_≡_, refl}
 use mathlib.Core.Bool.{_&&_, false, true≢false}
 use Prim.Native.Nat.{ℕ, zero, suc, _+_, _-_, _*_, _^_, _≤_, _<_}
-use native.Mathlib.Nat.{le-trans, mul-le-mul}
+use native.Mathlib.Nat.{mul-le-mul}
 use native.Mathlib.Omega.{arith}
 use lib.Dec.{T}
 use lib.IntN.{ℤ, pos, negsuc, negℤ, natAbs, _+ℤ_, _-ℤ_, _*ℤ_}
-use lib.Signed.{leZ, ltZ, mag, nonNeg}
-use mir.Syntax.{Width, w64}
-use mir.Val.{Fits, SFits, hbits}
+use lib.Signed.{leZ, ltZ, nonNeg}
+use mir.Syntax.{w64}
+use mir.Val.{Fits, SFits}
 use Rattle.lists.specs.Bools.{and-both}
-use Rattle.integers.specs.Parts.{P, N, intRules, natAbs-parts, natAbs-most, mag-natAbs, neg-P, neg-N, add-parts, sub-parts, mul-P, mul-N, within-parts}
+use Rattle.integers.specs.Parts.{P, N, intRules, natAbs-parts, mag-natAbs, add-parts, sub-parts, within-parts}
 use Rattle.integers.specs.Ring.{Ex, var, nat, neg, _:+_, _:-_, _:*_, ⟦_⟧}
 
 abbrev pub M : Ex → ℕ

@@ -4,14 +4,13 @@
 --   an order of expressions             `by-le e f (omega (arith, from-le c d h, mul-le-mul ..))`, with h : T (leZ ⟦ c ⟧ ⟦ d ⟧),
 --   and in a longer linear argument     `omega (arith, intRules, parts e, parts f)` with each compound expression named once.
 -- omega takes at most 64 monomials: state a fact with products for few unknowns, `pos n` for what is not negative.
-use mathlib.Core.Path.{_≡_, refl, sym, ap, _∙_}
-use mathlib.Core.Logic.{_≢_}
-use mathlib.Core.Bool.{Bool, true, false, not}
-use Prim.Native.Nat.{ℕ, zero, suc, _+_, _*_, _≤_, _<_}
+use mathlib.Core.Path.{_≡_, ap}
+use mathlib.Core.Bool.{true}
+use Prim.Native.Nat.{ℕ, suc, _+_, _*_, _≤_, _<_}
 use native.Mathlib.Nat.{mul-le-mul-left, mul-le-mul-right, le-of-mul-le-mul-right, lt-of-mul-lt-mul-right}
 use native.Mathlib.Omega.{arith}
 use lib.Dec.{T}
-use lib.IntN.{ℤ, pos, negsuc, negℤ, _+ℤ_, _-ℤ_, _*ℤ_}
+use lib.IntN.{ℤ, pos, negℤ, _+ℤ_, _-ℤ_, _*ℤ_}
 use lib.Signed.{leZ, ltZ}
 use Rattle.lists.specs.Bools.{same-test}
 use Rattle.integers.specs.Parts.{P, N, intRules, neg-P, neg-N, add-parts, sub-parts, mul-P, mul-N, le-parts, lt-parts, parts-le, parts-lt}

@@ -1,7 +1,7 @@
 -- How far one line's price lies above another's at a rational load, times its denominator: B × D + R × N, where B and R are the differences of the
 -- bases and of the rates. Where R is above 0 it only rises from negative to positive. That is the one fact with products that envelopes rest on.
 use mathlib.Core.Path.{_≡_, sym, subst}
-use Prim.Native.Nat.{ℕ, zero, suc, _+_, _*_, _≤_, _<_}
+use Prim.Native.Nat.{ℕ, suc, _+_, _*_, _≤_, _<_}
 use native.Mathlib.Nat.{mul-le-mul-left, mul-le-mul-right, le-of-mul-le-mul-right, lt-of-mul-lt-mul-right}
 use native.Mathlib.Omega.{arith}
 use mathlib.Core.Bool.{Bool}

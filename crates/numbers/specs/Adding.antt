@@ -3,8 +3,8 @@ use mathlib.Core.Path.{_≡_, refl, sym, _∙_, ap, subst}
 use mathlib.Core.Logic.{_≢_, ⊎-elim}
 use mathlib.Core.Bool.{Bool, true}
 use mathlib.Core.List.{List, [], _∷_, _++_, append-assoc, List·Memᴰ, List·Memᴰ·head, List·Memᴰ·tail, List·Memᴰ·append-cases, List·Memᴰ·cases-cons}
-use mathlib.Core.List.{Memᴰ·append-left, Memᴰ·append-right, Pairwise, Pairwise·of-cons, rel-of-pairwise-cons, mem-append-left}
-use mathlib.Core.Option.{Option, none, some}
+use mathlib.Core.List.{Memᴰ·append-left, Memᴰ·append-right, Pairwise·of-cons, rel-of-pairwise-cons}
+use mathlib.Core.Option.{none, some}
 use Prim.Native.Nat.{ℕ}
 use native.Mathlib.Omega.{arith}
 use lib.Dec.{T, T-prop}
@@ -12,12 +12,12 @@ use lib.IntN.{ℤ}
 use lib.Signed.{leZ, ltZ}
 use Rattle.lists.specs.Members.{pairs-cons, Among}
 use Rattle.integers.specs.Parts.{intRules, ne-parts}
-use Rattle.trees.specs.Tree.{Tree, leaf, avl-leaf}
+use Rattle.trees.specs.Tree.{leaf, avl-leaf}
 use Rattle.trees.specs.Leaves.{leaves-joinP, last-join}
-use Rattle.trees.specs.Operations.{Part, Cut, partLeaves, joinP, splitP}
+use Rattle.trees.specs.Operations.{Part, partLeaves, joinP, splitP}
 use Rattle.trees.specs.Balanced.{AvlP, near-joinP}
-use Rattle.trees.specs.Order.{Falling, falling-turning, parted}
-use Rattle.trees.specs.Split.{Clean, Low, splitP-low}
+use Rattle.trees.specs.Order.{Falling, falling-turning}
+use Rattle.trees.specs.Split.{Clean, splitP-low}
 use Rattle.table.specs.Fields.{mostLevels, numberField, numberTree}
 use Rattle.table.specs.Words.{Words}
 use Rattle.table.specs.Layout.{cap, cell}
@@ -33,7 +33,7 @@ use Rattle.pieces.specs.Cutting.{splitP-leaves}
 use Rattle.form.specs.Form.{numberOf}
 use Rattle.numbers.specs.Numbers.{NumbersAt, Added}
 use Rattle.numbers.specs.Trees.{among-in, among-holds, falling-slots, leaves-hold, numbers-rep, part-low, numbers-made, splitP-clean, seam-end}
-use Rattle.numbers.specs.Trees.{Beside, joined}
+use Rattle.numbers.specs.Trees.{joined}
 
 -- ---- lists
 

@@ -12,14 +12,12 @@ use Rattle.lists.specs.Members.{Among}
 use Rattle.integers.specs.Parts.{intRules, range-parts}
 use Rattle.offers.specs.Sizes.{number-of}
 use Rattle.trees.specs.Operations.{Part}
-use Rattle.trees.specs.Order.{falling-one}
 use Rattle.table.specs.Fields.{mostLevels, numberTree}
 use Rattle.table.specs.Words.{Words}
 use Rattle.table.specs.Layout.{cap}
 use Rattle.table.specs.Items.{Item, Slots}
 use Rattle.table.specs.Rep.{Only, only-more}
 use Rattle.table.specs.Keys.{keyed-numbers}
-use Rattle.table.specs.PartTrees.{RepP, MadeP, repP-still}
 use Rattle.table.specs.Threads.{Holds}
 use Rattle.form.specs.Form.{numberOf}
 use Rattle.numbers.specs.Numbers.{NumbersAt, Dropped}

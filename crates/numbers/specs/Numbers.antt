@@ -1,13 +1,13 @@
 -- What finding, adding and dropping a number promise. On any words only fields of slots change.
 use mathlib.Core.Path.{_≡_}
 use mathlib.Core.Logic.{_≢_}
-use mathlib.Core.List.{List, [], _∷_, List·Memᴰ, Pairwise}
+use mathlib.Core.List.{List, _∷_, List·Memᴰ}
 use Prim.Native.Nat.{ℕ}
 use lib.IntN.{ℤ}
-use Rattle.trees.specs.Operations.{Part, partLeaves}
+use Rattle.trees.specs.Operations.{Part}
 use Rattle.table.specs.Fields.{numberTree}
-use Rattle.table.specs.Words.{Words, word}
-use Rattle.table.specs.Layout.{cap, cell}
+use Rattle.table.specs.Words.{Words}
+use Rattle.table.specs.Layout.{cap}
 use Rattle.table.specs.Items.{Item, Slots}
 use Rattle.table.specs.Rep.{Within, Only}
 use Rattle.table.specs.PartTrees.{partRef}

@@ -2,15 +2,14 @@
 use mathlib.Core.Path.{_≡_, sym, _∙_, subst}
 use mathlib.Core.Logic.{_≢_, ⊎-elim}
 use mathlib.Core.Bool.{Bool, true, false, not}
-use mathlib.Core.List.{List, [], _∷_, _++_, List·Memᴰ, List·Memᴰ·head, List·Memᴰ·append-cases, List·Memᴰ·eq-of-singleton, Memᴰ·append-left}
+use mathlib.Core.List.{List, [], _∷_, _++_, List·Memᴰ, List·Memᴰ·append-cases, List·Memᴰ·eq-of-singleton, Memᴰ·append-left}
 use mathlib.Core.List.{Memᴰ·append-right, Sublistᴰ, Sublistᴰ·append, Sublistᴰ·refl, Sublistᴰ·nil-sublist}
-use mathlib.Core.Option.{Option, none, some}
+use mathlib.Core.Option.{none, some}
 use Prim.Native.Nat.{ℕ, _-_, _≤_, _<_}
 use native.Mathlib.Omega.{arith}
 use lib.Dec.{T}
 use lib.IntN.{ℤ, pos, _+ℤ_}
-use lib.Signed.{leZ, ltZ}
-use Rattle.lists.specs.Members.{Among}
+use lib.Signed.{leZ}
 use Rattle.lists.specs.Places.{sublist-mem}
 use Rattle.integers.specs.Parts.{intRules, add-parts}
 use Rattle.trees.specs.Tree.{Tree, leaf, node, height, leaves, last, Avl, avl-node}
@@ -20,17 +19,17 @@ use Rattle.trees.specs.Balanced.{AvlP, near-joinP}
 use Rattle.trees.specs.Order.{Falling, parted, last-lowest}
 use Rattle.table.specs.Fields.{mostSlots, numberField, numberTree}
 use Rattle.table.specs.Words.{Words}
-use Rattle.table.specs.Layout.{cap, cell}
+use Rattle.table.specs.Layout.{cell}
 use Rattle.table.specs.Items.{Item, In, in-left, in-right, slots-left, slots-right, slots-across, slots-sublist}
 use Rattle.table.specs.Rep.{childAt, Within, within-cap, within-refl, within-trans, Only, only-refl, only-trans, only-more}
-use Rattle.table.specs.Nodes.{Parents, parents, leaf-low, ref-low}
+use Rattle.table.specs.Nodes.{Parents, parents, leaf-low}
 use Rattle.table.specs.PartTrees.{RepP, repP-none, rep-some, MadeP, repP-still, seam-left}
 use Rattle.table.specs.Keys.{Keyed, keyed-left, keyed-right}
 use Rattle.shape.specs.JoinSteps.{Merged}
 use Rattle.descents.specs.Cuts.{seam-test}
 use Rattle.descents.specs.Ends.{Ended}
 use Rattle.form.specs.Form.{numberOf}
-use Rattle.numbers.specs.Trees.{among-in, seam-end, Beside, joined}
+use Rattle.numbers.specs.Trees.{among-in, seam-end, joined}
 
 -- what is left of p, with root y: fewer leaves in the same order; of an item just below `least`, none but it is gone
 pub record Thin (least : ℤ) (w w′ : Words) (y : ℕ) (p : Part Item) : Type 0 where

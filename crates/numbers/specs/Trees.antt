@@ -1,10 +1,9 @@
 -- The tree of numbers as any tree in words. Its items hold their numbers, so that numbers that fall have slots apart.
-use mathlib.Core.Bool.{Bool, true, false}
-use mathlib.Core.Path.{_≡_, refl, sym, _∙_, ap}
-use mathlib.Core.Logic.{_≢_, ∥∥₁-elim}
-use mathlib.Core.HLevel.{¬-prop}
-use mathlib.Core.List.{List, [], _∷_, _++_, List·Memᴰ, Pairwise, Pairwise·imp-of-mem}
-use mathlib.Core.Option.{Option, none, some}
+use mathlib.Core.Bool.{Bool, true}
+use mathlib.Core.Path.{_≡_, sym, _∙_, ap}
+use mathlib.Core.Logic.{∥∥₁-elim}
+use mathlib.Core.List.{List, _++_, List·Memᴰ, Pairwise·imp-of-mem}
+use mathlib.Core.Option.{none, some}
 use Prim.Native.Nat.{ℕ, _≤_}
 use native.Mathlib.Omega.{arith}
 use lib.Dec.{T}
@@ -12,7 +11,6 @@ use lib.IntN.{ℤ}
 use lib.Signed.{ltZ}
 use Rattle.lists.specs.Members.{Among}
 use Rattle.integers.specs.Parts.{intRules}
-use Rattle.trees.specs.Tree.{Tree, leaves}
 use Rattle.trees.specs.Operations.{Part, partLeaves, partHeight, joinP, splitP}
 use Rattle.trees.specs.Balanced.{AvlP}
 use Rattle.trees.specs.Order.{Falling, Turning}
@@ -22,11 +20,11 @@ use Rattle.table.specs.Words.{Words}
 use Rattle.table.specs.Layout.{cap, cell}
 use Rattle.table.specs.Items.{Item, In, at, Slots, Apart}
 use Rattle.table.specs.Rep.{Within, within-cap, Only}
-use Rattle.table.specs.PartTrees.{RepP, rep-some, MadeP, PairP, Seam, low}
+use Rattle.table.specs.PartTrees.{RepP, rep-some, MadeP, Seam, low}
 use Rattle.table.specs.Threads.{Holds, holds-still, only-offer}
 use Rattle.shape.specs.JoinSteps.{Merged}
 use Rattle.descents.specs.Ends.{Ended}
-use Rattle.form.specs.Form.{NumbersIn, numberOf}
+use Rattle.form.specs.Form.{numberOf}
 use Rattle.numbers.specs.Numbers.{NumbersAt}
 
 -- ---- lists of items

@@ -1,33 +1,33 @@
 -- Two piece trees put together, as steps on words: the seam is threaded, then the trees are joined.
-use mathlib.Core.Path.{_≡_, refl, sym, _∙_, ap, ap₂, subst}
+use mathlib.Core.Path.{_≡_, refl, sym, _∙_, ap, subst}
 use mathlib.Core.Logic.{_≢_}
 use mathlib.Core.Bool.{Bool, true, false}
-use mathlib.Core.List.{List, [], _∷_, _++_, append-nil, List·Memᴰ, Memᴰ·append-left, Memᴰ·append-right}
-use mathlib.Core.Option.{Option, none, some}
-use Prim.Native.Nat.{ℕ, _≤_, _<_}
+use mathlib.Core.List.{List, _++_}
+use mathlib.Core.Option.{none, some}
+use Prim.Native.Nat.{ℕ, _≤_}
 use native.Mathlib.Omega.{arith}
 use lib.IntN.{ℤ, pos, negℤ, _-ℤ_}
 use Rattle.offers.specs.Offers.{crossingNumerator, crossingDenominator}
 use Rattle.offers.specs.Sizes.{rate-of, base-of}
 use Rattle.offers.specs.Bounded.{bounded-in}
-use Rattle.trees.specs.Tree.{Tree, leaf, node, leaves, first, last, Avl}
+use Rattle.trees.specs.Tree.{Tree, leaves, first, last}
 use Rattle.trees.specs.Leaves.{leaves-join, first-leaf, last-leaf}
 use Rattle.trees.specs.Operations.{Part, partLeaves, join, joinP}
-use Rattle.trees.specs.Balanced.{AvlP, near-join}
+use Rattle.trees.specs.Balanced.{near-join}
 use Rattle.table.specs.Fields.{denominatorField, mostNodes, nextPieceField, numeratorField, pieceTree}
 use Rattle.table.specs.Words.{Words, upTo}
 use Rattle.table.specs.Layout.{cap, cap-most, cell, cset, linkAt, cset-cap, cset-other}
-use Rattle.table.specs.Items.{Item, In, at, in-left, in-right, Slots, slots-left, slots-right, slots-across}
-use Rattle.table.specs.Rep.{Field, a-child, a-height, childField, heightField, refOf, Tied, tied-leaf, tied-node, Rep, Within, within-cap}
-use Rattle.table.specs.Rep.{within-refl, within-trans, within-cset, Only}
+use Rattle.table.specs.Items.{Item, In, at, in-left, slots-across}
+use Rattle.table.specs.Rep.{Field, a-child, a-height, childField, heightField, Tied, tied-leaf, tied-node, Rep, Within, within-cap}
+use Rattle.table.specs.Rep.{within-refl, within-trans, within-cset}
 use Rattle.table.specs.Nodes.{ref-low}
-use Rattle.table.specs.PartTrees.{partRef, RepP, MadeP, PairP}
-use Rattle.table.specs.Threads.{Held, Holds, Next, Threaded, SameOffer, SameThread, Leads, leads-in, leads-last, chain-join, holds-still, holds-join}
+use Rattle.table.specs.PartTrees.{MadeP, PairP}
+use Rattle.table.specs.Threads.{Held, Threaded, SameOffer, SameThread, leads-in, leads-last, chain-join, holds-still, holds-join}
 use Rattle.table.specs.Threads.{threaded-still, only-offer, only-thread, cset-offer, cset-thread, threading, threading-next}
 use Rattle.shape.specs.JoinSteps.{Merged}
 use Rattle.descents.specs.Ends.{Ended}
 use Rattle.prices.specs.Prices.{rateAt, baseAt}
-use Rattle.pieces.specs.Pieces.{PartIn, PieceField, of-node, of-numerator, of-denominator, of-next, PiecesOnly, Standing, Beside, Catted}
+use Rattle.pieces.specs.Pieces.{PieceField, of-node, of-numerator, of-denominator, of-next, PiecesOnly, Standing, Beside, Catted}
 use Rattle.pieces.specs.Pieces.{EndsAt, BeginsAt, SeamAt, Seamed, CattedAfter, CattedBefore}
 
 -- ---- nothing on one side

@@ -1,8 +1,8 @@
 -- A piece tree cut by rate, as a step on words.
-use mathlib.Core.Path.{_≡_, refl, sym, _∙_, ap, subst}
+use mathlib.Core.Path.{_≡_, refl, _∙_, ap, subst}
 use mathlib.Core.Bool.{Bool, true, false, not, cond}
-use mathlib.Core.List.{List, [], _∷_, _++_, List·Memᴰ, List·Memᴰ·head, Memᴰ·append-left, Memᴰ·append-right, IsChain·nil}
-use mathlib.Core.Option.{Option, none, some}
+use mathlib.Core.List.{_++_, List·Memᴰ, List·Memᴰ·head, Memᴰ·append-left, Memᴰ·append-right, IsChain·nil}
+use mathlib.Core.Option.{none, some}
 use Prim.Native.Nat.{ℕ, _≤_}
 use native.Mathlib.Omega.{arith}
 use lib.Dec.{T}
@@ -10,24 +10,20 @@ use lib.IntN.{ℤ, pos, _+ℤ_}
 use lib.Signed.{leZ, ltZ}
 use Rattle.lists.specs.Bools.{same-test}
 use Rattle.integers.specs.Parts.{intRules, add-parts}
-use Rattle.offers.specs.Offers.{offerInRange, rateInRange}
+use Rattle.offers.specs.Offers.{offerInRange}
 use Rattle.offers.specs.Sizes.{rate-of}
-use Rattle.trees.specs.Tree.{Tree, leaf, node, leaves, first, last}
+use Rattle.trees.specs.Tree.{Tree, leaf, node, leaves, last}
 use Rattle.trees.specs.Leaves.{last-leaf}
 use Rattle.trees.specs.Operations.{Part, Cut, partLeaves, partHeight, split, splitP, afterLeft, beforeRight, allFront, allBack}
-use Rattle.trees.specs.Balanced.{AvlP}
-use Rattle.trees.specs.Split.{cutLeaves, split-leaves, splitP-low}
+use Rattle.trees.specs.Split.{split-leaves, splitP-low}
 use Rattle.table.specs.Fields.{mostLevels, pieceTree, rateField}
 use Rattle.table.specs.Words.{Words}
-use Rattle.table.specs.Layout.{cap, cell}
-use Rattle.table.specs.Items.{Item, In}
-use Rattle.table.specs.Rep.{Only}
-use Rattle.table.specs.Keys.{Keyed}
+use Rattle.table.specs.Items.{Item}
 use Rattle.table.specs.PartTrees.{TiedPart, RepP, low}
-use Rattle.table.specs.Threads.{Held, Holds, Threaded, holds-left, holds-right, holds-still, threaded-left, threaded-right, threaded-still}
+use Rattle.table.specs.Threads.{Holds, Threaded, holds-left, holds-right, holds-still, threaded-left, threaded-right, threaded-still}
 use Rattle.table.specs.Threads.{only-offer, only-thread}
 use Rattle.descents.specs.Cuts.{from, Halving, Halved}
-use Rattle.pieces.specs.Pieces.{rateOf, PartIn, PieceField, of-node, PiecesOnly, Standing, inFront, CutAt}
+use Rattle.pieces.specs.Pieces.{rateOf, PartIn, of-node, Standing, inFront, CutAt}
 
 -- ---- a cut goes by what the test says of the leaves
 

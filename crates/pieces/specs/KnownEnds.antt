@@ -1,7 +1,7 @@
 -- A cut at an end of the tree: nothing is cut off, and nothing is written.
 use mathlib.Core.Path.{_≡_, refl, sym, _∙_, ap, subst}
 use mathlib.Core.Bool.{Bool, true, false, not}
-use mathlib.Core.List.{[], List·Memᴰ}
+use mathlib.Core.List.{List·Memᴰ}
 use mathlib.Core.Option.{none, some}
 use Prim.Native.Nat.{ℕ}
 use native.Mathlib.Omega.{arith}
@@ -9,17 +9,17 @@ use lib.Dec.{T}
 use lib.IntN.{ℤ}
 use lib.Signed.{leZ, ltZ}
 use Rattle.integers.specs.Parts.{intRules}
-use Rattle.trees.specs.Tree.{Tree, leaves, first}
+use Rattle.trees.specs.Tree.{Tree, first}
 use Rattle.trees.specs.Leaves.{first-leaf}
 use Rattle.trees.specs.Operations.{Part, partLeaves, split, splitP}
 use Rattle.table.specs.Fields.{pieceTree, rateField}
 use Rattle.table.specs.Words.{Words}
 use Rattle.table.specs.Layout.{cell}
 use Rattle.table.specs.Items.{Item, slots-none}
-use Rattle.table.specs.Rep.{Rep, within-refl}
+use Rattle.table.specs.Rep.{within-refl}
 use Rattle.descents.specs.Whole.{split-whole, none-behind, none-in-front}
 use Rattle.descents.specs.Ends.{Ended}
-use Rattle.pieces.specs.Pieces.{rateOf, PiecesOnly, Standing, inFront, CutAt, Parted, NoneBelow, NoneAbove, CutBehind, CutBefore}
+use Rattle.pieces.specs.Pieces.{rateOf, PiecesOnly, Standing, inFront, CutAt, Parted, NoneAbove, CutBehind, CutBefore}
 
 nothing : (w : Words) → Standing w 0 none
 nothing w =

@@ -3,14 +3,14 @@
 use mathlib.Core.Path.{_≡_}
 use mathlib.Core.Bool.{Bool, true, false}
 use mathlib.Core.List.{List, _++_, List·Memᴰ}
-use mathlib.Core.Option.{Option, none, some}
+use mathlib.Core.Option.{none, some}
 use Prim.Native.Nat.{ℕ}
 use lib.IntN.{ℤ}
 use lib.Dec.{T}
 use lib.Signed.{leZ, ltZ}
 pub use Rattle.walks.specs.ItemLines.{rateOf, baseOf, itemFigure as items, itemLaws as item-laws}
 use Rattle.trees.specs.Tree.{Tree, leaves, first, last}
-use Rattle.trees.specs.Operations.{Part, Cut, partLeaves, joinP, splitP}
+use Rattle.trees.specs.Operations.{Part, partLeaves, joinP, splitP}
 use Rattle.trees.specs.Balanced.{AvlP}
 use Rattle.table.specs.Fields.{denominatorField, nextPieceField, numeratorField, pieceTree, rateField}
 use Rattle.table.specs.Words.{Words}

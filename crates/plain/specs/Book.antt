@@ -1,6 +1,6 @@
 -- The plain book (docs/REQUIREMENTS.md, 3): a capacity and a list of live offers in order, fed the calls' arguments, an
 -- output's length with them, and no word of any table. Each call is first tried against the table of declined calls.
-use Prim.Native.Nat.{ℕ, zero, suc, _+_, _*_, _-_}
+use Prim.Native.Nat.{ℕ, _+_, _*_, _-_}
 use mathlib.Core.List.{List, [], _∷_, _++_}
 use mathlib.Core.Option.{Option, none, some}
 use mathlib.Core.Bool.{Bool, not, _&&_, _||_, cond}

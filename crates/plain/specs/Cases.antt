@@ -1,10 +1,9 @@
 -- Prices to prove (docs/REQUIREMENTS.md, 15.1): ten cases, each through the calls of a freshly opened book of capacity 64, as one table that the
 -- checker computes.
-use Prim.Native.Nat.{ℕ}
 use mathlib.Core.Path.{_≡_, refl}
 use mathlib.Core.List.{List, [], _∷_, _++_, map}
-use lib.IntN.{ℤ, pos, negℤ}
-use Rattle.plain.specs.Book.{State, Call, post, withdraw, query, listing, Answer, refused, live, found, listed}
+use lib.IntN.{pos, negℤ}
+use Rattle.plain.specs.Book.{Call, post, withdraw, query, listing, Answer, refused, live, found, listed}
 use Rattle.plain.specs.Book.{opened, opening, after, answers}
 
 -- Calls that make a book, and the answers of the calls asked of it then.

@@ -1,9 +1,9 @@
 -- Who is live after a post and after a withdrawal.
-use mathlib.Core.Path.{_≡_, refl}
-use mathlib.Core.Logic.{_⊎_, inl, inr, ⊎-elim, _↔_, _≢_}
+use mathlib.Core.Path.{_≡_}
+use mathlib.Core.Logic.{_⊎_, inl, inr, _↔_, _≢_}
 use mathlib.Core.List.{List, [], _∷_, List·Memᴰ, List·Memᴰ·head, List·Memᴰ·tail}
 use mathlib.Core.Bool.{Bool, true, false, not, cond}
-use lib.Dec.{T, not-T}
+use lib.Dec.{not-T}
 use lib.IntN.{ℤ}
 use Rattle.lists.specs.Filter.{keep-passes, keep-in, keep-sublist}
 use Rattle.lists.specs.Places.{sublist-mem}

@@ -1,5 +1,5 @@
 -- A query's price is the least over all live offers, and the offer that it names has the highest rate among those at that price.
-use mathlib.Core.Path.{_≡_, refl, sym, _∙_, subst, ap}
+use mathlib.Core.Path.{_≡_, refl, sym, subst}
 use mathlib.Core.Logic.{_⊎_, inl, inr, ⊎-elim}
 use mathlib.Core.List.{List, [], _∷_, List·Memᴰ, List·Memᴰ·head, List·Memᴰ·tail, List·Memᴰ·cases-cons, Pairwise, Pairwise·of-cons, Pairwise·cons}
 use mathlib.Core.List.{rel-of-pairwise-cons, mem-cons-of-mem, mem-cons-self}
@@ -13,7 +13,7 @@ use lib.Signed.{leZ, ltZ}
 use Rattle.integers.specs.Parts.{intRules}
 use Rattle.offers.specs.Offers.{Offer, priceAt, precedes}
 use Rattle.plain.specs.Causes.{Cause, declined}
-use Rattle.plain.specs.Book.{State, Call, query, Answer, refused, found, cheapest, respond, trials, step}
+use Rattle.plain.specs.Book.{State, query, found, cheapest, respond, trials, step}
 use Rattle.plain.specs.Sound.{Sound}
 
 -- The offer that a query names.

@@ -1,7 +1,6 @@
 -- The plain book's calls, one by one: which trial declines, and what an accepted call answers and leaves.
 use mathlib.Core.Path.{_≡_, refl, _∙_, ap}
 use mathlib.Core.List.{List, [], _∷_}
-use mathlib.Core.Bool.{Bool, true, false, not}
 use Prim.Native.Nat.{ℕ, zero, suc, _+_, _*_, _<_}
 use native.Mathlib.Omega.{arith}
 use lib.ListN.{length, getD}
@@ -13,7 +12,7 @@ use Rattle.offers.specs.Offers.{Offer, loadInRange, priceAt, crossingNumerator,
 use Rattle.plain.specs.Causes.{Cause, causeNumber, Clear}
 use Rattle.plain.specs.Book.{holding, State, Outcome, Call, post, withdraw, query, listing, refused, live, found, listed, join, leave, cheapest}
 use Rattle.plain.specs.Book.{envelope, pieceWords, trials, step, respond, accepted}
-use Rattle.plain.specs.Causes.{FirstOf, at-once, further}
+use Rattle.plain.specs.Causes.{FirstOf}
 use Rattle.plain.specs.Trials.{declined-by, not-declined}
 use Rattle.plain.specs.Sound.{length-join}
 use Rattle.plain.specs.Meaning.{PieceAt}

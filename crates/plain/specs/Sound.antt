@@ -15,7 +15,7 @@ use lib.IntN.{ℤ, pos, negsuc}
 use Rattle.lists.specs.Filter.{keep-sublist}
 use Rattle.lists.specs.Members.{sub-length, pairs-cons}
 use Rattle.lists.specs.Places.{sublist-mem}
-use Rattle.lists.specs.Tests.{any, none-at}
+use Rattle.lists.specs.Tests.{none-at}
 use Rattle.lists.specs.Bools.{and-both, not-not}
 use Rattle.integers.specs.Parts.{intRules, le-or-lt, range-parts, unequal}
 use Rattle.integers.specs.Equal.{equal}

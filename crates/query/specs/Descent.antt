@@ -6,7 +6,7 @@ use native.Mathlib.Omega.{arith}
 use lib.Dec.{T}
 use lib.IntN.{ℤ}
 use Rattle.offers.specs.Offers.{loadInRange}
-use Rattle.trees.specs.Tree.{Tree, leaf, node, height, first, last}
+use Rattle.trees.specs.Tree.{Tree, leaf, height, first, last}
 use Rattle.table.specs.Fields.{mostLevels, mostSlots}
 use Rattle.table.specs.Words.{Words}
 use Rattle.table.specs.Items.{Item}

@@ -2,13 +2,13 @@
 use mathlib.Core.Path.{_≡_, refl}
 use mathlib.Core.Bool.{Bool, true, false, cond}
 use mathlib.Core.List.{List·Memᴰ, List·Memᴰ·head, Memᴰ·append-left, Memᴰ·append-right}
-use Prim.Native.Nat.{ℕ, zero, suc, _≤_}
+use Prim.Native.Nat.{ℕ, suc, _≤_}
 use native.Mathlib.Omega.{arith}
 use lib.IntN.{ℤ, _*ℤ_}
 use lib.Signed.{leZ}
 use Rattle.offers.specs.Offers.{Offer, crossingNumerator, crossingDenominator}
 use Rattle.trees.specs.Tree.{Tree, leaf, node, height, leaves, first, last}
-use Rattle.table.specs.Items.{Item, In, at, Slots, slots-left, slots-right, slots-across}
+use Rattle.table.specs.Items.{Item, at, Slots, slots-left, slots-right, slots-across}
 
 -- the item at the end of the walk, and how many nodes were passed
 pub record Reached : Type 0 where

@@ -1,5 +1,5 @@
 -- What a tree of pieces tells is what the plain book answers.
-use mathlib.Core.Path.{_≡_, refl, sym, _∙_, ap, subst}
+use mathlib.Core.Path.{_≡_, sym, _∙_, ap, subst}
 use mathlib.Core.Logic.{⊎-elim}
 use mathlib.Core.List.{List, [], _∷_, map, List·Memᴰ, List·Memᴰ·not-nil, Memᴰ·map, Memᴰ·of-map, Pairwise}
 use Prim.Native.Nat.{ℕ, _*_, _≤_, _<_}

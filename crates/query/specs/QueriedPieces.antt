@@ -14,7 +14,7 @@ use Rattle.trees.specs.Tree.{Tree, leaf, node, leaves, first, last}
 use Rattle.trees.specs.Leaves.{first-leaf, last-leaf}
 use Rattle.table.specs.Fields.{mostSlots, pieceTree}
 use Rattle.table.specs.Words.{Words}
-use Rattle.table.specs.Layout.{cap-most, cell, linkAt}
+use Rattle.table.specs.Layout.{cap-most, linkAt}
 use Rattle.table.specs.Items.{Item, slots-left, slots-right}
 use Rattle.table.specs.Rep.{childField, refOf, Tied, tied-node, Rep}
 use Rattle.table.specs.Threads.{Held, Holds, holds-left, holds-right, Threaded, threaded-left, threaded-right, chain-seam}

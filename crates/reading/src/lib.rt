@@ -1,5 +1,4 @@
 // The places of a reading of a book's pieces, and what stands at each: functions over a table, a start and a place.
-ghost use mathlib.Core.Path.{_≡_};
 ghost use Rattle.reading.specs.Promises.{Before, Starts, Hands, Moves};
 ghost use Rattle.reading.specs.PartReading.{PartMoves, PartHands};
 

@@ -1,7 +1,6 @@
 // A reading of a book's pieces: it carries the lent table along and hands out one piece at a time, as listed, then the end.
 // The functions over `Reading` are thin. The work is in crate reading, in functions over a table, a start and a place.
 use reading::Handed;
-ghost use mathlib.Core.Path.{_≡_};
 ghost use Prim.Native.Nat.{_+_};
 ghost use Rattle.reading.specs.Promises.{Before, Hands};
 ghost use Rattle.reading_steps.specs.ReadingSteps.{Begins, Advances, HandsAt};

@@ -1,19 +1,18 @@
 -- A run under way: what is done so far makes, with whatever is made of the calls that are left, the whole.
 use mathlib.Core.Path.{_≡_, refl, sym, _∙_, ap, subst}
-use mathlib.Core.Bool.{true, false}
+use mathlib.Core.Bool.{false}
 use mathlib.Core.List.{List, [], _∷_, _++_, append-assoc}
-use mathlib.Core.Option.{Option, none, some}
-use Prim.Native.Nat.{ℕ, suc, _+_, _*_, _-_, _≤_, _<_}
+use Prim.Native.Nat.{ℕ, _+_, _*_, _-_, _≤_, _<_}
 use native.Mathlib.Omega.{arith}
-use lib.ListN.{length, take, drop, length-append, length-take, length-drop, take-append-drop}
+use lib.ListN.{length, take, drop, length-append, length-drop, take-append-drop}
 use lib.Seq.{take-at, drop-at, drop-drop, take-add, take-take, take-append-le, drop-append-le, length-take-le}
-use lib.IntN.{ℤ, pos, natAbs}
+use lib.IntN.{ℤ, natAbs}
 use borrow.Author.Tests.{leb-true}
-use Rattle.plain.specs.Book.{Call, post, withdraw, query, listing, Answer, partLength}
+use Rattle.plain.specs.Book.{Call, Answer, partLength}
 use Rattle.promises.specs.Promises.{partOf, capacityAt, OnlyPart}
 use Rattle.promises.specs.LentPart.{whole-part, lent-back}
 use Rattle.form.specs.Local.{Alike}
-use Rattle.history.specs.History.{Happens, posting, withdrawing, by-update, by-query, by-listing, History, finished, next}
+use Rattle.history.specs.History.{Happens, posting, withdrawing, by-update, by-query, by-listing, finished, next}
 use Rattle.replay_words.specs.Encoding.{nextCall, stretch, fitting, runnable}
 use Rattle.replay_words.specs.Decoding.{runnable-none, runnable-next, next-words}
 use Rattle.replay_call.specs.Telling.{TellsOne, Tells}

@@ -1,7 +1,7 @@
 -- What the definitions of the encoding come to: a call's words are read as that call, the calls run are exactly what the first words encode, their
 -- answers fit, and the next call is unreadable or its answer does not fit.
 use mathlib.Core.Path.{_≡_, refl, sym, _∙_, ap}
-use mathlib.Core.Bool.{Bool, true, false, true≢false, _&&_, cond}
+use mathlib.Core.Bool.{Bool, true, false, _&&_, cond}
 use mathlib.Core.List.{List, [], _∷_, _++_}
 use mathlib.Core.Option.{Option, none, some}
 use Prim.Native.Nat.{ℕ, _+_, _*_, _-_, _≤_}

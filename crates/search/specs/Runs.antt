@@ -1,21 +1,18 @@
 -- The whole search: on two trees of envelopes that face each other it ends where the machine ends, after as many steps.
 use Prim.Native.Nat.{ℕ, zero, suc, _+_, _*_, _-_, _≤_, _<_}
 use native.Mathlib.Omega.{arith}
-use native.Mathlib.Numerals.{add-one}
-use mathlib.Core.Path.{_≡_, refl, sym, _∙_, ap, subst, subst₂}
-use mathlib.Core.Bool.{Bool, true, false, true≢false}
+use mathlib.Core.Path.{_≡_, refl, sym, _∙_, ap, subst₂}
+use mathlib.Core.Bool.{true, false, true≢false}
 use mathlib.Core.Logic.{_⊎_, inl, inr}
 use mathlib.Core.List.{List, [], _∷_, IsChain, IsChain·nil, IsChain·singleton, IsChain·cons-cons}
 use mathlib.Core.Option.{Option, none, some}
-use lib.Dec.{T}
 use lib.ListN.{length, getD, replicate}
-use Rattle.envelopes.specs.PseudoLines.{Figure}
-use Rattle.envelopes.specs.Bridge.{Facing, Bridge}
+use Rattle.envelopes.specs.Bridge.{Facing}
 use Rattle.envelopes.specs.Search.{facts}
 use Rattle.envelopes.specs.Exists.{bridge}
-use Rattle.trees.specs.Tree.{Tree, leaf, node, height, leaves, first}
+use Rattle.trees.specs.Tree.{Tree, leaf, height, leaves, first}
 use Rattle.trees.specs.Leaves.{some-leaf}
-use Rattle.meeting.specs.Machine.{Side, left, right, State, step, Result, ended, counted, start, run, meet}
+use Rattle.meeting.specs.Machine.{left, right, State, step, Result, ended, counted, start, run, meet}
 use Rattle.meeting.specs.Moves.{half, owes-root}
 use Rattle.meeting.specs.Verdicts.{Meeting, aim}
 use Rattle.meeting.specs.Bridging.{Sound, potential, Stepped as Progress, step-sound}
@@ -30,7 +27,7 @@ use Rattle.search.specs.declared.Search.{Search}
 use Rattle.search.specs.declared.Met.{Met}
 use Rattle.walks.specs.ItemLines.{itemFigure, itemLaws, Falls}
 use Rattle.walks.specs.SearchedPieces.{Pieces}
-use Rattle.walks.specs.Walks.{empty, Stood, Fares}
+use Rattle.walks.specs.Walks.{empty, Fares}
 use Rattle.search.specs.SearchSteps.{uOf, vOf, Searches, After, Stepped}
 
 -- ---- what the search is given

@@ -9,7 +9,7 @@ use lib.Dec.{leb}
 use lib.ListN.{length}
 use borrow.Author.Tests.{le-leb, lt-leb}
 use Rattle.trees.specs.Tree.{Tree, leaf, node, height}
-use Rattle.meeting.specs.Machine.{Side, opposite, isLeaf, Place, onOrAbove, Case, mine, theirs, neither, caseOf, compare, Half, State, pair, pop}
+use Rattle.meeting.specs.Machine.{Side, opposite, isLeaf, Place, onOrAbove, Case, mine, theirs, neither, caseOf, compare, Half, State, pair}
 use Rattle.meeting.specs.Machine.{second, recede, stepBy, step}
 use Rattle.meeting.specs.Moves.{half}
 use Rattle.table.specs.Fields.{mostLevels, mostSlots}

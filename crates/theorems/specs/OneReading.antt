@@ -17,7 +17,7 @@ use Rattle.dynamic.specs.OfferTree.{OfferTree, single, fork, shape, Held}
 use Rattle.dynamic.specs.Valid.{Valid, valid-fork}
 use Rattle.dynamic.specs.Lower.{valid-env}
 use Rattle.table.specs.Fields.{bridgeLeftField, bridgeRightField, offerTree, pieceTree}
-use Rattle.table.specs.Words.{Words, word}
+use Rattle.table.specs.Words.{Words}
 use Rattle.table.specs.Layout.{cap-most, cell, linkAt}
 use Rattle.table.specs.Items.{Item}
 use Rattle.table.specs.Rep.{childField, refOf, Tied, tied-node}

@@ -1,11 +1,11 @@
 -- Items as lines: the figure of the offers that they carry, and its tests as the code computes them.
 use mathlib.Core.Path.{_≡_, refl, sym, ap}
-use mathlib.Core.Bool.{Bool, _||_}
+use mathlib.Core.Bool.{_||_}
 use mathlib.Core.Option.{Option}
 use lib.Dec.{T}
 use lib.IntN.{ℤ, _+ℤ_, _*ℤ_}
 use lib.Signed.{leZ}
-use Rattle.offers.specs.Offers.{RationalLoad, denominator, crossingNumerator, crossingDenominator}
+use Rattle.offers.specs.Offers.{denominator, crossingNumerator, crossingDenominator}
 use Rattle.envelopes.specs.PseudoLines.{Figure, PseudoLines}
 use Rattle.lines.specs.Lines.{lineFigure, lineLaws, cross-price, price-at-cross}
 use Rattle.trees.specs.Tree.{Tree, leaf, node, first, last}

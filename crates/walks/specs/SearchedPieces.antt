@@ -1,16 +1,16 @@
 -- A tree of pieces kept in a table, its lines threaded and in order; and what the code's comparison says of two such trees.
-use Prim.Native.Nat.{ℕ, _+_, _-_, _≤_, _<_}
+use Prim.Native.Nat.{ℕ, _-_, _≤_, _<_}
 use native.Mathlib.Omega.{arith}
 use mathlib.Core.Path.{_≡_, refl, sym, _∙_, ap, ap₂}
 use mathlib.Core.Bool.{Bool, true, false, not, _||_}
-use mathlib.Core.List.{List, List·Memᴰ, List·Memᴰ·head, Memᴰ·append-left, Memᴰ·append-right, IsChain}
+use mathlib.Core.List.{List·Memᴰ·head, Memᴰ·append-left, Memᴰ·append-right, IsChain}
 use mathlib.Mathlib.Data.List.Chain.{IsChain·left-of-append, IsChain·right-of-append}
 use lib.Dec.{T}
 use lib.IntN.{ℤ, pos, negℤ, _+ℤ_, _-ℤ_, _*ℤ_}
 use lib.Signed.{leZ, ltZ}
 use Rattle.lists.specs.Bools.{and-both, and-right}
 use Rattle.integers.specs.Parts.{intRules, gap-above}
-use Rattle.offers.specs.Offers.{between, rateInRange, baseInRange, offerInRange, crossingNumerator, crossingDenominator}
+use Rattle.offers.specs.Offers.{between, crossingNumerator, crossingDenominator}
 use Rattle.offers.specs.Sizes.{rate-of, base-of, base-gap-in-range, rate-gap-in-range}
 use Rattle.offers.specs.Bounded.{bounded, bounded-in}
 use Rattle.trees.specs.Tree.{Tree, leaf, node, leaves, first, last}
@@ -18,9 +18,9 @@ use Rattle.trees.specs.Leaves.{first-leaf, last-leaf}
 use Rattle.meeting.specs.Machine.{Side, left, right, away, toward, localAtMost}
 use Rattle.table.specs.Fields.{mostSlots, nextPieceField, pieceTree}
 use Rattle.table.specs.Words.{Words}
-use Rattle.table.specs.Layout.{cap, cap-most, linkAt}
-use Rattle.table.specs.Items.{Item, Slots, slots-left, slots-right}
-use Rattle.table.specs.Rep.{childField, childAt, refOf, Tied, tied-leaf, tied-node, Rep}
+use Rattle.table.specs.Layout.{cap-most, linkAt}
+use Rattle.table.specs.Items.{Item, slots-left, slots-right}
+use Rattle.table.specs.Rep.{childField, childAt, refOf, Tied, tied-node, Rep}
 use Rattle.table.specs.Threads.{Held, Holds, holds-left, holds-right, Next, Threaded, chain-seam}
 use Rattle.walks.specs.ItemLines.{itemFigure, rateOf, baseOf, Falls, scaled, price-test}
 use Rattle.prices.specs.Prices.{rateAt, baseAt, numeratorAt, denominatorAt, priceIn, atMostAt, keptIn, kept-leaf, kept-inner, aboveAt, above-one, above-two}

@@ -5,7 +5,7 @@ use mathlib.Core.Option.{none}
 use lib.ListN.{length}
 use lib.IntN.{ℤ, pos}
 use Rattle.plain.specs.Causes.{Clear}
-use Rattle.plain.specs.Book.{post, withdraw, Answer, opened, openTrials, answers}
+use Rattle.plain.specs.Book.{post, withdraw, Answer, opened, openTrials}
 use Rattle.promises.specs.declared.Opening.{Opening}
 use Rattle.promises.specs.declared.Opening.the-variants.{Opened}
 use Rattle.promises.specs.declared.Update.{Update}

@@ -1,6 +1,6 @@
 -- `check_bridges::base_gap` meets its contract.
 use mathlib.Core.Path.{ap₂}
-use lib.IntN.{ℤ, _-ℤ_}
+use lib.IntN.{_-ℤ_}
 use mir.Facts.{toZ-ofZ}
 use mir.Syntax.{w64}
 use mir.Val.{SFits}

@@ -1,11 +1,8 @@
 -- `check_trees::same` meets its contract: so far the two stretches agree.
-use mathlib.Core.Path.{_≡_, _∙_, sym}
-use mathlib.Core.Bool.{true, false}
-use Prim.Native.Nat.{ℕ, _+_, _-_, _≤_, _<_}
+use mathlib.Core.Path.{_∙_, sym}
+use Prim.Native.Nat.{_-_, _≤_}
 use native.Mathlib.Omega.{arith}
-use lib.ListN.{getD}
-use borrow.Author.Needs.{needs}
-use Rattle.check_trees.specs.Deciding.{Every, every-none, every-more, every-less, Agree, decides-yes, decides-no}
+use Rattle.check_trees.specs.Deciding.{every-none, every-more, every-less, Agree, decides-yes, decides-no}
 use Rattle.check_trees.proofs.same.Statement.{statement}
 use Rattle.check_trees.proofs.same.Tie as tie
 

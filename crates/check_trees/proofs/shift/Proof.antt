@@ -1,9 +1,7 @@
 -- `check_trees::shift` meets its contract: so far k entries have been moved.
-use mathlib.Core.Path.{_≡_, _∙_, sym, subst}
-use Prim.Native.Nat.{ℕ, _+_, _-_, _≤_, _<_}
+use Prim.Native.Nat.{_-_, _≤_}
 use native.Mathlib.Omega.{arith}
-use lib.ListN.{length}
-use Rattle.check_trees.specs.Loops.{Moved, Moving, moving-none, moving-more, moving-done}
+use Rattle.check_trees.specs.Loops.{Moving, moving-none, moving-more, moving-done}
 use Rattle.check_trees.proofs.shift.Statement.{statement}
 use Rattle.check_trees.proofs.shift.Tie as tie
 

@@ -5,11 +5,7 @@ use Rattle.listing.specs.PieceCounts.{Along, along-begins, along-none, a
 use borrow.Author.Needs.{needs}
 use Rattle.listing.proofs.count.Statement.{statement}
 use Rattle.listing.proofs.count.Tie as tie
-use Rattle.listing.proofs.count.Reads as reads
-use Rattle.listing.proofs.count.Lts as lts
-use Rattle.descents.proofs.end.Reads as end-reads
 use Rattle.table.specs.Fields.{mostSlots}
-use Rattle.table.proofs.link.Reads as link-reads
 
 abbrev Inv-loop : tie.InvT-loop
 Inv-loop part root last s₀ n₀ s n = Along part root last s n

@@ -1,14 +1,10 @@
 -- `listing::crossing_word` meets its contract.
-use mathlib.Core.Path.{_≡_}
 use mir.Syntax.{w64}
 use mir.Val.{SFits}
 use mir.Facts.{toZ-ofZ}
 use borrow.Author.Needs.{needs}
 use Rattle.listing.proofs.crossing_word.Statement.{statement}
 use Rattle.listing.proofs.crossing_word.Tie as tie
-use Rattle.listing.proofs.crossing_word.Reads as reads
-use Rattle.listing.proofs.crossing_word.Lts as lts
-use Rattle.table.proofs.get.Reads as get-reads
 
 returns : tie.Need-returns
 returns c = rw (c .if1 .taken)

@@ -6,11 +6,6 @@ use Rattle.listing.specs.Listing.{piece-put}
 use borrow.Author.Needs.{needs}
 use Rattle.listing.proofs.put_piece.Statement.{statement}
 use Rattle.listing.proofs.put_piece.Tie as tie
-use Rattle.listing.proofs.put_piece.Reads as reads
-use Rattle.listing.proofs.put_piece.Lts as lts
-use Rattle.listing.proofs.crossing_word.Reads as crossing-word-reads
-use Rattle.table.proofs.get.Reads as get-reads
-use Rattle.table.proofs.set_word.Reads as set-word-reads
 
 get-requires : tie.Need-get-requires
 get-requires c κs = search needs

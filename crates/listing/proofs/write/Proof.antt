@@ -7,12 +7,6 @@ use borrow.Author.Tests.{eqb-true, eqb-false}
 use borrow.Author.Needs.{needs}
 use Rattle.listing.proofs.write.Statement.{statement}
 use Rattle.listing.proofs.write.Tie as tie
-use Rattle.listing.proofs.write.Reads as reads
-use Rattle.listing.proofs.write.Lts as lts
-use Rattle.descents.proofs.end.Reads as end-reads
-use Rattle.listing.proofs.count.Reads as count-reads
-use Rattle.listing.proofs.put_piece.Reads as put-piece-reads
-use Rattle.table.proofs.link.Reads as link-reads
 
 abbrev Inv-loop : tie.InvT-loop
 Inv-loop part root out₀ n s₀ i₀ out s i = Writing part root n out₀ s i out

@@ -1,7 +1,6 @@
 -- `numbers::drop_below` meets its contract, by recursion on the limit.
 use borrow.Author.Needs.{needs}
 use native.Mathlib.Omega.{arith}
-use mathlib.Core.Bool.{true, false}
 use mir.Facts.{toZ-ofZ}
 use Rattle.descents.specs.Cuts.{still-known}
 use Rattle.numbers.specs.Thinning.{thinned-leaf, thinned-over, thinned-right, thinned-left}

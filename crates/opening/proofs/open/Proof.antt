@@ -5,7 +5,6 @@ use lib.ListN.{length, length-drop}
 use Rattle.promises.specs.LentPart.{whole-part}
 use native.Mathlib.Omega.{arith}
 use mir.Facts.{toZ-ofZ}
-use Rattle.table.specs.Words.{upTo-most}
 use Rattle.opening.specs.Opens.{opens-range, opens-beyond, opens-cut, opens-done, capacity-span}
 use borrow.Author.Needs.{needs}
 use Rattle.opening.proofs.open.Statement.{statement}

@@ -1,10 +1,7 @@
 -- `pieces_test::cheapest` is safe and ends: the loop's counter stays in its range.
-use Prim.Native.Nat.{ℕ, _≤_, _<_, _-_, _+_}
-use mathlib.Core.Path.{_≡_, refl, _∙_}
+use Prim.Native.Nat.{_≤_, _<_, _-_}
 use mathlib.Core.Logic.{⊎-elim}
-use native.Mathlib.Omega.{arith}
 use borrow.Author.Needs.{needs}
-use lib.ListN.{length}
 use Rattle.pieces_test.proofs.cheapest.Statement.{statement}
 use Rattle.pieces_test.proofs.cheapest.Tie as tie
 

@@ -1,6 +1,5 @@
 -- `pieces_test::meeting` is safe and ends.
-use Prim.Native.Nat.{ℕ, _≤_, _-_}
-use native.Mathlib.Omega.{arith}
+use Prim.Native.Nat.{_≤_, _-_}
 use borrow.Author.Needs.{needs}
 use Rattle.pieces_test.proofs.meeting.Statement.{statement}
 use Rattle.pieces_test.proofs.meeting.Tie as tie

@@ -1,6 +1,6 @@
 -- `query::descend` meets its contract. The loop's invariant: from x on, the walk goes on as from the root.
-use mathlib.Core.Path.{_≡_, sym, _∙_, ap}
-use Prim.Native.Nat.{_≤_, _-_}
+use mathlib.Core.Path.{sym, _∙_, ap}
+use Prim.Native.Nat.{_-_}
 use native.Mathlib.Omega.{arith}
 use mir.Syntax.{w64}
 use mir.Val.{toZ}
@@ -11,10 +11,6 @@ use Rattle.query.specs.Descent.{Ongoing, ongoing-start, ongoing-step, on
 use borrow.Author.Needs.{needs}
 use Rattle.query.proofs.descend.Statement.{statement}
 use Rattle.query.proofs.descend.Tie as tie
-use Rattle.query.proofs.descend.Reads as reads
-use Rattle.query.proofs.descend.Lts as lts
-use Rattle.query.proofs.toward.Reads as toward-reads
-use Rattle.table.proofs.capacity.Reads as capacity-reads
 
 abbrev Inv-loop : tie.InvT-loop
 Inv-loop part root load c x₀ probes₀ x probes = Ongoing part root (toZ w64 load) x probes

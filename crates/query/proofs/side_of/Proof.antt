@@ -1,5 +1,5 @@
 -- `query::side_of` meets its contract.
-use mathlib.Core.Path.{_≡_, sym, ap}
+use mathlib.Core.Path.{_≡_}
 use native.Mathlib.Omega.{arith}
 use lib.IntN.{ℤ, _*ℤ_}
 use lib.Signed.{leZ}
@@ -12,8 +12,6 @@ use Rattle.query.specs.Readings.{clamped, clamped-product, rightOf, Side
 use borrow.Author.Needs.{needs}
 use Rattle.query.proofs.side_of.Statement.{statement}
 use Rattle.query.proofs.side_of.Tie as tie
-use Rattle.query.proofs.side_of.Reads as reads
-use Rattle.query.proofs.side_of.Lts as lts
 
 -- clamped factors, and the test's outcome
 module _ {x y : ℤ} (q n d : ℤ) (a : x ≡ clamped 1_000_000 q) (b : y ≡ clamped 200_000 d) where

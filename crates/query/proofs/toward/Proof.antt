@@ -1,13 +1,12 @@
 -- `query::toward` meets its contract: the group is read where the part has it, and every way off tells that there is no child.
-use mathlib.Core.Path.{_≡_, sym, _∙_}
-use Prim.Native.Nat.{ℕ, _+_}
+use mathlib.Core.Path.{sym, _∙_}
+use Prim.Native.Nat.{_+_}
 use native.Mathlib.Omega.{arith}
 use lib.ListN.{getD}
-use lib.IntN.{ℤ, pos}
+use lib.IntN.{pos}
 use mir.Syntax.{w64}
 use mir.Val.{SFits}
 use mir.Facts.{toZ-ofZ}
-use Rattle.table.specs.Layout.{cap-most}
 use Rattle.table.specs.Cells.{placed}
 use Rattle.query.specs.Groups.{group-small, group-in, off-slot, off-steep, off-wild, toward-there}
 use borrow.Author.Needs.{needs}

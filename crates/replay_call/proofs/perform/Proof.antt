@@ -1,13 +1,10 @@
 -- `replay_call::perform` meets its contract: by the kind of call.
-use mathlib.Core.Path.{refl, ap, subst}
-use Prim.Native.Nat.{_≤_}
+use mathlib.Core.Path.{refl, ap}
 use native.Mathlib.Omega.{arith}
 use lib.ListN.{length}
 use mir.Syntax.{w64}
 use mir.Val.{SFits}
 use mir.Facts.{toZ-ofZ}
-use mathlib.Core.Option.{none}
-use Rattle.replay_words.specs.Encoding.{fitting}
 use Rattle.replay_words.specs.Decoding.{asked}
 use Rattle.replay_call.specs.Performing.{call-fits, performs, never}
 use borrow.Author.Needs.{needs}

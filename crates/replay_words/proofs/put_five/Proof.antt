@@ -1,7 +1,7 @@
 -- `replay_words::put_five` meets its contract: the five words one after the other.
 use mathlib.Core.Path.{_≡_, refl}
 use mathlib.Core.List.{List, [], _∷_}
-use Prim.Native.Nat.{ℕ, _≤_}
+use Prim.Native.Nat.{_≤_}
 use native.Mathlib.Omega.{arith}
 use lib.ListN.{length, length-set, set, drop}
 use lib.IntN.{ℤ}

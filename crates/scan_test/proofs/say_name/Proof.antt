@@ -3,7 +3,6 @@ use Prim.Native.Nat.{_≤_, _-_}
 use borrow.Author.Needs.{needs}
 use Rattle.scan_test.proofs.say_name.Statement.{statement}
 use Rattle.scan_test.proofs.say_name.Tie as tie
-use Rattle.std.proofs.num.wrapping_add_u32.Reads as wrapping-add-u32-reads
 
 abbrev Inv-loop : tie.InvT-loop
 Inv-loop n names k₀ i₀ k i = i ≤ 167

@@ -4,8 +4,6 @@ use borrow.Author.Needs.{needs}
 use Rattle.table.specs.Words.{wset, wset-out}
 use Rattle.table.proofs.set_word.Statement.{statement}
 use Rattle.table.proofs.set_word.Tie as tie
-use Rattle.table.proofs.set_word.Reads as reads
-use Rattle.table.proofs.set_word.Lts as lts
 
 mul-value : tie.Need-mul-value
 mul-value c = search needs

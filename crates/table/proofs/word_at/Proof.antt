@@ -4,8 +4,6 @@ use borrow.Author.Needs.{needs}
 use Rattle.table.specs.Words.{word, word-out}
 use Rattle.table.proofs.word_at.Statement.{statement}
 use Rattle.table.proofs.word_at.Tie as tie
-use Rattle.table.proofs.word_at.Reads as reads
-use Rattle.table.proofs.word_at.Lts as lts
 
 mul-result : tie.Need-mul-result
 mul-result c = search needs

@@ -1,9 +1,8 @@
 -- `telling_more::place_number` meets its contract, variant by variant.
-use mathlib.Core.Path.{_≡_, refl, sym, _∙_, ap}
+use mathlib.Core.Path.{sym, _∙_, ap}
 use native.Mathlib.Omega.{arith}
-use lib.IntN.{pos}
 use mir.Syntax.{w64}
-use mir.Val.{SFits, toZ}
+use mir.Val.{SFits}
 use mir.Facts.{toZ-ofZ, toZ-pos}
 use Rattle.reading.specs.declared.Handed.{Handed}
 use Rattle.reading.specs.Promises.{told}

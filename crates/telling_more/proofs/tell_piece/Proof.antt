@@ -1,8 +1,7 @@
 -- `telling_more::tell_piece` meets its contract, variant by variant.
 use native.Mathlib.Omega.{arith}
-use lib.IntN.{pos}
 use mir.Syntax.{w64}
-use mir.Val.{SFits, toZ}
+use mir.Val.{SFits}
 use mir.Facts.{toZ-ofZ, toZ-pos}
 use Rattle.reading.specs.Promises.{told}
 use mathlib.Core.Path.{refl}

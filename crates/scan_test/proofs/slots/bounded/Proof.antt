@@ -1,5 +1,4 @@
 -- `scan_test::slots::bounded` meets its contract.
-use mathlib.Core.Path.{_≡_}
 use mir.Facts.{toZ-ofZ}
 use Rattle.offers.specs.Bounded.{bounded-below, bounded-over, bounded-inside}
 use Rattle.scan_test.proofs.slots.bounded.Statement.{statement}
