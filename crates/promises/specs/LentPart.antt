@@ -5,7 +5,7 @@ use mathlib.Core.List.{List, [], _∷_, _++_}
 use mathlib.Core.Option.{Option}
 use Prim.Native.Nat.{ℕ, _+_, _-_, _≤_, _<_}
 use native.Mathlib.Omega.{arith}
-use lib.ListN.{length, take, drop, length-drop, length-append, drop-of-length-le, take-append-drop}
+use lib.ListN.{length, take, drop, length-drop, length-append, drop-of-length-le}
 use lib.Seq.{take-all, take-at, drop-at, drop-drop, length-take-le, ext-getD, getD-drop}
 use lib.Dec.{T, T-not, ltb, ltb→lt, nltb→le}
 use lib.IntN.{ℤ, pos, negsuc, natAbs}
@@ -130,7 +130,3 @@ lent-back t start w′ e = e ∙ ap (λ (u : List ℤ). take start t ++ (w′ ++
     append-nil : (u : List ℤ) → u ++ [] ≡ u
     append-nil [] = refl
     append-nil (x ∷ xs) = ap (λ (r : List ℤ). x ∷ r) (append-nil xs)
-
--- a part that is left as it was leaves the table as it was
-pub lent-same : (t : List ℤ) (start : ℕ) → take start t ++ partOf t start ≡ t
-lent-same t start = take-append-drop start t

@@ -32,7 +32,7 @@ pub fn tell_met(m: meet_books::Met, met: &mut [i64]) -> i64
     }
 }
 
-// A mark's two answers.
+// The number of an open end, and of a crossing, as a mark's answer.
 const OPEN_END: i64 = 0;
 
 const CROSSING: i64 = 1;
