@@ -28,19 +28,20 @@ bounded-requires-4 c κs = search needs
 
 mul-result : tie.Need-mul-result
 mul-result c =
-    let x = c .before .before .before .before .before .before in
-    let y = c in
-    let fx : SFits w64 (x .bounded .result) = record { sfits = x .bounded .ok } in
-    let fy : SFits w64 (y .bounded4 .result) = record { sfits = y .bounded4 .ok } in
-    simp (toZ-ofZ, fx, fy) (product-fits 1_999_999_999 199_999 _ _ (x .bounded .ensures) (y .bounded4 .ensures) (omega arith))
+    let at-bounded3 = c .before .before in
+    let at-bounded2 = at-bounded3 .before .before in
+    let at-bounded = at-bounded2 .before .before in
+    let f : SFits w64 (at-bounded .bounded .result) = record { sfits = at-bounded .bounded .ok } in
+    let g : SFits w64 (c .bounded4 .result) = record { sfits = c .bounded4 .ok } in
+    simp (toZ-ofZ, f, g) (product-fits 1_999_999_999 199_999 _ _ (at-bounded .bounded .ensures) (c .bounded4 .ensures) (omega arith))
 
 mul-result-2 : tie.Need-mul-result-2
 mul-result-2 c =
-    let x = c .before .before .before .before in
-    let y = c .before .before in
-    let fx : SFits w64 (x .bounded2 .result) = record { sfits = x .bounded2 .ok } in
-    let fy : SFits w64 (y .bounded3 .result) = record { sfits = y .bounded3 .ok } in
-    simp (toZ-ofZ, fx, fy) (product-fits 1_999_999_999 199_999 _ _ (x .bounded2 .ensures) (y .bounded3 .ensures) (omega arith))
+    let at-bounded3 = c .before .before in
+    let at-bounded2 = at-bounded3 .before .before in
+    let f : SFits w64 (at-bounded2 .bounded2 .result) = record { sfits = at-bounded2 .bounded2 .ok } in
+    let g : SFits w64 (at-bounded3 .bounded3 .result) = record { sfits = at-bounded3 .bounded3 .ok } in
+    simp (toZ-ofZ, f, g) (product-fits 1_999_999_999 199_999 _ _ (at-bounded2 .bounded2 .ensures) (at-bounded3 .bounded3 .ensures) (omega arith))
 
 returns : tie.Need-returns
 returns c = search needs

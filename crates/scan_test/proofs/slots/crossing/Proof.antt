@@ -34,19 +34,19 @@ bounded-requires-4 c κs = search needs
 
 sub-t8 : tie.Need-sub-t8
 sub-t8 c =
-    let x = c .before .before .before .before in
-    let y = c .before .before .before .before .before .before in
-    let fx : SFits w64 (x .bounded2 .result) = record { sfits = x .bounded2 .ok } in
-    let fy : SFits w64 (y .bounded .result) = record { sfits = y .bounded .ok } in
-    simp (toZ-ofZ, fx, fy) (gap-fits 999_999_999 999_999_999 _ _ (x .bounded2 .ensures) (y .bounded .ensures) (omega arith))
+    let at-bounded3 = c .before .before in
+    let at-bounded2 = at-bounded3 .before .before in
+    let at-bounded = at-bounded2 .before .before in
+    let f : SFits w64 (at-bounded2 .bounded2 .result) = record { sfits = at-bounded2 .bounded2 .ok } in
+    let g : SFits w64 (at-bounded .bounded .result) = record { sfits = at-bounded .bounded .ok } in
+    simp (toZ-ofZ, f, g) (gap-fits 999_999_999 999_999_999 _ _ (at-bounded2 .bounded2 .ensures) (at-bounded .bounded .ensures) (omega arith))
 
 sub-t9 : tie.Need-sub-t9
 sub-t9 c =
-    let x = c .before .before in
-    let y = c in
-    let fx : SFits w64 (x .bounded3 .result) = record { sfits = x .bounded3 .ok } in
-    let fy : SFits w64 (y .bounded4 .result) = record { sfits = y .bounded4 .ok } in
-    simp (toZ-ofZ, fx, fy) (gap-fits 99_999 99_999 _ _ (x .bounded3 .ensures) (y .bounded4 .ensures) (omega arith))
+    let at-bounded3 = c .before .before in
+    let f : SFits w64 (at-bounded3 .bounded3 .result) = record { sfits = at-bounded3 .bounded3 .ok } in
+    let g : SFits w64 (c .bounded4 .result) = record { sfits = c .bounded4 .ok } in
+    simp (toZ-ofZ, f, g) (gap-fits 99_999 99_999 _ _ (at-bounded3 .bounded3 .ensures) (c .bounded4 .ensures) (omega arith))
 
 returns : tie.Need-returns
 returns c = search needs
