@@ -2,10 +2,10 @@
 use mathlib.Core.Path.{_≡_}
 use Prim.Native.Nat.{ℕ, suc, _+_, _*_, _<_, _≤_}
 use native.Mathlib.Omega.{arith}
-use lib.IntN.{ℤ, natAbs, _+ℤ_, _-ℤ_, _*ℤ_}
+use lib.IntN.{ℤ, natAbs, _-ℤ_, _*ℤ_}
 use mir.Syntax.{w64}
 use mir.Val.{SFits}
-use Rattle.integers.specs.Magnitude.{fits, natAbs-add, natAbs-sub}
+use Rattle.integers.specs.Magnitude.{fits, natAbs-sub}
 use Rattle.query.specs.Readings.{clamped, clamped-size, clamped-product}
 
 size : {x : ℤ} (m : ℕ) (a : ℤ) → x ≡ clamped (suc m) a → natAbs x ≤ suc m
@@ -17,7 +17,3 @@ module _ {x y : ℤ} (m n : ℕ) (a b : ℤ) (ex : x ≡ clamped (suc m) a) (ey 
 
   pub gap-fits : suc m + suc n < 1_000_000_000_000_000 → SFits w64 (x -ℤ y)
   gap-fits h = fits _ (omega (arith, natAbs-sub x y, size m a ex, size n b ey))
-
--- base + rate × load
-pub price-fits : {x y z : ℤ} (a b c : ℤ) → x ≡ clamped 1_000_000_000 a → y ≡ clamped 100_000 b → z ≡ clamped 1_000_000 c → SFits w64 (x +ℤ y *ℤ z)
-price-fits {x} {y} {z} a b c ex ey ez = fits _ (omega (arith, natAbs-add x (y *ℤ z), size 999_999_999 a ex, clamped-product 99_999 999_999 b c ey ez))

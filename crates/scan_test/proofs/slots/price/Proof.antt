@@ -3,7 +3,8 @@ use mir.Facts.{toZ-ofZ}
 use mir.Syntax.{w64}
 use mir.Val.{SFits}
 use native.Mathlib.Omega.{arith}
-use Rattle.scan_test.specs.Clamps.{product-fits, price-fits}
+use Rattle.query.specs.Readings.{price-fits}
+use Rattle.scan_test.specs.Clamps.{product-fits}
 use borrow.Author.Needs.{needs}
 use Rattle.scan_test.proofs.slots.price.Statement.{statement}
 use Rattle.scan_test.proofs.slots.price.Tie as tie
