@@ -122,7 +122,7 @@ module _ (plain : State) {q : ℤ} {w : Words} {root slot probes : ℕ} {number 
 
 pub asks-found : {q : ℤ} {w : Words} {n root slot probes : ℕ} {number price : ℤ} → n ≡ upTo mostNodes (word w liveCountWord) → 1 ≤ n →
     Reads q w root slot probes number price → Asks q w (Offer number price (pos probes))
-asks-found e h f = record { answers = λ plain held b t. answered plain f t e h held b .0; probes = λ plain held b t. answered plain f t e h held b .1 }
+asks-found e h f = record { answers = λ plain held b t. answered plain f t e h held b .0; probes = λ plain held b t. (_, _, refl, answered plain f t e h held b .1) }
 
 -- ---- on the table
 

@@ -3,14 +3,14 @@ use mathlib.Core.Path.{_≡_, refl, sym, _∙_, ap, subst}
 use mathlib.Core.Bool.{Bool, true, false, not}
 use mathlib.Core.List.{List, _++_}
 use mathlib.Core.Option.{Option}
-use Prim.Native.Nat.{ℕ, _+_, _-_, _≤_, _<_}
+use Prim.Native.Nat.{ℕ, _-_, _≤_, _<_}
 use native.Mathlib.Omega.{arith}
 use lib.ListN.{length, take, drop}
 use lib.IntN.{ℤ, pos}
 use Rattle.lists.specs.Bools.{said, denied, never}
 use Rattle.offers.specs.Offers.{numberInRange, rateInRange, baseInRange}
 use Rattle.plain.specs.Causes.{Cause, causeNumber, numberOutOfRange, rateOutOfRange, baseOutOfRange, FirstOf, at-once, further, Clear}
-use Rattle.plain.specs.Book.{State, Call, post, withdraw, refused, join, leave, noBookAt, partLength, holding, step}
+use Rattle.plain.specs.Book.{State, Call, post, withdraw, refused, join, leave, noBookAt, holding, step}
 use Rattle.dynamic.specs.OfferTree.{Held}
 use Rattle.table.specs.Fields.{capacityWord, mostNodes, numbersRootWord}
 use Rattle.table.specs.Words.{Words, word, upTo}
@@ -20,14 +20,14 @@ use Rattle.form.specs.Form.{Book}
 use Rattle.numbers.specs.Numbers.{FoundNumber}
 use Rattle.promises.specs.declared.Update.{Update}
 use Rattle.promises.specs.declared.Update.the-variants.{Done, Declined}
-use Rattle.promises.specs.Promises.{partOf, capacityAt, tableTrials, updateAnswer, OnlyPart, Updates, Follows}
+use Rattle.promises.specs.Promises.{partOf, capacityAt, tableTrials, updateAnswer, Updates, Follows}
 use Rattle.filing.specs.Sought.{number-sought}
 use Rattle.plain.specs.Rules.{refusing}
 use Rattle.filing.specs.Declining.{withdraw-missing, withdraw-clear}
 use Rattle.form.specs.There.{cap-there}
 use Rattle.promises.specs.Plainly.{table-declined}
 use Rattle.book.specs.Following.{updateOf, follows-declined, follows-posted, follows-withdrawn}
-use Rattle.promises.specs.LentPart.{part-back, only-part, whole-part, lent-back, book-cap, book-start}
+use Rattle.promises.specs.LentPart.{part-back, only-part, only-same, whole-part, lent-back, book-cap, book-start}
 use Rattle.promises.specs.OneCause.{one-cause, not-clear}
 use Rattle.filing.specs.Posting.{Updated}
 use Rattle.filing.specs.declared.Told.{Told}
@@ -63,9 +63,6 @@ done-declined : {live searches steps heights z : ℤ} → Done live searches ste
 done-declined e = let x : _≡_ {A = ℕ} 0 1 = cc in omega arith
 
 module _ (k : Call) (start : ℕ) (t t′ : List ℤ) where
-  only-same : {c : ℕ} → t′ ≡ t → OnlyPart c start t t′
-  only-same {c} e = record { long = ap length e; front = ap (take start) e; back = ap (drop (start + partLength c)) e }
-
   updates-declined : {z : Cause} {r : Update} → FirstOf (tableTrials t start k) z → r ≡ Declined (pos (causeNumber z)) → t′ ≡ t → Updates k start t t′ r
   updates-declined f er et =
       record {

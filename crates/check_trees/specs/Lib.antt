@@ -1,5 +1,5 @@
 -- Trees of a part, read into a scratch array and compared with what stands there.
--- statement: the scratch array's length, and where its second half begins
+-- ways through the code: the scratch array's length, and where its second half begins
 pub mod Scratch
 -- ways through the code: answers that decide a statement, and statements of every place of a stretch
 pub mod Deciding

@@ -1,6 +1,6 @@
 -- Post and withdraw on the tree of offers: lower on the way down, rebalance on the way up. Only nodes on the path and those that a rotation
 -- touches are lowered and raised, so each update searches a number of pairs that is logarithmic in the live offers.
-use mathlib.Core.Bool.{not, cond}
+use mathlib.Core.Bool.{cond}
 use mathlib.Core.List.{List, [], _++_}
 use mathlib.Core.Option.{Option, none, some}
 use lib.Dec.{leb}

@@ -49,7 +49,7 @@ abbrev pub OnOrAbove : (S : Figure) → (ℕ → S .Line) → ℕ → (S .Line �
 OnOrAbove S a zero local = ⊥
 OnOrAbove S a (suc i) local = (l : S .Line) × local l × T (S .atMost l (a i) (S .cross (a i) (a (suc i))))
 
--- Document 01's comparison of u (i lines on its outer side) with v (j lines on its outer side).
+-- The comparison of docs/REQUIREMENTS.md, 6.3, of u (i lines on its outer side) with v (j lines on its outer side).
 abbrev pub One : (S : Figure) → (ℕ → S .Line) → ℕ → Kind → (ℕ → S .Line) → ℕ → Kind → Type 0
 One S a i k c j h = OnOrAbove S a i (Local c j h)
 

@@ -2,7 +2,7 @@
 use mathlib.Core.Path.{_≡_, refl, sym, _∙_, ap, subst}
 use mathlib.Core.Logic.{_≢_, _⊎_, inl, inr, ⊎-elim}
 use mathlib.Core.Bool.{Bool, not, _||_}
-use mathlib.Core.List.{List, [], _∷_, map, List·Memᴰ, List·Memᴰ·head, List·Memᴰ·tail, List·Memᴰ·not-nil, List·Memᴰ·cases-cons, Sublistᴰ, Pairwise·sublistᴰ}
+use mathlib.Core.List.{List, [], _∷_, map, List·Memᴰ, List·Memᴰ·head, List·Memᴰ·tail, List·Memᴰ·not-nil, List·Memᴰ·cases-cons, Sublistᴰ}
 use mathlib.Core.Option.{Option, none, some}
 use Prim.Native.Nat.{ℕ, suc}
 use lib.ListN.{length}
@@ -21,7 +21,7 @@ use Rattle.dynamic.specs.Updates.{withdrawn}
 use Rattle.dynamic.specs.Valid.{bookLines, without}
 use Rattle.dynamic.specs.Placed.{without-all}
 use Rattle.table.specs.Words.{Words}
-use Rattle.table.specs.Items.{Item, Slots}
+use Rattle.table.specs.Items.{Item, Slots, slots-sublist}
 use Rattle.table.specs.Rep.{Within}
 use Rattle.pieces.specs.Pieces.{items, item-laws}
 use Rattle.form.specs.Stored.{Touched}
@@ -47,7 +47,7 @@ module _ (a : Item) (ls : List Item) where
   without-other {x} m = either-other items item-laws a x (either-side a x (keep-passes (λ y. items .before a y || items .before y a) ls x m))
 
   pub without-slots : {c : ℕ} → Slots c ls → Slots c (without items a ls)
-  without-slots s = record { low = λ m. s .low (without-live m); high = λ m. s .high (without-live m); apart = Pairwise·sublistᴰ without-sublist (s .apart) }
+  without-slots s = slots-sublist without-sublist s
 
 -- of items in order, every other stands before or behind
 other-side : {ls : List Item} {a x : Item} → Ordered items ls → List·Memᴰ a ls → List·Memᴰ x ls → x ≢ a → T (items .before a x || items .before x a)

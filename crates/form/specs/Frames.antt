@@ -74,11 +74,11 @@ rests-apart p (bridge-v e) = of-pieces-field p .no-bridge-v e
 rests-apart p (inner-rest e) = of-pieces-field p .no-inner-rest e
 rests-apart p (leaf-rest e) = of-pieces-field p .no-leaf-rest e
 
-envelope-high : {f : ℕ} → EnvelopeField f → 3 ≤ f
+envelope-high : {f : ℕ} → EnvelopeField f → baseField < f
 envelope-high (of-pieces p) = of-pieces-field p .no-offer
 envelope-high {f} (of-offers (a-child side e)) = child side e
   where
-    child : (side : Bool) → f ≡ childField offerTree side → 3 ≤ f
+    child : (side : Bool) → f ≡ childField offerTree side → baseField < f
     child false d = omega arith
     child true d = omega arith
 envelope-high (of-offers (a-height e)) = omega arith

@@ -3,7 +3,7 @@
 pub mod Stored
 -- statement: the form of a book's part, and the plain book that it stands for
 pub mod Form
--- statement: the roots that a part's words tell, whatever the words are
+-- ways through the code: the roots that a part's words tell, whatever the words are
 pub mod Roots
 -- ways through the code: what stays with a node, as it is read: the word that tells it, and the root that is read off that word
 pub mod RestWords

@@ -1,4 +1,3 @@
 -- What a comparison of two envelopes reads.
--- ways through the code: what the search reads of a slot, safe whatever the words are: a rate, a base, a numerator or a denominator that is out of
--- range reads 0
+-- ways through the code: what the search reads of a slot, whatever the words are: a rate, a base, a numerator or a denominator out of range reads 0
 pub mod Prices

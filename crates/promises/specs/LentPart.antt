@@ -130,3 +130,7 @@ lent-back t start w′ e = e ∙ ap (λ (u : List ℤ). take start t ++ (w′ ++
     append-nil : (u : List ℤ) → u ++ [] ≡ u
     append-nil [] = refl
     append-nil (x ∷ xs) = ap (λ (r : List ℤ). x ∷ r) (append-nil xs)
+
+-- no word has changed
+pub only-same : {c start : ℕ} {t t′ : List ℤ} → t′ ≡ t → OnlyPart c start t t′
+only-same {c} {start} e = record { long = ap length e; front = ap (take start) e; back = ap (drop (start + partLength c)) e }

@@ -4,20 +4,16 @@ use mathlib.Core.List.{List}
 use mathlib.Core.Option.{Option, none, some}
 use Prim.Native.Nat.{ℕ}
 use native.Mathlib.Omega.{arith}
+use Rattle.plain.specs.Book.{openingBy}
 use Rattle.plain.specs.Trials.{declined-by, not-declined}
 use Rattle.plain.specs.Causes.{Cause, Trial, causeNumber, FirstOf, Clear}
-
-number : Option Cause → ℕ
-number none = 0
-number (some k) = causeNumber k
 
 some-one : Option Cause → ℕ
 some-one none = 0
 some-one (some k) = 1
 
 pub one-cause : {ks : List Trial} {k z : Cause} → FirstOf ks k → FirstOf ks z → causeNumber z ≡ causeNumber k
-unfolding number
-one-cause {ks} {k} {z} f g = ap number (sym (declined-by ks z g) ∙ declined-by ks k f)
+one-cause {ks} {k} {z} f g = ap openingBy (sym (declined-by ks z g) ∙ declined-by ks k f)
 
 pub not-clear : {ks : List Trial} {k : Cause} → FirstOf ks k → Clear ks → ⊥
 unfolding some-one

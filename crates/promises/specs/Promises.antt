@@ -6,7 +6,7 @@ use mathlib.Core.Bool.{Bool, true}
 use mathlib.Core.List.{List, [], _∷_}
 use mathlib.Core.Option.{Option, none, some}
 use Prim.Native.Nat.{ℕ, _+_, _*_}
-use lib.ListN.{length, take, drop, getD}
+use lib.ListN.{length, take, drop}
 use lib.IntN.{ℤ, pos, negsuc, natAbs}
 use Rattle.plain.specs.Causes.{Cause, noBook, Trial, _when_, causeNumber, FirstOf, Clear}
 use Rattle.plain.specs.Book.{State, Call, query, listing, Answer, refused, live, found, listed}
@@ -153,10 +153,10 @@ abbrev pub ProbesIn : Option (Held Item) → ℤ → ℤ → Type 0
 ProbesIn held number probes =
     (t : Tree Item) × (a : Item) × (n : ℕ) × (rootPart held ≡ some t) × LeafAt a n t × (a .offer .number ≡ number) × (probes ≡ pos n)
 
--- the values of a query: where an offer is named, its probes come third
+-- the values of a query: where an offer is named, its price and its probes behind it
 abbrev pub Probes : Option (Held Item) → List ℤ → Type 0
 Probes held [] = Unit {0}
-Probes held (number ∷ more) = ProbesIn held number (getD more 1 (pos 0))
+Probes held (number ∷ more) = (price probes : ℤ) × (more ≡ price ∷ probes ∷ []) × ProbesIn held number probes
 
 pub record Queries (q : ℤ) (start : ℕ) (t : List ℤ) (r : Found) : Type 0 where
   pub declined : (z : Cause) → FirstOf (tableTrials t start (query q)) z → foundAnswer r ≡ refused (causeNumber z)

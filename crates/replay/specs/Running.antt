@@ -8,9 +8,9 @@ use lib.ListN.{length, take, drop, length-append, length-drop, take-append-drop}
 use lib.Seq.{take-at, drop-at, drop-drop, take-add, take-take, take-append-le, drop-append-le, length-take-le}
 use lib.IntN.{ℤ, natAbs}
 use borrow.Author.Tests.{leb-true}
-use Rattle.plain.specs.Book.{Call, Answer, partLength}
+use Rattle.plain.specs.Book.{Call, Answer}
 use Rattle.promises.specs.Promises.{partOf, capacityAt, OnlyPart}
-use Rattle.promises.specs.LentPart.{whole-part, lent-back}
+use Rattle.promises.specs.LentPart.{whole-part, lent-back, only-same}
 use Rattle.form.specs.Local.{Alike}
 use Rattle.history.specs.History.{Happens, posting, withdrawing, by-update, by-query, by-listing, finished, next}
 use Rattle.replay_words.specs.Encoding.{nextCall, stretch, fitting, runnable}
@@ -20,9 +20,6 @@ use Rattle.replay_call.specs.OneCall.{Performed, Ready, Step}
 use Rattle.replay.specs.Promises.{Made}
 
 -- ---- one call stays in the part
-
-only-same : {c start : ℕ} {t t′ : List ℤ} → t′ ≡ t → OnlyPart c start t t′
-only-same {c} {start} e = record { long = ap length e; front = ap (take start) e; back = ap (drop (start + partLength c)) e }
 
 pub only-then : {c c′ start : ℕ} {t t₁ t₂ : List ℤ} → OnlyPart c start t t₁ → c′ ≡ c → OnlyPart c′ start t₁ t₂ → OnlyPart c start t t₂
 only-then {c} {c′} {start} {t} {t₁} {t₂} f e g =

@@ -11,7 +11,7 @@ use lib.ListN.{length}
 use lib.IntN.{ℤ}
 use Rattle.trees.specs.Tree.{Tree, leaf, node, height, leaves, last}
 use Rattle.trees.specs.Leaves.{last-leaf}
-use Rattle.table.specs.Fields.{capacityWord, mostNodes, mostSlots}
+use Rattle.table.specs.Fields.{capacityWord, mostNodes, mostSlots, numberTree}
 use Rattle.table.specs.Words.{Words, word, upTo}
 use Rattle.table.specs.Layout.{cap, cap-of, cell, cset, linkAt, link-most, outside-of, Outside, header-outside, cset-length, cset-rest, cset-other}
 use Rattle.table.specs.Items.{Item, In, at, in-left, in-right, Slots, slots-right, slots-across}
@@ -71,7 +71,7 @@ pub data Tied (w : Words) (k : ℕ) : Tree Item → Type 0 where
 
 -- node x of tree k is the root of t
 pub record Rep (w : Words) (k x : ℕ) (t : Tree Item) : Type 0 where
-  pub kind : k ≤ 2
+  pub kind : k ≤ numberTree
   pub root : x ≡ refOf t
   pub slots : Slots (cap w) (leaves t)
   pub tied : Tied w k t

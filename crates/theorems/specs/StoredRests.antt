@@ -1,10 +1,10 @@
 -- Each stored part is the child's envelope less the parent's (docs/REQUIREMENTS.md, 5.2): of every inner node's two children, the part that is
 -- stored with it holds exactly the lines of its own envelope that are not on the node's, in order.
-use mathlib.Core.Path.{_≡_, refl, sym, subst}
-use mathlib.Core.Logic.{_⊎_, inl, inr, ⊎-elim, _↔_}
-use mathlib.Core.List.{List, [], _∷_, _++_, List·Memᴰ, Memᴰ·append-left, Memᴰ·append-right, List·Memᴰ·append-cases, Sublistᴰ, Sublistᴰ·slnil}
-use mathlib.Core.List.{Sublistᴰ·cons, Sublistᴰ·cons-cons, Sublistᴰ·refl}
-use Rattle.lists.specs.Places.{sublist-mem}
+use mathlib.Core.Path.{_≡_, sym, subst}
+use mathlib.Core.Logic.{_⊎_, inl, inr, ⊎-elim, ⊎-swap, _↔_}
+use mathlib.Core.List.{List, [], _∷_, _++_, List·Memᴰ, Memᴰ·append-left, Memᴰ·append-right, List·Memᴰ·append-cases, Sublistᴰ}
+use mathlib.Core.List.{Sublistᴰ·cons, Sublistᴰ·refl}
+use Rattle.lists.specs.Places.{sublist-mem, prefix-sub}
 use Rattle.envelopes.specs.PseudoLines.{Figure, PseudoLines}
 use Rattle.envelopes.specs.Envelope.{Env, Ordered}
 use Rattle.envelopes.specs.EnvelopeLaws.{ordered-left, ordered-right, ordered-apart, ordered-sublist}
@@ -46,18 +46,9 @@ module _ (S : Figure) {lines parent whole kept rest : List (S .Line)} where
         divided = λ e m. ⊎-elim inl (λ k. inr (on e k)) (part e m);
       }
 
-swap : {A B : Type 0} → A ⊎ B → B ⊎ A
-swap (inl a) = inr a
-swap (inr b) = inl b
-
 behind : {A : Type 0} (xs ys : List A) → Sublistᴰ ys (xs ++ ys)
 behind [] ys = Sublistᴰ·refl ys
 behind (x ∷ xs) ys = Sublistᴰ·cons (behind xs ys)
-
-in-front : {A : Type 0} (xs ys : List A) → Sublistᴰ xs (xs ++ ys)
-in-front [] [] = Sublistᴰ·slnil
-in-front [] (y ∷ ys) = Sublistᴰ·cons (in-front [] ys)
-in-front (x ∷ xs) ys = Sublistᴰ·cons-cons refl (in-front xs ys)
 
 module _ (S : Figure) (L : PseudoLines S) where
   -- a line stands once in lines that are in order
@@ -68,7 +59,7 @@ module _ (S : Figure) (L : PseudoLines S) where
       (ls rs up rest back es : List (S .Line)) → Ordered S (ls ++ rs) → Env S ls (up ++ rest) → ((e : S .Line) → List·Memᴰ e back → List·Memᴰ e rs) →
       es ≡ up ++ back → Less S ls (up ++ rest) es rest
   left-less ls rs up rest back es o E inside d =
-      divides S (λ e m. swap (List·Memᴰ·append-cases up m)) (λ e m. subst (List·Memᴰ e) (sym d) (Memᴰ·append-left back m)) off (behind up rest) E
+      divides S (λ e m. ⊎-swap (List·Memᴰ·append-cases up m)) (λ e m. subst (List·Memᴰ e) (sym d) (Memᴰ·append-left back m)) off (behind up rest) E
     where
       off : (e : S .Line) → List·Memᴰ e rest → ¬ List·Memᴰ e es
       off e m n =
@@ -80,7 +71,7 @@ module _ (S : Figure) (L : PseudoLines S) where
       (ls rs front rest from es : List (S .Line)) → Ordered S (ls ++ rs) → Env S rs (rest ++ from) →
       ((e : S .Line) → List·Memᴰ e front → List·Memᴰ e ls) → es ≡ front ++ from → Less S rs (rest ++ from) es rest
   right-less ls rs front rest from es o E inside d =
-      divides S (λ e m. List·Memᴰ·append-cases rest m) (λ e m. subst (List·Memᴰ e) (sym d) (Memᴰ·append-right front m)) off (in-front rest from) E
+      divides S (λ e m. List·Memᴰ·append-cases rest m) (λ e m. subst (List·Memᴰ e) (sym d) (Memᴰ·append-right front m)) off (prefix-sub rest from) E
     where
       off : (e : S .Line) → List·Memᴰ e rest → ¬ List·Memᴰ e es
       off e m n =

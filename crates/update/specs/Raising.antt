@@ -61,7 +61,21 @@ standing-height st = rep-height (record { kind = omega arith; root = st .root; s
 
 -- ---- the calls in a row
 
-record Calls (gap : ℕ) (x y : InHand) (w w₁ w₂ w₃ w₄ w₅ w₆ w₇ w₈ : Words) (u v lf lb rf rb : ℕ) (m : Outcome) : Type 0 where
+-- the words after each write, and what was found and cut between
+record Calls (gap : ℕ) (x y : InHand) (w w′ : Words) (m : Outcome) : Type 0 where
+  u : ℕ
+  v : ℕ
+  lf : ℕ
+  lb : ℕ
+  rf : ℕ
+  rb : ℕ
+  w₁ : Words
+  w₂ : Words
+  w₃ : Words
+  w₄ : Words
+  w₅ : Words
+  w₆ : Words
+  w₇ : Words
   met : MetIn w (x .envelope) (y .envelope) u v (m .counts .steps)
   once : m .counts .searches ≡ 1
   heights : m .counts .heights ≡ heightAt w pieceTree (x .envelope) + heightAt w pieceTree (y .envelope)
@@ -72,7 +86,7 @@ record Calls (gap : ℕ) (x y : InHand) (w w₁ w₂ w₃ w₄ w₅ w₆ w₇ w�
   above : Joined (nodeOn false) offerTree false gap (x .tree) (y .tree) w₄ w₅ (m .held .tree)
   bridge-left : w₆ ≡ cset w₅ bridgeLeftField gap (pos u)
   bridge-right : w₇ ≡ cset w₆ bridgeRightField gap (pos v)
-  cat : Seamed lf rb u v w₇ w₈ (m .held .envelope)
+  cat : Seamed lf rb u v w₇ w′ (m .held .envelope)
 
 -- what they make of two subtrees in hand
 record Raises (w w′ : Words) (m : Outcome) (l r : Held Item) : Type 0 where
@@ -80,14 +94,14 @@ record Raises (w w′ : Words) (m : Outcome) (l r : Held Item) : Type 0 where
   touched : Touched (leaves (heldShape l) ++ leaves (heldShape r)) w w′
 
 module _
-    {gap u v lf lb rf rb : ℕ} {x y : InHand} {m : Outcome} {w w₁ w₂ w₃ w₄ w₅ w₆ w₇ w₈ : Words} {l r : Held Item}
-    (calls : Calls gap x y w w₁ w₂ w₃ w₄ w₅ w₆ w₇ w₈ u v lf lb rf rb m) (sib : Siblings w gap x y l r) (R : Raising l r (raise items l r)) where
-  raises : Raises w w₈ m l r
+    {gap : ℕ} {x y : InHand} {m : Outcome} {w w′ : Words} {l r : Held Item}
+    (calls : Calls gap x y w w′ m) (sib : Siblings w gap x y l r) (R : Raising l r (raise items l r)) where
+  raises : Raises w w′ m l r
   raises =
       record {
         held =
             record {
-              held = subst (HandIn w₈ (m .held)) (sym (R .held)) (held-raised sib cuts wires seam (calls .cat) at-u at-v
+              held = subst (HandIn w′ (m .held)) (sym (R .held)) (held-raised sib cuts wires seam (calls .cat) at-u at-v
                   (subst (Whole items) (R .held) (R .whole)));
               counted = subst (λ log. Counted log (m .counts)) (sym (R .logged)) counted;
             };
@@ -100,7 +114,7 @@ module _
       back : Standing w (y .envelope) (some (R .back))
       back = subst (Standing w (y .envelope)) (R .right-is) (whole-standing (sib .right))
 
-      ends : Ends u v (m .counts .steps) (meet items (R .front) (R .back))
+      ends : Ends (calls .u) (calls .v) (m .counts .steps) (meet items (R .front) (R .back))
       ends = calls .met .met (R .front) (R .back) (record {
         left = front;
         right = back;
@@ -109,10 +123,10 @@ module _
         facing = R .facing;
       })
 
-      at-u : u ≡ R .u .slot
+      at-u : calls .u ≡ R .u .slot
       at-u = ends .at-left ∙ ap refOf (R .met .atLeft)
 
-      at-v : v ≡ R .v .slot
+      at-v : calls .v ≡ R .v .slot
       at-v = ends .at-right ∙ ap refOf (R .met .atRight)
 
       counted : Counted (record { front = R .front; back = R .back } ∷ []) (m .counts)
@@ -124,39 +138,42 @@ module _
           }
 
       -- the rates of u, of the seam and of v
-      by-u : cell w rateField u ≡ rateOf (R .u)
+      by-u : cell w rateField (calls .u) ≡ rateOf (R .u)
       by-u = ap (cell w rateField) at-u ∙ front .holds .held (R .u-piece) .rate
 
       -- the seam's line is the last of the left tree
       by-gap : cell w rateField gap ≡ rateOf (last (heldShape l))
       by-gap = ap (cell w rateField) (sib .seam) ∙ sib .left .kept .held (last-leaf (heldShape l)) .rate
 
-      left-parted : Parted (inFront false (rateOf (R .u))) (l .whole) w w₁ lf lb
+      left-parted : Parted (inFront false (rateOf (R .u))) (l .whole) w (calls .w₁) (calls .lf) (calls .lb)
       left-parted =
-          subst (λ z. Parted (inFront false z) (l .whole) w w₁ lf lb) by-u
+          subst (λ z. Parted (inFront false z) (l .whole) w (calls .w₁) (calls .lf) (calls .lb)) by-u
           (calls .cut-left .parted (l .whole) (whole-standing (sib .left)) (λ a m. rw by-gap (R .low a m)))
 
-      by-v : cell w₁ rateField v ≡ rateOf (R .v)
+      by-v : cell (calls .w₁) rateField (calls .v) ≡ rateOf (R .v)
       by-v =
-          ap (cell w₁ rateField) at-v
+          ap (cell (calls .w₁) rateField) at-v
           ∙ pieces-offers (left-parted .only) (leaves (R .back)) .cells rateField (R .v .slot) (omega arith) (at (R .v-piece) refl)
           ∙ back .holds .held (R .v-piece) .rate
 
-      right-parted : Standing w₁ (y .envelope) (r .whole) → Parted (inFront true (rateOf (R .v))) (r .whole) w₁ w₂ rf rb
-      right-parted st = subst (λ z. Parted (inFront true z) (r .whole) w₁ w₂ rf rb) by-v (calls .cut-right .parted (r .whole) st (R .high))
+      right-parted : Standing (calls .w₁) (y .envelope) (r .whole) →
+          Parted (inFront true (rateOf (R .v))) (r .whole) (calls .w₁) (calls .w₂) (calls .rf) (calls .rb)
+      right-parted st =
+          subst (λ z. Parted (inFront true z) (r .whole) (calls .w₁) (calls .w₂) (calls .rf) (calls .rb)) by-v
+          (calls .cut-right .parted (r .whole) st (R .high))
 
-      cuts : AfterCuts w w₂ l r (leftCut (R .u) l) (rightCut (R .v) r) lf lb rf rb
+      cuts : AfterCuts w (calls .w₂) l r (leftCut (R .u) l) (rightCut (R .v) r) (calls .lf) (calls .lb) (calls .rf) (calls .rb)
       cuts = after-cuts sib (calls .cut-left .within) left-parted (calls .cut-right .within) right-parted
 
       -- the kept parts end at u and begin at v
-      seam : SeamAt u v (leftCut (R .u) l .front) (rightCut (R .v) r .back)
+      seam : SeamAt (calls .u) (calls .v) (leftCut (R .u) l .front) (rightCut (R .v) r .back)
       seam =
           record {
             left-end = λ t e. at-u ∙ ap (λ (i : Item). i .slot) (sym (R .u-last t e));
             right-end = λ t e. at-v ∙ ap (λ (i : Item). i .slot) (sym (R .v-first t e));
           }
 
-      given : Unwired w₂ gap (x .tree) (y .tree) (l .tree) (r .tree)
+      given : Unwired (calls .w₂) gap (x .tree) (y .tree) (l .tree) (r .tree)
       given =
           record {
             left-root = sib .left .root;
@@ -167,7 +184,7 @@ module _
             slots = slots-within (cuts .within) (sib .slots);
           }
 
-      wires : AfterWires (l .tree) (r .tree) w₂ w₇ (m .held .tree) lb rf u v
+      wires : AfterWires (l .tree) (r .tree) (calls .w₂) (calls .w₇) (m .held .tree) (calls .lb) (calls .rf) (calls .u) (calls .v)
       wires =
           after-wires given (calls .rest-left) (calls .rest-right) (calls .above) (calls .bridge-left) (calls .bridge-right) (
             omega (arith, at-u, front .slots .high (R .u-piece), cap-most w),
@@ -208,6 +225,19 @@ raised {gap} {u} {v} {lf} {lb} {rf} {rb} {x} {y} {m} {w} {w₁} {w₂} {w₃} {w
     all l r sib avl =
         raises
         (record {
+          u = u;
+          v = v;
+          lf = lf;
+          lb = lb;
+          rf = rf;
+          rb = rb;
+          w₁ = w₁;
+          w₂ = w₂;
+          w₃ = w₃;
+          w₄ = w₄;
+          w₅ = w₅;
+          w₆ = w₆;
+          w₇ = w₇;
           met = met;
           once = once;
           heights = heights;

@@ -5,8 +5,8 @@ ghost use Rattle.table.specs.Layout.{cap};
 ghost use Rattle.walks.specs.CodeMoves.{topIn, pointWord};
 ghost use Rattle.walks.specs.Actions.{Retreats, Advances, Pops, Acts, sided};
 
-// A walk pushes a node for each level of its tree at most, so that stacks of 24 suffice.
-pub const STACK: usize = table::MOST_LEVELS as usize;
+// The most nodes on a stack: a walk pushes at most one for each level of its tree.
+pub const STACK: usize = 24;
 
 // What a walk does in a step.
 pub enum Action {
