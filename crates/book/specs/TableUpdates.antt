@@ -21,9 +21,9 @@ use Rattle.numbers.specs.Numbers.{FoundNumber}
 use Rattle.promises.specs.declared.Update.{Update}
 use Rattle.promises.specs.declared.Update.the-variants.{Done, Declined}
 use Rattle.promises.specs.Promises.{partOf, capacityAt, tableTrials, updateAnswer, Updates, Follows}
-use Rattle.filing.specs.Sought.{number-sought}
+use Rattle.declining.specs.Sought.{number-sought}
 use Rattle.plain.specs.Rules.{refusing}
-use Rattle.filing.specs.Declining.{withdraw-missing, withdraw-clear}
+use Rattle.declining.specs.Declining.{withdraw-missing, withdraw-clear}
 use Rattle.form.specs.There.{cap-there}
 use Rattle.promises.specs.Plainly.{table-declined}
 use Rattle.book.specs.Following.{updateOf, follows-declined, follows-posted, follows-withdrawn}
@@ -31,7 +31,8 @@ use Rattle.promises.specs.LentPart.{part-back, only-part, only-same, whole-part
 use Rattle.promises.specs.OneCause.{one-cause, not-clear}
 use Rattle.filing.specs.Posting.{Updated}
 use Rattle.filing.specs.declared.Told.{Told}
-use Rattle.filing.specs.PartUpdates.{OutOfRange, Kept, PostCause, PostDone, WithdrawDone}
+use Rattle.declining.specs.PartCauses.{OutOfRange, PostCause}
+use Rattle.filing.specs.PartUpdates.{Kept, PostDone, WithdrawDone}
 
 -- ---- the ranges, as the code tests them
 

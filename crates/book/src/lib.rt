@@ -3,7 +3,7 @@ ghost use mathlib.Core.Path.{_≡_};
 ghost use Rattle.plain.specs.Book.{post, withdraw};
 ghost use Rattle.promises.specs.Promises.{Updates};
 ghost use Rattle.book.specs.Following.{updateOf};
-ghost use Rattle.filing.specs.PartUpdates.{OutOfRange};
+ghost use Rattle.declining.specs.PartCauses.{OutOfRange};
 pub use asking::listing;
 pub use asking::query;
 pub use check_part::check;
@@ -45,7 +45,7 @@ pub fn post(table: &mut [i64], start: usize, number: i64, rate: i64, base: i64) 
     if offer_outside(number, rate, base) {
         return Update::Declined(4);
     }
-    let cause = filing::post_cause(&table[start..], number, rate);
+    let cause = declining::post_cause(&table[start..], number, rate);
     if 0 < cause {
         return Update::Declined(cause as i64);
     }
@@ -63,7 +63,7 @@ pub fn withdraw(table: &mut [i64], start: usize, number: i64) -> Update
     if query::outside(1, 9_999, number) {
         return Update::Declined(4);
     }
-    let s = filing::live_slot(&table[start..], number);
+    let s = declining::live_slot(&table[start..], number);
     if s < 1 {
         return Update::Declined(8);
     }

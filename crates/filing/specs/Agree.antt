@@ -13,7 +13,7 @@ use Rattle.dynamic.specs.OfferTree.{Held, heldShape}
 use Rattle.dynamic.specs.Valid.{bookLines}
 use Rattle.table.specs.Fields.{nextFreeField, numberField, numberTree}
 use Rattle.table.specs.Words.{Words, word, wset, wset-same}
-use Rattle.table.specs.Layout.{cap, cell, cset, cset-cap, cset-other, header-outside, header-cap, header-cell}
+use Rattle.table.specs.Layout.{cap, cell, cset, cset-cap, cset-other, header-cap, header-cell}
 use Rattle.table.specs.Items.{Item, In, at}
 use Rattle.table.specs.Rep.{childField, heightField, Field, a-child, a-height, Within, within-cap, Only}
 use Rattle.table.specs.PartTrees.{TiedPart}
@@ -89,9 +89,6 @@ pub agree-touched : {D : ℕ → ℕ → Type 0} {xs : List Item} {w w′ : Word
 agree-touched g h no-envelope = record { room = within-cap g; cells = λ f s d. h .cells f s (λ q. no-envelope f s d (q .0)) }
 
 -- ---- the header
-
-pub header-kept : {w w′ : Words} → Within w w′ → (i : ℕ) → i < 64 → word w′ i ≡ word w i
-header-kept {w} g i h = g .rest i (header-outside w h)
 
 pub header-set : (w : Words) (i : ℕ) (z : ℤ) → 1 ≤ cap w → i < 64 → word (wset w i z) i ≡ z
 header-set w i z h k = wset-same w i z (omega (arith, cap-there w refl h .room))

@@ -16,15 +16,16 @@ use Rattle.table.specs.Free.{firstFree, given}
 use Rattle.table.specs.Items.{Item}
 use Rattle.table.specs.Rep.{within-cap}
 use Rattle.update.specs.Steps.{RemovedIn}
-use Rattle.update.specs.declared.Held.{Held as InHand}
-use Rattle.update.specs.declared.Made.{Made as Outcome}
+use Rattle.levels.specs.declared.Held.{Held as InHand}
+use Rattle.levels.specs.declared.Made.{Made as Outcome}
 use Rattle.form.specs.Form.{Book}
 use Rattle.numbers.specs.Numbers.{Added, Dropped}
 use Rattle.form.specs.Live.{live-slots}
 use Rattle.filing.specs.Agree.{agree-header}
 use Rattle.filing.specs.Writing.{filling, rootsOf, rooting, filled, freed-given, headed, first-free, Filled, Headed}
 use Rattle.filing.specs.JoinedOffers.{Joined, joins-alone, joins-among}
-use Rattle.filing.specs.Posting.{Updated, PostSteps, Postable, posted-plain}
+use Rattle.declining.specs.PartCauses.{Postable}
+use Rattle.filing.specs.Posting.{Updated, PostSteps, posted-plain}
 use Rattle.filing.specs.Withdrawing.{WithdrawSteps, LiveAt, withdrawn-plain, withdrawn-count}
 
 -- the root of the numbers is set

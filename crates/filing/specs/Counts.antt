@@ -15,8 +15,8 @@ use Rattle.dynamic.specs.Work.{Work, Searched, stepsOf, heightsOf}
 use Rattle.table.specs.Fields.{mostLevels, mostSlots}
 use Rattle.table.specs.Items.{Item}
 use Rattle.pieces.specs.Pieces.{items}
-use Rattle.update.specs.Steps.{Counted}
-use Rattle.update.specs.declared.Counts.{Counts}
+use Rattle.levels.specs.Levels.{Counted}
+use Rattle.levels.specs.declared.Counts.{Counts}
 
 pub record Exact (log : List (Pair Item)) (n : Counts) : Type 0 where
   pub searches : n .searches ≡ length log

@@ -25,9 +25,10 @@ use Rattle.table.specs.Threads.{Holds}
 use Rattle.pieces.specs.Pieces.{items, rateOf}
 use Rattle.form.specs.Stored.{HeldIn, stored-single, Touched}
 use Rattle.form.specs.Frames.{touched-refl}
-use Rattle.update.specs.Steps.{HandIn, lineAt, Counted, Newcomer, InsertedIn}
-use Rattle.update.specs.declared.Held.{Held as InHand}
-use Rattle.update.specs.declared.Made.{Made as Outcome}
+use Rattle.levels.specs.Levels.{HandIn, lineAt, Counted}
+use Rattle.update.specs.Steps.{Newcomer, InsertedIn}
+use Rattle.levels.specs.declared.Held.{Held as InHand}
+use Rattle.levels.specs.declared.Made.{Made as Outcome}
 use Rattle.form.specs.Form.{OffersIn, offersRef, envelopeRef}
 use Rattle.table.specs.Items.{offerOf}
 

@@ -25,9 +25,10 @@ use Rattle.table.specs.Items.{Item, Slots, slots-sublist}
 use Rattle.table.specs.Rep.{Within}
 use Rattle.pieces.specs.Pieces.{items, item-laws}
 use Rattle.form.specs.Stored.{Touched}
-use Rattle.update.specs.Steps.{Counted, Leaver, LeftIn, RemovedIn}
-use Rattle.update.specs.declared.Held.{Held as InHand}
-use Rattle.update.specs.declared.Made.{Made as Outcome}
+use Rattle.levels.specs.Levels.{Counted}
+use Rattle.update.specs.Steps.{Leaver, LeftIn, RemovedIn}
+use Rattle.levels.specs.declared.Held.{Held as InHand}
+use Rattle.levels.specs.declared.Made.{Made as Outcome}
 use Rattle.form.specs.Form.{OffersIn, offersRef, envelopeRef, numberOf}
 use Rattle.table.specs.Items.{offerOf}
 

@@ -1,8 +1,4 @@
 -- A book's part as its calls change it.
--- lemmas: what the searches for a number and for a rate tell of the live items
-pub mod Sought
--- lemmas: when the plain book that a part stands for declines a call, told by what the code tests: the searches' results and the live count
-pub mod Declining
 -- lemmas: words that agree in some fields of some slots, and what of a book such words keep: the offers, the numbers, the free slots
 pub mod Agree
 -- lemmas: the few writes of an update outside its trees: a free slot taken and filled, a slot given back, the roots and the count set
@@ -17,10 +13,6 @@ pub mod Posting
 pub mod Leaving
 -- lemmas: a withdrawal on a part that stands for a plain book: the code's steps leave a part that stands for the plain book after the withdrawal
 pub mod Withdrawing
--- ways through the code: opening: the header's words, and then each slot free and followed by the next
-pub mod Opening
--- ways through the code: an empty book is laid out: the header's words, then the slots, each free and followed by the next; words past the part stay
-pub mod Starting
 -- lemmas: the writes of a post and of a withdrawal, each as the code makes it, in the order of the code
 pub mod Calls
 -- ways through the code: a post and a withdrawal on the words lent from a book's start on: what the code's parts promise of them, and put together

@@ -1,48 +1,36 @@
 -- A post and a withdrawal on the words lent from a book's start on: what the code's parts promise of them, and put together.
 use mathlib.Core.Path.{_≡_, refl, _∙_, ap, subst}
-use mathlib.Core.Bool.{Bool, true, false}
 use mathlib.Core.List.{List, [], _∷_, List·Memᴰ, List·Memᴰ·not-nil}
 use mathlib.Core.Option.{Option}
 use Prim.Native.Nat.{ℕ, suc, _-_, _≤_, _<_}
 use native.Mathlib.Omega.{arith}
 use lib.ListN.{length}
 use lib.IntN.{ℤ, pos}
-use Rattle.plain.specs.Causes.{Cause, causeNumber, FirstOf, Clear}
-use Rattle.plain.specs.Book.{State, Call, post, join, leave, partLength, rangeTrials, trials, holding, step}
+use Rattle.plain.specs.Book.{State, join, leave, partLength, holding}
 use Rattle.dynamic.specs.OfferTree.{Held}
 use Rattle.dynamic.specs.Valid.{bookLines}
-use Rattle.table.specs.Fields.{baseField, envelopeRootWord, firstFreeWord, liveCountWord, mostNodes, nextFreeField, numberField, numbersRootWord, offerTree}
+use Rattle.table.specs.Fields.{baseField, envelopeRootWord, firstFreeWord, liveCountWord, mostNodes, nextFreeField, numberField, numbersRootWord}
 use Rattle.table.specs.Fields.{offersRootWord, rateField}
 use Rattle.table.specs.Words.{Words, word, wset, wset-length, wset-other, upTo, upTo-most}
 use Rattle.table.specs.Layout.{cap, cset, cset-length, cset-cap, cset-rest, header-cap, beyond-outside}
 use Rattle.table.specs.Free.{firstFree, taken, given}
 use Rattle.table.specs.Items.{Item}
 use Rattle.table.specs.Rep.{Within, within-cap}
-use Rattle.descents.specs.Finds.{Found}
 use Rattle.update.specs.Steps.{RemovedIn}
-use Rattle.update.specs.declared.Held.{Held as InHand}
-use Rattle.update.specs.declared.Made.{Made as Outcome}
+use Rattle.levels.specs.declared.Held.{Held as InHand}
+use Rattle.levels.specs.declared.Made.{Made as Outcome}
 use Rattle.filing.specs.declared.Told.{Told}
 use Rattle.form.specs.Form.{Book}
 use Rattle.numbers.specs.Numbers.{FoundNumber, Added, Dropped}
 use Rattle.form.specs.Live.{live-length}
 use Rattle.form.specs.HeaderWords.{count-read}
-use Rattle.form.specs.Roots.{offersRoot}
-use Rattle.filing.specs.Sought.{number-sought, rate-sought}
-use Rattle.plain.specs.Rules.{refusing}
-use Rattle.filing.specs.Declining.{post-number-live, post-rate-live, post-full, post-clear}
+use Rattle.declining.specs.Sought.{number-sought}
 use Rattle.filing.specs.Writing.{filling, rootsOf, rooting}
 use Rattle.filing.specs.JoinedOffers.{Joined, joins-alone, joins-among}
-use Rattle.filing.specs.Posting.{Updated, Postable, postable}
+use Rattle.declining.specs.PartCauses.{Postable}
+use Rattle.filing.specs.Posting.{Updated}
 use Rattle.filing.specs.Withdrawing.{live-at}
 use Rattle.filing.specs.Calls.{WithdrawWrites, post-done, withdraw-done, withdraw-count}
-
--- ---- the ranges
-
--- whether a call's values are out of range; each such cause has number 4
-pub record OutOfRange (k : Call) (b : Bool) : Type 0 where
-  pub says : b ≡ true → (z : Cause) × FirstOf (rangeTrials k) z × (causeNumber z ≡ 4)
-  pub denies : b ≡ false → Clear (rangeTrials k)
 
 -- ---- words past the part stay
 
@@ -114,54 +102,7 @@ rooted-in w x n e₁ e₂ e₃ = e₃ ∙ ap (λ (v : Words). wset v liveCountWo
 pub read-most : (z : ℤ) {n : ℕ} → n ≡ upTo mostNodes z → n ≤ mostNodes
 read-most z e = omega (arith, e, upTo-most mostNodes z)
 
-pub found-at : {n : ℤ} {w : Words} {root s : ℕ} → root ≡ upTo mostNodes (word w numbersRootWord) → FoundNumber n root w s →
-    FoundNumber n (upTo mostNodes (word w numbersRootWord)) w s
-found-at {n} {w} {s} e f = subst (λ (i : ℕ). FoundNumber n i w s) e f
-
 -- ---- post
-
--- the number of the cause for which a post in range is declined, or 0
-pub record PostCause (n r : ℤ) (w : Words) (m : ℕ) : Type 0 where
-  pub declines : (z : ℤ) (plain : State) (held : Option (Held Item)) → Book w plain held → Clear (rangeTrials (post n r z)) → 0 < m →
-      step plain (post n r z) ≡ refusing plain m
-  pub clears : (z : ℤ) (plain : State) (held : Option (Held Item)) → Book w plain held → Clear (rangeTrials (post n r z)) → m ≤ 0 →
-      Clear (trials plain (post n r z)) × Postable (record { number = n; rate = r; base = z }) (plain .capacity) (bookLines held)
-
-module _ (n r : ℤ) (w : Words) {root s : ℕ} (er : root ≡ upTo mostNodes (word w numbersRootWord)) (f : FoundNumber n root w s) where
-  pub cause-number : 0 < s → PostCause n r w 5
-  cause-number h =
-      record {
-        declines = λ z plain held b g q. post-number-live b n r z g (number-sought b f er) (λ e. omega (arith, e, h));
-        clears = λ z plain held b g q. absurd (omega (arith, q));
-      }
-
-  module _ {x u : ℕ} (low : s ≤ 0) (ex : x ≡ offersRoot w) (d : Found w offerTree rateField r x u) where
-    pub cause-rate : 0 < u → PostCause n r w 6
-    cause-rate h =
-        record {
-          declines = λ z plain held b g q. post-rate-live b n r z g (number-sought b f er) (omega (arith, low)) (rate-sought b d ex) (λ e. omega (arith, e, h));
-          clears = λ z plain held b g q. absurd (omega (arith, q));
-        }
-
-    module _ {i m : ℕ} (least : u ≤ 0) (ei : i ≡ upTo mostNodes (word w liveCountWord)) (em : m ≡ cap w) where
-      pub cause-full : m ≤ i → PostCause n r w 7
-      cause-full h =
-          record {
-            declines = λ z plain held b g q. post-full b n r z g (number-sought b f er) (omega (arith, low)) (rate-sought b d ex) (omega (arith, least))
-                (omega (arith, h, em, ei, b .capacity, count-read b));
-            clears = λ z plain held b g q. absurd (omega (arith, q));
-          }
-
-      pub cause-none : i < m → PostCause n r w 0
-      cause-none h =
-          record {
-            declines = λ z plain held b g q. absurd (omega (arith, q));
-            clears = λ z plain held b g q.
-                let room : length (bookLines held) < plain .capacity = omega (arith, h, em, ei, b .capacity, count-read b) in (
-                  post-clear b n r z g (number-sought b f er) (omega (arith, low)) (rate-sought b d ex) (omega (arith, least)) room,
-                  postable n r z b g (number-sought b f er) (omega (arith, low)) (rate-sought b d ex) (omega (arith, least)) room,
-                );
-          }
 
 -- a post that is not declined
 pub record PostDone (n r z : ℤ) (w w′ : Words) (t : Told) : Type 0 where

@@ -4,15 +4,13 @@ use mathlib.Core.Logic.{_≢_, ⊎-elim}
 use mathlib.Core.HLevel.{¬-prop}
 use mathlib.Core.List.{List, _∷_, map, List·Memᴰ, List·Memᴰ·head, List·Memᴰ·tail, List·Memᴰ·cases-cons}
 use mathlib.Core.Option.{Option, some}
-use Prim.Native.Nat.{ℕ, suc, _≤_, _<_}
+use Prim.Native.Nat.{ℕ, suc, _≤_}
 use native.Mathlib.Omega.{arith}
 use lib.ListN.{length}
-use lib.Dec.{T}
-use lib.IntN.{ℤ, pos}
+use lib.IntN.{pos}
 use Rattle.lists.specs.Members.{pairs-cons}
-use Rattle.offers.specs.Offers.{Offer, offerInRange}
-use Rattle.plain.specs.Causes.{Clear}
-use Rattle.plain.specs.Book.{State, post, join, rangeTrials, holding}
+use Rattle.offers.specs.Offers.{Offer}
+use Rattle.plain.specs.Book.{State, join, holding}
 use Rattle.trees.specs.Operations.{Part}
 use Rattle.dynamic.specs.OfferTree.{Held, Pair}
 use Rattle.dynamic.specs.Updates.{posted}
@@ -24,20 +22,20 @@ use Rattle.table.specs.Fields.{firstFreeWord, mostNodes, numberTree, numbersRoo
 use Rattle.table.specs.Words.{Words, word, wset, wset-other, upTo}
 use Rattle.table.specs.Layout.{cap}
 use Rattle.table.specs.Items.{Item, In, at, Slots}
-use Rattle.table.specs.Rep.{within-cap, Only}
+use Rattle.table.specs.Rep.{within-cap, Only, header-kept}
 use Rattle.table.specs.Threads.{Held as HeldAt, Holds}
-use Rattle.pieces.specs.Pieces.{items, item-laws, rateOf}
-use Rattle.form.specs.Form.{Book, OffersIn, NumbersIn, numberOf, head0}
+use Rattle.pieces.specs.Pieces.{items, item-laws}
+use Rattle.form.specs.Form.{Book, OffersIn, NumbersIn, head0}
 use Rattle.table.specs.PartTrees.{partRef}
 use Rattle.numbers.specs.Numbers.{NumbersAt, Added}
 use Rattle.table.specs.Items.{offerOf}
-use Rattle.form.specs.Live.{live-slots, live-whole}
-use Rattle.update.specs.declared.Counts.{Counts}
-use Rattle.update.specs.declared.Made.{Made as Outcome}
+use Rattle.form.specs.Live.{live-whole}
+use Rattle.levels.specs.declared.Counts.{Counts}
+use Rattle.levels.specs.declared.Made.{Made as Outcome}
 use Rattle.form.specs.HeaderWords.{offers-read, envelope-read, capacity-most, live-most}
-use Rattle.filing.specs.Sought.{Sought, sought-none, numbers-at}
-use Rattle.filing.specs.Declining.{clear-offer}
-use Rattle.filing.specs.Agree.{Agree, Everywhere, FreeHere, agree-trans, agree-less, agree-header, agree-only, agree-touched, header-kept}
+use Rattle.declining.specs.Sought.{numbers-at}
+use Rattle.declining.specs.PartCauses.{Postable}
+use Rattle.filing.specs.Agree.{Agree, Everywhere, FreeHere, agree-trans, agree-less, agree-header, agree-only, agree-touched}
 use Rattle.filing.specs.Agree.{header-set, offers-number, numbers-envelope, free-number, free-envelope, held-agree, offers-agree, numbers-agree}
 use Rattle.filing.specs.Agree.{free-agree}
 use Rattle.filing.specs.Writing.{rootsOf, Filled, Headed, FirstFree, first-free}
@@ -61,26 +59,6 @@ pub record PostSteps (o : Offer) (w w₁ w₂ w₃ w₄ w′ : Words) (s root ro
   pub rooted : w₃ ≡ wset w₂ numbersRootWord (pos root′)
   pub joined : Joined s (rootsOf w) w₃ w₄ m
   pub headed : Headed (m .held) n w₄ w′
-
--- neither the number nor the rate is live, and there is room
-pub record Postable (o : Offer) (c : ℕ) (live : List Item) : Type 0 where
-  pub ranged : T (offerInRange o)
-  pub number-new : (a : Item) → List·Memᴰ a live → numberOf a ≢ o .number
-  pub rate-new : (a : Item) → List·Memᴰ a live → rateOf a ≢ o .rate
-  pub room : length live < c
-
--- where the searches found nothing
-pub postable :
-    {w : Words} {plain : State} {held : Option (Held Item)} (n r z : ℤ) {s u : ℕ} → Book w plain held → Clear (rangeTrials (post n r z)) →
-    Sought numberOf n (bookLines held) s → s ≡ 0 → Sought rateOf r (bookLines held) u → u ≡ 0 → length (bookLines held) < plain .capacity →
-    Postable (record { number = n; rate = r; base = z }) (plain .capacity) (bookLines held)
-postable {w} {held = held} n r z b ranged by-number es by-rate eu room =
-    record {
-      ranged = clear-offer n r z ranged;
-      number-new = sought-none (live-slots w held (b .offers .offers-in)) by-number es;
-      rate-new = sought-none (live-slots w held (b .offers .offers-in)) by-rate eu;
-      room = room;
-    }
 
 -- the offer in that slot
 abbrev pub itemAt : ℕ → Offer → Item

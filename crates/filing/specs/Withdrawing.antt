@@ -20,18 +20,18 @@ use Rattle.table.specs.Fields.{envelopeRootWord, firstFreeWord, liveCountWord, 
 use Rattle.table.specs.Words.{Words, word, wset, wset-other, upTo, upTo-in}
 use Rattle.table.specs.Layout.{cap, cap-most}
 use Rattle.table.specs.Items.{Item, In, at}
-use Rattle.table.specs.Rep.{within-cap, Only}
+use Rattle.table.specs.Rep.{within-cap, Only, header-kept}
 use Rattle.pieces.specs.Pieces.{items, item-laws}
 use Rattle.form.specs.Form.{Book, OffersIn, NumbersIn, FreeChain, free-none, free-more, numberOf, head0, plainOffers}
 use Rattle.table.specs.PartTrees.{partRef}
 use Rattle.update.specs.Steps.{RemovedIn}
-use Rattle.update.specs.declared.Made.{Made as Outcome}
+use Rattle.levels.specs.declared.Made.{Made as Outcome}
 use Rattle.numbers.specs.Numbers.{NumbersAt, Dropped}
 use Rattle.table.specs.Items.{offerOf}
 use Rattle.form.specs.Live.{live-slots, live-holds, live-whole, whole-ordered, slot-tells, number-tells}
 use Rattle.form.specs.HeaderWords.{offers-read, envelope-read, capacity-most, live-most}
-use Rattle.filing.specs.Sought.{Sought, sought-item, numbers-at}
-use Rattle.filing.specs.Agree.{Agree, Everywhere, FreeHere, agree-trans, agree-less, agree-header, agree-only, agree-touched, header-kept}
+use Rattle.declining.specs.Sought.{Sought, sought-item, numbers-at}
+use Rattle.filing.specs.Agree.{Agree, Everywhere, FreeHere, agree-trans, agree-less, agree-header, agree-only, agree-touched}
 use Rattle.filing.specs.Agree.{header-set, offers-number, numbers-envelope, free-number, free-envelope, offers-agree, numbers-agree, free-agree}
 use Rattle.filing.specs.Writing.{rootsOf, Headed, Freed, free-not-live}
 use Rattle.filing.specs.Counts.{counts-exact}

@@ -25,7 +25,7 @@ use Rattle.form.specs.Form.{Book, FreeChain, free-more, head0}
 use Rattle.form.specs.Live.{live-holds}
 use Rattle.form.specs.Roots.{envelopeRoot, offersRoot}
 use Rattle.filing.specs.Agree.{Agree, Everywhere, Elsewhere, agree-trans, agree-less, agree-header, agree-cset, header-set}
-use Rattle.update.specs.declared.Held.{Held as InHand}
+use Rattle.levels.specs.declared.Held.{Held as InHand}
 
 -- ---- what the code writes and reads
 

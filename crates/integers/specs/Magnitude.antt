@@ -1,7 +1,7 @@
 -- How large an integer expression gets: its magnitude is at most the same expression of its unknowns' magnitudes, with sums for differences.
 -- `fits64 e (omega (arith, ..))` so shows that a value fits an i64, with `mul-le-mul` of the unknowns' bounds in the list where there are products.
 use mathlib.Core.Path.{_≡_, refl}
-use mathlib.Core.Bool.{_&&_, false, true≢false}
+use mathlib.Core.Bool.{_&&_, true, false, true≢false}
 use Prim.Native.Nat.{ℕ, zero, suc, _+_, _-_, _*_, _^_, _≤_, _<_}
 use native.Mathlib.Nat.{mul-le-mul}
 use native.Mathlib.Omega.{arith}
@@ -82,6 +82,15 @@ natAbs-is (negsuc n) t = absurd t
 pub natAbs-fits : (z : ℤ) → SFits w64 z → ltZ z (pos 0) ≡ false → T (nonNeg z) × Fits w64 (natAbs z)
 natAbs-fits (pos n) f e = (tt, omega arith)
 natAbs-fits (negsuc n) f e = absurd (true≢false e)
+
+-- ---- one more than what is below a million
+
+one-more : (z : ℤ) → SFits w64 z → ltZ z (pos 1_000_000) ≡ true → natAbs (z +ℤ pos 1) < 2 ^ 63
+one-more (pos n) f t = omega (arith, intRules, natAbs-gap (pos n +ℤ pos 1) (n + 1) 0 (omega (arith, add-parts (pos n) (pos 1))))
+one-more (negsuc n) f t = omega (arith, f .sfits, natAbs-gap (negsuc n +ℤ pos 1) 1 (suc n) (omega (arith, add-parts (negsuc n) (pos 1))))
+
+pub more-fits : (z : ℤ) → SFits w64 z → ltZ z (pos 1_000_000) ≡ true → SFits w64 (z +ℤ pos 1)
+more-fits z f t = fits (z +ℤ pos 1) (one-more z f t)
 
 -- ---- one line each
 

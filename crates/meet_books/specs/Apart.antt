@@ -31,7 +31,7 @@ use Rattle.pieces.specs.Pieces.{rateOf, items}
 use Rattle.form.specs.Form.{Book, plainOffers}
 use Rattle.table.specs.Items.{offerOf}
 use Rattle.form.specs.HeaderWords.{offers-read}
-use Rattle.filing.specs.Sought.{not-any}
+use Rattle.declining.specs.Sought.{not-any}
 
 -- every line of the one before every line of the other
 abbrev pub AllBefore : (ls rs : List Item) → Type 0

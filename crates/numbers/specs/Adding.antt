@@ -17,7 +17,7 @@ use Rattle.trees.specs.Leaves.{leaves-joinP, last-join}
 use Rattle.trees.specs.Operations.{Part, partLeaves, joinP, splitP}
 use Rattle.trees.specs.Balanced.{AvlP, near-joinP}
 use Rattle.trees.specs.Order.{Falling, falling-turning}
-use Rattle.trees.specs.Split.{Clean, splitP-low}
+use Rattle.trees.specs.Split.{splitP-leaves, Clean, splitP-low}
 use Rattle.table.specs.Fields.{mostLevels, numberField, numberTree}
 use Rattle.table.specs.Words.{Words}
 use Rattle.table.specs.Layout.{cap, cell}
@@ -29,7 +29,6 @@ use Rattle.table.specs.Threads.{Holds}
 use Rattle.shape.specs.JoinSteps.{Merged}
 use Rattle.descents.specs.Cuts.{from, Halving, Halved}
 use Rattle.descents.specs.Ends.{Ended}
-use Rattle.pieces.specs.Cutting.{splitP-leaves}
 use Rattle.form.specs.Form.{numberOf}
 use Rattle.numbers.specs.Numbers.{NumbersAt, Added}
 use Rattle.numbers.specs.Trees.{among-in, among-holds, falling-slots, leaves-hold, numbers-rep, part-low, numbers-made, splitP-clean, seam-end}

@@ -23,7 +23,7 @@ use Rattle.promises.specs.Promises.{partOf, openingAnswer, Opens, OnlyPart}
 use Rattle.promises.specs.OneCause.{one-cause, not-clear}
 use Rattle.promises.specs.LentPart.{part-back, only-part, whole-part, lent-back, told-is}
 use Rattle.form.specs.Local.{Beyond}
-use Rattle.filing.specs.Starting.{Starts}
+use Rattle.opening.specs.Starting.{Starts}
 
 module _ (c : ℤ) (start : ℕ) (t t′ : List ℤ) where
   opens-declined : {r : Opening} {k : Cause} → FirstOf (openTrials (length t) start c) k → r ≡ Declined (pos (causeNumber k)) → t′ ≡ t → Opens c start t t′ r

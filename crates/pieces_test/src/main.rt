@@ -115,7 +115,7 @@ fn ends(part: &[i64], l: u32) {
 
 // The tree cut in two, and the two put together again.
 fn halves(part: &mut [i64], l: u32) -> u32 {
-    let c = pieces::cut(part, false, 950, l);
+    let c = cuts::cut(part, false, 950, l);
     let last = descents::end(part, table::PIECES, true, c.front);
     let first = descents::end(part, table::PIECES, false, c.back);
     say(b"last in front of the cut: ", last, 50);

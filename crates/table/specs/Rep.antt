@@ -5,7 +5,7 @@ use mathlib.Core.Path.{_≡_, refl, sym, _∙_, ap, subst}
 use mathlib.Core.Logic.{_≢_}
 use mathlib.Core.Bool.{Bool, true, false}
 use mathlib.Core.List.{List}
-use Prim.Native.Nat.{ℕ, suc, _+_, _*_, _-_, _≤_, max}
+use Prim.Native.Nat.{ℕ, suc, _+_, _*_, _-_, _≤_, _<_, max}
 use native.Mathlib.Omega.{arith}
 use lib.ListN.{length}
 use lib.IntN.{ℤ}
@@ -83,8 +83,11 @@ pub record Within (w w′ : Words) : Type 0 where
   pub long : length w′ ≡ length w
   pub rest : (i : ℕ) → Outside w i → word w′ i ≡ word w i
 
+pub header-kept : {w w′ : Words} → Within w w′ → (i : ℕ) → i < 64 → word w′ i ≡ word w i
+header-kept {w} g i h = g .rest i (header-outside w h)
+
 pub within-cap : {w w′ : Words} → Within w w′ → cap w′ ≡ cap w
-within-cap {w} {w′} h = cap-of w w′ (h .long) (h .rest capacityWord (header-outside w (omega arith)))
+within-cap {w} {w′} h = cap-of w w′ (h .long) (header-kept h capacityWord (omega arith))
 
 pub within-refl : (w : Words) → Within w w
 within-refl w = record { long = refl; rest = λ i o. refl }

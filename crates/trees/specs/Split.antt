@@ -27,6 +27,11 @@ module _ {A : Type 0} where
       cond-both (λ c. cutLeaves c ≡ leaves l ++ leaves r) (test (last l)) (λ t. simp (leaves-joinP, append-assoc, split-leaves test r))
       (λ t. simp (leaves-joinP, ← append-assoc, split-leaves test l))
 
+  pub splitP-leaves : (test : A → Bool) (p : Part A) → cutLeaves (splitP test p) ≡ partLeaves p
+  unfolding splitP
+  splitP-leaves test none = refl
+  splitP-leaves test (some t) = split-leaves test t
+
   all-joinP : (test : A → Bool) (p q : Part A) → All test (partLeaves p) → All test (partLeaves q) → All test (partLeaves (joinP p q))
   all-joinP test p q f g = subst (All test) (sym (leaves-joinP p q)) (all-append test (partLeaves p) f g)
 

@@ -1,35 +1,20 @@
--- What the code of lowering, raising and rebalancing hands to their lemmas: a rest by its node, a side as a test, and heights as read.
-use mathlib.Core.Path.{_≡_, sym, _∙_, ap, subst}
+-- What the code of rebalancing hands to its lemmas: a side as a test, and heights as read.
+use mathlib.Core.Path.{_≡_, sym, _∙_, subst}
 use mathlib.Core.Bool.{Bool, true, false}
-use Prim.Native.Nat.{ℕ, _-_, _≤_, _<_}
+use Prim.Native.Nat.{ℕ, _≤_, _<_}
 use native.Mathlib.Omega.{arith}
-use lib.IntN.{pos, ℤ}
 use borrow.Author.Tests.{ltb-true, ltb-false}
-use Rattle.table.specs.Fields.{innerRestField, leafRestField, mostSlots, offerTree}
+use Rattle.table.specs.Fields.{offerTree}
 use Rattle.table.specs.Words.{Words}
-use Rattle.table.specs.Layout.{cset, cap, cset-cap}
 use Rattle.shape.specs.Splices.{towersAt}
-use Rattle.update.specs.Steps.{LoweredIn, RaisedIn, RebalancedIn}
-use Rattle.update.specs.declared.Held.{Held as InHand}
-use Rattle.update.specs.declared.Made.{Made as Outcome}
-use Rattle.update.specs.declared.Lowered.{Lowered}
-use Rattle.update.specs.RaisingRests.{RestSet}
+use Rattle.levels.specs.Levels.{LoweredIn, RaisedIn}
+use Rattle.update.specs.Steps.{RebalancedIn}
+use Rattle.levels.specs.declared.Held.{Held as InHand}
+use Rattle.levels.specs.declared.Made.{Made as Outcome}
+use Rattle.levels.specs.declared.Lowered.{Lowered}
 use Rattle.update.specs.Neighbours.{LoweredOn, lowered-left, lowered-right, RaisedOn, raised-left, raised-right}
 use Rattle.update.specs.Rotating.{RotatedIn}
 use Rattle.update.specs.Rebalancing.{rebalanced-level, rebalanced-left, rebalanced-right, RebalancedOn, rebalanced-on-left, rebalanced-on-right}
-
--- ---- the capacity stays known
-
-pub still-put : {k : ℕ} {w′ : Words} (w : Words) (f s : ℕ) (z : ℤ) → k ≡ cap w → w′ ≡ cset w f s z → k ≡ cap w′
-still-put w f s z e d = e ∙ sym (ap cap d ∙ cset-cap w f s z)
-
--- ---- rests
-
-pub set-of-leaf : {x q : ℕ} {w w′ : Words} → x ≤ mostSlots → w′ ≡ cset w leafRestField x (pos q) → RestSet x q w w′
-set-of-leaf h e = record { of-leaf = λ _. e; of-inner = λ d. absurd (omega arith) }
-
-pub set-of-inner : {x m q : ℕ} {w w′ : Words} → mostSlots < x → m ≡ x - mostSlots → w′ ≡ cset w innerRestField m (pos q) → RestSet x q w w′
-set-of-inner {q} {w} h d e = record { of-leaf = λ k. absurd (omega arith); of-inner = λ _. e ∙ ap (λ n. cset w innerRestField n (pos q)) d }
 
 -- ---- sides
 

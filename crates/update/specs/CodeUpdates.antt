@@ -9,10 +9,11 @@ use Rattle.table.specs.Fields.{mostSlots, offerTree, rateField}
 use Rattle.table.specs.Words.{Words}
 use Rattle.table.specs.Layout.{cell}
 use Rattle.descents.specs.Ends.{Ended}
-use Rattle.update.specs.Steps.{lineAt, RaisedIn, noTree}
-use Rattle.update.specs.declared.Held.{Held as InHand}
-use Rattle.update.specs.declared.Counts.{Counts}
-use Rattle.update.specs.declared.Made.{Made as Outcome}
+use Rattle.levels.specs.Levels.{lineAt, RaisedIn}
+use Rattle.update.specs.Steps.{noTree}
+use Rattle.levels.specs.declared.Held.{Held as InHand}
+use Rattle.levels.specs.declared.Counts.{Counts}
+use Rattle.levels.specs.declared.Made.{Made as Outcome}
 use Rattle.update.specs.declared.Opened.{Opened}
 use Rattle.update.specs.Neighbours.{LoweredOn, raised-left, raised-right}
 use Rattle.update.specs.Counting.{Summed}

@@ -8,8 +8,8 @@ use Rattle.dynamic.specs.OfferTree.{Pair}
 use Rattle.dynamic.specs.Kept.{steps-append, heights-append}
 use Rattle.table.specs.Items.{Item}
 use Rattle.pieces.specs.Pieces.{items}
-use Rattle.update.specs.Steps.{Counted}
-use Rattle.update.specs.declared.Counts.{Counts}
+use Rattle.levels.specs.Levels.{Counted}
+use Rattle.levels.specs.declared.Counts.{Counts}
 
 -- c is the sum of a and b, gone round
 pub record Summed (a b c : Counts) : Type 0 where

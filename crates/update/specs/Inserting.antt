@@ -31,10 +31,11 @@ use Rattle.table.specs.PartTrees.{low}
 use Rattle.table.specs.Threads.{Holds}
 use Rattle.pieces.specs.Pieces.{items, item-laws, rateOf}
 use Rattle.form.specs.Stored.{stored-single, HeldIn, Touched}
-use Rattle.update.specs.Steps.{lineAt, MadeIn, Near, Newcomer, InsertedIn}
-use Rattle.update.specs.declared.Held.{Held as InHand}
-use Rattle.update.specs.declared.Counts.{Counts}
-use Rattle.update.specs.declared.Made.{Made as Outcome}
+use Rattle.levels.specs.Levels.{lineAt, MadeIn}
+use Rattle.update.specs.Steps.{Near, Newcomer, InsertedIn}
+use Rattle.levels.specs.declared.Held.{Held as InHand}
+use Rattle.levels.specs.declared.Counts.{Counts}
+use Rattle.levels.specs.declared.Made.{Made as Outcome}
 use Rattle.update.specs.declared.Opened.{Opened}
 use Rattle.form.specs.Frames.{Inside, Disjoint, disjoint-across, holds-same, slots-rearranged, inside-rearranged, slots-within, touched-offers}
 use Rattle.form.specs.Frames.{held-still, touched-trans, touched-more}

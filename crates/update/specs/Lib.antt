@@ -1,22 +1,6 @@
 -- The tree of offers in words.
--- lemmas: what the steps of an update promise
+-- lemmas: what the steps of an update above one level promise
 pub mod Steps
--- ways through the code: lower in words: cut the whole envelope behind the left child's last line, then give each child its rest back
-pub mod Lowering
--- lemmas: what raising two subtrees makes, said by cuts by rate as code makes them
-pub mod RaisingModel
--- ways through the code: the bridges and rests that a subtree's words tell, field by field
-pub mod RaisingRests
--- lemmas: raise in words, first part: both children's whole envelopes are cut
-pub mod RaisingCuts
--- lemmas: raise in words, second part: the two rests, the node above both children and its bridge are written
-pub mod RaisingWires
--- lemmas: raise in words, third part: the kept parts of both envelopes are put together, and the words hold the fork with its whole envelope
-pub mod RaisingCat
--- ways through the code: raise in words: both envelopes are searched and cut, the rests, the node and its bridge are written, and the kept parts put together
-pub mod Raising
--- ways through the code: what the search on the table promises is what raising asks of it
-pub mod RaisingSearch
 -- lemmas: two subtrees side by side, seen from a side, and what raising them or lowering one leaves
 pub mod Neighbours
 -- lemmas: counts of one operation after another
@@ -33,7 +17,7 @@ pub mod Inserting
 pub mod RemovingModel
 -- ways through the code: one level of a removal in words, given the promise of the call on the child
 pub mod Removing
--- ways through the code: what the code of lowering, raising and rebalancing hands to their lemmas: a rest by its node, a side as a test, and heights as read
+-- ways through the code: what the code of rebalancing hands to its lemmas: a side as a test, and heights as read
 pub mod CodeSteps
 -- ways through the code: what the code of inserting and removing hands to their lemmas
 pub mod CodeUpdates

@@ -21,10 +21,10 @@ use Rattle.table.specs.Rep.{refOf, nodeOn, seam, heightAt, Rep, Within}
 use Rattle.table.specs.Nodes.{rep-height, ref-on, seam-in}
 use Rattle.pieces.specs.Pieces.{items, item-laws, rateOf}
 use Rattle.form.specs.Stored.{HeldIn, Touched}
-use Rattle.update.specs.Steps.{HandIn, MadeIn, LoweredIn, Siblings, RaisedIn}
-use Rattle.update.specs.declared.Held.{Held as InHand}
-use Rattle.update.specs.declared.Made.{Made as Outcome}
-use Rattle.update.specs.declared.Lowered.{Lowered}
+use Rattle.levels.specs.Levels.{HandIn, MadeIn, LoweredIn, Siblings, RaisedIn}
+use Rattle.levels.specs.declared.Held.{Held as InHand}
+use Rattle.levels.specs.declared.Made.{Made as Outcome}
+use Rattle.levels.specs.declared.Lowered.{Lowered}
 use Rattle.update.specs.declared.Opened.{Opened}
 
 -- ---- sides

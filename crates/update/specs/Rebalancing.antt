@@ -15,9 +15,10 @@ use Rattle.table.specs.Items.{Item}
 use Rattle.table.specs.Rep.{nodeOn, heightAt, Within}
 use Rattle.pieces.specs.Pieces.{items}
 use Rattle.form.specs.Stored.{Touched}
-use Rattle.update.specs.Steps.{MadeIn, Siblings, RaisedIn, Near, RebalancedIn}
-use Rattle.update.specs.declared.Held.{Held as InHand}
-use Rattle.update.specs.declared.Made.{Made as Outcome}
+use Rattle.levels.specs.Levels.{MadeIn, Siblings, RaisedIn}
+use Rattle.update.specs.Steps.{Near, RebalancedIn}
+use Rattle.levels.specs.declared.Held.{Held as InHand}
+use Rattle.levels.specs.declared.Made.{Made as Outcome}
 use Rattle.update.specs.Neighbours.{held-height, Neighbours, siblings-left, siblings-right, neighbours-left, neighbours-right}
 use Rattle.update.specs.Rotating.{RotatedIn}
 

@@ -27,10 +27,11 @@ use Rattle.table.specs.PartTrees.{low}
 use Rattle.descents.specs.Ends.{Ended}
 use Rattle.pieces.specs.Pieces.{items, item-laws}
 use Rattle.form.specs.Stored.{Touched}
-use Rattle.update.specs.Steps.{HandIn, Counted, MadeIn, noTree, Near, Leaver, LeftIn, RemovedIn}
-use Rattle.update.specs.declared.Held.{Held as InHand}
-use Rattle.update.specs.declared.Counts.{Counts}
-use Rattle.update.specs.declared.Made.{Made as Outcome}
+use Rattle.levels.specs.Levels.{HandIn, Counted, MadeIn}
+use Rattle.update.specs.Steps.{noTree, Near, Leaver, LeftIn, RemovedIn}
+use Rattle.levels.specs.declared.Held.{Held as InHand}
+use Rattle.levels.specs.declared.Counts.{Counts}
+use Rattle.levels.specs.declared.Made.{Made as Outcome}
 use Rattle.update.specs.declared.Opened.{Opened}
 use Rattle.form.specs.Frames.{Inside, slots-within, held-still, touched-refl, touched-trans, touched-more}
 use Rattle.update.specs.Neighbours.{sideOf, held-rep, inner-high, seam-rate, Neighbours, LoweredOn, Opens, opens}

@@ -19,10 +19,10 @@ use Rattle.table.specs.Nodes.{on-one, on-other, on-across, in-one, in-other, he
 use Rattle.shape.specs.Sides.{rowOn, row-leaves, four-leaves, seam-first, seam-last}
 use Rattle.pieces.specs.Pieces.{items}
 use Rattle.form.specs.Stored.{Touched}
-use Rattle.update.specs.Steps.{HandIn, Counted, MadeIn}
-use Rattle.update.specs.declared.Held.{Held as InHand}
-use Rattle.update.specs.declared.Counts.{Counts}
-use Rattle.update.specs.declared.Made.{Made as Outcome}
+use Rattle.levels.specs.Levels.{HandIn, Counted, MadeIn}
+use Rattle.levels.specs.declared.Held.{Held as InHand}
+use Rattle.levels.specs.declared.Counts.{Counts}
+use Rattle.levels.specs.declared.Made.{Made as Outcome}
 use Rattle.update.specs.declared.Opened.{Opened}
 use Rattle.form.specs.Frames.{slots-within, held-still, touched-trans, touched-more}
 use Rattle.update.specs.Neighbours.{sideOf, ordered-one, ordered-other, held-height, Neighbours, LoweredOn, RaisedOn, Opens, opens, Raises, raises}

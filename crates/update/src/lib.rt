@@ -1,13 +1,11 @@
-// The tree of offers with its envelopes, in the table. Lower, raise and rebalance take one level apart and put it together; insert and
-// remove go down and up. Every function takes any words. Left is false, right is true.
+// The tree of offers with its envelopes, in the table: rebalanced over levels that are taken apart and put together, and on that insert and
+// remove, which go down and up. Every function takes any words. Left is false, right is true.
 ghost use mathlib.Core.Path.{_≡_};
 ghost use Prim.Native.Nat.{ℕ, _≤_};
 ghost use lib.Signed.{leZ, ltZ};
-ghost use Rattle.table.specs.Fields.{bridgeLeftField, bridgeRightField, mostSlots, rateField};
-ghost use Rattle.table.specs.Layout.{cap, cell, linkAt};
-ghost use Rattle.pieces.specs.Pieces.{CattedAfter, CattedBefore};
-ghost use Rattle.update.specs.Steps.{LoweredIn, RaisedIn, RebalancedIn, noTree, InsertedIn, RemovedIn};
-ghost use Rattle.update.specs.RaisingRests.{RestSet};
+ghost use Rattle.table.specs.Fields.{mostSlots, rateField};
+ghost use Rattle.table.specs.Layout.{cell};
+ghost use Rattle.update.specs.Steps.{RebalancedIn, noTree, InsertedIn, RemovedIn};
 ghost use Rattle.update.specs.Neighbours.{LoweredOn, RaisedOn};
 ghost use Rattle.update.specs.Counting.{Summed, SummedThree};
 ghost use Rattle.update.specs.Rotating.{RotatedIn};
@@ -15,31 +13,9 @@ ghost use Rattle.update.specs.Rebalancing.{RebalancedOn};
 ghost use Rattle.update.specs.Inserting.{InsertedBelow};
 ghost use Rattle.update.specs.Removing.{RemovedBelow, SeamFound};
 ghost use Rattle.update.specs.CodeUpdates.{Rebuilt};
-
-// A subtree in hand: its root in the tree of offers, and the root of its envelope.
-pub struct Held {
-    pub tree: u32,
-    pub envelope: u32,
-}
-
-// Searches, their steps in all, and the sum of their trees' heights.
-pub struct Counts {
-    pub searches: u32,
-    pub steps: u32,
-    pub heights: u32,
-}
-
-// A subtree that was made, and what its making took.
-pub struct Made {
-    pub held: Held,
-    pub counts: Counts,
-}
-
-// The two children of a subtree.
-pub struct Lowered {
-    pub left: Held,
-    pub right: Held,
-}
+use levels::Counts;
+use levels::Held;
+use levels::Made;
 
 // The two children from a side: the one on it, and the one off it.
 pub struct Opened {
@@ -47,103 +23,10 @@ pub struct Opened {
     pub off: Held,
 }
 
-fn set_rest(part: &mut [i64], c: u32, x: u32, q: u32)
-    requires { ⌜ c ≡ cap (now part) ⌝ }
-    ensures { λ _. ⌜ RestSet x q (now (part .entry)) (now (part .exit)) ⌝ }
-{
-    if x <= table::MOST_SLOTS {
-        table::put_link_in(part, c, table::LEAF_REST, x, q);
-        return;
-    }
-    table::put_link_in(part, c, table::INNER_REST, table::inner_slot(x), q);
-}
-
-// Puts a left child's rest `q` behind its part `front` of the envelope of the node in slot `m`. That part ends at the node's bridge, which is
-// read only where there is a rest.
-fn put_behind(part: &mut [i64], c: u32, m: u32, front: u32, q: u32) -> u32
-    requires { ⌜ c ≡ cap (now part) ⌝ }
-    ensures { λ r. ⌜ CattedAfter front q (linkAt (now (part .entry)) bridgeLeftField m) (now (part .entry)) (now (part .exit)) r ⌝ }
-{
-    if q == 0 {
-        return front;
-    }
-    let u = table::link_in(part, c, table::BRIDGE_LEFT, m);
-    pieces::cat_after(part, c, front, q, u)
-}
-
-// Puts a right child's rest `q` in front of its part `back`, which begins with the bridge's other end.
-fn put_in_front(part: &mut [i64], c: u32, m: u32, q: u32, back: u32) -> u32
-    requires { ⌜ c ≡ cap (now part) ⌝ }
-    ensures { λ r. ⌜ CattedBefore q back (linkAt (now (part .entry)) bridgeRightField m) (now (part .entry)) (now (part .exit)) r ⌝ }
-{
-    if q == 0 {
-        return back;
-    }
-    let v = table::link_in(part, c, table::BRIDGE_RIGHT, m);
-    pieces::cat_before(part, c, q, back, v)
-}
-
-// Takes an inner node apart: its envelope is cut behind the left child's last line, and each child gets its rest back. No step changes
-// the capacity, so that it is read once.
-fn lower(part: &mut [i64], h: Held) -> Lowered
-    ensures { λ r. ⌜ LoweredIn h (now (part .entry)) (now (part .exit)) r ⌝ }
-{
-    let k = table::capacity(part);
-    let l = table::child_in(part, k, table::OFFERS, false, h.tree);
-    let r = table::child_in(part, k, table::OFFERS, true, h.tree);
-    let m = table::inner_slot(h.tree);
-    let rate = table::get_in(part, k, table::RATE, m);
-    let c = pieces::cut_in(part, k, false, rate, h.envelope);
-    let ql = form::rest_in(part, k, l);
-    let qr = form::rest_in(part, k, r);
-    let le = put_behind(part, k, m, c.front, ql);
-    let re = put_in_front(part, k, m, qr, c.back);
-    Lowered {
-        left: Held {
-            tree: l,
-            envelope: le,
-        },
-        right: Held {
-            tree: r,
-            envelope: re,
-        },
-    }
-}
-
-// Puts a node over two subtrees: one search finds where their envelopes meet, each is cut there, and what is cut off stays with its child.
-// The line in slot `gap` has the lowest rate on the left.
-fn raise(part: &mut [i64], gap: u32, l: Held, r: Held) -> Made
-    ensures { λ m. ⌜ RaisedIn gap l r (now (part .entry)) (now (part .exit)) m ⌝ }
-{
-    let k = table::capacity(part);
-    let m = search::meet_in(part, k, part, k, l.envelope, r.envelope);
-    let h = table::height_in(part, k, table::PIECES, l.envelope)
-        + table::height_in(part, k, table::PIECES, r.envelope);
-    let c = pieces::cut_behind(part, k, m.u, gap, l.envelope);
-    let d = pieces::cut_before(part, k, m.v, r.envelope);
-    set_rest(part, k, l.tree, c.back);
-    set_rest(part, k, r.tree, d.front);
-    let x = shape::make_node_in(part, k, table::OFFERS, false, gap, l.tree, r.tree);
-    table::put_link_in(part, k, table::BRIDGE_LEFT, gap, m.u);
-    table::put_link_in(part, k, table::BRIDGE_RIGHT, gap, m.v);
-    let e = pieces::cat_at(part, k, c.front, d.back, m.u, m.v);
-    Made {
-        held: Held {
-            tree: x,
-            envelope: e,
-        },
-        counts: Counts {
-            searches: 1,
-            steps: m.steps,
-            heights: h,
-        },
-    }
-}
-
 fn lower_on(part: &mut [i64], side: bool, h: Held) -> Opened
     ensures { λ r. ⌜ LoweredOn side h (now (part .entry)) (now (part .exit)) r ⌝ }
 {
-    let c = lower(part, h);
+    let c = levels::lower(part, h);
     let l = c.left;
     let r = c.right;
     if side {
@@ -156,9 +39,9 @@ fn raise_on(part: &mut [i64], side: bool, gap: u32, on: Held, off: Held) -> Made
     ensures { λ r. ⌜ RaisedOn side gap on off (now (part .entry)) (now (part .exit)) r ⌝ }
 {
     if side {
-        return raise(part, gap, off, on);
+        return levels::raise(part, gap, off, on);
     }
-    raise(part, gap, on, off)
+    levels::raise(part, gap, on, off)
 }
 
 // The counts of one operation after another. They go round at 2 ^ 32, which those of a book do not reach.
@@ -231,7 +114,7 @@ fn rebalance(part: &mut [i64], gap: u32, l: Held, r: Held) -> Made
     if shape::above(hr, hl) {
         return rotate(part, true, gap, r, l);
     }
-    raise(part, gap, l, r)
+    levels::raise(part, gap, l, r)
 }
 
 fn rebalance_on(part: &mut [i64], side: bool, gap: u32, on: Held, off: Held) -> Made
@@ -297,9 +180,9 @@ fn insert_beside(part: &mut [i64], h: Held, slot: u32) -> Made
         envelope: slot,
     };
     if at_most(part, slot, h.tree) {
-        return raise(part, h.tree, h, line);
+        return levels::raise(part, h.tree, h, line);
     }
-    raise(part, slot, line, h)
+    levels::raise(part, slot, line, h)
 }
 
 // Inserts the line in `slot` into a subtree that is at most `limit` high.

@@ -1,6 +1,6 @@
 -- `numbers::least_above` meets its contract: by its test.
 use mir.Facts.{toZ-ofZ}
-use Rattle.pieces.specs.LeastRate.{more-fits}
+use Rattle.integers.specs.Magnitude.{more-fits}
 use Rattle.numbers.specs.Above.{above-more, above-most}
 use Rattle.numbers.proofs.least_above.Statement.{statement}
 use Rattle.numbers.proofs.least_above.Tie as tie
