@@ -10,7 +10,7 @@ use lib.IntN.{ℤ, pos}
 use Rattle.lists.specs.Bools.{said, denied, never}
 use Rattle.offers.specs.Offers.{numberInRange, rateInRange, baseInRange}
 use Rattle.plain.specs.Causes.{Cause, causeNumber, numberOutOfRange, rateOutOfRange, baseOutOfRange, FirstOf, at-once, further, Clear}
-use Rattle.plain.specs.Book.{State, Call, post, withdraw, refused, join, leave, noBookAt, holding, step}
+use Rattle.plain.specs.Book.{State, Call, post, withdraw, refused, join, leave, noBookAt, rangeTrials, holding, step}
 use Rattle.dynamic.specs.OfferTree.{Held}
 use Rattle.table.specs.Fields.{capacityWord, mostNodes, numbersRootWord}
 use Rattle.table.specs.Words.{Words, word, upTo}
@@ -31,10 +31,15 @@ use Rattle.promises.specs.LentPart.{part-back, only-part, only-same, whole-part
 use Rattle.promises.specs.OneCause.{one-cause, not-clear}
 use Rattle.filing.specs.Posting.{Updated}
 use Rattle.filing.specs.declared.Told.{Told}
-use Rattle.declining.specs.PartCauses.{OutOfRange, PostCause}
+use Rattle.declining.specs.PartCauses.{PostCause}
 use Rattle.filing.specs.PartUpdates.{Kept, PostDone, WithdrawDone}
 
 -- ---- the ranges, as the code tests them
+
+-- whether a call's values are out of range; each such cause has number 4
+pub record OutOfRange (k : Call) (b : Bool) : Type 0 where
+  pub says : b ≡ true → (z : Cause) × FirstOf (rangeTrials k) z × (causeNumber z ≡ 4)
+  pub denies : b ≡ false → Clear (rangeTrials k)
 
 module _ (n r z : ℤ) {b : Bool} (e : b ≡ not (numberInRange n)) where
   pub number-out : b ≡ true → OutOfRange (post n r z) b

@@ -3,7 +3,7 @@ ghost use mathlib.Core.Path.{_≡_};
 ghost use Rattle.plain.specs.Book.{post, withdraw};
 ghost use Rattle.promises.specs.Promises.{Updates};
 ghost use Rattle.book.specs.Following.{updateOf};
-ghost use Rattle.declining.specs.PartCauses.{OutOfRange};
+ghost use Rattle.book.specs.TableUpdates.{OutOfRange};
 pub use asking::listing;
 pub use asking::query;
 pub use check_part::check;

@@ -1,4 +1,4 @@
--- What the code of a cut computes with: the least rate in front, which fits an i64.
+-- What the code of a cut computes with: the least rate in front, by its two tests; and the cut by it.
 use mathlib.Core.Path.{_≡_, subst}
 use mathlib.Core.Bool.{Bool, true, false}
 use Prim.Native.Nat.{ℕ}

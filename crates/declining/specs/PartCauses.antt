@@ -1,44 +1,32 @@
 -- What declines a call in range, as the code finds it: a post by its number, its rate or the full book; and where nothing does, the offer can be posted.
 use mathlib.Core.Path.{_≡_, subst}
-use mathlib.Core.Bool.{Bool, true, false}
 use mathlib.Core.List.{List, List·Memᴰ}
 use mathlib.Core.Option.{Option}
+use mathlib.Core.Logic.{_≢_}
 use Prim.Native.Nat.{ℕ, _≤_, _<_}
 use native.Mathlib.Omega.{arith}
 use lib.ListN.{length}
 use lib.IntN.{ℤ}
-use Rattle.plain.specs.Causes.{Cause, causeNumber, FirstOf, Clear}
-use Rattle.plain.specs.Book.{State, Call, post, rangeTrials, trials, step}
+use lib.Dec.{T}
+use Rattle.offers.specs.Offers.{Offer, offerInRange}
+use Rattle.plain.specs.Causes.{Clear}
+use Rattle.plain.specs.Book.{State, post, rangeTrials, trials, step}
+use Rattle.plain.specs.Rules.{refusing}
 use Rattle.dynamic.specs.OfferTree.{Held}
 use Rattle.dynamic.specs.Valid.{bookLines}
-use Rattle.table.specs.Fields.{liveCountWord, mostNodes, numbersRootWord, offerTree}
-use Rattle.table.specs.Fields.{rateField}
+use Rattle.table.specs.Fields.{liveCountWord, mostNodes, numbersRootWord, offerTree, rateField}
 use Rattle.table.specs.Words.{Words, word, upTo}
 use Rattle.table.specs.Layout.{cap}
 use Rattle.table.specs.Items.{Item}
 use Rattle.descents.specs.Finds.{Found}
-use Rattle.form.specs.Form.{Book}
-use Rattle.numbers.specs.Numbers.{FoundNumber}
+use Rattle.pieces.specs.Pieces.{rateOf}
+use Rattle.form.specs.Form.{Book, numberOf}
 use Rattle.form.specs.HeaderWords.{count-read}
 use Rattle.form.specs.Roots.{offersRoot}
-use Rattle.declining.specs.Sought.{number-sought, rate-sought}
-use Rattle.plain.specs.Rules.{refusing}
-use Rattle.declining.specs.Declining.{post-number-live, post-rate-live, post-full, post-clear}
-use mathlib.Core.Logic.{_≢_}
-use lib.Dec.{T}
-use Rattle.offers.specs.Offers.{Offer, offerInRange}
-use Rattle.pieces.specs.Pieces.{rateOf}
-use Rattle.form.specs.Form.{numberOf}
 use Rattle.form.specs.Live.{live-slots}
-use Rattle.declining.specs.Sought.{Sought, sought-none}
-use Rattle.declining.specs.Declining.{clear-offer}
-
--- ---- the ranges
-
--- whether a call's values are out of range; each such cause has number 4
-pub record OutOfRange (k : Call) (b : Bool) : Type 0 where
-  pub says : b ≡ true → (z : Cause) × FirstOf (rangeTrials k) z × (causeNumber z ≡ 4)
-  pub denies : b ≡ false → Clear (rangeTrials k)
+use Rattle.numbers.specs.Numbers.{FoundNumber}
+use Rattle.declining.specs.Sought.{number-sought, rate-sought, Sought, sought-none}
+use Rattle.declining.specs.Declining.{post-number-live, post-rate-live, post-full, post-clear, clear-offer}
 
 -- ---- the searches
 
@@ -56,7 +44,7 @@ pub record Postable (o : Offer) (c : ℕ) (live : List Item) : Type 0 where
   pub room : length live < c
 
 -- where the searches found nothing
-pub postable :
+postable :
     {w : Words} {plain : State} {held : Option (Held Item)} (n r z : ℤ) {s u : ℕ} → Book w plain held → Clear (rangeTrials (post n r z)) →
     Sought numberOf n (bookLines held) s → s ≡ 0 → Sought rateOf r (bookLines held) u → u ≡ 0 → length (bookLines held) < plain .capacity →
     Postable (record { number = n; rate = r; base = z }) (plain .capacity) (bookLines held)

@@ -1,15 +1,14 @@
 -- What the searches for a number and for a rate tell of the live items.
-use mathlib.Core.Path.{_≡_, refl, sym, _∙_, ap, subst}
+use mathlib.Core.Path.{_≡_, _∙_, ap}
 use mathlib.Core.Logic.{_≢_}
-use mathlib.Core.Bool.{Bool, true, false, not, _&&_}
-use mathlib.Core.List.{List, [], _∷_, map, List·Memᴰ, List·Memᴰ·head, List·Memᴰ·tail, List·Memᴰ·not-nil, Memᴰ·map, Memᴰ·of-map}
+use mathlib.Core.Bool.{Bool, true, false, not}
+use mathlib.Core.List.{List, map, List·Memᴰ, List·Memᴰ·not-nil, Memᴰ·map, Memᴰ·of-map}
 use mathlib.Core.Option.{Option, none, some}
 use Prim.Native.Nat.{ℕ}
 use native.Mathlib.Omega.{arith}
-use lib.Dec.{T, T-not, not-T}
+use lib.Dec.{T, not-T}
 use lib.IntN.{ℤ}
-use Rattle.lists.specs.Filter.{every}
-use Rattle.lists.specs.Tests.{any, none-at}
+use Rattle.lists.specs.Tests.{any, any-some, not-any, none-at}
 use Rattle.lists.specs.Bools.{not-failed}
 use Rattle.integers.specs.Equal.{equal}
 use Rattle.integers.specs.Parts.{equal-eq, unequal}
@@ -35,19 +34,6 @@ use Rattle.form.specs.Live.{live-slots, live-holds}
 use Rattle.form.specs.HeaderWords.{offers-read, numbers-read}
 
 -- ---- some live offer has a key, or none has
-
-module _ {A : Type 0} (test : A → Bool) where
-  pub any-some : (os : List A) → T (any test os) → (o : A) × List·Memᴰ o os × T (test o)
-  any-some [] t = absurd t
-  any-some (x ∷ xs) t = go (test x) refl t (any-some xs)
-    where
-      go : (b : Bool) → test x ≡ b → T (not (not b && every (λ o. not (test o)) xs)) → (T (any test xs) → (o : A) × List·Memᴰ o xs × T (test o)) →
-          (o : A) × List·Memᴰ o (x ∷ xs) × T (test o)
-      go true e t rec = (x, List·Memᴰ·head refl, subst T (sym e) tt)
-      go false e t rec = let (o, m, u) = rec t in (o, List·Memᴰ·tail m, u)
-
-  pub not-any : (os : List A) → ((o : A) → List·Memᴰ o os → T (not (test o))) → T (not (any test os))
-  not-any os h = not-T (any test os) (λ t. let (o, m, u) = any-some os t in T-not (test o) (h o m) u)
 
 module _ (key : Offer → ℤ) (n : ℤ) (live : List Item) where
   pub keyed-any : {a : Item} → List·Memᴰ a live → key (a .offer) ≡ n → T (any (λ o. equal (key o) n) (map offerOf live))

@@ -10,8 +10,8 @@ use lib.ListN.{length}
 use lib.IntN.{pos}
 use Rattle.lists.specs.Members.{pairs-cons}
 use Rattle.offers.specs.Offers.{Offer}
-use Rattle.plain.specs.Book.{State, join, holding}
 use Rattle.trees.specs.Operations.{Part}
+use Rattle.plain.specs.Book.{State, join, holding}
 use Rattle.dynamic.specs.OfferTree.{Held, Pair}
 use Rattle.dynamic.specs.Updates.{posted}
 use Rattle.dynamic.specs.Valid.{bookLines, placed}
@@ -21,23 +21,21 @@ use Rattle.dynamic.specs.Work.{Work}
 use Rattle.table.specs.Fields.{firstFreeWord, mostNodes, numberTree, numbersRootWord}
 use Rattle.table.specs.Words.{Words, word, wset, wset-other, upTo}
 use Rattle.table.specs.Layout.{cap}
-use Rattle.table.specs.Items.{Item, In, at, Slots}
+use Rattle.table.specs.Items.{Item, In, at, Slots, offerOf}
 use Rattle.table.specs.Rep.{within-cap, Only, header-kept}
 use Rattle.table.specs.Threads.{Held as HeldAt, Holds}
+use Rattle.table.specs.PartTrees.{partRef}
 use Rattle.pieces.specs.Pieces.{items, item-laws}
 use Rattle.form.specs.Form.{Book, OffersIn, NumbersIn, head0}
-use Rattle.table.specs.PartTrees.{partRef}
-use Rattle.numbers.specs.Numbers.{NumbersAt, Added}
-use Rattle.table.specs.Items.{offerOf}
 use Rattle.form.specs.Live.{live-whole}
+use Rattle.form.specs.HeaderWords.{offers-read, envelope-read, capacity-most, live-most}
 use Rattle.levels.specs.declared.Counts.{Counts}
 use Rattle.levels.specs.declared.Made.{Made as Outcome}
-use Rattle.form.specs.HeaderWords.{offers-read, envelope-read, capacity-most, live-most}
+use Rattle.numbers.specs.Numbers.{NumbersAt, Added}
 use Rattle.declining.specs.Sought.{numbers-at}
 use Rattle.declining.specs.PartCauses.{Postable}
-use Rattle.filing.specs.Agree.{Agree, Everywhere, FreeHere, agree-trans, agree-less, agree-header, agree-only, agree-touched}
-use Rattle.filing.specs.Agree.{header-set, offers-number, numbers-envelope, free-number, free-envelope, held-agree, offers-agree, numbers-agree}
-use Rattle.filing.specs.Agree.{free-agree}
+use Rattle.filing.specs.Agree.{Agree, Everywhere, FreeHere, agree-trans, agree-less, agree-header, agree-only, agree-touched, header-set, offers-number}
+use Rattle.filing.specs.Agree.{numbers-envelope, free-number, free-envelope, held-agree, offers-agree, numbers-agree, free-agree}
 use Rattle.filing.specs.Writing.{rootsOf, Filled, Headed, FirstFree, first-free}
 use Rattle.filing.specs.Counts.{Exact, counts-exact}
 use Rattle.filing.specs.JoinedOffers.{placed-join, placed-length, in-placed, rate-new, Joined, JoinedIn, joins}

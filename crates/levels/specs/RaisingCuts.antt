@@ -1,12 +1,11 @@
 -- Raise in words, first part: both children's whole envelopes are cut.
-use mathlib.Core.Path.{_≡_, refl, sym, subst}
+use mathlib.Core.Path.{_≡_, sym, subst}
 use mathlib.Core.Bool.{Bool}
-use mathlib.Core.Option.{none, some}
 use mathlib.Core.List.{_++_}
 use Prim.Native.Nat.{ℕ}
 use Rattle.trees.specs.Tree.{leaves}
 use Rattle.trees.specs.Operations.{Part, Cut, partLeaves, splitP}
-use Rattle.trees.specs.Split.{cutLeaves, split-leaves}
+use Rattle.trees.specs.Split.{cutLeaves, splitP-leaves}
 use Rattle.dynamic.specs.OfferTree.{Held, heldShape}
 use Rattle.table.specs.Words.{Words}
 use Rattle.table.specs.Layout.{cap}
@@ -30,11 +29,6 @@ pub record Halved (w : Words) (a b : ℕ) (p : Part Item) (c : Cut Item) : Type 
   pub back-inside : Inside (partLeaves (c .back)) (partLeaves p)
   pub apart : Disjoint (partLeaves (c .front)) (partLeaves (c .back))
 
-cut-leaves : {A : Type 0} (test : A → Bool) (p : Part A) → cutLeaves (splitP test p) ≡ partLeaves p
-unfolding splitP
-cut-leaves test none = refl
-cut-leaves test (some t) = split-leaves test t
-
 pub halved : {test : Item → Bool} {e a b : ℕ} {w w₁ : Words} {p : Part Item} → Parted test p w w₁ a b → Standing w e p → Halved w₁ a b p (splitP test p)
 halved {test} {w} {p} cut st =
     record {
@@ -49,7 +43,7 @@ halved {test} {w} {p} cut st =
     c = splitP test p
 
     all : cutLeaves c ≡ partLeaves p
-    all = cut-leaves test p
+    all = splitP-leaves test p
 
 pub halved-same : {a b : ℕ} {w w′ : Words} {p : Part Item} {c : Cut Item} → Within w w′ → Halved w a b p c → Same OfferField (partLeaves p) w w′ →
     Same PieceField (partLeaves p) w w′ → Halved w′ a b p c

@@ -9,7 +9,7 @@ use native.Mathlib.Omega.{arith}
 use lib.Dec.{T, T-not}
 use lib.IntN.{ℤ}
 use lib.Signed.{ltZ}
-use Rattle.lists.specs.Tests.{any, none-at}
+use Rattle.lists.specs.Tests.{any, not-any, none-at}
 use Rattle.lists.specs.Bools.{not-failed, twice}
 use Rattle.integers.specs.Parts.{intRules}
 use Rattle.offers.specs.Offers.{Offer}
@@ -31,7 +31,6 @@ use Rattle.pieces.specs.Pieces.{rateOf, items}
 use Rattle.form.specs.Form.{Book, plainOffers}
 use Rattle.table.specs.Items.{offerOf}
 use Rattle.form.specs.HeaderWords.{offers-read}
-use Rattle.declining.specs.Sought.{not-any}
 
 -- every line of the one before every line of the other
 abbrev pub AllBefore : (ls rs : List Item) → Type 0

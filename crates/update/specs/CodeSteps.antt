@@ -1,4 +1,4 @@
--- What the code of rebalancing hands to its lemmas: a side as a test, and heights as read.
+-- What the code of rebalancing, and of lowering and raising from a side, hands to its lemmas: a side as a test, and heights as read.
 use mathlib.Core.Path.{_≡_, sym, _∙_, subst}
 use mathlib.Core.Bool.{Bool, true, false}
 use Prim.Native.Nat.{ℕ, _≤_, _<_}

@@ -17,7 +17,7 @@ pub mod Inserting
 pub mod RemovingModel
 -- ways through the code: one level of a removal in words, given the promise of the call on the child
 pub mod Removing
--- ways through the code: what the code of rebalancing hands to its lemmas: a side as a test, and heights as read
+-- ways through the code: what the code of rebalancing, and of lowering and raising from a side, hands to its lemmas: a side as a test, and heights as read
 pub mod CodeSteps
 -- ways through the code: what the code of inserting and removing hands to their lemmas
 pub mod CodeUpdates
