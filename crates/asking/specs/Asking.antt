@@ -139,7 +139,7 @@ module _ (q : ℤ) (t : List ℤ) (start : ℕ) where
   queries-none e h = queries-declined (at-once (said e h))
 
   module _ {b d : Bool} (e : b ≡ noBookAt (length t) start (word (partOf t start) capacityWord)) (h : b ≡ false) (e′ : d ≡ not (loadInRange q)) where
-    pub queries-range : d ≡ true → Queries q start t (Declined (pos 4))
+    pub queries-range : d ≡ true → Queries q start t (Declined (pos 16))
     queries-range h′ = queries-declined (further (denied e h) (at-once (said e′ h′)))
 
     pub queries-asked : d ≡ false → {r : Found} → Asks q (take (length t - start) (drop start t)) r → Queries q start t r

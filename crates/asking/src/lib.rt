@@ -33,7 +33,7 @@ pub fn query(table: &[i64], start: usize, load: i64) -> Found
         return Found::Declined(3);
     }
     if query::outside(-1_000_000, 1_000_000, load) {
-        return Found::Declined(4);
+        return Found::Declined(16);
     }
     ask(&table[start..], load)
 }

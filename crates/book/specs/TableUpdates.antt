@@ -7,7 +7,7 @@ use Prim.Native.Nat.{ℕ, _-_, _≤_, _<_}
 use native.Mathlib.Omega.{arith}
 use lib.ListN.{length, take, drop}
 use lib.IntN.{ℤ, pos}
-use Rattle.lists.specs.Bools.{said, denied, never}
+use Rattle.lists.specs.Bools.{said, denied}
 use Rattle.offers.specs.Offers.{numberInRange, rateInRange, baseInRange}
 use Rattle.plain.specs.Causes.{Cause, causeNumber, numberOutOfRange, rateOutOfRange, baseOutOfRange, FirstOf, at-once, further, Clear}
 use Rattle.plain.specs.Book.{State, Call, post, withdraw, refused, join, leave, noBookAt, rangeTrials, holding, step}
@@ -29,6 +29,7 @@ use Rattle.promises.specs.Plainly.{table-declined}
 use Rattle.book.specs.Following.{updateOf, follows-declined, follows-posted, follows-withdrawn}
 use Rattle.promises.specs.LentPart.{part-back, only-part, only-same, whole-part, lent-back, book-cap, book-start}
 use Rattle.promises.specs.OneCause.{one-cause, not-clear}
+use Rattle.promises.specs.Numbered.{from-one}
 use Rattle.filing.specs.Posting.{Updated}
 use Rattle.filing.specs.declared.Told.{Told}
 use Rattle.declining.specs.PartCauses.{PostCause}
@@ -36,28 +37,38 @@ use Rattle.filing.specs.PartUpdates.{Kept, PostDone, WithdrawDone}
 
 -- ---- the ranges, as the code tests them
 
--- whether a call's values are out of range; each such cause has number 4
-pub record OutOfRange (k : Call) (b : Bool) : Type 0 where
-  pub says : b ≡ true → (z : Cause) × FirstOf (rangeTrials k) z × (causeNumber z ≡ 4)
-  pub denies : b ≡ false → Clear (rangeTrials k)
+-- the number of the cause for which a call's values are out of range, or 0
+pub record RangeCause (k : Call) (m : ℕ) : Type 0 where
+  pub declines : 0 < m → (z : Cause) × FirstOf (rangeTrials k) z × (causeNumber z ≡ m)
+  pub clears : m ≤ 0 → Clear (rangeTrials k)
+
+range-told : {k : Call} (z : Cause) → FirstOf (rangeTrials k) z → RangeCause k (causeNumber z)
+range-told z f = record { declines = λ q. (z, f, refl); clears = λ q. absurd (omega (arith, q, from-one z)) }
+
+range-clear : {k : Call} → Clear (rangeTrials k) → RangeCause k 0
+range-clear g = record { declines = λ q. absurd (omega (arith, q)); clears = λ q. g }
 
 module _ (n r z : ℤ) {b : Bool} (e : b ≡ not (numberInRange n)) where
-  pub number-out : b ≡ true → OutOfRange (post n r z) b
-  number-out h = record { says = λ q. (numberOutOfRange, at-once (said e h), refl); denies = λ q. absurd (never h q) }
+  pub number-out : b ≡ true → RangeCause (post n r z) 4
+  number-out h = range-told numberOutOfRange (at-once (said e h))
 
   module _ {d : Bool} (h : b ≡ false) (e′ : d ≡ not (rateInRange r)) where
-    pub rate-out : d ≡ true → OutOfRange (post n r z) d
-    rate-out k = record { says = λ q. (rateOutOfRange, further (denied e h) (at-once (said e′ k)), refl); denies = λ q. absurd (never k q) }
+    pub rate-out : d ≡ true → RangeCause (post n r z) 14
+    rate-out k = range-told rateOutOfRange (further (denied e h) (at-once (said e′ k)))
 
-    pub base-out : {f : Bool} → d ≡ false → f ≡ not (baseInRange z) → OutOfRange (post n r z) f
-    base-out k e″ =
-        record {
-          says = λ q. (baseOutOfRange, further (denied e h) (further (denied e′ k) (at-once (said e″ q))), refl);
-          denies = λ q. (denied e h, (denied e′ k, (denied e″ q, tt)));
-        }
+    module _ {f : Bool} (k : d ≡ false) (e″ : f ≡ not (baseInRange z)) where
+      pub base-out : f ≡ true → RangeCause (post n r z) 15
+      base-out l = range-told baseOutOfRange (further (denied e h) (further (denied e′ k) (at-once (said e″ l))))
 
-pub number-alone : (n : ℤ) {b : Bool} → b ≡ not (numberInRange n) → OutOfRange (withdraw n) b
-number-alone n e = record { says = λ q. (numberOutOfRange, at-once (said e q), refl); denies = λ q. (denied e q, tt) }
+      pub offer-in : f ≡ false → RangeCause (post n r z) 0
+      offer-in l = range-clear (denied e h, (denied e′ k, (denied e″ l, tt)))
+
+module _ (n : ℤ) {b : Bool} (e : b ≡ not (numberInRange n)) where
+  pub alone-out : b ≡ true → RangeCause (withdraw n) 4
+  alone-out h = range-told numberOutOfRange (at-once (said e h))
+
+  pub alone-in : b ≡ false → RangeCause (withdraw n) 0
+  alone-in h = range-clear (denied e h, tt)
 
 -- ---- where there is a book
 
@@ -83,13 +94,14 @@ module _ (k : Call) (start : ℕ) (t t′ : List ℤ) where
     pub updates-none : b ≡ true → t′ ≡ t → Updates k start t t′ (Declined (pos 3))
     updates-none h et = updates-declined (at-once (said e h)) refl et
 
-    module _ {d : Bool} (h : b ≡ false) (o : OutOfRange k d) where
-      pub updates-range : d ≡ true → t′ ≡ t → Updates k start t t′ (Declined (pos 4))
-      updates-range q et = let (z, f, n) = o .says q in updates-declined (further (denied e h) f) (ap (λ (i : ℕ). Declined (pos i)) (sym n)) et
+    module _ {i : ℕ} (h : b ≡ false) (o : RangeCause k i) where
+      pub updates-range : {r : Update} → 0 < i → r ≡ Declined (pos i) → t′ ≡ t → Updates k start t t′ r
+      updates-range q er et =
+          let (z, f, n) = o .declines q in updates-declined (further (denied e h) f) (er ∙ ap (λ (j : ℕ). Declined (pos j)) (sym n)) et
 
-      module _ (q : d ≡ false) where
+      module _ (q : i ≤ 0) where
         clear : Clear (tableTrials t start k)
-        clear = (denied e h, o .denies q)
+        clear = (denied e h, o .clears q)
 
         pub updates-refused :
             {m : ℕ} {r : Update} → ((plain : State) (held : Option (Held Item)) → Book (lent t start) plain held → step plain k ≡ refusing plain m) →
@@ -137,10 +149,10 @@ module _ (k : Call) (start : ℕ) (t t′ : List ℤ) where
 
 -- ---- the two calls
 
-module _ (start : ℕ) (t t′ : List ℤ) {b d : Bool} (e : b ≡ noBookAt (length t) start (word (partOf t start) capacityWord)) (h : b ≡ false) where
-  module _ (n r z : ℤ) (o : OutOfRange (post n r z) d) (q : d ≡ false) {m : ℕ} (cause : PostCause n r (lent t start) m) where
+module _ (start : ℕ) (t t′ : List ℤ) {b : Bool} {i : ℕ} (e : b ≡ noBookAt (length t) start (word (partOf t start) capacityWord)) (h : b ≡ false) where
+  module _ (n r z : ℤ) (o : RangeCause (post n r z) i) (q : i ≤ 0) {m : ℕ} (cause : PostCause n r (lent t start) m) where
     pub post-refused : {u : Update} → 0 < m → u ≡ Declined (pos m) → t′ ≡ t → Updates (post n r z) start t t′ u
-    post-refused l eu et = updates-refused (post n r z) start t t′ e h o q (λ plain held b. cause .declines z plain held b (o .denies q) l) eu et
+    post-refused l eu et = updates-refused (post n r z) start t t′ e h o q (λ plain held b. cause .declines z plain held b (o .clears q) l) eu et
 
     pub post-accepted :
         {told : Told} {u : Update} →
@@ -151,16 +163,16 @@ module _ (start : ℕ) (t t′ : List ℤ) {b d : Bool} (e : b ≡ noBookAt (len
     post-accepted {told} l w′ g eu et =
         updates-done (post n r z) start t t′ e h o q eu w′ et (g .kept)
         (λ plain held b p.
-        let (clear, new) = cause .clears z plain held b (o .denies q) l in
+        let (clear, new) = cause .clears z plain held b (o .clears q) l in
         let (updated, count) = g .done plain held b new in
         follows-posted start t n r z clear
         (subst (λ (v : Words). Updated v (holding plain (join (record { number = n; rate = r; base = z }) (plain .offers))) held (told .counts))
         (sym p) updated) count eu)
 
-  module _ (n : ℤ) (o : OutOfRange (withdraw n) d) (q : d ≡ false) {s : ℕ} (f : FoundNumber n (upTo mostNodes (word (lent t start) numbersRootWord))
+  module _ (n : ℤ) (o : RangeCause (withdraw n) i) (q : i ≤ 0) {s : ℕ} (f : FoundNumber n (upTo mostNodes (word (lent t start) numbersRootWord))
       (lent t start) s) where
     pub withdraw-refused : s < 1 → t′ ≡ t → Updates (withdraw n) start t t′ (Declined (pos 8))
-    withdraw-refused l et = updates-refused (withdraw n) start t t′ e h o q (λ plain held b. withdraw-missing b n (o .denies q) (number-sought b f refl)
+    withdraw-refused l et = updates-refused (withdraw n) start t t′ e h o q (λ plain held b. withdraw-missing b n (o .clears q) (number-sought b f refl)
         (omega (arith, l))) refl et
 
     pub withdraw-accepted :
@@ -173,5 +185,5 @@ module _ (start : ℕ) (t t′ : List ℤ) {b d : Bool} (e : b ≡ noBookAt (len
         updates-done (withdraw n) start t t′ e h o q eu w′ et (g .kept)
         (λ plain held b p.
         let (updated, count) = g .done plain held b f l in
-        follows-withdrawn start t n (withdraw-clear b n (o .denies q) (number-sought b f refl) (λ x. omega (arith, x, l)))
+        follows-withdrawn start t n (withdraw-clear b n (o .clears q) (number-sought b f refl) (λ x. omega (arith, x, l)))
         (subst (λ (v : Words). Updated v (holding plain (leave n (plain .offers))) held (told .counts)) (sym p) updated) count eu)

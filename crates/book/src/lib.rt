@@ -3,7 +3,7 @@ ghost use mathlib.Core.Path.{_≡_};
 ghost use Rattle.plain.specs.Book.{post, withdraw};
 ghost use Rattle.promises.specs.Promises.{Updates};
 ghost use Rattle.book.specs.Following.{updateOf};
-ghost use Rattle.book.specs.TableUpdates.{OutOfRange};
+ghost use Rattle.book.specs.TableUpdates.{RangeCause};
 pub use asking::listing;
 pub use asking::query;
 pub use check_part::check;
@@ -26,13 +26,20 @@ fn done(told: filing::Told) -> Update
     }
 }
 
-// An offer's value out of range.
-fn offer_outside(number: i64, rate: i64, base: i64) -> bool
-    ensures { λ r. ⌜ OutOfRange (post number rate base) r ⌝ }
+// The cause for which an offer's number, rate or base is out of range, or 0.
+fn range_cause(number: i64, rate: i64, base: i64) -> u32
+    ensures { λ r. ⌜ RangeCause (post number rate base) r ⌝ }
 {
-    query::outside(1, 9_999, number)
-        || query::outside(-100_000, 100_000, rate)
-        || query::outside(-1_000_000_000, 1_000_000_000, base)
+    if query::outside(1, 9_999, number) {
+        return 4;
+    }
+    if query::outside(-100_000, 100_000, rate) {
+        return 14;
+    }
+    if query::outside(-1_000_000_000, 1_000_000_000, base) {
+        return 15;
+    }
+    0
 }
 
 // Posts an offer to the book at `start`.
@@ -42,8 +49,9 @@ pub fn post(table: &mut [i64], start: usize, number: i64, rate: i64, base: i64) 
     if no_book(table, start) {
         return Update::Declined(3);
     }
-    if offer_outside(number, rate, base) {
-        return Update::Declined(4);
+    let outside = range_cause(number, rate, base);
+    if 0 < outside {
+        return Update::Declined(outside as i64);
     }
     let cause = declining::post_cause(&table[start..], number, rate);
     if 0 < cause {

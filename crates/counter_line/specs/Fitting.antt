@@ -27,7 +27,7 @@ use Rattle.table.specs.Fields.{mostSlots}
 
 -- ---- refusals
 
-few-causes : (c : Cause) → causeNumber c ≤ 13
+few-causes : (c : Cause) → causeNumber c ≤ 16
 few-causes capacityOutOfRange = omega arith
 few-causes tableTooShort = omega arith
 few-causes noBook = omega arith

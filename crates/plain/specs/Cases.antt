@@ -73,7 +73,7 @@ sample =
 pub sample-told : answered sample ≡ sample .told
 sample-told = refl
 
--- where two causes apply, the lower number counts; a refused call leaves the book as it was
+-- where several causes apply, the first that is tried counts; a refused call leaves the book as it was
 abbrev pub refusals : Row
 refusals =
     record {
@@ -96,10 +96,10 @@ refusals =
       told =
           refused 4
           ∷ refused 4
+          ∷ refused 14
+          ∷ refused 15
           ∷ refused 4
-          ∷ refused 4
-          ∷ refused 4
-          ∷ refused 4
+          ∷ refused 16
           ∷ refused 5
           ∷ refused 6
           ∷ refused 8
@@ -113,10 +113,35 @@ refusals =
 pub refusals-told : answered refusals ≡ refusals .told
 refusals-told = refl
 
+-- Which entry is out of range: the number before the rate, the rate before the base, and each before what the book holds. In the third and the
+-- fourth post the number is live, and in the fourth the rate too.
+abbrev pub entries : Row
+entries =
+    record {
+      made = three;
+      asked =
+          post (pos 10_000) (pos 100_001) (pos 1_000_000_001)
+          ∷ post (pos 4) (pos 100_001) (pos 1_000_000_001)
+          ∷ post (pos 1) (negℤ (pos 100_001)) (pos 0)
+          ∷ post (pos 1) (pos 3) (negℤ (pos 1_000_000_001))
+          ∷ withdraw (pos 0)
+          ∷ query (negℤ (pos 1_000_001))
+          ∷ [];
+      told = refused 4 ∷ refused 14 ∷ refused 14 ∷ refused 15 ∷ refused 4 ∷ refused 16 ∷ [];
+    }
+
+pub entries-told : answered entries ≡ entries .told
+entries-told = refl
+
 -- a book of one slot: full, then empty; nothing listed takes no room
 pub one-slot : answers (opened (pos 1)) (query (pos 0) ∷ listing 0 ∷ post (pos 9) (pos 1) (pos 2) ∷ post (pos 9) (pos 1) (pos 2) ∷ post (pos 8) (pos 2)
     (pos 2) ∷ withdraw (pos 9) ∷ query (pos 0) ∷ []) ≡ refused 9 ∷ listed 0 [] ∷ live 1 ∷ refused 5 ∷ refused 7 ∷ live 0 ∷ refused 9 ∷ []
 one-slot = refl
+
+-- .. and an entry out of range is told before a full book, and before an empty one
+pub one-slot-entries : answers (opened (pos 1)) (query (pos 1_000_001) ∷ post (pos 9) (pos 1) (pos 2) ∷ post (pos 8) (pos 100_001) (pos 2) ∷
+    post (pos 8) (pos 2) (pos 1_000_000_001) ∷ []) ≡ refused 16 ∷ live 1 ∷ refused 14 ∷ refused 15 ∷ []
+one-slot-entries = refl
 
 -- four pieces, and an opening of each kind
 pub four-pieces :

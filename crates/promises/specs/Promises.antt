@@ -1,5 +1,5 @@
 -- What each call on a lent table promises. `t` are the table's words before the call and `t′` those after it.
--- On words of any content causes 1 to 4 hold as tabled, and no word outside the part changes. Where the part passes the check
+-- On words of any content causes 1 to 4 and 14 to 16 hold as tabled, and no word outside the part changes. Where the part passes the check
 -- (`Book`), the answer is the plain book's, and the part stands for the plain book's offers afterwards.
 use mathlib.Core.Path.{_≡_}
 use mathlib.Core.Bool.{Bool, true}

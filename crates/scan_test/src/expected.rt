@@ -15,9 +15,13 @@ pub(crate) fn post_cause(os: &[i64; 192], room: u32, number: i64, rate: i64, bas
     let full = cause(room <= slots::count(os), 7, 0);
     let rate_live = cause(slots::has_rate(os, rate, rate), 6, full);
     let number_live = cause(slots::with_number(os, number) < 64, 5, rate_live);
-    let outside = is_outside(-100_000, 100_000, rate)
-        | is_outside(-1_000_000_000, 1_000_000_000, base);
-    cause(is_outside(1, 9_999, number) | outside, 4, number_live)
+    let base_outside = cause(
+        is_outside(-1_000_000_000, 1_000_000_000, base),
+        15,
+        number_live,
+    );
+    let rate_outside = cause(is_outside(-100_000, 100_000, rate), 14, base_outside);
+    cause(is_outside(1, 9_999, number), 4, rate_outside)
 }
 
 pub(crate) fn withdraw_cause(os: &[i64; 192], number: i64) -> i64 {
@@ -27,7 +31,7 @@ pub(crate) fn withdraw_cause(os: &[i64; 192], number: i64) -> i64 {
 
 pub(crate) fn query_cause(is_open: bool, os: &[i64; 192], load: i64) -> i64 {
     let empty = cause(slots::count(os) < 1, 9, 0);
-    let outside = cause(is_outside(-1_000_000, 1_000_000, load), 4, empty);
+    let outside = cause(is_outside(-1_000_000, 1_000_000, load), 16, empty);
     cause(!is_open, 3, outside)
 }
 

@@ -71,9 +71,18 @@ fn posts_outside(w: World, p: Place) -> World {
     calls::post(e, p, 77, 50, -1_000_000_001)
 }
 
+// All three entries out of range, then rate and base; then the rate with a number that may be live, and the base with such a number and rate.
+fn posts_wide_outside(w: World, p: Place) -> World {
+    let a = calls::post(w, p, 0, 100_001, 1_000_000_001);
+    let b = calls::post(a, p, 77, 100_001, 1_000_000_001);
+    let c = calls::post(b, p, 8, -100_001, 0);
+    calls::post(c, p, 8, 100, -1_000_000_001)
+}
+
 // A number that may be live, a rate that may be, and numbers that are not live.
 fn refusals(w: World, p: Place) -> World {
-    let a = calls::post(posts_outside(w, p), p, 8, 51, 0);
+    let outside = posts_wide_outside(posts_outside(w, p), p);
+    let a = calls::post(outside, p, 8, 51, 0);
     let b = calls::post(a, p, 77, 100, 0);
     let c = calls::withdraw(b, p.start, 0);
     let d = calls::withdraw(c, p.start, 77);

@@ -20,19 +20,25 @@ same-length c = search needs
 returns : tie.Need-returns
 returns c = updates-none _ _ _ _ (c .before .no-book .ensures) (c .if1 .taken) refl
 
-offer-outside-requires : tie.Need-offer-outside-requires
-offer-outside-requires c κs = search needs
+range-cause-requires : tie.Need-range-cause-requires
+range-cause-requires c κs = search needs
+
+cast-t13 : tie.Need-cast-t13
+cast-t13 c = search needs
 
 same-length-2 : tie.Need-same-length-2
 same-length-2 c = search needs
 
 returns-2 : tie.Need-returns-2
 returns-2 c =
-    let at-if1 = c .before .before in
+    let at-range-cause = c .before in
+    let at-if1 = at-range-cause .before in
     let at-no-book = at-if1 .before in
     let entry = at-no-book .before .before in
+    let cause = at-range-cause .range-cause in
+    let v : toZ w64 (cause .result) ≡ pos (cause .result) = toZ-pos w64 (omega (arith, cause .ok)) in
     updates-range _ _ _ _ (at-no-book .no-book .ensures) (at-if1 .if1 .left)
-    (simp (toZ-ofZ, entry .fits .number, entry .fits .rate, entry .fits .base) at (c .before .offer-outside .ensures)) (c .if2 .taken) refl
+    (simp (toZ-ofZ, entry .fits .number, entry .fits .rate, entry .fits .base) at (cause .ensures)) (c .if2 .taken) (simp v refl) refl
 
 mul-post-cause : tie.Need-mul-post-cause
 mul-post-cause c =
@@ -61,8 +67,8 @@ part-post-cause-end c = search needs
 post-cause-requires : tie.Need-post-cause-requires
 post-cause-requires c κs = search needs
 
-cast-t18 : tie.Need-cast-t18
-cast-t18 c = search needs
+cast-t19 : tie.Need-cast-t19
+cast-t19 c = search needs
 
 same-length-3 : tie.Need-same-length-3
 same-length-3 c = search needs
@@ -71,14 +77,14 @@ returns-3 : tie.Need-returns-3
 returns-3 c =
     let at-post-cause = c .before in
     let at-if2 = at-post-cause .before .before .before in
-    let at-offer-outside = at-if2 .before in
-    let at-if1 = at-offer-outside .before in
+    let at-range-cause = at-if2 .before in
+    let at-if1 = at-range-cause .before in
     let at-no-book = at-if1 .before in
     let entry = at-no-book .before .before in
     let cause = at-post-cause .post-cause in
     let v : toZ w64 (cause .result) ≡ pos (cause .result) = toZ-pos w64 (omega (arith, cause .ok)) in
     post-refused _ _ _ (at-no-book .no-book .ensures) (at-if1 .if1 .left) _ _ _
-    (simp (toZ-ofZ, entry .fits .number, entry .fits .rate, entry .fits .base) at (at-offer-outside .offer-outside .ensures)) (at-if2 .if2 .left)
+    (simp (toZ-ofZ, entry .fits .number, entry .fits .rate, entry .fits .base) at (at-range-cause .range-cause .ensures)) (at-if2 .if2 .left)
     (simp (toZ-ofZ, entry .fits .number, entry .fits .rate) at (cause .ensures)) (c .if3 .taken) (simp v refl) refl
 
 mul-post-part : tie.Need-mul-post-part
@@ -126,13 +132,13 @@ returns-4 c =
     let at-if3 = at-post-part .before .before in
     let at-post-cause = at-if3 .before in
     let at-if2 = at-post-cause .before .before .before in
-    let at-offer-outside = at-if2 .before in
-    let at-if1 = at-offer-outside .before in
+    let at-range-cause = at-if2 .before in
+    let at-if1 = at-range-cause .before in
     let at-no-book = at-if1 .before in
     let entry = at-no-book .before .before in
     let f = entry .fits in
     post-accepted _ _ _ (at-no-book .no-book .ensures) (at-if1 .if1 .left) _ _ _
-    (simp (toZ-ofZ, entry .fits .number, entry .fits .rate, entry .fits .base) at (at-offer-outside .offer-outside .ensures)) (at-if2 .if2 .left)
+    (simp (toZ-ofZ, entry .fits .number, entry .fits .rate, entry .fits .base) at (at-range-cause .range-cause .ensures)) (at-if2 .if2 .left)
     (simp (toZ-ofZ, entry .fits .number, entry .fits .rate) at (at-post-cause .post-cause .ensures)) (at-if3 .if3 .left) _
     (simp (toZ-ofZ, f .number, f .rate, f .base) at (at-post-part .post-part .ensures)) (c .done .ensures) refl
 
@@ -143,7 +149,8 @@ post-spec =
     no-book-requires
     same-length
     returns
-    offer-outside-requires
+    range-cause-requires
+    cast-t13
     same-length-2
     returns-2
     mul-post-cause
@@ -151,7 +158,7 @@ post-spec =
     part-post-cause-start
     part-post-cause-end
     post-cause-requires
-    cast-t18
+    cast-t19
     same-length-3
     returns-3
     mul-post-part
