@@ -20,6 +20,8 @@ int main(void) {
     carrier_open(table, WORDS, 0, CAPACITY);
     carrier_post(table, WORDS, 0, 1, 3, 0, counts, CARRIER_COUNTS_WORDS);
     carrier_post(table, WORDS, 0, 2, 1, 10, counts, CARRIER_COUNTS_WORDS);
+    answer = carrier_post(table, WORDS, 0, 3, 100001, 0, counts, CARRIER_COUNTS_WORDS);
+    printf("the rate is %s\n", answer == CARRIER_RATE_RANGE ? "out of range" : "in range");
     answer = carrier_query(table, WORDS, 0, 5, found, CARRIER_FOUND_WORDS);
     printf("offer %d at %d cents\n", (int)answer, (int)found[0]);
     place = carrier_begin(table, WORDS, 0);

@@ -13,7 +13,7 @@
  * other state: a book may be copied, moved or stored as words, and calls on different tables may run at the same time.
  *
  * A call that is declined returns one of the numbers below 0 and leaves every word of every array as it was. Causes are tried in the
- * order of the list. On a table whose part was not made by these calls CARRIER_CAPACITY to CARRIER_OUT_OF_RANGE still hold; past
+ * order of the list. On a table whose part was not made by these calls CARRIER_CAPACITY to CARRIER_LOAD_RANGE still hold; past
  * them a call returns, with any answer, and leaves the words outside the part unchanged.
  */
 #ifndef CARRIER_BOOK_H
@@ -45,7 +45,10 @@ extern "C" {
 #define CARRIER_CAPACITY (-1)         /* open: the capacity is not in 1 to 4,096 */
 #define CARRIER_NO_ROOM (-2)          /* open: fewer words than the book takes from `start` on */
 #define CARRIER_NO_BOOK (-3)          /* each on a table but open and check: no book at `start`, or its part is cut short */
-#define CARRIER_OUT_OF_RANGE (-4)     /* post, withdraw, query, voucher: number, rate, base, load or price out of range */
+#define CARRIER_OUT_OF_RANGE (-4)     /* post, withdraw: the number is out of range; voucher: the price is */
+#define CARRIER_RATE_RANGE (-14)      /* post: the rate is out of range */
+#define CARRIER_BASE_RANGE (-15)      /* post: the base is out of range */
+#define CARRIER_LOAD_RANGE (-16)      /* query: the load is out of range */
 #define CARRIER_NUMBER_LIVE (-5)      /* post: a live offer has that number */
 #define CARRIER_RATE_LIVE (-6)        /* post: a live offer has that rate */
 #define CARRIER_FULL (-7)             /* post: as many offers are live as the capacity tells */

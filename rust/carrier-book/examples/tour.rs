@@ -4,6 +4,7 @@ fn main() -> Result<(), Declined> {
     let mut book = Book::new(64)?;
     book.post(1, 3, 0)?;
     book.post(2, 1, 10)?;
+    println!("{}", book.post(3, 100_001, 0).unwrap_err());
     let found = book.query(5)?;
     println!("offer {} at {} cents", found.number, found.price);
     for piece in book.pieces() {

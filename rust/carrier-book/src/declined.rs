@@ -1,14 +1,16 @@
 //! Why a call was declined.
 use std::fmt;
 
-/// Why a call was declined. A declined call changes nothing.
+/// Why a call was declined. A declined call changes nothing. Where several causes apply, the first in the order below is told.
 ///
 /// ```
 /// use carrier_book::{Book, Declined};
-/// let declined = Book::new(0).unwrap_err();
-/// assert_eq!(declined, Declined::Capacity);
-/// assert_eq!(declined.number(), 1);
-/// assert_eq!(declined.to_string(), "the capacity is not in 1 to 4,096");
+/// let mut book = Book::new(64)?;
+/// let declined = book.post(1, 100_001, 1_000_000_001).unwrap_err();
+/// assert_eq!(declined, Declined::RateOutOfRange);
+/// assert_eq!(declined.number(), 14);
+/// assert_eq!(declined.to_string(), "the rate is out of range");
+/// # Ok::<(), Declined>(())
 /// ```
 #[derive(Clone, Copy, Debug, PartialEq, Eq, Hash)]
 #[non_exhaustive]
@@ -19,8 +21,14 @@ pub enum Declined {
     NoRoom,
     /// 3, each call on a table but open and check: there is no book at `start`, or its part is cut short.
     NoBook,
-    /// 4: a number, rate, base, load or price out of range.
+    /// 4, post, withdraw, voucher: the number is not in 1 to 9,999, or the price not in −101,000,000,000 to 101,000,000,000.
     OutOfRange,
+    /// 14, post: the rate is not in −100,000 to 100,000.
+    RateOutOfRange,
+    /// 15, post: the base is not in −1,000,000,000 to 1,000,000,000.
+    BaseOutOfRange,
+    /// 16, query: the load is not in −1,000,000 to 1,000,000.
+    LoadOutOfRange,
     /// 5, post: a live offer has that number.
     NumberLive,
     /// 6, post: a live offer has that rate.
@@ -43,12 +51,15 @@ pub enum Declined {
 
 use Declined::*;
 
-/// Each cause with its number and what it says.
-const CAUSES: [(Declined, i64, &str); 12] = [
+/// Each cause with its number and what it says, in the order in which they are tried.
+const CAUSES: [(Declined, i64, &str); 15] = [
     (Capacity, 1, "the capacity is not in 1 to 4,096"),
     (NoRoom, 2, "the table has too few words"),
     (NoBook, 3, "there is no book there"),
-    (OutOfRange, 4, "a number, rate, base, load or price is out of range"),
+    (OutOfRange, 4, "the offer's number or the voucher's price is out of range"),
+    (RateOutOfRange, 14, "the rate is out of range"),
+    (BaseOutOfRange, 15, "the base is out of range"),
+    (LoadOutOfRange, 16, "the load is out of range"),
     (NumberLive, 5, "a live offer has that number"),
     (RateLive, 6, "a live offer has that rate"),
     (Full, 7, "the book is full"),

@@ -38,22 +38,23 @@ fn prices_to_prove() {
 fn causes_in_order() {
     let mut b = Book::new(2).unwrap();
     assert_eq!(b.query(0), Err(Declined::Empty));
+    assert_eq!(b.query(-1_000_001), Err(Declined::LoadOutOfRange));
     b.post(1, 5, 0).unwrap();
     b.post(2, 6, 0).unwrap();
-    assert_eq!(b.post(10_000, 5, 0), Err(Declined::OutOfRange));
-    assert_eq!(b.post(3, 100_001, 0), Err(Declined::OutOfRange));
-    assert_eq!(b.post(3, 7, -1_000_000_001), Err(Declined::OutOfRange));
+    assert_eq!(b.post(10_000, -100_001, 1_000_000_001), Err(Declined::OutOfRange));
+    assert_eq!(b.post(1, 100_001, -1_000_000_001), Err(Declined::RateOutOfRange));
+    assert_eq!(b.post(1, 6, -1_000_000_001), Err(Declined::BaseOutOfRange));
     assert_eq!(b.post(1, 6, 0), Err(Declined::NumberLive));
     assert_eq!(b.post(3, 6, 0), Err(Declined::RateLive));
     assert_eq!(b.post(3, 7, 0), Err(Declined::Full));
     assert_eq!(b.withdraw(3), Err(Declined::NotLive));
-    assert_eq!(b.query(1_000_001), Err(Declined::OutOfRange));
+    assert_eq!(b.query(1_000_001), Err(Declined::LoadOutOfRange));
     assert_eq!(lent::listing(b.as_words(), 0, &mut [0; 5]), Err(Declined::OutputTooShort));
     assert_eq!(Book::new(0).unwrap_err(), Declined::Capacity);
     assert_eq!(Book::new(4_097).unwrap_err(), Declined::Capacity);
-    for number in 1..=13 {
+    for number in 1..=17 {
         assert_eq!(Declined::from_number(number).number(), number);
-        assert_eq!(Declined::from_number(number) == Declined::Other(number), number == 11);
+        assert_eq!(Declined::from_number(number) == Declined::Other(number), number == 11 || number == 17);
     }
 }
 

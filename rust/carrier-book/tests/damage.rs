@@ -70,9 +70,11 @@ fn calls(r: &mut Random, table: &mut [i64], capacity: usize, rounds: usize) {
         lent::meet(table, EDGE, other, 0).ok();
         lent::meet(other, 0, table, EDGE).ok();
         // causes before any word of the part is trusted
-        assert_eq!(lent::post(table, EDGE, 10_000, 0, 0), Err(Declined::OutOfRange));
+        assert_eq!(lent::post(table, EDGE, 10_000, 100_001, i64::MIN), Err(Declined::OutOfRange));
+        assert_eq!(lent::post(table, EDGE, o.number, -100_001, i64::MIN), Err(Declined::RateOutOfRange));
+        assert_eq!(lent::post(table, EDGE, o.number, o.rate, 1_000_000_001), Err(Declined::BaseOutOfRange));
         assert_eq!(lent::withdraw(table, EDGE, 0), Err(Declined::OutOfRange));
-        assert_eq!(lent::query(table, EDGE, -1_000_001), Err(Declined::OutOfRange));
+        assert_eq!(lent::query(table, EDGE, -1_000_001), Err(Declined::LoadOutOfRange));
         assert!(table == before);
         assert!(table[..EDGE].iter().chain(&table[end..]).all(|w| *w == MARK));
     }

@@ -114,6 +114,19 @@ impl Pair {
     }
 }
 
+/// some entries out of range, all three of them now and then
+fn key_wrong(r: &mut Random, o: &mut Offer) {
+    if r.one_in(2) {
+        o.number = r.pick(&[0, 10_000, -5, i64::MAX, i64::MIN]);
+    }
+    if r.one_in(2) {
+        o.rate = r.pick(&[100_001, -100_001, i64::MAX, i64::MIN]);
+    }
+    if r.one_in(2) {
+        o.base = r.pick(&[1_000_000_001, -1_000_000_001, i64::MAX, i64::MIN]);
+    }
+}
+
 struct Kind {
     capacity: usize,
     calls: usize,
@@ -135,9 +148,8 @@ fn history(seed: u64, lie: Lie, kind: &Kind) {
         let whole = kind.capacity <= 64;
         if r.within(1, 100) <= posts {
             let mut o = offer(r, lie, kind.capacity as i64);
-            if r.one_in(30) {
-                let outside = r.pick(&[0, 10_000, -5, i64::MAX, i64::MIN]);
-                o.number = outside;
+            if r.one_in(20) {
+                key_wrong(r, &mut o);
             }
             pair.post(o, whole);
         } else {

@@ -102,7 +102,10 @@ static void refusals(void) {
     EXPECT(carrier_open(table, WORDS, START, 4097) == CARRIER_CAPACITY);
     EXPECT(carrier_open(table, WORDS, START, CAPACITY + 1) == CARRIER_NO_ROOM);
     EXPECT(carrier_listing(table, WORDS, WORDS + 1, few, 3) == CARRIER_NO_BOOK);
-    EXPECT(post(0, 1, 1) == CARRIER_OUT_OF_RANGE);
+    EXPECT(post(0, 100001, INT64_MAX) == CARRIER_OUT_OF_RANGE && withdraw(10000) == CARRIER_OUT_OF_RANGE);
+    EXPECT(post(1, 100001, INT64_MAX) == CARRIER_RATE_RANGE && post(1, INT64_MIN, 9) == CARRIER_RATE_RANGE);
+    EXPECT(post(1, 3, -1000000001) == CARRIER_BASE_RANGE);
+    EXPECT(carrier_query(table, WORDS, START, 1000001, few, 3) == CARRIER_LOAD_RANGE);
     EXPECT(post(1, 9, 9) == CARRIER_NUMBER_LIVE);
     EXPECT(post(9, 3, 9) == CARRIER_RATE_LIVE);
     EXPECT(post(9, 9, 9) == CARRIER_FULL);

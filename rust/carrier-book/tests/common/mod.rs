@@ -56,8 +56,14 @@ impl Scan {
     }
 
     pub fn post(&mut self, o: Offer) -> Result<i64, i64> {
-        if o.number < 1 || o.number > 9_999 || o.rate.unsigned_abs() > 100_000 || o.base.unsigned_abs() > 1_000_000_000 {
+        if !(1..=9_999).contains(&o.number) {
             return Err(4);
+        }
+        if o.rate.unsigned_abs() > 100_000 {
+            return Err(14);
+        }
+        if o.base.unsigned_abs() > 1_000_000_000 {
+            return Err(15);
         }
         if self.offers.iter().any(|p| p.number == o.number) {
             return Err(5);
@@ -84,7 +90,7 @@ impl Scan {
     /// the number and the price of the cheapest, of several the one with the highest rate
     pub fn query(&self, load: i64) -> Result<(i64, i64), i64> {
         if load.unsigned_abs() > 1_000_000 {
-            return Err(4);
+            return Err(16);
         }
         let mut best: Option<Offer> = None;
         for o in &self.offers {
