@@ -13,8 +13,8 @@
  * other state: a book may be copied, moved or stored as words, and calls on different tables may run at the same time.
  *
  * A call that is declined returns one of the numbers below 0 and leaves every word of every array as it was. Causes are tried in the
- * order of the list. On a table whose part was not made by these calls CARRIER_CAPACITY to CARRIER_LOAD_RANGE still hold; past
- * them a call returns, with any answer, and leaves the words outside the part unchanged.
+ * order of the list. On a table whose part was not made by these calls the first seven of the list, down to CARRIER_LOAD_RANGE, still
+ * hold; past them a call returns, with any answer, and leaves the words outside the part unchanged.
  */
 #ifndef CARRIER_BOOK_H
 #define CARRIER_BOOK_H

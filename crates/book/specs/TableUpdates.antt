@@ -64,11 +64,11 @@ module _ (n r z : ℤ) {b : Bool} (e : b ≡ not (numberInRange n)) where
       offer-in l = range-clear (denied e h, (denied e′ k, (denied e″ l, tt)))
 
 module _ (n : ℤ) {b : Bool} (e : b ≡ not (numberInRange n)) where
-  pub alone-out : b ≡ true → RangeCause (withdraw n) 4
-  alone-out h = range-told numberOutOfRange (at-once (said e h))
+  pub withdraw-out : b ≡ true → RangeCause (withdraw n) 4
+  withdraw-out h = range-told numberOutOfRange (at-once (said e h))
 
-  pub alone-in : b ≡ false → RangeCause (withdraw n) 0
-  alone-in h = range-clear (denied e h, tt)
+  pub withdraw-in : b ≡ false → RangeCause (withdraw n) 0
+  withdraw-in h = range-clear (denied e h, tt)
 
 -- ---- where there is a book
 

@@ -49,9 +49,9 @@ pub fn post(table: &mut [i64], start: usize, number: i64, rate: i64, base: i64) 
     if no_book(table, start) {
         return Update::Declined(3);
     }
-    let outside = range_cause(number, rate, base);
-    if 0 < outside {
-        return Update::Declined(outside as i64);
+    let range = range_cause(number, rate, base);
+    if 0 < range {
+        return Update::Declined(range as i64);
     }
     let cause = declining::post_cause(&table[start..], number, rate);
     if 0 < cause {

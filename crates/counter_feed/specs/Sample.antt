@@ -1,10 +1,10 @@
--- The sample (docs/REQUIREMENTS.md, 14.4), whole: six calls, and the bytes that the counter prints for them.
+-- The sample (docs/REQUIREMENTS.md, 14.4), whole: six calls, and the bytes that the counter prints for them. Then entries out of range, and theirs.
 use mathlib.Core.Path.{_≡_, refl, _∙_, ap}
 use mathlib.Core.List.{List, [], _∷_, _++_, map}
 use mathlib.Core.Option.{some}
 use Prim.Native.Nat.{ℕ}
 use native.Mathlib.Omega.{arith}
-use lib.IntN.{pos}
+use lib.IntN.{pos, negsuc}
 use Rattle.plain.specs.Book.{State, Call, post, withdraw, query, listing, opened}
 use Rattle.counter_print.specs.Texts.{digitsWithin, digits, numeral, decimal, justified, answerLine}
 use Rattle.counter_columns.specs.Columns.{lastColumns, lineOf, HasLine}
@@ -37,6 +37,10 @@ called (k ∷ ks) [] h s = absurd h
 called (k ∷ ks) (m ∷ ms) h s =
     (λ i. commanded s (command-of k (h .0) (h .1) i) .bytes ++ toldAll (commanded s (command-of k (h .0) (h .1) i) .state) (map lineOf ks))
     ∙ ap (λ (t : List ℕ). commanded s m .bytes ++ t) (called ks ms (h .2) (commanded s m .state))
+
+printed : (text : List ℕ) {answer : List ℕ} (ks : List Call) (ms : List Command) → linesFrom [] text ≡ map lineOf ks → HaveLines ks ms →
+    calledAll (opened (pos capacity)) ms ≡ answer → output text ≡ answer
+printed text ks ms lines fits told = ap (toldAll (opened (pos capacity))) lines ∙ called ks ms fits (opened (pos capacity)) ∙ told
 
 -- ---- the sample
 
@@ -83,4 +87,56 @@ unfolding pieceLines answerLine justified decimal numeral digits digitsWithin
 sample-called = refl
 
 pub sample-printed : output sample ≡ answer
-sample-printed = ap (toldAll (opened (pos capacity))) sample-lines ∙ called calls commands sample-fits (opened (pos capacity)) ∙ sample-called
+sample-printed = printed sample calls commands sample-lines sample-fits sample-called
+
+-- ---- entries out of range
+
+-- all three entries of a post, the rate and the base, the base, and a load
+abbrev pub slips : List ℕ
+slips =
+    bytes "P     0  100001  1000000001\n"
+    ++ bytes "P     1 -100001 -1000000001\n"
+    ++ bytes "P     1       3  1000000001\n"
+    ++ bytes "Q                   1000001\n"
+
+abbrev pub refusals : List ℕ
+refusals =
+    bytes "P  4     0             0             0\n"
+    ++ bytes "P 14     0             0             0\n"
+    ++ bytes "P 15     0             0             0\n"
+    ++ bytes "Q 16     0             0             0\n"
+
+abbrev slipped : List Call
+slipped =
+    post (pos 0) (pos 100_001) (pos 1_000_000_001)
+    ∷ post (pos 1) (negsuc 100_000) (negsuc 1_000_000_000)
+    ∷ post (pos 1) (pos 3) (pos 1_000_000_001)
+    ∷ query (pos 1_000_001)
+    ∷ []
+
+slip-lines : linesFrom [] slips ≡ map lineOf slipped
+unfolding lineOf lastColumns justified decimal numeral digits digitsWithin
+slip-lines = refl
+
+abbrev slip-commands : List Command
+slip-commands =
+    Post (pos 0) (pos 100_001) (pos 1_000_000_001)
+    ∷ Post (pos 1) (negsuc 100_000) (negsuc 1_000_000_000)
+    ∷ Post (pos 1) (pos 3) (pos 1_000_000_001)
+    ∷ Query (pos 1_000_001)
+    ∷ []
+
+slips-fit : HaveLines slipped slip-commands
+unfolding decimal numeral digits digitsWithin
+slips-fit = (
+  refl,
+  (omega arith, omega arith, omega arith),
+  (refl, (omega arith, omega arith, omega arith), (refl, (omega arith, omega arith, omega arith), (refl, omega arith, tt))),
+)
+
+slips-called : calledAll (opened (pos capacity)) slip-commands ≡ refusals
+unfolding answerLine justified decimal numeral digits digitsWithin
+slips-called = refl
+
+pub slips-printed : output slips ≡ refusals
+slips-printed = printed slips slipped slip-commands slip-lines slips-fit slips-called

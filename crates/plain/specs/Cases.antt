@@ -122,7 +122,7 @@ entries =
       asked =
           post (pos 10_000) (pos 100_001) (pos 1_000_000_001)
           ∷ post (pos 4) (pos 100_001) (pos 1_000_000_001)
-          ∷ post (pos 1) (negℤ (pos 100_001)) (pos 0)
+          ∷ post (pos 1) (negℤ (pos 100_001)) (pos 1_000_000_001)
           ∷ post (pos 1) (pos 3) (negℤ (pos 1_000_000_001))
           ∷ withdraw (pos 0)
           ∷ query (negℤ (pos 1_000_001))

@@ -69,14 +69,24 @@ ones-no-book s held b = go (b .free .free) (b .free .first-free) (b .free .slots
     go [] e n = let z : _≡_ {A = ℕ} 1 0 = cc in omega arith
     go (i ∷ is) e n = omega (arith, n, one-slot, one-live)
 
--- the number of the cause that declines a call there, 0 where none does
-abbrev pub toldThere : Call → ℕ
-toldThere k = numberBy (declined (tableTrials ones 0 k))
+-- the number of the cause that declines a call at `start` there, 0 where none does
+abbrev pub toldThere : ℕ → Call → ℕ
+toldThere start k = numberBy (declined (tableTrials ones start k))
 
--- all three entries of a post, the rate and the base, the rate with a number that is live there, the base with a rate that is
+-- A post with all three entries out of range, and with rate and base; the same with a number that is live there, and the base with such a number and
+-- rate; a withdrawal, a query, and a post in range.
 pub entries-there :
-    map toldThere (post (pos 10_000) (pos 100_001) (pos 1_000_000_001) ∷ post (pos 2) (pos 100_001) (pos 1_000_000_001) ∷ post (pos 1) (pos 100_001) (pos 1) ∷
-    post (pos 2) (pos 1) (pos 1_000_000_001) ∷ withdraw (pos 0) ∷ query (pos 1_000_001) ∷ post (pos 1) (pos 1) (pos 1) ∷ []) ≡
+    map (toldThere 0) (post (pos 10_000) (pos 100_001) (pos 1_000_000_001) ∷ post (pos 2) (pos 100_001) (pos 1_000_000_001) ∷
+    post (pos 1) (pos 100_001) (pos 1_000_000_001) ∷ post (pos 1) (pos 1) (pos 1_000_000_001) ∷ withdraw (pos 0) ∷ query (pos 1_000_001) ∷
+    post (pos 1) (pos 1) (pos 1) ∷ []) ≡
     4 ∷ 14 ∷ 14 ∷ 15 ∷ 4 ∷ 16 ∷ 0 ∷ []
 unfolding word
 entries-there = refl
+
+-- from word 1 on the part is cut short: 3 comes before them all
+pub entries-nowhere :
+    map (toldThere 1) (post (pos 0) (pos 1) (pos 1) ∷ post (pos 1) (pos 100_001) (pos 1) ∷ post (pos 1) (pos 1) (pos 1_000_000_001) ∷ withdraw (pos 0) ∷
+    query (pos 1_000_001) ∷ []) ≡
+    3 ∷ 3 ∷ 3 ∷ 3 ∷ 3 ∷ []
+unfolding word
+entries-nowhere = refl

@@ -13,5 +13,5 @@ pub mod LentPart
 pub mod Rooted
 -- ways through the code: the check, on the part of a table
 pub mod Checking
--- theorems: which entry of a call is out of range, on a table of any content that has a capacity
+-- theorem: which entry of a call is out of range, on a table of any content that has a capacity; examples on a part that is no book's
 pub mod Entries

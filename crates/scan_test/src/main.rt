@@ -72,7 +72,7 @@ fn posts_outside(w: World, p: Place) -> World {
 }
 
 // All three entries out of range, then rate and base; then the rate with a number that may be live, and the base with such a number and rate.
-fn posts_wide_outside(w: World, p: Place) -> World {
+fn posts_in_trial_order(w: World, p: Place) -> World {
     let a = calls::post(w, p, 0, 100_001, 1_000_000_001);
     let b = calls::post(a, p, 77, 100_001, 1_000_000_001);
     let c = calls::post(b, p, 8, -100_001, 0);
@@ -81,7 +81,7 @@ fn posts_wide_outside(w: World, p: Place) -> World {
 
 // A number that may be live, a rate that may be, and numbers that are not live.
 fn refusals(w: World, p: Place) -> World {
-    let outside = posts_wide_outside(posts_outside(w, p), p);
+    let outside = posts_in_trial_order(posts_outside(w, p), p);
     let a = calls::post(outside, p, 8, 51, 0);
     let b = calls::post(a, p, 77, 100, 0);
     let c = calls::withdraw(b, p.start, 0);
@@ -167,10 +167,10 @@ fn summary(t: Tally) {
 }
 
 // A query where there is no book.
-fn ask_nothing(w: World, start: usize) -> World {
+fn ask_nothing(w: World, start: usize, load: i64) -> World {
     let words = w.words;
     let os = w.os;
-    world::with_tally(w, calls::query(&words, start, false, &os, 5, w.told))
+    world::with_tally(w, calls::query(&words, start, false, &os, load, w.told))
 }
 
 // Openings that are declined, one that just fits, and queries where there is no book.
@@ -180,8 +180,8 @@ fn run_openings(w: World) -> World {
     let c = calls::open(b, 17, 4_096, 2);
     let d = calls::open(c, 7000, 1, 2);
     let e = calls::open(d, 5873, 1, 2);
-    let f = calls::open(ask_nothing(e, 5873), 5872, 1, 0);
-    ask_nothing(f, 7000)
+    let f = calls::open(ask_nothing(e, 5873, 1_000_001), 5872, 1, 0);
+    ask_nothing(f, 7000, 5)
 }
 
 // A book of one kind: filled, half emptied, filled again and emptied.

@@ -1,8 +1,10 @@
 //! Times of the proved book against a scan, sorted arrays and plain Rust in the same layout; medians of five runs. It prints
 //! the tables; with the word `record` it also puts them into docs/BENCHMARKS.md, between its two marks, and draws docs/benchmarks.svg.
-//! With the word `instructions` it counts an update's instructions instead, and puts their tables between two other marks.
+//! With the word `instructions` it counts an update's instructions instead, and with the word `check` it times the check of a full book; their
+//! tables go between marks of their own.
 //! Run it in release.
 mod arrays;
+mod checks;
 mod counted;
 mod plot;
 mod same_layout;
@@ -309,10 +311,15 @@ fn main() {
             print!("{tables}");
             record("instructions", &tables);
         }
+        ["check"] => {
+            let table = checks::table();
+            print!("{table}");
+            record("check", &table);
+        }
         ["count", n, kind] => {
             let listed = Listed::KINDS.into_iter().find(|k| k.name() == kind).expect("all, half or few");
             counted::run(n.parse().expect("a number of offers"), listed);
         }
-        _ => panic!("no word, `record` or `instructions`"),
+        _ => panic!("no word, `record`, `instructions` or `check`"),
     }
 }

@@ -21,7 +21,8 @@ pub enum Declined {
     NoRoom,
     /// 3, each call on a table but open and check: there is no book at `start`, or its part is cut short.
     NoBook,
-    /// 4, post, withdraw, voucher: the number is not in 1 to 9,999, or the price not in −101,000,000,000 to 101,000,000,000.
+    /// 4, post, withdraw, voucher: the number is not in 1 to 9,999, or the price not in −101,000,000,000 to 101,000,000,000. A rate, a
+    /// base and a load have causes of their own.
     OutOfRange,
     /// 14, post: the rate is not in −100,000 to 100,000.
     RateOutOfRange,

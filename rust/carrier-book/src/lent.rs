@@ -1,7 +1,8 @@
 //! The calls on a table that the caller lends: a book takes [`words`](crate::words) of it, from `start` on.
 //!
 //! Words outside that part are never changed, and a declined call changes nothing. The table may hold anything: on words that
-//! are no book a call returns, with an answer that means nothing.
+//! are no book [`NoBook`](Declined::NoBook) and an entry out of range are told as on a book, and past them a call returns, with an
+//! answer that means nothing.
 //!
 //! ```
 //! use carrier_book::{lent, words};

@@ -59,6 +59,17 @@ fn causes_in_order() {
 }
 
 #[test]
+fn causes_in_words() {
+    let said = |declined: Declined| declined.to_string();
+    assert_eq!(said(Declined::Capacity), "the capacity is not in 1 to 4,096");
+    assert_eq!(said(Declined::OutOfRange), "the offer's number or the voucher's price is out of range");
+    assert_eq!(said(Declined::RateOutOfRange), "the rate is out of range");
+    assert_eq!(said(Declined::BaseOutOfRange), "the base is out of range");
+    assert_eq!(said(Declined::LoadOutOfRange), "the load is out of range");
+    assert_eq!(said(Declined::from_number(17)), "declined for cause 17");
+}
+
+#[test]
 fn the_ends_of_the_ranges() {
     let mut b = Book::new(4).unwrap();
     let ends = [

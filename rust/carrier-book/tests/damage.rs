@@ -141,7 +141,9 @@ fn no_book() {
     }
     for (mut table, start) in cases {
         let before = table.clone();
-        assert_eq!(lent::post(&mut table, start, 0, 0, 0), Err(Declined::NoBook));
+        for (number, rate, base) in [(0, 0, 0), (1, 100_001, 0), (1, 0, i64::MIN)] {
+            assert_eq!(lent::post(&mut table, start, number, rate, base), Err(Declined::NoBook));
+        }
         assert_eq!(lent::withdraw(&mut table, start, 0), Err(Declined::NoBook));
         assert_eq!(lent::query(&table, start, i64::MAX), Err(Declined::NoBook));
         assert_eq!(lent::listing(&table, start, &mut []), Err(Declined::NoBook));

@@ -114,7 +114,7 @@ impl Pair {
     }
 }
 
-/// some entries out of range, all three of them now and then
+/// none, some or all of an offer's entries out of range
 fn key_wrong(r: &mut Random, o: &mut Offer) {
     if r.one_in(2) {
         o.number = r.pick(&[0, 10_000, -5, i64::MAX, i64::MIN]);

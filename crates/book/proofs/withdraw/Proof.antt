@@ -2,7 +2,7 @@
 use mathlib.Core.Path.{refl}
 use native.Mathlib.Omega.{arith}
 use mir.Facts.{toZ-ofZ}
-use Rattle.book.specs.TableUpdates.{alone-out, alone-in, updates-none, updates-range, withdraw-refused, withdraw-accepted}
+use Rattle.book.specs.TableUpdates.{withdraw-out, withdraw-in, updates-none, updates-range, withdraw-refused, withdraw-accepted}
 use Rattle.promises.specs.LentPart.{book-start}
 use borrow.Author.Needs.{needs}
 use Rattle.book.proofs.withdraw.Statement.{statement}
@@ -29,7 +29,7 @@ returns-2 c =
     let at-no-book = at-if1 .before in
     let entry = at-no-book .before .before in
     updates-range _ _ _ _ (at-no-book .no-book .ensures) (at-if1 .if1 .left)
-    (alone-out _ (simp (toZ-ofZ, entry .fits .number) at (c .before .outside .ensures)) (c .if2 .taken)) (omega arith) refl refl
+    (withdraw-out _ (simp (toZ-ofZ, entry .fits .number) at (c .before .outside .ensures)) (c .if2 .taken)) (omega arith) refl refl
 
 mul-live-slot : tie.Need-mul-live-slot
 mul-live-slot c =
@@ -70,7 +70,7 @@ returns-3 c =
     let at-no-book = at-if1 .before in
     let entry = at-no-book .before .before in
     withdraw-refused _ _ _ (at-no-book .no-book .ensures) (at-if1 .if1 .left) _
-    (alone-in _ (simp (toZ-ofZ, entry .fits .number) at (at-outside .outside .ensures)) (at-if2 .if2 .left)) (omega arith)
+    (withdraw-in _ (simp (toZ-ofZ, entry .fits .number) at (at-outside .outside .ensures)) (at-if2 .if2 .left)) (omega arith)
     (simp (toZ-ofZ, entry .fits .number) at (at-live-slot .live-slot .ensures)) (c .if3 .taken) refl
 
 mul-withdraw-part : tie.Need-mul-withdraw-part
@@ -123,7 +123,7 @@ returns-4 c =
     let at-no-book = at-if1 .before in
     let entry = at-no-book .before .before in
     withdraw-accepted _ _ _ (at-no-book .no-book .ensures) (at-if1 .if1 .left) _
-    (alone-in _ (simp (toZ-ofZ, entry .fits .number) at (at-outside .outside .ensures)) (at-if2 .if2 .left)) (omega arith)
+    (withdraw-in _ (simp (toZ-ofZ, entry .fits .number) at (at-outside .outside .ensures)) (at-if2 .if2 .left)) (omega arith)
     (simp (toZ-ofZ, entry .fits .number) at (at-live-slot .live-slot .ensures)) (at-if3 .if3 .left) _
     (simp (toZ-ofZ, entry .fits .number) at (at-withdraw-part .withdraw-part .ensures)) (c .done .ensures) refl
 
