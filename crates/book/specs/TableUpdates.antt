@@ -7,9 +7,9 @@ use Prim.Native.Nat.{ℕ, _-_, _≤_, _<_}
 use native.Mathlib.Omega.{arith}
 use lib.ListN.{length, take, drop}
 use lib.IntN.{ℤ, pos}
-use Rattle.lists.specs.Bools.{said, denied}
+use Rattle.lists.specs.Bools.{not-not, said, denied}
 use Rattle.offers.specs.Offers.{numberInRange, rateInRange, baseInRange}
-use Rattle.plain.specs.Causes.{Cause, causeNumber, numberOutOfRange, rateOutOfRange, baseOutOfRange, FirstOf, at-once, further, Clear}
+use Rattle.plain.specs.Causes.{Cause, causeNumber, FirstOf, at-once, further, Clear}
 use Rattle.plain.specs.Book.{State, Call, post, withdraw, refused, join, leave, noBookAt, rangeTrials, holding, step}
 use Rattle.dynamic.specs.OfferTree.{Held}
 use Rattle.table.specs.Fields.{capacityWord, mostNodes, numbersRootWord}
@@ -23,6 +23,7 @@ use Rattle.promises.specs.declared.Update.the-variants.{Done, Declined}
 use Rattle.promises.specs.Promises.{partOf, capacityAt, tableTrials, updateAnswer, Updates, Follows}
 use Rattle.declining.specs.Sought.{number-sought}
 use Rattle.plain.specs.Rules.{refusing}
+use Rattle.plain.specs.Entries.{Names, posted-number, posted-rate, posted-base, withdrawn-number, names-first}
 use Rattle.declining.specs.Declining.{withdraw-missing, withdraw-clear}
 use Rattle.form.specs.There.{cap-there}
 use Rattle.promises.specs.Plainly.{table-declined}
@@ -37,35 +38,35 @@ use Rattle.filing.specs.PartUpdates.{Kept, PostDone, WithdrawDone}
 
 -- ---- the ranges, as the code tests them
 
--- the number of the cause for which a call's values are out of range, or 0
+-- the number that names a call's first entry out of range, or 0
 pub record RangeCause (k : Call) (m : ℕ) : Type 0 where
-  pub declines : 0 < m → (z : Cause) × FirstOf (rangeTrials k) z × (causeNumber z ≡ m)
+  pub names : 0 < m → Names m k
   pub clears : m ≤ 0 → Clear (rangeTrials k)
 
-range-told : {k : Call} (z : Cause) → FirstOf (rangeTrials k) z → RangeCause k (causeNumber z)
-range-told z f = record { declines = λ q. (z, f, refl); clears = λ q. absurd (omega (arith, q, from-one z)) }
+range-named : {k : Call} {m : ℕ} → Names m k → RangeCause k m
+range-named n = let (z, f, e) = names-first n in record { names = λ q. n; clears = λ q. absurd (omega (arith, q, e, from-one z)) }
 
 range-clear : {k : Call} → Clear (rangeTrials k) → RangeCause k 0
-range-clear g = record { declines = λ q. absurd (omega (arith, q)); clears = λ q. g }
+range-clear g = record { names = λ q. absurd (omega (arith, q)); clears = λ q. g }
 
 module _ (n r z : ℤ) {b : Bool} (e : b ≡ not (numberInRange n)) where
   pub number-out : b ≡ true → RangeCause (post n r z) 4
-  number-out h = range-told numberOutOfRange (at-once (said e h))
+  number-out h = range-named (posted-number (said e h))
 
   module _ {d : Bool} (h : b ≡ false) (e′ : d ≡ not (rateInRange r)) where
     pub rate-out : d ≡ true → RangeCause (post n r z) 14
-    rate-out k = range-told rateOutOfRange (further (denied e h) (at-once (said e′ k)))
+    rate-out k = range-named (posted-rate (not-not (numberInRange n) (denied e h)) (said e′ k))
 
     module _ {f : Bool} (k : d ≡ false) (e″ : f ≡ not (baseInRange z)) where
       pub base-out : f ≡ true → RangeCause (post n r z) 15
-      base-out l = range-told baseOutOfRange (further (denied e h) (further (denied e′ k) (at-once (said e″ l))))
+      base-out l = range-named (posted-base (not-not (numberInRange n) (denied e h)) (not-not (rateInRange r) (denied e′ k)) (said e″ l))
 
       pub offer-in : f ≡ false → RangeCause (post n r z) 0
       offer-in l = range-clear (denied e h, (denied e′ k, (denied e″ l, tt)))
 
 module _ (n : ℤ) {b : Bool} (e : b ≡ not (numberInRange n)) where
   pub withdraw-out : b ≡ true → RangeCause (withdraw n) 4
-  withdraw-out h = range-told numberOutOfRange (at-once (said e h))
+  withdraw-out h = range-named (withdrawn-number (said e h))
 
   pub withdraw-in : b ≡ false → RangeCause (withdraw n) 0
   withdraw-in h = range-clear (denied e h, tt)
@@ -97,7 +98,7 @@ module _ (k : Call) (start : ℕ) (t t′ : List ℤ) where
     module _ {i : ℕ} (h : b ≡ false) (o : RangeCause k i) where
       pub updates-range : {r : Update} → 0 < i → r ≡ Declined (pos i) → t′ ≡ t → Updates k start t t′ r
       updates-range q er et =
-          let (z, f, n) = o .declines q in updates-declined (further (denied e h) f) (er ∙ ap (λ (j : ℕ). Declined (pos j)) (sym n)) et
+          let (z, f, n) = names-first (o .names q) in updates-declined (further (denied e h) f) (er ∙ ap (λ (j : ℕ). Declined (pos j)) (sym n)) et
 
       module _ (q : i ≤ 0) where
         clear : Clear (tableTrials t start k)

@@ -133,6 +133,32 @@ entries =
 pub entries-told : answered entries ≡ entries .told
 entries-told = refl
 
+-- the ends of the ranges are in range
+abbrev pub ends : Row
+ends =
+    record {
+      made = [];
+      asked =
+          post (pos 9_999) (pos 100_000) (pos 1_000_000_000)
+          ∷ post (pos 1) (negℤ (pos 100_000)) (negℤ (pos 1_000_000_000))
+          ∷ query (pos 1_000_000)
+          ∷ query (negℤ (pos 1_000_000))
+          ∷ withdraw (pos 9_999)
+          ∷ withdraw (negℤ (pos 9))
+          ∷ [];
+      told =
+          live 1
+          ∷ live 2
+          ∷ found (pos 1) (negℤ (pos 101_000_000_000))
+          ∷ found (pos 9_999) (negℤ (pos 99_000_000_000))
+          ∷ live 1
+          ∷ refused 4
+          ∷ [];
+    }
+
+pub ends-told : answered ends ≡ ends .told
+ends-told = refl
+
 -- a book of one slot: full, then empty; nothing listed takes no room
 pub one-slot : answers (opened (pos 1)) (query (pos 0) ∷ listing 0 ∷ post (pos 9) (pos 1) (pos 2) ∷ post (pos 9) (pos 1) (pos 2) ∷ post (pos 8) (pos 2)
     (pos 2) ∷ withdraw (pos 9) ∷ query (pos 0) ∷ []) ≡ refused 9 ∷ listed 0 [] ∷ live 1 ∷ refused 5 ∷ refused 7 ∷ live 0 ∷ refused 9 ∷ []

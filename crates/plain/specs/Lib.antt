@@ -15,6 +15,8 @@ pub mod Sound
 pub mod LiveAfter
 -- lemmas: the plain book's calls, one by one: which trial declines, and what an accepted call answers and leaves
 pub mod Rules
+-- statement and lemmas: which entry of a call is out of range: the number that names it, and that a call is refused with such a number exactly then
+pub mod Entries
 -- lemmas: a query's price is the least over all live offers, and the offer that it names has the highest rate among those at that price
 pub mod QueryLaws
 -- lemmas: the listing names an offer exactly when at some rational load, of any size, it is strictly cheaper than every other live offer

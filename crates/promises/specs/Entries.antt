@@ -1,6 +1,5 @@
--- Which entry of a call is out of range (docs/REQUIREMENTS.md, 13): on a table of any content that has a capacity at `start`, told by the promises; and
--- the order of the entries on a part that no opening made.
-use mathlib.Core.Path.{_≡_, refl}
+-- An entry out of range is named (`Names`) on a table of any content, where cause 3 does not apply; and examples on a part that no opening made.
+use mathlib.Core.Path.{_≡_, refl, _∙_, ap}
 use mathlib.Core.Bool.{not}
 use mathlib.Core.List.{List, [], _∷_, map}
 use mathlib.Core.Option.{Option}
@@ -9,10 +8,9 @@ use native.Mathlib.Omega.{arith}
 use lib.ListN.{length, replicate}
 use lib.IntN.{ℤ, pos}
 use lib.Dec.{T}
-use Rattle.lists.specs.Bools.{twice}
-use Rattle.offers.specs.Offers.{numberInRange, rateInRange, baseInRange, loadInRange}
-use Rattle.plain.specs.Causes.{declined, at-once, further, numberOutOfRange, rateOutOfRange, baseOutOfRange, loadOutOfRange}
+use Rattle.plain.specs.Causes.{declined, further}
 use Rattle.plain.specs.Book.{State, Call, post, withdraw, query, refused, noBookAt, openingBy as numberBy}
+use Rattle.plain.specs.Entries.{Names, names-first}
 use Rattle.dynamic.specs.OfferTree.{Held}
 use Rattle.dynamic.specs.Valid.{bookLines}
 use Rattle.table.specs.Fields.{capacityWord}
@@ -27,27 +25,13 @@ use Rattle.promises.specs.Promises.{partOf, tableTrials, updateAnswer, f
 
 -- ---- on a table of any content
 
-module _ (t : List ℤ) (start : ℕ) (there : T (not (noBookAt (length t) start (word (partOf t start) capacityWord)))) where
+module _ (t : List ℤ) (start : ℕ) (there : T (not (noBookAt (length t) start (word (partOf t start) capacityWord)))) {m : ℕ} where
   -- refused with that number, and every word as it was
-  abbrev Refused : ℕ → List ℤ → Update → Type 0
-  Refused m t′ r = (updateAnswer r ≡ refused m) × (t′ ≡ t)
+  pub update-names : {k : Call} {t′ : List ℤ} {u : Update} → Names m k → Updates k start t t′ u → (updateAnswer u ≡ refused m) × (t′ ≡ t)
+  update-names n p = let (z, f, e) = names-first n in let (told, kept) = p .declined z (further there f) in (told ∙ ap refused e, kept)
 
-  module _ {n r b : ℤ} {t′ : List ℤ} {u : Update} (p : Updates (post n r b) start t t′ u) where
-    pub post-names-number : T (not (numberInRange n)) → Refused 4 t′ u
-    post-names-number x = p .declined numberOutOfRange (further there (at-once x))
-
-    pub post-names-rate : T (numberInRange n) → T (not (rateInRange r)) → Refused 14 t′ u
-    post-names-rate i x = p .declined rateOutOfRange (further there (further (twice (numberInRange n) i) (at-once x)))
-
-    pub post-names-base : T (numberInRange n) → T (rateInRange r) → T (not (baseInRange b)) → Refused 15 t′ u
-    post-names-base i j x =
-        p .declined baseOutOfRange (further there (further (twice (numberInRange n) i) (further (twice (rateInRange r) j) (at-once x))))
-
-  pub withdraw-names-number : {n : ℤ} {t′ : List ℤ} {u : Update} → Updates (withdraw n) start t t′ u → T (not (numberInRange n)) → Refused 4 t′ u
-  withdraw-names-number p x = p .declined numberOutOfRange (further there (at-once x))
-
-  pub query-names-load : {q : ℤ} {f : Found} → Queries q start t f → T (not (loadInRange q)) → foundAnswer f ≡ refused 16
-  query-names-load p x = p .declined loadOutOfRange (further there (at-once x))
+  pub query-names : {q : ℤ} {r : Found} → Names m (query q) → Queries q start t r → foundAnswer r ≡ refused m
+  query-names n p = let (z, f, e) = names-first n in p .declined z (further there f) ∙ ap refused e
 
 -- ---- a part that no opening made
 

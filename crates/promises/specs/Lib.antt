@@ -13,5 +13,5 @@ pub mod LentPart
 pub mod Rooted
 -- ways through the code: the check, on the part of a table
 pub mod Checking
--- theorem: which entry of a call is out of range, on a table of any content that has a capacity; examples on a part that is no book's
+-- theorem: an entry out of range is named on a table of any content, where cause 3 does not apply; examples on a part that no opening made
 pub mod Entries

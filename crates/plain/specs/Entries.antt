@@ -1,0 +1,84 @@
+-- Which entry of a call is out of range (docs/REQUIREMENTS.md, 13): the number that names it, and that the plain book is refused with such a number
+-- exactly then. Every other refusal has a number from 5 to 10: what the book holds, or the output's length.
+use mathlib.Core.Path.{_≡_, refl, sym, _∙_, ap, subst}
+use mathlib.Core.Logic.{_⊎_, inl, inr}
+use mathlib.Core.Bool.{not}
+use mathlib.Core.List.{List, [], _∷_}
+use mathlib.Core.Option.{Option, none, some}
+use Prim.Native.Nat.{ℕ, _≤_}
+use native.Mathlib.Omega.{arith}
+use lib.IntN.{ℤ}
+use lib.Dec.{T}
+use Rattle.lists.specs.Bools.{twice, not-not}
+use Rattle.offers.specs.Offers.{Offer, numberInRange, rateInRange, baseInRange, loadInRange}
+use Rattle.plain.specs.Causes.{Cause, causeNumber, declined, FirstOf, at-once, further, numberOutOfRange, rateOutOfRange, baseOutOfRange, loadOutOfRange}
+use Rattle.plain.specs.Book.{State, Call, post, withdraw, query, listing, Answer, refused, live, found, listed, rangeTrials, bookTrials, trials, respond, accepted, step}
+use Rattle.plain.specs.Trials.{declined-first, first-append}
+use Rattle.plain.specs.Rules.{refusing, step-declined}
+
+-- The number names the call's first entry that is out of range: 4 the offer's number, 14 the rate, 15 the base, 16 the load.
+pub data Names : ℕ → Call → Type 0 where
+  posted-number : {n r b : ℤ} → T (not (numberInRange n)) → Names 4 (post n r b)
+  posted-rate : {n r b : ℤ} → T (numberInRange n) → T (not (rateInRange r)) → Names 14 (post n r b)
+  posted-base : {n r b : ℤ} → T (numberInRange n) → T (rateInRange r) → T (not (baseInRange b)) → Names 15 (post n r b)
+  withdrawn-number : {n : ℤ} → T (not (numberInRange n)) → Names 4 (withdraw n)
+  asked-load : {q : ℤ} → T (not (loadInRange q)) → Names 16 (query q)
+
+-- the first of the ranges' trials that applies, with its number
+abbrev pub FirstNumbered : Call → ℕ → Type 0
+FirstNumbered k m = (z : Cause) × FirstOf (rangeTrials k) z × (causeNumber z ≡ m)
+
+pub names-first : {m : ℕ} {k : Call} → Names m k → FirstNumbered k m
+names-first (posted-number x) = (numberOutOfRange, at-once x, refl)
+names-first (posted-rate {n} i x) = (rateOutOfRange, further (twice (numberInRange n) i) (at-once x), refl)
+names-first (posted-base {n} {r} i j x) = (baseOutOfRange, further (twice (numberInRange n) i) (further (twice (rateInRange r) j) (at-once x)), refl)
+names-first (withdrawn-number x) = (numberOutOfRange, at-once x, refl)
+names-first (asked-load x) = (loadOutOfRange, at-once x, refl)
+
+-- ---- a call with an entry out of range is refused with its number
+
+pub named-refused : (s : State) {m : ℕ} {k : Call} → Names m k → step s k ≡ refusing s m
+named-refused s {m} {k} n = let (z, f, e) = names-first n in step-declined s k z (first-append (bookTrials s k) f) ∙ ap (refusing s) e
+
+-- ---- and a refusal tells no such number otherwise
+
+abbrev pub Otherwise : ℕ → Type 0
+Otherwise m = (5 ≤ m) × (m ≤ 10)
+
+by-cause : (s : State) (k : Call) (z : Cause) → FirstOf (trials s k) z → Otherwise (causeNumber z) ⊎ Names (causeNumber z) k
+by-cause s (post n r b) z (at-once x) = inr (posted-number x)
+by-cause s (post n r b) z (further i (at-once x)) = inr (posted-rate (not-not (numberInRange n) i) x)
+by-cause s (post n r b) z (further i (further j (at-once x))) = inr (posted-base (not-not (numberInRange n) i) (not-not (rateInRange r) j) x)
+by-cause s (post n r b) z (further i (further j (further l (at-once x)))) = inl (omega arith, omega arith)
+by-cause s (post n r b) z (further i (further j (further l (further p (at-once x))))) = inl (omega arith, omega arith)
+by-cause s (post n r b) z (further i (further j (further l (further p (further q (at-once x)))))) = inl (omega arith, omega arith)
+by-cause s (withdraw n) z (at-once x) = inr (withdrawn-number x)
+by-cause s (withdraw n) z (further i (at-once x)) = inl (omega arith, omega arith)
+by-cause s (query q) z (at-once x) = inr (asked-load x)
+by-cause s (query q) z (further i (at-once x)) = inl (omega arith, omega arith)
+by-cause s (listing room) z (at-once x) = inl (omega arith, omega arith)
+
+-- the number of a refusal; 5 for an accepted call
+numberIn : Answer → ℕ
+numberIn (refused n) = n
+numberIn (live n) = 5
+numberIn (found n p) = 5
+numberIn (listed n ws) = 5
+
+pub refused-names : (s : State) (k : Call) (m : ℕ) → step s k .answer ≡ refused m → Otherwise m ⊎ Names m k
+unfolding numberIn
+refused-names s k m e = subst (λ (i : ℕ). Otherwise i ⊎ Names i k) (ap numberIn e) (go (declined (trials s k)) refl)
+  where
+    asked : (c : ℕ) (os : List Offer) (q : ℤ) → Otherwise (numberIn (accepted (record { capacity = c; offers = os }) (query q) .answer))
+    asked c [] q = (omega arith, omega arith)
+    asked c (o ∷ os) q = (omega arith, omega arith)
+
+    taken : (k : Call) → Otherwise (numberIn (accepted s k .answer))
+    taken (post n r b) = (omega arith, omega arith)
+    taken (withdraw n) = (omega arith, omega arith)
+    taken (query q) = asked (s .capacity) (s .offers) q
+    taken (listing room) = (omega arith, omega arith)
+
+    go : (d : Option Cause) → declined (trials s k) ≡ d → Otherwise (numberIn (respond s k d .answer)) ⊎ Names (numberIn (respond s k d .answer)) k
+    go none p = inl (taken k)
+    go (some z) p = by-cause s k z (declined-first (trials s k) z p)
