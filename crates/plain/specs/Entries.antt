@@ -1,6 +1,6 @@
--- Which entry of a call is out of range (docs/REQUIREMENTS.md, 13): the number that names it, and that the plain book is refused with such a number
--- exactly then. Every other refusal has a number from 5 to 10: what the book holds, or the output's length.
-use mathlib.Core.Path.{_≡_, refl, sym, _∙_, ap, subst}
+-- Which entry of a call is out of range (docs/REQUIREMENTS.md, 13): the number that names it, and that a call is refused with such a number exactly
+-- then. Every other refusal has a number from 5 to 10: by what the book holds, or by the output's length.
+use mathlib.Core.Path.{_≡_, refl, _∙_, ap, subst}
 use mathlib.Core.Logic.{_⊎_, inl, inr}
 use mathlib.Core.Bool.{not}
 use mathlib.Core.List.{List, [], _∷_}
@@ -12,7 +12,8 @@ use lib.Dec.{T}
 use Rattle.lists.specs.Bools.{twice, not-not}
 use Rattle.offers.specs.Offers.{Offer, numberInRange, rateInRange, baseInRange, loadInRange}
 use Rattle.plain.specs.Causes.{Cause, causeNumber, declined, FirstOf, at-once, further, numberOutOfRange, rateOutOfRange, baseOutOfRange, loadOutOfRange}
-use Rattle.plain.specs.Book.{State, Call, post, withdraw, query, listing, Answer, refused, live, found, listed, rangeTrials, bookTrials, trials, respond, accepted, step}
+use Rattle.plain.specs.Book.{State, Call, post, withdraw, query, listing, Answer, refused, live, found, listed}
+use Rattle.plain.specs.Book.{rangeTrials, bookTrials, trials, respond, accepted, step}
 use Rattle.plain.specs.Trials.{declined-first, first-append}
 use Rattle.plain.specs.Rules.{refusing, step-declined}
 
@@ -24,11 +25,8 @@ pub data Names : ℕ → Call → Type 0 where
   withdrawn-number : {n : ℤ} → T (not (numberInRange n)) → Names 4 (withdraw n)
   asked-load : {q : ℤ} → T (not (loadInRange q)) → Names 16 (query q)
 
--- the first of the ranges' trials that applies, with its number
-abbrev pub FirstNumbered : Call → ℕ → Type 0
-FirstNumbered k m = (z : Cause) × FirstOf (rangeTrials k) z × (causeNumber z ≡ m)
-
-pub names-first : {m : ℕ} {k : Call} → Names m k → FirstNumbered k m
+-- it is that of the first trial of the ranges that applies
+pub names-first : {m : ℕ} {k : Call} → Names m k → (z : Cause) × FirstOf (rangeTrials k) z × (causeNumber z ≡ m)
 names-first (posted-number x) = (numberOutOfRange, at-once x, refl)
 names-first (posted-rate {n} i x) = (rateOutOfRange, further (twice (numberInRange n) i) (at-once x), refl)
 names-first (posted-base {n} {r} i j x) = (baseOutOfRange, further (twice (numberInRange n) i) (further (twice (rateInRange r) j) (at-once x)), refl)
