@@ -30,7 +30,7 @@ justified-snoc w t b =
     let e : suc w - length (t ++ b ∷ []) ≡ w - length t = rw length-append (omega arith) in
     rw (e, append-assoc)
 
-spaces-snoc : (w : ℕ) → replicate (suc w) space ≡ replicate w space ++ space ∷ []
+pub spaces-snoc : (w : ℕ) → replicate (suc w) space ≡ replicate w space ++ space ∷ []
 spaces-snoc zero = refl
 spaces-snoc (suc w) = ap (λ (t : List ℕ). space ∷ t) (spaces-snoc w)
 

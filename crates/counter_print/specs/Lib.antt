@@ -7,7 +7,11 @@ pub mod Decimals
 pub mod Justified
 -- statement and lemmas: sections of a list, as code cuts them out, and a list put together from them
 pub mod Sections
+-- statement and lemmas: the powers of ten that printing subtracts, and the rule of their table
+pub mod Powers
 -- lemmas: what is promised of printing, whatever the way
 pub mod Printed
--- ways through the code: how a text is printed: from its right end, a byte at a time
+-- ways through the code: a number's digits from the highest place down
+pub mod Places
+-- ways through the code: how a text is printed: the sign and the spaces before it, and its digits from the highest down
 pub mod Printing

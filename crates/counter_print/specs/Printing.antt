@@ -1,133 +1,153 @@
 -- How a text is printed: from its right end, a byte at a time. `Printed` says what is promised of it.
-use Prim.Native.Nat.{ℕ, suc, _+_, _-_, _/_, _%_, _≤_, _<_}
+use Prim.Native.Nat.{ℕ, zero, suc, _+_, _-_, _^_, _≤_, _<_}
 use mathlib.Core.Path.{_≡_, refl, ap, sym, _∙_}
 use mathlib.Core.Logic.{_≢_}
 use mathlib.Core.Bool.{Bool, true, false}
-use mathlib.Core.List.{List, [], _∷_, _++_, append-assoc}
+use mathlib.Core.List.{List, [], _∷_, _++_, append-assoc, append-nil}
 use native.Mathlib.Omega.{arith}
-use lib.ListN.{length, take, drop, set, length-append, length-drop, length-set, drop-of-length-le}
-use lib.Seq.{take-add, take-suc-set, drop-drop, length-take-le, drop-cons, lt-length-set, getD-set-same, drop-set-lt}
+use lib.ListN.{length, take, drop, set, replicate, length-append, length-drop, length-set, drop-of-length-le}
+use lib.Seq.{take-add, take-all, take-at, drop-at, take-suc-set, drop-drop, length-take-le, drop-set-lt}
 use lib.IntN.{ℤ, pos, negsuc, natAbs}
 use lib.Signed.{ltZ}
+use mir.Syntax.{w64}
+use mir.Val.{SFits}
 use borrow.Author.Tests.{le-ltb}
-use Rattle.counter_print.specs.declared.Cut.{Cut}
-use Rattle.counter_print.specs.Texts.{minus, digit, digits, numeral, decimal, justified, FitsIn, newline, answerLine}
+use Rattle.counter_print.specs.Texts.{space, minus, numeral, decimal, justified, FitsIn, newline, answerLine}
 use Rattle.counter_print.specs.Printed.{Justifies, Puts, Answers}
-use Rattle.counter_print.specs.Decimals.{digits-none, digits-more, decimal-some}
+use Rattle.counter_print.specs.Powers.{powers, powers-length}
+use Rattle.counter_print.specs.Places.{places, places-length, Counts, counts-text}
 use Rattle.counter_print.specs.Sections.{between, parts-left, parts-middle, parts-right}
-use Rattle.counter_print.specs.Justified.{justified-snoc, justified-blank, justified-none, justified-width}
+use Rattle.counter_print.specs.Justified.{spaces-snoc}
 
--- ---- a text that is still to be written: digits, with a minus before them or not
+-- ---- what stands before the digits
 
 abbrev pub withSign : Bool → List ℕ → List ℕ
 withSign true t = minus ∷ t
 withSign false t = t
 
-unfoldable pub unwritten : ℕ → Bool → List ℕ
-unwritten number negative = withSign negative (digits number)
+-- The minus fills the last column before the digits, and spaces the others.
+abbrev pub Signs : Bool → (before after : List ℕ) → Type 0
+Signs negative before after = length (withSign negative []) ≤ length before → after ≡ justified (length before) (withSign negative [])
 
--- The last byte of the text goes into the last column, and the rest into the columns before it.
-abbrev pub Cuts : ℕ → Bool → Cut → Type 0
-Cuts number negative c = (w : ℕ) → justified (suc w) (unwritten number negative) ≡ justified w (unwritten (c .number) (c .minus)) ++ c .byte ∷ []
-
--- ---- what cutting a byte off does
-
-sign-snoc : (m : Bool) (t : List ℕ) (b : ℕ) → withSign m (t ++ b ∷ []) ≡ withSign m t ++ b ∷ []
-sign-snoc true t b = refl
-sign-snoc false t b = refl
-
-pub cuts-digit : (n : ℕ) (m : Bool) → 0 < n → Cuts n m (record { byte = 48 + n % 10; number = n / 10; minus = m })
-unfolding unwritten
-cuts-digit n m h w = rw (digits-more n h, sign-snoc m) (justified-snoc w (withSign m (digits (n / 10))) (digit (n % 10)))
-
-pub cuts-minus : (n : ℕ) → n ≤ 0 → Cuts n true (record { byte = 45; number = 0; minus = false })
-unfolding unwritten
-cuts-minus n h w = let e : n ≡ 0 = omega arith in rw (e, digits-none) (justified-snoc w [] 45)
-
-pub cuts-space : (n : ℕ) → n ≤ 0 → Cuts n false (record { byte = 32; number = 0; minus = false })
-unfolding unwritten
-cuts-space n h w = let e : n ≡ 0 = omega arith in rw (e, digits-none) (justified-blank w)
-
--- ---- filling from the right
-
--- The text of the columns, where those from `to` on are written: the rest of the text stands before them.
-abbrev pub filled : (to number : ℕ) → Bool → List ℕ → List ℕ
-filled to number negative column = justified to (unwritten number negative) ++ drop to column
-
--- While the columns are written from `at` down: `to` is the last one written.
-pub record Filling (before : List ℕ) (at number : ℕ) (negative : Bool) (column : List ℕ) (to left : ℕ) (sign : Bool) : Type 0 where
-  pub high : to ≤ at
+-- While spaces are written: those before `at` are.
+pub record Blanking (before column : List ℕ) (at : ℕ) : Type 0 where
   pub size : length column ≡ length before
-  pub text : filled at number negative before ≡ filled to left sign column
+  pub high : at ≤ length before
+  pub text : take at column ≡ replicate at space
 
-drop-set : (i : ℕ) (l : List ℕ) (b : ℕ) → i < length l → drop i (set l i b) ≡ b ∷ drop (suc i) l
-drop-set i l b h = drop-cons (set l i b) i 0 (lt-length-set l i b h) ∙ rw (getD-set-same l i b 0 h, drop-set-lt (suc i) l i b (omega arith))
-
-pub filled-more : (k number : ℕ) (negative : Bool) (c : Cut) (column : List ℕ) → Cuts number negative c → k < length column
-    → filled (suc k) number negative column ≡ filled k (c .number) (c .minus) (set column k (c .byte))
-filled-more k number negative c column cuts h = rw (cuts k, append-assoc, drop-set k column (c .byte) h)
-
-none-before : (u t after : List ℕ) → length after ≡ length t → t ≡ u ++ after → after ≡ t
-none-before [] t after l e = sym e
-none-before (b ∷ u) t after l e = absurd (omega (arith, simp length-append at (ap length e)))
-
--- Once every column is written, nothing of a text that fits is left.
-pub filled-none : (at number : ℕ) (negative : Bool) (before : List ℕ) (n : ℕ) (m : Bool) (after : List ℕ) → at ≤ length before → length after ≡ length before
-    → filled at number negative before ≡ filled 0 n m after → length (unwritten number negative) ≤ at → after ≡ filled at number negative before
-filled-none at number negative before n m after h l e fits =
-    none-before (unwritten n m) (filled at number negative before) after
-    (rw (length-append, justified-width at (unwritten number negative) fits, length-drop) (omega arith))
-    (rw justified-none at e)
-
-pub filling-more : {before : List ℕ} {at number : ℕ} {negative : Bool} {column : List ℕ} {to left : ℕ} {sign : Bool} (c : Cut)
-    → at ≤ length before → Filling before at number negative column to left sign → 0 < to → Cuts left sign c
-    → Filling before at number negative (set column (to - 1) (c .byte)) (to - 1) (c .number) (c .minus)
-filling-more {column = column} {to} {left} {sign} c h f some cuts =
+pub blanking-more : {before column : List ℕ} {at : ℕ} → Blanking before column at → at < length column → Blanking before (set column at space) (at + 1)
+blanking-more {column = column} {at} b h =
     record {
-      high = omega (arith, f .high);
-      size = length-set column (to - 1) (c .byte) ∙ f .size;
-      text = f .text ∙ ap (λ (k : ℕ). filled k left sign column) back ∙ filled-more (to - 1) left sign c column cuts (omega (arith, f .high, f .size));
+      size = length-set column at space ∙ b .size;
+      high = omega (arith, b .size);
+      text = rw (next, take-suc-set column at space h, b .text) (sym (spaces-snoc at));
     }
   where
-    back : to ≡ suc (to - 1)
-    back = omega arith
+    next : at + 1 ≡ suc at
+    next = omega arith
 
-pub filling-done : {before : List ℕ} {at number : ℕ} {negative : Bool} {column : List ℕ} {to left : ℕ} {sign : Bool}
-    → at ≤ length before → Filling before at number negative column to left sign → to ≤ 0
-    → length (unwritten number negative) ≤ at → column ≡ filled at number negative before
-filling-done {before} {at} {number} {negative} {column} {to} {left} {sign} h f none fits =
-    let e : to ≡ 0 = omega arith in
-    filled-none at number negative before left sign column h (f .size) (rw e at (f .text)) fits
+blanks : {before column : List ℕ} {at : ℕ} → Blanking before column at → length column ≤ at → column ≡ replicate at space
+blanks {column = column} {at} b h = sym (take-all at column h) ∙ b .text
 
--- ---- a whole number, its last digit first
+pub signs-blank : {before column : List ℕ} {at : ℕ} → Blanking before column at → length column ≤ at → Signs false before column
+unfolding justified
+signs-blank {before} {column} {at} b h _ = blanks b h ∙ rw (append-nil, size)
+  where
+    size : length before - 0 ≡ at
+    size = omega (arith, b .size, b .high)
 
-decimal-cut : (z : ℤ) → decimal z ≡ unwritten (natAbs z / 10) (ltZ z (pos 0)) ++ digit (natAbs z % 10) ∷ []
-unfolding decimal numeral unwritten
-decimal-cut (pos n) = rw (le-ltb n 0 (omega arith))
-decimal-cut (negsuc n) = refl
+minus-last : (k : ℕ) → set (replicate (suc k) space) k minus ≡ replicate k space ++ minus ∷ []
+minus-last zero = refl
+minus-last (suc k) = ap (λ (t : List ℕ). space ∷ t) (minus-last k)
 
-pub justifies-none : (z : ℤ) (before after : List ℕ) → length before ≡ 0 → Justifies z before after
-justifies-none z before after e = record { text = λ fits. absurd (omega (arith, decimal-some z)) }
+pub signs-minus : {before column : List ℕ} {at : ℕ} → Blanking before column at → length column ≤ at → 0 < at
+    → Signs true before (set column (at - 1) minus)
+unfolding justified
+signs-minus {before} {column} {at} b h some _ = rw (all, here) (minus-last (length before - 1))
+  where
+    here : at - 1 ≡ length before - 1
+    here = omega (arith, b .size, b .high)
 
-last-column : (k d : ℕ) (u before : List ℕ) → length before ≡ suc k → justified k u ++ drop k (set before k d) ≡ justified (length before) (u ++ d ∷ [])
-last-column k d u before e =
-    rw (drop-set k before d (omega arith), drop-of-length-le before {i = suc k} (omega arith), e)
-    (sym (justified-snoc k u d))
+    size : at ≡ suc (length before - 1)
+    size = omega (arith, b .size, b .high)
 
-pub justifies-some : (z : ℤ) (before after : List ℕ) (number : ℕ) → number ≡ natAbs z → length before ≢ 0
-    → (length (unwritten (number / 10) (ltZ z (pos 0))) ≤ length before - 1
-    → after ≡ filled (length before - 1) (number / 10) (ltZ z (pos 0)) (set before (length before - 1) (48 + number % 10)))
+    all : column ≡ replicate (suc (length before - 1)) space
+    all = blanks b h ∙ ap (λ (n : ℕ). replicate n space) size
+
+-- ---- a whole number
+
+-- A text of two parts in a column: the first part in the columns before the second.
+justified-append : (w : ℕ) (s t : List ℕ) → length t ≤ w → justified w (s ++ t) ≡ justified (w - length t) s ++ t
+unfolding justified
+justified-append w s t h =
+    let e : w - length (s ++ t) ≡ w - length t - length s = rw length-append (omega arith) in
+    rw (e, append-assoc)
+
+decimal-parts : (z : ℤ) → decimal z ≡ withSign (ltZ z (pos 0)) [] ++ numeral (natAbs z)
+unfolding decimal
+decimal-parts (pos n) = rw (le-ltb n 0 (omega arith))
+decimal-parts (negsuc n) = refl
+
+-- A word's digits are no more than the table has powers for.
+pub word-digits : (z : ℤ) → SFits w64 z → natAbs z < 10 ^ length powers
+word-digits (pos n) f = rw powers-length (omega arith)
+word-digits (negsuc n) f = rw powers-length (omega arith)
+
+-- Where the digits alone are too wide, anything may stand.
+pub justifies-narrow : (z : ℤ) (number count : ℕ) (before after : List ℕ) → number ≡ natAbs z → Counts number count → length before < count
     → Justifies z before after
-justifies-some z before after number e some wrote =
-    record {
-      text = λ fits.
-          wrote (omega (arith, fits, simp length-append at (ap length cut)))
-          ∙ last-column (length before - 1) (48 + number % 10) (unwritten (number / 10) (ltZ z (pos 0))) before (omega arith)
-          ∙ ap (justified (length before)) (sym cut);
-    }
+justifies-narrow z number count before after e c h = record { text = λ fits. absurd (omega (arith, fits, wide)) }
   where
-    cut : decimal z ≡ unwritten (number / 10) (ltZ z (pos 0)) ++ digit (number % 10) ∷ []
-    cut = rw e (decimal-cut z)
+    wide : count ≤ length (decimal z)
+    wide = rw (decimal-parts z, length-append, ← e, counts-text number count c, places-length count number) (omega arith)
+
+-- The columns before the digits are lent for the sign, and then the rest for the digits.
+module _ (from : ℕ) (front rest : List ℕ) (same : length front ≡ from) where
+  rest-lent : between from (length (front ++ rest)) (front ++ rest) ≡ rest
+  rest-lent = rw (drop-at front rest from same, length-append) (take-all (length front + length rest - from) rest (omega arith))
+
+  rest-done : drop (length (front ++ rest) - from) (drop from (front ++ rest)) ≡ []
+  rest-done = rw (drop-at front rest from same, length-append) (drop-of-length-le rest {i = length front + length rest - from} (omega arith))
+
+  -- The digits have the columns that they need.
+  pub digits-fit : (number count : ℕ) → Counts number count → length rest ≡ count
+      → (length (between from (length (front ++ rest)) (front ++ rest)) ≤ length powers)
+      × (number < 10 ^ length (between from (length (front ++ rest)) (front ++ rest)))
+  digits-fit number count c e = rw (rest-lent, e) (c .most, c .enough)
+
+  pub justifies-wide : (z : ℤ) (number count : ℕ) (before digits : List ℕ) → number ≡ natAbs z → Counts number count → from + count ≡ length before
+      → length rest ≡ count → Signs (ltZ z (pos 0)) (take from before) front
+      → digits ≡ places (length (between from (length (front ++ rest)) (front ++ rest))) number
+      → Justifies z before (take from (front ++ rest) ++ (digits ++ drop (length (front ++ rest) - from) (drop from (front ++ rest))))
+  justifies-wide z number count before digits e c sum l signs shown =
+      record {
+        text = λ fits.
+            rw (take-at front rest from same, rest-done, append-nil, text)
+            (ap (λ (t : List ℕ). t ++ digits) (signed (fits-front fits)) ∙ ap (λ (t : List ℕ). justified from sign ++ t) all ∙ sym apart);
+      }
+    where
+      sign : List ℕ
+      sign = withSign (ltZ z (pos 0)) []
+
+      text : decimal z ≡ sign ++ places count number
+      text = decimal-parts z ∙ rw (← e, counts-text number count c)
+
+      room : length (take from before) ≡ from
+      room = length-take-le from before (omega arith)
+
+      fits-front : FitsIn (length before) z → length sign ≤ from
+      fits-front fits = omega (arith, fits, simp (length-append, places-length) at (ap length text))
+
+      signed : length sign ≤ from → front ≡ justified from sign
+      signed h = rw room at (signs (rw room h))
+
+      all : digits ≡ places count number
+      all = shown ∙ rw (rest-lent, l)
+
+      apart : justified (length before) (sign ++ places count number) ≡ justified from sign ++ places count number
+      apart =
+          let n : length before - length (places count number) ≡ from = omega (arith, places-length count number) in
+          rw n at (justified-append (length before) sign (places count number) (omega (arith, places-length count number)))
 
 -- ---- a number among other bytes
 

@@ -1,18 +1,40 @@
 // Printing: numbers right-justified in columns, and the lines of the counter's answers.
 ghost use mathlib.Core.Path.{_≡_};
-ghost use mathlib.Core.List.{_++_};
-ghost use Prim.Native.Nat.{_+_, _≤_};
-ghost use lib.ListN.{length, drop};
+ghost use Prim.Native.Nat.{_+_, _*_, _^_, _≤_, _<_};
+ghost use lib.ListN.{length, getD};
 ghost use lib.IntN.{natAbs};
-ghost use Rattle.counter_print.specs.Texts.{justified};
+ghost use Rattle.counter_print.specs.Powers.{powers};
+ghost use Rattle.counter_print.specs.Places.{places, Counts, Subtracts, Leads};
 ghost use Rattle.counter_print.specs.Printed.{Justifies, Puts, Answers};
-ghost use Rattle.counter_print.specs.Printing.{unwritten, Cuts};
+ghost use Rattle.counter_print.specs.Printing.{Signs};
 
-// The last byte of a text that is still to be written, and what is left of the text.
-struct Cut {
-    byte: u8,
-    number: u64,
-    minus: bool,
+// The powers of ten that the digits of a word are made of.
+const POWERS: [u64; 19] = [
+    1,
+    10,
+    100,
+    1000,
+    10000,
+    100000,
+    1000000,
+    10000000,
+    100000000,
+    1000000000,
+    10000000000,
+    100000000000,
+    1000000000000,
+    10000000000000,
+    100000000000000,
+    1000000000000000,
+    10000000000000000,
+    100000000000000000,
+    1000000000000000000,
+];
+
+// The digit at a place, and what is left of the number below that place.
+struct Lead {
+    digit: u8,
+    rest: u64,
 }
 
 // A number without its sign, whatever the number is.
@@ -27,45 +49,86 @@ fn magnitude(value: i64) -> u64
     value as u64
 }
 
-// Takes the last byte off: a digit, the minus, or a space where nothing is left.
-fn cut_last(number: u64, minus: bool) -> Cut
-    ensures { λ r. ⌜ Cuts number minus r ⌝ }
+// The power of ten at a place.
+fn power_at(place: usize) -> u64
+    requires { ⌜ place < length powers ⌝ }
+    ensures { λ r. ⌜ r ≡ getD powers place 0 ⌝ }
 {
-    if 0 < number {
-        return Cut {
-            byte: b'0' + (number % 10) as u8,
-            number: number / 10,
-            minus: minus,
-        };
+    POWERS[place]
+}
+
+// How many digits a number has: 0 has one.
+fn digit_count(number: u64) -> usize
+    requires { ⌜ number < 10 ^ length powers ⌝ }
+    ensures { λ r. ⌜ Counts number r ⌝ }
+{
+    let mut count = 1;
+    while count < POWERS.len() && power_at(count) <= number {
+        count += 1;
     }
-    if minus {
-        return Cut {
-            byte: b'-',
-            number: 0,
-            minus: false,
-        };
+    count
+}
+
+// Subtracts a power so many times at once, where that goes in.
+fn subtract(from: Lead, power: u64, times: u8) -> Lead
+    requires { ⌜ (times * power < 2 ^ 64) × (from .digit + times < 2 ^ 8) ⌝ }
+    ensures { λ r. ⌜ Subtracts from power times r ⌝ }
+{
+    let amount = times as u64 * power;
+    if from.rest < amount {
+        return from;
     }
-    Cut {
-        byte: b' ',
-        number: 0,
-        minus: false,
+    Lead {
+        digit: from.digit + times,
+        rest: from.rest - amount,
     }
 }
 
-// Writes digits and a sign right before column `at`, and spaces before them.
-fn fill(column: &mut [u8], at: usize, number: u64, minus: bool)
-    requires { ⌜ at ≤ length (now column) ⌝ }
-    ensures { λ _. ⌜ (length (unwritten number minus) ≤ at → now (column .exit) ≡ justified at (unwritten number minus) ++ drop at (now (column .entry))) ⌝ }
+// The highest digit: the power of its place is subtracted as often as it goes in, 8, 4, 2 times and once.
+fn lead_digit(number: u64, power: u64) -> Lead
+    requires { ⌜ (number < 10 * power) × (8 * power < 2 ^ 64) ⌝ }
+    ensures { λ r. ⌜ Leads number power r ⌝ }
 {
-    let mut to = at;
-    let mut left = number;
-    let mut sign = minus;
-    while 0 < to {
-        let c = cut_last(left, sign);
-        to -= 1;
-        column[to] = c.byte;
-        left = c.number;
-        sign = c.minus;
+    let whole = Lead {
+        digit: 0,
+        rest: number,
+    };
+    let below_8 = subtract(whole, power, 8);
+    let below_4 = subtract(below_8, power, 4);
+    let below_2 = subtract(below_4, power, 2);
+    subtract(below_2, power, 1)
+}
+
+// Fills columns with as many digits of a number, the highest first.
+fn put_digits(column: &mut [u8], number: u64)
+    requires { ⌜ (length (now column) ≤ length powers) × (number < 10 ^ length (now column)) ⌝ }
+    ensures { λ _. ⌜ now (column .exit) ≡ places (length (now (column .entry))) number ⌝ }
+{
+    let mut at = 0;
+    let mut place = column.len();
+    let mut rest = number;
+    while 0 < place {
+        place -= 1;
+        let lead = lead_digit(rest, power_at(place));
+        column[at] = b'0' + lead.digit;
+        rest = lead.rest;
+        at += 1;
+    }
+}
+
+// Fills the columns before the digits with spaces, and the last of them with the minus.
+fn put_sign(column: &mut [u8], minus: bool)
+    ensures { λ _. ⌜ Signs minus (now (column .entry)) (now (column .exit)) ⌝ }
+{
+    let mut at = 0;
+    while at < column.len() {
+        column[at] = b' ';
+        at += 1;
+    }
+    if minus {
+        if 0 < at {
+            column[at - 1] = b'-';
+        }
     }
 }
 
@@ -73,13 +136,15 @@ fn fill(column: &mut [u8], at: usize, number: u64, minus: bool)
 pub fn justify(column: &mut [u8], value: i64)
     ensures { λ _. ⌜ Justifies value (now (column .entry)) (now (column .exit)) ⌝ }
 {
-    if column.len() == 0 {
+    let number = magnitude(value);
+    let count = digit_count(number);
+    let width = column.len();
+    if width < count {
         return;
     }
-    let number = magnitude(value);
-    let last = column.len() - 1;
-    column[last] = b'0' + (number % 10) as u8;
-    fill(column, last, number / 10, value < 0);
+    let from = width - count;
+    put_sign(&mut column[..from], value < 0);
+    put_digits(&mut column[from..], number);
 }
 
 // The same in the `width` columns from `from`; the other bytes stay.

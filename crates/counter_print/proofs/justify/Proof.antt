@@ -1,58 +1,107 @@
--- `counter_print::justify` meets its contract: the last digit, and before it what is left of the text.
-use mathlib.Core.Path.{_∙_}
+-- `counter_print::justify` meets its contract: the sign in the columns before the digits, and the digits in the rest.
+use Prim.Native.Nat.{ℕ, _-_, _≤_}
+use mathlib.Core.Path.{_≡_}
+use mathlib.Core.List.{List}
 use native.Mathlib.Omega.{arith}
-use lib.ListN.{length-set}
+use lib.ListN.{length, drop, length-take, length-drop}
 use mir.Facts.{toZ-ofZ}
 use borrow.Author.Needs.{needs}
-use Rattle.counter_print.specs.Printing.{justifies-none, justifies-some}
+use Rattle.counter_print.specs.Printing.{word-digits, justifies-narrow, digits-fit, justifies-wide}
 use Rattle.counter_print.proofs.justify.Statement.{statement}
 use Rattle.counter_print.proofs.justify.Tie as tie
-
-returns : tie.Need-returns
-returns c = justifies-none _ _ _ (c .if1 .taken)
 
 magnitude-requires : tie.Need-magnitude-requires
 magnitude-requires c κs = search needs
 
-sub-last : tie.Need-sub-last
-sub-last c = search needs
+digit-count-requires : tie.Need-digit-count-requires
+digit-count-requires c κs =
+    let f = c .before .before .fits .value in
+    rw (simp (toZ-ofZ, f) at (c .magnitude .ensures)) (word-digits _ f)
 
-cast-column : tie.Need-cast-column
-cast-column c = search needs
+returns : tie.Need-returns
+returns c =
+    let at-count = c .before in
+    let at-magnitude = at-count .before in
+    let f = at-magnitude .before .before .fits .value in
+    justifies-narrow _ _ _ _ _ (simp (toZ-ofZ, f) at (at-magnitude .magnitude .ensures)) (at-count .digit-count .ensures) (c .if1 .taken)
 
-add-column : tie.Need-add-column
-add-column c = search needs
+slice-relend-prefix-put-sign : tie.Need-slice-relend-prefix-put-sign
+slice-relend-prefix-put-sign c = search needs
 
-slice-write-column : tie.Need-slice-write-column
-slice-write-column c = search needs
+slice-aggregate-put-sign : tie.Need-slice-aggregate-put-sign
+slice-aggregate-put-sign c = simp length-take (omega arith)
 
-fill-requires : tie.Need-fill-requires
-fill-requires c κs = simp length-set (omega arith)
+put-sign-requires : tie.Need-put-sign-requires
+put-sign-requires c κs = search needs
+
+sub-put-digits : tie.Need-sub-put-digits
+sub-put-digits c = search needs
+
+part-put-digits-start : tie.Need-part-put-digits-start
+part-put-digits-start c = search needs
+
+part-put-digits-end : tie.Need-part-put-digits-end
+part-put-digits-end c = search needs
+
+-- the column before the call, the digits' count and where they begin, known once the sign is written
+abbrev entry : tie.After-put-sign → tie.Start
+entry c = let at-magnitude = c .before .before .before .before in at-magnitude .before .before
+
+abbrev before : tie.After-put-sign → List ℕ
+before c = entry c .args .column .now
+
+abbrev count : tie.After-put-sign → ℕ
+count c = let at-count = c .before .before .before in at-count .digit-count .result
+
+abbrev from : tie.After-put-sign → ℕ
+from c = length (before c) - count c
+
+fits : (c : tie.After-put-sign) → count c ≤ length (before c)
+fits c = c .before .before .if1 .left
+
+front-length : (c : tie.After-put-sign) → length (c .put-sign .last .0) ≡ from c
+front-length c = omega (arith, simp length-take at (c .put-sign .kept .0))
+
+rest-length : (c : tie.After-put-sign) → length (drop (from c) (before c)) ≡ count c
+rest-length c = rw length-drop (omega (arith, fits c))
+
+put-digits-requires : tie.Need-put-digits-requires
+put-digits-requires c κs =
+    let at-sign = c .before .before .before in
+    let at-count = at-sign .before .before .before in
+    digits-fit (from at-sign) (at-sign .put-sign .last .0) (drop (from at-sign) (before at-sign)) (front-length at-sign) _ _
+    (at-count .digit-count .ensures) (rest-length at-sign)
 
 same-length : tie.Need-same-length
-same-length c = c .before .before .fill .kept .0 ∙ simp length-set
+same-length c = search needs
 
 returns-2 : tie.Need-returns-2
 returns-2 c =
-    let at-fill = c .before .before in
-    let at-magnitude = at-fill .before .before in
-    let at-if1 = at-magnitude .before in
-    let entry = at-if1 .before .before in
-    let f = entry .fits .value in
-    justifies-some _ _ _ _ (simp (toZ-ofZ, f) at (at-magnitude .magnitude .ensures))
-    (at-if1 .if1 .left)
-    (simp (toZ-ofZ, f) at (at-fill .fill .ensures))
+    let at-digits = c .before .before in
+    let at-sign = at-digits .before .before .before .before in
+    let at-count = at-sign .before .before .before in
+    let f = entry at-sign .fits .value in
+    justifies-wide (from at-sign) (at-sign .put-sign .last .0) (drop (from at-sign) (before at-sign)) (front-length at-sign) _ _ _ _ _
+    (simp (toZ-ofZ, f) at (at-count .before .magnitude .ensures))
+    (at-count .digit-count .ensures)
+    (omega (arith, fits at-sign))
+    (rest-length at-sign)
+    (simp (toZ-ofZ, f) at (at-sign .put-sign .ensures))
+    (at-digits .put-digits .ensures)
 
 pub justify-spec : {M : Type 1} → statement M
 justify-spec =
     tie.close
     (tie.spec
-    returns
     magnitude-requires
-    sub-last
-    cast-column
-    add-column
-    slice-write-column
-    fill-requires
+    digit-count-requires
+    returns
+    slice-relend-prefix-put-sign
+    slice-aggregate-put-sign
+    put-sign-requires
+    sub-put-digits
+    part-put-digits-start
+    part-put-digits-end
+    put-digits-requires
     same-length
     returns-2)

@@ -1,0 +1,183 @@
+-- A number's digits from the highest place down, as printing takes them off.
+use Prim.Native.Nat.{ℕ, zero, suc, _+_, _-_, _*_, _/_, _%_, _^_, _≤_, _<_}
+use mathlib.Core.Path.{_≡_, refl, ap, sym, subst, _∙_}
+use mathlib.Core.List.{List, [], _∷_, _++_, append-assoc, append-nil}
+use native.Mathlib.Nat.{pow-zero, pow-suc, mul-assoc, mul-one, zero-mul, add-mul, one-le-pow, pow-le-pow-right, lt-of-mul-lt-mul-right}
+use native.Mathlib.Numerals.{unary-clauses}
+use native.Mathlib.Omega.{arith}
+use lib.ListN.{length, getD, take, set, length-append, length-set}
+use lib.Seq.{take-all, take-suc-set}
+use Rattle.counter_print.specs.declared.Lead.{Lead}
+use Rattle.counter_print.specs.Texts.{digit, digits, numeral}
+use Rattle.counter_print.specs.Decimals.{digits-none, digits-numeral}
+use Rattle.counter_print.specs.Powers.{powers, powers-length, power-at}
+
+-- The last digits of a number, so many as are asked for: zeros stand where it has none.
+unfoldable pub places : ℕ → ℕ → List ℕ
+places zero n = []
+places (suc k) n = places k (n / 10) ++ digit (n % 10) ∷ []
+
+pub places-length : (k n : ℕ) → length (places k n) ≡ k
+unfolding places
+places-length zero n = refl
+places-length (suc k) n = rw (length-append, places-length k (n / 10)) (omega arith)
+
+-- ---- the highest of them
+
+pub places-lead : (k d r : ℕ) → d < 10 → r < 10 ^ k → places (suc k) (d * 10 ^ k + r) ≡ digit d ∷ places k r
+unfolding places
+places-lead zero d r a h =
+    let e : (d * 10 ^ 0 + r) % 10 ≡ d = rw (pow-zero 10, mul-one d) (omega (arith, pow-zero 10)) in
+    ap (λ (c : ℕ). digit c ∷ []) e
+places-lead (suc k) d r a h =
+    let e : d * 10 ^ suc k ≡ 10 * (d * 10 ^ k) = omega (arith, ap (λ (p : ℕ). d * p) (pow-suc 10 k), mul-assoc d (10 ^ k) 10) in
+    let tens : (d * 10 ^ suc k + r) / 10 ≡ d * 10 ^ k + r / 10 = omega (arith, e) in
+    let last : (d * 10 ^ suc k + r) % 10 ≡ r % 10 = omega (arith, e) in
+    rw (tens, last)
+    (ap (λ (t : List ℕ). t ++ digit (r % 10) ∷ []) (places-lead k d (r / 10) a (omega (arith, pow-suc 10 k))))
+
+-- ---- how many a number needs
+
+-- As many as it is written with: 0 has one, and no other number begins with 0.
+pub record Counts (number count : ℕ) : Type 0 where
+  pub some : 0 < count
+  pub most : count ≤ length powers
+  pub enough : number < 10 ^ count
+  pub least : 1 < count → 10 ^ (count - 1) ≤ number
+
+numeral-places : (k n : ℕ) → n < 10 ^ suc k → (0 < k → 10 ^ k ≤ n) → numeral n ≡ places (suc k) n
+unfolding numeral places
+numeral-places zero n h l =
+    let e : n / 10 ≡ 0 = omega (arith, pow-suc 10 0, pow-zero 10) in
+    rw (e, digits-none)
+numeral-places (suc k) n h l =
+    ap (λ (t : List ℕ). t ++ digit (n % 10) ∷ [])
+    (digits-numeral (n / 10) (omega (arith, l (omega arith), low, pow-suc 10 k))
+    ∙ numeral-places k (n / 10) (omega (arith, pow-suc 10 (suc k))) (λ _. omega (arith, l (omega arith), pow-suc 10 k)))
+  where
+    low : 1 ≤ 10 ^ k
+    low = one-le-pow k 10 (omega arith)
+
+pub counts-text : (n count : ℕ) → Counts n count → numeral n ≡ places count n
+counts-text n zero c = absurd (omega (arith, c .some))
+counts-text n (suc k) c = numeral-places k n (c .enough) (λ h. simp unary-clauses at (c .least (omega arith)))
+
+-- While they are counted: fewer than `count` are too few.
+pub record Counting (number count : ℕ) : Type 0 where
+  pub some : 0 < count
+  pub most : count ≤ length powers
+  pub least : 1 < count → 10 ^ (count - 1) ≤ number
+
+pub counting-one : (number : ℕ) → Counting number 1
+counting-one number = record { some = omega arith; most = omega (arith, powers-length); least = λ h. absurd (omega arith) }
+
+pub counting-more : {number count power : ℕ} → Counting number count → count < 19 → power ≡ getD powers count 0 → power ≤ number
+    → Counting number (count + 1)
+counting-more {number} {count} c h e low =
+    record {
+      some = omega arith;
+      most = omega (arith, powers-length);
+      least = λ _. rw back (omega (arith, low, e, power-at count (omega (arith, powers-length))));
+    }
+  where
+    back : count + 1 - 1 ≡ count
+    back = omega arith
+
+counted : {number count : ℕ} → Counting number count → number < 10 ^ count → Counts number count
+counted c h = record { some = c .some; most = c .most; enough = h; least = c .least }
+
+pub counted-below : {number count power : ℕ} → Counting number count → count < 19 → power ≡ getD powers count 0 → number < power → Counts number count
+counted-below {number} {count} c h e below = counted c (omega (arith, e, power-at count (omega (arith, powers-length))))
+
+pub counted-all : {number count : ℕ} → Counting number count → 19 ≤ count → number < 10 ^ length powers → Counts number count
+counted-all {number} {count} c h fits = counted c (subst (λ (k : ℕ). number < 10 ^ k) same fits)
+  where
+    same : length powers ≡ count
+    same = omega (arith, c .most, powers-length)
+
+-- ---- one digit
+
+-- A power subtracted so many times, or not: the whole stays, and of less than twice as much less than that is left.
+pub record Subtracts (before : Lead) (power times : ℕ) (after : Lead) : Type 0 where
+  pub whole : after .digit * power + after .rest ≡ before .digit * power + before .rest
+  pub high : after .digit ≤ before .digit + times
+  pub less : before .rest < 2 * (times * power) → after .rest < times * power
+
+pub subtracts-none : (before : Lead) (power times : ℕ) → before .rest < times * power → Subtracts before power times before
+subtracts-none before power times h = record { whole = refl; high = omega arith; less = λ _. h }
+
+pub subtracts-some : (before : Lead) (power times : ℕ) → times * power ≤ before .rest
+    → Subtracts before power times (record { digit = before .digit + times; rest = before .rest - times * power })
+subtracts-some before power times h =
+    record { whole = omega (arith, add-mul (before .digit) times power); high = omega arith; less = λ low. omega arith }
+
+-- The digit at the power's place, and what is left below it.
+pub record Leads (number power : ℕ) (lead : Lead) : Type 0 where
+  pub whole : lead .digit * power + lead .rest ≡ number
+  pub small : lead .digit < 10
+  pub less : lead .rest < power
+
+pub leads : {number power : ℕ} {a b c d : Lead} → number < 10 * power → Subtracts (record { digit = 0; rest = number }) power 8 a
+    → Subtracts a power 4 b → Subtracts b power 2 c → Subtracts c power 1 d → Leads number power d
+leads {number} {power} {d = d} h s₈ s₄ s₂ s₁ =
+    record { whole = whole; small = lt-of-mul-lt-mul-right power (omega (arith, whole)); less = omega (arith, less) }
+  where
+    whole : d .digit * power + d .rest ≡ number
+    whole = s₁ .whole ∙ s₂ .whole ∙ s₄ .whole ∙ s₈ .whole ∙ omega (arith, zero-mul power)
+
+    less : d .rest < 1 * power
+    less = s₁ .less (omega (arith, s₂ .less (omega (arith, s₄ .less (omega (arith, s₈ .less (omega arith)))))))
+
+-- What a digit is taken off of is below ten times the power of its place, and eight times that power is a word.
+pub lead-asks : (place : ℕ) {rest power : ℕ} → 0 < place → place ≤ length powers → rest < 10 ^ place → power ≡ getD powers (place - 1) 0
+    → (rest < 10 * power) × (8 * power < 2 ^ 64)
+lead-asks zero some h small e = absurd (omega arith)
+lead-asks (suc k) {rest} {power} some h small e = (omega (arith, tens, pow-suc 10 k), omega (arith, tens, low))
+  where
+    tens : power ≡ 10 ^ k
+    tens = simp unary-clauses at e ∙ power-at k (omega arith)
+
+    low : 10 ^ k ≤ 10 ^ 18
+    low = pow-le-pow-right (omega arith) {i = k} {j = 18} (omega (arith, powers-length))
+
+-- ---- all digits, the highest first
+
+-- While a column is filled: `at` digits stand there, and `place` are to come, those of what is left.
+pub record Putting (number : ℕ) (before column : List ℕ) (at place rest : ℕ) : Type 0 where
+  pub size : length column ≡ length before
+  pub count : at + place ≡ length before
+  pub small : rest < 10 ^ place
+  pub text : places (length before) number ≡ take at column ++ places place rest
+
+pub putting-more : (place : ℕ) {number : ℕ} {before column : List ℕ} {at rest power : ℕ} {lead : Lead} → Putting number before column at place rest
+    → 0 < place → power ≡ 10 ^ (place - 1) → Leads rest power lead
+    → Putting number before (set column at (digit (lead .digit))) (at + 1) (place - 1) (lead .rest)
+putting-more zero p some e l = absurd (omega arith)
+putting-more (suc k) {column = column} {at} {rest} {power} {lead} p some e l =
+    record {
+      size = length-set column at (digit (lead .digit)) ∙ p .size;
+      count = omega (arith, p .count);
+      small = omega (arith, l .less, e);
+      text = p .text ∙ ap (λ (t : List ℕ). take at column ++ t) top ∙ rw (next, shown, append-assoc, back);
+    }
+  where
+    tens : power ≡ 10 ^ k
+    tens = simp unary-clauses at e
+
+    top : places (suc k) rest ≡ digit (lead .digit) ∷ places k (lead .rest)
+    top = rw (← l .whole, tens) (places-lead k (lead .digit) (lead .rest) (l .small) (omega (arith, l .less, tens)))
+
+    next : at + 1 ≡ suc at
+    next = omega arith
+
+    back : suc k - 1 ≡ k
+    back = omega arith
+
+    shown : take (suc at) (set column at (digit (lead .digit))) ≡ take at column ++ digit (lead .digit) ∷ []
+    shown = take-suc-set column at (digit (lead .digit)) (omega (arith, p .size, p .count))
+
+pub putting-done : (place : ℕ) {number : ℕ} {before column : List ℕ} {at rest : ℕ} → Putting number before column at place rest → place ≤ 0
+    → column ≡ places (length before) number
+unfolding places
+putting-done zero {column = column} {at} p none = sym (p .text ∙ append-nil _ ∙ take-all at column (omega (arith, p .size, p .count)))
+putting-done (suc k) p none = absurd (omega arith)
