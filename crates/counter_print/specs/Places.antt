@@ -10,7 +10,7 @@ use lib.Seq.{take-all, take-suc-set}
 use Rattle.counter_print.specs.declared.Lead.{Lead}
 use Rattle.counter_print.specs.Texts.{digit, digits, numeral}
 use Rattle.counter_print.specs.Decimals.{digits-none, digits-numeral}
-use Rattle.counter_print.specs.Powers.{powers, powers-length, power-at}
+use Rattle.counter_print.specs.Powers.{mostDigits, PowersOfTen, power-at}
 
 -- The last digits of a number, so many as are asked for: zeros stand where it has none.
 unfoldable pub places : ℕ → ℕ → List ℕ
@@ -41,7 +41,7 @@ places-lead (suc k) d r a h =
 -- As many as it is written with: 0 has one, and no other number begins with 0.
 pub record Counts (number count : ℕ) : Type 0 where
   pub some : 0 < count
-  pub most : count ≤ length powers
+  pub most : count ≤ mostDigits
   pub enough : number < 10 ^ count
   pub least : 1 < count → 10 ^ (count - 1) ≤ number
 
@@ -65,35 +65,35 @@ counts-text n (suc k) c = numeral-places k n (c .enough) (λ h. simp unary-claus
 -- While they are counted: fewer than `count` are too few.
 pub record Counting (number count : ℕ) : Type 0 where
   pub some : 0 < count
-  pub most : count ≤ length powers
+  pub most : count ≤ mostDigits
   pub least : 1 < count → 10 ^ (count - 1) ≤ number
 
 pub counting-one : (number : ℕ) → Counting number 1
-counting-one number = record { some = omega arith; most = omega (arith, powers-length); least = λ h. absurd (omega arith) }
-
-pub counting-more : {number count power : ℕ} → Counting number count → count < 19 → power ≡ getD powers count 0 → power ≤ number
-    → Counting number (count + 1)
-counting-more {number} {count} c h e low =
-    record {
-      some = omega arith;
-      most = omega (arith, powers-length);
-      least = λ _. rw back (omega (arith, low, e, power-at count (omega (arith, powers-length))));
-    }
-  where
-    back : count + 1 - 1 ≡ count
-    back = omega arith
+counting-one number = record { some = omega arith; most = omega arith; least = λ h. absurd (omega arith) }
 
 counted : {number count : ℕ} → Counting number count → number < 10 ^ count → Counts number count
 counted c h = record { some = c .some; most = c .most; enough = h; least = c .least }
 
-pub counted-below : {number count power : ℕ} → Counting number count → count < 19 → power ≡ getD powers count 0 → number < power → Counts number count
-counted-below {number} {count} c h e below = counted c (omega (arith, e, power-at count (omega (arith, powers-length))))
+module _ {powers : List ℕ} {number count : ℕ} (p : PowersOfTen powers) (c : Counting number count) where
+  pub counting-more : count < length powers → getD powers count 0 ≤ number → Counting number (count + 1)
+  counting-more h low =
+      record {
+        some = omega arith;
+        most = omega (arith, p .size);
+        least = λ _. rw back (omega (arith, low, power-at p count h));
+      }
+    where
+      back : count + 1 - 1 ≡ count
+      back = omega arith
 
-pub counted-all : {number count : ℕ} → Counting number count → 19 ≤ count → number < 10 ^ length powers → Counts number count
-counted-all {number} {count} c h fits = counted c (subst (λ (k : ℕ). number < 10 ^ k) same fits)
-  where
-    same : length powers ≡ count
-    same = omega (arith, c .most, powers-length)
+  pub counted-below : count < length powers → number < getD powers count 0 → Counts number count
+  counted-below h below = counted c (omega (arith, below, power-at p count h))
+
+  pub counted-all : length powers ≤ count → number < 10 ^ mostDigits → Counts number count
+  counted-all h fits = counted c (subst (λ (k : ℕ). number < 10 ^ k) same fits)
+    where
+      same : mostDigits ≡ count
+      same = omega (arith, c .most, p .size)
 
 -- ---- one digit
 
@@ -102,14 +102,6 @@ pub record Subtracts (before : Lead) (power times : ℕ) (after : Lead) : Type 0
   pub whole : after .digit * power + after .rest ≡ before .digit * power + before .rest
   pub high : after .digit ≤ before .digit + times
   pub less : before .rest < 2 * (times * power) → after .rest < times * power
-
-pub subtracts-none : (before : Lead) (power times : ℕ) → before .rest < times * power → Subtracts before power times before
-subtracts-none before power times h = record { whole = refl; high = omega arith; less = λ _. h }
-
-pub subtracts-some : (before : Lead) (power times : ℕ) → times * power ≤ before .rest
-    → Subtracts before power times (record { digit = before .digit + times; rest = before .rest - times * power })
-subtracts-some before power times h =
-    record { whole = omega (arith, add-mul (before .digit) times power); high = omega arith; less = λ low. omega arith }
 
 -- The digit at the power's place, and what is left below it.
 pub record Leads (number power : ℕ) (lead : Lead) : Type 0 where
@@ -128,17 +120,19 @@ leads {number} {power} {d = d} h s₈ s₄ s₂ s₁ =
     less : d .rest < 1 * power
     less = s₁ .less (omega (arith, s₂ .less (omega (arith, s₄ .less (omega (arith, s₈ .less (omega arith)))))))
 
--- What a digit is taken off of is below ten times the power of its place, and eight times that power is a word.
-pub lead-asks : (place : ℕ) {rest power : ℕ} → 0 < place → place ≤ length powers → rest < 10 ^ place → power ≡ getD powers (place - 1) 0
-    → (rest < 10 * power) × (8 * power < 2 ^ 64)
-lead-asks zero some h small e = absurd (omega arith)
-lead-asks (suc k) {rest} {power} some h small e = (omega (arith, tens, pow-suc 10 k), omega (arith, tens, low))
-  where
-    tens : power ≡ 10 ^ k
-    tens = simp unary-clauses at e ∙ power-at k (omega arith)
+-- What a digit is taken off is below ten times the power of its place, and eight times that power is a word.
+module _ (powers : List ℕ) (p : PowersOfTen powers) (place : ℕ) (some : 0 < place) (most : place ≤ mostDigits) where
+  pub power-before : getD powers (place - 1) 0 ≡ 10 ^ (place - 1)
+  power-before = power-at p (place - 1) (omega (arith, p .size))
 
-    low : 10 ^ k ≤ 10 ^ 18
-    low = pow-le-pow-right (omega arith) {i = k} {j = 18} (omega (arith, powers-length))
+  pub lead-asks : (rest : ℕ) → rest < 10 ^ place → (rest < 10 * getD powers (place - 1) 0) × (8 * getD powers (place - 1) 0 < 2 ^ 64)
+  lead-asks rest small = (omega (arith, small, power-before, pow-suc 10 (place - 1), ap (λ (k : ℕ). 10 ^ k) back), omega (arith, power-before, low))
+    where
+      back : place ≡ suc (place - 1)
+      back = omega arith
+
+      low : 10 ^ (place - 1) ≤ 10 ^ 18
+      low = pow-le-pow-right (omega arith) {i = place - 1} {j = 18} (omega arith)
 
 -- ---- all digits, the highest first
 

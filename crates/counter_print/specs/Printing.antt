@@ -14,7 +14,7 @@ use mir.Val.{SFits}
 use borrow.Author.Tests.{le-ltb}
 use Rattle.counter_print.specs.Texts.{space, minus, numeral, decimal, justified, FitsIn, newline, answerLine}
 use Rattle.counter_print.specs.Printed.{Justifies, Puts, Answers}
-use Rattle.counter_print.specs.Powers.{powers, powers-length}
+use Rattle.counter_print.specs.Powers.{mostDigits}
 use Rattle.counter_print.specs.Places.{places, places-length, Counts, counts-text}
 use Rattle.counter_print.specs.Sections.{between, parts-left, parts-middle, parts-right}
 use Rattle.counter_print.specs.Justified.{spaces-snoc}
@@ -89,9 +89,9 @@ decimal-parts (pos n) = rw (le-ltb n 0 (omega arith))
 decimal-parts (negsuc n) = refl
 
 -- A word's digits are no more than the table has powers for.
-pub word-digits : (z : ℤ) → SFits w64 z → natAbs z < 10 ^ length powers
-word-digits (pos n) f = rw powers-length (omega arith)
-word-digits (negsuc n) f = rw powers-length (omega arith)
+pub word-digits : (z : ℤ) → SFits w64 z → natAbs z < 10 ^ mostDigits
+word-digits (pos n) f = omega arith
+word-digits (negsuc n) f = omega arith
 
 -- Where the digits alone are too wide, anything may stand.
 pub justifies-narrow : (z : ℤ) (number count : ℕ) (before after : List ℕ) → number ≡ natAbs z → Counts number count → length before < count
@@ -111,7 +111,7 @@ module _ (from : ℕ) (front rest : List ℕ) (same : length front ≡ from) whe
 
   -- The digits have the columns that they need.
   pub digits-fit : (number count : ℕ) → Counts number count → length rest ≡ count
-      → (length (between from (length (front ++ rest)) (front ++ rest)) ≤ length powers)
+      → (length (between from (length (front ++ rest)) (front ++ rest)) ≤ mostDigits)
       × (number < 10 ^ length (between from (length (front ++ rest)) (front ++ rest)))
   digits-fit number count c e = rw (rest-lent, e) (c .most, c .enough)
 

@@ -3,12 +3,12 @@ ghost use mathlib.Core.Path.{_≡_};
 ghost use Prim.Native.Nat.{_+_, _*_, _^_, _≤_, _<_};
 ghost use lib.ListN.{length, getD};
 ghost use lib.IntN.{natAbs};
-ghost use Rattle.counter_print.specs.Powers.{powers};
+ghost use Rattle.counter_print.specs.Powers.{PowersOfTen, mostDigits};
 ghost use Rattle.counter_print.specs.Places.{places, Counts, Subtracts, Leads};
 ghost use Rattle.counter_print.specs.Printed.{Justifies, Puts, Answers};
 ghost use Rattle.counter_print.specs.Printing.{Signs};
 
-// The powers of ten that the digits of a word are made of.
+// The powers of ten, one for each digit that a word may have.
 const POWERS: [u64; 19] = [
     1,
     10,
@@ -49,21 +49,20 @@ fn magnitude(value: i64) -> u64
     value as u64
 }
 
-// The power of ten at a place.
-fn power_at(place: usize) -> u64
-    requires { ⌜ place < length powers ⌝ }
-    ensures { λ r. ⌜ r ≡ getD powers place 0 ⌝ }
+// The table and its rule.
+fn powers_of_ten() -> [u64; 19]
+    ensures { λ r. ⌜ PowersOfTen r ⌝ }
 {
-    POWERS[place]
+    POWERS
 }
 
 // How many digits a number has: 0 has one.
-fn digit_count(number: u64) -> usize
-    requires { ⌜ number < 10 ^ length powers ⌝ }
+fn digit_count(powers: &[u64], number: u64) -> usize
+    requires { ⌜ PowersOfTen (now powers) × (number < 10 ^ mostDigits) ⌝ }
     ensures { λ r. ⌜ Counts number r ⌝ }
 {
     let mut count = 1;
-    while count < POWERS.len() && power_at(count) <= number {
+    while count < powers.len() && powers[count] <= number {
         count += 1;
     }
     count
@@ -100,8 +99,8 @@ fn lead_digit(number: u64, power: u64) -> Lead
 }
 
 // Fills columns with as many digits of a number, the highest first.
-fn put_digits(column: &mut [u8], number: u64)
-    requires { ⌜ (length (now column) ≤ length powers) × (number < 10 ^ length (now column)) ⌝ }
+fn put_digits(column: &mut [u8], powers: &[u64], number: u64)
+    requires { ⌜ PowersOfTen (now powers) × (length (now column) ≤ mostDigits) × (number < 10 ^ length (now column)) ⌝ }
     ensures { λ _. ⌜ now (column .exit) ≡ places (length (now (column .entry))) number ⌝ }
 {
     let mut at = 0;
@@ -109,7 +108,7 @@ fn put_digits(column: &mut [u8], number: u64)
     let mut rest = number;
     while 0 < place {
         place -= 1;
-        let lead = lead_digit(rest, power_at(place));
+        let lead = lead_digit(rest, powers[place]);
         column[at] = b'0' + lead.digit;
         rest = lead.rest;
         at += 1;
@@ -136,15 +135,16 @@ fn put_sign(column: &mut [u8], minus: bool)
 pub fn justify(column: &mut [u8], value: i64)
     ensures { λ _. ⌜ Justifies value (now (column .entry)) (now (column .exit)) ⌝ }
 {
+    let powers = powers_of_ten();
     let number = magnitude(value);
-    let count = digit_count(number);
+    let count = digit_count(&powers, number);
     let width = column.len();
     if width < count {
         return;
     }
     let from = width - count;
     put_sign(&mut column[..from], value < 0);
-    put_digits(&mut column[from..], number);
+    put_digits(&mut column[from..], &powers, number);
 }
 
 // The same in the `width` columns from `from`; the other bytes stay.

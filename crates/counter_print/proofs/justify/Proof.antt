@@ -10,19 +10,27 @@ use Rattle.counter_print.specs.Printing.{word-digits, justifies-narrow, 
 use Rattle.counter_print.proofs.justify.Statement.{statement}
 use Rattle.counter_print.proofs.justify.Tie as tie
 
+powers-of-ten-requires : tie.Need-powers-of-ten-requires
+powers-of-ten-requires c κs = search needs
+
 magnitude-requires : tie.Need-magnitude-requires
 magnitude-requires c κs = search needs
 
+slice-aggregate-digit-count : tie.Need-slice-aggregate-digit-count
+slice-aggregate-digit-count c = search needs
+
 digit-count-requires : tie.Need-digit-count-requires
 digit-count-requires c κs =
-    let f = c .before .before .fits .value in
-    rw (simp (toZ-ofZ, f) at (c .magnitude .ensures)) (word-digits _ f)
+    let at-magnitude = c .before in
+    let at-powers = at-magnitude .before in
+    let f = at-powers .before .before .fits .value in
+    (at-powers .powers-of-ten .ensures, rw (simp (toZ-ofZ, f) at (at-magnitude .magnitude .ensures)) (word-digits _ f))
 
 returns : tie.Need-returns
 returns c =
     let at-count = c .before in
-    let at-magnitude = at-count .before in
-    let f = at-magnitude .before .before .fits .value in
+    let at-magnitude = at-count .before .before in
+    let f = at-magnitude .before .before .before .fits .value in
     justifies-narrow _ _ _ _ _ (simp (toZ-ofZ, f) at (at-magnitude .magnitude .ensures)) (at-count .digit-count .ensures) (c .if1 .taken)
 
 slice-relend-prefix-put-sign : tie.Need-slice-relend-prefix-put-sign
@@ -45,7 +53,7 @@ part-put-digits-end c = search needs
 
 -- the column before the call, the digits' count and where they begin, known once the sign is written
 abbrev entry : tie.After-put-sign → tie.Start
-entry c = let at-magnitude = c .before .before .before .before in at-magnitude .before .before
+entry c = let at-magnitude = c .before .before .before .before .before in at-magnitude .before .before .before
 
 abbrev before : tie.After-put-sign → List ℕ
 before c = entry c .args .column .now
@@ -65,12 +73,17 @@ front-length c = omega (arith, simp length-take at (c .put-sign .kept .0))
 rest-length : (c : tie.After-put-sign) → length (drop (from c) (before c)) ≡ count c
 rest-length c = rw length-drop (omega (arith, fits c))
 
+slice-aggregate-put-digits : tie.Need-slice-aggregate-put-digits
+slice-aggregate-put-digits c = search needs
+
 put-digits-requires : tie.Need-put-digits-requires
 put-digits-requires c κs =
-    let at-sign = c .before .before .before in
+    let at-sign = c .before .before .before .before in
     let at-count = at-sign .before .before .before in
-    digits-fit (from at-sign) (at-sign .put-sign .last .0) (drop (from at-sign) (before at-sign)) (front-length at-sign) _ _
-    (at-count .digit-count .ensures) (rest-length at-sign)
+    let at-powers = at-count .before .before .before in
+    let fit = digits-fit (from at-sign) (at-sign .put-sign .last .0) (drop (from at-sign) (before at-sign)) (front-length at-sign) _ _
+    (at-count .digit-count .ensures) (rest-length at-sign) in
+    (at-powers .powers-of-ten .ensures, fit .0, fit .1)
 
 same-length : tie.Need-same-length
 same-length c = search needs
@@ -78,11 +91,11 @@ same-length c = search needs
 returns-2 : tie.Need-returns-2
 returns-2 c =
     let at-digits = c .before .before in
-    let at-sign = at-digits .before .before .before .before in
+    let at-sign = at-digits .before .before .before .before .before in
     let at-count = at-sign .before .before .before in
     let f = entry at-sign .fits .value in
     justifies-wide (from at-sign) (at-sign .put-sign .last .0) (drop (from at-sign) (before at-sign)) (front-length at-sign) _ _ _ _ _
-    (simp (toZ-ofZ, f) at (at-count .before .magnitude .ensures))
+    (simp (toZ-ofZ, f) at (at-count .before .before .magnitude .ensures))
     (at-count .digit-count .ensures)
     (omega (arith, fits at-sign))
     (rest-length at-sign)
@@ -93,7 +106,9 @@ pub justify-spec : {M : Type 1} → statement M
 justify-spec =
     tie.close
     (tie.spec
+    powers-of-ten-requires
     magnitude-requires
+    slice-aggregate-digit-count
     digit-count-requires
     returns
     slice-relend-prefix-put-sign
@@ -102,6 +117,7 @@ justify-spec =
     sub-put-digits
     part-put-digits-start
     part-put-digits-end
+    slice-aggregate-put-digits
     put-digits-requires
     same-length
     returns-2)

@@ -1,34 +1,42 @@
 -- `counter_print::put_digits` meets its contract. The loop's invariant: the digits written, and those of what is left, are the number's.
-use mathlib.Core.Path.{refl, _∙_}
+use Prim.Native.Nat.{_≤_}
+use mathlib.Core.Path.{refl}
 use native.Mathlib.Omega.{arith}
-use Rattle.counter_print.specs.Powers.{power-at, powers-length}
-use Rattle.counter_print.specs.Places.{lead-asks, Putting, putting-more, putting-done}
+use borrow.Author.Needs.{needs}
+use Rattle.counter_print.specs.Powers.{mostDigits}
+use Rattle.counter_print.specs.Places.{power-before, lead-asks, Putting, putting-more, putting-done}
 use Rattle.counter_print.proofs.put_digits.Statement.{statement}
 use Rattle.counter_print.proofs.put_digits.Tie as tie
 
 abbrev Inv-loop : tie.InvT-loop
-Inv-loop column₀ number at₀ place₀ rest₀ column at place rest = Putting number column₀ column at place rest
+Inv-loop column₀ powers number at₀ place₀ rest₀ column at place rest = Putting number column₀ column at place rest
 
 abbrev μ-loop : tie.MeasureT-loop
-μ-loop column₀ number at₀ place₀ rest₀ column at place rest = place
+μ-loop column₀ powers number at₀ place₀ rest₀ column at place rest = place
 
 loop-holds : tie.Need-loop-holds Inv-loop μ-loop
-loop-holds c = record { size = refl; count = omega arith; small = c .before .pre .1; text = refl }
+loop-holds c = record { size = refl; count = omega arith; small = c .before .before .pre .2; text = refl }
+
+-- within the loop: the function's beginning, and that a power stands at the place
+abbrev entry : tie.In-loop Inv-loop μ-loop → tie.Start Inv-loop μ-loop
+entry c = let at-loop = c .before in at-loop .before .before .before
+
+low : (c : tie.In-loop Inv-loop μ-loop) → c .before .loop .place ≤ mostDigits
+low c = omega (arith, c .before .loop .inv .count, entry c .pre .1)
 
 sub-place : tie.Need-sub-place Inv-loop μ-loop
 sub-place c = omega arith
 
-power-at-requires : tie.Need-power-at-requires Inv-loop μ-loop
-power-at-requires c κs =
-    let entry = c .before .before .before in
-    omega (arith, c .loop-test .taken, c .before .loop .inv .count, entry .pre .0)
+mul-lead-digit : tie.Need-mul-lead-digit Inv-loop μ-loop
+mul-lead-digit c = record { fits = omega (arith, low c) }
+
+shared-slice-read-lead-digit : tie.Need-shared-slice-read-lead-digit Inv-loop μ-loop
+shared-slice-read-lead-digit c = omega (arith, c .before .loop-test .taken, low (c .before), entry (c .before) .pre .0 .size)
 
 lead-digit-requires : tie.Need-lead-digit-requires Inv-loop μ-loop
 lead-digit-requires c κs =
     let at-test = c .before in
-    let inv = at-test .before .loop .inv in
-    let entry = at-test .before .before .before in
-    lead-asks _ (at-test .loop-test .taken) (omega (arith, inv .count, entry .pre .0)) (inv .small) (c .power-at .ensures)
+    lead-asks _ (entry at-test .pre .0) _ (at-test .loop-test .taken) (low at-test) _ (at-test .before .loop .inv .small)
 
 add-column : tie.Need-add-column Inv-loop μ-loop
 add-column c = omega (arith, c .before .lead-digit .ensures .small)
@@ -42,8 +50,7 @@ slice-write-column c =
 add-at : tie.Need-add-at Inv-loop μ-loop
 add-at c =
     let at-test = c .before .before .before in
-    let entry = at-test .before .before .before in
-    omega (arith, at-test .loop-test .taken, at-test .before .loop .inv .count, entry .pre .0, powers-length)
+    omega (arith, at-test .loop-test .taken, at-test .before .loop .inv .count, entry at-test .pre .1)
 
 loop-less : tie.Need-loop-less Inv-loop μ-loop
 loop-less c = omega arith
@@ -51,13 +58,9 @@ loop-less c = omega arith
 loop-again : tie.Need-loop-again Inv-loop μ-loop
 loop-again c =
     let at-lead = c .before in
-    let at-power = at-lead .before in
-    let at-test = at-power .before in
-    let inv = at-test .before .loop .inv in
-    let entry = at-test .before .before .before in
-    putting-more _ inv (at-test .loop-test .taken)
-    (at-power .power-at .ensures ∙ power-at _ (omega (arith, at-test .loop-test .taken, inv .count, entry .pre .0)))
-    (at-lead .lead-digit .ensures)
+    let at-test = at-lead .before .before in
+    let some = at-test .loop-test .taken in
+    putting-more _ (at-test .before .loop .inv) some (power-before _ (entry at-test .pre .0) _ some (low at-test)) (at-lead .lead-digit .ensures)
 
 same-length : tie.Need-same-length Inv-loop μ-loop
 same-length c = c .before .loop .inv .size
@@ -73,7 +76,8 @@ put-digits-spec =
     μ-loop
     loop-holds
     sub-place
-    power-at-requires
+    mul-lead-digit
+    shared-slice-read-lead-digit
     lead-digit-requires
     add-column
     slice-write-column
