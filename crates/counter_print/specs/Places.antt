@@ -1,11 +1,16 @@
 -- A number's digits from the highest place down, as printing takes them off.
 use Prim.Native.Nat.{ℕ, zero, suc, _+_, _-_, _*_, _/_, _%_, _^_, _≤_, _<_}
 use mathlib.Core.Path.{_≡_, refl, ap, sym, subst, _∙_}
+use mathlib.Core.Bool.{Bool, true, false}
 use mathlib.Core.List.{List, [], _∷_, _++_, append-assoc, append-nil}
-use native.Mathlib.Nat.{pow-zero, pow-suc, mul-assoc, mul-one, zero-mul, add-mul, one-le-pow, pow-le-pow-right, lt-of-mul-lt-mul-right}
+use native.Mathlib.Nat.{pow-zero, pow-suc, mul-assoc, mul-one, zero-mul, suc-mul, one-le-pow, pow-le-pow-right, mul-le-mul-right}
+use native.Mathlib.Decide.{decLt}
 use native.Mathlib.Numerals.{unary-clauses}
 use native.Mathlib.Omega.{arith}
+use lib.Dec.{leb}
 use lib.ListN.{length, getD, take, set, length-append, length-set}
+use borrow.Author.Tests.{leb-true, leb-false}
+use mir.Val.{boolByte}
 use lib.Seq.{take-all, take-suc-set}
 use Rattle.counter_print.specs.declared.Lead.{Lead}
 use Rattle.counter_print.specs.Texts.{digit, digits, numeral}
@@ -97,35 +102,77 @@ module _ {powers : List ℕ} {number count : ℕ} (p : PowersOfTen powers) (c : 
 
 -- ---- one digit
 
--- A power subtracted so many times, or not: the whole stays, and of less than twice as much less than that is left.
-pub record Subtracts (before : Lead) (power times : ℕ) (after : Lead) : Type 0 where
-  pub whole : after .digit * power + after .rest ≡ before .digit * power + before .rest
-  pub high : after .digit ≤ before .digit + times
-  pub less : before .rest < 2 * (times * power) → after .rest < times * power
-
 -- The digit at the power's place, and what is left below it.
 pub record Leads (number power : ℕ) (lead : Lead) : Type 0 where
   pub whole : lead .digit * power + lead .rest ≡ number
   pub small : lead .digit < 10
   pub less : lead .rest < power
 
-pub leads : {number power : ℕ} {a b c d : Lead} → number < 10 * power → Subtracts (record { digit = 0; rest = number }) power 8 a
-    → Subtracts a power 4 b → Subtracts b power 2 c → Subtracts c power 1 d → Leads number power d
-leads {number} {power} {d = d} h s₈ s₄ s₂ s₁ =
-    record { whole = whole; small = lt-of-mul-lt-mul-right power (omega (arith, whole)); less = omega (arith, less) }
-  where
-    whole : d .digit * power + d .rest ≡ number
-    whole = s₁ .whole ∙ s₂ .whole ∙ s₄ .whole ∙ s₈ .whole ∙ omega (arith, zero-mul power)
+-- While the power's multiples are compared: it goes in `digit` times, and more often only if all `times` that were tried went in.
+pub record Going (number power digit times : ℕ) : Type 0 where
+  pub low : digit * power ≤ number
+  pub high : digit ≤ times
+  pub most : times ≤ 9
+  pub next : digit < times → number < suc digit * power
 
-    less : d .rest < 1 * power
-    less = s₁ .less (omega (arith, s₂ .less (omega (arith, s₄ .less (omega (arith, s₈ .less (omega arith)))))))
+pub going-none : (number power : ℕ) → Going number power 0 0
+going-none number power = record { low = omega (arith, zero-mul power); high = omega arith; most = omega arith; next = λ h. absurd (omega arith) }
 
--- What a digit is taken off is below ten times the power of its place, and eight times that power is a word.
+module _ {number power digit times : ℕ} (g : Going number power digit times) where
+  -- Where the next multiple goes in, all before it did; where it does not, no more than `digit` do.
+  all-before : (times + 1) * power ≤ number → digit ≡ times
+  all-before h = go (decLt digit times)
+    where
+      go : Dec (digit < times) → digit ≡ times
+      go (yes few) = absurd (omega (arith, h, g .next few, mul-le-mul-right {m = suc digit} {n = times + 1} power (omega arith)))
+      go (no all) = omega (arith, g .high)
+
+  no-more : number < (times + 1) * power → number < suc digit * power
+  no-more h = go (decLt digit times)
+    where
+      go : Dec (digit < times) → number < suc digit * power
+      go (yes few) = g .next few
+      go (no all) = let same : suc digit ≡ times + 1 = omega (arith, g .high) in rw same h
+
+  pub going-more : times < 9 → Going number power (digit + boolByte (leb ((times + 1) * power) number)) (times + 1)
+  going-more few = go (leb ((times + 1) * power) number) refl
+    where
+      go : (b : Bool) → leb ((times + 1) * power) number ≡ b → Going number power (digit + boolByte b) (times + 1)
+      go true e =
+          let h : (times + 1) * power ≤ number = leb-true ((times + 1) * power) number e in
+          let same : digit ≡ times = all-before h in
+          record { low = rw same h; high = omega arith; most = omega arith; next = λ less. absurd (omega arith) }
+      go false e =
+          let none : digit + 0 ≡ digit = omega arith in
+          rw none
+          (record {
+            low = g .low;
+            high = omega (arith, g .high);
+            most = omega arith;
+            next = λ _. no-more (leb-false ((times + 1) * power) number e);
+          })
+
+  pub going-done : 9 ≤ times → number < 10 * power → Leads number power (record { digit = digit; rest = number - digit * power })
+  going-done h below =
+      record {
+        whole = omega (arith, g .low);
+        small = omega (arith, g .high, g .most);
+        less = omega (arith, no-more (rw nine below), suc-mul digit power);
+      }
+    where
+      nine : times + 1 ≡ 10
+      nine = omega (arith, g .most)
+
+-- A multiple that is compared is a word.
+pub multiple-fits : (times power : ℕ) → times ≤ 10 → 10 * power < 2 ^ 64 → times * power < 2 ^ 64
+multiple-fits times power few h = omega (arith, h, mul-le-mul-right power few)
+
+-- What a digit is taken off is below ten times the power of its place, which is a word.
 module _ (powers : List ℕ) (p : PowersOfTen powers) (place : ℕ) (some : 0 < place) (most : place ≤ mostDigits) where
   pub power-before : getD powers (place - 1) 0 ≡ 10 ^ (place - 1)
   power-before = power-at p (place - 1) (omega (arith, p .size))
 
-  pub lead-asks : (rest : ℕ) → rest < 10 ^ place → (rest < 10 * getD powers (place - 1) 0) × (8 * getD powers (place - 1) 0 < 2 ^ 64)
+  pub lead-asks : (rest : ℕ) → rest < 10 ^ place → (rest < 10 * getD powers (place - 1) 0) × (10 * getD powers (place - 1) 0 < 2 ^ 64)
   lead-asks rest small = (omega (arith, small, power-before, pow-suc 10 (place - 1), ap (λ (k : ℕ). 10 ^ k) back), omega (arith, power-before, low))
     where
       back : place ≡ suc (place - 1)

@@ -4,7 +4,7 @@ ghost use Prim.Native.Nat.{_+_, _*_, _^_, _≤_, _<_};
 ghost use lib.ListN.{length, getD};
 ghost use lib.IntN.{natAbs};
 ghost use Rattle.counter_print.specs.Powers.{PowersOfTen, mostDigits};
-ghost use Rattle.counter_print.specs.Places.{places, Counts, Subtracts, Leads};
+ghost use Rattle.counter_print.specs.Places.{places, Counts, Leads};
 ghost use Rattle.counter_print.specs.Printed.{Justifies, Puts, Answers};
 ghost use Rattle.counter_print.specs.Printing.{Signs};
 
@@ -68,34 +68,22 @@ fn digit_count(powers: &[u64], number: u64) -> usize
     count
 }
 
-// Subtracts a power so many times at once, where that goes in.
-fn subtract(from: Lead, power: u64, times: u8) -> Lead
-    requires { ⌜ (times * power < 2 ^ 64) × (from .digit + times < 2 ^ 8) ⌝ }
-    ensures { λ r. ⌜ Subtracts from power times r ⌝ }
-{
-    let amount = times as u64 * power;
-    if from.rest < amount {
-        return from;
-    }
-    Lead {
-        digit: from.digit + times,
-        rest: from.rest - amount,
-    }
-}
-
-// The highest digit: the power of its place is subtracted as often as it goes in, 8, 4, 2 times and once.
+// The highest digit: the power of its place is subtracted as often as it goes in. All nine multiples are compared, since a branch that depends on
+// a digit is mispredicted for most.
 fn lead_digit(number: u64, power: u64) -> Lead
-    requires { ⌜ (number < 10 * power) × (8 * power < 2 ^ 64) ⌝ }
+    requires { ⌜ (number < 10 * power) × (10 * power < 2 ^ 64) ⌝ }
     ensures { λ r. ⌜ Leads number power r ⌝ }
 {
-    let whole = Lead {
-        digit: 0,
-        rest: number,
-    };
-    let below_8 = subtract(whole, power, 8);
-    let below_4 = subtract(below_8, power, 4);
-    let below_2 = subtract(below_4, power, 2);
-    subtract(below_2, power, 1)
+    let mut digit: u8 = 0;
+    let mut times: u64 = 0;
+    while times < 9 {
+        times += 1;
+        digit += (times * power <= number) as u8;
+    }
+    Lead {
+        digit: digit,
+        rest: number - digit as u64 * power,
+    }
 }
 
 // Fills columns with as many digits of a number, the highest first.

@@ -1,35 +1,64 @@
--- `counter_print::lead_digit` meets its contract: four subtractions, each of half as much as the one before.
+-- `counter_print::lead_digit` meets its contract. The loop's invariant: the power goes in `digit` times, and no more of the multiples tried do.
+use Prim.Native.Nat.{_-_}
+use native.Mathlib.Omega.{arith}
 use borrow.Author.Needs.{needs}
-use Rattle.counter_print.specs.Places.{leads}
+use Rattle.counter_print.specs.Places.{Going, going-none, going-more, going-done, multiple-fits}
 use Rattle.counter_print.proofs.lead_digit.Statement.{statement}
 use Rattle.counter_print.proofs.lead_digit.Tie as tie
 
-subtract-requires : tie.Need-subtract-requires
-subtract-requires c κs = search needs
+abbrev Inv-loop : tie.InvT-loop
+Inv-loop number power digit₀ times₀ digit times = Going number power digit times
 
-subtract-requires-2 : tie.Need-subtract-requires-2
-subtract-requires-2 c κs = search needs
+abbrev μ-loop : tie.MeasureT-loop
+μ-loop number power digit₀ times₀ digit times = 9 - times
 
-subtract-requires-3 : tie.Need-subtract-requires-3
-subtract-requires-3 c κs = search needs
+loop-holds : tie.Need-loop-holds Inv-loop μ-loop
+loop-holds c = going-none _ _
 
-subtract-requires-4 : tie.Need-subtract-requires-4
-subtract-requires-4 c κs = search needs
+add-times : tie.Need-add-times Inv-loop μ-loop
+add-times c = omega (arith, c .loop-test .taken)
 
-returns : tie.Need-returns
-returns c =
-    let at-2 = c .before in
-    let at-4 = at-2 .before in
-    let at-8 = at-4 .before in
-    let entry = at-8 .before in
-    leads (entry .pre .0) (at-8 .subtract .ensures) (at-4 .subtract2 .ensures) (at-2 .subtract3 .ensures) (c .subtract4 .ensures)
+mul-digit : tie.Need-mul-digit Inv-loop μ-loop
+mul-digit c = record { fits = multiple-fits _ _ (omega (arith, c .loop-test .taken)) (c .before .before .pre .1) }
+
+cast-digit : tie.Need-cast-digit Inv-loop μ-loop
+cast-digit c = tt
+
+add-digit : tie.Need-add-digit Inv-loop μ-loop
+add-digit c = let g = going-more (c .before .loop .inv) (c .loop-test .taken) in omega (arith, g .high, g .most)
+
+loop-less : tie.Need-loop-less Inv-loop μ-loop
+loop-less c = omega (arith, c .loop-test .taken)
+
+loop-again : tie.Need-loop-again Inv-loop μ-loop
+loop-again c = going-more (c .before .loop .inv) (c .loop-test .taken)
+
+cast-t8 : tie.Need-cast-t8 Inv-loop μ-loop
+cast-t8 c = omega (arith, c .before .loop .inv .high, c .before .loop .inv .most)
+
+mul-t9 : tie.Need-mul-t9 Inv-loop μ-loop
+mul-t9 c = omega (arith, c .before .loop .inv .low, c .before .before .fits .number)
+
+sub-t10 : tie.Need-sub-t10 Inv-loop μ-loop
+sub-t10 c = c .before .loop .inv .low
+
+returns : tie.Need-returns Inv-loop μ-loop
+returns c = going-done (c .before .loop .inv) (c .loop-test .left) (c .before .before .pre .0)
 
 pub lead-digit-spec : {M : Type 1} → statement M
 lead-digit-spec =
     tie.close
     (tie.spec
-    subtract-requires
-    subtract-requires-2
-    subtract-requires-3
-    subtract-requires-4
+    Inv-loop
+    μ-loop
+    loop-holds
+    add-times
+    mul-digit
+    cast-digit
+    add-digit
+    loop-less
+    loop-again
+    cast-t8
+    mul-t9
+    sub-t10
     returns)
