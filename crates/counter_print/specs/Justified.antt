@@ -1,8 +1,7 @@
--- Texts in columns: how wide they are, and how they grow at the right end.
+-- Texts in columns: how wide they are, and a text of two parts.
 use Prim.Native.Nat.{ℕ, zero, suc, _+_, _-_, _≤_}
 use mathlib.Core.Path.{_≡_, refl, ap, _∙_}
-use mathlib.Core.List.{List, [], _∷_, _++_, append-assoc, append-nil}
-use native.Mathlib.Nat.{sub-zero}
+use mathlib.Core.List.{List, [], _∷_, _++_, append-assoc}
 use native.Mathlib.Omega.{arith}
 use lib.ListN.{length, replicate, length-append, length-replicate}
 use Rattle.counter_print.specs.Texts.{space, justified}
@@ -19,22 +18,14 @@ justified-width w t h = justified-length w t ∙ omega arith
 pub justified-fits : (w : ℕ) (t : List ℕ) → length (justified w t) ≡ w → length t ≤ w
 justified-fits w t e = omega (arith, justified-length w t)
 
-pub justified-none : (t : List ℕ) → justified 0 t ≡ t
+-- A text of two parts: the first in the columns before the second.
+pub justified-append : (w : ℕ) (s t : List ℕ) → length t ≤ w → justified w (s ++ t) ≡ justified (w - length t) s ++ t
 unfolding justified
-justified-none t = let e : 0 - length t ≡ 0 = omega arith in rw e
-
--- One more byte at the right, in one more column.
-pub justified-snoc : (w : ℕ) (t : List ℕ) (b : ℕ) → justified (suc w) (t ++ b ∷ []) ≡ justified w t ++ b ∷ []
-unfolding justified
-justified-snoc w t b =
-    let e : suc w - length (t ++ b ∷ []) ≡ w - length t = rw length-append (omega arith) in
+justified-append w s t h =
+    let e : w - length (s ++ t) ≡ w - length t - length s = rw length-append (omega arith) in
     rw (e, append-assoc)
 
+-- One space more.
 pub spaces-snoc : (w : ℕ) → replicate (suc w) space ≡ replicate w space ++ space ∷ []
 spaces-snoc zero = refl
 spaces-snoc (suc w) = ap (λ (t : List ℕ). space ∷ t) (spaces-snoc w)
-
--- No text: a space more.
-pub justified-blank : (w : ℕ) → justified (suc w) [] ≡ justified w [] ++ space ∷ []
-unfolding justified
-justified-blank w = simp (sub-zero, append-nil) (spaces-snoc w)

@@ -1,9 +1,8 @@
--- How a text is printed: from its right end, a byte at a time. `Printed` says what is promised of it.
+-- How a number is printed: spaces and the minus before its digits, which `Places` tells. `Printed` says what is promised of it.
 use Prim.Native.Nat.{ℕ, zero, suc, _+_, _-_, _^_, _≤_, _<_}
 use mathlib.Core.Path.{_≡_, refl, ap, sym, _∙_}
-use mathlib.Core.Logic.{_≢_}
 use mathlib.Core.Bool.{Bool, true, false}
-use mathlib.Core.List.{List, [], _∷_, _++_, append-assoc, append-nil}
+use mathlib.Core.List.{List, [], _∷_, _++_, append-nil}
 use native.Mathlib.Omega.{arith}
 use lib.ListN.{length, take, drop, set, replicate, length-append, length-drop, length-set, drop-of-length-le}
 use lib.Seq.{take-add, take-all, take-at, drop-at, take-suc-set, drop-drop, length-take-le, drop-set-lt}
@@ -17,7 +16,7 @@ use Rattle.counter_print.specs.Printed.{Justifies, Puts, Answers}
 use Rattle.counter_print.specs.Powers.{mostDigits}
 use Rattle.counter_print.specs.Places.{places, places-length, Counts, counts-text}
 use Rattle.counter_print.specs.Sections.{between, parts-left, parts-middle, parts-right}
-use Rattle.counter_print.specs.Justified.{spaces-snoc}
+use Rattle.counter_print.specs.Justified.{justified-append, spaces-snoc}
 
 -- ---- what stands before the digits
 
@@ -75,13 +74,6 @@ signs-minus {before} {column} {at} b h some _ = rw (all, here) (minus-last (leng
     all = blanks b h ∙ ap (λ (n : ℕ). replicate n space) size
 
 -- ---- a whole number
-
--- A text of two parts in a column: the first part in the columns before the second.
-justified-append : (w : ℕ) (s t : List ℕ) → length t ≤ w → justified w (s ++ t) ≡ justified (w - length t) s ++ t
-unfolding justified
-justified-append w s t h =
-    let e : w - length (s ++ t) ≡ w - length t - length s = rw length-append (omega arith) in
-    rw (e, append-assoc)
 
 decimal-parts : (z : ℤ) → decimal z ≡ withSign (ltZ z (pos 0)) [] ++ numeral (natAbs z)
 unfolding decimal

@@ -1,15 +1,18 @@
 // Printing: numbers right-justified in columns, and the lines of the counter's answers.
 ghost use mathlib.Core.Path.{_≡_};
 ghost use Prim.Native.Nat.{_+_, _*_, _^_, _≤_, _<_};
-ghost use lib.ListN.{length, getD};
+ghost use lib.ListN.{length};
 ghost use lib.IntN.{natAbs};
 ghost use Rattle.counter_print.specs.Powers.{PowersOfTen, mostDigits};
 ghost use Rattle.counter_print.specs.Places.{places, Counts, Leads};
 ghost use Rattle.counter_print.specs.Printed.{Justifies, Puts, Answers};
 ghost use Rattle.counter_print.specs.Printing.{Signs};
 
-// The powers of ten, one for each digit that a word may have.
-const POWERS: [u64; 19] = [
+// No word has more digits: 2^63 has so many.
+const MOST_DIGITS: usize = 19;
+
+// The powers of ten, one for each place.
+const POWERS: [u64; MOST_DIGITS] = [
     1,
     10,
     100,
@@ -49,8 +52,8 @@ fn magnitude(value: i64) -> u64
     value as u64
 }
 
-// The table and its rule.
-fn powers_of_ten() -> [u64; 19]
+// The table, with its rule proved over all of it.
+fn powers_of_ten() -> [u64; MOST_DIGITS]
     ensures { λ r. ⌜ PowersOfTen r ⌝ }
 {
     POWERS
@@ -68,8 +71,8 @@ fn digit_count(powers: &[u64], number: u64) -> usize
     count
 }
 
-// The highest digit: the power of its place is subtracted as often as it goes in. All nine multiples are compared, since a branch that depends on
-// a digit is mispredicted for most.
+// The highest digit: the power of its place is subtracted as often as it goes in. All nine multiples are compared: a branch on what a digit is
+// would mostly be mispredicted.
 fn lead_digit(number: u64, power: u64) -> Lead
     requires { ⌜ (number < 10 * power) × (10 * power < 2 ^ 64) ⌝ }
     ensures { λ r. ⌜ Leads number power r ⌝ }
@@ -86,7 +89,7 @@ fn lead_digit(number: u64, power: u64) -> Lead
     }
 }
 
-// Fills columns with as many digits of a number, the highest first.
+// Fills columns with a number's digits, the highest first, zeros before them where there are more columns.
 fn put_digits(column: &mut [u8], powers: &[u64], number: u64)
     requires { ⌜ PowersOfTen (now powers) × (length (now column) ≤ mostDigits) × (number < 10 ^ length (now column)) ⌝ }
     ensures { λ _. ⌜ now (column .exit) ≡ places (length (now (column .entry))) number ⌝ }
@@ -103,7 +106,7 @@ fn put_digits(column: &mut [u8], powers: &[u64], number: u64)
     }
 }
 
-// Fills the columns before the digits with spaces, and the last of them with the minus.
+// Fills the columns before the digits: spaces, and a minus in the last one.
 fn put_sign(column: &mut [u8], minus: bool)
     ensures { λ _. ⌜ Signs minus (now (column .entry)) (now (column .exit)) ⌝ }
 {

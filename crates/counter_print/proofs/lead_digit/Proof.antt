@@ -1,7 +1,6 @@
 -- `counter_print::lead_digit` meets its contract. The loop's invariant: the power goes in `digit` times, and no more of the multiples tried do.
 use Prim.Native.Nat.{_-_}
 use native.Mathlib.Omega.{arith}
-use borrow.Author.Needs.{needs}
 use Rattle.counter_print.specs.Places.{Going, going-none, going-more, going-done, multiple-fits}
 use Rattle.counter_print.proofs.lead_digit.Statement.{statement}
 use Rattle.counter_print.proofs.lead_digit.Tie as tie

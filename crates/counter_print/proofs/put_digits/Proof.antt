@@ -2,7 +2,6 @@
 use Prim.Native.Nat.{_≤_}
 use mathlib.Core.Path.{refl}
 use native.Mathlib.Omega.{arith}
-use borrow.Author.Needs.{needs}
 use Rattle.counter_print.specs.Powers.{mostDigits}
 use Rattle.counter_print.specs.Places.{power-before, lead-asks, Putting, putting-more, putting-done}
 use Rattle.counter_print.proofs.put_digits.Statement.{statement}
