@@ -1,12 +1,13 @@
 //! Times of the proved book against a scan, sorted arrays and plain Rust in the same layout; medians of five runs. It prints
 //! the tables; with the word `record` it also puts them into docs/BENCHMARKS.md, between its two marks, and draws docs/benchmarks.svg.
-//! With the word `instructions` it counts an update's instructions instead, and with the word `check` it times the check of a full book; their
-//! tables go between marks of their own.
+//! With the word `instructions` it counts an update's instructions instead, with the word `check` it times the check of a full book, and with the
+//! word `printing` and two libraries (rust/bench/printing.sh makes them) a number's printing; their tables go between marks of their own.
 //! Run it in release.
 mod arrays;
 mod checks;
 mod counted;
 mod plot;
+mod printing;
 mod same_layout;
 
 use arrays::Offer;
@@ -316,10 +317,15 @@ fn main() {
             print!("{table}");
             record("check", &table);
         }
+        ["printing", before, after] => {
+            let table = printing::table(before, after);
+            print!("{table}");
+            record("printing", &table);
+        }
         ["count", n, kind] => {
             let listed = Listed::KINDS.into_iter().find(|k| k.name() == kind).expect("all, half or few");
             counted::run(n.parse().expect("a number of offers"), listed);
         }
-        _ => panic!("no word, `record`, `instructions` or `check`"),
+        _ => panic!("no word, `record`, `instructions`, `check` or `printing` with two libraries"),
     }
 }
