@@ -47,27 +47,43 @@ fn print_all(values: &[i64], print: impl Fn(&mut [u8; WIDTH], i64)) -> u64 {
     })
 }
 
-/// numbers of random lengths up to `digits`, each length as likely, of either sign; the ends of a word among those of 19
-fn values(digits: u32) -> Vec<i64> {
-    let mut r = Random(63);
-    let least = |length: u32| if length == 1 { 0 } else { 10i64.pow(length - 1) };
-    let greatest = |length: u32| 10i64.checked_pow(length).map_or(i64::MAX, |p| p - 1);
-    let mut all: Vec<i64> = (0..VALUES)
-        .map(|_| {
-            let length = r.within(1, i64::from(digits)) as u32;
-            let value = r.within(least(length), greatest(length));
-            if r.within(0, 1) == 0 { value } else { -value }
-        })
-        .collect();
-    if digits == 19 {
-        all[..3].copy_from_slice(&[i64::MIN, i64::MAX, 0]);
+/// a number of a random length up to `digits`, each length as likely, of either sign
+fn of_length(r: &mut Random, digits: i64) -> i64 {
+    let length = r.within(1, digits) as u32;
+    let least = if length == 1 { 0 } else { 10i64.pow(length - 1) };
+    let greatest = 10i64.checked_pow(length).map_or(i64::MAX, |p| p - 1);
+    let value = r.within(least, greatest);
+    if r.within(0, 1) == 0 {
+        value
+    } else {
+        -value
     }
-    all
 }
 
+/// number `i` of the lines of a listing's pieces: 0, the offer, its crossing's numerator and denominator
+fn of_a_piece(r: &mut Random, i: usize) -> i64 {
+    match i % 4 {
+        0 => 0,
+        1 => r.within(1, 9_999),
+        2 => r.within(-2_000_000_000, 2_000_000_000),
+        _ => r.within(1, 200_000),
+    }
+}
+
+type Kind = (&'static str, fn(&mut Random, usize) -> i64);
+
+const KINDS: [Kind; 4] = [
+    ("of a listing's pieces", of_a_piece),
+    ("of 1 to 4 digits", |r, _| of_length(r, 4)),
+    ("of 1 to 11 digits", |r, _| of_length(r, 11)),
+    ("of 1 to 19 digits", |r, _| of_length(r, 19)),
+];
+
 /// before, after, Rust
-fn printing(digits: u32, before: Justify, after: Justify) -> Case {
-    let values = values(digits);
+fn printing(kind: Kind, before: Justify, after: Justify) -> Case {
+    let mut r = Random(63);
+    let mut values: Vec<i64> = (0..VALUES).map(|i| kind.1(&mut r, i)).collect();
+    values[..4].copy_from_slice(&[i64::MIN, i64::MAX, 0, -1]);
     let run = move || {
         let mut sums = [0u64; 3];
         let times = [
@@ -83,13 +99,12 @@ fn printing(digits: u32, before: Justify, after: Justify) -> Case {
 
 pub fn table(before: &str, after: &str) -> String {
     let (before, after) = (justify_of(before), justify_of(after));
-    const DIGITS: [u32; 3] = [4, 11, 19];
-    let rows = medians(DIGITS.iter().map(|d| printing(*d, before, after)).collect());
-    let mut t = String::from("\n| digits | before, ns | after, ns | after ÷ before | Rust, ns | after ÷ Rust |\n|---|---|---|---|---|---|\n");
-    for (digits, r) in DIGITS.iter().zip(rows) {
+    let rows = medians(KINDS.iter().map(|k| printing(*k, before, after)).collect());
+    let mut t = String::from("\n| numbers | before, ns | after, ns | after ÷ before | Rust, ns | after ÷ Rust |\n|---|---|---|---|---|---|\n");
+    for ((name, _), r) in KINDS.iter().zip(rows) {
         let [before, after, rust] = r.times;
         let ratios = (after / before, after / rust);
-        writeln!(t, "| 1 to {digits} | {before:.1} | {after:.1} | **{:.2}** | {rust:.1} | {:.2} |", ratios.0, ratios.1).unwrap();
+        writeln!(t, "| {name} | {before:.1} | {after:.1} | **{:.2}** | {rust:.1} | {:.2} |", ratios.0, ratios.1).unwrap();
     }
     t + "\n"
 }
