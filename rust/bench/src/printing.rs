@@ -100,7 +100,9 @@ fn printing(kind: Kind, before: Justify, after: Justify) -> Case {
 pub fn table(before: &str, after: &str) -> String {
     let (before, after) = (justify_of(before), justify_of(after));
     let rows = medians(KINDS.iter().map(|k| printing(*k, before, after)).collect());
-    let mut t = String::from("\n| numbers | before, ns | after, ns | after ÷ before | Rust, ns | after ÷ Rust |\n|---|---|---|---|---|---|\n");
+    let mut t = String::from(
+        "\n| numbers | before, ns | after, ns | after ÷ before | Rust, ns | after ÷ Rust |\n|---|---|---|---|---|---|\n",
+    );
     for ((name, _), r) in KINDS.iter().zip(rows) {
         let [before, after, rust] = r.times;
         let ratios = (after / before, after / rust);
