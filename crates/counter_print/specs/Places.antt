@@ -43,12 +43,15 @@ places-lead (suc k) d r a h =
 
 -- ---- how many a number needs
 
--- As many as it is written with: 0 has one, and no other number begins with 0.
-pub record Counts (number count : ℕ) : Type 0 where
+-- No more than it is written with: 0 has one digit, and no other number begins with 0.
+pub record Needed (number count : ℕ) : Type 0 where
   pub some : 0 < count
   pub most : count ≤ mostDigits
-  pub enough : number < 10 ^ count
   pub least : 1 < count → 10 ^ (count - 1) ≤ number
+
+-- As many as it is written with.
+abbrev pub Counts : (number count : ℕ) → Type 0
+Counts number count = Needed number count × (number < 10 ^ count)
 
 numeral-places : (k n : ℕ) → n < 10 ^ suc k → (0 < k → 10 ^ k ≤ n) → numeral n ≡ places (suc k) n
 unfolding numeral places
@@ -64,24 +67,15 @@ numeral-places (suc k) n h l =
     low = one-le-pow k 10 (omega arith)
 
 pub counts-text : (n count : ℕ) → Counts n count → numeral n ≡ places count n
-counts-text n zero c = absurd (omega (arith, c .some))
-counts-text n (suc k) c = numeral-places k n (c .enough) (λ h. simp unary-clauses at (c .least (omega arith)))
+counts-text n zero c = absurd (omega (arith, c .0 .some))
+counts-text n (suc k) c = numeral-places k n (c .1) (λ h. simp unary-clauses at (c .0 .least (omega arith)))
 
--- While they are counted: fewer than `count` are too few.
-pub record Counting (number count : ℕ) : Type 0 where
-  pub some : 0 < count
-  pub most : count ≤ mostDigits
-  pub least : 1 < count → 10 ^ (count - 1) ≤ number
+pub needed-one : (number : ℕ) → Needed number 1
+needed-one number = record { some = omega arith; most = omega arith; least = λ h. absurd (omega arith) }
 
-pub counting-one : (number : ℕ) → Counting number 1
-counting-one number = record { some = omega arith; most = omega arith; least = λ h. absurd (omega arith) }
-
-counted : {number count : ℕ} → Counting number count → number < 10 ^ count → Counts number count
-counted c h = record { some = c .some; most = c .most; enough = h; least = c .least }
-
-module _ {powers : List ℕ} {number count : ℕ} (p : PowersOfTen powers) (c : Counting number count) where
-  pub counting-more : count < length powers → getD powers count 0 ≤ number → Counting number (count + 1)
-  counting-more h low =
+module _ {powers : List ℕ} {number count : ℕ} (p : PowersOfTen powers) (c : Needed number count) where
+  pub needed-more : count < length powers → getD powers count 0 ≤ number → Needed number (count + 1)
+  needed-more h low =
       record {
         some = omega arith;
         most = omega (arith, p .size);
@@ -91,11 +85,11 @@ module _ {powers : List ℕ} {number count : ℕ} (p : PowersOfTen powers) (c : 
       back : count + 1 - 1 ≡ count
       back = omega arith
 
-  pub counted-below : count < length powers → number < getD powers count 0 → Counts number count
-  counted-below h below = counted c (omega (arith, below, power-at p count h))
+  pub counts-below : count < length powers → number < getD powers count 0 → Counts number count
+  counts-below h below = (c, omega (arith, below, power-at p count h))
 
-  pub counted-all : length powers ≤ count → number < 10 ^ mostDigits → Counts number count
-  counted-all h fits = counted c (subst (λ (k : ℕ). number < 10 ^ k) same fits)
+  pub counts-all : length powers ≤ count → number < 10 ^ mostDigits → Counts number count
+  counts-all h fits = (c, subst (λ (k : ℕ). number < 10 ^ k) same fits)
     where
       same : mostDigits ≡ count
       same = omega (arith, c .most, p .size)

@@ -105,7 +105,7 @@ module _ (from : ℕ) (front rest : List ℕ) (same : length front ≡ from) whe
   pub digits-fit : (number count : ℕ) → Counts number count → length rest ≡ count
       → (length (between from (length (front ++ rest)) (front ++ rest)) ≤ mostDigits)
       × (number < 10 ^ length (between from (length (front ++ rest)) (front ++ rest)))
-  digits-fit number count c e = rw (rest-lent, e) (c .most, c .enough)
+  digits-fit number count c e = rw (rest-lent, e) (c .0 .most, c .1)
 
   pub justifies-wide : (z : ℤ) (number count : ℕ) (before digits : List ℕ) → number ≡ natAbs z → Counts number count → from + count ≡ length before
       → length rest ≡ count → Signs (ltZ z (pos 0)) (take from before) front
