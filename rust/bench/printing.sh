@@ -1,6 +1,6 @@
 #!/bin/bash
 # Times how long a number takes to print, by the counter's code at two commits, and writes the table into docs/BENCHMARKS.md:
-# `rust/bench/printing.sh [BEFORE [AFTER]]`. Without words: before the division was taken out, and now.
+# `rust/bench/printing.sh [BEFORE [AFTER]]`. Without words: before the division was taken out, and the last commit.
 set -euo pipefail
 cd "$(dirname "$0")/../.."
 made=$(mktemp -d)

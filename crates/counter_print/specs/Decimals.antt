@@ -1,7 +1,7 @@
--- What a number's decimal text is made of, how long it is, and that it tells the number.
+-- What a number's decimal text is made of, and how long it is.
 use Prim.Native.Nat.{ℕ, zero, suc, _+_, _/_, _%_, _^_, _≤_, _<_}
 use mathlib.Core.Path.{_≡_, refl, ap}
-use mathlib.Core.Bool.{Bool, true, _&&_, _||_}
+use mathlib.Core.Bool.{Bool, true, false, _&&_, _||_}
 use mathlib.Core.List.{List, [], _∷_, _++_}
 use native.Mathlib.Nat.{pow-zero, pow-suc}
 use native.Mathlib.Decide.{decLt}
@@ -11,7 +11,8 @@ use lib.IntN.{ℤ, pos, negsuc, natAbs}
 use lib.Dec.{leb, eqb}
 use mir.Syntax.{w64}
 use mir.Val.{SFits}
-use borrow.Author.Tests.{le-leb}
+use lib.Signed.{ltZ}
+use borrow.Author.Tests.{le-leb, le-ltb}
 use lib.Dec.{T}
 use Rattle.lists.specs.Filter.{every}
 use Rattle.counter_print.specs.Texts.{digit, minus, digitsWithin, digits, numeral, decimal, FitsIn}
@@ -34,7 +35,7 @@ pub digits-none : digits 0 ≡ []
 unfolding digits digitsWithin
 digits-none = refl
 
-pub digits-more : (n : ℕ) → 0 < n → digits n ≡ digits (n / 10) ++ digit (n % 10) ∷ []
+digits-more : (n : ℕ) → 0 < n → digits n ≡ digits (n / 10) ++ digit (n % 10) ∷ []
 unfolding digits digitsWithin
 digits-more zero h = absurd (omega arith)
 digits-more (suc m) h = ap (λ (t : List ℕ). t ++ digit (suc m % 10) ∷ []) (digits-within m (suc m / 10) (suc m / 10) (omega arith) (omega arith))
@@ -110,6 +111,25 @@ leads-more m (c ∷ t) a q = (λ e. absurd (omega arith), λ _. go (decLt 0 (m /
 
 pub leading-digit : (n : ℕ) → 0 < n → digit 0 < getD (numeral n) 0 0
 leading-digit n h = rw (← digits-numeral n h) (along Leads (λ _. refl, λ a. absurd (omega arith)) leads-more n .1 h)
+
+-- The minus before a number below 0, and nothing before another.
+abbrev pub sign : Bool → List ℕ
+sign true = minus ∷ []
+sign false = []
+
+pub decimal-parts : (z : ℤ) → decimal z ≡ sign (ltZ z (pos 0)) ++ numeral (natAbs z)
+unfolding decimal
+decimal-parts (pos n) = rw (le-ltb n 0 (omega arith))
+decimal-parts (negsuc n) = refl
+
+-- The minus stands in front, then digits alone, and no zero leads them but that of 0.
+pub record DecimalForm (z : ℤ) (text : List ℕ) : Type 0 where
+  pub parts : text ≡ sign (ltZ z (pos 0)) ++ numeral (natAbs z)
+  pub behind : T (every isDigit (numeral (natAbs z)))
+  pub leading : 0 < natAbs z → digit 0 < getD (numeral (natAbs z)) 0 0
+
+pub decimal-form : (z : ℤ) → DecimalForm z (decimal z)
+decimal-form z = record { parts = decimal-parts z; behind = numeral-characters (natAbs z); leading = leading-digit (natAbs z) }
 
 -- ---- how long it is
 

@@ -1,10 +1,10 @@
 -- Texts in columns: how wide they are, and a text of two parts.
-use Prim.Native.Nat.{ℕ, zero, suc, _+_, _-_, _≤_}
-use mathlib.Core.Path.{_≡_, refl, ap, _∙_}
-use mathlib.Core.List.{List, [], _∷_, _++_, append-assoc}
+use Prim.Native.Nat.{ℕ, _+_, _-_, _≤_}
+use mathlib.Core.Path.{_≡_, _∙_}
+use mathlib.Core.List.{List, _++_, append-assoc}
 use native.Mathlib.Omega.{arith}
-use lib.ListN.{length, replicate, length-append, length-replicate}
-use Rattle.counter_print.specs.Texts.{space, justified}
+use lib.ListN.{length, length-append, length-replicate}
+use Rattle.counter_print.specs.Texts.{justified}
 
 -- A text that fits is as wide as its column, and a longer one keeps its length.
 pub justified-length : (w : ℕ) (t : List ℕ) → length (justified w t) ≡ w - length t + length t
@@ -24,8 +24,3 @@ unfolding justified
 justified-append w s t h =
     let e : w - length (s ++ t) ≡ w - length t - length s = rw length-append (omega arith) in
     rw (e, append-assoc)
-
--- One space more.
-pub spaces-snoc : (w : ℕ) → replicate (suc w) space ≡ replicate w space ++ space ∷ []
-spaces-snoc zero = refl
-spaces-snoc (suc w) = ap (λ (t : List ℕ). space ∷ t) (spaces-snoc w)

@@ -1,7 +1,7 @@
 -- Numbers as texts in columns, and the lines of the answers.
 -- statement: the texts of the counter program's columns, as lists of bytes: numbers, columns, an answer's line
 pub mod Texts
--- statement and lemmas: what a number's decimal text is made of, how long it is, and that it tells the number
+-- statement and lemmas: what a number's decimal text is made of, and how long it is
 pub mod Decimals
 -- lemmas: texts in columns: how wide they are, and a text of two parts
 pub mod Justified
@@ -9,7 +9,7 @@ pub mod Justified
 pub mod Sections
 -- statement and lemmas: the powers of ten that printing subtracts, and the rule of their table
 pub mod Powers
--- statement: what is promised of printing, whatever the way
+-- statement and lemmas: what is promised of printing, whatever the way
 pub mod Printed
 -- ways through the code: a number's digits from the highest place down
 pub mod Places

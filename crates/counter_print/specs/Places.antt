@@ -13,7 +13,7 @@ use borrow.Author.Tests.{leb-true, leb-false}
 use mir.Val.{boolByte}
 use lib.Seq.{take-all, take-suc-set}
 use Rattle.counter_print.specs.declared.Lead.{Lead}
-use Rattle.counter_print.specs.Texts.{digit, digits, numeral}
+use Rattle.counter_print.specs.Texts.{digit, numeral}
 use Rattle.counter_print.specs.Decimals.{digits-none, digits-numeral}
 use Rattle.counter_print.specs.Powers.{mostDigits, PowersOfTen, power-at}
 
@@ -43,15 +43,15 @@ places-lead (suc k) d r a h =
 
 -- ---- how many a number needs
 
--- No more than it is written with: 0 has one digit, and no other number begins with 0.
+-- No more than it is written with, and than a signed word has: 0 has one digit, and no other number begins with 0.
 pub record Needed (number count : ℕ) : Type 0 where
   pub some : 0 < count
   pub most : count ≤ mostDigits
   pub least : 1 < count → 10 ^ (count - 1) ≤ number
 
 -- As many as it is written with.
-abbrev pub Counts : (number count : ℕ) → Type 0
-Counts number count = Needed number count × (number < 10 ^ count)
+abbrev pub CountsDigits : (number count : ℕ) → Type 0
+CountsDigits number count = Needed number count × (number < 10 ^ count)
 
 numeral-places : (k n : ℕ) → n < 10 ^ suc k → (0 < k → 10 ^ k ≤ n) → numeral n ≡ places (suc k) n
 unfolding numeral places
@@ -66,7 +66,7 @@ numeral-places (suc k) n h l =
     low : 1 ≤ 10 ^ k
     low = one-le-pow k 10 (omega arith)
 
-pub counts-text : (n count : ℕ) → Counts n count → numeral n ≡ places count n
+pub counts-text : (n count : ℕ) → CountsDigits n count → numeral n ≡ places count n
 counts-text n zero c = absurd (omega (arith, c .0 .some))
 counts-text n (suc k) c = numeral-places k n (c .1) (λ h. simp unary-clauses at (c .0 .least (omega arith)))
 
@@ -85,10 +85,10 @@ module _ {powers : List ℕ} {number count : ℕ} (p : PowersOfTen powers) (c : 
       back : count + 1 - 1 ≡ count
       back = omega arith
 
-  pub counts-below : count < length powers → number < getD powers count 0 → Counts number count
+  pub counts-below : count < length powers → number < getD powers count 0 → CountsDigits number count
   counts-below h below = (c, omega (arith, below, power-at p count h))
 
-  pub counts-all : length powers ≤ count → number < 10 ^ mostDigits → Counts number count
+  pub counts-all : length powers ≤ count → number < 10 ^ mostDigits → CountsDigits number count
   counts-all h fits = (c, subst (λ (k : ℕ). number < 10 ^ k) same fits)
     where
       same : mostDigits ≡ count
@@ -97,22 +97,22 @@ module _ {powers : List ℕ} {number count : ℕ} (p : PowersOfTen powers) (c : 
 -- ---- one digit
 
 -- The digit at the power's place, and what is left below it.
-pub record Leads (number power : ℕ) (lead : Lead) : Type 0 where
+pub record LeadDigit (number power : ℕ) (lead : Lead) : Type 0 where
   pub whole : lead .digit * power + lead .rest ≡ number
   pub small : lead .digit < 10
   pub less : lead .rest < power
 
 -- While the power's multiples are compared: it goes in `digit` times, and more often only if all `times` that were tried went in.
-pub record Going (number power digit times : ℕ) : Type 0 where
+pub record Tried (number power digit times : ℕ) : Type 0 where
   pub low : digit * power ≤ number
   pub high : digit ≤ times
   pub most : times ≤ 9
   pub next : digit < times → number < suc digit * power
 
-pub going-none : (number power : ℕ) → Going number power 0 0
-going-none number power = record { low = omega (arith, zero-mul power); high = omega arith; most = omega arith; next = λ h. absurd (omega arith) }
+pub tried-none : (number power : ℕ) → Tried number power 0 0
+tried-none number power = record { low = omega (arith, zero-mul power); high = omega arith; most = omega arith; next = λ h. absurd (omega arith) }
 
-module _ {number power digit times : ℕ} (g : Going number power digit times) where
+module _ {number power digit times : ℕ} (g : Tried number power digit times) where
   -- Where the next multiple goes in, all before it did; where it does not, no more than `digit` do.
   all-before : (times + 1) * power ≤ number → digit ≡ times
   all-before h = go (decLt digit times)
@@ -128,10 +128,10 @@ module _ {number power digit times : ℕ} (g : Going number power digit times) w
       go (yes few) = g .next few
       go (no all) = let same : suc digit ≡ times + 1 = omega (arith, g .high) in rw same h
 
-  pub going-more : times < 9 → Going number power (digit + boolByte (leb ((times + 1) * power) number)) (times + 1)
-  going-more few = go (leb ((times + 1) * power) number) refl
+  pub tried-more : times < 9 → Tried number power (digit + boolByte (leb ((times + 1) * power) number)) (times + 1)
+  tried-more few = go (leb ((times + 1) * power) number) refl
     where
-      go : (b : Bool) → leb ((times + 1) * power) number ≡ b → Going number power (digit + boolByte b) (times + 1)
+      go : (b : Bool) → leb ((times + 1) * power) number ≡ b → Tried number power (digit + boolByte b) (times + 1)
       go true e =
           let h : (times + 1) * power ≤ number = leb-true ((times + 1) * power) number e in
           let same : digit ≡ times = all-before h in
@@ -146,8 +146,8 @@ module _ {number power digit times : ℕ} (g : Going number power digit times) w
             next = λ _. no-more (leb-false ((times + 1) * power) number e);
           })
 
-  pub going-done : 9 ≤ times → number < 10 * power → Leads number power (record { digit = digit; rest = number - digit * power })
-  going-done h below =
+  pub tried-done : 9 ≤ times → number < 10 * power → LeadDigit number power (record { digit = digit; rest = number - digit * power })
+  tried-done h below =
       record {
         whole = omega (arith, g .low);
         small = omega (arith, g .high, g .most);
@@ -157,17 +157,17 @@ module _ {number power digit times : ℕ} (g : Going number power digit times) w
       nine : times + 1 ≡ 10
       nine = omega (arith, g .most)
 
--- A multiple that is compared is a word.
+-- A multiple that is compared fits 64 bits.
 pub multiple-fits : (times power : ℕ) → times ≤ 10 → 10 * power < 2 ^ 64 → times * power < 2 ^ 64
 multiple-fits times power few h = omega (arith, h, mul-le-mul-right power few)
 
--- What a digit is taken off is below ten times the power of its place, which is a word.
+-- What a digit is taken off is below ten times the power of its place, which fits 64 bits.
 module _ (powers : List ℕ) (p : PowersOfTen powers) (place : ℕ) (some : 0 < place) (most : place ≤ mostDigits) where
-  pub power-before : getD powers (place - 1) 0 ≡ 10 ^ (place - 1)
-  power-before = power-at p (place - 1) (omega (arith, p .size))
+  pub place-power : getD powers (place - 1) 0 ≡ 10 ^ (place - 1)
+  place-power = power-at p (place - 1) (omega (arith, p .size))
 
   pub lead-asks : (rest : ℕ) → rest < 10 ^ place → (rest < 10 * getD powers (place - 1) 0) × (10 * getD powers (place - 1) 0 < 2 ^ 64)
-  lead-asks rest small = (omega (arith, small, power-before, pow-suc 10 (place - 1), ap (λ (k : ℕ). 10 ^ k) back), omega (arith, power-before, low))
+  lead-asks rest small = (omega (arith, small, place-power, pow-suc 10 (place - 1), ap (λ (k : ℕ). 10 ^ k) back), omega (arith, place-power, low))
     where
       back : place ≡ suc (place - 1)
       back = omega arith
@@ -185,7 +185,7 @@ pub record Putting (number : ℕ) (before column : List ℕ) (at place rest : �
   pub text : places (length before) number ≡ take at column ++ places place rest
 
 pub putting-more : (place : ℕ) {number : ℕ} {before column : List ℕ} {at rest power : ℕ} {lead : Lead} → Putting number before column at place rest
-    → 0 < place → power ≡ 10 ^ (place - 1) → Leads rest power lead
+    → 0 < place → power ≡ 10 ^ (place - 1) → LeadDigit rest power lead
     → Putting number before (set column at (digit (lead .digit))) (at + 1) (place - 1) (lead .rest)
 putting-more zero p some e l = absurd (omega arith)
 putting-more (suc k) {column = column} {at} {rest} {power} {lead} p some e l =

@@ -9,7 +9,7 @@ use lib.Dec.{T, eqb, eqb→eq}
 use lib.ListN.{length, getD}
 use Rattle.lists.specs.Bools.{and-left, and-right}
 
--- So many digits are enough for every word: 2^63 has so many.
+-- So many digits are enough for every signed word: 2^63 has so many.
 abbrev pub mostDigits : ℕ
 mostDigits = 19
 

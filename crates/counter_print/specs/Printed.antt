@@ -15,7 +15,7 @@ use Rattle.counter_print.specs.Decimals.{fits-word}
 pub record Justifies (value : ℤ) (before after : List ℕ) : Type 0 where
   pub text : FitsIn (length before) value → after ≡ justified (length before) (decimal value)
 
--- So any word, -2^63 among them, in a column of 20 or more.
+-- So any signed word, −2^63 among them, in a column of 20 or more.
 pub word-justified : (value : ℤ) (before after : List ℕ) → SFits w64 value → 20 ≤ length before → Justifies value before after
     → after ≡ justified (length before) (decimal value)
 word-justified value before after f h j = j .text (omega (arith, h, fits-word value f))

@@ -3,90 +3,79 @@ use Prim.Native.Nat.{ℕ, zero, suc, _+_, _-_, _^_, _≤_, _<_}
 use mathlib.Core.Path.{_≡_, refl, ap, sym, _∙_}
 use mathlib.Core.Bool.{Bool, true, false}
 use mathlib.Core.List.{List, [], _∷_, _++_, append-nil}
+use native.Mathlib.Nat.{sub-zero}
 use native.Mathlib.Omega.{arith}
-use lib.ListN.{length, take, drop, set, replicate, length-append, length-drop, length-set, drop-of-length-le}
+use lib.ListN.{length, take, drop, set, replicate, length-append, length-replicate, length-drop, drop-of-length-le}
 use lib.Seq.{take-add, take-all, take-at, drop-at, take-suc-set, drop-drop, length-take-le, drop-set-lt}
 use lib.IntN.{ℤ, pos, negsuc, natAbs}
 use lib.Signed.{ltZ}
 use mir.Syntax.{w64}
 use mir.Val.{SFits}
-use borrow.Author.Tests.{le-ltb}
-use Rattle.counter_print.specs.Texts.{space, minus, numeral, decimal, justified, FitsIn, newline, answerLine}
+use borrow.Author.Fill.{fill-more}
+use Rattle.counter_print.specs.Texts.{space, minus, decimal, justified, FitsIn, newline, answerLine}
 use Rattle.counter_print.specs.Printed.{Justifies, Puts, Answers}
+use Rattle.counter_print.specs.Decimals.{sign, decimal-parts}
 use Rattle.counter_print.specs.Powers.{mostDigits}
-use Rattle.counter_print.specs.Places.{places, places-length, Counts, counts-text}
+use Rattle.counter_print.specs.Places.{places, places-length, CountsDigits, counts-text}
 use Rattle.counter_print.specs.Sections.{between, parts-left, parts-middle, parts-right}
-use Rattle.counter_print.specs.Justified.{justified-append, spaces-snoc}
+use Rattle.counter_print.specs.Justified.{justified-append}
 
 -- ---- what stands before the digits
 
-abbrev pub withSign : Bool → List ℕ → List ℕ
-withSign true t = minus ∷ t
-withSign false t = t
-
--- The minus fills the last column before the digits, and spaces the others.
+-- The sign fills the last of the columns before the digits, where there is one, and spaces the others.
 abbrev pub Signs : Bool → (before after : List ℕ) → Type 0
-Signs negative before after = length (withSign negative []) ≤ length before → after ≡ justified (length before) (withSign negative [])
+Signs negative before after = length (sign negative) ≤ length before → after ≡ justified (length before) (sign negative)
 
 -- While spaces are written: those before `at` are.
 pub record Blanking (before column : List ℕ) (at : ℕ) : Type 0 where
-  pub size : length column ≡ length before
   pub high : at ≤ length before
-  pub text : take at column ≡ replicate at space
-
-pub blanking-more : {before column : List ℕ} {at : ℕ} → Blanking before column at → at < length column → Blanking before (set column at space) (at + 1)
-blanking-more {column = column} {at} b h =
-    record {
-      size = length-set column at space ∙ b .size;
-      high = omega (arith, b .size);
-      text = rw (next, take-suc-set column at space h, b .text) (sym (spaces-snoc at));
-    }
-  where
-    next : at + 1 ≡ suc at
-    next = omega arith
-
-blanks : {before column : List ℕ} {at : ℕ} → Blanking before column at → length column ≤ at → column ≡ replicate at space
-blanks {column = column} {at} b h = sym (take-all at column h) ∙ b .text
-
-pub signs-blank : {before column : List ℕ} {at : ℕ} → Blanking before column at → length column ≤ at → Signs false before column
-unfolding justified
-signs-blank {before} {column} {at} b h _ = blanks b h ∙ rw (append-nil, size)
-  where
-    size : length before - 0 ≡ at
-    size = omega (arith, b .size, b .high)
+  pub text : column ≡ replicate at space ++ drop at before
 
 minus-last : (k : ℕ) → set (replicate (suc k) space) k minus ≡ replicate k space ++ minus ∷ []
 minus-last zero = refl
 minus-last (suc k) = ap (λ (t : List ℕ). space ∷ t) (minus-last k)
 
-pub signs-minus : {before column : List ℕ} {at : ℕ} → Blanking before column at → length column ≤ at → 0 < at
-    → Signs true before (set column (at - 1) minus)
-unfolding justified
-signs-minus {before} {column} {at} b h some _ = rw (all, here) (minus-last (length before - 1))
-  where
-    here : at - 1 ≡ length before - 1
-    here = omega (arith, b .size, b .high)
+module _ {before column : List ℕ} {at : ℕ} (b : Blanking before column at) where
+  pub blanking-size : length column ≡ length before
+  blanking-size = rw (b .text, length-append, length-replicate, length-drop) (omega (arith, b .high))
 
-    size : at ≡ suc (length before - 1)
-    size = omega (arith, b .size, b .high)
+  pub blanking-more : at < length column → Blanking before (set column at space) (at + 1)
+  blanking-more h =
+      record {
+        high = omega (arith, blanking-size);
+        text = ap (λ (t : List ℕ). set t at space) (b .text) ∙ fill-more at space before (omega (arith, blanking-size));
+      }
 
-    all : column ≡ replicate (suc (length before - 1)) space
-    all = blanks b h ∙ ap (λ (n : ℕ). replicate n space) size
+  blanks : length column ≤ at → column ≡ replicate (length before) space
+  blanks h =
+      let e : at ≡ length before = omega (arith, b .high, blanking-size) in
+      b .text ∙ rw (e, drop-of-length-le before {i = length before} (omega arith), append-nil)
+
+  pub signs-blank : length column ≤ at → Signs false before column
+  unfolding justified
+  signs-blank h _ = blanks h ∙ rw (append-nil, sub-zero)
+
+  pub signs-minus : length column ≤ at → 0 < at → Signs true before (set column (at - 1) minus)
+  unfolding justified
+  signs-minus h some _ = rw (all, here) (minus-last (length before - 1))
+    where
+      here : at - 1 ≡ length before - 1
+      here = omega (arith, b .high, blanking-size)
+
+      all : column ≡ replicate (suc (length before - 1)) space
+      all =
+          let e : length before ≡ suc (length before - 1) = omega (arith, b .high) in
+          blanks h ∙ ap (λ (n : ℕ). replicate n space) e
 
 -- ---- a whole number
 
-decimal-parts : (z : ℤ) → decimal z ≡ withSign (ltZ z (pos 0)) [] ++ numeral (natAbs z)
-unfolding decimal
-decimal-parts (pos n) = rw (le-ltb n 0 (omega arith))
-decimal-parts (negsuc n) = refl
-
--- A word's digits are no more than the table has powers for.
+-- A signed word has no more digits than the table has powers.
 pub word-digits : (z : ℤ) → SFits w64 z → natAbs z < 10 ^ mostDigits
 word-digits (pos n) f = omega arith
 word-digits (negsuc n) f = omega arith
 
 -- Where the digits alone are too wide, anything may stand.
-pub justifies-narrow : (z : ℤ) (number count : ℕ) (before after : List ℕ) → number ≡ natAbs z → Counts number count → length before < count
+pub justifies-narrow : (z : ℤ) (number count : ℕ) (before after : List ℕ) → number ≡ natAbs z → CountsDigits number count → length before < count
     → Justifies z before after
 justifies-narrow z number count before after e c h = record { text = λ fits. absurd (omega (arith, fits, wide)) }
   where
@@ -102,12 +91,12 @@ module _ (from : ℕ) (front rest : List ℕ) (same : length front ≡ from) whe
   rest-done = rw (drop-at front rest from same, length-append) (drop-of-length-le rest {i = length front + length rest - from} (omega arith))
 
   -- The digits have the columns that they need.
-  pub digits-fit : (number count : ℕ) → Counts number count → length rest ≡ count
+  pub digits-fit : (number count : ℕ) → CountsDigits number count → length rest ≡ count
       → (length (between from (length (front ++ rest)) (front ++ rest)) ≤ mostDigits)
       × (number < 10 ^ length (between from (length (front ++ rest)) (front ++ rest)))
   digits-fit number count c e = rw (rest-lent, e) (c .0 .most, c .1)
 
-  pub justifies-wide : (z : ℤ) (number count : ℕ) (before digits : List ℕ) → number ≡ natAbs z → Counts number count → from + count ≡ length before
+  pub justifies-wide : (z : ℤ) (number count : ℕ) (before digits : List ℕ) → number ≡ natAbs z → CountsDigits number count → from + count ≡ length before
       → length rest ≡ count → Signs (ltZ z (pos 0)) (take from before) front
       → digits ≡ places (length (between from (length (front ++ rest)) (front ++ rest))) number
       → Justifies z before (take from (front ++ rest) ++ (digits ++ drop (length (front ++ rest) - from) (drop from (front ++ rest))))
@@ -115,31 +104,31 @@ module _ (from : ℕ) (front rest : List ℕ) (same : length front ≡ from) whe
       record {
         text = λ fits.
             rw (take-at front rest from same, rest-done, append-nil, text)
-            (ap (λ (t : List ℕ). t ++ digits) (signed (fits-front fits)) ∙ ap (λ (t : List ℕ). justified from sign ++ t) all ∙ sym apart);
+            (ap (λ (t : List ℕ). t ++ digits) (signed (fits-front fits)) ∙ ap (λ (t : List ℕ). justified from mark ++ t) all ∙ sym apart);
       }
     where
-      sign : List ℕ
-      sign = withSign (ltZ z (pos 0)) []
+      mark : List ℕ
+      mark = sign (ltZ z (pos 0))
 
-      text : decimal z ≡ sign ++ places count number
+      text : decimal z ≡ mark ++ places count number
       text = decimal-parts z ∙ rw (← e, counts-text number count c)
 
       room : length (take from before) ≡ from
       room = length-take-le from before (omega arith)
 
-      fits-front : FitsIn (length before) z → length sign ≤ from
+      fits-front : FitsIn (length before) z → length mark ≤ from
       fits-front fits = omega (arith, fits, simp (length-append, places-length) at (ap length text))
 
-      signed : length sign ≤ from → front ≡ justified from sign
+      signed : length mark ≤ from → front ≡ justified from mark
       signed h = rw room at (signs (rw room h))
 
       all : digits ≡ places count number
       all = shown ∙ rw (rest-lent, l)
 
-      apart : justified (length before) (sign ++ places count number) ≡ justified from sign ++ places count number
+      apart : justified (length before) (mark ++ places count number) ≡ justified from mark ++ places count number
       apart =
           let n : length before - length (places count number) ≡ from = omega (arith, places-length count number) in
-          rw n at (justified-append (length before) sign (places count number) (omega (arith, places-length count number)))
+          rw n at (justified-append (length before) mark (places count number) (omega (arith, places-length count number)))
 
 -- ---- a number among other bytes
 

@@ -4,11 +4,11 @@ ghost use Prim.Native.Nat.{_+_, _*_, _^_, _≤_, _<_};
 ghost use lib.ListN.{length};
 ghost use lib.IntN.{natAbs};
 ghost use Rattle.counter_print.specs.Powers.{PowersOfTen, mostDigits};
-ghost use Rattle.counter_print.specs.Places.{places, Counts, Leads};
+ghost use Rattle.counter_print.specs.Places.{places, CountsDigits, LeadDigit};
 ghost use Rattle.counter_print.specs.Printed.{Justifies, Puts, Answers};
 ghost use Rattle.counter_print.specs.Printing.{Signs};
 
-// No word has more digits: 2^63 has so many.
+// No signed word has more digits: 2^63 has so many.
 const MOST_DIGITS: usize = 19;
 
 // The powers of ten, one for each place.
@@ -62,7 +62,7 @@ fn powers_of_ten() -> [u64; MOST_DIGITS]
 // How many digits a number has: 0 has one.
 fn digit_count(powers: &[u64], number: u64) -> usize
     requires { ⌜ PowersOfTen (now powers) × (number < 10 ^ mostDigits) ⌝ }
-    ensures { λ r. ⌜ Counts number r ⌝ }
+    ensures { λ r. ⌜ CountsDigits number r ⌝ }
 {
     let mut count = 1;
     while count < powers.len() && powers[count] <= number {
@@ -71,11 +71,11 @@ fn digit_count(powers: &[u64], number: u64) -> usize
     count
 }
 
-// The highest digit: the power of its place is subtracted as often as it goes in. All nine multiples are compared: a branch on what a digit is
-// would mostly be mispredicted.
+// The highest digit: how often the power of its place goes in, and what is left once it is subtracted that often. All nine multiples are compared,
+// since a branch on what a digit is would mostly be mispredicted.
 fn lead_digit(number: u64, power: u64) -> Lead
     requires { ⌜ (number < 10 * power) × (10 * power < 2 ^ 64) ⌝ }
-    ensures { λ r. ⌜ Leads number power r ⌝ }
+    ensures { λ r. ⌜ LeadDigit number power r ⌝ }
 {
     let mut digit: u8 = 0;
     let mut times: u64 = 0;
@@ -106,7 +106,7 @@ fn put_digits(column: &mut [u8], powers: &[u64], number: u64)
     }
 }
 
-// Fills the columns before the digits: spaces, and a minus in the last one.
+// Fills the columns before the digits: spaces, and in the last one a minus if there is one. Where there is no column for it, nothing is promised.
 fn put_sign(column: &mut [u8], minus: bool)
     ensures { λ _. ⌜ Signs minus (now (column .entry)) (now (column .exit)) ⌝ }
 {

@@ -37,14 +37,24 @@ fn by_rust(column: &mut [u8; WIDTH], value: i64) {
     write!(&mut column[..], "{value:>WIDTH$}").unwrap();
 }
 
-/// each value printed, and one word of all texts, which differs where they do
-fn print_all(values: &[i64], print: impl Fn(&mut [u8; WIDTH], i64)) -> u64 {
+/// each value printed, the last one's text returned
+fn print_all(values: &[i64], print: impl Fn(&mut [u8; WIDTH], i64)) -> [u8; WIDTH] {
     let mut column = [0; WIDTH];
-    values.iter().fold(0, |sum, value| {
+    for value in values {
         print(&mut column, *value);
-        let words = column.chunks(4).map(|c| u32::from_le_bytes(c.try_into().unwrap()));
-        words.fold(sum, |sum: u64, word| sum.wrapping_mul(31) ^ u64::from(word))
-    })
+    }
+    column
+}
+
+/// the three give the same text
+fn compare(value: i64, before: Justify, after: Justify) {
+    let text = |print: &dyn Fn(&mut [u8; WIDTH], i64)| {
+        let mut column = [0; WIDTH];
+        print(&mut column, value);
+        column
+    };
+    let texts = [text(&by(before)), text(&by(after)), text(&by_rust)];
+    assert!(texts[0] == texts[1] && texts[0] == texts[2], "the texts of {value} differ");
 }
 
 /// a number of a random length up to `digits`, each length as likely, of either sign
@@ -84,14 +94,25 @@ fn printing(kind: Kind, before: Justify, after: Justify) -> Case {
     let mut r = Random(63);
     let mut values: Vec<i64> = (0..VALUES).map(|i| kind.1(&mut r, i)).collect();
     values[..4].copy_from_slice(&[i64::MIN, i64::MAX, 0, -1]);
+    for value in &values {
+        compare(*value, before, after);
+    }
+    // each run begins with another of the three, so that none always comes first
+    let mut first = 0;
     let run = move || {
-        let mut sums = [0u64; 3];
-        let times = [
-            timed(VALUES, || sums[0] = print_all(&values, by(before))),
-            timed(VALUES, || sums[1] = print_all(&values, by(after))),
-            timed(VALUES, || sums[2] = print_all(&values, by_rust)),
-        ];
-        assert!(sums[0] == sums[1] && sums[0] == sums[2], "the texts differ");
+        let mut texts = [[0; WIDTH]; 3];
+        let mut times = [0.0; 3];
+        for at in (0..3).map(|i| (first + i) % 3) {
+            times[at] = timed(VALUES, || {
+                texts[at] = match at {
+                    0 => print_all(&values, by(before)),
+                    1 => print_all(&values, by(after)),
+                    _ => print_all(&values, by_rust),
+                }
+            });
+        }
+        assert!(texts[0] == texts[1] && texts[0] == texts[2], "the last texts differ");
+        first += 1;
         times
     };
     Case { offers: 0, pieces: 0, run: Box::new(run) }

@@ -1,18 +1,18 @@
 -- `counter_print::lead_digit` meets its contract. The loop's invariant: the power goes in `digit` times, and no more of the multiples tried do.
 use Prim.Native.Nat.{_-_}
 use native.Mathlib.Omega.{arith}
-use Rattle.counter_print.specs.Places.{Going, going-none, going-more, going-done, multiple-fits}
+use Rattle.counter_print.specs.Places.{Tried, tried-none, tried-more, tried-done, multiple-fits}
 use Rattle.counter_print.proofs.lead_digit.Statement.{statement}
 use Rattle.counter_print.proofs.lead_digit.Tie as tie
 
 abbrev Inv-loop : tie.InvT-loop
-Inv-loop number power digit₀ times₀ digit times = Going number power digit times
+Inv-loop number power digit₀ times₀ digit times = Tried number power digit times
 
 abbrev μ-loop : tie.MeasureT-loop
 μ-loop number power digit₀ times₀ digit times = 9 - times
 
 loop-holds : tie.Need-loop-holds Inv-loop μ-loop
-loop-holds c = going-none _ _
+loop-holds c = tried-none _ _
 
 add-times : tie.Need-add-times Inv-loop μ-loop
 add-times c = omega (arith, c .loop-test .taken)
@@ -24,13 +24,13 @@ cast-digit : tie.Need-cast-digit Inv-loop μ-loop
 cast-digit c = tt
 
 add-digit : tie.Need-add-digit Inv-loop μ-loop
-add-digit c = let g = going-more (c .before .loop .inv) (c .loop-test .taken) in omega (arith, g .high, g .most)
+add-digit c = let g = tried-more (c .before .loop .inv) (c .loop-test .taken) in omega (arith, g .high, g .most)
 
 loop-less : tie.Need-loop-less Inv-loop μ-loop
 loop-less c = omega (arith, c .loop-test .taken)
 
 loop-again : tie.Need-loop-again Inv-loop μ-loop
-loop-again c = going-more (c .before .loop .inv) (c .loop-test .taken)
+loop-again c = tried-more (c .before .loop .inv) (c .loop-test .taken)
 
 cast-t8 : tie.Need-cast-t8 Inv-loop μ-loop
 cast-t8 c = omega (arith, c .before .loop .inv .high, c .before .loop .inv .most)
@@ -42,7 +42,7 @@ sub-t10 : tie.Need-sub-t10 Inv-loop μ-loop
 sub-t10 c = c .before .loop .inv .low
 
 returns : tie.Need-returns Inv-loop μ-loop
-returns c = going-done (c .before .loop .inv) (c .loop-test .left) (c .before .before .pre .0)
+returns c = tried-done (c .before .loop .inv) (c .loop-test .left) (c .before .before .pre .0)
 
 pub lead-digit-spec : {M : Type 1} → statement M
 lead-digit-spec =

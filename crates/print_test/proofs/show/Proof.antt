@@ -1,4 +1,4 @@
--- `print_test::show` meets its contract: the line is as long as it was.
+-- `print_test::show` is safe and ends: the line is as long as it was.
 use native.Mathlib.Omega.{arith}
 use lib.ListN.{length-append}
 use borrow.Author.Needs.{needs}
