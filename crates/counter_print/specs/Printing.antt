@@ -10,7 +10,7 @@ use lib.Seq.{take-add, take-all, take-at, drop-at, take-suc-set, drop-drop, leng
 use lib.IntN.{ℤ, pos, negsuc, natAbs}
 use lib.Signed.{ltZ}
 use mir.Syntax.{w64}
-use mir.Val.{SFits}
+use mir.Val.{Fits, SFits, boolByte}
 use borrow.Author.Fill.{fill-more}
 use Rattle.counter_print.specs.Texts.{space, minus, decimal, justified, FitsIn, newline, answerLine}
 use Rattle.counter_print.specs.Printed.{Justifies, Puts, Answers}
@@ -22,14 +22,13 @@ use Rattle.counter_print.specs.Justified.{justified-append}
 
 -- ---- what stands before the digits
 
--- The sign fills the last of the columns before the digits, where there is one, and spaces the others.
-abbrev pub Signs : Bool → (before after : List ℕ) → Type 0
-Signs negative before after = length (sign negative) ≤ length before → after ≡ justified (length before) (sign negative)
-
 -- While spaces are written: those before `at` are.
 pub record Blanking (before column : List ℕ) (at : ℕ) : Type 0 where
   pub high : at ≤ length before
   pub text : column ≡ replicate at space ++ drop at before
+
+pub minus-room : (negative : Bool) (n : ℕ) → negative ≡ true → length (sign negative) ≤ n → 0 < n
+minus-room negative n e h = rw e at h
 
 minus-last : (k : ℕ) → set (replicate (suc k) space) k minus ≡ replicate k space ++ minus ∷ []
 minus-last zero = refl
@@ -51,20 +50,20 @@ module _ {before column : List ℕ} {at : ℕ} (b : Blanking before column at) w
       let e : at ≡ length before = omega (arith, b .high, blanking-size) in
       b .text ∙ rw (e, drop-of-length-le before {i = length before} (omega arith), append-nil)
 
-  pub signs-blank : length column ≤ at → Signs false before column
+  pub signed-blank : length column ≤ at → column ≡ justified (length before) []
   unfolding justified
-  signs-blank h _ = blanks h ∙ rw (append-nil, sub-zero)
+  signed-blank h = blanks h ∙ rw (append-nil, sub-zero)
 
-  pub signs-minus : length column ≤ at → 0 < at → Signs true before (set column (at - 1) minus)
+  pub signed-minus : length column ≤ at → 0 < length before → set column (at - 1) minus ≡ justified (length before) (minus ∷ [])
   unfolding justified
-  signs-minus h some _ = rw (all, here) (minus-last (length before - 1))
+  signed-minus h some = rw (all, here) (minus-last (length before - 1))
     where
       here : at - 1 ≡ length before - 1
       here = omega (arith, b .high, blanking-size)
 
       all : column ≡ replicate (suc (length before - 1)) space
       all =
-          let e : length before ≡ suc (length before - 1) = omega (arith, b .high) in
+          let e : length before ≡ suc (length before - 1) = omega arith in
           blanks h ∙ ap (λ (n : ℕ). replicate n space) e
 
 -- ---- a whole number
@@ -74,13 +73,27 @@ pub word-digits : (z : ℤ) → SFits w64 z → natAbs z < 10 ^ mostDigits
 word-digits (pos n) f = omega arith
 word-digits (negsuc n) f = omega arith
 
--- Where the digits alone are too wide, anything may stand.
-pub justifies-narrow : (z : ℤ) (number count : ℕ) (before after : List ℕ) → number ≡ natAbs z → CountsDigits number count → length before < count
-    → Justifies z before after
-justifies-narrow z number count before after e c h = record { text = λ fits. absurd (omega (arith, fits, wide)) }
-  where
-    wide : count ≤ length (decimal z)
-    wide = rw (decimal-parts z, length-append, ← e, counts-text number count c, places-length count number) (omega arith)
+pub count-fits : (negative : Bool) (count : ℕ) → count ≤ mostDigits → Fits w64 (count + boolByte negative)
+count-fits true count h = omega arith
+count-fits false count h = omega arith
+
+sign-length : (negative : Bool) → length (sign negative) ≡ boolByte negative
+sign-length true = refl
+sign-length false = refl
+
+-- The sign fits before the digits where the text fits.
+pub sign-fits : (negative : Bool) (count : ℕ) (before : List ℕ) → count + boolByte negative ≤ length before
+    → length (sign negative) ≤ length (take (length before - count) before)
+sign-fits negative count before h = rw (length-take-le (length before - count) before (omega arith), sign-length negative) (omega arith)
+
+text-length : (z : ℤ) (number count : ℕ) → number ≡ natAbs z → CountsDigits number count → length (decimal z) ≡ boolByte (ltZ z (pos 0)) + count
+text-length z number count e c =
+    rw (decimal-parts z, length-append, ← e, counts-text number count c, places-length count number, sign-length (ltZ z (pos 0)))
+
+-- In a column that is too narrow anything may stand.
+pub justifies-narrow : (z : ℤ) (number count : ℕ) (before after : List ℕ) → number ≡ natAbs z → CountsDigits number count
+    → length before < count + boolByte (ltZ z (pos 0)) → Justifies z before after
+justifies-narrow z number count before after e c h = record { text = λ fits. absurd (omega (arith, fits, h, text-length z number count e c)) }
 
 -- The columns before the digits are lent for the sign, and then the rest for the digits.
 module _ (from : ℕ) (front rest : List ℕ) (same : length front ≡ from) where
@@ -97,14 +110,14 @@ module _ (from : ℕ) (front rest : List ℕ) (same : length front ≡ from) whe
   digits-fit number count c e = rw (rest-lent, e) (c .0 .most, c .1)
 
   pub justifies-wide : (z : ℤ) (number count : ℕ) (before digits : List ℕ) → number ≡ natAbs z → CountsDigits number count → from + count ≡ length before
-      → length rest ≡ count → Signs (ltZ z (pos 0)) (take from before) front
+      → length rest ≡ count → front ≡ justified (length (take from before)) (sign (ltZ z (pos 0)))
       → digits ≡ places (length (between from (length (front ++ rest)) (front ++ rest))) number
       → Justifies z before (take from (front ++ rest) ++ (digits ++ drop (length (front ++ rest) - from) (drop from (front ++ rest))))
-  justifies-wide z number count before digits e c sum l signs shown =
+  justifies-wide z number count before digits e c sum l signed shown =
       record {
-        text = λ fits.
+        text = λ _.
             rw (take-at front rest from same, rest-done, append-nil, text)
-            (ap (λ (t : List ℕ). t ++ digits) (signed (fits-front fits)) ∙ ap (λ (t : List ℕ). justified from mark ++ t) all ∙ sym apart);
+            (ap (λ (t : List ℕ). t ++ digits) before-digits ∙ ap (λ (t : List ℕ). justified from mark ++ t) all ∙ sym apart);
       }
     where
       mark : List ℕ
@@ -116,11 +129,8 @@ module _ (from : ℕ) (front rest : List ℕ) (same : length front ≡ from) whe
       room : length (take from before) ≡ from
       room = length-take-le from before (omega arith)
 
-      fits-front : FitsIn (length before) z → length mark ≤ from
-      fits-front fits = omega (arith, fits, simp (length-append, places-length) at (ap length text))
-
-      signed : length mark ≤ from → front ≡ justified from mark
-      signed h = rw room at (signs (rw room h))
+      before-digits : front ≡ justified from mark
+      before-digits = rw room at signed
 
       all : digits ≡ places count number
       all = shown ∙ rw (rest-lent, l)

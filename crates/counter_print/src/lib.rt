@@ -3,10 +3,11 @@ ghost use mathlib.Core.Path.{_≡_};
 ghost use Prim.Native.Nat.{_+_, _*_, _^_, _≤_, _<_};
 ghost use lib.ListN.{length};
 ghost use lib.IntN.{natAbs};
+ghost use Rattle.counter_print.specs.Texts.{justified};
+ghost use Rattle.counter_print.specs.Decimals.{sign};
 ghost use Rattle.counter_print.specs.Powers.{PowersOfTen, mostDigits};
 ghost use Rattle.counter_print.specs.Places.{places, CountsDigits, LeadDigit};
 ghost use Rattle.counter_print.specs.Printed.{Justifies, Puts, Answers};
-ghost use Rattle.counter_print.specs.Printing.{Signs};
 
 // No signed word has more digits: 2^63 has so many.
 const MOST_DIGITS: usize = 19;
@@ -106,9 +107,10 @@ fn put_digits(column: &mut [u8], powers: &[u64], number: u64)
     }
 }
 
-// Fills the columns before the digits: spaces, and in the last one a minus if there is one. Where there is no column for it, nothing is promised.
+// Fills the columns before the digits: spaces, and a minus in the last one where there is one.
 fn put_sign(column: &mut [u8], minus: bool)
-    ensures { λ _. ⌜ Signs minus (now (column .entry)) (now (column .exit)) ⌝ }
+    requires { ⌜ length (sign minus) ≤ length (now column) ⌝ }
+    ensures { λ _. ⌜ now (column .exit) ≡ justified (length (now (column .entry))) (sign minus) ⌝ }
 {
     let mut at = 0;
     while at < column.len() {
@@ -116,25 +118,24 @@ fn put_sign(column: &mut [u8], minus: bool)
         at += 1;
     }
     if minus {
-        if 0 < at {
-            column[at - 1] = b'-';
-        }
+        column[at - 1] = b'-';
     }
 }
 
-// Writes a number's decimal text into a column, spaces before. What a column gets that is too narrow is free.
+// Writes a number's decimal text into a column, spaces before. A column that is too narrow is left, which the contract does not promise.
 pub fn justify(column: &mut [u8], value: i64)
     ensures { λ _. ⌜ Justifies value (now (column .entry)) (now (column .exit)) ⌝ }
 {
     let powers = powers_of_ten();
     let number = magnitude(value);
+    let minus = value < 0;
     let count = digit_count(&powers, number);
     let width = column.len();
-    if width < count {
+    if width < count + minus as usize {
         return;
     }
     let from = width - count;
-    put_sign(&mut column[..from], value < 0);
+    put_sign(&mut column[..from], minus);
     put_digits(&mut column[from..], &powers, number);
 }
 

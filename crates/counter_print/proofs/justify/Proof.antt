@@ -4,9 +4,11 @@ use mathlib.Core.Path.{_≡_}
 use mathlib.Core.List.{List}
 use native.Mathlib.Omega.{arith}
 use lib.ListN.{length, drop, length-take, length-drop}
+use lib.IntN.{pos}
+use lib.Signed.{ltZ}
 use mir.Facts.{toZ-ofZ}
 use borrow.Author.Needs.{needs}
-use Rattle.counter_print.specs.Printing.{word-digits, justifies-narrow, digits-fit, justifies-wide}
+use Rattle.counter_print.specs.Printing.{word-digits, count-fits, sign-fits, justifies-narrow, digits-fit, justifies-wide}
 use Rattle.counter_print.proofs.justify.Statement.{statement}
 use Rattle.counter_print.proofs.justify.Tie as tie
 
@@ -26,12 +28,25 @@ digit-count-requires c κs =
     let f = at-powers .before .before .fits .value in
     (at-powers .powers-of-ten .ensures, rw (simp (toZ-ofZ, f) at (at-magnitude .magnitude .ensures)) (word-digits _ f))
 
+cast-if1 : tie.Need-cast-if1
+cast-if1 c = search needs
+
+add-if1 : tie.Need-add-if1
+add-if1 c =
+    let at-magnitude = c .before .before in
+    let entry = at-magnitude .before .before .before in
+    simp (toZ-ofZ, entry .fits .value) (count-fits (ltZ (entry .args .value) (pos 0)) _ (c .digit-count .ensures .0 .most))
+
 returns : tie.Need-returns
 returns c =
     let at-count = c .before in
     let at-magnitude = at-count .before .before in
     let f = at-magnitude .before .before .before .fits .value in
-    justifies-narrow _ _ _ _ _ (simp (toZ-ofZ, f) at (at-magnitude .magnitude .ensures)) (at-count .digit-count .ensures) (c .if1 .taken)
+    justifies-narrow _ _ _ _ _ (simp (toZ-ofZ, f) at (at-magnitude .magnitude .ensures)) (at-count .digit-count .ensures)
+    (simp (toZ-ofZ, f) at (c .if1 .taken))
+
+sub-from : tie.Need-sub-from
+sub-from c = omega (arith, c .if1 .left)
 
 slice-relend-prefix-put-sign : tie.Need-slice-relend-prefix-put-sign
 slice-relend-prefix-put-sign c = search needs
@@ -40,7 +55,12 @@ slice-aggregate-put-sign : tie.Need-slice-aggregate-put-sign
 slice-aggregate-put-sign c = simp length-take (omega arith)
 
 put-sign-requires : tie.Need-put-sign-requires
-put-sign-requires c κs = search needs
+put-sign-requires c κs =
+    let at-if1 = c .before in
+    let at-magnitude = at-if1 .before .before .before in
+    let entry = at-magnitude .before .before .before in
+    let f = entry .fits .value in
+    simp (toZ-ofZ, f) (sign-fits (ltZ (entry .args .value) (pos 0)) _ (entry .args .column .now) (simp (toZ-ofZ, f) at (at-if1 .if1 .left)))
 
 sub-put-digits : tie.Need-sub-put-digits
 sub-put-digits c = search needs
@@ -65,7 +85,7 @@ abbrev from : tie.After-put-sign → ℕ
 from c = length (before c) - count c
 
 fits : (c : tie.After-put-sign) → count c ≤ length (before c)
-fits c = c .before .before .if1 .left
+fits c = omega (arith, c .before .before .if1 .left)
 
 front-length : (c : tie.After-put-sign) → length (c .put-sign .last .0) ≡ from c
 front-length c = omega (arith, simp length-take at (c .put-sign .kept .0))
@@ -110,7 +130,10 @@ justify-spec =
     magnitude-requires
     slice-aggregate-digit-count
     digit-count-requires
+    cast-if1
+    add-if1
     returns
+    sub-from
     slice-relend-prefix-put-sign
     slice-aggregate-put-sign
     put-sign-requires

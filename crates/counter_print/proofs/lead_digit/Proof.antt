@@ -24,13 +24,13 @@ cast-digit : tie.Need-cast-digit Inv-loop μ-loop
 cast-digit c = tt
 
 add-digit : tie.Need-add-digit Inv-loop μ-loop
-add-digit c = let g = tried-more (c .before .loop .inv) (c .loop-test .taken) in omega (arith, g .high, g .most)
+add-digit c = let g = tried-more (c .before .loop .inv) (omega (arith, c .loop-test .taken)) in omega (arith, g .high, g .most)
 
 loop-less : tie.Need-loop-less Inv-loop μ-loop
 loop-less c = omega (arith, c .loop-test .taken)
 
 loop-again : tie.Need-loop-again Inv-loop μ-loop
-loop-again c = tried-more (c .before .loop .inv) (c .loop-test .taken)
+loop-again c = tried-more (c .before .loop .inv) (omega (arith, c .loop-test .taken))
 
 cast-t8 : tie.Need-cast-t8 Inv-loop μ-loop
 cast-t8 c = omega (arith, c .before .loop .inv .high, c .before .loop .inv .most)

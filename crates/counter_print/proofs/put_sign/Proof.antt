@@ -1,10 +1,10 @@
 -- `counter_print::put_sign` meets its contract. The loop's invariant: spaces stand in all columns before `at`.
-use Prim.Native.Nat.{_-_}
+use Prim.Native.Nat.{_-_, _<_}
 use mathlib.Core.Path.{refl}
 use native.Mathlib.Omega.{arith}
 use lib.ListN.{length, length-set}
 use borrow.Author.Needs.{needs}
-use Rattle.counter_print.specs.Printing.{Blanking, blanking-size, blanking-more, signs-blank, signs-minus}
+use Rattle.counter_print.specs.Printing.{Blanking, blanking-size, blanking-more, minus-room, signed-blank, signed-minus}
 use Rattle.counter_print.proofs.put_sign.Statement.{statement}
 use Rattle.counter_print.proofs.put_sign.Tie as tie
 
@@ -29,37 +29,32 @@ loop-less c = omega (arith, c .loop-test .taken, blanking-size (c .before .loop 
 loop-again : tie.Need-loop-again Inv-loop μ-loop
 loop-again c = blanking-more (c .before .loop .inv) (c .loop-test .taken)
 
+-- after the loop: the function's beginning, and that there is a column where there is a minus
+abbrev entry : tie.Then1 Inv-loop μ-loop → tie.Start Inv-loop μ-loop
+entry c = let at-test = c .before in at-test .before .before
+
+some : (c : tie.Then1 Inv-loop μ-loop) → 0 < length (entry c .args .column .now)
+some c = minus-room _ _ (c .if1 .taken) (entry c .pre)
+
 sub-column : tie.Need-sub-column Inv-loop μ-loop
-sub-column c = c .if2 .taken
+sub-column c = omega (arith, some c, c .before .loop-test .left, blanking-size (c .before .before .loop .inv))
 
 slice-write-column-2 : tie.Need-slice-write-column-2 Inv-loop μ-loop
 slice-write-column-2 c =
-    let inv = c .before .before .before .loop .inv in
-    omega (arith, c .if2 .taken, inv .high, blanking-size inv)
+    let inv = c .before .before .loop .inv in
+    omega (arith, some c, inv .high, blanking-size inv)
 
 same-length : tie.Need-same-length Inv-loop μ-loop
-same-length c = simp length-set (blanking-size (c .before .before .before .loop .inv))
+same-length c = simp length-set (blanking-size (c .before .before .loop .inv))
 
 returns : tie.Need-returns Inv-loop μ-loop
-returns c =
-    let at-test = c .before .before in
-    rw (c .before .if1 .taken) (signs-minus (at-test .before .loop .inv) (at-test .loop-test .left) (c .if2 .taken))
+returns c = rw (c .if1 .taken) (signed-minus (c .before .before .loop .inv) (c .before .loop-test .left) (some c))
 
 same-length-2 : tie.Need-same-length-2 Inv-loop μ-loop
-same-length-2 c = blanking-size (c .before .before .before .loop .inv)
+same-length-2 c = blanking-size (c .before .before .loop .inv)
 
 returns-2 : tie.Need-returns-2 Inv-loop μ-loop
-returns-2 c =
-    let at-test = c .before .before in
-    rw (c .before .if1 .taken) (λ fits. absurd (omega (arith, at-test .loop-test .left, c .if2 .left, blanking-size (at-test .before .loop .inv))))
-
-same-length-3 : tie.Need-same-length-3 Inv-loop μ-loop
-same-length-3 c = blanking-size (c .before .before .loop .inv)
-
-returns-3 : tie.Need-returns-3 Inv-loop μ-loop
-returns-3 c =
-    let at-test = c .before in
-    rw (c .if1 .left) (signs-blank (at-test .before .loop .inv) (at-test .loop-test .left))
+returns-2 c = rw (c .if1 .left) (signed-blank (c .before .before .loop .inv) (c .before .loop-test .left))
 
 pub put-sign-spec : {M : Type 1} → statement M
 put-sign-spec =
@@ -77,6 +72,4 @@ put-sign-spec =
     same-length
     returns
     same-length-2
-    returns-2
-    same-length-3
-    returns-3)
+    returns-2)
