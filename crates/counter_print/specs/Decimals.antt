@@ -1,22 +1,21 @@
 -- What a number's decimal text is made of, and how long it is.
 use Prim.Native.Nat.{ℕ, zero, suc, _+_, _/_, _%_, _^_, _≤_, _<_}
 use mathlib.Core.Path.{_≡_, refl, ap}
-use mathlib.Core.Bool.{Bool, true, false, _&&_, _||_}
+use mathlib.Core.Bool.{Bool, true, false, _&&_}
 use mathlib.Core.List.{List, [], _∷_, _++_}
 use native.Mathlib.Nat.{pow-zero, pow-suc}
 use native.Mathlib.Decide.{decLt}
 use native.Mathlib.Omega.{arith}
 use lib.ListN.{length, length-append, getD}
 use lib.IntN.{ℤ, pos, negsuc, natAbs}
-use lib.Dec.{leb, eqb}
+use lib.Dec.{T, leb}
 use mir.Syntax.{w64}
 use mir.Val.{SFits}
 use lib.Signed.{ltZ}
 use borrow.Author.Tests.{le-leb, le-ltb}
-use lib.Dec.{T}
 use Rattle.lists.specs.Filter.{every}
 use Rattle.counter_print.specs.Texts.{digit, minus, digitsWithin, digits, numeral, decimal, FitsIn}
-use Rattle.lists.specs.Bools.{or-left, and-both, and-left, and-right}
+use Rattle.lists.specs.Bools.{and-both, and-left, and-right}
 
 -- ---- the two laws that the rest goes by
 
@@ -77,21 +76,6 @@ digits-characters n = along (λ _ t. T (every isDigit t)) tt (λ m t _ h. every-
 pub numeral-characters : (n : ℕ) → T (every isDigit (numeral n))
 unfolding numeral
 numeral-characters n = every-snoc (digits (n / 10)) _ (digits-characters (n / 10)) (digit-is (n % 10) (omega arith))
-
--- A digit or the minus, which `decimal` puts nowhere but in front.
-abbrev pub isDecimal : ℕ → Bool
-isDecimal b = isDigit b || eqb b minus
-
-digits-decimal : (t : List ℕ) → T (every isDigit t) → T (every isDecimal t)
-digits-decimal [] h = tt
-digits-decimal (b ∷ t) h =
-    and-both (isDecimal b) (every isDecimal t) (or-left (isDigit b) (eqb b minus) (and-left (isDigit b) (every isDigit t) h))
-    (digits-decimal t (and-right (isDigit b) (every isDigit t) h))
-
-pub decimal-characters : (z : ℤ) → T (every isDecimal (decimal z))
-unfolding decimal
-decimal-characters (pos n) = digits-decimal (numeral n) (numeral-characters n)
-decimal-characters (negsuc n) = digits-decimal (numeral (suc n)) (numeral-characters (suc n))
 
 -- No leading zero, but for 0 itself.
 abbrev Leads : ℕ → List ℕ → Type 0
