@@ -61,7 +61,8 @@ loop-again : tie.Need-loop-again Inv-loop μ-loop
 loop-again c =
     let at-lead = c .before in
     let at-test = at-lead .before .before in
-    putting-more _ (at-test .before .loop .inv) (some at-test) (place-power _ (entry at-test .pre .0) _ (some at-test) (low at-test)) (at-lead .lead-digit .ensures)
+    putting-more _ (at-test .before .loop .inv) (some at-test) (place-power _ (entry at-test .pre .0) _ (some at-test) (low at-test))
+    (at-lead .lead-digit .ensures)
 
 same-length : tie.Need-same-length Inv-loop μ-loop
 same-length c = c .before .loop .inv .size
