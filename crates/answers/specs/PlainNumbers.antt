@@ -31,6 +31,7 @@ use Rattle.meet_books.specs.declared.Met.{Met}
 use Rattle.meet_books.specs.Promises.{meetTrials, Found as MeetsAt}
 use Rattle.chart.specs.Promises.{plainMark}
 use Rattle.vouchers.specs.VoucherTold.{due}
+use Rattle.vouchers.specs.Span.{only-due}
 use Rattle.reading.specs.Promises.{pieceOf as handedOf, listedAt, rootPieces, PlaceOf, at-piece, past-last, Before}
 use Rattle.reading.specs.PartReading.{none-past, listed-is}
 use Rattle.answers.specs.Promises.{refusal, updateNumber, foundNumber, listedNumber, meetNumber, markNumber, placeNumber, metOf, pieceOf, over}
@@ -90,7 +91,8 @@ pub vouchered-plainly : (price : ℤ) {units units′ : List ℤ} {r : ℤ} → 
     → (r ≡ refusal (due price .number)) × (units′ ≡ over (due price .values) units)
 vouchered-plainly price {units} p h =
     let q = p .long h in
-    (q .2 .number ∙ ap (λ x. refusal (x .number)) (q .1), q .2 .words ∙ ap (λ x. over (x .values) units) (q .1))
+    let e = only-due price (q .0) (q .1) in
+    (q .2 .number ∙ ap (λ x. refusal (x .number)) e, q .2 .words ∙ ap (λ x. over (x .values) units) e)
 
 -- ---- the meeting of two books
 

@@ -17,8 +17,7 @@ use Rattle.promises.specs.declared.Listed.{Listed}
 use Rattle.promises.specs.Promises.{openingAnswer, updateTold, foundTold, listedTold, Opens, Updates, Queries, Lists, Checks}
 use Rattle.meet_books.specs.Promises.{MeetAnswer, refused, met, meetAnswer, MeetsBooks}
 use Rattle.chart.specs.Promises.{told as markTold, Marks}
-use Rattle.vouchers.specs.declared.Voucher.{Voucher}
-use Rattle.vouchers.specs.VoucherTold.{told as voucherTold, due}
+use Rattle.vouchers.specs.VoucherTold.{told as voucherTold, Vouches}
 use Rattle.reading.specs.declared.Handed.{Handed}
 use Rattle.reading.specs.Promises.{Told as PieceTold, piece, ended, refused as pieceRefused, told as pieceTold, Starts, Moves, Hands}
 
@@ -148,7 +147,7 @@ MarkAsked start t index mark mark′ r =
 -- the units go with it
 abbrev pub Vouchered : (price : ℤ) (units units′ : List ℤ) (r : ℤ) → Type 0
 Vouchered price units units′ r =
-    Lent 1 (λ (v : Voucher). voucherTold v ≡ due price) (λ v. refusal (voucherTold v .number)) (λ v. voucherTold v .values) units units′ r
+    Lent 1 (Vouches price) (λ v. refusal (voucherTold v .number)) (λ v. voucherTold v .values) units units′ r
 
 -- ---- a reading, whose place goes from call to call as a word
 

@@ -1,9 +1,16 @@
 // Voucher prices: a price in whole units of 100 cents.
-ghost use mathlib.Core.Path.{_≡_};
 ghost use lib.Dec.{T};
 ghost use Rattle.offers.specs.Offers.{priceInRange};
-ghost use Rattle.vouchers.specs.Rule.{voucherUnits};
-ghost use Rattle.vouchers.specs.VoucherTold.{told, due};
+ghost use Rattle.vouchers.specs.Rule.{Rounded};
+ghost use Rattle.vouchers.specs.VoucherTold.{Vouches};
+
+// A unit in cents, and half of it.
+const UNIT: i64 = 100;
+
+const HALF: i64 = 50;
+
+// The least rest that is nearer to the next unit.
+const ABOVE_HALF: i64 = HALF + 1;
 
 pub enum Voucher {
     // Whole units of 100 cents.
@@ -12,20 +19,27 @@ pub enum Voucher {
     Declined(i64),
 }
 
-// Half away from zero: the division cuts toward zero, so half a unit is added on the price's own side.
+// Half to even: the division cuts toward zero, and enough cents cut off lead one unit further out. Half a unit is enough only from an
+// odd one, so that it ends at an even.
 fn whole_units(price: i64) -> i64
     requires { ⌜ T (priceInRange price) ⌝ }
-    ensures { λ r. ⌜ r ≡ voucherUnits price ⌝ }
+    ensures { λ r. ⌜ Rounded price r ⌝ }
 {
-    if price < 0 {
-        return (price - 50) / 100;
+    let units = price / UNIT;
+    let rest = price % UNIT;
+    let enough = if units % 2 == 0 { ABOVE_HALF } else { HALF };
+    if enough <= rest {
+        return units + 1;
     }
-    (price + 50) / 100
+    if rest <= -enough {
+        return units - 1;
+    }
+    units
 }
 
 // The voucher of a price from −101,000,000,000 to 101,000,000,000 cents.
 pub fn voucher_price(price: i64) -> Voucher
-    ensures { λ r. ⌜ told r ≡ due price ⌝ }
+    ensures { λ r. ⌜ Vouches price r ⌝ }
 {
     if price < -101_000_000_000 || 101_000_000_000 < price {
         return Voucher::Declined(4);

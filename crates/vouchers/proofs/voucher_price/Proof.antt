@@ -4,7 +4,7 @@ use mathlib.Core.Logic.{⊎-elim}
 use mir.Syntax.{w64}
 use mir.Val.{SFits}
 use mir.ValLaws.{toZ-ofZ}
-use Rattle.vouchers.specs.Span.{in-span, due-inside, due-below, due-above}
+use Rattle.vouchers.specs.Span.{in-span, vouches-due, due-inside, due-below, due-above}
 use Rattle.vouchers.proofs.voucher_price.Statement.{statement}
 use Rattle.vouchers.proofs.voucher_price.Tie as tie
 
@@ -13,7 +13,7 @@ returns c =
     let s = c .before in
     let p = s .args .price in
     let e = toZ-ofZ w64 p (s .fits .price) in
-    sym (⊎-elim (λ y. due-below p (rw e at (y .taken))) (λ y. due-above p (rw e at (y .1 .taken))) (c .if1 .came))
+    vouches-due p _ (sym (⊎-elim (λ y. due-below p (rw e at (y .taken))) (λ y. due-above p (rw e at (y .1 .taken))) (c .if1 .came)))
 
 whole-units-requires : tie.Need-whole-units-requires
 whole-units-requires c κs =
@@ -24,10 +24,11 @@ whole-units-requires c κs =
 returns-2 : tie.Need-returns-2
 returns-2 c =
     let s = c .before .before .before in
-    let e = toZ-ofZ w64 (s .args .price) (s .fits .price) in
+    let p = s .args .price in
+    let e = toZ-ofZ w64 p (s .fits .price) in
     let f : SFits w64 (c .whole-units .result) = record { sfits = c .whole-units .ok } in
-    rw (toZ-ofZ w64 (c .whole-units .result) f, c .whole-units .ensures, e)
-    (sym (due-inside (s .args .price) (rw e at (c .before .before .if1 .left)) (rw e at (c .before .if2 .left))))
+    rw (toZ-ofZ w64 (c .whole-units .result) f)
+    (vouches-due p _ (sym (due-inside p (rw e at (c .whole-units .ensures)) (rw e at (c .before .before .if1 .left)) (rw e at (c .before .if2 .left)))))
 
 pub voucher-price-spec : {M : Type 1} → statement M
 voucher-price-spec = tie.close (tie.spec returns whole-units-requires returns-2)

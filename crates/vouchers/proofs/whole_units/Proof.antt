@@ -1,55 +1,95 @@
--- `vouchers::whole_units` meets its contract: half a unit is added on the price's own side, and the division cuts toward zero.
-use mathlib.Core.Path.{_≡_, sym, _∙_, ap, subst}
-use mathlib.Core.Bool.{true, false}
-use lib.Dec.{T, lit<}
-use lib.IntN.{ℤ, pos, _+ℤ_, _-ℤ_}
-use lib.Signed.{quotZ, ltZ}
+-- `vouchers::whole_units` meets its contract: a rest that is enough leads one unit further out, and any other stays behind.
+use mathlib.Core.Path.{refl, sym, subst}
+use mathlib.Core.Logic.{⊎-elim}
+use native.Mathlib.Omega.{arith}
+use lib.Dec.{lit<}
+use lib.IntN.{pos}
+use lib.Signed.{quotZ}
 use mir.Syntax.{w64}
-use mir.Val.{SFits, toZ, ofZ}
-use mir.ValLaws.{toZ-ofZ}
-use Rattle.offers.specs.Offers.{priceInRange}
-use Rattle.vouchers.specs.Rule.{voucherUnits}
-use Rattle.vouchers.specs.VoucherSteps.{lowered-fits, raised-fits, units-fit, lowered-is, raised-is}
+use mir.Val.{toZ}
+use mir.Facts.{toZ-ofZ}
+use Rattle.integers.specs.Parts.{intRules, sub-parts}
+use Rattle.vouchers.specs.VoucherSteps.{units-fit, pairs-fit, above-fits, below-fits, rest-fits, minus-fits}
+use Rattle.vouchers.specs.VoucherSteps.{cut, even, odd, Enough, further-up, further-down, no-further}
 use Rattle.vouchers.proofs.whole_units.Statement.{statement}
 use Rattle.vouchers.proofs.whole_units.Tie as tie
+use Rattle.vouchers.proofs.whole_units.Reads as reads
+use Rattle.vouchers.proofs.whole_units.Lts as lts
 
--- the machine reads each value back from its bits, which changes none that fits
-module _ (p : ℤ) (f : SFits w64 p) (h : T (priceInRange p)) where
-  lowered : ltZ (toZ w64 (ofZ w64 p)) (pos 0) ≡ true → quotZ (toZ w64 (ofZ w64 (toZ w64 (ofZ w64 p) -ℤ pos 50))) (pos 100) ≡ voucherUnits p
-  lowered t = rw (toZ-ofZ w64 p f, toZ-ofZ w64 (p -ℤ pos 50) (lowered-fits p h)) (lowered-is p (rw (toZ-ofZ w64 p f) at t))
+div-units : tie.Need-div-units
+div-units c = (lit< tt, simp (toZ-ofZ, c .fits .price) (units-fit (c .args .price) (c .pre)))
 
-  raised : ltZ (toZ w64 (ofZ w64 p)) (pos 0) ≡ false → quotZ (toZ w64 (ofZ w64 (toZ w64 (ofZ w64 p) +ℤ pos 50))) (pos 100) ≡ voucherUnits p
-  raised t = rw (toZ-ofZ w64 p f, toZ-ofZ w64 (p +ℤ pos 50) (raised-fits p h)) (raised-is p (rw (toZ-ofZ w64 p f) at t))
+rem-rest : tie.Need-rem-rest
+rem-rest c = (lit< tt, simp (toZ-ofZ, c .fits .price) (units-fit (c .args .price) (c .pre)))
 
-  returned : toZ w64 (ofZ w64 (voucherUnits p)) ≡ voucherUnits p
-  returned = toZ-ofZ w64 (voucherUnits p) (units-fit p h)
+rem-if1 : tie.Need-rem-if1
+rem-if1 c =
+    let units = units-fit (c .args .price) (c .pre) in
+    (lit< tt, simp (toZ-ofZ, c .fits .price, units) (pairs-fit (c .args .price) (c .pre)))
 
-sub-result : tie.Need-sub-result
-sub-result c = let p = c .before .args .price in rw (toZ-ofZ w64 p (c .before .fits .price)) (lowered-fits p (c .before .pre))
-
-div-result : tie.Need-div-result
-div-result c =
+-- the two ways to what is enough
+enough-is : (c : lts.Joined1 reads.Pre reads.Post) → Enough (quotZ (c .before .args .price) (pos 100)) (toZ w64 (c .if1 .enough))
+enough-is c =
     let s = c .before in
-    (lit< tt, subst (SFits w64) (sym (lowered (s .args .price) (s .fits .price) (s .pre) (c .if1 .taken))) (units-fit (s .args .price) (s .pre)))
+    let q = quotZ (s .args .price) (pos 100) in
+    let units = units-fit (s .args .price) (s .pre) in
+    ⊎-elim
+    (λ y. subst (λ w. Enough q (toZ w64 w)) (sym (y .1))
+    record { above = refl; is = omega (arith, even q (simp (toZ-ofZ, s .fits .price, units) at (y .0 .taken))) })
+    (λ y. subst (λ w. Enough q (toZ w64 w)) (sym (y .1))
+    record { above = refl; is = omega (arith, odd q (simp (toZ-ofZ, s .fits .price, units) at (y .0 .left))) })
+    (c .if1 .came)
+
+add-result : tie.Need-add-result
+add-result c =
+    let s = c .before .before in
+    let units = units-fit (s .args .price) (s .pre) in
+    simp (toZ-ofZ, s .fits .price, units) (above-fits (s .args .price) (s .pre))
 
 returns : tie.Need-returns
 returns c =
-    let s = c .before in
-    ap (λ (z : ℤ). toZ w64 (ofZ w64 z)) (lowered (s .args .price) (s .fits .price) (s .pre) (c .if1 .taken))
-    ∙ returned (s .args .price) (s .fits .price) (s .pre)
+    let s = c .before .before in
+    let p = s .args .price in
+    let units = units-fit p (s .pre) in
+    let rest = rest-fits p in
+    let above = above-fits p (s .pre) in
+    let t = simp (toZ-ofZ, s .fits .price, rest) at (c .if2 .taken) in
+    simp (toZ-ofZ, s .fits .price, units, above) (further-up (cut p) (enough-is (c .before)) (omega (arith, intRules, t)))
 
-add-result : tie.Need-add-result
-add-result c = let p = c .before .args .price in rw (toZ-ofZ w64 p (c .before .fits .price)) (raised-fits p (c .before .pre))
+sub-if3 : tie.Need-sub-if3
+sub-if3 c = minus-fits (enough-is (c .before))
 
-div-result-2 : tie.Need-div-result-2
-div-result-2 c =
-    let s = c .before in
-    (lit< tt, subst (SFits w64) (sym (raised (s .args .price) (s .fits .price) (s .pre) (c .if1 .left))) (units-fit (s .args .price) (s .pre)))
+sub-result : tie.Need-sub-result
+sub-result c =
+    let s = c .before .before .before in
+    let units = units-fit (s .args .price) (s .pre) in
+    simp (toZ-ofZ, s .fits .price, units) (below-fits (s .args .price) (s .pre))
 
 returns-2 : tie.Need-returns-2
 returns-2 c =
-    let s = c .before in
-    ap (λ (z : ℤ). toZ w64 (ofZ w64 z)) (raised (s .args .price) (s .fits .price) (s .pre) (c .if1 .left)) ∙ returned (s .args .price) (s .fits .price) (s .pre)
+    let s = c .before .before .before in
+    let p = s .args .price in
+    let e = enough-is (c .before .before) in
+    let units = units-fit p (s .pre) in
+    let rest = rest-fits p in
+    let below = below-fits p (s .pre) in
+    let minus = minus-fits e in
+    let t = simp (toZ-ofZ, s .fits .price, rest, minus) at (c .if3 .taken) in
+    simp (toZ-ofZ, s .fits .price, units, below)
+    (further-down (cut p) e (omega (arith, intRules, t, sub-parts (pos 0) (toZ w64 (c .before .before .if1 .enough)))))
+
+returns-3 : tie.Need-returns-3
+returns-3 c =
+    let s = c .before .before .before in
+    let p = s .args .price in
+    let e = enough-is (c .before .before) in
+    let units = units-fit p (s .pre) in
+    let rest = rest-fits p in
+    let minus = minus-fits e in
+    let t = simp (toZ-ofZ, s .fits .price, rest) at (c .before .if2 .left) in
+    let z = simp (toZ-ofZ, s .fits .price, rest, minus) at (c .if3 .left) in
+    simp (toZ-ofZ, s .fits .price, units)
+    (no-further (cut p) e (omega (arith, intRules, t)) (omega (arith, intRules, z, sub-parts (pos 0) (toZ w64 (c .before .before .if1 .enough)))))
 
 pub whole-units-spec : {M : Type 1} → statement M
-whole-units-spec = tie.close (tie.spec sub-result div-result returns add-result div-result-2 returns-2)
+whole-units-spec = tie.close (tie.spec div-units rem-rest rem-if1 add-result returns sub-if3 sub-result returns-2 returns-3)
