@@ -98,8 +98,8 @@ int64_t carrier_meet(const int64_t *first, size_t first_words, size_t first_star
  * i and i + 1, counted from 1, cross to mark[0] and mark[1]: each a quotient of two exact doubles, rounded once. */
 int64_t carrier_mark(const int64_t *table, size_t words, size_t start, int64_t index, double *mark, size_t mark_words);
 
-/* A price (-101,000,000,000 to 101,000,000,000 cents) in whole units of 100 cents, half away from zero. Returns 0, and writes the
- * units to units[0]. */
+/* A price (-101,000,000,000 to 101,000,000,000 cents) in whole units of 100 cents: the nearest, and an exact half to the even unit.
+ * Returns 0, and writes the units to units[0]. */
 int64_t carrier_voucher(int64_t price, int64_t *units, size_t units_words);
 
 /* A reading hands out the pieces one at a time, as carrier_listing writes them:

@@ -30,8 +30,7 @@ use Rattle.promises.specs.Numbered.{numbered}
 use Rattle.meet_books.specs.declared.Met.{Met}
 use Rattle.meet_books.specs.Promises.{meetTrials, Found as MeetsAt}
 use Rattle.chart.specs.Promises.{plainMark}
-use Rattle.vouchers.specs.VoucherTold.{due}
-use Rattle.vouchers.specs.Span.{only-due}
+use Rattle.vouchers.specs.Span.{due, only-due}
 use Rattle.reading.specs.Promises.{pieceOf as handedOf, listedAt, rootPieces, PlaceOf, at-piece, past-last, Before}
 use Rattle.reading.specs.PartReading.{none-past, listed-is}
 use Rattle.answers.specs.Promises.{refusal, updateNumber, foundNumber, listedNumber, meetNumber, markNumber, placeNumber, metOf, pieceOf, over}

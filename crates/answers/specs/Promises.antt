@@ -1,4 +1,4 @@
--- What each function for Rust and C promises: the promise of the call behind it (the Promises of promises, meet_books, chart and reading, the rule of
+-- What each function for Rust and C promises: the promise of the call behind it (the Promises of promises, meet_books, chart and reading, `Vouches` of
 -- vouchers), with the answer told as one number and as values over the first words of a lent output. `t` are the table's words before the
 -- call and `t′` those after it; so for the words of an output.
 use mathlib.Core.Path.{_≡_}

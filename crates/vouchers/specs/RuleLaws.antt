@@ -1,55 +1,54 @@
--- What the voucher rule comes to: some units are a price rounded and no others are, no others are nearer, and a rebate's voucher is that
--- of the price with its sign changed.
-use Prim.Native.Nat.{ℕ, zero, suc, _+_, _*_, _-_, _/_, _%_, _≤_, _<_, compare, Ordering, Ordering·lt, Ordering·eq, Ordering·gt}
-use mathlib.Core.Path.{_≡_, refl, sym, subst}
-use mathlib.Core.Bool.{not}
+-- What the voucher rule comes to: units that are a price rounded are computed, no others are so, and a rebate's voucher is that of the
+-- price with its sign changed.
+use Prim.Native.Nat.{ℕ, zero, suc, _+_, _*_, _-_, _/_, _%_, _≤_, _<_}
+use mathlib.Core.Path.{_≡_, refl, sym, ap, _∙_}
+use mathlib.Core.Logic.{_≢_}
 use native.Mathlib.Nat.{lt-of-not-le}
+use native.Mathlib.Decide.{ℕ-discrete}
 use native.Mathlib.Omega.{arith}
-use lib.Dec.{T, isLe, isEq, eqb, leb→le, nleb→lt, eqb→eq, eqb-refl}
 use lib.IntN.{ℤ, pos, negsuc, negℤ, natAbs, _-ℤ_, _*ℤ_, negℤ-negℤ}
-use lib.Ieee.{nearest}
-use lib.Ieee.Nearest.{closest}
-use Rattle.integers.specs.Parts.{P, N, natAbs-parts, neg-P, neg-N, parts-eq}
+use Rattle.integers.specs.Parts.{P, N, natAbs-parts, neg-P, neg-N, parts-eq, ne-parts}
 use Rattle.integers.specs.Ring.{var, nat, _:-_, _:*_, parts}
 use Rattle.integers.specs.Magnitude.{natAbs-gap, natAbs-neg}
-use Rattle.vouchers.specs.Rule.{off, Rounded, voucherUnits}
+use Rattle.vouchers.specs.Rule.{off, Rounded}
 
 -- ---- the distance, in natural numbers
 
 pub off-is : (p u : ℤ) → off p u ≡ (100 * P u + N p - (100 * N u + P p)) + (100 * N u + P p - (100 * P u + N p))
 off-is p u = natAbs-gap (pos 100 *ℤ u -ℤ p) (100 * P u + N p) (100 * N u + P p) (omega (arith, parts (nat 100 :* var u :- var p)))
 
--- ---- the rule rounds, and nothing else does
+-- ---- the rule computed
 
--- so far are m units from n cents, both not below 0
-abbrev between : ℕ → ℕ → ℕ
-between n m = (100 * m - n) + (n - 100 * m)
+-- So many cents, not below 0, in units: half a unit is added before the cut, a cent less where the units below are even.
+abbrev pub nearestUnit : ℕ → ℕ
+nearestUnit cents = (cents + 49 + cents / 100 % 2) / 100
 
--- by how twice the rest r compares with a unit: the library's three cases
-by-rest : (n q r : ℕ) → 100 * q + r ≡ n → r < 100 → (o : Ordering) → (T (isLe o) → r * 2 ≤ 100) → (T (not (isLe o)) → 100 < r * 2)
-    → (T (isEq o) → r * 2 ≡ 100) → (r * 2 ≡ 100 → T (isEq o)) → (between n (nearest q o) ≤ 50) × (between n (nearest q o) ≡ 50 → nearest q o % 2 ≡ 0)
-by-rest n q r e l Ordering·lt most more same half = let h = most tt in (omega arith, λ d. absurd (half (omega arith)))
-by-rest n q r e l Ordering·eq most more same half = let h = same tt in (omega arith, λ d. omega arith)
-by-rest n q r e l Ordering·gt most more same half = let h = more tt in (omega arith, λ d. absurd (omega arith))
+-- A rebate is rounded as the price of its size, and keeps its sign.
+abbrev pub voucherUnits : ℤ → ℤ
+voucherUnits (pos n) = pos (nearestUnit n)
+voucherUnits (negsuc n) = negℤ (pos (nearestUnit (suc n)))
 
-closest-near : (n : ℕ) → (between n (closest n 100) ≤ 50) × (between n (closest n 100) ≡ 50 → closest n 100 % 2 ≡ 0)
-closest-near n =
-    let a = n % 100 * 2 in
-    by-rest n (n / 100) (n % 100) (omega arith) (omega arith) (compare a 100) (leb→le a 100) (nleb→lt a 100) (eqb→eq a 100)
-    (λ (e : a ≡ 100). subst (λ (x : ℕ). T (eqb a x)) e (eqb-refl a))
+-- at most 50 off, and where odd at most 49
+abbrev Near : ℕ → ℕ → Type 0
+Near n m = (100 * m - n) + (n - 100 * m) + m % 2 ≤ 50
+
+near : (n : ℕ) → Near n (nearestUnit n)
+near n = go (ℕ-discrete (nearestUnit n) (n / 100))
+  where
+    next : (q m : ℕ) → m ≡ q + 1 → m % 2 + q % 2 ≡ 1
+    next q m e = omega arith
+
+    go : Dec (nearestUnit n ≡ n / 100) → Near n (nearestUnit n)
+    go (yes e) = omega (arith, ap (λ (m : ℕ). m % 2) e)
+    go (no e) = omega (arith, next (n / 100) (nearestUnit n) (omega arith))
 
 pub rounded : (p : ℤ) → Rounded p (voucherUnits p)
-rounded (pos n) =
-    let h = closest-near n in
-    let k = off-is (pos n) (pos (closest n 100)) in
-    record { near = omega arith; half = λ e. h .1 (omega arith) }
+rounded (pos n) = omega (arith, near n, off-is (pos n) (pos (nearestUnit n)))
 rounded (negsuc n) =
-    let q = closest (suc n) 100 in
-    let h = closest-near (suc n) in
-    let k = off-is (negsuc n) (negℤ (pos q)) in
-    let x = neg-P (pos q) in
-    let y = neg-N (pos q) in
-    record { near = omega arith; half = λ e. rw (natAbs-neg (pos q)) (h .1 (omega arith)) }
+    let q = pos (nearestUnit (suc n)) in
+    omega (arith, near (suc n), off-is (negsuc n) (negℤ q), neg-P q, neg-N q, ap (λ (m : ℕ). m % 2) (natAbs-neg q))
+
+-- ---- no other units are so
 
 -- of two that differ both are 50 off, and one is odd
 apart : (p u v : ℤ) → Rounded p u → Rounded p v → P u + N v < P v + N u → ⊥
@@ -64,13 +63,13 @@ apart p u v r s l =
 pub only-rounded : (p u v : ℤ) → Rounded p u → Rounded p v → u ≡ v
 only-rounded p u v r s = parts-eq u v (omega (arith, lt-of-not-le (apart p u v r s), lt-of-not-le (apart p v u s r)))
 
--- no units are nearer
-pub none-nearer : (p u v : ℤ) → Rounded p u → off p u ≤ off p v
-none-nearer p u v r = omega (arith, off-is p u, off-is p v)
+-- any others are as far off or further, and further where these are less than 50 off
+pub others-off : (p u v : ℤ) → Rounded p u → u ≢ v → 50 ≤ off p v
+others-off p u v r d = omega (arith, off-is p u, off-is p v, ne-parts u v d)
 
 -- ---- signs
 
 pub sign-changed : (p : ℤ) → voucherUnits (negℤ p) ≡ negℤ (voucherUnits p)
 sign-changed (pos zero) = refl
 sign-changed (pos (suc n)) = refl
-sign-changed (negsuc n) = sym (negℤ-negℤ (pos (closest (suc n) 100)))
+sign-changed (negsuc n) = sym (negℤ-negℤ (pos (nearestUnit (suc n))))

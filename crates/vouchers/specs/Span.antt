@@ -1,35 +1,40 @@
--- What is due for a price in its span, and outside it: the promise leaves nothing else.
-use mathlib.Core.Path.{_≡_, refl, sym, ap, _∙_, subst}
+-- What is due for a price in its span, and outside it: the promise asks for this and leaves nothing else.
+use mathlib.Core.Path.{_≡_, refl, ap, _∙_}
 use mathlib.Core.Bool.{Bool, true, false, not, cond}
 use mathlib.Core.List.{[], _∷_, map}
 use mathlib.Core.Option.{Option, none, some}
 use Prim.Native.Nat.{ℕ}
-use lib.Dec.{T}
 use lib.IntN.{ℤ, pos, negsuc, negℤ}
 use lib.Signed.{ltZ}
 use Rattle.integers.specs.Ranges.{too-low, too-high, in-range}
 use Rattle.offers.specs.Offers.{priceInRange}
 use Rattle.plain.specs.Causes.{Cause, declined, priceOutOfRange, FirstOf, Clear}
 use Rattle.plain.specs.Trials.{clear, not-declined, declined-by, declined-first}
-use Rattle.vouchers.specs.Rule.{Rounded, voucherUnits}
-use Rattle.vouchers.specs.RuleLaws.{rounded, only-rounded}
+use Rattle.vouchers.specs.Rule.{Rounded}
+use Rattle.vouchers.specs.RuleLaws.{voucherUnits, rounded, only-rounded}
 use Rattle.vouchers.specs.declared.Voucher.{Voucher}
-use Rattle.vouchers.specs.declared.Voucher.the-variants.{Units}
-use Rattle.vouchers.specs.VoucherTold.{Told, inUnits, refusal, told, voucherTrials, Vouches, respond, due}
+use Rattle.vouchers.specs.VoucherTold.{Told, inUnits, refusal, told, voucherTrials, Vouches}
 
--- ---- the promise is an equation
+-- ---- the answer computed: it meets the promise, and no other does
+
+abbrev pub respond : ℤ → Option Cause → Told
+respond price none = inUnits (voucherUnits price)
+respond price (some c) = refusal c
+
+abbrev pub due : ℤ → Told
+due price = respond price (declined (voucherTrials price))
 
 pub only-due : (p : ℤ) (v : Voucher) → Vouches p v → told v ≡ due p
 only-due p v w = go (declined (voucherTrials p)) (clear (voucherTrials p)) (declined-first (voucherTrials p))
   where
     go : (d : Option Cause) → (d ≡ none → Clear (voucherTrials p)) → ((z : Cause) → d ≡ some z → FirstOf (voucherTrials p) z) → told v ≡ respond p d
-    go none c f = let a = w .answers (c refl) in a .1 ∙ ap inUnits (only-rounded p (a .0) (voucherUnits p) (a .2) (rounded p))
+    go none c f = let a = w .accepted (c refl) in a .1 ∙ ap inUnits (only-rounded p (a .0) (voucherUnits p) (a .2) (rounded p))
     go (some z) c f = w .declined z (f z refl)
 
 pub vouches-due : (p : ℤ) (v : Voucher) → told v ≡ due p → Vouches p v
 vouches-due p v e = record {
   declined = λ z f. e ∙ ap (respond p) (declined-by (voucherTrials p) z f);
-  answers = λ c. (voucherUnits p, e ∙ ap (respond p) (not-declined (voucherTrials p) c), rounded p);
+  accepted = λ c. (voucherUnits p, e ∙ ap (respond p) (not-declined (voucherTrials p) c), rounded p);
 }
 
 -- ---- the ends of the span, as the code has them
@@ -41,19 +46,16 @@ abbrev most : ℤ
 most = pos 101_000_000_000
 
 module _ (p : ℤ) where
-  pub in-span : ltZ p least ≡ false → ltZ most p ≡ false → T (priceInRange p)
-  in-span h k = subst T (sym (in-range least most p h k)) tt
-
   decided : {b : Bool} → priceInRange p ≡ b → due p ≡ respond p (cond (not b) (some priceOutOfRange) none)
   decided e = ap (λ (b : Bool). respond p (cond (not b) (some priceOutOfRange) none)) e
 
   pub due-inside : {u : ℤ} → Rounded p u → ltZ p least ≡ false → ltZ most p ≡ false → due p ≡ inUnits u
   due-inside {u} r h k = decided (in-range least most p h k) ∙ ap inUnits (only-rounded p (voucherUnits p) u (rounded p) r)
 
-  pub due-below : ltZ p least ≡ true → due p ≡ refusal priceOutOfRange
+  pub due-below : ltZ p least ≡ true → due p ≡ record { number = pos 4; values = [] }
   due-below h = decided (too-low least most p h)
 
-  pub due-above : ltZ most p ≡ true → due p ≡ refusal priceOutOfRange
+  pub due-above : ltZ most p ≡ true → due p ≡ record { number = pos 4; values = [] }
   due-above h = decided (too-high least most p h)
 
 -- ---- the requirements' examples (11)

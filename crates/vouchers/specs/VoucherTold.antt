@@ -1,12 +1,11 @@
 -- What a voucher call tells: the requirements' number and values (11, 16.5) for each case of its answer, and what it promises.
 use mathlib.Core.Path.{_≡_}
 use mathlib.Core.List.{List, [], _∷_}
-use mathlib.Core.Option.{Option, none, some}
 use mathlib.Core.Bool.{not}
 use lib.IntN.{ℤ, pos}
 use Rattle.offers.specs.Offers.{priceInRange}
-use Rattle.plain.specs.Causes.{Cause, Trial, _when_, declined, causeNumber, priceOutOfRange, FirstOf, Clear}
-use Rattle.vouchers.specs.Rule.{Rounded, voucherUnits}
+use Rattle.plain.specs.Causes.{Cause, Trial, _when_, causeNumber, priceOutOfRange, FirstOf, Clear}
+use Rattle.vouchers.specs.Rule.{Rounded}
 use Rattle.vouchers.specs.declared.Voucher.{Voucher}
 use Rattle.vouchers.specs.declared.Voucher.the-variants.{Units, Declined}
 
@@ -30,16 +29,7 @@ told (Declined k) = record { number = k; values = [] }
 abbrev pub voucherTrials : ℤ → List Trial
 voucherTrials price = priceOutOfRange when not (priceInRange price) ∷ []
 
--- outside the span the number 4 alone, and inside it one value, the price rounded
+-- Outside the span the number 4 alone, and inside it one value, the price rounded. This leaves one answer (`only-due`).
 pub record Vouches (price : ℤ) (v : Voucher) : Type 0 where
   pub declined : (z : Cause) → FirstOf (voucherTrials price) z → told v ≡ refusal z
-  pub answers : Clear (voucherTrials price) → (u : ℤ) × (told v ≡ inUnits u) × Rounded price u
-
--- ---- what is so due for a price, and nothing else is (`only-due`)
-
-abbrev pub respond : ℤ → Option Cause → Told
-respond price none = inUnits (voucherUnits price)
-respond price (some c) = refusal c
-
-abbrev pub due : ℤ → Told
-due price = respond price (declined (voucherTrials price))
+  pub accepted : Clear (voucherTrials price) → (u : ℤ) × (told v ≡ inUnits u) × Rounded price u

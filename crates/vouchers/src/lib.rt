@@ -1,6 +1,4 @@
 // Voucher prices: a price in whole units of 100 cents.
-ghost use lib.Dec.{T};
-ghost use Rattle.offers.specs.Offers.{priceInRange};
 ghost use Rattle.vouchers.specs.Rule.{Rounded};
 ghost use Rattle.vouchers.specs.VoucherTold.{Vouches};
 
@@ -9,7 +7,7 @@ const UNIT: i64 = 100;
 
 const HALF: i64 = 50;
 
-// The least rest that is nearer to the next unit.
+// The least rest that is nearer to the next unit than to this one.
 const ABOVE_HALF: i64 = HALF + 1;
 
 pub enum Voucher {
@@ -19,10 +17,9 @@ pub enum Voucher {
     Declined(i64),
 }
 
-// Half to even: the division cuts toward zero, and enough cents cut off lead one unit further out. Half a unit is enough only from an
-// odd one, so that it ends at an even.
+// Half to even: the division goes toward zero, and a rest that is enough leads one unit further out. Half a unit is enough only from an
+// odd number of units, so that it ends at an even one.
 fn whole_units(price: i64) -> i64
-    requires { ⌜ T (priceInRange price) ⌝ }
     ensures { λ r. ⌜ Rounded price r ⌝ }
 {
     let units = price / UNIT;

@@ -56,11 +56,13 @@ pub const fn words(capacity: usize) -> usize {
     64 * (capacity + 1)
 }
 
-/// A price (−101,000,000,000 to 101,000,000,000 cents) in whole units of 100 cents, half away from zero.
+/// A price (−101,000,000,000 to 101,000,000,000 cents) in whole units of 100 cents: the nearest, and an exact half to the even
+/// unit.
 ///
 /// ```
 /// use carrier_book::{voucher_price, Declined};
-/// assert_eq!([149, 150, -150].map(|cents| voucher_price(cents).unwrap()), [1, 2, -2]);
+/// assert_eq!([50, 150, 250, -50, -150, -250].map(|cents| voucher_price(cents).unwrap()), [0, 2, 2, 0, -2, -2]);
+/// assert_eq!([49, 51, 149].map(|cents| voucher_price(cents).unwrap()), [0, 1, 1]);
 /// assert_eq!(voucher_price(101_000_000_001), Err(Declined::OutOfRange));
 /// ```
 pub fn voucher_price(price: i64) -> Result<i64, Declined> {

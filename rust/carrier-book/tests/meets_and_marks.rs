@@ -150,8 +150,8 @@ fn vouchers_of_every_residue() {
                 let u = voucher_price(price).unwrap();
                 let off = (i128::from(u) * 100 - i128::from(price)).abs();
                 assert!(off <= 50, "{}: {}", price, u);
-                // at a half, the unit further from zero
-                assert!(off < 50 || 100 * u.abs() == price.abs() + 50, "{}: {}", price, u);
+                // at a half, the even unit
+                assert!(off < 50 || u % 2 == 0, "{}: {}", price, u);
             }
         }
     }

@@ -4,7 +4,8 @@ use mathlib.Core.Logic.{⊎-elim}
 use mir.Syntax.{w64}
 use mir.Val.{SFits}
 use mir.ValLaws.{toZ-ofZ}
-use Rattle.vouchers.specs.Span.{in-span, vouches-due, due-inside, due-below, due-above}
+use borrow.Author.Needs.{needs}
+use Rattle.vouchers.specs.Span.{vouches-due, due-inside, due-below, due-above}
 use Rattle.vouchers.proofs.voucher_price.Statement.{statement}
 use Rattle.vouchers.proofs.voucher_price.Tie as tie
 
@@ -16,10 +17,7 @@ returns c =
     vouches-due p _ (sym (⊎-elim (λ y. due-below p (rw e at (y .taken))) (λ y. due-above p (rw e at (y .1 .taken))) (c .if1 .came)))
 
 whole-units-requires : tie.Need-whole-units-requires
-whole-units-requires c κs =
-    let s = c .before .before in
-    let e = toZ-ofZ w64 (s .args .price) (s .fits .price) in
-    rw e (in-span (s .args .price) (rw e at (c .before .if1 .left)) (rw e at (c .if2 .left)))
+whole-units-requires c κs = search needs
 
 returns-2 : tie.Need-returns-2
 returns-2 c =

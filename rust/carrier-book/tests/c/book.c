@@ -85,6 +85,10 @@ static void meeting(void) {
 static void vouchers(void) {
     int64_t units[2] = {0, -77};
     EXPECT(carrier_voucher(149, units, CARRIER_UNITS_WORDS) == 0 && units[0] == 1);
+    EXPECT(carrier_voucher(50, units, CARRIER_UNITS_WORDS) == 0 && units[0] == 0);
+    EXPECT(carrier_voucher(150, units, CARRIER_UNITS_WORDS) == 0 && units[0] == 2);
+    EXPECT(carrier_voucher(250, units, CARRIER_UNITS_WORDS) == 0 && units[0] == 2);
+    EXPECT(carrier_voucher(-250, units, CARRIER_UNITS_WORDS) == 0 && units[0] == -2);
     EXPECT(carrier_voucher(-150, units, 2) == 0 && units[0] == -2 && units[1] == -77);
     EXPECT(carrier_voucher(INT64_MAX, units, 2) == CARRIER_OUT_OF_RANGE && units[0] == -2);
     EXPECT(carrier_voucher(150, units, 0) == CARRIER_ARRAY_TOO_SHORT && units[0] == -2);
