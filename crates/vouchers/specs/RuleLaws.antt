@@ -63,7 +63,7 @@ apart p u v r s l =
 pub only-rounded : (p u v : ℤ) → Rounded p u → Rounded p v → u ≡ v
 only-rounded p u v r s = parts-eq u v (omega (arith, lt-of-not-le (apart p u v r s), lt-of-not-le (apart p v u s r)))
 
--- any others are as far off or further, and further where these are less than 50 off
+-- any others are 50 cents off or more, so none are nearer
 pub others-off : (p u v : ℤ) → Rounded p u → u ≢ v → 50 ≤ off p v
 others-off p u v r d = omega (arith, off-is p u, off-is p v, ne-parts u v d)
 
