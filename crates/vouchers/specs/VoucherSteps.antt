@@ -4,7 +4,7 @@ use mathlib.Core.Path.{_≡_, refl, sym, ap, _∙_}
 use native.Mathlib.Nat.{lt-of-not-le}
 use native.Mathlib.Omega.{arith}
 use lib.IntN.{ℤ, pos, negsuc, natAbs, _+ℤ_, _-ℤ_}
-use lib.Signed.{quotZ, remZ, mag}
+use lib.Signed.{quotZ, remZ, natAbs-le}
 use mir.Syntax.{w64}
 use mir.Val.{SFits, toZ, ofZ}
 use mir.ValLaws.{toZ-ofZ}
@@ -28,11 +28,7 @@ rest-fits p = fits (remZ p (pos 100)) (omega (arith, rest-size p 100))
 
 module _ (p : ℤ) (f : SFits w64 p) where
   small : natAbs (quotZ p (pos 100)) < 2 ^ 62
-  small = omega (arith, quot-size p 100, go p)
-    where
-      go : (z : ℤ) → natAbs z ≤ suc (mag z)
-      go (pos n) = omega arith
-      go (negsuc n) = omega arith
+  small = omega (arith, quot-size p 100, natAbs-le p (f .sfits))
 
   pub units-fit : SFits w64 (quotZ p (pos 100))
   units-fit = fits (quotZ p (pos 100)) (omega (arith, small))
