@@ -40,7 +40,7 @@ use Rattle.answers.specs.Promises.{Updated, Queried, Listing, MetBooks, 
 abbrev pub answerNumber : Answer → ℤ
 answerNumber (refused n) = negℤ (pos n)
 answerNumber (live n) = pos n
-answerNumber (found number price) = number
+answerNumber (found number price second) = number
 answerNumber (listed n ws) = pos n
 
 update-number : (u : Update) (a : Answer) → a ≢ refused 0 → updateAnswer u ≡ a → updateNumber u ≡ answerNumber a
@@ -50,7 +50,7 @@ update-number (UpdateDeclined (pos n)) a d e = ap answerNumber e
 update-number (UpdateDeclined (negsuc n)) a d e = absurd (d (sym e))
 
 found-number : (f : Found) (a : Answer) → a ≢ refused 0 → foundAnswer f ≡ a → foundNumber f ≡ answerNumber a
-found-number (Offer number price probes) a d e = ap answerNumber e
+found-number (Offer number price second probes) a d e = ap answerNumber e
 found-number (FoundDeclined (pos n)) a d e = ap answerNumber e
 found-number (FoundDeclined (negsuc n)) a d e = absurd (d (sym e))
 
@@ -68,7 +68,7 @@ module _ {start : ℕ} {t : List ℤ} (plain : State) (held : Option (Held Item)
       q .2 .number ∙ update-number (q .0) _ (numbered plain k) (q .1 .follows plain held book .answers)
 
   pub queried-plainly :
-      {load : ℤ} {found found′ : List ℤ} {r : ℤ} → Queried load start t found found′ r → 2 ≤ length found → r ≡ answerNumber (step plain (query load) .answer)
+      {load : ℤ} {found found′ : List ℤ} {r : ℤ} → Queried load start t found found′ r → 3 ≤ length found → r ≡ answerNumber (step plain (query load) .answer)
   queried-plainly {load} p h =
       let q = p .long h in
       q .2 .number ∙ found-number (q .0) _ (numbered plain (query load)) (q .1 .answers plain held book)

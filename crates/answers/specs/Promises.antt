@@ -120,9 +120,9 @@ Posted number rate base start t t′ counts counts′ r = Updated (post number r
 abbrev pub Withdrawn : (number : ℤ) (start : ℕ) (t t′ counts counts′ : List ℤ) (r : ℤ) → Type 0
 Withdrawn number start t t′ counts counts′ r = Updated (withdraw number) start t t′ counts counts′ r
 
--- the price and the probes go with it
+-- the price, the second offer's number and the probes go with it
 abbrev pub Queried : (load : ℤ) (start : ℕ) (t found found′ : List ℤ) (r : ℤ) → Type 0
-Queried load start t found found′ r = Lent 2 (Queries load start t) foundNumber foundOf found found′ r
+Queried load start t found found′ r = Lent 3 (Queries load start t) foundNumber foundOf found found′ r
 
 pub record Listing (start : ℕ) (t out out′ : List ℤ) (r : ℤ) : Type 0 where
   pub listed : Listed

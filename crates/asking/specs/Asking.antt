@@ -29,7 +29,8 @@ use Rattle.pieces.specs.Pieces.{items, item-laws, Standing}
 use Rattle.form.specs.Form.{Book}
 use Rattle.form.specs.Frames.{whole-standing}
 use Rattle.table.specs.PartTrees.{low, partRef}
-use Rattle.query.specs.Lookup.{lookup, lookup-leaf, LeafAt, leaf-mem}
+use Rattle.query.specs.Lookup.{lookup, walk-leaf, LeafAt, leaf-mem}
+use Rattle.query.specs.Answer.{second-leaf}
 use Rattle.query.specs.QueriedPieces.{Pieces, price-kept}
 use Rattle.query.specs.Readings.{priceIn}
 use Rattle.query.specs.Descent.{Descended, Finds}
@@ -60,26 +61,28 @@ asks-empty {q} {w} {n} e h =
     }
 
 -- what the code has read
-pub record Reads (q : ℤ) (w : Words) (root slot probes : ℕ) (number price : ℤ) : Type 0 where
+pub record Reads (q : ℤ) (w : Words) (root slot other probes : ℕ) (number price second : ℤ) : Type 0 where
   pub at-root : root ≡ upTo mostNodes (word w envelopeRootWord)
-  pub down : Descended w root q slot probes
+  pub down : Descended w root q slot other probes
   pub named : number ≡ cell w numberField slot
   pub priced : price ≡ priceIn w slot q
+  pub beside : second ≡ cell w numberField other
 
-abbrev pub Answered : (q number price : ℤ) (plain : State) (probes : ℕ) → Option (Held Item) → Type 0
-Answered q number price plain probes held = (found number price ≡ step plain (query q) .answer) × ProbesIn held number (pos probes)
+abbrev pub Answered : (q number price second : ℤ) (plain : State) (probes : ℕ) → Option (Held Item) → Type 0
+Answered q number price second plain probes held = (found number price second ≡ step plain (query q) .answer) × ProbesIn held number (pos probes)
 
-module _ (plain : State) {q : ℤ} {w : Words} {root slot probes : ℕ} {number price : ℤ} (f : Reads q w root slot probes number price)
-    (range : T (loadInRange q)) where
+module _ (plain : State) {q : ℤ} {w : Words} {root slot other probes : ℕ} {number price second : ℤ}
+    (f : Reads q w root slot other probes number price second) (range : T (loadInRange q)) where
   module _ (h : Held Item) (b : Book w plain (some h)) where
     env : (t : Tree Item) → h .whole ≡ some t → Env items (bookLines (some h)) (leaves t)
     env t e = subst (λ (p : Part Item). Env items (bookLines (some h)) (partLeaves p)) e (valid-env items item-laws (b .offers .offers-in .right .valid))
 
-    reached : (t : Tree Item) → h .whole ≡ some t → Answered q number price plain probes (some h)
+    reached : (t : Tree Item) → h .whole ≡ some t → Answered q number price second plain probes (some h)
     reached t e = (
-      ap (λ (z : ℤ). found z price) number-is ∙ ap (found (a .offer .number)) price-is
+      ap (λ (z : ℤ). found z price second) number-is ∙ ap (λ (z : ℤ). found (a .offer .number) z second) price-is
+          ∙ ap (found (a .offer .number) (priceAt (a .offer) q)) second-is
           ∙ sym (lookup-plain t plain q (book-sound b) (sym (b .stands-for)) (env t e) range),
-      (t, a, probes, e, subst (λ (d : ℕ). LeafAt a d t) (sym (got .depth)) (lookup-leaf q t), sym number-is, refl),
+      (t, a, probes, e, subst (λ (d : ℕ). LeafAt a d t) (sym (got .depth)) (walk-leaf q none t), sym number-is, refl),
     )
       where
         a : Item
@@ -101,28 +104,32 @@ module _ (plain : State) {q : ℤ} {w : Words} {root slot probes : ℕ} {number 
           holds = stand .holds;
         }
 
-        got : Finds q t slot probes
+        got : Finds q t slot other probes
         got = f .down .finds t pieces (low w (stand .slots) (stand .balanced)) range
 
         number-is : number ≡ a .offer .number
-        number-is = f .named ∙ ap (cell w numberField) (got .item) ∙ stand .holds .held (leaf-mem (lookup-leaf q t)) .number
+        number-is = f .named ∙ ap (cell w numberField) (got .item) ∙ stand .holds .held (leaf-mem (walk-leaf q none t)) .number
 
         price-is : price ≡ priceAt (a .offer) q
-        price-is = f .priced ∙ ap (λ (s : ℕ). priceIn w s q) (got .item) ∙ price-kept q (stand .holds .held (leaf-mem (lookup-leaf q t))) range
+        price-is = f .priced ∙ ap (λ (s : ℕ). priceIn w s q) (got .item) ∙ price-kept q (stand .holds .held (leaf-mem (walk-leaf q none t))) range
 
-    some-piece : (p : Part Item) → h .whole ≡ p → Answered q number price plain probes (some h)
+        second-is : second ≡ lookup q t .second .offer .number
+        second-is = f .beside ∙ ap (cell w numberField) (got .other) ∙ stand .holds .held (second-leaf t (env t e) q) .number
+
+    some-piece : (p : Part Item) → h .whole ≡ p → Answered q number price second plain probes (some h)
     some-piece none e = let k = env-some items item-laws (subst (λ (p : Part Item). Env items (bookLines (some h)) (partLeaves p)) e
         (valid-env items item-laws (b .offers .offers-in .right .valid))) (first (heldShape h)) (first-leaf (heldShape h)) in absurd (omega (arith, k))
     some-piece (some t) e = reached t e
 
   pub answered : {n : ℕ} → n ≡ upTo mostNodes (word w liveCountWord) → 1 ≤ n → (held : Option (Held Item)) → Book w plain held →
-      Answered q number price plain probes held
+      Answered q number price second plain probes held
   answered e h none b = absurd (omega (arith, e, h, count-read b))
   answered e h (some g) b = some-piece g b (g .whole) refl
 
-pub asks-found : {q : ℤ} {w : Words} {n root slot probes : ℕ} {number price : ℤ} → n ≡ upTo mostNodes (word w liveCountWord) → 1 ≤ n →
-    Reads q w root slot probes number price → Asks q w (Offer number price (pos probes))
-asks-found e h f = record { answers = λ plain held b t. answered plain f t e h held b .0; probes = λ plain held b t. (_, _, refl, answered plain f t e h held b .1) }
+pub asks-found : {q : ℤ} {w : Words} {n root slot other probes : ℕ} {number price second : ℤ} → n ≡ upTo mostNodes (word w liveCountWord) → 1 ≤ n →
+    Reads q w root slot other probes number price second → Asks q w (Offer number price second (pos probes))
+asks-found e h f =
+    record { answers = λ plain held b t. answered plain f t e h held b .0; probes = λ plain held b t. (_, _, _, refl, answered plain f t e h held b .1) }
 
 -- ---- on the table
 

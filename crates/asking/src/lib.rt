@@ -5,7 +5,7 @@ ghost use Rattle.asking.specs.Showing.{Shown};
 use promises::Found;
 use promises::Listed;
 
-// The cheapest offer at a load, on the part's own words.
+// The offers at the least price with the lowest and the highest rate, on the part's own words.
 fn ask(part: &[i64], load: i64) -> Found
     ensures { λ r. ⌜ Asks load (now (part .entry)) r ⌝ }
 {
@@ -15,17 +15,20 @@ fn ask(part: &[i64], load: i64) -> Found
     let root = form::envelope_root(part);
     let p = query::descend(part, root, load);
     let slot = p.slot;
+    let other = p.second;
     let probes = p.probes;
     let number = table::get(part, table::NUMBER, slot);
     let price = query::price(part, slot, load);
+    let second = table::get(part, table::NUMBER, other);
     Found::Offer {
         number: number,
         price: price,
+        second: second,
         probes: probes as i64,
     }
 }
 
-// The cheapest offer at a load, the first in order of several.
+// The cheapest offer at a load, of several the one with the lowest rate, and with it the one with the highest.
 pub fn query(table: &[i64], start: usize, load: i64) -> Found
     ensures { λ r. ⌜ Queries load start (now (table .entry)) r ⌝ }
 {

@@ -44,12 +44,13 @@ pub extern "C" fn carrier_withdraw(
     telling::tell_update(book::withdraw(table, start, number), counts)
 }
 
-// The cheapest offer at a load: its number, and its price and the probes in `found`.
+// The cheapest offer at a load, of several the one with the lowest rate: its number; and in `found` its price, the number of the one with the highest
+// rate, and the probes.
 #[no_mangle]
 pub extern "C" fn carrier_query(table: &[i64], start: usize, load: i64, found: &mut [i64]) -> i64
     ensures { λ r. ⌜ Queried load start (now (table .entry)) (now (found .entry)) (now (found .exit)) r ⌝ }
 {
-    if found.len() < 2 {
+    if found.len() < 3 {
         return -100;
     }
     telling::tell_found(book::query(table, start, load), found)

@@ -57,12 +57,12 @@ abbrev pub answer : List ℕ
 answer =
     bytes "P  0     1             1             0\n"
     ++ bytes "P  0     2             2             0\n"
-    ++ bytes "Q  0     1            15             0\n"
+    ++ bytes "Q  0     2            15             1\n"
     ++ bytes "E  0     1            10             2\n"
     ++ bytes "E  0     2             0             0\n"
     ++ bytes "L  0     0             2             0\n"
     ++ bytes "W  0     1             1             0\n"
-    ++ bytes "Q  0     2            15             0\n"
+    ++ bytes "Q  0     2            15             2\n"
 
 abbrev calls : List Call
 calls = post (pos 1) (pos 3) (pos 0) ∷ post (pos 2) (pos 1) (pos 10) ∷ query (pos 5) ∷ listing 0 ∷ withdraw (pos 1) ∷ query (pos 5) ∷ []

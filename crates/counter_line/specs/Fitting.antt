@@ -1,6 +1,6 @@
 -- Every number that the plain book answers fits its column.
 use mathlib.Core.Path.{_≡_, refl}
-use mathlib.Core.List.{List, [], _∷_, List·Memᴰ, List·Memᴰ·head, List·Memᴰ·tail, Pairwise}
+use mathlib.Core.List.{List, [], _∷_, List·Memᴰ, List·Memᴰ·head, List·Memᴰ·tail}
 use mathlib.Core.Option.{Option, none, some}
 use Prim.Native.Nat.{ℕ, _*_, _≤_}
 use native.Mathlib.Omega.{arith}
@@ -10,15 +10,15 @@ use lib.IntN.{ℤ, pos, natAbs}
 use Rattle.lists.specs.Filter.{keep-sublist}
 use Rattle.lists.specs.Places.{sublist-mem}
 use Rattle.lists.specs.Bools.{not-not}
-use Rattle.offers.specs.Offers.{Offer, numberInRange, loadInRange, offerInRange, priceAt, crossingNumerator, crossingDenominator, precedes}
+use Rattle.offers.specs.Offers.{Offer, numberInRange, loadInRange, offerInRange, priceAt, crossingNumerator, crossingDenominator}
 use Rattle.offers.specs.Sizes.{number-of, rate-of, base-of, number-size, number-is, price-at-size, base-gap-size, rate-gap-size}
 use Rattle.plain.specs.Causes.{Cause, declined, causeNumber, capacityOutOfRange, tableTooShort, noBook, numberOutOfRange, rateOutOfRange}
 use Rattle.plain.specs.Causes.{baseOutOfRange, loadOutOfRange, priceOutOfRange, numberLive, rateLive, bookFull, numberNotLive, bookEmpty}
 use Rattle.plain.specs.Causes.{outputTooShort, unreadableLine, ratesNotApart, noSuchMark}
-use Rattle.plain.specs.Book.{State, Call, post, withdraw, query, listing, refused, live, cheapest, envelope, pieceWords, trials, respond, accepted, step}
+use Rattle.plain.specs.Book.{State, Call, post, withdraw, query, listing, refused, live, lower, higher, cheapest, envelope, pieceWords, trials, respond, accepted, step}
 use Rattle.plain.specs.Trials.{clear}
 use Rattle.plain.specs.Sound.{Sound, step-sound}
-use Rattle.plain.specs.QueryLaws.{cheapest-names}
+use Rattle.plain.specs.QueryLaws.{lower-tie, higher-tie, cheapest-names}
 use Rattle.promises.specs.Numbered.{from-one}
 use Rattle.counter_print.specs.Texts.{FitsIn}
 use Rattle.counter_print.specs.Decimals.{fits-column, fits-unsigned}
@@ -93,13 +93,17 @@ module _ (c : ℕ) (os : List Offer) (small : c ≤ mostSlots) (sound : Sound (r
   abbrev s : State
   s = record { capacity = c; offers = os }
 
-  found-fits : (q : ℤ) → T (loadInRange q) → (os : List Offer) → Pairwise (λ a b. T (precedes a b)) os →
-      ((o : Offer) → List·Memᴰ o os → T (offerInRange o)) → Fits (pos 0) (accepted (record { capacity = c; offers = os }) (query q) .answer)
-  found-fits q t [] p r = refusal-fits (pos 0) bookEmpty
-  found-fits q t (o ∷ os) p r =
-      let b = cheapest q o os in
-      let u = r b (cheapest-names q o os p .live) in
-      (number-fits (b .number) (number-of b u), size-fits (priceAt b q) (price-at-size (b .base) (b .rate) q (base-of b u) (rate-of b u) t))
+  found-fits : (q : ℤ) → T (loadInRange q) → (os : List Offer) → ((o : Offer) → List·Memᴰ o os → T (offerInRange o)) →
+      Fits (pos 0) (accepted (record { capacity = c; offers = os }) (query q) .answer)
+  found-fits q t [] r = refusal-fits (pos 0) bookEmpty
+  found-fits q t (o ∷ os) r =
+      let b = cheapest lower q o os in
+      let d = cheapest higher q o os in
+      let u = r b (cheapest-names lower-tie q o os .live) in (
+        number-fits (b .number) (number-of b u),
+        size-fits (priceAt b q) (price-at-size (b .base) (b .rate) q (base-of b u) (rate-of b u) t),
+        size-fits (d .number) (omega (arith, number-size (d .number) (number-of d (r d (cheapest-names higher-tie q o os .live))))),
+      )
 
   pub answer-fits : (k : Call) → Roomy k → Fits (shown k) (step s k .answer)
   answer-fits k roomy = go (declined (trials s k)) k refl roomy (step-sound s k sound)
@@ -110,7 +114,7 @@ module _ (c : ℕ) (os : List Offer) (small : c ≤ mostSlots) (sound : Sound (r
           (number-fits n (not-not (numberInRange n) (clear (trials s (post n r b)) e .0)), count-fits _ (omega (arith, after .fits, small)))
       go none (withdraw n) e roomy after =
           (number-fits n (not-not (numberInRange n) (clear (trials s (withdraw n)) e .0)), count-fits _ (omega (arith, after .fits, small)))
-      go none (query q) e roomy after = found-fits q (not-not (loadInRange q) (clear (trials s (query q)) e .0)) os (sound .ordered) (sound .ranged)
+      go none (query q) e roomy after = found-fits q (not-not (loadInRange q) (clear (trials s (query q)) e .0)) os (sound .ranged)
       go none (listing room) e roomy after =
           let m = nltb→le room (3 * length (envelope os)) (clear (trials s (listing room)) e .0) in
           let n : length (envelope os) ≤ 64 = omega arith in

@@ -14,11 +14,12 @@ pieceLines (number ∷ numerator ∷ []) = []
 pieceLines (number ∷ []) = []
 pieceLines [] = []
 
--- What an answer prints: letter, refusal or 0, offer, value, second value. A post and a withdrawal show the number that they name.
+-- What an answer prints: letter, refusal or 0, offer, value, second value. A post and a withdrawal show the number that they name, a query its second
+-- offer in the last field.
 abbrev pub answered : (letter : ℕ) (number : ℤ) → Answer → List ℕ
 answered letter number (refused n) = answerLine letter (pos n) (pos 0) (pos 0) (pos 0)
 answered letter number (live n) = answerLine letter (pos 0) number (pos n) (pos 0)
-answered letter number (found offer price) = answerLine letter (pos 0) offer price (pos 0)
+answered letter number (found offer price second) = answerLine letter (pos 0) offer price second
 answered letter number (listed m words) = pieceLines words ++ answerLine letter (pos 0) (pos 0) (pos m) (pos 0)
 
 -- A text stands in front, and the bytes behind it stay.

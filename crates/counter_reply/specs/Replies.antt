@@ -25,7 +25,7 @@ PiecesFit [] = Unit {0}
 abbrev pub Fits : ℤ → Answer → Type 0
 Fits number (refused n) = (1 ≤ n) × FitsIn 3 (pos n)
 Fits number (live n) = FitsIn 6 number × FitsIn 14 (pos n)
-Fits number (found offer price) = FitsIn 6 offer × FitsIn 14 price
+Fits number (found offer price second) = FitsIn 6 offer × FitsIn 14 price × FitsIn 14 second
 Fits number (listed m words) = PiecesFit words × FitsIn 14 (pos m) × (m ≤ 64)
 
 pub zero-fits : (k : ℕ) → 1 ≤ k → FitsIn k (pos 0)
@@ -78,5 +78,6 @@ module _ {letter : ℕ} {number : ℤ} {before after : List ℕ} (long : 39 ≤ 
   live-line (pos n) a = record { within = long; prints = λ f. one-line a (zero-fits 3 (omega arith)) (f .0) (f .1) (zero-fits 14 (omega arith)) }
   live-line (negsuc n) a = record { within = long; prints = λ f. absurd (omega (arith, f .0)) }
 
-  pub found-line : (offer price : ℤ) → Answers letter (pos 0) offer price (pos 0) before after → Replies letter number (found offer price) before after 39
-  found-line offer price a = record { within = long; prints = λ f. one-line a (zero-fits 3 (omega arith)) (f .0) (f .1) (zero-fits 14 (omega arith)) }
+  pub found-line : (offer price second : ℤ) → Answers letter (pos 0) offer price second before after →
+      Replies letter number (found offer price second) before after 39
+  found-line offer price second a = record { within = long; prints = λ f. one-line a (zero-fits 3 (omega arith)) (f .0) (f .1) (f .2) }

@@ -41,9 +41,10 @@ pub fn found_line(out: &mut [u8], found: Found) -> usize
         Found::Offer {
             number,
             price,
+            second,
             probes: _,
         } => {
-            counter_print::answer_line(out, b'Q', 0, number, price, 0);
+            counter_print::answer_line(out, b'Q', 0, number, price, second);
             return 39;
         }
         Found::Declined(cause) => {

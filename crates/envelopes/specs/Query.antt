@@ -1,7 +1,7 @@
 -- The answer to a query, and that the lines decide their lower envelope.
 use Prim.Native.Nat.{ℕ, zero, suc, _<_}
 use native.Mathlib.Omega.{arith}
-use native.Mathlib.Decide.{ℕ-discrete}
+use native.Mathlib.Decide.{decLt, ℕ-discrete}
 use mathlib.Core.Path.{_≡_, sym, subst, _∙_}
 use mathlib.Core.Logic.{⊎-elim, _↔_}
 use mathlib.Core.List.{List, reverse, List·Memᴰ, Memᴰ·cast}
@@ -9,7 +9,7 @@ use lib.Dec.{T}
 use lib.ListN.{length, getD}
 use Rattle.lists.specs.Places.{mem-at, place-of, sublist-mem, mem-reverse, mem-unreverse}
 use Rattle.envelopes.specs.PseudoLines.{Figure, LeftOf, PseudoLines, mirror, mirror-laws}
-use Rattle.envelopes.specs.Crossing.{left-upto, le-upto-cross, below-right-of-cross}
+use Rattle.envelopes.specs.Crossing.{left-upto, upto-left-trans, fall-strict, le-upto-cross, ge-cross-upto, below-right-of-cross}
 use Rattle.envelopes.specs.Bridge.{Chain, PastOuter, InPiece}
 use Rattle.envelopes.specs.Chains.{piece, piece-lowest, strictly-lowest}
 use Rattle.envelopes.specs.Envelope.{Ordered, Env, First, listed}
@@ -55,6 +55,40 @@ module _ (S : Figure) (L : PseudoLines S) where
         least = query-least E d k x P;
         earlier = λ l m p. L .rise-strict l (getD es k d) y x p (query-least E d k y Q l m) u;
       }
+
+  -- strictly left of its inner end, a line as low as any is the last in order of those: there is room on the right too
+  pub query-last :
+      {ls es : List (S .Line)} → Env S ls es → (d : S .Line) (k : ℕ) (x : S .Point) → k < length es →
+      ((l : S .Line) → List·Memᴰ l ls → T (S .atMost (getD es k d) l x)) → (suc k < length es → LeftOf S x (S .cross (getD es k d) (getD es (suc k) d))) →
+      First (mirror S) ls (getD es k d) x
+  query-last {ls} {es} E d k x b least inner =
+      let (y, Q, u) = beyond in
+      record {
+        one-of = sublist-mem (E .sub) (mem-at es k d b);
+        least = least;
+        earlier = λ l m p. fall-strict S L (getD es k d) l x y p (query-least E d k y Q l m) u;
+      }
+    where
+      -- the outer end lies at the point or left of it, so left of what lies further right
+      past : (k : ℕ) → k < length es → ((l : S .Line) → List·Memᴰ l ls → T (S .atMost (getD es k d) l x)) → (y : S .Point) → LeftOf S x y →
+          PastOuter S (λ i. getD es i d) k y
+      past zero b least y u = tt
+      past (suc k) b least y u =
+          upto-left-trans S L (S .cross (getD es k d) (getD es (suc k) d)) x y
+          (ge-cross-upto S L (getD es k d) (getD es (suc k) d) x (E .chain d .ordered k b)
+          (least (getD es k d) (sublist-mem (E .sub) (mem-at es k d (omega arith)))))
+          u
+
+      beyond : (y : S .Point) × InPiece S (λ i. getD es i d) (length es) k y × LeftOf S x y
+      beyond =
+          elim (decLt (suc k) (length es)) [
+            | yes h ↦
+                let (y, u, v) = L .between x (S .cross (getD es k d) (getD es (suc k) d)) (inner h) in
+                (y, record { inside = b; outer = past k b least y u; inner = λ q. left-upto S L y (S .cross (getD es k d) (getD es (suc k) d)) v }, u)
+            | no h ↦
+                let (y, u) = L .right-of x in
+                (y, record { inside = b; outer = past k b least y u; inner = λ q. absurd (h q) }, u)
+          ]
 
   -- .. and only there
   pub first-in-piece :

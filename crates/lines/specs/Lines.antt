@@ -131,6 +131,10 @@ module _ (A : Type 0) (rate base : A → ℤ) where
   pub whole-left : (a b : A) (q : ℤ) → T (F .before a b) → F .upTo (whole q) (F .cross a b) ≡ leZ (q *ℤ (rate a -ℤ rate b)) (base b -ℤ base a)
   whole-left a b q h = ap₂ leZ (ap (λ (d : ℤ). q *ℤ d) (cross-denominator a b h)) (times-one (base b -ℤ base a))
 
+  -- or at it or right of it
+  pub whole-right : (a b : A) (q : ℤ) → T (F .before a b) → F .upTo (F .cross a b) (whole q) ≡ leZ (base b -ℤ base a) (q *ℤ (rate a -ℤ rate b))
+  whole-right a b q h = ap₂ leZ (times-one (base b -ℤ base a)) (ap (λ (d : ℤ). q *ℤ d) (cross-denominator a b h))
+
   -- a crossing is at another or left of it
   pub cross-left : (a b c d : A) → T (F .before a b) → T (F .before c d) →
       F .upTo (F .cross a b) (F .cross c d) ≡ leZ ((base b -ℤ base a) *ℤ (rate c -ℤ rate d)) ((base d -ℤ base c) *ℤ (rate a -ℤ rate b))

@@ -34,8 +34,8 @@ pub data Answer : Type 0 where
   refused : ℕ → Answer
   -- the live count after a post or a withdrawal
   live : ℕ → Answer
-  -- the number of the offer named, and the least price
-  found : (number price : ℤ) → Answer
+  -- the number of the offer named first, the least price, and the number of the second offer
+  found : (number price second : ℤ) → Answer
   -- the piece count, and the words written
   listed : ℕ → List ℤ → Answer
 
@@ -60,10 +60,21 @@ join o (p ∷ ps) = cond (precedes o p) (o ∷ p ∷ ps) (p ∷ join o ps)
 abbrev pub leave : ℤ → List Offer → List Offer
 leave n os = keep (λ o. not (hasNumber n o)) os
 
--- The first in order among the cheapest at a load, of an offer and those after it.
-abbrev pub cheapest : ℤ → Offer → List Offer → Offer
-cheapest q best [] = best
-cheapest q best (o ∷ os) = cheapest q (cond (ltZ (priceAt o q) (priceAt best q)) o best) os
+-- Which of two rates a tie goes to.
+abbrev pub lower : ℤ → ℤ → Bool
+lower r s = ltZ r s
+
+abbrev pub higher : ℤ → ℤ → Bool
+higher r s = ltZ s r
+
+-- At a load the first offer comes before the second: it is cheaper, or as cheap and of the rate that a tie goes to.
+abbrev pub goesFirst : (ℤ → ℤ → Bool) → ℤ → Offer → Offer → Bool
+goesFirst tie q o p = ltZ (priceAt o q) (priceAt p q) || (equal (priceAt o q) (priceAt p q) && tie (o .rate) (p .rate))
+
+-- The cheapest at a load of an offer and those after it, by the rate that a tie goes to; within one rate the first in order.
+abbrev pub cheapest : (ℤ → ℤ → Bool) → ℤ → Offer → List Offer → Offer
+cheapest tie q best [] = best
+cheapest tie q best (o ∷ os) = cheapest tie q (cond (goesFirst tie q o best) o best) os
 
 -- The crossing of a and e lies strictly left of the crossing of e and c.
 abbrev pub turns : Offer → Offer → Offer → Bool
@@ -151,7 +162,7 @@ accepted s (query q) = record { state = s; answer = answerOf (s .offers) }
   where
     answerOf : List Offer → Answer
     answerOf [] = refused (causeNumber bookEmpty)  -- idle: an empty book declines the query
-    answerOf (o ∷ os) = let best = cheapest q o os in found (best .number) (priceAt best q)
+    answerOf (o ∷ os) = let best = cheapest lower q o os in found (best .number) (priceAt best q) (cheapest higher q o os .number)
 accepted s (listing room) = record { state = s; answer = listed (length (envelope (s .offers))) (pieceWords (envelope (s .offers))) }
 
 abbrev pub respond : State → Call → Option Cause → Outcome

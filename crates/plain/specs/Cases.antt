@@ -37,19 +37,26 @@ row made asked told = record { made = made; asked = asked ∷ []; told = told �
 abbrev pub table : List Row
 table =
     row three (listing 9) (listed 3 (pos 1 ∷ pos 10 ∷ pos 2 ∷ pos 2 ∷ pos 30 ∷ pos 1 ∷ pos 3 ∷ pos 0 ∷ pos 0 ∷ []))
-    ∷ row three (query (pos 5)) (found (pos 1) (pos 15))
-    ∷ row three (query (pos 6)) (found (pos 2) (pos 16))
-    ∷ row three (query (pos 30)) (found (pos 2) (pos 40))
-    ∷ row three (query (pos 31)) (found (pos 3) (pos 40))
+    ∷ row three (query (pos 5)) (found (pos 2) (pos 15) (pos 1))
+    ∷ row three (query (pos 6)) (found (pos 2) (pos 16) (pos 2))
+    ∷ row three (query (pos 30)) (found (pos 3) (pos 40) (pos 2))
+    ∷ row three (query (pos 31)) (found (pos 3) (pos 40) (pos 3))
     ∷ row touching (listing 6) (listed 2 (pos 1 ∷ pos 10 ∷ pos 2 ∷ pos 3 ∷ pos 0 ∷ pos 0 ∷ []))
     ∷ row (touching ++ (withdraw (pos 3) ∷ [])) (listing 6) (listed 2 (pos 1 ∷ pos 5 ∷ pos 1 ∷ pos 2 ∷ pos 0 ∷ pos 0 ∷ []))
     ∷ row uncovered (listing 6) (listed 2 (pos 2 ∷ negℤ (pos 1) ∷ pos 1 ∷ pos 3 ∷ pos 0 ∷ pos 0 ∷ []))
-    ∷ row falling (query (pos 2)) (found (pos 1) (pos 0))
-    ∷ row falling (query (pos 3)) (found (pos 2) (negℤ (pos 2)))
+    ∷ row falling (query (pos 2)) (found (pos 1) (pos 0) (pos 1))
+    ∷ row falling (query (pos 3)) (found (pos 2) (negℤ (pos 2)) (pos 2))
     ∷ []
 
 pub prices-to-prove : map answered table ≡ map (λ r. r .told) table
 prices-to-prove = refl
+
+-- Three offers at one price: (2, 0), (1, 5), (0, 10) at load 5. The one between, which is no piece, is named neither first nor second.
+abbrev pub three-at-once : Row
+three-at-once = row touching (query (pos 5)) (found (pos 3) (pos 10) (pos 1))
+
+pub three-told : answered three-at-once ≡ three-at-once .told
+three-told = refl
 
 -- Crossings are not rounded: (0, 0), (−3, 7), (−6, 15) cross at 7/3 and 8/3, so the second is the cheapest only between two whole loads.
 abbrev pub between-loads : Row
@@ -67,7 +74,7 @@ sample =
     record {
       made = [];
       asked = post (pos 1) (pos 3) (pos 0) ∷ post (pos 2) (pos 1) (pos 10) ∷ query (pos 5) ∷ listing 192 ∷ withdraw (pos 1) ∷ query (pos 5) ∷ [];
-      told = live 1 ∷ live 2 ∷ found (pos 1) (pos 15) ∷ listed 2 (pos 1 ∷ pos 10 ∷ pos 2 ∷ pos 2 ∷ pos 0 ∷ pos 0 ∷ []) ∷ live 1 ∷ found (pos 2) (pos 15) ∷ [];
+      told = live 1 ∷ live 2 ∷ found (pos 2) (pos 15) (pos 1) ∷ listed 2 (pos 1 ∷ pos 10 ∷ pos 2 ∷ pos 2 ∷ pos 0 ∷ pos 0 ∷ []) ∷ live 1 ∷ found (pos 2) (pos 15) (pos 2) ∷ [];
     }
 
 pub sample-told : answered sample ≡ sample .told
@@ -149,8 +156,8 @@ ends =
       told =
           live 1
           ∷ live 2
-          ∷ found (pos 1) (negℤ (pos 101_000_000_000))
-          ∷ found (pos 9_999) (negℤ (pos 99_000_000_000))
+          ∷ found (pos 1) (negℤ (pos 101_000_000_000)) (pos 1)
+          ∷ found (pos 9_999) (negℤ (pos 99_000_000_000)) (pos 9_999)
           ∷ live 1
           ∷ refused 4
           ∷ [];

@@ -60,7 +60,7 @@ by-cause s (listing room) z (at-once x) = inl (omega arith, omega arith)
 numberIn : Answer → ℕ
 numberIn (refused n) = n
 numberIn (live n) = 5
-numberIn (found n p) = 5
+numberIn (found n p m) = 5
 numberIn (listed n ws) = 5
 
 pub refused-names : (s : State) (k : Call) (m : ℕ) → step s k .answer ≡ refused m → Otherwise m ⊎ Names m k

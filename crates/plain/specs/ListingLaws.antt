@@ -1,6 +1,6 @@
 -- The listing names an offer exactly when at some rational load, of any size, it is strictly cheaper than every other live offer.
 use mathlib.Core.Path.{_≡_, sym, _∙_, subst, ap, fun-ext}
-use mathlib.Core.Logic.{_↔_}
+use mathlib.Core.Logic.{⊎-elim, _↔_}
 use mathlib.Core.List.{List, List·Memᴰ, Pairwise, Pairwise·nil, Pairwise·cons}
 use mathlib.Core.Bool.{not, _&&_, _||_}
 use native.Mathlib.Omega.{arith}
@@ -12,6 +12,7 @@ use Rattle.lists.specs.Bools.{as-one-test, same-test}
 use Rattle.integers.specs.Parts.{intRules}
 use Rattle.offers.specs.Offers.{Offer, RationalLoad, priceTimesD, precedes, crossingNumerator, crossingDenominator}
 use Rattle.envelopes.specs.Envelope.{Ordered, Ordered·nil, Ordered·cons, Cheapest, Env, listed}
+use Rattle.envelopes.specs.EnvelopeLaws.{compare-lines}
 use Rattle.envelopes.specs.Listed.{listed-exact, listed-env}
 use Rattle.lines.specs.OfferLines.{offerFigure, offerLaws, crossing-test}
 use Rattle.plain.specs.Book.{envelope, turns}
@@ -40,6 +41,12 @@ envelope-listed os = ap (λ test. keep test os) (fun-ext λ e. ap (λ test. ever
 pub in-order : {os : List Offer} → Pairwise (λ a b. T (precedes a b)) os → Ordered offerFigure os
 in-order Pairwise·nil = Ordered·nil
 in-order (Pairwise·cons h p) = Ordered·cons (λ b m. h b ∣ m ∣₁) (in-order p)
+
+-- so no two have one rate
+pub same-rate : {os : List Offer} {o p : Offer} → Pairwise (λ a b. T (precedes a b)) os → List·Memᴰ o os → List·Memᴰ p os → o .rate ≡ p .rate → o ≡ p
+same-rate h m n e =
+    ⊎-elim (λ d. d) (⊎-elim (λ t. absurd (omega (arith, intRules))) (λ t. absurd (omega (arith, intRules))))
+    (compare-lines offerFigure offerLaws (in-order h) m n)
 
 -- ---- the listing is exact
 

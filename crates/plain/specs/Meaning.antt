@@ -12,14 +12,20 @@ use Rattle.offers.specs.Offers.{Offer, RationalLoad, priceAt, priceTimesD, prec
 
 -- ---- a query
 
--- The least price at the load, and the number of the first offer in order that has it.
-pub record Cheapest (os : List Offer) (q number price : ℤ) : Type 0 where
+-- A live offer of this number has this price at the load.
+pub record Priced (os : List Offer) (q number price : ℤ) : Type 0 where
   pub offer : Offer
   pub live : List·Memᴰ offer os
   pub named : number ≡ offer .number
   pub priced : price ≡ priceAt offer q
+
+-- The least price at the load, the number of the offer with the lowest rate at that price, and the number of the one with the highest.
+pub record Cheapest (os : List Offer) (q number price second : ℤ) : Type 0 where
   pub least : (x : Offer) → List·Memᴰ x os → T (leZ price (priceAt x q))
-  pub first : (x : Offer) → List·Memᴰ x os → T (precedes x offer) → priceAt x q ≢ price
+  pub one : Priced os q number price
+  pub lowest : (x : Offer) → List·Memᴰ x os → priceAt x q ≡ price → T (leZ (one .offer .rate) (x .rate))
+  pub other : Priced os q second price
+  pub highest : (x : Offer) → List·Memᴰ x os → priceAt x q ≡ price → T (leZ (x .rate) (other .offer .rate))
 
 -- ---- a listing
 

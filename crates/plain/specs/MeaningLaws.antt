@@ -1,6 +1,5 @@
 -- The plain book's query and listing tell what `Meaning` says, whatever calls made its offers.
-use mathlib.Core.Path.{_≡_, refl}
-use mathlib.Core.Logic.{_≢_}
+use mathlib.Core.Path.{_≡_, refl, sym, _∙_, ap}
 use mathlib.Core.List.{List, List·Memᴰ, Pairwise, Pairwise·sublistᴰ}
 use mathlib.Core.Option.{Option, none, some}
 use Prim.Native.Nat.{ℕ}
@@ -16,23 +15,41 @@ use Rattle.plain.specs.Book.{State, query, listing, found, listed, envel
 use Rattle.plain.specs.Sound.{Sound}
 use Rattle.plain.specs.Meaning.{Cheapest, Listing}
 use Rattle.plain.specs.Rules.{words-length, words-inner, words-last}
-use Rattle.plain.specs.QueryLaws.{Names, query-names}
-use Rattle.plain.specs.ListingLaws.{listing-exact}
+use Rattle.plain.specs.QueryLaws.{Told, query-names}
+use Rattle.plain.specs.ListingLaws.{same-rate, listing-exact}
 
 -- ---- a query
 
--- the highest rate among those at the price is the first in order
-pub names-cheapest : {os : List Offer} {o : Offer} (q : ℤ) → Names q os o → Cheapest os q (o .number) (priceAt o q)
-names-cheapest {os} {o} q h = record { offer = o; live = h .live; named = refl; priced = refl; least = h .least; first = first }
-  where
-    first : (x : Offer) → List·Memᴰ x os → T (precedes x o) → priceAt x q ≢ priceAt o q
-    first x m t e = let k = h .highest x m e in omega (arith, intRules)
+module _ (s : State) (q number price second : ℤ) where
+  named-cheapest : Told s q number price second → Cheapest (s .offers) q number price second
+  named-cheapest t =
+      record {
+        least = λ x m. let h = t .one-names .none-first x m .least in let e = t .priced in omega (arith, intRules);
+        one = record { offer = t .one; live = t .one-names .live; named = t .named; priced = t .priced };
+        lowest = λ x m e. let h = t .one-names .none-first x m .best (e ∙ t .priced) in omega (arith, intRules);
+        other = record { offer = t .other; live = t .other-names .live; named = t .beside; priced = same };
+        highest = λ x m e. let h = t .other-names .none-first x m .best (e ∙ same) in omega (arith, intRules);
+      }
+    where
+      -- each of the two is at most the other
+      same : price ≡ priceAt (t .other) q
+      same =
+          let h = t .one-names .none-first (t .other) (t .other-names .live) .least in
+          let k = t .other-names .none-first (t .one) (t .one-names .live) .least in
+          let e = t .priced in
+          omega (arith, intRules)
 
-pub query-cheapest : (s : State) (q n price : ℤ) → Sound s → step s (query q) .answer ≡ found n price → Cheapest (s .offers) q n price
-query-cheapest s q n price h e = told (query-names s q n price h e)
+  pub query-cheapest : step s (query q) .answer ≡ found number price second → Cheapest (s .offers) q number price second
+  query-cheapest e = named-cheapest (query-names s q number price second e)
+
+-- where the offers at the price have one rate, both are the same
+pub one-rate : {s : State} {q number price second : ℤ} → Sound s → (c : Cheapest (s .offers) q number price second) →
+    ((x y : Offer) → List·Memᴰ x (s .offers) → List·Memᴰ y (s .offers) → priceAt x q ≡ price → priceAt y q ≡ price → x .rate ≡ y .rate) →
+    second ≡ number
+one-rate h c all = c .other .named ∙ ap (λ (o : Offer). o .number) (same-rate (h .ordered) (c .other .live) (c .one .live) rates) ∙ sym (c .one .named)
   where
-    told : (o : Offer) × Names q (s .offers) o × (n ≡ o .number) × (price ≡ priceAt o q) → Cheapest (s .offers) q n price
-    told (o, names, a, b) = rw (a, b) (names-cheapest q names)
+    rates : c .other .offer .rate ≡ c .one .offer .rate
+    rates = all (c .other .offer) (c .one .offer) (c .other .live) (c .one .live) (sym (c .other .priced)) (sym (c .one .priced))
 
 -- ---- a listing
 

@@ -10,7 +10,7 @@ use lib.IntN.{ℤ, pos}
 use Rattle.lists.specs.Bools.{twice}
 use Rattle.offers.specs.Offers.{Offer, loadInRange, priceAt, crossingNumerator, crossingDenominator}
 use Rattle.plain.specs.Causes.{Cause, causeNumber, Clear}
-use Rattle.plain.specs.Book.{holding, State, Outcome, Call, post, withdraw, query, listing, refused, live, found, listed, join, leave, cheapest}
+use Rattle.plain.specs.Book.{holding, State, Outcome, Call, post, withdraw, query, listing, refused, live, found, listed, join, leave, lower, higher, cheapest}
 use Rattle.plain.specs.Book.{envelope, pieceWords, trials, step, respond, accepted}
 use Rattle.plain.specs.Causes.{FirstOf}
 use Rattle.plain.specs.Trials.{declined-by, not-declined}
@@ -57,7 +57,7 @@ module _ (s : State) where
 pub finds : (c : ℕ) (o : Offer) (os : List Offer) (q : ℤ) → T (loadInRange q) → step (record { capacity = c; offers = o ∷ os }) (query q) ≡ record {
   state =
       record { capacity = c; offers = o ∷ os };
-  answer = found (cheapest q o os .number) (priceAt (cheapest q o os) q);
+  answer = found (cheapest lower q o os .number) (priceAt (cheapest lower q o os) q) (cheapest higher q o os .number);
 }
 finds c o os q t = step-accepted (record { capacity = c; offers = o ∷ os }) (query q) (twice (loadInRange q) t, (lt→nleb (suc (length os)) 0 (omega arith), tt))
 

@@ -1,6 +1,8 @@
 // What a comparison of two envelopes reads and computes, safe whatever the words are. `c` is a part's capacity, which is read once for a whole search.
 ghost use mathlib.Core.Path.{_≡_};
+ghost use lib.Signed.{leZ};
 ghost use Rattle.table.specs.Layout.{cap};
+ghost use Rattle.prices.specs.Positions.{positionOf};
 ghost use Rattle.prices.specs.Prices.{rateAt, baseAt, numeratorAt, denominatorAt, crossingPriceAt, Priced, priceIn, keptIn, aboveAt};
 
 pub fn rate_in(part: &[i64], c: u32, slot: u32) -> i64
@@ -48,6 +50,37 @@ fn price(part: &[i64], c: u32, slot: u32, n: i64, d: i64) -> i64
     base_in(part, c, slot) * d + rate_in(part, c, slot) * n
 }
 
+// Where a point lies against a line.
+pub enum Position {
+    Below,
+    On,
+    Above,
+}
+
+// The one comparison of a point with a line: by the point's price, and the line's at the point's load.
+pub fn compare(point: i64, line: i64) -> Position
+    ensures { λ r. ⌜ r ≡ positionOf point line ⌝ }
+{
+    if point < line {
+        return Position::Below;
+    }
+    if line < point {
+        return Position::Above;
+    }
+    Position::On
+}
+
+// On or above: what the three cases of a meeting ask.
+fn on_or_above(point: i64, line: i64) -> bool
+    ensures { λ r. ⌜ r ≡ leZ line point ⌝ }
+{
+    match compare(point, line) {
+        Position::Below => false,
+        Position::On => true,
+        Position::Above => true,
+    }
+}
+
 // The slot in which a node is kept.
 fn kept_in(x: u32) -> u32
     ensures { λ r. ⌜ r ≡ keptIn x ⌝ }
@@ -71,20 +104,14 @@ pub fn above(ours: &[i64], c: u32, p: u32, other: &[i64], k: u32, x: u32) -> boo
     let d = denominator_in(ours, c, p);
     let y = price(ours, c, p, n, d);
     let s = kept_in(x);
-    if price(other, k, s, n, d) <= y {
+    if on_or_above(y, price(other, k, s, n, d)) {
         return true;
     }
     if x <= table::MOST_SLOTS {
         return false;
     }
-    price(
-        other,
-        k,
-        table::link_in(other, k, table::NEXT_PIECE, s),
-        n,
-        d,
-    )
-        <= y
+    let t = table::link_in(other, k, table::NEXT_PIECE, s);
+    on_or_above(y, price(other, k, t, n, d))
 }
 
 // ---- by the capacity that the words tell

@@ -72,9 +72,9 @@ abbrev pub updateTold : Update → Told
 updateTold (Done n k s h) = record { number = pos 0; values = n ∷ k ∷ s ∷ h ∷ [] }
 updateTold (UpdateDeclined c) = record { number = c; values = [] }
 
--- the offer, its price and the probes
+-- the offer named first, its price, the second offer and the probes
 abbrev pub foundTold : Found → Told
-foundTold (Offer number price probes) = record { number = pos 0; values = number ∷ price ∷ probes ∷ [] }
+foundTold (Offer number price second probes) = record { number = pos 0; values = number ∷ price ∷ second ∷ probes ∷ [] }
 foundTold (FoundDeclined c) = record { number = c; values = [] }
 
 -- the count of pieces
@@ -92,11 +92,12 @@ abbrev pub countedBy : (ℕ → Answer) → ℤ → List ℤ → Answer
 countedBy f c [] = counted refused c
 countedBy f c (n ∷ more) = counted f n
 
--- an offer and its price
+-- an offer, its price and the second offer
 abbrev pub pricedBy : ℤ → List ℤ → Answer
 pricedBy c [] = counted refused c
 pricedBy c (number ∷ []) = counted refused c
-pricedBy c (number ∷ price ∷ more) = found number price
+pricedBy c (number ∷ price ∷ []) = counted refused c
+pricedBy c (number ∷ price ∷ second ∷ more) = found number price second
 
 abbrev pub updateAnswer : Update → Answer
 updateAnswer r = countedBy live (updateTold r .number) (updateTold r .values)
@@ -148,15 +149,15 @@ abbrev pub rootPart : Option (Held Item) → Part Item
 rootPart none = none
 rootPart (some h) = h .whole
 
--- it has a leaf at the depth of the probes, with the offer named
+-- it has a leaf at the depth of the probes, with the offer named first
 abbrev pub ProbesIn : Option (Held Item) → ℤ → ℤ → Type 0
 ProbesIn held number probes =
     (t : Tree Item) × (a : Item) × (n : ℕ) × (rootPart held ≡ some t) × LeafAt a n t × (a .offer .number ≡ number) × (probes ≡ pos n)
 
--- the values of a query: where an offer is named, its price and its probes behind it
+-- the values of a query: where an offer is named, its price, the second offer and the probes behind it
 abbrev pub Probes : Option (Held Item) → List ℤ → Type 0
 Probes held [] = Unit {0}
-Probes held (number ∷ more) = (price probes : ℤ) × (more ≡ price ∷ probes ∷ []) × ProbesIn held number probes
+Probes held (number ∷ more) = (price second probes : ℤ) × (more ≡ price ∷ second ∷ probes ∷ []) × ProbesIn held number probes
 
 pub record Queries (q : ℤ) (start : ℕ) (t : List ℤ) (r : Found) : Type 0 where
   pub declined : (z : Cause) → FirstOf (tableTrials t start (query q)) z → foundAnswer r ≡ refused (causeNumber z)
@@ -168,7 +169,7 @@ pub record Queries (q : ℤ) (start : ℕ) (t : List ℤ) (r : Found) : Type 0 w
 abbrev pub writtenWords : Answer → ℕ
 writtenWords (refused n) = 0
 writtenWords (live n) = 0
-writtenWords (found n p) = 0
+writtenWords (found n p m) = 0
 writtenWords (listed m ws) = length ws
 
 pub record Lists (start : ℕ) (t out out′ : List ℤ) (r : Listed) : Type 0 where

@@ -18,11 +18,13 @@ pub enum Update {
     Declined(i64),
 }
 
-// What a query answers: the offer's number, the least price, and the depth of its leaf in the root's piece tree.
+// What a query answers: of the offers at the least price the number of the one with the lowest rate, that price, the number of the one with the
+// highest rate, and the depth of the first one's leaf in the root's piece tree.
 pub enum Found {
     Offer {
         number: i64,
         price: i64,
+        second: i64,
         probes: i64,
     },
     Declined(i64),

@@ -1,86 +1,158 @@
 -- A query's walk down the words of a tree of pieces is the walk down the tree.
 use mathlib.Core.Path.{_≡_, refl, sym, _∙_, ap, subst}
-use mathlib.Core.Bool.{Bool, true, false}
+use mathlib.Core.Bool.{true, false}
+use mathlib.Core.Option.{Option, none, some}
 use Prim.Native.Nat.{ℕ, _+_, _≤_, _<_}
 use native.Mathlib.Omega.{arith}
 use lib.Dec.{T}
+use borrow.Author.Tests.{le-ltb}
 use lib.IntN.{ℤ}
 use Rattle.offers.specs.Offers.{loadInRange}
-use Rattle.trees.specs.Tree.{Tree, leaf, height, first, last}
+use Rattle.trees.specs.Tree.{Tree, leaf, node, height, first, last}
 use Rattle.table.specs.Fields.{mostLevels, mostSlots}
 use Rattle.table.specs.Words.{Words}
 use Rattle.table.specs.Items.{Item}
 use Rattle.table.specs.Nodes.{ref-low}
-use Rattle.query.specs.Lookup.{atOrLeft, deeper, lookup, lookup-left, lookup-right}
-use Rattle.query.specs.Readings.{towardAt}
+use Rattle.prices.specs.declared.Position.{Position}
+use Rattle.prices.specs.declared.Position.the-variants.{Below as LiesBelow, On, Above}
+use Rattle.prices.specs.Positions.{onOrAbove}
+use Rattle.query.specs.Lookup.{Reached, against, deeper, keptOr, walk, lookup, walk-below, walk-on, walk-above}
+use Rattle.query.specs.Readings.{keptAt, towardAt, mindAt, latestOf}
 use Rattle.query.specs.QueriedPieces.{Pieces, Opened, opened, at-leaf}
 
 -- what a query on t finds
-pub record Finds (q : ℤ) (t : Tree Item) (slot probes : ℕ) : Type 0 where
+pub record Finds (q : ℤ) (t : Tree Item) (slot second probes : ℕ) : Type 0 where
   pub item : slot ≡ lookup q t .item .slot
+  pub other : second ≡ lookup q t .second .slot
   pub depth : probes ≡ lookup q t .depth
 
 -- the promise: on words that hold a tree of pieces, at most mostLevels high, and with a load in range
-pub record Descended (w : Words) (root : ℕ) (q : ℤ) (slot probes : ℕ) : Type 0 where
-  pub finds : (t : Tree Item) → Pieces w root t → height t ≤ mostLevels → T (loadInRange q) → Finds q t slot probes
+pub record Descended (w : Words) (root : ℕ) (q : ℤ) (slot second probes : ℕ) : Type 0 where
+  pub finds : (t : Tree Item) → Pieces w root t → height t ≤ mostLevels → T (loadInRange q) → Finds q t slot second probes
 
 -- ---- on the way
 
+-- the slot of what is kept in mind; 0 tells that nothing is
+pub data Mind : Option Item → ℕ → Type 0 where
+  nothing : Mind none 0
+  item : {b : Item} {n : ℕ} → n ≡ b .slot → 1 ≤ n → Mind (some b) n
+
 -- from node x on, after some probes, the walk goes on as from the root
-pub record Below (w : Words) (q : ℤ) (t : Tree Item) (x probes : ℕ) : Type 0 where
+pub record Below (w : Words) (q : ℤ) (t : Tree Item) (x second probes : ℕ) : Type 0 where
   pub tree : Tree Item
+  pub kept : Option Item
   pub pieces : Pieces w x tree
-  pub item : lookup q t .item ≡ lookup q tree .item
-  pub depth : lookup q t .depth ≡ probes + lookup q tree .depth
+  pub mind : Mind kept second
+  pub item : lookup q t .item ≡ walk q kept tree .item
+  pub other : lookup q t .second ≡ walk q kept tree .second
+  pub depth : lookup q t .depth ≡ probes + walk q kept tree .depth
   pub high : probes + height tree ≤ height t
 
-pub record Ongoing (w : Words) (root : ℕ) (q : ℤ) (x probes : ℕ) : Type 0 where
-  pub below : (t : Tree Item) → Pieces w root t → T (loadInRange q) → Below w q t x probes
+pub record Ongoing (w : Words) (root : ℕ) (q : ℤ) (x second probes : ℕ) : Type 0 where
+  pub below : (t : Tree Item) → Pieces w root t → T (loadInRange q) → Below w q t x second probes
 
-pub ongoing-start : (w : Words) (root : ℕ) (q : ℤ) → Ongoing w root q root 0
-ongoing-start w root q = record { below = λ t p h. record { tree = t; pieces = p; item = refl; depth = omega arith; high = omega arith } }
+pub ongoing-start : (w : Words) (root : ℕ) (q : ℤ) → Ongoing w root q root 0 0
+ongoing-start w root q =
+    record {
+      below = λ t p h. record {
+        tree = t;
+        kept = none;
+        pieces = p;
+        mind = nothing;
+        item = refl;
+        other = refl;
+        depth = omega arith;
+        high = omega arith;
+      };
+    }
 
 -- to a child
-step-to : {w : Words} {q : ℤ} {t : Tree Item} {x y probes : ℕ} (s : Tree Item) (b : Below w q t x probes) → lookup q (b .tree) ≡ deeper (lookup q s) →
-    height s < height (b .tree) → Pieces w y s → Below w q t y (probes + 1)
-step-to s b k h p =
-    record { tree = s; pieces = p; item = b .item ∙ ap (λ z. z .item) k; depth = omega (arith, b .depth, ap (λ z. z .depth) k); high = omega (arith, b .high) }
+step-to : {w : Words} {q : ℤ} {t : Tree Item} {x y second second′ probes : ℕ} (s : Tree Item) (kept : Option Item) (b : Below w q t x second probes) →
+    walk q (b .kept) (b .tree) ≡ deeper (walk q kept s) → height s < height (b .tree) → Pieces w y s → Mind kept second′ →
+    Below w q t y second′ (probes + 1)
+step-to s kept b k h p m =
+    record {
+      tree = s;
+      kept = kept;
+      pieces = p;
+      mind = m;
+      item = b .item ∙ ap (λ z. z .item) k;
+      other = b .other ∙ ap (λ z. z .second) k;
+      depth = omega (arith, b .depth, ap (λ z. z .depth) k);
+      high = omega (arith, b .high);
+    }
 
-pub ongoing-step : {w : Words} {root x y probes : ℕ} {q : ℤ} → Ongoing w root q x probes → mostSlots < x → y ≡ towardAt w x q → Ongoing w root q y (probes + 1)
-ongoing-step {w} {root} {x} {y} {probes} {q} g d e = record { below = λ t p h. subst (λ z. Below w q t z (probes + 1)) (sym e) (next t h (g .below t p h)) }
+latest-none : (n : ℕ) → latestOf n 0 ≡ n
+unfolding latestOf
+latest-none n = refl
+
+latest-some : (n k : ℕ) → 1 ≤ k → latestOf n k ≡ k
+unfolding latestOf
+latest-some n k h = rw (le-ltb k 1 h)
+
+pub ongoing-step : {w : Words} {root x y kept second probes : ℕ} {q : ℤ} → Ongoing w root q x second probes → mostSlots < x →
+    (y ≡ towardAt w x q) × (kept ≡ mindAt w x q) → Ongoing w root q y (latestOf second kept) (probes + 1)
+ongoing-step {w} {root} {x} {y} {kept} {second} {probes} {q} g d (e, k) = record { below = λ t p h. next t h (g .below t p h) }
   where
-    next : (t : Tree Item) → T (loadInRange q) → Below w q t x probes → Below w q t (towardAt w x q) (probes + 1)
-    next t h b = go (atOrLeft q (last (o .l) .offer) (first (o .r) .offer)) refl
+    next : (t : Tree Item) → T (loadInRange q) → Below w q t x second probes → Below w q t y (latestOf second kept) (probes + 1)
+    next t h b = go (against q (last (o .l) .offer) (first (o .r) .offer)) refl
       where
         o : Opened w x q (b .tree)
         o = opened q (b .pieces) h d
 
-        go : (z : Bool) → atOrLeft q (last (o .l) .offer) (first (o .r) .offer) ≡ z → Below w q t (towardAt w x q) (probes + 1)
-        go true c = step-to (o .l) b (ap (lookup q) (o .shape) ∙ lookup-left q (o .l) (o .r) c) (omega (arith, ap height (o .shape))) (o .left c)
-        go false c = step-to (o .r) b (ap (lookup q) (o .shape) ∙ lookup-right q (o .l) (o .r) c) (omega (arith, ap height (o .shape))) (o .right c)
+        shape : {z : Reached} → walk q (b .kept) (node (o .l) (o .r)) ≡ z → walk q (b .kept) (b .tree) ≡ z
+        shape f = ap (walk q (b .kept)) (o .shape) ∙ f
+
+        -- nothing new is kept in mind
+        as-before : kept ≡ 0 → Mind (b .kept) (latestOf second kept)
+        as-before f = subst (Mind (b .kept)) (sym (ap (latestOf second) f ∙ latest-none second)) (b .mind)
+
+        go : (z : Position) → against q (last (o .l) .offer) (first (o .r) .offer) ≡ z → Below w q t y (latestOf second kept) (probes + 1)
+        go LiesBelow c =
+            step-to (o .l) (b .kept) b (shape (walk-below q (b .kept) (o .l) (o .r) c)) (omega (arith, ap height (o .shape)))
+            (subst (λ n. Pieces w n (o .l)) (sym e) (o .left (ap onOrAbove c))) (as-before (k ∙ o .mind ∙ ap (λ u. keptAt u (last (o .l) .slot)) c))
+        go On c =
+            let m : kept ≡ last (o .l) .slot = k ∙ o .mind ∙ ap (λ u. keptAt u (last (o .l) .slot)) c in
+            step-to (o .r) (some (last (o .l))) b (shape (walk-on q (b .kept) (o .l) (o .r) c)) (omega (arith, ap height (o .shape)))
+            (subst (λ n. Pieces w n (o .r)) (sym e) (o .right (ap onOrAbove c)))
+            (let i = latest-some second kept (omega (arith, m, o .low)) in item (i ∙ m) (omega (arith, i, m, o .low)))
+        go Above c =
+            step-to (o .r) (b .kept) b (shape (walk-above q (b .kept) (o .l) (o .r) c)) (omega (arith, ap height (o .shape)))
+            (subst (λ n. Pieces w n (o .r)) (sym e) (o .right (ap onOrAbove c))) (as-before (k ∙ o .mind ∙ ap (λ u. keptAt u (last (o .l) .slot)) c))
 
 -- ---- at a leaf
 
-at-end : {w : Words} {q : ℤ} {t : Tree Item} {x probes : ℕ} (a : Item) (b : Below w q t x probes) → b .tree ≡ leaf a → x ≡ a .slot → Finds q t x probes
-unfolding lookup
-at-end {q} a b s e =
-    record { item = e ∙ sym (ap (λ z. z .slot) (b .item ∙ ap (λ u. lookup q u .item) s)); depth = omega (arith, b .depth, ap (λ u. lookup q u .depth) s) }
+-- its slot is told where nothing is kept in mind
+kept-or : {kept : Option Item} {second : ℕ} (a : Item) → Mind kept second → latestOf (a .slot) second ≡ keptOr kept a .slot
+kept-or a nothing = latest-none (a .slot)
+kept-or a (item {n = n} e h) = latest-some (a .slot) n h ∙ e
 
-pub ongoing-leaf : {w : Words} {root x probes : ℕ} {q : ℤ} → Ongoing w root q x probes → x ≤ mostSlots → Descended w root q x probes
+at-end : {w : Words} {q : ℤ} {t : Tree Item} {x second probes : ℕ} (a : Item) (b : Below w q t x second probes) → b .tree ≡ leaf a → x ≡ a .slot →
+    Finds q t x (latestOf x second) probes
+unfolding walk
+at-end {q} {second = second} a b s e =
+    record {
+      item = e ∙ sym (ap (λ z. z .slot) (b .item ∙ ap (λ u. walk q (b .kept) u .item) s));
+      other = ap (λ n. latestOf n second) e ∙ kept-or a (b .mind) ∙ sym (ap (λ z. z .slot) (b .other ∙ ap (λ u. walk q (b .kept) u .second) s));
+      depth = omega (arith, b .depth, ap (λ u. walk q (b .kept) u .depth) s);
+    }
+
+pub ongoing-leaf : {w : Words} {root x second probes : ℕ} {q : ℤ} → Ongoing w root q x second probes → x ≤ mostSlots →
+    Descended w root q x (latestOf x second) probes
 ongoing-leaf {q} g d =
     record { finds = λ t p k h. let b = g .below t p h in let (a, s, e) = at-leaf (b .pieces) d in at-end a b s e }
 
 -- no node of a tree of pieces is without a child on the load's side
-pub ongoing-off : {w : Words} {root x probes : ℕ} {q : ℤ} → Ongoing w root q x probes → mostSlots < x → 0 ≡ towardAt w x q → (slot found : ℕ) →
-    Descended w root q slot found
-ongoing-off g d e slot found =
+pub ongoing-off : {w : Words} {root x second probes : ℕ} {q : ℤ} → Ongoing w root q x second probes → mostSlots < x → 0 ≡ towardAt w x q →
+    (slot other found : ℕ) → Descended w root q slot other found
+ongoing-off g d e slot other found =
     record {
-      finds = λ t p k h. let b = ongoing-step g d e .below t p h in
+      finds = λ t p k h. let b = ongoing-step g d (e, refl) .below t p h in
           absurd (omega (arith, b .pieces .rep .root, ref-low (b .tree) (b .pieces .rep .slots)));
     }
 
 -- a tree at most mostLevels high has a leaf after mostLevels probes
-pub ongoing-limit : {w : Words} {root x probes : ℕ} {q : ℤ} → Ongoing w root q x probes → mostSlots < x → mostLevels ≤ probes → (slot found : ℕ) →
-    Descended w root q slot found
-ongoing-limit {q} g d l slot found =
+pub ongoing-limit : {w : Words} {root x second probes : ℕ} {q : ℤ} → Ongoing w root q x second probes → mostSlots < x → mostLevels ≤ probes →
+    (slot other found : ℕ) → Descended w root q slot other found
+ongoing-limit {q} g d l slot other found =
     record { finds = λ t p k h. let b = g .below t p h in let o = opened q (b .pieces) h d in absurd (omega (arith, b .high, ap height (o .shape))) }

@@ -15,7 +15,9 @@ use Rattle.table.specs.Words.{Words, upTo, upTo-in, upTo-over, upTo-below}
 use Rattle.table.specs.Layout.{cap, place, Valid, cell, linkAt}
 use Rattle.table.specs.Cells.{cell-none, cell-inside, cell-there, place-small, placed}
 use Rattle.table.specs.Rep.{childField}
-use Rattle.query.specs.Readings.{clamped, rightOf, Sided, childToward, priceIn}
+use Rattle.prices.specs.Positions.{onOrAbove}
+use Rattle.query.specs.declared.Turn.{Turn}
+use Rattle.query.specs.Readings.{clamped, crossingAgainst, keptAt, Turns, seamAt, childToward, priceIn}
 
 link-out : {w : Words} {f s : ℕ} → ¬ Valid w f s → linkAt w f s ≡ 0
 link-out v = ap (upTo mostNodes) (sym (cell-none v)) ∙ upTo-in mostNodes 0 (omega arith)
@@ -78,9 +80,13 @@ module _ (w : Words) (c x : ℕ) (e : c ≡ cap w) (low : mostSlots < x) (high :
   unfolding childToward
   off-steep q d = rw (← group-cell denominatorField 3 (omega arith) (omega arith), is-false (within 200_000 ourD) (passed d))
 
-  module _ {q : ℤ} {side : ℕ} (t : Sided q ourN ourD side) (d : not (within 200_000 ourD) ≡ false) where
+  module _ {q : ℤ} {way : Turn} (t : Turns q ourN ourD s way) (d : not (within 200_000 ourD) ≡ false) where
+    -- what is kept in mind
+    pub mind-there : way .kept ≡ keptAt (seamAt w s q) s
+    mind-there = t .kept ∙ rw (← group-cell denominatorField 3 (omega arith) (omega arith), ← group-cell numeratorField 2 (omega arith) (omega arith))
+
     -- the child's word
-    pub toward-there : upTo mostNodes (getD w (at + side) (pos 0)) ≡ childToward w s q
+    pub toward-there : upTo mostNodes (getD w (at + way .side) (pos 0)) ≡ childToward w s q
     unfolding childToward
     toward-there =
         rw (
@@ -88,10 +94,10 @@ module _ (w : Words) (c x : ℕ) (e : c ≡ cap w) (low : mostSlots < x) (high :
           ← group-cell numeratorField 2 (omega arith) (omega arith),
           is-true (within 200_000 ourD) (not-not (within 200_000 ourD) (failed d)),
         )
-        (ap (upTo mostNodes) (group-cell (childField pieceTree (rightOf q ourN ourD)) side (omega (arith, t .told)) (omega (arith, t .low))))
+        (ap (upTo mostNodes) (group-cell (childField pieceTree (onOrAbove (crossingAgainst q ourN ourD))) (way .side) (omega (arith, t .side)) (omega (arith, t .low))))
 
     -- it is no number of a node
-    pub off-wild : not (between (pos 0) (pos mostNodes) (getD w (at + side) (pos 0))) ≡ true → 0 ≡ childToward w s q
+    pub off-wild : not (between (pos 0) (pos mostNodes) (getD w (at + way .side) (pos 0))) ≡ true → 0 ≡ childToward w s q
     off-wild g = sym (no-link _ (is-false _ (passed g))) ∙ toward-there
 
 -- ---- a slot's number, rate and base lie side by side too

@@ -1,38 +1,64 @@
--- A query on a tree of pieces: from the root to a leaf, at each node to the side of the crossing on which the load lies.
+-- A query on a tree of pieces: from the root to a leaf, at each node to the side of the crossing on which the load lies. At a crossing itself two pieces
+-- have the least price: the walk goes on to the second, and the first, with the higher rate, is kept in mind.
 use mathlib.Core.Path.{_≡_, refl}
-use mathlib.Core.Bool.{Bool, true, false, cond}
+use mathlib.Core.Option.{Option, none, some}
 use mathlib.Core.List.{List·Memᴰ, List·Memᴰ·head, Memᴰ·append-left, Memᴰ·append-right}
 use Prim.Native.Nat.{ℕ, suc, _≤_}
 use native.Mathlib.Omega.{arith}
 use lib.IntN.{ℤ, _*ℤ_}
-use lib.Signed.{leZ}
 use Rattle.offers.specs.Offers.{Offer, crossingNumerator, crossingDenominator}
 use Rattle.trees.specs.Tree.{Tree, leaf, node, height, leaves, first, last}
 use Rattle.table.specs.Items.{Item, at, Slots, slots-left, slots-right, slots-across}
+use Rattle.prices.specs.declared.Position.{Position}
+use Rattle.prices.specs.declared.Position.the-variants.{Below, On, Above}
+use Rattle.prices.specs.Positions.{positionOf}
 
--- the item at the end of the walk, and how many nodes were passed
+-- the item at the end of the walk, the one kept in mind or else the same, and how many nodes were passed
 pub record Reached : Type 0 where
   pub item : Item
+  pub second : Item
   pub depth : ℕ
 
--- the load is at or left of the crossing of an offer with the next: q × D ≤ N
-abbrev pub atOrLeft : ℤ → Offer → Offer → Bool
-atOrLeft q own next = leZ (q *ℤ crossingDenominator own next) (crossingNumerator own next)
+-- Where an offer's point at the load lies against the line of the next: q × D against N, the two prices less the offer's base and the next's rate × q.
+-- Below it the load is left of their crossing, above it right.
+abbrev pub against : ℤ → Offer → Offer → Position
+against q own next = positionOf (q *ℤ crossingDenominator own next) (crossingNumerator own next)
 
 abbrev pub deeper : Reached → Reached
-deeper r = record { item = r .item; depth = suc (r .depth) }
+deeper r = record { item = r .item; second = r .second; depth = suc (r .depth) }
 
-unfoldable pub lookup : ℤ → Tree Item → Reached
-lookup q (leaf a) = record { item = a; depth = 0 }
-lookup q (node l r) = deeper (cond (atOrLeft q (last l .offer) (first r .offer)) (lookup q l) (lookup q r))
+abbrev pub keptOr : Option Item → Item → Item
+keptOr none a = a
+keptOr (some b) a = b
 
-pub lookup-left : (q : ℤ) (l r : Tree Item) → atOrLeft q (last l .offer) (first r .offer) ≡ true → lookup q (node l r) ≡ deeper (lookup q l)
-unfolding lookup
-lookup-left q l r e = rw e
+abbrev pub turned : Position → (below on above : Reached) → Reached
+turned Below a b c = a
+turned On a b c = b
+turned Above a b c = c
 
-pub lookup-right : (q : ℤ) (l r : Tree Item) → atOrLeft q (last l .offer) (first r .offer) ≡ false → lookup q (node l r) ≡ deeper (lookup q r)
-unfolding lookup
-lookup-right q l r e = rw e
+-- with what was kept in mind so far
+unfoldable pub walk : ℤ → Option Item → Tree Item → Reached
+walk q kept (leaf a) = record { item = a; second = keptOr kept a; depth = 0 }
+walk q kept (node l r) = deeper (turned (against q (last l .offer) (first r .offer)) (walk q kept l) (walk q (some (last l)) r) (walk q kept r))
+
+abbrev pub lookup : ℤ → Tree Item → Reached
+lookup q t = walk q none t
+
+module _ (q : ℤ) (kept : Option Item) (l r : Tree Item) where
+  abbrev pub at-seam : Position
+  at-seam = against q (last l .offer) (first r .offer)
+
+  pub walk-below : at-seam ≡ Below → walk q kept (node l r) ≡ deeper (walk q kept l)
+  unfolding walk
+  walk-below e = rw e
+
+  pub walk-on : at-seam ≡ On → walk q kept (node l r) ≡ deeper (walk q (some (last l)) r)
+  unfolding walk
+  walk-on e = rw e
+
+  pub walk-above : at-seam ≡ Above → walk q kept (node l r) ≡ deeper (walk q kept r)
+  unfolding walk
+  walk-above e = rw e
 
 -- ---- a leaf's depth
 
@@ -42,16 +68,19 @@ pub data LeafAt (a : Item) : ℕ → Tree Item → Type 0 where
   on-left : {d : ℕ} {l r : Tree Item} → LeafAt a d l → LeafAt a (suc d) (node l r)
   on-right : {d : ℕ} {l r : Tree Item} → LeafAt a d r → LeafAt a (suc d) (node l r)
 
--- the probes are the depth of the answer's leaf
-pub lookup-leaf : (q : ℤ) (t : Tree Item) → LeafAt (lookup q t .item) (lookup q t .depth) t
-unfolding lookup
-lookup-leaf q (leaf a) = at-root
-lookup-leaf q (node l r) = go (atOrLeft q (last l .offer) (first r .offer)) (lookup-leaf q l) (lookup-leaf q r)
+-- the probes are the depth of the leaf of the offer that is named first
+pub walk-leaf : (q : ℤ) (kept : Option Item) (t : Tree Item) → LeafAt (walk q kept t .item) (walk q kept t .depth) t
+unfolding walk
+walk-leaf q kept (leaf a) = at-root
+walk-leaf q kept (node l r) = go (against q (last l .offer) (first r .offer)) (walk-leaf q kept l) (walk-leaf q (some (last l)) r) (walk-leaf q kept r)
   where
-    go : (b : Bool) → LeafAt (lookup q l .item) (lookup q l .depth) l → LeafAt (lookup q r .item) (lookup q r .depth) r
-        → LeafAt (cond b (lookup q l) (lookup q r) .item) (suc (cond b (lookup q l) (lookup q r) .depth)) (node l r)
-    go true i j = on-left i
-    go false i j = on-right j
+    go : (p : Position) → LeafAt (walk q kept l .item) (walk q kept l .depth) l →
+        LeafAt (walk q (some (last l)) r .item) (walk q (some (last l)) r .depth) r → LeafAt (walk q kept r .item) (walk q kept r .depth) r →
+        LeafAt (deeper (turned p (walk q kept l) (walk q (some (last l)) r) (walk q kept r)) .item)
+        (deeper (turned p (walk q kept l) (walk q (some (last l)) r) (walk q kept r)) .depth) (node l r)
+    go Below i j k = on-left i
+    go On i j k = on-right j
+    go Above i j k = on-right k
 
 pub leaf-mem : {a : Item} {d : ℕ} {t : Tree Item} → LeafAt a d t → List·Memᴰ a (leaves t)
 leaf-mem at-root = List·Memᴰ·head refl

@@ -1,80 +1,97 @@
 -- What a tree of pieces tells is what the plain book answers.
 use mathlib.Core.Path.{_≡_, sym, _∙_, ap, subst}
-use mathlib.Core.Logic.{⊎-elim}
+use mathlib.Core.Bool.{Bool}
 use mathlib.Core.List.{List, [], _∷_, map, List·Memᴰ, List·Memᴰ·not-nil, Memᴰ·map, Memᴰ·of-map, Pairwise}
 use Prim.Native.Nat.{ℕ, _*_, _≤_, _<_}
 use native.Mathlib.Omega.{arith}
-use lib.Dec.{T}
+use lib.Dec.{T, not-T}
 use borrow.Author.Tests.{lt-leb, le-ltb, lt-ltb}
 use lib.IntN.{ℤ}
 use lib.Signed.{leZ}
 use lib.ListN.{length, length-map}
 use Rattle.lists.specs.Bools.{is-true}
-use Rattle.integers.specs.Parts.{intRules, le-or-lt}
+use Rattle.integers.specs.Parts.{intRules}
 use Rattle.offers.specs.Offers.{Offer, priceAt, precedes, loadInRange}
-use Rattle.envelopes.specs.Envelope.{Ordered, Env, First}
-use Rattle.envelopes.specs.EnvelopeLaws.{compare-lines}
+use Rattle.envelopes.specs.Envelope.{Ordered, Env}
 use Rattle.envelopes.specs.Query.{env-listed}
 use Rattle.envelopes.specs.Carried.{listed-map}
 use Rattle.lines.specs.Lines.{whole, whole-price}
-use Rattle.lines.specs.OfferLines.{offerFigure, offerLaws}
+use Rattle.lines.specs.OfferLines.{offerFigure}
 use Rattle.plain.specs.Causes.{causeNumber, outputTooShort}
-use Rattle.plain.specs.Book.{State, query, listing, found, listed, refused, cheapest, envelope, pieceWords, step}
+use Rattle.plain.specs.Book.{State, query, listing, found, listed, refused, lower, higher, cheapest, envelope, pieceWords, step}
 use Rattle.plain.specs.Sound.{Sound}
-use Rattle.plain.specs.QueryLaws.{Names, cheapest-names}
-use Rattle.plain.specs.ListingLaws.{in-order, envelope-listed}
+use Rattle.plain.specs.QueryLaws.{Tie, lower-tie, higher-tie, NotFirst, Names, cheapest-names}
+use Rattle.plain.specs.ListingLaws.{same-rate, envelope-listed}
 use Rattle.trees.specs.Tree.{Tree, leaves}
 use Rattle.table.specs.Items.{Item}
 pub use Rattle.table.specs.Items.{offerOf}
 use Rattle.pieces.specs.Pieces.{rateOf, baseOf, items, item-laws}
 use Rattle.query.specs.Lookup.{lookup}
-use Rattle.query.specs.Answer.{lookup-first}
+use Rattle.query.specs.Answer.{lookup-first, lookup-last}
 
 -- ---- a query
 
--- the plain book names that offer
-first-names : {ls : List Item} {z : Item} {q : ℤ} → First items ls z (whole q) → Names q (map offerOf ls) (z .offer)
-first-names {ls} {z} {q} f =
-    record {
-      live = Memᴰ·map offerOf (f .one-of);
-      least = λ x m. let (c, i, e) = Memᴰ·of-map offerOf ls m in subst (λ o. T (leZ (priceAt (z .offer) q) (priceAt o q))) e (least c i);
-      highest = λ x m. let (c, i, e) = Memᴰ·of-map offerOf ls m in
-          subst (λ o. priceAt o q ≡ priceAt (z .offer) q → T (leZ (o .rate) (z .offer .rate))) e (highest c i);
-    }
-  where
-    least : (c : Item) → List·Memᴰ c ls → T (leZ (priceAt (z .offer) q) (priceAt (c .offer) q))
-    least c i = subst T (whole-price Item rateOf baseOf z c q) (f .least c i)
+-- the plain book names such an offer
+module _ {tie : ℤ → ℤ → Bool} {ls : List Item} {z : Item} {q : ℤ} (one-of : List·Memᴰ z ls)
+    (least : (c : Item) → List·Memᴰ c ls → T (items .atMost z c (whole q)))
+    (best : (c : Item) → List·Memᴰ c ls → T (tie (c .offer .rate) (z .offer .rate)) → ¬ T (items .atMost c z (whole q))) where
+  not-first : (c : Item) → List·Memᴰ c ls → NotFirst tie q (c .offer) (z .offer)
+  not-first c i =
+      record {
+        least = subst T (whole-price Item rateOf baseOf z c q) (least c i);
+        best = λ e. not-T (tie (c .offer .rate) (z .offer .rate))
+            (λ t. best c i t (subst T (sym (whole-price Item rateOf baseOf c z q)) (omega (arith, intRules))));
+      }
 
-    highest : (c : Item) → List·Memᴰ c ls → priceAt (c .offer) q ≡ priceAt (z .offer) q → T (leZ (c .offer .rate) (z .offer .rate))
-    highest c i p = ⊎-elim (λ g. g) (λ g. absurd (f .earlier c i g (subst T (sym (whole-price Item rateOf baseOf c z q)) (omega (arith, intRules)))))
-        (le-or-lt (c .offer .rate) (z .offer .rate))
+  names-it : Names tie q (map offerOf ls) (z .offer)
+  names-it =
+      record {
+        live = Memᴰ·map offerOf one-of;
+        none-first = λ x m. let (c, i, e) = Memᴰ·of-map offerOf ls m in subst (λ (o : Offer). NotFirst tie q o (z .offer)) e (not-first c i);
+      }
 
 -- and no other
-one-name : {os : List Offer} {o p : Offer} (q : ℤ) → Ordered offerFigure os → Names q os o → Names q os p → o ≡ p
-one-name {os} {o} {p} q h m n = ⊎-elim (λ e. e) (⊎-elim (λ g. absurd (later m n g)) (λ g. absurd (later n m g)))
-    (compare-lines offerFigure offerLaws h (m .live) (n .live))
+one-name : {tie : ℤ → ℤ → Bool} {os : List Offer} {o p : Offer} (t : Tie tie) (q : ℤ) → Pairwise (λ a b. T (precedes a b)) os → Names tie q os o →
+    Names tie q os p → o ≡ p
+one-name {tie} {o = o} {p} t q h m n = same-rate h (m .live) (n .live) (t .same (o .rate) (p .rate) (theirs .best (sym price)) (mine .best price))
   where
-    later : {a b : Offer} → Names q os a → Names q os b → T (precedes a b) → ⊥
-    later {a} {b} k l g = let i = k .least b (l .live) in let j = l .least a (k .live) in let r = l .highest a (k .live) (omega (arith, intRules)) in
-        omega (arith, intRules)
+    mine : NotFirst tie q p o
+    mine = m .none-first p (n .live)
+
+    theirs : NotFirst tie q o p
+    theirs = n .none-first o (m .live)
+
+    price : priceAt p q ≡ priceAt o q
+    price = let i = mine .least in let j = theirs .least in omega (arith, intRules)
 
 pub lookup-plain : {ls : List Item} (t : Tree Item) (s : State) (q : ℤ) → Sound s → s .offers ≡ map offerOf ls → Env items ls (leaves t) → T (loadInRange q)
-    → step s (query q) .answer ≡ found (lookup q t .item .offer .number) (priceAt (lookup q t .item .offer) q)
+    → step s (query q) .answer ≡
+    found (lookup q t .item .offer .number) (priceAt (lookup q t .item .offer) q) (lookup q t .second .offer .number)
 lookup-plain {ls} t s q h e E r = go (s .offers) e (h .ordered)
   where
-    z : Item
-    z = lookup q t .item
+    z : Offer
+    z = lookup q t .item .offer
 
-    names : Names q (map offerOf ls) (z .offer)
-    names = first-names (lookup-first t E q)
+    y : Offer
+    y = lookup q t .second .offer
 
-    same : {o : Offer} {os : List Offer} → (o ∷ os) ≡ map offerOf ls → Pairwise (λ a b. T (precedes a b)) (o ∷ os) → cheapest q o os ≡ z .offer
-    same {o} {os} d p = one-name q (in-order p) (cheapest-names q o os p) (subst (λ xs. Names q xs (z .offer)) (sym d) names)
+    names : Names lower q (map offerOf ls) z
+    names = let f = lookup-last t E q in names-it (f .one-of) (f .least) (f .earlier)
+
+    seconds : Names higher q (map offerOf ls) y
+    seconds = let f = lookup-first t E q in names-it (f .one-of) (f .least) (f .earlier)
+
+    same : {tie : ℤ → ℤ → Bool} {a o : Offer} {os : List Offer} → Tie tie → Names tie q (map offerOf ls) a → (o ∷ os) ≡ map offerOf ls →
+        Pairwise (λ a b. T (precedes a b)) (o ∷ os) → cheapest tie q o os ≡ a
+    same {tie} {a} {o} {os} k n d p = one-name k q p (cheapest-names k q o os) (subst (λ xs. Names tie q xs a) (sym d) n)
 
     go : (os : List Offer) → os ≡ map offerOf ls → Pairwise (λ a b. T (precedes a b)) os →
-        step (record { capacity = s .capacity; offers = os }) (query q) .answer ≡ found (z .offer .number) (priceAt (z .offer) q)
-    go [] d p = absurd (List·Memᴰ·not-nil (subst (List·Memᴰ (z .offer)) (sym d) (names .live)))
-    go (o ∷ os) d p = rw (is-true (loadInRange q) r, lt-leb (length (o ∷ os)) 0 (omega arith)) (ap (λ (x : Offer). found (x .number) (priceAt x q)) (same d p))
+        step (record { capacity = s .capacity; offers = os }) (query q) .answer ≡ found (z .number) (priceAt z q) (y .number)
+    go [] d p = absurd (List·Memᴰ·not-nil (subst (List·Memᴰ z) (sym d) (names .live)))
+    go (o ∷ os) d p =
+        rw (is-true (loadInRange q) r, lt-leb (length (o ∷ os)) 0 (omega arith))
+        (ap (λ (x : Offer). found (x .number) (priceAt x q) (cheapest higher q o os .number)) (same lower-tie names d p)
+        ∙ ap (λ (x : Offer). found (z .number) (priceAt z q) (x .number)) (same higher-tie seconds d p))
 
 -- ---- a listing
 

@@ -1,6 +1,6 @@
 -- A tree of pieces in words, with the thread along its leaves and the offers in their slots; and what its root's words say.
 use mathlib.Core.Path.{_≡_, refl, _∙_, ap}
-use mathlib.Core.Bool.{Bool, true, false, not}
+use mathlib.Core.Bool.{Bool, true, false}
 use mathlib.Core.List.{_++_, List·Memᴰ, List·Memᴰ·head, Memᴰ·append-left, Memᴰ·append-right}
 use Prim.Native.Nat.{ℕ, _-_, _≤_, _<_}
 use native.Mathlib.Omega.{arith}
@@ -18,8 +18,9 @@ use Rattle.table.specs.Layout.{cap-most, linkAt}
 use Rattle.table.specs.Items.{Item, slots-left, slots-right}
 use Rattle.table.specs.Rep.{childField, refOf, Tied, tied-node, Rep}
 use Rattle.table.specs.Threads.{Held, Holds, holds-left, holds-right, Threaded, threaded-left, threaded-right, chain-seam}
-use Rattle.query.specs.Lookup.{atOrLeft}
-use Rattle.query.specs.Readings.{rightOf, childToward, towardAt, priceIn}
+use Rattle.prices.specs.Positions.{onOrAbove}
+use Rattle.query.specs.Lookup.{against}
+use Rattle.query.specs.Readings.{crossingAgainst, keptAt, seamAt, childToward, towardAt, mindAt, priceIn}
 
 pub record Pieces (w : Words) (x : ℕ) (t : Tree Item) : Type 0 where
   pub rep : Rep w pieceTree x t
@@ -45,31 +46,36 @@ pieces-right {w} {l} {r} p t e =
       holds = holds-right (leaves l) (p .holds);
     }
 
--- the crossing that the node keeps decides as the two pieces beside it do
-seam-toward : {w : Words} {x : ℕ} {l r : Tree Item} (q : ℤ) → Pieces w x (node l r) → T (loadInRange q) →
-    childToward w (last l .slot) q ≡ linkAt w (childField pieceTree (not (atOrLeft q (last l .offer) (first r .offer)))) (last l .slot)
-unfolding childToward rightOf
-seam-toward {w} {x} {l} {r} q p h =
-    let n = chain-seam l r (p .thread) in
-    rw (n .numerator, n .denominator, is-true (denominatorInRange d) near, bounded-in _ _ q h, bounded-in _ _ d near)
-  where
-    d : ℤ
-    d = crossingDenominator (last l .offer) (first r .offer)
+-- the crossing that the node keeps tells where the load lies as the two pieces beside it do
+module _ {w : Words} {x : ℕ} {l r : Tree Item} (q : ℤ) (p : Pieces w x (node l r)) (h : T (loadInRange q)) where
+  d : ℤ
+  d = crossingDenominator (last l .offer) (first r .offer)
 
-    ranged : (a : Item) → List·Memᴰ a (leaves l ++ leaves r) → T (rateInRange (a .offer .rate))
-    ranged a m = rate-of (a .offer) (p .holds .held m .ranged)
+  near : T (denominatorInRange d)
+  unfolding d
+  near = rate-gap-in-range (last l .offer .rate) (first r .offer .rate) (ranged (last l) (Memᴰ·append-left (leaves r) (last-leaf l)))
+      (ranged (first r) (Memᴰ·append-right (leaves l) (first-leaf r)))
+    where
+      ranged : (a : Item) → List·Memᴰ a (leaves l ++ leaves r) → T (rateInRange (a .offer .rate))
+      ranged a m = rate-of (a .offer) (p .holds .held m .ranged)
 
-    near : T (denominatorInRange d)
-    near = rate-gap-in-range (last l .offer .rate) (first r .offer .rate) (ranged (last l) (Memᴰ·append-left (leaves r) (last-leaf l)))
-        (ranged (first r) (Memᴰ·append-right (leaves l) (first-leaf r)))
+  seam-told : seamAt w (last l .slot) q ≡ against q (last l .offer) (first r .offer)
+  unfolding d crossingAgainst
+  seam-told = let n = chain-seam l r (p .thread) in rw (n .numerator, n .denominator, bounded-in _ _ q h, bounded-in _ _ d near)
 
--- the child on the load's side
+  seam-toward : childToward w (last l .slot) q ≡ linkAt w (childField pieceTree (onOrAbove (against q (last l .offer) (first r .offer)))) (last l .slot)
+  unfolding d childToward
+  seam-toward = rw (seam-told, chain-seam l r (p .thread) .denominator, is-true (denominatorInRange d) near)
+
+-- the child on the load's side, and what is kept in mind
 pub record Opened (w : Words) (x : ℕ) (q : ℤ) (t : Tree Item) : Type 0 where
   pub l : Tree Item
   pub r : Tree Item
   pub shape : t ≡ node l r
-  pub left : atOrLeft q (last l .offer) (first r .offer) ≡ true → Pieces w (towardAt w x q) l
-  pub right : atOrLeft q (last l .offer) (first r .offer) ≡ false → Pieces w (towardAt w x q) r
+  pub left : onOrAbove (against q (last l .offer) (first r .offer)) ≡ false → Pieces w (towardAt w x q) l
+  pub right : onOrAbove (against q (last l .offer) (first r .offer)) ≡ true → Pieces w (towardAt w x q) r
+  pub mind : mindAt w x q ≡ keptAt (against q (last l .offer) (first r .offer)) (last l .slot)
+  pub low : 1 ≤ last l .slot
 
 pub opened : {w : Words} {x : ℕ} {t : Tree Item} (q : ℤ) → Pieces w x t → T (loadInRange q) → mostSlots < x → Opened w x q t
 opened {w} {x} {t = leaf a} q p h d = absurd (omega (arith, p .rep .root, p .rep .slots .high (List·Memᴰ·head refl), cap-most w))
@@ -78,12 +84,20 @@ opened {w} {x} {t = node l r} q p h d = go (p .rep .tied)
     here : x - mostSlots ≡ last l .slot
     here = omega (arith, p .rep .root)
 
-    side : (b : Bool) → atOrLeft q (last l .offer) (first r .offer) ≡ b → towardAt w x q ≡ linkAt w (childField pieceTree (not b)) (last l .slot)
-    side b e = ap (λ n. childToward w n q) here ∙ seam-toward q p h ∙ ap (λ z. linkAt w (childField pieceTree (not z)) (last l .slot)) e
+    side : (b : Bool) → onOrAbove (against q (last l .offer) (first r .offer)) ≡ b → towardAt w x q ≡ linkAt w (childField pieceTree b) (last l .slot)
+    side b e = ap (λ n. childToward w n q) here ∙ seam-toward q p h ∙ ap (λ z. linkAt w (childField pieceTree z) (last l .slot)) e
 
     go : Tied w pieceTree (node l r) → Opened w x q (node l r)
     go (tied-node tl tr el er eh) =
-        record { l = l; r = r; shape = refl; left = λ e. pieces-left p tl (side true e ∙ el); right = λ e. pieces-right p tr (side false e ∙ er) }
+        record {
+          l = l;
+          r = r;
+          shape = refl;
+          left = λ e. pieces-left p tl (side false e ∙ el);
+          right = λ e. pieces-right p tr (side true e ∙ er);
+          mind = ap (λ n. keptAt (seamAt w n q) n) here ∙ ap (λ z. keptAt z (last l .slot)) (seam-told q p h);
+          low = slots-left (leaves r) (p .rep .slots) .low (last-leaf l);
+        }
 
 -- ---- a leaf
 

@@ -1,12 +1,11 @@
 -- What the code reads of a part, whatever its words are: numbers are brought into the ranges that pieces keep, so that no product wraps.
 use mathlib.Core.Path.{_≡_}
-use mathlib.Core.Bool.{Bool, true, false, not, cond}
+use mathlib.Core.Bool.{Bool, true, false, cond}
 use Prim.Native.Nat.{ℕ, suc, _*_, _-_, _≤_}
 use native.Mathlib.Nat.{mul-le-mul}
 use native.Mathlib.Omega.{arith}
-use lib.Dec.{T}
+use lib.Dec.{T, ltb}
 use lib.IntN.{ℤ, pos, negℤ, natAbs, _+ℤ_, _*ℤ_}
-use lib.Signed.{leZ}
 use mir.Syntax.{w64}
 use mir.Val.{SFits}
 use Rattle.integers.specs.Magnitude.{fits, natAbs-add, natAbs-mul, within-natAbs}
@@ -16,6 +15,10 @@ use Rattle.table.specs.Fields.{baseField, denominatorField, mostSlots, numerato
 use Rattle.table.specs.Words.{Words}
 use Rattle.table.specs.Layout.{cell, linkAt}
 use Rattle.table.specs.Rep.{bit, childField}
+use Rattle.prices.specs.declared.Position.{Position}
+use Rattle.prices.specs.declared.Position.the-variants.{Below, On, Above}
+use Rattle.prices.specs.Positions.{positionOf, onOrAbove}
+use Rattle.query.specs.declared.Turn.{Turn}
 use Rattle.query.specs.declared.Step.{Step}
 use Rattle.query.specs.declared.Step.the-variants.{To, Off}
 
@@ -41,26 +44,45 @@ price-fits {b} {r} {l} x y q eb er el =
     let e : natAbs b ≤ 1_000_000_000 = rw eb (clamped-size 999_999_999 x) in
     fits _ (omega (arith, natAbs-add b (r *ℤ l), clamped-product 99_999 999_999 y q er el))
 
--- the load lies right of the crossing n / d
-unfoldable pub rightOf : ℤ → ℤ → ℤ → Bool
-rightOf q n d = not (leZ (clamped 1_000_000 q *ℤ clamped 200_000 d) n)
+-- where the load lies at the crossing n / d
+unfoldable pub crossingAgainst : ℤ → ℤ → ℤ → Position
+crossingAgainst q n d = positionOf (clamped 1_000_000 q *ℤ clamped 200_000 d) n
 
--- as a number: 0 is left, 1 is right
-pub record Sided (q n d : ℤ) (side : ℕ) : Type 0 where
-  pub told : side ≡ bit (rightOf q n d)
-  pub low : side ≤ 1
+-- what is kept in mind there: the slot that keeps the crossing, where the load is at it, and 0 for none
+abbrev pub keptAt : Position → ℕ → ℕ
+keptAt Below s = 0
+keptAt On s = s
+keptAt Above s = 0
+
+-- the way on from the crossing n / d that slot s keeps; as a number, left is 0 and right is 1
+pub record Turns (q n d : ℤ) (s : ℕ) (t : Turn) : Type 0 where
+  pub side : t .side ≡ bit (onOrAbove (crossingAgainst q n d))
+  pub low : t .side ≤ 1
+  pub kept : t .kept ≡ keptAt (crossingAgainst q n d) s
+
+-- where the load lies at the crossing that slot s keeps
+abbrev pub seamAt : Words → ℕ → ℤ → Position
+seamAt w s q = crossingAgainst q (cell w numeratorField s) (cell w denominatorField s)
 
 -- the child, on the load's side, of the inner node kept in slot s; 0 where there is none
 unfoldable pub childToward : Words → ℕ → ℤ → ℕ
-childToward w s q = cond (within 200_000 (cell w denominatorField s))
-    (linkAt w (childField pieceTree (rightOf q (cell w numeratorField s) (cell w denominatorField s))) s) 0
+childToward w s q = cond (within 200_000 (cell w denominatorField s)) (linkAt w (childField pieceTree (onOrAbove (seamAt w s q))) s) 0
 
 abbrev pub towardAt : Words → ℕ → ℤ → ℕ
 towardAt w x q = childToward w (x - mostSlots) q
 
-abbrev pub childOf : Step → ℕ
-childOf (To x) = x
-childOf Off = 0
+-- what is kept in mind at node x
+abbrev pub mindAt : Words → ℕ → ℤ → ℕ
+mindAt w x q = keptAt (seamAt w (x - mostSlots) q) (x - mostSlots)
+
+-- the promise of one step from node x
+abbrev pub Steps : Words → ℕ → ℤ → Step → Type 0
+Steps w x q (To child kept) = (child ≡ towardAt w x q) × (kept ≡ mindAt w x q)
+Steps w x q Off = 0 ≡ towardAt w x q
+
+-- the slot told last; 0 tells none
+unfoldable pub latestOf : ℕ → ℕ → ℕ
+latestOf before kept = cond (ltb kept 1) before kept
 
 -- the price of the offer kept in slot s
 unfoldable pub priceIn : Words → ℕ → ℤ → ℤ

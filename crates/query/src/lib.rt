@@ -3,8 +3,9 @@ ghost use mathlib.Core.Path.{_≡_};
 ghost use mathlib.Core.Bool.{not};
 ghost use Rattle.offers.specs.Offers.{between};
 ghost use Rattle.table.specs.Layout.{cap};
-ghost use Rattle.query.specs.Readings.{Sided, childOf, towardAt, priceIn};
+ghost use Rattle.query.specs.Readings.{Turns, Steps, latestOf, priceIn};
 ghost use Rattle.query.specs.Descent.{Descended};
+use prices::Position;
 
 // The highest number of a leaf, and of a node, in the widths that a descent counts in.
 const LEAVES: usize = table::MOST_SLOTS as usize;
@@ -18,19 +19,32 @@ pub fn outside(low: i64, high: i64, value: i64) -> bool
     value < low || high < value
 }
 
-// 0 where the load is at or left of the crossing n / d, and 1 right of it.
-fn side_of(load: i64, n: i64, d: i64) -> usize
-    ensures { λ r. ⌜ Sided load n d r ⌝ }
-{
-    if table::bounded(-1_000_000, 1_000_000, load) * table::bounded(-200_000, 200_000, d) <= n {
-        return 0;
-    }
-    1
+// The way on from a crossing: to the left, 0, or to the right, 1; and where the load is at the crossing, the slot that keeps it, else 0.
+struct Turn {
+    side: usize,
+    kept: u32,
 }
 
-// To a child, or off: what the words tell is no node of a tree of pieces. Each way off leaves the loop of a descent, so that no value waits for a test.
+// The way on from the crossing n / d that `slot` keeps: where the piece on its left, at the load, lies against the next one. Both prices are taken less
+// the left one's base and the next one's rate times the load.
+fn turn_at(load: i64, n: i64, d: i64, slot: u32) -> Turn
+    ensures { λ r. ⌜ Turns load n d slot r ⌝ }
+{
+    let point = table::bounded(-1_000_000, 1_000_000, load) * table::bounded(-200_000, 200_000, d);
+    match prices::compare(point, n) {
+        Position::Below => Turn { side: 0, kept: 0 },
+        Position::On => Turn {
+            side: 1,
+            kept: slot,
+        },
+        Position::Above => Turn { side: 1, kept: 0 },
+    }
+}
+
+// To a child, with what a tie keeps in mind, or off: what the words tell is no node of a tree of pieces. Each way off leaves the loop of a descent, so
+// that no value waits for a test.
 enum Step {
-    To(usize),
+    To { child: usize, kept: u32 },
     Off,
 }
 
@@ -42,7 +56,7 @@ const ITS_DENOMINATOR: usize = table::DENOMINATOR - table::PIECE_NODE;
 // From inner node `x` to its child on the load's side: one group of four words is read. `c` is the part's capacity.
 fn toward(part: &[i64], c: u32, x: usize, load: i64) -> Step
     requires { ⌜ c ≡ cap (now part) ⌝ }
-    ensures { λ r. ⌜ childOf r ≡ towardAt (now (part .entry)) x load ⌝ }
+    ensures { λ r. ⌜ Steps (now (part .entry)) x load r ⌝ }
 {
     if x <= LEAVES {
         return Step::Off;
@@ -50,51 +64,73 @@ fn toward(part: &[i64], c: u32, x: usize, load: i64) -> Step
     if c as usize + LEAVES < x {
         return Step::Off;
     }
-    let at = table::address(c, table::PIECE_NODE, (x - LEAVES) as u32);
+    let slot = (x - LEAVES) as u32;
+    let at = table::address(c, table::PIECE_NODE, slot);
     let d = part[at + ITS_DENOMINATOR];
     if outside(-200_000, 200_000, d) {
         return Step::Off;
     }
-    let side = side_of(load, part[at + ITS_NUMERATOR], d);
-    let z = part[at + side];
+    let turn = turn_at(load, part[at + ITS_NUMERATOR], d, slot);
+    let z = part[at + turn.side];
     if outside(0, HIGHEST_NODE, z) {
         return Step::Off;
     }
-    Step::To(table::up_to(table::MOST_NODES, z) as usize)
+    Step::To {
+        child: table::up_to(table::MOST_NODES, z) as usize,
+        kept: turn.kept,
+    }
 }
 
-// Where a query ends: the slot of its answer, and how many nodes it passed.
+// Where a query ends: the slot of the offer named first, that of the second offer, and how many nodes it passed.
 pub struct Probe {
     pub slot: u32,
+    pub second: u32,
     pub probes: u32,
 }
 
-// From the root to the piece that is the cheapest at the load, the first in order of several.
+// The slot told last; 0 tells none.
+fn latest(before: u32, kept: u32) -> u32
+    ensures { λ r. ⌜ r ≡ latestOf before kept ⌝ }
+{
+    if kept < 1 {
+        return before;
+    }
+    kept
+}
+
+// From the root to the piece with the lowest rate of those that are the cheapest at the load. There are two where the load is at a crossing: the inner
+// node passed there is kept in the slot of the last piece on its left, which has the highest rate.
 pub fn descend(part: &[i64], root: u32, load: i64) -> Probe
-    ensures { λ r. ⌜ Descended (now (part .entry)) root load (r .slot) (r .probes) ⌝ }
+    ensures { λ r. ⌜ Descended (now (part .entry)) root load (r .slot) (r .second) (r .probes) ⌝ }
 {
     let c = table::capacity(part);
     let mut x = root as usize;
+    let mut second: u32 = 0;
     let mut probes: u32 = 0;
     while LEAVES < x {
         if table::MOST_LEVELS <= probes {
             return Probe {
                 slot: 0,
+                second: 0,
                 probes: probes,
             };
         }
         let step = toward(part, c, x, load);
-        let Step::To(child) = step else {
+        let Step::To { child, kept } = step else {
             return Probe {
                 slot: 0,
+                second: 0,
                 probes: probes,
             };
         };
+        second = latest(second, kept);
         x = child;
         probes += 1;
     }
+    let slot = x as u32;
     Probe {
-        slot: x as u32,
+        slot: slot,
+        second: latest(slot, second),
         probes: probes,
     }
 }

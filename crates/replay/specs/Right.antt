@@ -31,38 +31,43 @@ use Rattle.replay_call.specs.Telling.{TellsOne, Tells}
 
 -- the answer by five words
 abbrev byWords : Call → List ℤ → List ℤ → Answer
-byWords k five out = answerOf k (getD five 0 (pos 0)) (getD five 1 (pos 0)) (getD five 2 (pos 0)) out
+byWords k five out = answerOf k (getD five 0 (pos 0)) (getD five 1 (pos 0)) (getD five 2 (pos 0)) (getD five 3 (pos 0)) out
 
 first-words : (k : Call) (ws : List ℤ) {five : List ℤ} (out : List ℤ) → take 5 ws ≡ five → byWords k ws out ≡ byWords k five out
 first-words k ws {five} out e = part ∙ ap (λ (l : List ℤ). byWords k l out) e
   where
     part : byWords k ws out ≡ byWords k (take 5 ws) out
-    part = rw (getD-take 5 ws 0 (pos 0) (omega arith), getD-take 5 ws 1 (pos 0) (omega arith), getD-take 5 ws 2 (pos 0) (omega arith))
+    part = rw (
+      getD-take 5 ws 0 (pos 0) (omega arith),
+      getD-take 5 ws 1 (pos 0) (omega arith),
+      getD-take 5 ws 2 (pos 0) (omega arith),
+      getD-take 5 ws 3 (pos 0) (omega arith),
+    )
 
 -- a refusal's number is not 0
-refusal-told : (k : Call) (z x y : ℤ) (out : List ℤ) → counted refused z ≢ refused 0 → answerOf k z x y out ≡ counted refused z
-refusal-told k z x y out f = go (equal z (pos 0)) refl
+refusal-told : (k : Call) (c x y z : ℤ) (out : List ℤ) → counted refused c ≢ refused 0 → answerOf k c x y z out ≡ counted refused c
+refusal-told k c x y z out f = go (equal c (pos 0)) refl
   where
-    go : (b : Bool) → equal z (pos 0) ≡ b → cond b (acceptedAnswer k x y out) (counted refused z) ≡ counted refused z
-    go true e = absurd (f (ap (counted refused) (same-is z (pos 0) e)))
+    go : (b : Bool) → equal c (pos 0) ≡ b → cond b (acceptedAnswer k x y z out) (counted refused c) ≡ counted refused c
+    go true e = absurd (f (ap (counted refused) (same-is c (pos 0) e)))
     go false e = refl
 
 post-told : (n r b : ℤ) (u : Update) (out : List ℤ) → updateAnswer u ≢ refused 0 → byWords (post n r b) (updateWords u) out ≡ updateAnswer u
 post-told n r b (Done m k s h) out f = refl
-post-told n r b (UpdateDeclined z) out f = refusal-told (post n r b) z (pos 0) (pos 0) out f
+post-told n r b (UpdateDeclined z) out f = refusal-told (post n r b) z (pos 0) (pos 0) (pos 0) out f
 
 withdraw-told : (n : ℤ) (u : Update) (out : List ℤ) → updateAnswer u ≢ refused 0 → byWords (withdraw n) (updateWords u) out ≡ updateAnswer u
 withdraw-told n (Done m k s h) out f = refl
-withdraw-told n (UpdateDeclined z) out f = refusal-told (withdraw n) z (pos 0) (pos 0) out f
+withdraw-told n (UpdateDeclined z) out f = refusal-told (withdraw n) z (pos 0) (pos 0) (pos 0) out f
 
 query-told : (q : ℤ) (a : Found) (out : List ℤ) → foundAnswer a ≢ refused 0 → byWords (query q) (foundWords a) out ≡ foundAnswer a
-query-told q (Offer n p s) out f = refl
-query-told q (FoundDeclined z) out f = refusal-told (query q) z (pos 0) (pos 0) out f
+query-told q (Offer n p m s) out f = refl
+query-told q (FoundDeclined z) out f = refusal-told (query q) z (pos 0) (pos 0) (pos 0) out f
 
 listing-told : (room : ℕ) (l : Listed) (out : List ℤ) → listingAnswer l (take room out) ≢ refused 0 →
     byWords (listing room) (listedWords l) out ≡ listingAnswer l (take room out)
 listing-told room (Pieces m) out f = refl
-listing-told room (ListingDeclined z) out f = refusal-told (listing room) z (pos 0) (pos 0) out f
+listing-told room (ListingDeclined z) out f = refusal-told (listing room) z (pos 0) (pos 0) (pos 0) out f
 
 one-told : {start : ℕ} {t : List ℤ} {k : Call} {t′ : List ℤ} {a : Answer} (p : Happens start t k t′ a) (ws ws′ : List ℤ) → TellsOne p ws ws′ →
     a ≢ refused 0 → byWords k ws′ (drop 5 ws′) ≡ a

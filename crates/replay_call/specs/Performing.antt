@@ -28,7 +28,7 @@ update-five (Done n k s h) = refl
 update-five (UpdateDeclined c) = refl
 
 found-five : (f : Found) → length (foundWords f) ≡ 5
-found-five (Offer n p q) = refl
+found-five (Offer n p m q) = refl
 found-five (FoundDeclined c) = refl
 
 listed-five : (l : Listed) → length (listedWords l) ≡ 5

@@ -109,20 +109,21 @@ listedWords r = listedTold r .number ∷ padded 4 (listedTold r .values)
 
 -- ---- and read off again
 
--- an accepted call's answer, by its first two values and the words behind the five
-abbrev pub acceptedAnswer : Call → ℤ → ℤ → List ℤ → Answer
-acceptedAnswer (post n r b) x y out = counted live x
-acceptedAnswer (withdraw n) x y out = counted live x
-acceptedAnswer (query q) x y out = found x y
-acceptedAnswer (listing room) x y out = counted (λ m. listed m (take (3 * m) (take room out))) x
+-- an accepted call's answer, by its first three values and the words behind the five
+abbrev pub acceptedAnswer : Call → ℤ → ℤ → ℤ → List ℤ → Answer
+acceptedAnswer (post n r b) x y z out = counted live x
+acceptedAnswer (withdraw n) x y z out = counted live x
+acceptedAnswer (query q) x y z out = found x y z
+acceptedAnswer (listing room) x y z out = counted (λ m. listed m (take (3 * m) (take room out))) x
 
-abbrev pub answerOf : Call → ℤ → ℤ → ℤ → List ℤ → Answer
-answerOf k refusal x y out = cond (equal refusal (pos 0)) (acceptedAnswer k x y out) (counted refused refusal)
+abbrev pub answerOf : Call → ℤ → ℤ → ℤ → ℤ → List ℤ → Answer
+answerOf k refusal x y z out = cond (equal refusal (pos 0)) (acceptedAnswer k x y z out) (counted refused refusal)
 
 -- the answers in order
 abbrev pub told : List Call → List ℤ → List Answer
 told [] ws = []
-told (k ∷ ks) ws = answerOf k (getD ws 0 (pos 0)) (getD ws 1 (pos 0)) (getD ws 2 (pos 0)) (drop 5 ws) ∷ told ks (drop (stretch k) ws)
+told (k ∷ ks) ws =
+    answerOf k (getD ws 0 (pos 0)) (getD ws 1 (pos 0)) (getD ws 2 (pos 0)) (getD ws 3 (pos 0)) (drop 5 ws) ∷ told ks (drop (stretch k) ws)
 
 -- ---- words that no answer is written to
 

@@ -110,7 +110,7 @@ pub fn tell_update(out: &mut [i64], told: promises::Update)
     }
 }
 
-// A query's answer: 0, the offer's number, the price and the probes; or the refusal's number.
+// A query's answer: 0, the offer's number, the price, the second offer's number and the probes; or the refusal's number.
 pub fn tell_found(out: &mut [i64], told: promises::Found)
     requires { ⌜ 5 ≤ length (now out) ⌝ }
     ensures { λ _. ⌜ now (out .exit) ≡ foundWords told ++ drop 5 (now (out .entry)) ⌝ }
@@ -119,8 +119,9 @@ pub fn tell_found(out: &mut [i64], told: promises::Found)
         promises::Found::Offer {
             number,
             price,
+            second,
             probes,
-        } => put_five(out, 0, number, price, probes, 0),
+        } => put_five(out, 0, number, price, second, probes),
         promises::Found::Declined(cause) => put_five(out, cause, 0, 0, 0, 0),
     }
 }

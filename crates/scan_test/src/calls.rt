@@ -78,14 +78,19 @@ pub(crate) fn query(
     t: Tally,
 ) -> Tally {
     let cause = expected::query_cause(is_open, os, load);
-    let i = slots::cheapest(os, load);
+    let i = slots::cheapest(os, load, false);
+    let j = slots::cheapest(os, load, true);
     let same = match book::query(table, start, load) {
         book::Found::Offer {
             number,
             price,
+            second,
             probes: _,
         } => {
-            (cause == 0) & (number == slots::number(os, i)) & (price == slots::price(os, i, load))
+            (cause == 0)
+                & (number == slots::number(os, i))
+                & (price == slots::price(os, i, load))
+                & (second == slots::number(os, j))
         }
         book::Found::Declined(c) => (cause != 0) & (c == cause),
     };

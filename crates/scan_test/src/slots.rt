@@ -118,19 +118,19 @@ pub(crate) fn price(os: &[i64; 192], i: usize, load: i64) -> i64 {
     b + r * q
 }
 
-// Of two slots the cheaper, and of equal prices the one with the higher rate.
-fn cheaper(os: &[i64; 192], load: i64, best: usize, i: usize) -> usize {
+// Of two slots the cheaper, and of equal prices the one with the higher rate, or with the lower.
+fn cheaper(os: &[i64; 192], load: i64, higher: bool, best: usize, i: usize) -> usize {
     let p = price(os, i, load);
     let q = price(os, best, load);
-    let wins = (p < q) | ((p == q) & (rate(os, best) < rate(os, i)));
+    let wins = (p < q) | ((p == q) & (higher == (rate(os, best) < rate(os, i))));
     either((number(os, i) != 0) & ((best > 63) | wins), i, best)
 }
 
-// The slot of the offer that a query names, or 64 where none is live.
-pub(crate) fn cheapest(os: &[i64; 192], load: i64) -> usize {
+// Of the offers at the least price the slot of the one with the highest rate, or with the lowest; 64 where none is live.
+pub(crate) fn cheapest(os: &[i64; 192], load: i64, higher: bool) -> usize {
     let mut best: usize = 64;
     for i in 0..64 {
-        best = cheaper(os, load, best, i);
+        best = cheaper(os, load, higher, best, i);
     }
     best
 }

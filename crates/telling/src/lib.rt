@@ -51,19 +51,21 @@ pub fn tell_update(u: promises::Update, counts: &mut [i64]) -> i64
     }
 }
 
-// A query's answer; the price and the probes go into `found`.
+// A query's answer; the price, the second offer's number and the probes go into `found`.
 pub fn tell_found(f: promises::Found, found: &mut [i64]) -> i64
-    requires { ⌜ 2 ≤ length (now found) ⌝ }
+    requires { ⌜ 3 ≤ length (now found) ⌝ }
     ensures { λ r. ⌜ Tells (foundNumber f) (foundOf f) (now (found .entry)) (now (found .exit)) r ⌝ }
 {
     match f {
         promises::Found::Offer {
             number,
             price,
+            second,
             probes,
         } => {
             found[0] = price;
-            found[1] = probes;
+            found[1] = second;
+            found[2] = probes;
             number
         }
         promises::Found::Declined(cause) => below_zero(cause),

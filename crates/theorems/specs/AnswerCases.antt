@@ -51,21 +51,28 @@ update-values (UpdateDeclined z) n k s h e = let x : _≡_ {A = ℕ} 0 1 = cc in
 -- ---- query
 
 pub query-refused : (r : Found) (n : ℕ) → 1 ≤ n → foundAnswer r ≡ refused n → r ≡ FoundDeclined (pos n)
-query-refused (Offer number price probes) n l e = let z : _≡_ {A = ℕ} 0 1 = cc in absurd (omega arith)
+query-refused (Offer number price second probes) n l e = let z : _≡_ {A = ℕ} 0 1 = cc in absurd (omega arith)
 query-refused (FoundDeclined c) n l e = ap FoundDeclined (refused-word c n l e)
 
-pub query-found : (r : Found) (number price : ℤ) → foundAnswer r ≡ found number price → (probes : ℤ) × (r ≡ Offer number price probes)
-query-found (Offer m p probes) number price e = let d : m ≡ number = cc in let f : p ≡ price = cc in (probes, λ i. Offer (d i) (f i) probes)
-query-found (FoundDeclined (pos m)) number price e = let z : _≡_ {A = ℕ} 0 1 = cc in absurd (omega arith)
-query-found (FoundDeclined (negsuc m)) number price e = let z : _≡_ {A = ℕ} 0 1 = cc in absurd (omega arith)
-
-pub query-values : (r : Found) (number price probes : ℤ) → foundTold r .values ≡ number ∷ price ∷ probes ∷ [] → r ≡ Offer number price probes
-query-values (Offer m p n) number price probes e =
+pub query-found : (r : Found) (number price second : ℤ) → foundAnswer r ≡ found number price second →
+    (probes : ℤ) × (r ≡ Offer number price second probes)
+query-found (Offer m p o probes) number price second e =
     let a : m ≡ number = cc in
     let b : p ≡ price = cc in
-    let c : n ≡ probes = cc in
-    λ i. Offer (a i) (b i) (c i)
-query-values (FoundDeclined z) number price probes e = let x : _≡_ {A = ℕ} 0 1 = cc in absurd (omega arith)
+    let c : o ≡ second = cc in
+    (probes, λ i. Offer (a i) (b i) (c i) probes)
+query-found (FoundDeclined (pos m)) number price second e = let z : _≡_ {A = ℕ} 0 1 = cc in absurd (omega arith)
+query-found (FoundDeclined (negsuc m)) number price second e = let z : _≡_ {A = ℕ} 0 1 = cc in absurd (omega arith)
+
+pub query-values : (r : Found) (number price second probes : ℤ) → foundTold r .values ≡ number ∷ price ∷ second ∷ probes ∷ [] →
+    r ≡ Offer number price second probes
+query-values (Offer m p o n) number price second probes e =
+    let a : m ≡ number = cc in
+    let b : p ≡ price = cc in
+    let c : o ≡ second = cc in
+    let d : n ≡ probes = cc in
+    λ i. Offer (a i) (b i) (c i) (d i)
+query-values (FoundDeclined z) number price second probes e = let x : _≡_ {A = ℕ} 0 1 = cc in absurd (omega arith)
 
 -- ---- listing
 

@@ -101,9 +101,9 @@ module _ {start : ℕ} {t : List ℤ} {s : State} {held : Option (Held Item)} (b
   query-told {q} {r} p = go r (p .answers s held b)
     where
       go : (r : Found) → foundAnswer r ≡ step s (query q) .answer → QueryTells s q r
-      go (Offer number price probes) e = (
-        answered-clear s (query q) (found number price) (λ n h. let z : _≡_ {A = ℕ} 0 1 = cc in absurd (omega arith)) e,
-        query-cheapest s q number price (book-sound b) (sym e),
+      go (Offer number price second probes) e = (
+        answered-clear s (query q) (found number price second) (λ n h. let z : _≡_ {A = ℕ} 0 1 = cc in absurd (omega arith)) e,
+        query-cheapest s q number price second (sym e),
       )
       go (FoundDeclined z) e = query-refuses s q z e
 

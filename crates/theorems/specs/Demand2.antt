@@ -26,9 +26,9 @@ use Rattle.promises.specs.Promises.{partOf, Updates, Queries, Lists}
 abbrev pub Refuses : List Trial → ℤ → Type 0
 Refuses ks z = (c : Cause) × FirstOf ks c × (z ≡ pos (causeNumber c))
 
--- No cause applies: the least price, and the first offer in order that has it.
+-- No cause applies: the least price, and of the offers that have it the one with the lowest rate and the one with the highest.
 abbrev pub QueryTells : State → ℤ → Found → Type 0
-QueryTells s q (Offer number price probes) = Clear (trials s (query q)) × Cheapest (s .offers) q number price
+QueryTells s q (Offer number price second probes) = Clear (trials s (query q)) × Cheapest (s .offers) q number price second
 QueryTells s q (FoundDeclined z) = Refuses (trials s (query q)) z
 
 -- No cause applies: in order, exactly the offers that at some rational load are strictly cheaper than every other, each with its crossing with the next.

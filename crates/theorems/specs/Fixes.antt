@@ -1,6 +1,5 @@
--- The sentences of demand 2 fix the answers: of offers in order, one number and price at a load, and one listing, word for word.
+-- The sentences of demand 2 fix the answers: of offers in order, one price and two numbers at a load, and one listing, word for word.
 use mathlib.Core.Path.{_≡_, sym, _∙_, ap, subst}
-use mathlib.Core.Logic.{⊎-elim}
 use mathlib.Core.List.{List, Pairwise}
 use Prim.Native.Nat.{ℕ, zero, suc, _+_, _*_, _/_, _%_, _<_}
 use native.Mathlib.Decide.{decLt}
@@ -11,25 +10,41 @@ use lib.Seq.{ext-getD}
 use lib.IntN.{ℤ, pos}
 use Rattle.integers.specs.Parts.{intRules}
 use Rattle.offers.specs.Offers.{Offer, precedes, crossingNumerator, crossingDenominator}
-use Rattle.envelopes.specs.EnvelopeLaws.{compare-lines, same-members}
+use Rattle.envelopes.specs.EnvelopeLaws.{same-members}
 use Rattle.lines.specs.OfferLines.{offerFigure, offerLaws}
-use Rattle.plain.specs.Meaning.{Cheapest, PieceAt, Listing}
-use Rattle.plain.specs.ListingLaws.{in-order}
+use Rattle.plain.specs.Meaning.{Priced, Cheapest, PieceAt, Listing}
+use Rattle.plain.specs.ListingLaws.{in-order, same-rate}
 
 -- ---- a query
 
-pub cheapest-once : {os : List Offer} {q n p n′ p′ : ℤ} → Pairwise (λ a b. T (precedes a b)) os → Cheapest os q n p → Cheapest os q n′ p′ → (n ≡ n′) × (p ≡ p′)
-cheapest-once {os} {q} {n} {p} {n′} {p′} h a b = (a .named ∙ ap (λ (o : Offer). o .number) same ∙ sym (b .named), price)
+pub cheapest-once : {os : List Offer} {q n p m n′ p′ m′ : ℤ} → Pairwise (λ a b. T (precedes a b)) os → Cheapest os q n p m → Cheapest os q n′ p′ m′ →
+    (n ≡ n′) × (p ≡ p′) × (m ≡ m′)
+cheapest-once {os} {q} {n} {p} {m} {n′} {p′} {m′} h a b =
+    (one-offer (a .one) (b .one) firsts, price, one-offer (a .other) (b .other) seconds)
   where
     price : p ≡ p′
-    price = let i = a .least (b .offer) (b .live) in let j = b .least (a .offer) (a .live) in let e = a .priced in let f = b .priced in omega (arith, intRules)
+    price =
+        let i = a .least (b .one .offer) (b .one .live) in
+        let j = b .least (a .one .offer) (a .one .live) in
+        let e = a .one .priced in
+        let f = b .one .priced in
+        omega (arith, intRules)
 
-    same : a .offer ≡ b .offer
-    same =
-        ⊎-elim (λ e. e)
-        (⊎-elim (λ t. absurd (b .first (a .offer) (a .live) t (sym (a .priced) ∙ price)))
-        (λ t. absurd (a .first (b .offer) (b .live) t (sym (b .priced) ∙ sym price))))
-        (compare-lines offerFigure offerLaws (in-order h) (a .live) (b .live))
+    firsts : a .one .offer .rate ≡ b .one .offer .rate
+    firsts =
+        let i = a .lowest (b .one .offer) (b .one .live) (sym (b .one .priced) ∙ sym price) in
+        let j = b .lowest (a .one .offer) (a .one .live) (sym (a .one .priced) ∙ price) in
+        omega (arith, intRules)
+
+    seconds : a .other .offer .rate ≡ b .other .offer .rate
+    seconds =
+        let i = a .highest (b .other .offer) (b .other .live) (sym (b .other .priced) ∙ sym price) in
+        let j = b .highest (a .other .offer) (a .other .live) (sym (a .other .priced) ∙ price) in
+        omega (arith, intRules)
+
+    -- no two live offers have equal rates
+    one-offer : {x y x′ y′ : ℤ} (c : Priced os q x y) (d : Priced os q x′ y′) → c .offer .rate ≡ d .offer .rate → x ≡ x′
+    one-offer c d e = c .named ∙ ap (λ (o : Offer). o .number) (same-rate h (c .live) (d .live) e) ∙ sym (d .named)
 
 -- ---- a listing
 

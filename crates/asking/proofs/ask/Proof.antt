@@ -28,27 +28,34 @@ get-requires c κs = search needs
 price-requires : tie.Need-price-requires
 price-requires c κs = search needs
 
-cast-t11 : tie.Need-cast-t11
-cast-t11 c = search needs
+get-requires-2 : tie.Need-get-requires-2
+get-requires-2 c κs = search needs
+
+cast-t13 : tie.Need-cast-t13
+cast-t13 c = search needs
 
 returns-2 : tie.Need-returns-2
 returns-2 c =
-    let at-descend = c .before .before in
+    let at-price = c .before in
+    let at-get = at-price .before in
+    let at-descend = at-get .before in
     let at-root = at-descend .before in
     let at-if1 = at-root .before in
     let at-number-at = at-if1 .before in
     let entry = at-number-at .before in
     let f = entry .fits .load in
-    let g : SFits w64 (c .before .get .result) = record { sfits = c .before .get .ok } in
-    let h : SFits w64 (c .price .result) = record { sfits = c .price .ok } in
-    let v : toZ w64 (at-descend .descend .result .probes) ≡ pos (at-descend .descend .result .probes) = toZ-pos w64 (omega (arith, cast-t11 c)) in
-    simp (toZ-ofZ, g, h, v)
+    let g : SFits w64 (at-get .get .result) = record { sfits = at-get .get .ok } in
+    let h : SFits w64 (at-price .price .result) = record { sfits = at-price .price .ok } in
+    let k : SFits w64 (c .get2 .result) = record { sfits = c .get2 .ok } in
+    let v : toZ w64 (at-descend .descend .result .probes) ≡ pos (at-descend .descend .result .probes) = toZ-pos w64 (omega (arith, cast-t13 c)) in
+    simp (toZ-ofZ, g, h, k, v)
     (asks-found (at-number-at .number-at .ensures) (at-if1 .if1 .left)
     (record {
       at-root = at-root .envelope-root .ensures;
       down = simp (toZ-ofZ, f) at (at-descend .descend .ensures);
-      named = c .before .get .ensures;
-      priced = simp (toZ-ofZ, f) at (c .price .ensures);
+      named = at-get .get .ensures;
+      priced = simp (toZ-ofZ, f) at (at-price .price .ensures);
+      beside = c .get2 .ensures;
     }))
 
 pub ask-spec : {M : Type 1} → statement M
@@ -61,5 +68,6 @@ ask-spec =
     descend-requires
     get-requires
     price-requires
-    cast-t11
+    get-requires-2
+    cast-t13
     returns-2)

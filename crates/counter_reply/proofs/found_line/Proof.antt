@@ -23,8 +23,9 @@ returns c =
     let entry = at-found .before .before .before in
     let f : SFits w64 (at-found .found .given .0 .0) = search needs in
     let g : SFits w64 (at-found .found .given .0 .1 .0) = search needs in
+    let h : SFits w64 (at-found .found .given .0 .1 .1 .0) = search needs in
     rw (at-found .found .given .1)
-    (found-line (entry .pre) _ _ (simp (toZ-ofZ, f, g) at (at-answer-line .answer-line .ensures)))
+    (found-line (entry .pre) _ _ _ (simp (toZ-ofZ, f, g, h) at (at-answer-line .answer-line .ensures)))
 
 enum-known-found-2 : tie.Need-enum-known-found-2
 enum-known-found-2 c = search needs

@@ -1,22 +1,20 @@
 -- `query::descend` meets its contract. The loop's invariant: from x on, the walk goes on as from the root.
-use mathlib.Core.Path.{sym, _∙_, ap}
 use Prim.Native.Nat.{_-_}
 use native.Mathlib.Omega.{arith}
 use mir.Syntax.{w64}
 use mir.Val.{toZ}
 use mir.Facts.{toZ-ofZ}
 use Rattle.table.specs.Fields.{mostLevels}
-use Rattle.query.specs.Readings.{childOf}
 use Rattle.query.specs.Descent.{Ongoing, ongoing-start, ongoing-step, ongoing-leaf, ongoing-off, ongoing-limit}
 use borrow.Author.Needs.{needs}
 use Rattle.query.proofs.descend.Statement.{statement}
 use Rattle.query.proofs.descend.Tie as tie
 
 abbrev Inv-loop : tie.InvT-loop
-Inv-loop part root load c x₀ probes₀ x probes = Ongoing part root (toZ w64 load) x probes
+Inv-loop part root load c x₀ second₀ probes₀ x second probes = Ongoing part root (toZ w64 load) x second probes
 
 abbrev μ-loop : tie.MeasureT-loop
-μ-loop part root load c x₀ probes₀ x probes = mostLevels - probes
+μ-loop part root load c x₀ second₀ probes₀ x second probes = mostLevels - probes
 
 capacity-requires : tie.Need-capacity-requires Inv-loop μ-loop
 capacity-requires c κs = search needs
@@ -28,7 +26,7 @@ returns : tie.Need-returns Inv-loop μ-loop
 returns c =
     let at-loop = c .before .before in
     let entry = at-loop .before .before in
-    simp (toZ-ofZ, entry .fits .load) at (ongoing-limit (at-loop .loop .inv) (c .before .loop-test .taken) (c .if1 .taken) 0 (at-loop .loop .probes))
+    simp (toZ-ofZ, entry .fits .load) at (ongoing-limit (at-loop .loop .inv) (c .before .loop-test .taken) (c .if1 .taken) 0 0 (at-loop .loop .probes))
 
 toward-requires : tie.Need-toward-requires Inv-loop μ-loop
 toward-requires c κs = c .before .before .before .capacity .ensures
@@ -46,8 +44,11 @@ returns-2 c =
     let at-loop = at-loop-test .before in
     let entry = at-loop .before .before in
     simp (toZ-ofZ, entry .fits .load) at
-    (ongoing-off (at-loop .loop .inv) (at-loop-test .loop-test .taken) (sym (ap childOf (c .enum-told .given .1)) ∙ at-toward .toward .ensures) 0
+    (ongoing-off (at-loop .loop .inv) (at-loop-test .loop-test .taken) (rw (c .enum-told .given .1) at (at-toward .toward .ensures)) 0 0
     (at-loop .loop .probes))
+
+latest-requires : tie.Need-latest-requires Inv-loop μ-loop
+latest-requires c κs = search needs
 
 add-probes : tie.Need-add-probes Inv-loop μ-loop
 add-probes c = omega arith
@@ -57,16 +58,24 @@ loop-less c = omega arith
 
 loop-again : tie.Need-loop-again Inv-loop μ-loop
 loop-again c =
-    let at-toward = c .before .before .before in
+    let at-step = c .before .before in
+    let at-toward = at-step .before .before in
     let at-loop-test = at-toward .before .before in
     let at-loop = at-loop-test .before in
-    ongoing-step (at-loop .loop .inv) (at-loop-test .loop-test .taken) (sym (ap childOf (c .before .step .given .1)) ∙ at-toward .toward .ensures)
+    rw (c .latest .ensures)
+    (ongoing-step (at-loop .loop .inv) (at-loop-test .loop-test .taken) (rw (at-step .step .given .1) at (at-toward .toward .ensures)))
 
-cast-t10 : tie.Need-cast-t10 Inv-loop μ-loop
-cast-t10 c = omega arith
+cast-slot : tie.Need-cast-slot Inv-loop μ-loop
+cast-slot c = omega arith
+
+latest-requires-2 : tie.Need-latest-requires-2 Inv-loop μ-loop
+latest-requires-2 c κs = search needs
 
 returns-3 : tie.Need-returns-3 Inv-loop μ-loop
-returns-3 c = simp (toZ-ofZ, c .before .before .before .fits .load) at (ongoing-leaf (c .before .loop .inv) (c .loop-test .left))
+returns-3 c =
+    let at-loop = c .before .before in
+    let entry = at-loop .before .before in
+    rw (c .latest2 .ensures) (simp (toZ-ofZ, entry .fits .load) at (ongoing-leaf (at-loop .loop .inv) (c .before .loop-test .left)))
 
 pub descend-spec : {M : Type 1} → statement M
 descend-spec =
@@ -81,8 +90,10 @@ descend-spec =
     enum-known-step
     enum-told
     returns-2
+    latest-requires
     add-probes
     loop-less
     loop-again
-    cast-t10
+    cast-slot
+    latest-requires-2
     returns-3)

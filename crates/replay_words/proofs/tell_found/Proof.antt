@@ -37,7 +37,8 @@ returns c =
     let f0 : SFits w64 (v .0) = record { sfits = k .0 .1 } in
     let f1 : SFits w64 (v .1 .0) = record { sfits = k .1 .0 .1 } in
     let f2 : SFits w64 (v .1 .1 .0) = record { sfits = k .1 .1 .0 .1 } in
-    simp (toZ-ofZ, f0, f1, f2) at (at-put-five .put-five .ensures) ∙ ap (λ (u : Found). foundWords u ++ drop 5 (entry .args .out .now))
+    let f3 : SFits w64 (v .1 .1 .1 .0) = record { sfits = k .1 .1 .1 .0 .1 } in
+    simp (toZ-ofZ, f0, f1, f2, f3) at (at-put-five .put-five .ensures) ∙ ap (λ (u : Found). foundWords u ++ drop 5 (entry .args .out .now))
     (sym (at-told .told .given .1))
 
 same-length-2 : tie.Need-same-length-2

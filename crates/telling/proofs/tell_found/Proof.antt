@@ -3,8 +3,10 @@ use mathlib.Core.Path.{refl}
 use mir.Syntax.{w64}
 use mir.Val.{SFits}
 use mir.Facts.{toZ-ofZ}
+use native.Mathlib.Omega.{arith}
+use lib.ListN.{length-set}
 use Rattle.answers.specs.Promises.{foundNumber, foundOf}
-use Rattle.answers.specs.Answers.{tells, two}
+use Rattle.answers.specs.Answers.{tells, three}
 use borrow.Author.Needs.{needs}
 use Rattle.telling.proofs.tell_found.Statement.{statement}
 use Rattle.telling.proofs.tell_found.Tie as tie
@@ -14,6 +16,9 @@ enum-known-f c = search needs
 
 slice-set-from-price : tie.Need-slice-set-from-price
 slice-set-from-price c = search needs
+
+slice-set-from-second : tie.Need-slice-set-from-second
+slice-set-from-second c = simp length-set (omega (arith, c .before .before .before .pre))
 
 slice-set-from-probes : tie.Need-slice-set-from-probes
 slice-set-from-probes c = search needs
@@ -31,9 +36,10 @@ returns : tie.Need-returns
 returns c =
     let n : SFits w64 (c .before .f .given .0 .0) = record { sfits = c .known-told .given .0 .1 } in
     let p : SFits w64 (c .before .f .given .0 .1 .0) = record { sfits = c .known-told .given .1 .0 .1 } in
-    let d : SFits w64 (c .before .f .given .0 .1 .1 .0) = record { sfits = c .known-told .given .1 .1 .0 .1 } in
-    simp (toZ-ofZ, n, p, d)
-    (tells foundNumber foundOf (c .before .f .given .1) refl (two (c .before .before .before .args .found .now) _ _ (c .before .before .before .pre)))
+    let m : SFits w64 (c .before .f .given .0 .1 .1 .0) = record { sfits = c .known-told .given .1 .1 .0 .1 } in
+    let d : SFits w64 (c .before .f .given .0 .1 .1 .1 .0) = record { sfits = c .known-told .given .1 .1 .1 .0 .1 } in
+    simp (toZ-ofZ, n, p, m, d)
+    (tells foundNumber foundOf (c .before .f .given .1) refl (three (c .before .before .before .args .found .now) _ _ _ (c .before .before .before .pre)))
 
 returns-2 : tie.Need-returns-2
 returns-2 c =
@@ -47,6 +53,7 @@ tell-found-spec =
     (tie.spec
     enum-known-f
     slice-set-from-price
+    slice-set-from-second
     slice-set-from-probes
     enum-known-f-2
     below-zero-requires

@@ -5,10 +5,10 @@ use Rattle.scan_test.proofs.slots.cheapest.Statement.{statement}
 use Rattle.scan_test.proofs.slots.cheapest.Tie as tie
 
 abbrev Inv-loop : tie.InvT-loop
-Inv-loop os load best₀ i₀ best i = i ≤ 64
+Inv-loop os load higher best₀ i₀ best i = i ≤ 64
 
 abbrev μ-loop : tie.MeasureT-loop
-μ-loop os load best₀ i₀ best i = 64 - i
+μ-loop os load higher best₀ i₀ best i = 64 - i
 
 loop-holds : tie.Need-loop-holds Inv-loop μ-loop
 loop-holds c = search needs
