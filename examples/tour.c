@@ -23,7 +23,7 @@ int main(void) {
     answer = carrier_post(table, WORDS, 0, 3, 100001, 0, counts, CARRIER_COUNTS_WORDS);
     printf("the rate is %s\n", answer == CARRIER_RATE_RANGE ? "out of range" : "in range");
     answer = carrier_query(table, WORDS, 0, 5, found, CARRIER_FOUND_WORDS);
-    printf("offer %d at %d cents\n", (int)answer, (int)found[0]);
+    printf("offer %d at %d cents, and offer %d\n", (int)answer, (int)found[0], (int)found[1]);
     place = carrier_begin(table, WORDS, 0);
     while (place > 0) {
         place = carrier_piece(table, WORDS, 0, place, piece, CARRIER_PIECE_WORDS);

@@ -35,7 +35,7 @@ extern "C" {
 /* How many words an array has to have: `counts` of a post or a withdrawal, `found` of a query, `out` of a listing a piece, `met` of a
  * meeting, `mark` of a chart mark, `units` of a voucher, `piece` of a reading. Longer ones keep their later words. */
 #define CARRIER_COUNTS_WORDS 3
-#define CARRIER_FOUND_WORDS 2
+#define CARRIER_FOUND_WORDS 3
 #define CARRIER_PIECE_WORDS 3
 #define CARRIER_MET_WORDS 4
 #define CARRIER_MARK_WORDS 2
@@ -70,8 +70,9 @@ int64_t carrier_post(int64_t *table, size_t words, size_t start, int64_t number,
 /* Withdraws the live offer with that number. Returns the live count after it, and counts as carrier_post does. */
 int64_t carrier_withdraw(int64_t *table, size_t words, size_t start, int64_t number, int64_t *counts, size_t counts_words);
 
-/* Returns the number of the cheapest live offer at a load; of several, the one with the highest rate. Writes its price to found[0],
- * and to found[1] the probes: how deep its piece lies in the tree of pieces. */
+/* Returns the number of the cheapest live offer at a load; of several, the one with the lowest rate. Writes its price to found[0],
+ * to found[1] the number of the second offer: the one with the highest rate at that price, the same where there is only one; and to
+ * found[2] the probes: how deep the first one's piece lies in the tree of pieces. */
 int64_t carrier_query(const int64_t *table, size_t words, size_t start, int64_t load, int64_t *found, size_t found_words);
 
 /* Lists the offers that are strictly cheaper than every other one at some rational load, by falling rate. Returns their count.

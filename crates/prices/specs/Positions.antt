@@ -38,7 +38,13 @@ module _ (y z : ℤ) where
   pub is-on : ltZ y z ≡ false → ltZ z y ≡ false → On ≡ positionOf y z
   is-on d e = rw (d, e)
 
--- on or above is what the three cases of a meeting ask
+-- on it a query has its tie
+abbrev pub isApart : Position → Bool
+isApart Below = true
+isApart On = false
+isApart Above = true
+
+-- what the three cases of a meeting ask, and where a query goes on to the right
 abbrev pub onOrAbove : Position → Bool
 onOrAbove Below = false
 onOrAbove On = true

@@ -2,7 +2,7 @@
 ghost use mathlib.Core.Path.{_≡_};
 ghost use lib.Signed.{leZ};
 ghost use Rattle.table.specs.Layout.{cap};
-ghost use Rattle.prices.specs.Positions.{positionOf};
+ghost use Rattle.prices.specs.Positions.{positionOf, isApart};
 ghost use Rattle.prices.specs.Prices.{rateAt, baseAt, numeratorAt, denominatorAt, crossingPriceAt, Priced, priceIn, keptIn, aboveAt};
 
 pub fn rate_in(part: &[i64], c: u32, slot: u32) -> i64
@@ -70,8 +70,20 @@ pub fn compare(point: i64, line: i64) -> Position
     Position::On
 }
 
-// On or above: what the three cases of a meeting ask.
-fn on_or_above(point: i64, line: i64) -> bool
+// Not on it: on it a query has its tie. This reading and the next give a test, and not three ways: where the outcome only selects a value, no branch comes
+// of it.
+pub fn apart(point: i64, line: i64) -> bool
+    ensures { λ r. ⌜ r ≡ isApart (positionOf point line) ⌝ }
+{
+    match compare(point, line) {
+        Position::Below => true,
+        Position::On => false,
+        Position::Above => true,
+    }
+}
+
+// On it or above: what the three cases of a meeting ask, and where a query goes on to the right.
+pub fn on_or_above(point: i64, line: i64) -> bool
     ensures { λ r. ⌜ r ≡ leZ line point ⌝ }
 {
     match compare(point, line) {

@@ -16,8 +16,7 @@ use Rattle.table.specs.Words.{Words}
 use Rattle.table.specs.Layout.{cell, linkAt}
 use Rattle.table.specs.Rep.{bit, childField}
 use Rattle.prices.specs.declared.Position.{Position}
-use Rattle.prices.specs.declared.Position.the-variants.{Below, On, Above}
-use Rattle.prices.specs.Positions.{positionOf, onOrAbove}
+use Rattle.prices.specs.Positions.{positionOf, isApart, onOrAbove}
 use Rattle.query.specs.declared.Turn.{Turn}
 use Rattle.query.specs.declared.Step.{Step}
 use Rattle.query.specs.declared.Step.the-variants.{To, Off}
@@ -50,9 +49,7 @@ crossingAgainst q n d = positionOf (clamped 1_000_000 q *ℤ clamped 200_000 d) 
 
 -- what is kept in mind there: the slot that keeps the crossing, where the load is at it, and 0 for none
 abbrev pub keptAt : Position → ℕ → ℕ
-keptAt Below s = 0
-keptAt On s = s
-keptAt Above s = 0
+keptAt p s = cond (isApart p) 0 s
 
 -- the way on from the crossing n / d that slot s keeps; as a number, left is 0 and right is 1
 pub record Turns (q n d : ℤ) (s : ℕ) (t : Turn) : Type 0 where

@@ -3,10 +3,10 @@ ghost use mathlib.Core.Path.{_≡_};
 ghost use mathlib.Core.Bool.{not};
 ghost use Rattle.offers.specs.Offers.{between};
 ghost use Rattle.table.specs.Layout.{cap};
-ghost use Rattle.query.specs.Readings.{Turns, Steps, latestOf, priceIn};
+ghost use Rattle.table.specs.Rep.{bit};
+ghost use Rattle.prices.specs.Positions.{positionOf, onOrAbove};
+ghost use Rattle.query.specs.Readings.{keptAt, Turns, Steps, latestOf, priceIn};
 ghost use Rattle.query.specs.Descent.{Descended};
-use prices::Position;
-
 // The highest number of a leaf, and of a node, in the widths that a descent counts in.
 const LEAVES: usize = table::MOST_SLOTS as usize;
 
@@ -25,19 +25,33 @@ struct Turn {
     kept: u32,
 }
 
+fn side_of(point: i64, line: i64) -> usize
+    ensures { λ r. ⌜ r ≡ bit (onOrAbove (positionOf point line)) ⌝ }
+{
+    if prices::on_or_above(point, line) {
+        return 1;
+    }
+    0
+}
+
+fn kept_at(point: i64, line: i64, slot: u32) -> u32
+    ensures { λ r. ⌜ r ≡ keptAt (positionOf point line) slot ⌝ }
+{
+    if prices::apart(point, line) {
+        return 0;
+    }
+    slot
+}
+
 // The way on from the crossing n / d that `slot` keeps: where the piece on its left, at the load, lies against the next one. Both prices are taken less
 // the left one's base and the next one's rate times the load.
 fn turn_at(load: i64, n: i64, d: i64, slot: u32) -> Turn
     ensures { λ r. ⌜ Turns load n d slot r ⌝ }
 {
     let point = table::bounded(-1_000_000, 1_000_000, load) * table::bounded(-200_000, 200_000, d);
-    match prices::compare(point, n) {
-        Position::Below => Turn { side: 0, kept: 0 },
-        Position::On => Turn {
-            side: 1,
-            kept: slot,
-        },
-        Position::Above => Turn { side: 1, kept: 0 },
+    Turn {
+        side: side_of(point, n),
+        kept: kept_at(point, n, slot),
     }
 }
 

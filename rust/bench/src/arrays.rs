@@ -15,14 +15,20 @@ pub struct Piece {
     pub denominator: i64,
 }
 
-/// The number and the price of the cheapest at a load, by a scan of offers sorted by falling rate.
+/// What a query tells: of the offers at the least price the number of the one with the lowest rate, the price, and the number of the
+/// one with the highest.
+pub type Answer = (i64, i64, i64);
+
+/// By a scan of offers sorted by falling rate.
 #[inline(never)]
-pub fn scan(offers: &[Offer], load: i64) -> (i64, i64) {
-    let mut best = (0, i64::MAX);
+pub fn scan(offers: &[Offer], load: i64) -> Answer {
+    let mut best = (0, i64::MAX, 0);
     for o in offers {
         let price = o.base + o.rate * load;
         if price < best.1 {
-            best = (o.number, price);
+            best = (o.number, price, o.number);
+        } else if price == best.1 {
+            best.0 = o.number;
         }
     }
     best
@@ -88,10 +94,13 @@ pub fn pieces(envelope: &[Offer]) -> Vec<Piece> {
     (0..envelope.len()).map(crossing).collect()
 }
 
-/// The number and the price of the cheapest at a load, by binary search in the sorted array of breakpoints.
+/// By binary search in the sorted array of breakpoints.
 #[inline(never)]
-pub fn search(pieces: &[Piece], load: i64) -> (i64, i64) {
+pub fn search(pieces: &[Piece], load: i64) -> Answer {
     let inner = &pieces[..pieces.len() - 1];
-    let o = pieces[inner.partition_point(|p| load * p.denominator > p.numerator)].offer;
-    (o.number, o.base + o.rate * load)
+    let i = inner.partition_point(|p| load * p.denominator >= p.numerator);
+    let o = pieces[i].offer;
+    let tied = i > 0 && load * inner[i - 1].denominator == inner[i - 1].numerator;
+    let second = if tied { pieces[i - 1].offer } else { o };
+    (o.number, o.base + o.rate * load, second.number)
 }

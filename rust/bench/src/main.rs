@@ -150,7 +150,7 @@ fn queries(n: usize) -> Case {
     let run = move || {
         let mut sums = [0i64; 3];
         let times = [
-            timed(QUERIES, || sums[0] = sum(&loads, |q| book.query(q).map(|f| (f.number, f.price)).unwrap())),
+            timed(QUERIES, || sums[0] = sum(&loads, |q| book.query(q).map(|f| (f.number, f.price, f.second)).unwrap())),
             timed(QUERIES, || sums[1] = sum(&loads, |q| arrays::scan(&offers, q))),
             timed(QUERIES, || sums[2] = sum(&loads, |q| arrays::search(&pieces, q))),
         ];
@@ -161,10 +161,10 @@ fn queries(n: usize) -> Case {
 }
 
 /// one word of all answers, which differs where they do
-fn sum(loads: &[i64], answer: impl Fn(i64) -> (i64, i64)) -> i64 {
+fn sum(loads: &[i64], answer: impl Fn(i64) -> arrays::Answer) -> i64 {
     loads.iter().fold(0, |sum, load| {
-        let (number, price) = answer(*load);
-        sum.wrapping_mul(31) ^ number ^ price
+        let (number, price, second) = answer(*load);
+        sum.wrapping_mul(31) ^ number ^ price ^ (second << 32)
     })
 }
 

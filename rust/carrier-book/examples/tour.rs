@@ -6,7 +6,7 @@ fn main() -> Result<(), Declined> {
     book.post(2, 1, 10)?;
     println!("{}", book.post(3, 100_001, 0).unwrap_err());
     let found = book.query(5)?;
-    println!("offer {} at {} cents", found.number, found.price);
+    println!("offer {} at {} cents, and offer {}", found.number, found.price, found.second);
     for piece in book.pieces() {
         println!("offer {} up to {}/{}", piece.number, piece.numerator, piece.denominator);
     }

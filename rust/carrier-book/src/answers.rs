@@ -22,22 +22,28 @@ pub struct Update {
     pub heights: i64,
 }
 
-/// What a query names.
+/// What a query names. Of several offers at the least price the one with the lowest rate is named first, and the one with the highest as
+/// the second; where there is only one, both are that one.
 ///
 /// ```
 /// use carrier_book::Found;
 /// let mut book = carrier_book::Book::new(64)?;
 /// book.post(1, 3, 0)?;
-/// assert_eq!(book.query(-2)?, Found { number: 1, price: -6, probes: 0 });
+/// assert_eq!(book.query(-2)?, Found { number: 1, price: -6, second: 1, probes: 0 });
+/// // 3 × 5 + 0 = 1 × 5 + 10
+/// book.post(2, 1, 10)?;
+/// assert_eq!(book.query(5)?, Found { number: 2, price: 15, second: 1, probes: 1 });
 /// # Ok::<(), carrier_book::Declined>(())
 /// ```
 #[derive(Clone, Copy, Debug, PartialEq, Eq)]
 pub struct Found {
-    /// the offer's number
+    /// the number of the offer named first
     pub number: i64,
     /// the least price
     pub price: i64,
-    /// how deep the offer's piece lies in the tree of pieces
+    /// the number of the second offer
+    pub second: i64,
+    /// how deep the first-named offer's piece lies in the tree of pieces
     pub probes: i64,
 }
 

@@ -102,7 +102,7 @@ impl Book {
         lent::withdraw(&mut self.table, 0, number)
     }
 
-    /// The cheapest live offer at a load; of several, the one with the highest rate.
+    /// The cheapest live offer at a load; of several, the one with the lowest rate, and as the second the one with the highest.
     ///
     /// ```
     /// use carrier_book::{Book, Declined};

@@ -76,7 +76,7 @@ pub fn withdraw(table: &mut [i64], start: usize, number: i64) -> Result<Update, 
     update(|counts, n| unsafe { raw::carrier_withdraw(words, length, start, number, counts, n) })
 }
 
-/// The cheapest live offer at a load; of several, the one with the highest rate.
+/// The cheapest live offer at a load; of several, the one with the lowest rate, and as the second the one with the highest.
 ///
 /// ```
 /// use carrier_book::{lent, words};
@@ -88,12 +88,12 @@ pub fn withdraw(table: &mut [i64], start: usize, number: i64) -> Result<Update, 
 /// ```
 #[inline]
 pub fn query(table: &[i64], start: usize, load: i64) -> Result<Found, Declined> {
-    let mut found = [0i64; 2];
+    let mut found = [0i64; 3];
     // SAFETY: each pointer and length are those of one slice; only `found` is written.
     let answer = unsafe { raw::carrier_query(table.as_ptr(), table.len(), start, load, found.as_mut_ptr(), found.len()) };
     let number = told(answer)?;
-    let [price, probes] = found;
-    Ok(Found { number, price, probes })
+    let [price, second, probes] = found;
+    Ok(Found { number, price, second, probes })
 }
 
 /// Writes the pieces into `out`, three words each as in [`Piece`](crate::Piece), and returns their count. Later words stay.

@@ -8,7 +8,7 @@
 //! ```
 //! use carrier_book::raw::*;
 //! let mut table = [0i64; 64 * 3];
-//! let (mut counts, mut found, mut met, mut mark, mut units) = ([0; 3], [0; 2], [0; 4], [0.0; 2], [0]);
+//! let (mut counts, mut found, mut met, mut mark, mut units) = ([0; 3], [0; 3], [0; 4], [0.0; 2], [0]);
 //! let (mut out, mut piece) = ([0; 6], [0; 3]);
 //! let (words, start) = (table.len(), 0);
 //! // SAFETY: each pointer and its length are those of one array, and no two arrays of a call overlap but two that are only read.
@@ -17,8 +17,8 @@
 //!     assert_eq!(carrier_post(table.as_mut_ptr(), words, start, 1, 3, 0, counts.as_mut_ptr(), 3), 1);
 //!     assert_eq!(carrier_post(table.as_mut_ptr(), words, start, 2, 1, 10, counts.as_mut_ptr(), 3), 2);
 //!     assert_eq!(counts, [1, 1, 0]);
-//!     assert_eq!(carrier_query(table.as_ptr(), words, start, 6, found.as_mut_ptr(), 2), 2);
-//!     assert_eq!(found, [16, 1]);
+//!     assert_eq!(carrier_query(table.as_ptr(), words, start, 6, found.as_mut_ptr(), 3), 2);
+//!     assert_eq!(found, [16, 2, 1]);
 //!     assert_eq!(carrier_listing(table.as_ptr(), words, start, out.as_mut_ptr(), 6), 2);
 //!     assert_eq!(out, [1, 10, 2, 2, 0, 0]);
 //!     assert_eq!(carrier_mark(table.as_ptr(), words, start, 1, mark.as_mut_ptr(), 2), 1);
@@ -58,7 +58,7 @@ extern "C" {
         counts: *mut i64,
         counts_words: usize,
     ) -> i64;
-    /// The cheapest offer at a load: see [`lent::query`](crate::lent::query).
+    /// The cheapest offer at a load, and the second one: see [`lent::query`](crate::lent::query).
     pub fn carrier_query(table: *const i64, words: usize, start: usize, load: i64, found: *mut i64, found_words: usize) -> i64;
     /// Writes the pieces: see [`lent::listing`](crate::lent::listing).
     pub fn carrier_listing(table: *const i64, words: usize, start: usize, out: *mut i64, out_words: usize) -> i64;

@@ -13,25 +13,27 @@ fn pieces(book: &Book) -> Vec<(i64, i64, i64)> {
     book.listing().iter().map(|p: &Piece| (p.number, p.numerator, p.denominator)).collect()
 }
 
-fn asked(book: &Book, load: i64) -> (i64, i64) {
+fn asked(book: &Book, load: i64) -> (i64, i64, i64) {
     let found = book.query(load).unwrap();
-    (found.number, found.price)
+    (found.number, found.price, found.second)
 }
 
 #[test]
 fn prices_to_prove() {
     let b = book(&[(3, 0), (1, 10), (0, 40)]);
     assert_eq!(pieces(&b), [(1, 10, 2), (2, 30, 1), (3, 0, 0)]);
-    assert_eq!([5, 6, 30, 31].map(|q| asked(&b, q)), [(1, 15), (2, 16), (2, 40), (3, 40)]);
+    assert_eq!([5, 6, 30, 31].map(|q| asked(&b, q)), [(2, 15, 1), (2, 16, 2), (3, 40, 2), (3, 40, 3)]);
     let mut b = book(&[(2, 0), (1, 5), (0, 10)]);
     assert_eq!(pieces(&b), [(1, 10, 2), (3, 0, 0)]);
+    // all three cost 10 there: the one between is no piece
+    assert_eq!(asked(&b, 5), (3, 10, 1));
     b.withdraw(3).unwrap();
     assert_eq!(pieces(&b), [(1, 5, 1), (2, 0, 0)]);
     let mut b = book(&[(2, 0), (1, 11), (0, 10)]);
     b.withdraw(1).unwrap();
     assert_eq!(pieces(&b), [(2, -1, 1), (3, 0, 0)]);
     let b = book(&[(0, 0), (-3, 7)]);
-    assert_eq!([2, 3].map(|q| asked(&b, q)), [(1, 0), (2, -2)]);
+    assert_eq!([2, 3].map(|q| asked(&b, q)), [(1, 0, 1), (2, -2, 2)]);
 }
 
 #[test]
@@ -81,8 +83,9 @@ fn the_ends_of_the_ranges() {
     for (number, rate, base) in ends {
         b.post(number, rate, base).unwrap();
     }
-    assert_eq!(asked(&b, -1_000_000), (1, -101_000_000_000));
-    assert_eq!(asked(&b, 1_000_000), (3, -100_999_000_000));
+    assert_eq!(asked(&b, -1_000_000), (1, -101_000_000_000, 1));
+    assert_eq!(asked(&b, 1_000_000), (3, -100_999_000_000, 3));
+    assert_eq!(asked(&b, 0), (3, -1_000_000_000, 1));
     assert_eq!(pieces(&b), [(1, 0, 199_999), (3, 2_000_000_000, 1), (9_999, 0, 0)]);
 }
 
@@ -100,10 +103,8 @@ fn arrays_too_short() {
             assert_eq!(raw::carrier_post(t, n, 0, 2, 2, 2, f, length), -100);
             assert_eq!(raw::carrier_post(t, n, n + 1, 0, 0, 0, f, length), -100);
             assert_eq!(raw::carrier_withdraw(t, n, 0, 1, f, length), -100);
-            if length < 2 {
-                assert_eq!(raw::carrier_query(t, n, 0, 0, f, length), -100);
-                assert_eq!(raw::carrier_query(t, n, n + 1, i64::MAX, f, length), -100);
-            }
+            assert_eq!(raw::carrier_query(t, n, 0, 0, f, length), -100);
+            assert_eq!(raw::carrier_query(t, n, n + 1, i64::MAX, f, length), -100);
         }
     }
     assert!(table == before && few == [7; 3]);
@@ -126,7 +127,7 @@ fn refusals_leave_counts_and_later_words_stay() {
         // two single lines meet in one step
         assert_eq!(room, [1, 1, 0, 7, 7]);
         assert_eq!(raw::carrier_query(t, n, 0, 6, f, 5), 2);
-        assert_eq!(room, [16, 1, 0, 7, 7]);
+        assert_eq!(room, [16, 2, 1, 7, 7]);
     }
 }
 
@@ -135,8 +136,8 @@ fn a_book_is_its_words() {
     let mut b = book(&[(3, 0), (1, 10), (0, 40)]);
     let copy = b.clone();
     b.withdraw(2).unwrap();
-    assert_eq!(asked(&copy, 6), (2, 16));
-    assert_eq!(asked(&b, 6), (1, 18));
+    assert_eq!(asked(&copy, 6), (2, 16, 2));
+    assert_eq!(asked(&b, 6), (1, 18, 1));
     let again = Book::from_words(b.as_words().to_vec()).unwrap();
     assert_eq!(pieces(&again), pieces(&b));
     assert_eq!(pieces(&Book::try_from(b.as_words().to_vec()).unwrap()), pieces(&b));

@@ -61,7 +61,7 @@ impl Pair {
 
     fn query(&self, load: i64) -> Option<i64> {
         let told = lent::query(&self.table, self.start, load);
-        assert_eq!(told.map(|f| (f.number, f.price)).map_err(Declined::number), self.scan.query(load), "load {load}");
+        assert_eq!(told.map(|f| (f.number, f.price, f.second)).map_err(Declined::number), self.scan.query(load), "load {load}");
         let found = told.ok()?;
         assert!((0..=2 * log2_up(self.scan.offers.len())).contains(&found.probes));
         Some(found.number)

@@ -32,11 +32,12 @@ static int64_t withdraw(int64_t number) {
     return carrier_withdraw(table, WORDS, START, number, counts, CARRIER_COUNTS_WORDS);
 }
 
-/* the offer named, and its price */
-static int64_t query(int64_t load, int64_t *price) {
-    int64_t found[CARRIER_FOUND_WORDS] = {0, 0};
+/* the offer named first, its price, and the second offer */
+static int64_t query(int64_t load, int64_t *price, int64_t *other) {
+    int64_t found[CARRIER_FOUND_WORDS] = {0, 0, 0};
     int64_t number = carrier_query(table, WORDS, START, load, found, CARRIER_FOUND_WORDS);
     *price = found[0];
+    *other = found[1];
     return number;
 }
 
@@ -116,25 +117,25 @@ static void refusals(void) {
     EXPECT(withdraw(9) == CARRIER_NOT_LIVE);
     EXPECT(carrier_listing(table, WORDS, START, few, 3) == CARRIER_OUTPUT_TOO_SHORT);
     EXPECT(carrier_post(table, WORDS, START, 9, 9, 9, few, 2) == CARRIER_ARRAY_TOO_SHORT);
-    EXPECT(carrier_query(table, WORDS, START, 0, few, 1) == CARRIER_ARRAY_TOO_SHORT);
+    EXPECT(carrier_query(table, WORDS, START, 0, few, 2) == CARRIER_ARRAY_TOO_SHORT);
     EXPECT(few[0] == 0 && few[1] == 0 && few[2] == 0);
 }
 
 int main(void) {
     static const int64_t pieces[9] = {1, 10, 2, 2, 30, 1, 3, 0, 0};
     int64_t out[CARRIER_PIECE_WORDS * CAPACITY];
-    int64_t price;
+    int64_t price, other;
     size_t i;
     for (i = 0; i < WORDS; i++) {
         table[i] = -77;
     }
     EXPECT(carrier_open(table, WORDS, START, CAPACITY) == 0);
-    EXPECT(query(5, &price) == CARRIER_EMPTY);
+    EXPECT(query(5, &price, &other) == CARRIER_EMPTY);
     EXPECT(post(1, 3, 0) == 1);
     EXPECT(post(2, 1, 10) == 2);
     EXPECT(post(3, 0, 40) == 3);
-    EXPECT(query(5, &price) == 1 && price == 15);
-    EXPECT(query(31, &price) == 3 && price == 40);
+    EXPECT(query(5, &price, &other) == 2 && price == 15 && other == 1);
+    EXPECT(query(31, &price, &other) == 3 && price == 40 && other == 3);
     EXPECT(carrier_listing(table, WORDS, START, out, 9) == 3);
     EXPECT(memcmp(out, pieces, sizeof pieces) == 0);
     reading(pieces, 3);
@@ -143,7 +144,7 @@ int main(void) {
     vouchers();
     refusals();
     EXPECT(withdraw(1) == 2);
-    EXPECT(query(5, &price) == 2 && price == 15);
+    EXPECT(query(5, &price, &other) == 2 && price == 15 && other == 2);
     EXPECT(carrier_check(table, WORDS, START) == 1);
     table[START + 3]++;
     EXPECT(carrier_check(table, WORDS, START) == 0);

@@ -87,22 +87,16 @@ impl Scan {
         Ok(self.offers.len() as i64)
     }
 
-    /// the number and the price of the cheapest, of several the one with the highest rate
-    pub fn query(&self, load: i64) -> Result<(i64, i64), i64> {
+    /// the least price, and of the offers that have it the numbers of the one with the lowest rate and of the one with the highest
+    pub fn query(&self, load: i64) -> Result<(i64, i64, i64), i64> {
         if load.unsigned_abs() > 1_000_000 {
             return Err(16);
         }
-        let mut best: Option<Offer> = None;
-        for o in &self.offers {
-            let better = match best {
-                None => true,
-                Some(b) => o.price(load) < b.price(load) || o.price(load) == b.price(load) && o.rate > b.rate,
-            };
-            if better {
-                best = Some(*o);
-            }
-        }
-        best.map(|b| (b.number, b.price(load))).ok_or(9)
+        let least = self.offers.iter().map(|o| o.price(load)).min().ok_or(9i64)?;
+        let tied = || self.offers.iter().filter(|o| o.price(load) == least);
+        let lowest = tied().min_by_key(|o| o.rate).ok_or(9i64)?;
+        let highest = tied().max_by_key(|o| o.rate).ok_or(9i64)?;
+        Ok((lowest.number, least, highest.number))
     }
 
     /// Whether an offer is strictly cheaper than every other at some rational load: it is so right of its greatest crossing with an
