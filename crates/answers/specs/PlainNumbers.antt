@@ -34,6 +34,7 @@ use Rattle.vouchers.specs.Span.{due, only-due}
 use Rattle.reading.specs.Promises.{pieceOf as handedOf, listedAt, rootPieces, PlaceOf, at-piece, past-last, Before}
 use Rattle.reading.specs.PartReading.{none-past, listed-is}
 use Rattle.answers.specs.Promises.{refusal, updateNumber, foundNumber, listedNumber, meetNumber, markNumber, placeNumber, metOf, pieceOf, over}
+use Rattle.answers.specs.Promises.{foundOf}
 use Rattle.answers.specs.Promises.{Updated, Queried, Listing, MetBooks, MarkAsked, Vouchered, Begun, Steps, Pieced, placeOf}
 
 -- an answer of the plain book as one number
@@ -54,6 +55,15 @@ found-number (Offer number price second probes) a d e = ap answerNumber e
 found-number (FoundDeclined (pos n)) a d e = ap answerNumber e
 found-number (FoundDeclined (negsuc n)) a d e = absurd (d (sym e))
 
+found-words : (f : Found) (number price second : ℤ) → foundAnswer f ≡ found number price second →
+    (probes : ℤ) × (foundOf f ≡ price ∷ second ∷ probes ∷ [])
+found-words (Offer m p o probes) number price second e =
+    let a : p ≡ price = cc in
+    let b : o ≡ second = cc in
+    (probes, λ i. a i ∷ b i ∷ probes ∷ [])
+found-words (FoundDeclined (pos m)) number price second e = let z : _≡_ {A = ℕ} 0 1 = cc in absurd (omega arith)
+found-words (FoundDeclined (negsuc m)) number price second e = let z : _≡_ {A = ℕ} 0 1 = cc in absurd (omega arith)
+
 listed-number : (l : Listed) (out : List ℤ) (a : Answer) → a ≢ refused 0 → listingAnswer l out ≡ a → listedNumber l ≡ answerNumber a
 listed-number (Pieces (pos n)) out a d e = ap answerNumber e
 listed-number (Pieces (negsuc n)) out a d e = absurd (d (sym e))
@@ -72,6 +82,15 @@ module _ {start : ℕ} {t : List ℤ} (plain : State) (held : Option (Held Item)
   queried-plainly {load} p h =
       let q = p .long h in
       q .2 .number ∙ found-number (q .0) _ (numbered plain (query load)) (q .1 .answers plain held book)
+
+  -- .. and the words: the price, the second offer's number and the probes, over the first three
+  pub queried-words :
+      {load number price second : ℤ} {out out′ : List ℤ} {r : ℤ} → Queried load start t out out′ r → 3 ≤ length out →
+      step plain (query load) .answer ≡ found number price second → (probes : ℤ) × (out′ ≡ price ∷ second ∷ probes ∷ drop 3 out)
+  queried-words {number = n} {price} {second} {out} p h e =
+      let q = p .long h in
+      let w = found-words (q .0) n price second (q .1 .answers plain held book ∙ e) in
+      (w .0, q .2 .words ∙ ap (λ (vs : List ℤ). over vs out) (w .1))
 
   pub listing-plainly : {out out′ : List ℤ} {r : ℤ} → Listing start t out out′ r → r ≡ answerNumber (step plain (listing (length out)) .answer)
   listing-plainly {out} {out′} p =

@@ -1,9 +1,23 @@
 // What is asked of a book in a lent table: a query and a listing.
+ghost use mathlib.Core.Path.{_≡_};
+ghost use Rattle.table.specs.Fields.{numberField};
+ghost use Rattle.table.specs.Layout.{cell};
 ghost use Rattle.promises.specs.Promises.{Queries, Lists};
 ghost use Rattle.asking.specs.Asking.{Asks};
 ghost use Rattle.asking.specs.Showing.{Shown};
 use promises::Found;
 use promises::Listed;
+
+// The number in slot `other`. Without a tie that is `slot`, whose number is known.
+fn beside(part: &[i64], slot: u32, number: i64, other: u32) -> i64
+    requires { ⌜ number ≡ cell (now part) numberField slot ⌝ }
+    ensures { λ r. ⌜ r ≡ cell (now (part .entry)) numberField other ⌝ }
+{
+    if other == slot {
+        return number;
+    }
+    query::number(part, other)
+}
 
 // The offers at the least price with the lowest and the highest rate, on the part's own words.
 fn ask(part: &[i64], load: i64) -> Found
@@ -17,9 +31,9 @@ fn ask(part: &[i64], load: i64) -> Found
     let slot = p.slot;
     let other = p.second;
     let probes = p.probes;
-    let number = table::get(part, table::NUMBER, slot);
+    let number = query::number(part, slot);
     let price = query::price(part, slot, load);
-    let second = table::get(part, table::NUMBER, other);
+    let second = beside(part, slot, number, other);
     Found::Offer {
         number: number,
         price: price,

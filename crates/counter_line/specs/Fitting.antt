@@ -15,7 +15,8 @@ use Rattle.offers.specs.Sizes.{number-of, rate-of, base-of, number-size, number
 use Rattle.plain.specs.Causes.{Cause, declined, causeNumber, capacityOutOfRange, tableTooShort, noBook, numberOutOfRange, rateOutOfRange}
 use Rattle.plain.specs.Causes.{baseOutOfRange, loadOutOfRange, priceOutOfRange, numberLive, rateLive, bookFull, numberNotLive, bookEmpty}
 use Rattle.plain.specs.Causes.{outputTooShort, unreadableLine, ratesNotApart, noSuchMark}
-use Rattle.plain.specs.Book.{State, Call, post, withdraw, query, listing, refused, live, lower, higher, cheapest, envelope, pieceWords, trials, respond, accepted, step}
+use Rattle.plain.specs.Book.{State, Call, post, withdraw, query, listing, refused, live, trials, respond, accepted, step}
+use Rattle.plain.specs.Book.{lower, higher, cheapest, envelope, pieceWords}
 use Rattle.plain.specs.Trials.{clear}
 use Rattle.plain.specs.Sound.{Sound, step-sound}
 use Rattle.plain.specs.QueryLaws.{lower-tie, higher-tie, cheapest-names}

@@ -74,7 +74,14 @@ sample =
     record {
       made = [];
       asked = post (pos 1) (pos 3) (pos 0) ∷ post (pos 2) (pos 1) (pos 10) ∷ query (pos 5) ∷ listing 192 ∷ withdraw (pos 1) ∷ query (pos 5) ∷ [];
-      told = live 1 ∷ live 2 ∷ found (pos 2) (pos 15) (pos 1) ∷ listed 2 (pos 1 ∷ pos 10 ∷ pos 2 ∷ pos 2 ∷ pos 0 ∷ pos 0 ∷ []) ∷ live 1 ∷ found (pos 2) (pos 15) (pos 2) ∷ [];
+      told =
+          live 1
+          ∷ live 2
+          ∷ found (pos 2) (pos 15) (pos 1)
+          ∷ listed 2 (pos 1 ∷ pos 10 ∷ pos 2 ∷ pos 2 ∷ pos 0 ∷ pos 0 ∷ [])
+          ∷ live 1
+          ∷ found (pos 2) (pos 15) (pos 2)
+          ∷ [];
     }
 
 pub sample-told : answered sample ≡ sample .told

@@ -17,7 +17,7 @@ pub mod LiveAfter
 pub mod Rules
 -- statement and lemmas: which entry of a call is out of range: the number that names it, and that a call is refused with such a number exactly then
 pub mod Entries
--- lemmas: a query's price is the least over all live offers, and the offer that it names has the highest rate among those at that price
+-- lemmas: a query's price is the least over all live offers; of those at that price it names the lowest rate first and the highest second
 pub mod QueryLaws
 -- lemmas: the listing names an offer exactly when at some rational load, of any size, it is strictly cheaper than every other live offer
 pub mod ListingLaws

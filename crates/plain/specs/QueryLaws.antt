@@ -97,7 +97,8 @@ pub record Names (tie : ℤ → ℤ → Bool) (q : ℤ) (os : List Offer) (o : O
 
 module _ {tie : ℤ → ℤ → Bool} (t : Tie tie) (q : ℤ) where
   -- one offer more, which does not go before another
-  more : {a b o : Offer} {os : List Offer} → NotFirst tie q b a → Names tie q (a ∷ os) o → (x : Offer) → (x ≡ a) ⊎ ((x ≡ b) ⊎ List·Memᴰ x os) → NotFirst tie q x o
+  more : {a b o : Offer} {os : List Offer} → NotFirst tie q b a → Names tie q (a ∷ os) o → (x : Offer) → (x ≡ a) ⊎ ((x ≡ b) ⊎ List·Memᴰ x os) →
+      NotFirst tie q x o
   more h n x (inl e) = n .none-first x (List·Memᴰ·head e)
   more {a} {b} {o} h n x (inr (inl e)) = subst (λ (y : Offer). NotFirst tie q y o) (sym e) (onward t q h (n .none-first a (List·Memᴰ·head refl)))
   more h n x (inr (inr m)) = n .none-first x (List·Memᴰ·tail m)
@@ -113,7 +114,8 @@ module _ {tie : ℤ → ℤ → Bool} (t : Tie tie) (q : ℤ) where
           Names tie q (o ∷ xs) (cheapest tie q o xs) → Names tie q (o ∷ x ∷ xs) (cheapest tie q (cond b x o) xs)
       go true yes-is no-is with-x with-o = record {
         live = List·Memᴰ·tail (with-x .live);
-        none-first = λ y m. more (yes-is tt) with-x y (⊎-elim (λ e. inr (inl e)) (λ n. ⊎-elim inl (λ k. inr (inr k)) (List·Memᴰ·cases-cons n)) (List·Memᴰ·cases-cons m));
+        none-first = λ y m. more (yes-is tt) with-x y
+            (⊎-elim (λ e. inr (inl e)) (λ n. ⊎-elim inl (λ k. inr (inr k)) (List·Memᴰ·cases-cons n)) (List·Memᴰ·cases-cons m));
       }
       go false yes-is no-is with-x with-o = record {
         live = ⊎-elim (λ e. List·Memᴰ·head e) (λ m. List·Memᴰ·tail (List·Memᴰ·tail m)) (List·Memᴰ·cases-cons (with-o .live));

@@ -10,8 +10,8 @@ use lib.IntN.{ℤ, pos}
 use Rattle.lists.specs.Bools.{twice}
 use Rattle.offers.specs.Offers.{Offer, loadInRange, priceAt, crossingNumerator, crossingDenominator}
 use Rattle.plain.specs.Causes.{Cause, causeNumber, Clear}
-use Rattle.plain.specs.Book.{holding, State, Outcome, Call, post, withdraw, query, listing, refused, live, found, listed, join, leave, lower, higher, cheapest}
-use Rattle.plain.specs.Book.{envelope, pieceWords, trials, step, respond, accepted}
+use Rattle.plain.specs.Book.{holding, State, Outcome, Call, post, withdraw, query, listing, refused, live, found, listed, join, leave}
+use Rattle.plain.specs.Book.{lower, higher, cheapest, envelope, pieceWords, trials, step, respond, accepted}
 use Rattle.plain.specs.Causes.{FirstOf}
 use Rattle.plain.specs.Trials.{declined-by, not-declined}
 use Rattle.plain.specs.Sound.{length-join}

@@ -1,4 +1,5 @@
-// What a comparison of two envelopes reads and computes, safe whatever the words are. `c` is a part's capacity, which is read once for a whole search.
+// What a comparison of two envelopes reads and computes, safe whatever the words are; and where a point lies against a line, for it and for a query.
+// `c` is a part's capacity, which is read once for a whole search.
 ghost use mathlib.Core.Path.{_≡_};
 ghost use lib.Signed.{leZ};
 ghost use Rattle.table.specs.Layout.{cap};

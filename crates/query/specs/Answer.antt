@@ -1,4 +1,4 @@
--- Of the items that a query reaches, the first-named is the last in order among the cheapest of all lines, and the second the first in order.
+-- Of the cheapest of all lines the item that a query names first is the last in order, and the second one the first.
 use mathlib.Core.Path.{_≡_, refl, sym, _∙_, ap, subst}
 use mathlib.Core.List.{List, List·Memᴰ}
 use mathlib.Core.Option.{Option, none, some}

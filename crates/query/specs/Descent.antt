@@ -9,15 +9,17 @@ use borrow.Author.Tests.{le-ltb}
 use lib.IntN.{ℤ}
 use Rattle.offers.specs.Offers.{loadInRange}
 use Rattle.trees.specs.Tree.{Tree, leaf, node, height, first, last}
+use Rattle.trees.specs.Leaves.{first-leaf}
 use Rattle.table.specs.Fields.{mostLevels, mostSlots}
 use Rattle.table.specs.Words.{Words}
+use Rattle.table.specs.Layout.{cap}
 use Rattle.table.specs.Items.{Item}
 use Rattle.table.specs.Nodes.{ref-low}
 use Rattle.prices.specs.declared.Position.{Position}
 use Rattle.prices.specs.declared.Position.the-variants.{Below as LiesBelow, On, Above}
 use Rattle.prices.specs.Positions.{onOrAbove}
 use Rattle.query.specs.Lookup.{Reached, against, deeper, keptOr, walk, lookup, walk-below, walk-on, walk-above}
-use Rattle.query.specs.Readings.{keptAt, towardAt, mindAt, latestOf}
+use Rattle.query.specs.Readings.{keptAt, towardAt, mindAt, keptElse}
 use Rattle.query.specs.QueriedPieces.{Pieces, Opened, opened, at-leaf}
 
 -- what a query on t finds
@@ -29,6 +31,13 @@ pub record Finds (q : ℤ) (t : Tree Item) (slot second probes : ℕ) : Type 0 w
 -- the promise: on words that hold a tree of pieces, at most mostLevels high, and with a load in range
 pub record Descended (w : Words) (root : ℕ) (q : ℤ) (slot second probes : ℕ) : Type 0 where
   pub finds : (t : Tree Item) → Pieces w root t → height t ≤ mostLevels → T (loadInRange q) → Finds q t slot second probes
+
+-- words of no capacity hold no tree
+pub no-slots : {w : Words} {c : ℕ} → c ≡ cap w → c < 1 → (root : ℕ) (q : ℤ) (slot other found : ℕ) → Descended w root q slot other found
+no-slots e h root q slot other found =
+    record {
+      finds = λ t p k r. absurd (omega (arith, e, h, p .rep .slots .low (first-leaf t), p .rep .slots .high (first-leaf t)));
+    }
 
 -- ---- on the way
 
@@ -82,19 +91,11 @@ step-to s kept b k h p m =
       high = omega (arith, b .high);
     }
 
-latest-none : (n : ℕ) → latestOf n 0 ≡ n
-unfolding latestOf
-latest-none n = refl
-
-latest-some : (n k : ℕ) → 1 ≤ k → latestOf n k ≡ k
-unfolding latestOf
-latest-some n k h = rw (le-ltb k 1 h)
-
 pub ongoing-step : {w : Words} {root x y kept second probes : ℕ} {q : ℤ} → Ongoing w root q x second probes → mostSlots < x →
-    (y ≡ towardAt w x q) × (kept ≡ mindAt w x q) → Ongoing w root q y (latestOf second kept) (probes + 1)
+    (y ≡ towardAt w x q) × (kept ≡ mindAt w x q second) → Ongoing w root q y kept (probes + 1)
 ongoing-step {w} {root} {x} {y} {kept} {second} {probes} {q} g d (e, k) = record { below = λ t p h. next t h (g .below t p h) }
   where
-    next : (t : Tree Item) → T (loadInRange q) → Below w q t x second probes → Below w q t y (latestOf second kept) (probes + 1)
+    next : (t : Tree Item) → T (loadInRange q) → Below w q t x second probes → Below w q t y kept (probes + 1)
     next t h b = go (against q (last (o .l) .offer) (first (o .r) .offer)) refl
       where
         o : Opened w x q (b .tree)
@@ -103,42 +104,40 @@ ongoing-step {w} {root} {x} {y} {kept} {second} {probes} {q} g d (e, k) = record
         shape : {z : Reached} → walk q (b .kept) (node (o .l) (o .r)) ≡ z → walk q (b .kept) (b .tree) ≡ z
         shape f = ap (walk q (b .kept)) (o .shape) ∙ f
 
-        -- nothing new is kept in mind
-        as-before : kept ≡ 0 → Mind (b .kept) (latestOf second kept)
-        as-before f = subst (Mind (b .kept)) (sym (ap (latestOf second) f ∙ latest-none second)) (b .mind)
+        told : {z : Position} → against q (last (o .l) .offer) (first (o .r) .offer) ≡ z → kept ≡ keptAt z (last (o .l) .slot) second
+        told c = k ∙ o .mind second ∙ ap (λ u. keptAt u (last (o .l) .slot) second) c
 
-        go : (z : Position) → against q (last (o .l) .offer) (first (o .r) .offer) ≡ z → Below w q t y (latestOf second kept) (probes + 1)
+        go : (z : Position) → against q (last (o .l) .offer) (first (o .r) .offer) ≡ z → Below w q t y kept (probes + 1)
         go LiesBelow c =
             step-to (o .l) (b .kept) b (shape (walk-below q (b .kept) (o .l) (o .r) c)) (omega (arith, ap height (o .shape)))
-            (subst (λ n. Pieces w n (o .l)) (sym e) (o .left (ap onOrAbove c))) (as-before (k ∙ o .mind ∙ ap (λ u. keptAt u (last (o .l) .slot)) c))
+            (subst (λ n. Pieces w n (o .l)) (sym e) (o .left (ap onOrAbove c))) (subst (Mind (b .kept)) (sym (told c)) (b .mind))
         go On c =
-            let m : kept ≡ last (o .l) .slot = k ∙ o .mind ∙ ap (λ u. keptAt u (last (o .l) .slot)) c in
             step-to (o .r) (some (last (o .l))) b (shape (walk-on q (b .kept) (o .l) (o .r) c)) (omega (arith, ap height (o .shape)))
-            (subst (λ n. Pieces w n (o .r)) (sym e) (o .right (ap onOrAbove c)))
-            (let i = latest-some second kept (omega (arith, m, o .low)) in item (i ∙ m) (omega (arith, i, m, o .low)))
+            (subst (λ n. Pieces w n (o .r)) (sym e) (o .right (ap onOrAbove c))) (item (told c) (omega (arith, told c, o .low)))
         go Above c =
             step-to (o .r) (b .kept) b (shape (walk-above q (b .kept) (o .l) (o .r) c)) (omega (arith, ap height (o .shape)))
-            (subst (λ n. Pieces w n (o .r)) (sym e) (o .right (ap onOrAbove c))) (as-before (k ∙ o .mind ∙ ap (λ u. keptAt u (last (o .l) .slot)) c))
+            (subst (λ n. Pieces w n (o .r)) (sym e) (o .right (ap onOrAbove c))) (subst (Mind (b .kept)) (sym (told c)) (b .mind))
 
 -- ---- at a leaf
 
 -- its slot is told where nothing is kept in mind
-kept-or : {kept : Option Item} {second : ℕ} (a : Item) → Mind kept second → latestOf (a .slot) second ≡ keptOr kept a .slot
-kept-or a nothing = latest-none (a .slot)
-kept-or a (item {n = n} e h) = latest-some (a .slot) n h ∙ e
+kept-or : {kept : Option Item} {second : ℕ} (a : Item) → Mind kept second → keptElse second (a .slot) ≡ keptOr kept a .slot
+unfolding keptElse
+kept-or a nothing = refl
+kept-or a (item {n = n} e h) = rw (le-ltb n 1 h) e
 
 at-end : {w : Words} {q : ℤ} {t : Tree Item} {x second probes : ℕ} (a : Item) (b : Below w q t x second probes) → b .tree ≡ leaf a → x ≡ a .slot →
-    Finds q t x (latestOf x second) probes
+    Finds q t x (keptElse second x) probes
 unfolding walk
 at-end {q} {second = second} a b s e =
     record {
       item = e ∙ sym (ap (λ z. z .slot) (b .item ∙ ap (λ u. walk q (b .kept) u .item) s));
-      other = ap (λ n. latestOf n second) e ∙ kept-or a (b .mind) ∙ sym (ap (λ z. z .slot) (b .other ∙ ap (λ u. walk q (b .kept) u .second) s));
+      other = ap (keptElse second) e ∙ kept-or a (b .mind) ∙ sym (ap (λ z. z .slot) (b .other ∙ ap (λ u. walk q (b .kept) u .second) s));
       depth = omega (arith, b .depth, ap (λ u. walk q (b .kept) u .depth) s);
     }
 
 pub ongoing-leaf : {w : Words} {root x second probes : ℕ} {q : ℤ} → Ongoing w root q x second probes → x ≤ mostSlots →
-    Descended w root q x (latestOf x second) probes
+    Descended w root q x (keptElse second x) probes
 ongoing-leaf {q} g d =
     record { finds = λ t p k h. let b = g .below t p h in let (a, s, e) = at-leaf (b .pieces) d in at-end a b s e }
 

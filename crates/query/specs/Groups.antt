@@ -80,9 +80,9 @@ module _ (w : Words) (c x : ℕ) (e : c ≡ cap w) (low : mostSlots < x) (high :
   unfolding childToward
   off-steep q d = rw (← group-cell denominatorField 3 (omega arith) (omega arith), is-false (within 200_000 ourD) (passed d))
 
-  module _ {q : ℤ} {way : Turn} (t : Turns q ourN ourD s way) (d : not (within 200_000 ourD) ≡ false) where
+  module _ {q : ℤ} {before : ℕ} {way : Turn} (t : Turns q ourN ourD s before way) (d : not (within 200_000 ourD) ≡ false) where
     -- what is kept in mind
-    pub mind-there : way .kept ≡ keptAt (seamAt w s q) s
+    pub mind-there : way .kept ≡ keptAt (seamAt w s q) s before
     mind-there = t .kept ∙ rw (← group-cell denominatorField 3 (omega arith) (omega arith), ← group-cell numeratorField 2 (omega arith) (omega arith))
 
     -- the child's word
@@ -94,7 +94,8 @@ module _ (w : Words) (c x : ℕ) (e : c ≡ cap w) (low : mostSlots < x) (high :
           ← group-cell numeratorField 2 (omega arith) (omega arith),
           is-true (within 200_000 ourD) (not-not (within 200_000 ourD) (failed d)),
         )
-        (ap (upTo mostNodes) (group-cell (childField pieceTree (onOrAbove (crossingAgainst q ourN ourD))) (way .side) (omega (arith, t .side)) (omega (arith, t .low))))
+        (ap (upTo mostNodes)
+        (group-cell (childField pieceTree (onOrAbove (crossingAgainst q ourN ourD))) (way .side) (omega (arith, t .side)) (omega (arith, t .low))))
 
     -- it is no number of a node
     pub off-wild : not (between (pos 0) (pos mostNodes) (getD w (at + way .side) (pos 0))) ≡ true → 0 ≡ childToward w s q

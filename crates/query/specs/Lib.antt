@@ -1,7 +1,7 @@
 -- Queries: what a walk down the pieces' tree finds, and that it is the plain book's.
 -- statement and lemmas: a query on a tree of pieces: from the root to a leaf, at each node to the side of the crossing on which the load lies
 pub mod Lookup
--- lemmas: the item that a query reaches is the first in order among the cheapest of all lines
+-- lemmas: of the cheapest of all lines the item named first is the last in order, and the second one the first
 pub mod Answer
 -- lemmas: what a tree of pieces tells is what the plain book answers
 pub mod Plain

@@ -1,5 +1,5 @@
 -- A query on a tree of pieces: from the root to a leaf, at each node to the side of the crossing on which the load lies. At a crossing itself two pieces
--- have the least price: the walk goes on to the second, and the first, with the higher rate, is kept in mind.
+-- have the least price: the walk goes on to the one behind it, and the one before it, with the higher rate, is kept in mind.
 use mathlib.Core.Path.{_≡_, refl}
 use mathlib.Core.Option.{Option, none, some}
 use mathlib.Core.List.{List·Memᴰ, List·Memᴰ·head, Memᴰ·append-left, Memᴰ·append-right}

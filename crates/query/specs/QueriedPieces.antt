@@ -74,7 +74,7 @@ pub record Opened (w : Words) (x : ℕ) (q : ℤ) (t : Tree Item) : Type 0 where
   pub shape : t ≡ node l r
   pub left : onOrAbove (against q (last l .offer) (first r .offer)) ≡ false → Pieces w (towardAt w x q) l
   pub right : onOrAbove (against q (last l .offer) (first r .offer)) ≡ true → Pieces w (towardAt w x q) r
-  pub mind : mindAt w x q ≡ keptAt (against q (last l .offer) (first r .offer)) (last l .slot)
+  pub mind : (before : ℕ) → mindAt w x q before ≡ keptAt (against q (last l .offer) (first r .offer)) (last l .slot) before
   pub low : 1 ≤ last l .slot
 
 pub opened : {w : Words} {x : ℕ} {t : Tree Item} (q : ℤ) → Pieces w x t → T (loadInRange q) → mostSlots < x → Opened w x q t
@@ -95,7 +95,7 @@ opened {w} {x} {t = node l r} q p h d = go (p .rep .tied)
           shape = refl;
           left = λ e. pieces-left p tl (side false e ∙ el);
           right = λ e. pieces-right p tr (side true e ∙ er);
-          mind = ap (λ n. keptAt (seamAt w n q) n) here ∙ ap (λ z. keptAt z (last l .slot)) (seam-told q p h);
+          mind = λ before. ap (λ n. keptAt (seamAt w n q) n before) here ∙ ap (λ z. keptAt z (last l .slot) before) (seam-told q p h);
           low = slots-left (leaves r) (p .rep .slots) .low (last-leaf l);
         }
 

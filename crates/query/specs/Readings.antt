@@ -43,21 +43,21 @@ price-fits {b} {r} {l} x y q eb er el =
     let e : natAbs b ≤ 1_000_000_000 = rw eb (clamped-size 999_999_999 x) in
     fits _ (omega (arith, natAbs-add b (r *ℤ l), clamped-product 99_999 999_999 y q er el))
 
--- where the load lies at the crossing n / d
+-- where the load lies against the crossing n / d
 unfoldable pub crossingAgainst : ℤ → ℤ → ℤ → Position
 crossingAgainst q n d = positionOf (clamped 1_000_000 q *ℤ clamped 200_000 d) n
 
--- what is kept in mind there: the slot that keeps the crossing, where the load is at it, and 0 for none
-abbrev pub keptAt : Position → ℕ → ℕ
-keptAt p s = cond (isApart p) 0 s
+-- what is kept in mind there: the slot that keeps the crossing, where the load is at it, else what was kept before; 0 is nothing
+abbrev pub keptAt : Position → (slot before : ℕ) → ℕ
+keptAt p s before = cond (isApart p) before s
 
 -- the way on from the crossing n / d that slot s keeps; as a number, left is 0 and right is 1
-pub record Turns (q n d : ℤ) (s : ℕ) (t : Turn) : Type 0 where
+pub record Turns (q n d : ℤ) (s before : ℕ) (t : Turn) : Type 0 where
   pub side : t .side ≡ bit (onOrAbove (crossingAgainst q n d))
   pub low : t .side ≤ 1
-  pub kept : t .kept ≡ keptAt (crossingAgainst q n d) s
+  pub kept : t .kept ≡ keptAt (crossingAgainst q n d) s before
 
--- where the load lies at the crossing that slot s keeps
+-- where the load lies against the crossing that slot s keeps
 abbrev pub seamAt : Words → ℕ → ℤ → Position
 seamAt w s q = crossingAgainst q (cell w numeratorField s) (cell w denominatorField s)
 
@@ -69,17 +69,17 @@ abbrev pub towardAt : Words → ℕ → ℤ → ℕ
 towardAt w x q = childToward w (x - mostSlots) q
 
 -- what is kept in mind at node x
-abbrev pub mindAt : Words → ℕ → ℤ → ℕ
-mindAt w x q = keptAt (seamAt w (x - mostSlots) q) (x - mostSlots)
+abbrev pub mindAt : Words → ℕ → ℤ → ℕ → ℕ
+mindAt w x q before = keptAt (seamAt w (x - mostSlots) q) (x - mostSlots) before
 
 -- the promise of one step from node x
-abbrev pub Steps : Words → ℕ → ℤ → Step → Type 0
-Steps w x q (To child kept) = (child ≡ towardAt w x q) × (kept ≡ mindAt w x q)
-Steps w x q Off = 0 ≡ towardAt w x q
+abbrev pub Steps : Words → ℕ → ℤ → ℕ → Step → Type 0
+Steps w x q before (To child kept) = (child ≡ towardAt w x q) × (kept ≡ mindAt w x q before)
+Steps w x q before Off = 0 ≡ towardAt w x q
 
--- the slot told last; 0 tells none
-unfoldable pub latestOf : ℕ → ℕ → ℕ
-latestOf before kept = cond (ltb kept 1) before kept
+-- what is kept in mind, or else a slot
+unfoldable pub keptElse : ℕ → ℕ → ℕ
+keptElse kept slot = cond (ltb kept 1) slot kept
 
 -- the price of the offer kept in slot s
 unfoldable pub priceIn : Words → ℕ → ℤ → ℤ

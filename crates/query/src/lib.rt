@@ -2,11 +2,13 @@
 ghost use mathlib.Core.Path.{_≡_};
 ghost use mathlib.Core.Bool.{not};
 ghost use Rattle.offers.specs.Offers.{between};
-ghost use Rattle.table.specs.Layout.{cap};
+ghost use Rattle.table.specs.Fields.{numberField};
+ghost use Rattle.table.specs.Layout.{cap, cell};
 ghost use Rattle.table.specs.Rep.{bit};
 ghost use Rattle.prices.specs.Positions.{positionOf, onOrAbove};
-ghost use Rattle.query.specs.Readings.{keptAt, Turns, Steps, latestOf, priceIn};
+ghost use Rattle.query.specs.Readings.{keptAt, Turns, Steps, keptElse, priceIn};
 ghost use Rattle.query.specs.Descent.{Descended};
+
 // The highest number of a leaf, and of a node, in the widths that a descent counts in.
 const LEAVES: usize = table::MOST_SLOTS as usize;
 
@@ -19,7 +21,7 @@ pub fn outside(low: i64, high: i64, value: i64) -> bool
     value < low || high < value
 }
 
-// The way on from a crossing: to the left, 0, or to the right, 1; and where the load is at the crossing, the slot that keeps it, else 0.
+// The way on from a crossing: to the left, 0, or to the right, 1; and what is kept in mind then.
 struct Turn {
     side: usize,
     kept: u32,
@@ -34,24 +36,24 @@ fn side_of(point: i64, line: i64) -> usize
     0
 }
 
-fn kept_at(point: i64, line: i64, slot: u32) -> u32
-    ensures { λ r. ⌜ r ≡ keptAt (positionOf point line) slot ⌝ }
+fn kept_at(point: i64, line: i64, slot: u32, before: u32) -> u32
+    ensures { λ r. ⌜ r ≡ keptAt (positionOf point line) slot before ⌝ }
 {
     if prices::apart(point, line) {
-        return 0;
+        return before;
     }
     slot
 }
 
 // The way on from the crossing n / d that `slot` keeps: where the piece on its left, at the load, lies against the next one. Both prices are taken less
 // the left one's base and the next one's rate times the load.
-fn turn_at(load: i64, n: i64, d: i64, slot: u32) -> Turn
-    ensures { λ r. ⌜ Turns load n d slot r ⌝ }
+fn turn_at(load: i64, n: i64, d: i64, slot: u32, before: u32) -> Turn
+    ensures { λ r. ⌜ Turns load n d slot before r ⌝ }
 {
     let point = table::bounded(-1_000_000, 1_000_000, load) * table::bounded(-200_000, 200_000, d);
     Turn {
         side: side_of(point, n),
-        kept: kept_at(point, n, slot),
+        kept: kept_at(point, n, slot, before),
     }
 }
 
@@ -68,9 +70,9 @@ const ITS_NUMERATOR: usize = table::NUMERATOR - table::PIECE_NODE;
 const ITS_DENOMINATOR: usize = table::DENOMINATOR - table::PIECE_NODE;
 
 // From inner node `x` to its child on the load's side: one group of four words is read. `c` is the part's capacity.
-fn toward(part: &[i64], c: u32, x: usize, load: i64) -> Step
+fn toward(part: &[i64], c: u32, x: usize, load: i64, before: u32) -> Step
     requires { ⌜ c ≡ cap (now part) ⌝ }
-    ensures { λ r. ⌜ Steps (now (part .entry)) x load r ⌝ }
+    ensures { λ r. ⌜ Steps (now (part .entry)) x load before r ⌝ }
 {
     if x <= LEAVES {
         return Step::Off;
@@ -84,7 +86,7 @@ fn toward(part: &[i64], c: u32, x: usize, load: i64) -> Step
     if outside(-200_000, 200_000, d) {
         return Step::Off;
     }
-    let turn = turn_at(load, part[at + ITS_NUMERATOR], d, slot);
+    let turn = turn_at(load, part[at + ITS_NUMERATOR], d, slot, before);
     let z = part[at + turn.side];
     if outside(0, HIGHEST_NODE, z) {
         return Step::Off;
@@ -102,12 +104,12 @@ pub struct Probe {
     pub probes: u32,
 }
 
-// The slot told last; 0 tells none.
-fn latest(before: u32, kept: u32) -> u32
-    ensures { λ r. ⌜ r ≡ latestOf before kept ⌝ }
+// What is kept in mind, and where it is nothing, 0, `slot`.
+fn kept_or(kept: u32, slot: u32) -> u32
+    ensures { λ r. ⌜ r ≡ keptElse kept slot ⌝ }
 {
     if kept < 1 {
-        return before;
+        return slot;
     }
     kept
 }
@@ -118,6 +120,13 @@ pub fn descend(part: &[i64], root: u32, load: i64) -> Probe
     ensures { λ r. ⌜ Descended (now (part .entry)) root load (r .slot) (r .second) (r .probes) ⌝ }
 {
     let c = table::capacity(part);
+    if c < 1 {
+        return Probe {
+            slot: 0,
+            second: 0,
+            probes: 0,
+        };
+    }
     let mut x = root as usize;
     let mut second: u32 = 0;
     let mut probes: u32 = 0;
@@ -129,7 +138,7 @@ pub fn descend(part: &[i64], root: u32, load: i64) -> Probe
                 probes: probes,
             };
         }
-        let step = toward(part, c, x, load);
+        let step = toward(part, c, x, load, second);
         let Step::To { child, kept } = step else {
             return Probe {
                 slot: 0,
@@ -137,16 +146,30 @@ pub fn descend(part: &[i64], root: u32, load: i64) -> Probe
                 probes: probes,
             };
         };
-        second = latest(second, kept);
+        second = kept;
         x = child;
         probes += 1;
     }
     let slot = x as u32;
     Probe {
         slot: slot,
-        second: latest(slot, second),
+        second: kept_or(second, slot),
         probes: probes,
     }
+}
+
+// The number of the offer in a slot, 0 where the part has no such slot: what `table::get` reads, where its test of the length is known to pass.
+pub fn number(part: &[i64], slot: u32) -> i64
+    ensures { λ r. ⌜ r ≡ cell (now (part .entry)) numberField slot ⌝ }
+{
+    let c = table::capacity(part);
+    if slot < 1 {
+        return 0;
+    }
+    if c < slot {
+        return 0;
+    }
+    part[table::address(c, table::NUMBER, slot)]
 }
 
 // The price of the offer in a slot.

@@ -1,11 +1,14 @@
 //! Times of the proved book against a scan, sorted arrays and plain Rust in the same layout; medians of five runs. It prints
 //! the tables; with the word `record` it also puts them into docs/BENCHMARKS.md, between its two marks, and draws docs/benchmarks.svg.
-//! With the word `instructions` it counts an update's instructions instead, with the word `check` it times the check of a full book, and with the
-//! word `printing` and two libraries (rust/bench/printing.sh makes them) a number's printing; their tables go between marks of their own.
+//! With the word `instructions` it counts an update's instructions instead, with the word `check` it times the check of a full book; with two libraries
+//! and the word `asking` a query, with the word `printing` a number's printing (rust/bench/asking.sh and printing.sh make them). Their tables go between
+//! marks of their own.
 //! Run it in release.
 mod arrays;
+mod asking;
 mod checks;
 mod counted;
+mod library;
 mod plot;
 mod printing;
 mod same_layout;
@@ -317,6 +320,11 @@ fn main() {
             print!("{table}");
             record("check", &table);
         }
+        ["asking", before, after] => {
+            let table = asking::table(before, after);
+            print!("{table}");
+            record("asking", &table);
+        }
         ["printing", before, after] => {
             let table = printing::table(before, after);
             print!("{table}");
@@ -326,6 +334,6 @@ fn main() {
             let listed = Listed::KINDS.into_iter().find(|k| k.name() == kind).expect("all, half or few");
             counted::run(n.parse().expect("a number of offers"), listed);
         }
-        _ => panic!("no word, `record`, `instructions`, `check` or `printing` with two libraries"),
+        _ => panic!("no word, `record`, `instructions`, `check`, or `asking` or `printing` with two libraries"),
     }
 }

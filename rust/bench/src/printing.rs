@@ -1,9 +1,9 @@
 //! How long a number takes to print in a column: the counter's `justify` from two libraries, and Rust's own formatting.
+use crate::library::function_of;
 use crate::{medians, timed, Case, Random};
-use std::ffi::{c_void, CString};
+use std::ffi::c_void;
 use std::fmt::Write as _;
 use std::io::Write;
-use std::os::raw::c_char;
 
 const VALUES: usize = 1_000_000;
 const WIDTH: usize = 20;
@@ -12,20 +12,9 @@ type Justify = unsafe extern "C" fn(*mut u8, usize, i64);
 
 /// the function `justify` of a shared library
 fn justify_of(library: &str) -> Justify {
-    extern "C" {
-        fn dlopen(file: *const c_char, flags: i32) -> *mut c_void;
-        fn dlsym(library: *mut c_void, name: *const c_char) -> *mut c_void;
-    }
-    const NOW: i32 = 2;
-    let file = CString::new(library).unwrap();
-    // SAFETY: both strings end in 0, and rust/bench/printing.sh puts a `justify` of this type into the library.
-    unsafe {
-        let opened = dlopen(file.as_ptr(), NOW);
-        assert!(!opened.is_null(), "no library {library}");
-        let function = dlsym(opened, b"justify\0".as_ptr().cast());
-        assert!(!function.is_null(), "no `justify` in {library}");
-        std::mem::transmute::<*mut c_void, Justify>(function)
-    }
+    let function = function_of(library, "justify");
+    // SAFETY: rust/bench/printing.sh puts a `justify` of this type into the library.
+    unsafe { std::mem::transmute::<*mut c_void, Justify>(function) }
 }
 
 fn by(justify: Justify) -> impl Fn(&mut [u8; WIDTH], i64) {

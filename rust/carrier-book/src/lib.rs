@@ -14,7 +14,7 @@
 //! let mut book = Book::new(64)?;
 //! book.post(1, 3, 0)?;
 //! book.post(2, 1, 10)?;
-//! // 3 × 5 + 0 = 1 × 5 + 10: the one with the lower rate is named, and the other as the second
+//! // 3 × 5 + 0 = 1 × 5 + 10: the one with the lower rate is named first, and the other as the second
 //! let found = book.query(5)?;
 //! assert_eq!((found.number, found.price, found.second), (2, 15, 1));
 //! // offer 1 is the cheapest up to the load 10 / 2

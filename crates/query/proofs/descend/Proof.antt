@@ -5,7 +5,7 @@ use mir.Syntax.{w64}
 use mir.Val.{toZ}
 use mir.Facts.{toZ-ofZ}
 use Rattle.table.specs.Fields.{mostLevels}
-use Rattle.query.specs.Descent.{Ongoing, ongoing-start, ongoing-step, ongoing-leaf, ongoing-off, ongoing-limit}
+use Rattle.query.specs.Descent.{no-slots, Ongoing, ongoing-start, ongoing-step, ongoing-leaf, ongoing-off, ongoing-limit}
 use borrow.Author.Needs.{needs}
 use Rattle.query.proofs.descend.Statement.{statement}
 use Rattle.query.proofs.descend.Tie as tie
@@ -19,17 +19,20 @@ abbrev μ-loop : tie.MeasureT-loop
 capacity-requires : tie.Need-capacity-requires Inv-loop μ-loop
 capacity-requires c κs = search needs
 
+returns : tie.Need-returns Inv-loop μ-loop
+returns c = no-slots (c .before .capacity .ensures) (c .if1 .taken) _ _ 0 0 0
+
 loop-holds : tie.Need-loop-holds Inv-loop μ-loop
 loop-holds c = ongoing-start _ _ _
 
-returns : tie.Need-returns Inv-loop μ-loop
-returns c =
+returns-2 : tie.Need-returns-2 Inv-loop μ-loop
+returns-2 c =
     let at-loop = c .before .before in
-    let entry = at-loop .before .before in
-    simp (toZ-ofZ, entry .fits .load) at (ongoing-limit (at-loop .loop .inv) (c .before .loop-test .taken) (c .if1 .taken) 0 0 (at-loop .loop .probes))
+    let entry = at-loop .before .before .before in
+    simp (toZ-ofZ, entry .fits .load) at (ongoing-limit (at-loop .loop .inv) (c .before .loop-test .taken) (c .if2 .taken) 0 0 (at-loop .loop .probes))
 
 toward-requires : tie.Need-toward-requires Inv-loop μ-loop
-toward-requires c κs = c .before .before .before .capacity .ensures
+toward-requires c κs = c .before .before .before .before .capacity .ensures
 
 enum-known-step : tie.Need-enum-known-step Inv-loop μ-loop
 enum-known-step c = search needs
@@ -37,18 +40,15 @@ enum-known-step c = search needs
 enum-told : tie.Need-enum-told Inv-loop μ-loop
 enum-told c = search needs
 
-returns-2 : tie.Need-returns-2 Inv-loop μ-loop
-returns-2 c =
+returns-3 : tie.Need-returns-3 Inv-loop μ-loop
+returns-3 c =
     let at-toward = c .before .before in
     let at-loop-test = at-toward .before .before in
     let at-loop = at-loop-test .before in
-    let entry = at-loop .before .before in
+    let entry = at-loop .before .before .before in
     simp (toZ-ofZ, entry .fits .load) at
     (ongoing-off (at-loop .loop .inv) (at-loop-test .loop-test .taken) (rw (c .enum-told .given .1) at (at-toward .toward .ensures)) 0 0
     (at-loop .loop .probes))
-
-latest-requires : tie.Need-latest-requires Inv-loop μ-loop
-latest-requires c κs = search needs
 
 add-probes : tie.Need-add-probes Inv-loop μ-loop
 add-probes c = omega arith
@@ -58,24 +58,23 @@ loop-less c = omega arith
 
 loop-again : tie.Need-loop-again Inv-loop μ-loop
 loop-again c =
-    let at-step = c .before .before in
+    let at-step = c .before in
     let at-toward = at-step .before .before in
     let at-loop-test = at-toward .before .before in
     let at-loop = at-loop-test .before in
-    rw (c .latest .ensures)
-    (ongoing-step (at-loop .loop .inv) (at-loop-test .loop-test .taken) (rw (at-step .step .given .1) at (at-toward .toward .ensures)))
+    ongoing-step (at-loop .loop .inv) (at-loop-test .loop-test .taken) (rw (at-step .step .given .1) at (at-toward .toward .ensures))
 
 cast-slot : tie.Need-cast-slot Inv-loop μ-loop
 cast-slot c = omega arith
 
-latest-requires-2 : tie.Need-latest-requires-2 Inv-loop μ-loop
-latest-requires-2 c κs = search needs
+kept-or-requires : tie.Need-kept-or-requires Inv-loop μ-loop
+kept-or-requires c κs = search needs
 
-returns-3 : tie.Need-returns-3 Inv-loop μ-loop
-returns-3 c =
+returns-4 : tie.Need-returns-4 Inv-loop μ-loop
+returns-4 c =
     let at-loop = c .before .before in
-    let entry = at-loop .before .before in
-    rw (c .latest2 .ensures) (simp (toZ-ofZ, entry .fits .load) at (ongoing-leaf (at-loop .loop .inv) (c .before .loop-test .left)))
+    let entry = at-loop .before .before .before in
+    rw (c .kept-or .ensures) (simp (toZ-ofZ, entry .fits .load) at (ongoing-leaf (at-loop .loop .inv) (c .before .loop-test .left)))
 
 pub descend-spec : {M : Type 1} → statement M
 descend-spec =
@@ -84,16 +83,16 @@ descend-spec =
     Inv-loop
     μ-loop
     capacity-requires
-    loop-holds
     returns
+    loop-holds
+    returns-2
     toward-requires
     enum-known-step
     enum-told
-    returns-2
-    latest-requires
+    returns-3
     add-probes
     loop-less
     loop-again
     cast-slot
-    latest-requires-2
-    returns-3)
+    kept-or-requires
+    returns-4)

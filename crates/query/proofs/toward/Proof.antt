@@ -82,27 +82,30 @@ turn-at-requires c κs = search needs
 
 add-z : tie.Need-add-z
 add-z c =
+    let low = c .before .turn-at .ensures .low in
     let at-if3 = c .before .before .before in
     let at-address = at-if3 .before .before .before in
     let at-if2 = at-address .before in
     let at-if1 = at-if2 .before in
-    omega (arith, c .before .turn-at .ensures .low, group-small _ _ _ (at-if1 .before .pre) (at-if1 .if1 .left) (at-if2 .if2 .left) (at-address .address .ensures))
+    omega (arith, low, group-small _ _ _ (at-if1 .before .pre) (at-if1 .if1 .left) (at-if2 .if2 .left) (at-address .address .ensures))
 
 mul-z : tie.Need-mul-z
 mul-z c =
+    let low = c .before .turn-at .ensures .low in
     let at-if3 = c .before .before .before in
     let at-address = at-if3 .before .before .before in
     let at-if2 = at-address .before in
     let at-if1 = at-if2 .before in
-    omega (arith, c .before .turn-at .ensures .low, group-small _ _ _ (at-if1 .before .pre) (at-if1 .if1 .left) (at-if2 .if2 .left) (at-address .address .ensures))
+    omega (arith, low, group-small _ _ _ (at-if1 .before .pre) (at-if1 .if1 .left) (at-if2 .if2 .left) (at-address .address .ensures))
 
 shared-slice-copy-out-z : tie.Need-shared-slice-copy-out-z
 shared-slice-copy-out-z c =
+    let low = c .before .turn-at .ensures .low in
     let at-if3 = c .before .before .before in
     let at-address = at-if3 .before .before .before in
     let at-if2 = at-address .before in
     let at-if1 = at-if2 .before in
-    group-in _ _ _ (at-if1 .before .pre) (at-if1 .if1 .left) (at-if2 .if2 .left) (at-address .address .ensures) _ (omega (arith, c .before .turn-at .ensures .low))
+    group-in _ _ _ (at-if1 .before .pre) (at-if1 .if1 .left) (at-if2 .if2 .left) (at-address .address .ensures) _ (omega (arith, low))
 
 outside-requires-2 : tie.Need-outside-requires-2
 outside-requires-2 c κs = search needs
@@ -132,8 +135,8 @@ returns-4 c =
 up-to-requires : tie.Need-up-to-requires
 up-to-requires c κs = search needs
 
-cast-t12 : tie.Need-cast-t12
-cast-t12 c = search needs
+cast-t13 : tie.Need-cast-t13
+cast-t13 c = search needs
 
 returns-5 : tie.Need-returns-5
 returns-5 c =
@@ -184,5 +187,5 @@ toward-spec =
     outside-requires-2
     returns-4
     up-to-requires
-    cast-t12
+    cast-t13
     returns-5)

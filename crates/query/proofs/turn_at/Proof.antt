@@ -22,13 +22,13 @@ bit-low true = omega arith
 bit-low false = omega arith
 
 -- clamped factors, and what was read of their position
-turns : {x y : ℤ} {t : Turn} (q n d : ℤ) (s : ℕ) → x ≡ clamped 1_000_000 q → y ≡ clamped 200_000 d → t .side ≡ bit (onOrAbove (positionOf (x *ℤ y) n)) →
-    t .kept ≡ keptAt (positionOf (x *ℤ y) n) s → Turns q n d s t
+turns : {x y : ℤ} {t : Turn} (q n d : ℤ) (s before : ℕ) → x ≡ clamped 1_000_000 q → y ≡ clamped 200_000 d → t .side ≡ bit (onOrAbove (positionOf (x *ℤ y) n)) →
+    t .kept ≡ keptAt (positionOf (x *ℤ y) n) s before → Turns q n d s before t
 unfolding crossingAgainst
-turns {x} {y} {t} q n d s a b side kept =
+turns {x} {y} {t} q n d s before a b side kept =
     let p : positionOf (x *ℤ y) n ≡ crossingAgainst q n d = rw (a, b) in
     let e : t .side ≡ bit (onOrAbove (crossingAgainst q n d)) = side ∙ ap (λ (z : Position). bit (onOrAbove z)) p in
-    record { side = e; low = omega (arith, e, bit-low (onOrAbove (crossingAgainst q n d))); kept = kept ∙ ap (λ (z : Position). keptAt z s) p }
+    record { side = e; low = omega (arith, e, bit-low (onOrAbove (crossingAgainst q n d))); kept = kept ∙ ap (λ (z : Position). keptAt z s before) p }
 
 bounded-requires : tie.Need-bounded-requires
 bounded-requires c κs = search needs
@@ -58,7 +58,7 @@ returns c =
     let y : SFits w64 (at-bounded2 .bounded2 .result) = record { sfits = at-bounded2 .bounded2 .ok } in
     let p : SFits w64 (at-bounded .bounded .result *ℤ at-bounded2 .bounded2 .result) =
     fits _ (omega (arith, clamped-product 999_999 199_999 _ _ (at-bounded .bounded .ensures) (at-bounded2 .bounded2 .ensures))) in
-    turns _ _ _ _ (simp (toZ-ofZ, f .load) at (at-bounded .bounded .ensures)) (simp (toZ-ofZ, f .d) at (at-bounded2 .bounded2 .ensures))
+    turns _ _ _ _ _ (simp (toZ-ofZ, f .load) at (at-bounded .bounded .ensures)) (simp (toZ-ofZ, f .d) at (at-bounded2 .bounded2 .ensures))
     (simp (toZ-ofZ, x, y, p, f .n) at (at-side-of .side-of .ensures)) (simp (toZ-ofZ, x, y, p, f .n) at (c .kept-at .ensures))
 
 pub turn-at-spec : {M : Type 1} → statement M
