@@ -1,6 +1,6 @@
 -- The plain book's query and listing tell what `Meaning` says, whatever calls made its offers.
 use mathlib.Core.Path.{_≡_, refl, sym, _∙_, ap}
-use mathlib.Core.List.{List, List·Memᴰ, Pairwise, Pairwise·sublistᴰ}
+use mathlib.Core.List.{List, [], _∷_, List·Memᴰ, Pairwise, Pairwise·sublistᴰ}
 use mathlib.Core.Option.{Option, none, some}
 use Prim.Native.Nat.{ℕ}
 use native.Mathlib.Omega.{arith}
@@ -11,36 +11,48 @@ use Rattle.lists.specs.Filter.{keep-sublist}
 use Rattle.integers.specs.Parts.{intRules}
 use Rattle.offers.specs.Offers.{Offer, priceAt, precedes}
 use Rattle.plain.specs.Causes.{Cause, declined}
-use Rattle.plain.specs.Book.{State, query, listing, found, listed, envelope, pieceWords, respond, trials, step}
+use Rattle.plain.specs.Book.{State, query, listing, found, listed, lower, higher, cheapest, holding, envelope, pieceWords, respond, trials, step}
 use Rattle.plain.specs.Sound.{Sound}
 use Rattle.plain.specs.Meaning.{Cheapest, Listing}
 use Rattle.plain.specs.Rules.{words-length, words-inner, words-last}
-use Rattle.plain.specs.QueryLaws.{Told, query-names}
+use Rattle.plain.specs.QueryLaws.{lower-tie, higher-tie, Names, cheapest-names}
 use Rattle.plain.specs.ListingLaws.{same-rate, listing-exact}
 
 -- ---- a query
 
-module _ (s : State) (q number price second : ℤ) where
-  named-cheapest : Told s q number price second → Cheapest (s .offers) q number price second
-  named-cheapest t =
-      record {
-        least = λ x m. let h = t .one-names .none-first x m .least in let e = t .priced in omega (arith, intRules);
-        one = record { offer = t .one; live = t .one-names .live; named = t .named; priced = t .priced };
-        lowest = λ x m e. let h = t .one-names .none-first x m .best (e ∙ t .priced) in omega (arith, intRules);
-        other = record { offer = t .other; live = t .other-names .live; named = t .beside; priced = same };
-        highest = λ x m e. let h = t .other-names .none-first x m .best (e ∙ same) in omega (arith, intRules);
-      }
-    where
-      -- each of the two is at most the other
-      same : price ≡ priceAt (t .other) q
-      same =
-          let h = t .one-names .none-first (t .other) (t .other-names .live) .least in
-          let k = t .other-names .none-first (t .one) (t .one-names .live) .least in
-          let e = t .priced in
-          omega (arith, intRules)
+cheapest-told : (q : ℤ) (o : Offer) (os : List Offer) →
+    Cheapest (o ∷ os) q (cheapest lower q o os .number) (priceAt (cheapest lower q o os) q) (cheapest higher q o os .number)
+cheapest-told q o os =
+    record {
+      least = λ x m. one .none-first x m .least;
+      one = record { offer = cheapest lower q o os; live = one .live; named = refl; priced = refl };
+      lowest = λ x m e. let h = one .none-first x m .best e in omega (arith, intRules);
+      other = record { offer = cheapest higher q o os; live = other .live; named = refl; priced = same };
+      highest = λ x m e. let h = other .none-first x m .best (e ∙ same) in omega (arith, intRules);
+    }
+  where
+    one : Names lower q (o ∷ os) (cheapest lower q o os)
+    one = cheapest-names lower-tie q o os
 
-  pub query-cheapest : step s (query q) .answer ≡ found number price second → Cheapest (s .offers) q number price second
-  query-cheapest e = named-cheapest (query-names s q number price second e)
+    other : Names higher q (o ∷ os) (cheapest higher q o os)
+    other = cheapest-names higher-tie q o os
+
+    -- each of the two is at most the other
+    same : priceAt (cheapest lower q o os) q ≡ priceAt (cheapest higher q o os) q
+    same = let h = one .none-first _ (other .live) .least in let k = other .none-first _ (one .live) .least in omega (arith, intRules)
+
+pub query-cheapest : (s : State) (q number price second : ℤ) → step s (query q) .answer ≡ found number price second →
+    Cheapest (s .offers) q number price second
+query-cheapest s q number price second e = go (declined (trials s (query q))) (s .offers) e
+  where
+    go : (d : Option Cause) (os : List Offer) → respond (holding s os) (query q) d .answer ≡ found number price second → Cheapest os q number price second
+    go (some c) os a = let z : _≡_ {A = ℕ} 0 1 = cc in absurd (omega arith)
+    go none [] a = let z : _≡_ {A = ℕ} 0 1 = cc in absurd (omega arith)
+    go none (o ∷ os) a =
+        let n : cheapest lower q o os .number ≡ number = cc in
+        let p : priceAt (cheapest lower q o os) q ≡ price = cc in
+        let m : cheapest higher q o os .number ≡ second = cc in
+        rw (← n, ← p, ← m) (cheapest-told q o os)
 
 -- where the offers at the price have one rate, both are the same
 pub one-rate : {s : State} {q number price second : ℤ} → Sound s → (c : Cheapest (s .offers) q number price second) →

@@ -27,17 +27,6 @@ lies y z = go (ltZ y z) (ltZ z y) refl refl
     go false true d e = above (omega (arith, intRules))
     go false false d e = on (omega (arith, intRules))
 
--- each answer of the code's tests
-module _ (y z : ℤ) where
-  pub is-below : ltZ y z ≡ true → Below ≡ positionOf y z
-  is-below e = rw e
-
-  pub is-above : ltZ y z ≡ false → ltZ z y ≡ true → Above ≡ positionOf y z
-  is-above d e = rw (d, e)
-
-  pub is-on : ltZ y z ≡ false → ltZ z y ≡ false → On ≡ positionOf y z
-  is-on d e = rw (d, e)
-
 -- on it a query has its tie
 abbrev pub isApart : Position → Bool
 isApart Below = true
@@ -51,9 +40,9 @@ onOrAbove On = true
 onOrAbove Above = true
 
 pub on-or-above : (y z : ℤ) → onOrAbove (positionOf y z) ≡ leZ z y
-on-or-above y z = go (positionOf y z) (lies y z)
+on-or-above y z = sym (go (positionOf y z) (lies y z))
   where
-    go : (p : Position) → Lies y z p → onOrAbove p ≡ leZ z y
-    go Below (below h) = let e : leZ z y ≡ false = omega (arith, intRules) in sym e
-    go On (on h) = let e : leZ z y ≡ true = omega (arith, intRules) in sym e
-    go Above (above h) = let e : leZ z y ≡ true = omega (arith, intRules) in sym e
+    go : (p : Position) → Lies y z p → leZ z y ≡ onOrAbove p
+    go Below (below h) = omega (arith, intRules)
+    go On (on h) = omega (arith, intRules)
+    go Above (above h) = omega (arith, intRules)

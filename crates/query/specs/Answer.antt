@@ -1,5 +1,5 @@
 -- Of the cheapest of all lines the item that a query names first is the last in order, and the second one the first.
-use mathlib.Core.Path.{_≡_, refl, sym, _∙_, ap, subst}
+use mathlib.Core.Path.{_≡_, sym, _∙_, ap, subst}
 use mathlib.Core.List.{List, List·Memᴰ}
 use mathlib.Core.Option.{Option, none, some}
 use Prim.Native.Nat.{ℕ, zero, suc, pred, _≤_, _<_}
@@ -26,7 +26,7 @@ use Rattle.prices.specs.declared.Position.{Position}
 use Rattle.prices.specs.declared.Position.the-variants.{Below, On, Above}
 use Rattle.prices.specs.Positions.{Lies, below, on, above, lies}
 use Rattle.pieces.specs.Pieces.{rateOf, baseOf, items, item-laws}
-use Rattle.query.specs.Lookup.{Reached, against, deeper, turned, keptOr, walk, lookup}
+use Rattle.query.specs.Lookup.{Reached, against, turned, keptOr, walk, lookup}
 
 -- ---- the pieces that the load lies in
 
@@ -53,18 +53,21 @@ module _ (a : ℕ → Item) (n : ℕ) (K : Chain items a n) (q : ℤ) where
       (turns-increase items item-laws a n K j k (omega arith) i))))
 
   -- where the walk ends
-  record Ends (r : Reached) : Type 0 where
+  record Ends (x y : Item) : Type 0 where
     k : ℕ
-    item : r .item ≡ a k
+    item : x ≡ a k
     in-chain : k < n
     inside : suc k < n → LeftOf items (whole q) (items .cross (a k) (a (suc k)))
     j : ℕ
-    second : r .second ≡ a j
+    second : y ≡ a j
     piece : InPiece items a n j (whole q)
     as-low : T (items .atMost (a k) (a j) (whole q))
 
+  abbrev EndsAt : Reached → Type 0
+  EndsAt r = Ends (r .item) (r .second)
+
   at-end : (kept : Option Item) {x : Item} {i : ℕ} → x ≡ a i → suc i ≤ n → Kept kept i → Inside (suc i) →
-      Ends (record { item = x; second = keptOr kept x; depth = 0 })
+      Ends x (keptOr kept x)
   at-end none {x} {i} e h o u =
       record {
         k = i;
@@ -139,23 +142,19 @@ module _ (a : ℕ → Item) (n : ℕ) (K : Chain items a n) (q : ℤ) where
         subst (Kept kept) (sym here)
         (not-past kept lo (omega (arith, here, spans-some s)) in-chain o (λ u. let v = subst T seam-left u in omega (arith, intRules)))
 
-  reached : (kept : Option Item) {lo hi : ℕ} (t : Tree Item) → Spans left a lo t hi → hi ≤ n → Kept kept lo → Inside hi → Ends (walk q kept t)
+  reached : (kept : Option Item) {lo hi : ℕ} (t : Tree Item) → Spans left a lo t hi → hi ≤ n → Kept kept lo → Inside hi → EndsAt (walk q kept t)
   unfolding walk
   reached kept (leaf x) (one e) h o u = at-end kept e h o u
   reached kept (node l r) (two {mid} s t) h o u =
       go (against q (last l .offer) (first r .offer)) (lies _ _) (reached kept l s (omega (arith, spans-some t)) o) (λ b. reached (some (last l)) r t h b u)
       (λ b. reached kept r t h b u)
     where
-      onward : {w : Reached} → Ends w → Ends (deeper w)
-      onward e =
-          record { k = e .k; item = e .item; in-chain = e .in-chain; inside = e .inside; j = e .j; second = e .second; piece = e .piece; as-low = e .as-low }
-
       go : (p : Position) → Lies (q *ℤ crossingDenominator (last l .offer) (first r .offer)) (crossingNumerator (last l .offer) (first r .offer)) p →
-          (Inside mid → Ends (walk q kept l)) → (Kept (some (last l)) mid → Ends (walk q (some (last l)) r)) → (Kept kept mid → Ends (walk q kept r)) →
-          Ends (deeper (turned p (walk q kept l) (walk q (some (last l)) r) (walk q kept r)))
-      go Below (below g) x y z = onward (x (before-seam s t h g))
-      go On (on g) x y z = onward (y (at-seam s t h g))
-      go Above (above g) x y z = onward (z (past-seam s t h kept o g))
+          (Inside mid → EndsAt (walk q kept l)) → (Kept (some (last l)) mid → EndsAt (walk q (some (last l)) r)) → (Kept kept mid → EndsAt (walk q kept r)) →
+          EndsAt (turned p (walk q kept l) (walk q (some (last l)) r) (walk q kept r))
+      go Below (below g) x y z = x (before-seam s t h g)
+      go On (on g) x y z = y (at-seam s t h g)
+      go Above (above g) x y z = z (past-seam s t h kept o g)
 
 -- ---- of all lines
 
@@ -163,7 +162,7 @@ module _ {ls : List Item} (t : Tree Item) (E : Env items ls (leaves t)) (q : ℤ
   z : Item
   z = first t
 
-  ends : Ends (lineFrom left t z) (size t) (E .chain z) q (lookup q t)
+  ends : EndsAt (lineFrom left t z) (size t) (E .chain z) q (lookup q t)
   ends = reached (lineFrom left t z) (size t) (E .chain z) q none t (spans-tree left t z) (omega arith) tt (λ h. absurd (omega arith))
 
   -- the second: the first in order among the cheapest

@@ -1,6 +1,5 @@
 -- A query's walk down the words of a tree of pieces is the walk down the tree.
 use mathlib.Core.Path.{_≡_, refl, sym, _∙_, ap, subst}
-use mathlib.Core.Bool.{true, false}
 use mathlib.Core.Option.{Option, none, some}
 use Prim.Native.Nat.{ℕ, _+_, _≤_, _<_}
 use native.Mathlib.Omega.{arith}
@@ -18,7 +17,7 @@ use Rattle.table.specs.Nodes.{ref-low}
 use Rattle.prices.specs.declared.Position.{Position}
 use Rattle.prices.specs.declared.Position.the-variants.{Below as LiesBelow, On, Above}
 use Rattle.prices.specs.Positions.{onOrAbove}
-use Rattle.query.specs.Lookup.{Reached, against, deeper, keptOr, walk, lookup, walk-below, walk-on, walk-above}
+use Rattle.query.specs.Lookup.{Reached, against, deeper, keptOr, walk, lookup, walk-turned}
 use Rattle.query.specs.Readings.{keptAt, towardAt, mindAt, keptElse}
 use Rattle.query.specs.QueriedPieces.{Pieces, Opened, opened, at-leaf}
 
@@ -109,20 +108,19 @@ ongoing-step {w} {root} {x} {y} {kept} {second} {probes} {q} g d (e, k) = record
 
         go : (z : Position) → against q (last (o .l) .offer) (first (o .r) .offer) ≡ z → Below w q t y kept (probes + 1)
         go LiesBelow c =
-            step-to (o .l) (b .kept) b (shape (walk-below q (b .kept) (o .l) (o .r) c)) (omega (arith, ap height (o .shape)))
+            step-to (o .l) (b .kept) b (shape (walk-turned q (b .kept) (o .l) (o .r) c)) (omega (arith, ap height (o .shape)))
             (subst (λ n. Pieces w n (o .l)) (sym e) (o .left (ap onOrAbove c))) (subst (Mind (b .kept)) (sym (told c)) (b .mind))
         go On c =
-            step-to (o .r) (some (last (o .l))) b (shape (walk-on q (b .kept) (o .l) (o .r) c)) (omega (arith, ap height (o .shape)))
+            step-to (o .r) (some (last (o .l))) b (shape (walk-turned q (b .kept) (o .l) (o .r) c)) (omega (arith, ap height (o .shape)))
             (subst (λ n. Pieces w n (o .r)) (sym e) (o .right (ap onOrAbove c))) (item (told c) (omega (arith, told c, o .low)))
         go Above c =
-            step-to (o .r) (b .kept) b (shape (walk-above q (b .kept) (o .l) (o .r) c)) (omega (arith, ap height (o .shape)))
+            step-to (o .r) (b .kept) b (shape (walk-turned q (b .kept) (o .l) (o .r) c)) (omega (arith, ap height (o .shape)))
             (subst (λ n. Pieces w n (o .r)) (sym e) (o .right (ap onOrAbove c))) (subst (Mind (b .kept)) (sym (told c)) (b .mind))
 
 -- ---- at a leaf
 
 -- its slot is told where nothing is kept in mind
 kept-or : {kept : Option Item} {second : ℕ} (a : Item) → Mind kept second → keptElse second (a .slot) ≡ keptOr kept a .slot
-unfolding keptElse
 kept-or a nothing = refl
 kept-or a (item {n = n} e h) = rw (le-ltb n 1 h) e
 

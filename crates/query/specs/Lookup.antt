@@ -44,21 +44,10 @@ walk q kept (node l r) = deeper (turned (against q (last l .offer) (first r .off
 abbrev pub lookup : ℤ → Tree Item → Reached
 lookup q t = walk q none t
 
-module _ (q : ℤ) (kept : Option Item) (l r : Tree Item) where
-  abbrev pub at-seam : Position
-  at-seam = against q (last l .offer) (first r .offer)
-
-  pub walk-below : at-seam ≡ Below → walk q kept (node l r) ≡ deeper (walk q kept l)
-  unfolding walk
-  walk-below e = rw e
-
-  pub walk-on : at-seam ≡ On → walk q kept (node l r) ≡ deeper (walk q (some (last l)) r)
-  unfolding walk
-  walk-on e = rw e
-
-  pub walk-above : at-seam ≡ Above → walk q kept (node l r) ≡ deeper (walk q kept r)
-  unfolding walk
-  walk-above e = rw e
+pub walk-turned : {p : Position} (q : ℤ) (kept : Option Item) (l r : Tree Item) → against q (last l .offer) (first r .offer) ≡ p →
+    walk q kept (node l r) ≡ deeper (turned p (walk q kept l) (walk q (some (last l)) r) (walk q kept r))
+unfolding walk
+walk-turned q kept l r e = rw e
 
 -- ---- a leaf's depth
 
@@ -72,15 +61,14 @@ pub data LeafAt (a : Item) : ℕ → Tree Item → Type 0 where
 pub walk-leaf : (q : ℤ) (kept : Option Item) (t : Tree Item) → LeafAt (walk q kept t .item) (walk q kept t .depth) t
 unfolding walk
 walk-leaf q kept (leaf a) = at-root
-walk-leaf q kept (node l r) = go (against q (last l .offer) (first r .offer)) (walk-leaf q kept l) (walk-leaf q (some (last l)) r) (walk-leaf q kept r)
+walk-leaf q kept (node l r) =
+    turned-to (λ z. LeafAt (z .item) (suc (z .depth)) (node l r)) (against q (last l .offer) (first r .offer)) (on-left (walk-leaf q kept l))
+    (on-right (walk-leaf q (some (last l)) r)) (on-right (walk-leaf q kept r))
   where
-    go : (p : Position) → LeafAt (walk q kept l .item) (walk q kept l .depth) l →
-        LeafAt (walk q (some (last l)) r .item) (walk q (some (last l)) r .depth) r → LeafAt (walk q kept r .item) (walk q kept r .depth) r →
-        LeafAt (deeper (turned p (walk q kept l) (walk q (some (last l)) r) (walk q kept r)) .item)
-        (deeper (turned p (walk q kept l) (walk q (some (last l)) r) (walk q kept r)) .depth) (node l r)
-    go Below i j k = on-left i
-    go On i j k = on-right j
-    go Above i j k = on-right k
+    turned-to : (P : Reached → Type 0) (p : Position) {a b c : Reached} → P a → P b → P c → P (turned p a b c)
+    turned-to P Below i j k = i
+    turned-to P On i j k = j
+    turned-to P Above i j k = k
 
 pub leaf-mem : {a : Item} {d : ℕ} {t : Tree Item} → LeafAt a d t → List·Memᴰ a (leaves t)
 leaf-mem at-root = List·Memᴰ·head refl

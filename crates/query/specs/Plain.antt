@@ -7,7 +7,6 @@ use native.Mathlib.Omega.{arith}
 use lib.Dec.{T, not-T}
 use borrow.Author.Tests.{lt-leb, le-ltb, lt-ltb}
 use lib.IntN.{ℤ}
-use lib.Signed.{leZ}
 use lib.ListN.{length, length-map}
 use Rattle.lists.specs.Bools.{is-true}
 use Rattle.integers.specs.Parts.{intRules}

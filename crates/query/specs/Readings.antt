@@ -78,7 +78,7 @@ Steps w x q before (To child kept) = (child ≡ towardAt w x q) × (kept ≡ min
 Steps w x q before Off = 0 ≡ towardAt w x q
 
 -- what is kept in mind, or else a slot
-unfoldable pub keptElse : ℕ → ℕ → ℕ
+abbrev pub keptElse : ℕ → ℕ → ℕ
 keptElse kept slot = cond (ltb kept 1) slot kept
 
 -- the price of the offer kept in slot s

@@ -120,6 +120,7 @@ pub fn descend(part: &[i64], root: u32, load: i64) -> Probe
     ensures { λ r. ⌜ Descended (now (part .entry)) root load (r .slot) (r .second) (r .probes) ⌝ }
 {
     let c = table::capacity(part);
+    // no tree stands in words of no capacity; with this test the compiler computes the capacity once for a whole call
     if c < 1 {
         return Probe {
             slot: 0,

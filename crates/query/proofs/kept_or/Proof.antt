@@ -1,15 +1,12 @@
 -- `query::kept_or` meets its contract: by its test.
 use borrow.Author.Tests.{le-ltb, lt-ltb}
-use Rattle.query.specs.Readings.{keptElse}
 use Rattle.query.proofs.kept_or.Statement.{statement}
 use Rattle.query.proofs.kept_or.Tie as tie
 
 returns : tie.Need-returns
-unfolding keptElse
 returns c = rw (lt-ltb (c .before .args .kept) 1 (c .if1 .taken))
 
 returns-2 : tie.Need-returns-2
-unfolding keptElse
 returns-2 c = rw (le-ltb (c .before .args .kept) 1 (c .if1 .left))
 
 pub kept-or-spec : {M : Type 1} → statement M
