@@ -104,6 +104,17 @@ pub struct Probe {
     pub probes: u32,
 }
 
+// No tree of pieces led on.
+fn astray(probes: u32) -> Probe
+    ensures { λ r. ⌜ (r .slot ≡ 0) × (r .second ≡ 0) × (r .probes ≡ probes) ⌝ }
+{
+    Probe {
+        slot: 0,
+        second: 0,
+        probes: probes,
+    }
+}
+
 // What is kept in mind, and where it is nothing, 0, `slot`.
 fn kept_or(kept: u32, slot: u32) -> u32
     ensures { λ r. ⌜ r ≡ keptElse kept slot ⌝ }
@@ -122,30 +133,18 @@ pub fn descend(part: &[i64], root: u32, load: i64) -> Probe
     let c = table::capacity(part);
     // no tree stands in words of no capacity; with this test the compiler computes the capacity once for a whole call
     if c < 1 {
-        return Probe {
-            slot: 0,
-            second: 0,
-            probes: 0,
-        };
+        return astray(0);
     }
     let mut x = root as usize;
     let mut second: u32 = 0;
     let mut probes: u32 = 0;
     while LEAVES < x {
         if table::MOST_LEVELS <= probes {
-            return Probe {
-                slot: 0,
-                second: 0,
-                probes: probes,
-            };
+            return astray(probes);
         }
         let step = toward(part, c, x, load, second);
         let Step::To { child, kept } = step else {
-            return Probe {
-                slot: 0,
-                second: 0,
-                probes: probes,
-            };
+            return astray(probes);
         };
         second = kept;
         x = child;

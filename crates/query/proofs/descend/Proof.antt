@@ -19,17 +19,26 @@ abbrev μ-loop : tie.MeasureT-loop
 capacity-requires : tie.Need-capacity-requires Inv-loop μ-loop
 capacity-requires c κs = search needs
 
+astray-requires : tie.Need-astray-requires Inv-loop μ-loop
+astray-requires c κs = search needs
+
 returns : tie.Need-returns Inv-loop μ-loop
-returns c = no-slots (c .before .capacity .ensures) (c .if1 .taken) _ _ 0 0 0
+returns c = no-slots (c .before .before .capacity .ensures) (c .before .if1 .taken) _ _ _ _ _
 
 loop-holds : tie.Need-loop-holds Inv-loop μ-loop
 loop-holds c = ongoing-start _ _ _
 
+astray-requires-2 : tie.Need-astray-requires-2 Inv-loop μ-loop
+astray-requires-2 c κs = search needs
+
 returns-2 : tie.Need-returns-2 Inv-loop μ-loop
 returns-2 c =
-    let at-loop = c .before .before in
+    let r = c .astray2 .result in
+    let at-if2 = c .before in
+    let at-loop = at-if2 .before .before in
     let entry = at-loop .before .before .before in
-    simp (toZ-ofZ, entry .fits .load) at (ongoing-limit (at-loop .loop .inv) (c .before .loop-test .taken) (c .if2 .taken) 0 0 (at-loop .loop .probes))
+    simp (toZ-ofZ, entry .fits .load) at
+    (ongoing-limit (at-loop .loop .inv) (at-if2 .before .loop-test .taken) (at-if2 .if2 .taken) (r .slot) (r .second) (r .probes))
 
 toward-requires : tie.Need-toward-requires Inv-loop μ-loop
 toward-requires c κs = c .before .before .before .before .capacity .ensures
@@ -40,15 +49,20 @@ enum-known-step c = search needs
 enum-told : tie.Need-enum-told Inv-loop μ-loop
 enum-told c = search needs
 
+astray-requires-3 : tie.Need-astray-requires-3 Inv-loop μ-loop
+astray-requires-3 c κs = search needs
+
 returns-3 : tie.Need-returns-3 Inv-loop μ-loop
 returns-3 c =
-    let at-toward = c .before .before in
+    let r = c .astray3 .result in
+    let at-told = c .before in
+    let at-toward = at-told .before .before in
     let at-loop-test = at-toward .before .before in
     let at-loop = at-loop-test .before in
     let entry = at-loop .before .before .before in
     simp (toZ-ofZ, entry .fits .load) at
-    (ongoing-off (at-loop .loop .inv) (at-loop-test .loop-test .taken) (rw (c .enum-told .given .1) at (at-toward .toward .ensures)) 0 0
-    (at-loop .loop .probes))
+    (ongoing-off (at-loop .loop .inv) (at-loop-test .loop-test .taken) (rw (at-told .enum-told .given .1) at (at-toward .toward .ensures)) (r .slot)
+    (r .second) (r .probes))
 
 add-probes : tie.Need-add-probes Inv-loop μ-loop
 add-probes c = omega arith
@@ -83,12 +97,15 @@ descend-spec =
     Inv-loop
     μ-loop
     capacity-requires
+    astray-requires
     returns
     loop-holds
+    astray-requires-2
     returns-2
     toward-requires
     enum-known-step
     enum-told
+    astray-requires-3
     returns-3
     add-probes
     loop-less

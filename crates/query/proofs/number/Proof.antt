@@ -26,7 +26,8 @@ address-requires c κs = placed _ _ _ _ (c .before .before .capacity .ensures) (
 
 mul-result : tie.Need-mul-result
 mul-result c =
-    omega (arith, c .address .ensures, place-small (placed _ numberField _ _ (c .before .before .before .capacity .ensures) (c .before .if2 .left) (omega arith)))
+    let known = c .before .before .before .capacity .ensures in
+    omega (arith, c .address .ensures, place-small (placed _ numberField _ _ known (c .before .if2 .left) (omega arith)))
 
 shared-slice-copy-out-result : tie.Need-shared-slice-copy-out-result
 shared-slice-copy-out-result c =
