@@ -56,6 +56,27 @@ module _ (S : Figure) (L : PseudoLines S) where
         earlier = λ l m p. L .rise-strict l (getD es k d) y x p (query-least E d k y Q l m) u;
       }
 
+  -- .. and only there
+  pub first-in-piece :
+      {ls es : List (S .Line)} → Env S ls es → (d : S .Line) (k : ℕ) (x : S .Point) → k < length es → First S ls (getD es k d) x →
+      InPiece S (λ i. getD es i d) (length es) k x
+  first-in-piece {ls} {es} E d k x b f =
+      record {
+        inside = b;
+        outer = outside k b f;
+        inner = λ q. le-upto-cross S L (getD es k d) (getD es (suc k) d) x (C .ordered k q)
+            (f .least (getD es (suc k) d) (sublist-mem (E .sub) (mem-at es (suc k) d q)));
+      }
+    where
+      C : Chain S (λ i. getD es i d) (length es)
+      C = E .chain d
+
+      outside : (k : ℕ) → k < length es → First S ls (getD es k d) x → PastOuter S (λ i. getD es i d) k x
+      outside zero b f = tt
+      outside (suc k) b f =
+          below-right-of-cross S L (getD es k d) (getD es (suc k) d) x (C .ordered k b)
+          (f .earlier (getD es k d) (sublist-mem (E .sub) (mem-at es k d (omega arith))) (C .ordered k b))
+
   -- strictly left of its inner end, a line as low as any is the last in order of those: there is room on the right too
   pub query-last :
       {ls es : List (S .Line)} → Env S ls es → (d : S .Line) (k : ℕ) (x : S .Point) → k < length es →
@@ -89,27 +110,6 @@ module _ (S : Figure) (L : PseudoLines S) where
                 let (y, u) = L .right-of x in
                 (y, record { inside = b; outer = past k b least y u; inner = λ q. absurd (h q) }, u)
           ]
-
-  -- .. and only there
-  pub first-in-piece :
-      {ls es : List (S .Line)} → Env S ls es → (d : S .Line) (k : ℕ) (x : S .Point) → k < length es → First S ls (getD es k d) x →
-      InPiece S (λ i. getD es i d) (length es) k x
-  first-in-piece {ls} {es} E d k x b f =
-      record {
-        inside = b;
-        outer = outside k b f;
-        inner = λ q. le-upto-cross S L (getD es k d) (getD es (suc k) d) x (C .ordered k q)
-            (f .least (getD es (suc k) d) (sublist-mem (E .sub) (mem-at es (suc k) d q)));
-      }
-    where
-      C : Chain S (λ i. getD es i d) (length es)
-      C = E .chain d
-
-      outside : (k : ℕ) → k < length es → First S ls (getD es k d) x → PastOuter S (λ i. getD es i d) k x
-      outside zero b f = tt
-      outside (suc k) b f =
-          below-right-of-cross S L (getD es k d) (getD es (suc k) d) x (C .ordered k b)
-          (f .earlier (getD es k d) (sublist-mem (E .sub) (mem-at es k d (omega arith))) (C .ordered k b))
 
   -- every line of an envelope is the first among the lowest somewhere
   pub env-first : {ls es : List (S .Line)} → Env S ls es → (e : S .Line) → List·Memᴰ e es → (x : S .Point) × First S ls e x

@@ -131,7 +131,7 @@ module _ (A : Type 0) (rate base : A → ℤ) where
   pub whole-left : (a b : A) (q : ℤ) → T (F .before a b) → F .upTo (whole q) (F .cross a b) ≡ leZ (q *ℤ (rate a -ℤ rate b)) (base b -ℤ base a)
   whole-left a b q h = ap₂ leZ (ap (λ (d : ℤ). q *ℤ d) (cross-denominator a b h)) (times-one (base b -ℤ base a))
 
-  -- or at it or right of it
+  -- .. or at it or right of it
   pub whole-right : (a b : A) (q : ℤ) → T (F .before a b) → F .upTo (F .cross a b) (whole q) ≡ leZ (base b -ℤ base a) (q *ℤ (rate a -ℤ rate b))
   whole-right a b q h = ap₂ leZ (times-one (base b -ℤ base a)) (ap (λ (d : ℤ). q *ℤ d) (cross-denominator a b h))
 

@@ -60,7 +60,7 @@ join o (p ∷ ps) = cond (precedes o p) (o ∷ p ∷ ps) (p ∷ join o ps)
 abbrev pub leave : ℤ → List Offer → List Offer
 leave n os = keep (λ o. not (hasNumber n o)) os
 
--- Which of two rates a tie goes to.
+-- Whether a tie goes to the first of two rates: to the lower one, or to the higher.
 abbrev pub lower : ℤ → ℤ → Bool
 lower r s = ltZ r s
 

@@ -3,8 +3,8 @@
 use mathlib.Core.Path.{_≡_, refl}
 use mathlib.Core.List.{List, [], _∷_, _++_, map}
 use lib.IntN.{pos, negℤ}
-use Rattle.plain.specs.Book.{Call, post, withdraw, query, listing, Answer, refused, live, found, listed}
-use Rattle.plain.specs.Book.{opened, opening, after, answers}
+use Rattle.plain.specs.Book.{State, Call, post, withdraw, query, listing, Answer, refused, live, found, listed}
+use Rattle.plain.specs.Book.{opened, opening, after, answers, step}
 
 -- Calls that make a book, and the answers of the calls asked of it then.
 pub record Row : Type 0 where
@@ -57,6 +57,18 @@ three-at-once = row touching (query (pos 5)) (found (pos 3) (pos 10) (pos 1))
 
 pub three-told : answered three-at-once ≡ three-at-once .told
 three-told = refl
+
+-- Within one rate the older order holds: the first in the list is named. No list of calls makes such a state, in which a rate is live twice.
+abbrev pub one-rate-twice : State
+one-rate-twice =
+    record {
+      capacity = 4;
+      offers =
+          record { number = pos 2; rate = pos 3; base = pos 0 } ∷ record { number = pos 1; rate = pos 3; base = pos 0 } ∷ [];
+    }
+
+pub earlier-named : step one-rate-twice (query (pos 5)) .answer ≡ found (pos 2) (pos 15) (pos 2)
+earlier-named = refl
 
 -- Crossings are not rounded: (0, 0), (−3, 7), (−6, 15) cross at 7/3 and 8/3, so the second is the cheapest only between two whole loads.
 abbrev pub between-loads : Row

@@ -5,11 +5,11 @@ use mathlib.Core.Logic.{_⊎_, inl, inr, ⊎-elim}
 use mathlib.Core.List.{List, [], _∷_, List·Memᴰ, List·Memᴰ·head, List·Memᴰ·tail, List·Memᴰ·cases-cons}
 use mathlib.Core.Bool.{Bool, true, false, not, cond, _&&_}
 use native.Mathlib.Omega.{arith}
-use lib.Dec.{T}
+use lib.Dec.{T, T-not, not-T}
 use lib.IntN.{ℤ}
 use lib.Signed.{leZ, ltZ}
 use Rattle.lists.specs.Places.{all-cons}
-use Rattle.lists.specs.Bools.{and-left, and-right, or-cases, neither, cond-both}
+use Rattle.lists.specs.Bools.{and-both, and-left, and-right, or-cases, neither, cond-both}
 use Rattle.integers.specs.Parts.{intRules}
 use Rattle.integers.specs.Equal.{equal}
 use Rattle.offers.specs.Offers.{Offer, priceAt}
@@ -18,13 +18,13 @@ use Rattle.plain.specs.Book.{lower, higher, goesFirst, cheapest}
 -- ---- two rates
 
 -- A strict order of all rates.
-pub record Tie (tie : ℤ → ℤ → Bool) : Type 0 where
+pub record RateOrder (tie : ℤ → ℤ → Bool) : Type 0 where
   pub itself : (r : ℤ) → T (not (tie r r))
   pub turned : (r s : ℤ) → T (tie r s) → T (not (tie s r))
   pub passed : (r s t : ℤ) → T (not (tie r s)) → T (not (tie s t)) → T (not (tie r t))
   pub same : (r s : ℤ) → T (not (tie r s)) → T (not (tie s r)) → r ≡ s
 
-pub lower-tie : Tie lower
+pub lower-tie : RateOrder lower
 lower-tie =
     record {
       itself = λ r. omega (arith, intRules);
@@ -33,7 +33,7 @@ lower-tie =
       same = λ r s h k. omega (arith, intRules);
     }
 
-pub higher-tie : Tie higher
+pub higher-tie : RateOrder higher
 higher-tie =
     record {
       itself = λ r. omega (arith, intRules);
@@ -49,11 +49,7 @@ pub record NotFirst (tie : ℤ → ℤ → Bool) (q : ℤ) (x o : Offer) : Type 
   pub least : T (leZ (priceAt o q) (priceAt x q))
   pub best : priceAt x q ≡ priceAt o q → T (not (tie (x .rate) (o .rate)))
 
-other-fails : (a b : Bool) → T (not (a && b)) → T a → T (not b)
-other-fails true b h t = h
-other-fails false b h t = absurd t
-
-module _ {tie : ℤ → ℤ → Bool} (t : Tie tie) (q : ℤ) where
+module _ {tie : ℤ → ℤ → Bool} (t : RateOrder tie) (q : ℤ) where
   itself : (o : Offer) → NotFirst tie q o o
   itself o = record { least = omega (arith, intRules); best = λ e. t .itself (o .rate) }
 
@@ -80,10 +76,12 @@ module _ {tie : ℤ → ℤ → Bool} (t : Tie tie) (q : ℤ) where
 
   stays : (o p : Offer) → T (not (goesFirst tie q o p)) → NotFirst tie q o p
   stays o p h =
-      let (a, b) = neither (ltZ (priceAt o q) (priceAt p q)) (equal (priceAt o q) (priceAt p q) && tie (o .rate) (p .rate)) h in
+      let tied = equal (priceAt o q) (priceAt p q) in
+      let (a, b) = neither (ltZ (priceAt o q) (priceAt p q)) (tied && tie (o .rate) (p .rate)) h in
       record {
         least = omega (arith, intRules);
-        best = λ e. other-fails (equal (priceAt o q) (priceAt p q)) (tie (o .rate) (p .rate)) b (omega (arith, intRules));
+        best = λ e. not-T (tie (o .rate) (p .rate))
+            (λ u. T-not (tied && tie (o .rate) (p .rate)) b (and-both tied (tie (o .rate) (p .rate)) (omega (arith, intRules)) u));
       }
 
 -- ---- all of them
@@ -93,7 +91,7 @@ pub record Names (tie : ℤ → ℤ → Bool) (q : ℤ) (os : List Offer) (o : O
   pub live : List·Memᴰ o os
   pub none-first : (x : Offer) → List·Memᴰ x os → NotFirst tie q x o
 
-module _ {tie : ℤ → ℤ → Bool} (t : Tie tie) (q : ℤ) where
+module _ {tie : ℤ → ℤ → Bool} (t : RateOrder tie) (q : ℤ) where
   -- b is one of two offers, and neither goes before it
   joined : {x o b r : Offer} {os : List Offer} → (b ≡ o) ⊎ (b ≡ x) → NotFirst tie q o b → NotFirst tie q x b → Names tie q (b ∷ os) r →
       Names tie q (o ∷ x ∷ os) r

@@ -27,7 +27,7 @@ lies y z = go (ltZ y z) (ltZ z y) refl refl
     go false true d e = above (omega (arith, intRules))
     go false false d e = on (omega (arith, intRules))
 
--- on it a query has its tie
+-- not on it: a query has a tie where this fails
 abbrev pub isApart : Position → Bool
 isApart Below = true
 isApart On = false

@@ -120,9 +120,9 @@ ongoing-step {w} {root} {x} {y} {kept} {second} {probes} {q} g d (e, k) = record
 -- ---- at a leaf
 
 -- its slot is told where nothing is kept in mind
-kept-or : {kept : Option Item} {second : ℕ} (a : Item) → Mind kept second → keptElse second (a .slot) ≡ keptOr kept a .slot
-kept-or a nothing = refl
-kept-or a (item {n = n} e h) = rw (le-ltb n 1 h) e
+kept-else : {kept : Option Item} {second : ℕ} (a : Item) → Mind kept second → keptElse second (a .slot) ≡ keptOr kept a .slot
+kept-else a nothing = refl
+kept-else a (item {n = n} e h) = rw (le-ltb n 1 h) e
 
 at-end : {w : Words} {q : ℤ} {t : Tree Item} {x second probes : ℕ} (a : Item) (b : Below w q t x second probes) → b .tree ≡ leaf a → x ≡ a .slot →
     Finds q t x (keptElse second x) probes
@@ -130,7 +130,7 @@ unfolding walk
 at-end {q} {second = second} a b s e =
     record {
       item = e ∙ sym (ap (λ z. z .slot) (b .item ∙ ap (λ u. walk q (b .kept) u .item) s));
-      other = ap (keptElse second) e ∙ kept-or a (b .mind) ∙ sym (ap (λ z. z .slot) (b .other ∙ ap (λ u. walk q (b .kept) u .second) s));
+      other = ap (keptElse second) e ∙ kept-else a (b .mind) ∙ sym (ap (λ z. z .slot) (b .other ∙ ap (λ u. walk q (b .kept) u .second) s));
       depth = omega (arith, b .depth, ap (λ u. walk q (b .kept) u .depth) s);
     }
 

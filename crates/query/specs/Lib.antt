@@ -1,5 +1,5 @@
 -- Queries: what a walk down the pieces' tree finds, and that it is the plain book's.
--- statement and lemmas: a query on a tree of pieces: from the root to a leaf, at each node to the side of the crossing on which the load lies
+-- statement and lemmas: a query on a tree of pieces: from the root to a leaf, to the load's side of each crossing; at one to the right, the piece before it kept in mind
 pub mod Lookup
 -- lemmas: of the cheapest of all lines the item named first is the last in order, and the second one the first
 pub mod Answer

@@ -63,7 +63,7 @@ unfolding walk
 walk-leaf q kept (leaf a) = at-root
 walk-leaf q kept (node l r) =
     turned-to (λ z. LeafAt (z .item) (suc (z .depth)) (node l r)) (against q (last l .offer) (first r .offer)) (on-left (walk-leaf q kept l))
-    (on-right (walk-leaf q (some (last l)) r)) (on-right (walk-leaf q kept r))
+    (on-right (walk-leaf q _ r)) (on-right (walk-leaf q kept r))
   where
     turned-to : (P : Reached → Type 0) (p : Position) {a b c : Reached} → P a → P b → P c → P (turned p a b c)
     turned-to P Below i j k = i

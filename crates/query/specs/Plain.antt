@@ -19,7 +19,7 @@ use Rattle.lines.specs.OfferLines.{offerFigure}
 use Rattle.plain.specs.Causes.{causeNumber, outputTooShort}
 use Rattle.plain.specs.Book.{State, query, listing, found, listed, refused, lower, higher, cheapest, envelope, pieceWords, step}
 use Rattle.plain.specs.Sound.{Sound}
-use Rattle.plain.specs.QueryLaws.{Tie, lower-tie, higher-tie, NotFirst, Names, cheapest-names}
+use Rattle.plain.specs.QueryLaws.{RateOrder, lower-tie, higher-tie, NotFirst, Names, cheapest-names}
 use Rattle.plain.specs.ListingLaws.{same-rate, envelope-listed}
 use Rattle.trees.specs.Tree.{Tree, leaves}
 use Rattle.table.specs.Items.{Item}
@@ -50,7 +50,7 @@ module _ {tie : ℤ → ℤ → Bool} {ls : List Item} {z : Item} {q : ℤ} (one
       }
 
 -- and no other
-one-name : {tie : ℤ → ℤ → Bool} {os : List Offer} {o p : Offer} (t : Tie tie) (q : ℤ) → Pairwise (λ a b. T (precedes a b)) os → Names tie q os o →
+one-name : {tie : ℤ → ℤ → Bool} {os : List Offer} {o p : Offer} (t : RateOrder tie) (q : ℤ) → Pairwise (λ a b. T (precedes a b)) os → Names tie q os o →
     Names tie q os p → o ≡ p
 one-name {tie} {o = o} {p} t q h m n = same-rate h (m .live) (n .live) (t .same (o .rate) (p .rate) (theirs .best (sym price)) (mine .best price))
   where
@@ -80,7 +80,7 @@ lookup-plain {ls} t s q h e E r = go (s .offers) e (h .ordered)
     seconds : Names higher q (map offerOf ls) y
     seconds = let f = lookup-first t E q in names-it (f .one-of) (f .least) (f .earlier)
 
-    same : {tie : ℤ → ℤ → Bool} {a o : Offer} {os : List Offer} → Tie tie → Names tie q (map offerOf ls) a → (o ∷ os) ≡ map offerOf ls →
+    same : {tie : ℤ → ℤ → Bool} {a o : Offer} {os : List Offer} → RateOrder tie → Names tie q (map offerOf ls) a → (o ∷ os) ≡ map offerOf ls →
         Pairwise (λ a b. T (precedes a b)) (o ∷ os) → cheapest tie q o os ≡ a
     same {tie} {a} {o} {os} k n d p = one-name k q p (cheapest-names k q o os) (subst (λ xs. Names tie q xs a) (sym d) n)
 

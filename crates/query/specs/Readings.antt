@@ -73,9 +73,9 @@ abbrev pub mindAt : Words → ℕ → ℤ → ℕ → ℕ
 mindAt w x q before = keptAt (seamAt w (x - mostSlots) q) (x - mostSlots) before
 
 -- the promise of one step from node x
-abbrev pub Steps : Words → ℕ → ℤ → ℕ → Step → Type 0
-Steps w x q before (To child kept) = (child ≡ towardAt w x q) × (kept ≡ mindAt w x q before)
-Steps w x q before Off = 0 ≡ towardAt w x q
+abbrev pub Stepped : Words → ℕ → ℤ → ℕ → Step → Type 0
+Stepped w x q before (To child kept) = (child ≡ towardAt w x q) × (kept ≡ mindAt w x q before)
+Stepped w x q before Off = 0 ≡ towardAt w x q
 
 -- what is kept in mind, or else a slot
 abbrev pub keptElse : ℕ → ℕ → ℕ

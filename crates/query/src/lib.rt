@@ -6,7 +6,7 @@ ghost use Rattle.table.specs.Fields.{numberField};
 ghost use Rattle.table.specs.Layout.{cap, cell};
 ghost use Rattle.table.specs.Rep.{bit};
 ghost use Rattle.prices.specs.Positions.{positionOf, onOrAbove};
-ghost use Rattle.query.specs.Readings.{keptAt, Turns, Steps, keptElse, priceIn};
+ghost use Rattle.query.specs.Readings.{keptAt, Turns, Stepped, keptElse, priceIn};
 ghost use Rattle.query.specs.Descent.{Descended};
 
 // The highest number of a leaf, and of a node, in the widths that a descent counts in.
@@ -69,10 +69,10 @@ const ITS_NUMERATOR: usize = table::NUMERATOR - table::PIECE_NODE;
 
 const ITS_DENOMINATOR: usize = table::DENOMINATOR - table::PIECE_NODE;
 
-// From inner node `x` to its child on the load's side: one group of four words is read. `c` is the part's capacity.
+// From inner node `x` to its child on the load's side: one group of four words is read. `c` is the part's capacity, `before` what was kept in mind so far.
 fn toward(part: &[i64], c: u32, x: usize, load: i64, before: u32) -> Step
     requires { ⌜ c ≡ cap (now part) ⌝ }
-    ensures { λ r. ⌜ Steps (now (part .entry)) x load before r ⌝ }
+    ensures { λ r. ⌜ Stepped (now (part .entry)) x load before r ⌝ }
 {
     if x <= LEAVES {
         return Step::Off;
@@ -116,7 +116,7 @@ fn astray(probes: u32) -> Probe
 }
 
 // What is kept in mind, and where it is nothing, 0, `slot`.
-fn kept_or(kept: u32, slot: u32) -> u32
+fn kept_else(kept: u32, slot: u32) -> u32
     ensures { λ r. ⌜ r ≡ keptElse kept slot ⌝ }
 {
     if kept < 1 {
@@ -153,12 +153,12 @@ pub fn descend(part: &[i64], root: u32, load: i64) -> Probe
     let slot = x as u32;
     Probe {
         slot: slot,
-        second: kept_or(second, slot),
+        second: kept_else(second, slot),
         probes: probes,
     }
 }
 
-// The number of the offer in a slot, 0 where the part has no such slot: what `table::get` reads, where its test of the length is known to pass.
+// The number of the offer in a slot, 0 where the part has no such slot: what `table::get` reads, without its test of the length, which always passes.
 pub fn number(part: &[i64], slot: u32) -> i64
     ensures { λ r. ⌜ r ≡ cell (now (part .entry)) numberField slot ⌝ }
 {

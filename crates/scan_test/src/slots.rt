@@ -118,7 +118,7 @@ pub(crate) fn price(os: &[i64; 192], i: usize, load: i64) -> i64 {
     b + r * q
 }
 
-// Of two slots the cheaper, and of equal prices the one with the higher rate, or with the lower.
+// Of two slots the cheaper; of equal prices the one with the higher rate where `higher`, else the one with the lower.
 fn cheaper(os: &[i64; 192], load: i64, higher: bool, best: usize, i: usize) -> usize {
     let p = price(os, i, load);
     let q = price(os, best, load);
@@ -126,7 +126,7 @@ fn cheaper(os: &[i64; 192], load: i64, higher: bool, best: usize, i: usize) -> u
     either((number(os, i) != 0) & ((best > 63) | wins), i, best)
 }
 
-// Of the offers at the least price the slot of the one with the highest rate, or with the lowest; 64 where none is live.
+// Of the offers at the least price the slot of the one with the highest rate where `higher`, else of the one with the lowest; 64 where none is live.
 pub(crate) fn cheapest(os: &[i64; 192], load: i64, higher: bool) -> usize {
     let mut best: usize = 64;
     for i in 0..64 {

@@ -81,14 +81,14 @@ loop-again c =
 cast-slot : tie.Need-cast-slot Inv-loop μ-loop
 cast-slot c = omega arith
 
-kept-or-requires : tie.Need-kept-or-requires Inv-loop μ-loop
-kept-or-requires c κs = search needs
+kept-else-requires : tie.Need-kept-else-requires Inv-loop μ-loop
+kept-else-requires c κs = search needs
 
 returns-4 : tie.Need-returns-4 Inv-loop μ-loop
 returns-4 c =
     let at-loop = c .before .before in
     let entry = at-loop .before .before .before in
-    rw (c .kept-or .ensures) (simp (toZ-ofZ, entry .fits .load) at (ongoing-leaf (at-loop .loop .inv) (c .before .loop-test .left)))
+    rw (c .kept-else .ensures) (simp (toZ-ofZ, entry .fits .load) at (ongoing-leaf (at-loop .loop .inv) (c .before .loop-test .left)))
 
 pub descend-spec : {M : Type 1} → statement M
 descend-spec =
@@ -111,5 +111,5 @@ descend-spec =
     loop-less
     loop-again
     cast-slot
-    kept-or-requires
+    kept-else-requires
     returns-4)

@@ -1,5 +1,4 @@
 -- `query::number` meets its contract: the word is read where the part has the slot.
-use mathlib.Core.Path.{_∙_}
 use native.Mathlib.Omega.{arith}
 use lib.ListN.{getD}
 use lib.IntN.{pos}
