@@ -1,7 +1,7 @@
 -- A query's price is the least over all live offers. The offer that it names first has the lowest rate among those at that price, and the second offer
 -- the highest: one proof for both, over what a tie between two rates has to be.
-use mathlib.Core.Path.{_≡_, refl, _∙_}
-use mathlib.Core.Logic.{_⊎_, inl, inr, ⊎-elim}
+use mathlib.Core.Path.{_≡_, refl, sym, _∙_, subst}
+use mathlib.Core.Logic.{_⊎_, inl, inr, ⊎-elim, _≢_}
 use mathlib.Core.List.{List, [], _∷_, List·Memᴰ, List·Memᴰ·head, List·Memᴰ·tail, List·Memᴰ·cases-cons}
 use mathlib.Core.Bool.{Bool, true, false, not, cond, _&&_}
 use native.Mathlib.Omega.{arith}
@@ -109,3 +109,50 @@ module _ {tie : ℤ → ℤ → Bool} (t : RateOrder tie) (q : ℤ) where
       cond-both (λ b. Names tie q (b ∷ xs) (cheapest tie q b xs) → Names tie q (o ∷ x ∷ xs) (cheapest tie q b xs)) (goesFirst tie q x o)
       (λ h. joined (inr refl) (gone t q x o h) (itself t q x)) (λ h. joined (inl refl) (itself t q o) (stays t q x o h))
       (cheapest-names (cond (goesFirst tie q x o) x o) xs)
+
+-- ---- within one rate
+
+-- The offer stands in the list, and none before it has its price and its rate.
+pub data Earliest (q : ℤ) (o : Offer) : List Offer → Type 0 where
+  here : {os : List Offer} → Earliest q o (o ∷ os)
+  later : {x : Offer} {os : List Offer} → (priceAt x q ≡ priceAt o q → x .rate ≢ o .rate) → Earliest q o os → Earliest q o (x ∷ os)
+
+-- it goes before each of those
+data Leads (tie : ℤ → ℤ → Bool) (q : ℤ) (o : Offer) : List Offer → Type 0 where
+  at-head : {x : Offer} {os : List Offer} → o ≡ x → Leads tie q o (x ∷ os)
+  behind : {x : Offer} {os : List Offer} → ¬ NotFirst tie q o x → Leads tie q o os → Leads tie q o (x ∷ os)
+
+module _ {tie : ℤ → ℤ → Bool} (t : RateOrder tie) (q : ℤ) where
+  not-both : (o p : Offer) → T (goesFirst tie q o p) → ¬ NotFirst tie q o p
+  not-both o p h k =
+      ⊎-elim (λ c. let l = k .least in absurd (omega (arith, intRules)))
+      (λ c.
+      let e = and-left (equal (priceAt o q) (priceAt p q)) _ c in
+      T-not (tie (o .rate) (p .rate)) (k .best (omega (arith, intRules))) (and-right (equal (priceAt o q) (priceAt p q)) _ c))
+      (or-cases (ltZ (priceAt o q) (priceAt p q)) (equal (priceAt o q) (priceAt p q) && tie (o .rate) (p .rate)) h)
+
+  -- b is one of two offers, and neither goes before it
+  led-on : {x o b r : Offer} {os : List Offer} → (b ≡ o) ⊎ ((b ≡ x) × ¬ NotFirst tie q b o) → NotFirst tie q o b → NotFirst tie q x b →
+      Leads tie q r (b ∷ os) → Leads tie q r (o ∷ x ∷ os)
+  led-on w h k (behind f n) = behind (λ g. f (onward t q g h)) (behind (λ g. f (onward t q g k)) n)
+  led-on {o = o} w h k (at-head e) =
+      ⊎-elim (λ d. at-head (e ∙ d)) (λ f. behind (subst (λ (r : Offer). ¬ NotFirst tie q r o) (sym e) (f .1)) (at-head (e ∙ f .0))) w
+
+  leads : (o : Offer) (os : List Offer) → Leads tie q (cheapest tie q o os) (o ∷ os)
+  leads o [] = at-head refl
+  leads o (x ∷ xs) =
+      cond-both (λ b. Leads tie q (cheapest tie q b xs) (b ∷ xs) → Leads tie q (cheapest tie q b xs) (o ∷ x ∷ xs)) (goesFirst tie q x o)
+      (λ h. led-on (inr (refl, not-both x o h)) (gone t q x o h) (itself t q x)) (λ h. led-on (inl refl) (itself t q o) (stays t q x o h))
+      (leads (cond (goesFirst tie q x o) x o) xs)
+
+  earliest : {o : Offer} {os : List Offer} → Leads tie q o os → Earliest q o os
+  earliest {o} (at-head {os = os} e) = subst (λ (x : Offer). Earliest q o (x ∷ os)) e here
+  earliest {o} (behind {x} f n) = later (λ e d. f (as-good e d)) (earliest n)
+    where
+      as-good : priceAt x q ≡ priceAt o q → x .rate ≡ o .rate → NotFirst tie q o x
+      as-good e d =
+          record { least = omega (arith, intRules); best = λ u. subst (λ (r : ℤ). T (not (tie (o .rate) r))) (sym d) (t .itself (o .rate)) }
+
+  -- the older order holds
+  pub cheapest-earliest : (o : Offer) (os : List Offer) → Earliest q (cheapest tie q o os) (o ∷ os)
+  cheapest-earliest o os = earliest (leads o os)

@@ -122,7 +122,9 @@ pub(crate) fn price(os: &[i64; 192], i: usize, load: i64) -> i64 {
 fn cheaper(os: &[i64; 192], load: i64, higher: bool, best: usize, i: usize) -> usize {
     let p = price(os, i, load);
     let q = price(os, best, load);
-    let wins = (p < q) | ((p == q) & (higher == (rate(os, best) < rate(os, i))));
+    let first = (higher & (rate(os, best) < rate(os, i)))
+        | (!higher & (rate(os, i) < rate(os, best)));
+    let wins = (p < q) | ((p == q) & first);
     either((number(os, i) != 0) & ((best > 63) | wins), i, best)
 }
 

@@ -1,6 +1,8 @@
--- The sentences of demand 2 fix the answers: of offers in order, one price and two numbers at a load, and one listing, word for word.
+-- The sentences of demand 2 fix the answers: of offers in order, one price and two numbers at a load, and one listing, word for word. A query's probes are
+-- free with the arrangement, and one number in each.
 use mathlib.Core.Path.{_≡_, sym, _∙_, ap, subst}
 use mathlib.Core.List.{List, Pairwise}
+use mathlib.Core.Option.{Option, none, some}
 use Prim.Native.Nat.{ℕ, zero, suc, _+_, _*_, _/_, _%_, _<_}
 use native.Mathlib.Decide.{decLt}
 use native.Mathlib.Omega.{arith}
@@ -8,12 +10,29 @@ use lib.Dec.{T}
 use lib.ListN.{length, getD}
 use lib.Seq.{ext-getD}
 use lib.IntN.{ℤ, pos}
+use Rattle.lists.specs.Places.{sublist-mem}
 use Rattle.integers.specs.Parts.{intRules}
 use Rattle.offers.specs.Offers.{Offer, precedes, crossingNumerator, crossingDenominator}
+use Rattle.envelopes.specs.Envelope.{Env}
 use Rattle.envelopes.specs.EnvelopeLaws.{same-members}
 use Rattle.lines.specs.OfferLines.{offerFigure, offerLaws}
+use Rattle.plain.specs.Book.{State}
 use Rattle.plain.specs.Meaning.{Priced, Cheapest, PieceAt, Listing}
 use Rattle.plain.specs.ListingLaws.{in-order, same-rate}
+use Rattle.trees.specs.Tree.{leaves}
+use Rattle.trees.specs.Operations.{Part, partLeaves}
+use Rattle.dynamic.specs.OfferTree.{Held}
+use Rattle.dynamic.specs.Valid.{bookLines}
+use Rattle.dynamic.specs.Lower.{valid-env}
+use Rattle.table.specs.Words.{Words}
+use Rattle.table.specs.Layout.{cap}
+use Rattle.table.specs.Items.{Item, Slots}
+use Rattle.pieces.specs.Pieces.{items, item-laws}
+use Rattle.form.specs.Form.{Book}
+use Rattle.form.specs.Frames.{whole-standing}
+use Rattle.form.specs.Live.{number-tells}
+use Rattle.query.specs.Lookup.{LeafAt, leaf-mem, one-depth}
+use Rattle.promises.specs.Promises.{ProbesIn}
 
 -- ---- a query
 
@@ -45,6 +64,25 @@ cheapest-once {os} {q} {n} {p} {m} {n′} {p′} {m′} h a b =
     -- no two live offers have equal rates
     one-offer : {x y x′ y′ : ℤ} (c : Priced os q x y) (d : Priced os q x′ y′) → c .offer .rate ≡ d .offer .rate → x ≡ x′
     one-offer c d e = c .named ∙ ap (λ (o : Offer). o .number) (same-rate h (c .live) (d .live) e) ∙ sym (d .named)
+
+-- the leaf of the offer named has one depth
+pub probes-once : {w : Words} {plain : State} {held : Option (Held Item)} {number p p′ : ℤ} → Book w plain held → ProbesIn held number p →
+    ProbesIn held number p′ → p ≡ p′
+probes-once {held = none} b (t, a, n, e, leaf, m, d) other = let z : _≡_ {A = ℕ} 0 1 = cc in absurd (omega arith)
+probes-once {w} {held = some h} b (t, a, n, e, leaf, m, d) (t′, a′, n′, e′, leaf′, m′, d′) =
+    d ∙ ap pos (one-depth slots leaf there (ap (λ (x : Item). x .slot) same)) ∙ sym d′
+  where
+    there : LeafAt a′ n′ t
+    there = let f : t′ ≡ t = cc in subst (LeafAt a′ n′) f leaf′
+
+    slots : Slots (cap w) (leaves t)
+    slots = subst (λ (p : Part Item). Slots (cap w) (partLeaves p)) e (whole-standing (b .offers .offers-in) .slots)
+
+    env : Env items (bookLines (some h)) (leaves t)
+    env = subst (λ (p : Part Item). Env items (bookLines (some h)) (partLeaves p)) e (valid-env items item-laws (b .offers .offers-in .right .valid))
+
+    same : a ≡ a′
+    same = number-tells b (sublist-mem (env .sub) (leaf-mem leaf)) (sublist-mem (env .sub) (leaf-mem there)) (m ∙ sym m′)
 
 -- ---- a listing
 
