@@ -2,7 +2,7 @@
 -- `MeaningLaws` proves both of the plain book; `demand-2` (theorems) of the calls on a table.
 use mathlib.Core.Path.{_≡_}
 use mathlib.Core.Logic.{_≢_, _↔_}
-use mathlib.Core.List.{List, List·Memᴰ, Pairwise}
+use mathlib.Core.List.{List, _∷_, List·Memᴰ, Pairwise}
 use Prim.Native.Nat.{ℕ, suc, _+_, _*_, _<_}
 use lib.ListN.{length, getD}
 use lib.Dec.{T}
@@ -12,10 +12,15 @@ use Rattle.offers.specs.Offers.{Offer, RationalLoad, priceAt, priceTimesD, prec
 
 -- ---- a query
 
--- A live offer of this number has this price at the load.
+-- The offer stands in the list, and none before it has its price at the load and its rate.
+pub data Earliest (q : ℤ) (o : Offer) : List Offer → Type 0 where
+  here : {os : List Offer} → Earliest q o (o ∷ os)
+  later : {x : Offer} {os : List Offer} → (priceAt x q ≡ priceAt o q → x .rate ≢ o .rate) → Earliest q o os → Earliest q o (x ∷ os)
+
+-- A live offer of this number has this price at the load; of those with this price and its rate it is the first in order.
 pub record Priced (os : List Offer) (q number price : ℤ) : Type 0 where
   pub offer : Offer
-  pub live : List·Memᴰ offer os
+  pub live : Earliest q offer os
   pub named : number ≡ offer .number
   pub priced : price ≡ priceAt offer q
 

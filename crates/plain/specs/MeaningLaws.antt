@@ -15,8 +15,8 @@ use Rattle.plain.specs.Book.{State, query, listing, found, listed, lower
 use Rattle.plain.specs.Sound.{Sound}
 use Rattle.plain.specs.Meaning.{Cheapest, Listing}
 use Rattle.plain.specs.Rules.{words-length, words-inner, words-last}
-use Rattle.plain.specs.QueryLaws.{lower-tie, higher-tie, Names, cheapest-names}
-use Rattle.plain.specs.ListingLaws.{same-rate, listing-exact}
+use Rattle.plain.specs.QueryLaws.{lower-tie, higher-tie, Names, cheapest-names, earliest-live, earliest-once, cheapest-earliest}
+use Rattle.plain.specs.ListingLaws.{listing-exact}
 
 -- ---- a query
 
@@ -25,9 +25,9 @@ cheapest-told : (q : ℤ) (o : Offer) (os : List Offer) →
 cheapest-told q o os =
     record {
       least = λ x m. one .none-first x m .least;
-      one = record { offer = cheapest lower q o os; live = one .live; named = refl; priced = refl };
+      one = record { offer = cheapest lower q o os; live = cheapest-earliest lower-tie q o os; named = refl; priced = refl };
       lowest = λ x m e. let h = one .none-first x m .best e in omega (arith, intRules);
-      other = record { offer = cheapest higher q o os; live = other .live; named = refl; priced = same };
+      other = record { offer = cheapest higher q o os; live = cheapest-earliest higher-tie q o os; named = refl; priced = same };
       highest = λ x m e. let h = other .none-first x m .best (e ∙ same) in omega (arith, intRules);
     }
   where
@@ -55,13 +55,17 @@ query-cheapest s q number price second e = go (declined (trials s (query q))) (s
         rw (← n, ← p, ← m) (cheapest-told q o os)
 
 -- where the offers at the price have one rate, both are the same
-pub one-rate : {s : State} {q number price second : ℤ} → Sound s → (c : Cheapest (s .offers) q number price second) →
-    ((x y : Offer) → List·Memᴰ x (s .offers) → List·Memᴰ y (s .offers) → priceAt x q ≡ price → priceAt y q ≡ price → x .rate ≡ y .rate) →
+pub one-rate : {os : List Offer} {q number price second : ℤ} (c : Cheapest os q number price second) →
+    ((x y : Offer) → List·Memᴰ x os → List·Memᴰ y os → priceAt x q ≡ price → priceAt y q ≡ price → x .rate ≡ y .rate) →
     second ≡ number
-one-rate h c all = c .other .named ∙ ap (λ (o : Offer). o .number) (same-rate (h .ordered) (c .other .live) (c .one .live) rates) ∙ sym (c .one .named)
+one-rate c all = c .other .named ∙ ap (λ (o : Offer). o .number) same ∙ sym (c .one .named)
   where
     rates : c .other .offer .rate ≡ c .one .offer .rate
-    rates = all (c .other .offer) (c .one .offer) (c .other .live) (c .one .live) (sym (c .other .priced)) (sym (c .one .priced))
+    rates =
+        all (c .other .offer) (c .one .offer) (earliest-live (c .other .live)) (earliest-live (c .one .live)) (sym (c .other .priced)) (sym (c .one .priced))
+
+    same : c .other .offer ≡ c .one .offer
+    same = earliest-once (c .other .live) (c .one .live) (sym (c .other .priced) ∙ c .one .priced) rates
 
 -- ---- a listing
 

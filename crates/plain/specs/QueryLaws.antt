@@ -1,9 +1,9 @@
 -- A query's price is the least over all live offers. The offer that it names first has the lowest rate among those at that price, and the second offer
--- the highest: one proof for both, over what a tie between two rates has to be.
+-- the highest: one proof for both, over what a tie between two rates has to be. Of several with one price and one rate it is the first in order.
 use mathlib.Core.Path.{_≡_, refl, sym, _∙_, subst}
-use mathlib.Core.Logic.{_⊎_, inl, inr, ⊎-elim, _≢_}
+use mathlib.Core.Logic.{_⊎_, inl, inr, ⊎-elim}
 use mathlib.Core.List.{List, [], _∷_, List·Memᴰ, List·Memᴰ·head, List·Memᴰ·tail, List·Memᴰ·cases-cons}
-use mathlib.Core.Bool.{Bool, true, false, not, cond, _&&_}
+use mathlib.Core.Bool.{Bool, not, cond, _&&_}
 use native.Mathlib.Omega.{arith}
 use lib.Dec.{T, T-not, not-T}
 use lib.IntN.{ℤ}
@@ -14,6 +14,7 @@ use Rattle.integers.specs.Parts.{intRules}
 use Rattle.integers.specs.Equal.{equal}
 use Rattle.offers.specs.Offers.{Offer, priceAt}
 use Rattle.plain.specs.Book.{lower, higher, goesFirst, cheapest}
+use Rattle.plain.specs.Meaning.{Earliest, here, later}
 
 -- ---- two rates
 
@@ -112,12 +113,18 @@ module _ {tie : ℤ → ℤ → Bool} (t : RateOrder tie) (q : ℤ) where
 
 -- ---- within one rate
 
--- The offer stands in the list, and none before it has its price and its rate.
-pub data Earliest (q : ℤ) (o : Offer) : List Offer → Type 0 where
-  here : {os : List Offer} → Earliest q o (o ∷ os)
-  later : {x : Offer} {os : List Offer} → (priceAt x q ≡ priceAt o q → x .rate ≢ o .rate) → Earliest q o os → Earliest q o (x ∷ os)
+pub earliest-live : {q : ℤ} {o : Offer} {os : List Offer} → Earliest q o os → List·Memᴰ o os
+earliest-live here = List·Memᴰ·head refl
+earliest-live (later f n) = List·Memᴰ·tail (earliest-live n)
 
--- it goes before each of those
+-- a price and a rate have one such offer
+pub earliest-once : {q : ℤ} {o p : Offer} {os : List Offer} → Earliest q o os → Earliest q p os → priceAt o q ≡ priceAt p q → o .rate ≡ p .rate → o ≡ p
+earliest-once here here e d = refl
+earliest-once here (later f n) e d = absurd (f e d)
+earliest-once (later f n) here e d = absurd (f (sym e) (sym d))
+earliest-once (later f m) (later g n) e d = earliest-once m n e d
+
+-- The offer stands in the list, and goes before each one ahead of it.
 data Leads (tie : ℤ → ℤ → Bool) (q : ℤ) (o : Offer) : List Offer → Type 0 where
   at-head : {x : Offer} {os : List Offer} → o ≡ x → Leads tie q o (x ∷ os)
   behind : {x : Offer} {os : List Offer} → ¬ NotFirst tie q o x → Leads tie q o os → Leads tie q o (x ∷ os)
@@ -153,6 +160,5 @@ module _ {tie : ℤ → ℤ → Bool} (t : RateOrder tie) (q : ℤ) where
       as-good e d =
           record { least = omega (arith, intRules); best = λ u. subst (λ (r : ℤ). T (not (tie (o .rate) r))) (sym d) (t .itself (o .rate)) }
 
-  -- the older order holds
   pub cheapest-earliest : (o : Offer) (os : List Offer) → Earliest q (cheapest tie q o os) (o ∷ os)
   cheapest-earliest o os = earliest (leads o os)

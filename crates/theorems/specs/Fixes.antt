@@ -1,24 +1,24 @@
--- The sentences of demand 2 fix the answers: of offers in order, one price and two numbers at a load, and one listing, word for word. A query's probes are
+-- The sentences of demand 2 fix the answers: of a list of offers, one price and two numbers at a load, and one listing, word for word. A query's probes are
 -- free with the arrangement, and one number in each.
 use mathlib.Core.Path.{_≡_, sym, _∙_, ap, subst}
-use mathlib.Core.List.{List, Pairwise}
+use mathlib.Core.List.{List, List·Memᴰ}
 use mathlib.Core.Option.{Option, none, some}
 use Prim.Native.Nat.{ℕ, zero, suc, _+_, _*_, _/_, _%_, _<_}
 use native.Mathlib.Decide.{decLt}
 use native.Mathlib.Omega.{arith}
-use lib.Dec.{T}
 use lib.ListN.{length, getD}
 use lib.Seq.{ext-getD}
 use lib.IntN.{ℤ, pos}
 use Rattle.lists.specs.Places.{sublist-mem}
 use Rattle.integers.specs.Parts.{intRules}
-use Rattle.offers.specs.Offers.{Offer, precedes, crossingNumerator, crossingDenominator}
+use Rattle.offers.specs.Offers.{Offer, crossingNumerator, crossingDenominator}
 use Rattle.envelopes.specs.Envelope.{Env}
 use Rattle.envelopes.specs.EnvelopeLaws.{same-members}
 use Rattle.lines.specs.OfferLines.{offerFigure, offerLaws}
 use Rattle.plain.specs.Book.{State}
 use Rattle.plain.specs.Meaning.{Priced, Cheapest, PieceAt, Listing}
-use Rattle.plain.specs.ListingLaws.{in-order, same-rate}
+use Rattle.plain.specs.QueryLaws.{earliest-live, earliest-once}
+use Rattle.plain.specs.ListingLaws.{in-order}
 use Rattle.trees.specs.Tree.{leaves}
 use Rattle.trees.specs.Operations.{Part, partLeaves}
 use Rattle.dynamic.specs.OfferTree.{Held}
@@ -36,34 +36,36 @@ use Rattle.promises.specs.Promises.{ProbesIn}
 
 -- ---- a query
 
-pub cheapest-once : {os : List Offer} {q n p m n′ p′ m′ : ℤ} → Pairwise (λ a b. T (precedes a b)) os → Cheapest os q n p m → Cheapest os q n′ p′ m′ →
-    (n ≡ n′) × (p ≡ p′) × (m ≡ m′)
-cheapest-once {os} {q} {n} {p} {m} {n′} {p′} {m′} h a b =
+pub cheapest-once : {os : List Offer} {q n p m n′ p′ m′ : ℤ} → Cheapest os q n p m → Cheapest os q n′ p′ m′ → (n ≡ n′) × (p ≡ p′) × (m ≡ m′)
+cheapest-once {os} {q} {n} {p} {m} {n′} {p′} {m′} a b =
     (one-offer (a .one) (b .one) firsts, price, one-offer (a .other) (b .other) seconds)
   where
+    live : {x y : ℤ} (c : Priced os q x y) → List·Memᴰ (c .offer) os
+    live c = earliest-live (c .live)
+
     price : p ≡ p′
     price =
-        let i = a .least (b .one .offer) (b .one .live) in
-        let j = b .least (a .one .offer) (a .one .live) in
+        let i = a .least (b .one .offer) (live (b .one)) in
+        let j = b .least (a .one .offer) (live (a .one)) in
         let e = a .one .priced in
         let f = b .one .priced in
         omega (arith, intRules)
 
     firsts : a .one .offer .rate ≡ b .one .offer .rate
     firsts =
-        let i = a .lowest (b .one .offer) (b .one .live) (sym (b .one .priced) ∙ sym price) in
-        let j = b .lowest (a .one .offer) (a .one .live) (sym (a .one .priced) ∙ price) in
+        let i = a .lowest (b .one .offer) (live (b .one)) (sym (b .one .priced) ∙ sym price) in
+        let j = b .lowest (a .one .offer) (live (a .one)) (sym (a .one .priced) ∙ price) in
         omega (arith, intRules)
 
     seconds : a .other .offer .rate ≡ b .other .offer .rate
     seconds =
-        let i = a .highest (b .other .offer) (b .other .live) (sym (b .other .priced) ∙ sym price) in
-        let j = b .highest (a .other .offer) (a .other .live) (sym (a .other .priced) ∙ price) in
+        let i = a .highest (b .other .offer) (live (b .other)) (sym (b .other .priced) ∙ sym price) in
+        let j = b .highest (a .other .offer) (live (a .other)) (sym (a .other .priced) ∙ price) in
         omega (arith, intRules)
 
-    -- no two live offers have equal rates
-    one-offer : {x y x′ y′ : ℤ} (c : Priced os q x y) (d : Priced os q x′ y′) → c .offer .rate ≡ d .offer .rate → x ≡ x′
-    one-offer c d e = c .named ∙ ap (λ (o : Offer). o .number) (same-rate h (c .live) (d .live) e) ∙ sym (d .named)
+    one-offer : {x x′ : ℤ} (c : Priced os q x p) (d : Priced os q x′ p′) → c .offer .rate ≡ d .offer .rate → x ≡ x′
+    one-offer c d e =
+        c .named ∙ ap (λ (o : Offer). o .number) (earliest-once (c .live) (d .live) (sym (c .priced) ∙ price ∙ d .priced) e) ∙ sym (d .named)
 
 -- the leaf of the offer named has one depth
 pub probes-once : {w : Words} {plain : State} {held : Option (Held Item)} {number p p′ : ℤ} → Book w plain held → ProbesIn held number p →
