@@ -20,7 +20,7 @@ pub data Earliest (q : ℤ) (o : Offer) : List Offer → Type 0 where
 -- A live offer of this number has this price at the load; of those with this price and its rate it is the first in order.
 pub record Priced (os : List Offer) (q number price : ℤ) : Type 0 where
   pub offer : Offer
-  pub live : Earliest q offer os
+  pub earliest : Earliest q offer os
   pub named : number ≡ offer .number
   pub priced : price ≡ priceAt offer q
 

@@ -25,9 +25,9 @@ cheapest-told : (q : ℤ) (o : Offer) (os : List Offer) →
 cheapest-told q o os =
     record {
       least = λ x m. one .none-first x m .least;
-      one = record { offer = cheapest lower q o os; live = cheapest-earliest lower-tie q o os; named = refl; priced = refl };
+      one = record { offer = cheapest lower q o os; earliest = cheapest-earliest lower-tie q o os; named = refl; priced = refl };
       lowest = λ x m e. let h = one .none-first x m .best e in omega (arith, intRules);
-      other = record { offer = cheapest higher q o os; live = cheapest-earliest higher-tie q o os; named = refl; priced = same };
+      other = record { offer = cheapest higher q o os; earliest = cheapest-earliest higher-tie q o os; named = refl; priced = same };
       highest = λ x m e. let h = other .none-first x m .best (e ∙ same) in omega (arith, intRules);
     }
   where
@@ -62,10 +62,10 @@ one-rate c all = c .other .named ∙ ap (λ (o : Offer). o .number) same ∙ sym
   where
     rates : c .other .offer .rate ≡ c .one .offer .rate
     rates =
-        all (c .other .offer) (c .one .offer) (earliest-live (c .other .live)) (earliest-live (c .one .live)) (sym (c .other .priced)) (sym (c .one .priced))
+        all (c .other .offer) (c .one .offer) (earliest-live (c .other .earliest)) (earliest-live (c .one .earliest)) (sym (c .other .priced)) (sym (c .one .priced))
 
     same : c .other .offer ≡ c .one .offer
-    same = earliest-once (c .other .live) (c .one .live) (sym (c .other .priced) ∙ c .one .priced) rates
+    same = earliest-once (c .other .earliest) (c .one .earliest) (sym (c .other .priced) ∙ c .one .priced) rates
 
 -- ---- a listing
 

@@ -41,7 +41,7 @@ cheapest-once {os} {q} {n} {p} {m} {n′} {p′} {m′} a b =
     (one-offer (a .one) (b .one) firsts, price, one-offer (a .other) (b .other) seconds)
   where
     live : {x y : ℤ} (c : Priced os q x y) → List·Memᴰ (c .offer) os
-    live c = earliest-live (c .live)
+    live c = earliest-live (c .earliest)
 
     price : p ≡ p′
     price =
@@ -65,7 +65,7 @@ cheapest-once {os} {q} {n} {p} {m} {n′} {p′} {m′} a b =
 
     one-offer : {x x′ : ℤ} (c : Priced os q x p) (d : Priced os q x′ p′) → c .offer .rate ≡ d .offer .rate → x ≡ x′
     one-offer c d e =
-        c .named ∙ ap (λ (o : Offer). o .number) (earliest-once (c .live) (d .live) (sym (c .priced) ∙ price ∙ d .priced) e) ∙ sym (d .named)
+        c .named ∙ ap (λ (o : Offer). o .number) (earliest-once (c .earliest) (d .earliest) (sym (c .priced) ∙ price ∙ d .priced) e) ∙ sym (d .named)
 
 -- the leaf of the offer named has one depth
 pub probes-once : {w : Words} {plain : State} {held : Option (Held Item)} {number p p′ : ℤ} → Book w plain held → ProbesIn held number p →
