@@ -83,14 +83,14 @@ pub natAbs-fits : (z : ℤ) → SFits w64 z → ltZ z (pos 0) ≡ false → T (n
 natAbs-fits (pos n) f e = (tt, omega arith)
 natAbs-fits (negsuc n) f e = absurd (true≢false e)
 
--- ---- one more than what is below a million
+-- ---- one more than what is below some most
 
-one-more : (z : ℤ) → SFits w64 z → ltZ z (pos 1_000_000) ≡ true → natAbs (z +ℤ pos 1) < 2 ^ 63
-one-more (pos n) f t = omega (arith, intRules, natAbs-gap (pos n +ℤ pos 1) (n + 1) 0 (omega (arith, add-parts (pos n) (pos 1))))
-one-more (negsuc n) f t = omega (arith, f .sfits, natAbs-gap (negsuc n +ℤ pos 1) 1 (suc n) (omega (arith, add-parts (negsuc n) (pos 1))))
+one-more : {most : ℕ} (z : ℤ) → SFits w64 z → ltZ z (pos most) ≡ true → most < 2 ^ 63 → natAbs (z +ℤ pos 1) < 2 ^ 63
+one-more (pos n) f t h = omega (arith, intRules, natAbs-gap (pos n +ℤ pos 1) (n + 1) 0 (omega (arith, add-parts (pos n) (pos 1))))
+one-more (negsuc n) f t h = omega (arith, f .sfits, natAbs-gap (negsuc n +ℤ pos 1) 1 (suc n) (omega (arith, add-parts (negsuc n) (pos 1))))
 
-pub more-fits : (z : ℤ) → SFits w64 z → ltZ z (pos 1_000_000) ≡ true → SFits w64 (z +ℤ pos 1)
-more-fits z f t = fits (z +ℤ pos 1) (one-more z f t)
+pub more-fits : {most : ℕ} (z : ℤ) → SFits w64 z → ltZ z (pos most) ≡ true → most < 2 ^ 63 → SFits w64 (z +ℤ pos 1)
+more-fits z f t h = fits (z +ℤ pos 1) (one-more z f t h)
 
 -- ---- one line each
 

@@ -40,11 +40,12 @@ a-rest : (t : OfferTree Item) → Rest (restField t)
 a-rest (single a) = omega arith
 a-rest (fork u v l ql qr r) = omega arith
 
--- a field of the tree of offers: none of a bridge's, and in front of the rests'
+-- a field of the tree of offers: none of a bridge's, and none of a rest's
 record OfOffers (f : ℕ) : Type 0 where
-  low : f ≤ heightField offerTree
   no-bridge-u : f ≢ bridgeLeftField
   no-bridge-v : f ≢ bridgeRightField
+  no-inner-rest : f ≢ innerRestField
+  no-leaf-rest : f ≢ leafRestField
 
 of-offers-field : {f : ℕ} → Field offerTree f → OfOffers f
 of-offers-field {f} (a-child side e) = child side e
@@ -57,8 +58,8 @@ of-offers-field (a-height e) = omega arith
 node-apart : {f : ℕ} → RestField f → Field offerTree f → ⊥
 node-apart (bridge-u e) g = of-offers-field g .no-bridge-u e
 node-apart (bridge-v e) g = of-offers-field g .no-bridge-v e
-node-apart (inner-rest e) g = omega (arith, of-offers-field g .low)
-node-apart (leaf-rest e) g = omega (arith, of-offers-field g .low)
+node-apart (inner-rest e) g = of-offers-field g .no-inner-rest e
+node-apart (leaf-rest e) g = of-offers-field g .no-leaf-rest e
 
 module _ {l r : OfferTree Item} {f s : ℕ} where
   wires-field : Wires l r f s → EnvelopeField f

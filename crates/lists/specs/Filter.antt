@@ -1,11 +1,11 @@
 -- A test on every element of a list, and the elements that pass one, as functions that compute.
-use mathlib.Core.Path.{_≡_, refl, sym, subst, ap}
+use mathlib.Core.Path.{_≡_, refl, sym, _∙_, subst, ap}
 use mathlib.Core.Logic.{_⊎_, inl, inr, ⊎-elim}
 use mathlib.Core.Bool.{Bool, true, false, _&&_, cond}
 use mathlib.Core.List.{List, map, [], _∷_, List·Memᴰ, List·Memᴰ·head, List·Memᴰ·tail, List·Memᴰ·cases-cons, Sublistᴰ, Sublistᴰ·slnil, Sublistᴰ·cons}
 use mathlib.Core.List.{Sublistᴰ·cons-cons}
 use lib.Dec.{T}
-use Rattle.lists.specs.Bools.{and-both, and-left, and-right}
+use Rattle.lists.specs.Bools.{and-both, and-left, and-right, cond-yes}
 
 module _ {A : Type 0} where
   abbrev pub every : (A → Bool) → List A → Bool
@@ -48,6 +48,13 @@ module _ {A : Type 0} where
       step true e (inr m′) ih = List·Memᴰ·tail (ih m′)
       step false e (inl q) ih = absurd (subst T e (subst (λ (y : A). T (p y)) q t))
       step false e (inr m′) ih = ih m′
+
+  -- where all pass, all are kept
+  pub keep-all : (p : A → Bool) (xs : List A) → ((a : A) → List·Memᴰ a xs → T (p a)) → keep p xs ≡ xs
+  keep-all p [] h = refl
+  keep-all p (x ∷ xs) h =
+      cond-yes (p x) (x ∷ keep p xs) (keep p xs) (h x (List·Memᴰ·head refl))
+      ∙ ap {B = List A} (λ (r : List A). x ∷ r) (keep-all p xs (λ a m. h a (List·Memᴰ·tail m)))
 
   -- tests that agree keep the same
   pub keep-same : (p q : A → Bool) → ((a : A) → p a ≡ q a) → (l : List A) → keep p l ≡ keep q l

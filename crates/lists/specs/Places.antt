@@ -24,6 +24,11 @@ module _ {A : Type 0} where
   place-of d (List·Memᴰ·head e) = (zero, suc-le-suc zero-le, e)
   place-of d (List·Memᴰ·tail m) = let (i, h, e) = place-of d m in (suc i, suc-le-suc h, e)
 
+  -- the part in front of a member, and the part behind it
+  pub mem-split : {a : A} {l : List A} → List·Memᴰ a l → (xs : List A) × (ys : List A) × (l ≡ xs ++ a ∷ ys)
+  mem-split (List·Memᴰ·head {x} {xs} e) = ([], xs, ap (λ z. z ∷ xs) (sym e))
+  mem-split (List·Memᴰ·tail {x} m) = let (ys, zs, e) = mem-split m in (x ∷ ys, zs, ap (λ l. x ∷ l) e)
+
   pub sublist-mem : {a : A} {s l : List A} → Sublistᴰ s l → List·Memᴰ a s → List·Memᴰ a l
   sublist-mem Sublistᴰ·slnil m = m
   sublist-mem (Sublistᴰ·cons s) m = List·Memᴰ·tail (sublist-mem s m)

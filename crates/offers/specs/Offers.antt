@@ -1,8 +1,9 @@
 -- Offers and loads (docs/REQUIREMENTS.md, 2). Every number here is an integer of any size; the ranges say which are accepted.
 use Prim.Native.Nat.{ℕ, suc}
-use mathlib.Core.Bool.{Bool, _&&_}
+use mathlib.Core.Bool.{Bool, _&&_, _||_}
 use lib.IntN.{ℤ, pos, negℤ, _+ℤ_, _-ℤ_, _*ℤ_}
 use lib.Signed.{leZ, ltZ}
+use Rattle.integers.specs.Equal.{equal}
 
 pub record Offer : Type 0 where
   pub number : ℤ
@@ -59,9 +60,15 @@ priceTimesD o x = o .base *ℤ denominator x +ℤ o .rate *ℤ x .numerator
 
 -- ---- the order of offers, and crossings
 
--- Offers are ordered by falling rate.
+-- The first has the higher rate.
 abbrev pub precedes : Offer → Offer → Bool
 precedes a b = ltZ (b .rate) (a .rate)
+
+-- Offers are ordered by falling rate, then rising base, then rising number.
+abbrev pub ahead : Offer → Offer → Bool
+ahead a b =
+    precedes a b
+    || equal (a .rate) (b .rate) && (ltZ (a .base) (b .base) || equal (a .base) (b .base) && ltZ (a .number) (b .number))
 
 -- The crossing of an offer with the next, unreduced.
 abbrev pub crossingNumerator : Offer → Offer → ℤ

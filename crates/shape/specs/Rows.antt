@@ -3,7 +3,7 @@ use mathlib.Core.Path.{_≡_, sym, _∙_, ap, subst}
 use mathlib.Core.Bool.{Bool}
 use Prim.Native.Nat.{ℕ, _≤_}
 use Rattle.trees.specs.Tree.{Tree, leaves}
-use Rattle.table.specs.Fields.{numberTree}
+use Rattle.table.specs.Fields.{orderTree}
 use Rattle.table.specs.Words.{Words}
 use Rattle.table.specs.Layout.{cap}
 use Rattle.table.specs.Items.{Item, In, Slots}
@@ -53,7 +53,7 @@ made-as {k} {x} {w} {w′} e m = subst (λ t. Made k w w′ x t) e m
 -- ---- three trees in a row
 
 pub record Row (w : Words) (k : ℕ) (side : Bool) (p m q : ℕ) (tp tm tq : Tree Item) : Type 0 where
-  pub kind : k ≤ numberTree
+  pub kind : k ≤ orderTree
   pub one : p ≡ refOf tp
   pub middle : m ≡ refOf tm
   pub other : q ≡ refOf tq

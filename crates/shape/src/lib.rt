@@ -1,4 +1,4 @@
-// Balanced trees in the table. One set of functions serves the three trees and both sides.
+// Balanced trees in the table. One set of functions serves the four trees and both sides.
 ghost use mathlib.Core.Path.{_≡_};
 ghost use Prim.Native.Nat.{suc, _≤_};
 ghost use lib.Dec.{ltb};

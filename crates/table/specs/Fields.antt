@@ -21,6 +21,9 @@ numbersRootWord = 4
 abbrev pub firstFreeWord : ℕ
 firstFreeWord = 5
 
+abbrev pub orderRootWord : ℕ
+orderRootWord = 6
+
 -- ---- a slot's fields; a tree's children and heights are `childField` and `heightField` (Rep)
 
 -- the offer; a free slot has the number 0
@@ -36,6 +39,10 @@ baseField = 2
 -- of a free slot
 abbrev pub nextFreeField : ℕ
 nextFreeField = 3
+
+-- of a live slot, in the same place: the rank of its offer
+abbrev pub rankField : ℕ
+rankField = 3
 
 -- the first of a piece's node: its two children, and then its crossing
 abbrev pub pieceNodeField : ℕ
@@ -75,6 +82,10 @@ offerTree = 1
 
 abbrev pub numberTree : ℕ
 numberTree = 2
+
+-- all live offers in order; the last of the trees
+abbrev pub orderTree : ℕ
+orderTree = 3
 
 -- ---- limits
 

@@ -1,11 +1,12 @@
 -- Where a part keeps what. The first 64 words are the header, and word 0 is the capacity c. Then come planes of four words for each slot
 -- from 0 to c: field f of slot s is word f % 4 of that slot in plane f / 4. Slot 0 is never used.
---     plane 0   number (0: free), rate, base, next free slot
+--     plane 0   number (0: free), rate, base, rank (free: the next free slot)
 --     plane 1   piece tree: left, right; crossing with the next piece: numerator, denominator
 --     plane 2   offer tree: left, right; the bridge's two ends
 --     plane 3   number tree: left, right
---     plane 4   heights of the three trees, next piece
+--     plane 4   order: left, right; next piece
 --     plane 5   the part stored with the inner node, with the leaf
+--     plane 6   heights of the four trees
 -- Reading and writing a field are total: a field that the part lacks reads 0, and a write to it does nothing.
 use mathlib.Core.Path.{_≡_, refl, sym, _∙_, ap}
 use mathlib.Core.Logic.{_≢_}

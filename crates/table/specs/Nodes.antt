@@ -8,7 +8,7 @@ use native.Mathlib.Omega.{arith}
 use lib.IntN.{ℤ, pos}
 use Rattle.trees.specs.Tree.{Tree, leaf, node, height, leaves, last}
 use Rattle.trees.specs.Leaves.{last-leaf}
-use Rattle.table.specs.Fields.{mostNodes, mostSlots, numberTree}
+use Rattle.table.specs.Fields.{mostNodes, mostSlots, orderTree}
 use Rattle.table.specs.Words.{Words, word, word-out, upTo, upTo-in}
 use Rattle.table.specs.Layout.{cap, cap-most, cell, cset, linkAt, spot-out, Valid, cset-same, cset-other}
 use Rattle.table.specs.Items.{Item, In, at, in-left, in-right, Slots, slots-left, slots-right, slots-across, height-most}
@@ -121,7 +121,7 @@ opened {w} {k} {x} {t = node l r} side h d = go side (parents h)
 
 -- node p is the root of tp on a side, node q that of tq on the other
 pub record Pair (w : Words) (k : ℕ) (side : Bool) (p q : ℕ) (tp tq : Tree Item) : Type 0 where
-  pub kind : k ≤ numberTree
+  pub kind : k ≤ orderTree
   pub one : p ≡ refOf tp
   pub other : q ≡ refOf tq
   pub slots : Slots (cap w) (leaves (nodeOn side tp tq))
@@ -189,11 +189,11 @@ two-children : (k : ℕ) (side : Bool) → childField k side ≢ childField k (n
 two-children k false e = omega arith
 two-children k true e = omega arith
 
-no-height : {k : ℕ} (side : Bool) → k ≤ numberTree → childField k side ≢ heightField k
+no-height : {k : ℕ} (side : Bool) → k ≤ orderTree → childField k side ≢ heightField k
 no-height {k} false h e = omega arith
 no-height {k} true h e = omega arith
 
-child-field : {k : ℕ} (side : Bool) → k ≤ numberTree → childField k side < 32
+child-field : {k : ℕ} (side : Bool) → k ≤ orderTree → childField k side < 32
 child-field {k} false h = omega arith
 child-field {k} true h = omega arith
 
@@ -207,7 +207,7 @@ module _ (w : Words) (k : ℕ) (side : Bool) (gap p q h : ℕ) where
       only-trans (only-cset w (pos p) (a-child side refl) i)
       (only-trans (only-cset _ (pos q) (a-child (not side) refl) i) (only-cset _ (pos h) (a-height refl) i))
 
-  module _ (kind : k ≤ numberTree) (low : 1 ≤ gap) (high : gap ≤ cap w) where
+  module _ (kind : k ≤ orderTree) (low : 1 ≤ gap) (high : gap ≤ cap w) where
     here : (f : ℕ) {w′ : Words} → f < 32 → Within w w′ → Valid w′ f gap
     here f b g = record { low = low; high = omega (arith, within-cap g); field = b }
 

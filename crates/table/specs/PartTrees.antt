@@ -7,7 +7,7 @@ use native.Mathlib.Omega.{arith}
 use Rattle.trees.specs.Tree.{Tree, height, leaves, last, Avl}
 use Rattle.trees.specs.Operations.{Part, partLeaves}
 use Rattle.trees.specs.Height.{height-full}
-use Rattle.table.specs.Fields.{mostLevels, numberTree}
+use Rattle.table.specs.Fields.{mostLevels, orderTree}
 use Rattle.table.specs.Words.{Words}
 use Rattle.table.specs.Layout.{cap, cap-most}
 use Rattle.table.specs.Items.{Item, In, Slots, slots-none, slots-most}
@@ -23,12 +23,12 @@ TiedPart w k none = Unit {0}
 TiedPart w k (some t) = Tied w k t
 
 pub record RepP (w : Words) (k x : ℕ) (p : Part Item) : Type 0 where
-  pub kind : k ≤ numberTree
+  pub kind : k ≤ orderTree
   pub root : x ≡ partRef p
   pub slots : Slots (cap w) (partLeaves p)
   pub tied : TiedPart w k p
 
-pub repP-none : {w : Words} {k : ℕ} → k ≤ numberTree → RepP w k 0 none
+pub repP-none : {w : Words} {k : ℕ} → k ≤ orderTree → RepP w k 0 none
 repP-none h = record { kind = h; root = refl; slots = slots-none; tied = tt }
 
 -- x is the root of p, and nothing but nodes of p was written
@@ -59,7 +59,7 @@ low w {t} s a = height-full a (omega (arith, slots-most (cap w) (leaves t) s, ca
 -- ---- two parts side by side
 
 pub record PairP (w : Words) (k l r : ℕ) (pl pr : Part Item) : Type 0 where
-  pub kind : k ≤ numberTree
+  pub kind : k ≤ orderTree
   pub left : l ≡ partRef pl
   pub right : r ≡ partRef pr
   pub slots : Slots (cap w) (partLeaves pl ++ partLeaves pr)

@@ -1,4 +1,4 @@
--- Trees kept in words. Three trees are told apart by a number k: 0 the pieces, 1 the offers, 2 the numbers. A node's number is 1 to 4,096 for
+-- Trees kept in words. Four trees are told apart by a number k: 0 the pieces, 1 the offers, 2 the numbers, 3 the order. A node's number is 1 to 4,096 for
 -- the leaf of that slot, 4,096 + s for the inner node kept in slot s, and 0 for no tree. An inner node is kept in the slot of the last leaf
 -- of its left part, so every node's number follows from the tree. A side is a Bool: false is left.
 use mathlib.Core.Path.{_≡_, refl, sym, _∙_, ap, subst}
@@ -11,7 +11,7 @@ use lib.ListN.{length}
 use lib.IntN.{ℤ}
 use Rattle.trees.specs.Tree.{Tree, leaf, node, height, leaves, last}
 use Rattle.trees.specs.Leaves.{last-leaf}
-use Rattle.table.specs.Fields.{capacityWord, mostNodes, mostSlots, numberTree}
+use Rattle.table.specs.Fields.{capacityWord, mostNodes, mostSlots, orderTree}
 use Rattle.table.specs.Words.{Words, word, upTo}
 use Rattle.table.specs.Layout.{cap, cap-of, cell, cset, linkAt, link-most, outside-of, Outside, header-outside, cset-length, cset-rest, cset-other}
 use Rattle.table.specs.Items.{Item, In, at, in-left, in-right, Slots, slots-right, slots-across}
@@ -26,7 +26,7 @@ abbrev pub childField : ℕ → Bool → ℕ
 childField k side = 4 + 4 * k + bit side
 
 abbrev pub heightField : ℕ → ℕ
-heightField k = 16 + k
+heightField k = 24 + k
 
 -- the fields of tree k
 pub data Field (k f : ℕ) : Type 0 where
@@ -71,7 +71,7 @@ pub data Tied (w : Words) (k : ℕ) : Tree Item → Type 0 where
 
 -- node x of tree k is the root of t
 pub record Rep (w : Words) (k x : ℕ) (t : Tree Item) : Type 0 where
-  pub kind : k ≤ numberTree
+  pub kind : k ≤ orderTree
   pub root : x ≡ refOf t
   pub slots : Slots (cap w) (leaves t)
   pub tied : Tied w k t

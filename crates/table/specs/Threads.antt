@@ -14,7 +14,7 @@ use lib.ListN.{length}
 use Rattle.offers.specs.Offers.{offerInRange, crossingNumerator, crossingDenominator}
 use Rattle.trees.specs.Tree.{Tree, leaves, first, last}
 use Rattle.trees.specs.Leaves.{start, rest, leaves-first, leaves-last}
-use Rattle.table.specs.Fields.{baseField, denominatorField, mostNodes, nextPieceField, numberField, numberTree, numeratorField, pieceNodeField, rateField}
+use Rattle.table.specs.Fields.{baseField, denominatorField, mostNodes, nextPieceField, numberField, orderTree, numeratorField, pieceNodeField, rateField}
 use Rattle.table.specs.Words.{Words, upTo, upTo-in}
 use Rattle.table.specs.Layout.{cap, cell, cset, linkAt, Valid, cset-cap, cset-same, cset-other}
 use Rattle.table.specs.Items.{Item, In, at, Slots, slots-across}
@@ -130,7 +130,7 @@ threaded-still (IsChain·cons-cons {a = a} n h) same =
     IsChain·cons-cons (next-still (same (a .slot) (leads-here refl (omega arith))) n) (threaded-still h (λ s k. same s (leads-later k)))
 
 -- the nodes of a tree are in other fields
-field-high : {k f : ℕ} → Field k f → pieceNodeField ≤ f
+pub field-high : {k f : ℕ} → Field k f → pieceNodeField ≤ f
 field-high {k} {f} (a-child side e) = child side e
   where
     child : (side : Bool) → f ≡ childField k side → pieceNodeField ≤ f
@@ -138,7 +138,7 @@ field-high {k} {f} (a-child side e) = child side e
     child true e = omega arith
 field-high (a-height e) = omega arith
 
-field-thread : {k f : ℕ} → Field k f → k ≤ numberTree → (f ≢ numeratorField) × (f ≢ denominatorField) × (f ≢ nextPieceField)
+field-thread : {k f : ℕ} → Field k f → k ≤ orderTree → (f ≢ numeratorField) × (f ≢ denominatorField) × (f ≢ nextPieceField)
 field-thread {k} {f} (a-child side e) h = child side e
   where
     child : (side : Bool) → f ≡ childField k side → (f ≢ numeratorField) × (f ≢ denominatorField) × (f ≢ nextPieceField)
@@ -155,7 +155,7 @@ module _ {k : ℕ} {xs : List Item} {w w′ : Words} (g : Only k xs w w′) wher
         base = g .cells baseField s (λ q. omega (arith, field-high (q .0)));
       }
 
-  pub only-thread : k ≤ numberTree → (s : ℕ) → SameThread w w′ s
+  pub only-thread : k ≤ orderTree → (s : ℕ) → SameThread w w′ s
   only-thread h s =
       record {
         next = g .cells nextPieceField s (λ q. field-thread (q .0) h .2 refl);

@@ -25,9 +25,11 @@ pub const NUMBERS_ROOT: usize = 4;
 
 pub const FIRST_FREE: usize = 5;
 
-// The fields of a slot: its offer, the next free slot, the first of a piece's node (its children, then its crossing), the crossing with the next
-// piece and that piece, the bridge of the offers' inner node, and the pieces that stay with the inner node and with the leaf. `child_field` and
-// `height_field` give the trees'.
+pub const ORDER_ROOT: usize = 6;
+
+// The fields of a slot: its offer, the next free slot or, where the slot is live, its offer's rank, the first of a piece's node (its children, then
+// its crossing), the crossing with the next piece and that piece, the bridge of the offers' inner node, and the pieces that stay with the inner
+// node and with the leaf. `child_field` and `height_field` give the trees'.
 pub const NUMBER: usize = 0;
 
 pub const RATE: usize = 1;
@@ -35,6 +37,8 @@ pub const RATE: usize = 1;
 pub const BASE: usize = 2;
 
 pub const NEXT_FREE: usize = 3;
+
+pub const RANK: usize = 3;
 
 pub const PIECE_NODE: usize = 4;
 
@@ -58,6 +62,8 @@ pub const PIECES: u8 = 0;
 pub const OFFERS: u8 = 1;
 
 pub const NUMBERS: u8 = 2;
+
+pub const ORDER: u8 = 3;
 
 // The most slots of a part, the highest number of a node, and a height that no balanced tree of so many leaves exceeds. A node up to
 // MOST_SLOTS is the leaf of that slot, one above it an inner node.
@@ -189,7 +195,7 @@ pub fn put_link(part: &mut [i64], field: usize, slot: u32, value: u32)
     put(part, field, slot, value as i64);
 }
 
-// The field of a child in a tree. The trees are 0 the pieces, 1 the offers, 2 the numbers; the sides are false left, true right.
+// The field of a child in a tree. The trees are 0 the pieces, 1 the offers, 2 the numbers, 3 the order; the sides are false left, true right.
 pub fn child_field(tree: u8, side: bool) -> usize
     ensures { λ r. ⌜ r ≡ childField tree side ⌝ }
 {
@@ -202,7 +208,7 @@ pub fn child_field(tree: u8, side: bool) -> usize
 pub fn height_field(tree: u8) -> usize
     ensures { λ r. ⌜ r ≡ heightField tree ⌝ }
 {
-    16 + tree as usize
+    24 + tree as usize
 }
 
 // The slot that keeps inner node `x`, and 0 where `x` is no inner node.
