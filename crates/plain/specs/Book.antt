@@ -9,15 +9,17 @@ use lib.Dec.{leb, ltb}
 use lib.IntN.{ℤ, pos, natAbs, _*ℤ_}
 use lib.Signed.{ltZ}
 use Rattle.lists.specs.Filter.{every, keep}
+use Rattle.lists.specs.Firsts.{firsts}
 use Rattle.lists.specs.Tests.{any}
 use Rattle.integers.specs.Equal.{equal}
-use Rattle.offers.specs.Offers.{Offer, between, numberInRange, rateInRange, baseInRange, loadInRange, priceAt, precedes, crossingNumerator, crossingDenominator}
+use Rattle.offers.specs.Offers.{Offer, between, numberInRange, rateInRange, baseInRange, loadInRange, priceAt, precedes, ahead}
+use Rattle.offers.specs.Offers.{crossingNumerator, crossingDenominator}
 use Rattle.plain.specs.Causes.{Cause, Trial, _when_, declined, causeNumber, capacityOutOfRange, tableTooShort, numberOutOfRange, rateOutOfRange}
-use Rattle.plain.specs.Causes.{baseOutOfRange, loadOutOfRange, numberLive, rateLive, bookFull, numberNotLive, bookEmpty, outputTooShort}
+use Rattle.plain.specs.Causes.{baseOutOfRange, loadOutOfRange, numberLive, bookFull, numberNotLive, bookEmpty, outputTooShort}
 
 pub record State : Type 0 where
   pub capacity : ℕ
-  -- the live offers, by falling rate
+  -- the live offers in order: by falling rate, then rising base, then rising number
   pub offers : List Offer
 
 -- ---- the calls and their answers
@@ -48,13 +50,10 @@ pub record Outcome : Type 0 where
 abbrev pub hasNumber : ℤ → Offer → Bool
 hasNumber n o = equal (o .number) n
 
-abbrev pub hasRate : ℤ → Offer → Bool
-hasRate r o = equal (o .rate) r
-
 -- The offer joins, in order.
 abbrev pub join : Offer → List Offer → List Offer
 join o [] = o ∷ []
-join o (p ∷ ps) = cond (precedes o p) (o ∷ p ∷ ps) (p ∷ join o ps)
+join o (p ∷ ps) = cond (ahead o p) (o ∷ p ∷ ps) (p ∷ join o ps)
 
 -- The offer leaves.
 abbrev pub leave : ℤ → List Offer → List Offer
@@ -80,10 +79,18 @@ cheapest tie q best (o ∷ os) = cheapest tie q (cond (goesFirst tie q o best) o
 abbrev pub turns : Offer → Offer → Offer → Bool
 turns a e c = ltZ (crossingNumerator a e *ℤ crossingDenominator e c) (crossingNumerator e c *ℤ crossingDenominator a e)
 
--- The offers on the lower envelope: each whose every crossing with an earlier offer lies strictly left of its every crossing with a later one.
--- `ListingLaws` proves that these are the offers that at some rational load, of any size, are strictly cheaper than every other.
+-- Of one rate the first alone: an offer, then the firsts behind it that have a lower rate.
+abbrev pub firstOfEach : List Offer → List Offer
+firstOfEach os = firsts precedes os
+
+-- Of offers with different rates, those whose every crossing with an earlier offer lies strictly left of their every crossing with a later one.
+abbrev pub lowerEnvelope : List Offer → List Offer
+lowerEnvelope os = keep (λ e. every (λ a. every (λ c. not (precedes a e && precedes e c) || turns a e c) os) os) os
+
+-- The offers on the lower envelope. `ListingLaws` proves that each is the first of its rate and at some rational load, of any size, strictly cheaper
+-- than every offer of another rate, and that there is no other such offer.
 abbrev pub envelope : List Offer → List Offer
-envelope os = keep (λ e. every (λ a. every (λ c. not (precedes a e && precedes e c) || turns a e c) os) os) os
+envelope os = lowerEnvelope (firstOfEach os)
 
 -- Number, numerator, denominator a piece: its crossing with the next, unreduced. The last carries 0 and 0.
 abbrev pub pieceWords : List Offer → List ℤ
@@ -122,7 +129,6 @@ rangeTrials (listing room) = []
 abbrev pub bookTrials : State → Call → List Trial
 bookTrials s (post n r b) =
     numberLive when any (hasNumber n) (s .offers)
-    ∷ rateLive when any (hasRate r) (s .offers)
     ∷ bookFull when leb (s .capacity) (length (s .offers))
     ∷ []
 bookTrials s (withdraw n) = numberNotLive when not (any (hasNumber n) (s .offers)) ∷ []

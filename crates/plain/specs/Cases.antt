@@ -3,8 +3,8 @@
 use mathlib.Core.Path.{_≡_, refl}
 use mathlib.Core.List.{List, [], _∷_, _++_, map}
 use lib.IntN.{pos, negℤ}
-use Rattle.plain.specs.Book.{State, Call, post, withdraw, query, listing, Answer, refused, live, found, listed}
-use Rattle.plain.specs.Book.{opened, opening, after, answers, step}
+use Rattle.plain.specs.Book.{Call, post, withdraw, query, listing, Answer, refused, live, found, listed}
+use Rattle.plain.specs.Book.{opened, opening, after, answers}
 
 -- Calls that make a book, and the answers of the calls asked of it then.
 pub record Row : Type 0 where
@@ -58,17 +58,63 @@ three-at-once = row touching (query (pos 5)) (found (pos 3) (pos 10) (pos 1))
 pub three-told : answered three-at-once ≡ three-at-once .told
 three-told = refl
 
--- Within one rate the older order holds: the first in the list is named. No list of calls makes such a state, in which a rate is live twice.
-abbrev pub one-rate-twice : State
-one-rate-twice =
-    record {
-      capacity = 4;
-      offers =
-          record { number = pos 2; rate = pos 3; base = pos 0 } ∷ record { number = pos 1; rate = pos 3; base = pos 0 } ∷ [];
-    }
+-- ---- several offers of one rate
 
-pub earlier-named : step one-rate-twice (query (pos 5)) .answer ≡ found (pos 2) (pos 15) (pos 2)
+-- (3, 5), (3, 0): the later is cheaper
+abbrev pub undercut : List Call
+undercut = post (pos 1) (pos 3) (pos 5) ∷ post (pos 2) (pos 3) (pos 0) ∷ []
+
+-- (3, 0) twice, the higher number first
+abbrev pub alike : List Call
+alike = post (pos 2) (pos 3) (pos 0) ∷ post (pos 1) (pos 3) (pos 0) ∷ []
+
+-- Within one rate the first in order is named, here the one posted second.
+abbrev pub one-rate-twice : Row
+one-rate-twice = row alike (query (pos 5)) (found (pos 1) (pos 15) (pos 1))
+
+pub earlier-named : answered one-rate-twice ≡ one-rate-twice .told
 earlier-named = refl
+
+-- (2, 0) and (0, 10), twice each: at load 5 all four have one price
+abbrev pub pairs : List Call
+pairs =
+    post (pos 5) (pos 2) (pos 0) ∷ post (pos 1) (pos 2) (pos 0) ∷ post (pos 4) (pos 0) (pos 10) ∷ post (pos 3) (pos 0) (pos 10) ∷ []
+
+abbrev pub shared : List Row
+shared =
+    -- the lower base is named and listed, and the other not; once it is withdrawn, its follower
+    row undercut (query (pos 5)) (found (pos 2) (pos 15) (pos 2))
+    ∷ row undercut (listing 3) (listed 1 (pos 2 ∷ pos 0 ∷ pos 0 ∷ []))
+    ∷ row (undercut ++ (withdraw (pos 2) ∷ [])) (query (pos 5)) (found (pos 1) (pos 20) (pos 1))
+    ∷ row (undercut ++ (withdraw (pos 2) ∷ [])) (listing 3) (listed 1 (pos 1 ∷ pos 0 ∷ pos 0 ∷ []))
+    -- of one base the lower number
+    ∷ row alike (listing 3) (listed 1 (pos 1 ∷ pos 0 ∷ pos 0 ∷ []))
+    ∷ row (alike ++ (withdraw (pos 1) ∷ [])) (listing 3) (listed 1 (pos 2 ∷ pos 0 ∷ pos 0 ∷ []))
+    -- the lower base counts before the lower number
+    ∷ row (alike ++ (post (pos 3) (pos 3) (negℤ (pos 1)) ∷ [])) (query (pos 5)) (found (pos 3) (pos 14) (pos 3))
+    -- of two rates at one price the first of the lower rate and the first of the higher
+    ∷ row pairs (query (pos 5)) (found (pos 3) (pos 10) (pos 1))
+    ∷ row pairs (listing 6) (listed 2 (pos 1 ∷ pos 10 ∷ pos 2 ∷ pos 3 ∷ pos 0 ∷ pos 0 ∷ []))
+    -- the first of a rate that is nowhere strictly cheaper than the others: neither it nor its follower
+    ∷ row (touching ++ (post (pos 4) (pos 1) (pos 6) ∷ [])) (listing 6) (listed 2 (pos 1 ∷ pos 10 ∷ pos 2 ∷ pos 3 ∷ pos 0 ∷ pos 0 ∷ []))
+    -- .. until one of that rate is
+    ∷ row (touching ++ (post (pos 4) (pos 1) (pos 4) ∷ [])) (listing 9)
+    (listed 3 (pos 1 ∷ pos 4 ∷ pos 1 ∷ pos 4 ∷ pos 6 ∷ pos 1 ∷ pos 3 ∷ pos 0 ∷ pos 0 ∷ []))
+    ∷ []
+
+-- a follower is withdrawn, and the first stays; five of one rate, in order
+pub followers-told : answers (after (opened (pos 64)) undercut) (withdraw (pos 1) ∷ withdraw (pos 1) ∷ query (pos 5) ∷ listing 3 ∷ []) ≡
+    live 1 ∷ refused 8 ∷ found (pos 2) (pos 15) (pos 2) ∷ listed 1 (pos 2 ∷ pos 0 ∷ pos 0 ∷ []) ∷ []
+followers-told = refl
+
+pub five-told : answers (after (opened (pos 64)) alike) (post (pos 5) (pos 3) (pos 0) ∷ post (pos 4) (pos 3) (pos 0) ∷ post (pos 3) (pos 3) (pos 0) ∷
+    withdraw (pos 2) ∷ withdraw (pos 1) ∷ query (pos 5) ∷ []) ≡ live 3 ∷ live 4 ∷ live 5 ∷ live 4 ∷ live 3 ∷ found (pos 3) (pos 15) (pos 3) ∷ []
+five-told = refl
+
+pub shared-told : map answered shared ≡ map (λ r. r .told) shared
+shared-told = refl
+
+-- ---- between whole loads
 
 -- Crossings are not rounded: (0, 0), (−3, 7), (−6, 15) cross at 7/3 and 8/3, so the second is the cheapest only between two whole loads.
 abbrev pub between-loads : Row
@@ -99,7 +145,7 @@ sample =
 pub sample-told : answered sample ≡ sample .told
 sample-told = refl
 
--- where several causes apply, the first that is tried counts; a refused call leaves the book as it was
+-- where several causes apply, the first that is tried counts; a refused call leaves the book as it was. A live number is refused, a live rate is not
 abbrev pub refusals : Row
 refusals =
     record {
@@ -113,7 +159,7 @@ refusals =
           ∷ query (pos 1_000_001)
           ∷ post (pos 1) (pos 3) (pos 7)
           ∷ post (pos 4) (pos 3) (pos 7)
-          ∷ withdraw (pos 4)
+          ∷ withdraw (pos 5)
           ∷ listing 8
           ∷ withdraw (pos 2)
           ∷ withdraw (pos 2)
@@ -127,10 +173,10 @@ refusals =
           ∷ refused 4
           ∷ refused 16
           ∷ refused 5
-          ∷ refused 6
+          ∷ live 4
           ∷ refused 8
           ∷ refused 10
-          ∷ live 2
+          ∷ live 3
           ∷ refused 8
           ∷ listed 2 (pos 1 ∷ pos 40 ∷ pos 3 ∷ pos 3 ∷ pos 0 ∷ pos 0 ∷ [])
           ∷ [];
@@ -140,7 +186,7 @@ pub refusals-told : answered refusals ≡ refusals .told
 refusals-told = refl
 
 -- Which entry is out of range: the number before the rate, the rate before the base, and each before what the book holds. In the third and the
--- fourth post the number is live, and in the fourth the rate too.
+-- fourth post the number is live.
 abbrev pub entries : Row
 entries =
     record {
@@ -187,7 +233,8 @@ ends-told = refl
 
 -- a book of one slot: full, then empty; nothing listed takes no room
 pub one-slot : answers (opened (pos 1)) (query (pos 0) ∷ listing 0 ∷ post (pos 9) (pos 1) (pos 2) ∷ post (pos 9) (pos 1) (pos 2) ∷ post (pos 8) (pos 2)
-    (pos 2) ∷ withdraw (pos 9) ∷ query (pos 0) ∷ []) ≡ refused 9 ∷ listed 0 [] ∷ live 1 ∷ refused 5 ∷ refused 7 ∷ live 0 ∷ refused 9 ∷ []
+    (pos 2) ∷ post (pos 8) (pos 1) (pos 2) ∷ withdraw (pos 9) ∷ query (pos 0) ∷ []) ≡
+    refused 9 ∷ listed 0 [] ∷ live 1 ∷ refused 5 ∷ refused 7 ∷ refused 7 ∷ live 0 ∷ refused 9 ∷ []
 one-slot = refl
 
 -- .. and an entry out of range is told before a full book, and before an empty one

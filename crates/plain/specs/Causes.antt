@@ -14,7 +14,7 @@ pub data Cause : Type 0 where
   -- an argument out of its range
   numberOutOfRange rateOutOfRange baseOutOfRange loadOutOfRange priceOutOfRange : Cause
   -- post
-  numberLive rateLive bookFull : Cause
+  numberLive bookFull : Cause
   -- withdraw
   numberNotLive : Cause
   -- query, mark, meet
@@ -28,6 +28,7 @@ pub data Cause : Type 0 where
   -- mark
   noSuchMark : Cause
 
+-- Number 6 told of a rate that was live; no cause has it any more.
 abbrev pub causeNumber : Cause → ℕ
 causeNumber capacityOutOfRange = 1
 causeNumber tableTooShort = 2
@@ -38,7 +39,6 @@ causeNumber baseOutOfRange = 15
 causeNumber loadOutOfRange = 16
 causeNumber priceOutOfRange = 4
 causeNumber numberLive = 5
-causeNumber rateLive = 6
 causeNumber bookFull = 7
 causeNumber numberNotLive = 8
 causeNumber bookEmpty = 9

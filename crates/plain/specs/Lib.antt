@@ -7,19 +7,21 @@ pub mod Trials
 pub mod Book
 -- statement: what a query and a listing tell of a list of live offers, in the words of docs/REQUIREMENTS.md (3) and with no way of computing it
 pub mod Meaning
--- lemmas: prices to prove: ten cases, each through the calls of a freshly opened book of capacity 64, as one table that the checker computes
+-- lemmas: prices to prove, and other cases: each through the calls of a freshly opened book, the ten as one table that the checker computes
 pub mod Cases
 -- lemmas: what holds of the plain book after every list of calls
 pub mod Sound
 -- lemmas: who is live after a post and after a withdrawal
 pub mod LiveAfter
+-- lemmas: the first of each rate of a list in order, of offers or of what holds an offer: which they are
+pub mod FirstLaws
 -- lemmas: the plain book's calls, one by one: which trial declines, and what an accepted call answers and leaves
 pub mod Rules
 -- statement and lemmas: which entry of a call is out of range: the number that names it, and that a call is refused with such a number exactly then
 pub mod Entries
 -- lemmas: a query's price is the least over all live offers; of those at that price it names the lowest rate first and the highest second
 pub mod QueryLaws
--- lemmas: the listing names an offer exactly when at some rational load, of any size, it is strictly cheaper than every other live offer
+-- lemmas: the listing names the first of a rate exactly when at some rational load, of any size, it is strictly cheaper than every other rate's offers
 pub mod ListingLaws
 -- lemmas: the plain book's query and listing tell what `Meaning` says, whatever calls made its offers
 pub mod MeaningLaws

@@ -9,14 +9,14 @@ use Rattle.lists.specs.Filter.{keep-passes, keep-in, keep-sublist}
 use Rattle.lists.specs.Places.{sublist-mem}
 use Rattle.integers.specs.Equal.{equal}
 use Rattle.integers.specs.Parts.{unequal, equal-eq}
-use Rattle.offers.specs.Offers.{Offer, precedes}
+use Rattle.offers.specs.Offers.{Offer, ahead}
 use Rattle.plain.specs.Book.{join, leave, hasNumber}
 use Rattle.plain.specs.Sound.{mem-join}
 
 in-join : (o : Offer) {x : Offer} (os : List Offer) → (x ≡ o) ⊎ List·Memᴰ x os → List·Memᴰ x (join o os)
 in-join o [] (inl e) = List·Memᴰ·head e
 in-join o [] (inr m) = elim m [ ]
-in-join o {x} (p ∷ ps) w = go (precedes o p) w (in-join o ps)
+in-join o {x} (p ∷ ps) w = go (ahead o p) w (in-join o ps)
   where
     go : (b : Bool) → (x ≡ o) ⊎ List·Memᴰ x (p ∷ ps) → ((x ≡ o) ⊎ List·Memᴰ x ps → List·Memᴰ x (join o ps)) → List·Memᴰ x (cond b (o ∷ p ∷ ps) (p ∷ join o ps))
     go true (inl e) rec = List·Memᴰ·head e

@@ -2,13 +2,14 @@
 -- `MeaningLaws` proves both of the plain book; `demand-2` (theorems) of the calls on a table.
 use mathlib.Core.Path.{_≡_}
 use mathlib.Core.Logic.{_≢_, _↔_}
+use mathlib.Core.Bool.{not}
 use mathlib.Core.List.{List, _∷_, List·Memᴰ, Pairwise}
 use Prim.Native.Nat.{ℕ, suc, _+_, _*_, _<_}
 use lib.ListN.{length, getD}
 use lib.Dec.{T}
 use lib.IntN.{ℤ, pos}
 use lib.Signed.{leZ, ltZ}
-use Rattle.offers.specs.Offers.{Offer, RationalLoad, priceAt, priceTimesD, precedes, crossingNumerator, crossingDenominator}
+use Rattle.offers.specs.Offers.{Offer, RationalLoad, priceAt, priceTimesD, precedes, ahead, crossingNumerator, crossingDenominator}
 
 -- ---- a query
 
@@ -24,7 +25,7 @@ pub record Priced (os : List Offer) (q number price : ℤ) : Type 0 where
   pub named : number ≡ offer .number
   pub priced : price ≡ priceAt offer q
 
--- The least price at the load, the number of the offer with the lowest rate at that price, and the number of the one with the highest.
+-- The least price at the load, the number of the first offer with the lowest rate at that price, and of the first with the highest.
 pub record Cheapest (os : List Offer) (q number price second : ℤ) : Type 0 where
   pub least : (x : Offer) → List·Memᴰ x os → T (leZ price (priceAt x q))
   pub one : Priced os q number price
@@ -34,10 +35,15 @@ pub record Cheapest (os : List Offer) (q number price second : ℤ) : Type 0 whe
 
 -- ---- a listing
 
--- At the load, the offer is strictly cheaper than every other live offer.
-pub record CheaperThanAll (os : List Offer) (e : Offer) (x : RationalLoad) : Type 0 where
+-- The live offer is the first of its rate: no other of that rate stands ahead of it.
+pub record FirstOfRate (os : List Offer) (e : Offer) : Type 0 where
   pub live : List·Memᴰ e os
-  pub cheaper : (o : Offer) → List·Memᴰ o os → o ≢ e → T (ltZ (priceTimesD e x) (priceTimesD o x))
+  pub first : (o : Offer) → List·Memᴰ o os → o .rate ≡ e .rate → T (not (ahead o e))
+
+-- At the load, the first of its rate is strictly cheaper than every live offer of another rate.
+pub record CheaperThanOthers (os : List Offer) (e : Offer) (x : RationalLoad) : Type 0 where
+  pub first : FirstOfRate os e
+  pub cheaper : (o : Offer) → List·Memᴰ o os → o .rate ≢ e .rate → T (ltZ (priceTimesD e x) (priceTimesD o x))
 
 -- Number, numerator and denominator of piece i stand at 3 i, 3 i + 1 and 3 i + 2.
 pub record PieceAt (ws : List ℤ) (i : ℕ) (number numerator denominator : ℤ) : Type 0 where
@@ -45,14 +51,15 @@ pub record PieceAt (ws : List ℤ) (i : ℕ) (number numerator denominator : ℤ
   pub second : getD ws (3 * i + 1) (pos 0) ≡ numerator
   pub third : getD ws (3 * i + 2) (pos 0) ≡ denominator
 
--- The words of m pieces: in order, exactly the offers that at some rational load, of any size, are strictly cheaper than every other, each with
--- its crossing with the next. The last carries 0 and 0. (`d` is read nowhere: it is what `getD` gives off the list.)
+-- The words of m pieces: in order, exactly the offers that are the first of their rate and at some rational load, of any size, strictly cheaper than
+-- every offer of another rate, each with its crossing with the next. The last carries 0 and 0. (`d` is read nowhere: it is what `getD` gives off the
+-- list.)
 pub record Listing (os : List Offer) (m : ℕ) (ws : List ℤ) : Type 0 where
   pub pieces : List Offer
   pub many : length pieces ≡ m
   pub long : length ws ≡ 3 * m
   pub in-order : Pairwise (λ a b. T (precedes a b)) pieces
-  pub exact : (e : Offer) → List·Memᴰ e pieces ↔ ((x : RationalLoad) × CheaperThanAll os e x)
+  pub exact : (e : Offer) → List·Memᴰ e pieces ↔ ((x : RationalLoad) × CheaperThanOthers os e x)
   pub inner :
       (i : ℕ) (d : Offer) → suc i < m →
       PieceAt ws i (getD pieces i d .number) (crossingNumerator (getD pieces i d) (getD pieces (suc i) d))

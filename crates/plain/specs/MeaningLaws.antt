@@ -1,22 +1,21 @@
 -- The plain book's query and listing tell what `Meaning` says, whatever calls made its offers.
 use mathlib.Core.Path.{_≡_, refl, sym, _∙_, ap}
-use mathlib.Core.List.{List, [], _∷_, List·Memᴰ, Pairwise, Pairwise·sublistᴰ}
+use mathlib.Core.List.{List, [], _∷_, List·Memᴰ, Pairwise}
 use mathlib.Core.Option.{Option, none, some}
 use Prim.Native.Nat.{ℕ}
 use native.Mathlib.Omega.{arith}
 use lib.ListN.{length}
 use lib.Dec.{T}
 use lib.IntN.{ℤ}
-use Rattle.lists.specs.Filter.{keep-sublist}
 use Rattle.integers.specs.Parts.{intRules}
-use Rattle.offers.specs.Offers.{Offer, priceAt, precedes}
+use Rattle.offers.specs.Offers.{Offer, priceAt, ahead}
 use Rattle.plain.specs.Causes.{Cause, declined}
 use Rattle.plain.specs.Book.{State, query, listing, found, listed, lower, higher, cheapest, holding, envelope, pieceWords, respond, trials, step}
 use Rattle.plain.specs.Sound.{Sound}
 use Rattle.plain.specs.Meaning.{Cheapest, Listing}
 use Rattle.plain.specs.Rules.{words-length, words-inner, words-last}
 use Rattle.plain.specs.QueryLaws.{lower-tie, higher-tie, Names, cheapest-names, earliest-live, earliest-once, cheapest-earliest}
-use Rattle.plain.specs.ListingLaws.{listing-exact}
+use Rattle.plain.specs.ListingLaws.{envelope-falls, listing-exact}
 
 -- ---- a query
 
@@ -69,13 +68,13 @@ one-rate c all = c .other .named ∙ ap (λ (o : Offer). o .number) same ∙ sym
 
 -- ---- a listing
 
-pub envelope-listing : (os : List Offer) → Pairwise (λ a b. T (precedes a b)) os → Listing os (length (envelope os)) (pieceWords (envelope os))
+pub envelope-listing : (os : List Offer) → Pairwise (λ a b. T (ahead a b)) os → Listing os (length (envelope os)) (pieceWords (envelope os))
 envelope-listing os h =
     record {
       pieces = envelope os;
       many = refl;
       long = words-length (envelope os);
-      in-order = Pairwise·sublistᴰ (keep-sublist _ os) h;
+      in-order = envelope-falls os;
       exact = listing-exact os h;
       inner = words-inner (envelope os);
       last = words-last (envelope os);

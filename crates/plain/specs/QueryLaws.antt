@@ -1,20 +1,25 @@
 -- A query's price is the least over all live offers. The offer that it names first has the lowest rate among those at that price, and the second offer
--- the highest: one proof for both, over what a tie between two rates has to be. Of several with one price and one rate it is the first in order.
-use mathlib.Core.Path.{_≡_, refl, sym, _∙_, subst}
-use mathlib.Core.Logic.{_⊎_, inl, inr, ⊎-elim}
-use mathlib.Core.List.{List, [], _∷_, List·Memᴰ, List·Memᴰ·head, List·Memᴰ·tail, List·Memᴰ·cases-cons}
+-- the highest: one proof for both, over what a tie between two rates has to be. Of several with one price and one rate it is the first in order. The first
+-- offers of their rates tell the same.
+use mathlib.Core.Path.{_≡_, refl, sym, _∙_, ap, subst}
+use mathlib.Core.Logic.{_⊎_, inl, inr, ⊎-elim, _≢_}
+use mathlib.Core.List.{List, [], _∷_, List·Memᴰ, List·Memᴰ·head, List·Memᴰ·tail, List·Memᴰ·cases-cons, Pairwise}
 use mathlib.Core.Bool.{Bool, not, cond, _&&_}
 use native.Mathlib.Omega.{arith}
 use lib.Dec.{T, T-not, not-T}
-use lib.IntN.{ℤ}
+use lib.IntN.{ℤ, _*ℤ_}
 use lib.Signed.{leZ, ltZ}
-use Rattle.lists.specs.Places.{all-cons}
+use Rattle.lists.specs.Filter.{keep}
+use Rattle.lists.specs.Firsts.{firsts-sub}
+use Rattle.lists.specs.Places.{all-cons, sublist-mem}
 use Rattle.lists.specs.Bools.{and-both, and-left, and-right, or-cases, neither, cond-both}
-use Rattle.integers.specs.Parts.{intRules}
+use Rattle.integers.specs.Parts.{intRules, add-parts}
 use Rattle.integers.specs.Equal.{equal}
-use Rattle.offers.specs.Offers.{Offer, priceAt}
-use Rattle.plain.specs.Book.{lower, higher, goesFirst, cheapest}
+use Rattle.offers.specs.Offers.{Offer, priceAt, precedes, ahead}
+use Rattle.offers.specs.Order.{Ahead, ahead-asym, ahead-other, base-rises}
+use Rattle.plain.specs.Book.{lower, higher, goesFirst, cheapest, firstOfEach}
 use Rattle.plain.specs.Meaning.{Earliest, here, later}
+use Rattle.plain.specs.FirstLaws.{self, Standing, standing-cons, pairs-standing, Covered, cover, one-of-rate}
 
 -- ---- two rates
 
@@ -162,3 +167,60 @@ module _ {tie : ℤ → ℤ → Bool} (t : RateOrder tie) (q : ℤ) where
 
   pub cheapest-earliest : (o : Offer) (os : List Offer) → Earliest q (cheapest tie q o os) (o ∷ os)
   cheapest-earliest o os = earliest (leads o os)
+
+-- ---- among the first offers of their rates
+
+-- of one rate the lower base is the lower price
+no-dearer : (a b : Offer) (q : ℤ) → a .rate ≡ b .rate → T (leZ (a .base) (b .base)) → T (leZ (priceAt a q) (priceAt b q))
+no-dearer a b q r h =
+    let e : a .rate *ℤ q ≡ b .rate *ℤ q = ap (λ (z : ℤ). z *ℤ q) r in
+    omega (arith, intRules, add-parts (a .base) (a .rate *ℤ q), add-parts (b .base) (b .rate *ℤ q))
+
+-- none ahead has the price and the rate
+not-ahead : {q : ℤ} {d f : Offer} {os : List Offer} → Earliest q d os → Standing Offer self os → List·Memᴰ f os → Ahead f d → priceAt f q ≡ priceAt d q →
+    f .rate ≡ d .rate → ⊥
+not-ahead here (standing-cons h s) m k p r = ⊎-elim (λ e. ahead-other k e) (λ n. ahead-asym k (h _ n)) (List·Memᴰ·cases-cons m)
+not-ahead {q} {d} (later {x} g n) (standing-cons h s) m k p r =
+    ⊎-elim (λ e. subst (λ (y : Offer). priceAt y q ≡ priceAt d q → y .rate ≢ d .rate) (sym e) g p r) (λ i. not-ahead n s i k p r) (List·Memᴰ·cases-cons m)
+
+module _ {tie : ℤ → ℤ → Bool} (t : RateOrder tie) (q : ℤ) where
+  -- who is named among them is named among all
+  pub named-first : {os : List Offer} {c d : Offer} → Standing Offer self os → Names tie q (firstOfEach os) c → Names tie q os d → Earliest q d os → c ≡ d
+  named-first {os} {c} {d} s n m first = same ∙ ⊎-elim (λ e. e) (λ k. absurd (not-ahead first s (live (f .one-of)) k price (f .rate))) (f .no-later)
+    where
+      live : {x : Offer} → List·Memᴰ x (firstOfEach os) → List·Memᴰ x os
+      live i = sublist-mem (firsts-sub precedes os) i
+
+      -- the first of its rate
+      f : Covered Offer self os d
+      f = cover Offer self s d (m .live)
+
+      below : NotFirst tie q c d
+      below = m .none-first c (live (n .live))
+
+      above : NotFirst tie q (f .by) c
+      above = n .none-first (f .by) (f .one-of)
+
+      cheap : T (leZ (priceAt (f .by) q) (priceAt d q))
+      cheap = no-dearer (f .by) d q (f .rate) (base-rises (f .no-later) (f .rate))
+
+      price : priceAt (f .by) q ≡ priceAt d q
+      price = let i = below .least in let j = above .least in let k = cheap in omega (arith, intRules)
+
+      rates : c .rate ≡ f .by .rate
+      rates =
+          let i = below .least in
+          let j = above .least in
+          let k = cheap in
+          t .same (c .rate) (f .by .rate) (subst (λ (r : ℤ). T (not (tie (c .rate) r))) (sym (f .rate)) (below .best (omega (arith, intRules))))
+          (above .best (omega (arith, intRules)))
+
+      same : c ≡ f .by
+      same = one-of-rate Offer self os (n .live) (f .one-of) rates
+
+  -- so the query over the first offers of their rates is the query over all
+  pub cheapest-firsts : (o : Offer) (os : List Offer) → Pairwise (λ a b. T (ahead a b)) (o ∷ os) →
+      cheapest tie q o (keep (precedes o) (firstOfEach os)) ≡ cheapest tie q o os
+  cheapest-firsts o os h =
+      named-first (pairs-standing Offer self h) (cheapest-names t q o (keep (precedes o) (firstOfEach os))) (cheapest-names t q o os)
+      (cheapest-earliest t q o os)

@@ -1,16 +1,22 @@
 -- The plain book's calls, one by one: which trial declines, and what an accepted call answers and leaves.
 use mathlib.Core.Path.{_≡_, refl, _∙_, ap}
-use mathlib.Core.List.{List, [], _∷_}
-use Prim.Native.Nat.{ℕ, zero, suc, _+_, _*_, _<_}
+use mathlib.Core.Logic.{_≢_}
+use mathlib.Core.Bool.{not}
+use mathlib.Core.List.{List, [], _∷_, List·Memᴰ}
+use Prim.Native.Nat.{ℕ, zero, suc, _+_, _*_, _≤_, _<_}
 use native.Mathlib.Omega.{arith}
 use lib.ListN.{length, getD}
-use lib.Dec.{T}
+use lib.Dec.{T, T-not, not-T}
 use lib.Arith.{lt→nleb}
+use borrow.Author.Tests.{le-ltb}
 use lib.IntN.{ℤ, pos}
-use Rattle.lists.specs.Bools.{twice}
-use Rattle.offers.specs.Offers.{Offer, loadInRange, priceAt, crossingNumerator, crossingDenominator}
+use Rattle.lists.specs.Bools.{failed, twice, not-failed}
+use Rattle.lists.specs.Tests.{any, none-at, not-any}
+use Rattle.integers.specs.Equal.{equal}
+use Rattle.integers.specs.Parts.{equal-is, equal-eq}
+use Rattle.offers.specs.Offers.{Offer, numberInRange, rateInRange, baseInRange, loadInRange, priceAt, crossingNumerator, crossingDenominator}
 use Rattle.plain.specs.Causes.{Cause, causeNumber, Clear}
-use Rattle.plain.specs.Book.{holding, State, Outcome, Call, post, withdraw, query, listing, refused, live, found, listed, join, leave}
+use Rattle.plain.specs.Book.{hasNumber, holding, State, Outcome, Call, post, withdraw, query, listing, refused, live, found, listed, join, leave}
 use Rattle.plain.specs.Book.{lower, higher, cheapest, envelope, pieceWords, trials, step, respond, accepted}
 use Rattle.plain.specs.Causes.{FirstOf}
 use Rattle.plain.specs.Trials.{declined-by, not-declined}
@@ -52,6 +58,49 @@ module _ (s : State) where
   pub lists : (room : ℕ) → Clear (trials s (listing room)) →
       step s (listing room) ≡ record { state = s; answer = listed (length (envelope (s .offers))) (pieceWords (envelope (s .offers))) }
   lists room c = step-accepted (listing room) c
+
+-- A post in range of a number that no live offer has joins a book that is not full, whatever the rates that are live.
+pub joins : (s : State) (n r b : ℤ) → T (numberInRange n) → T (rateInRange r) → T (baseInRange b) →
+    ((o : Offer) → List·Memᴰ o (s .offers) → o .number ≢ n) → length (s .offers) < s .capacity →
+    step s (post n r b) ≡ record {
+      state = holding s (join (record { number = n; rate = r; base = b }) (s .offers));
+      answer = live (suc (length (s .offers)));
+    }
+joins s n r b i j l other room =
+    posts s n r b (
+      twice (numberInRange n) i,
+      (
+        twice (rateInRange r) j,
+        (
+          twice (baseInRange b) l,
+          (
+            not-any (hasNumber n) (s .offers) (λ o m. not-T (equal (o .number) n) (λ t. other o m (equal-eq (o .number) n t))),
+            (lt→nleb (s .capacity) (length (s .offers)) room, tt),
+          ),
+        ),
+      ),
+    )
+
+-- A withdrawal of a live offer takes it out, the first of its rate or not.
+pub goes : (s : State) (o : Offer) → List·Memᴰ o (s .offers) → T (numberInRange (o .number)) → step s (withdraw (o .number)) ≡ record {
+  state = holding s (leave (o .number) (s .offers));
+  answer = live (length (leave (o .number) (s .offers)));
+}
+goes s o m i =
+    withdraws s (o .number) (
+      twice (numberInRange (o .number)) i,
+      (
+        twice (any (hasNumber (o .number)) (s .offers))
+            (not-failed (any (hasNumber (o .number)) (s .offers))
+            (λ t. T-not (equal (o .number) (o .number)) (none-at (hasNumber (o .number)) (s .offers) t o m) (equal-is (o .number) (o .number) refl))),
+        tt,
+      ),
+    )
+
+-- A listing whose output has three words a piece is accepted, however many offers are live.
+pub shows : (s : State) (room : ℕ) → 3 * length (envelope (s .offers)) ≤ room →
+    step s (listing room) ≡ record { state = s; answer = listed (length (envelope (s .offers))) (pieceWords (envelope (s .offers))) }
+shows s room h = lists s room (failed (le-ltb room (3 * length (envelope (s .offers))) h), tt)
 
 -- a book with an offer answers a load in range
 pub finds : (c : ℕ) (o : Offer) (os : List Offer) (q : ℤ) → T (loadInRange q) → step (record { capacity = c; offers = o ∷ os }) (query q) ≡ record {

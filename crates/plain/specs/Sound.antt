@@ -1,5 +1,5 @@
--- What holds of the plain book after every list of calls: its offers stand by falling rate, no two with one number or one rate,
--- each in range, at most c of them; and a refused call changes nothing.
+-- What holds of the plain book after every list of calls: its offers stand in order, no two with one number, each in range, at most c of them; and a
+-- refused call changes nothing.
 use mathlib.Core.Path.{_≡_, refl, sym, subst, ap}
 use mathlib.Core.Logic.{_⊎_, inl, inr, ⊎-elim, _≢_}
 use mathlib.Core.HLevel.{¬-prop}
@@ -10,26 +10,26 @@ use mathlib.Core.Bool.{Bool, true, false, not, _&&_, cond}
 use Prim.Native.Nat.{ℕ, suc, _≤_}
 use native.Mathlib.Omega.{arith}
 use lib.ListN.{length}
-use lib.Dec.{T, T-prop, nleb→lt}
+use lib.Dec.{T, T-prop, T-not, nleb→lt}
 use lib.IntN.{ℤ, pos, negsuc}
 use Rattle.lists.specs.Filter.{keep-sublist}
 use Rattle.lists.specs.Members.{sub-length, pairs-cons}
 use Rattle.lists.specs.Places.{sublist-mem}
 use Rattle.lists.specs.Tests.{none-at}
 use Rattle.lists.specs.Bools.{and-both, not-not}
-use Rattle.integers.specs.Parts.{intRules, le-or-lt, range-parts, unequal}
-use Rattle.integers.specs.Equal.{equal}
-use Rattle.offers.specs.Offers.{Offer, between, numberInRange, rateInRange, baseInRange, offerInRange, precedes}
+use Rattle.integers.specs.Parts.{range-parts, unequal}
+use Rattle.offers.specs.Offers.{Offer, between, numberInRange, rateInRange, baseInRange, offerInRange, ahead}
+use Rattle.offers.specs.Order.{Ahead, ahead-said, ahead-meant, ahead-trans, compare-offers}
 use Rattle.plain.specs.Causes.{Cause, declined}
 use Rattle.plain.specs.Causes.{Clear}
 use Rattle.plain.specs.Trials.{clear}
-use Rattle.plain.specs.Book.{State, Call, post, withdraw, query, listing, refused, hasNumber, hasRate, join, leave, trials}
+use Rattle.plain.specs.Book.{State, Call, post, withdraw, query, listing, refused, hasNumber, join, leave, trials}
 use Rattle.plain.specs.Book.{opened, openTrials, accepted, respond, step, after}
 
 pub record Sound (s : State) : Type 0 where
   pub capacity-low : 1 ≤ s .capacity
   pub capacity-high : s .capacity ≤ 4_096
-  pub ordered : Pairwise (λ a b. T (precedes a b)) (s .offers)
+  pub ordered : Pairwise (λ a b. T (ahead a b)) (s .offers)
   pub numbered : Pairwise (λ a b. a .number ≢ b .number) (s .offers)
   pub ranged : (o : Offer) → List·Memᴰ o (s .offers) → T (offerInRange o)
   pub fits : length (s .offers) ≤ s .capacity
@@ -38,7 +38,7 @@ pub record Sound (s : State) : Type 0 where
 
 pub mem-join : (o : Offer) {x : Offer} (os : List Offer) → List·Memᴰ x (join o os) → (x ≡ o) ⊎ List·Memᴰ x os
 mem-join o [] m = List·Memᴰ·cases-cons m
-mem-join o {x} (p ∷ ps) m = go (precedes o p) m (mem-join o ps)
+mem-join o {x} (p ∷ ps) m = go (ahead o p) m (mem-join o ps)
   where
     go : (b : Bool) → List·Memᴰ x (cond b (o ∷ p ∷ ps) (p ∷ join o ps)) → (List·Memᴰ x (join o ps) → (x ≡ o) ⊎ List·Memᴰ x ps) → (x ≡ o) ⊎ List·Memᴰ x (p ∷ ps)
     go true n rec = List·Memᴰ·cases-cons n
@@ -47,52 +47,53 @@ mem-join o {x} (p ∷ ps) m = go (precedes o p) m (mem-join o ps)
 
 pub length-join : (o : Offer) (os : List Offer) → length (join o os) ≡ suc (length os)
 length-join o [] = refl
-length-join o (p ∷ ps) = go (precedes o p) (length-join o ps)
+length-join o (p ∷ ps) = go (ahead o p) (length-join o ps)
   where
     go : (b : Bool) → length (join o ps) ≡ suc (length ps) → length (cond b (o ∷ p ∷ ps) (p ∷ join o ps)) ≡ suc (length (p ∷ ps))
     go true e = refl
     go false e = ap suc e
 
-precedes-trans : (a b c : Offer) → T (precedes a b) → T (precedes b c) → T (precedes a c)
-precedes-trans a b c p q = omega (arith, intRules)
-
--- A relation that holds of the new offer and each old one, the earlier first, still holds of all pairs.
-join-pairs : {R : Offer → Offer → Type 0} → ((x y : Offer) → IsProp (R x y)) → (o : Offer) (os : List Offer) → Pairwise (λ a b. T (precedes a b)) os →
-    Pairwise R os → ((q : Offer) → List·Memᴰ q os → T (precedes o q) → R o q) → ((q : Offer) → List·Memᴰ q os → T (not (precedes o q)) → R q o) →
+-- A relation that holds of the new offer and each old one, the one ahead first, still holds of all pairs.
+join-pairs : {R : Offer → Offer → Type 0} → ((x y : Offer) → IsProp (R x y)) → (o : Offer) (os : List Offer) → Pairwise (λ a b. T (ahead a b)) os →
+    Pairwise R os → ((q : Offer) → List·Memᴰ q os → T (ahead o q) → R o q) → ((q : Offer) → List·Memᴰ q os → T (not (ahead o q)) → R q o) →
     Pairwise R (join o os)
 join-pairs prop o [] p h f g = pairs-cons prop (λ b m. elim m [ ]) h
-join-pairs {R} prop o (x ∷ xs) p h f g = go (precedes o x) (λ t. t) (λ t. t)
+join-pairs {R} prop o (x ∷ xs) p h f g = go (ahead o x) (λ t. t) (λ t. t)
     (join-pairs prop o xs (Pairwise·of-cons p) (Pairwise·of-cons h) (λ q m. f q (List·Memᴰ·tail m)) (λ q m. g q (List·Memᴰ·tail m)))
   where
-    later : T (precedes o x) → (b : Offer) → (b ≡ x) ⊎ List·Memᴰ b xs → R o b
-    later t b (inl e) = f b (List·Memᴰ·head e) (subst (λ (y : Offer). T (precedes o y)) (sym e) t)
-    later t b (inr m) = f b (List·Memᴰ·tail m) (precedes-trans o x b t (rel-of-pairwise-cons p ∣ m ∣₁))
+    onward : (b : Offer) → T (ahead o x) → T (ahead x b) → T (ahead o b)
+    onward b t u = ahead-meant o b (ahead-trans (ahead-said o x t) (ahead-said x b u))
 
-    earlier : T (not (precedes o x)) → (b : Offer) → (b ≡ o) ⊎ List·Memᴰ b xs → R x b
+    later : T (ahead o x) → (b : Offer) → (b ≡ x) ⊎ List·Memᴰ b xs → R o b
+    later t b (inl e) = f b (List·Memᴰ·head e) (subst (λ (y : Offer). T (ahead o y)) (sym e) t)
+    later t b (inr m) = f b (List·Memᴰ·tail m) (onward b t (rel-of-pairwise-cons p ∣ m ∣₁))
+
+    earlier : T (not (ahead o x)) → (b : Offer) → (b ≡ o) ⊎ List·Memᴰ b xs → R x b
     earlier t b (inl e) = subst (λ (y : Offer). R x y) (sym e) (g x (List·Memᴰ·head refl) t)
     earlier t b (inr m) = rel-of-pairwise-cons h ∣ m ∣₁
 
-    go : (b : Bool) → (T b → T (precedes o x)) → (T (not b) → T (not (precedes o x))) → Pairwise R (join o xs) →
+    go : (b : Bool) → (T b → T (ahead o x)) → (T (not b) → T (not (ahead o x))) → Pairwise R (join o xs) →
         Pairwise R (cond b (o ∷ x ∷ xs) (x ∷ join o xs))
     go true yes-is no-is rec = pairs-cons prop (λ b m. later (yes-is tt) b (List·Memᴰ·cases-cons m)) h
     go false yes-is no-is rec = pairs-cons prop (λ b m. earlier (no-is tt) b (mem-join o xs m)) rec
 
--- ---- what equality of numbers or rates says
-
-other-rate : (a b : Offer) → T (not (equal (a .rate) (b .rate))) → T (not (precedes b a)) → T (precedes a b)
-other-rate a b ne t = ⊎-elim (λ h. absurd (unequal (a .rate) (b .rate) ne (omega (arith, intRules)))) (λ h. h) (le-or-lt (a .rate) (b .rate))
+-- The order stays, where the new offer stands ahead of each old one or behind it.
+pub join-ordered : (o : Offer) (os : List Offer) → Pairwise (λ a b. T (ahead a b)) os → ((x : Offer) → List·Memᴰ x os → Ahead o x ⊎ Ahead x o) →
+    Pairwise (λ a b. T (ahead a b)) (join o os)
+join-ordered o os p new = join-pairs (λ x y. T-prop (ahead x y)) o os p p (λ q m t. t) behind
+  where
+    behind : (q : Offer) → List·Memᴰ q os → T (not (ahead o q)) → T (ahead q o)
+    behind q m t = ⊎-elim (λ k. absurd (T-not (ahead o q) t (ahead-meant o q k))) (ahead-meant q o) (new q m)
 
 -- ---- the calls
 
 post-sound : (s : State) (n r b : ℤ) → Sound s → Clear (trials s (post n r b)) → Sound (accepted s (post n r b) .state)
-post-sound s n r b h (cn, (cr, (cb, (live-n, (live-r, (full, _)))))) =
+post-sound s n r b h (cn, (cr, (cb, (live-n, (full, _))))) =
     record {
       capacity-low = h .capacity-low;
       capacity-high = h .capacity-high;
-      ordered = join-pairs (λ x y. T-prop (precedes x y)) o os (h .ordered) (h .ordered) (λ q m t. t)
-          (λ q m t. other-rate q o (none-at (hasRate r) os live-r q m) t);
-      numbered = join-pairs (λ x y. ¬-prop) o os (h .ordered) (h .numbered) (λ q m t e. unequal (q .number) n (none-at (hasNumber n) os live-n q m) (sym e))
-          (λ q m t. unequal (q .number) n (none-at (hasNumber n) os live-n q m));
+      ordered = join-ordered o os (h .ordered) (λ q m. ⊎-elim (λ e. absurd (other q m (ap (λ (x : Offer). x .number) (sym e)))) (λ k. k) (compare-offers o q));
+      numbered = join-pairs (λ x y. ¬-prop) o os (h .ordered) (h .numbered) (λ q m t e. other q m (sym e)) (λ q m t. other q m);
       ranged = λ x m. ⊎-elim (λ e. subst (λ (y : Offer). T (offerInRange y)) (sym e) inRange) (h .ranged x) (mem-join o os m);
       fits = let k = nleb→lt (s .capacity) (length os) full in let e = length-join o os in omega arith;
     }
@@ -102,6 +103,9 @@ post-sound s n r b h (cn, (cr, (cb, (live-n, (live-r, (full, _)))))) =
 
     o : Offer
     o = record { number = n; rate = r; base = b }
+
+    other : (q : Offer) → List·Memᴰ q os → q .number ≢ n
+    other q m = unequal (q .number) n (none-at (hasNumber n) os live-n q m)
 
     inRange : T (offerInRange o)
     inRange = and-both (numberInRange n && rateInRange r) (baseInRange b) (and-both (numberInRange n) (rateInRange r) (not-not (numberInRange n) cn)
