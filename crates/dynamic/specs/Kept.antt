@@ -15,7 +15,7 @@ use Rattle.dynamic.specs.Valid.{Whole}
 use Rattle.dynamic.specs.Work.{Inner, inners, Searched, Floor, stepsOf, heightsOf}
 use Rattle.dynamic.specs.Lower.{whole-lower}
 use Rattle.dynamic.specs.Raise.{raised-shape, raised-steps, whole-raise}
-use Rattle.dynamic.specs.Floors.{Added, added-last, floor-drop, floor-add}
+use Rattle.dynamic.specs.Floors.{Added, added-between, added-last, floor-drop, floor-add}
 use Rattle.dynamic.specs.Forests.{linesOf, innersOf, single-inners, added-all, added-in, Merged, MergedOn, left-in, right-in, whole-in}
 use Rattle.dynamic.specs.Forests.{merge-all, part-all, merged-sub, merged-lines, merged-inners}
 
@@ -74,7 +74,7 @@ pub started : (S : Figure) {before : List (Inner (S .Line))} {live : List (S .Li
     ((h : Held (S .Line)) → List·Memᴰ h row → Whole S h) → Floor S before (innersOf row) [] → Kept S before live row []
 started S o e w f = record { ordered = o; lines = e; whole = w; searched = λ p m. absurd (List·Memᴰ·not-nil m); few-steps = omega arith; floor = f }
 
--- a single line joins the row, or leaves it
+-- a single line joins the row, leaves it, or makes room for another
 module _ (S : Figure) {before : List (Inner (S .Line))} {old live : List (S .Line)} {h : Held (S .Line)} {row more : List (Held (S .Line))} where
   pub line-joins : Kept S before old row [] → Added h row more → Whole S h → inners (heldShape h) ≡ [] → Ordered S live → linesOf more ≡ live →
       Kept S before live more []
@@ -82,6 +82,22 @@ module _ (S : Figure) {before : List (Inner (S .Line))} {old live : List (S .Lin
 
   pub line-leaves : Kept S before old more [] → Added h row more → inners (heldShape h) ≡ [] → Ordered S live → linesOf row ≡ live → Kept S before live row []
   line-leaves k a e o l = started S o l (λ x i. k .whole x (added-in a i)) (rw (← single-inners e a) (k .floor))
+
+pub line-changes :
+    (S : Figure) {before : List (Inner (S .Line))} {old live : List (S .Line)} (g h : Held (S .Line)) (xs ys : List (Held (S .Line))) →
+    Kept S before old (xs ++ g ∷ ys) [] →
+    inners (heldShape g) ≡ [] →
+    Whole S h →
+    inners (heldShape h) ≡ [] →
+    Ordered S live →
+    linesOf (xs ++ h ∷ ys) ≡ live →
+    Kept S before live (xs ++ h ∷ ys) []
+line-changes S {before} g h xs ys k e w d o l =
+    started S o l (added-all (added-between xs ys) w (λ x i. k .whole x (added-in (added-between xs {a = g} ys) i)))
+    (subst (λ ns. Floor S before ns []) same (k .floor))
+  where
+    same : innersOf (xs ++ g ∷ ys) ≡ innersOf (xs ++ h ∷ ys)
+    same = single-inners {h = g} e (added-between xs ys) ∙ sym (single-inners {h = h} d (added-between xs ys))
 
 -- ---- what is made
 

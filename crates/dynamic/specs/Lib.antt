@@ -1,4 +1,4 @@
--- The dynamic envelope: the tree of offers with its stored parts, post and withdraw as functions on trees.
+-- The dynamic envelope: the tree of offers with its stored parts, post, withdraw and replace as functions on trees.
 -- statement: where a search of two trees ends, and what it tells of the envelope of both sets of lines
 pub mod SearchEnd
 -- lemmas: two trees whose leaves are envelopes that face each other (`Bridged`, in SearchEnd)
@@ -13,7 +13,7 @@ pub mod Rearranged
 pub mod Heights
 -- statement and lemmas: the tree of offers: leaves are lines in order; a fork keeps for each child the part of its envelope that is not on the fork's
 pub mod OfferTree
--- lemmas: post and withdraw on the tree of offers: lower on the way down, rebalance on the way up
+-- lemmas: post, withdraw and replace on the tree of offers: lower on the way down, rebalance on the way up
 pub mod Updates
 -- statement and lemmas: when a tree of offers is right: every stored part is the rest of its node's lower envelope, and the whole in hand is the root's
 pub mod Valid
@@ -27,13 +27,13 @@ pub mod Forests
 pub mod Kept
 -- lemmas: rebalancing two siblings whose heights differ by at most two: one, two or three searches, and the row and the log stay right
 pub mod Rebalanced
--- lemmas: a line placed into a list in order, and one taken out of it: in which part of a list that happens, and that the order stays
+-- lemmas: a line placed into a list in order, taken out, or put in the place of another: in which part that happens, who is there, and that the order stays
 pub mod Placed
 -- lemmas: a line posted: the row and the log stay right, the subtree gets at most one higher, and each level costs at most three searches
 pub mod Inserted
--- lemmas: a line withdrawn: the row and the log stay right, the subtree gets at most one lower, and each level costs at most three searches
+-- lemmas: a line removed, with or without a stand-in: row and log stay right, the subtree gets at most one lower, and each level costs at most three searches
 pub mod Removed
--- lemmas: post and withdraw keep the book right: its lines, its envelopes, its balance, and what is promised of the searches
+-- lemmas: post, withdraw and replace keep the book right: its lines, its envelopes, its balance, and what is promised of the searches
 pub mod Updated
 -- lemmas: a history that went wrong once, computed
 pub mod Story

@@ -1,4 +1,4 @@
--- A line withdrawn: the row and the log stay right, the subtree gets at most one lower, and each level costs at most three searches.
+-- A line removed, with or without a stand-in: the row and the log stay right, the subtree gets at most one lower, and each level costs at most three searches.
 use Prim.Native.Nat.{ℕ, suc, _+_, _*_, _≤_, max}
 use native.Mathlib.Omega.{arith}
 use native.Mathlib.Decide.{decLe}
@@ -18,15 +18,16 @@ use Rattle.trees.specs.Tree.{height, leaves, last}
 use Rattle.trees.specs.Operations.{Part}
 use Rattle.trees.specs.Leaves.{last-leaf}
 use Rattle.meeting.specs.Machine.{left}
-use Rattle.dynamic.specs.OfferTree.{OfferTree, single, fork, shape, Held, hold, Pair, Made, lower, lowerTree}
-use Rattle.dynamic.specs.Updates.{Removed, rebalance, besideLeft, besideRight, remove}
-use Rattle.dynamic.specs.Valid.{without}
+use Rattle.dynamic.specs.OfferTree.{OfferTree, single, fork, shape, Held, hold, alone, Pair, Made, lower, lowerTree}
+use Rattle.dynamic.specs.Updates.{Removed, rebalance, besideLeft, besideRight, standing, remove}
+use Rattle.dynamic.specs.Valid.{standIn, instead}
 use Rattle.dynamic.specs.Work.{Inner}
 use Rattle.dynamic.specs.Floors.{added-between}
 use Rattle.dynamic.specs.Forests.{rowOf, linesOf, lines-append, lines-left, lines-right, merged-here, merged-behind}
-use Rattle.dynamic.specs.Kept.{Kept, heldHeight, Above, above-turned, lowered-on, line-leaves}
+use Rattle.dynamic.specs.Kept.{Kept, heldHeight, Above, above-turned, lowered-on, line-leaves, line-changes}
 use Rattle.dynamic.specs.Rebalanced.{Balances, balances-turned, rebalanced}
-use Rattle.dynamic.specs.Placed.{without-append, without-all, without-one, all-before}
+use Rattle.dynamic.specs.Inserted.{alone-whole}
+use Rattle.dynamic.specs.Placed.{instead-append, instead-all, instead-one, all-before}
 
 -- ---- heights: below h stand f and g, and f falls to k
 
@@ -96,22 +97,34 @@ module _ (S : Figure) (L : PseudoLines S) {before : List (Inner (S .Line))} {liv
 
 -- ---- the removal
 
-module _ (S : Figure) (L : PseudoLines S) (before : List (Inner (S .Line))) (live : List (S .Line)) (o : Ordered S live) (s : S .Line) where
+module _ (S : Figure) (L : PseudoLines S) (before : List (Inner (S .Line))) (live : List (S .Line)) (o : Ordered S live) (s : S .Line)
+    (by : Option (S .Line)) where
   -- in any row
   abbrev pub Removes : OfferTree (S .Line) → Type 0
   Removes t =
       (e : Part (S .Line)) (xs ys : List (Held (S .Line))) (old : List (S .Line)) →
       Kept S before old (xs ++ hold t e ∷ ys) [] →
       List·Memᴰ s (leaves (shape t)) →
-      linesOf xs ++ (without S s (leaves (shape t)) ++ linesOf ys) ≡ live →
-      Shrunk S before live (xs ++ (rowOf (remove S s t e .rest) ++ ys)) (height (shape t)) (remove S s t e)
+      linesOf xs ++ (instead S s by (leaves (shape t)) ++ linesOf ys) ≡ live →
+      Shrunk S before live (xs ++ (rowOf (remove S s by t e .rest) ++ ys)) (height (shape t)) (remove S s by t e)
 
   removed-single : (a : S .Line) → Removes (single a)
   unfolding remove
-  removed-single a e xs ys old k m d =
-      let one : without S s (a ∷ []) ≡ [] = without-one S L s (List·Memᴰ·eq-of-singleton m) in
-      let l : linesOf (xs ++ ys) ≡ live = lines-append xs ys ∙ ap (λ ls. linesOf xs ++ (ls ++ linesOf ys)) (sym one) ∙ d in
-      record { kept = line-leaves S k (added-between xs ys) refl o l; heights = refl; few = omega arith }
+  removed-single a e xs ys old k m d = go by (sym (instead-one S L s by (List·Memᴰ·eq-of-singleton m)))
+    where
+      go :
+          (c : Option (S .Line)) → standIn c ≡ instead S s by (a ∷ []) →
+          Shrunk S before live (xs ++ (rowOf (standing S c) ++ ys)) 0 (record { rest = standing S c; log = [] })
+      go none q =
+          let l : linesOf (xs ++ ys) ≡ live = lines-append xs ys ∙ ap (λ ls. linesOf xs ++ (ls ++ linesOf ys)) q ∙ d in
+          record { kept = line-leaves S k (added-between xs ys) refl o l; heights = refl; few = omega arith }
+      go (some b) q =
+          let l : linesOf (xs ++ alone b ∷ ys) ≡ live = lines-append xs (alone b ∷ ys) ∙ ap (λ ls. linesOf xs ++ (ls ++ linesOf ys)) q ∙ d in
+          record {
+            kept = line-changes S (hold (single a) e) (alone b) xs ys k refl (alone-whole S b) refl o l;
+            heights = omega arith;
+            few = omega arith;
+          }
 
   module _ (l r : OfferTree (S .Line)) (ord : Ordered S (leaves (shape l) ++ leaves (shape r))) (m : List·Memᴰ s (leaves (shape l) ++ leaves (shape r))) where
     -- the side where s stands, and that the other side stays
@@ -122,11 +135,13 @@ module _ (S : Figure) (L : PseudoLines S) (before : List (Inner (S .Line))) (liv
         (λ i. i)
         (List·Memᴰ·append-cases (leaves (shape l)) m)
 
-    left-stays : T (S .before (last (shape l)) s) → without S s (leaves (shape l) ++ leaves (shape r)) ≡ leaves (shape l) ++ without S s (leaves (shape r))
+    left-stays :
+        T (S .before (last (shape l)) s) →
+        instead S s by (leaves (shape l) ++ leaves (shape r)) ≡ leaves (shape l) ++ instead S s by (leaves (shape r))
     left-stays t =
-        without-append S s (leaves (shape l)) (leaves (shape r))
-        ∙ ap (λ ls. ls ++ without S s (leaves (shape r)))
-        (without-all S s (leaves (shape l))
+        instead-append S s by (leaves (shape l)) (leaves (shape r))
+        ∙ ap (λ ls. ls ++ instead S s by (leaves (shape r)))
+        (instead-all S s by (leaves (shape l))
         (λ x i. or-right (S .before s x) (S .before x s) (all-before S L s (shape l) (ordered-left S (leaves (shape l)) (leaves (shape r)) ord) t x i)))
 
     in-left : T (not (S .before (last (shape l)) s)) → List·Memᴰ s (leaves (shape l))
@@ -137,12 +152,13 @@ module _ (S : Figure) (L : PseudoLines S) (before : List (Inner (S .Line))) (liv
         (last-leaf (shape l)) i)))
         (List·Memᴰ·append-cases (leaves (shape l)) m)
 
-    right-stays : T (not (S .before (last (shape l)) s)) → without S s (leaves (shape l) ++ leaves (shape r)) ≡ without S s (leaves (shape l)) ++ leaves
-        (shape r)
+    right-stays :
+        T (not (S .before (last (shape l)) s)) →
+        instead S s by (leaves (shape l) ++ leaves (shape r)) ≡ instead S s by (leaves (shape l)) ++ leaves (shape r)
     right-stays t =
-        without-append S s (leaves (shape l)) (leaves (shape r))
-        ∙ ap (λ ls. without S s (leaves (shape l)) ++ ls)
-        (without-all S s (leaves (shape r))
+        instead-append S s by (leaves (shape l)) (leaves (shape r))
+        ∙ ap (λ ls. instead S s by (leaves (shape l)) ++ ls)
+        (instead-all S s by (leaves (shape r))
         (λ x i. or-left (S .before s x) (S .before x s) (ordered-apart S (leaves (shape l)) (leaves (shape r)) ord s x (in-left t) i)))
 
   removed-fork : (u v : S .Line) (l r : OfferTree (S .Line)) (ql qr : Part (S .Line)) → Removes l → Removes r → Removes (fork u v l ql qr r)
@@ -153,16 +169,16 @@ module _ (S : Figure) (L : PseudoLines S) (before : List (Inner (S .Line))) (liv
       let w = k .whole h (Memᴰ·append-right xs (List·Memᴰ·head refl)) in
       let (k₁, a) = lowered-on S L left h k (omega arith) (merged-behind xs merged-here) in
       let k₂ : Kept S before old ((xs ++ c .front ∷ []) ++ c .back ∷ ys) [] = rw append-snoc k₁ in
-      let ml = remove S s l (c .front .whole) in
-      let mr = remove S s r (c .back .whole) in
+      let ml = remove S s by l (c .front .whole) in
+      let mr = remove S s by r (c .back .whole) in
       cond-both (λ n. Shrunk S before live (xs ++ (rowOf (n .rest) ++ ys)) (heldHeight h) n) (S .before (last (shape l)) s)
       (λ t. shrunk-right S L xs ys (mr .rest) (mr .log) a
       (rw append-snoc at
       (on-right (c .back .whole) (xs ++ c .front ∷ []) ys old k₂ (in-right l r (w .ordered) m t)
-      (lines-right xs (c .front) (without S s (leaves (shape r))) (linesOf ys) d (left-stays l r (w .ordered) m t)))))
+      (lines-right xs (c .front) (instead S s by (leaves (shape r))) (linesOf ys) d (left-stays l r (w .ordered) m t)))))
       (λ t. shrunk-left S L xs ys (ml .rest) (ml .log) a
       (on-left (c .front .whole) xs (c .back ∷ ys) old k₁ (in-left l r (w .ordered) m t)
-      (lines-left (linesOf xs) (without S s (leaves (shape l))) (leaves (shape r)) (linesOf ys) d (right-stays l r (w .ordered) m t))))
+      (lines-left (linesOf xs) (instead S s by (leaves (shape l))) (leaves (shape r)) (linesOf ys) d (right-stays l r (w .ordered) m t))))
 
   pub removed : (t : OfferTree (S .Line)) → Removes t
   removed (single a) = removed-single a

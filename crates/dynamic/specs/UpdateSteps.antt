@@ -10,12 +10,12 @@ use Rattle.envelopes.specs.Envelope.{Ordered}
 use Rattle.trees.specs.Tree.{leaves}
 use Rattle.dynamic.specs.OfferTree.{Held, heldShape, Made}
 use Rattle.dynamic.specs.Updates.{Removed, rebalance, insert, remove}
-use Rattle.dynamic.specs.Valid.{Whole, WholeBook, bookLines, placed, without}
+use Rattle.dynamic.specs.Valid.{Whole, WholeBook, bookLines, placed, instead, Fits}
 use Rattle.dynamic.specs.Work.{inners}
 use Rattle.dynamic.specs.Floors.{floor-old}
 use Rattle.dynamic.specs.Forests.{rowOf, lines-row, linesOf, innersOf}
 use Rattle.dynamic.specs.Kept.{Kept, heldHeight, started}
-use Rattle.dynamic.specs.Placed.{New, placed-ordered, without-ordered}
+use Rattle.dynamic.specs.Placed.{New, placed-ordered, instead-ordered}
 use Rattle.dynamic.specs.Rebalanced.{Balances, rebalanced}
 use Rattle.dynamic.specs.Inserted.{inserted}
 use Rattle.dynamic.specs.Removed.{Shorter, removed}
@@ -40,10 +40,10 @@ pub record Gains (S : Figure) (s : S .Line) (h : Held (S .Line)) (m : Made (S .L
   pub high : heldHeight (m .held) ≤ suc (heldHeight h)
   pub few : length (m .log) ≤ 3 * heldHeight h + 1
 
--- A line less.
-pub record Loses (S : Figure) (s : S .Line) (h : Held (S .Line)) (m : Removed (S .Line)) : Type 0 where
+-- A line less, or another in its place.
+pub record Loses (S : Figure) (s : S .Line) (by : Option (S .Line)) (h : Held (S .Line)) (m : Removed (S .Line)) : Type 0 where
   pub whole : WholeBook S (m .rest)
-  pub lines : bookLines (m .rest) ≡ without S s (leaves (heldShape h))
+  pub lines : bookLines (m .rest) ≡ instead S s by (leaves (heldShape h))
   pub heights : Shorter (heldHeight h) (m .rest)
   pub few : length (m .log) ≤ 3 * heldHeight h
 
@@ -77,10 +77,11 @@ module _ (S : Figure) (L : PseudoLines S) where
         (h .tree) (h .whole) [] [] (leaves (heldShape h)) (opened S h w) (append-nil _) in
         record { whole = G .kept .whole _ (List·Memᴰ·head refl); lines = sym (append-nil _) ∙ G .kept .lines; low = G .low; high = G .high; few = G .few }
 
-    pub remove-whole : List·Memᴰ s (leaves (heldShape h)) → Loses S s h (remove S s (h .tree) (h .whole))
-    remove-whole m =
-        let G = removed S L (inners (heldShape h)) (without S s (leaves (heldShape h))) (without-ordered S s (w .ordered)) s (h .tree) (h .whole) [] []
-        (leaves (heldShape h)) (opened S h w) m (append-nil _) in
-        let rest = remove S s (h .tree) (h .whole) .rest in
+    pub remove-whole :
+        (by : Option (S .Line)) → Fits S s by → List·Memᴰ s (leaves (heldShape h)) → Loses S s by h (remove S s by (h .tree) (h .whole))
+    remove-whole by f m =
+        let G = removed S L (inners (heldShape h)) (instead S s by (leaves (heldShape h))) (instead-ordered S L s by (w .ordered) m f) s by
+        (h .tree) (h .whole) [] [] (leaves (heldShape h)) (opened S h w) m (append-nil _) in
+        let rest = remove S s by (h .tree) (h .whole) .rest in
         let k = rw (append-nil (rowOf rest)) at (G .kept) in
         record { whole = whole-row S rest (k .whole); lines = sym (lines-row rest) ∙ k .lines; heights = G .heights; few = G .few }

@@ -1,4 +1,4 @@
--- Post and withdraw keep the book right: its lines, its envelopes, its balance, and what is promised of the searches.
+-- Post, withdraw and replace keep the book right: its lines, its envelopes, its balance, and what is promised of the searches.
 use Prim.Native.Nat.{_+_, _*_, _≤_, max}
 use native.Mathlib.Omega.{arith}
 use mathlib.Core.Path.{_≡_, refl, sym, ap, subst, _∙_}
@@ -12,14 +12,14 @@ use Rattle.envelopes.specs.Query.{env-listed}
 use Rattle.trees.specs.Tree.{leaves}
 use Rattle.trees.specs.Height.{log-height}
 use Rattle.dynamic.specs.OfferTree.{Held, heldShape, Pair}
-use Rattle.dynamic.specs.Updates.{posted, withdrawn}
-use Rattle.dynamic.specs.Valid.{Whole, WholeBook, bookLines, bookEnvelope, placed, without}
+use Rattle.dynamic.specs.Updates.{posted, withdrawn, replaced}
+use Rattle.dynamic.specs.Valid.{Whole, WholeBook, bookLines, bookEnvelope, placed, without, instead, SamePlace}
 use Rattle.dynamic.specs.Work.{inners, bookInners, Searched, floor-none, Work}
 use Rattle.dynamic.specs.Lower.{valid-env}
 use Rattle.dynamic.specs.Floors.{floor-old}
 use Rattle.dynamic.specs.Forests.{rowOf, lines-row, inners-row}
 use Rattle.dynamic.specs.Kept.{Kept, started}
-use Rattle.dynamic.specs.Placed.{New, placed-ordered, without-ordered}
+use Rattle.dynamic.specs.Placed.{New, placed-ordered, without-ordered, instead-none, instead-ordered}
 use Rattle.dynamic.specs.Inserted.{alone-whole, inserted}
 use Rattle.dynamic.specs.Removed.{removed}
 
@@ -34,6 +34,16 @@ module _ (S : Figure) where
   opened h w =
       started S (w .ordered) (append-nil (leaves (heldShape h))) (λ x m. subst (Whole S) (sym (List·Memᴰ·eq-of-singleton m)) w)
       (rw append-nil (floor-old S (inners (heldShape h)) (inners (heldShape h)) (λ n m. m)))
+
+  -- nothing is done, and nothing searched
+  pub idle-work : (st : Option (Held (S .Line))) → Work S st st []
+  idle-work st =
+      record {
+        searched = λ p m. absurd (List·Memᴰ·not-nil m);
+        few-steps = omega arith;
+        few-searches = omega arith;
+        floor = floor-old S (bookInners st) (bookInners st) (λ n m. m);
+      }
 
   -- ---- what a kept row of one tree says
 
@@ -81,8 +91,17 @@ module _ (S : Figure) (L : PseudoLines S) where
         Updates S st (withdrawn S s st .rest) (without S s (bookLines st)) (withdrawn S s st .log)
     withdraws none w m = absurd (List·Memᴰ·not-nil m)
     withdraws (some h) w m =
-        let G = removed S L (inners (heldShape h)) (without S s (leaves (heldShape h))) (without-ordered S s (w .ordered)) s (h .tree) (h .whole) [] []
-        (leaves (heldShape h)) (opened S h w) m (append-nil _) in
+        let G = removed S L (inners (heldShape h)) (without S s (leaves (heldShape h))) (without-ordered S s (w .ordered)) s none (h .tree) (h .whole) [] []
+        (leaves (heldShape h)) (opened S h w) m (append-nil _ ∙ instead-none S s (leaves (heldShape h))) in
+        record { kept = rw append-nil at (G .kept); few = omega (arith, G .few, log-height (w .balanced)) }
+
+    pub replaces :
+        (b : S .Line) → SamePlace S s b → (st : Option (Held (S .Line))) → WholeBook S st → List·Memᴰ s (bookLines st) →
+        Updates S st (replaced S s b st .rest) (instead S s (some b) (bookLines st)) (replaced S s b st .log)
+    replaces b f none w m = absurd (List·Memᴰ·not-nil m)
+    replaces b f (some h) w m =
+        let G = removed S L (inners (heldShape h)) (instead S s (some b) (leaves (heldShape h))) (instead-ordered S L s (some b) (w .ordered) m f) s
+        (some b) (h .tree) (h .whole) [] [] (leaves (heldShape h)) (opened S h w) m (append-nil _) in
         record { kept = rw append-nil at (G .kept); few = omega (arith, G .few, log-height (w .balanced)) }
 
     -- ---- post
@@ -114,3 +133,18 @@ module _ (S : Figure) (L : PseudoLines S) where
 
       pub withdrawn-listed : bookEnvelope (withdrawn S s st .rest) ≡ listed S (without S s (bookLines st))
       withdrawn-listed = book-listed (withdrawn S s st .rest) withdrawn-whole ∙ ap (listed S) withdrawn-lines
+
+    -- ---- replace
+
+    module _ (b : S .Line) (place : SamePlace S s b) (st : Option (Held (S .Line))) (w : WholeBook S st) (live : List·Memᴰ s (bookLines st)) where
+      pub replaced-whole : WholeBook S (replaced S s b st .rest)
+      replaced-whole = updated-whole S (replaced S s b st .rest) (replaces b place st w live)
+
+      pub replaced-lines : bookLines (replaced S s b st .rest) ≡ instead S s (some b) (bookLines st)
+      replaced-lines = updated-lines S (replaces b place st w live)
+
+      pub replaced-work : Work S st (replaced S s b st .rest) (replaced S s b st .log)
+      replaced-work = updated-work S (replaces b place st w live)
+
+      pub replaced-listed : bookEnvelope (replaced S s b st .rest) ≡ listed S (instead S s (some b) (bookLines st))
+      replaced-listed = book-listed (replaced S s b st .rest) replaced-whole ∙ ap (listed S) replaced-lines

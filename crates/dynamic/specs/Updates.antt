@@ -1,5 +1,5 @@
--- Post and withdraw on the tree of offers: lower on the way down, rebalance on the way up. Only nodes on the path and those that a rotation
--- touches are lowered and raised, so each update searches a number of pairs that is logarithmic in the live offers.
+-- Post, withdraw and replace on the tree of offers: lower on the way down, rebalance on the way up. Only nodes on the path and those that a rotation
+-- touches are lowered and raised, so each update searches a number of pairs that is logarithmic in the leaves.
 use mathlib.Core.Bool.{cond}
 use mathlib.Core.List.{List, [], _++_}
 use mathlib.Core.Option.{Option, none, some}
@@ -11,7 +11,7 @@ use Rattle.meeting.specs.Machine.{Side, left, right}
 use Rattle.dynamic.specs.OfferTree.{OfferTree, single, fork, shape, Held, hold, alone, heldShape, Pair, Made, made, andThen, Lowered, outer}
 use Rattle.dynamic.specs.OfferTree.{inner, lower, raise, raiseOn}
 
--- What a withdrawal leaves: nothing, or a tree with its envelope; and the pairs searched.
+-- What a removal leaves: nothing, or a tree with its envelope; and the pairs searched.
 pub record Removed (A : Type 0) : Type 0 where
   pub rest : Option (Held A)
   pub log : List (Pair A)
@@ -60,14 +60,20 @@ module _ (S : Figure) where
         record { rest = some (n .held); log = m .log ++ n .log }
   ]
 
-  unfoldable pub remove : S .Line → OfferTree (S .Line) → Part (S .Line) → Removed (S .Line)
-  remove s (single a) e = record { rest = none; log = [] }
-  remove s (fork u v l ql qr r) e =
+  -- a stand-in as a subtree
+  abbrev pub standing : Option (S .Line) → Option (Held (S .Line))
+  standing none = none
+  standing (some b) = some (alone b)
+
+  -- s leaves, and its stand-in, where there is one, comes in its place
+  unfoldable pub remove : S .Line → Option (S .Line) → OfferTree (S .Line) → Part (S .Line) → Removed (S .Line)
+  remove s by (single a) e = record { rest = standing by; log = [] }
+  remove s by (fork u v l ql qr r) e =
       let c = lower S (hold (fork u v l ql qr r) e) in
       cond
       (S .before (last (shape l)) s)
-      (besideLeft (c .front) (remove s r (c .back .whole)))
-      (besideRight (remove s l (c .front .whole)) (c .back))
+      (besideLeft (c .front) (remove s by r (c .back .whole)))
+      (besideRight (remove s by l (c .front .whole)) (c .back))
 
   -- ---- the whole book: no offers, or a tree with its envelope
 
@@ -75,6 +81,14 @@ module _ (S : Figure) where
   posted s none = made (alone s) []
   posted s (some h) = insert s (h .tree) (h .whole)
 
+  -- s leaves its place, to a stand-in or to nobody
+  abbrev pub vacated : S .Line → Option (S .Line) → Option (Held (S .Line)) → Removed (S .Line)
+  vacated s by none = record { rest = none; log = [] }  -- idle
+  vacated s by (some h) = remove s by (h .tree) (h .whole)
+
   abbrev pub withdrawn : S .Line → Option (Held (S .Line)) → Removed (S .Line)
-  withdrawn s none = record { rest = none; log = [] }  -- idle
-  withdrawn s (some h) = remove s (h .tree) (h .whole)
+  withdrawn s st = vacated s none st
+
+  -- b comes in the place of s
+  abbrev pub replaced : (s b : S .Line) → Option (Held (S .Line)) → Removed (S .Line)
+  replaced s b st = vacated s (some b) st

@@ -3,6 +3,7 @@ use mathlib.Core.Path.{_≡_}
 use mathlib.Core.Bool.{_||_, cond}
 use mathlib.Core.List.{List, [], _∷_, _++_}
 use mathlib.Core.Option.{Option, none, some}
+use lib.Dec.{T}
 use Rattle.lists.specs.Filter.{keep}
 use Rattle.envelopes.specs.PseudoLines.{Figure}
 use Rattle.envelopes.specs.Envelope.{Env, Ordered}
@@ -56,3 +57,24 @@ placed S s (p ∷ ps) = cond (S .before s p) (s ∷ p ∷ ps) (p ∷ placed S s 
 -- every line but the one that stands where s stands
 abbrev pub without : (S : Figure) → S .Line → List (S .Line) → List (S .Line)
 without S s ls = keep (λ x. S .before s x || S .before x s) ls
+
+-- ---- another line comes in its place, or none
+
+-- a stand-in, as a list
+abbrev pub standIn : {A : Type 0} → Option A → List A
+standIn none = []
+standIn (some b) = b ∷ []
+
+-- the list with the stand-in, or nothing, for the line that stands where s stands
+abbrev pub instead : (S : Figure) → S .Line → Option (S .Line) → List (S .Line) → List (S .Line)
+instead S s by [] = []
+instead S s by (x ∷ xs) = cond (S .before s x || S .before x s) (x ∷ instead S s by xs) (standIn by ++ instead S s by xs)
+
+-- b may stand where s stands: what is behind s is behind b, and what is before s is before b
+pub record SamePlace (S : Figure) (s b : S .Line) : Type 0 where
+  pub ahead : (x : S .Line) → T (S .before s x) → T (S .before b x)
+  pub behind : (x : S .Line) → T (S .before x s) → T (S .before x b)
+
+abbrev pub Fits : (S : Figure) → S .Line → Option (S .Line) → Type 0
+Fits S s none = Unit {0}
+Fits S s (some b) = SamePlace S s b

@@ -79,5 +79,6 @@ pub data Floor (S : Figure) (before : List (Inner (S .Line))) : List (Inner (S .
 pub record Work (S : Figure) (before after : Option (Held (S .Line))) (log : List (Pair (S .Line))) : Type 0 where
   pub searched : (p : Pair (S .Line)) → List·Memᴰ p log → Searched S (bookLines after) p
   pub few-steps : stepsOf S log ≤ 3 * heightsOf log + length log
+  -- by the tree's leaves, which are at most the live offers
   pub few-searches : length log ≤ 8 * B (max (length (bookLines before)) (length (bookLines after))) + 4
   pub floor : Floor S (bookInners before) (bookInners after) log

@@ -10,7 +10,7 @@ use Rattle.table.specs.Words.{Words}
 use Rattle.table.specs.Layout.{cell}
 use Rattle.descents.specs.Ends.{Ended}
 use Rattle.levels.specs.Levels.{lineAt, RaisedIn}
-use Rattle.update.specs.Steps.{noTree}
+use Rattle.update.specs.Steps.{aloneAt}
 use Rattle.levels.specs.declared.Held.{Held as InHand}
 use Rattle.levels.specs.declared.Counts.{Counts}
 use Rattle.levels.specs.declared.Made.{Made as Outcome}
@@ -65,12 +65,13 @@ inserted-step inside m-is test opened below built = inserted-inner inside m-is r
 
 -- ---- remove
 
-pub removed-none : {limit slot : ℕ} {x : InHand} {m : Outcome} {w : Words} → mostSlots < x .tree → limit ≡ 0 → RemovedBelow limit slot x w w m
-removed-none {slot} {x} {m} {w} inside d = subst (λ n. RemovedBelow n slot x w w m) (sym d) (removed-spent inside)
+pub removed-none : {limit slot y : ℕ} {x : InHand} {m : Outcome} {w : Words} → mostSlots < x .tree → limit ≡ 0 → RemovedBelow limit slot y x w w m
+removed-none {slot} {y} {x} {m} {w} inside d = subst (λ n. RemovedBelow n slot y x w w m) (sym d) (removed-spent inside)
 
 -- a single line
-pub removed-single : {limit slot : ℕ} {x : InHand} {m : Outcome} {w : Words} → x .tree ≤ mostSlots → m ≡ noTree → RemovedBelow limit slot x w w m
-removed-single {limit} {slot} {x} {w} single e = subst (RemovedBelow limit slot x w w) (sym e) (removed-leaf single)
+pub removed-single :
+    {limit slot y : ℕ} {x : InHand} {m : Outcome} {w : Words} → x .tree ≤ mostSlots → m ≡ aloneAt y → RemovedBelow limit slot y x w w m
+removed-single {limit} {slot} {y} {x} {w} single e = subst (RemovedBelow limit slot y x w w) (sym e) (removed-leaf single)
 
 -- the seam's slot after a removal
 pub seam-kept : {side : Bool} {x m : ℕ} {w : Words} → side ≡ true → SeamFound side w x m m
@@ -80,13 +81,13 @@ pub seam-end : {side : Bool} {x m gap : ℕ} {w : Words} → side ≡ false → 
 seam-end d end = record { on-left = λ f. end; on-right = λ f. absurd (true≢false (sym f ∙ d)) }
 
 module _
-    {limit slot m : ℕ} {x : InHand} {c : Opened} {g : Outcome} {w w₁ w₂ : Words} {side : Bool}
+    {limit slot y m : ℕ} {x : InHand} {c : Opened} {g : Outcome} {w w₁ w₂ : Words} {side : Bool}
     (inside : mostSlots < x .tree)
     (m-is : m ≡ x .tree - mostSlots)
     (test : side ≡ ltZ (cell w rateField slot) (cell w rateField m))
     (opened : LoweredOn side x w w₁ c)
-    (below : RemovedBelow (limit - 1) slot (c .on) w₁ w₂ g) where
-  pub removed-emptied : g .held .tree ≡ 0 → RemovedBelow limit slot x w w₂ (record { held = c .off; counts = g .counts })
+    (below : RemovedBelow (limit - 1) slot y (c .on) w₁ w₂ g) where
+  pub removed-emptied : g .held .tree ≡ 0 → RemovedBelow limit slot y x w w₂ (record { held = c .off; counts = g .counts })
   removed-emptied d = removed-gone inside m-is refl test opened (omega arith) below d
 
   pub removed-step :
@@ -94,7 +95,7 @@ module _
       g .held .tree ≢ 0 →
       SeamFound side w₂ (g .held .tree) m gap →
       Rebuilt side gap g (c .off) w₂ w₃ out →
-      RemovedBelow limit slot x w w₃ out
+      RemovedBelow limit slot y x w w₃ out
   removed-step d found built =
       let some-left : 1 ≤ g .held .tree = omega (arith, d) in
       removed-inner inside m-is refl test opened (omega arith) below some-left found (built .rebalanced) (built .summed)

@@ -169,7 +169,7 @@ inserted-leaf {side} {θ} {w} {w′} {limit} {slot} {gap} {x} {m} single-line ra
 
 -- ---- into the child on a side
 
-mem-one : (side : Bool) (O I : Tree Item) {y : Item} → List·Memᴰ y (leaves O) → List·Memᴰ y (leaves (nodeOn side O I))
+pub mem-one : (side : Bool) (O I : Tree Item) {y : Item} → List·Memᴰ y (leaves O) → List·Memᴰ y (leaves (nodeOn side O I))
 mem-one false O I m = Memᴰ·append-left (leaves I) m
 mem-one true O I m = Memᴰ·append-right (leaves I) m
 

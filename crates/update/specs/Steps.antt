@@ -7,6 +7,7 @@ use Prim.Native.Nat.{ℕ, suc, _≤_}
 use Rattle.trees.specs.Tree.{height, leaves}
 use Rattle.dynamic.specs.OfferTree.{Held, heldShape}
 use Rattle.dynamic.specs.Updates.{rebalance, insert, remove}
+use Rattle.dynamic.specs.Valid.{standIn, Fits}
 use Rattle.dynamic.specs.Placed.{New}
 use Rattle.table.specs.Words.{Words}
 use Rattle.table.specs.Layout.{cap}
@@ -17,7 +18,7 @@ use Rattle.pieces.specs.Pieces.{items}
 use Rattle.form.specs.Stored.{Touched}
 use Rattle.levels.specs.declared.Held.{Held as InHand}
 use Rattle.levels.specs.declared.Made.{Made as Outcome}
-use Rattle.levels.specs.Levels.{HandIn, Counted, MadeIn, Siblings}
+use Rattle.levels.specs.Levels.{HandIn, lineAt, Counted, MadeIn, Siblings}
 
 -- ---- rebalance
 
@@ -33,9 +34,9 @@ pub record RebalancedIn (gap : ℕ) (x y : InHand) (w w′ : Words) (m : Outcome
 
 -- ---- insert and remove
 
--- nothing is left, and nothing was searched
-abbrev pub noTree : Outcome
-noTree = record { held = record { tree = 0; envelope = 0 }; counts = record { searches = 0; steps = 0; heights = 0 } }
+-- the line in slot s alone, or at 0 nothing; nothing was searched
+abbrev pub aloneAt : ℕ → Outcome
+aloneAt s = record { held = lineAt s; counts = record { searches = 0; steps = 0; heights = 0 } }
 
 -- an item that is not yet in the subtree, kept in slot s
 pub record Newcomer (w : Words) (s : ℕ) (x : InHand) (a : Item) (g : Held Item) : Type 0 where
@@ -50,19 +51,28 @@ pub record InsertedIn (s : ℕ) (x : InHand) (w w′ : Words) (m : Outcome) : Ty
   pub made : (a : Item) (g : Held Item) → Newcomer w s x a g → MadeIn w′ m (insert items a (g .tree) (g .whole))
   pub touched : (a : Item) (g : Held Item) → Newcomer w s x a g → Touched (a ∷ leaves (heldShape g)) w w′
 
--- an item of the subtree, kept in slot s
-pub record Leaver (w : Words) (s : ℕ) (x : InHand) (a : Item) (g : Held Item) : Type 0 where
+-- the slot of a stand-in, 0 for none
+abbrev pub slotBy : Option Item → ℕ
+slotBy none = 0
+slotBy (some b) = b .slot
+
+-- an item of the subtree, kept in slot s, and its stand-in, kept in slot y
+pub record Leaver (w : Words) (s y : ℕ) (x : InHand) (a : Item) (by : Option Item) (g : Held Item) : Type 0 where
   pub slot : s ≡ a .slot
   pub member : List·Memᴰ a (leaves (heldShape g))
   pub held : HandIn w x g
+  pub by-slot : y ≡ slotBy by
+  pub fits : Fits items a by
+  pub kept : Holds w (standIn by)
+  pub slots : Slots (cap w) (standIn by ++ leaves (heldShape g))
 
 -- the words hold what is left; 0 and 0 where nothing is
 abbrev pub LeftIn : Words → InHand → Option (Held Item) → Type 0
 LeftIn w x none = (x .tree ≡ 0) × (x .envelope ≡ 0)
 LeftIn w x (some g) = HandIn w x g
 
-pub record RemovedIn (s : ℕ) (x : InHand) (w w′ : Words) (m : Outcome) : Type 0 where
+pub record RemovedIn (s y : ℕ) (x : InHand) (w w′ : Words) (m : Outcome) : Type 0 where
   pub within : Within w w′
-  pub rest : (a : Item) (g : Held Item) → Leaver w s x a g → LeftIn w′ (m .held) (remove items a (g .tree) (g .whole) .rest)
-  pub counted : (a : Item) (g : Held Item) → Leaver w s x a g → Counted (remove items a (g .tree) (g .whole) .log) (m .counts)
-  pub touched : (a : Item) (g : Held Item) → Leaver w s x a g → Touched (leaves (heldShape g)) w w′
+  pub rest : (a : Item) (by : Option Item) (g : Held Item) → Leaver w s y x a by g → LeftIn w′ (m .held) (remove items a by (g .tree) (g .whole) .rest)
+  pub counted : (a : Item) (by : Option Item) (g : Held Item) → Leaver w s y x a by g → Counted (remove items a by (g .tree) (g .whole) .log) (m .counts)
+  pub touched : (a : Item) (by : Option Item) (g : Held Item) → Leaver w s y x a by g → Touched (standIn by ++ leaves (heldShape g)) w w′

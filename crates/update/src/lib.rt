@@ -5,7 +5,7 @@ ghost use Prim.Native.Nat.{ℕ, _≤_};
 ghost use lib.Signed.{leZ, ltZ};
 ghost use Rattle.table.specs.Fields.{mostSlots, rateField};
 ghost use Rattle.table.specs.Layout.{cell};
-ghost use Rattle.update.specs.Steps.{RebalancedIn, noTree, InsertedIn, RemovedIn};
+ghost use Rattle.update.specs.Steps.{RebalancedIn, aloneAt, InsertedIn, RemovedIn};
 ghost use Rattle.update.specs.Neighbours.{LoweredOn, RaisedOn};
 ghost use Rattle.update.specs.Counting.{Summed, SummedThree};
 ghost use Rattle.update.specs.Rotating.{RotatedIn};
@@ -154,14 +154,14 @@ fn is_less(part: &[i64], a: u32, b: u32) -> bool
     table::is_above(part, table::RATE, b, table::get(part, table::RATE, a))
 }
 
-// Nothing is left, and nothing was searched.
-fn nothing() -> Made
-    ensures { λ r. ⌜ r ≡ noTree ⌝ }
+// The line in slot `s` alone, or at 0 nothing; nothing was searched.
+pub fn alone(s: u32) -> Made
+    ensures { λ r. ⌜ r ≡ aloneAt s ⌝ }
 {
     Made {
         held: Held {
-            tree: 0,
-            envelope: 0,
+            tree: s,
+            envelope: s,
         },
         counts: Counts {
             searches: 0,
@@ -193,7 +193,7 @@ fn insert_below(part: &mut [i64], h: Held, slot: u32, limit: u32) -> Made
         return insert_beside(part, h, slot);
     }
     if limit == 0 {
-        return nothing();
+        return alone(0);
     }
     let m = table::inner_slot(h.tree);
     let side = at_most(part, slot, m);
@@ -214,22 +214,23 @@ fn seam_after(part: &[i64], side: bool, x: u32, m: u32) -> u32
     descents::end(part, table::OFFERS, true, x)
 }
 
-// Removes the line in `slot` from a subtree that is at most `limit` high; 0 where nothing is left.
-fn remove_below(part: &mut [i64], h: Held, slot: u32, limit: u32) -> Made
-    ensures { λ r. ⌜ RemovedBelow limit slot h (now (part .entry)) (now (part .exit)) r ⌝ }
+// Removes the line in `slot` from a subtree that is at most `limit` high, and puts the line in slot `by`, if that is not 0, in its place; 0 where
+// nothing is left.
+fn remove_below(part: &mut [i64], h: Held, slot: u32, by: u32, limit: u32) -> Made
+    ensures { λ r. ⌜ RemovedBelow limit slot by h (now (part .entry)) (now (part .exit)) r ⌝ }
 {
     if h.tree <= table::MOST_SLOTS {
-        return nothing();
+        return alone(by);
     }
     if limit == 0 {
-        return nothing();
+        return alone(0);
     }
     let m = table::inner_slot(h.tree);
     let side = is_less(part, slot, m);
     let c = lower_on(part, side, h);
     let on = c.on;
     let off = c.off;
-    let g = remove_below(part, on, slot, limit - 1);
+    let g = remove_below(part, on, slot, by, limit - 1);
     if g.held.tree == 0 {
         let counts = g.counts;
         return Made {
@@ -248,9 +249,9 @@ pub fn insert(part: &mut [i64], h: Held, s: u32) -> Made
     insert_below(part, h, s, table::MOST_LEVELS)
 }
 
-// Removes the line in slot `s` from the offers in hand.
-pub fn remove(part: &mut [i64], h: Held, s: u32) -> Made
-    ensures { λ r. ⌜ RemovedIn s h (now (part .entry)) (now (part .exit)) r ⌝ }
+// Removes the line in slot `s` from the offers in hand, and puts the line in slot `by`, if that is not 0, in its place.
+pub fn remove(part: &mut [i64], h: Held, s: u32, by: u32) -> Made
+    ensures { λ r. ⌜ RemovedIn s by h (now (part .entry)) (now (part .exit)) r ⌝ }
 {
-    remove_below(part, h, s, table::MOST_LEVELS)
+    remove_below(part, h, s, by, table::MOST_LEVELS)
 }

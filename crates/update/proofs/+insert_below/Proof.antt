@@ -12,7 +12,7 @@ use Rattle.table.proofs.inner_slot.Reads as inner-slot-reads
 use Rattle.update.proofs.at_most.Reads as at-most-reads
 use Rattle.update.proofs.insert_beside.Reads as insert-beside-reads
 use Rattle.update.proofs.lower_on.Reads as lower-on-reads
-use Rattle.update.proofs.nothing.Reads as nothing-reads
+use Rattle.update.proofs.alone.Reads as alone-reads
 use Rattle.update.proofs.rebuild.Reads as rebuild-reads
 use Rattle.update.proofs.+insert_below.{statement}
 use Rattle.update.proofs.+insert_below.Tie.{close}
@@ -37,8 +37,8 @@ abbrev claims : ℕ → insert-below-lts.Claims
 claims t = (
   insert-beside-reads.Asked,
   insert-beside-reads.Learnt,
-  nothing-reads.Asked,
-  nothing-reads.Learnt,
+  alone-reads.Asked,
+  alone-reads.Learnt,
   inner-slot-reads.Asked,
   inner-slot-reads.Learnt,
   at-most-reads.Asked,
@@ -60,8 +60,8 @@ insert-below-same-length t c = search needs
 insert-below-returns : (t : ℕ) → insert-below-lts.Need-returns (claims t) (insert-below-at t) insert-below.Post
 insert-below-returns t c = c .before .insert-beside .ensures _ (c .before .before .before .if1 .taken)
 
-insert-below-nothing-requires : (t : ℕ) → insert-below-lts.Need-nothing-requires (claims t) (insert-below-at t) insert-below.Post
-insert-below-nothing-requires t c κs = search needs
+insert-below-alone-requires : (t : ℕ) → insert-below-lts.Need-alone-requires (claims t) (insert-below-at t) insert-below.Post
+insert-below-alone-requires t c κs = search needs
 
 insert-below-returns-2 : (t : ℕ) → insert-below-lts.Need-returns-2 (claims t) (insert-below-at t) insert-below.Post
 insert-below-returns-2 t c = inserted-none (c .before .before .if1 .left) (c .before .if2 .taken)
@@ -111,7 +111,7 @@ pub +insert-below-spec : {M : Type 1} → statement M
     (insert-below-insert-beside-requires t)
     (insert-below-same-length t)
     (insert-below-returns t)
-    (insert-below-nothing-requires t)
+    (insert-below-alone-requires t)
     (insert-below-returns-2 t)
     (insert-below-inner-slot-requires t)
     (insert-below-at-most-requires t)

@@ -11,14 +11,14 @@ use Rattle.update.proofs.+remove_below.Lts-remove_below as remove-below
 use Rattle.table.proofs.inner_slot.Reads as inner-slot-reads
 use Rattle.update.proofs.is_less.Reads as is-less-reads
 use Rattle.update.proofs.lower_on.Reads as lower-on-reads
-use Rattle.update.proofs.nothing.Reads as nothing-reads
+use Rattle.update.proofs.alone.Reads as alone-reads
 use Rattle.update.proofs.rebuild.Reads as rebuild-reads
 use Rattle.update.proofs.seam_after.Reads as seam-after-reads
 use Rattle.update.proofs.+remove_below.{statement}
 use Rattle.update.proofs.+remove_below.Tie.{close}
 
 abbrev μ-remove-below : Measures 1 remove-below-kinds.ps ℕ
-μ-remove-below κs a = a .1 .1 .1 .0
+μ-remove-below κs a = a .1 .1 .1 .1 .0
 
 abbrev remove-below-at : ℕ → In 1 remove-below-kinds.ps
 remove-below-at t =
@@ -35,8 +35,8 @@ remove-below-below t =
 -- what is asked and learnt of each call
 abbrev claims : ℕ → remove-below-lts.Claims
 claims t = (
-  nothing-reads.Asked,
-  nothing-reads.Learnt,
+  alone-reads.Asked,
+  alone-reads.Learnt,
   inner-slot-reads.Asked,
   inner-slot-reads.Learnt,
   is-less-reads.Asked,
@@ -51,14 +51,14 @@ claims t = (
   rebuild-reads.Learnt,
 )
 
-remove-below-nothing-requires : (t : ℕ) → remove-below-lts.Need-nothing-requires (claims t) (remove-below-at t) remove-below.Post
-remove-below-nothing-requires t c κs = search needs
+remove-below-alone-requires : (t : ℕ) → remove-below-lts.Need-alone-requires (claims t) (remove-below-at t) remove-below.Post
+remove-below-alone-requires t c κs = search needs
 
 remove-below-returns : (t : ℕ) → remove-below-lts.Need-returns (claims t) (remove-below-at t) remove-below.Post
-remove-below-returns t c = removed-single (c .before .if1 .taken) (c .nothing .ensures)
+remove-below-returns t c = removed-single (c .before .if1 .taken) (c .alone .ensures)
 
-remove-below-nothing-requires-2 : (t : ℕ) → remove-below-lts.Need-nothing-requires-2 (claims t) (remove-below-at t) remove-below.Post
-remove-below-nothing-requires-2 t c κs = search needs
+remove-below-alone-requires-2 : (t : ℕ) → remove-below-lts.Need-alone-requires-2 (claims t) (remove-below-at t) remove-below.Post
+remove-below-alone-requires-2 t c κs = search needs
 
 remove-below-returns-2 : (t : ℕ) → remove-below-lts.Need-returns-2 (claims t) (remove-below-at t) remove-below.Post
 remove-below-returns-2 t c = removed-none (c .before .before .if1 .left) (c .before .if2 .taken)
@@ -123,9 +123,9 @@ pub +remove-below-spec : {M : Type 1} → statement M
 +remove-below-spec =
     close μ-remove-below λ t.
     remove-below-lts.spec (claims t) (remove-below-at t) remove-below.Post
-    (remove-below-nothing-requires t)
+    (remove-below-alone-requires t)
     (remove-below-returns t)
-    (remove-below-nothing-requires-2 t)
+    (remove-below-alone-requires-2 t)
     (remove-below-returns-2 t)
     (remove-below-inner-slot-requires t)
     (remove-below-is-less-requires t)
