@@ -4,6 +4,7 @@ ghost use Rattle.table.specs.Layout.{cap};
 ghost use Rattle.descents.specs.Cuts.{Halving};
 ghost use Rattle.descents.specs.Ends.{Ended};
 ghost use Rattle.descents.specs.Finds.{Found};
+ghost use Rattle.descents.specs.Afters.{After};
 
 // The roots of the two parts of a cut, 0 for an empty one.
 pub struct Cut {
@@ -107,4 +108,24 @@ pub fn find(part: &[i64], tree: u8, field: usize, key: i64, x: u32) -> u32
         return y;
     }
     0
+}
+
+// The first leaf of a balanced tree whose field is below `key`, where fields fall from left to right; 0 where there is none.
+pub fn after(part: &[i64], tree: u8, field: usize, key: i64, x: u32) -> u32
+    ensures { λ r. ⌜ After (now (part .entry)) tree field key x r ⌝ }
+{
+    let mut y = x;
+    let mut limit: u32 = table::MOST_LEVELS;
+    while y > table::MOST_SLOTS {
+        if limit == 0 {
+            return 0;
+        }
+        limit -= 1;
+        let behind = table::at_least(part, field, table::inner_slot(y), key);
+        y = table::child(part, tree, behind, y);
+    }
+    if table::at_least(part, field, y, key) {
+        return 0;
+    }
+    y
 }

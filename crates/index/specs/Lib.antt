@@ -1,0 +1,15 @@
+-- An index in words: finding, adding and dropping an item by its key, and the item that follows a key.
+-- statement: what the calls promise; the indexes by number and by rank
+pub mod Index
+-- lemmas: the tree of an index as any tree in words
+pub mod Trees
+-- ways through the code: an item found by its key, and the one that follows a key
+pub mod Finding
+-- ways through the code: an item added to an index: cut where its key belongs, and joined between the two parts
+pub mod Adding
+-- ways through the code: the least key above a key, as far as keys go
+pub mod Above
+-- ways through the code: a leaf dropped on the way to a key: the way goes right of every leaf whose key is `least` or more
+pub mod Thinning
+-- ways through the code: an item dropped from an index: the way to its key ends at it
+pub mod Dropping

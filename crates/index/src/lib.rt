@@ -1,0 +1,88 @@
+// An index: a tree of the live items by a key, which a field of their slots holds. Find, add and drop an item by its key, and go from a key to the
+// next. Keys fall from left to right.
+ghost use mathlib.Core.Path.{_≡_};
+ghost use Rattle.table.specs.Layout.{cap};
+ghost use Rattle.index.specs.Index.{FoundKey, Next, Added, Dropped};
+ghost use Rattle.index.specs.Above.{leastAbove};
+ghost use Rattle.index.specs.Thinning.{Thinned};
+
+// No key reaches it, rank or number.
+const MOST_KEY: i64 = 4_000_000_000_000_000_000;
+
+// The slot of the live item with that key, and 0 where there is none.
+pub fn find(part: &[i64], tree: u8, field: usize, root: u32, key: i64) -> u32
+    ensures { λ r. ⌜ FoundKey tree field key root (now (part .entry)) r ⌝ }
+{
+    descents::find(part, tree, field, key, root)
+}
+
+// The slot of the live item whose key is the greatest below that one, and 0 where none is below.
+pub fn next(part: &[i64], tree: u8, field: usize, root: u32, key: i64) -> u32
+    ensures { λ r. ⌜ Next tree field key root (now (part .entry)) r ⌝ }
+{
+    descents::after(part, tree, field, key, root)
+}
+
+// Adds the item in slot `s`, whose key no item of the tree has.
+pub fn add(part: &mut [i64], tree: u8, field: usize, root: u32, s: u32) -> u32
+    ensures { λ r. ⌜ Added tree field s root (now (part .entry)) (now (part .exit)) r ⌝ }
+{
+    let key = table::get(part, field, s);
+    let c = descents::split(part, tree, field, key, root, table::MOST_LEVELS);
+    let f = c.front;
+    let b = c.back;
+    let gap = descents::end(part, tree, true, f);
+    let y = shape::join(part, tree, gap, f, s);
+    shape::join(part, tree, s, y, b)
+}
+
+// The least key above a key, as far as keys go.
+fn least_above(key: i64) -> i64
+    ensures { λ r. ⌜ r ≡ leastAbove key ⌝ }
+{
+    if key < MOST_KEY {
+        return key + 1;
+    }
+    MOST_KEY
+}
+
+// Drops the leaf at which the way down ends: it goes right where the seam's key is `least` or more. 0 where none is left. The tree is at most
+// `limit` high, and `c` is the capacity.
+fn drop_below(
+    part: &mut [i64],
+    c: u32,
+    tree: u8,
+    field: usize,
+    least: i64,
+    x: u32,
+    limit: u32,
+) -> u32
+    requires { ⌜ c ≡ cap (now part) ⌝ }
+    ensures { λ r. ⌜ Thinned tree field least x limit (now (part .entry)) (now (part .exit)) r ⌝ }
+{
+    if x <= table::MOST_SLOTS {
+        return 0;
+    }
+    if limit == 0 {
+        return 0;
+    }
+    let gap = table::inner_slot(x);
+    let l = table::child_in(part, c, tree, false, x);
+    let r = table::child_in(part, c, tree, true, x);
+    if table::at_least_in(part, c, field, gap, least) {
+        let y = drop_below(part, c, tree, field, least, r, limit - 1);
+        return shape::join_in(part, c, tree, gap, l, y);
+    }
+    let y = drop_below(part, c, tree, field, least, l, limit - 1);
+    let last = descents::end_in(part, c, tree, true, y);
+    shape::join_in(part, c, tree, last, y, r)
+}
+
+// Drops the item with that key, and keeps the others. A key that no item has may cost another item its leaf: ask `find` first.
+pub fn drop_key(part: &mut [i64], tree: u8, field: usize, root: u32, key: i64) -> u32
+    ensures { λ r. ⌜ Dropped tree field key root (now (part .entry)) (now (part .exit)) r ⌝ }
+{
+    let least = least_above(key);
+    let c = table::capacity(part);
+    drop_below(part, c, tree, field, least, root, table::MOST_LEVELS)
+}
