@@ -6,32 +6,33 @@ use mathlib.Core.Option.{Option}
 use Prim.Native.Nat.{ℕ, _-_, _≤_, _<_}
 use native.Mathlib.Omega.{arith}
 use lib.ListN.{length, take, drop}
+use lib.Dec.{T}
 use lib.IntN.{ℤ, pos}
 use Rattle.lists.specs.Bools.{not-not, said, denied}
-use Rattle.offers.specs.Offers.{numberInRange, rateInRange, baseInRange}
+use Rattle.offers.specs.Offers.{numberInRange, rateInRange, baseInRange, offerInRange}
 use Rattle.plain.specs.Causes.{Cause, causeNumber, FirstOf, at-once, further, Clear}
 use Rattle.plain.specs.Book.{State, Call, post, withdraw, refused, join, leave, noBookAt, rangeTrials, holding, step}
 use Rattle.dynamic.specs.OfferTree.{Held}
-use Rattle.table.specs.Fields.{capacityWord, mostNodes, numbersRootWord}
+use Rattle.table.specs.Fields.{capacityWord, mostNodes, numberField, numberTree, numbersRootWord}
 use Rattle.table.specs.Words.{Words, word, upTo}
 use Rattle.table.specs.Layout.{cap}
 use Rattle.table.specs.Items.{Item}
 use Rattle.form.specs.Form.{Book}
-use Rattle.numbers.specs.Numbers.{FoundNumber}
+use Rattle.index.specs.Index.{FoundKey}
 use Rattle.promises.specs.declared.Update.{Update}
 use Rattle.promises.specs.declared.Update.the-variants.{Done, Declined}
 use Rattle.promises.specs.Promises.{partOf, capacityAt, tableTrials, updateAnswer, Updates, Follows}
 use Rattle.declining.specs.Sought.{number-sought}
 use Rattle.plain.specs.Rules.{refusing}
 use Rattle.plain.specs.Entries.{Names, posted-number, posted-rate, posted-base, withdrawn-number, names-first}
-use Rattle.declining.specs.Declining.{withdraw-missing, withdraw-clear}
+use Rattle.declining.specs.Declining.{clear-offer, withdraw-missing, withdraw-clear}
 use Rattle.form.specs.There.{cap-there}
 use Rattle.promises.specs.Plainly.{table-declined}
 use Rattle.book.specs.Following.{updateOf, follows-declined, follows-posted, follows-withdrawn}
 use Rattle.promises.specs.LentPart.{part-back, only-part, only-same, whole-part, lent-back, book-cap, book-start}
 use Rattle.promises.specs.OneCause.{one-cause, not-clear}
 use Rattle.promises.specs.Numbered.{from-one}
-use Rattle.filing.specs.Posting.{Updated}
+use Rattle.filing.specs.Updating.{Updated}
 use Rattle.filing.specs.declared.Told.{Told}
 use Rattle.declining.specs.PartCauses.{PostCause}
 use Rattle.filing.specs.PartUpdates.{Kept, PostDone, WithdrawDone}
@@ -70,6 +71,10 @@ module _ (n : ℤ) {b : Bool} (e : b ≡ not (numberInRange n)) where
 
   pub withdraw-in : b ≡ false → RangeCause (withdraw n) 0
   withdraw-in h = range-clear (denied e h, tt)
+
+-- an offer that none of them is out of is in range
+pub range-offer : {n r z : ℤ} {m : ℕ} → RangeCause (post n r z) m → m ≤ 0 → T (offerInRange (record { number = n; rate = r; base = z }))
+range-offer {n} {r} {z} o q = clear-offer n r z (o .clears q)
 
 -- ---- where there is a book
 
@@ -151,27 +156,27 @@ module _ (k : Call) (start : ℕ) (t t′ : List ℤ) where
 -- ---- the two calls
 
 module _ (start : ℕ) (t t′ : List ℤ) {b : Bool} {i : ℕ} (e : b ≡ noBookAt (length t) start (word (partOf t start) capacityWord)) (h : b ≡ false) where
-  module _ (n r z : ℤ) (o : RangeCause (post n r z) i) (q : i ≤ 0) {m : ℕ} (cause : PostCause n r (lent t start) m) where
+  module _ (n r z : ℤ) (o : RangeCause (post n r z) i) (q : i ≤ 0) {m : ℕ} (cause : PostCause n (lent t start) m) where
     pub post-refused : {u : Update} → 0 < m → u ≡ Declined (pos m) → t′ ≡ t → Updates (post n r z) start t t′ u
-    post-refused l eu et = updates-refused (post n r z) start t t′ e h o q (λ plain held b. cause .declines z plain held b (o .clears q) l) eu et
+    post-refused l eu et = updates-refused (post n r z) start t t′ e h o q (λ plain held b. cause .declines r z plain held b (o .clears q) l) eu et
 
     pub post-accepted :
         {told : Told} {u : Update} →
-        m ≤ 0 → (w′ : Words) → PostDone n r z (lent t start) w′ told →
+        m ≤ 0 → (w′ : Words) → PostDone (record { number = n; rate = r; base = z }) (lent t start) w′ told →
         u ≡ updateOf told →
         t′ ≡ take start t ++ (w′ ++ drop (length t - start) (drop start t)) →
         Updates (post n r z) start t t′ u
     post-accepted {told} l w′ g eu et =
         updates-done (post n r z) start t t′ e h o q eu w′ et (g .kept)
         (λ plain held b p.
-        let (clear, new) = cause .clears z plain held b (o .clears q) l in
+        let (clear, new) = cause .clears r z plain held b (o .clears q) l in
         let (updated, count) = g .done plain held b new in
-        follows-posted start t n r z clear
+        follows-posted start t n r z b clear
         (subst (λ (v : Words). Updated v (holding plain (join (record { number = n; rate = r; base = z }) (plain .offers))) held (told .counts))
         (sym p) updated) count eu)
 
-  module _ (n : ℤ) (o : RangeCause (withdraw n) i) (q : i ≤ 0) {s : ℕ} (f : FoundNumber n (upTo mostNodes (word (lent t start) numbersRootWord))
-      (lent t start) s) where
+  module _ (n : ℤ) (o : RangeCause (withdraw n) i) (q : i ≤ 0) {s : ℕ}
+      (f : FoundKey numberTree numberField n (upTo mostNodes (word (lent t start) numbersRootWord)) (lent t start) s) where
     pub withdraw-refused : s < 1 → t′ ≡ t → Updates (withdraw n) start t t′ (Declined (pos 8))
     withdraw-refused l et = updates-refused (withdraw n) start t t′ e h o q (λ plain held b. withdraw-missing b n (o .clears q) (number-sought b f refl)
         (omega (arith, l))) refl et
@@ -186,5 +191,5 @@ module _ (start : ℕ) (t t′ : List ℤ) {b : Bool} {i : ℕ} (e : b ≡ noBoo
         updates-done (withdraw n) start t t′ e h o q eu w′ et (g .kept)
         (λ plain held b p.
         let (updated, count) = g .done plain held b f l in
-        follows-withdrawn start t n (withdraw-clear b n (o .clears q) (number-sought b f refl) (λ x. omega (arith, x, l)))
+        follows-withdrawn start t n b (withdraw-clear b n (o .clears q) (number-sought b f refl) (λ x. omega (arith, x, l)))
         (subst (λ (v : Words). Updated v (holding plain (leave n (plain .offers))) held (told .counts)) (sym p) updated) count eu)

@@ -53,7 +53,7 @@ pub fn post(table: &mut [i64], start: usize, number: i64, rate: i64, base: i64) 
     if 0 < range {
         return Update::Declined(range as i64);
     }
-    let cause = declining::post_cause(&table[start..], number, rate);
+    let cause = declining::post_cause(&table[start..], number);
     if 0 < cause {
         return Update::Declined(cause as i64);
     }

@@ -16,22 +16,22 @@ use Rattle.offers.specs.Offers.{Offer}
 use Rattle.plain.specs.Book.{State}
 use Rattle.envelopes.specs.EnvelopeLaws.{ordered-pairs}
 use Rattle.trees.specs.Tree.{leaves}
-use Rattle.trees.specs.Operations.{find}
+use Rattle.trees.specs.Operations.{find, partLeaves}
 use Rattle.trees.specs.Order.{Falling}
 use Rattle.trees.specs.Find.{find-complete, none-find}
 use Rattle.dynamic.specs.OfferTree.{Held, heldShape}
 use Rattle.dynamic.specs.Valid.{bookLines}
-use Rattle.table.specs.Fields.{mostNodes, numbersRootWord, offerTree, rateField}
+use Rattle.table.specs.Fields.{mostNodes, numberField, numberTree, numbersRootWord, offerTree, orderRootWord, orderTree, rankField, rateField}
 use Rattle.table.specs.Words.{Words, word, upTo}
 use Rattle.table.specs.Items.{Item, Slots}
 use Rattle.descents.specs.Finds.{Found, foundAt}
 use Rattle.pieces.specs.Pieces.{rateOf}
-use Rattle.form.specs.Form.{Book, OffersIn, numberOf, offersRef}
+use Rattle.form.specs.Form.{Book, OffersIn, numberOf, rankOf, offersRef}
 use Rattle.form.specs.Roots.{offersRoot}
-use Rattle.numbers.specs.Numbers.{NumbersAt, FoundNumber}
+use Rattle.index.specs.Index.{IndexAt, FoundKey, by-number, by-rank}
 use Rattle.table.specs.Items.{offerOf}
-use Rattle.form.specs.Live.{live-slots, live-holds}
-use Rattle.form.specs.HeaderWords.{offers-read, numbers-read}
+use Rattle.table.specs.Keys.{keyed-numbers}
+use Rattle.form.specs.HeaderWords.{offers-read, numbers-read, order-read}
 
 -- ---- some live offer has a key, or none has
 
@@ -89,20 +89,36 @@ sought-by key n live {s} found missing = go (any (λ o. equal (key o) n) (map of
 -- ---- on a part that stands for it
 
 module _ {w : Words} {plain : State} {held : Option (Held Item)} (b : Book w plain held) where
-  pub numbers-at : {root : ℕ} → root ≡ upTo mostNodes (word w numbersRootWord) → NumbersAt w root (bookLines held) (b .numbers .numbers)
+  -- the two indexes
+  pub numbers-at : {root : ℕ} → root ≡ upTo mostNodes (word w numbersRootWord) →
+      IndexAt w numberTree numberField numberOf root (partLeaves (b .order)) (b .numbers .numbers)
   numbers-at e =
       record {
+        index = by-number;
         root-is = e ∙ numbers-read b;
-        slots = live-slots w held (b .offers .offers-in);
-        holds = live-holds w held (b .offers .offers-in);
-        numbers =
-            b .numbers .numbers-in;
+        slots = b .in-order .slots;
+        holds = b .in-order .holds;
+        keyed = keyed-numbers (b .in-order .holds);
+        index-in = b .numbers .numbers-in;
       }
 
-  -- ---- the two searches
+  pub order-at : {root : ℕ} → root ≡ upTo mostNodes (word w orderRootWord) →
+      IndexAt w orderTree rankField rankOf root (partLeaves (b .order)) (b .order)
+  order-at e =
+      record {
+        index = by-rank;
+        root-is = e ∙ order-read b;
+        slots = b .in-order .slots;
+        holds = b .in-order .holds;
+        keyed = b .in-order .ranked;
+        index-in = b .in-order .order-in;
+      }
 
-  pub number-sought : {n : ℤ} {root s : ℕ} → FoundNumber n root w s → root ≡ upTo mostNodes (word w numbersRootWord) → Sought numberOf n (bookLines held) s
-  number-sought {n} f e = sought-by (λ o. o .number) n (bookLines held) (f .found _ _ (numbers-at e)) (f .missing _ _ (numbers-at e))
+  -- ---- the two searches: of all live items by number, of the first of each rate by rate
+
+  pub number-sought : {n : ℤ} {root s : ℕ} → FoundKey numberTree numberField n root w s → root ≡ upTo mostNodes (word w numbersRootWord) →
+      Sought numberOf n (partLeaves (b .order)) s
+  number-sought {n} f e = sought-by (λ o. o .number) n (partLeaves (b .order)) (f .found numberOf _ _ (numbers-at e)) (f .missing numberOf _ _ (numbers-at e))
 
   pub rate-sought : {r : ℤ} {x s : ℕ} → Found w offerTree rateField r x s → x ≡ offersRoot w → Sought rateOf r (bookLines held) s
   rate-sought {r} {x} {s} f e = go held (b .offers .offers-in) (e ∙ offers-read b)

@@ -1,4 +1,4 @@
--- Words that agree in some fields of some slots, and what of a book such words keep: the offers, the numbers, the free slots.
+-- Words that agree in some fields of some slots, and what of a book such words keep: the tree of offers, the indexes, the free slots.
 use mathlib.Core.Path.{_≡_, refl, _∙_}
 use mathlib.Core.Logic.{_≢_, _⊎_, inl, inr}
 use mathlib.Core.Bool.{true, false}
@@ -11,7 +11,7 @@ use Rattle.trees.specs.Tree.{leaves}
 use Rattle.trees.specs.Operations.{Part, partLeaves}
 use Rattle.dynamic.specs.OfferTree.{Held, heldShape}
 use Rattle.dynamic.specs.Valid.{bookLines}
-use Rattle.table.specs.Fields.{nextFreeField, numberField, numberTree}
+use Rattle.table.specs.Fields.{nextFreeField, numberField, numberTree, orderTree, rankField}
 use Rattle.table.specs.Words.{Words, word, wset, wset-same}
 use Rattle.table.specs.Layout.{cap, cell, cset, cset-cap, cset-other, header-cap, header-cell}
 use Rattle.table.specs.Items.{Item, In, at}
@@ -21,17 +21,24 @@ use Rattle.pieces.specs.Pieces.{of-node, of-numerator, of-denominator, of-next}
 use Rattle.form.specs.Stored.{HeldIn, EnvelopeField, of-pieces, of-offers, of-bridge-u, of-bridge-v, of-inner-rest, of-leaf-rest, Touched}
 use Rattle.form.specs.Frames.{OfferField, of-rest, Same, same-inside, tied-same, part-same, holds-same, stored-same, whole-inside, stored-inside}
 use Rattle.form.specs.Form.{OffersIn, FreeChain, free-none, free-more}
-use Rattle.numbers.specs.Numbers.{NumbersAt}
+use Rattle.index.specs.Index.{IndexAt}
 use Rattle.form.specs.There.{cap-there}
 
 -- ---- fields
 
--- a field of envelopes is neither an offer's, nor the next free slot, nor a node of the numbers
+-- a node of one of the two indexes
+abbrev pub IndexField : ℕ → Type 0
+IndexField f = Field numberTree f ⊎ Field orderTree f
+
+-- a field of envelopes is neither an offer's, nor a rank's or the next free slot, nor a node of an index
 record OfEnvelope (f : ℕ) : Type 0 where
-  high : nextFreeField < f
+  high : rankField < f
   no-left : f ≢ childField numberTree false
   no-right : f ≢ childField numberTree true
   no-height : f ≢ heightField numberTree
+  no-left-in-order : f ≢ childField orderTree false
+  no-right-in-order : f ≢ childField orderTree true
+  no-height-in-order : f ≢ heightField orderTree
 
 of-envelope : {f : ℕ} → EnvelopeField f → OfEnvelope f
 of-envelope (of-pieces (of-node (a-child false e))) = omega arith
@@ -48,10 +55,25 @@ of-envelope (of-bridge-v e) = omega arith
 of-envelope (of-inner-rest e) = omega arith
 of-envelope (of-leaf-rest e) = omega arith
 
-number-field : {f : ℕ} → Field numberTree f → (childField numberTree false ≤ f) × (EnvelopeField f → ⊥)
-number-field (a-child false e) = (omega arith, λ p. of-envelope p .no-left e)
-number-field (a-child true e) = (omega arith, λ p. of-envelope p .no-right e)
-number-field (a-height e) = (omega arith, λ p. of-envelope p .no-height e)
+index-field : {f : ℕ} → IndexField f → (rankField < f) × (EnvelopeField f → ⊥)
+index-field (inl (a-child false e)) = (omega arith, λ p. of-envelope p .no-left e)
+index-field (inl (a-child true e)) = (omega arith, λ p. of-envelope p .no-right e)
+index-field (inl (a-height e)) = (omega arith, λ p. of-envelope p .no-height e)
+index-field (inr (a-child false e)) = (omega arith, λ p. of-envelope p .no-left-in-order e)
+index-field (inr (a-child true e)) = (omega arith, λ p. of-envelope p .no-right-in-order e)
+index-field (inr (a-height e)) = (omega arith, λ p. of-envelope p .no-height-in-order e)
+
+-- no node of the one index is a node of the other
+pub indexes-apart : {f : ℕ} → Field numberTree f → Field orderTree f → ⊥
+indexes-apart (a-child false e) (a-child false d) = omega arith
+indexes-apart (a-child false e) (a-child true d) = omega arith
+indexes-apart (a-child false e) (a-height d) = omega arith
+indexes-apart (a-child true e) (a-child false d) = omega arith
+indexes-apart (a-child true e) (a-child true d) = omega arith
+indexes-apart (a-child true e) (a-height d) = omega arith
+indexes-apart (a-height e) (a-child false d) = omega arith
+indexes-apart (a-height e) (a-child true d) = omega arith
+indexes-apart (a-height e) (a-height d) = omega arith
 
 -- ---- words that agree where D says
 
@@ -79,10 +101,10 @@ agree-header w i z low high = record { room = header-cap w i z low high; cells =
 pub agree-cset : (w : Words) (f s : ℕ) (z : ℤ) → Agree (Elsewhere s) w (cset w f s z)
 agree-cset w f s z = record { room = cset-cap w f s z; cells = λ g t d. cset-other w f s z (λ e. d (e .1)) }
 
--- nodes of the numbers; fields of envelopes
-pub agree-only : {D : ℕ → ℕ → Type 0} {xs : List Item} {w w′ : Words} → Within w w′ → Only numberTree xs w w′ →
-    ((f s : ℕ) → D f s → Field numberTree f → ⊥) → Agree D w w′
-agree-only g h no-number = record { room = within-cap g; cells = λ f s d. h .cells f s (λ q. no-number f s d (q .0)) }
+-- nodes of a tree; fields of envelopes
+pub agree-only : {k : ℕ} {D : ℕ → ℕ → Type 0} {xs : List Item} {w w′ : Words} → Within w w′ → Only k xs w w′ → ((f s : ℕ) → D f s → Field k f → ⊥) →
+    Agree D w w′
+agree-only g h no-node = record { room = within-cap g; cells = λ f s d. h .cells f s (λ q. no-node f s d (q .0)) }
 
 pub agree-touched : {D : ℕ → ℕ → Type 0} {xs : List Item} {w w′ : Words} → Within w w′ → Touched xs w w′ → ((f s : ℕ) → D f s → EnvelopeField f → ⊥) →
     Agree D w w′
@@ -99,28 +121,47 @@ header-set w i z h k = wset-same w i z (omega (arith, cap-there w refl h .room))
 abbrev pub OffersHere : List Item → ℕ → ℕ → Type 0
 OffersHere xs f s = (OfferField f ⊎ EnvelopeField f) × In s xs
 
--- the offers of these items, and the tree of their numbers
-abbrev pub NumbersHere : List Item → ℕ → ℕ → Type 0
-NumbersHere xs f s = (OfferField f ⊎ Field numberTree f) × In s xs
+-- the offers and ranks of these items, and an index of them
+abbrev pub IndexHere : ℕ → List Item → ℕ → ℕ → Type 0
+IndexHere k xs f s = ((f ≤ rankField) ⊎ Field k f) × In s xs
 
 -- the chain of these free slots
 abbrev pub FreeHere : List ℕ → ℕ → ℕ → Type 0
 FreeHere ss f s = ((f ≡ numberField) ⊎ (f ≡ nextFreeField)) × List·Memᴰ s ss
 
-pub offers-number : (xs : List Item) (f s : ℕ) → OffersHere xs f s → Field numberTree f → ⊥
-offers-number xs f s (inl h, i) n = omega (arith, number-field n .0)
-offers-number xs f s (inr h, i) n = number-field n .1 h
+pub rank-apart : IndexField rankField → ⊥
+rank-apart n = omega (arith, index-field n .0)
 
-pub numbers-envelope : (xs : List Item) (f s : ℕ) → NumbersHere xs f s → EnvelopeField f → ⊥
+-- the offers, ranks and envelopes of these items
+abbrev pub TreeHere : List Item → ℕ → ℕ → Type 0
+TreeHere xs f s = ((f ≤ rankField) ⊎ EnvelopeField f) × In s xs
+
+pub tree-index : (xs : List Item) (f s : ℕ) → TreeHere xs f s → IndexField f → ⊥
+tree-index xs f s (inl h, i) n = omega (arith, index-field n .0)
+tree-index xs f s (inr h, i) n = index-field n .1 h
+
+pub numbers-envelope : (xs : List Item) (f s : ℕ) → IndexHere numberTree xs f s → EnvelopeField f → ⊥
 numbers-envelope xs f s (inl h, i) p = omega (arith, of-envelope p .high)
-numbers-envelope xs f s (inr h, i) p = number-field h .1 p
+numbers-envelope xs f s (inr h, i) p = index-field (inl h) .1 p
+
+pub order-envelope : (xs : List Item) (f s : ℕ) → IndexHere orderTree xs f s → EnvelopeField f → ⊥
+order-envelope xs f s (inl h, i) p = omega (arith, of-envelope p .high)
+order-envelope xs f s (inr h, i) p = index-field (inr h) .1 p
+
+pub numbers-order : (xs : List Item) (f s : ℕ) → IndexHere numberTree xs f s → Field orderTree f → ⊥
+numbers-order xs f s (inl h, i) n = omega (arith, index-field (inr n) .0)
+numbers-order xs f s (inr h, i) n = indexes-apart h n
+
+pub order-numbers : (xs : List Item) (f s : ℕ) → IndexHere orderTree xs f s → Field numberTree f → ⊥
+order-numbers xs f s (inl h, i) n = omega (arith, index-field (inl n) .0)
+order-numbers xs f s (inr h, i) n = indexes-apart n h
 
 free-low : (ss : List ℕ) (f s : ℕ) → FreeHere ss f s → f ≤ nextFreeField
 free-low ss f s (inl e, i) = omega arith
 free-low ss f s (inr e, i) = omega arith
 
-pub free-number : (ss : List ℕ) (f s : ℕ) → FreeHere ss f s → Field numberTree f → ⊥
-free-number ss f s h n = omega (arith, free-low ss f s h, number-field n .0)
+pub free-index : (ss : List ℕ) (f s : ℕ) → FreeHere ss f s → IndexField f → ⊥
+free-index ss f s h n = omega (arith, free-low ss f s h, index-field n .0)
 
 pub free-envelope : (ss : List ℕ) (f s : ℕ) → FreeHere ss f s → EnvelopeField f → ⊥
 free-envelope ss f s h p = omega (arith, free-low ss f s h, of-envelope p .high)
@@ -148,26 +189,29 @@ module _ {w w′ : Words} where
   offers-agree none g o = tt
   offers-agree (some h) g o = held-agree h g o
 
-  pub numbers-agree : {root : ℕ} {live : List Item} {p : Part Item} → Agree (NumbersHere live) w w′ → NumbersAt w root live p → NumbersAt w′ root live p
-  numbers-agree {live} {p} g n =
+  pub index-agree : {k field root : ℕ} {key : Item → ℤ} {live : List Item} {p : Part Item} → Agree (IndexHere k live) w w′ →
+      IndexAt w k field key root live p → IndexAt w′ k field key root live p
+  index-agree {k} {field} {live} {p} g n =
       record {
+        index = n .index;
         root-is = n .root-is;
         slots = rw (g .room) (n .slots);
-        holds = holds-same (n .holds) (record { cells = λ f s q i. g .cells f s (inl q, i) });
-        numbers =
+        holds = holds-same (n .holds) (record { cells = λ f s q i. g .cells f s (inl (omega arith), i) });
+        keyed = record { read = λ {a} m. g .cells field (a .slot) (inl (n .index .low), at m refl) ∙ n .keyed .read m };
+        index-in =
             record {
-              tied = tied p (n .numbers .tied) (record { cells = λ f s q i. g .cells f s (inr q, inside s i) });
-              balanced = n .numbers .balanced;
-              falling = n .numbers .falling;
-              all-live = n .numbers .all-live;
-              all-there = n .numbers .all-there;
+              tied = tied p (n .index-in .tied) (record { cells = λ f s q i. g .cells f s (inr q, inside s i) });
+              balanced = n .index-in .balanced;
+              falling = n .index-in .falling;
+              all-live = n .index-in .all-live;
+              all-there = n .index-in .all-there;
             };
       }
     where
       inside : (s : ℕ) → In s (partLeaves p) → In s live
-      inside s (at m e) = at (n .numbers .all-live _ m) e
+      inside s (at m e) = at (n .index-in .all-live _ m) e
 
-      tied : (p : Part Item) → TiedPart w numberTree p → Same (Field numberTree) (partLeaves p) w w′ → TiedPart w′ numberTree p
+      tied : (p : Part Item) → TiedPart w k p → Same (Field k) (partLeaves p) w w′ → TiedPart w′ k p
       tied none t q = tt
       tied (some u) t q = tied-same t q
 

@@ -1,36 +1,41 @@
 -- A post and a withdrawal on the words lent from a book's start on: what the code's parts promise of them, and put together.
-use mathlib.Core.Path.{_≡_, refl, _∙_, ap, subst}
+use mathlib.Core.Path.{_≡_, refl, sym, _∙_, ap, subst}
 use mathlib.Core.List.{List, [], _∷_, List·Memᴰ, List·Memᴰ·not-nil}
 use mathlib.Core.Option.{Option}
 use Prim.Native.Nat.{ℕ, suc, _-_, _≤_, _<_}
 use native.Mathlib.Omega.{arith}
 use lib.ListN.{length}
 use lib.IntN.{ℤ, pos}
+use Rattle.offers.specs.Offers.{Offer}
+use Rattle.offers.specs.Ranks.{rank}
+use Rattle.trees.specs.Operations.{partLeaves}
 use Rattle.plain.specs.Book.{State, join, leave, partLength, holding}
 use Rattle.dynamic.specs.OfferTree.{Held}
-use Rattle.dynamic.specs.Valid.{bookLines}
-use Rattle.table.specs.Fields.{baseField, envelopeRootWord, firstFreeWord, liveCountWord, mostNodes, nextFreeField, numberField, numbersRootWord}
-use Rattle.table.specs.Fields.{offersRootWord, rateField}
+use Rattle.table.specs.Fields.{baseField, envelopeRootWord, firstFreeWord, liveCountWord, mostNodes, nextFreeField, numberField, numberTree, numbersRootWord}
+use Rattle.table.specs.Fields.{offerTree, offersRootWord, orderRootWord, orderTree, rankField, rateField}
 use Rattle.table.specs.Words.{Words, word, wset, wset-length, wset-other, upTo, upTo-most}
-use Rattle.table.specs.Layout.{cap, cset, cset-length, cset-cap, cset-rest, header-cap, beyond-outside}
+use Rattle.table.specs.Layout.{cap, cell, cset, cset-length, cset-cap, cset-rest, header-cap, beyond-outside, linkAt}
 use Rattle.table.specs.Free.{firstFree, taken, given}
 use Rattle.table.specs.Items.{Item}
 use Rattle.table.specs.Rep.{Within, within-cap}
-use Rattle.update.specs.Steps.{RemovedIn}
+use Rattle.descents.specs.Finds.{Found}
 use Rattle.levels.specs.declared.Held.{Held as InHand}
 use Rattle.levels.specs.declared.Made.{Made as Outcome}
 use Rattle.filing.specs.declared.Told.{Told}
 use Rattle.form.specs.Form.{Book}
-use Rattle.numbers.specs.Numbers.{FoundNumber, Added, Dropped}
 use Rattle.form.specs.Live.{live-length}
+use Rattle.form.specs.Roots.{offersRoot}
 use Rattle.form.specs.HeaderWords.{count-read}
+use Rattle.index.specs.Index.{FoundKey}
 use Rattle.declining.specs.Sought.{number-sought}
-use Rattle.filing.specs.Writing.{filling, rootsOf, rooting}
-use Rattle.filing.specs.JoinedOffers.{Joined, joins-alone, joins-among}
 use Rattle.declining.specs.PartCauses.{Postable}
-use Rattle.filing.specs.Posting.{Updated}
-use Rattle.filing.specs.Withdrawing.{live-at}
-use Rattle.filing.specs.Calls.{WithdrawWrites, post-done, withdraw-done, withdraw-count}
+use Rattle.filing.specs.Writing.{filling, rootsOf, rooting, filled, freed-given, headed, first-free, FirstFree, Headed}
+use Rattle.filing.specs.Indexes.{Entered, Struck}
+use Rattle.filing.specs.Settling.{Joined, joins-alone, joins-among, joins-ahead, joins-behind, Left, leaves-place, leaves-behind}
+use Rattle.filing.specs.Following.{FollowedAt}
+use Rattle.filing.specs.Updating.{Updated}
+use Rattle.filing.specs.Posting.{PostSteps, posted-plain}
+use Rattle.filing.specs.Withdrawing.{WithdrawSteps, LiveAt, live-at, withdrawn-plain, withdrawn-count}
 
 -- ---- words past the part stay
 
@@ -59,18 +64,33 @@ kept-cell w f s z = record { long = cset-length w f s z; room = cset-cap w f s z
 kept-within : {w w′ : Words} → Within w w′ → Kept w w′
 kept-within {w} g = record { long = g .long; room = within-cap g; rest = λ i h. g .rest i (beyond-outside w h) }
 
-kept-joined : {s : ℕ} {x : InHand} {m : Outcome} {w w′ : Words} → Joined s x w w′ m → Kept w w′
-kept-joined (joins-alone ex ew em) = kept-same ew
-kept-joined (joins-among nz i) = kept-within (i .within)
+kept-entered : {tree field at s : ℕ} {w w′ : Words} → 1 ≤ at → at < 64 → Entered tree field at s w w′ → Kept w w′
+kept-entered {at = at} low high e =
+    then (kept-within (e .added .within)) (then (kept-header (e .mid) at (pos (e .root′)) low high) (kept-same (e .set)))
+
+kept-struck : {tree field at : ℕ} {z : ℤ} {w w′ : Words} → 1 ≤ at → at < 64 → Struck tree field at z w w′ → Kept w w′
+kept-struck {at = at} low high e =
+    then (kept-within (e .dropped .within)) (then (kept-header (e .mid) at (pos (e .root′)) low high) (kept-same (e .set)))
+
+kept-joined : {s f : ℕ} {x : InHand} {m : Outcome} {w w′ : Words} → Joined s f x w w′ m → Kept w w′
+kept-joined (joins-alone ef ex ew em) = kept-same ew
+kept-joined (joins-among ef nz i) = kept-within (i .within)
+kept-joined (joins-ahead nf c k) = kept-within (k .within)
+kept-joined (joins-behind nf c ew em) = kept-same ew
+
+kept-left : {s f y : ℕ} {x : InHand} {m : Outcome} {w w′ : Words} → Left s f y x w w′ m → Kept w w′
+kept-left (leaves-place ef k) = kept-within (k .within)
+kept-left (leaves-behind nf ew em) = kept-same ew
 
 -- ---- what the small steps write
 
-kept-filling : (n r z : ℤ) (s : ℕ) (w : Words) → Kept w (filling n r z s w)
-kept-filling n r z s w =
-    let w₁ = cset (taken w) numberField s n in
-    let w₂ = cset w₁ rateField s r in
-    then (then (then (kept-header w firstFreeWord _ (omega arith) (omega arith)) (kept-cell (taken w) numberField s n)) (kept-cell w₁ rateField s r))
-    (kept-cell w₂ baseField s z)
+kept-filling : (o : Offer) (s : ℕ) (w : Words) → Kept w (filling o s w)
+kept-filling o s w =
+    let w₁ = cset (taken w) numberField s (o .number) in
+    let w₂ = cset w₁ rateField s (o .rate) in
+    let w₃ = cset w₂ baseField s (o .base) in
+    then (kept-header w firstFreeWord _ (omega arith) (omega arith)) (then (kept-cell (taken w) numberField s (o .number))
+    (then (kept-cell w₁ rateField s (o .rate)) (then (kept-cell w₂ baseField s (o .base)) (kept-cell w₃ rankField s (rank o)))))
 
 kept-rooting : (x : InHand) (n : ℕ) (w : Words) → Kept w (rooting x n w)
 kept-rooting x n w =
@@ -86,10 +106,11 @@ kept-given w s =
     then (then (kept-cell w numberField s (pos 0)) (kept-cell (cset w numberField s (pos 0)) nextFreeField s (pos (firstFree w))))
     (kept-header (cset (cset w numberField s (pos 0)) nextFreeField s (pos (firstFree w))) firstFreeWord (pos s) (omega arith) (omega arith))
 
-pub filled-in : (n r z : ℤ) (w : Words) (s : ℕ) {w₁ w₂ w₃ w₄ : Words} → w₁ ≡ taken w → w₂ ≡ cset w₁ numberField s n → w₃ ≡ cset w₂ rateField s r →
-    w₄ ≡ cset w₃ baseField s z → w₄ ≡ filling n r z s w
-filled-in n r z w s e₁ e₂ e₃ e₄ = e₄ ∙ ap (λ (v : Words). cset v baseField s z)
-    (e₃ ∙ ap (λ (v : Words). cset v rateField s r) (e₂ ∙ ap (λ (v : Words). cset v numberField s n) e₁))
+pub filled-in : (o : Offer) (w : Words) (s : ℕ) {z : ℤ} {w₁ w₂ w₃ w₄ w₅ : Words} → w₁ ≡ taken w → w₂ ≡ cset w₁ numberField s (o .number) →
+    w₃ ≡ cset w₂ rateField s (o .rate) → w₄ ≡ cset w₃ baseField s (o .base) → z ≡ rank o → w₅ ≡ cset w₄ rankField s z → w₅ ≡ filling o s w
+filled-in o w s {w₄ = w₄} e₁ e₂ e₃ e₄ ez e₅ =
+    e₅ ∙ ap (cset w₄ rankField s) ez ∙ ap (λ (v : Words). cset v rankField s (rank o)) (e₄ ∙ ap (λ (v : Words). cset v baseField s (o .base))
+    (e₃ ∙ ap (λ (v : Words). cset v rateField s (o .rate)) (e₂ ∙ ap (λ (v : Words). cset v numberField s (o .number)) e₁)))
 
 pub rooted-in :
     (w : Words) (x : InHand) (n : ℕ) {w₁ w₂ w₃ : Words} →
@@ -105,42 +126,54 @@ read-most z e = omega (arith, e, upTo-most mostNodes z)
 -- ---- post
 
 -- a post that is not declined
-pub record PostDone (n r z : ℤ) (w w′ : Words) (t : Told) : Type 0 where
+pub record PostDone (o : Offer) (w w′ : Words) (t : Told) : Type 0 where
   pub kept : Kept w w′
   pub done :
-      (plain : State) (held : Option (Held Item)) → Book w plain held →
-      Postable (record { number = n; rate = r; base = z }) (plain .capacity) (bookLines held) →
-      Updated w′ (holding plain (join (record { number = n; rate = r; base = z }) (plain .offers))) held (t .counts) × (t .live ≡ suc (length (plain .offers)))
+      (plain : State) (held : Option (Held Item)) (b : Book w plain held) → Postable o (plain .capacity) (partLeaves (b .order)) →
+      Updated w′ (holding plain (join o (plain .offers))) held (t .counts) × (t .live ≡ suc (length (plain .offers)))
 
-pub posted-part :
-    (n r z : ℤ) {w w₁ w₂ w₃ w₄ w′ : Words} {s root root′ i live : ℕ} {x : InHand} {m : Outcome} →
-    root ≡ upTo mostNodes (word w numbersRootWord) →
-    x ≡ rootsOf w →
-    i ≡ upTo mostNodes (word w liveCountWord) →
-    s ≡ firstFree w →
-    w₁ ≡ filling n r z s w →
-    Added s root w₁ w₂ root′ →
-    w₃ ≡ wset w₂ numbersRootWord (pos root′) →
-    Joined s x w₃ w₄ m →
-    live ≡ suc i →
-    w′ ≡ rooting (m .held) live w₄ →
-    PostDone n r z w w′ (record { live = live; counts = m .counts })
-posted-part n r z {w} {w₁} {w₂} {w₃} {w₄} {w′} {s} {root} {root′} {i} {live} {x} {m} er ex ei es e₁ added e₃ joined el e′′ =
-    record {
-      kept =
-          then (then (then (then (then (then (kept-filling n r z s w) (kept-same e₁)) (kept-within (added .within)))
-          (then (kept-header w₂ numbersRootWord (pos root′) (omega arith) (omega arith)) (kept-same e₃))) (kept-joined joined))
-          (kept-rooting (m .held) live w₄)) (kept-same e′′);
-      done = λ plain held b new. (
-        post-done (record { number = n; rate = r; base = z }) b new
-            (record { slot = es; filled = e₁; numbers-root = er; added = added; rooted = e₃; joined = joined-there; headed = e′′ })
-            (omega (arith, el, ei, count-read b)),
-        omega (arith, el, ei, count-read b, live-length b),
-      );
-    }
-  where
-    joined-there : Joined s (rootsOf w) w₃ w₄ m
-    joined-there = subst (λ (y : InHand). Joined s y w₃ w₄ m) ex joined
+module _
+    (o : Offer) {w w₁ w₂ w₃ w₄ w′ : Words} {s f i live : ℕ} {x : InHand} {m : Outcome}
+    (roots : x ≡ rootsOf w)
+    (counted : i ≡ upTo mostNodes (word w liveCountWord))
+    (first : Found w offerTree rateField (o .rate) (x .tree) f)
+    (slot : s ≡ firstFree w)
+    (fills : w₁ ≡ filling o s w)
+    (numbers : Entered numberTree numberField numbersRootWord s w₁ w₂)
+    (order : Entered orderTree rankField orderRootWord s w₂ w₃)
+    (joined : Joined s f x w₃ w₄ m)
+    (more : live ≡ suc i)
+    (heads : w′ ≡ rooting (m .held) live w₄) where
+  kept₄ : Kept w w₄
+  kept₄ =
+      then (then (kept-filling o s w) (kept-same fills))
+      (then (kept-entered (omega arith) (omega arith) numbers) (then (kept-entered (omega arith) (omega arith) order) (kept-joined joined)))
+
+  post-steps : {plain : State} {held : Option (Held Item)} (b : Book w plain held) → Postable o (plain .capacity) (partLeaves (b .order)) →
+      PostSteps o w w₁ w₂ w₃ w₄ w′ s f live m
+  post-steps b new =
+      record {
+        slot = slot;
+        filled = filled w s (free .low) (free .high) o (ap (λ (j : ℕ). wset w firstFreeWord (pos (linkAt w nextFreeField j))) (sym slot)) refl refl refl fills;
+        numbers = numbers;
+        order = order;
+        first = subst (λ (r : InHand). Found w offerTree rateField (o .rate) (r .tree) f) roots first;
+        joined = subst (λ (r : InHand). Joined s f r w₃ w₄ m) roots joined;
+        headed = headed w₄ (omega (arith, b .some-slot, b .capacity, kept₄ .room)) heads;
+      }
+    where
+      free : FirstFree w (partLeaves (b .order)) s (first-free b (new .room) slot .0)
+      free = first-free b (new .room) slot .1
+
+  pub posted-part : PostDone o w w′ (record { live = live; counts = m .counts })
+  posted-part =
+      record {
+        kept = then kept₄ (then (kept-rooting (m .held) live w₄) (kept-same heads));
+        done = λ plain held b new. (
+          posted-plain o b new (post-steps b new) (omega (arith, more, counted, count-read b)),
+          omega (arith, more, counted, count-read b, live-length b),
+        );
+      }
 
 -- ---- withdraw
 
@@ -148,49 +181,63 @@ posted-part n r z {w} {w₁} {w₂} {w₃} {w₄} {w′} {s} {root} {root′} {i
 pub record WithdrawDone (n : ℤ) (s : ℕ) (w w′ : Words) (t : Told) : Type 0 where
   pub kept : Kept w w′
   pub done :
-      (plain : State) (held : Option (Held Item)) → Book w plain held → FoundNumber n (upTo mostNodes (word w numbersRootWord)) w s → 1 ≤ s →
-      Updated w′ (holding plain (leave n (plain .offers))) held (t .counts) × (t .live ≡ length (leave n (plain .offers)))
+      (plain : State) (held : Option (Held Item)) → Book w plain held → FoundKey numberTree numberField n (upTo mostNodes (word w numbersRootWord)) w s →
+      1 ≤ s → Updated w′ (holding plain (leave n (plain .offers))) held (t .counts) × (t .live ≡ length (leave n (plain .offers)))
 
 some-live : (live : List Item) {a : Item} → List·Memᴰ a live → 1 ≤ length live
 some-live [] m = absurd (List·Memᴰ·not-nil m)
 some-live (x ∷ xs) m = omega arith
 
-pub withdrawn-part :
-    (n : ℤ) {w w₁ w₂ w₃ w₄ w′ : Words} {s root root′ i live : ℕ} {x : InHand} {m : Outcome} →
-    root ≡ upTo mostNodes (word w numbersRootWord) →
-    x ≡ rootsOf w →
-    i ≡ upTo mostNodes (word w liveCountWord) →
-    Dropped n root w w₁ root′ →
-    w₂ ≡ wset w₁ numbersRootWord (pos root′) →
-    RemovedIn s x w₂ w₃ m →
-    live ≡ i - 1 →
-    w₄ ≡ rooting (m .held) live w₃ →
-    w′ ≡ given w₄ s →
-    WithdrawDone n s w w′ (record { live = live; counts = m .counts })
-withdrawn-part n {w} {w₁} {w₂} {w₃} {w₄} {w′} {s} {root} {root′} {i} {live} {x} {m} er ex ei dropped e₂ removed el e₄ e′′ =
-    record {
-      kept =
-          then (then (then (then (then (then (kept-within (dropped .within))
-          (then (kept-header w₁ numbersRootWord (pos root′) (omega arith) (omega arith)) (kept-same e₂))) (kept-within (removed .within)))
-          (kept-rooting (m .held) live w₃)) (kept-same e₄)) (kept-given w₄ s)) (kept-same e′′);
-      done = finish;
-    }
-  where
-    writes : WithdrawWrites n w w₁ w₂ w₃ w₄ w′ s root root′ live m
-    writes =
-        record {
-          numbers-root = er;
-          dropped = dropped;
-          rooted = e₂;
-          removed = subst (λ (y : InHand). RemovedIn s y w₂ w₃ m) ex removed;
-          headed = e₄;
-          give-back = e′′;
-        }
+module _
+    (n : ℤ) {w w₁ w₂ w₃ w₄ w′ : Words} {s f y i live : ℕ} {x : InHand} {m : Outcome} {rate key : ℤ}
+    (roots : x ≡ rootsOf w)
+    (counted : i ≡ upTo mostNodes (word w liveCountWord))
+    (ranked : key ≡ cell w rankField s)
+    (rated : rate ≡ cell w rateField s)
+    (first : Found w offerTree rateField rate (x .tree) f)
+    (behind : FollowedAt s w y)
+    (numbers : Struck numberTree numberField numbersRootWord n w w₁)
+    (order : Struck orderTree rankField orderRootWord key w₁ w₂)
+    (left : Left s f y x w₂ w₃ m)
+    (fewer : live ≡ i - 1)
+    (heads : w₄ ≡ rooting (m .held) live w₃)
+    (gives : w′ ≡ given w₄ s) where
+  kept₃ : Kept w w₃
+  kept₃ = then (kept-struck (omega arith) (omega arith) numbers) (then (kept-struck (omega arith) (omega arith) order) (kept-left left))
 
-    finish :
-        (plain : State) (held : Option (Held Item)) → Book w plain held → FoundNumber n (upTo mostNodes (word w numbersRootWord)) w s → 1 ≤ s →
-        Updated w′ (holding plain (leave n (plain .offers))) held (m .counts) × (live ≡ length (leave n (plain .offers)))
-    finish plain held b f low =
-        let (a, there) = live-at (number-sought b f refl) (λ q. omega (arith, q, low)) in
-        let count : suc live ≡ length (bookLines held) = omega (arith, el, ei, count-read b, some-live (bookLines held) (there .member)) in
-        (withdraw-done a b there writes count, withdraw-count a b there writes count)
+  withdraw-steps : {plain : State} {held : Option (Held Item)} {a : Item} (b : Book w plain held) → LiveAt n s (partLeaves (b .order)) a →
+      WithdrawSteps n w w₁ w₂ w₃ w₄ w′ s f y live m
+  withdraw-steps {a = a} b at =
+      record {
+        first =
+            subst (λ (z : ℤ). Found w offerTree rateField z (offersRoot w) f) rated
+            (subst (λ (r : InHand). Found w offerTree rateField rate (r .tree) f) roots first);
+        behind = behind;
+        numbers = numbers;
+        order = subst (λ (z : ℤ). Struck orderTree rankField orderRootWord z w₁ w₂) ranked order;
+        left = subst (λ (r : InHand). Left s f y r w₂ w₃ m) roots left;
+        headed = there;
+        freed =
+            freed-given w₄ s (omega (arith, at .slot, b .in-order .slots .low (at .member)))
+            (omega (arith, at .slot, b .in-order .slots .high (at .member), kept₃ .room, there .agree .room)) gives;
+      }
+    where
+      there : Headed (m .held) live w₃ w₄
+      there = headed w₃ (omega (arith, b .some-slot, b .capacity, kept₃ .room)) heads
+
+  pub withdrawn-part : WithdrawDone n s w w′ (record { live = live; counts = m .counts })
+  withdrawn-part =
+      record {
+        kept = then kept₃ (then (kept-rooting (m .held) live w₃) (then (kept-same heads) (then (kept-given w₄ s) (kept-same gives))));
+        done = finish;
+      }
+    where
+      finish :
+          (plain : State) (held : Option (Held Item)) → Book w plain held →
+          FoundKey numberTree numberField n (upTo mostNodes (word w numbersRootWord)) w s → 1 ≤ s →
+          Updated w′ (holding plain (leave n (plain .offers))) held (m .counts) × (live ≡ length (leave n (plain .offers)))
+      finish plain held b g low =
+          let (a, there) = live-at (number-sought b g refl) (λ q. omega (arith, q, low)) in
+          let count : suc live ≡ length (partLeaves (b .order)) =
+          omega (arith, fewer, counted, count-read b, some-live (partLeaves (b .order)) (there .member)) in
+          (withdrawn-plain a b there (withdraw-steps b there) count, withdrawn-count a b there (withdraw-steps b there) count)

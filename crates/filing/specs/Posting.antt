@@ -1,224 +1,269 @@
 -- A post on a part that stands for a plain book: the code's steps, one after the other, leave a part that stands for the plain book after the post.
 use mathlib.Core.Path.{_≡_, refl, sym, _∙_, ap, subst}
-use mathlib.Core.Logic.{_≢_, ⊎-elim}
+use mathlib.Core.Logic.{_≢_, _⊎_, inl, inr, ⊎-elim}
 use mathlib.Core.HLevel.{¬-prop}
-use mathlib.Core.List.{List, _∷_, map, List·Memᴰ, List·Memᴰ·head, List·Memᴰ·tail, List·Memᴰ·cases-cons}
-use mathlib.Core.Option.{Option, some}
-use Prim.Native.Nat.{ℕ, suc, _≤_}
+use mathlib.Core.List.{List, _∷_, map, List·Memᴰ, List·Memᴰ·head, List·Memᴰ·tail, List·Memᴰ·cases-cons, Memᴰ·map, Memᴰ·of-map}
+use mathlib.Core.Option.{Option}
+use Prim.Native.Nat.{ℕ, suc, _≤_, _<_}
 use native.Mathlib.Omega.{arith}
-use lib.ListN.{length}
+use lib.ListN.{length, length-map}
 use lib.IntN.{pos}
 use Rattle.lists.specs.Members.{pairs-cons}
 use Rattle.offers.specs.Offers.{Offer}
-use Rattle.trees.specs.Operations.{Part}
+use Rattle.offers.specs.Order.{Ahead, compare-offers}
+use Rattle.offers.specs.Ranks.{rank-tells}
+use Rattle.trees.specs.Operations.{Part, partLeaves}
 use Rattle.plain.specs.Book.{State, join, holding}
-use Rattle.dynamic.specs.OfferTree.{Held, Pair}
-use Rattle.dynamic.specs.Updates.{posted}
-use Rattle.dynamic.specs.Valid.{bookLines, placed}
-use Rattle.dynamic.specs.Placed.{New, placed-mem}
-use Rattle.dynamic.specs.Updated.{posted-lines, posted-work}
-use Rattle.dynamic.specs.Work.{Work}
-use Rattle.table.specs.Fields.{firstFreeWord, mostNodes, numberTree, numbersRootWord}
-use Rattle.table.specs.Words.{Words, word, wset, wset-other, upTo}
-use Rattle.table.specs.Layout.{cap}
+use Rattle.plain.specs.Sound.{length-join}
+use Rattle.plain.specs.LiveAfter.{post-adds}
+use Rattle.plain.specs.FirstLaws.{self, Standing, pairs-standing, standing-map, standing-same, join-standing}
+use Rattle.dynamic.specs.OfferTree.{Held}
+use Rattle.dynamic.specs.Valid.{bookLines}
+use Rattle.firsts.specs.Joins.{Joins}
+use Rattle.table.specs.Fields.{firstFreeWord, liveCountWord, mostNodes, numberField, numberTree, numbersRootWord, offerTree, orderRootWord, orderTree}
+use Rattle.table.specs.Fields.{rankField, rateField}
+use Rattle.table.specs.Words.{Words, word, upTo}
+use Rattle.table.specs.Layout.{cap, cell}
 use Rattle.table.specs.Items.{Item, In, at, Slots, offerOf}
-use Rattle.table.specs.Rep.{within-cap, Only, header-kept}
+use Rattle.table.specs.Rep.{header-kept}
 use Rattle.table.specs.Threads.{Held as HeldAt, Holds}
-use Rattle.table.specs.PartTrees.{partRef}
-use Rattle.pieces.specs.Pieces.{items, item-laws}
-use Rattle.form.specs.Form.{Book, OffersIn, NumbersIn, head0}
-use Rattle.form.specs.Live.{live-whole}
-use Rattle.form.specs.HeaderWords.{offers-read, envelope-read, capacity-most, live-most}
-use Rattle.levels.specs.declared.Counts.{Counts}
+use Rattle.table.specs.Keys.{Keyed, keyed-numbers}
+use Rattle.descents.specs.Finds.{Found}
+use Rattle.pieces.specs.Pieces.{rateOf}
+use Rattle.form.specs.Stored.{EnvelopeField}
+use Rattle.form.specs.Form.{Book, head0, numberOf, rankOf}
+use Rattle.form.specs.Live.{ranks-ahead}
+use Rattle.form.specs.Roots.{offersRoot}
 use Rattle.levels.specs.declared.Made.{Made as Outcome}
-use Rattle.numbers.specs.Numbers.{NumbersAt, Added}
-use Rattle.declining.specs.Sought.{numbers-at}
+use Rattle.declining.specs.Sought.{rate-sought}
 use Rattle.declining.specs.PartCauses.{Postable}
-use Rattle.filing.specs.Agree.{Agree, Everywhere, FreeHere, agree-trans, agree-less, agree-header, agree-only, agree-touched, header-set, offers-number}
-use Rattle.filing.specs.Agree.{numbers-envelope, free-number, free-envelope, held-agree, offers-agree, numbers-agree, free-agree}
+use Rattle.filing.specs.Agree.{Agree, IndexHere, FreeHere, agree-trans, agree-less, numbers-envelope, order-envelope, numbers-order, order-numbers}
+use Rattle.filing.specs.Agree.{rank-apart, tree-index, free-index, free-envelope, offers-agree, free-agree}
 use Rattle.filing.specs.Writing.{rootsOf, Filled, Headed, FirstFree, first-free}
-use Rattle.filing.specs.Counts.{Exact, counts-exact}
-use Rattle.filing.specs.JoinedOffers.{placed-join, placed-length, in-placed, rate-new, Joined, JoinedIn, joins}
+use Rattle.filing.specs.Indexes.{Stands, stands-agree, stands-among, stands-leaves, numbers-stand, order-stand, OffTree, Entered, Comes, entered}
+use Rattle.filing.specs.Indexes.{entered-agree, entered-header}
+use Rattle.filing.specs.Settling.{Joined, Settled, Before}
+use Rattle.filing.specs.Coming.{joins}
+use Rattle.filing.specs.Updating.{Updated, book-standing, before-at, Rebuilt, rebuilt}
 
--- What an update gives in the end: the part stands for this plain book, with a log of those counts.
-pub record Updated (w′ : Words) (plain : State) (held : Option (Held Item)) (n : Counts) : Type 0 where
-  pub after : Option (Held Item)
-  pub log : List (Pair Item)
-  pub stands : Book w′ plain after
-  pub work : Work items held after log
-  pub counts : Exact log n
-
--- The steps of a post: a slot filled, its number added, the item joined, the roots and the count set.
-pub record PostSteps (o : Offer) (w w₁ w₂ w₃ w₄ w′ : Words) (s root root′ n : ℕ) (m : Outcome) : Type 0 where
+-- The steps of a post: a slot filled, the item entered in both indexes and joined to the tree of offers, the roots and the count set.
+pub record PostSteps (o : Offer) (w w₁ w₂ w₃ w₄ w′ : Words) (s f n : ℕ) (m : Outcome) : Type 0 where
   pub slot : s ≡ upTo mostNodes (word w firstFreeWord)
   pub filled : Filled s o w w₁
-  pub numbers-root : root ≡ upTo mostNodes (word w numbersRootWord)
-  pub added : Added s root w₁ w₂ root′
-  pub rooted : w₃ ≡ wset w₂ numbersRootWord (pos root′)
-  pub joined : Joined s (rootsOf w) w₃ w₄ m
+  pub numbers : Entered numberTree numberField numbersRootWord s w₁ w₂
+  pub order : Entered orderTree rankField orderRootWord s w₂ w₃
+  pub first : Found w offerTree rateField (o .rate) (offersRoot w) f
+  pub joined : Joined s f (rootsOf w) w₃ w₄ m
   pub headed : Headed (m .held) n w₄ w′
 
 -- the offer in that slot
 abbrev pub itemAt : ℕ → Offer → Item
 itemAt s o = record { slot = s; offer = o }
 
-abbrev pub afterPost : ℕ → Offer → Option (Held Item) → Option (Held Item)
-afterPost s o held = some (posted items (itemAt s o) held .held)
-
 module _
-    {w w₁ w₂ w₃ w₄ w′ : Words} {plain : State} {s root root′ n : ℕ} {m : Outcome} {held : Option (Held Item)}
+    {w w₁ w₂ w₃ w₄ w′ : Words} {plain : State} {s f n : ℕ} {m : Outcome} {held : Option (Held Item)}
     (o : Offer)
     (b : Book w plain held)
-    (new : Postable o (plain .capacity) (bookLines held))
-    (steps : PostSteps o w w₁ w₂ w₃ w₄ w′ s root root′ n m)
-    (count : n ≡ suc (length (bookLines held))) where
+    (new : Postable o (plain .capacity) (partLeaves (b .order)))
+    (steps : PostSteps o w w₁ w₂ w₃ w₄ w′ s f n m)
+    (count : n ≡ suc (length (partLeaves (b .order)))) where
+  abbrev live : List Item
+  live = partLeaves (b .order)
+
+  abbrev item : Item
+  item = itemAt s o
+
   others : List ℕ
   others = first-free b (new .room) (steps .slot) .0
 
-  free : FirstFree w (bookLines held) s others
+  free : FirstFree w live s others
   unfolding others
   free = first-free b (new .room) (steps .slot) .1
 
-  -- ---- w to w₁
+  -- ---- w to w₁: a slot is filled
 
-  not-there : (t : ℕ) → In t (bookLines held) → t ≢ s
-  not-there t i d = free .not-live (subst (λ (u : ℕ). In u (bookLines held)) d i)
+  not-there : (t : ℕ) → In t live → t ≢ s
+  not-there t i d = free .not-live (subst (λ (u : ℕ). In u live) d i)
 
-  numbers₁ : NumbersAt w₁ root (bookLines held) (b .numbers .numbers)
-  numbers₁ = numbers-agree (agree-less (λ f t d. not-there t (d .1)) (steps .filled .agree)) (numbers-at b (steps .numbers-root))
+  numbers₁ : Stands w₁ numberTree numberField numbersRootWord numberOf live (b .numbers .numbers)
+  numbers₁ = stands-agree (numbers-stand b) (agree-less (λ g t d. not-there t (d .1)) (steps .filled .agree))
+      (steps .filled .header numbersRootWord (omega arith) (omega arith))
 
-  slots₁ : Slots (cap w₁) (itemAt s o ∷ bookLines held)
+  order₁ : Stands w₁ orderTree rankField orderRootWord rankOf live (b .order)
+  order₁ = stands-agree (order-stand b) (agree-less (λ g t d. not-there t (d .1)) (steps .filled .agree))
+      (steps .filled .header orderRootWord (omega arith) (omega arith))
+
+  slots₁ : Slots (cap w₁) (item ∷ live)
   slots₁ =
       record {
-        low = λ {a = y} m. ⊎-elim {C = 1 ≤ y .slot} (λ (q : y ≡ itemAt s o). omega (arith, ap (λ (z : Item). z .slot) q, free .low)) (numbers₁ .slots .low)
-            (List·Memᴰ·cases-cons m);
-        high = λ {a = y} m. ⊎-elim {C = y .slot ≤ cap w₁} (λ (q : y ≡ itemAt s o). omega (
-          arith,
-          ap (λ (z : Item). z .slot) q,
-          free .high,
-          steps .filled .agree .room,
-        )) (numbers₁ .slots .high) (List·Memᴰ·cases-cons m);
-        apart = pairs-cons (λ y z. ¬-prop) (λ y m d. free .not-live (at m d)) (numbers₁ .slots .apart);
+        low = λ {a = y} i. ⊎-elim {C = 1 ≤ y .slot} (λ (q : y ≡ item). omega (arith, ap (λ (z : Item). z .slot) q, free .low))
+            (numbers₁ .index .slots .low) (List·Memᴰ·cases-cons i);
+        high = λ {a = y} i. ⊎-elim {C = y .slot ≤ cap w₁}
+            (λ (q : y ≡ item). omega (arith, ap (λ (z : Item). z .slot) q, free .high, steps .filled .agree .room))
+            (numbers₁ .index .slots .high) (List·Memᴰ·cases-cons i);
+        apart = pairs-cons (λ y z. ¬-prop) (λ y i d. free .not-live (at i d)) (numbers₁ .index .slots .apart);
       }
 
-  holds₁ : Holds w₁ (itemAt s o ∷ bookLines held)
+  holds₁ : Holds w₁ (item ∷ live)
   holds₁ = record {
-    held = λ {a = y} m. ⊎-elim {C = HeldAt w₁ y} (λ (q : y ≡ itemAt s o). subst (HeldAt w₁) (sym q) here) (numbers₁ .holds .held)
-        (List·Memᴰ·cases-cons m);
+    held = λ {a = y} i. ⊎-elim {C = HeldAt w₁ y} (λ (q : y ≡ item). subst (HeldAt w₁) (sym q) here) (numbers₁ .index .holds .held)
+        (List·Memᴰ·cases-cons i);
   }
     where
-      here : HeldAt w₁ (itemAt s o)
+      here : HeldAt w₁ item
       here = record { number = steps .filled .number; rate = steps .filled .rate; base = steps .filled .base; ranged = new .ranged }
 
-  -- ---- w₁ to w₃
+  ranked₁ : Keyed w₁ rankField rankOf (item ∷ live)
+  ranked₁ = record {
+    read = λ {a = y} i. ⊎-elim {C = cell w₁ rankField (y .slot) ≡ rankOf y}
+        (λ (q : y ≡ item). subst (λ (z : Item). cell w₁ rankField (z .slot) ≡ rankOf z) (sym q) (steps .filled .ranked)) (order₁ .index .keyed .read)
+        (List·Memᴰ·cases-cons i);
+  }
 
-  added₂ : (q : Part Item) × NumbersAt w₂ root′ (itemAt s o ∷ bookLines held) q
-  added₂ = steps .added .made (itemAt s o) (bookLines held) (b .numbers .numbers) numbers₁ refl slots₁ holds₁ (new .number-new)
+  -- a number that is new has a rank that is new
+  rank-new : (y : Item) → List·Memᴰ y live → rankOf y ≢ rankOf item
+  rank-new y i e =
+      new .number-new y i (ap (λ (p : Offer). p .number) (rank-tells (y .offer) o (b .in-order .holds .held i .ranged) (new .ranged) e))
 
-  only₂ : Only numberTree (itemAt s o ∷ bookLines held) w₁ w₂
-  only₂ = steps .added .only (itemAt s o) (bookLines held) (b .numbers .numbers) numbers₁ refl slots₁ holds₁ (new .number-new)
+  -- ---- w₁ to w₃: both indexes
 
-  numbers′ : Part Item
-  numbers′ = added₂ .0
+  comes₁ : Comes w₁ numberField s numberOf item live
+  comes₁ = record { slot = refl; slots = slots₁; holds = holds₁; keyed = keyed-numbers holds₁; new = new .number-new }
 
-  rooted₃ : Agree Everywhere w₂ w₃
-  rooted₃ = rw (steps .rooted) (agree-header w₂ numbersRootWord (pos root′) (omega arith) (omega arith))
+  agree₂ : Agree (OffTree numberTree) w₁ w₂
+  agree₂ = entered-agree (omega arith) (omega arith) (steps .numbers) numbers₁ comes₁
 
-  numbers₃ : NumbersAt w₃ root′ (itemAt s o ∷ bookLines held) numbers′
-  unfolding numbers′
-  numbers₃ = numbers-agree (agree-less (λ f t d. tt) rooted₃) (added₂ .1)
+  numbers₂ : (q : Part Item) × Stands w₂ numberTree numberField numbersRootWord numberOf (item ∷ live) q
+  numbers₂ = entered (omega arith) (omega arith) (steps .numbers) numbers₁ comes₁
 
-  offers₃ : OffersIn w₃ held
-  offers₃ =
-      offers-agree held
-      (agree-trans (agree-less (λ f t d. not-there t (d .1)) (steps .filled .agree))
-      (agree-trans (agree-only (steps .added .within) only₂ (offers-number (bookLines held))) (agree-less (λ f t d. tt) rooted₃)))
-      (b .offers .offers-in)
+  order₂ : Stands w₂ orderTree rankField orderRootWord rankOf live (b .order)
+  order₂ = stands-agree order₁ (agree-less (λ g t d. order-numbers live g t d) agree₂)
+      (entered-header (omega arith) (omega arith) (steps .numbers) orderRootWord (omega arith) (omega arith))
 
-  -- ---- w₃ to w₄
+  comes₂ : Comes w₂ rankField s rankOf item live
+  comes₂ =
+      record {
+        slot = refl;
+        slots = numbers₂ .1 .index .slots;
+        holds = numbers₂ .1 .index .holds;
+        keyed = record { read = λ {a = y} i. agree₂ .cells rankField (y .slot) (λ n. rank-apart (inl n)) ∙ ranked₁ .read i };
+        new = rank-new;
+      }
 
-  stands-new : New items (itemAt s o) (bookLines held)
-  stands-new = rate-new (itemAt s o) (bookLines held) (new .rate-new)
+  agree₃ : Agree (OffTree orderTree) w₂ w₃
+  agree₃ = entered-agree (omega arith) (omega arith) (steps .order) order₂ comes₂
 
-  joined₄ : JoinedIn (itemAt s o) held w₃ w₄ m
-  joined₄ =
-      joins w₃ (itemAt s o) held refl (offers-read b) (envelope-read b) offers₃ (numbers₃ .slots) (numbers₃ .holds) stands-new
+  order₃ : (q : Part Item) × Stands w₃ orderTree rankField orderRootWord rankOf (item ∷ live) q
+  order₃ = entered (omega arith) (omega arith) (steps .order) order₂ comes₂
+
+  numbers₃ : Stands w₃ numberTree numberField numbersRootWord numberOf (item ∷ live) (numbers₂ .0)
+  numbers₃ = stands-agree (numbers₂ .1) (agree-less (λ g t d. numbers-order (item ∷ live) g t d) agree₃)
+      (entered-header (omega arith) (omega arith) (steps .order) numbersRootWord (omega arith) (omega arith))
+
+  -- ---- w₃ to w₄: the tree of offers
+
+  before₃ : Before w₃ (rootsOf w) held live
+  before₃ =
+      before-at b
+      (agree-trans (agree-less (λ g t d. not-there t (d .1)) (steps .filled .agree))
+      (agree-trans (agree-less (λ g t d k. tree-index live g t d (inl k)) agree₂)
+      (agree-less (λ g t d k. tree-index live g t d (inr k)) agree₃)))
+
+  -- the live items afterwards, in order
+  abbrev live′ : List Item
+  live′ = partLeaves (order₃ .0)
+
+  order′ : Stands w₃ orderTree rankField orderRootWord rankOf live′ (order₃ .0)
+  order′ = stands-leaves (order₃ .1)
+
+  one-more : Joins Item offerOf item live live′
+  one-more =
+      record {
+        standing = book-standing b;
+        standing′ = pairs-standing Item offerOf (ranks-ahead (order′ .index .holds) (order′ .index .index-in .falling));
+        there = λ x i. List·Memᴰ·cases-cons (order₃ .1 .index .index-in .all-live x i);
+        new = order₃ .1 .index .index-in .all-there item (List·Memᴰ·head refl);
+        old = λ x i. order₃ .1 .index .index-in .all-there x (List·Memᴰ·tail i);
+      }
+
+  settled : Settled held live′ w₃ w₄ m
+  settled =
+      let i = order₃ .1 .index in
+      joins before₃ item (i .slots) (i .holds) (i .keyed .read (List·Memᴰ·head refl)) rank-new one-more refl (rate-sought b (steps .first) refl)
       (steps .joined)
 
-  -- ---- w₄ to w′
+  -- ---- the plain book
 
-  lines : bookLines (afterPost s o held) ≡ placed items (itemAt s o) (bookLines held)
-  lines = posted-lines items item-laws (itemAt s o) held (live-whole w held (b .offers .offers-in)) stands-new
-
-  offers′ : OffersIn w′ (afterPost s o held)
-  offers′ =
-      let i = joined₄ .made in
-      held-agree (posted items (itemAt s o) held .held) (agree-less (λ f t d. tt) (steps .headed .agree))
-      (record { root = refl; envelope = refl; slots = i .slots; kept = i .kept; tied = i .tied; stored = i .stored; pieces = i .pieces; right = i .right })
-
-  numbers-at′ : NumbersAt w′ root′ (itemAt s o ∷ bookLines held) numbers′
-  numbers-at′ =
-      numbers-agree
-      (agree-trans (agree-touched (joined₄ .within) (joined₄ .touched) (numbers-envelope (itemAt s o ∷ bookLines held)))
-      (agree-less (λ f t d. tt) (steps .headed .agree)))
-      numbers₃
-
-  numbers-in′ : NumbersIn w′ (bookLines (afterPost s o held)) numbers′
-  numbers-in′ =
-      let i = numbers-at′ .numbers in
-      record {
-        tied = i .tied;
-        balanced = i .balanced;
-        falling = i .falling;
-        all-live = λ y m. rw lines (in-placed (itemAt s o) (bookLines held) (i .all-live y m));
-        all-there = λ y m. i .all-there y (unplaced y (rw lines at m));
-      }
+  plain-is : map offerOf live′ ≡ join o (plain .offers)
+  plain-is =
+      standing-same Offer self (standing-map offerOf .0 (one-more .standing′)) (join-standing o in-order apart)
+      (λ x i. let (y, k, e) = Memᴰ·of-map offerOf live′ i in
+      post-adds o (plain .offers) .1
+      (⊎-elim (λ q. inl (sym e ∙ ap offerOf q)) (λ j. inr (subst (λ p. List·Memᴰ p (plain .offers)) e (was-live j))) (one-more .there y k)))
+      (λ x i. ⊎-elim (λ q. subst (λ p. List·Memᴰ p (map offerOf live′)) (sym q) (Memᴰ·map offerOf (one-more .new)))
+      (λ j. let (y, k, e) = Memᴰ·of-map offerOf live (subst (List·Memᴰ x) (sym (b .stands-for)) j) in
+      subst (λ p. List·Memᴰ p (map offerOf live′)) e (Memᴰ·map offerOf (one-more .old y k))) (post-adds o (plain .offers) .0 i))
     where
-      unplaced : (y : Item) → List·Memᴰ y (placed items (itemAt s o) (bookLines held)) → List·Memᴰ y (itemAt s o ∷ bookLines held)
-      unplaced y m = ⊎-elim (λ (d : y ≡ itemAt s o). List·Memᴰ·head d) (λ i. List·Memᴰ·tail i) (placed-mem items (itemAt s o) (bookLines held) y m)
+      was-live : {y : Item} → List·Memᴰ y live → List·Memᴰ (y .offer) (plain .offers)
+      was-live {y} j = subst (List·Memᴰ (y .offer)) (b .stands-for) (Memᴰ·map offerOf j)
+
+      in-order : Standing Offer self (plain .offers)
+      in-order = subst (Standing Offer self) (b .stands-for) (standing-map offerOf .0 (book-standing b))
+
+      apart : (x : Offer) → List·Memᴰ x (plain .offers) → Ahead o x ⊎ Ahead x o
+      apart x i =
+          let (y, k, e) = Memᴰ·of-map offerOf live (subst (List·Memᴰ x) (sym (b .stands-for)) i) in
+          ⊎-elim (λ q. absurd (new .number-new y k (ap (λ (p : Offer). p .number) (e ∙ sym q)))) (λ k. k) (compare-offers o x)
+
+  more : length live′ ≡ suc (length live)
+  more =
+      sym (length-map live′ offerOf) ∙ ap length plain-is ∙ length-join o (plain .offers)
+      ∙ ap suc (ap length (sym (b .stands-for)) ∙ length-map live offerOf)
+
+  -- ---- w₄ to w′: the header
+
+  later : {k : ℕ} {xs : List Item} → ((g t : ℕ) → IndexHere k xs g t → EnvelopeField g → ⊥) → Agree (IndexHere k xs) w₃ w′
+  later off = agree-trans (agree-less off (settled .agree)) (agree-less (λ g t d. tt) (steps .headed .agree))
+
+  header₄ : (i : ℕ) → liveCountWord < i → i < 64 → word w′ i ≡ word w₃ i
+  header₄ i l h = steps .headed .header i l h ∙ header-kept (settled .within) i h
 
   free-kept : Agree (FreeHere others) w w′
   free-kept =
-      agree-trans (agree-less (λ f t d. free .other t (d .1)) (steps .filled .agree))
-      (agree-trans (agree-only (steps .added .within) only₂ (free-number others))
-      (agree-trans (agree-less (λ f t d. tt) rooted₃)
-      (agree-trans (agree-touched (joined₄ .within) (joined₄ .touched) (free-envelope others)) (agree-less (λ f t d. tt) (steps .headed .agree)))))
-
-  numbers-root′ : word w′ numbersRootWord ≡ pos (partRef numbers′)
-  numbers-root′ =
-      steps .headed .header numbersRootWord (omega arith) (omega arith)
-      ∙ header-kept (joined₄ .within) numbersRootWord (omega arith)
-      ∙ ap (λ (v : Words). word v numbersRootWord) (steps .rooted)
-      ∙ header-set w₂ numbersRootWord (pos root′) (omega (arith, free .low, slots₁ .high (List·Memᴰ·head refl), within-cap (steps .added .within)))
-      (omega arith)
-      ∙ ap pos (numbers-at′ .root-is)
+      agree-trans (agree-less (λ g t d. free .other t (d .1)) (steps .filled .agree))
+      (agree-trans (agree-less (λ g t d k. free-index others g t d (inl k)) agree₂)
+      (agree-trans (agree-less (λ g t d k. free-index others g t d (inr k)) agree₃)
+      (agree-trans (agree-less (λ g t d. free-envelope others g t d) (settled .agree)) (agree-less (λ g t d. tt) (steps .headed .agree)))))
 
   first-free′ : word w′ firstFreeWord ≡ pos (head0 others)
   first-free′ =
-      steps .headed .header firstFreeWord (omega arith) (omega arith)
-      ∙ header-kept (joined₄ .within) firstFreeWord (omega arith)
-      ∙ ap (λ (v : Words). word v firstFreeWord) (steps .rooted)
-      ∙ wset-other w₂ numbersRootWord firstFreeWord (pos root′) (omega arith)
-      ∙ header-kept (steps .added .within) firstFreeWord (omega arith)
+      header₄ firstFreeWord (omega arith) (omega arith)
+      ∙ entered-header (omega arith) (omega arith) (steps .order) firstFreeWord (omega arith) (omega arith)
+      ∙ entered-header (omega arith) (omega arith) (steps .numbers) firstFreeWord (omega arith) (omega arith)
       ∙ steps .filled .first
       ∙ ap pos (free .next)
 
-  more : length (bookLines (afterPost s o held)) ≡ suc (length (bookLines held))
-  more = ap length lines ∙ placed-length (itemAt s o) (bookLines held)
+  numbers′ : Stands w₃ numberTree numberField numbersRootWord numberOf live′ (numbers₂ .0)
+  numbers′ = stands-among numbers₃ (order′ .index .slots) (order₃ .1 .index .index-in .all-live) (order₃ .1 .index .index-in .all-there)
 
-  pub posted-book : Book w′ (holding plain (join o (plain .offers))) (afterPost s o held)
-  posted-book =
+  posted : Rebuilt held w′ (holding plain (join o (plain .offers))) m
+  posted =
       record {
+        live = live′;
+        before = w₃;
+        after-tree = w₄;
+        settled = settled;
         capacity = free-kept .room ∙ b .capacity;
         some-slot = b .some-slot;
-        offers =
-            record {
-              offers-root = steps .headed .root ∙ ap pos (joined₄ .made .root);
-              envelope-root = steps .headed .envelope ∙ ap pos (joined₄ .made .envelope);
-              live-count = steps .headed .count ∙ ap pos (count ∙ sym more);
-              offers-in = offers′;
-            };
-        numbers = record { numbers = numbers′; numbers-root = numbers-root′; numbers-in = numbers-in′ };
+        root = steps .headed .root;
+        envelope = steps .headed .envelope;
+        count = steps .headed .count ∙ ap pos (count ∙ sym more);
+        offers = offers-agree (settled .after) (agree-less (λ g t d. tt) (steps .headed .agree)) (settled .left .offers);
+        numbers = numbers₂ .0;
+        by-number = stands-agree numbers′ (later (numbers-envelope live′)) (header₄ numbersRootWord (omega arith) (omega arith));
+        order = order₃ .0;
+        by-rank = stands-agree order′ (later (order-envelope live′)) (header₄ orderRootWord (omega arith) (omega arith));
+        leaves = refl;
         free =
             record {
               free = others;
@@ -227,18 +272,9 @@ module _
               free-apart = free .apart;
               slots-used = omega (arith, free .count, more, free-kept .room);
             };
-        stands-for = ap (map offerOf) lines ∙ placed-join (itemAt s o) (bookLines held) ∙ ap (join o) (b .stands-for);
+        plain-is = plain-is;
       }
 
   -- the part stands for the plain book after the post
   pub posted-plain : Updated w′ (holding plain (join o (plain .offers))) held (m .counts)
-  posted-plain =
-      let done = posted-work items item-laws (itemAt s o) held (live-whole w held (b .offers .offers-in)) stands-new in
-      record {
-        after = afterPost s o held;
-        log = posted items (itemAt s o) held .log;
-        stands = posted-book;
-        work = done;
-        counts = counts-exact (omega (arith, live-most b, capacity-most b)) (omega (arith, live-most posted-book, capacity-most posted-book)) done
-            (joined₄ .counted);
-      }
+  posted-plain = rebuilt posted b

@@ -1,49 +1,62 @@
 -- A withdrawal on a part that stands for a plain book: the code's steps leave a part that stands for the plain book after the withdrawal.
-use mathlib.Core.Path.{_≡_, sym, _∙_, ap}
-use mathlib.Core.Logic.{_≢_}
+use mathlib.Core.Path.{_≡_, refl, sym, _∙_, ap, subst}
+use mathlib.Core.Logic.{_≢_, _⊎_, inl, inr, ⊎-elim}
 use mathlib.Core.HLevel.{¬-prop}
-use mathlib.Core.List.{List, _∷_, map, List·Memᴰ}
+use mathlib.Core.Bool.{not}
+use mathlib.Core.List.{List, _∷_, map, List·Memᴰ, Memᴰ·map, Memᴰ·of-map, Sublistᴰ}
 use mathlib.Core.Option.{Option}
 use Prim.Native.Nat.{ℕ, suc, _≤_, _<_}
 use native.Mathlib.Omega.{arith}
 use lib.ListN.{length, length-map}
+use lib.Dec.{T, not-T}
 use lib.IntN.{ℤ, pos}
-use Rattle.lists.specs.Members.{pairs-cons}
-use Rattle.plain.specs.Book.{State, leave, holding}
-use Rattle.envelopes.specs.Envelope.{Ordered}
-use Rattle.trees.specs.Operations.{Part}
+use Rattle.lists.specs.Filter.{keep, keep-map, keep-sublist, keep-passes, keep-in}
+use Rattle.lists.specs.Firsts.{firsts-sub}
+use Rattle.lists.specs.Members.{T?, pairs-cons}
+use Rattle.lists.specs.Places.{sublist-mem}
+use Rattle.integers.specs.Equal.{equal}
+use Rattle.integers.specs.Parts.{intRules, equal-eq, unequal}
+use Rattle.offers.specs.Offers.{Offer}
+use Rattle.offers.specs.Order.{Ahead, compare-offers}
+use Rattle.trees.specs.Operations.{Part, partLeaves}
+use Rattle.plain.specs.Book.{State, join, leave, hasNumber, holding}
+use Rattle.plain.specs.Sound.{length-join}
+use Rattle.plain.specs.LiveAfter.{post-adds}
+use Rattle.plain.specs.FirstLaws.{self, pairs-standing, standing-map, standing-sub, standing-same, join-standing}
 use Rattle.dynamic.specs.OfferTree.{Held}
-use Rattle.dynamic.specs.Updates.{withdrawn}
-use Rattle.dynamic.specs.Valid.{bookLines, without}
-use Rattle.dynamic.specs.Updated.{withdrawn-lines, withdrawn-work}
-use Rattle.table.specs.Fields.{envelopeRootWord, firstFreeWord, liveCountWord, mostNodes, numberTree, numbersRootWord, offersRootWord}
-use Rattle.table.specs.Words.{Words, word, wset, wset-other, upTo, upTo-in}
-use Rattle.table.specs.Layout.{cap, cap-most}
-use Rattle.table.specs.Items.{Item, In, at}
-use Rattle.table.specs.Rep.{within-cap, Only, header-kept}
-use Rattle.pieces.specs.Pieces.{items, item-laws}
-use Rattle.form.specs.Form.{Book, OffersIn, NumbersIn, FreeChain, free-none, free-more, numberOf, head0, plainOffers}
-use Rattle.table.specs.PartTrees.{partRef}
-use Rattle.update.specs.Steps.{RemovedIn}
+use Rattle.dynamic.specs.Valid.{bookLines}
+use Rattle.firsts.specs.Joins.{Leaves}
+use Rattle.table.specs.Fields.{envelopeRootWord, firstFreeWord, liveCountWord, mostNodes, numberField, numberTree, numbersRootWord, offerTree}
+use Rattle.table.specs.Fields.{offersRootWord, orderRootWord, orderTree, rankField, rateField}
+use Rattle.table.specs.Words.{Words, word, upTo, upTo-in}
+use Rattle.table.specs.Layout.{cap, cap-most, cell}
+use Rattle.table.specs.Items.{Item, In, at, Slots, slots-sublist, offerOf}
+use Rattle.table.specs.Rep.{header-kept}
+use Rattle.descents.specs.Finds.{Found}
+use Rattle.form.specs.Stored.{EnvelopeField}
+use Rattle.form.specs.Form.{Book, FreeChain, free-none, free-more, head0, numberOf, rankOf}
+use Rattle.form.specs.Live.{number-tells, slot-tells, ranks-ahead}
+use Rattle.form.specs.Roots.{offersRoot}
 use Rattle.levels.specs.declared.Made.{Made as Outcome}
-use Rattle.numbers.specs.Numbers.{NumbersAt, Dropped}
-use Rattle.table.specs.Items.{offerOf}
-use Rattle.form.specs.Live.{live-slots, live-holds, live-whole, whole-ordered, slot-tells, number-tells}
-use Rattle.form.specs.HeaderWords.{offers-read, envelope-read, capacity-most, live-most}
-use Rattle.declining.specs.Sought.{Sought, sought-item, numbers-at}
-use Rattle.filing.specs.Agree.{Agree, Everywhere, FreeHere, agree-trans, agree-less, agree-header, agree-only, agree-touched}
-use Rattle.filing.specs.Agree.{header-set, offers-number, numbers-envelope, free-number, free-envelope, offers-agree, numbers-agree, free-agree}
+use Rattle.declining.specs.Sought.{Sought, sought-item, rate-sought}
+use Rattle.pieces.specs.Pieces.{items, rateOf}
+use Rattle.index.specs.Trees.{among-holds}
+use Rattle.filing.specs.Agree.{Agree, IndexHere, FreeHere, agree-trans, agree-less, numbers-envelope, order-envelope, numbers-order, order-numbers}
+use Rattle.filing.specs.Agree.{tree-index, free-index, free-envelope, offers-agree, free-agree}
 use Rattle.filing.specs.Writing.{rootsOf, Headed, Freed, free-not-live}
-use Rattle.filing.specs.Counts.{counts-exact}
-use Rattle.filing.specs.Leaving.{without-live, without-other, without-slots, in-without, without-length, without-leave, LeavingIn, leaves-in}
-use Rattle.filing.specs.Posting.{Updated}
+use Rattle.filing.specs.Indexes.{Stands, stands-agree, numbers-stand, order-stand, OffTree, Struck, Goes, struck, struck-agree, struck-header}
+use Rattle.filing.specs.Settling.{Left, Settled, Before}
+use Rattle.filing.specs.Going.{leaves}
+use Rattle.filing.specs.Following.{FollowedAt, followed}
+use Rattle.filing.specs.Updating.{Updated, book-standing, before-at, Rebuilt, rebuilt}
 
--- The steps of a withdrawal: the number dropped, the item removed, the roots and the count set, its slot given back.
-pub record WithdrawSteps (number : ℤ) (w w₁ w₂ w₃ w₄ w′ : Words) (s root root′ n : ℕ) (m : Outcome) : Type 0 where
-  pub numbers-root : root ≡ upTo mostNodes (word w numbersRootWord)
-  pub dropped : Dropped number root w w₁ root′
-  pub rooted : w₂ ≡ wset w₁ numbersRootWord (pos root′)
-  pub removed : RemovedIn s (rootsOf w) w₂ w₃ m
+-- The steps of a withdrawal: the item struck out of both indexes and taken out of the tree of offers, the roots and the count set, its slot given back.
+pub record WithdrawSteps (number : ℤ) (w w₁ w₂ w₃ w₄ w′ : Words) (s f y n : ℕ) (m : Outcome) : Type 0 where
+  pub first : Found w offerTree rateField (cell w rateField s) (offersRoot w) f
+  pub behind : FollowedAt s w y
+  pub numbers : Struck numberTree numberField numbersRootWord number w w₁
+  pub order : Struck orderTree rankField orderRootWord (cell w rankField s) w₁ w₂
+  pub left : Left s f y (rootsOf w) w₂ w₃ m
   pub headed : Headed (m .held) n w₃ w₄
   pub freed : Freed s w₄ w′
 
@@ -62,162 +75,222 @@ chain-head free-none = omega arith
 chain-head (free-more low high zero next more) = high
 
 module _
-    {w w₁ w₂ w₃ w₄ w′ : Words} {number : ℤ} {plain : State} {s root root′ n : ℕ} {m : Outcome} {held : Option (Held Item)}
+    {w w₁ w₂ w₃ w₄ w′ : Words} {number : ℤ} {plain : State} {s f y n : ℕ} {m : Outcome} {held : Option (Held Item)}
     (a : Item)
     (b : Book w plain held)
-    (live : LiveAt number s (bookLines held) a)
-    (steps : WithdrawSteps number w w₁ w₂ w₃ w₄ w′ s root root′ n m)
-    (count : suc n ≡ length (bookLines held)) where
-  ordered : Ordered items (bookLines held)
-  ordered = whole-ordered held (live-whole w held (b .offers .offers-in))
+    (live : LiveAt number s (partLeaves (b .order)) a)
+    (steps : WithdrawSteps number w w₁ w₂ w₃ w₄ w′ s f y n m)
+    (count : suc n ≡ length (partLeaves (b .order))) where
+  abbrev all : List Item
+  all = partLeaves (b .order)
+
+  rest : List Item
+  rest = keep (λ x. not (hasNumber number (offerOf x))) all
+
+  stay : Sublistᴰ rest all
+  unfolding rest
+  stay = keep-sublist (λ x. not (hasNumber number (offerOf x))) all
+
+  one-less : Leaves Item offerOf a all rest
+  unfolding rest
+  one-less =
+      record {
+        standing = book-standing b;
+        standing′ = standing-sub Item offerOf stay (book-standing b);
+        live = live .member;
+        there = λ x i. (
+          sublist-mem stay i,
+          λ e. unequal (numberOf x) number (keep-passes (λ z. not (hasNumber number (offerOf z))) all x i) (ap numberOf e ∙ live .number-is),
+        );
+        others = λ x i d. keep-in (λ z. not (hasNumber number (offerOf z))) all x i
+            (not-T (equal (numberOf x) number) (λ t. d (number-tells b i (live .member) (equal-eq (numberOf x) number t ∙ sym (live .number-is)))));
+      }
 
   -- what is left has other slots
-  not-there : (t : ℕ) → In t (without items a (bookLines held)) → t ≢ s
-  not-there t (at m d) q = without-other a (bookLines held) m (slot-tells (live-slots w held (b .offers .offers-in)) (without-live a (bookLines held) m)
-      (live .member) (sym d ∙ q ∙ live .slot))
+  not-there : (t : ℕ) → In t rest → t ≢ s
+  not-there t (at i d) q =
+      one-less .there _ i .1 (slot-tells (b .in-order .slots) (one-less .there _ i .0) (live .member) (sym d ∙ q ∙ live .slot))
 
   -- the free slots are others
   not-free : (t : ℕ) → List·Memᴰ t (b .free .free) → t ≢ s
-  not-free t m d = free-not-live (b .free .free-chain) (live-holds w held (b .offers .offers-in)) m (at (live .member) (d ∙ live .slot))
+  not-free t i d = free-not-live (b .free .free-chain) (b .in-order .holds) i (at (live .member) (d ∙ live .slot))
 
-  -- ---- w to w₂
+  slot-low : 1 ≤ s
+  slot-low = omega (arith, live .slot, b .in-order .slots .low (live .member))
 
-  dropped₁ : (q : Part Item) × NumbersAt w₁ root′ (without items a (bookLines held)) q
-  dropped₁ =
-      steps .dropped .made a (bookLines held) (without items a (bookLines held)) (b .numbers .numbers) (numbers-at b (steps .numbers-root)) (live .member)
-      (live .number-is)
-      (λ y m. without-live a (bookLines held) m)
-      (λ y m. without-other a (bookLines held) m)
-      (λ y m d. in-without ordered (live .member) m d)
-      (without-slots a (bookLines held) (live-slots w held (b .offers .offers-in)))
+  slot-high : s ≤ cap w
+  slot-high = omega (arith, live .slot, b .in-order .slots .high (live .member))
 
-  only₁ : Only numberTree (bookLines held) w w₁
-  only₁ = steps .dropped .only (bookLines held) (b .numbers .numbers) (numbers-at b (steps .numbers-root))
+  -- ---- w to w₂: both indexes
 
-  numbers′ : Part Item
-  numbers′ = dropped₁ .0
+  goes : {v : Words} {key : Item → ℤ} {z : ℤ} → cap v ≡ cap w → key a ≡ z → Goes v key z a all rest
+  goes e k =
+      record {
+        member = live .member;
+        keyed = k;
+        within = λ x i. one-less .there x i .0;
+        other = λ x i. one-less .there x i .1;
+        kept = one-less .others;
+        slots = rw e (slots-sublist stay (b .in-order .slots));
+      }
 
-  rooted₂ : Agree Everywhere w₁ w₂
-  rooted₂ = rw (steps .rooted) (agree-header w₁ numbersRootWord (pos root′) (omega arith) (omega arith))
+  agree₁ : Agree (OffTree numberTree) w w₁
+  agree₁ = struck-agree (omega arith) (omega arith) (steps .numbers) (numbers-stand b) (goes refl (live .number-is))
 
-  offers₂ : OffersIn w₂ held
-  offers₂ =
-      offers-agree held
-      (agree-trans (agree-only (steps .dropped .within) only₁ (offers-number (bookLines held))) (agree-less (λ f t d. tt) rooted₂))
-      (b .offers .offers-in)
+  numbers₁ : (q : Part Item) × Stands w₁ numberTree numberField numbersRootWord numberOf rest q
+  numbers₁ = struck (omega arith) (omega arith) (steps .numbers) (numbers-stand b) (goes refl (live .number-is))
 
-  -- ---- w₂ to w₃
+  order₁ : Stands w₁ orderTree rankField orderRootWord rankOf all (b .order)
+  order₁ = stands-agree (order-stand b) (agree-less (λ g t d. order-numbers all g t d) agree₁)
+      (struck-header (omega arith) (omega arith) (steps .numbers) orderRootWord (omega arith) (omega arith))
 
-  left₃ : LeavingIn a held w₂ w₃ m
-  left₃ = leaves-in w₂ a held (live .slot) (offers-read b) (envelope-read b) offers₂ (live .member) (steps .removed)
+  rank-is : rankOf a ≡ cell w rankField s
+  rank-is = sym (ap (cell w rankField) (live .slot) ∙ b .in-order .ranked .read (live .member))
 
-  -- ---- w₃ to w′
+  agree₂ : Agree (OffTree orderTree) w₁ w₂
+  agree₂ = struck-agree (omega arith) (omega arith) (steps .order) order₁ (goes (agree₁ .room) rank-is)
 
-  lines : bookLines (withdrawn items a held .rest) ≡ without items a (bookLines held)
-  lines = withdrawn-lines items item-laws a held (live-whole w held (b .offers .offers-in)) (live .member)
+  order₂ : (q : Part Item) × Stands w₂ orderTree rankField orderRootWord rankOf rest q
+  order₂ = struck (omega arith) (omega arith) (steps .order) order₁ (goes (agree₁ .room) rank-is)
 
-  offers′ : OffersIn w′ (withdrawn items a held .rest)
-  offers′ =
-      offers-agree (withdrawn items a held .rest)
-      (agree-trans (agree-less (λ f t d. tt) (steps .headed .agree)) (agree-less (λ f t d. not-there t (rw lines at (d .1))) (steps .freed .agree)))
-      (left₃ .left .offers)
+  numbers₂ : Stands w₂ numberTree numberField numbersRootWord numberOf rest (numbers₁ .0)
+  numbers₂ = stands-agree (numbers₁ .1) (agree-less (λ g t d. numbers-order rest g t d) agree₂)
+      (struck-header (omega arith) (omega arith) (steps .order) numbersRootWord (omega arith) (omega arith))
 
-  numbers-at′ : NumbersAt w′ root′ (without items a (bookLines held)) numbers′
-  unfolding numbers′
-  numbers-at′ =
-      numbers-agree
-      (agree-trans (agree-less (λ f t d. tt) rooted₂)
-      (agree-trans (agree-touched (left₃ .within) (left₃ .touched) (numbers-envelope (without items a (bookLines held))))
-      (agree-trans (agree-less (λ f t d. tt) (steps .headed .agree)) (agree-less (λ f t d. not-there t (d .1)) (steps .freed .agree)))))
-      (dropped₁ .1)
+  -- the leaves stand in order, as the items that are left do
+  leaves-are : partLeaves (order₂ .0) ≡ rest
+  leaves-are =
+      let i = order₂ .1 .index in
+      standing-same Item offerOf (pairs-standing Item offerOf (ranks-ahead (among-holds (i .index-in .all-live) (i .holds)) (i .index-in .falling)))
+      (one-less .standing′) (i .index-in .all-live) (i .index-in .all-there)
 
-  numbers-in′ : NumbersIn w′ (bookLines (withdrawn items a held .rest)) numbers′
-  numbers-in′ = rw lines (numbers-at′ .numbers)
+  -- ---- w₂ to w₃: the tree of offers
+
+  before₂ : Before w₂ (rootsOf w) held all
+  before₂ =
+      before-at b
+      (agree-trans (agree-less (λ g t d k. tree-index all g t d (inl k)) agree₁)
+      (agree-less (λ g t d k. tree-index all g t d (inr k)) agree₂))
+
+  rate-is : cell w rateField s ≡ rateOf a
+  rate-is = ap (cell w rateField) (live .slot) ∙ b .in-order .holds .held (live .member) .rate
+
+  settled : Settled held rest w₂ w₃ m
+  settled =
+      leaves before₂ a one-less (live .slot)
+      (rate-sought b (subst (λ (z : ℤ). Found w offerTree rateField z (offersRoot w) f) rate-is (steps .first)) refl)
+      (followed b (live .slot) one-less (steps .behind)) (steps .left)
+
+  -- ---- w₃ to w′: the header, and the slot given back
+
+  later : {k : ℕ} → ((g t : ℕ) → IndexHere k rest g t → EnvelopeField g → ⊥) → Agree (IndexHere k rest) w₂ w′
+  later off =
+      agree-trans (agree-less off (settled .agree))
+      (agree-trans (agree-less (λ g t d. tt) (steps .headed .agree)) (agree-less (λ g t d. not-there t (d .1)) (steps .freed .agree)))
+
+  header₄ : (i : ℕ) → liveCountWord < i → i < 64 → i ≢ firstFreeWord → word w′ i ≡ word w₂ i
+  header₄ i l h d = steps .freed .header i h d ∙ steps .headed .header i l h ∙ header-kept (settled .within) i h
 
   free-kept : Agree (FreeHere (b .free .free)) w w′
   free-kept =
-      agree-trans (agree-only (steps .dropped .within) only₁ (free-number (b .free .free)))
-      (agree-trans (agree-less (λ f t d. tt) rooted₂)
-      (agree-trans (agree-touched (left₃ .within) (left₃ .touched) (free-envelope (b .free .free)))
-      (agree-trans (agree-less (λ f t d. tt) (steps .headed .agree)) (agree-less (λ f t d. not-free t (d .1)) (steps .freed .agree)))))
+      agree-trans (agree-less (λ g t d k. free-index (b .free .free) g t d (inl k)) agree₁)
+      (agree-trans (agree-less (λ g t d k. free-index (b .free .free) g t d (inr k)) agree₂)
+      (agree-trans (agree-less (λ g t d. free-envelope (b .free .free) g t d) (settled .agree))
+      (agree-trans (agree-less (λ g t d. tt) (steps .headed .agree)) (agree-less (λ g t d. not-free t (d .1)) (steps .freed .agree)))))
 
-  slot-low : 1 ≤ s
-  slot-low = omega (arith, live .slot, live-slots w held (b .offers .offers-in) .low (live .member))
-
-  slot-high : s ≤ cap w
-  slot-high = omega (arith, live .slot, live-slots w held (b .offers .offers-in) .high (live .member))
-
-  -- what the header held before
-  header-before : (i : ℕ) → liveCountWord < i → i < 64 → i ≢ numbersRootWord → word w₄ i ≡ word w i
-  header-before i l g d =
-      steps .headed .header i l g
-      ∙ header-kept (left₃ .within) i g
-      ∙ ap (λ (v : Words). word v i) (steps .rooted)
-      ∙ wset-other w₁ numbersRootWord i (pos root′) d
-      ∙ header-kept (steps .dropped .within) i g
+  -- what the first free slot was
+  first-before : word w₄ firstFreeWord ≡ word w firstFreeWord
+  first-before =
+      steps .headed .header firstFreeWord (omega arith) (omega arith)
+      ∙ header-kept (settled .within) firstFreeWord (omega arith)
+      ∙ struck-header (omega arith) (omega arith) (steps .order) firstFreeWord (omega arith) (omega arith)
+      ∙ struck-header (omega arith) (omega arith) (steps .numbers) firstFreeWord (omega arith) (omega arith)
 
   free-chain′ : FreeChain w′ (s ∷ b .free .free)
   free-chain′ =
       free-more slot-low (omega (arith, free-kept .room, slot-high)) (steps .freed .number)
       (steps .freed .next
-      ∙ ap pos (ap (upTo mostNodes) (header-before firstFreeWord (omega arith) (omega arith) (omega arith) ∙ b .free .first-free)
+      ∙ ap pos (ap (upTo mostNodes) (first-before ∙ b .free .first-free)
       ∙ upTo-in mostNodes (head0 (b .free .free)) (omega (arith, chain-head (b .free .free-chain), cap-most w))))
       (free-agree free-kept (b .free .free-chain))
 
-  numbers-root′ : word w′ numbersRootWord ≡ pos (partRef numbers′)
-  numbers-root′ =
-      steps .freed .header numbersRootWord (omega arith) (omega arith)
-      ∙ steps .headed .header numbersRootWord (omega arith) (omega arith)
-      ∙ header-kept (left₃ .within) numbersRootWord (omega arith)
-      ∙ ap (λ (v : Words). word v numbersRootWord) (steps .rooted)
-      ∙ header-set w₁ numbersRootWord (pos root′) (omega (arith, slot-low, slot-high, within-cap (steps .dropped .within))) (omega arith)
-      ∙ ap pos (numbers-at′ .root-is)
+  -- ---- the plain book
 
-  fewer : length (bookLines held) ≡ suc (length (bookLines (withdrawn items a held .rest)))
-  fewer = without-length ordered (live .member) ∙ ap (λ (l : List Item). suc (length l)) (sym lines)
+  plain-is : map offerOf rest ≡ leave number (plain .offers)
+  unfolding rest
+  plain-is = sym (keep-map (λ o. not (hasNumber number o)) offerOf all) ∙ ap (leave number) (b .stands-for)
 
-  left-offers : plainOffers (withdrawn items a held .rest) ≡ leave number (plain .offers)
-  left-offers =
-      ap (map offerOf) lines ∙ without-leave a number ordered (live .member) (live .number-is) (λ y m d. number-tells b m (live .member) d)
-      ∙ ap (leave number) (b .stands-for)
+  -- with the offer back it would be as before
+  back : map offerOf all ≡ join (a .offer) (map offerOf rest)
+  back =
+      standing-same Offer self (standing-map offerOf .0 (one-less .standing)) (join-standing (a .offer) (standing-map offerOf .0 (one-less .standing′)) apart)
+      (λ x i. let (z, k, e) = Memᴰ·of-map offerOf all i in
+      post-adds (a .offer) (map offerOf rest) .1
+      (⊎-elim (λ q. inl (sym e ∙ ap offerOf q)) (λ j. inr (subst (λ (o : Offer). List·Memᴰ o (map offerOf rest)) e (Memᴰ·map offerOf j))) (itself-or z k)))
+      (λ x i. ⊎-elim (λ q. subst (λ (o : Offer). List·Memᴰ o (map offerOf all)) (sym q) (Memᴰ·map offerOf (live .member)))
+      (λ j. let (z, k, e) = Memᴰ·of-map offerOf rest j in
+      subst (λ (o : Offer). List·Memᴰ o (map offerOf all)) e (Memᴰ·map offerOf (one-less .there z k .0)))
+      (post-adds (a .offer) (map offerOf rest) .0 i))
+    where
+      itself-or : (z : Item) → List·Memᴰ z all → (z ≡ a) ⊎ List·Memᴰ z rest
+      itself-or z k =
+          elim (T? (hasNumber number (offerOf z))) [
+            | yes t ↦ inl (number-tells b k (live .member) (equal-eq (numberOf z) number t ∙ sym (live .number-is)))
+            | no t ↦ inr (one-less .others z k (λ e. t (number-of-it e)))
+          ]
+        where
+          number-of-it : z ≡ a → T (equal (numberOf z) number)
+          number-of-it e = let q : numberOf z ≡ number = ap numberOf e ∙ live .number-is in omega (arith, intRules)
 
-  pub withdrawn-book : Book w′ (holding plain (leave number (plain .offers))) (withdrawn items a held .rest)
-  withdrawn-book =
+      apart : (x : Offer) → List·Memᴰ x (map offerOf rest) → Ahead (a .offer) x ⊎ Ahead x (a .offer)
+      apart x i =
+          let (z, k, e) = Memᴰ·of-map offerOf rest i in
+          let (j, d) = one-less .there z k in
+          ⊎-elim (λ q. absurd (d (number-tells b j (live .member) (ap (λ (o : Offer). o .number) (e ∙ sym q))))) (λ h. h) (compare-offers (a .offer) x)
+
+  fewer : length all ≡ suc (length rest)
+  fewer =
+      sym (length-map all offerOf) ∙ ap length back ∙ length-join (a .offer) (map offerOf rest) ∙ ap suc (length-map rest offerOf)
+
+  -- the lines are some of what is left
+  line-left : (t : ℕ) → In t (bookLines (settled .after)) → In t rest
+  line-left t (at i e) = at (sublist-mem (firsts-sub (items .before) rest) (subst (List·Memᴰ _) (settled .filed .lines) i)) e
+
+  withdrawn : Rebuilt held w′ (holding plain (leave number (plain .offers))) m
+  withdrawn =
       record {
+        live = rest;
+        before = w₂;
+        after-tree = w₃;
+        settled = settled;
         capacity = free-kept .room ∙ b .capacity;
         some-slot = b .some-slot;
-        offers =
-            record {
-              offers-root = steps .freed .header offersRootWord (omega arith) (omega arith) ∙ steps .headed .root ∙ ap pos (left₃ .left .root);
-              envelope-root = steps .freed .header envelopeRootWord (omega arith) (omega arith) ∙ steps .headed .envelope ∙ ap pos (left₃ .left .envelope);
-              live-count = steps .freed .header liveCountWord (omega arith) (omega arith) ∙ steps .headed .count ∙ ap pos (omega (arith, fewer));
-              offers-in = offers′;
-            };
-        numbers = record { numbers = numbers′; numbers-root = numbers-root′; numbers-in = numbers-in′ };
+        root = steps .freed .header offersRootWord (omega arith) (omega arith) ∙ steps .headed .root;
+        envelope = steps .freed .header envelopeRootWord (omega arith) (omega arith) ∙ steps .headed .envelope;
+        count = steps .freed .header liveCountWord (omega arith) (omega arith) ∙ steps .headed .count ∙ ap pos (omega (arith, fewer, count));
+        offers = offers-agree (settled .after)
+            (agree-trans (agree-less (λ g t d. tt) (steps .headed .agree)) (agree-less (λ g t d. not-there t (line-left t (d .1))) (steps .freed .agree)))
+            (settled .left .offers);
+        numbers = numbers₁ .0;
+        by-number = stands-agree numbers₂ (later (numbers-envelope rest)) (header₄ numbersRootWord (omega arith) (omega arith) (omega arith));
+        order = order₂ .0;
+        by-rank = stands-agree (order₂ .1) (later (order-envelope rest)) (header₄ orderRootWord (omega arith) (omega arith) (omega arith));
+        leaves = leaves-are;
         free =
             record {
               free = s ∷ b .free .free;
               first-free = steps .freed .first;
               free-chain = free-chain′;
-              free-apart = pairs-cons (λ p q. ¬-prop) (λ t m d. not-free t m (sym d)) (b .free .free-apart);
+              free-apart = pairs-cons (λ p q. ¬-prop) (λ t i d. not-free t i (sym d)) (b .free .free-apart);
               slots-used = omega (arith, fewer, b .free .slots-used, free-kept .room);
             };
-        stands-for = left-offers;
+        plain-is = plain-is;
       }
 
   -- the count written is the plain book's
   pub withdrawn-count : n ≡ length (leave number (plain .offers))
-  withdrawn-count = omega (arith, fewer, length-map (bookLines (withdrawn items a held .rest)) offerOf, ap length left-offers)
+  withdrawn-count = omega (arith, fewer, count, length-map rest offerOf, ap length plain-is)
 
   -- the part stands for the plain book after the withdrawal
   pub withdrawn-plain : Updated w′ (holding plain (leave number (plain .offers))) held (m .counts)
-  withdrawn-plain =
-      let done = withdrawn-work items item-laws a held (live-whole w held (b .offers .offers-in)) (live .member) in
-      record {
-        after = withdrawn items a held .rest;
-        log = withdrawn items a held .log;
-        stands = withdrawn-book;
-        work = done;
-        counts = counts-exact (omega (arith, live-most b, capacity-most b)) (omega (arith, live-most withdrawn-book, capacity-most withdrawn-book)) done
-            (left₃ .counted);
-      }
+  withdrawn-plain = rebuilt withdrawn b

@@ -12,26 +12,27 @@ use lib.IntN.{ℤ, pos}
 use Rattle.lists.specs.Bools.{and-left}
 use Rattle.integers.specs.Parts.{intRules, range-low}
 use Rattle.offers.specs.Offers.{Offer, numberInRange, rateInRange, baseInRange}
+use Rattle.offers.specs.Ranks.{rank}
+use Rattle.trees.specs.Operations.{partLeaves}
 use Rattle.dynamic.specs.OfferTree.{Held}
-use Rattle.dynamic.specs.Valid.{bookLines}
 use Rattle.plain.specs.Book.{State}
-use Rattle.table.specs.Fields.{baseField, envelopeRootWord, firstFreeWord, liveCountWord, mostNodes, nextFreeField, numberField, offersRootWord, rateField}
+use Rattle.table.specs.Fields.{baseField, envelopeRootWord, firstFreeWord, liveCountWord, mostNodes, nextFreeField, numberField, offersRootWord}
+use Rattle.table.specs.Fields.{rankField, rateField}
 use Rattle.table.specs.Words.{Words, word, wset, wset-other, upTo, upTo-in}
 use Rattle.table.specs.Layout.{cap, cap-most, cell, cset, linkAt, Valid, cset-same, cset-other, cset-rest, header-outside}
 use Rattle.table.specs.Free.{firstFree, taken, given, free-link}
 use Rattle.table.specs.Items.{Item, In, at}
 use Rattle.table.specs.Threads.{Holds}
 use Rattle.form.specs.Form.{Book, FreeChain, free-more, head0}
-use Rattle.form.specs.Live.{live-holds}
 use Rattle.form.specs.Roots.{envelopeRoot, offersRoot}
 use Rattle.filing.specs.Agree.{Agree, Everywhere, Elsewhere, agree-trans, agree-less, agree-header, agree-cset, header-set}
 use Rattle.levels.specs.declared.Held.{Held as InHand}
 
 -- ---- what the code writes and reads
 
--- an offer's three fields in a slot that was taken
-abbrev pub filling : ℤ → ℤ → ℤ → ℕ → Words → Words
-filling n r z s w = cset (cset (cset (taken w) numberField s n) rateField s r) baseField s z
+-- an offer's three fields and its rank in a slot that was taken
+abbrev pub filling : Offer → ℕ → Words → Words
+filling o s w = cset (cset (cset (cset (taken w) numberField s (o .number)) rateField s (o .rate)) baseField s (o .base)) rankField s (rank o)
 
 -- the roots that the header tells
 abbrev pub rootsOf : Words → InHand
@@ -50,6 +51,7 @@ pub record Filled (s : ℕ) (o : Offer) (w w′ : Words) : Type 0 where
   pub number : cell w′ numberField s ≡ o .number
   pub rate : cell w′ rateField s ≡ o .rate
   pub base : cell w′ baseField s ≡ o .base
+  pub ranked : cell w′ rankField s ≡ rank o
   pub first : word w′ firstFreeWord ≡ pos (linkAt w nextFreeField s)
   pub header : (i : ℕ) → i < 64 → i ≢ firstFreeWord → word w′ i ≡ word w i
   pub agree : Agree (Elsewhere s) w w′
@@ -76,24 +78,33 @@ module _ (w : Words) (s : ℕ) (low : 1 ≤ s) (high : s ≤ cap w) where
   here : (v : Words) (f : ℕ) → f < 32 → cap v ≡ cap w → Valid v f s
   here v f h e = record { low = low; high = omega arith; field = h }
 
-  pub filled : {w₁ w₂ w₃ w₄ : Words} (o : Offer) → w₁ ≡ wset w firstFreeWord (pos (linkAt w nextFreeField s)) → w₂ ≡ cset w₁ numberField s (o .number) →
-      w₃ ≡ cset w₂ rateField s (o .rate) → w₄ ≡ cset w₃ baseField s (o .base) → Filled s o w w₄
-  filled {w₁} {w₂} {w₃} {w₄} o e₁ e₂ e₃ e₄ =
+  pub filled : {w₁ w₂ w₃ w₄ w₅ : Words} (o : Offer) → w₁ ≡ wset w firstFreeWord (pos (linkAt w nextFreeField s)) → w₂ ≡ cset w₁ numberField s (o .number) →
+      w₃ ≡ cset w₂ rateField s (o .rate) → w₄ ≡ cset w₃ baseField s (o .base) → w₅ ≡ cset w₄ rankField s (rank o) → Filled s o w w₅
+  filled {w₁} {w₂} {w₃} {w₄} {w₅} o e₁ e₂ e₃ e₄ e₅ =
       record {
-        number = ap (at numberField) e₄ ∙ cset-other w₃ baseField s (o .base) (λ q. omega (arith, q .0)) ∙ ap (at numberField) e₃
-            ∙ cset-other w₂ rateField s (o .rate) (λ q. omega (arith, q .0)) ∙ ap (at numberField) e₂
+        number = at₅ numberField (omega arith) ∙ at₄ numberField (omega arith) ∙ at₃ numberField (omega arith) ∙ ap (at numberField) e₂
             ∙ cset-same (o .number) (here w₁ numberField (omega arith) (g₁ .room));
-        rate = ap (at rateField) e₄ ∙ cset-other w₃ baseField s (o .base) (λ q. omega (arith, q .0)) ∙ ap (at rateField) e₃
+        rate = at₅ rateField (omega arith) ∙ at₄ rateField (omega arith) ∙ ap (at rateField) e₃
             ∙ cset-same (o .rate) (here w₂ rateField (omega arith) (g₂ .room));
-        base = ap (at baseField) e₄ ∙ cset-same (o .base) (here w₃ baseField (omega arith) (g₃ .room));
+        base = at₅ baseField (omega arith) ∙ ap (at baseField) e₄ ∙ cset-same (o .base) (here w₃ baseField (omega arith) (g₃ .room));
+        ranked = ap (at rankField) e₅ ∙ cset-same (rank o) (here w₄ rankField (omega arith) (g₄ .room));
         first = head firstFreeWord (omega arith) ∙ ap (λ (v : Words). word v firstFreeWord) e₁
             ∙ header-set w firstFreeWord (pos (linkAt w nextFreeField s)) (omega arith) (omega arith);
         header = λ i h d. head i h ∙ ap (λ (v : Words). word v i) e₁ ∙ wset-other w firstFreeWord i (pos (linkAt w nextFreeField s)) d;
-        agree = g₄;
+        agree = agree-trans g₄ (rw e₅ (agree-cset w₄ rankField s (rank o)));
       }
     where
       at : ℕ → Words → ℤ
       at f v = cell v f s
+
+      at₃ : (f : ℕ) → f ≢ rateField → cell w₃ f s ≡ cell w₂ f s
+      at₃ f d = ap (λ (v : Words). cell v f s) e₃ ∙ cset-other w₂ rateField s (o .rate) (λ q. d (q .0))
+
+      at₄ : (f : ℕ) → f ≢ baseField → cell w₄ f s ≡ cell w₃ f s
+      at₄ f d = ap (λ (v : Words). cell v f s) e₄ ∙ cset-other w₃ baseField s (o .base) (λ q. d (q .0))
+
+      at₅ : (f : ℕ) → f ≢ rankField → cell w₅ f s ≡ cell w₄ f s
+      at₅ f d = ap (λ (v : Words). cell v f s) e₅ ∙ cset-other w₄ rankField s (rank o) (λ q. d (q .0))
 
       g₁ : Agree (Elsewhere s) w w₁
       g₁ = rw e₁ (agree-less (λ f t d. tt) (agree-header w firstFreeWord (pos (linkAt w nextFreeField s)) (omega arith) (omega arith)))
@@ -107,9 +118,10 @@ module _ (w : Words) (s : ℕ) (low : 1 ≤ s) (high : s ≤ cap w) where
       g₄ : Agree (Elsewhere s) w w₄
       g₄ = agree-trans g₃ (rw e₄ (agree-cset w₃ baseField s (o .base)))
 
-      head : (i : ℕ) → i < 64 → word w₄ i ≡ word w₁ i
+      head : (i : ℕ) → i < 64 → word w₅ i ≡ word w₁ i
       head i h =
-          ap (λ (v : Words). word v i) e₄ ∙ cset-rest w₃ baseField s (o .base) (header-outside w₃ h)
+          ap (λ (v : Words). word v i) e₅ ∙ cset-rest w₄ rankField s (rank o) (header-outside w₄ h)
+          ∙ ap (λ (v : Words). word v i) e₄ ∙ cset-rest w₃ baseField s (o .base) (header-outside w₃ h)
           ∙ ap (λ (v : Words). word v i) e₃ ∙ cset-rest w₂ rateField s (o .rate) (header-outside w₂ h)
           ∙ ap (λ (v : Words). word v i) e₂ ∙ cset-rest w₁ numberField s (o .number) (header-outside w₁ h)
 
@@ -207,19 +219,21 @@ free-not-live {w} {live} {s} chain holds m (at {a} i e) = go chain m
     go (free-more low high zero next more) (List·Memᴰ·tail n) = go more n
 
 pub first-free :
-    {w : Words} {plain : State} {s : ℕ} {held : Option (Held Item)} → Book w plain held → length (bookLines held) < plain .capacity →
+    {w : Words} {plain : State} {s : ℕ} {held : Option (Held Item)} (b : Book w plain held) → length (partLeaves (b .order)) < plain .capacity →
     s ≡ upTo mostNodes (word w firstFreeWord) →
-    (others : List ℕ) × FirstFree w (bookLines held) s others
-first-free {w} {s = s} {held} b room e =
+    (others : List ℕ) × FirstFree w (partLeaves (b .order)) s others
+first-free {w} {s = s} b room e =
     let f = b .free in
     go (f .free) (f .first-free) (f .free-chain) (f .free-apart) (f .slots-used) (omega (arith, room, b .capacity))
-    (λ t. free-not-live (f .free-chain) (live-holds w held (b .offers .offers-in)))
+    (λ t. free-not-live (f .free-chain) (b .in-order .holds))
   where
+    live : List Item
+    live = partLeaves (b .order)
+
     go :
         (free : List ℕ) → word w firstFreeWord ≡ pos (head0 free) → FreeChain w free → Pairwise (λ (a b : ℕ). a ≢ b) free →
-        length free + length (bookLines held) ≡ cap w → length (bookLines held) < cap w →
-        ((t : ℕ) → List·Memᴰ t free → In t (bookLines held) → ⊥) →
-        (others : List ℕ) × FirstFree w (bookLines held) s others
+        length free + length live ≡ cap w → length live < cap w → ((t : ℕ) → List·Memᴰ t free → In t live → ⊥) →
+        (others : List ℕ) × FirstFree w live s others
     go [] f chain apart used room no-one = absurd (omega arith)
     go (t ∷ others) f (free-more low high zero next more) apart used room no-one = (
       others,
@@ -231,7 +245,7 @@ first-free {w} {s = s} {held} b room e =
         other = λ u m d. rel-of-pairwise-cons apart ∣ m ∣₁ (sym (d ∙ same));
         apart = Pairwise·of-cons apart;
         count = used;
-        not-live = λ i. no-one t (List·Memᴰ·head refl) (subst (λ (n : ℕ). In n (bookLines held)) same i);
+        not-live = λ i. no-one t (List·Memᴰ·head refl) (subst (λ (n : ℕ). In n live) same i);
       },
     )
       where

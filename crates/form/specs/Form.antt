@@ -1,7 +1,8 @@
 -- The form of a book's part, and the plain book that it stands for. The words are those from `start` on; the part is their first 64 × (c + 1).
---     word 0   the capacity c            word 3   the live count
---     word 1   the root of the offers    word 4   the root of the numbers
---     word 2   the root's envelope       word 5   the first free slot
+--     word 0   the capacity c            word 4   the root of the numbers
+--     word 1   the root of the offers    word 5   the first free slot
+--     word 2   the root's envelope       word 6   the root of the order
+--     word 3   the live count
 use mathlib.Core.Path.{_≡_}
 use mathlib.Core.Logic.{_≢_}
 use mathlib.Core.List.{List, map, Pairwise}
@@ -10,21 +11,26 @@ use Prim.Native.Nat.{ℕ, _+_, _≤_}
 use lib.ListN.{length}
 use lib.IntN.{ℤ, pos}
 use Rattle.lists.specs.Members.{Among}
+use Rattle.lists.specs.Firsts.{firsts}
 use Rattle.offers.specs.Offers.{Offer}
+use Rattle.offers.specs.Ranks.{rank}
 use Rattle.plain.specs.Book.{State}
 use Rattle.trees.specs.Operations.{Part, partLeaves}
 use Rattle.trees.specs.Balanced.{AvlP}
 use Rattle.trees.specs.Order.{Falling}
 use Rattle.dynamic.specs.OfferTree.{Held, heldShape}
 use Rattle.dynamic.specs.Valid.{bookLines}
-use Rattle.table.specs.Fields.{envelopeRootWord, firstFreeWord, liveCountWord, numberTree, numbersRootWord, offersRootWord}
+use Rattle.table.specs.Fields.{envelopeRootWord, firstFreeWord, liveCountWord, numberTree, numbersRootWord, offersRootWord, orderRootWord, orderTree, rankField}
 use Rattle.table.specs.Words.{Words, word}
 use Rattle.table.specs.Layout.{cap}
 pub use Rattle.table.specs.Free.{head0, FreeChain, free-none, free-more}
-use Rattle.table.specs.Items.{Item, offerOf}
+use Rattle.table.specs.Items.{Item, Slots, offerOf}
 use Rattle.table.specs.Rep.{refOf}
-use Rattle.form.specs.Stored.{HeldIn}
+use Rattle.table.specs.Threads.{Holds}
+use Rattle.table.specs.Keys.{Keyed}
 use Rattle.table.specs.PartTrees.{partRef, TiedPart}
+use Rattle.pieces.specs.Pieces.{items}
+use Rattle.form.specs.Stored.{HeldIn}
 
 -- ---- the offers
 
@@ -44,26 +50,40 @@ OffersIn w (some h) = HeldIn w (refOf (heldShape h)) (partRef (h .whole)) h
 pub record OffersStand (w : Words) (held : Option (Held Item)) : Type 0 where
   pub offers-root : word w offersRootWord ≡ pos (offersRef held)
   pub envelope-root : word w envelopeRootWord ≡ pos (envelopeRef held)
-  pub live-count : word w liveCountWord ≡ pos (length (bookLines held))
   pub offers-in : OffersIn w held
 
--- ---- the numbers: a balanced tree of the live items by falling number
+-- ---- the indexes: balanced trees of the live items by a falling key
+
+pub record IndexIn (w : Words) (tree : ℕ) (key : Item → ℤ) (live : List Item) (index : Part Item) : Type 0 where
+  pub tied : TiedPart w tree index
+  pub balanced : AvlP index
+  pub falling : Falling key (partLeaves index)
+  pub all-live : Among (partLeaves index) live
+  pub all-there : Among live (partLeaves index)
+
+-- by number
 
 abbrev pub numberOf : Item → ℤ
 numberOf a = a .offer .number
 
-pub record NumbersIn (w : Words) (live : List Item) (numbers : Part Item) : Type 0 where
-  pub tied : TiedPart w numberTree numbers
-  pub balanced : AvlP numbers
-  pub falling : Falling numberOf (partLeaves numbers)
-  pub all-live : Among (partLeaves numbers) live
-  pub all-there : Among live (partLeaves numbers)
-
--- a tree of numbers over the live items
 pub record Numbered (w : Words) (live : List Item) : Type 0 where
   pub numbers : Part Item
   pub numbers-root : word w numbersRootWord ≡ pos (partRef numbers)
-  pub numbers-in : NumbersIn w live numbers
+  pub numbers-in : IndexIn w numberTree numberOf live numbers
+
+-- by rank, which falls along the order of offers: the leaves are the live items in order
+
+abbrev pub rankOf : Item → ℤ
+rankOf a = rank (a .offer)
+
+-- the header tells the tree and its count, and every live slot holds its offer and its rank
+pub record InOrder (w : Words) (order : Part Item) : Type 0 where
+  pub order-root : word w orderRootWord ≡ pos (partRef order)
+  pub live-count : word w liveCountWord ≡ pos (length (partLeaves order))
+  pub order-in : IndexIn w orderTree rankOf (partLeaves order) order
+  pub slots : Slots (cap w) (partLeaves order)
+  pub holds : Holds w (partLeaves order)
+  pub ranked : Keyed w rankField rankOf (partLeaves order)
 
 -- ---- the free slots: a chain that repeats none, told beside n live ones
 
@@ -76,18 +96,25 @@ pub record Freely (w : Words) (n : ℕ) : Type 0 where
 
 -- ---- the form
 
--- the plain list: its leaves hold exactly those offers, in order
-abbrev pub plainOffers : Option (Held Item) → List Offer
-plainOffers held = map offerOf (bookLines held)
+-- the plain list: the order's leaves hold exactly those offers, in order
+abbrev pub plainOffers : Part Item → List Offer
+plainOffers order = map offerOf (partLeaves order)
 
--- The part has the form, with this tree of offers, and stands for this plain book. The check decides the three records in the middle.
+-- the tree of offers has a leaf per rate: the first of those that have it
+abbrev pub LeafPerRate : Option (Held Item) → Part Item → Type 0
+LeafPerRate held order = bookLines held ≡ firsts (items .before) (partLeaves order)
+
+-- The part has the form, with this tree of offers, and stands for this plain book. The check decides the records in the middle.
 pub record Book (w : Words) (s : State) (held : Option (Held Item)) : Type 0 where
   pub capacity : cap w ≡ s .capacity
   pub some-slot : 1 ≤ s .capacity
   pub offers : OffersStand w held
-  pub numbers : Numbered w (bookLines held)
-  pub free : Freely w (length (bookLines held))
-  pub stands-for : plainOffers held ≡ s .offers
+  pub order : Part Item
+  pub in-order : InOrder w order
+  pub leaf-per-rate : LeafPerRate held order
+  pub numbers : Numbered w (partLeaves order)
+  pub free : Freely w (length (partLeaves order))
+  pub stands-for : plainOffers order ≡ s .offers
 
 -- some plain book, then
 abbrev pub BookStands : Words → Type 0

@@ -15,7 +15,7 @@ pub mod Disjoint
 pub mod There
 -- statement and lemmas: the form is a matter of the part's words alone: words past the part may change as they will
 pub mod Local
--- lemmas: what a part's form says of its live items; and the plain book that it stands for is sound
+-- lemmas: what a part's form says of the leaves of its tree of offers and of its live items; and the plain book that it stands for is sound
 pub mod Live
--- lemmas: the header's words of a book, read as numbers: the live count and the three roots
+-- lemmas: the header's words of a book, read as numbers: the live count and the four roots
 pub mod HeaderWords

@@ -5,20 +5,20 @@ use mathlib.Core.Option.{Option, none, some}
 use Prim.Native.Nat.{ℕ, _≤_, _<_}
 use native.Mathlib.Omega.{arith}
 use lib.ListN.{length}
+use lib.IntN.{ℤ}
 use Rattle.plain.specs.Book.{State, partLength}
-use Rattle.trees.specs.Operations.{Part}
+use Rattle.trees.specs.Operations.{Part, partLeaves}
 use Rattle.dynamic.specs.OfferTree.{Held}
-use Rattle.dynamic.specs.Valid.{bookLines}
 use Rattle.dynamic.specs.Rearranged.{stored}
 use Rattle.table.specs.Fields.{capacityWord, envelopeRootWord, firstFreeWord, liveCountWord, nextFreeField}
-use Rattle.table.specs.Fields.{numberField, numberTree, numbersRootWord, offersRootWord}
+use Rattle.table.specs.Fields.{numberField, numbersRootWord, offersRootWord, orderRootWord, rankField}
 use Rattle.table.specs.Words.{Words, word, word-out}
 use Rattle.table.specs.Layout.{cap, cap-of, cell, place-high, Valid, valid?, spot, spot-of, spot-in, spot-out}
 use Rattle.table.specs.Items.{Item, Slots}
 use Rattle.table.specs.PartTrees.{TiedPart}
 use Rattle.form.specs.Stored.{HeldIn}
 use Rattle.form.specs.Frames.{Same, tied-same, part-same, holds-same, stored-same}
-use Rattle.form.specs.Form.{Book, OffersIn, OffersStand, Numbered, Freely, FreeChain, free-none, free-more}
+use Rattle.form.specs.Form.{Book, OffersIn, IndexIn, InOrder, Freely, FreeChain, free-none, free-more}
 
 -- the same words in a part of capacity c
 pub record Alike (c : ℕ) (w w′ : Words) : Type 0 where
@@ -65,9 +65,13 @@ module _ {w w′ : Words} {c : ℕ} (fits : cap w ≡ c) (a : Alike c w w′) wh
   alike-offers none o = tt
   alike-offers (some h) o = alike-held h o
 
-  alike-tied : (p : Part Item) → TiedPart w numberTree p → TiedPart w′ numberTree p
-  alike-tied none t = tt
-  alike-tied (some u) t = tied-same t (alike-same _ _)
+  alike-index : {k : ℕ} {key : Item → ℤ} {live : List Item} (p : Part Item) → IndexIn w k key live p → IndexIn w′ k key live p
+  alike-index {k} p n =
+      record { tied = tied p (n .tied); balanced = n .balanced; falling = n .falling; all-live = n .all-live; all-there = n .all-there }
+    where
+      tied : (p : Part Item) → TiedPart w k p → TiedPart w′ k p
+      tied none t = tt
+      tied (some u) t = tied-same t (alike-same _ _)
 
   alike-free : {ss : List ℕ} → FreeChain w ss → FreeChain w′ ss
   alike-free free-none = free-none
@@ -81,23 +85,26 @@ book-alike {w} {w′} {s} {held} b a =
       some-slot = b .some-slot;
       offers =
           record {
-            offers-root = header offersRootWord (omega arith) ∙ o .offers-root;
-            envelope-root = header envelopeRootWord (omega arith) ∙ o .envelope-root;
-            live-count = header liveCountWord (omega arith) ∙ o .live-count;
-            offers-in = alike-offers (b .capacity) a held (o .offers-in);
+            offers-root = header offersRootWord (omega arith) ∙ b .offers .offers-root;
+            envelope-root = header envelopeRootWord (omega arith) ∙ b .offers .envelope-root;
+            offers-in = alike-offers (b .capacity) a held (b .offers .offers-in);
           };
+      order = b .order;
+      in-order =
+          record {
+            order-root = header orderRootWord (omega arith) ∙ o .order-root;
+            live-count = header liveCountWord (omega arith) ∙ o .live-count;
+            order-in = alike-index (b .capacity) a (b .order) (o .order-in);
+            slots = alike-slots (b .capacity) a (o .slots);
+            holds = holds-same (o .holds) (alike-same (b .capacity) a _ _);
+            ranked = record { read = λ {a = x} m. alike-cell (b .capacity) a rankField (x .slot) ∙ o .ranked .read m };
+          };
+      leaf-per-rate = b .leaf-per-rate;
       numbers =
           record {
-            numbers = n .numbers;
-            numbers-root = header numbersRootWord (omega arith) ∙ n .numbers-root;
-            numbers-in =
-                record {
-                  tied = alike-tied (b .capacity) a (n .numbers) (n .numbers-in .tied);
-                  balanced = n .numbers-in .balanced;
-                  falling = n .numbers-in .falling;
-                  all-live = n .numbers-in .all-live;
-                  all-there = n .numbers-in .all-there;
-                };
+            numbers = b .numbers .numbers;
+            numbers-root = header numbersRootWord (omega arith) ∙ b .numbers .numbers-root;
+            numbers-in = alike-index (b .capacity) a (b .numbers .numbers) (b .numbers .numbers-in);
           };
       free =
           record {
@@ -113,11 +120,8 @@ book-alike {w} {w′} {s} {held} b a =
     header : (i : ℕ) → i < 64 → word w′ i ≡ word w i
     header i h = a .words i (omega arith)
 
-    o : OffersStand w held
-    o = b .offers
+    o : InOrder w (b .order)
+    o = b .in-order
 
-    n : Numbered w (bookLines held)
-    n = b .numbers
-
-    f : Freely w (length (bookLines held))
+    f : Freely w (length (partLeaves (b .order)))
     f = b .free

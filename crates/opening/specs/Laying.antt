@@ -13,11 +13,12 @@ use borrow.Author.Tests.{le-leb}
 use Rattle.lists.specs.Members.{pairs-cons}
 use Rattle.plain.specs.Book.{opened, partLength}
 use Rattle.table.specs.Fields.{capacityWord, envelopeRootWord, firstFreeWord, liveCountWord, mostSlots, nextFreeField, numberField, numbersRootWord}
-use Rattle.table.specs.Fields.{offersRootWord}
+use Rattle.table.specs.Fields.{offersRootWord, orderRootWord}
 use Rattle.table.specs.Words.{Words, word, wset, wset-length, wset-same, wset-other, upTo, upTo-in}
 use Rattle.table.specs.Layout.{cap, fitting, cell, cset, Valid, cset-same, cset-other}
 use Rattle.table.specs.Rep.{Within, within-cap, within-refl, within-trans, within-cset, header-kept}
-use Rattle.form.specs.Form.{Book, FreeChain, free-none, free-more, head0}
+use Rattle.table.specs.Items.{Item, slots-none}
+use Rattle.form.specs.Form.{Book, IndexIn, FreeChain, free-none, free-more, head0}
 
 -- ---- the header
 
@@ -31,6 +32,7 @@ pub record Begun (c : ℕ) (w : Words) : Type 0 where
   pub live-count : word w liveCountWord ≡ pos 0
   pub numbers-root : word w numbersRootWord ≡ pos 0
   pub first-free : word w firstFreeWord ≡ pos 1
+  pub order-root : word w orderRootWord ≡ pos 0
 
 -- one word written
 record Written (i : ℕ) (z : ℤ) (w w′ : Words) : Type 0 where
@@ -47,30 +49,33 @@ written w i z e =
     }
 
 pub begun :
-    (w : Words) {w₀ w₁ w₂ w₃ w₄ w₅ : Words} {c : ℕ} → 1 ≤ c → c ≤ mostSlots → partLength c ≤ length w →
+    (w : Words) {w₀ w₁ w₂ w₃ w₄ w₅ w₆ : Words} {c : ℕ} → 1 ≤ c → c ≤ mostSlots → partLength c ≤ length w →
     w₀ ≡ wset w capacityWord (pos c) → w₁ ≡ wset w₀ offersRootWord (pos 0) → w₂ ≡ wset w₁ envelopeRootWord (pos 0) → w₃ ≡ wset w₂ liveCountWord (pos 0) →
-    w₄ ≡ wset w₃ numbersRootWord (pos 0) → w₅ ≡ wset w₄ firstFreeWord (pos 1) →
-    Begun c w₅
-begun w {w₀} {w₁} {w₂} {w₃} {w₄} {w₅} {c} low high room e₀ e₁ e₂ e₃ e₄ e₅ =
+    w₄ ≡ wset w₃ numbersRootWord (pos 0) → w₅ ≡ wset w₄ firstFreeWord (pos 1) → w₆ ≡ wset w₅ orderRootWord (pos 0) →
+    Begun c w₆
+begun w {w₀} {w₁} {w₂} {w₃} {w₄} {w₅} {w₆} {c} low high room e₀ e₁ e₂ e₃ e₄ e₅ e₆ =
     let s₀ = written w capacityWord (pos c) e₀ in
     let s₁ = written w₀ offersRootWord (pos 0) e₁ in
     let s₂ = written w₁ envelopeRootWord (pos 0) e₂ in
     let s₃ = written w₂ liveCountWord (pos 0) e₃ in
     let s₄ = written w₃ numbersRootWord (pos 0) e₄ in
     let s₅ = written w₄ firstFreeWord (pos 1) e₅ in
+    let s₆ = written w₅ orderRootWord (pos 0) e₆ in
     record {
       low = low;
       high = high;
       room = omega arith;
-      first = s₅ .other capacityWord (omega arith) ∙ s₄ .other capacityWord (omega arith) ∙ s₃ .other capacityWord (omega arith)
-          ∙ s₂ .other capacityWord (omega arith) ∙ s₁ .other capacityWord (omega arith) ∙ s₀ .same (omega arith);
-      offers-root = s₅ .other offersRootWord (omega arith) ∙ s₄ .other offersRootWord (omega arith) ∙ s₃ .other offersRootWord (omega arith)
-          ∙ s₂ .other offersRootWord (omega arith) ∙ s₁ .same (omega arith);
-      envelope-root = s₅ .other envelopeRootWord (omega arith) ∙ s₄ .other envelopeRootWord (omega arith) ∙ s₃ .other envelopeRootWord (omega arith)
-          ∙ s₂ .same (omega arith);
-      live-count = s₅ .other liveCountWord (omega arith) ∙ s₄ .other liveCountWord (omega arith) ∙ s₃ .same (omega arith);
-      numbers-root = s₅ .other numbersRootWord (omega arith) ∙ s₄ .same (omega arith);
-      first-free = s₅ .same (omega arith);
+      first = s₆ .other capacityWord (omega arith) ∙ s₅ .other capacityWord (omega arith) ∙ s₄ .other capacityWord (omega arith)
+          ∙ s₃ .other capacityWord (omega arith) ∙ s₂ .other capacityWord (omega arith) ∙ s₁ .other capacityWord (omega arith) ∙ s₀ .same (omega arith);
+      offers-root = s₆ .other offersRootWord (omega arith) ∙ s₅ .other offersRootWord (omega arith) ∙ s₄ .other offersRootWord (omega arith)
+          ∙ s₃ .other offersRootWord (omega arith) ∙ s₂ .other offersRootWord (omega arith) ∙ s₁ .same (omega arith);
+      envelope-root = s₆ .other envelopeRootWord (omega arith) ∙ s₅ .other envelopeRootWord (omega arith) ∙ s₄ .other envelopeRootWord (omega arith)
+          ∙ s₃ .other envelopeRootWord (omega arith) ∙ s₂ .same (omega arith);
+      live-count = s₆ .other liveCountWord (omega arith) ∙ s₅ .other liveCountWord (omega arith) ∙ s₄ .other liveCountWord (omega arith)
+          ∙ s₃ .same (omega arith);
+      numbers-root = s₆ .other numbersRootWord (omega arith) ∙ s₅ .other numbersRootWord (omega arith) ∙ s₄ .same (omega arith);
+      first-free = s₆ .other firstFreeWord (omega arith) ∙ s₅ .same (omega arith);
+      order-root = s₆ .same (omega arith);
     }
 
 pub begun-cap : {c : ℕ} {w : Words} → Begun c w → cap w ≡ c
@@ -173,6 +178,9 @@ module _ {c : ℕ} {w w′ : Words} (b : Begun c w) (l : Laid c c w w′) where
       (l .next k low (omega arith) (omega arith))
       (chain (suc n) (suc k) (omega arith) (omega arith))
 
+  no-index : {tree : ℕ} {key : Item → ℤ} → IndexIn w′ tree key [] none
+  no-index = record { tied = tt; balanced = tt; falling = Pairwise·nil; all-live = λ a m. m; all-there = λ a m. m }
+
   pub opened-book : Book w′ (opened (pos c)) none
   opened-book =
       record {
@@ -182,14 +190,24 @@ module _ {c : ℕ} {w w′ : Words} (b : Begun c w) (l : Laid c c w w′) where
             record {
               offers-root = header-kept (l .within) offersRootWord (omega arith) ∙ b .offers-root;
               envelope-root = header-kept (l .within) envelopeRootWord (omega arith) ∙ b .envelope-root;
-              live-count = header-kept (l .within) liveCountWord (omega arith) ∙ b .live-count;
               offers-in = tt;
             };
+        order = none;
+        in-order =
+            record {
+              order-root = header-kept (l .within) orderRootWord (omega arith) ∙ b .order-root;
+              live-count = header-kept (l .within) liveCountWord (omega arith) ∙ b .live-count;
+              order-in = no-index;
+              slots = slots-none;
+              holds = record { held = λ m. elim m [ ] };
+              ranked = record { read = λ m. elim m [ ] };
+            };
+        leaf-per-rate = refl;
         numbers =
             record {
               numbers = none;
               numbers-root = header-kept (l .within) numbersRootWord (omega arith) ∙ b .numbers-root;
-              numbers-in = record { tied = tt; balanced = tt; falling = Pairwise·nil; all-live = λ a m. m; all-there = λ a m. m };
+              numbers-in = no-index;
             };
         free =
             record {

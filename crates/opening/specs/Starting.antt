@@ -8,7 +8,7 @@ use lib.ListN.{length}
 use lib.IntN.{ℤ, pos}
 use Rattle.plain.specs.Book.{opened, partLength}
 use Rattle.table.specs.Fields.{capacityWord, envelopeRootWord, firstFreeWord, liveCountWord, mostSlots, nextFreeField, numberField, numbersRootWord}
-use Rattle.table.specs.Fields.{offersRootWord}
+use Rattle.table.specs.Fields.{offersRootWord, orderRootWord}
 use Rattle.table.specs.Words.{Words, word, wset, wset-length, wset-other}
 use Rattle.table.specs.Layout.{cap, cset, beyond-outside}
 use Rattle.form.specs.Form.{Book}
@@ -17,29 +17,31 @@ use Rattle.opening.specs.Laying.{Begun, begun, begun-cap, Laid, laid-mor
 
 -- ---- the header
 
--- six words at the front are written
+-- seven words at the front are written
 pub record Heading (c : ℕ) (w w′ : Words) : Type 0 where
   pub long : length w′ ≡ length w
-  pub rest : (i : ℕ) → firstFreeWord < i → word w′ i ≡ word w i
+  pub rest : (i : ℕ) → orderRootWord < i → word w′ i ≡ word w i
   pub begins : 1 ≤ c → c ≤ mostSlots → partLength c ≤ length w → Begun c w′
 
 after : (w w′ : Words) (i : ℕ) (z : ℤ) → w′ ≡ wset w i z → (j : ℕ) → j ≢ i → word w′ j ≡ word w j
 after w w′ i z e j h = ap (λ (v : Words). word v j) e ∙ wset-other w i j z h
 
 pub heading :
-    (w w₀ w₁ w₂ w₃ w₄ w₅ : Words) (c : ℕ) →
+    (w w₀ w₁ w₂ w₃ w₄ w₅ w₆ : Words) (c : ℕ) →
     w₀ ≡ wset w capacityWord (pos c) → w₁ ≡ wset w₀ offersRootWord (pos 0) → w₂ ≡ wset w₁ envelopeRootWord (pos 0) → w₃ ≡ wset w₂ liveCountWord (pos 0) →
-    w₄ ≡ wset w₃ numbersRootWord (pos 0) → w₅ ≡ wset w₄ firstFreeWord (pos 1) →
-    Heading c w w₅
-heading w w₀ w₁ w₂ w₃ w₄ w₅ c e₀ e₁ e₂ e₃ e₄ e₅ =
+    w₄ ≡ wset w₃ numbersRootWord (pos 0) → w₅ ≡ wset w₄ firstFreeWord (pos 1) → w₆ ≡ wset w₅ orderRootWord (pos 0) →
+    Heading c w w₆
+heading w w₀ w₁ w₂ w₃ w₄ w₅ w₆ c e₀ e₁ e₂ e₃ e₄ e₅ e₆ =
     record {
-      long = ap length e₅ ∙ wset-length w₄ firstFreeWord (pos 1) ∙ ap length e₄ ∙ wset-length w₃ numbersRootWord (pos 0) ∙ ap length e₃
-          ∙ wset-length w₂ liveCountWord (pos 0) ∙ ap length e₂ ∙ wset-length w₁ envelopeRootWord (pos 0) ∙ ap length e₁
-          ∙ wset-length w₀ offersRootWord (pos 0) ∙ ap length e₀ ∙ wset-length w capacityWord (pos c);
-      rest = λ i h. after w₄ w₅ firstFreeWord (pos 1) e₅ i (λ q. omega (arith, q, h)) ∙ after w₃ w₄ numbersRootWord (pos 0) e₄ i (λ q. omega (arith, q, h))
-          ∙ after w₂ w₃ liveCountWord (pos 0) e₃ i (λ q. omega (arith, q, h)) ∙ after w₁ w₂ envelopeRootWord (pos 0) e₂ i (λ q. omega (arith, q, h))
-          ∙ after w₀ w₁ offersRootWord (pos 0) e₁ i (λ q. omega (arith, q, h)) ∙ after w w₀ capacityWord (pos c) e₀ i (λ q. omega (arith, q, h));
-      begins = λ low high room. begun w low high room e₀ e₁ e₂ e₃ e₄ e₅;
+      long = ap length e₆ ∙ wset-length w₅ orderRootWord (pos 0) ∙ ap length e₅ ∙ wset-length w₄ firstFreeWord (pos 1) ∙ ap length e₄
+          ∙ wset-length w₃ numbersRootWord (pos 0) ∙ ap length e₃ ∙ wset-length w₂ liveCountWord (pos 0) ∙ ap length e₂
+          ∙ wset-length w₁ envelopeRootWord (pos 0) ∙ ap length e₁ ∙ wset-length w₀ offersRootWord (pos 0)
+          ∙ ap length e₀ ∙ wset-length w capacityWord (pos c);
+      rest = λ i h. after w₅ w₆ orderRootWord (pos 0) e₆ i (λ q. omega (arith, q, h)) ∙ after w₄ w₅ firstFreeWord (pos 1) e₅ i (λ q. omega (arith, q, h))
+          ∙ after w₃ w₄ numbersRootWord (pos 0) e₄ i (λ q. omega (arith, q, h)) ∙ after w₂ w₃ liveCountWord (pos 0) e₃ i (λ q. omega (arith, q, h))
+          ∙ after w₁ w₂ envelopeRootWord (pos 0) e₂ i (λ q. omega (arith, q, h)) ∙ after w₀ w₁ offersRootWord (pos 0) e₁ i (λ q. omega (arith, q, h))
+          ∙ after w w₀ capacityWord (pos c) e₀ i (λ q. omega (arith, q, h));
+      begins = λ low high room. begun w low high room e₀ e₁ e₂ e₃ e₄ e₅ e₆;
     }
 
 -- ---- the slots

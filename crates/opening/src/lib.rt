@@ -19,6 +19,7 @@ fn begin(part: &mut [i64], capacity: u32)
     table::set_number(part, table::LIVE_COUNT, 0);
     table::set_number(part, table::NUMBERS_ROOT, 0);
     table::set_number(part, table::FIRST_FREE, 1);
+    table::set_number(part, table::ORDER_ROOT, 0);
 }
 
 // Each slot is free, and the next free one follows it.

@@ -11,8 +11,8 @@ use lib.Dec.{T}
 use Rattle.plain.specs.Causes.{declined, further}
 use Rattle.plain.specs.Book.{State, Call, post, withdraw, query, refused, noBookAt, openingBy as numberBy}
 use Rattle.plain.specs.Entries.{Names, names-first}
+use Rattle.trees.specs.Operations.{partLeaves}
 use Rattle.dynamic.specs.OfferTree.{Held}
-use Rattle.dynamic.specs.Valid.{bookLines}
 use Rattle.table.specs.Fields.{capacityWord}
 use Rattle.table.specs.Words.{word}
 use Rattle.table.specs.Layout.{cap}
@@ -46,10 +46,10 @@ ones-no-book s held b = go (b .free .free) (b .free .first-free) (b .free .slots
     one-slot : cap (partOf ones 0) ≡ 1
     one-slot = book-cap ones 0 tt .0
 
-    one-live : length (bookLines held) ≡ 1
-    one-live = let e : _≡_ {A = ℤ} (pos 1) (pos (length (bookLines held))) = b .offers .live-count in cc
+    one-live : length (partLeaves (b .order)) ≡ 1
+    one-live = let e : _≡_ {A = ℤ} (pos 1) (pos (length (partLeaves (b .order)))) = b .in-order .live-count in cc
 
-    go : (free : List ℕ) → _≡_ {A = ℤ} (pos 1) (pos (head0 free)) → length free + length (bookLines held) ≡ cap (partOf ones 0) → ⊥
+    go : (free : List ℕ) → _≡_ {A = ℤ} (pos 1) (pos (head0 free)) → length free + length (partLeaves (b .order)) ≡ cap (partOf ones 0) → ⊥
     go [] e n = let z : _≡_ {A = ℕ} 1 0 = cc in omega arith
     go (i ∷ is) e n = omega (arith, n, one-slot, one-live)
 

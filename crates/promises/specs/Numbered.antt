@@ -3,7 +3,7 @@ use mathlib.Core.Logic.{_≢_, ⊎-elim}
 use Prim.Native.Nat.{_≤_}
 use native.Mathlib.Omega.{arith}
 use Rattle.plain.specs.Causes.{Cause, causeNumber, capacityOutOfRange, tableTooShort, noBook, numberOutOfRange, rateOutOfRange}
-use Rattle.plain.specs.Causes.{baseOutOfRange, loadOutOfRange, priceOutOfRange, numberLive, rateLive, bookFull, numberNotLive, bookEmpty}
+use Rattle.plain.specs.Causes.{baseOutOfRange, loadOutOfRange, priceOutOfRange, numberLive, bookFull, numberNotLive, bookEmpty}
 use Rattle.plain.specs.Causes.{outputTooShort, unreadableLine, ratesNotApart, noSuchMark}
 use Rattle.plain.specs.Book.{State, Call, refused, step}
 use Rattle.plain.specs.Entries.{names-first, refused-names}
@@ -18,7 +18,6 @@ from-one baseOutOfRange = omega arith
 from-one loadOutOfRange = omega arith
 from-one priceOutOfRange = omega arith
 from-one numberLive = omega arith
-from-one rateLive = omega arith
 from-one bookFull = omega arith
 from-one numberNotLive = omega arith
 from-one bookEmpty = omega arith

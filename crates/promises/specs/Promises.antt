@@ -10,7 +10,7 @@ use lib.ListN.{length, take, drop}
 use lib.IntN.{ℤ, pos, negsuc, natAbs}
 use Rattle.plain.specs.Causes.{Cause, noBook, Trial, _when_, causeNumber, FirstOf, Clear}
 use Rattle.plain.specs.Book.{State, Call, query, listing, Answer, refused, live, found, listed}
-use Rattle.plain.specs.Book.{opening, opened, openTrials, rangeTrials, noBookAt, partLength, step}
+use Rattle.plain.specs.Book.{firstOfEach, opening, opened, openTrials, rangeTrials, noBookAt, partLength, step}
 use Rattle.trees.specs.Tree.{Tree}
 use Rattle.trees.specs.Operations.{Part}
 use Rattle.dynamic.specs.OfferTree.{Held, Pair}
@@ -131,6 +131,8 @@ pub record Follows (k : Call) (s : State) (held : Option (Held Item)) (start : �
   pub stands : Book (partOf t′ start) (step s k .state) after
   pub refusal : (n : ℕ) → updateAnswer r ≡ refused n → t′ ≡ t
   pub work : Work items held after log
+  -- where the first of each rate stays, nothing was searched: k, s and H are 0
+  pub spared : firstOfEach (s .offers) ≡ firstOfEach (step s k .state .offers) → log ≡ []
   pub counts : Counts (updateTold r .values) log
 
 pub record Updates (k : Call) (start : ℕ) (t t′ : List ℤ) (r : Update) : Type 0 where

@@ -5,7 +5,7 @@ use lib.IntN.{pos}
 use mir.Facts.{toZ-ofZ, toZ-pos}
 use mir.Syntax.{w64}
 use mir.Val.{toZ}
-use Rattle.book.specs.TableUpdates.{updates-none, updates-range, post-refused, post-accepted}
+use Rattle.book.specs.TableUpdates.{range-offer, updates-none, updates-range, post-refused, post-accepted}
 use Rattle.promises.specs.LentPart.{book-start}
 use borrow.Author.Needs.{needs}
 use Rattle.book.proofs.post.Statement.{statement}
@@ -85,7 +85,7 @@ returns-3 c =
     let v : toZ w64 (cause .result) ≡ pos (cause .result) = toZ-pos w64 (omega (arith, cause .ok)) in
     post-refused _ _ _ (at-no-book .no-book .ensures) (at-if1 .if1 .left) _ _ _
     (simp (toZ-ofZ, entry .fits .number, entry .fits .rate, entry .fits .base) at (at-range-cause .range-cause .ensures)) (at-if2 .if2 .left)
-    (simp (toZ-ofZ, entry .fits .number, entry .fits .rate) at (cause .ensures)) (c .if3 .taken) (simp v refl) refl
+    (simp (toZ-ofZ, entry .fits .number) at (cause .ensures)) (c .if3 .taken) (simp v refl) refl
 
 mul-post-part : tie.Need-mul-post-part
 mul-post-part c =
@@ -118,7 +118,14 @@ part-post-part-end : tie.Need-part-post-part-end
 part-post-part-end c = search needs
 
 post-part-requires : tie.Need-post-part-requires
-post-part-requires c κs = search needs
+post-part-requires c κs =
+    let at-post-cause = c .before .before in
+    let at-if2 = at-post-cause .before .before .before in
+    let at-range-cause = at-if2 .before in
+    let entry = at-range-cause .before .before .before .before in
+    let f = entry .fits in
+    simp (toZ-ofZ, f .number, f .rate, f .base)
+    (range-offer (simp (toZ-ofZ, f .number, f .rate, f .base) at (at-range-cause .range-cause .ensures)) (at-if2 .if2 .left))
 
 done-requires : tie.Need-done-requires
 done-requires c κs = search needs
@@ -139,7 +146,7 @@ returns-4 c =
     let f = entry .fits in
     post-accepted _ _ _ (at-no-book .no-book .ensures) (at-if1 .if1 .left) _ _ _
     (simp (toZ-ofZ, entry .fits .number, entry .fits .rate, entry .fits .base) at (at-range-cause .range-cause .ensures)) (at-if2 .if2 .left)
-    (simp (toZ-ofZ, entry .fits .number, entry .fits .rate) at (at-post-cause .post-cause .ensures)) (at-if3 .if3 .left) _
+    (simp (toZ-ofZ, entry .fits .number) at (at-post-cause .post-cause .ensures)) (at-if3 .if3 .left) _
     (simp (toZ-ofZ, f .number, f .rate, f .base) at (at-post-part .post-part .ensures)) (c .done .ensures) refl
 
 pub post-spec : {M : Type 1} → statement M

@@ -1,8 +1,8 @@
--- `declining::find_rate` meets its contract, which is that of the search.
+-- `filing::find_rate` meets its contract, which is that of the search.
 use borrow.Author.Needs.{needs}
 use mir.Facts.{toZ-ofZ}
-use Rattle.declining.proofs.find_rate.Statement.{statement}
-use Rattle.declining.proofs.find_rate.Tie as tie
+use Rattle.filing.proofs.find_rate.Statement.{statement}
+use Rattle.filing.proofs.find_rate.Tie as tie
 
 find-requires : tie.Need-find-requires
 find-requires c κs = search needs
