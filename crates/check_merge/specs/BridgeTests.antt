@@ -1,7 +1,7 @@
 -- The four tests of a bridge say that the envelope of both sides is made of the left pieces up to u and the right ones from v.
 use mathlib.Core.Path.{_≡_, refl, sym, _∙_, ap, subst, subst₂}
 use mathlib.Core.Logic.{_↔_}
-use mathlib.Core.List.{List, [], _∷_, _++_, map-append, reverse}
+use mathlib.Core.List.{List, _∷_, _++_, map-append, reverse}
 use Prim.Native.Nat.{ℕ, zero, suc, _+_, _-_, _≤_, _<_}
 use native.Mathlib.Omega.{arith}
 use lib.Dec.{T}
@@ -16,11 +16,11 @@ use Rattle.envelopes.specs.Merge.{env-facing, merge-split}
 use Rattle.table.specs.Words.{Words}
 use Rattle.table.specs.Items.{Item}
 use Rattle.pieces.specs.Pieces.{items, item-laws}
-use Rattle.check_trees.specs.Stretches.{span, span-length, span-at, span-cut, span-cons}
-use Rattle.check_trees.specs.Laid.{itemAt, itemsAt}
+use Rattle.check_trees.specs.Stretches.{span, span-mem, span-length, span-at, span-cut, span-cons}
+use Rattle.check_trees.specs.Laid.{itemAt, itemsAt, items-length}
 use Rattle.check_bridges.specs.Gaps.{InRange, crossAt, cross-is}
 use Rattle.check_bridges.specs.StoredBridges.{Bridges}
-use Rattle.check_merge.specs.PieceTrees.{AllKnown, span-mem}
+use Rattle.check_merge.specs.PieceTrees.{AllKnown}
 
 -- ---- the piece of a line, by its neighbours
 
@@ -35,10 +35,6 @@ module _ (S : Figure) (a : ℕ → S .Line) (n : ℕ) (x : S .Point) where
   piece-outer (suc i) p k e = let q : k ≡ i = omega arith in rw q (p .outer)
 
 -- ---- the lines of two stretches
-
-pub items-length : (w : Words) (ss : List ℕ) → length (itemsAt w ss) ≡ length ss
-items-length w [] = refl
-items-length w (s ∷ ss) = ap suc (items-length w ss)
 
 -- a stretch about one of its places
 pub items-about : (w : Words) (xs : List ℕ) (a b i : ℕ) → a ≤ i → i < b →

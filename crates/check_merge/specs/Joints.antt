@@ -30,12 +30,12 @@ use Rattle.pieces.specs.Pieces.{items, item-laws}
 use Rattle.form.specs.Stored.{RestIn, Stored, stored-fork}
 use Rattle.table.specs.PartTrees.{partRef}
 use Rattle.check_trees.specs.Stretches.{span, span-length, span-at, span-cut, span-cons, span-none}
-use Rattle.check_trees.specs.Laid.{itemAt, itemsAt, Laid, Children, laid-children}
+use Rattle.check_trees.specs.Laid.{itemAt, itemsAt, items-length, Laid, Children, laid-children}
 use Rattle.check_trees.specs.Deciding.{Every}
 use Rattle.check_bridges.specs.StoredBridges.{Bridges}
 use Rattle.check_merge.specs.PieceTrees.{AllKnown}
 use Rattle.check_merge.specs.Rests.{RestTree}
-use Rattle.check_merge.specs.BridgeTests.{items-length, items-about, merged, bridges-merge, merge-bridges}
+use Rattle.check_merge.specs.BridgeTests.{items-about, merged, bridges-merge, merge-bridges}
 use Rattle.check_merge.specs.Stands.{Stands, stands-left, stands-right, stands-known, Decorated, decorated-env, rest-is}
 
 -- Node x of the offers joins the pieces between `at` and `mid` with those between `mid` and `to`: its bridge stands at places i and j, and

@@ -1,9 +1,9 @@
 -- A piece tree over a stretch of slots: the ways through the code that looks for one.
 use mathlib.Core.Path.{_≡_, refl, sym, _∙_, ap, subst}
 use mathlib.Core.Bool.{Bool, true, false}
-use mathlib.Core.List.{List, [], _∷_, List·Memᴰ, List·Memᴰ·head, List·Memᴰ·tail}
+use mathlib.Core.List.{List, _∷_, List·Memᴰ, List·Memᴰ·head, List·Memᴰ·tail}
 use mathlib.Core.Option.{none, some}
-use Prim.Native.Nat.{ℕ, zero, suc, _+_, _-_, _≤_, _<_}
+use Prim.Native.Nat.{ℕ, _+_, _-_, _≤_, _<_}
 use native.Mathlib.Omega.{arith}
 use lib.Dec.{eqb}
 use lib.ListN.{length, getD}
@@ -22,10 +22,10 @@ use Rattle.table.specs.PartTrees.{partRef}
 use Rattle.pieces.specs.Pieces.{PartIn}
 use Rattle.check_trees.specs.Scratch.{secondHalf}
 use Rattle.check_trees.specs.declared.Filled.{Filled}
-use Rattle.check_trees.specs.Stretches.{stretch, span, chain-span, span-chain, stretch-same, stretch-agrees, span-same, span-length, span-none}
+use Rattle.check_trees.specs.Stretches.{stretch, span, span-mem, chain-span, span-chain, stretch-same, stretch-agrees, span-same, span-length, span-none}
 use Rattle.check_trees.specs.Deciding.{Decides, Every, Agree}
 use Rattle.check_trees.specs.Loops.{RangedHere, NextHere}
-use Rattle.check_trees.specs.Laid.{itemAt, itemsAt, slotsOf, items-back, slots-back, Placed, placed-at, AllPlaced, Laid, laid-unique}
+use Rattle.check_trees.specs.Laid.{itemAt, itemsAt, items-length, slotsOf, items-back, slots-back, Placed, placed-at, AllPlaced, Laid, laid-unique}
 use Rattle.check_trees.specs.Fills.{Fills}
 use Rattle.check_trees.specs.FillWalks.{written-length}
 use Rattle.check_bridges.specs.Gaps.{InRange}
@@ -45,18 +45,6 @@ AllKnown w ss = (s : ℕ) → List·Memᴰ s ss → Known w s
 pub known-placed : {w : Words} (ss : List ℕ) → AllKnown w ss → AllPlaced w (itemsAt w ss)
 known-placed (s ∷ ss) h a (List·Memᴰ·head e) = subst (Placed _) (sym e) (placed-at (h s (List·Memᴰ·head refl) .low) (h s (List·Memᴰ·head refl) .high))
 known-placed (s ∷ ss) h a (List·Memᴰ·tail m) = known-placed ss (λ t i. h t (List·Memᴰ·tail i)) a m
-
--- the number at a place of the stretch is one of the stretch
-stretch-mem : (xs : List ℕ) (a n k : ℕ) → k < n → List·Memᴰ (getD xs (a + k) 0) (stretch xs a n)
-unfolding stretch
-stretch-mem xs a zero k h = absurd (omega arith)
-stretch-mem xs a (suc n) zero h = let e : a + 0 ≡ a = omega arith in List·Memᴰ·head (ap (λ (i : ℕ). getD xs i 0) e)
-stretch-mem xs a (suc n) (suc k) h = List·Memᴰ·tail (let e : suc a + k ≡ a + suc k = omega arith in
-    subst (λ (i : ℕ). List·Memᴰ (getD xs i 0) (stretch xs (suc a) n)) e (stretch-mem xs (suc a) n k (omega arith)))
-
-pub span-mem : (xs : List ℕ) (a b i : ℕ) → a ≤ i → i < b → List·Memᴰ (getD xs i 0) (span xs a b)
-span-mem xs a b i h k = let e : a + (i - a) ≡ i = omega arith in
-    subst (λ (n : ℕ). List·Memᴰ (getD xs n 0) (span xs a b)) e (stretch-mem xs a (b - a) (i - a) (omega arith))
 
 pub known-ranged : {w : Words} {xs : List ℕ} {a b : ℕ} → AllKnown w (span xs a b) → Every (RangedHere w xs) a b
 known-ranged {w} {xs} {a} {b} h = record { at = λ k l m. record { ranged = h (getD xs k 0) (span-mem xs a b k l m) .in-range .ranged } }
@@ -105,11 +93,7 @@ module _ {w : Words} {q : ℕ} {ss : List ℕ} where
   tree-over t = record { whole = some (t .tree); root = t .laid .root; over = t .over; pieces = (t .laid .tied, t .threaded); balanced = t .laid .balanced }
 
   over-length : (t : OverSlots w q ss) → length (leaves (t .tree)) ≡ length ss
-  over-length t = ap length (t .over) ∙ items-length ss
-    where
-      items-length : (zs : List ℕ) → length (itemsAt w zs) ≡ length zs
-      items-length [] = refl
-      items-length (z ∷ zs) = ap suc (items-length zs)
+  over-length t = ap length (t .over) ∙ items-length w ss
 
   over-slots : (t : OverSlots w q ss) → slotsOf (leaves (t .tree)) ≡ ss
   over-slots t = ap slotsOf (t .over) ∙ slots-back w ss

@@ -9,7 +9,6 @@ use native.Mathlib.Omega.{arith}
 use lib.Dec.{T}
 use borrow.Author.Tests.{le-ltb, lt-ltb}
 use Rattle.lists.specs.Members.{pairs-cons}
-use Rattle.offers.specs.Offers.{offerInRange}
 use Rattle.envelopes.specs.Envelope.{Ordered, Ordered·nil, Ordered·cons, Env}
 use Rattle.envelopes.specs.EnvelopeLaws.{ordered-left, ordered-right}
 use Rattle.trees.specs.Tree.{Tree, node, leaves, last}
@@ -22,17 +21,15 @@ use Rattle.table.specs.Words.{Words}
 use Rattle.table.specs.Layout.{cap, cap-most, cell}
 use Rattle.table.specs.Items.{Item, Apart, Slots}
 use Rattle.table.specs.Rep.{childAt}
-use Rattle.table.specs.Threads.{Held, Holds}
+use Rattle.table.specs.Threads.{Holds}
 use Rattle.pieces.specs.Pieces.{items, item-laws}
 use Rattle.form.specs.Stored.{Stored, nodeSlot, restField}
 use Rattle.form.specs.RestWords.{restWord}
 use Rattle.check_trees.specs.Laid.{itemAt, itemsAt, AllPlaced, Laid, laid-children}
+use Rattle.check_trees.specs.Along.{AllRanged, placed-holds}
 use Rattle.check_merge.specs.PieceTrees.{AllKnown}
 
 -- ---- shape, offers and order
-
-abbrev pub AllRanged : List Item → Type 0
-AllRanged xs = (a : Item) → List·Memᴰ a xs → T (offerInRange (a .offer))
 
 pub record Stands (w : Words) (x : ℕ) (t : Tree Item) : Type 0 where
   pub laid : Laid w offerTree x t
@@ -72,19 +69,8 @@ module _ {w : Words} {x : ℕ} {t : Tree Item} (s : Stands w x t) where
   stands-slots =
       record { low = λ {a} m. s .laid .placed a m .low; high = λ {a} m. s .laid .placed a m .high; apart = ordered-slots (s .laid .placed) (s .ordered) }
 
-  pub stands-held : {a : Item} → List·Memᴰ a (leaves t) → Held w a
-  stands-held {a} m =
-      let e = s .laid .placed a m .is in
-      record {
-        number = ap (λ (b : Item). b .offer .number) (sym e);
-        rate = ap (λ (b : Item). b .offer .rate) (sym e);
-        base =
-            ap (λ (b : Item). b .offer .base) (sym e);
-        ranged = s .ranged a m;
-      }
-
   pub stands-holds : Holds w (leaves t)
-  stands-holds = record { held = stands-held }
+  stands-holds = placed-holds (s .laid .placed) (s .ranged)
 
   -- slots whose items are among the leaves
   pub stands-known : (ss : List ℕ) → ((a : Item) → List·Memᴰ a (itemsAt w ss) → List·Memᴰ a (leaves t)) → AllKnown w ss

@@ -10,7 +10,7 @@ ghost use Rattle.check_merge.specs.PieceTrees.{Matches};
 ghost use Rattle.check_merge.specs.Rests.{Stays};
 ghost use Rattle.check_merge.specs.Merges.{Two, Refuses, Merges};
 
-// What the walk over the offers answers: whether it went through, and the place behind the last piece of the envelope.
+// What a walk over the offers answers: whether it went through, and the place behind the last slot that it left.
 pub struct Walked {
     pub ok: bool,
     pub next: usize,

@@ -5,8 +5,6 @@ pub mod Tallies
 pub mod FreeChains
 -- lemmas: lists without repeats among others
 pub mod Distinct
--- lemmas: numbers that fall from slot to slot of a stretch fall along the items that stand there
-pub mod Falls
 -- ways through the code: a slot sought by its number in a tree of numbers: it is found exactly where the tree has its item
 pub mod Seeking
 -- ways through the code: the tree of numbers over the live items in the slots at places 0 up to n: the ways through the code that looks for one

@@ -1,12 +1,11 @@
 -- The tree of numbers over the live items in the slots at places 0 up to n: the ways through the code that looks for one.
-use mathlib.Core.Path.{_≡_, refl, sym, _∙_, ap, subst}
+use mathlib.Core.Path.{_≡_, sym, _∙_, ap, subst}
 use mathlib.Core.Bool.{Bool, true, false}
-use mathlib.Core.List.{List, [], _∷_, List·Memᴰ, Pairwise, Pairwise·imp}
-use Prim.Native.Nat.{ℕ, zero, suc, _+_, _-_, _≤_, _<_}
+use mathlib.Core.List.{List, List·Memᴰ, Pairwise, Pairwise·imp}
+use Prim.Native.Nat.{ℕ, _+_, _-_, _≤_, _<_}
 use native.Mathlib.Decide.{ℕ-discrete}
 use native.Mathlib.Omega.{arith}
 use lib.ListN.{length, getD}
-use Rattle.lists.specs.Places.{mem-at, place-of}
 use Rattle.lists.specs.Bools.{never}
 use Rattle.lists.specs.Members.{Among}
 use Rattle.trees.specs.Tree.{Tree, leaves}
@@ -15,51 +14,33 @@ use Rattle.trees.specs.Order.{Falling}
 use Rattle.table.specs.Fields.{mostLevels, numberField, numberTree}
 use Rattle.table.specs.Words.{Words}
 use Rattle.table.specs.Items.{Item, Apart}
+use Rattle.table.specs.Keys.{Keyed}
 use Rattle.form.specs.Form.{numberOf}
 use Rattle.check_trees.specs.Scratch.{secondHalf}
 use Rattle.check_trees.specs.declared.Filled.{Filled}
 use Rattle.check_trees.specs.Deciding.{Decides, decides-no, Every}
-use Rattle.check_trees.specs.Stretches.{span, span-at, span-length}
+use Rattle.check_trees.specs.Stretches.{span, span-length}
 use Rattle.check_trees.specs.Loops.{FallsHere}
-use Rattle.check_trees.specs.Laid.{itemAt, itemsAt, items-back, slots-back, slots-length, AllPlaced, Laid, laid-unique}
+use Rattle.check_trees.specs.Laid.{itemAt, itemsAt, items-length, items-back, AllPlaced, Laid, laid-unique}
+use Rattle.check_trees.specs.Along.{item-mem, span-all, falling-span, span-falling, falling-differ, placed-one}
 use Rattle.check_trees.specs.Fills.{Fills}
 use Rattle.check_trees.specs.FillWalks.{written-length}
 use Rattle.check_numbers.specs.Distinct.{Distinct, among-length, among-all}
-use Rattle.check_numbers.specs.Falls.{falling-span, span-falling}
-use Rattle.check_numbers.specs.Seeking.{placed-one, falling-differ, HasHere, SeeksAll}
+use Rattle.check_numbers.specs.Seeking.{placed-numbers, HasHere, SeeksAll}
 
 -- ---- the live items
 
 abbrev pub liveAt : Words → List ℕ → ℕ → List Item
 liveAt w xs n = itemsAt w (span xs 0 n)
 
-items-at : (w : Words) (ss : List ℕ) (k : ℕ) → getD (itemsAt w ss) k (itemAt w 0) ≡ itemAt w (getD ss k 0)
-items-at w [] k = refl
-items-at w (s ∷ ss) zero = refl
-items-at w (s ∷ ss) (suc k) = items-at w ss k
-
 pub live-length : (w : Words) (xs : List ℕ) (n : ℕ) → length (liveAt w xs n) ≡ n
-live-length w xs n = omega (arith, sym (slots-length (liveAt w xs n)), ap length (slots-back w (span xs 0 n)), span-length xs 0 n)
-
-module _ (w : Words) (xs : List ℕ) (n : ℕ) where
-  live-at : (k : ℕ) → k < n → getD (liveAt w xs n) k (itemAt w 0) ≡ itemAt w (getD xs k 0)
-  live-at k h = items-at w (span xs 0 n) k ∙ ap (itemAt w) (span-at xs 0 n k 0 (omega arith) ∙ ap (λ (i : ℕ). getD xs i 0) (omega arith))
-
-  live-mem : (k : ℕ) → k < n → List·Memᴰ (itemAt w (getD xs k 0)) (liveAt w xs n)
-  live-mem k h = subst (λ (a : Item). List·Memᴰ a (liveAt w xs n)) (live-at k h) (mem-at (liveAt w xs n) k (itemAt w 0) (omega (arith, live-length w xs n)))
-
-  -- what holds of each place holds of each live item
-  live-all : (P : Item → Type 0) → ((k : ℕ) → k < n → P (itemAt w (getD xs k 0))) → (a : Item) → List·Memᴰ a (liveAt w xs n) → P a
-  live-all P f a m =
-      let (k, h, e) = place-of (itemAt w 0) m in
-      let l : k < n = omega (arith, live-length w xs n) in
-      subst P (sym (e ∙ live-at k l)) (f k l)
+live-length w xs n = omega (arith, items-length w (span xs 0 n), span-length xs 0 n)
 
 pub apart-distinct : {xs : List Item} → Pairwise Apart xs → Distinct xs
 apart-distinct = Pairwise·imp (λ a b d e. d (ap (λ (i : Item). i .slot) e))
 
 falling-distinct : {xs : List Item} → Falling numberOf xs → Distinct xs
-falling-distinct = Pairwise·imp (λ a b h. falling-differ {a = a} {b = b} h)
+falling-distinct = Pairwise·imp (λ a b h. falling-differ numberOf {a = a} {b = b} h)
 
 -- ---- their tree
 
@@ -120,25 +101,29 @@ module _ {w : Words} {root n : ℕ} {xs xs′ : List ℕ} {f : Filled} (h : n �
     leaves-at : leaves U ≡ itemsAt w (span xs′ secondHalf (f .next))
     leaves-at = sym (items-back (leaves U) (F .sound ok .laid .placed)) ∙ ap (itemsAt w) (sym (F .sound ok .slots))
 
+    keyed : Keyed w numberField numberOf (itemsAt w (span xs′ secondHalf (f .next)))
+    keyed = subst (Keyed w numberField numberOf) leaves-at (placed-numbers (F .sound ok .laid .placed))
+
     module _ {b : Bool} (D : Decides b (Every (FallsHere w numberField xs′) secondHalf (f .next - 1))) where
       pub trees-not-falling : b ≡ false → Trees w root xs xs′ n false
       trees-not-falling e =
           none-such (λ q t. never
-          (D .complete (span-falling secondHalf (f .next) (subst (Falling numberOf) (sym (ap leaves (written-is t)) ∙ leaves-at) (t .falling)))) e)
+          (D .complete (span-falling numberOf xs′ secondHalf (f .next) keyed
+          (subst (Falling numberOf) (sym (ap leaves (written-is t)) ∙ leaves-at) (t .falling)))) e)
 
       module _ (e : b ≡ true) (l : f .next ≡ secondHalf + n) where
         falls : Falling numberOf (leaves U)
-        falls = subst (Falling numberOf) (sym leaves-at) (falling-span secondHalf (f .next) (D .sound e))
+        falls = subst (Falling numberOf) (sym leaves-at) (falling-span numberOf xs′ secondHalf (f .next) keyed (D .sound e))
 
         same : (k : ℕ) → k < n → getD xs′ k 0 ≡ getD xs k 0
         same k a = F .same k (omega arith)
 
         lows : AllPlaced w (liveAt w xs n) → Every (λ k. 1 ≤ getD xs′ k 0) 0 n
-        lows p = record { at = λ k a b. omega (arith, same k b, p (itemAt w (getD xs k 0)) (live-mem w xs n k b) .low) }
+        lows p = record { at = λ k a b. omega (arith, same k b, p (itemAt w (getD xs k 0)) (item-mem w xs 0 n k a b) .low) }
 
         there : Every (HasHere w U xs′) 0 n → Among (liveAt w xs n) (leaves U)
-        there g = live-all w xs n (λ (a : Item). List·Memᴰ a (leaves U)) (λ k a. subst (λ (s : ℕ). List·Memᴰ (itemAt w s) (leaves U)) (same k a)
-            (g .at k (omega arith) a .has))
+        there g = span-all w xs (λ (a : Item). List·Memᴰ a (leaves U)) 0 n (λ k a b. subst (λ (s : ℕ). List·Memᴰ (itemAt w s) (leaves U)) (same k b)
+            (g .at k a b .has))
 
         one-item : AllPlaced w (liveAt w xs n) → (a b : Item) → List·Memᴰ a (liveAt w xs n) → List·Memᴰ b (leaves U) → Dec (b ≡ a)
         one-item p a b i j = go (ℕ-discrete (b .slot) (a .slot))
@@ -180,6 +165,6 @@ module _ {w : Words} {root n : ℕ} {xs xs′ : List ℕ} {f : Filled} (h : n �
                     has =
                         subst (λ (s : ℕ). List·Memᴰ (itemAt w s) (leaves U)) (sym (same k b))
                         (subst (List·Memᴰ (itemAt w (getD xs k 0))) (ap leaves (sym (written-is t)))
-                        (t .all-there (itemAt w (getD xs k 0)) (live-mem w xs n k b)));
+                        (t .all-there (itemAt w (getD xs k 0)) (item-mem w xs 0 n k a b)));
                   };
                 }

@@ -1,50 +1,38 @@
 -- The tree of numbers from its root in word 4: the ways through the code.
 use mathlib.Core.Path.{_≡_, refl, sym, _∙_, ap}
 use mathlib.Core.Bool.{Bool, true, false}
-use mathlib.Core.List.{List, [], List·Memᴰ·head, Memᴰ·append-left, Pairwise, Pairwise·nil}
+use mathlib.Core.List.{List, [], Pairwise, Pairwise·nil}
 use mathlib.Core.Option.{none, some}
-use Prim.Native.Nat.{ℕ, _≤_}
+use Prim.Native.Nat.{ℕ}
 use native.Mathlib.Omega.{arith}
 use lib.Dec.{eqb}
 use lib.IntN.{pos}
 use lib.ListN.{length}
 use borrow.Author.Tests.{eqb-true, eq-eqb}
 use Rattle.lists.specs.Bools.{never}
-use Rattle.trees.specs.Tree.{Tree, leaf, node, leaves, last}
-use Rattle.trees.specs.Leaves.{last-leaf}
 use Rattle.trees.specs.Operations.{Part}
-use Rattle.table.specs.Fields.{mostNodes, numbersRootWord}
-use Rattle.table.specs.Words.{Words, word, upTo, upTo-in}
-use Rattle.table.specs.Layout.{cap-most}
+use Rattle.table.specs.Fields.{mostNodes, numberTree, numbersRootWord}
+use Rattle.table.specs.Words.{Words, word, upTo}
 use Rattle.table.specs.Items.{Item, Apart}
-use Rattle.table.specs.Rep.{refOf}
-use Rattle.form.specs.Form.{NumbersIn, Numbered}
+use Rattle.form.specs.Form.{IndexIn, numberOf, Numbered}
 use Rattle.table.specs.PartTrees.{partRef}
 use Rattle.check_trees.specs.Deciding.{Decides}
 use Rattle.check_trees.specs.Stretches.{span-none}
-use Rattle.check_trees.specs.Laid.{itemsAt, AllPlaced}
+use Rattle.check_trees.specs.Laid.{itemsAt, AllPlaced, ref-low, root-read}
 use Rattle.check_numbers.specs.Tallies.{Tallies}
 use Rattle.check_numbers.specs.Distinct.{among-length}
 use Rattle.check_numbers.specs.NumberTrees.{liveAt, live-length, apart-distinct, NumberTree, Trees}
 
 -- ---- the root's number
 
-ref-low : {w : Words} (t : Tree Item) → AllPlaced w (leaves t) → 1 ≤ refOf t
-ref-low (leaf a) p = p a (List·Memᴰ·head refl) .low
-ref-low (node l r) p = omega arith
-
-ref-high : {w : Words} (t : Tree Item) → AllPlaced w (leaves t) → refOf t ≤ mostNodes
-ref-high {w} (leaf a) p = omega (arith, p a (List·Memᴰ·head refl) .high, cap-most w)
-ref-high {w} (node l r) p = omega (arith, p (last l) (Memᴰ·append-left (leaves r) (last-leaf l)) .high, cap-most w)
+-- the index of the live items by number
+abbrev NumbersIn : Words → List Item → Part Item → Type 0
+NumbersIn w = IndexIn w numberTree numberOf
 
 module _ {w : Words} {live : List Item} where
-  part-high : AllPlaced w live → (p : Part Item) → NumbersIn w live p → partRef p ≤ mostNodes
-  part-high q none n = omega arith
-  part-high q (some t) n = ref-high t (λ a m. q a (n .all-live a m))
-
   module _ {root : ℕ} (er : root ≡ upTo mostNodes (word w numbersRootWord)) where
     root-is : AllPlaced w live → (p : Part Item) → word w numbersRootWord ≡ pos (partRef p) → NumbersIn w live p → root ≡ partRef p
-    root-is q p e n = er ∙ ap (upTo mostNodes) e ∙ upTo-in mostNodes (partRef p) (part-high q p n)
+    root-is q p e n = root-read numbersRootWord p (λ a m. q a (n .all-live a m)) er e
 
     root-exact : AllPlaced w live → Numbered w live → word w numbersRootWord ≡ pos root
     root-exact q n = n .numbers-root ∙ ap pos (sym (root-is q (n .numbers) (n .numbers-root) (n .numbers-in)))

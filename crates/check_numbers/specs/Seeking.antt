@@ -1,18 +1,15 @@
 -- A slot sought by its number in a tree of numbers: it is found exactly where the tree has its item.
 use mathlib.Core.Path.{_≡_, refl, sym, _∙_, ap, subst}
-use mathlib.Core.Logic.{_≢_, ∥∥₁-elim}
 use mathlib.Core.Bool.{Bool, true, false}
-use mathlib.Core.List.{List, List·Memᴰ, Pairwise·imp-of-mem}
+use mathlib.Core.List.{List, List·Memᴰ}
 use mathlib.Core.Option.{Option, none, some}
 use Prim.Native.Nat.{ℕ, _+_, _≤_, _<_}
 use native.Mathlib.Omega.{arith}
-use lib.Dec.{T, eqb}
+use lib.Dec.{eqb}
 use lib.IntN.{ℤ}
 use lib.ListN.{getD}
-use lib.Signed.{ltZ}
 use borrow.Author.Tests.{eqb-true, eq-eqb}
 use Rattle.lists.specs.Bools.{never}
-use Rattle.integers.specs.Parts.{intRules}
 use Rattle.trees.specs.Tree.{Tree, leaves}
 use Rattle.trees.specs.Operations.{find}
 use Rattle.trees.specs.Find.{find-sound, find-complete}
@@ -20,24 +17,18 @@ use Rattle.trees.specs.Order.{Falling}
 use Rattle.table.specs.Fields.{numberField, numberTree}
 use Rattle.table.specs.Words.{Words}
 use Rattle.table.specs.Layout.{cell}
-use Rattle.table.specs.Items.{Item, Apart}
+use Rattle.table.specs.Items.{Item}
 use Rattle.table.specs.Keys.{Keyed}
 use Rattle.table.specs.Rep.{Rep}
 use Rattle.descents.specs.Finds.{Found, foundAt}
 use Rattle.form.specs.Form.{numberOf}
 use Rattle.check_trees.specs.Deciding.{Decides, decides-no, decides-yes, Every, every-none, every-more, every-less}
-use Rattle.check_trees.specs.Laid.{itemAt, Placed, Laid}
+use Rattle.check_trees.specs.Laid.{itemAt, AllPlaced, Laid}
+use Rattle.check_trees.specs.Along.{falling-apart}
 
--- two items that are in one slot are one
-pub placed-one : {w : Words} {a b : Item} → Placed w a → Placed w b → a .slot ≡ b .slot → a ≡ b
-placed-one {w} p q e = p .is ∙ ap (itemAt w) e ∙ sym (q .is)
-
--- no two numbers that fall are the same
-pub falling-differ : {a b : Item} → T (ltZ (numberOf b) (numberOf a)) → a ≢ b
-falling-differ {a} {b} t e = go (ap numberOf e)
-  where
-    go : numberOf a ≡ numberOf b → ⊥
-    go q = omega (arith, intRules)
+-- an item's number is in its slot
+pub placed-numbers : {w : Words} {xs : List Item} → AllPlaced w xs → Keyed w numberField numberOf xs
+placed-numbers p = record { read = λ {a} m. sym (ap numberOf (p a m .is)) }
 
 module _ {w : Words} {root : ℕ} (t : Tree Item) (L : Laid w numberTree root t) (F : Falling numberOf (leaves t)) where
   laid-rep : Rep w numberTree root t
@@ -45,17 +36,12 @@ module _ {w : Words} {root : ℕ} (t : Tree Item) (L : Laid w numberTree root t)
       record {
         kind = omega arith;
         root = L .root;
-        slots = record { low = λ {a} m. L .placed a m .low; high = λ {a} m. L .placed a m .high; apart = Pairwise·imp-of-mem apart F };
+        slots = record { low = λ {a} m. L .placed a m .low; high = λ {a} m. L .placed a m .high; apart = falling-apart numberOf (L .placed) F };
         tied = L .tied;
       }
-    where
-      apart : (a b : Item) → ∥ List·Memᴰ a (leaves t) ∥₁ → ∥ List·Memᴰ b (leaves t) ∥₁ → T (ltZ (numberOf b) (numberOf a)) → Apart a b
-      apart a b m n h e =
-          ∥∥₁-elim m (λ p q. absurd p) (λ i. ∥∥₁-elim n (λ p q. absurd p) (λ j. falling-differ {a = a} {b =
-          b} h (placed-one (L .placed a i) (L .placed b j) e)))
 
   laid-keyed : Keyed w numberField numberOf (leaves t)
-  laid-keyed = record { read = λ {a} m. sym (ap numberOf (L .placed a m .is)) }
+  laid-keyed = placed-numbers (L .placed)
 
 -- the answer to whether the tree at that root has slot s
 pub record Seeks (w : Words) (root s : ℕ) (r : Bool) : Type 0 where

@@ -20,9 +20,8 @@ use Rattle.pieces.specs.Pieces.{items}
 use Rattle.form.specs.Stored.{Stored, stored-single, stored-fork}
 use Rattle.check_trees.specs.Scratch.{scratchLength, secondHalf}
 use Rattle.check_trees.specs.Stretches.{span, span-one, span-same, span-length}
-use Rattle.check_trees.specs.Laid.{itemAt, itemsAt, laid-leaf-low, laid-node-high}
+use Rattle.check_trees.specs.Laid.{itemAt, itemsAt, items-length, laid-leaf-low, laid-node-high}
 use Rattle.check_merge.specs.declared.Walked.{Walked}
-use Rattle.check_merge.specs.BridgeTests.{items-length}
 use Rattle.check_merge.specs.Stands.{Stands, stands-left, stands-right, Decorated, decorated-env}
 use Rattle.check_merge.specs.Joints.{half-left, half-right, no-leaf, joint-known, joins-fork, decorated-joins}
 use Rattle.check_merge.specs.Merges.{Refuses, Two, Merges}

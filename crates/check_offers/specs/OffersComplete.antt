@@ -1,58 +1,32 @@
--- A part's offers are where its header says: the tree in shape and order, with its envelopes.
+-- A part's tree of offers is where its header says, in shape and order, with its envelopes.
 use mathlib.Core.Path.{_≡_, refl, sym, _∙_, ap, subst}
-use mathlib.Core.List.{List, List·Memᴰ, List·Memᴰ·head, Memᴰ·append-left}
+use mathlib.Core.List.{[], List·Memᴰ·not-nil}
 use mathlib.Core.Option.{Option, none, some}
-use Prim.Native.Nat.{ℕ, _≤_}
+use Prim.Native.Nat.{ℕ}
 use native.Mathlib.Omega.{arith}
-use lib.ListN.{length}
 use lib.IntN.{pos}
 use Rattle.lists.specs.Places.{sublist-mem}
-use Rattle.trees.specs.Tree.{Tree, leaf, node, leaves, last}
-use Rattle.trees.specs.Leaves.{last-leaf, some-leaf}
-use Rattle.trees.specs.Operations.{Part, partLeaves}
+use Rattle.trees.specs.Tree.{leaves}
+use Rattle.trees.specs.Operations.{partLeaves}
 use Rattle.dynamic.specs.OfferTree.{Held, heldShape}
 use Rattle.dynamic.specs.Valid.{bookLines}
 use Rattle.dynamic.specs.Lower.{valid-env}
-use Rattle.table.specs.Fields.{envelopeRootWord, liveCountWord, mostNodes, mostSlots, offersRootWord}
-use Rattle.table.specs.Words.{Words, word, upTo, upTo-in}
-use Rattle.table.specs.Layout.{cap, cap-most}
-use Rattle.table.specs.Items.{Item, Slots}
+use Rattle.table.specs.Fields.{envelopeRootWord, mostNodes, offersRootWord}
+use Rattle.table.specs.Words.{Words, word, upTo}
+use Rattle.table.specs.Items.{Item}
 use Rattle.table.specs.Rep.{refOf}
-use Rattle.table.specs.Threads.{Holds}
 use Rattle.pieces.specs.Pieces.{items, item-laws}
 use Rattle.form.specs.Stored.{HeldIn}
 use Rattle.form.specs.Form.{offersRef, envelopeRef, OffersIn}
 use Rattle.table.specs.PartTrees.{partRef}
-use Rattle.check_trees.specs.Laid.{itemAt, AllPlaced}
+use Rattle.check_trees.specs.Laid.{AllPlaced, ref-low, root-read}
+use Rattle.check_trees.specs.Along.{holds-placed}
 use Rattle.check_merge.specs.Stands.{Stands}
 use Rattle.check_offers.specs.Headers.{Header}
 use Rattle.check_offers.specs.Envelops.{Enveloped}
 use Rattle.check_offers.specs.OffersFound.{OffersFound, OffersAt}
 
--- ---- items whose slots hold their offers
-
-pub holds-placed : {w : Words} {xs : List Item} → Slots (cap w) xs → Holds w xs → AllPlaced w xs
-holds-placed {w} s h a m = record { low = s .low m; high = s .high m; is = is }
-  where
-    is : a ≡ itemAt w (a .slot)
-    is = λ i. record { slot = a .slot; offer = record { number = sym (h .held m .number) i; rate = sym (h .held m .rate) i; base = sym (h .held m .base) i } }
-
--- ---- the numbers of nodes
-
-ref-most : (t : Tree Item) → ((a : Item) → List·Memᴰ a (leaves t) → a .slot ≤ mostSlots) → refOf t ≤ mostNodes
-ref-most (leaf a) h = omega (arith, h a (List·Memᴰ·head refl))
-ref-most (node l r) h = omega (arith, h (last l) (Memᴰ·append-left (leaves r) (last-leaf l)))
-
-part-most : (p : Part Item) → ((a : Item) → List·Memᴰ a (partLeaves p) → a .slot ≤ mostSlots) → partRef p ≤ mostNodes
-part-most none h = omega arith
-part-most (some t) h = ref-most t h
-
--- ---- the offers
-
 module _ {w : Words} {x e : ℕ} {h : Held Item} (g : HeldIn w x e h) where
-  slot-most : (a : Item) → List·Memᴰ a (leaves (heldShape h)) → a .slot ≤ mostSlots
-  slot-most a m = omega (arith, g .slots .high m, cap-most w)
-
   held-stands : Stands w x (heldShape h)
   held-stands =
       record {
@@ -71,42 +45,57 @@ module _ {w : Words} {x e : ℕ} {h : Held Item} (g : HeldIn w x e h) where
         balanced = g .right .balanced-whole;
       }
 
-  held-root-most : x ≤ mostNodes
-  held-root-most = omega (arith, g .root, ref-most (heldShape h) slot-most)
+  whole-placed : AllPlaced w (partLeaves (h .whole))
+  whole-placed a m = holds-placed (g .slots) (g .kept) a (sublist-mem (valid-env items item-laws (g .right .valid) .sub) m)
 
-  held-envelope-most : e ≤ mostNodes
-  held-envelope-most = omega (arith, g .envelope, part-most (h .whole) (λ a m. slot-most a (sublist-mem (valid-env items item-laws (g .right .valid) .sub) m)))
+-- a word that is 0 reads as 0
+none-read : (w : Words) (i : ℕ) {x : ℕ} → x ≡ upTo mostNodes (word w i) → word w i ≡ pos 0 → x ≡ 0
+none-read w i e d = root-read {w = w} i none (λ a m. absurd (List·Memᴰ·not-nil m)) e d
 
--- a word that is a number reads as it
-reads : (w : Words) (i : ℕ) {x y : ℕ} → x ≡ upTo mostNodes (word w i) → word w i ≡ pos y → y ≤ mostNodes → x ≡ y
-reads w i {y = y} p q h = p ∙ ap (upTo mostNodes) q ∙ upTo-in mostNodes y h
+module _ {w : Words} {x e : ℕ} (ex : x ≡ upTo mostNodes (word w offersRootWord)) (ee : e ≡ upTo mostNodes (word w envelopeRootWord)) where
+  -- the roots of a tree in hand are read as they are
+  module _ {h : Held Item} (a : word w offersRootWord ≡ pos (refOf (heldShape h))) (b : word w envelopeRootWord ≡ pos (partRef (h .whole)))
+      (g : HeldIn w (refOf (heldShape h)) (partRef (h .whole)) h) where
+    root-is : x ≡ refOf (heldShape h)
+    root-is = root-read offersRootWord (some (heldShape h)) (held-stands g .laid .placed) ex a
 
-pub offers-complete : {w : Words} {x e n : ℕ} → (n ≡ 0 → ⊥) → x ≡ upTo mostNodes (word w offersRootWord) → e ≡ upTo mostNodes (word w envelopeRootWord) →
-    (s : OffersFound w n) → OffersAt w x e n (bookLines (s .held))
-offers-complete {w} {x} {e} {n} some-live ex ee s = go (s .held) (s .offers .offers-root) (s .offers .envelope-root) (s .offers .live-count) (s .count)
-    (s .offers .offers-in)
-  where
-    go :
-        (o : Option (Held Item)) → word w offersRootWord ≡ pos (offersRef o) → word w envelopeRootWord ≡ pos (envelopeRef o) →
-        word w liveCountWord ≡ pos (length (bookLines o)) →
-        length (bookLines o) ≡ n → OffersIn w o → OffersAt w x e n (bookLines o)
-    go none a b c d g = absurd (some-live (sym d))
-    go (some h) a b c d g =
-        let px : x ≡ refOf (heldShape h) = reads w offersRootWord ex a (held-root-most g) in
-        let pe : e ≡ partRef (h .whole) = reads w envelopeRootWord ee b (held-envelope-most g) in
+    envelope-is : e ≡ partRef (h .whole)
+    envelope-is = root-read envelopeRootWord (h .whole) (whole-placed g) ee b
+
+    held-at : OffersAt w x e (leaves (heldShape h))
+    held-at =
         record {
-          header = record { offers-root = a ∙ ap pos (sym px); envelope-root = b ∙ ap pos (sym pe); live-count = c ∙ ap pos d };
+          header = record { offers-root = a ∙ ap pos (sym root-is); envelope-root = b ∙ ap pos (sym envelope-is) };
           tree = heldShape h;
-          stands = subst (λ (z : ℕ). Stands w z (heldShape h)) (sym px) (held-stands g);
+          stands = subst (λ (z : ℕ). Stands w z (heldShape h)) (sym root-is) (held-stands g);
           lines-are = refl;
-          count = d;
-          enveloped = subst (λ (z : ℕ). Enveloped w z (heldShape h)) (sym pe) (held-enveloped g);
+          enveloped = subst (λ (z : ℕ). Enveloped w z (heldShape h)) (sym envelope-is) (held-enveloped g);
         }
 
-pub offers-none-complete : {w : Words} → OffersFound w 0 → Header w 0 0 0
-offers-none-complete {w} s = go (s .held) (s .offers .offers-root) (s .offers .envelope-root) (s .offers .live-count) (s .count)
-  where
-    go : (o : Option (Held Item)) → word w offersRootWord ≡ pos (offersRef o) → word w envelopeRootWord ≡ pos (envelopeRef o) →
-        word w liveCountWord ≡ pos (length (bookLines o)) → length (bookLines o) ≡ 0 → Header w 0 0 0
-    go none a b c d = record { offers-root = a; envelope-root = b; live-count = c }
-    go (some h) a b c d = absurd (omega (arith, some-leaf (heldShape h)))
+  pub offers-header : OffersFound w → Header w x e
+  offers-header s = go (s .held) (s .offers .offers-root) (s .offers .envelope-root) (s .offers .offers-in)
+    where
+      go : (o : Option (Held Item)) → word w offersRootWord ≡ pos (offersRef o) → word w envelopeRootWord ≡ pos (envelopeRef o) → OffersIn w o → Header w x e
+      go none a b g =
+          record {
+            offers-root = a ∙ ap pos (sym (none-read w offersRootWord ex a));
+            envelope-root = b ∙ ap pos (sym (none-read w envelopeRootWord ee b));
+          }
+      go (some h) a b g = held-at a b g .header
+
+  pub offers-complete : (x ≡ 0 → ⊥) → (s : OffersFound w) → OffersAt w x e (bookLines (s .held))
+  offers-complete some-root s = go (s .held) (s .offers .offers-root) (s .offers .envelope-root) (s .offers .offers-in)
+    where
+      go : (o : Option (Held Item)) → word w offersRootWord ≡ pos (offersRef o) → word w envelopeRootWord ≡ pos (envelopeRef o) → OffersIn w o →
+          OffersAt w x e (bookLines o)
+      go none a b g = absurd (some-root (none-read w offersRootWord ex a))
+      go (some h) a b g = held-at a b g
+
+  -- no tree, no leaves
+  pub offers-none-complete : x ≡ 0 → (s : OffersFound w) → (e ≡ 0) × ([] ≡ bookLines (s .held))
+  offers-none-complete z s = go (s .held) (s .offers .offers-root) (s .offers .envelope-root) (s .offers .offers-in)
+    where
+      go : (o : Option (Held Item)) → word w offersRootWord ≡ pos (offersRef o) → word w envelopeRootWord ≡ pos (envelopeRef o) → OffersIn w o →
+          (e ≡ 0) × ([] ≡ bookLines o)
+      go none a b g = (none-read w envelopeRootWord ee b, refl)
+      go (some h) a b g = absurd (omega (arith, root-is a b g, ref-low (heldShape h) (held-stands g .laid .placed)))

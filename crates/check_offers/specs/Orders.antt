@@ -1,14 +1,13 @@
 -- A tree of offers whose shape, offers and order are right: how the code finds one.
 use mathlib.Core.Path.{_≡_, sym, _∙_, ap, subst, subst₂}
 use mathlib.Core.Bool.{Bool, true, false}
-use mathlib.Core.List.{List, _∷_, List·Memᴰ, List·Memᴰ·head, List·Memᴰ·tail, Memᴰ·map}
+use mathlib.Core.List.{List, _∷_, List·Memᴰ, List·Memᴰ·head, List·Memᴰ·tail}
 use Prim.Native.Nat.{ℕ, zero, suc, _+_, _-_, _≤_, _<_}
 use native.Mathlib.Omega.{arith}
 use native.Mathlib.Numerals.{add-one}
 use lib.Dec.{T}
 use lib.ListN.{length, getD, List·getD-map}
 use Rattle.lists.specs.Bools.{never}
-use Rattle.offers.specs.Offers.{offerInRange}
 use Rattle.envelopes.specs.Envelope.{Ordered, Ordered·nil, Ordered·cons}
 use Rattle.envelopes.specs.EnvelopeLaws.{ordered-at}
 use Rattle.trees.specs.Tree.{Tree, leaves, height}
@@ -22,12 +21,11 @@ use Rattle.check_trees.specs.declared.Filled.{Filled}
 use Rattle.check_trees.specs.Stretches.{stretch, span, span-length, span-at}
 use Rattle.check_trees.specs.Deciding.{Decides, decides-no, Every}
 use Rattle.check_trees.specs.Loops.{FallsHere, RangedHere}
-use Rattle.check_trees.specs.Laid.{itemAt, itemsAt, items-back, Laid, laid-unique}
+use Rattle.check_trees.specs.Laid.{itemAt, itemsAt, items-length, items-back, Laid, laid-unique}
+use Rattle.check_trees.specs.Along.{AllRanged, ranged-span, span-ranged}
 use Rattle.check_trees.specs.Fills.{Fills}
 use Rattle.check_trees.specs.FillWalks.{written-length}
-use Rattle.check_merge.specs.PieceTrees.{span-mem}
-use Rattle.check_merge.specs.BridgeTests.{items-length}
-use Rattle.check_merge.specs.Stands.{AllRanged, Stands, stands-slots}
+use Rattle.check_merge.specs.Stands.{Stands, stands-slots}
 
 -- ---- the order along a stretch
 
@@ -71,31 +69,16 @@ module _ {w : Words} {xs : List ℕ} where
           (ordered-at items (itemsAt w (span xs a b)) o (itemAt w 0) (k - a) (k + 1 - a) (omega arith)
           (omega (arith, items-length w (span xs a b), span-length xs a b)))
 
-  -- ---- offers in range along a stretch
-
-  ranged-stretch : (a n : ℕ) → ((k : ℕ) → a ≤ k → k < a + n → RangedHere w xs k) → AllRanged (itemsAt w (stretch xs a n))
-  unfolding stretch
-  ranged-stretch a zero f b m = elim m [ ]
-  ranged-stretch a (suc n) f b (List·Memᴰ·head e) = subst (λ (c : Item). T (offerInRange (c .offer))) (sym e) (f a (omega arith) (omega arith) .ranged)
-  ranged-stretch a (suc n) f b (List·Memᴰ·tail m) = ranged-stretch (suc a) n (λ k l h. f k (omega arith) (omega arith)) b m
-
-  pub ranged-span : (a b : ℕ) → Every (RangedHere w xs) a b → AllRanged (itemsAt w (span xs a b))
-  ranged-span a b e = ranged-stretch a (b - a) (λ k l h. e .at k l (omega arith))
-
-  pub span-ranged : (a b : ℕ) → AllRanged (itemsAt w (span xs a b)) → Every (RangedHere w xs) a b
-  span-ranged a b f = record { at = λ k l h. record { ranged = f (itemAt w (getD xs k 0)) (Memᴰ·map (itemAt w) (span-mem xs a b k l h)) } }
-
 -- ---- the ways through the code
 
--- the tree of offers at node x has n leaves
-pub record StandsOver (w : Words) (x n : ℕ) : Type 0 where
+-- a tree of offers stands at node x
+pub record StandsAt (w : Words) (x : ℕ) : Type 0 where
   pub tree : Tree Item
   pub stands : Stands w x tree
-  pub count : length (leaves tree) ≡ n
 
-pub record Orders (w : Words) (x : ℕ) (xs xs′ : List ℕ) (n : ℕ) (r : Bool) : Type 0 where
+pub record Orders (w : Words) (x : ℕ) (xs xs′ : List ℕ) (r : Bool) : Type 0 where
   pub long : length xs′ ≡ length xs
-  pub told : Decides r (StandsOver w x n)
+  pub told : Decides r (StandsAt w x)
 
 -- it is no larger than a part
 module _ {w : Words} {x : ℕ} {t : Tree Item} (s : Stands w x t) where
@@ -120,46 +103,37 @@ module _ {w : Words} {x : ℕ} {xs xs′ : List ℕ} {f : Filled} (F : Fills w o
     pub filled-items : itemsAt w (span xs′ 0 (f .next)) ≡ leaves (F .sound ok .tree)
     filled-items = ap (itemsAt w) (F .sound ok .slots) ∙ items-back (leaves (F .sound ok .tree)) (F .sound ok .laid .placed)
 
-  module _ {n : ℕ} where
-    orders-no : (StandsOver w x n → ⊥) → Orders w x xs xs′ n false
-    orders-no g = record { long = F .long; told = decides-no g }
+  orders-no : (StandsAt w x → ⊥) → Orders w x xs xs′ false
+  orders-no g = record { long = F .long; told = decides-no g }
 
-    pub orders-not-filled : f .ok ≡ false → Orders w x xs xs′ n false
-    orders-not-filled e = orders-no (λ s. never (stands-filled (s .stands)) e)
+  pub orders-not-filled : f .ok ≡ false → Orders w x xs xs′ false
+  orders-not-filled e = orders-no (λ s. never (stands-filled (s .stands)) e)
 
-    module _ (ok : f .ok ≡ true) where
-      tree-is : (s : StandsOver w x n) → F .sound ok .tree ≡ s .tree
-      tree-is s = filled-tree ok (s .stands .laid)
+  module _ (ok : f .ok ≡ true) {b : Bool} (R : Decides b (Every (RangedHere w xs′) 0 (f .next))) where
+    items-are : (s : StandsAt w x) → leaves (s .tree) ≡ itemsAt w (span xs′ 0 (f .next))
+    items-are s = ap leaves (sym (filled-tree ok (s .stands .laid))) ∙ sym (filled-items ok)
 
-      pub orders-not-long : (f .next ≡ n → ⊥) → Orders w x xs xs′ n false
-      orders-not-long g = orders-no (λ s. g (filled-next ok ∙ ap (λ (t : Tree Item). length (leaves t)) (tree-is s) ∙ s .count))
+    pub orders-not-ranged : b ≡ false → Orders w x xs xs′ false
+    orders-not-ranged g = orders-no (λ s. never (R .complete (span-ranged 0 (f .next) (subst AllRanged (items-are s) (s .stands .ranged)))) g)
 
-      module _ (e : f .next ≡ n) {b : Bool} (R : Decides b (Every (RangedHere w xs′) 0 (f .next))) where
-        items-are : (s : StandsOver w x n) → leaves (s .tree) ≡ itemsAt w (span xs′ 0 (f .next))
-        items-are s = ap leaves (sym (tree-is s)) ∙ sym (filled-items ok)
-
-        pub orders-not-ranged : b ≡ false → Orders w x xs xs′ n false
-        orders-not-ranged g = orders-no (λ s. never (R .complete (span-ranged 0 (f .next) (subst AllRanged (items-are s) (s .stands .ranged)))) g)
-
-        pub orders-rest : {r : Bool} → b ≡ true → Decides r (Every (FallsHere w rateField xs′) 0 (f .next - 1)) → Orders w x xs xs′ n r
-        orders-rest {r} g D = record {
-          long = F .long;
-          told = record {
-            sound = found;
-            complete =
-                λ s. D .complete (span-ordered 0 (f .next) (subst (Ordered items) (items-are s) (s .stands .ordered)));
-          };
-        }
-          where
-            found : r ≡ true → StandsOver w x n
-            found o =
-                record {
-                  tree = F .sound ok .tree;
-                  stands =
-                      record {
-                        laid = F .sound ok .laid;
-                        ranged = subst AllRanged (filled-items ok) (ranged-span 0 (f .next) (R .sound g));
-                        ordered = subst (Ordered items) (filled-items ok) (ordered-span 0 (f .next) (D .sound o));
-                      };
-                  count = sym (filled-next ok) ∙ e;
-                }
+    pub orders-rest : {r : Bool} → b ≡ true → Decides r (Every (FallsHere w rateField xs′) 0 (f .next - 1)) → Orders w x xs xs′ r
+    orders-rest {r} g D = record {
+      long = F .long;
+      told = record {
+        sound = found;
+        complete =
+            λ s. D .complete (span-ordered 0 (f .next) (subst (Ordered items) (items-are s) (s .stands .ordered)));
+      };
+    }
+      where
+        found : r ≡ true → StandsAt w x
+        found o =
+            record {
+              tree = F .sound ok .tree;
+              stands =
+                  record {
+                    laid = F .sound ok .laid;
+                    ranged = subst AllRanged (filled-items ok) (ranged-span 0 (f .next) (R .sound g));
+                    ordered = subst (Ordered items) (filled-items ok) (ordered-span 0 (f .next) (D .sound o));
+                  };
+            }

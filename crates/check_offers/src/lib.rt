@@ -70,28 +70,24 @@ fn walk(
     check_merge::merge(part, x, scratch, at, mid, b.next)
 }
 
-// The header has the offers' root at node `x`, their envelope's at node `e`, and a live count of `n`.
-fn header(part: &[i64], x: u32, e: u32, n: u32) -> bool
-    ensures { λ r. ⌜ Decides r (Header (now (part .entry)) x e n) ⌝ }
+// The header has the offers' root at node `x`, and their envelope's at node `e`.
+fn header(part: &[i64], x: u32, e: u32) -> bool
+    ensures { λ r. ⌜ Decides r (Header (now (part .entry)) x e) ⌝ }
 {
     check_trees::tells(part, table::OFFERS_ROOT, x)
         && check_trees::tells(part, table::ENVELOPE_ROOT, e)
-        && check_trees::tells(part, table::LIVE_COUNT, n)
 }
 
-// The tree of offers from node `x` on has `n` leaves, with offers in range whose rates fall. Their slots are left from place 0 on.
-fn ordered(part: &[i64], x: u32, scratch: &mut [u32; check_trees::SCRATCH], n: u32) -> bool
+// A tree of offers stands at node `x`: offers in range, whose rates fall.
+fn ordered(part: &[i64], x: u32, scratch: &mut [u32; check_trees::SCRATCH]) -> bool
     requires { ⌜ length (now scratch) ≡ scratchLength ⌝ }
-    ensures { λ r. ⌜ Orders (now (part .entry)) x (now (scratch .entry)) (now (scratch .exit)) n r ⌝ }
+    ensures { λ r. ⌜ Orders (now (part .entry)) x (now (scratch .entry)) (now (scratch .exit)) r ⌝ }
 {
     let f = check_trees::fill(part, table::OFFERS, x, scratch, 0, table::MOST_LEVELS);
     if !f.ok {
         return false;
     }
     let next = f.next;
-    if next != n as usize {
-        return false;
-    }
     if !check_trees::all_ranged(part, scratch, 0, next) {
         return false;
     }
@@ -111,26 +107,32 @@ fn enveloped(part: &[i64], x: u32, e: u32, scratch: &mut [u32; check_trees::SCRA
     check_merge::matches(part, e, scratch, 0, next)
 }
 
-// The offers of a part, `n` of them, with their envelopes. The slots of the offers are left in order from place 0 on.
-pub fn offers(part: &[i64], scratch: &mut [u32; check_trees::SCRATCH], n: u32) -> bool
+// The tree of offers of a part, with its envelopes. The slots of its leaves are left in order from place 0 on.
+pub fn offers(part: &[i64], scratch: &mut [u32; check_trees::SCRATCH]) -> Walked
     requires { ⌜ length (now scratch) ≡ scratchLength ⌝ }
-    ensures { λ r. ⌜ Offers (now (part .entry)) (now (scratch .entry)) (now (scratch .exit)) n r ⌝ }
+    ensures { λ r. ⌜ Offers (now (part .entry)) (now (scratch .entry)) (now (scratch .exit)) r ⌝ }
 {
-    if n == 0 {
-        return header(part, 0, 0, 0);
-    }
     let x = form::offers_root(part);
     let e = form::envelope_root(part);
-    if !header(part, x, e, n) {
-        return false;
+    if !header(part, x, e) {
+        return check_merge::refused();
     }
-    if !ordered(part, x, scratch, n) {
-        return false;
+    if x == 0 {
+        return Walked {
+            ok: e == 0,
+            next: 0,
+        };
+    }
+    if !ordered(part, x, scratch) {
+        return check_merge::refused();
     }
     if !enveloped(part, x, e, scratch) {
-        return false;
+        return check_merge::refused();
     }
     // the walk wrote over the slots
     let f = check_trees::fill(part, table::OFFERS, x, scratch, 0, table::MOST_LEVELS);
-    f.ok
+    Walked {
+        ok: f.ok,
+        next: f.next,
+    }
 }

@@ -1,3 +1,3 @@
 -- Whether a part has the form of a book.
--- ways through the code: the form of a book, put together from its offers, its numbers and its free slots: the ways through the code that looks for it
+-- ways through the code: the form of a book, put together from its tree of offers, its order, its numbers and its free slots
 pub mod Audits

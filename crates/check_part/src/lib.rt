@@ -3,7 +3,8 @@ ghost use Rattle.form.specs.Form.{BookStands};
 ghost use Rattle.check_trees.specs.Deciding.{Decides};
 ghost use Rattle.promises.specs.Promises.{Checks};
 
-// The free slots, then the offers with their envelopes, then the numbers over the slots that the offers left in the scratch array.
+// The free slots, then the tree of offers with its envelopes, then the order over the slots that this left in the scratch array, then the numbers
+// over those that the order left.
 fn book_stands(part: &[i64]) -> bool
     ensures { λ r. ⌜ Decides r (BookStands (now (part .entry))) ⌝ }
 {
@@ -15,7 +16,11 @@ fn book_stands(part: &[i64]) -> bool
         return false;
     }
     let mut scratch = [0; check_trees::SCRATCH];
-    if !check_offers::offers(part, &mut scratch, n) {
+    let offers = check_offers::offers(part, &mut scratch);
+    if !offers.ok {
+        return false;
+    }
+    if !check_order::order(part, &mut scratch, offers.next, n) {
         return false;
     }
     check_numbers::numbers(part, &mut scratch, n as usize)

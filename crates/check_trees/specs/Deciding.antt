@@ -5,8 +5,9 @@ use mathlib.Core.List.{List}
 use Prim.Native.Nat.{ℕ, _+_, _≤_, _<_}
 use native.Mathlib.Decide.{decLt}
 use native.Mathlib.Omega.{arith}
-use lib.Dec.{T}
+use lib.Dec.{T, eqb}
 use lib.ListN.{getD}
+use borrow.Author.Tests.{eqb-true, eq-eqb}
 use Rattle.lists.specs.Bools.{is-true, passed, never}
 
 -- the answer is yes exactly where P holds
@@ -29,6 +30,9 @@ decides-test b = record { sound = passed; complete = is-true b }
 
 pub decides-by : {a b : Bool} → a ≡ b → Decides a (T b)
 decides-by {a} {b} e = record { sound = λ q. passed (sym e ∙ q); complete = λ t. e ∙ is-true b t }
+
+pub decides-equal : (a b : ℕ) → Decides (eqb a b) (a ≡ b)
+decides-equal a b = record { sound = eqb-true a b; complete = eq-eqb a b }
 
 -- a && b as code makes it: b's answer where a's is yes, and a's own where it is no
 module _ {a : Bool} {P Q : Type 0} (d : Decides a P) where

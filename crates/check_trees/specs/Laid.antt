@@ -3,16 +3,20 @@ use mathlib.Core.Path.{_≡_, refl, sym, _∙_, ap, ap₂}
 use mathlib.Core.Bool.{true, false}
 use mathlib.Core.List.{List, [], _∷_, _++_, map, List·Memᴰ, List·Memᴰ·head, List·Memᴰ·tail, List·Memᴰ·append-cases, Memᴰ·append-left, Memᴰ·append-right}
 use mathlib.Core.Logic.{⊎-elim}
+use mathlib.Core.Option.{none, some}
 use Prim.Native.Nat.{ℕ, suc, _-_, _≤_, _<_, max}
 use native.Mathlib.Omega.{arith}
+use lib.IntN.{pos}
 use lib.ListN.{length}
 use Rattle.trees.specs.Tree.{Tree, leaf, node, height, leaves, last, Avl, avl-node}
 use Rattle.trees.specs.Leaves.{last-leaf}
-use Rattle.table.specs.Fields.{baseField, mostSlots, numberField, rateField}
-use Rattle.table.specs.Words.{Words}
+use Rattle.trees.specs.Operations.{Part, partLeaves}
+use Rattle.table.specs.Fields.{baseField, mostNodes, mostSlots, numberField, rateField}
+use Rattle.table.specs.Words.{Words, word, upTo, upTo-in}
 use Rattle.table.specs.Layout.{cap, cap-most, cell, linkAt}
 use Rattle.table.specs.Items.{Item}
 use Rattle.table.specs.Rep.{childField, heightField, childAt, heightAt, refOf, Tied, tied-node}
+use Rattle.table.specs.PartTrees.{partRef}
 
 -- ---- items by their slots
 
@@ -53,6 +57,10 @@ slots-append (a ∷ xs) ys = ap (λ (zs : List ℕ). a .slot ∷ zs) (slots-appe
 pub slots-length : (xs : List Item) → length (slotsOf xs) ≡ length xs
 slots-length [] = refl
 slots-length (a ∷ xs) = ap suc (slots-length xs)
+
+pub items-length : (w : Words) (ss : List ℕ) → length (itemsAt w ss) ≡ length ss
+items-length w [] = refl
+items-length w (s ∷ ss) = ap suc (items-length w ss)
 
 -- ---- trees
 
@@ -128,3 +136,22 @@ laid-unique (node l r) (node l′ r′) p q =
     let a = laid-children p in
     let b = laid-children q in
     ap₂ node (laid-unique l l′ (a .left) (b .left)) (laid-unique r r′ (a .right) (b .right))
+
+-- ---- the number of a root
+
+pub ref-low : {w : Words} (t : Tree Item) → AllPlaced w (leaves t) → 1 ≤ refOf t
+ref-low (leaf a) p = p a (List·Memᴰ·head refl) .low
+ref-low (node l r) p = omega arith
+
+ref-high : {w : Words} (t : Tree Item) → AllPlaced w (leaves t) → refOf t ≤ mostNodes
+ref-high {w} (leaf a) p = omega (arith, p a (List·Memᴰ·head refl) .high, cap-most w)
+ref-high {w} (node l r) p = omega (arith, p (last l) (Memᴰ·append-left (leaves r) (last-leaf l)) .high, cap-most w)
+
+part-high : {w : Words} (p : Part Item) → AllPlaced w (partLeaves p) → partRef p ≤ mostNodes
+part-high none q = omega arith
+part-high (some t) q = ref-high t q
+
+-- a word of the header that is it reads as it
+pub root-read : {w : Words} (i : ℕ) {x : ℕ} (p : Part Item) → AllPlaced w (partLeaves p) → x ≡ upTo mostNodes (word w i) → word w i ≡ pos (partRef p) →
+    x ≡ partRef p
+root-read i p q e d = e ∙ ap (upTo mostNodes) d ∙ upTo-in mostNodes (partRef p) (part-high p q)

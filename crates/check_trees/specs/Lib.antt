@@ -9,6 +9,8 @@ pub mod Stretches
 pub mod Laid
 -- ways through the code: what the loops over a stretch of the scratch array look for, and a stretch moved down
 pub mod Loops
+-- lemmas: what holds at each place of a stretch holds of each item that stands there, and back: offers in range, and keys that fall
+pub mod Along
 -- ways through the code: a tree's leaves written into a scratch array, in order: what the walk promises, and the ways through its code
 pub mod Fills
 -- ways through the code: the walk over a tree that writes its leaves' slots into a scratch array: the ways through its code

@@ -1,6 +1,7 @@
 -- Stretches of a scratch array: the numbers from one place up to another. Reading is total, so no bound on the array is asked.
 use mathlib.Core.Path.{_≡_, refl, sym, _∙_, ap, ap₂, subst}
 use mathlib.Core.List.{List, [], _∷_, _++_, map, IsChain, IsChain·nil, IsChain·singleton, IsChain·cons-cons}
+use mathlib.Core.List.{List·Memᴰ, List·Memᴰ·head, List·Memᴰ·tail}
 use Prim.Native.Nat.{ℕ, zero, suc, _+_, _-_, _≤_, _<_}
 use native.Mathlib.Decide.{ℕ-discrete}
 use native.Mathlib.Numerals.{add-one}
@@ -52,6 +53,14 @@ stretch-add xs a (suc m) n =
     let q : a + suc m ≡ suc a + m = omega arith in
     rw (p, q) (ap (λ (zs : List ℕ). getD xs a 0 ∷ zs) (stretch-add xs (suc a) m n))
 
+-- the number at a place of the stretch is one of the stretch
+stretch-mem : (xs : List ℕ) (a n k : ℕ) → k < n → List·Memᴰ (getD xs (a + k) 0) (stretch xs a n)
+unfolding stretch
+stretch-mem xs a zero k h = absurd (omega arith)
+stretch-mem xs a (suc n) zero h = let e : a + 0 ≡ a = omega arith in List·Memᴰ·head (ap (λ (i : ℕ). getD xs i 0) e)
+stretch-mem xs a (suc n) (suc k) h = List·Memᴰ·tail (let e : suc a + k ≡ a + suc k = omega arith in
+    subst (λ (i : ℕ). List·Memᴰ (getD xs i 0) (stretch xs (suc a) n)) e (stretch-mem xs (suc a) n k (omega arith)))
+
 -- ---- by both ends
 
 module _ (xs : List ℕ) where
@@ -78,6 +87,10 @@ module _ (xs : List ℕ) where
 
   pub span-one : (a : ℕ) → span xs a (suc a) ≡ getD xs a 0 ∷ []
   span-one a = span-cons a (suc a) (omega arith) ∙ ap (λ (zs : List ℕ). getD xs a 0 ∷ zs) (span-none (suc a) (suc a) (omega arith))
+
+pub span-mem : (xs : List ℕ) (a b i : ℕ) → a ≤ i → i < b → List·Memᴰ (getD xs i 0) (span xs a b)
+span-mem xs a b i h k = let e : a + (i - a) ≡ i = omega arith in
+    subst (λ (n : ℕ). List·Memᴰ (getD xs n 0) (span xs a b)) e (stretch-mem xs a (b - a) (i - a) (omega arith))
 
 -- two arrays that agree there
 pub span-same : (xs ys : List ℕ) (a b : ℕ) → ((i : ℕ) → a ≤ i → i < b → getD xs i 0 ≡ getD ys i 0) → span xs a b ≡ span ys a b

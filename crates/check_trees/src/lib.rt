@@ -104,8 +104,8 @@ fn cover(part: &[i64], tree: u8, x: u32, scratch: &[u32; SCRATCH], a: Filled, b:
     }
 }
 
-// Walks the tree whose root is node `x` and writes its leaves' slots from place `at` on. `tree` is 0 for pieces, 1 for offers, 2 for
-// numbers; `limit` bounds the tree's height.
+// Walks the tree whose root is node `x` and writes its leaves' slots from place `at` on. `tree` is one of
+// `table`'s; `limit` bounds the tree's height.
 pub fn fill(
     part: &[i64],
     tree: u8,
@@ -192,7 +192,7 @@ pub fn shift(scratch: &mut [u32; SCRATCH], to: usize, from: usize, count: usize)
 }
 
 // A field falls from one slot to another.
-fn falls(part: &[i64], field: usize, a: u32, b: u32) -> bool
+pub fn falls(part: &[i64], field: usize, a: u32, b: u32) -> bool
     ensures { λ r. ⌜ r ≡ ltZ (cell (now (part .entry)) field b) (cell (now (part .entry)) field a) ⌝ }
 {
     table::is_above(part, field, a, table::get(part, field, b))

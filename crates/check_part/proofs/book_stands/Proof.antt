@@ -3,7 +3,7 @@ use native.Mathlib.Omega.{arith}
 use borrow.Author.Tests.{not-true, not-false}
 use Rattle.table.specs.Fields.{liveCountWord, mostSlots}
 use Rattle.table.specs.Words.{word, upTo-most}
-use Rattle.check_part.specs.Audits.{audits-no-slot, audits-no-free, audits-no-offers, audits-all}
+use Rattle.check_part.specs.Audits.{audits-no-slot, audits-no-free, audits-no-offers, audits-no-order, audits-all}
 use borrow.Author.Needs.{needs}
 use Rattle.check_part.proofs.book_stands.Statement.{statement}
 use Rattle.check_part.proofs.book_stands.Tie as tie
@@ -28,32 +28,57 @@ offers-requires c κs = search needs
 
 returns-3 : tie.Need-returns-3
 returns-3 c =
-    let at-offers = c .before in
+    let at-offers = c .before .before in
     let at-free-slots = at-offers .before .before .before in
     let at-number-at = at-free-slots .before in
     audits-no-offers (at-number-at .number-at .ensures) (at-free-slots .free-slots .ensures) (at-offers .offers .ensures) (not-true _ (c .if3 .taken))
+
+order-requires : tie.Need-order-requires
+order-requires c κs =
+    let at-if3 = c .before in
+    let at-offers = at-if3 .before .before in
+    let at-number-at = at-offers .before .before .before .before in
+    let entry = at-number-at .before .before .before in (
+      search needs,
+      at-offers .offers .ensures .inside (not-false _ (at-if3 .if3 .left)),
+      omega (arith, at-number-at .number-at .ensures, upTo-most mostSlots (word (entry .args .part .now) liveCountWord)),
+    )
+
+returns-4 : tie.Need-returns-4
+returns-4 c =
+    let at-order = c .before in
+    let at-if3 = at-order .before .before in
+    let at-offers = at-if3 .before .before in
+    let at-free-slots = at-offers .before .before .before in
+    let at-number-at = at-free-slots .before in
+    audits-no-order (at-number-at .number-at .ensures) (at-free-slots .free-slots .ensures) (at-offers .offers .ensures) (not-false _ (at-if3 .if3 .left))
+    (at-order .order .ensures) (not-true _ (c .if4 .taken))
 
 cast-numbers : tie.Need-cast-numbers
 cast-numbers c = search needs
 
 numbers-requires : tie.Need-numbers-requires
 numbers-requires c κs =
-    let at-scratch = c .before .before .before in
-    let at-number-at = at-scratch .before .before .before in
+    let at-order = c .before .before in
+    let at-offers = at-order .before .before .before .before in
+    let at-number-at = at-offers .before .before .before .before in
     let entry = at-number-at .before .before .before in
     (search needs, omega (arith, at-number-at .number-at .ensures, upTo-most mostSlots (word (entry .args .part .now) liveCountWord)))
 
-returns-4 : tie.Need-returns-4
-returns-4 c =
-    let at-if3 = c .before .before in
-    let at-offers = at-if3 .before in
+returns-5 : tie.Need-returns-5
+returns-5 c =
+    let at-if4 = c .before .before in
+    let at-order = at-if4 .before in
+    let at-if3 = at-order .before .before in
+    let at-offers = at-if3 .before .before in
     let at-if2 = at-offers .before .before in
     let at-free-slots = at-if2 .before in
     let at-number-at = at-free-slots .before in
     let at-if1 = at-number-at .before in
     let at-capacity = at-if1 .before in
-    audits-all (at-number-at .number-at .ensures) (at-free-slots .free-slots .ensures) (at-offers .offers .ensures) (at-capacity .capacity .ensures)
-    (λ h. omega (arith, h, at-if1 .if1 .left)) (not-false _ (at-if2 .if2 .left)) (not-false _ (at-if3 .if3 .left)) (c .numbers .ensures)
+    audits-all (at-number-at .number-at .ensures) (at-free-slots .free-slots .ensures) (at-offers .offers .ensures) (not-false _ (at-if3 .if3 .left))
+    (at-order .order .ensures) (at-capacity .capacity .ensures) (λ h. omega (arith, h, at-if1 .if1 .left)) (not-false _ (at-if2 .if2 .left))
+    (not-false _ (at-if4 .if4 .left)) (c .numbers .ensures)
 
 pub book-stands-spec : {M : Type 1} → statement M
 book-stands-spec =
@@ -66,6 +91,8 @@ book-stands-spec =
     returns-2
     offers-requires
     returns-3
+    order-requires
+    returns-4
     cast-numbers
     numbers-requires
-    returns-4)
+    returns-5)
