@@ -18,7 +18,7 @@ use Rattle.table.specs.Fields.{envelopeRootWord, mostNodes}
 use Rattle.table.specs.Words.{Words, word, upTo, upTo-in}
 use Rattle.table.specs.Items.{Item, offerOf}
 use Rattle.pieces.specs.Pieces.{items}
-use Rattle.form.specs.Form.{Book, numberOf, plainOffers}
+use Rattle.form.specs.Form.{Book, numberOf}
 use Rattle.promises.specs.declared.Update.{Update}
 use Rattle.promises.specs.declared.Update.the-variants.{Done, Declined as UpdateDeclined}
 use Rattle.promises.specs.declared.Found.{Found}
@@ -97,8 +97,8 @@ module _ {start : ℕ} {t : List ℤ} (plain : State) (held : Option (Held Item)
       p .number ∙ listed-number (p .listed) out′ _ (numbered plain (listing (length out))) (p .lists .answers plain held book)
 
   pub marked-plainly : {index : ℤ} {mark mark′ : List Float} {r : ℤ} → MarkAsked start t index mark mark′ r → 2 ≤ length mark
-      → (r ≡ markNumber (plainMark (plainOffers held) index .number) (plainMark (plainOffers held) index .values))
-      × (mark′ ≡ over (plainMark (plainOffers held) index .values) mark)
+      → (r ≡ markNumber (plainMark (plain .offers) index .number) (plainMark (plain .offers) index .values))
+      × (mark′ ≡ over (plainMark (plain .offers) index .values) mark)
   marked-plainly {mark} p h =
       let q = p .long h in
       let e = q .1 .answers plain held book in
@@ -115,9 +115,9 @@ vouchered-plainly price {units} p h =
 -- ---- the meeting of two books
 
 -- u's offer, and behind it v's, the steps and the heights, of the meeting that is there
-pub record MetAt (held held′ : Option (Held Item)) (out out′ : List ℤ) (r : ℤ) : Type 0 where
+pub record MetAt (plain plain′ : State) (held held′ : Option (Held Item)) (out out′ : List ℤ) (r : ℤ) : Type 0 where
   pub m : Met
-  pub found : MeetsAt held held′ m
+  pub found : MeetsAt plain plain′ held held′ m
   pub number : r ≡ numberOf (found .bridged .u)
   pub words :
       out′ ≡ numberOf (found .bridged .v) ∷ pos (meet items (found .left) (found .right) .steps) ∷ pos (height (found .left)) ∷ pos (height (found .right))
@@ -126,13 +126,13 @@ pub record MetAt (held held′ : Option (Held Item)) (out out′ : List ℤ) (r 
 module _ {t t′ : List ℤ} {start start′ : ℕ} (plain plain′ : State) (held held′ : Option (Held Item))
     (book : Book (partOf t start) plain held) (book′ : Book (partOf t′ start′) plain′ held′)
     {out out′ : List ℤ} {r : ℤ} (p : MetBooks t start t′ start′ out out′ r) (room : 4 ≤ length out) where
-  pub met-declined : (z : Cause) → FirstOf (meetTrials (plainOffers held) (plainOffers held′)) z → (r ≡ negℤ (pos (causeNumber z))) × (out′ ≡ out)
+  pub met-declined : (z : Cause) → FirstOf (meetTrials (plain .offers) (plain′ .offers)) z → (r ≡ negℤ (pos (causeNumber z))) × (out′ ≡ out)
   met-declined z f =
       let q = p .long room in
       let e = q .1 .answers plain plain′ held held′ book book′ .declined z f in
       (q .2 .number ∙ ap meetNumber e, q .2 .words ∙ ap (λ x. over (metOf x) out) e)
 
-  pub met-plainly : Clear (meetTrials (plainOffers held) (plainOffers held′)) → MetAt held held′ out out′ r
+  pub met-plainly : Clear (meetTrials (plain .offers) (plain′ .offers)) → MetAt plain plain′ held held′ out out′ r
   met-plainly k =
       let q = p .long room in
       let f = q .1 .answers plain plain′ held held′ book book′ .accepted k in
@@ -153,7 +153,7 @@ place-is p (a ∷ b ∷ []) = refl
 place-is p (a ∷ b ∷ d ∷ ws) = refl
 
 -- as many pieces as are listed
-many : {w : Words} {plain : State} {held : Option (Held Item)} → Book w plain held → length (envelope (plainOffers held)) ≡ length (rootPieces held)
+many : {w : Words} {plain : State} {held : Option (Held Item)} → Book w plain held → length (envelope (plain .offers)) ≡ length (rootPieces held)
 many {held} book = ap length (listed-is book) ∙ length-map (rootPieces held) offerOf
 
 -- so it stands at a place before piece n
@@ -164,10 +164,10 @@ record Stands (start : ℕ) (t : List ℤ) (n : ℕ) (r : ℤ) : Type 0 where
   before : Before (partOf t start) n place
 
 module _ {start : ℕ} {t : List ℤ} (plain : State) (held : Option (Held Item)) (book : Book (partOf t start) plain held) where
-  stood : (n m place : ℕ) {r : ℤ} → place ≤ 4_294_967_295 → r ≡ placeNumber place (listedAt (plainOffers held) m) → Before (partOf t start) n place →
+  stood : (n m place : ℕ) {r : ℤ} → place ≤ 4_294_967_295 → r ≡ placeNumber place (listedAt (plain .offers) m) → Before (partOf t start) n place →
       Stands start t n r
   stood n m place h e b =
-      let k = e ∙ place-is place (take 3 (drop (3 * m) (pieceWords (envelope (plainOffers held))))) in
+      let k = e ∙ place-is place (take 3 (drop (3 * m) (pieceWords (envelope (plain .offers))))) in
       record { place = place; number = k; back = ap placeOf k ∙ upTo-in 4_294_967_295 place h; before = b }
 
   stands : {n : ℕ} {r : ℤ} → ReadTo start t n r → Stands start t n r
@@ -185,7 +185,7 @@ module _ {start : ℕ} {t : List ℤ} (plain : State) (held : Option (Held Item)
 
   -- after n steps the next writes the n-th three words of the plain listing, and none past the last
   pub piece-plainly : {n : ℕ} {r r′ : ℤ} {out out′ : List ℤ} → ReadTo start t n r → Pieced start t r out out′ r′ → 3 ≤ length out
-      → out′ ≡ over (pieceOf (listedAt (plainOffers held) n)) out
+      → out′ ≡ over (pieceOf (listedAt (plain .offers) n)) out
   piece-plainly {n} {out} m p h =
       let k = stands m in
       let q = p .long h in
@@ -193,14 +193,14 @@ module _ {start : ℕ} {t : List ℤ} (plain : State) (held : Option (Held Item)
       q .2 .words ∙ ap (λ x. over (pieceOf x) out) (j .hands .answers n (k .before) plain held book)
 
   -- the place is 0 past the last piece, and there alone
-  pub place-ends : {n : ℕ} {r : ℤ} → ReadTo start t n r → length (envelope (plainOffers held)) ≤ n → r ≡ pos 0
+  pub place-ends : {n : ℕ} {r : ℤ} → ReadTo start t n r → length (envelope (plain .offers)) ≤ n → r ≡ pos 0
   place-ends {n} m h = let k = stands m in go (k .number) (k .before .stands plain held book)
     where
       go : {p : ℕ} {r : ℤ} → r ≡ pos p → PlaceOf (rootPieces held) n p → r ≡ pos 0
       go e (at-piece k) = absurd (omega (arith, h, many book, ap length (k .split), length-append (k .seen) (k .here ∷ k .ahead), k .count))
       go e (past-last l d) = e ∙ ap pos d
 
-  pub place-goes-on : {n : ℕ} {r : ℤ} → ReadTo start t n r → r ≡ pos 0 → length (envelope (plainOffers held)) ≤ n
+  pub place-goes-on : {n : ℕ} {r : ℤ} → ReadTo start t n r → r ≡ pos 0 → length (envelope (plain .offers)) ≤ n
   place-goes-on {n} m e =
       let k = stands m in
       let z : k .place ≡ 0 = sym (k .back) ∙ ap placeOf e ∙ upTo-in 4_294_967_295 0 (omega arith) in

@@ -42,7 +42,7 @@ use Rattle.promises.specs.Promises.{partOf, tableTrials, foundTold, foundAnswer
 use Rattle.promises.specs.Plainly.{table-declined}
 use Rattle.promises.specs.LentPart.{whole-part}
 use Rattle.promises.specs.OneCause.{one-cause, not-clear}
-use Rattle.form.specs.Live.{live-length, book-sound}
+use Rattle.form.specs.Live.{live-length, book-sound, first-offers, no-offers}
 use Rattle.form.specs.HeaderWords.{count-read, envelope-read}
 
 -- a load in range, on words that stand for a plain book
@@ -81,7 +81,7 @@ module _ (plain : State) {q : ℤ} {w : Words} {root slot other probes : ℕ} {n
     reached t e = (
       ap (λ (z : ℤ). found z price second) number-is ∙ ap (λ (z : ℤ). found (a .offer .number) z second) price-is
           ∙ ap (found (a .offer .number) (priceAt (a .offer) q)) second-is
-          ∙ sym (lookup-plain t plain q (book-sound b) (sym (b .stands-for)) (env t e) range),
+          ∙ sym (lookup-plain t plain q (book-sound b) (first-offers b) (env t e) range),
       (t, a, probes, e, subst (λ (d : ℕ). LeafAt a d t) (sym (got .depth)) (walk-leaf q none t), sym number-is, refl),
     )
       where
@@ -123,7 +123,7 @@ module _ (plain : State) {q : ℤ} {w : Words} {root slot other probes : ℕ} {n
 
   pub answered : {n : ℕ} → n ≡ upTo mostNodes (word w liveCountWord) → 1 ≤ n → (held : Option (Held Item)) → Book w plain held →
       Answered q number price second plain probes held
-  answered e h none b = absurd (omega (arith, e, h, count-read b))
+  answered e h none b = absurd (omega (arith, e, h, count-read b, live-length b, ap length (no-offers b refl)))
   answered e h (some g) b = some-piece g b (g .whole) refl
 
 pub asks-found : {q : ℤ} {w : Words} {n root slot other probes : ℕ} {number price second : ℤ} → n ≡ upTo mostNodes (word w liveCountWord) → 1 ≤ n →

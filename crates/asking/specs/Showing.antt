@@ -9,14 +9,13 @@ use lib.ListN.{length, take, drop, length-map}
 use lib.Seq.{take-at, drop-at}
 use lib.IntN.{ℤ, pos}
 use Rattle.lists.specs.Bools.{said, denied}
-use Rattle.envelopes.specs.Envelope.{Ordered, Ordered·nil}
+use Rattle.envelopes.specs.Envelope.{Ordered·nil}
 use Rattle.envelopes.specs.Small.{env-nil}
 use Rattle.plain.specs.Causes.{noBook, FirstOf, at-once}
 use Rattle.plain.specs.Book.{State, listing, Outcome, listed, refused, pieceWords, noBookAt, step}
 use Rattle.plain.specs.Rules.{words-length}
 use Rattle.trees.specs.Tree.{leaves}
 use Rattle.dynamic.specs.OfferTree.{Held}
-use Rattle.dynamic.specs.Valid.{bookLines}
 use Rattle.table.specs.Fields.{capacityWord, envelopeRootWord, mostNodes}
 use Rattle.table.specs.Words.{Words, word, upTo}
 use Rattle.table.specs.Items.{Item}
@@ -25,7 +24,7 @@ use Rattle.form.specs.Form.{Book}
 use Rattle.query.specs.Plain.{offerOf, listing-plain, listing-short}
 use Rattle.listing.specs.Listing.{Written}
 use Rattle.promises.specs.Promises.{partOf, tableTrials, listingAnswer, writtenWords, Lists}
-use Rattle.form.specs.Live.{live-whole, whole-ordered}
+use Rattle.form.specs.Live.{first-offers, lines-ordered}
 use Rattle.promises.specs.Plainly.{table-declined}
 use Rattle.promises.specs.LentPart.{whole-part}
 use Rattle.promises.specs.Rooted.{Root, bare, topped, root-of}
@@ -65,9 +64,6 @@ module _ {n : ℕ} {out out′ : List ℤ} {es : List Item} (l : Laid n out out�
 pieces-declined : {m z : ℤ} → Pieces m ≡ Declined z → ⊥
 pieces-declined e = let x : _≡_ {A = ℕ} 0 1 = cc in omega arith
 
-book-ordered : {w : Words} {plain : State} {held : Option (Held Item)} → Book w plain held → Ordered items (bookLines held)
-book-ordered {w} {held = held} b = whole-ordered held (live-whole w held (b .offers .offers-in))
-
 module _ {w : Words} {root n : ℕ} {out out′ : List ℤ} (e : root ≡ upTo mostNodes (word w envelopeRootWord)) (k : Written w root out out′ n) where
   -- too short an output
   pub shown-short : length out < 3 * n → Shown w out out′ (Declined (pos 10))
@@ -81,7 +77,7 @@ module _ {w : Words} {root n : ℕ} {out out′ : List ℤ} (e : root ≡ upTo m
     where
       go : (plain : State) {held : Option (Held Item)} → Book w plain held → Root w root held → refused 10 ≡ step plain (listing (length out)) .answer
       go plain b (bare z) = absurd (omega (arith, k .counted .none z))
-      go plain b (topped t f p) = sym (listing-short plain (sym (b .stands-for)) (book-ordered b) (p .env) (length out)
+      go plain b (topped t f p) = sym (listing-short plain (first-offers b) (lines-ordered b) (p .env) (length out)
           (omega (arith, k .counted .is t (p .pieces) (p .balanced))))
 
   -- every piece
@@ -99,11 +95,11 @@ module _ {w : Words} {root n : ℕ} {out out′ : List ℤ} (e : root ≡ upTo m
 
       go : (plain : State) {held : Option (Held Item)} → Book w plain held → Root w root held →
           listed n (take (3 * n) out′) ≡ step plain (listing (length out)) .answer
-      go plain b (bare z) = laid-answer (nothing z) ∙ sym (listing-plain {ls = []} {es = []} plain (sym (b .stands-for)) Ordered·nil (env-nil items)
+      go plain b (bare z) = laid-answer (nothing z) ∙ sym (listing-plain {ls = []} {es = []} plain (first-offers b) Ordered·nil (env-nil items)
           (length out) (omega arith))
       go plain b (topped t f p) =
           let l : Laid n out out′ (leaves t) = record { count = k .counted .is t (p .pieces) (p .balanced); words = k .words t (p .pieces) (p .balanced) h } in
-          laid-answer l ∙ sym (listing-plain plain (sym (b .stands-for)) (book-ordered b) (p .env) (length out) (omega (arith, l .count)))
+          laid-answer l ∙ sym (listing-plain plain (first-offers b) (lines-ordered b) (p .env) (length out) (omega (arith, l .count)))
 
       behind : {held : Option (Held Item)} → Root w root held → drop (length (take (3 * n) out′)) out′ ≡ drop (length (take (3 * n) out′)) out
       behind (bare z) = laid-later {es = []} (nothing z)

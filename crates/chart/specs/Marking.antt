@@ -33,11 +33,11 @@ use Rattle.walks.specs.ItemLines.{Falls}
 use Rattle.prices.specs.Prices.{rateAt, numeratorAt, denominatorAt, crossingPriceAt}
 use Rattle.walks.specs.SearchedPieces.{read-rate, read-price, read-numerator, read-denominator}
 use Rattle.pieces.specs.Pieces.{items}
-use Rattle.form.specs.Form.{Book, plainOffers}
+use Rattle.form.specs.Form.{Book}
 use Rattle.query.specs.QueriedPieces.{Pieces}
 use Rattle.query.specs.Plain.{offerOf, pieces-plain}
 use Rattle.listing.specs.PieceCounts.{Counted, Passed}
-use Rattle.form.specs.Live.{live-whole, whole-ordered}
+use Rattle.form.specs.Live.{book-sound, first-offers, lines-ordered, lines-few, no-offers}
 use Rattle.promises.specs.Promises.{partOf}
 use Rattle.promises.specs.LentPart.{whole-part, no-form, no-book-cause}
 use Rattle.promises.specs.OneCause.{not-clear}
@@ -45,11 +45,11 @@ use Rattle.promises.specs.Rooted.{Root, bare, topped, Top, root-of}
 use Rattle.chart.specs.declared.Marked.{Marked}
 use Rattle.chart.specs.declared.Marked.the-variants.{Declined}
 use Rattle.chart.specs.Promises.{marksBehind, marks, refusal, markTrials, markOf, plainMark, told, Marks}
-use Rattle.chart.specs.Rounded.{part-exact}
+use Rattle.chart.specs.Rounded.{sound-exact}
 use Rattle.chart.specs.ChartWalks.{SlotOf}
 
 pub record PartMark (w : Words) (index : ℤ) (r : Marked) : Type 0 where
-  pub answers : (s : State) (held : Option (Held Item)) → Book w s held → told r ≡ plainMark (plainOffers held) index
+  pub answers : (s : State) (held : Option (Held Item)) → Book w s held → told r ≡ plainMark (s .offers) index
 
 -- the crossing that a slot keeps
 abbrev pub crossingAt : Words → ℕ → Told
@@ -165,81 +165,81 @@ module _ {w : Words} {root s n : ℕ} {t : Tree Item} (p : Pieces w root t) (k :
 module _ {w : Words} {root m : ℕ} (er : root ≡ upTo mostNodes (word w envelopeRootWord)) (k : Counted w root m) where
   -- cause 9
   pub part-empty : (index : ℤ) → m < 1 → PartMark w index (Declined (pos 9))
-  part-empty index h = record { answers = λ s held b. go (root-of b er) }
+  part-empty index h = record { answers = λ s held b. go b (root-of b er) }
     where
-      go : {held : Option (Held Item)} → Root w root held → refusal bookEmpty ≡ plainMark (plainOffers held) index
-      go (bare z) = refl
-      go (topped t f p) = absurd (omega (arith, h, k .is t (p .pieces) (p .balanced), some-leaf t))
+      go : {s : State} {held : Option (Held Item)} → Book w s held → Root w root held → refusal bookEmpty ≡ plainMark (s .offers) index
+      go b (bare z) = ap (λ (os : List Offer). plainMark os index) (sym (no-offers b refl))
+      go b (topped t f p) = absurd (omega (arith, h, k .is t (p .pieces) (p .balanced), some-leaf t))
 
   -- what the code knows of a book that has a piece
-  record Topped (h : Held Item) : Type 0 where
+  record Topped (os : List Offer) (h : Held Item) : Type 0 where
     tree : Tree Item
     top : Top w root (leaves (heldShape h)) tree
-    shown : envelope (plainOffers (some h)) ≡ map offerOf (leaves tree)
-    many : length (envelope (plainOffers (some h))) ≡ m
+    shown : envelope os ≡ map offerOf (leaves tree)
+    many : length (envelope os) ≡ m
     ordered : Ordered items (leaves tree)
-    live : T (not (leb (length (plainOffers (some h))) 0))
+    live : T (not (leb (length os) 0))
 
-  top-of : {s : State} {h : Held Item} → Book w s (some h) → (t : Tree Item) → Top w root (leaves (heldShape h)) t → Topped h
+  top-of : {s : State} {h : Held Item} → Book w s (some h) → (t : Tree Item) → Top w root (leaves (heldShape h)) t → Topped (s .offers) h
   top-of {s} {h} b t p =
       record {
         tree = t;
         top = p;
         shown = shown;
         many = ap length shown ∙ length-map (leaves t) offerOf ∙ sym (k .is t (p .pieces) (p .balanced));
-        ordered = ordered-sublist items (p .env .sub) (whole-ordered (some h) (live-whole w (some h) (b .offers .offers-in)));
-        live = lt→nleb (length (plainOffers (some h))) 0 (omega (arith, length-map (bookLines (some h)) offerOf, some-leaf (heldShape h)));
+        ordered = ordered-sublist items (p .env .sub) (lines-ordered b);
+        live = lt→nleb (length (s .offers)) 0 (omega (arith, lines-few b, some-leaf (heldShape h)));
       }
     where
-      shown : envelope (plainOffers (some h)) ≡ map offerOf (leaves t)
-      shown = sym (pieces-plain (bookLines (some h)) (leaves t) (whole-ordered (some h) (live-whole w (some h) (b .offers .offers-in))) (p .env))
+      shown : envelope (s .offers) ≡ map offerOf (leaves t)
+      shown = sym (pieces-plain (bookLines (some h)) (leaves t) (s .offers) (first-offers b) (lines-ordered b) (p .env))
 
-  at-tree : {h : Held Item} (q : Topped h) → m ≡ length (leaves (q .tree))
+  at-tree : {os : List Offer} {h : Held Item} (q : Topped os h) → m ≡ length (leaves (q .tree))
   at-tree q = k .is (q .tree) (q .top .pieces) (q .top .balanced)
 
   -- an answer about a book with a piece
-  by-top : {index : ℤ} {r : Marked} → 1 ≤ m → ((h : Held Item) → Topped h → told r ≡ plainMark (plainOffers (some h)) index) → PartMark w index r
+  by-top : {index : ℤ} {r : Marked} → 1 ≤ m → ((os : List Offer) (h : Held Item) → Topped os h → told r ≡ plainMark os index) → PartMark w index r
   by-top {index} {r} some-of-it f = record { answers = λ s held b. go b (root-of b er) }
     where
-      go : {s : State} {held : Option (Held Item)} → Book w s held → Root w root held → told r ≡ plainMark (plainOffers held) index
+      go : {s : State} {held : Option (Held Item)} → Book w s held → Root w root held → told r ≡ plainMark (s .offers) index
       go b (bare z) = absurd (omega (arith, some-of-it, k .none z))
-      go b (topped {h} t e p) = f h (top-of b t p)
+      go {s} b (topped {h} t e p) = f (s .offers) h (top-of b t p)
 
   -- cause 13
   pub part-outside : (index : ℤ) → 1 ≤ m → T (not (between (pos 0) (pos m) index)) → PartMark w index (Declined (pos 13))
   part-outside index h o =
-      by-top h (λ g q. sym (ap (markOf (plainOffers (some g)) index) (declined-by (markTrials (plainOffers (some g)) index) noSuchMark
+      by-top h (λ os g q. sym (ap (markOf os index) (declined-by (markTrials os index) noSuchMark
       (further (q .live) (at-once (subst (λ (n : ℕ). T (not (between (pos 0) (pos n) index))) (sym (q .many)) o))))))
 
   -- a mark that is there
-  accepted : (n : ℕ) → n ≤ m → (h : Held Item) (q : Topped h) →
-      getD (marks (offers-of (leaves (q .tree)))) n (refusal noSuchMark) ≡ plainMark (plainOffers (some h)) (pos n)
+  accepted : (n : ℕ) → n ≤ m → {os : List Offer} {h : Held Item} (q : Topped os h) →
+      getD (marks (offers-of (leaves (q .tree)))) n (refusal noSuchMark) ≡ plainMark os (pos n)
   unfolding offers-of
-  accepted n l h q =
+  accepted n l {os} q =
       ap (λ (es : List Offer). getD (marks es) n (refusal noSuchMark)) (sym (q .shown))
-      ∙ sym (ap (markOf (plainOffers (some h)) (pos n)) (not-declined (markTrials (plainOffers (some h)) (pos n)) (
+      ∙ sym (ap (markOf os (pos n)) (not-declined (markTrials os (pos n)) (
         q .live,
         (
-          not-T (not (between (pos 0) (pos (length (envelope (plainOffers (some h))))) (pos n)))
-              (λ t. T-not (between (pos 0) (pos (length (envelope (plainOffers (some h))))) (pos n)) t inside),
+          not-T (not (between (pos 0) (pos (length (envelope os))) (pos n)))
+              (λ t. T-not (between (pos 0) (pos (length (envelope os))) (pos n)) t inside),
           tt,
         ),
       )))
     where
-      inside : T (between (pos 0) (pos (length (envelope (plainOffers (some h))))) (pos n))
-      inside = and-both (leZ (pos 0) (pos n)) (leZ (pos n) (pos (length (envelope (plainOffers (some h)))))) (omega (arith, intRules))
+      inside : T (between (pos 0) (pos (length (envelope os))) (pos n))
+      inside = and-both (leZ (pos 0) (pos n)) (leZ (pos n) (pos (length (envelope os)))) (omega (arith, intRules))
           (omega (arith, intRules, q .many))
 
   module _ {s : ℕ} (f : 1 ≤ m) where
     -- mark 0
     pub part-first : {r : Marked} → SlotOf w root 0 s → told r ≡ openEnd (rateAt w s) → PartMark w (pos 0) r
     part-first h e =
-        by-top f (λ g q.
+        by-top f (λ os g q.
         let a = h .is (q .tree) (q .top .pieces) (q .top .balanced) (omega (arith, f, at-tree q)) in
-        e ∙ ap openEnd (rate-here (q .top .pieces) a) ∙ sym (mark-first a refl (refusal noSuchMark)) ∙ accepted 0 (omega arith) g q)
+        e ∙ ap openEnd (rate-here (q .top .pieces) a) ∙ sym (mark-first a refl (refusal noSuchMark)) ∙ accepted 0 (omega arith) q)
 
     module _ (i : ℕ) (low : 1 ≤ i) (h : SlotOf w root (i - 1) s) where
-      here-of : i ≤ m → {g : Held Item} (q : Topped g) → Passed s i (leaves (q .tree))
+      here-of : i ≤ m → {os : List Offer} {g : Held Item} (q : Topped os g) → Passed s i (leaves (q .tree))
       here-of l q =
           let e : i - 1 + 1 ≡ i = omega arith in
           subst (λ (n : ℕ). Passed s n (leaves (q .tree))) e (h .is (q .tree) (q .top .pieces) (q .top .balanced) (omega (arith, low, l, at-tree q)))
@@ -247,17 +247,17 @@ module _ {w : Words} {root m : ℕ} (er : root ≡ upTo mostNodes (word w envelo
       -- mark m
       pub part-last : {r : Marked} → i ≡ m → told r ≡ openEnd (rateAt w s) → PartMark w (pos i) r
       part-last d e =
-          by-top f (λ g q.
+          by-top f (λ os g q.
           let a = here-of (omega arith) q in
-          e ∙ ap openEnd (rate-here (q .top .pieces) a) ∙ sym (mark-last a (d ∙ at-tree q) (refusal noSuchMark)) ∙ accepted i (omega arith) g q)
+          e ∙ ap openEnd (rate-here (q .top .pieces) a) ∙ sym (mark-last a (d ∙ at-tree q) (refusal noSuchMark)) ∙ accepted i (omega arith) q)
 
       -- a mark between
       pub part-inner : {r : Marked} → i < m → told r ≡ crossingAt w s → PartMark w (pos i) r
       part-inner d e =
-          by-top f (λ g q.
+          by-top f (λ os g q.
           let a = here-of (omega arith) q in
           let n = seen-inner a (omega (arith, d, at-tree q)) in
-          e ∙ crossing-here (q .top .pieces) a (q .ordered) n ∙ sym (mark-inner a n (refusal noSuchMark)) ∙ accepted i (omega arith) g q)
+          e ∙ crossing-here (q .top .pieces) a (q .ordered) n ∙ sym (mark-inner a n (refusal noSuchMark)) ∙ accepted i (omega arith) q)
 
 -- ---- the index
 
@@ -296,5 +296,5 @@ module _ (start : ℕ) (t : List ℤ) (index : ℤ) {no : Bool} (e : no ≡ noBo
       record {
         declined = λ z f. absurd (not-clear f (denied e d, tt));
         answers = here .answers;
-        rounded = λ s held b. part-exact b;
+        rounded = λ s held b. sound-exact s (book-sound b);
       }

@@ -15,7 +15,7 @@ use Rattle.marks.specs.MarkTold.{Told, told as markTold, openEnd, crossing}
 use Rattle.marks.specs.Crossings.{scaledPrice}
 use Rattle.dynamic.specs.OfferTree.{Held}
 use Rattle.table.specs.Items.{Item}
-use Rattle.form.specs.Form.{Book, plainOffers}
+use Rattle.form.specs.Form.{Book}
 use Rattle.promises.specs.Promises.{partOf, noBookTrial}
 use Rattle.chart.specs.declared.Marked.{Marked}
 use Rattle.chart.specs.declared.Marked.the-variants.{Mark, Declined}
@@ -75,5 +75,5 @@ told (Declined k) = record { number = k; values = [] }
 
 pub record Marks (start : ℕ) (t : List ℤ) (index : ℤ) (r : Marked) : Type 0 where
   pub declined : (z : Cause) → FirstOf (noBookTrial t start ∷ []) z → told r ≡ refusal z
-  pub answers : (s : State) (held : Option (Held Item)) → Book (partOf t start) s held → told r ≡ plainMark (plainOffers held) index
-  pub rounded : (s : State) (held : Option (Held Item)) → Book (partOf t start) s held → Exact (envelope (plainOffers held))
+  pub answers : (s : State) (held : Option (Held Item)) → Book (partOf t start) s held → told r ≡ plainMark (s .offers) index
+  pub rounded : (s : State) (held : Option (Held Item)) → Book (partOf t start) s held → Exact (envelope (s .offers))

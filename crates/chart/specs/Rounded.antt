@@ -1,23 +1,17 @@
 -- The numbers of a sound book's marks are exact as doubles.
-use mathlib.Core.Path.{refl, sym, subst}
-use mathlib.Core.List.{List, [], _∷_, List·Memᴰ, List·Memᴰ·head, List·Memᴰ·tail, Pairwise, Pairwise·of-cons, Pairwise·sublistᴰ, rel-of-pairwise-cons}
-use mathlib.Core.Option.{Option}
+use mathlib.Core.Path.{refl}
+use mathlib.Core.List.{List, [], _∷_, List·Memᴰ, List·Memᴰ·head, List·Memᴰ·tail, Pairwise, Pairwise·of-cons, rel-of-pairwise-cons}
 use native.Mathlib.Omega.{arith}
 use lib.Dec.{T}
-use Rattle.lists.specs.Filter.{keep-sublist}
 use Rattle.lists.specs.Places.{sublist-mem}
 use Rattle.integers.specs.Magnitude.{natAbs-within}
 use Rattle.offers.specs.Offers.{Offer, offerInRange, precedes, crossingNumerator, crossingDenominator}
 use Rattle.offers.specs.Sizes.{rate-of, rate-size}
 use Rattle.plain.specs.Book.{State, envelope}
 use Rattle.plain.specs.Sound.{Sound}
+use Rattle.plain.specs.ListingLaws.{envelope-sub, envelope-falls}
 use Rattle.marks.specs.QuotientLaws.{doubled, quotient-is}
 use Rattle.marks.specs.Crossings.{scaledPrice, load-divisible, price-divisible}
-use Rattle.dynamic.specs.OfferTree.{Held}
-use Rattle.table.specs.Words.{Words}
-use Rattle.table.specs.Items.{Item}
-use Rattle.form.specs.Form.{Book, plainOffers}
-use Rattle.form.specs.Live.{book-sound}
 use Rattle.chart.specs.Promises.{ExactEnd, ExactCrossing, Exact}
 
 exact-end : (o : Offer) → T (offerInRange o) → ExactEnd o
@@ -43,8 +37,4 @@ exact-all (o ∷ p ∷ es) r f = (
 
 pub sound-exact : (s : State) → Sound s → Exact (envelope (s .offers))
 sound-exact s h =
-    exact-all (envelope (s .offers)) (λ o j. h .ranged o (sublist-mem (keep-sublist _ (s .offers)) j))
-    (Pairwise·sublistᴰ (keep-sublist _ (s .offers)) (h .ordered))
-
-pub part-exact : {w : Words} {s : State} {held : Option (Held Item)} → Book w s held → Exact (envelope (plainOffers held))
-part-exact {s} {held} b = subst (λ (os : List Offer). Exact (envelope os)) (sym (b .stands-for)) (sound-exact s (book-sound b))
+    exact-all (envelope (s .offers)) (λ o j. h .ranged o (sublist-mem (envelope-sub (s .offers)) j)) (envelope-falls (s .offers))

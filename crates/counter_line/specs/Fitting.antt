@@ -7,19 +7,19 @@ use native.Mathlib.Omega.{arith}
 use lib.ListN.{length}
 use lib.Dec.{T, nltb→le}
 use lib.IntN.{ℤ, pos, natAbs}
-use Rattle.lists.specs.Filter.{keep-sublist}
 use Rattle.lists.specs.Places.{sublist-mem}
 use Rattle.lists.specs.Bools.{not-not}
 use Rattle.offers.specs.Offers.{Offer, numberInRange, loadInRange, offerInRange, priceAt, crossingNumerator, crossingDenominator}
 use Rattle.offers.specs.Sizes.{number-of, rate-of, base-of, number-size, number-is, price-at-size, base-gap-size, rate-gap-size}
 use Rattle.plain.specs.Causes.{Cause, declined, causeNumber, capacityOutOfRange, tableTooShort, noBook, numberOutOfRange, rateOutOfRange}
-use Rattle.plain.specs.Causes.{baseOutOfRange, loadOutOfRange, priceOutOfRange, numberLive, rateLive, bookFull, numberNotLive, bookEmpty}
+use Rattle.plain.specs.Causes.{baseOutOfRange, loadOutOfRange, priceOutOfRange, numberLive, bookFull, numberNotLive, bookEmpty}
 use Rattle.plain.specs.Causes.{outputTooShort, unreadableLine, ratesNotApart, noSuchMark}
 use Rattle.plain.specs.Book.{State, Call, post, withdraw, query, listing, refused, live, trials, respond, accepted, step}
 use Rattle.plain.specs.Book.{lower, higher, cheapest, envelope, pieceWords}
 use Rattle.plain.specs.Trials.{clear}
 use Rattle.plain.specs.Sound.{Sound, step-sound}
 use Rattle.plain.specs.QueryLaws.{lower-tie, higher-tie, cheapest-names}
+use Rattle.plain.specs.ListingLaws.{envelope-sub}
 use Rattle.promises.specs.Numbered.{from-one}
 use Rattle.counter_print.specs.Texts.{FitsIn}
 use Rattle.counter_print.specs.Decimals.{fits-column, fits-unsigned}
@@ -38,7 +38,6 @@ few-causes baseOutOfRange = omega arith
 few-causes loadOutOfRange = omega arith
 few-causes priceOutOfRange = omega arith
 few-causes numberLive = omega arith
-few-causes rateLive = omega arith
 few-causes bookFull = omega arith
 few-causes numberNotLive = omega arith
 few-causes bookEmpty = omega arith
@@ -119,4 +118,4 @@ module _ (c : ℕ) (os : List Offer) (small : c ≤ mostSlots) (sound : Sound (r
       go none (listing room) e roomy after =
           let m = nltb→le room (3 * length (envelope os)) (clear (trials s (listing room)) e .0) in
           let n : length (envelope os) ≤ 64 = omega arith in
-          (pieces-fit (envelope os) (λ o i. sound .ranged o (sublist-mem (keep-sublist _ os) i)), count-fits (length (envelope os)) (omega arith), n)
+          (pieces-fit (envelope os) (λ o i. sound .ranged o (sublist-mem (envelope-sub os) i)), count-fits (length (envelope os)) (omega arith), n)

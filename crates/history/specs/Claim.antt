@@ -105,6 +105,7 @@ from-book {start} {t} finished s held same book =
       told = refl;
       low = low-trees (partOf t start) held (book .offers .offers-in);
       low-numbers = log-heightP (book .numbers .numbers) (book .numbers .numbers-in .balanced);
+      low-order = log-heightP (book .order) (book .in-order .order-in .balanced);
       each = refl;
     }
 from-book {c} {start} (next {t} {t₁} {k = k} alike p rest) s held same book =
@@ -119,6 +120,7 @@ from-book {c} {start} (next {t} {t₁} {k = k} alike p rest) s held same book =
           told = λ i. o .told i ∷ r .told i;
           low = r .low;
           low-numbers = r .low-numbers;
+          low-order = r .low-order;
           each = (o .mid, o .kept, r .each);
         }
 

@@ -75,10 +75,11 @@ Low (some h) = LowTree (some (heldShape h)) × ((p : Part Item) → List·Memᴰ
 pub record Claim {c start : ℕ} {t : List ℤ} {ks : List Call} {as′ : List Answer} {t′ : List ℤ} (s : State) (before : Option (Held Item))
     (h : History c start t ks as′ t′) : Type 0 where
   pub held : Option (Held Item)
-  -- the part passes the check, and its leaves hold exactly the plain book's offers, in order
+  -- the part passes the check, and the leaves of its order tree hold exactly the plain book's offers, in order
   pub stands : Book (partOf t′ start) (after s ks) held
   -- refusals' numbers, live counts, prices, offers named, piece counts and words written
   pub told : as′ ≡ answers s ks
   pub low : Low held
   pub low-numbers : LowTree (stands .numbers .numbers)
+  pub low-order : LowTree (stands .order)
   pub each : EachCall s h before held

@@ -1,21 +1,25 @@
--- Two books whose rates stand apart: of offers by falling rate the last of the first book and the first of the second decide for all.
-use mathlib.Core.Path.{_≡_, sym, _∙_, ap, ap₂, subst}
+-- Two books whose rates stand apart: of lines by falling rate the last of the first book and the first of the second decide for all lines, and so for all
+-- live offers.
+use mathlib.Core.Path.{_≡_, refl, sym, _∙_, ap, ap₂, subst}
 use mathlib.Core.Logic.{_⊎_, inl, inr, ⊎-elim}
-use mathlib.Core.Bool.{Bool, true, false, not}
-use mathlib.Core.List.{List, map, List·Memᴰ, List·Memᴰ·append-cases, List·Memᴰ·eq-of-singleton, Memᴰ·map, Memᴰ·of-map}
-use mathlib.Core.Option.{some}
+use mathlib.Core.Bool.{Bool, true, false, not, cond}
+use mathlib.Core.List.{List, [], _∷_, _++_, List·Memᴰ, List·Memᴰ·head, List·Memᴰ·tail, List·Memᴰ·append-cases, List·Memᴰ·eq-of-singleton}
+use mathlib.Core.Option.{Option, some}
 use Prim.Native.Nat.{ℕ}
 use native.Mathlib.Omega.{arith}
 use lib.Dec.{T, T-not}
 use lib.IntN.{ℤ}
 use lib.Signed.{ltZ}
+use Rattle.lists.specs.Filter.{keep, keep-all}
+use Rattle.lists.specs.Firsts.{firsts-sub}
+use Rattle.lists.specs.Places.{sublist-mem}
 use Rattle.lists.specs.Tests.{any, not-any, none-at}
 use Rattle.lists.specs.Bools.{not-failed, twice}
 use Rattle.integers.specs.Parts.{intRules}
-use Rattle.offers.specs.Offers.{Offer}
+use Rattle.offers.specs.Offers.{Offer, precedes}
 use Rattle.envelopes.specs.Envelope.{Ordered}
 use Rattle.envelopes.specs.EnvelopeLaws.{ordered-left, ordered-apart, ordered-pairs}
-use Rattle.plain.specs.Book.{State}
+use Rattle.plain.specs.Book.{State, firstOfEach}
 use Rattle.trees.specs.Tree.{Tree, leaf, node, leaves, first, last}
 use Rattle.trees.specs.Leaves.{first-leaf, last-leaf}
 use Rattle.trees.specs.Order.{up-to-last}
@@ -28,8 +32,8 @@ use Rattle.table.specs.Items.{Item}
 use Rattle.table.specs.Rep.{Rep}
 use Rattle.descents.specs.Ends.{Ended}
 use Rattle.pieces.specs.Pieces.{rateOf, items}
-use Rattle.form.specs.Form.{Book, plainOffers}
-use Rattle.table.specs.Items.{offerOf}
+use Rattle.form.specs.Form.{Book}
+use Rattle.form.specs.Live.{line-offer, line-of-rate}
 use Rattle.form.specs.HeaderWords.{offers-read}
 
 -- every line of the one before every line of the other
@@ -40,7 +44,7 @@ AllBefore ls rs = (a b : Item) → List·Memᴰ a ls → List·Memᴰ b rs → T
 pub record SetsApart (w w′ : Words) (r : Bool) : Type 0 where
   pub apart : r ≡ true → {s s′ : State} {h h′ : Held Item} → Book w s (some h) → Book w′ s′ (some h′) → AllBefore (bookLines (some h)) (bookLines (some h′))
   pub mixed : r ≡ false → {s s′ : State} {h h′ : Held Item} → Book w s (some h) → Book w′ s′ (some h′) →
-      T (any (λ a. any (λ b. not (ltZ (b .rate) (a .rate))) (plainOffers (some h′))) (plainOffers (some h)))
+      T (any (λ a. any (λ b. not (ltZ (b .rate) (a .rate))) (s′ .offers)) (s .offers))
 
 -- ---- the ends decide
 
@@ -60,32 +64,57 @@ ends-decide s t o p h a b m n = go (up-to-last s (ordered-pairs o) m) (from-firs
     go (inr k) (inl e) = subst (λ (x : Item). T (items .before a x)) (sym e) (omega (arith, intRules))
     go (inr k) (inr q) = omega (arith, intRules)
 
+-- ---- the live offers
+
 -- a pair that is not in order is found by the trial
-some-mixed : (ls rs : List Item) {a b : Item} → List·Memᴰ a ls → List·Memᴰ b rs → T (not (items .before a b)) →
-    T (any (λ x. any (λ y. not (ltZ (y .rate) (x .rate))) (map offerOf rs)) (map offerOf ls))
-some-mixed ls rs {a} {b} m n t =
+some-mixed : (os os′ : List Offer) {o p : Offer} → List·Memᴰ o os → List·Memᴰ p os′ → T (not (precedes o p)) →
+    T (any (λ x. any (λ y. not (ltZ (y .rate) (x .rate))) os′) os)
+some-mixed os os′ {o} {p} m n t =
     not-failed (any (λ x. any (λ y. not (ltZ (y .rate) (x .rate))) os′) os)
-    (λ k. T-not (any (λ y. not (ltZ (y .rate) (rateOf a))) os′) (none-at (λ x. any (λ y. not (ltZ (y .rate) (x .rate))) os′) os k (a .offer)
-    (Memᴰ·map offerOf m)) inner)
+    (λ k. T-not (any (λ y. not (ltZ (y .rate) (o .rate))) os′) (none-at (λ x. any (λ y. not (ltZ (y .rate) (x .rate))) os′) os k o m) inner)
   where
-    os : List Offer
-    os = map offerOf ls
+    inner : T (any (λ y. not (ltZ (y .rate) (o .rate))) os′)
+    inner = not-failed (any (λ y. not (ltZ (y .rate) (o .rate))) os′)
+        (λ k. T-not (not (ltZ (p .rate) (o .rate))) (none-at (λ y. not (ltZ (y .rate) (o .rate))) os′ k p n) t)
 
-    os′ : List Offer
-    os′ = map offerOf rs
+-- every offer of the one book has a higher rate than every offer of the other
+abbrev pub AllAbove : (os os′ : List Offer) → Type 0
+AllAbove os os′ = (o p : Offer) → List·Memᴰ o os → List·Memᴰ p os′ → T (precedes o p)
 
-    inner : T (any (λ y. not (ltZ (y .rate) (rateOf a))) os′)
-    inner = not-failed (any (λ y. not (ltZ (y .rate) (rateOf a))) os′)
-        (λ k. T-not (not (ltZ (rateOf b) (rateOf a))) (none-at (λ y. not (ltZ (y .rate) (rateOf a))) os′ k (b .offer) (Memᴰ·map offerOf n)) t)
+-- and where that is so there is no such pair
+pub not-mixed : (os os′ : List Offer) → AllAbove os os′ → T (not (any (λ x. any (λ y. not (ltZ (y .rate) (x .rate))) os′) os))
+not-mixed os os′ h =
+    not-any (λ x. any (λ y. not (ltZ (y .rate) (x .rate))) os′) os
+    (λ o m. not-any (λ y. not (ltZ (y .rate) (o .rate))) os′ (λ p n. twice (ltZ (p .rate) (o .rate)) (h o p m n)))
 
--- and where every line of the one is before every line of the other there is none
-pub not-mixed : (ls rs : List Item) → AllBefore ls rs → T (not (any (λ x. any (λ y. not (ltZ (y .rate) (x .rate))) (map offerOf rs)) (map offerOf ls)))
-not-mixed ls rs h =
-    not-any (λ x. any (λ y. not (ltZ (y .rate) (x .rate))) (map offerOf rs)) (map offerOf ls)
-    (λ o m. not-any (λ y. not (ltZ (y .rate) (o .rate))) (map offerOf rs)
-    (λ p n. let (a, i, d) = Memᴰ·of-map offerOf ls m in let (b, j, e) = Memᴰ·of-map offerOf rs n in
-    twice (ltZ (p .rate) (o .rate)) (subst (λ (z : Offer). T (ltZ (p .rate) (z .rate))) d
-    (subst (λ (z : Offer). T (ltZ (z .rate) (rateOf a))) e (h a b i j)))))
+-- the live offers have the rates of the lines
+pub offers-above : {w w′ : Words} {s s′ : State} {held held′ : Option (Held Item)} → Book w s held → Book w′ s′ held′ →
+    AllBefore (bookLines held) (bookLines held′) → AllAbove (s .offers) (s′ .offers)
+offers-above b b′ h o p m n =
+    let (x, i, d) = line-of-rate b m in
+    let (y, j, e) = line-of-rate b′ n in
+    let k = h x y i j in
+    omega (arith, intRules)
+
+-- ---- the first offers of both books
+
+keep-append : (p : Offer → Bool) (xs ys : List Offer) → keep p (xs ++ ys) ≡ keep p xs ++ keep p ys
+keep-append p [] ys = refl
+keep-append p (x ∷ xs) ys = go (p x) (keep-append p xs ys)
+  where
+    go : (b : Bool) → keep p (xs ++ ys) ≡ keep p xs ++ keep p ys →
+        cond b (x ∷ keep p (xs ++ ys)) (keep p (xs ++ ys)) ≡ cond b (x ∷ keep p xs) (keep p xs) ++ keep p ys
+    go true e = ap {B = List Offer} (λ (r : List Offer). x ∷ r) e
+    go false e = e
+
+-- are those of the one and those of the other
+pub firsts-apart : (os os′ : List Offer) → AllAbove os os′ → firstOfEach (os ++ os′) ≡ firstOfEach os ++ firstOfEach os′
+firsts-apart [] os′ h = refl
+firsts-apart (o ∷ os) os′ h =
+    ap {B = List Offer} (λ (r : List Offer). o ∷ r)
+    (ap (keep (precedes o)) (firsts-apart os os′ (λ x p m n. h x p (List·Memᴰ·tail m) n)) ∙ keep-append (precedes o) (firstOfEach os) (firstOfEach os′)
+    ∙ ap (λ (r : List Offer). keep (precedes o) (firstOfEach os) ++ r)
+    (keep-all (precedes o) (firstOfEach os′) (λ p n. h o p (List·Memᴰ·head refl) (sublist-mem (firsts-sub precedes os′) n))))
 
 -- ---- the ends that the code found
 
@@ -110,8 +139,8 @@ sets-apart {w} {w′} {x} {y} {a} {b} {rate} {r} ex ey ea eb er e =
     record {
       apart = λ d {s} {s′} {h} {h′} p q. ends-decide (heldShape h) (heldShape h′) (p .offers .offers-in .right .ordered)
           (q .offers .offers-in .right .ordered) (subst T (sym d ∙ tested p q) tt);
-      mixed = λ d {s} {s′} {h} {h′} p q. some-mixed (bookLines (some h)) (bookLines (some h′)) (last-leaf (heldShape h)) (first-leaf (heldShape h′))
-          (subst (λ (z : Bool). T (not z)) (sym d ∙ tested p q) tt);
+      mixed = λ d {s} {s′} {h} {h′} p q. some-mixed (s .offers) (s′ .offers) (line-offer p (last-leaf (heldShape h)))
+          (line-offer q (first-leaf (heldShape h′))) (subst (λ (z : Bool). T (not z)) (sym d ∙ tested p q) tt);
     }
   where
     tested : {s s′ : State} {h h′ : Held Item} → Book w s (some h) → Book w′ s′ (some h′) → r ≡ items .before (last (heldShape h)) (first (heldShape h′))

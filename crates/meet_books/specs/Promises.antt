@@ -23,7 +23,7 @@ use Rattle.table.specs.Fields.{capacityWord}
 use Rattle.table.specs.Words.{word}
 use Rattle.table.specs.Items.{Item, offerOf}
 use Rattle.pieces.specs.Pieces.{items}
-use Rattle.form.specs.Form.{Book, numberOf, plainOffers}
+use Rattle.form.specs.Form.{Book, numberOf}
 use Rattle.promises.specs.Promises.{partOf, rootPart}
 use Rattle.meet_books.specs.declared.Met.{Met}
 use Rattle.meet_books.specs.declared.Met.the-variants.{Meeting, Declined}
@@ -57,21 +57,21 @@ meetAnswer (Declined c) = refused c
 -- ---- the promise
 
 -- The machine ends, within 3 × (hl + hr) + 1 steps, at u and v of `bridged`; they, its steps and the heights are the answer. The left
--- pieces up to u and the right ones from v are the envelope of both sets of offers: of the items (`bridged`) and of the plain offers.
-pub record Found (held held′ : Option (Held Item)) (r : Met) : Type 0 where
+-- pieces up to u and the right ones from v are the envelope of both books: of the leaves of their trees (`bridged`) and of all live offers (`plainly`).
+pub record Found (s s′ : State) (held held′ : Option (Held Item)) (r : Met) : Type 0 where
   pub left : Tree Item
   pub right : Tree Item
   pub left-root : rootPart held ≡ some left
   pub right-root : rootPart held′ ≡ some right
   pub bridged : Bridged items (bookLines held) (bookLines held′) left right
   pub answer : meetAnswer r ≡ met (numberOf (bridged .u)) (numberOf (bridged .v)) (pos (meet items left right .steps)) (pos (height left)) (pos (height right))
-  pub plainly : envelope (plainOffers held ++ plainOffers held′) ≡ map offerOf (bridged .upTo ++ bridged .u ∷ bridged .v ∷ bridged .from)
+  pub plainly : envelope (s .offers ++ s′ .offers) ≡ map offerOf (bridged .upTo ++ bridged .u ∷ bridged .v ∷ bridged .from)
 
 -- on two books
-pub record Answers (held held′ : Option (Held Item)) (r : Met) : Type 0 where
-  pub declined : (z : Cause) → FirstOf (meetTrials (plainOffers held) (plainOffers held′)) z → meetAnswer r ≡ refused (pos (causeNumber z))
-  pub accepted : Clear (meetTrials (plainOffers held) (plainOffers held′)) → Found held held′ r
+pub record Answers (s s′ : State) (held held′ : Option (Held Item)) (r : Met) : Type 0 where
+  pub declined : (z : Cause) → FirstOf (meetTrials (s .offers) (s′ .offers)) z → meetAnswer r ≡ refused (pos (causeNumber z))
+  pub accepted : Clear (meetTrials (s .offers) (s′ .offers)) → Found s s′ held held′ r
 
 pub record MeetsBooks (t : List ℤ) (start : ℕ) (t′ : List ℤ) (start′ : ℕ) (r : Met) : Type 0 where
   pub declined : (z : Cause) → FirstOf (noBookTrials t start t′ start′) z → meetAnswer r ≡ refused (pos (causeNumber z))
-  pub answers : (s s′ : State) (held held′ : Option (Held Item)) → Book (partOf t start) s held → Book (partOf t′ start′) s′ held′ → Answers held held′ r
+  pub answers : (s s′ : State) (held held′ : Option (Held Item)) → Book (partOf t start) s held → Book (partOf t′ start′) s′ held′ → Answers s s′ held held′ r

@@ -10,17 +10,18 @@ use lib.IntN.{ℤ}
 use lib.ListN.{length, length-map}
 use Rattle.lists.specs.Bools.{is-true}
 use Rattle.integers.specs.Parts.{intRules}
-use Rattle.offers.specs.Offers.{Offer, priceAt, precedes, loadInRange}
-use Rattle.envelopes.specs.Envelope.{Ordered, Env}
+use Rattle.offers.specs.Offers.{Offer, priceAt, ahead, loadInRange}
+use Rattle.envelopes.specs.Envelope.{Ordered, Env, listed as linesListed}
 use Rattle.envelopes.specs.Query.{env-listed}
 use Rattle.envelopes.specs.Carried.{listed-map}
 use Rattle.lines.specs.Lines.{whole, whole-price}
 use Rattle.lines.specs.OfferLines.{offerFigure}
 use Rattle.plain.specs.Causes.{causeNumber, outputTooShort}
-use Rattle.plain.specs.Book.{State, query, listing, found, listed, refused, lower, higher, cheapest, envelope, pieceWords, step}
+use Rattle.plain.specs.Book.{State, query, listing, found, listed, refused, lower, higher, cheapest, envelope, firstOfEach, pieceWords, step}
 use Rattle.plain.specs.Sound.{Sound}
-use Rattle.plain.specs.QueryLaws.{RateOrder, lower-tie, higher-tie, NotFirst, Names, cheapest-names}
-use Rattle.plain.specs.ListingLaws.{same-rate, envelope-listed}
+use Rattle.plain.specs.FirstLaws.{self, pairs-standing}
+use Rattle.plain.specs.QueryLaws.{RateOrder, lower-tie, higher-tie, NotFirst, Names, cheapest-names, cheapest-earliest, named-first}
+use Rattle.plain.specs.ListingLaws.{envelope-listed}
 use Rattle.trees.specs.Tree.{Tree, leaves}
 use Rattle.table.specs.Items.{Item}
 pub use Rattle.table.specs.Items.{offerOf}
@@ -49,22 +50,9 @@ module _ {tie : ℤ → ℤ → Bool} {ls : List Item} {z : Item} {q : ℤ} (one
         none-first = λ x m. let (c, i, e) = Memᴰ·of-map offerOf ls m in subst (λ (o : Offer). NotFirst tie q o (z .offer)) e (not-first c i);
       }
 
--- and no other
-one-name : {tie : ℤ → ℤ → Bool} {os : List Offer} {o p : Offer} (t : RateOrder tie) (q : ℤ) → Pairwise (λ a b. T (precedes a b)) os → Names tie q os o →
-    Names tie q os p → o ≡ p
-one-name {tie} {o = o} {p} t q h m n = same-rate h (m .live) (n .live) (t .same (o .rate) (p .rate) (theirs .best (sym price)) (mine .best price))
-  where
-    mine : NotFirst tie q p o
-    mine = m .none-first p (n .live)
-
-    theirs : NotFirst tie q o p
-    theirs = n .none-first o (m .live)
-
-    price : priceAt p q ≡ priceAt o q
-    price = let i = mine .least in let j = theirs .least in omega (arith, intRules)
-
-pub lookup-plain : {ls : List Item} (t : Tree Item) (s : State) (q : ℤ) → Sound s → s .offers ≡ map offerOf ls → Env items ls (leaves t) → T (loadInRange q)
-    → step s (query q) .answer ≡
+-- The lines hold the first offer of each rate; who is named among those is named among all.
+pub lookup-plain : {ls : List Item} (t : Tree Item) (s : State) (q : ℤ) → Sound s → map offerOf ls ≡ firstOfEach (s .offers) → Env items ls (leaves t) →
+    T (loadInRange q) → step s (query q) .answer ≡
     found (lookup q t .item .offer .number) (priceAt (lookup q t .item .offer) q) (lookup q t .second .offer .number)
 lookup-plain {ls} t s q h e E r = go (s .offers) e (h .ordered)
   where
@@ -80,13 +68,14 @@ lookup-plain {ls} t s q h e E r = go (s .offers) e (h .ordered)
     seconds : Names higher q (map offerOf ls) y
     seconds = let f = lookup-first t E q in names-it (f .one-of) (f .least) (f .earlier)
 
-    same : {tie : ℤ → ℤ → Bool} {a o : Offer} {os : List Offer} → RateOrder tie → Names tie q (map offerOf ls) a → (o ∷ os) ≡ map offerOf ls →
-        Pairwise (λ a b. T (precedes a b)) (o ∷ os) → cheapest tie q o os ≡ a
-    same {tie} {a} {o} {os} k n d p = one-name k q p (cheapest-names k q o os) (subst (λ xs. Names tie q xs a) (sym d) n)
+    same : {tie : ℤ → ℤ → Bool} {a o : Offer} {os : List Offer} → RateOrder tie → Names tie q (map offerOf ls) a → map offerOf ls ≡ firstOfEach (o ∷ os) →
+        Pairwise (λ a b. T (ahead a b)) (o ∷ os) → cheapest tie q o os ≡ a
+    same {tie} {a} {o} {os} k n d p =
+        sym (named-first k q (pairs-standing Offer self p) (subst (λ xs. Names tie q xs a) d n) (cheapest-names k q o os) (cheapest-earliest k q o os))
 
-    go : (os : List Offer) → os ≡ map offerOf ls → Pairwise (λ a b. T (precedes a b)) os →
+    go : (os : List Offer) → map offerOf ls ≡ firstOfEach os → Pairwise (λ a b. T (ahead a b)) os →
         step (record { capacity = s .capacity; offers = os }) (query q) .answer ≡ found (z .number) (priceAt z q) (y .number)
-    go [] d p = absurd (List·Memᴰ·not-nil (subst (List·Memᴰ z) (sym d) (names .live)))
+    go [] d p = absurd (List·Memᴰ·not-nil (subst (List·Memᴰ z) d (names .live)))
     go (o ∷ os) d p =
         rw (is-true (loadInRange q) r, lt-leb (length (o ∷ os)) 0 (omega arith))
         (ap (λ (x : Offer). found (x .number) (priceAt x q) (cheapest higher q o os .number)) (same lower-tie names d p)
@@ -94,14 +83,15 @@ lookup-plain {ls} t s q h e E r = go (s .offers) e (h .ordered)
 
 -- ---- a listing
 
--- the pieces are those of the plain listing
-pub pieces-plain : (ls es : List Item) → Ordered items ls → Env items ls es → map offerOf es ≡ envelope (map offerOf ls)
-pieces-plain ls es o E = ap (map offerOf) (env-listed items item-laws ls es o E) ∙ sym (listed-map offerFigure offerOf ls)
-    ∙ sym (envelope-listed (map offerOf ls))
+-- where the lines hold the first offer of each rate, the pieces are those of the plain listing
+pub pieces-plain : (ls es : List Item) (os : List Offer) → map offerOf ls ≡ firstOfEach os → Ordered items ls → Env items ls es → map offerOf es ≡ envelope os
+pieces-plain ls es os same o E =
+    ap (map offerOf) (env-listed items item-laws ls es o E) ∙ sym (listed-map offerFigure offerOf ls) ∙ ap (linesListed offerFigure) same
+    ∙ sym (envelope-listed os)
 
-module _ {ls es : List Item} (s : State) (same : s .offers ≡ map offerOf ls) (o : Ordered items ls) (E : Env items ls es) where
+module _ {ls es : List Item} (s : State) (same : map offerOf ls ≡ firstOfEach (s .offers)) (o : Ordered items ls) (E : Env items ls es) where
   shown : envelope (s .offers) ≡ map offerOf es
-  shown = ap envelope same ∙ sym (pieces-plain ls es o E)
+  shown = sym (pieces-plain ls es (s .offers) same o E)
 
   count-is : length (envelope (s .offers)) ≡ length es
   count-is = ap length shown ∙ length-map es offerOf

@@ -25,12 +25,12 @@ use Rattle.table.specs.Layout.{cell, linkAt}
 use Rattle.table.specs.Items.{Item}
 use Rattle.table.specs.Threads.{Next, Threaded}
 use Rattle.descents.specs.Ends.{Ended}
-use Rattle.form.specs.Form.{Book, plainOffers}
+use Rattle.form.specs.Form.{Book}
 use Rattle.query.specs.QueriedPieces.{Pieces}
 use Rattle.query.specs.Plain.{offerOf, pieces-plain}
 use Rattle.listing.specs.Listing.{crossingWord}
 use Rattle.listing.specs.PieceCounts.{Passed, all-passed, not-all, go-on}
-use Rattle.form.specs.Live.{live-whole, whole-ordered}
+use Rattle.form.specs.Live.{first-offers, lines-ordered, no-offers}
 use Rattle.promises.specs.Promises.{partOf, noBookTrial}
 use Rattle.promises.specs.LentPart.{whole-part, no-form, no-book-cause}
 use Rattle.promises.specs.OneCause.{not-clear}
@@ -43,7 +43,7 @@ pub record PartMoves (w : Words) (place r : ℕ) : Type 0 where
   pub on : (n : ℕ) → Before w n place → Before w (n + 1) r
 
 pub record PartHands (w : Words) (place : ℕ) (r : Handed) : Type 0 where
-  pub answers : (n : ℕ) → Before w n place → (s : State) (held : Option (Held Item)) → Book w s held → told r ≡ listedAt (plainOffers held) n
+  pub answers : (n : ℕ) → Before w n place → (s : State) (held : Option (Held Item)) → Book w s held → told r ≡ listedAt (s .offers) n
 
 -- ---- what the root's envelope is
 
@@ -156,15 +156,15 @@ stays-past {w} {n} {p} m l h k =
 -- ---- handing out
 
 -- the plain listing is of those pieces
-pub listed-is : {w : Words} {s : State} {held : Option (Held Item)} → Book w s held → envelope (plainOffers held) ≡ map offerOf (rootPieces held)
+pub listed-is : {w : Words} {s : State} {held : Option (Held Item)} → Book w s held → envelope (s .offers) ≡ map offerOf (rootPieces held)
 listed-is {w} {s} {held} b = go held b (root-of {root = upTo mostNodes (word w envelopeRootWord)} b refl)
   where
     go : (held : Option (Held Item)) → Book w s held → Root w (upTo mostNodes (word w envelopeRootWord)) held →
-        envelope (plainOffers held) ≡ map offerOf (rootPieces held)
-    go none b (bare z) = refl
+        envelope (s .offers) ≡ map offerOf (rootPieces held)
+    go none b (bare z) = ap envelope (no-offers b refl)
     go (some h) b (topped t e p) =
-        subst (λ (q : Part Item). envelope (plainOffers (some h)) ≡ map offerOf (partLeaves q)) (sym e)
-        (sym (pieces-plain (bookLines (some h)) (leaves t) (whole-ordered (some h) (live-whole w (some h) (b .offers .offers-in))) (p .env)))
+        subst (λ (q : Part Item). envelope (s .offers) ≡ map offerOf (partLeaves q)) (sym e)
+        (sym (pieces-plain (bookLines (some h)) (leaves t) (s .offers) (first-offers b) (lines-ordered b) (p .env)))
 
 -- past the last piece
 no-words : (es : List Offer) (n : ℕ) → length es ≤ n → take 3 (drop (3 * n) (pieceWords es)) ≡ []
@@ -173,7 +173,7 @@ no-words es n h = ap (take 3) (drop-of-length-le (pieceWords es) {i = 3 * n} (om
 pub hands-end : {w : Words} {p : ℕ} {r : Handed} → told r ≡ ended → p < 1 → PartHands w p r
 hands-end {w} {p} e h = record {
   answers = λ n k s held b. e
-      ∙ ap pieceOf (sym (no-words (envelope (plainOffers held)) n (omega (
+      ∙ ap pieceOf (sym (no-words (envelope (s .offers)) n (omega (
         arith,
         ap length (listed-is b),
         length-map (rootPieces held) offerOf,

@@ -12,7 +12,7 @@ use Rattle.trees.specs.Operations.{partLeaves}
 use Rattle.dynamic.specs.OfferTree.{Held}
 use Rattle.table.specs.Words.{Words}
 use Rattle.table.specs.Items.{Item}
-use Rattle.form.specs.Form.{Book, plainOffers}
+use Rattle.form.specs.Form.{Book}
 use Rattle.listing.specs.PieceCounts.{Passed}
 use Rattle.promises.specs.Promises.{partOf, noBookTrial}
 use Rattle.reading.specs.declared.Handed.{Handed}
@@ -81,4 +81,4 @@ pub record Moves (start : ℕ) (t : List ℤ) (place r : ℕ) : Type 0 where
 pub record Hands (start : ℕ) (t : List ℤ) (place : ℕ) (r : Handed) : Type 0 where
   pub declined : (z : Cause) → FirstOf (noBookTrial t start ∷ []) z → told r ≡ refusal z
   pub answers : (n : ℕ) → Before (partOf t start) n place → (s : State) (held : Option (Held Item)) → Book (partOf t start) s held →
-      told r ≡ listedAt (plainOffers held) n
+      told r ≡ listedAt (s .offers) n

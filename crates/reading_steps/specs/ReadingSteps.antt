@@ -10,7 +10,7 @@ use Rattle.plain.specs.Causes.{Cause, FirstOf}
 use Rattle.plain.specs.Book.{State}
 use Rattle.dynamic.specs.OfferTree.{Held}
 use Rattle.table.specs.Items.{Item}
-use Rattle.form.specs.Form.{Book, plainOffers}
+use Rattle.form.specs.Form.{Book}
 use Rattle.promises.specs.Promises.{partOf, noBookTrial}
 use Rattle.reading_steps.specs.declared.Reading.{Reading}
 use Rattle.reading.specs.declared.Handed.{Handed}
@@ -31,7 +31,7 @@ pub record Advances (r q : Reading) : Type 0 where
 -- what is handed out after n steps
 pub record HandsAt (start : ℕ) (t : List ℤ) (n : ℕ) (s : Handed) : Type 0 where
   pub declined : (z : Cause) → FirstOf (noBookTrial t start ∷ []) z → told s ≡ refusal z
-  pub answers : (plain : State) (held : Option (Held Item)) → Book (partOf t start) plain held → told s ≡ listedAt (plainOffers held) n
+  pub answers : (plain : State) (held : Option (Held Item)) → Book (partOf t start) plain held → told s ≡ listedAt (plain .offers) n
 
 pub hands-at : {start : ℕ} {t : List ℤ} {n place : ℕ} {s : Handed} → Before (partOf t start) n place → Hands start t place s → HandsAt start t n s
 hands-at {n} b h = record { declined = h .declined; answers = h .answers n b }

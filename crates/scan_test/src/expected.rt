@@ -13,8 +13,7 @@ fn cause(test: bool, cause: i64, later: i64) -> i64 {
 // The number of the cause for which a post is declined, or 0.
 pub(crate) fn post_cause(os: &[i64; 192], room: u32, number: i64, rate: i64, base: i64) -> i64 {
     let full = cause(room <= slots::count(os), 7, 0);
-    let rate_live = cause(slots::has_rate(os, rate, rate), 6, full);
-    let number_live = cause(slots::with_number(os, number) < 64, 5, rate_live);
+    let number_live = cause(slots::with_number(os, number) < 64, 5, full);
     let base_outside = cause(
         is_outside(-1_000_000_000, 1_000_000_000, base),
         15,

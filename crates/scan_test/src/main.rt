@@ -1,5 +1,6 @@
 // Books of many kinds, each call compared with a scan of all offers: ties, offers that only touch, hidden ones that withdrawals uncover, all
-// through one point, the ends of the ranges, capacity 1, a full book, and pairs of books that meet. Prints a line for each.
+// through one point, the ends of the ranges, capacity 1, a full book, many offers at few rates, and pairs of books that meet. Prints a line for
+// each.
 mod calls;
 mod expected;
 mod makers;
@@ -79,7 +80,7 @@ fn posts_in_trial_order(w: World, p: Place) -> World {
     calls::post(c, p, 8, 100, -1_000_000_001)
 }
 
-// A number that may be live, a rate that may be, and numbers that are not live.
+// Posts of a number that may be live and at a rate that may be; withdrawals of a number out of range, of the one just posted, of one not live.
 fn refusals(w: World, p: Place) -> World {
     let outside = posts_in_trial_order(posts_outside(w, p), p);
     let a = calls::post(outside, p, 8, 51, 0);
@@ -141,9 +142,10 @@ fn say_byte(c: u8) {
 fn say_name(n: u32) {
     let names =
         b"openings:offers that touch:one point:hidden offers:ends of the ranges:no rule:ties:capacity 1:full at 20:\
-        touching offers meet:hidden offers meet:ties meet:mixed rates:";
+        one rate:three rates:eight rates:touching offers meet:hidden offers meet:ties meet:mixed rates:three rates meet:\
+        eight rates meet:";
     let mut k: u32 = 0;
-    for i in 0..167 {
+    for i in 0..234 {
         let c = names[i];
         if k == n {
             say_byte(c);
@@ -203,37 +205,37 @@ fn run_pair(w: World, kind: u32) -> World {
         room: 32,
         kind: kind,
     };
+    let right = makers::below(kind);
     let q = Place {
         start: 3000,
         room: 30,
-        kind: 6,
+        kind: right,
     };
     let a = calls::open(calls::open(w, 17, 32, 0), 3000, 30, 0);
     let b = meet(fill(meet(a), p));
     let c = world::swapped(fill(world::swapped(b), q));
-    shrink(meet_all(c), kind, 6)
+    shrink(meet_all(c), kind, right)
 }
 
-// Of each run the kind of its book, or of the first of its two, and the room of a book alone.
-const KINDS: [u32; 13] = [0, 0, 1, 2, 3, 4, 5, 5, 4, 0, 2, 5, 4];
+// Of each run the kind of its book, or of the first of its two; and of each with one book, the room.
+const KINDS: [u32; 18] = [0, 0, 1, 2, 3, 4, 5, 5, 4, 9, 7, 8, 0, 2, 5, 4, 7, 8];
 
-const ROOMS: [u32; 13] = [0, 32, 32, 32, 32, 40, 32, 1, 20, 0, 0, 0, 0];
+const ROOMS: [u32; 12] = [0, 32, 32, 32, 32, 40, 32, 1, 20, 32, 32, 32];
 
 fn run_nth(w: World, n: u32) -> World {
-    let kind = KINDS[n as usize % 13];
-    let room = ROOMS[n as usize % 13];
+    let kind = KINDS[n as usize % 18];
     if n < 1 {
         return run_openings(w);
     }
-    if n < 9 {
-        return run(w, kind, room);
+    if n < 12 {
+        return run(w, kind, ROOMS[n as usize % 12]);
     }
     run_pair(w, kind)
 }
 
 fn main() {
     let mut words = [5i64; 6000];
-    for n in 0..13u32 {
+    for n in 0..18u32 {
         let w = run_nth(world::begin(words), n);
         say_name(n);
         summary(w.told);

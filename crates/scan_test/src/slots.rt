@@ -96,6 +96,23 @@ fn either(test: bool, i: usize, j: usize) -> usize {
     if test { i } else { j }
 }
 
+// Slot i has the rate of slot j and stands before it: by the lower base, of equal bases by the lower number.
+fn is_ahead(os: &[i64; 192], i: usize, j: usize) -> bool {
+    let a = base(os, i);
+    let b = base(os, j);
+    let lower = (a < b) | ((a == b) & (number(os, i) < number(os, j)));
+    (rate(os, i) == rate(os, j)) & lower
+}
+
+// No offer of its rate stands before e.
+fn is_first(os: &[i64; 192], e: usize) -> bool {
+    let mut first = true;
+    for i in 0..64 {
+        first = first & ((number(os, i) == 0) | !is_ahead(os, i, e));
+    }
+    first
+}
+
 // ---- the cheapest
 
 // `value` where it is from `low` to `high`, and 0 for any other: no product of such values wraps.
@@ -118,12 +135,13 @@ pub(crate) fn price(os: &[i64; 192], i: usize, load: i64) -> i64 {
     b + r * q
 }
 
-// Of two slots the cheaper; of equal prices the one with the higher rate where `higher`, else the one with the lower.
+// Of two slots the cheaper; of equal prices the one with the higher rate where `higher`, else the one with the lower; within a rate the first.
 fn cheaper(os: &[i64; 192], load: i64, higher: bool, best: usize, i: usize) -> usize {
     let p = price(os, i, load);
     let q = price(os, best, load);
     let first = (higher & (rate(os, best) < rate(os, i)))
-        | (!higher & (rate(os, i) < rate(os, best)));
+        | (!higher & (rate(os, i) < rate(os, best)))
+        | is_ahead(os, i, best);
     let wins = (p < q) | ((p == q) & first);
     either((number(os, i) != 0) & ((best > 63) | wins), i, best)
 }
@@ -194,9 +212,10 @@ fn nearest(os: &[i64; 192], e: usize, below: bool) -> usize {
     best
 }
 
-// At some rational load strictly cheaper than every other: right of each crossing with a higher rate, left of each with a lower one.
+// The first of its rate, and at some rational load strictly cheaper than every offer of another: right of each crossing with a higher rate, left
+// of each with a lower one.
 fn is_piece(os: &[i64; 192], e: usize) -> bool {
-    if number(os, e) == 0 {
+    if (number(os, e) == 0) | !is_first(os, e) {
         return false;
     }
     let a = nearest(os, e, false);

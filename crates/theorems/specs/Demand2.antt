@@ -26,12 +26,13 @@ use Rattle.promises.specs.Promises.{partOf, Updates, Queries, Lists}
 abbrev pub Refuses : List Trial → ℤ → Type 0
 Refuses ks z = (c : Cause) × FirstOf ks c × (z ≡ pos (causeNumber c))
 
--- No cause applies: the least price, and of the offers that have it the one with the lowest rate and the one with the highest.
+-- No cause applies: the least price, and of the offers that have it one with the lowest rate and one with the highest, within a rate the first in order.
 abbrev pub QueryTells : State → ℤ → Found → Type 0
 QueryTells s q (Offer number price second probes) = Clear (trials s (query q)) × Cheapest (s .offers) q number price second
 QueryTells s q (FoundDeclined z) = Refuses (trials s (query q)) z
 
--- No cause applies: in order, exactly the offers that at some rational load are strictly cheaper than every other, each with its crossing with the next.
+-- No cause applies: in order, exactly the offers that are the first of their rate and at some rational load strictly cheaper than every offer of another
+-- rate, each with its crossing with the next.
 abbrev pub ListingTells : State → ℕ → Listed → List ℤ → Type 0
 ListingTells s room (Pieces m) out = Clear (trials s (listing room)) × ((n : ℕ) × (m ≡ pos n) × Listing (s .offers) n (take (3 * n) out))
 ListingTells s room (ListingDeclined z) out = Refuses (trials s (listing room)) z

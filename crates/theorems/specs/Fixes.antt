@@ -30,7 +30,7 @@ use Rattle.table.specs.Items.{Item, Slots}
 use Rattle.pieces.specs.Pieces.{items, item-laws}
 use Rattle.form.specs.Form.{Book}
 use Rattle.form.specs.Frames.{whole-standing}
-use Rattle.form.specs.Live.{number-tells}
+use Rattle.form.specs.Live.{line-live, number-tells}
 use Rattle.query.specs.Lookup.{LeafAt, leaf-mem, one-depth}
 use Rattle.promises.specs.Promises.{ProbesIn}
 
@@ -83,8 +83,11 @@ probes-once {w} {held = some h} b (t, a, n, e, leaf, m, d) (t′, a′, n′, e�
     env : Env items (bookLines (some h)) (leaves t)
     env = subst (λ (p : Part Item). Env items (bookLines (some h)) (partLeaves p)) e (valid-env items item-laws (b .offers .offers-in .right .valid))
 
+    live : {x : Item} {d : ℕ} → LeafAt x d t → List·Memᴰ x (partLeaves (b .order))
+    live l = line-live b (sublist-mem (env .sub) (leaf-mem l))
+
     same : a ≡ a′
-    same = number-tells b (sublist-mem (env .sub) (leaf-mem leaf)) (sublist-mem (env .sub) (leaf-mem there)) (m ∙ sym m′)
+    same = number-tells b (live leaf) (live there) (m ∙ sym m′)
 
 -- ---- a listing
 

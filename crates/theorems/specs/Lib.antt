@@ -11,7 +11,7 @@ pub mod Demand2
 pub mod AnswersExact
 -- lemmas: the sentences of demand 2 fix the answers: of a list of offers, one price and two numbers at a load, and one listing, word for word; and one number of probes
 pub mod Fixes
--- lemmas: from a searched pair's envelopes to the listing's sentence about offers
+-- lemmas: from a searched pair's envelopes to the listing's sentence about offers, which are live ones; k is capped by the live offers
 pub mod SearchedOffers
 -- lemmas: each stored part is the child's envelope less the parent's
 pub mod StoredRests

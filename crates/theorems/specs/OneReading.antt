@@ -1,5 +1,5 @@
--- A table that passes the check stands for exactly one book: the words tell the tree of offers with all that is stored in it, and so
--- one capacity and one list of offers.
+-- A table that passes the check stands for exactly one book: the words tell the tree of offers with all that is stored in it, and the tree of their order,
+-- and so one capacity and one list of offers.
 use mathlib.Core.Path.{_≡_, refl, sym, _∙_, ap}
 use mathlib.Core.List.{List, [], _∷_, _++_, List·Memᴰ, List·Memᴰ·head, Memᴰ·append-left, Memᴰ·append-right}
 use mathlib.Core.Bool.{true, false}
@@ -16,7 +16,7 @@ use Rattle.envelopes.specs.Envelope.{Env}
 use Rattle.dynamic.specs.OfferTree.{OfferTree, single, fork, shape, Held}
 use Rattle.dynamic.specs.Valid.{Valid, valid-fork}
 use Rattle.dynamic.specs.Lower.{valid-env}
-use Rattle.table.specs.Fields.{bridgeLeftField, bridgeRightField, offerTree, pieceTree}
+use Rattle.table.specs.Fields.{bridgeLeftField, bridgeRightField, offerTree, orderTree, pieceTree}
 use Rattle.table.specs.Words.{Words}
 use Rattle.table.specs.Layout.{cap-most, cell, linkAt}
 use Rattle.table.specs.Items.{Item}
@@ -24,7 +24,7 @@ use Rattle.table.specs.Rep.{childField, refOf, Tied, tied-node}
 use Rattle.table.specs.PartTrees.{partRef, TiedPart}
 use Rattle.pieces.specs.Pieces.{items, item-laws, PartIn}
 use Rattle.form.specs.Stored.{nodeSlot, restField, Stored, stored-fork, HeldIn}
-use Rattle.form.specs.Form.{offersRef, envelopeRef, OffersIn, OffersStand, plainOffers, Book}
+use Rattle.form.specs.Form.{offersRef, envelopeRef, OffersIn, OffersStand, InOrder, plainOffers, Book}
 use Rattle.promises.specs.Promises.{Passes}
 use Rattle.theorems.specs.Unique.{AllLie, all-lie, same-item, same-part, some-root}
 
@@ -122,10 +122,11 @@ module _ (w : Words) where
   same-book (some h) none p q d e = absurd (some-root (shape (h .tree)) (all-lie (p .slots) (p .kept)) d)
   same-book (some h) (some h′) p q d e = ap some (same-held p q d e)
 
--- ---- one plain book, one tree
+-- ---- one plain book, one tree of offers, one order
 
-pub one-reading : {w : Words} {s s′ : State} {held held′ : Option (Held Item)} → Book w s held → Book w s′ held′ → (s ≡ s′) × (held ≡ held′)
-one-reading {w} {s} {s′} {held} {held′} b b′ = (λ i. record { capacity = capacities i; offers = lists i }, trees)
+pub one-reading : {w : Words} {s s′ : State} {held held′ : Option (Held Item)} (b : Book w s held) (b′ : Book w s′ held′) →
+    (s ≡ s′) × (held ≡ held′) × (b .order ≡ b′ .order)
+one-reading {w} {s} {s′} {held} {held′} b b′ = (λ i. record { capacity = capacities i; offers = lists i }, trees, orders)
   where
     o : OffersStand w held
     o = b .offers
@@ -141,8 +142,19 @@ one-reading {w} {s} {s′} {held} {held′} b b′ = (λ i. record { capacity = 
     capacities : s .capacity ≡ s′ .capacity
     capacities = sym (b .capacity) ∙ b′ .capacity
 
+    i : InOrder w (b .order)
+    i = b .in-order
+
+    i′ : InOrder w (b′ .order)
+    i′ = b′ .in-order
+
+    orders : b .order ≡ b′ .order
+    orders =
+        same-part orderTree (b .order) (b′ .order) (all-lie (i .slots) (i .holds)) (all-lie (i′ .slots) (i′ .holds)) (i .order-in .tied) (i′ .order-in .tied)
+        (number-of (i .order-root) (i′ .order-root) refl)
+
     lists : s .offers ≡ s′ .offers
-    lists = sym (b .stands-for) ∙ ap plainOffers trees ∙ b′ .stands-for
+    lists = sym (b .stands-for) ∙ ap plainOffers orders ∙ b′ .stands-for
 
 -- so every promise that speaks of all plain books a table may stand for speaks of one
 pub passes-once : (start : ℕ) (t : List ℤ) (p q : Passes start t) → p .0 ≡ q .0

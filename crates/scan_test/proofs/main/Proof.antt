@@ -1,14 +1,14 @@
--- `scan_test::main` is safe and ends: 13 runs.
+-- `scan_test::main` is safe and ends: 18 runs.
 use Prim.Native.Nat.{_≤_, _-_}
 use borrow.Author.Needs.{needs}
 use Rattle.scan_test.proofs.main.Statement.{statement}
 use Rattle.scan_test.proofs.main.Tie as tie
 
 abbrev Inv-loop : tie.InvT-loop
-Inv-loop words₀ n₀ words n = n ≤ 13
+Inv-loop words₀ n₀ words n = n ≤ 18
 
 abbrev μ-loop : tie.MeasureT-loop
-μ-loop words₀ n₀ words n = 13 - n
+μ-loop words₀ n₀ words n = 18 - n
 
 loop-holds : tie.Need-loop-holds Inv-loop μ-loop
 loop-holds c = search needs

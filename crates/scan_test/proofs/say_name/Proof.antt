@@ -5,10 +5,10 @@ use Rattle.scan_test.proofs.say_name.Statement.{statement}
 use Rattle.scan_test.proofs.say_name.Tie as tie
 
 abbrev Inv-loop : tie.InvT-loop
-Inv-loop n names k₀ i₀ k i = i ≤ 167
+Inv-loop n names k₀ i₀ k i = i ≤ 234
 
 abbrev μ-loop : tie.MeasureT-loop
-μ-loop n names k₀ i₀ k i = 167 - i
+μ-loop n names k₀ i₀ k i = 234 - i
 
 loop-holds : tie.Need-loop-holds Inv-loop μ-loop
 loop-holds c = search needs
