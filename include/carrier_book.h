@@ -5,7 +5,8 @@
  *
  * An offer has a number (1 to 9,999), a rate in cents per kilogram (-100,000 to 100,000) and a base in cents (-1,000,000,000 to
  * 1,000,000,000). Its price at a load of q kilograms (-1,000,000 to 1,000,000) is base + rate * q. No two live offers have equal
- * numbers or equal rates.
+ * numbers. Several may have one rate: offers are ordered by falling rate, then rising base, then rising number, and of one rate only
+ * the first in that order is listed or named.
  *
  * Every array is passed as a pointer to its first word and its length in words, so that no call can step outside it. The pointer is
  * not null, also where the length is 0. What a call writes overlaps no other array of the call. A book occupies CARRIER_WORDS(capacity) words of its
@@ -41,7 +42,7 @@ extern "C" {
 #define CARRIER_MARK_WORDS 2
 #define CARRIER_UNITS_WORDS 1
 
-/* Why a call was declined. */
+/* Why a call was declined. -6, once of a post at a live rate, is no longer given. */
 #define CARRIER_CAPACITY (-1)         /* open: the capacity is not in 1 to 4,096 */
 #define CARRIER_NO_ROOM (-2)          /* open: fewer words than the book takes from `start` on */
 #define CARRIER_NO_BOOK (-3)          /* each on a table but open and check: no book at `start`, or its part is cut short */
@@ -50,7 +51,6 @@ extern "C" {
 #define CARRIER_BASE_RANGE (-15)      /* post: the base is out of range */
 #define CARRIER_LOAD_RANGE (-16)      /* query: the load is out of range */
 #define CARRIER_NUMBER_LIVE (-5)      /* post: a live offer has that number */
-#define CARRIER_RATE_LIVE (-6)        /* post: a live offer has that rate */
 #define CARRIER_FULL (-7)             /* post: as many offers are live as the capacity tells */
 #define CARRIER_NOT_LIVE (-8)         /* withdraw: no live offer has that number */
 #define CARRIER_EMPTY (-9)            /* query, mark, meet: no offer is live */
@@ -63,7 +63,8 @@ extern "C" {
 int64_t carrier_open(int64_t *table, size_t words, size_t start, int64_t capacity);
 
 /* Posts an offer. Returns the live count after it. Writes how many pairs of envelopes were searched for their meeting (k), the
- * searches' steps in all (s) and the sum of the heights of the trees searched (H) to counts[0], counts[1] and counts[2]. */
+ * searches' steps in all (s) and the sum of the heights of the trees searched (H) to counts[0], counts[1] and counts[2]: three times 0
+ * where the first offer of its rate stays. */
 int64_t carrier_post(int64_t *table, size_t words, size_t start, int64_t number, int64_t rate, int64_t base,
                      int64_t *counts, size_t counts_words);
 
@@ -71,11 +72,13 @@ int64_t carrier_post(int64_t *table, size_t words, size_t start, int64_t number,
 int64_t carrier_withdraw(int64_t *table, size_t words, size_t start, int64_t number, int64_t *counts, size_t counts_words);
 
 /* Returns the number of the cheapest live offer at a load; of several, the one with the lowest rate. Writes its price to found[0],
- * to found[1] the number of the second offer: the one with the highest rate at that price, the same where there is only one; and to
- * found[2] the probes: how deep the first one's piece lies in the tree of pieces. */
+ * to found[1] the number of the second offer: the one with the highest rate at that price, the same where all have one rate; and to
+ * found[2] the probes: how deep the first one's piece lies in the tree of pieces. Of several offers with one rate and one base the
+ * lowest number is named. */
 int64_t carrier_query(const int64_t *table, size_t words, size_t start, int64_t load, int64_t *found, size_t found_words);
 
-/* Lists the offers that are strictly cheaper than every other one at some rational load, by falling rate. Returns their count.
+/* Lists of each rate the first offer in order, where at some rational load it is strictly cheaper than every offer of another rate, by
+ * falling rate. Returns their count.
  * Writes three words a piece from out[0] on: the offer's number, and the numerator and denominator, unreduced, of the load at which
  * the next piece begins; 0 and 0 for the last piece. Later words stay. */
 int64_t carrier_listing(const int64_t *table, size_t words, size_t start, int64_t *out, size_t out_words);

@@ -7,6 +7,13 @@ pub struct Offer {
     pub base: i64,
 }
 
+impl Offer {
+    /// Where it stands among the offers: by falling rate, then rising base, then rising number.
+    pub fn place(&self) -> (i64, i64, i64) {
+        (-self.rate, self.base, self.number)
+    }
+}
+
 /// A piece of a listing: the offer, and the load numerator / denominator at which the next begins.
 #[derive(Clone, Copy)]
 pub struct Piece {
@@ -19,16 +26,19 @@ pub struct Piece {
 /// one with the highest.
 pub type Answer = (i64, i64, i64);
 
-/// By a scan of offers sorted by falling rate.
+/// By a scan of offers in order.
 #[inline(never)]
 pub fn scan(offers: &[Offer], load: i64) -> Answer {
     let mut best = (0, i64::MAX, 0);
+    let mut rate = 0;
     for o in offers {
         let price = o.base + o.rate * load;
         if price < best.1 {
             best = (o.number, price, o.number);
-        } else if price == best.1 {
+            rate = o.rate;
+        } else if price == best.1 && o.rate < rate {
             best.0 = o.number;
+            rate = o.rate;
         }
     }
     best
@@ -39,11 +49,14 @@ fn is_hidden(a: &Offer, b: &Offer, c: &Offer) -> bool {
     (b.base - a.base) * (b.rate - c.rate) >= (c.base - b.base) * (a.rate - b.rate)
 }
 
-/// The lower envelope of offers sorted by falling rate, in one pass with a stack.
+/// The lower envelope of offers in order, in one pass with a stack. Of each rate only the first counts.
 #[inline(never)]
 pub fn rebuild(offers: &[Offer], stack: &mut Vec<Offer>) {
     stack.clear();
     for o in offers {
+        if stack.last().map_or(false, |before| before.rate == o.rate) {
+            continue;
+        }
         while stack.len() >= 2 && is_hidden(&stack[stack.len() - 2], &stack[stack.len() - 1], o) {
             stack.pop();
         }
@@ -51,36 +64,36 @@ pub fn rebuild(offers: &[Offer], stack: &mut Vec<Offer>) {
     }
 }
 
-/// Offers in an array sorted by falling rate, whose envelope is rebuilt at each update.
+/// Offers in a sorted array, whose envelope is rebuilt at each update.
 pub struct Sorted {
     offers: Vec<Offer>,
     pub envelope: Vec<Offer>,
-    /// by number
-    rates: Vec<i64>,
+    by_number: Vec<Offer>,
 }
 
 impl Sorted {
     pub fn of(offers: &[Offer]) -> Sorted {
-        let mut sorted = Sorted { offers: offers.to_vec(), envelope: vec![], rates: vec![0; 10_000] };
-        offers.iter().for_each(|o| sorted.rates[o.number as usize] = o.rate);
+        let none = Offer { number: 0, rate: 0, base: 0 };
+        let mut sorted = Sorted { offers: offers.to_vec(), envelope: vec![], by_number: vec![none; 10_000] };
+        offers.iter().for_each(|o| sorted.by_number[o.number as usize] = *o);
         rebuild(&sorted.offers, &mut sorted.envelope);
         sorted
     }
 
-    fn place(&self, rate: i64) -> usize {
-        self.offers.partition_point(|o| o.rate > rate)
+    fn index(&self, o: &Offer) -> usize {
+        self.offers.partition_point(|p| p.place() < o.place())
     }
 
     pub fn withdraw(&mut self, number: i64) {
-        let at = self.place(self.rates[number as usize]);
+        let at = self.index(&self.by_number[number as usize]);
         self.offers.remove(at);
         rebuild(&self.offers, &mut self.envelope);
     }
 
     pub fn post(&mut self, o: Offer) {
-        let at = self.place(o.rate);
+        let at = self.index(&o);
         self.offers.insert(at, o);
-        self.rates[o.number as usize] = o.rate;
+        self.by_number[o.number as usize] = o;
         rebuild(&self.offers, &mut self.envelope);
     }
 }

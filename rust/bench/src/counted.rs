@@ -87,14 +87,17 @@ fn break_even(counts: &[(usize, [f64; 3])]) -> String {
 
 /// the table of all kinds, and where each breaks even
 pub fn tables() -> String {
-    let mut t = String::from("| listed | offers | book | Rust | book ÷ Rust | rebuild | rebuild ÷ book |\n|---|---|---|---|---|---|---|\n");
+    let mut t = String::from(
+        "| listed | offers | book | Rust | book ÷ Rust | rebuild | rebuild ÷ book |\n|---|---|---|---|---|---|---|\n",
+    );
     let mut even = String::from("| listed | an update takes fewer instructions than a rebuild from |\n|---|---|\n");
     for listed in Listed::KINDS {
         let counts: Vec<(usize, [f64; 3])> = SIZES.iter().map(|n| (*n, counted(*n, listed))).collect();
         for (n, [book, plain, rebuild]) in counts.iter().filter(|c| IN_TABLES.contains(&c.0)) {
             let thousands = [book, plain, rebuild].map(|c| format!("{:.1} k", c / 1e3));
             let [b, p, r] = thousands;
-            writeln!(t, "| {} | {n} | {b} | {p} | **{:.2}** | {r} | **{:.2}** |", listed.name(), book / plain, rebuild / book).unwrap();
+            writeln!(t, "| {} | {n} | {b} | {p} | **{:.2}** | {r} | **{:.2}** |", listed.name(), book / plain, rebuild / book)
+                .unwrap();
         }
         writeln!(even, "| {} | {} offers |", listed.name(), break_even(&counts)).unwrap();
     }

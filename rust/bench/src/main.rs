@@ -24,19 +24,33 @@ const IN_TABLES: [usize; 3] = [64, 512, 4_096];
 const QUERIES: usize = 1_000_000;
 const UPDATES: usize = 4_000;
 
-/// How many of the offers are listed.
+/// How many of the offers are listed: of those with a rate each all, half or few, and of those that share rates the first of each.
 #[derive(Clone, Copy, PartialEq)]
 enum Listed {
     All,
     Half,
     Few,
+    OneRate,
+    SharedRates,
 }
 
+/// So many rates the last kind has.
+const SHARED_RATES: usize = 64;
+
 impl Listed {
-    const KINDS: [Listed; 3] = [Listed::All, Listed::Half, Listed::Few];
+    const KINDS: [Listed; 5] = [Listed::All, Listed::Half, Listed::Few, Listed::OneRate, Listed::SharedRates];
 
     fn name(self) -> &'static str {
-        ["all", "half", "few"][self as usize]
+        ["all", "half", "few", "one rate", "64 rates"][self as usize]
+    }
+
+    /// so many rates `n` offers have
+    fn rates(self, n: usize) -> usize {
+        match self {
+            Listed::OneRate => 1,
+            Listed::SharedRates => SHARED_RATES,
+            _ => n,
+        }
     }
 }
 
@@ -52,7 +66,8 @@ impl Random {
     }
 }
 
-/// `n` offers sorted by falling rate, with numbers in no order. Tangents of a parabola are all listed; half of them moved up are not.
+/// `n` offers in order, with numbers in none. Tangents of a parabola are all listed; half of them moved up are not. Those that share a
+/// rate are a tangent and others above it.
 fn offers(n: usize, listed: Listed) -> Vec<Offer> {
     let mut r = Random(20_261_115);
     let mut numbers: Vec<i64> = (1..=9_999).collect();
@@ -60,7 +75,7 @@ fn offers(n: usize, listed: Listed) -> Vec<Offer> {
         numbers.swap(i, r.within(0, i as i64) as usize);
     }
     let mut rates = std::collections::BTreeSet::new();
-    while rates.len() < n {
+    while rates.len() < listed.rates(n) {
         rates.insert(-r.within(-30_000, 30_000));
     }
     let offer = |(i, rate): (usize, &i64)| {
@@ -68,11 +83,12 @@ fn offers(n: usize, listed: Listed) -> Vec<Offer> {
             Listed::All => rate * rate,
             Listed::Half => rate * rate + r.within(0, 1) * r.within(1, 90_000_000),
             Listed::Few => r.within(-1_000_000_000, 1_000_000_000),
+            Listed::OneRate | Listed::SharedRates => rate * rate + r.within(0, 999),
         };
         Offer { number: numbers[i], rate: *rate, base }
     };
-    let mut all: Vec<Offer> = rates.iter().rev().enumerate().map(offer).collect();
-    all.sort_by_key(|o| -o.rate);
+    let mut all: Vec<Offer> = rates.iter().rev().cycle().take(n).enumerate().map(offer).collect();
+    all.sort_by_key(Offer::place);
     all
 }
 
@@ -331,7 +347,7 @@ fn main() {
             record("printing", &table);
         }
         ["count", n, kind] => {
-            let listed = Listed::KINDS.into_iter().find(|k| k.name() == kind).expect("all, half or few");
+            let listed = Listed::KINDS.into_iter().find(|k| k.name() == kind).expect("a kind of books");
             counted::run(n.parse().expect("a number of offers"), listed);
         }
         _ => panic!("no word, `record`, `instructions`, `check`, or `asking` or `printing` with two libraries"),

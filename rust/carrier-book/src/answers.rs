@@ -1,6 +1,7 @@
 //! What the calls answer.
 
-/// What a post or a withdrawal tells: the live count after it, and its searches as counted while it ran.
+/// What a post or a withdrawal tells: the live count after it, and its searches as counted while it ran. Where the first offer of its rate
+/// stays, nothing is searched.
 ///
 /// ```
 /// let mut book = carrier_book::Book::new(64)?;
@@ -23,7 +24,7 @@ pub struct Update {
 }
 
 /// What a query names. Of several offers at the least price the one with the lowest rate is named first, and the one with the highest as
-/// the second; where there is only one, both are that one.
+/// the second; where all have one rate, both are the first of them, by rising number.
 ///
 /// ```
 /// use carrier_book::Found;
@@ -47,8 +48,8 @@ pub struct Found {
     pub probes: i64,
 }
 
-/// A stretch of loads on which one offer is strictly the cheapest. It ends at the load `numerator / denominator`, where the next
-/// begins. The last one has no end: 0 and 0.
+/// A stretch of loads on which one offer, the first of its rate, is strictly cheaper than every offer of another rate. It ends at the
+/// load `numerator / denominator`, where the next begins. The last one has no end: 0 and 0.
 ///
 /// ```
 /// use carrier_book::Piece;

@@ -75,12 +75,14 @@ impl Book {
         self.table.len() / 64 - 1
     }
 
-    /// Posts an offer.
+    /// Posts an offer. Its rate may be that of live offers.
     ///
     /// ```
     /// use carrier_book::{Book, Declined};
     /// let mut book = Book::new(64)?;
     /// assert_eq!(book.post(1, 3, 0)?.live, 1);
+    /// assert_eq!(book.post(2, 3, -1)?.live, 2);
+    /// assert_eq!(book.query(5)?.number, 2);
     /// assert_eq!(book.post(1, 4, 0), Err(Declined::NumberLive));
     /// # Ok::<(), Declined>(())
     /// ```
@@ -102,7 +104,8 @@ impl Book {
         lent::withdraw(&mut self.table, 0, number)
     }
 
-    /// The cheapest live offer at a load; of several, the one with the lowest rate, and as the second the one with the highest.
+    /// The cheapest live offer at a load; of several, the one with the lowest rate, and as the second the one with the highest. Of several
+    /// with one rate and one base the lowest number is named.
     ///
     /// ```
     /// use carrier_book::{Book, Declined};
@@ -117,7 +120,8 @@ impl Book {
         lent::query(&self.table, 0, load)
     }
 
-    /// The pieces of the lower envelope, by falling rate: the offers that are strictly cheaper than every other one at some load.
+    /// The pieces of the lower envelope, by falling rate: of each rate at most the first offer in order, where at some load it is strictly
+    /// cheaper than every offer of another rate.
     ///
     /// ```
     /// let mut book = carrier_book::Book::new(64)?;

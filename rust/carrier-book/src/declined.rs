@@ -1,7 +1,8 @@
 //! Why a call was declined.
 use std::fmt;
 
-/// Why a call was declined. A declined call changes nothing. Where several causes apply, the first in the order below is told.
+/// Why a call was declined. A declined call changes nothing. Where several causes apply, the first in the order below is told. Number 6,
+/// once of a post at a live rate, is no longer given.
 ///
 /// ```
 /// use carrier_book::{Book, Declined};
@@ -32,8 +33,6 @@ pub enum Declined {
     LoadOutOfRange,
     /// 5, post: a live offer has that number.
     NumberLive,
-    /// 6, post: a live offer has that rate.
-    RateLive,
     /// 7, post: as many offers are live as the capacity tells.
     Full,
     /// 8, withdraw: no live offer has that number.
@@ -53,7 +52,7 @@ pub enum Declined {
 use Declined::*;
 
 /// Each cause with its number and what it says, in the order in which they are tried.
-const CAUSES: [(Declined, i64, &str); 15] = [
+const CAUSES: [(Declined, i64, &str); 14] = [
     (Capacity, 1, "the capacity is not in 1 to 4,096"),
     (NoRoom, 2, "the table has too few words"),
     (NoBook, 3, "there is no book there"),
@@ -62,7 +61,6 @@ const CAUSES: [(Declined, i64, &str); 15] = [
     (BaseOutOfRange, 15, "the base is out of range"),
     (LoadOutOfRange, 16, "the load is out of range"),
     (NumberLive, 5, "a live offer has that number"),
-    (RateLive, 6, "a live offer has that rate"),
     (Full, 7, "the book is full"),
     (NotLive, 8, "no live offer has that number"),
     (Empty, 9, "the book is empty"),

@@ -76,7 +76,8 @@ pub fn withdraw(table: &mut [i64], start: usize, number: i64) -> Result<Update, 
     update(|counts, n| unsafe { raw::carrier_withdraw(words, length, start, number, counts, n) })
 }
 
-/// The cheapest live offer at a load; of several, the one with the lowest rate, and as the second the one with the highest.
+/// The cheapest live offer at a load; of several, the one with the lowest rate, and as the second the one with the highest. Of several
+/// with one rate and one base the lowest number is named.
 ///
 /// ```
 /// use carrier_book::{lent, words};

@@ -1,5 +1,5 @@
 //! The requirements' worked cases, the order of causes, and the archive's own numbers.
-use carrier_book::{lent, raw, words, Book, Declined, Piece};
+use carrier_book::{lent, raw, words, Book, Declined, Piece, Update};
 
 fn book(offers: &[(i64, i64)]) -> Book {
     let mut book = Book::new(64).unwrap();
@@ -47,7 +47,7 @@ fn causes_in_order() {
     assert_eq!(b.post(1, 100_001, -1_000_000_001), Err(Declined::RateOutOfRange));
     assert_eq!(b.post(1, 6, -1_000_000_001), Err(Declined::BaseOutOfRange));
     assert_eq!(b.post(1, 6, 0), Err(Declined::NumberLive));
-    assert_eq!(b.post(3, 6, 0), Err(Declined::RateLive));
+    assert_eq!(b.post(3, 6, 0), Err(Declined::Full));
     assert_eq!(b.post(3, 7, 0), Err(Declined::Full));
     assert_eq!(b.withdraw(3), Err(Declined::NotLive));
     assert_eq!(b.query(1_000_001), Err(Declined::LoadOutOfRange));
@@ -56,8 +56,50 @@ fn causes_in_order() {
     assert_eq!(Book::new(4_097).unwrap_err(), Declined::Capacity);
     for number in 1..=17 {
         assert_eq!(Declined::from_number(number).number(), number);
-        assert_eq!(Declined::from_number(number) == Declined::Other(number), number == 11 || number == 17);
+        assert_eq!(Declined::from_number(number) == Declined::Other(number), [6, 11, 17].contains(&number));
     }
+}
+
+fn told(update: Result<Update, Declined>) -> [i64; 4] {
+    let u = update.unwrap();
+    [u.live, u.searches, u.steps, u.heights]
+}
+
+#[test]
+fn several_offers_at_one_rate() {
+    let mut b = book(&[(3, 0), (1, 10), (0, 40)]);
+    // behind the first of its rate: by its base, and by its number
+    assert_eq!(told(b.post(4, 1, 11)), [4, 0, 0, 0]);
+    assert_eq!(told(b.post(5, 1, 10)), [5, 0, 0, 0]);
+    assert_eq!(pieces(&b), [(1, 10, 2), (2, 30, 1), (3, 0, 0)]);
+    assert_eq!(asked(&b, 6), (2, 16, 2));
+    // ahead of it
+    assert_eq!(b.post(6, 1, 8).unwrap().live, 6);
+    assert_eq!(pieces(&b), [(1, 8, 2), (6, 32, 1), (3, 0, 0)]);
+    assert_eq!([4, 5].map(|q| asked(&b, q)), [(6, 12, 1), (6, 13, 6)]);
+    // one that is not the first goes, then the first, whose place the next takes, of equal bases the lower number
+    assert_eq!(told(b.withdraw(4)), [5, 0, 0, 0]);
+    b.withdraw(6).unwrap();
+    assert_eq!(pieces(&b), [(1, 10, 2), (2, 30, 1), (3, 0, 0)]);
+    b.withdraw(2).unwrap();
+    assert_eq!(pieces(&b), [(1, 10, 2), (5, 30, 1), (3, 0, 0)]);
+    // the last of its rate
+    b.withdraw(5).unwrap();
+    assert_eq!(pieces(&b), [(1, 40, 3), (3, 0, 0)]);
+    assert!(b.check());
+}
+
+#[test]
+fn ties_within_a_rate() {
+    let mut b = book(&[(1, 10), (3, 0), (3, 0), (1, 10), (1, 11)]);
+    assert_eq!(asked(&b, 5), (1, 15, 2));
+    b.withdraw(1).unwrap();
+    b.withdraw(2).unwrap();
+    assert_eq!(asked(&b, 5), (4, 15, 3));
+    b.withdraw(3).unwrap();
+    assert_eq!(asked(&b, 5), (4, 15, 4));
+    b.withdraw(4).unwrap();
+    assert_eq!(asked(&b, 5), (5, 16, 5));
 }
 
 #[test]

@@ -9,6 +9,11 @@ use std::collections::BTreeMap;
 const PIECES: usize = 0;
 const OFFERS: usize = 1;
 const NUMBERS: usize = 2;
+const ORDER: usize = 3;
+
+/// The words of the header, from the first on.
+const HEADER: [&str; 7] =
+    ["capacity", "root of offers", "root of pieces", "live count", "root of numbers", "first free slot", "root of the order"];
 
 /// The words of a part that its form fixes, each with what it is.
 struct Used<'a> {
@@ -19,16 +24,12 @@ struct Used<'a> {
 impl Used<'_> {
     fn of(part: &[i64]) -> Used<'_> {
         let mut used = Used { part, words: BTreeMap::new() };
-        for (at, what) in ["capacity", "root of offers", "root of pieces", "live count", "root of numbers", "first free slot"]
-            .iter()
-            .enumerate()
-        {
-            used.words.insert(at, what);
-        }
+        used.words.extend(HEADER.into_iter().enumerate());
         if part[3] > 0 {
             used.tree(OFFERS, part[1]);
             used.tree(PIECES, part[2]);
             used.tree(NUMBERS, part[4]);
+            used.tree(ORDER, part[6]);
         }
         let mut slot = part[5];
         while slot != 0 {
@@ -48,13 +49,22 @@ impl Used<'_> {
         self.part[at]
     }
 
+    /// each live offer is a leaf of the order, and its rank tells the rest of it
+    fn leaf(&mut self, tree: usize, slot: i64) {
+        if tree == ORDER {
+            for (field, what) in ["number of an offer", "rate", "base", "rank"].into_iter().enumerate() {
+                self.field(slot, field, what);
+            }
+        }
+    }
+
     fn tree(&mut self, tree: usize, x: i64) {
         if x <= 4_096 {
-            return;
+            return self.leaf(tree, x);
         }
         let slot = x - 4_096;
         let children = [self.field(slot, 4 + 4 * tree, "left child"), self.field(slot, 5 + 4 * tree, "right child")];
-        self.field(slot, 16 + tree, "height");
+        self.field(slot, 24 + tree, "height");
         if tree == PIECES {
             self.field(slot, 6, "numerator of a crossing");
             self.field(slot, 7, "denominator of a crossing");
@@ -134,7 +144,7 @@ fn a_word_of_the_form() {
         assert!(lent::check(&part, 0));
     }
     // each kind of word was among them, often
-    assert_eq!(seen.len(), 18);
+    assert_eq!(seen.len(), 23);
     assert!(seen.values().all(|n| *n > 500), "{seen:?}");
 }
 
@@ -165,18 +175,41 @@ fn a_word_that_is_no_link() {
     }
 }
 
+/// A tree of offers that is one leaf, with its envelope: the first offer of the only rate, and no other.
+#[test]
+fn another_leaf_for_the_tree_of_offers() {
+    for (offers, first) in
+        [([(3, 5), (3, 6), (3, 6)], Some(1)), ([(3, 6), (3, 6), (3, 5)], Some(3)), ([(3, 0), (3, 1), (1, 10)], None)]
+    {
+        let mut part = vec![0; words(4)];
+        lent::open(&mut part, 0, 4).unwrap();
+        for (number, (rate, base)) in (1..).zip(offers) {
+            lent::post(&mut part, 0, number, rate, base).unwrap();
+        }
+        assert!(lent::check(&part, 0));
+        // the offers stand in the slots 1, 2 and 3
+        for slot in 1..=4 {
+            part[1] = slot;
+            part[2] = slot;
+            assert_eq!(lent::check(&part, 0), first == Some(slot), "{offers:?}, slot {slot}");
+        }
+    }
+}
+
 #[test]
 fn a_word_of_a_large_book() {
     let r = &mut Random::new(80_000);
-    let mut part = book(r, 4_096, Lie::Mixed, 5_000);
-    assert!(lent::check(&part, 0));
-    let used: Vec<(usize, &str)> = Used::of(&part).words.into_iter().collect();
-    for _ in 0..400 {
-        let (at, what) = r.pick(&used);
-        let old = part[at];
-        part[at] = other(r, old, 4_096);
-        assert!(!lent::check(&part, 0), "word {at} ({what}): {old} became {}", part[at]);
-        part[at] = old;
+    for lie in [Lie::Mixed, Lie::EightRates, Lie::OneRate] {
+        let mut part = book(r, 4_096, lie, 5_000);
+        assert!(lent::check(&part, 0));
+        let used: Vec<(usize, &str)> = Used::of(&part).words.into_iter().collect();
+        for _ in 0..400 {
+            let (at, what) = r.pick(&used);
+            let old = part[at];
+            part[at] = other(r, old, 4_096);
+            assert!(!lent::check(&part, 0), "word {at} ({what}): {old} became {}", part[at]);
+            part[at] = old;
+        }
     }
 }
 
@@ -188,10 +221,8 @@ fn words_that_the_form_leaves_free() {
         let calls = r.within(0, 5 * capacity as i64) as usize;
         let mut part = book(r, capacity, LIES[seed as usize % LIES.len()], calls);
         let used = Used::of(&part).words;
-        for at in 6..part.len() {
-            // a slot's number, rate and base stay as they are
-            let is_data = (64..68 + 4 * capacity).contains(&at);
-            if !is_data && !used.contains_key(&at) {
+        for at in HEADER.len()..part.len() {
+            if !used.contains_key(&at) {
                 part[at] = r.word();
             }
         }

@@ -1,6 +1,7 @@
 //! The book once more in plain Rust, with the same words in the same places and the same searches, but nothing proved and no word
 //! mistrusted: what the proved archive's times are held to.
 
+mod filing;
 mod search;
 mod trees;
 
@@ -12,18 +13,31 @@ const INNER: usize = 4096;
 /// Planes of four words a slot.
 const DATA: usize = 0;
 const PIECE: usize = 1;
-const META: usize = 4;
+const THREAD: usize = 4;
 const STORED: usize = 5;
+const HEIGHTS: usize = 6;
 
 /// The trees; the children of tree `t` are in plane 1 + t.
 const PIECES: usize = 0;
 const OFFERS: usize = 1;
 const NUMBERS: usize = 2;
+const ORDER: usize = 3;
 
-/// Words of the data plane.
+/// Words of the data plane. A free slot has the next free one in the place of a rank.
 const NUMBER: usize = 0;
 const RATE: usize = 1;
 const BASE: usize = 2;
+const RANK: usize = 3;
+const NEXT_FREE: usize = 3;
+
+/// Words of the header.
+const CAPACITY: usize = 0;
+const OFFERS_ROOT: usize = 1;
+const ENVELOPE_ROOT: usize = 2;
+const LIVE_COUNT: usize = 3;
+const NUMBERS_ROOT: usize = 4;
+const FIRST_FREE: usize = 5;
+const ORDER_ROOT: usize = 6;
 
 pub struct Book {
     pub words: Vec<i64>,
@@ -37,6 +51,13 @@ struct Held {
     e: usize,
 }
 
+impl Held {
+    /// the leaf in a slot, or at 0 nothing
+    fn alone(slot: usize) -> Held {
+        Held { x: slot, e: slot }
+    }
+}
+
 /// Searches, their steps, and the heights of the trees searched.
 #[derive(Clone, Copy, Default, Debug, PartialEq)]
 pub struct Counts {
@@ -48,10 +69,10 @@ pub struct Counts {
 impl Book {
     pub fn open(capacity: usize) -> Book {
         let mut book = Book { words: vec![0; 64 * (capacity + 1)], slots: capacity + 1 };
-        book.words[0] = capacity as i64;
-        book.words[5] = 1;
+        book.words[CAPACITY] = capacity as i64;
+        book.words[FIRST_FREE] = 1;
         for slot in 1..capacity {
-            book.put(DATA, slot, 3, slot as i64 + 1);
+            book.put(DATA, slot, NEXT_FREE, slot as i64 + 1);
         }
         book
     }
@@ -132,88 +153,25 @@ impl Book {
         let side = (rate <= self.get(DATA, slot_of(v.x), RATE)) as usize;
         if v.x <= INNER {
             let gap = if side == 0 { slot } else { v.x };
-            return self.raise_on(side, gap, Held { x: slot, e: slot }, v, counts);
+            return self.raise_on(side, gap, Held::alone(slot), v, counts);
         }
         let (near, far) = self.lower_on(side, v);
         let grown = self.insert(near, slot, counts);
         self.rebalance(side, v.x - INNER, grown, far, counts)
     }
 
-    fn remove(&mut self, v: Held, slot: usize, counts: &mut Counts) -> Held {
+    /// takes the leaf in `slot` out, and puts the one in slot `by`, if that is not 0, in its place
+    fn remove(&mut self, v: Held, slot: usize, by: usize, counts: &mut Counts) -> Held {
         if v.x <= INNER {
-            return Held { x: 0, e: 0 };
+            return Held::alone(by);
         }
         let side = (self.get(DATA, slot, RATE) < self.get(DATA, v.x - INNER, RATE)) as usize;
         let (near, far) = self.lower_on(side, v);
-        let left = self.remove(near, slot, counts);
+        let left = self.remove(near, slot, by, counts);
         if left.x == 0 {
             return far;
         }
         let gap = if side == 0 { self.end(OFFERS, 1, left.x) } else { v.x - INNER };
         self.rebalance(side, gap, left, far, counts)
-    }
-
-    fn finish(&mut self, held: Held, live: i64) {
-        self.words[1] = held.x as i64;
-        self.words[2] = held.e as i64;
-        self.words[3] = live;
-    }
-
-    fn held(&self) -> Held {
-        Held { x: self.words[1] as usize, e: self.words[2] as usize }
-    }
-
-    fn split_numbers(&mut self, root: usize, least: i64) -> (usize, usize) {
-        if root == 0 {
-            return (0, 0);
-        }
-        self.split(NUMBERS, NUMBER, root, least)
-    }
-
-    /// posts an offer in range; the live count after it, or the cause's number
-    pub fn post(&mut self, number: i64, rate: i64, base: i64) -> Result<(i64, Counts), i64> {
-        let root = self.words[4] as usize;
-        if self.find(NUMBERS, NUMBER, root, number) > 0 {
-            return Err(5);
-        }
-        if self.find(OFFERS, RATE, self.words[1] as usize, rate) > 0 {
-            return Err(6);
-        }
-        if self.words[3] == self.words[0] {
-            return Err(7);
-        }
-        let slot = self.words[5] as usize;
-        self.words[5] = self.get(DATA, slot, 3);
-        let at = self.at(DATA, slot, 0);
-        self.words[at..at + 3].copy_from_slice(&[number, rate, base]);
-        let (front, back) = self.split_numbers(root, number);
-        let gap = self.end(NUMBERS, 1, front);
-        let front = self.join(NUMBERS, gap, front, slot);
-        self.words[4] = self.join(NUMBERS, slot, front, back) as i64;
-        let mut counts = Counts::default();
-        let held = match self.held() {
-            Held { x: 0, .. } => Held { x: slot, e: slot },
-            held => self.insert(held, slot, &mut counts),
-        };
-        self.finish(held, self.words[3] + 1);
-        Ok((self.words[3], counts))
-    }
-
-    /// withdraws an offer; the live count after it, or the cause's number
-    pub fn withdraw(&mut self, number: i64) -> Result<(i64, Counts), i64> {
-        let root = self.words[4] as usize;
-        let slot = self.find(NUMBERS, NUMBER, root, number);
-        if slot == 0 {
-            return Err(8);
-        }
-        self.words[4] = self.drop(NUMBERS, NUMBER, root, number) as i64;
-        let mut counts = Counts::default();
-        let held = self.remove(self.held(), slot, &mut counts);
-        self.finish(held, self.words[3] - 1);
-        self.put(DATA, slot, NUMBER, 0);
-        let free = self.words[5];
-        self.put(DATA, slot, 3, free);
-        self.words[5] = slot as i64;
-        Ok((self.words[3], counts))
     }
 }

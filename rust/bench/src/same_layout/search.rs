@@ -1,6 +1,6 @@
 //! The meeting of two envelopes, step for step as the requirements tell it.
 use super::trees::slot_of;
-use super::{Book, BASE, DATA, INNER, META, PIECE, PIECES, RATE};
+use super::{Book, BASE, DATA, INNER, PIECE, PIECES, RATE, THREAD};
 
 /// One side of a search, and the nodes from which it turned inward.
 struct Walk {
@@ -43,7 +43,7 @@ impl Book {
         let (n, d) = (self.get(PIECE, p, 2), self.get(PIECE, p, 3));
         let point = self.price(p, n, d);
         let slot = slot_of(x);
-        self.price(slot, n, d) <= point || x > INNER && self.price(self.link(META, slot, 3), n, d) <= point
+        self.price(slot, n, d) <= point || x > INNER && self.price(self.link(THREAD, slot, 3), n, d) <= point
     }
 
     /// a leaf stays

@@ -1,5 +1,5 @@
-//! Balanced trees in the words: one set of functions for the three trees, and for both sides.
-use super::{Book, BASE, DATA, INNER, META, PIECE, PIECES, RATE};
+//! Balanced trees in the words: one set of functions for the four trees, and for both sides.
+use super::{Book, BASE, DATA, HEIGHTS, INNER, PIECE, PIECES, RATE, THREAD};
 
 pub(super) fn slot_of(x: usize) -> usize {
     if x > INNER {
@@ -33,7 +33,7 @@ impl Book {
 
     pub(super) fn height(&self, tree: usize, x: usize) -> i64 {
         if x > INNER {
-            self.get(META, x - INNER, tree)
+            self.get(HEIGHTS, x - INNER, tree)
         } else {
             0
         }
@@ -44,7 +44,7 @@ impl Book {
         let at = self.at(1 + tree, gap, 0);
         self.words[at] = l as i64;
         self.words[at + 1] = r as i64;
-        self.put(META, gap, tree, height);
+        self.put(HEIGHTS, gap, tree, height);
         INNER + gap
     }
 
@@ -184,6 +184,19 @@ impl Book {
         }
     }
 
+    /// the first leaf whose key is below that, where keys fall; 0 where there is none
+    pub(super) fn after(&self, tree: usize, key: usize, root: usize, value: i64) -> usize {
+        let mut x = root;
+        while x > INNER {
+            x = self.child(tree, x, (self.get(DATA, x - INNER, key) >= value) as usize);
+        }
+        if x > 0 && self.get(DATA, x, key) < value {
+            x
+        } else {
+            0
+        }
+    }
+
     /// puts two piece trees together; `s` is the last piece of `l`, `n` the first of `r`
     pub(super) fn cat_at(&mut self, l: usize, r: usize, s: usize, n: usize) -> usize {
         if l == 0 || r == 0 {
@@ -193,7 +206,7 @@ impl Book {
         let denominator = self.get(DATA, s, RATE) - self.get(DATA, n, RATE);
         self.put(PIECE, s, 2, numerator);
         self.put(PIECE, s, 3, denominator);
-        self.put(META, s, 3, n as i64);
+        self.put(THREAD, s, 3, n as i64);
         self.join(PIECES, s, l, r)
     }
 }

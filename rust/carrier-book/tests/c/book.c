@@ -95,6 +95,20 @@ static void vouchers(void) {
     EXPECT(carrier_voucher(150, units, 0) == CARRIER_ARRAY_TOO_SHORT && units[0] == -2);
 }
 
+/* with the offers (1, 10) and (0, 40): one more at the rate 1, behind the first of that rate, then one ahead of it */
+static void one_rate(void) {
+    int64_t counts[CARRIER_COUNTS_WORDS] = {7, 7, 7};
+    int64_t price, other;
+    EXPECT(carrier_post(table, WORDS, START, 4, 1, 10, counts, CARRIER_COUNTS_WORDS) == 3);
+    EXPECT(counts[0] == 0 && counts[1] == 0 && counts[2] == 0);
+    EXPECT(query(5, &price, &other) == 2 && price == 15 && other == 2);
+    EXPECT(withdraw(4) == 2);
+    EXPECT(post(4, 1, 9) == 3);
+    EXPECT(query(5, &price, &other) == 4 && price == 14 && other == 4);
+    EXPECT(withdraw(4) == 2);
+    EXPECT(query(5, &price, &other) == 2 && price == 15 && other == 2);
+}
+
 static void edges_are_kept(void) {
     size_t i;
     for (i = 0; i < START; i++) {
@@ -112,7 +126,6 @@ static void refusals(void) {
     EXPECT(post(1, 3, -1000000001) == CARRIER_BASE_RANGE);
     EXPECT(carrier_query(table, WORDS, START, 1000001, few, 3) == CARRIER_LOAD_RANGE);
     EXPECT(post(1, 9, 9) == CARRIER_NUMBER_LIVE);
-    EXPECT(post(9, 3, 9) == CARRIER_RATE_LIVE);
     EXPECT(post(9, 9, 9) == CARRIER_FULL);
     EXPECT(withdraw(9) == CARRIER_NOT_LIVE);
     EXPECT(carrier_listing(table, WORDS, START, few, 3) == CARRIER_OUTPUT_TOO_SHORT);
@@ -145,6 +158,7 @@ int main(void) {
     refusals();
     EXPECT(withdraw(1) == 2);
     EXPECT(query(5, &price, &other) == 2 && price == 15 && other == 2);
+    one_rate();
     EXPECT(carrier_check(table, WORDS, START) == 1);
     table[START + 3]++;
     EXPECT(carrier_check(table, WORDS, START) == 0);

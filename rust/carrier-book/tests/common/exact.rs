@@ -38,10 +38,10 @@ pub fn crossing_price(own: &Offer, next: &Offer) -> Fraction {
     Fraction { n: i128::from(own.base) * load.d + i128::from(own.rate) * load.n, d: load.d }
 }
 
-/// The pieces by falling rate. The first has the highest rate. Each is followed by the offer that it crosses first, of several by the
-/// one of the lowest rate: the others only touch that crossing.
+/// The pieces by falling rate. The first has the highest rate, and of that the lowest base. Each is followed by the offer that it crosses
+/// first, of several by the one of the lowest rate: the others only touch that crossing. Of one rate and base the lowest number counts.
 pub fn envelope(offers: &[Offer]) -> Vec<Offer> {
-    let mut pieces: Vec<Offer> = offers.iter().copied().max_by_key(|o| o.rate).into_iter().collect();
+    let mut pieces: Vec<Offer> = offers.iter().copied().min_by_key(Offer::place).into_iter().collect();
     while let Some(own) = pieces.last().copied() {
         let mut next: Option<Offer> = None;
         for o in offers.iter().filter(|o| o.rate < own.rate) {
@@ -49,7 +49,7 @@ pub fn envelope(offers: &[Offer]) -> Vec<Offer> {
                 None => true,
                 Some(best) => {
                     let (a, b) = (crossing(&own, o), crossing(&own, &best));
-                    a.below(b) || !b.below(a) && o.rate < best.rate
+                    a.below(b) || !b.below(a) && (o.rate, o.number) < (best.rate, best.number)
                 }
             };
             if better {

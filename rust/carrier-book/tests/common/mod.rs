@@ -42,6 +42,11 @@ impl Offer {
     pub fn price(&self, load: i64) -> i64 {
         self.base + self.rate * load
     }
+
+    /// Where it stands among the offers: by falling rate, then rising base, then rising number.
+    pub fn place(&self) -> (i64, i64, i64) {
+        (-self.rate, self.base, self.number)
+    }
 }
 
 /// The live offers in no order; every answer is found by going through all of them.
@@ -68,9 +73,6 @@ impl Scan {
         if self.offers.iter().any(|p| p.number == o.number) {
             return Err(5);
         }
-        if self.offers.iter().any(|p| p.rate == o.rate) {
-            return Err(6);
-        }
         if self.offers.len() == self.capacity {
             return Err(7);
         }
@@ -87,20 +89,34 @@ impl Scan {
         Ok(self.offers.len() as i64)
     }
 
-    /// the least price, and of the offers that have it the numbers of the one with the lowest rate and of the one with the highest
+    /// the first offer of a rate, in order
+    pub fn first_of(&self, rate: i64) -> Option<Offer> {
+        self.offers.iter().filter(|o| o.rate == rate).min_by_key(|o| o.place()).copied()
+    }
+
+    /// the first offer of each rate, in order
+    pub fn firsts(&self) -> Vec<Offer> {
+        let mut firsts = self.offers.clone();
+        firsts.sort_by_key(Offer::place);
+        firsts.dedup_by_key(|o| o.rate);
+        firsts
+    }
+
+    /// the least price, and of the offers that have it the numbers of the one with the lowest rate and of the one with the highest; within
+    /// a rate of the first in order
     pub fn query(&self, load: i64) -> Result<(i64, i64, i64), i64> {
         if load.unsigned_abs() > 1_000_000 {
             return Err(16);
         }
         let least = self.offers.iter().map(|o| o.price(load)).min().ok_or(9i64)?;
         let tied = || self.offers.iter().filter(|o| o.price(load) == least);
-        let lowest = tied().min_by_key(|o| o.rate).ok_or(9i64)?;
-        let highest = tied().max_by_key(|o| o.rate).ok_or(9i64)?;
+        let lowest = tied().min_by_key(|o| (o.rate, o.base, o.number)).ok_or(9i64)?;
+        let highest = tied().min_by_key(|o| o.place()).ok_or(9i64)?;
         Ok((lowest.number, least, highest.number))
     }
 
-    /// Whether an offer is strictly cheaper than every other at some rational load: it is so right of its greatest crossing with an
-    /// offer of a higher rate and left of its least with one of a lower rate. No product reaches 2^49.
+    /// Whether an offer is strictly cheaper than every one of another rate at some rational load: it is so right of its greatest crossing
+    /// with an offer of a higher rate and left of its least with one of a lower rate. No product reaches 2^49.
     fn is_listed(&self, e: &Offer) -> bool {
         let mut after: Option<(i64, i64)> = None;
         let mut before: Option<(i64, i64)> = None;
@@ -123,10 +139,9 @@ impl Scan {
         true
     }
 
-    /// number, numerator, denominator a piece
+    /// number, numerator, denominator a piece; of each rate only the first offer can be one
     pub fn listing(&self) -> Vec<i64> {
-        let mut listed: Vec<Offer> = self.offers.iter().filter(|e| self.is_listed(e)).copied().collect();
-        listed.sort_by_key(|o| -o.rate);
+        let listed: Vec<Offer> = self.firsts().into_iter().filter(|e| self.is_listed(e)).collect();
         let mut out = vec![];
         for (i, o) in listed.iter().enumerate() {
             let (n, d) = listed.get(i + 1).map_or((0, 0), |next| (next.base - o.base, o.rate - next.rate));
@@ -160,9 +175,31 @@ pub enum Lie {
     Pencil,
     /// parallel families through few points, with tangents among them
     Mixed,
+    /// all at one rate
+    OneRate,
+    /// three rates, and bases so few that several offers have the same of both
+    ThreeRates,
+    /// eight rates, with as few bases
+    EightRates,
+    /// about a rate for four offers: tangents, and offers a little above them
+    Shared,
 }
 
-pub const LIES: [Lie; 6] = [Lie::Anywhere, Lie::Close, Lie::Tangent, Lie::Hidden, Lie::Pencil, Lie::Mixed];
+pub const LIES: [Lie; 10] = [
+    Lie::Anywhere,
+    Lie::Close,
+    Lie::Tangent,
+    Lie::Hidden,
+    Lie::Pencil,
+    Lie::Mixed,
+    Lie::OneRate,
+    Lie::ThreeRates,
+    Lie::EightRates,
+    Lie::Shared,
+];
+
+/// Those with few rates.
+pub const FEW_RATES: [Lie; 4] = [Lie::OneRate, Lie::ThreeRates, Lie::EightRates, Lie::Shared];
 
 pub fn offer(r: &mut Random, lie: Lie, capacity: i64) -> Offer {
     let number = r.within(1, (3 * capacity).min(9_999));
@@ -191,6 +228,13 @@ pub fn offer(r: &mut Random, lie: Lie, capacity: i64) -> Offer {
                 _ => r.within(-span, span),
             };
             (rate, base)
+        }
+        Lie::OneRate => (-5, r.within(-3, 3)),
+        Lie::ThreeRates => (r.within(-1, 1), r.within(-4, 4)),
+        Lie::EightRates => (r.within(-4, 3), r.within(-9, 9)),
+        Lie::Shared => {
+            let rate = r.within(-capacity / 8 - 1, capacity / 8 + 1);
+            (rate, rate * rate + r.within(0, 2))
         }
     };
     Offer { number, rate, base }
