@@ -60,13 +60,6 @@ pub fn split_in(
     Cut { front: f, back: y }
 }
 
-pub fn split(part: &mut [i64], tree: u8, field: usize, least: i64, x: u32, limit: u32) -> Cut
-    ensures { λ r. ⌜ Halving tree field least x limit (now (part .entry)) (now (part .exit)) (r .front) (r .back) ⌝ }
-{
-    let c = table::capacity(part);
-    split_in(part, c, tree, field, least, x, limit)
-}
-
 // The first leaf of a balanced tree, or, on the other side, its last; 0 for an empty one. `c` is the capacity.
 pub fn end_in(part: &[i64], c: u32, tree: u8, side: bool, x: u32) -> u32
     requires { ⌜ c ≡ cap (now part) ⌝ }

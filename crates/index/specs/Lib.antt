@@ -5,7 +5,9 @@ pub mod Index
 pub mod Trees
 -- ways through the code: an item found by its key, and the one that follows a key
 pub mod Finding
--- ways through the code: an item added to an index: cut where its key belongs, and joined between the two parts
+-- ways through the code: a leaf added on the way to a key: the way goes right of every leaf whose key is `least` or more
+pub mod Growing
+-- ways through the code: an item added to an index: its leaf stands where its key belongs
 pub mod Adding
 -- ways through the code: the least key above a key, as far as keys go
 pub mod Above

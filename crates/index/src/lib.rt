@@ -4,6 +4,7 @@ ghost use mathlib.Core.Path.{_≡_};
 ghost use Rattle.table.specs.Layout.{cap};
 ghost use Rattle.index.specs.Index.{FoundKey, Next, Added, Dropped};
 ghost use Rattle.index.specs.Above.{leastAbove};
+ghost use Rattle.index.specs.Growing.{Grown};
 ghost use Rattle.index.specs.Thinning.{Thinned};
 
 // No key reaches it, rank or number.
@@ -23,17 +24,51 @@ pub fn next(part: &[i64], tree: u8, field: usize, root: u32, key: i64) -> u32
     descents::after(part, tree, field, key, root)
 }
 
+// Adds leaf `s`, whose key is `key`, to the tree at `x`: the way goes right where the seam's key is as great. A seam stays the last leaf on its
+// left. The tree is at most `limit` high, and `c` is the capacity.
+fn add_below(
+    part: &mut [i64],
+    c: u32,
+    tree: u8,
+    field: usize,
+    key: i64,
+    s: u32,
+    x: u32,
+    limit: u32,
+) -> u32
+    requires { ⌜ c ≡ cap (now part) ⌝ }
+    ensures { λ r. ⌜ Grown tree field key s x limit (now (part .entry)) (now (part .exit)) r ⌝ }
+{
+    if x <= table::MOST_SLOTS {
+        if table::at_least_in(part, c, field, x, key) {
+            return shape::join_in(part, c, tree, x, x, s);
+        }
+        return shape::join_in(part, c, tree, s, s, x);
+    }
+    if limit == 0 {
+        return 0;
+    }
+    let gap = table::inner_slot(x);
+    let l = table::child_in(part, c, tree, false, x);
+    let r = table::child_in(part, c, tree, true, x);
+    if table::at_least_in(part, c, field, gap, key) {
+        let more = add_below(part, c, tree, field, key, s, r, limit - 1);
+        return shape::join_in(part, c, tree, gap, l, more);
+    }
+    let more = add_below(part, c, tree, field, key, s, l, limit - 1);
+    shape::join_in(part, c, tree, gap, more, r)
+}
+
 // Adds the item in slot `s`, whose key no item of the tree has.
 pub fn add(part: &mut [i64], tree: u8, field: usize, root: u32, s: u32) -> u32
     ensures { λ r. ⌜ Added tree field s root (now (part .entry)) (now (part .exit)) r ⌝ }
 {
-    let key = table::get(part, field, s);
-    let c = descents::split(part, tree, field, key, root, table::MOST_LEVELS);
-    let f = c.front;
-    let b = c.back;
-    let gap = descents::end(part, tree, true, f);
-    let y = shape::join(part, tree, gap, f, s);
-    shape::join(part, tree, s, y, b)
+    if root == 0 {
+        return s;
+    }
+    let c = table::capacity(part);
+    let key = table::get_in(part, c, field, s);
+    add_below(part, c, tree, field, key, s, root, table::MOST_LEVELS)
 }
 
 // The least key above a key, as far as keys go.

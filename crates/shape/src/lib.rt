@@ -134,10 +134,3 @@ pub fn join_in(part: &mut [i64], c: u32, tree: u8, gap: u32, l: u32, r: u32) -> 
     }
     set_node(part, c, tree, false, gap, l, r, table::height_over(hl, hr))
 }
-
-pub fn join(part: &mut [i64], tree: u8, gap: u32, l: u32, r: u32) -> u32
-    ensures { λ x. ⌜ Merged tree gap l r (now (part .entry)) (now (part .exit)) x ⌝ }
-{
-    let c = table::capacity(part);
-    join_in(part, c, tree, gap, l, r)
-}

@@ -101,6 +101,16 @@ module _ {A : Type 0} where
   splitP test none = record { front = none; back = none }
   splitP test (some t) = split test t
 
+  -- ---- add a leaf behind those that pass the test; no other separator changes
+
+  unfoldable pub addLeaf : (A → Bool) → A → Tree A → Tree A
+  addLeaf test a (leaf x) = cond (test x) (join (leaf x) (leaf a)) (join (leaf a) (leaf x))
+  addLeaf test a (node l r) = cond (test (last l)) (join l (addLeaf test a r)) (join (addLeaf test a l) r)
+
+  abbrev pub addP : (A → Bool) → A → Part A → Part A
+  addP test a none = some (leaf a)
+  addP test a (some t) = some (addLeaf test a t)
+
   -- ---- find a leaf by its key, keys falling from left to right
 
   unfoldable pub find : (A → ℤ) → ℤ → Tree A → Option A

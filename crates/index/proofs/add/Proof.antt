@@ -1,48 +1,35 @@
--- `index::add` meets its contract: a cut at the item's key, and its leaf joined between the two parts.
+-- `index::add` meets its contract: the first item's leaf, or one added on the way to its key.
 use borrow.Author.Needs.{needs}
 use mir.Facts.{toZ-ofZ}
 use mir.Syntax.{w64}
 use mir.Val.{SFits}
-use Rattle.index.specs.Adding.{added}
+use Rattle.index.specs.Adding.{added-first, added-below}
 use Rattle.index.proofs.add.Statement.{statement}
 use Rattle.index.proofs.add.Tie as tie
 
-get-requires : tie.Need-get-requires
-get-requires c κs = search needs
+returns : tie.Need-returns
+returns c = added-first (c .if1 .taken)
 
-split-requires : tie.Need-split-requires
-split-requires c κs = search needs
+capacity-requires : tie.Need-capacity-requires
+capacity-requires c κs = search needs
 
-end-requires : tie.Need-end-requires
-end-requires c κs = search needs
+get-in-requires : tie.Need-get-in-requires
+get-in-requires c κs = search needs
 
-join-requires : tie.Need-join-requires
-join-requires c κs = search needs
-
-join-requires-2 : tie.Need-join-requires-2
-join-requires-2 c κs = search needs
+add-below-requires : tie.Need-add-below-requires
+add-below-requires c κs = search needs
 
 same-length : tie.Need-same-length
 same-length c = search needs
 
-returns : tie.Need-returns
-returns c =
-    let at-join2 = c .before in
-    let at-join = at-join2 .before .before .before in
-    let at-end = at-join .before .before in
-    let at-split = at-end .before .before .before in
-    let at-get = at-split .before .before in
-    let f : SFits w64 (at-get .get .result) = record { sfits = at-get .get .ok } in
-    added (at-get .get .ensures) (simp (toZ-ofZ, f) at (at-split .split .ensures)) (at-end .end .ensures) (at-join .join .ensures) (at-join2 .join2 .ensures)
+returns-2 : tie.Need-returns-2
+returns-2 c =
+    let below = c .before in
+    let read = below .before .before in
+    let some-root = read .before .before .before .before in
+    let f : SFits w64 (read .get-in .result) = record { sfits = read .get-in .ok } in
+    added-below (some-root .if1 .left) (read .get-in .ensures) (simp (toZ-ofZ, f) at (below .add-below .ensures))
 
 pub add-spec : {M : Type 1} → statement M
 add-spec =
-    tie.close
-    (tie.spec
-    get-requires
-    split-requires
-    end-requires
-    join-requires
-    join-requires-2
-    same-length
-    returns)
+    tie.close (tie.spec returns capacity-requires get-in-requires add-below-requires same-length returns-2)

@@ -44,13 +44,10 @@ impl Book {
 
     /// enters the offer in `slot` in the index whose root is at word `at`
     fn enter(&mut self, tree: usize, key: usize, at: usize, slot: usize) {
-        let (front, back) = match self.root(at) {
-            0 => (0, 0),
-            root => self.split(tree, key, root, self.get(DATA, slot, key)),
-        };
-        let gap = self.end(tree, 1, front);
-        let front = self.join(tree, gap, front, slot);
-        self.words[at] = self.join(tree, slot, front, back) as i64;
+        self.words[at] = match self.root(at) {
+            0 => slot,
+            root => self.add(tree, key, root, slot, self.get(DATA, slot, key)),
+        } as i64;
     }
 
     fn strike(&mut self, tree: usize, key: usize, at: usize, value: i64) {

@@ -125,6 +125,23 @@ impl Book {
         }
     }
 
+    /// adds leaf `slot`, whose key is `value`, to a tree that is not empty; each seam stays
+    pub(super) fn add(&mut self, tree: usize, key: usize, x: usize, slot: usize, value: i64) -> usize {
+        let gap = slot_of(x);
+        let in_front = self.get(DATA, gap, key) >= value;
+        if x <= INNER {
+            return if in_front { self.node(tree, x, x, slot) } else { self.node(tree, slot, slot, x) };
+        }
+        let (l, r) = (self.child(tree, x, 0), self.child(tree, x, 1));
+        if in_front {
+            let y = self.add(tree, key, r, slot, value);
+            self.join(tree, gap, l, y)
+        } else {
+            let y = self.add(tree, key, l, slot, value);
+            self.join(tree, gap, y, r)
+        }
+    }
+
     /// drops the leaf with that key; 0 where none is left
     pub(super) fn drop(&mut self, tree: usize, key: usize, x: usize, value: i64) -> usize {
         if x <= INNER {
