@@ -29,10 +29,10 @@ use Rattle.form.specs.HeaderWords.{count-read}
 use Rattle.index.specs.Index.{FoundKey}
 use Rattle.declining.specs.Sought.{number-sought}
 use Rattle.declining.specs.PartCauses.{Postable}
-use Rattle.filing.specs.Writing.{filling, rootsOf, rooting, filled, freed-given, headed, first-free, FirstFree, Headed}
-use Rattle.filing.specs.Indexes.{Entered, Struck}
-use Rattle.filing.specs.Settling.{Joined, joins-alone, joins-among, joins-ahead, joins-behind, Left, leaves-place, leaves-behind}
-use Rattle.filing.specs.Following.{FollowedAt}
+use Rattle.settling.specs.Writing.{filling, rootsOf, rooting, filled, freed-given, headed, first-free, FirstFree, Headed}
+use Rattle.settling.specs.Indexes.{Entered, Struck}
+use Rattle.settling.specs.Settling.{Joined, joins-alone, joins-among, joins-ahead, joins-behind, Left, leaves-place, leaves-behind}
+use Rattle.settling.specs.Following.{FollowedAt}
 use Rattle.filing.specs.Updating.{Updated}
 use Rattle.filing.specs.Posting.{PostSteps, posted-plain}
 use Rattle.filing.specs.Withdrawing.{WithdrawSteps, LiveAt, live-at, withdrawn-plain, withdrawn-count}
@@ -105,20 +105,6 @@ kept-given : (w : Words) (s : ℕ) → Kept w (given w s)
 kept-given w s =
     then (then (kept-cell w numberField s (pos 0)) (kept-cell (cset w numberField s (pos 0)) nextFreeField s (pos (firstFree w))))
     (kept-header (cset (cset w numberField s (pos 0)) nextFreeField s (pos (firstFree w))) firstFreeWord (pos s) (omega arith) (omega arith))
-
-pub filled-in : (o : Offer) (w : Words) (s : ℕ) {z : ℤ} {w₁ w₂ w₃ w₄ w₅ : Words} → w₁ ≡ taken w → w₂ ≡ cset w₁ numberField s (o .number) →
-    w₃ ≡ cset w₂ rateField s (o .rate) → w₄ ≡ cset w₃ baseField s (o .base) → z ≡ rank o → w₅ ≡ cset w₄ rankField s z → w₅ ≡ filling o s w
-filled-in o w s {w₄ = w₄} e₁ e₂ e₃ e₄ ez e₅ =
-    e₅ ∙ ap (cset w₄ rankField s) ez ∙ ap (λ (v : Words). cset v rankField s (rank o)) (e₄ ∙ ap (λ (v : Words). cset v baseField s (o .base))
-    (e₃ ∙ ap (λ (v : Words). cset v rateField s (o .rate)) (e₂ ∙ ap (λ (v : Words). cset v numberField s (o .number)) e₁)))
-
-pub rooted-in :
-    (w : Words) (x : InHand) (n : ℕ) {w₁ w₂ w₃ : Words} →
-    w₁ ≡ wset w offersRootWord (pos (x .tree)) →
-    w₂ ≡ wset w₁ envelopeRootWord (pos (x .envelope)) →
-    w₃ ≡ wset w₂ liveCountWord (pos n) →
-    w₃ ≡ rooting x n w
-rooted-in w x n e₁ e₂ e₃ = e₃ ∙ ap (λ (v : Words). wset v liveCountWord (pos n)) (e₂ ∙ ap (λ (v : Words). wset v envelopeRootWord (pos (x .envelope))) e₁)
 
 pub read-most : (z : ℤ) {n : ℕ} → n ≡ upTo mostNodes z → n ≤ mostNodes
 read-most z e = omega (arith, e, upTo-most mostNodes z)

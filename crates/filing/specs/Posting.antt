@@ -18,7 +18,6 @@ use Rattle.plain.specs.Sound.{length-join}
 use Rattle.plain.specs.LiveAfter.{post-adds}
 use Rattle.plain.specs.FirstLaws.{self, Standing, pairs-standing, standing-map, standing-same, join-standing}
 use Rattle.dynamic.specs.OfferTree.{Held}
-use Rattle.dynamic.specs.Valid.{bookLines}
 use Rattle.firsts.specs.Joins.{Joins}
 use Rattle.table.specs.Fields.{firstFreeWord, liveCountWord, mostNodes, numberField, numberTree, numbersRootWord, offerTree, orderRootWord, orderTree}
 use Rattle.table.specs.Fields.{rankField, rateField}
@@ -29,7 +28,6 @@ use Rattle.table.specs.Rep.{header-kept}
 use Rattle.table.specs.Threads.{Held as HeldAt, Holds}
 use Rattle.table.specs.Keys.{Keyed, keyed-numbers}
 use Rattle.descents.specs.Finds.{Found}
-use Rattle.pieces.specs.Pieces.{rateOf}
 use Rattle.form.specs.Stored.{EnvelopeField}
 use Rattle.form.specs.Form.{Book, head0, numberOf, rankOf}
 use Rattle.form.specs.Live.{ranks-ahead}
@@ -37,13 +35,13 @@ use Rattle.form.specs.Roots.{offersRoot}
 use Rattle.levels.specs.declared.Made.{Made as Outcome}
 use Rattle.declining.specs.Sought.{rate-sought}
 use Rattle.declining.specs.PartCauses.{Postable}
-use Rattle.filing.specs.Agree.{Agree, IndexHere, FreeHere, agree-trans, agree-less, numbers-envelope, order-envelope, numbers-order, order-numbers}
-use Rattle.filing.specs.Agree.{rank-apart, tree-index, free-index, free-envelope, offers-agree, free-agree}
-use Rattle.filing.specs.Writing.{rootsOf, Filled, Headed, FirstFree, first-free}
-use Rattle.filing.specs.Indexes.{Stands, stands-agree, stands-among, stands-leaves, numbers-stand, order-stand, OffTree, Entered, Comes, entered}
-use Rattle.filing.specs.Indexes.{entered-agree, entered-header}
-use Rattle.filing.specs.Settling.{Joined, Settled, Before}
-use Rattle.filing.specs.Coming.{joins}
+use Rattle.settling.specs.Agree.{Agree, IndexHere, FreeHere, agree-trans, agree-less, numbers-envelope, order-envelope, numbers-order, order-numbers}
+use Rattle.settling.specs.Agree.{rank-apart, tree-index, free-index, free-envelope, offers-agree, free-agree}
+use Rattle.settling.specs.Writing.{rootsOf, Filled, Headed, FirstFree, first-free}
+use Rattle.settling.specs.Indexes.{Stands, stands-agree, stands-among, stands-leaves, numbers-stand, order-stand, OffTree, Entered, Comes, entered}
+use Rattle.settling.specs.Indexes.{entered-agree, entered-header}
+use Rattle.settling.specs.Settling.{Joined, Settled, Before}
+use Rattle.settling.specs.Coming.{joins}
 use Rattle.filing.specs.Updating.{Updated, book-standing, before-at, Rebuilt, rebuilt}
 
 -- The steps of a post: a slot filled, the item entered in both indexes and joined to the tree of offers, the roots and the count set.

@@ -1,15 +1,13 @@
 -- An update on a part that stands for a plain book: what it begins with, and a book put together again from what it leaves.
-use mathlib.Core.Path.{_≡_, refl, sym, _∙_, ap, subst}
+use mathlib.Core.Path.{_≡_, refl, sym, _∙_, ap}
 use mathlib.Core.Logic.{_⊎_, inl, inr}
-use mathlib.Core.List.{List, [], map, Pairwise}
+use mathlib.Core.List.{List, [], map}
 use mathlib.Core.Option.{Option}
 use Prim.Native.Nat.{ℕ, _≤_}
 use native.Mathlib.Omega.{arith}
 use lib.ListN.{length}
-use lib.Dec.{T}
 use lib.IntN.{pos}
 use Rattle.lists.specs.Firsts.{firsts}
-use Rattle.offers.specs.Offers.{Offer, ahead}
 use Rattle.trees.specs.Operations.{Part, partLeaves}
 use Rattle.plain.specs.Book.{State}
 use Rattle.plain.specs.FirstLaws.{Standing, pairs-standing}
@@ -28,11 +26,11 @@ use Rattle.form.specs.Live.{lines-whole, line-live, lines-most, ranks-ahead}
 use Rattle.form.specs.HeaderWords.{offers-read, envelope-read, capacity-most, live-most}
 use Rattle.levels.specs.declared.Counts.{Counts}
 use Rattle.levels.specs.declared.Made.{Made as Outcome}
-use Rattle.filing.specs.Agree.{Agree, TreeHere, agree-less, offers-agree}
-use Rattle.filing.specs.Writing.{rootsOf}
+use Rattle.settling.specs.Agree.{Agree, TreeHere, agree-less, offers-agree}
+use Rattle.settling.specs.Writing.{rootsOf}
 use Rattle.filing.specs.Counts.{Exact, counts-exact}
-use Rattle.filing.specs.Indexes.{Stands}
-use Rattle.filing.specs.Settling.{Settled, Before}
+use Rattle.settling.specs.Indexes.{Stands}
+use Rattle.settling.specs.Settling.{Settled, Before}
 
 -- What an update gives in the end: the part stands for this plain book, with a log of those counts.
 pub record Updated (w′ : Words) (plain : State) (held : Option (Held Item)) (n : Counts) : Type 0 where

@@ -30,7 +30,7 @@ use Rattle.table.specs.Fields.{envelopeRootWord, firstFreeWord, liveCountWord, 
 use Rattle.table.specs.Fields.{offersRootWord, orderRootWord, orderTree, rankField, rateField}
 use Rattle.table.specs.Words.{Words, word, upTo, upTo-in}
 use Rattle.table.specs.Layout.{cap, cap-most, cell}
-use Rattle.table.specs.Items.{Item, In, at, Slots, slots-sublist, offerOf}
+use Rattle.table.specs.Items.{Item, In, at, slots-sublist, offerOf}
 use Rattle.table.specs.Rep.{header-kept}
 use Rattle.descents.specs.Finds.{Found}
 use Rattle.form.specs.Stored.{EnvelopeField}
@@ -41,13 +41,13 @@ use Rattle.levels.specs.declared.Made.{Made as Outcome}
 use Rattle.declining.specs.Sought.{Sought, sought-item, rate-sought}
 use Rattle.pieces.specs.Pieces.{items, rateOf}
 use Rattle.index.specs.Trees.{among-holds}
-use Rattle.filing.specs.Agree.{Agree, IndexHere, FreeHere, agree-trans, agree-less, numbers-envelope, order-envelope, numbers-order, order-numbers}
-use Rattle.filing.specs.Agree.{tree-index, free-index, free-envelope, offers-agree, free-agree}
-use Rattle.filing.specs.Writing.{rootsOf, Headed, Freed, free-not-live}
-use Rattle.filing.specs.Indexes.{Stands, stands-agree, numbers-stand, order-stand, OffTree, Struck, Goes, struck, struck-agree, struck-header}
-use Rattle.filing.specs.Settling.{Left, Settled, Before}
-use Rattle.filing.specs.Going.{leaves}
-use Rattle.filing.specs.Following.{FollowedAt, followed}
+use Rattle.settling.specs.Agree.{Agree, IndexHere, FreeHere, agree-trans, agree-less, numbers-envelope, order-envelope, numbers-order, order-numbers}
+use Rattle.settling.specs.Agree.{tree-index, free-index, free-envelope, offers-agree, free-agree}
+use Rattle.settling.specs.Writing.{rootsOf, Headed, Freed, free-not-live}
+use Rattle.settling.specs.Indexes.{Stands, stands-agree, numbers-stand, order-stand, OffTree, Struck, Goes, struck, struck-agree, struck-header}
+use Rattle.settling.specs.Settling.{Left, Settled, Before}
+use Rattle.settling.specs.Going.{leaves}
+use Rattle.settling.specs.Following.{FollowedAt, followed}
 use Rattle.filing.specs.Updating.{Updated, book-standing, before-at, Rebuilt, rebuilt}
 
 -- The steps of a withdrawal: the item struck out of both indexes and taken out of the tree of offers, the roots and the count set, its slot given back.

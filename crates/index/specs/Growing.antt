@@ -1,8 +1,8 @@
 -- A leaf added on the way to a key: the way goes right of every leaf whose key is `least` or more, and no node above changes its seam.
 use mathlib.Core.Path.{_≡_, refl, sym, _∙_, ap, subst}
 use mathlib.Core.Bool.{Bool, true, false, not}
-use mathlib.Core.List.{List, [], _∷_, _++_, List·Memᴰ·head}
-use mathlib.Core.Option.{none, some}
+use mathlib.Core.List.{[], _∷_, _++_, List·Memᴰ·head}
+use mathlib.Core.Option.{some}
 use Prim.Native.Nat.{ℕ, _-_, _≤_, _<_}
 use native.Mathlib.Omega.{arith}
 use lib.Dec.{T}

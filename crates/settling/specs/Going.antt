@@ -22,7 +22,7 @@ use Rattle.levels.specs.declared.Held.{Held as InHand}
 use Rattle.levels.specs.declared.Made.{Made as Outcome}
 use Rattle.update.specs.Steps.{RemovedIn}
 use Rattle.declining.specs.Sought.{Sought, at-item, nowhere}
-use Rattle.filing.specs.Settling.{Left, leaves-place, leaves-behind, Settled, Before, line-live, slots-lines, rate-none, unmoved, vacates}
+use Rattle.settling.specs.Settling.{Left, leaves-place, leaves-behind, Settled, Before, line-live, slots-lines, rate-none, unmoved, vacates}
 
 -- ---- an item goes
 

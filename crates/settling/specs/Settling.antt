@@ -32,7 +32,7 @@ use Rattle.levels.specs.Levels.{HandIn, Counted}
 use Rattle.levels.specs.declared.Held.{Held as InHand}
 use Rattle.levels.specs.declared.Made.{Made as Outcome}
 use Rattle.update.specs.Steps.{aloneAt, slotBy, InsertedIn, Leaver, LeftIn, RemovedIn}
-use Rattle.filing.specs.Agree.{Agree, agree-touched}
+use Rattle.settling.specs.Agree.{Agree, agree-touched}
 
 -- ---- what the code does
 

@@ -34,9 +34,9 @@ use Rattle.levels.specs.declared.Held.{Held as InHand}
 use Rattle.levels.specs.declared.Made.{Made as Outcome}
 use Rattle.update.specs.Steps.{aloneAt, Newcomer, InsertedIn, RemovedIn}
 use Rattle.declining.specs.Sought.{Sought, sought-item, sought-none}
-use Rattle.filing.specs.Agree.{agree-touched}
-use Rattle.filing.specs.Settling.{idle, Joined, joins-alone, joins-among, joins-ahead, joins-behind, in-hand, left-book, Settled, Before}
-use Rattle.filing.specs.Settling.{line-live, slots-lines, rate-none, unmoved, vacates}
+use Rattle.settling.specs.Agree.{agree-touched}
+use Rattle.settling.specs.Settling.{idle, Joined, joins-alone, joins-among, joins-ahead, joins-behind, in-hand, left-book, Settled, Before}
+use Rattle.settling.specs.Settling.{line-live, slots-lines, rate-none, unmoved, vacates}
 
 -- a single item in hand
 alone-in : {w : Words} {a : Item} → Slots (cap w) (a ∷ []) → Holds w (a ∷ []) → HeldIn w (a .slot) (a .slot) (alone a)

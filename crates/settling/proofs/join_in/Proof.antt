@@ -1,13 +1,13 @@
--- `filing::join_in` meets its contract: alone, inserted, in the place of its rate's first, or behind it.
+-- `settling::join_in` meets its contract: alone, inserted, in the place of its rate's first, or behind it.
 use mathlib.Core.Path.{refl}
 use native.Mathlib.Omega.{arith}
 use mir.Facts.{toZ-ofZ}
 use mir.Syntax.{w64}
 use mir.Val.{SFits}
-use Rattle.filing.specs.Settling.{joins-alone, joins-among, joins-ahead, joins-behind, rank-said, rank-denied}
+use Rattle.settling.specs.Settling.{joins-alone, joins-among, joins-ahead, joins-behind, rank-said, rank-denied}
 use borrow.Author.Needs.{needs}
-use Rattle.filing.proofs.join_in.Statement.{statement}
-use Rattle.filing.proofs.join_in.Tie as tie
+use Rattle.settling.proofs.join_in.Statement.{statement}
+use Rattle.settling.proofs.join_in.Tie as tie
 
 alone-requires : tie.Need-alone-requires
 alone-requires c κs = search needs

@@ -23,7 +23,7 @@ use Rattle.form.specs.HeaderWords.{part-high, read-word, numbers-read, order-re
 use Rattle.index.specs.Index.{IndexAt, Added, Dropped}
 use Rattle.index.specs.Trees.{among-holds, among-keyed, index-rep}
 use Rattle.declining.specs.Sought.{numbers-at, order-at}
-use Rattle.filing.specs.Agree.{Agree, IndexHere, agree-trans, agree-less, agree-header, agree-only, header-set, index-agree}
+use Rattle.settling.specs.Agree.{Agree, IndexHere, agree-trans, agree-less, agree-header, agree-only, header-set, index-agree}
 
 -- the word tells the root of an index of these items
 pub record Stands (w : Words) (tree field at : ℕ) (key : Item → ℤ) (live : List Item) (p : Part Item) : Type 0 where

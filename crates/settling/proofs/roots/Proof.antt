@@ -1,8 +1,8 @@
--- `filing::roots` meets its contract: the two roots that the header tells.
-use Rattle.filing.specs.Writing.{roots-read}
+-- `settling::roots` meets its contract: the two roots that the header tells.
+use Rattle.settling.specs.Writing.{roots-read}
 use borrow.Author.Needs.{needs}
-use Rattle.filing.proofs.roots.Statement.{statement}
-use Rattle.filing.proofs.roots.Tie as tie
+use Rattle.settling.proofs.roots.Statement.{statement}
+use Rattle.settling.proofs.roots.Tie as tie
 
 offers-root-requires : tie.Need-offers-root-requires
 offers-root-requires c κs = search needs

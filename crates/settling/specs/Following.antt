@@ -1,7 +1,7 @@
 -- The offer behind one in order: as the code finds it, and what it is to the offer that goes.
 use mathlib.Core.Path.{_≡_, refl, sym, _∙_, ap, subst}
-use mathlib.Core.Logic.{_≢_, _⊎_, inl, inr, ⊎-elim}
-use mathlib.Core.Bool.{Bool, true, false, not}
+use mathlib.Core.Logic.{_⊎_, inl, inr, ⊎-elim}
+use mathlib.Core.Bool.{Bool, true, false}
 use mathlib.Core.List.{List, List·Memᴰ}
 use mathlib.Core.Option.{Option}
 use Prim.Native.Nat.{ℕ, _<_}
@@ -28,7 +28,7 @@ use Rattle.pieces.specs.Pieces.{rateOf}
 use Rattle.form.specs.Form.{Book, rankOf}
 use Rattle.index.specs.Index.{Next, NextAmong, Follows, NoneBelow}
 use Rattle.declining.specs.Sought.{order-at}
-use Rattle.filing.specs.Going.{Followed, by-its-rate, by-another, by-nobody}
+use Rattle.settling.specs.Going.{Followed, by-its-rate, by-another, by-nobody}
 
 -- the search from the rank of the offer in slot s, and whether what it finds has that offer's rate
 pub data FollowedAt (s : ℕ) (w : Words) (y : ℕ) : Type 0 where

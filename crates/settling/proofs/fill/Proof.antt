@@ -1,11 +1,11 @@
--- `filing::fill` meets its contract: a slot taken, and four fields written one after another.
+-- `settling::fill` meets its contract: a slot taken, and four fields written one after another.
 use mir.Facts.{toZ-ofZ}
 use mir.Syntax.{w64}
 use mir.Val.{SFits}
-use Rattle.filing.specs.PartUpdates.{filled-in}
+use Rattle.settling.specs.Writing.{filled-in}
 use borrow.Author.Needs.{needs}
-use Rattle.filing.proofs.fill.Statement.{statement}
-use Rattle.filing.proofs.fill.Tie as tie
+use Rattle.settling.proofs.fill.Statement.{statement}
+use Rattle.settling.proofs.fill.Tie as tie
 
 take-slot-requires : tie.Need-take-slot-requires
 take-slot-requires c κs = search needs

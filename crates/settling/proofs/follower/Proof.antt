@@ -1,12 +1,12 @@
--- `filing::follower` meets its contract: the next in order, and a test of its rate.
+-- `settling::follower` meets its contract: the next in order, and a test of its rate.
 use mathlib.Core.Path.{refl}
 use mir.Facts.{toZ-ofZ}
 use mir.Syntax.{w64}
 use mir.Val.{SFits}
-use Rattle.filing.specs.Following.{finds-none, finds-its-rate, finds-another, next-at}
+use Rattle.settling.specs.Following.{finds-none, finds-its-rate, finds-another, next-at}
 use borrow.Author.Needs.{needs}
-use Rattle.filing.proofs.follower.Statement.{statement}
-use Rattle.filing.proofs.follower.Tie as tie
+use Rattle.settling.proofs.follower.Statement.{statement}
+use Rattle.settling.proofs.follower.Tie as tie
 
 number-at-requires : tie.Need-number-at-requires
 number-at-requires c κs = search needs

@@ -1,8 +1,8 @@
--- `filing::set_roots` meets its contract: three words written one after another.
-use Rattle.filing.specs.PartUpdates.{rooted-in}
+-- `settling::set_roots` meets its contract: three words written one after another.
+use Rattle.settling.specs.Writing.{rooted-in}
 use borrow.Author.Needs.{needs}
-use Rattle.filing.proofs.set_roots.Statement.{statement}
-use Rattle.filing.proofs.set_roots.Tie as tie
+use Rattle.settling.proofs.set_roots.Statement.{statement}
+use Rattle.settling.proofs.set_roots.Tie as tie
 
 set-number-requires : tie.Need-set-number-requires
 set-number-requires c κs = search needs

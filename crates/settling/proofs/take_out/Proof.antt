@@ -1,9 +1,9 @@
--- `filing::take_out` meets its contract: the first of its rate leaves its place, and another changes nothing.
+-- `settling::take_out` meets its contract: the first of its rate leaves its place, and another changes nothing.
 use mathlib.Core.Path.{refl}
-use Rattle.filing.specs.Settling.{leaves-place, leaves-behind}
+use Rattle.settling.specs.Settling.{leaves-place, leaves-behind}
 use borrow.Author.Needs.{needs}
-use Rattle.filing.proofs.take_out.Statement.{statement}
-use Rattle.filing.proofs.take_out.Tie as tie
+use Rattle.settling.proofs.take_out.Statement.{statement}
+use Rattle.settling.proofs.take_out.Tie as tie
 
 idle-requires : tie.Need-idle-requires
 idle-requires c κs = search needs

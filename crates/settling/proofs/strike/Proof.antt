@@ -1,8 +1,8 @@
--- `filing::strike` meets its contract: a root read, an item dropped, the root written.
+-- `settling::strike` meets its contract: a root read, an item dropped, the root written.
 use mir.Facts.{toZ-ofZ}
 use borrow.Author.Needs.{needs}
-use Rattle.filing.proofs.strike.Statement.{statement}
-use Rattle.filing.proofs.strike.Tie as tie
+use Rattle.settling.proofs.strike.Statement.{statement}
+use Rattle.settling.proofs.strike.Tie as tie
 
 number-at-requires : tie.Need-number-at-requires
 number-at-requires c κs = search needs

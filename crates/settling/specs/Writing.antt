@@ -25,7 +25,7 @@ use Rattle.table.specs.Items.{Item, In, at}
 use Rattle.table.specs.Threads.{Holds}
 use Rattle.form.specs.Form.{Book, FreeChain, free-more, head0}
 use Rattle.form.specs.Roots.{envelopeRoot, offersRoot}
-use Rattle.filing.specs.Agree.{Agree, Everywhere, Elsewhere, agree-trans, agree-less, agree-header, agree-cset, header-set}
+use Rattle.settling.specs.Agree.{Agree, Everywhere, Elsewhere, agree-trans, agree-less, agree-header, agree-cset, header-set}
 use Rattle.levels.specs.declared.Held.{Held as InHand}
 
 -- ---- what the code writes and reads
@@ -44,6 +44,22 @@ roots-read w p q = λ i. record { tree = p i; envelope = q i }
 -- the roots and the live count
 abbrev pub rooting : InHand → ℕ → Words → Words
 rooting x n w = wset (wset (wset w offersRootWord (pos (x .tree))) envelopeRootWord (pos (x .envelope))) liveCountWord (pos n)
+
+-- ---- .. write by write
+
+pub filled-in : (o : Offer) (w : Words) (s : ℕ) {z : ℤ} {w₁ w₂ w₃ w₄ w₅ : Words} → w₁ ≡ taken w → w₂ ≡ cset w₁ numberField s (o .number) →
+    w₃ ≡ cset w₂ rateField s (o .rate) → w₄ ≡ cset w₃ baseField s (o .base) → z ≡ rank o → w₅ ≡ cset w₄ rankField s z → w₅ ≡ filling o s w
+filled-in o w s {w₄ = w₄} e₁ e₂ e₃ e₄ ez e₅ =
+    e₅ ∙ ap (cset w₄ rankField s) ez ∙ ap (λ (v : Words). cset v rankField s (rank o)) (e₄ ∙ ap (λ (v : Words). cset v baseField s (o .base))
+    (e₃ ∙ ap (λ (v : Words). cset v rateField s (o .rate)) (e₂ ∙ ap (λ (v : Words). cset v numberField s (o .number)) e₁)))
+
+pub rooted-in :
+    (w : Words) (x : InHand) (n : ℕ) {w₁ w₂ w₃ : Words} →
+    w₁ ≡ wset w offersRootWord (pos (x .tree)) →
+    w₂ ≡ wset w₁ envelopeRootWord (pos (x .envelope)) →
+    w₃ ≡ wset w₂ liveCountWord (pos n) →
+    w₃ ≡ rooting x n w
+rooted-in w x n e₁ e₂ e₃ = e₃ ∙ ap (λ (v : Words). wset v liveCountWord (pos n)) (e₂ ∙ ap (λ (v : Words). wset v envelopeRootWord (pos (x .envelope))) e₁)
 
 -- ---- a slot is filled: the first free slot is then the next one
 
