@@ -20,8 +20,8 @@ use Rattle.table.specs.Words.{Words, upTo}
 use Rattle.table.specs.Layout.{cap, cell}
 use Rattle.table.specs.Items.{Item, In, at, in-left, in-right, Slots, slots-left, slots-right, slots-across}
 use Rattle.table.specs.Rep.{childField, childAt, Within, within-cap, within-refl, within-trans, Only, only-refl, only-trans, only-more, tied-still, inner-in}
-use Rattle.table.specs.Nodes.{Parents, parents, leaf-low, ref-low}
-use Rattle.table.specs.PartTrees.{RepP, repP-none, rep-some, MadeP, repP-still, PairP, Seam, seam-left}
+use Rattle.table.specs.Nodes.{Parents, parents, leaf-low, node-high, ref-low}
+use Rattle.table.specs.PartTrees.{RepP, repP-none, rep-some, MadeP, left-child, right-child, repP-still, PairP, Seam, seam-left}
 use Rattle.table.specs.Keys.{Keyed, keyed-left, keyed-right}
 use Rattle.shape.specs.JoinSteps.{Merged}
 use Rattle.descents.specs.Whole.{Whole, split-whole, not-left, not-right}
@@ -47,6 +47,17 @@ pub record Halving (k f : ℕ) (least : ℤ) (x limit : ℕ) (w w′ : Words) (y
 pub still-known : {c : ℕ} {w w′ : Words} → c ≡ cap w → Within w w′ → c ≡ cap w′
 still-known e h = e ∙ sym (within-cap h)
 
+-- ---- what the test tells of a leaf, and of the seam
+
+pub leaf-test : {w : Words} {k f x : ℕ} {b : Bool} {i : Item} {key : Item → ℤ} (least : ℤ) → b ≡ leZ least (cell w f x) →
+    RepP w k x (some (leaf i)) → Keyed w f key (i ∷ []) → b ≡ from key least i
+leaf-test {w} {f} least eb r q = eb ∙ ap (leZ least) (ap (cell w f) (r .root) ∙ q .read (List·Memᴰ·head refl))
+
+pub seam-test : {w : Words} {k f x g : ℕ} {b : Bool} {s t : Tree Item} {key : Item → ℤ} (least : ℤ) → g ≡ x - mostSlots → b ≡ leZ least (cell w f g) →
+    RepP w k x (some (node s t)) → Keyed w f key (leaves s ++ leaves t) → b ≡ from key least (last s)
+seam-test {w} {f} {s} {t} least eg eb rep q =
+    eb ∙ ap (leZ least) (ap (cell w f) (eg ∙ parents (rep-some rep) .seam-at) ∙ q .read (Memᴰ·append-left (leaves t) (last-leaf s)))
+
 -- ---- a leaf, or nothing
 
 pub halved-leaf : {k f x limit : ℕ} {b : Bool} {w : Words} (least : ℤ) (d : Bool) → x ≤ mostSlots → b ≡ leZ least (cell w f x) → b ≡ d →
@@ -69,8 +80,8 @@ halved-leaf {k} {f} {x} {limit} {b} {w} least d h e g = record { within = within
         (one d i r)
       where
         told : d ≡ from key least i
-        told = sym g ∙ e ∙ ap (leZ least) (ap (cell w f) (r .root) ∙ q .read (List·Memᴰ·head refl))
-    made (some (node s t)) key r a n q = absurd (omega (arith, h, r .root, slots-left (leaves t) (r .slots) .low (last-leaf s)))
+        told = sym g ∙ leaf-test least e r q
+    made (some (node s t)) key r a n q = absurd (omega (arith, h, node-high (rep-some r)))
 
 -- ---- an inner node
 
@@ -104,12 +115,6 @@ at-node {k} {f} {x} {limit} {y} {z} {w} {w′} least h g step = record { within 
 pub halved-over : {k f x limit y z : ℕ} {w : Words} (least : ℤ) → mostSlots < x → limit ≡ 0 → Halving k f least x limit w w y z
 halved-over {w} least h e = at-node least h (within-refl w) (λ s t key r a n q. absurd (omega (arith, n, e)))
 
--- what the test tells of the seam
-pub seam-test : {w : Words} {k f x g : ℕ} {b : Bool} {s t : Tree Item} {key : Item → ℤ} (least : ℤ) → g ≡ x - mostSlots → b ≡ leZ least (cell w f g) →
-    RepP w k x (some (node s t)) → Keyed w f key (leaves s ++ leaves t) → b ≡ from key least (last s)
-seam-test {w} {f} {s} {t} least eg eb rep q =
-    eb ∙ ap (leZ least) (ap (cell w f) (eg ∙ parents (rep-some rep) .seam-at) ∙ q .read (Memᴰ·append-left (leaves t) (last-leaf s)))
-
 -- what the recursion says of a child
 cut-right : {k f x limit r y z : ℕ} {w w₁ : Words} {s t : Tree Item} {key : Item → ℤ} (least : ℤ) → r ≡ childAt w k true x →
     Halving k f least r (limit - 1) w w₁ y z
@@ -117,9 +122,7 @@ cut-right : {k f x limit r y z : ℕ} {w w₁ : Words} {s t : Tree Item} {key : 
     Halved k w w₁ y z (leaves t) (split (from key least) t)
 unfolding splitP
 cut-right {s} {t} {key} least er rec rep a n q =
-    let o = parents (rep-some rep) in
-    rec .made (some t) key (record { kind = rep .kind; root = er ∙ o .right-at; slots = slots-right (leaves s) (rep .slots); tied = o .tied-right }) a
-    (omega (arith, n)) (keyed-right (leaves s) q)
+    rec .made (some t) key (right-child er rep) a (omega (arith, n)) (keyed-right (leaves s) q)
 
 cut-left : {k f x limit l y z : ℕ} {w w₁ : Words} {s t : Tree Item} {key : Item → ℤ} (least : ℤ) → l ≡ childAt w k false x →
     Halving k f least l (limit - 1) w w₁ y z
@@ -127,9 +130,7 @@ cut-left : {k f x limit l y z : ℕ} {w w₁ : Words} {s t : Tree Item} {key : I
     Halved k w w₁ y z (leaves s) (split (from key least) s)
 unfolding splitP
 cut-left {s} {t} {key} least el rec rep a n q =
-    let o = parents (rep-some rep) in
-    rec .made (some s) key (record { kind = rep .kind; root = el ∙ o .left-at; slots = slots-left (leaves t) (rep .slots); tied = o .tied-left }) a
-    (omega (arith, n)) (keyed-left (leaves t) q)
+    rec .made (some s) key (left-child el rep) a (omega (arith, n)) (keyed-left (leaves t) q)
 
 -- ---- nothing is cut off
 

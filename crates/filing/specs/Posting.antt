@@ -35,10 +35,11 @@ use Rattle.form.specs.Roots.{offersRoot}
 use Rattle.levels.specs.declared.Made.{Made as Outcome}
 use Rattle.declining.specs.Sought.{rate-sought}
 use Rattle.declining.specs.PartCauses.{Postable}
+use Rattle.index.specs.Index.{Comes}
 use Rattle.settling.specs.Agree.{Agree, IndexHere, FreeHere, agree-trans, agree-less, numbers-envelope, order-envelope, numbers-order, order-numbers}
 use Rattle.settling.specs.Agree.{rank-apart, tree-index, free-index, free-envelope, offers-agree, free-agree}
 use Rattle.settling.specs.Writing.{rootsOf, Filled, Headed, FirstFree, first-free}
-use Rattle.settling.specs.Indexes.{Stands, stands-agree, stands-among, stands-leaves, numbers-stand, order-stand, OffTree, Entered, Comes, entered}
+use Rattle.settling.specs.Indexes.{Stands, stands-agree, stands-among, stands-leaves, numbers-stand, order-stand, OffTree, Entered, entered}
 use Rattle.settling.specs.Indexes.{entered-agree, entered-header}
 use Rattle.settling.specs.Settling.{Joined, Settled, Before}
 use Rattle.settling.specs.Coming.{joins}

@@ -41,10 +41,11 @@ use Rattle.levels.specs.declared.Made.{Made as Outcome}
 use Rattle.declining.specs.Sought.{Sought, sought-item, rate-sought}
 use Rattle.pieces.specs.Pieces.{items, rateOf}
 use Rattle.index.specs.Trees.{among-holds}
+use Rattle.index.specs.Index.{Goes}
 use Rattle.settling.specs.Agree.{Agree, IndexHere, FreeHere, agree-trans, agree-less, numbers-envelope, order-envelope, numbers-order, order-numbers}
 use Rattle.settling.specs.Agree.{tree-index, free-index, free-envelope, offers-agree, free-agree}
 use Rattle.settling.specs.Writing.{rootsOf, Headed, Freed, free-not-live}
-use Rattle.settling.specs.Indexes.{Stands, stands-agree, numbers-stand, order-stand, OffTree, Struck, Goes, struck, struck-agree, struck-header}
+use Rattle.settling.specs.Indexes.{Stands, stands-agree, numbers-stand, order-stand, OffTree, Struck, struck, struck-agree, struck-header}
 use Rattle.settling.specs.Settling.{Left, Settled, Before}
 use Rattle.settling.specs.Going.{leaves}
 use Rattle.settling.specs.Following.{FollowedAt, followed}

@@ -23,7 +23,7 @@ pub fn post_part(part: &mut [i64], number: i64, rate: i64, base: i64) -> Told
     let s = settling::fill(part, number, rate, base);
     settling::enter(part, table::NUMBERS, table::NUMBER, table::NUMBERS_ROOT, s);
     settling::enter(part, table::ORDER, table::RANK, table::ORDER_ROOT, s);
-    let m = settling::join_in(part, held, s, f);
+    let m = settling::join_offers(part, held, s, f);
     let joined = m.held;
     let counts = m.counts;
     let live = n + 1;
@@ -61,7 +61,7 @@ pub fn withdraw_part(part: &mut [i64], number: i64, s: u32) -> Told
         number,
     );
     settling::strike(part, table::ORDER, table::RANK, table::ORDER_ROOT, rank);
-    let m = settling::take_out(part, held, s, f, by);
+    let m = settling::leave_offers(part, held, s, f, by);
     let rest = m.held;
     let spent = m.counts;
     let live = one_less(n);

@@ -24,7 +24,7 @@ use Rattle.plain.specs.Sound.{Sound}
 use Rattle.dynamic.specs.OfferTree.{Held}
 use Rattle.dynamic.specs.Valid.{WholeBook, bookLines}
 use Rattle.table.specs.Words.{Words}
-use Rattle.table.specs.Layout.{cap, cap-most}
+use Rattle.table.specs.Layout.{cap-most}
 use Rattle.table.specs.Items.{Item, offerOf, Slots}
 use Rattle.table.specs.Threads.{Holds}
 use Rattle.pieces.specs.Pieces.{items}

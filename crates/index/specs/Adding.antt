@@ -14,7 +14,7 @@ use Rattle.integers.specs.Parts.{intRules, ne-parts}
 use Rattle.trees.specs.Tree.{Avl}
 use Rattle.trees.specs.Operations.{Part, partLeaves, splitP, addP}
 use Rattle.trees.specs.Order.{Falling, falling-turning}
-use Rattle.trees.specs.Split.{splitP-leaves, Clean}
+use Rattle.trees.specs.Split.{splitP-leaves, Clean, splitP-clean}
 use Rattle.trees.specs.Add.{addP-leaves, addP-avl}
 use Rattle.table.specs.Fields.{mostLevels}
 use Rattle.table.specs.Words.{Words}
@@ -22,13 +22,11 @@ use Rattle.table.specs.Layout.{cap, cell}
 use Rattle.table.specs.Items.{Item, Slots}
 use Rattle.table.specs.Rep.{Within, within-refl, Only, only-refl, only-more}
 use Rattle.table.specs.Nodes.{ref-low}
-use Rattle.table.specs.Keys.{Keyed}
-use Rattle.table.specs.PartTrees.{RepP, MadeP, low}
-use Rattle.table.specs.Threads.{Holds}
+use Rattle.table.specs.PartTrees.{RepP, repP-leaf, MadeP, low}
 use Rattle.descents.specs.Cuts.{from}
-use Rattle.index.specs.Index.{IndexAt, Added}
-use Rattle.index.specs.Trees.{among-in, among-keyed, falling-slots, leaves-keyed, index-rep, index-made, splitP-clean}
-use Rattle.index.specs.Growing.{rep-leaf, Grown}
+use Rattle.index.specs.Index.{IndexAt, Comes, Added}
+use Rattle.index.specs.Trees.{among-in, among-keyed, falling-slots, leaves-keyed, index-rep, index-made}
+use Rattle.index.specs.Growing.{Grown}
 
 -- ---- lists
 
@@ -61,16 +59,8 @@ between-among {a} {live} xs ys f b m =
 
 -- ---- an item that is not there yet
 
-record Newcomer (w : Words) (tree field : ℕ) (key : Item → ℤ) (s root : ℕ) (a : Item) (live : List Item) (p : Part Item) : Type 0 where
-  there : IndexAt w tree field key root live p
-  slot-is : s ≡ a .slot
-  slots : Slots (cap w) (a ∷ live)
-  holds : Holds w (a ∷ live)
-  keyed : Keyed w field key (a ∷ live)
-  new : (b : Item) → List·Memᴰ b live → key b ≢ key a
-
 module _ {tree field s root : ℕ} {w : Words} {key : Item → ℤ} {a : Item} {live : List Item} {p : Part Item}
-    (h : Newcomer w tree field key s root a live p) where
+    (n : IndexAt w tree field key root live p) (h : Comes w field s key a live) where
   front : List Item
   front = partLeaves (splitP (from key (key a)) p .front)
 
@@ -82,13 +72,13 @@ module _ {tree field s root : ℕ} {w : Words} {key : Item → ℤ} {a : Item} {
   order = splitP-leaves (from key (key a)) p
 
   live-parts : Among (front ++ back) live
-  live-parts c m = h .there .index-in .all-live c (rw (← order) m)
+  live-parts c m = n .index-in .all-live c (rw (← order) m)
 
   parts-live : Among live (front ++ back)
-  parts-live c m = rw order (h .there .index-in .all-there c m)
+  parts-live c m = rw order (n .index-in .all-there c m)
 
   clean : Clean (from key (key a)) (splitP (from key (key a)) p)
-  clean = splitP-clean (from key (key a)) p (falling-turning key (key a) (h .there .index-in .falling))
+  clean = splitP-clean (from key (key a)) p (falling-turning key (key a) (n .index-in .falling))
 
   above : (c : Item) → List·Memᴰ c front → T (ltZ (key a) (key c))
   unfolding front
@@ -103,7 +93,7 @@ module _ {tree field s root : ℕ} {w : Words} {key : Item → ℤ} {a : Item} {
       omega (arith, intRules)
 
   falls : Falling key (front ++ (a ∷ back))
-  falls = falling-between key a front back (rw order (h .there .index-in .falling)) above below
+  falls = falling-between key a front back (rw order (n .index-in .falling)) above below
 
   inside : Among (front ++ (a ∷ back)) (a ∷ live)
   inside = among-between front back live-parts
@@ -126,32 +116,22 @@ module _ {tree field s root : ℕ} {w : Words} {key : Item → ℤ} {a : Item} {
 
     add-made : IndexAt w′ tree field key x (a ∷ live) grown
     add-made =
-        index-made (h .there .index) (m .rep) g add-only (h .slots) (h .holds) (h .keyed) (addP-avl (from key (key a)) a p (h .there .index-in .balanced))
+        index-made (n .index) (m .rep) g add-only (h .slots) (h .holds) (h .keyed) (addP-avl (from key (key a)) a p (n .index-in .balanced))
         (rw grown-leaves falls) (λ c i. inside c (rw (← grown-leaves) i)) (λ c i. rw grown-leaves (between-among front back parts-live c i))
 
 -- who makes that tree has added the item
 added-by :
     {tree field s root x : ℕ} {w w′ : Words} →
     Within w w′ →
-    ((key : Item → ℤ) (a : Item) (live : List Item) (p : Part Item) → Newcomer w tree field key s root a live p →
+    ((key : Item → ℤ) (a : Item) (live : List Item) (p : Part Item) → IndexAt w tree field key root live p → Comes w field s key a live →
     MadeP tree w w′ x (addP (from key (key a)) a p)) →
     Added tree field s root w w′ x
-added-by {tree} {field} {s} {root} {x} {w} {w′} g make =
+added-by g make =
     record {
       within = g;
-      made = λ key a live p n i j o k d. (addP (from key (key a)) a p, add-made (newcomer key a live p n i j o k d) g (makes key a live p n i j o k d));
-      only = λ key a live p n i j o k d. add-only (newcomer key a live p n i j o k d) g (makes key a live p n i j o k d);
+      made = λ key a live p n h. (addP (from key (key a)) a p, add-made n h g (make key a live p n h));
+      only = λ key a live p n h. add-only n h g (make key a live p n h);
     }
-  where
-    newcomer : (key : Item → ℤ) (a : Item) (live : List Item) (p : Part Item) → IndexAt w tree field key root live p → s ≡ a .slot →
-        Slots (cap w) (a ∷ live) → Holds w (a ∷ live) → Keyed w field key (a ∷ live) → ((b : Item) → List·Memᴰ b live → key b ≢ key a) →
-        Newcomer w tree field key s root a live p
-    newcomer key a live p n i j o k d = record { there = n; slot-is = i; slots = j; holds = o; keyed = k; new = d }
-
-    makes : (key : Item → ℤ) (a : Item) (live : List Item) (p : Part Item) → IndexAt w tree field key root live p → s ≡ a .slot →
-        Slots (cap w) (a ∷ live) → Holds w (a ∷ live) → Keyed w field key (a ∷ live) → ((b : Item) → List·Memᴰ b live → key b ≢ key a) →
-        MadeP tree w w′ x (addP (from key (key a)) a p)
-    makes key a live p n i j o k d = make key a live p (newcomer key a live p n i j o k d)
 
 -- ---- the two ways
 
@@ -159,29 +139,27 @@ added-by {tree} {field} {s} {root} {x} {w} {w′} g make =
 pub added-first : {tree field s root : ℕ} {w : Words} → root ≡ 0 → Added tree field s root w w s
 added-first {tree} {field} {s} {root} {w} e = added-by (within-refl w) make
   where
-    make : (key : Item → ℤ) (a : Item) (live : List Item) (p : Part Item) → Newcomer w tree field key s root a live p →
+    make : (key : Item → ℤ) (a : Item) (live : List Item) (p : Part Item) → IndexAt w tree field key root live p → Comes w field s key a live →
         MadeP tree w w s (addP (from key (key a)) a p)
-    make key a live none h = record { rep = rep-leaf (h .there .index .kind) (h .slot-is) (grown-slots h); only = only-refl tree (a ∷ []) w }
-    make key a live (some t) h = absurd (omega (arith, e, h .there .root-is, ref-low t (index-rep (some t) (h .there) .slots)))
+    make key a live none n h = record { rep = repP-leaf (n .index .kind) (h .slot) (grown-slots n h); only = only-refl tree (a ∷ []) w }
+    make key a live (some t) n h = absurd (omega (arith, e, n .root-is, ref-low t (index-rep (some t) n .slots)))
 
 -- another one, from the root down
 pub added-below : {tree field s root x : ℕ} {least : ℤ} {w w′ : Words} → root ≢ 0 → least ≡ cell w field s →
     Grown tree field least s root mostLevels w w′ x → Added tree field s root w w′ x
 added-below {tree} {field} {s} {root} {x} {least} {w} {w′} d r k = added-by (k .within) make
   where
-    make : (key : Item → ℤ) (a : Item) (live : List Item) (p : Part Item) → Newcomer w tree field key s root a live p →
+    make : (key : Item → ℤ) (a : Item) (live : List Item) (p : Part Item) → IndexAt w tree field key root live p → Comes w field s key a live →
         MadeP tree w w′ x (addP (from key (key a)) a p)
-    make key a live none h = absurd (d (h .there .root-is))
-    make key a live (some t) h = at-key .made t key a rep (h .slot-is) (grown-slots h) balanced (low w (rep .slots) balanced) (leaves-keyed (some t) (h .there))
+    make key a live none n h = absurd (d (n .root-is))
+    make key a live (some t) n h = at-key .made t key a rep (h .slot) (grown-slots n h) balanced (low w (rep .slots) balanced) (leaves-keyed (some t) n)
       where
         rep : RepP w tree root (some t)
-        rep = index-rep (some t) (h .there)
+        rep = index-rep (some t) n
 
         balanced : Avl t
-        balanced = h .there .index-in .balanced
-
-        least-is : least ≡ key a
-        least-is = r ∙ ap (cell w field) (h .slot-is) ∙ h .keyed .read (List·Memᴰ·head refl)
+        balanced = n .index-in .balanced
 
         at-key : Grown tree field (key a) s root mostLevels w w′ x
-        at-key = subst (λ (z : ℤ). Grown tree field z s root mostLevels w w′ x) least-is k
+        at-key =
+            subst (λ (z : ℤ). Grown tree field z s root mostLevels w w′ x) (r ∙ ap (cell w field) (h .slot) ∙ h .keyed .read (List·Memᴰ·head refl)) k

@@ -1,21 +1,18 @@
 -- An item dropped from an index: the way to its key ends at it.
 use mathlib.Core.Path.{_≡_, _∙_, ap, subst}
-use mathlib.Core.Logic.{_≢_}
-use mathlib.Core.List.{List, List·Memᴰ, Pairwise·sublistᴰ}
+use mathlib.Core.List.{List, Pairwise·sublistᴰ}
 use Prim.Native.Nat.{ℕ}
 use lib.IntN.{ℤ, pos, _+ℤ_}
 use lib.Signed.{ltZ}
 use Rattle.lists.specs.Places.{sublist-mem}
-use Rattle.lists.specs.Members.{Among}
 use Rattle.lists.specs.Bools.{is-true}
 use Rattle.offers.specs.Ranks.{mostRank}
 use Rattle.trees.specs.Operations.{Part}
 use Rattle.table.specs.Fields.{mostLevels}
 use Rattle.table.specs.Words.{Words}
-use Rattle.table.specs.Layout.{cap}
-use Rattle.table.specs.Items.{Item, Slots}
+use Rattle.table.specs.Items.{Item}
 use Rattle.table.specs.Rep.{Only, only-more}
-use Rattle.index.specs.Index.{IndexAt, Dropped}
+use Rattle.index.specs.Index.{IndexAt, Goes, Dropped}
 use Rattle.index.specs.Above.{leastAbove, above-more}
 use Rattle.index.specs.Trees.{among-in, among-holds, among-keyed, leaves-keyed, index-rep, part-low, index-made}
 use Rattle.index.specs.Thinning.{Thin, Thinned}
@@ -30,25 +27,26 @@ module _ {tree field root x : ℕ} {w w′ : Words} {live : List Item} {p : Part
   drop-only : Only tree live w w′
   drop-only = only-more (among-in (h .index-in .all-live)) (thin .only)
 
-  module _ (a : Item) (here : List·Memᴰ a live) (e : key a ≡ sought) where
+  module _ {a : Item} {rest : List Item} (g : Goes w key sought a live rest) where
     -- the key is small enough for one more
     above-is : key a +ℤ pos 1 ≡ leastAbove sought
-    above-is = above-more (key a) (is-true (ltZ (key a) (pos mostRank)) (h .index .small (h .holds .held here))) ∙ ap leastAbove e
+    above-is = above-more (key a) (is-true (ltZ (key a) (pos mostRank)) (h .index .small (h .holds .held (g .member)))) ∙ ap leastAbove (g .keyed)
 
-    drop-made : (others : List Item) → Among others live → ((c : Item) → List·Memᴰ c others → c ≢ a) →
-        ((c : Item) → List·Memᴰ c live → c ≢ a → List·Memᴰ c others) → Slots (cap w) others → IndexAt w′ tree field key x others (thin .left)
-    drop-made others f d o s =
-        index-made (h .index) (thin .rep) (k .within) drop-only s (among-holds f (h .holds)) (among-keyed f (h .keyed)) (thin .balanced)
-        (Pairwise·sublistᴰ (thin .fewer) (h .index-in .falling))
-        (λ c i. o c (h .index-in .all-live c (sublist-mem (thin .fewer) i)) (thin .gone (h .index-in .falling) a (h .index-in .all-there a here) above-is c i))
-        (λ c i. thin .kept (h .index-in .falling) a (h .index-in .all-there a here) above-is c (h .index-in .all-there c (f c i)) (d c i))
+    drop-made : IndexAt w′ tree field key x rest (thin .left)
+    drop-made =
+        let falls = h .index-in .falling in
+        let here = h .index-in .all-there a (g .member) in
+        index-made (h .index) (thin .rep) (k .within) drop-only (g .slots) (among-holds (g .within) (h .holds)) (among-keyed (g .within) (h .keyed))
+        (thin .balanced) (Pairwise·sublistᴰ (thin .fewer) falls)
+        (λ c i. g .kept c (h .index-in .all-live c (sublist-mem (thin .fewer) i)) (thin .gone falls a here above-is c i))
+        (λ c i. thin .kept falls a here above-is c (h .index-in .all-there c (g .within c i)) (g .other c i))
 
 pub dropped : {tree field root x : ℕ} {sought least : ℤ} {w w′ : Words} → least ≡ leastAbove sought → Thinned tree field least root mostLevels w w′ x →
     Dropped tree field sought root w w′ x
 dropped {tree} {field} {root} {x} {sought} {least} {w} {w′} above t =
     record {
       within = t .within;
-      made = λ key a live others p h i n o d k s. (thin sought thinned h .left, drop-made sought thinned h a i n others o d k s);
+      made = λ key a live rest p h g. (thin sought thinned h .left, drop-made sought thinned h g);
       only = λ key live p h. drop-only sought thinned h;
     }
   where

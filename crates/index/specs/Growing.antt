@@ -1,7 +1,7 @@
 -- A leaf added on the way to a key: the way goes right of every leaf whose key is `least` or more, and no node above changes its seam.
-use mathlib.Core.Path.{_≡_, refl, sym, _∙_, ap, subst}
+use mathlib.Core.Path.{_≡_, sym, _∙_, ap, subst}
 use mathlib.Core.Bool.{Bool, true, false, not}
-use mathlib.Core.List.{[], _∷_, _++_, List·Memᴰ·head}
+use mathlib.Core.List.{[], _∷_, _++_}
 use mathlib.Core.Option.{some}
 use Prim.Native.Nat.{ℕ, _-_, _≤_, _<_}
 use native.Mathlib.Omega.{arith}
@@ -9,106 +9,100 @@ use lib.Dec.{T}
 use lib.IntN.{ℤ}
 use lib.Signed.{leZ}
 use Rattle.trees.specs.Tree.{Tree, leaf, node, height, leaves, last, Avl, avl-leaf, avl-node}
-use Rattle.trees.specs.Leaves.{leaves-join, last-leaf}
-use Rattle.trees.specs.Operations.{join, addLeaf}
-use Rattle.trees.specs.Add.{add-behind, add-before, add-right, add-left, add-avl, add-last}
-use Rattle.table.specs.Fields.{mostSlots, orderTree}
+use Rattle.trees.specs.Operations.{join, add}
+use Rattle.trees.specs.TreeSteps.{add-behind, add-before, add-right, add-left}
+use Rattle.trees.specs.Leaves.{leaves-join}
+use Rattle.trees.specs.Add.{add-avl, add-last}
+use Rattle.table.specs.Fields.{mostSlots}
 use Rattle.table.specs.Words.{Words}
 use Rattle.table.specs.Layout.{cap, cell}
 use Rattle.table.specs.Items.{Item, In, Slots, in-left, in-right, slots-left, slots-right, slots-across}
-use Rattle.table.specs.Rep.{childAt, Within, within-cap, within-refl, within-trans, only-trans, only-more, tied-leaf}
-use Rattle.table.specs.Nodes.{Parents, parents, leaf-low}
-use Rattle.table.specs.PartTrees.{RepP, rep-some, MadeP, repP-still}
+use Rattle.table.specs.Rep.{childAt, Within, within-cap, within-refl, within-trans, only-trans, only-more}
+use Rattle.table.specs.Nodes.{parents, leaf-low, node-high}
+use Rattle.table.specs.PartTrees.{RepP, repP-leaf, rep-some, MadeP, left-child, right-child, repP-still}
 use Rattle.table.specs.Keys.{Keyed, keyed-left, keyed-right}
 use Rattle.shape.specs.JoinSteps.{Merged}
-use Rattle.descents.specs.Cuts.{from, seam-test}
+use Rattle.descents.specs.Cuts.{from, leaf-test, seam-test}
 use Rattle.index.specs.Trees.{joined}
 
--- y is the root of the tree at x with the leaf of slot s
+-- a tree with root x gets the leaf of slot s, and then has root y
+abbrev Grows : (tree field : ℕ) (least : ℤ) (s x limit : ℕ) (w w′ : Words) (y : ℕ) → Tree Item → Type 0
+Grows tree field least s x limit w w′ y t =
+    (key : Item → ℤ) (a : Item) → RepP w tree x (some t) → s ≡ a .slot → Slots (cap w) (leaves (add (from key least) a t)) → Avl t → height t ≤ limit →
+    Keyed w field key (leaves t) → MadeP tree w w′ y (some (add (from key least) a t))
+
 pub record Grown (tree field : ℕ) (least : ℤ) (s x limit : ℕ) (w w′ : Words) (y : ℕ) : Type 0 where
   pub within : Within w w′
-  pub made : (t : Tree Item) (key : Item → ℤ) (a : Item) → RepP w tree x (some t) → s ≡ a .slot → Slots (cap w) (leaves (addLeaf (from key least) a t)) →
-      Avl t → height t ≤ limit → Keyed w field key (leaves t) → MadeP tree w w′ y (some (addLeaf (from key least) a t))
+  pub made : (t : Tree Item) → Grows tree field least s x limit w w′ y t
 
--- a tree of a leaf
-pub rep-leaf : {w : Words} {tree s : ℕ} {a : Item} → tree ≤ orderTree → s ≡ a .slot → Slots (cap w) (a ∷ []) → RepP w tree s (some (leaf a))
-rep-leaf k e s = record { kind = k; root = e; slots = s; tied = tied-leaf }
-
+-- of a tree that is what a join makes
 made-is : {tree y : ℕ} {w w′ : Words} {t u : Tree Item} → u ≡ t → MadeP tree w w′ y (some t) → MadeP tree w w′ y (some u)
 made-is {tree} {y} {w} {w′} e = subst (λ (v : Tree Item). MadeP tree w w′ y (some v)) (sym e)
 
--- the slots of what a join makes
 both-slots : {c : ℕ} {u : Tree Item} (s t : Tree Item) → u ≡ join s t → Slots c (leaves u) → Slots c (leaves s ++ leaves t)
 both-slots {c} s t e = subst (Slots c) (ap leaves e ∙ leaves-join s t)
 
 -- ---- at a leaf
 
-at-leaf : {tree field s x limit y : ℕ} {w w′ : Words} (least : ℤ) → x ≤ mostSlots → Within w w′
-    → ((i a : Item) (key : Item → ℤ) → RepP w tree x (some (leaf i)) → s ≡ a .slot → Slots (cap w) (leaves (addLeaf (from key least) a (leaf i))) →
-    leZ least (cell w field x) ≡ from key least i → MadeP tree w w′ y (some (addLeaf (from key least) a (leaf i))))
-    → Grown tree field least s x limit w w′ y
-at-leaf {tree} {field} {s} {x} {limit} {y} {w} {w′} least h g step = record { within = g; made = made }
-  where
-    made : (t : Tree Item) (key : Item → ℤ) (a : Item) → RepP w tree x (some t) → s ≡ a .slot → Slots (cap w) (leaves (addLeaf (from key least) a t)) →
-        Avl t → height t ≤ limit → Keyed w field key (leaves t) → MadeP tree w w′ y (some (addLeaf (from key least) a t))
-    made (leaf i) key a r e k v n q = step i a key r e k (ap (leZ least) (ap (cell w field) (r .root) ∙ q .read (List·Memᴰ·head refl)))
-    made (node l t) key a r e k v n q = absurd (omega (arith, h, r .root, slots-left (leaves t) (r .slots) .low (last-leaf l)))
-
 module _ {tree field s x limit y : ℕ} {b : Bool} {w w′ : Words} (least : ℤ) (low : x ≤ mostSlots) (eb : b ≡ leZ least (cell w field x)) where
+  at-leaf : Within w w′ → ((i : Item) → Grows tree field least s x limit w w′ y (leaf i)) → Grown tree field least s x limit w w′ y
+  at-leaf g step = record { within = g; made = made }
+    where
+      made : (t : Tree Item) → Grows tree field least s x limit w w′ y t
+      made (leaf i) = step i
+      made (node l t) = λ key a r es k v n q. absurd (omega (arith, low, node-high (rep-some r)))
+
   -- behind it
   pub grown-behind : b ≡ true → Merged tree x x s w w′ y → Grown tree field least s x limit w w′ y
-  grown-behind e j = at-leaf least low (j .within) step
+  grown-behind e j = at-leaf (j .within) step
     where
-      step : (i a : Item) (key : Item → ℤ) → RepP w tree x (some (leaf i)) → s ≡ a .slot → Slots (cap w) (leaves (addLeaf (from key least) a (leaf i))) →
-          leZ least (cell w field x) ≡ from key least i → MadeP tree w w′ y (some (addLeaf (from key least) a (leaf i)))
-      step i a key r es k told = made-is is (joined j (r .root) (record {
-        left = r;
-        right = rep-leaf (r .kind) es (slots-right (i ∷ []) two);
-        slots = two;
-        balanced-left = avl-leaf;
-        balanced-right = avl-leaf;
-      }))
+      step : (i : Item) → Grows tree field least s x limit w w′ y (leaf i)
+      step i key a r es k v n q =
+          made-is is (joined j (r .root) (record {
+            left = r;
+            right = repP-leaf (r .kind) es (slots-right (i ∷ []) two);
+            slots = two;
+            balanced-left = avl-leaf;
+            balanced-right = avl-leaf;
+          }))
         where
-          is : addLeaf (from key least) a (leaf i) ≡ join (leaf i) (leaf a)
-          is = add-behind (from key least) a i (subst T (sym e ∙ eb ∙ told) tt)
+          is : add (from key least) a (leaf i) ≡ join (leaf i) (leaf a)
+          is = add-behind (from key least) a i (subst T (sym e ∙ leaf-test least eb r q) tt)
 
           two : Slots (cap w) (i ∷ a ∷ [])
           two = both-slots (leaf i) (leaf a) is k
 
   -- in front of it
   pub grown-before : b ≡ false → Merged tree s s x w w′ y → Grown tree field least s x limit w w′ y
-  grown-before e j = at-leaf least low (j .within) step
+  grown-before e j = at-leaf (j .within) step
     where
-      step : (i a : Item) (key : Item → ℤ) → RepP w tree x (some (leaf i)) → s ≡ a .slot → Slots (cap w) (leaves (addLeaf (from key least) a (leaf i))) →
-          leZ least (cell w field x) ≡ from key least i → MadeP tree w w′ y (some (addLeaf (from key least) a (leaf i)))
-      step i a key r es k told = made-is is (joined j es (record {
-        left = rep-leaf (r .kind) es (slots-left (i ∷ []) two);
-        right = r;
-        slots = two;
-        balanced-left = avl-leaf;
-        balanced-right = avl-leaf;
-      }))
+      step : (i : Item) → Grows tree field least s x limit w w′ y (leaf i)
+      step i key a r es k v n q =
+          made-is is (joined j es (record {
+            left = repP-leaf (r .kind) es (slots-left (i ∷ []) two);
+            right = r;
+            slots = two;
+            balanced-left = avl-leaf;
+            balanced-right = avl-leaf;
+          }))
         where
-          is : addLeaf (from key least) a (leaf i) ≡ join (leaf a) (leaf i)
-          is = add-before (from key least) a i (subst (λ d. T (not d)) (sym e ∙ eb ∙ told) tt)
+          is : add (from key least) a (leaf i) ≡ join (leaf a) (leaf i)
+          is = add-before (from key least) a i (subst (λ d. T (not d)) (sym e ∙ leaf-test least eb r q) tt)
 
           two : Slots (cap w) (a ∷ i ∷ [])
           two = both-slots (leaf a) (leaf i) is k
 
 -- ---- at an inner node
 
-at-node : {tree field s x limit y : ℕ} {w w′ : Words} (least : ℤ) → mostSlots < x → Within w w′
-    → ((l t : Tree Item) (key : Item → ℤ) (a : Item) → RepP w tree x (some (node l t)) → s ≡ a .slot →
-    Slots (cap w) (leaves (addLeaf (from key least) a (node l t))) → Avl (node l t) → height (node l t) ≤ limit → Keyed w field key (leaves l ++ leaves t) →
-    MadeP tree w w′ y (some (addLeaf (from key least) a (node l t))))
-    → Grown tree field least s x limit w w′ y
+at-node : {tree field s x limit y : ℕ} {w w′ : Words} (least : ℤ) → mostSlots < x → Within w w′ →
+    ((l t : Tree Item) → Grows tree field least s x limit w w′ y (node l t)) → Grown tree field least s x limit w w′ y
 at-node {tree} {field} {s} {x} {limit} {y} {w} {w′} least h g step = record { within = g; made = made }
   where
-    made : (t : Tree Item) (key : Item → ℤ) (a : Item) → RepP w tree x (some t) → s ≡ a .slot → Slots (cap w) (leaves (addLeaf (from key least) a t)) →
-        Avl t → height t ≤ limit → Keyed w field key (leaves t) → MadeP tree w w′ y (some (addLeaf (from key least) a t))
-    made (leaf i) key a r e k v n q = absurd (omega (arith, h, leaf-low (rep-some r)))
-    made (node l t) key a r e k v n q = step l t key a r e k v n q
+    made : (t : Tree Item) → Grows tree field least s x limit w w′ y t
+    made (leaf i) = λ key a r es k v n q. absurd (omega (arith, h, leaf-low (rep-some r)))
+    made (node l t) = step l t
 
+-- the limit is used up
 pub grown-over : {tree field s x limit y : ℕ} {w : Words} (least : ℤ) → mostSlots < x → limit ≡ 0 → Grown tree field least s x limit w w y
 grown-over {w} least h e = at-node least h (within-refl w) (λ l t key a r i k v n q. absurd (omega (arith, n, e)))
 
@@ -117,9 +111,7 @@ module _ {tree field s x limit g l r y z : ℕ} {b : Bool} {w w₁ w₂ : Words}
   pub grown-right : b ≡ true → Grown tree field least s r (limit - 1) w w₁ y → Merged tree g l y w₁ w₂ z → Grown tree field least s x limit w w₂ z
   grown-right e rec j = at-node least inner (within-trans (rec .within) (j .within)) step
     where
-      step : (p t : Tree Item) (key : Item → ℤ) (a : Item) → RepP w tree x (some (node p t)) → s ≡ a .slot →
-          Slots (cap w) (leaves (addLeaf (from key least) a (node p t))) → Avl (node p t) → height (node p t) ≤ limit →
-          Keyed w field key (leaves p ++ leaves t) → MadeP tree w w₂ z (some (addLeaf (from key least) a (node p t)))
+      step : (p t : Tree Item) → Grows tree field least s x limit w w₂ z (node p t)
       step p t key a rep es k (avl-node a₁ a₂ h₁ h₂) n q =
           made-is is (record {
             rep = m .rep;
@@ -127,29 +119,20 @@ module _ {tree field s x limit g l r y z : ℕ} {b : Bool} {w w₁ w₂ : Words}
           })
         where
           u : Tree Item
-          u = addLeaf (from key least) a t
+          u = add (from key least) a t
 
-          is : addLeaf (from key least) a (node p t) ≡ join p u
+          is : add (from key least) a (node p t) ≡ join p u
           is = add-right (from key least) a p t (subst T (sym e ∙ seam-test least eg eb rep q) tt)
 
           both : Slots (cap w) (leaves p ++ leaves u)
           both = both-slots p u is k
 
-          o : Parents w tree x p t
-          o = parents (rep-some rep)
-
           c : MadeP tree w w₁ y (some u)
-          c = rec .made t key a (record { kind = rep .kind; root = er ∙ o .right-at; slots = slots-right (leaves p) (rep .slots); tied = o .tied-right })
-              es (slots-right (leaves p) both) a₂ (omega (arith, n)) (keyed-right (leaves p) q)
-
-          still : RepP w₁ tree l (some p)
-          still =
-              repP-still (some p) (record { kind = rep .kind; root = el ∙ o .left-at; slots = slots-left (leaves t) (rep .slots); tied = o .tied-left })
-              (rec .within) (c .only) (λ i v f. slots-across (leaves p) both f v)
+          c = rec .made t key a (right-child er rep) es (slots-right (leaves p) both) a₂ (omega (arith, n)) (keyed-right (leaves p) q)
 
           m : MadeP tree w₁ w₂ z (some (join p u))
-          m = joined j (eg ∙ o .seam-at) (record {
-            left = still;
+          m = joined j (eg ∙ parents (rep-some rep) .seam-at) (record {
+            left = repP-still (some p) (left-child el rep) (rec .within) (c .only) (λ i v f. slots-across (leaves p) both f v);
             right = c .rep;
             slots = rw (within-cap (rec .within)) both;
             balanced-left = a₁;
@@ -159,9 +142,7 @@ module _ {tree field s x limit g l r y z : ℕ} {b : Bool} {w w₁ w₂ : Words}
   pub grown-left : b ≡ false → Grown tree field least s l (limit - 1) w w₁ y → Merged tree g y r w₁ w₂ z → Grown tree field least s x limit w w₂ z
   grown-left e rec j = at-node least inner (within-trans (rec .within) (j .within)) step
     where
-      step : (p t : Tree Item) (key : Item → ℤ) (a : Item) → RepP w tree x (some (node p t)) → s ≡ a .slot →
-          Slots (cap w) (leaves (addLeaf (from key least) a (node p t))) → Avl (node p t) → height (node p t) ≤ limit →
-          Keyed w field key (leaves p ++ leaves t) → MadeP tree w w₂ z (some (addLeaf (from key least) a (node p t)))
+      step : (p t : Tree Item) → Grows tree field least s x limit w w₂ z (node p t)
       step p t key a rep es k (avl-node a₁ a₂ h₁ h₂) n q =
           made-is is (record {
             rep = m .rep;
@@ -169,37 +150,28 @@ module _ {tree field s x limit g l r y z : ℕ} {b : Bool} {w w₁ w₂ : Words}
           })
         where
           u : Tree Item
-          u = addLeaf (from key least) a p
+          u = add (from key least) a p
 
           fails : T (not (from key least (last p)))
           fails = subst (λ d. T (not d)) (sym e ∙ seam-test least eg eb rep q) tt
 
-          is : addLeaf (from key least) a (node p t) ≡ join u t
+          is : add (from key least) a (node p t) ≡ join u t
           is = add-left (from key least) a p t fails
 
           both : Slots (cap w) (leaves u ++ leaves t)
           both = both-slots u t is k
 
-          o : Parents w tree x p t
-          o = parents (rep-some rep)
-
           c : MadeP tree w w₁ y (some u)
-          c = rec .made p key a (record { kind = rep .kind; root = el ∙ o .left-at; slots = slots-left (leaves t) (rep .slots); tied = o .tied-left })
-              es (slots-left (leaves t) both) a₁ (omega (arith, n)) (keyed-left (leaves t) q)
-
-          still : RepP w₁ tree r (some t)
-          still =
-              repP-still (some t) (record { kind = rep .kind; root = er ∙ o .right-at; slots = slots-right (leaves p) (rep .slots); tied = o .tied-right })
-              (rec .within) (c .only) (λ i v f. slots-across (leaves u) both v f)
+          c = rec .made p key a (left-child el rep) es (slots-left (leaves t) both) a₁ (omega (arith, n)) (keyed-left (leaves t) q)
 
           -- the seam is the last leaf on the left, as before
           seam : g ≡ last u .slot
-          seam = eg ∙ o .seam-at ∙ ap (λ (i : Item). i .slot) (sym (add-last (from key least) a p fails))
+          seam = eg ∙ parents (rep-some rep) .seam-at ∙ ap (λ (i : Item). i .slot) (sym (add-last (from key least) a p fails))
 
           m : MadeP tree w₁ w₂ z (some (join u t))
           m = joined j seam (record {
             left = c .rep;
-            right = still;
+            right = repP-still (some t) (right-child er rep) (rec .within) (c .only) (λ i v f. slots-across (leaves u) both v f);
             slots = rw (within-cap (rec .within)) both;
             balanced-left = add-avl (from key least) a a₁;
             balanced-right = a₂;

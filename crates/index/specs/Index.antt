@@ -66,23 +66,33 @@ NextAmong live key sought s = ((b : Item) × (s ≡ b .slot) × Follows key soug
 pub record Next (tree field : ℕ) (sought : ℤ) (root : ℕ) (w : Words) (s : ℕ) : Type 0 where
   pub told : (key : Item → ℤ) (live : List Item) (p : Part Item) → IndexAt w tree field key root live p → NextAmong live key sought s
 
--- an item joins: the result's tree
+-- an item that joins: it has a slot of its own, which holds its offer, and a key that is new
+pub record Comes (w : Words) (field s : ℕ) (key : Item → ℤ) (a : Item) (live : List Item) : Type 0 where
+  pub slot : s ≡ a .slot
+  pub slots : Slots (cap w) (a ∷ live)
+  pub holds : Holds w (a ∷ live)
+  pub keyed : Keyed w field key (a ∷ live)
+  pub new : (b : Item) → List·Memᴰ b live → key b ≢ key a
+
 pub record Added (tree field s root : ℕ) (w w′ : Words) (root′ : ℕ) : Type 0 where
   pub within : Within w w′
-  pub made :
-      (key : Item → ℤ) (a : Item) (live : List Item) (p : Part Item) → IndexAt w tree field key root live p → s ≡ a .slot → Slots (cap w) (a ∷ live) →
-      Holds w (a ∷ live) → Keyed w field key (a ∷ live) → ((b : Item) → List·Memᴰ b live → key b ≢ key a) →
+  pub made : (key : Item → ℤ) (a : Item) (live : List Item) (p : Part Item) → IndexAt w tree field key root live p → Comes w field s key a live →
       (q : Part Item) × IndexAt w′ tree field key root′ (a ∷ live) q
-  pub only :
-      (key : Item → ℤ) (a : Item) (live : List Item) (p : Part Item) → IndexAt w tree field key root live p → s ≡ a .slot → Slots (cap w) (a ∷ live) →
-      Holds w (a ∷ live) → Keyed w field key (a ∷ live) → ((b : Item) → List·Memᴰ b live → key b ≢ key a) → Only tree (a ∷ live) w w′
+  pub only : (key : Item → ℤ) (a : Item) (live : List Item) (p : Part Item) → IndexAt w tree field key root live p → Comes w field s key a live →
+      Only tree (a ∷ live) w w′
 
--- the item with that key leaves; where none has it, only the frame is told
+-- the item with that key, which leaves, and the others
+pub record Goes (w : Words) (key : Item → ℤ) (sought : ℤ) (a : Item) (live rest : List Item) : Type 0 where
+  pub member : List·Memᴰ a live
+  pub keyed : key a ≡ sought
+  pub within : (b : Item) → List·Memᴰ b rest → List·Memᴰ b live
+  pub other : (b : Item) → List·Memᴰ b rest → b ≢ a
+  pub kept : (b : Item) → List·Memᴰ b live → b ≢ a → List·Memᴰ b rest
+  pub slots : Slots (cap w) rest
+
+-- where none has the key, only the frame is told
 pub record Dropped (tree field : ℕ) (sought : ℤ) (root : ℕ) (w w′ : Words) (root′ : ℕ) : Type 0 where
   pub within : Within w w′
-  pub made :
-      (key : Item → ℤ) (a : Item) (live rest : List Item) (p : Part Item) → IndexAt w tree field key root live p → List·Memᴰ a live → key a ≡ sought →
-      ((b : Item) → List·Memᴰ b rest → List·Memᴰ b live) → ((b : Item) → List·Memᴰ b rest → b ≢ a) →
-      ((b : Item) → List·Memᴰ b live → b ≢ a → List·Memᴰ b rest) → Slots (cap w) rest →
-      (q : Part Item) × IndexAt w′ tree field key root′ rest q
+  pub made : (key : Item → ℤ) (a : Item) (live rest : List Item) (p : Part Item) → IndexAt w tree field key root live p →
+      Goes w key sought a live rest → (q : Part Item) × IndexAt w′ tree field key root′ rest q
   pub only : (key : Item → ℤ) (live : List Item) (p : Part Item) → IndexAt w tree field key root live p → Only tree live w w′

@@ -5,7 +5,7 @@ pub mod Index
 pub mod Trees
 -- ways through the code: an item found by its key, and the one that follows a key
 pub mod Finding
--- ways through the code: a leaf added on the way to a key: the way goes right of every leaf whose key is `least` or more
+-- ways through the code: a leaf added on the way to a key: the way goes right of every leaf whose key is `least` or more, and no node above changes its seam
 pub mod Growing
 -- ways through the code: an item added to an index: its leaf stands where its key belongs
 pub mod Adding

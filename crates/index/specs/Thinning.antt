@@ -20,10 +20,10 @@ use Rattle.trees.specs.Order.{Falling, parted, last-lowest}
 use Rattle.table.specs.Fields.{mostSlots}
 use Rattle.table.specs.Words.{Words}
 use Rattle.table.specs.Layout.{cell}
-use Rattle.table.specs.Items.{Item, In, in-left, in-right, slots-left, slots-right, slots-across, slots-sublist}
+use Rattle.table.specs.Items.{Item, In, in-left, in-right, slots-across, slots-sublist}
 use Rattle.table.specs.Rep.{childAt, Within, within-cap, within-refl, within-trans, Only, only-refl, only-trans, only-more}
-use Rattle.table.specs.Nodes.{Parents, parents, leaf-low}
-use Rattle.table.specs.PartTrees.{RepP, repP-none, rep-some, MadeP, repP-still, seam-left}
+use Rattle.table.specs.Nodes.{parents, leaf-low, node-high}
+use Rattle.table.specs.PartTrees.{RepP, repP-none, rep-some, MadeP, left-child, right-child, repP-still, seam-left}
 use Rattle.table.specs.Keys.{Keyed, keyed-left, keyed-right}
 use Rattle.shape.specs.JoinSteps.{Merged}
 use Rattle.descents.specs.Cuts.{seam-test}
@@ -74,7 +74,7 @@ thinned-leaf {tree} {field} {x} {limit} {w} least h = record { within = within-r
               λ f a m e b z. elim z [ ];
           kept = λ f a m e b z d. absurd (d (List·Memᴰ·eq-of-singleton z ∙ sym (List·Memᴰ·eq-of-singleton m)));
         }
-    made (some (node s t)) key r a n k = absurd (omega (arith, h, r .root, slots-left (leaves t) (r .slots) .low (last-leaf s)))
+    made (some (node s t)) key r a n k = absurd (omega (arith, h, node-high (rep-some r)))
 
 -- only an inner node has such a number
 at-node : {tree field x limit y : ℕ} {w w′ : Words} (least : ℤ) → mostSlots < x → Within w w′
@@ -115,12 +115,8 @@ module _ {tree field x limit g l r y z : ℕ} {b : Bool} {w w₁ w₂ : Words} (
             kept = λ f a i d v k h. rw same (kept f a i d v k h);
           }
         where
-          o : Parents w tree x s t
-          o = parents (rep-some rep)
-
           c : Thin tree key least w w₁ y (some t)
-          c = rec .made (some t) key (record { kind = rep .kind; root = er ∙ o .right-at; slots = slots-right (leaves s) (rep .slots); tied = o .tied-right })
-              a₂ (omega (arith, n)) (keyed-right (leaves s) q)
+          c = rec .made (some t) key (right-child er rep) a₂ (omega (arith, n)) (keyed-right (leaves s) q)
 
           same : partLeaves (joinP (some s) (c .left)) ≡ leaves s ++ partLeaves (c .left)
           same = leaves-joinP (some s) (c .left)
@@ -133,15 +129,9 @@ module _ {tree field x limit g l r y z : ℕ} {b : Bool} {w w₁ w₂ : Words} (
 
           m : MadeP tree w₁ w₂ z (joinP (some s) (c .left))
           m =
-              joined j (seam-left g s (c .left) (eg ∙ o .seam-at))
+              joined j (seam-left g s (c .left) (eg ∙ parents (rep-some rep) .seam-at))
               (record {
-                left = repP-still (some s) (record {
-                  kind = rep .kind;
-                  root = el ∙ o .left-at;
-                  slots = slots-left (leaves t) (rep .slots);
-                  tied =
-                      o .tied-left;
-                }) (rec .within) (c .only) (λ i u v. slots-across (leaves s) (rep .slots) v u);
+                left = repP-still (some s) (left-child el rep) (rec .within) (c .only) (λ i u v. slots-across (leaves s) (rep .slots) v u);
                 right = c .rep;
                 slots = rw (within-cap (rec .within)) (slots-sublist fewer-both (rep .slots));
                 balanced-left = a₁;
@@ -191,12 +181,8 @@ module _ {tree field x limit g l r y z : ℕ} {b : Bool} {w w₁ w₂ : Words} (
             kept = λ f a i d v k h. rw same (kept f a i d v k h);
           }
         where
-          o : Parents w tree x s t
-          o = parents (rep-some rep)
-
           c : Thin tree key least w w₁ y (some s)
-          c = rec .made (some s) key (record { kind = rep .kind; root = el ∙ o .left-at; slots = slots-left (leaves t) (rep .slots); tied = o .tied-left }) a₁
-              (omega (arith, n)) (keyed-left (leaves t) q)
+          c = rec .made (some s) key (left-child el rep) a₁ (omega (arith, n)) (keyed-left (leaves t) q)
 
           same : partLeaves (joinP (c .left) (some t)) ≡ partLeaves (c .left) ++ leaves t
           same = leaves-joinP (c .left) (some t)
@@ -212,13 +198,7 @@ module _ {tree field x limit g l r y z : ℕ} {b : Bool} {w w₁ w₂ : Words} (
               joined j (seam-end (c .left) (some t) end (c .rep) (c .balanced))
               (record {
                 left = c .rep;
-                right = repP-still (some t) (record {
-                  kind = rep .kind;
-                  root = er ∙ o .right-at;
-                  slots = slots-right (leaves s) (rep .slots);
-                  tied =
-                      o .tied-right;
-                }) (rec .within) (c .only) (λ i u v. slots-across (leaves s) (rep .slots) u v);
+                right = repP-still (some t) (right-child er rep) (rec .within) (c .only) (λ i u v. slots-across (leaves s) (rep .slots) u v);
                 slots = rw (within-cap (rec .within)) (slots-sublist fewer-both (rep .slots));
                 balanced-left = c .balanced;
                 balanced-right = a₂;

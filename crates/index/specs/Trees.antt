@@ -1,5 +1,5 @@
 -- The tree of an index as any tree in words. Its slots hold their keys, so that keys that fall have slots apart.
-use mathlib.Core.Bool.{Bool, true}
+use mathlib.Core.Bool.{true}
 use mathlib.Core.Path.{_≡_, sym, _∙_, ap}
 use mathlib.Core.Logic.{∥∥₁-elim}
 use mathlib.Core.List.{List, _++_, List·Memᴰ, Pairwise·imp-of-mem}
@@ -11,10 +11,9 @@ use lib.IntN.{ℤ}
 use lib.Signed.{ltZ}
 use Rattle.lists.specs.Members.{Among}
 use Rattle.integers.specs.Parts.{intRules}
-use Rattle.trees.specs.Operations.{Part, partLeaves, partHeight, joinP, splitP}
+use Rattle.trees.specs.Operations.{Part, partLeaves, partHeight, joinP}
 use Rattle.trees.specs.Balanced.{AvlP}
-use Rattle.trees.specs.Order.{Falling, Turning}
-use Rattle.trees.specs.Split.{Clean, split-clean}
+use Rattle.trees.specs.Order.{Falling}
 use Rattle.table.specs.Fields.{mostLevels, rankField}
 use Rattle.table.specs.Words.{Words}
 use Rattle.table.specs.Layout.{cap, cell}
@@ -100,13 +99,6 @@ index-made x r g o s h k a f i j =
       keyed = keyed-still (x .low) o k;
       index-in = record { tied = r .tied; balanced = a; falling = f; all-live = i; all-there = j };
     }
-
--- ---- a cut
-
-pub splitP-clean : (test : Item → Bool) (p : Part Item) → Turning test (partLeaves p) → Clean test (splitP test p)
-unfolding splitP
-splitP-clean test none h = record { passing = λ a m. elim m [ ]; failing = λ a m. elim m [ ] }
-splitP-clean test (some t) h = split-clean test t h
 
 -- ---- two of them side by side
 

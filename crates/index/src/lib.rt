@@ -24,8 +24,8 @@ pub fn next(part: &[i64], tree: u8, field: usize, root: u32, key: i64) -> u32
     descents::after(part, tree, field, key, root)
 }
 
-// Adds leaf `s`, whose key is `key`, to the tree at `x`: the way goes right where the seam's key is as great. A seam stays the last leaf on its
-// left. The tree is at most `limit` high, and `c` is the capacity.
+// Adds leaf `s`, whose key is `key`, to the tree at `x`, which is not empty: the way goes right where the seam's key is `key` or more, so every seam
+// stays the last leaf on its left. The tree is at most `limit` high, and `c` is the capacity.
 fn add_below(
     part: &mut [i64],
     c: u32,

@@ -1,7 +1,7 @@
 -- An index by the word of the header that tells its root: an item is entered there, and an item is struck out.
 use mathlib.Core.Path.{_≡_, refl, sym, _∙_, ap, subst}
 use mathlib.Core.Logic.{_≢_}
-use mathlib.Core.List.{List, _∷_, List·Memᴰ, List·Memᴰ·head}
+use mathlib.Core.List.{List, _∷_, List·Memᴰ·head}
 use mathlib.Core.Option.{Option}
 use Prim.Native.Nat.{ℕ, _≤_, _<_}
 use native.Mathlib.Omega.{arith}
@@ -14,13 +14,11 @@ use Rattle.table.specs.Fields.{mostNodes, numberField, numberTree, numbersRootW
 use Rattle.table.specs.Words.{Words, word, wset, wset-other, upTo}
 use Rattle.table.specs.Layout.{cap, cap-most}
 use Rattle.table.specs.Items.{Item, Slots}
-use Rattle.table.specs.Rep.{Field, within-cap, header-kept}
+use Rattle.table.specs.Rep.{Field, Within, within-cap, header-kept, Only}
 use Rattle.table.specs.PartTrees.{partRef}
-use Rattle.table.specs.Threads.{Holds}
-use Rattle.table.specs.Keys.{Keyed}
 use Rattle.form.specs.Form.{Book, numberOf, rankOf}
 use Rattle.form.specs.HeaderWords.{part-high, read-word, numbers-read, order-read}
-use Rattle.index.specs.Index.{IndexAt, Added, Dropped}
+use Rattle.index.specs.Index.{IndexAt, Comes, Added, Goes, Dropped}
 use Rattle.index.specs.Trees.{among-holds, among-keyed, index-rep}
 use Rattle.declining.specs.Sought.{numbers-at, order-at}
 use Rattle.settling.specs.Agree.{Agree, IndexHere, agree-trans, agree-less, agree-header, agree-only, header-set, index-agree}
@@ -46,6 +44,9 @@ OffTree tree f s = Field tree f → ⊥
 module _ {w : Words} {tree field at : ℕ} {key : Item → ℤ} {live : List Item} {p : Part Item} (x : Stands w tree field at key live p) where
   root-read : upTo mostNodes (word w at) ≡ partRef p
   root-read = read-word (x .told) (part-high p (λ a m. x .index .slots .high (x .index .index-in .all-live a m)) (cap-most w))
+
+  read-stands : {root : ℕ} → root ≡ upTo mostNodes (word w at) → IndexAt w tree field key root live p
+  read-stands e = subst (λ (i : ℕ). IndexAt w tree field key i live p) (sym (e ∙ root-read)) (x .index)
 
   pub stands-agree : {w′ : Words} → Agree (IndexHere tree live) w w′ → word w′ at ≡ word w at → Stands w′ tree field at key live p
   stands-agree g e = record { told = e ∙ x .told; index = index-agree g (x .index) }
@@ -76,6 +77,34 @@ module _ {w : Words} {tree field at : ℕ} {key : Item → ℤ} {live : List Ite
   pub stands-leaves : Stands w tree field at key (partLeaves p) p
   stands-leaves = stands-among (index-rep p (x .index) .slots) (x .index .index-in .all-live) (x .index .index-in .all-there)
 
+-- ---- the header is told a root, after writes to slots
+
+record Rerooted (at root : ℕ) (w mid w′ : Words) : Type 0 where
+  low : 1 ≤ at
+  high : at < 64
+  within : Within w mid
+  set : w′ ≡ wset mid at (pos root)
+
+module _ {at root : ℕ} {w mid w′ : Words} (r : Rerooted at root w mid w′) where
+  rerooted-header : (i : ℕ) → i < 64 → i ≢ at → word w′ i ≡ word w i
+  rerooted-header i h d = ap (λ (v : Words). word v i) (r .set) ∙ wset-other mid at i (pos root) d ∙ header-kept (r .within) i h
+
+  header-agree : {P : ℕ → ℕ → Type 0} → Agree P mid w′
+  header-agree = rw (r .set) (agree-less (λ f t d. tt) (agree-header mid at (pos root) (r .low) (r .high)))
+
+  rerooted-agree : {tree : ℕ} {xs : List Item} → Only tree xs w mid → Agree (OffTree tree) w w′
+  rerooted-agree o = agree-trans (agree-only (r .within) o (λ f t d. d)) header-agree
+
+  rerooted : {tree field : ℕ} {key : Item → ℤ} {live : List Item} {q : Part Item} → 1 ≤ cap w → IndexAt mid tree field key root live q →
+      Stands w′ tree field at key live q
+  rerooted {tree} {field} {key} {live} {q} some-slot i =
+      record {
+        told = ap (λ (v : Words). word v at) (r .set)
+            ∙ header-set mid at (pos root) (omega (arith, some-slot, within-cap (r .within))) (r .high)
+            ∙ ap pos (i .root-is);
+        index = subst (λ (x : ℕ). IndexAt w′ tree field key x live q) (i .root-is) (index-agree header-agree i);
+      }
+
 -- ---- an item is entered
 
 pub record Entered (tree field at s : ℕ) (w w′ : Words) : Type 0 where
@@ -86,46 +115,22 @@ pub record Entered (tree field at s : ℕ) (w w′ : Words) : Type 0 where
   pub added : Added tree field s root w mid root′
   pub set : w′ ≡ wset mid at (pos root′)
 
--- it has a slot of its own, which holds its offer, and a key that is new
-pub record Comes (w : Words) (field s : ℕ) (key : Item → ℤ) (a : Item) (live : List Item) : Type 0 where
-  pub slot : s ≡ a .slot
-  pub slots : Slots (cap w) (a ∷ live)
-  pub holds : Holds w (a ∷ live)
-  pub keyed : Keyed w field key (a ∷ live)
-  pub new : (b : Item) → List·Memᴰ b live → key b ≢ key a
-
 module _ {tree field at s : ℕ} {w w′ : Words} (low : 1 ≤ at) (high : at < 64) (e : Entered tree field at s w w′) where
-  set-agree : Agree (OffTree tree) (e .mid) w′
-  set-agree = rw (e .set) (agree-less (λ f t d. tt) (agree-header (e .mid) at (pos (e .root′)) low high))
+  entering : Rerooted at (e .root′) w (e .mid) w′
+  entering = record { low = low; high = high; within = e .added .within; set = e .set }
 
   pub entered-header : (i : ℕ) → i < 64 → i ≢ at → word w′ i ≡ word w i
-  entered-header i h d =
-      ap (λ (v : Words). word v i) (e .set) ∙ wset-other (e .mid) at i (pos (e .root′)) d ∙ header-kept (e .added .within) i h
+  entered-header = rerooted-header entering
 
   module _ {key : Item → ℤ} {a : Item} {live : List Item} {p : Part Item} (x : Stands w tree field at key live p) (c : Comes w field s key a live) where
-    there : IndexAt w tree field key (e .root) live p
-    there = subst (λ (i : ℕ). IndexAt w tree field key i live p) (sym (e .read ∙ root-read x)) (x .index)
-
-    made : (q : Part Item) × IndexAt (e .mid) tree field key (e .root′) (a ∷ live) q
-    made = e .added .made key a live p there (c .slot) (c .slots) (c .holds) (c .keyed) (c .new)
-
     pub entered-agree : Agree (OffTree tree) w w′
-    entered-agree =
-        agree-trans
-        (agree-only (e .added .within) (e .added .only key a live p there (c .slot) (c .slots) (c .holds) (c .keyed) (c .new)) (λ f t d. d)) set-agree
+    entered-agree = rerooted-agree entering (e .added .only key a live p (read-stands x (e .read)) c)
 
     pub entered : (q : Part Item) × Stands w′ tree field at key (a ∷ live) q
-    entered = (made .0, record { told = told; index = subst (λ (i : ℕ). IndexAt w′ tree field key i (a ∷ live) (made .0)) (made .1 .root-is) after })
-      where
-        after : IndexAt w′ tree field key (e .root′) (a ∷ live) (made .0)
-        after = index-agree (rw (e .set) (agree-less (λ f t d. tt) (agree-header (e .mid) at (pos (e .root′)) low high))) (made .1)
-
-        told : word w′ at ≡ pos (partRef (made .0))
-        told =
-            ap (λ (v : Words). word v at) (e .set)
-            ∙ header-set (e .mid) at (pos (e .root′))
-            (omega (arith, c .slots .low (List·Memᴰ·head refl), c .slots .high (List·Memᴰ·head refl), within-cap (e .added .within))) high
-            ∙ ap pos (made .1 .root-is)
+    entered =
+        let (q, i) = e .added .made key a live p (read-stands x (e .read)) c in
+        let slot = List·Memᴰ·head refl in
+        (q, rerooted entering (omega (arith, c .slots .low slot, c .slots .high slot)) i)
 
 -- ---- an item is struck out
 
@@ -137,42 +142,20 @@ pub record Struck (tree field at : ℕ) (sought : ℤ) (w w′ : Words) : Type 0
   pub dropped : Dropped tree field sought root w mid root′
   pub set : w′ ≡ wset mid at (pos root′)
 
--- the item with that key, and the others
-pub record Goes (w : Words) (key : Item → ℤ) (sought : ℤ) (a : Item) (live rest : List Item) : Type 0 where
-  pub member : List·Memᴰ a live
-  pub keyed : key a ≡ sought
-  pub within : (b : Item) → List·Memᴰ b rest → List·Memᴰ b live
-  pub other : (b : Item) → List·Memᴰ b rest → b ≢ a
-  pub kept : (b : Item) → List·Memᴰ b live → b ≢ a → List·Memᴰ b rest
-  pub slots : Slots (cap w) rest
-
 module _ {tree field at : ℕ} {sought : ℤ} {w w′ : Words} (low : 1 ≤ at) (high : at < 64) (e : Struck tree field at sought w w′) where
+  striking : Rerooted at (e .root′) w (e .mid) w′
+  striking = record { low = low; high = high; within = e .dropped .within; set = e .set }
+
   pub struck-header : (i : ℕ) → i < 64 → i ≢ at → word w′ i ≡ word w i
-  struck-header i h d =
-      ap (λ (v : Words). word v i) (e .set) ∙ wset-other (e .mid) at i (pos (e .root′)) d ∙ header-kept (e .dropped .within) i h
+  struck-header = rerooted-header striking
 
   module _ {key : Item → ℤ} {a : Item} {live rest : List Item} {p : Part Item} (x : Stands w tree field at key live p)
       (g : Goes w key sought a live rest) where
-    was-there : IndexAt w tree field key (e .root) live p
-    was-there = subst (λ (i : ℕ). IndexAt w tree field key i live p) (sym (e .read ∙ root-read x)) (x .index)
-
-    left : (q : Part Item) × IndexAt (e .mid) tree field key (e .root′) rest q
-    left = e .dropped .made key a live rest p was-there (g .member) (g .keyed) (g .within) (g .other) (g .kept) (g .slots)
-
     pub struck-agree : Agree (OffTree tree) w w′
-    struck-agree =
-        agree-trans (agree-only (e .dropped .within) (e .dropped .only key live p was-there) (λ f t d. d))
-        (rw (e .set) (agree-less (λ f t d. tt) (agree-header (e .mid) at (pos (e .root′)) low high)))
+    struck-agree = rerooted-agree striking (e .dropped .only key live p (read-stands x (e .read)))
 
     pub struck : (q : Part Item) × Stands w′ tree field at key rest q
-    struck = (left .0, record { told = told; index = subst (λ (i : ℕ). IndexAt w′ tree field key i rest (left .0)) (left .1 .root-is) after })
-      where
-        after : IndexAt w′ tree field key (e .root′) rest (left .0)
-        after = index-agree (rw (e .set) (agree-less (λ f t d. tt) (agree-header (e .mid) at (pos (e .root′)) low high))) (left .1)
-
-        told : word w′ at ≡ pos (partRef (left .0))
-        told =
-            ap (λ (v : Words). word v at) (e .set)
-            ∙ header-set (e .mid) at (pos (e .root′))
-            (omega (arith, x .index .slots .low (g .member), x .index .slots .high (g .member), within-cap (e .dropped .within))) high
-            ∙ ap pos (left .1 .root-is)
+    struck =
+        let (q, i) = e .dropped .made key a live rest p (read-stands x (e .read)) g in
+        let slots = x .index .slots in
+        (q, rerooted striking (omega (arith, slots .low (g .member), slots .high (g .member))) i)

@@ -1,4 +1,4 @@
--- An offer settles in a book's part, or leaves it.
+-- The steps by which an offer comes into a book's part or leaves it.
 -- lemmas: words that agree in some fields of some slots, and what of a book such words keep: the tree of offers, the indexes, the free slots
 pub mod Agree
 -- lemmas: the few writes of an update outside its trees: a free slot taken and filled, a slot given back, the roots and the count set

@@ -1,5 +1,5 @@
-// An offer settles in a book's part, or leaves it: its slot, both indexes, and the tree of offers, which has a leaf for each rate. Of these steps
-// filing makes an update.
+// The steps by which an offer comes into a book's part or leaves it: a slot filled, both indexes, the tree of offers with a leaf per rate. Filing makes
+// an update of them.
 ghost use mathlib.Core.Path.{_≡_};
 ghost use lib.Dec.{T};
 ghost use Rattle.offers.specs.Offers.{offerInRange};
@@ -92,7 +92,7 @@ fn idle(held: levels::Held) -> levels::Made
 
 // Joins the item in slot `s` to the offers in hand; that in slot `f` is the first of its rate, 0 for none. It stands alone, is inserted, or takes
 // the place of that one where it goes ahead of it.
-pub fn join_in(part: &mut [i64], held: levels::Held, s: u32, f: u32) -> levels::Made
+pub fn join_offers(part: &mut [i64], held: levels::Held, s: u32, f: u32) -> levels::Made
     ensures { λ r. ⌜ Joined s f held (now (part .entry)) (now (part .exit)) r ⌝ }
 {
     if f < 1 {
@@ -109,7 +109,7 @@ pub fn join_in(part: &mut [i64], held: levels::Held, s: u32, f: u32) -> levels::
 
 // Takes the item in slot `s` out of the offers in hand where that in slot `f`, the first of its rate, is itself; that in slot `by`, if it is not 0,
 // comes in its place.
-pub fn take_out(part: &mut [i64], held: levels::Held, s: u32, f: u32, by: u32) -> levels::Made
+pub fn leave_offers(part: &mut [i64], held: levels::Held, s: u32, f: u32, by: u32) -> levels::Made
     ensures { λ r. ⌜ Left s f by held (now (part .entry)) (now (part .exit)) r ⌝ }
 {
     if f != s {

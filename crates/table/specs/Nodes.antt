@@ -71,6 +71,9 @@ parents {w} {k} {x} {l} {r} h = go (h .tied)
 pub leaf-low : {w : Words} {k x : ℕ} {a : Item} → Rep w k x (leaf a) → x ≤ mostSlots
 leaf-low {w} h = omega (arith, h .root, h .slots .high (List·Memᴰ·head refl), cap-most w)
 
+pub node-high : {w : Words} {k x : ℕ} {l r : Tree Item} → Rep w k x (node l r) → mostSlots < x
+node-high {l} {r} h = omega (arith, h .root, slots-left (leaves r) (h .slots) .low (last-leaf l))
+
 -- at an inner node the limit is not used up
 pub not-spent : {w : Words} {k x limit : ℕ} (t : Tree Item) → mostSlots < x → limit ≡ 0 → Rep w k x t → height t ≤ limit → ⊥
 not-spent (leaf a) h e r n = omega (arith, leaf-low r)

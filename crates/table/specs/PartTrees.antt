@@ -1,18 +1,19 @@
 -- Trees that may be empty, kept in words: node number 0 is the empty one.
-use mathlib.Core.Path.{_≡_, refl}
+use mathlib.Core.Path.{_≡_, refl, _∙_}
+use mathlib.Core.Bool.{true, false}
 use mathlib.Core.Option.{none, some}
-use mathlib.Core.List.{List, _++_}
+use mathlib.Core.List.{List, [], _∷_, _++_}
 use Prim.Native.Nat.{ℕ, _≤_}
 use native.Mathlib.Omega.{arith}
-use Rattle.trees.specs.Tree.{Tree, height, leaves, last, Avl}
+use Rattle.trees.specs.Tree.{Tree, leaf, node, height, leaves, last, Avl}
 use Rattle.trees.specs.Operations.{Part, partLeaves}
 use Rattle.trees.specs.Height.{height-full}
 use Rattle.table.specs.Fields.{mostLevels, orderTree}
 use Rattle.table.specs.Words.{Words}
 use Rattle.table.specs.Layout.{cap, cap-most}
-use Rattle.table.specs.Items.{Item, In, Slots, slots-none, slots-most}
-use Rattle.table.specs.Rep.{refOf, Tied, tied-still, Rep, Within, within-cap, Only, inner-in}
-use Rattle.table.specs.Nodes.{Made}
+use Rattle.table.specs.Items.{Item, In, Slots, slots-none, slots-left, slots-right, slots-most}
+use Rattle.table.specs.Rep.{childAt, refOf, Tied, tied-leaf, tied-still, Rep, Within, within-cap, Only, inner-in}
+use Rattle.table.specs.Nodes.{parents, Made}
 
 abbrev pub partRef : Part Item → ℕ
 partRef none = 0
@@ -31,6 +32,9 @@ pub record RepP (w : Words) (k x : ℕ) (p : Part Item) : Type 0 where
 pub repP-none : {w : Words} {k : ℕ} → k ≤ orderTree → RepP w k 0 none
 repP-none h = record { kind = h; root = refl; slots = slots-none; tied = tt }
 
+pub repP-leaf : {w : Words} {k x : ℕ} {a : Item} → k ≤ orderTree → x ≡ a .slot → Slots (cap w) (a ∷ []) → RepP w k x (some (leaf a))
+repP-leaf h e s = record { kind = h; root = e; slots = s; tied = tied-leaf }
+
 -- x is the root of p, and nothing but nodes of p was written
 pub record MadeP (k : ℕ) (w w′ : Words) (x : ℕ) (p : Part Item) : Type 0 where
   pub rep : RepP w′ k x p
@@ -41,6 +45,20 @@ made-some m = record { rep = record { kind = m .rep .kind; root = m .rep .root; 
 
 pub rep-some : {w : Words} {k x : ℕ} {t : Tree Item} → RepP w k x (some t) → Rep w k x t
 rep-some r = record { kind = r .kind; root = r .root; slots = r .slots; tied = r .tied }
+
+-- ---- the children of an inner node
+
+pub left-child : {w : Words} {k x l : ℕ} {s t : Tree Item} → l ≡ childAt w k false x → RepP w k x (some (node s t)) → RepP w k l (some s)
+left-child {t} e r =
+    let o = parents (rep-some r) in
+    record { kind = r .kind; root = e ∙ o .left-at; slots = slots-left (leaves t) (r .slots); tied = o .tied-left }
+
+pub right-child : {w : Words} {k x y : ℕ} {s t : Tree Item} → y ≡ childAt w k true x → RepP w k x (some (node s t)) → RepP w k y (some t)
+right-child {s} e r =
+    let o = parents (rep-some r) in
+    record { kind = r .kind; root = e ∙ o .right-at; slots = slots-right (leaves s) (r .slots); tied = o .tied-right }
+
+-- ---- what was not written
 
 pub tiedP-still : {k : ℕ} {xs : List Item} {w w′ : Words} (p : Part Item) → TiedPart w k p → Only k xs w w′ →
     ((s : ℕ) → In s xs → In s (partLeaves p) → ⊥) → TiedPart w′ k p

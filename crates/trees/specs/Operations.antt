@@ -101,15 +101,15 @@ module _ {A : Type 0} where
   splitP test none = record { front = none; back = none }
   splitP test (some t) = split test t
 
-  -- ---- add a leaf behind those that pass the test; no other separator changes
+  -- ---- add a leaf behind those that pass the test; every separator stays
 
-  unfoldable pub addLeaf : (A → Bool) → A → Tree A → Tree A
-  addLeaf test a (leaf x) = cond (test x) (join (leaf x) (leaf a)) (join (leaf a) (leaf x))
-  addLeaf test a (node l r) = cond (test (last l)) (join l (addLeaf test a r)) (join (addLeaf test a l) r)
+  unfoldable pub add : (A → Bool) → A → Tree A → Tree A
+  add test a (leaf x) = cond (test x) (join (leaf x) (leaf a)) (join (leaf a) (leaf x))
+  add test a (node l r) = cond (test (last l)) (join l (add test a r)) (join (add test a l) r)
 
   abbrev pub addP : (A → Bool) → A → Part A → Part A
   addP test a none = some (leaf a)
-  addP test a (some t) = some (addLeaf test a t)
+  addP test a (some t) = some (add test a t)
 
   -- ---- find a leaf by its key, keys falling from left to right
 

@@ -101,6 +101,11 @@ module _ {A : Type 0} where
 
   -- ---- of a tree that may be empty
 
+  pub splitP-clean : (test : A → Bool) (p : Part A) → Turning test (partLeaves p) → Clean test (splitP test p)
+  unfolding splitP
+  splitP-clean test none h = record { passing = λ a m. elim m [ ]; failing = λ a m. elim m [ ] }
+  splitP-clean test (some t) h = split-clean test t h
+
   pub splitP-halves : (test : A → Bool) (p : Part A) (xs ys : List A) → partLeaves p ≡ xs ++ ys → All test xs → None test ys → Halves (splitP test p) xs ys
   unfolding splitP
   splitP-halves test none xs ys e f n = let u = one-cut test [] xs e (λ a m. elim m [ ]) f (λ a m. elim m [ ]) n in record { before = u .0; after = u .1 }

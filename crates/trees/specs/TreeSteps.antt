@@ -14,7 +14,7 @@ use Rattle.integers.specs.Equal.{equal}
 use Rattle.integers.specs.Parts.{equal-eq, equal-is}
 use Rattle.trees.specs.Tree.{Tree, leaf, node, height, last, mirror, Avl, avl-node}
 use Rattle.trees.specs.Operations.{towers, doubleRight, doubleLeft, rotateRight, rotateLeft, balance, joinR, joinL, join, split, afterLeft}
-use Rattle.trees.specs.Operations.{beforeRight, allFront, allBack, find}
+use Rattle.trees.specs.Operations.{beforeRight, allFront, allBack, add, find}
 use Rattle.trees.specs.Mirror.{mirror-injective, height-mirror, avl-mirror, mirror-balance, mirror-joinL, mirror-join}
 
 module _ {A : Type 0} where
@@ -99,6 +99,25 @@ module _ {A : Type 0} where
     pub split-left : (l r : Tree A) → T (not (test (last l))) → split test (node l r) ≡ beforeRight (split test l) r
     unfolding split
     split-left l r t = cond-no (test (last l)) _ _ t
+
+  -- ---- add
+
+  module _ (test : A → Bool) (a : A) where
+    pub add-behind : (x : A) → T (test x) → add test a (leaf x) ≡ join (leaf x) (leaf a)
+    unfolding add
+    add-behind x t = cond-yes (test x) _ _ t
+
+    pub add-before : (x : A) → T (not (test x)) → add test a (leaf x) ≡ join (leaf a) (leaf x)
+    unfolding add
+    add-before x t = cond-no (test x) _ _ t
+
+    pub add-right : (l r : Tree A) → T (test (last l)) → add test a (node l r) ≡ join l (add test a r)
+    unfolding add
+    add-right l r t = cond-yes (test (last l)) _ _ t
+
+    pub add-left : (l r : Tree A) → T (not (test (last l))) → add test a (node l r) ≡ join (add test a l) r
+    unfolding add
+    add-left l r t = cond-no (test (last l)) _ _ t
 
   -- ---- find
 

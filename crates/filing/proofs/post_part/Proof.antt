@@ -27,13 +27,13 @@ enter-requires c κs = search needs
 enter-requires-2 : tie.Need-enter-requires-2
 enter-requires-2 c κs = search needs
 
-join-in-requires : tie.Need-join-in-requires
-join-in-requires c κs = search needs
+join-offers-requires : tie.Need-join-offers-requires
+join-offers-requires c κs = search needs
 
 add-live : tie.Need-add-live
 add-live c =
-    let at-join-in = c .before .before .before in
-    let at-enter2 = at-join-in .before .before .before in
+    let at-join-offers = c .before .before .before in
+    let at-enter2 = at-join-offers .before .before .before in
     let at-enter = at-enter2 .before .before .before in
     let at-fill = at-enter .before .before .before in
     let at-find-rate = at-fill .before .before in
@@ -50,8 +50,8 @@ returns : tie.Need-returns
 returns c =
     let at-set-roots = c .before in
     let at-joined = at-set-roots .before .before .before in
-    let at-join-in = at-joined .before .before in
-    let at-enter2 = at-join-in .before .before .before in
+    let at-join-offers = at-joined .before .before in
+    let at-enter2 = at-join-offers .before .before .before in
     let at-enter = at-enter2 .before .before .before in
     let at-fill = at-enter .before .before .before in
     let at-find-rate = at-fill .before .before in
@@ -60,7 +60,7 @@ returns c =
     let f = at-roots .before .before .fits in
     posted-part _ (at-roots .roots .ensures) (at-count .number-at .ensures) (simp (toZ-ofZ, f .rate) at (at-find-rate .find-rate .ensures))
     (at-fill .fill .ensures .0) (simp (toZ-ofZ, f .number, f .rate, f .base) at (at-fill .fill .ensures .1)) (at-enter .enter .ensures)
-    (at-enter2 .enter2 .ensures) (at-join-in .join-in .ensures) (omega arith) (at-set-roots .set-roots .ensures)
+    (at-enter2 .enter2 .ensures) (at-join-offers .join-offers .ensures) (omega arith) (at-set-roots .set-roots .ensures)
 
 pub post-part-spec : {M : Type 1} → statement M
 post-part-spec =
@@ -72,7 +72,7 @@ post-part-spec =
     fill-requires
     enter-requires
     enter-requires-2
-    join-in-requires
+    join-offers-requires
     add-live
     set-roots-requires
     same-length

@@ -31,8 +31,8 @@ strike-requires c κs = search needs
 strike-requires-2 : tie.Need-strike-requires-2
 strike-requires-2 c κs = search needs
 
-take-out-requires : tie.Need-take-out-requires
-take-out-requires c κs = search needs
+leave-offers-requires : tie.Need-leave-offers-requires
+leave-offers-requires c κs = search needs
 
 one-less-requires : tie.Need-one-less-requires
 one-less-requires c κs = search needs
@@ -52,8 +52,8 @@ returns c =
     let at-set-roots = at-give-slot .before .before .before in
     let at-one-less = at-set-roots .before .before in
     let at-rest = at-one-less .before .before in
-    let at-take-out = at-rest .before .before in
-    let at-strike2 = at-take-out .before .before .before in
+    let at-leave-offers = at-rest .before .before in
+    let at-strike2 = at-leave-offers .before .before .before in
     let at-strike = at-strike2 .before .before .before in
     let at-follower = at-strike .before .before in
     let at-find-rate = at-follower .before .before in
@@ -67,7 +67,7 @@ returns c =
     withdrawn-part _ (at-roots .roots .ensures) (at-count .number-at .ensures) (at-rank .get .ensures) (at-rate .get2 .ensures)
     (simp (toZ-ofZ, r) at (at-find-rate .find-rate .ensures)) (at-follower .follower .ensures)
     (simp (toZ-ofZ, entry .fits .number) at (at-strike .strike .ensures)) (simp (toZ-ofZ, k) at (at-strike2 .strike2 .ensures))
-    (at-take-out .take-out .ensures) (at-one-less .one-less .ensures) (at-set-roots .set-roots .ensures) (at-give-slot .give-slot .ensures)
+    (at-leave-offers .leave-offers .ensures) (at-one-less .one-less .ensures) (at-set-roots .set-roots .ensures) (at-give-slot .give-slot .ensures)
 
 pub withdraw-part-spec : {M : Type 1} → statement M
 withdraw-part-spec =
@@ -81,7 +81,7 @@ withdraw-part-spec =
     follower-requires
     strike-requires
     strike-requires-2
-    take-out-requires
+    leave-offers-requires
     one-less-requires
     set-roots-requires
     give-slot-requires

@@ -1,4 +1,4 @@
--- `settling::join_in` meets its contract: alone, inserted, in the place of its rate's first, or behind it.
+-- `settling::join_offers` meets its contract: alone, inserted, in the place of its rate's first, or behind it.
 use mathlib.Core.Path.{refl}
 use native.Mathlib.Omega.{arith}
 use mir.Facts.{toZ-ofZ}
@@ -6,8 +6,8 @@ use mir.Syntax.{w64}
 use mir.Val.{SFits}
 use Rattle.settling.specs.Settling.{joins-alone, joins-among, joins-ahead, joins-behind, rank-said, rank-denied}
 use borrow.Author.Needs.{needs}
-use Rattle.settling.proofs.join_in.Statement.{statement}
-use Rattle.settling.proofs.join_in.Tie as tie
+use Rattle.settling.proofs.join_offers.Statement.{statement}
+use Rattle.settling.proofs.join_offers.Tie as tie
 
 alone-requires : tie.Need-alone-requires
 alone-requires c κs = search needs
@@ -67,8 +67,8 @@ returns-4 c =
     joins-behind (λ q. omega (arith, q, at-if1 .if1 .left))
     (rank-denied _ (at-get .get .ensures) (simp (toZ-ofZ, f) at (at-is-above .is-above .ensures)) (at-if3 .if3 .left)) refl (c .idle .ensures)
 
-pub join-in-spec : {M : Type 1} → statement M
-join-in-spec =
+pub join-offers-spec : {M : Type 1} → statement M
+join-offers-spec =
     tie.close
     (tie.spec
     alone-requires
