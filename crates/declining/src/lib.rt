@@ -9,7 +9,7 @@ pub fn live_slot(part: &[i64], number: i64) -> u32
     ensures { λ r. ⌜ FoundKey numberTree numberField number (upTo mostNodes (word (now (part .entry)) numbersRootWord)) (now (part .entry)) r ⌝ }
 {
     let root = table::number_at(part, table::NUMBERS_ROOT, table::MOST_NODES);
-    index::find(part, table::NUMBERS, table::NUMBER, root, number)
+    descents::find(part, table::NUMBERS, table::NUMBER, number, root)
 }
 
 // The cause for which a post in range is declined, or 0.

@@ -1,4 +1,5 @@
--- What finding, adding and dropping an item by a key promise, and the item that follows a key. On any words only fields of slots change.
+-- What adding and dropping an item by a key promise, and what finding one tells, and the one that follows a key. On any words only fields of slots
+-- change.
 use mathlib.Core.Path.{_≡_}
 use mathlib.Core.Logic.{_≢_, _⊎_}
 use mathlib.Core.List.{List, _∷_, List·Memᴰ}
@@ -50,7 +51,7 @@ pub record IndexAt (w : Words) (tree field : ℕ) (key : Item → ℤ) (root : �
   pub keyed : Keyed w field key live
   pub index-in : IndexIn w tree key live p
 
--- ---- the calls
+-- ---- what is told and promised
 
 -- the slot of the live item with that key, and 0 where there is none
 pub record FoundKey (tree field : ℕ) (sought : ℤ) (root : ℕ) (w : Words) (s : ℕ) : Type 0 where

@@ -1,5 +1,5 @@
--- An index in words: finding, adding and dropping an item by its key, and the item that follows a key.
--- statement: what the calls promise; the indexes by number and by rank
+-- An index in words: adding and dropping an item by its key; what is found by a key, and what follows one.
+-- statement: what is told by a key, and what adding and dropping promise; the indexes by number and by rank
 pub mod Index
 -- lemmas: the tree of an index as any tree in words
 pub mod Trees

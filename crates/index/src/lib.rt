@@ -1,28 +1,14 @@
-// An index: a tree of the live items by a key, which a field of their slots holds. Find, add and drop an item by its key, and go from a key to the
-// next. Keys fall from left to right.
+// An index: a tree of the live items by a key, which a field of their slots holds. An item is added, and one is dropped by its key. Keys fall from left
+// to right.
 ghost use mathlib.Core.Path.{_≡_};
 ghost use Rattle.table.specs.Layout.{cap};
-ghost use Rattle.index.specs.Index.{FoundKey, Next, Added, Dropped};
+ghost use Rattle.index.specs.Index.{Added, Dropped};
 ghost use Rattle.index.specs.Above.{leastAbove};
 ghost use Rattle.index.specs.Growing.{Grown};
 ghost use Rattle.index.specs.Thinning.{Thinned};
 
 // No key reaches it, rank or number.
 const MOST_KEY: i64 = 4_000_000_000_000_000_000;
-
-// The slot of the live item with that key, and 0 where there is none.
-pub fn find(part: &[i64], tree: u8, field: usize, root: u32, key: i64) -> u32
-    ensures { λ r. ⌜ FoundKey tree field key root (now (part .entry)) r ⌝ }
-{
-    descents::find(part, tree, field, key, root)
-}
-
-// The slot of the live item whose key is the greatest below that one, and 0 where none is below.
-pub fn next(part: &[i64], tree: u8, field: usize, root: u32, key: i64) -> u32
-    ensures { λ r. ⌜ Next tree field key root (now (part .entry)) r ⌝ }
-{
-    descents::after(part, tree, field, key, root)
-}
 
 // Adds leaf `s`, whose key is `key`, to the tree at `x`, which is not empty: the way goes right where the seam's key is `key` or more, so every seam
 // stays the last leaf on its left. The tree is at most `limit` high, and `c` is the capacity.
@@ -113,7 +99,7 @@ fn drop_below(
     shape::join_in(part, c, tree, last, y, r)
 }
 
-// Drops the item with that key, and keeps the others. A key that no item has may cost another item its leaf: ask `find` first.
+// Drops the item with that key, and keeps the others. A key that no item has may cost another item its leaf: find it first.
 pub fn drop_key(part: &mut [i64], tree: u8, field: usize, root: u32, key: i64) -> u32
     ensures { λ r. ⌜ Dropped tree field key root (now (part .entry)) (now (part .exit)) r ⌝ }
 {

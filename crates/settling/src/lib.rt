@@ -66,7 +66,7 @@ pub fn follower(part: &[i64], s: u32) -> u32
 {
     let root = table::number_at(part, table::ORDER_ROOT, table::MOST_NODES);
     let rank = table::get(part, table::RANK, s);
-    let b = index::next(part, table::ORDER, table::RANK, root, rank);
+    let b = descents::after(part, table::ORDER, table::RANK, rank, root);
     if b < 1 {
         return 0;
     }
