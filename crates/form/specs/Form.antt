@@ -1,8 +1,9 @@
--- The form of a book's part, and the plain book that it stands for. The words are those from `start` on; the part is their first 64 × (c + 1).
---     word 0   the capacity c            word 4   the root of the numbers
---     word 1   the root of the offers    word 5   the first free slot
---     word 2   the root's envelope       word 6   the root of the order
---     word 3   the live count
+-- The form of a book's part, and the plain book that it stands for. The words are those from `start` on; the part is their first 64 × (c + 1) + 1,024.
+--     word 0   the capacity c            word 5   the first free slot
+--     word 1   the root of the offers    word 6   the root of the order
+--     word 2   the root's envelope       word 7   the place of the memory's last entry
+--     word 3   the live count            word 8   how many entries it has
+--     word 4   the root of the numbers
 use mathlib.Core.Path.{_≡_}
 use mathlib.Core.Logic.{_≢_}
 use mathlib.Core.List.{List, map, Pairwise}
@@ -31,6 +32,7 @@ use Rattle.table.specs.Keys.{Keyed}
 use Rattle.table.specs.PartTrees.{partRef, TiedPart}
 use Rattle.pieces.specs.Pieces.{items}
 use Rattle.form.specs.Stored.{HeldIn}
+use Rattle.form.specs.Memory.{Remembers}
 
 -- ---- the offers
 
@@ -104,7 +106,7 @@ plainOffers order = map offerOf (partLeaves order)
 abbrev pub LeafPerRate : Option (Held Item) → Part Item → Type 0
 LeafPerRate held order = bookLines held ≡ firsts (items .before) (partLeaves order)
 
--- The part has the form, with this tree of offers, and stands for this plain book. The check decides the records in the middle.
+-- The part stands for this plain book's capacity and offers, with this tree of offers. Who only reads needs no more.
 pub record Book (w : Words) (s : State) (held : Option (Held Item)) : Type 0 where
   pub capacity : cap w ≡ s .capacity
   pub some-slot : 1 ≤ s .capacity
@@ -116,6 +118,11 @@ pub record Book (w : Words) (s : State) (held : Option (Held Item)) : Type 0 whe
   pub free : Freely w (length (partLeaves order))
   pub stands-for : plainOffers order ≡ s .offers
 
+-- The part has the form, and stands for this plain book: its offers, and what it remembers.
+pub record Form (w : Words) (s : State) (held : Option (Held Item)) : Type 0 where
+  pub book : Book w s held
+  pub memory : Remembers w s
+
 -- some plain book, then
-abbrev pub BookStands : Words → Type 0
-BookStands w = (s : State) × (held : Option (Held Item)) × Book w s held
+abbrev pub FormStands : Words → Type 0
+FormStands w = (s : State) × (held : Option (Held Item)) × Form w s held

@@ -1,6 +1,8 @@
 -- What a book's words mean.
 -- statement and lemmas: the tree of offers in words
 pub mod Stored
+-- statement: the memory of a part: a ring of entries that undo the last updates
+pub mod Memory
 -- statement: the form of a book's part, and the plain book that it stands for
 pub mod Form
 -- ways through the code: the roots that a part's words tell, whatever the words are

@@ -1,24 +1,26 @@
--- The form is a matter of the part's words alone: words past the part may change as they will.
+-- The form is a matter of the part's words alone: words past the part may change as they will. The offers are a matter of the words before the memory.
 use mathlib.Core.Path.{_≡_, sym, _∙_, ap}
-use mathlib.Core.List.{List}
+use mathlib.Core.List.{List, [], _∷_}
 use mathlib.Core.Option.{Option, none, some}
-use Prim.Native.Nat.{ℕ, _≤_, _<_}
+use Prim.Native.Nat.{ℕ, _+_, _*_, _≤_, _<_}
 use native.Mathlib.Omega.{arith}
 use lib.ListN.{length}
 use lib.IntN.{ℤ}
-use Rattle.plain.specs.Book.{State, partLength}
+use Rattle.plain.specs.Book.{State, Undo, mostRemembered, partLength, recalling}
 use Rattle.trees.specs.Operations.{Part, partLeaves}
 use Rattle.dynamic.specs.OfferTree.{Held}
 use Rattle.dynamic.specs.Rearranged.{stored}
 use Rattle.table.specs.Fields.{capacityWord, envelopeRootWord, firstFreeWord, liveCountWord, nextFreeField}
-use Rattle.table.specs.Fields.{numberField, numbersRootWord, offersRootWord, orderRootWord, rankField}
+use Rattle.table.specs.Fields.{lastEntryWord, numberField, numbersRootWord, offersRootWord, orderRootWord, rankField, rememberedWord}
 use Rattle.table.specs.Words.{Words, word, word-out}
-use Rattle.table.specs.Layout.{cap, cap-of, cell, place-high, Valid, valid?, spot, spot-of, spot-in, spot-out}
+use Rattle.table.specs.Layout.{cap, cap-of, cell, place-low, place-high, slotsEnd, partEnd, Valid, valid?, spot, spot-of, spot-in, spot-out}
 use Rattle.table.specs.Items.{Item, Slots}
 use Rattle.table.specs.PartTrees.{TiedPart}
 use Rattle.form.specs.Stored.{HeldIn}
 use Rattle.form.specs.Frames.{Same, tied-same, part-same, holds-same, stored-same}
-use Rattle.form.specs.Form.{Book, OffersIn, IndexIn, InOrder, Freely, FreeChain, free-none, free-more}
+use Rattle.form.specs.Form.{Book, Form, OffersIn, IndexIn, InOrder, Freely, FreeChain, free-none, free-more}
+use Rattle.form.specs.Memory.{Ring, EntryIn, posting, withdrawing, EntriesIn, entryAt, earlier, earlier-place}
+use Rattle.form.specs.Memory.{doneWord, entryNumberWord, entryRateWord, entryBaseWord}
 
 -- the same words in a part of capacity c
 pub record Alike (c : ℕ) (w w′ : Words) : Type 0 where
@@ -30,16 +32,25 @@ pub record Beyond (c : ℕ) (w w′ : Words) : Type 0 where
   pub long : length w′ ≡ length w
   pub rest : (i : ℕ) → partLength c ≤ i → word w′ i ≡ word w i
 
-module _ {w w′ : Words} {c : ℕ} (fits : cap w ≡ c) (a : Alike c w w′) where
+-- the same words that tell of offers: of the header up to the root of the order, and of the slots
+pub record AlikeOffers (c : ℕ) (w w′ : Words) : Type 0 where
+  pub long : length w′ ≡ length w
+  pub header : (i : ℕ) → i ≤ orderRootWord → word w′ i ≡ word w i
+  pub slots : (i : ℕ) → 64 ≤ i → i < slotsEnd c → word w′ i ≡ word w i
+
+alike-offers : {c : ℕ} {w w′ : Words} → Alike c w w′ → AlikeOffers c w w′
+alike-offers a = record { long = a .long; header = λ i h. a .words i (omega arith); slots = λ i l h. a .words i (omega arith) }
+
+module _ {w w′ : Words} {c : ℕ} (fits : cap w ≡ c) (a : AlikeOffers c w w′) where
   pub alike-cap : cap w′ ≡ cap w
-  alike-cap = cap-of w w′ (a .long) (a .words capacityWord (omega arith))
+  alike-cap = cap-of w w′ (a .long) (a .header capacityWord (omega arith))
 
   pub alike-cell : (f s : ℕ) → cell w′ f s ≡ cell w f s
   unfolding cell
   alike-cell f s = ap (word w′) (spot-of w w′ f s (a .long) alike-cap) ∙ go (valid? w f s)
     where
       go : Dec (Valid w f s) → word w′ (spot w f s) ≡ word w (spot w f s)
-      go (yes v) = a .words (spot w f s) (omega (arith, spot-in v, place-high v))
+      go (yes v) = a .slots (spot w f s) (omega (arith, spot-in v, place-low (cap w) f s)) (omega (arith, spot-in v, place-high v))
       go (no v) = word-out w′ (spot w f s) (omega (arith, spot-out v, a .long)) ∙ sym (word-out w (spot w f s) (omega (arith, spot-out v)))
 
   alike-same : (F : ℕ → Type 0) (xs : List Item) → Same F xs w w′
@@ -61,9 +72,9 @@ module _ {w w′ : Words} {c : ℕ} (fits : cap w ≡ c) (a : Alike c w w′) wh
         right = i .right;
       }
 
-  alike-offers : (held : Option (Held Item)) → OffersIn w held → OffersIn w′ held
-  alike-offers none o = tt
-  alike-offers (some h) o = alike-held h o
+  alike-tree : (held : Option (Held Item)) → OffersIn w held → OffersIn w′ held
+  alike-tree none o = tt
+  alike-tree (some h) o = alike-held h o
 
   alike-index : {k : ℕ} {key : Item → ℤ} {live : List Item} (p : Part Item) → IndexIn w k key live p → IndexIn w′ k key live p
   alike-index {k} p n =
@@ -78,8 +89,10 @@ module _ {w w′ : Words} {c : ℕ} (fits : cap w ≡ c) (a : Alike c w w′) wh
   alike-free (free-more {s} {ss} low high zero next rest) =
       free-more low (rw alike-cap high) (alike-cell numberField s ∙ zero) (alike-cell nextFreeField s ∙ next) (alike-free rest)
 
-pub book-alike : {w w′ : Words} {s : State} {held : Option (Held Item)} → Book w s held → Alike (s .capacity) w w′ → Book w′ s held
-book-alike {w} {w′} {s} {held} b a =
+-- whatever is remembered then
+pub book-alike : {w w′ : Words} {s : State} {held : Option (Held Item)} (us : List Undo) → Book w s held → AlikeOffers (s .capacity) w w′ →
+    Book w′ (recalling s (s .offers) us) held
+book-alike {w} {w′} {s} {held} us b a =
     record {
       capacity = alike-cap (b .capacity) a ∙ b .capacity;
       some-slot = b .some-slot;
@@ -87,7 +100,7 @@ book-alike {w} {w′} {s} {held} b a =
           record {
             offers-root = header offersRootWord (omega arith) ∙ b .offers .offers-root;
             envelope-root = header envelopeRootWord (omega arith) ∙ b .offers .envelope-root;
-            offers-in = alike-offers (b .capacity) a held (b .offers .offers-in);
+            offers-in = alike-tree (b .capacity) a held (b .offers .offers-in);
           };
       order = b .order;
       in-order =
@@ -117,11 +130,65 @@ book-alike {w} {w′} {s} {held} b a =
       stands-for = b .stands-for;
     }
   where
-    header : (i : ℕ) → i < 64 → word w′ i ≡ word w i
-    header i h = a .words i (omega arith)
+    header : (i : ℕ) → i ≤ orderRootWord → word w′ i ≡ word w i
+    header i h = a .header i h
 
     o : InOrder w (b .order)
     o = b .in-order
 
     f : Freely w (length (partLeaves (b .order)))
     f = b .free
+
+-- ---- the memory
+
+-- the same words that tell of it
+pub record AlikeMemory (w w′ : Words) : Type 0 where
+  pub room : cap w′ ≡ cap w
+  pub last : word w′ lastEntryWord ≡ word w lastEntryWord
+  pub count : word w′ rememberedWord ≡ word w rememberedWord
+  pub ring : (i : ℕ) → slotsEnd (cap w) ≤ i → i < partEnd (cap w) → word w′ i ≡ word w i
+
+module _ {w w′ : Words} (a : AlikeMemory w w′) where
+  alike-word : {i : ℕ} → i < mostRemembered → (k : ℕ) → k < 4 → word w′ (entryAt w′ i + k) ≡ word w (entryAt w i + k)
+  alike-word {i} h k l = ap (λ (c : ℕ). word w′ (slotsEnd c + 4 * i + k)) (a .room) ∙ a .ring (entryAt w i + k) (omega arith) (omega arith)
+
+  alike-entry : {i : ℕ} {u : Undo} → i < mostRemembered → EntryIn w (entryAt w i) u → EntryIn w′ (entryAt w′ i) u
+  alike-entry h (posting d n) = posting (alike-word h doneWord (omega arith) ∙ d) (alike-word h entryNumberWord (omega arith) ∙ n)
+  alike-entry h (withdrawing d n r b) =
+      withdrawing (alike-word h doneWord (omega arith) ∙ d) (alike-word h entryNumberWord (omega arith) ∙ n)
+      (alike-word h entryRateWord (omega arith) ∙ r) (alike-word h entryBaseWord (omega arith) ∙ b)
+
+  alike-entries : {i : ℕ} (us : List Undo) → i < mostRemembered → EntriesIn w i us → EntriesIn w′ i us
+  alike-entries [] h e = tt
+  alike-entries {i} (u ∷ us) h (e, es) = (alike-entry h e, alike-entries us (earlier-place i h) es)
+
+  pub ring-alike : {us : List Undo} → Ring w us → Ring w′ us
+  ring-alike {us} r =
+      record {
+        last = r .last;
+        last-place = r .last-place;
+        last-word = a .last ∙ r .last-word;
+        count-word = a .count ∙ r .count-word;
+        few = r .few;
+        entries = alike-entries us (r .last-place) (r .entries);
+      }
+
+-- ---- both
+
+pub form-alike : {w w′ : Words} {s : State} {held : Option (Held Item)} → Form w s held → Alike (s .capacity) w w′ → Form w′ s held
+form-alike {w} {w′} {s} f a =
+    let room = alike-cap (f .book .capacity) (alike-offers a) in
+    let c = f .book .capacity in
+    record {
+      book = book-alike (s .memory) (f .book) (alike-offers a);
+      memory =
+          record {
+            ring = ring-alike (record {
+              room = room;
+              last = a .words lastEntryWord (omega arith);
+              count = a .words rememberedWord (omega arith);
+              ring = λ i l h. a .words i (omega (arith, h, c));
+            }) (f .memory .ring);
+            undoable = f .memory .undoable;
+          };
+    }

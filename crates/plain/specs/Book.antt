@@ -1,10 +1,10 @@
--- The plain book (docs/REQUIREMENTS.md, 3): a capacity and a list of live offers in order, fed the calls' arguments, an
--- output's length with them, and no word of any table. Each call is first tried against the table of declined calls.
+-- The plain book (docs/REQUIREMENTS.md, 3): a capacity, a list of live offers in order and a memory of what to take back, fed the calls' arguments,
+-- an output's length with them, and no word of any table. Each call is first tried against the table of declined calls.
 use Prim.Native.Nat.{ℕ, _+_, _*_, _-_}
-use mathlib.Core.List.{List, [], _∷_, _++_}
+use mathlib.Core.List.{List, [], _∷_, _++_, map}
 use mathlib.Core.Option.{Option, none, some}
 use mathlib.Core.Bool.{Bool, not, _&&_, _||_, cond}
-use lib.ListN.{length}
+use lib.ListN.{length, take}
 use lib.Dec.{leb, ltb}
 use lib.IntN.{ℤ, pos, natAbs, _*ℤ_}
 use lib.Signed.{ltZ}
@@ -14,13 +14,21 @@ use Rattle.lists.specs.Tests.{any}
 use Rattle.integers.specs.Equal.{equal}
 use Rattle.offers.specs.Offers.{Offer, between, numberInRange, rateInRange, baseInRange, loadInRange, priceAt, precedes, ahead}
 use Rattle.offers.specs.Offers.{crossingNumerator, crossingDenominator}
-use Rattle.plain.specs.Causes.{Cause, Trial, _when_, declined, causeNumber, capacityOutOfRange, tableTooShort, numberOutOfRange, rateOutOfRange}
-use Rattle.plain.specs.Causes.{baseOutOfRange, loadOutOfRange, numberLive, bookFull, numberNotLive, bookEmpty, outputTooShort}
+use Rattle.plain.specs.Causes.{Cause, Trial, _when_, declined, Clear, causeNumber, capacityOutOfRange, tableTooShort, numberOutOfRange}
+use Rattle.plain.specs.Causes.{rateOutOfRange, baseOutOfRange, loadOutOfRange, numberLive, bookFull, numberNotLive, bookEmpty, outputTooShort}
+use Rattle.plain.specs.Causes.{nothingToTakeBack}
+
+-- What undoes an accepted update: a posted offer goes out again, a withdrawn one comes back.
+pub data Undo : Type 0 where
+  unpost : (number : ℤ) → Undo
+  restore : Offer → Undo
 
 pub record State : Type 0 where
   pub capacity : ℕ
   -- the live offers in order: by falling rate, then rising base, then rising number
   pub offers : List Offer
+  -- what undoes the updates that can be taken back, the last one first
+  pub memory : List Undo
 
 -- ---- the calls and their answers
 
@@ -30,11 +38,12 @@ pub data Call : Type 0 where
   query : (load : ℤ) → Call
   -- with the length of the lent output, in words
   listing : (room : ℕ) → Call
+  takeBack : Call
 
 pub data Answer : Type 0 where
   -- a declined call's number
   refused : ℕ → Answer
-  -- the live count after a post or a withdrawal
+  -- the live count after a post, a withdrawal or a take-back
   live : ℕ → Answer
   -- the number of the offer named first, the least price, and the number of the second offer
   found : (number price second : ℤ) → Answer
@@ -58,6 +67,26 @@ join o (p ∷ ps) = cond (ahead o p) (o ∷ p ∷ ps) (p ∷ join o ps)
 -- The offer leaves.
 abbrev pub leave : ℤ → List Offer → List Offer
 leave n os = keep (λ o. not (hasNumber n o)) os
+
+-- What undoes a post, and a withdrawal of the offer that has the number.
+abbrev pub undoOf : List Offer → Call → List Undo
+undoOf os (post n r b) = unpost n ∷ []
+undoOf os (withdraw n) = map restore (keep (hasNumber n) os)
+undoOf os (query q) = []
+undoOf os (listing room) = []
+undoOf os takeBack = []
+
+abbrev pub mostRemembered : ℕ
+mostRemembered = 256
+
+-- The last 256 are remembered; older ones fall out of memory.
+abbrev pub remember : List Undo → List Undo → List Undo
+remember new memory = take mostRemembered (new ++ memory)
+
+-- The live offers when it is undone.
+abbrev pub undone : Undo → List Offer → List Offer
+undone (unpost n) os = leave n os
+undone (restore o) os = join o os
 
 -- Whether a tie goes to the first of two rates: to the lower one, or to the higher.
 abbrev pub lower : ℤ → ℤ → Bool
@@ -100,14 +129,14 @@ pieceWords (o ∷ p ∷ ps) = o .number ∷ crossingNumerator o p ∷ crossingDe
 
 -- ---- which calls are declined
 
--- A part of capacity c has 64 × (c + 1) words.
+-- A part of capacity c has 64 × (c + 1) + 1,024 words.
 abbrev pub partLength : ℕ → ℕ
-partLength c = 64 * (c + 1)
+partLength c = 64 * (c + 1) + 1_024
 
--- No book: `start` beyond the table, fewer than 128 words there, first word outside 1 to 4,096, or part cut short.
+-- No book: `start` beyond the table, fewer than 1,152 words there, first word outside 1 to 4,096, or part cut short.
 abbrev pub noBookAt : (words start : ℕ) → ℤ → Bool
 noBookAt words start first =
-    ltb words start || ltb (words - start) 128 || not (between (pos 1) (pos 4_096) first) || ltb (words - start) (partLength (natAbs first))
+    ltb words start || ltb (words - start) 1_152 || not (between (pos 1) (pos 4_096) first) || ltb (words - start) (partLength (natAbs first))
 
 -- Open, on a table of so many words.
 abbrev pub openTrials : (words start : ℕ) → ℤ → List Trial
@@ -125,6 +154,7 @@ rangeTrials (post n r b) =
 rangeTrials (withdraw n) = numberOutOfRange when not (numberInRange n) ∷ []
 rangeTrials (query q) = loadOutOfRange when not (loadInRange q) ∷ []
 rangeTrials (listing room) = []
+rangeTrials takeBack = []
 
 abbrev pub bookTrials : State → Call → List Trial
 bookTrials s (post n r b) =
@@ -134,15 +164,16 @@ bookTrials s (post n r b) =
 bookTrials s (withdraw n) = numberNotLive when not (any (hasNumber n) (s .offers)) ∷ []
 bookTrials s (query q) = bookEmpty when leb (length (s .offers)) 0 ∷ []
 bookTrials s (listing room) = outputTooShort when ltb room (3 * length (envelope (s .offers))) ∷ []
+bookTrials s takeBack = nothingToTakeBack when leb (length (s .memory)) 0 ∷ []
 
 abbrev pub trials : State → Call → List Trial
 trials s k = rangeTrials k ++ bookTrials s k
 
 -- ---- the book
 
--- An accepted opening: no live offers.
+-- An accepted opening: no live offers, and nothing to take back.
 abbrev pub opened : ℤ → State
-opened c = record { capacity = natAbs c; offers = [] }
+opened c = record { capacity = natAbs c; offers = []; memory = [] }
 
 -- What opening a table of so many words answers: a refusal's number, or 0 alone.
 abbrev pub openingBy : Option Cause → ℕ
@@ -154,16 +185,26 @@ opening words start c = openingBy (declined (openTrials words start c))
 
 -- The book with other live offers.
 abbrev pub holding : State → List Offer → State
-holding s os = record { capacity = s .capacity; offers = os }
+holding s os = record { capacity = s .capacity; offers = os; memory = s .memory }
 
--- The same, with their count.
-abbrev pub changed : State → List Offer → Outcome
-changed s os = record { state = holding s os; answer = live (length os) }
+-- .. and another memory.
+abbrev pub recalling : State → List Offer → List Undo → State
+recalling s os us = record { capacity = s .capacity; offers = os; memory = us }
+
+-- The same, with the count of offers.
+abbrev pub changed : State → List Offer → List Undo → Outcome
+changed s os us = record { state = recalling s os us; answer = live (length os) }
 
 -- What an accepted call does.
 abbrev pub accepted : State → Call → Outcome
-accepted s (post n r b) = changed s (join (record { number = n; rate = r; base = b }) (s .offers))
-accepted s (withdraw n) = changed s (leave n (s .offers))
+accepted s (post n r b) =
+    changed s (join (record { number = n; rate = r; base = b }) (s .offers)) (remember (undoOf (s .offers) (post n r b)) (s .memory))
+accepted s (withdraw n) = changed s (leave n (s .offers)) (remember (undoOf (s .offers) (withdraw n)) (s .memory))
+accepted s takeBack = takenBack (s .memory)
+  where
+    takenBack : List Undo → Outcome
+    takenBack [] = record { state = s; answer = refused (causeNumber nothingToTakeBack) }  -- idle: it is declined
+    takenBack (u ∷ us) = changed s (undone u (s .offers)) us
 accepted s (query q) = record { state = s; answer = answerOf (s .offers) }
   where
     answerOf : List Offer → Answer
@@ -188,3 +229,19 @@ after s (k ∷ ks) = after (step s k .state) ks
 abbrev pub answers : State → List Call → List Answer
 answers s [] = []
 answers s (k ∷ ks) = step s k .answer ∷ answers (step s k .state) ks
+
+-- ---- what is remembered can be undone
+
+-- What undoes an update is itself a call.
+abbrev pub undoing : Undo → Call
+undoing (unpost n) = withdraw n
+undoing (restore o) = post (o .number) (o .rate) (o .base)
+
+-- In a book of c slots with these offers the entries, undone last first, meet none of the causes of a post and of a withdrawal: 4 to 8, 14 and 15.
+abbrev pub Undoable : ℕ → List Offer → List Undo → Type 0
+Undoable c os [] = Unit {0}
+Undoable c os (u ∷ us) = Clear (trials (record { capacity = c; offers = os; memory = us }) (undoing u)) × Undoable c (undone u os) us
+
+-- All that the book remembers can be undone.
+abbrev pub Recallable : State → Type 0
+Recallable s = Undoable (s .capacity) (s .offers) (s .memory)

@@ -250,6 +250,6 @@ pub four-pieces :
 four-pieces = refl
 
 pub openings :
-    opening 128 0 (pos 0) ∷ opening 128 1 (pos 4_097) ∷ opening 128 1 (pos 1) ∷ opening 127 0 (pos 1) ∷ opening 10 11 (pos 1) ∷ opening 128 0 (pos 1) ∷ [] ≡
-    1 ∷ 1 ∷ 2 ∷ 2 ∷ 2 ∷ 0 ∷ []
+    opening 1_152 0 (pos 0) ∷ opening 1_152 1 (pos 4_097) ∷ opening 1_152 1 (pos 1) ∷ opening 1_151 0 (pos 1) ∷ opening 10 11 (pos 1) ∷
+    opening 1_152 0 (pos 1) ∷ [] ≡ 1 ∷ 1 ∷ 2 ∷ 2 ∷ 2 ∷ 0 ∷ []
 openings = refl

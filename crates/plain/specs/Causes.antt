@@ -27,6 +27,8 @@ pub data Cause : Type 0 where
   ratesNotApart : Cause
   -- mark
   noSuchMark : Cause
+  -- take-back: no update is remembered
+  nothingToTakeBack : Cause
 
 -- Number 6 told of a rate that was live; no cause has it any more.
 abbrev pub causeNumber : Cause → ℕ
@@ -46,6 +48,7 @@ causeNumber outputTooShort = 10
 causeNumber unreadableLine = 11
 causeNumber ratesNotApart = 12
 causeNumber noSuchMark = 13
+causeNumber nothingToTakeBack = 17
 
 -- A cause, and whether it applies.
 pub record Trial : Type 0 where

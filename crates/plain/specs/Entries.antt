@@ -1,5 +1,5 @@
 -- Which entry of a call is out of range (docs/REQUIREMENTS.md, 13): the number that names it, and that a call is refused with such a number exactly
--- then. Every other refusal has a number from 5 to 10, and not 6: by what the book holds, or by the output's length.
+-- then. Every other refusal has a number from 5 to 10, and not 6, or 17: by what the book holds or remembers, or by the output's length.
 use mathlib.Core.Path.{_≡_, refl, _∙_, ap, subst}
 use mathlib.Core.Logic.{_⊎_, inl, inr, ⊎-elim, _≢_}
 use mathlib.Core.Bool.{not}
@@ -13,9 +13,9 @@ use Rattle.lists.specs.Bools.{twice, not-not}
 use Rattle.offers.specs.Offers.{Offer, numberInRange, rateInRange, baseInRange, loadInRange}
 use Rattle.plain.specs.Causes.{Cause, capacityOutOfRange, tableTooShort, noBook, numberOutOfRange, rateOutOfRange, baseOutOfRange, loadOutOfRange}
 use Rattle.plain.specs.Causes.{priceOutOfRange, numberLive, bookFull, numberNotLive, bookEmpty, outputTooShort, unreadableLine, ratesNotApart}
-use Rattle.plain.specs.Causes.{noSuchMark, causeNumber, declined, FirstOf, at-once, further}
-use Rattle.plain.specs.Book.{State, Call, post, withdraw, query, listing, Answer, refused, live, found, listed}
-use Rattle.plain.specs.Book.{rangeTrials, bookTrials, trials, respond, accepted, step}
+use Rattle.plain.specs.Causes.{noSuchMark, nothingToTakeBack, causeNumber, declined, FirstOf, at-once, further}
+use Rattle.plain.specs.Book.{State, Undo, Call, post, withdraw, query, listing, takeBack, Answer, refused, live, found, listed}
+use Rattle.plain.specs.Book.{rangeTrials, bookTrials, trials, recalling, respond, accepted, step}
 use Rattle.plain.specs.Trials.{declined-first, first-append}
 use Rattle.plain.specs.Rules.{refusing, step-declined}
 
@@ -43,19 +43,20 @@ named-refused s {m} {k} n = let (z, f, e) = names-first n in step-declined s k z
 -- ---- and a refusal tells no such number otherwise
 
 abbrev pub Otherwise : ℕ → Type 0
-Otherwise m = (5 ≤ m) × (m ≤ 10) × (m ≢ 6)
+Otherwise m = (5 ≤ m) × (m ≢ 6) × ((m ≤ 10) ⊎ (m ≡ 17))
 
 by-cause : (s : State) (k : Call) (z : Cause) → FirstOf (trials s k) z → Otherwise (causeNumber z) ⊎ Names (causeNumber z) k
 by-cause s (post n r b) z (at-once x) = inr (posted-number x)
 by-cause s (post n r b) z (further i (at-once x)) = inr (posted-rate (not-not (numberInRange n) i) x)
 by-cause s (post n r b) z (further i (further j (at-once x))) = inr (posted-base (not-not (numberInRange n) i) (not-not (rateInRange r) j) x)
-by-cause s (post n r b) z (further i (further j (further l (at-once x)))) = inl (omega arith, omega arith, omega arith)
-by-cause s (post n r b) z (further i (further j (further l (further p (at-once x))))) = inl (omega arith, omega arith, omega arith)
+by-cause s (post n r b) z (further i (further j (further l (at-once x)))) = inl (omega arith, omega arith, inl (omega arith))
+by-cause s (post n r b) z (further i (further j (further l (further p (at-once x))))) = inl (omega arith, omega arith, inl (omega arith))
 by-cause s (withdraw n) z (at-once x) = inr (withdrawn-number x)
-by-cause s (withdraw n) z (further i (at-once x)) = inl (omega arith, omega arith, omega arith)
+by-cause s (withdraw n) z (further i (at-once x)) = inl (omega arith, omega arith, inl (omega arith))
 by-cause s (query q) z (at-once x) = inr (asked-load x)
-by-cause s (query q) z (further i (at-once x)) = inl (omega arith, omega arith, omega arith)
-by-cause s (listing room) z (at-once x) = inl (omega arith, omega arith, omega arith)
+by-cause s (query q) z (further i (at-once x)) = inl (omega arith, omega arith, inl (omega arith))
+by-cause s (listing room) z (at-once x) = inl (omega arith, omega arith, inl (omega arith))
+by-cause s takeBack z (at-once x) = inl (omega arith, omega arith, inr refl)
 
 -- the number of a refusal; 5 for an accepted call
 numberIn : Answer → ℕ
@@ -68,15 +69,20 @@ pub refused-names : (s : State) (k : Call) (m : ℕ) → step s k .answer ≡ re
 unfolding numberIn
 refused-names s k m e = subst (λ (i : ℕ). Otherwise i ⊎ Names i k) (ap numberIn e) (go (declined (trials s k)) refl)
   where
-    asked : (c : ℕ) (os : List Offer) (q : ℤ) → Otherwise (numberIn (accepted (record { capacity = c; offers = os }) (query q) .answer))
-    asked c [] q = (omega arith, omega arith, omega arith)
-    asked c (o ∷ os) q = (omega arith, omega arith, omega arith)
+    asked : (c : ℕ) (os : List Offer) (us : List Undo) (q : ℤ) → Otherwise (numberIn (accepted (record { capacity = c; offers = os; memory = us }) (query q) .answer))
+    asked c [] us q = (omega arith, omega arith, inl (omega arith))
+    asked c (o ∷ os) us q = (omega arith, omega arith, inl (omega arith))
+
+    taken-back : (os : List Offer) (us : List Undo) → Otherwise (numberIn (accepted (recalling s os us) takeBack .answer))
+    taken-back os [] = (omega arith, omega arith, inr refl)
+    taken-back os (u ∷ us) = (omega arith, omega arith, inl (omega arith))
 
     taken : (k : Call) → Otherwise (numberIn (accepted s k .answer))
-    taken (post n r b) = (omega arith, omega arith, omega arith)
-    taken (withdraw n) = (omega arith, omega arith, omega arith)
-    taken (query q) = asked (s .capacity) (s .offers) q
-    taken (listing room) = (omega arith, omega arith, omega arith)
+    taken (post n r b) = (omega arith, omega arith, inl (omega arith))
+    taken (withdraw n) = (omega arith, omega arith, inl (omega arith))
+    taken (query q) = asked (s .capacity) (s .offers) (s .memory) q
+    taken takeBack = taken-back (s .offers) (s .memory)
+    taken (listing room) = (omega arith, omega arith, inl (omega arith))
 
     go : (d : Option Cause) → declined (trials s k) ≡ d → Otherwise (numberIn (respond s k d .answer)) ⊎ Names (numberIn (respond s k d .answer)) k
     go none p = inl (taken k)
@@ -102,6 +108,7 @@ never-six outputTooShort e = omega arith
 never-six unreadableLine e = omega arith
 never-six ratesNotApart e = omega arith
 never-six noSuchMark e = omega arith
+never-six nothingToTakeBack e = omega arith
 
 names-other : {m : ℕ} {k : Call} → Names m k → m ≢ 6
 names-other (posted-number x) e = omega arith
@@ -111,4 +118,4 @@ names-other (withdrawn-number x) e = omega arith
 names-other (asked-load x) e = omega arith
 
 pub not-six : (s : State) (k : Call) → step s k .answer ≢ refused 6
-not-six s k e = ⊎-elim (λ o. o .2 refl) (λ n. names-other n refl) (refused-names s k 6 e)
+not-six s k e = ⊎-elim (λ o. o .1 refl) (λ n. names-other n refl) (refused-names s k 6 e)

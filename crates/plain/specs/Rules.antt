@@ -6,7 +6,7 @@ use mathlib.Core.List.{List, [], _∷_, List·Memᴰ}
 use Prim.Native.Nat.{ℕ, zero, suc, _+_, _*_, _≤_, _<_}
 use native.Mathlib.Omega.{arith}
 use lib.ListN.{length, getD}
-use lib.Dec.{T, T-not, not-T}
+use lib.Dec.{T, T-not, not-T, le→leb}
 use lib.Arith.{lt→nleb}
 use borrow.Author.Tests.{le-ltb}
 use lib.IntN.{ℤ, pos}
@@ -16,9 +16,10 @@ use Rattle.integers.specs.Equal.{equal}
 use Rattle.integers.specs.Parts.{equal-is, equal-eq}
 use Rattle.offers.specs.Offers.{Offer, numberInRange, rateInRange, baseInRange, loadInRange, priceAt, crossingNumerator, crossingDenominator}
 use Rattle.plain.specs.Causes.{Cause, causeNumber, Clear}
-use Rattle.plain.specs.Book.{hasNumber, holding, State, Outcome, Call, post, withdraw, query, listing, refused, live, found, listed, join, leave}
+use Rattle.plain.specs.Book.{hasNumber, State, Outcome, Call, post, withdraw, query, listing, takeBack, refused, live, found, listed, join, leave}
 use Rattle.plain.specs.Book.{lower, higher, cheapest, envelope, pieceWords, trials, step, respond, accepted}
-use Rattle.plain.specs.Causes.{FirstOf}
+use Rattle.plain.specs.Book.{Undo, undoOf, remember, undone, recalling, changed}
+use Rattle.plain.specs.Causes.{FirstOf, at-once, nothingToTakeBack}
 use Rattle.plain.specs.Trials.{declined-by, not-declined}
 use Rattle.plain.specs.Sound.{length-join}
 use Rattle.plain.specs.Meaning.{PieceAt}
@@ -36,24 +37,40 @@ module _ (s : State) where
   pub step-accepted : (k : Call) → Clear (trials s k) → step s k ≡ accepted s k
   step-accepted k c = ap (respond s k) (not-declined (trials s k) c)
 
+  -- what is remembered after it
+  abbrev pub remembering : Call → List Undo
+  remembering k = remember (undoOf (s .offers) k) (s .memory)
+
   -- one offer more, and the count says so
-  pub posts : (n r b : ℤ) → Clear (trials s (post n r b)) →
-      step s (post n r b) ≡ record {
-        state = holding s (join (record { number = n; rate = r; base = b }) (s .offers));
-        answer =
-            live (suc (length (s .offers)));
-      }
-  posts n r b c = step-accepted (post n r b) c ∙ ap (λ m. record {
-    state = holding s (join (record { number = n; rate = r; base = b }) (s .offers));
-    answer = live m;
-  }) (length-join (record { number = n; rate = r; base = b }) (s .offers))
+  abbrev pub posted : (n r b : ℤ) → State
+  posted n r b = recalling s (join (record { number = n; rate = r; base = b }) (s .offers)) (remembering (post n r b))
+
+  pub posts : (n r b : ℤ) → Clear (trials s (post n r b)) → step s (post n r b) ≡ record { state = posted n r b; answer = live (suc (length (s .offers))) }
+  posts n r b c = step-accepted (post n r b) c ∙ ap (λ m. record { state = posted n r b; answer = live m }) (length-join (record {
+    number = n;
+    rate = r;
+    base = b;
+  }) (s .offers))
+
+  abbrev pub withdrawn : (n : ℤ) → State
+  withdrawn n = recalling s (leave n (s .offers)) (remembering (withdraw n))
 
   pub withdraws : (n : ℤ) → Clear (trials s (withdraw n)) → step s (withdraw n) ≡ record {
-    state = holding s (leave n (s .offers));
+    state = withdrawn n;
     answer =
         live (length (leave n (s .offers)));
   }
   withdraws n c = step-accepted (withdraw n) c
+
+  -- the last entry is undone, and is remembered no more
+  pub takes-back : (u : Undo) (us : List Undo) → s .memory ≡ u ∷ us → step s takeBack ≡ changed s (undone u (s .offers)) us
+  takes-back u us e = step-accepted takeBack (lt→nleb (length (s .memory)) 0 (omega (arith, ap length e)), tt) ∙ go (s .memory) e
+    where
+      go : (m : List Undo) → m ≡ u ∷ us → accepted (recalling s (s .offers) m) takeBack ≡ changed s (undone u (s .offers)) us
+      go m d = rw d refl
+
+  pub nothing-taken : s .memory ≡ [] → step s takeBack ≡ refusing s 17
+  nothing-taken e = step-declined takeBack nothingToTakeBack (at-once (le→leb (length (s .memory)) 0 (omega (arith, ap length e))))
 
   pub lists : (room : ℕ) → Clear (trials s (listing room)) →
       step s (listing room) ≡ record { state = s; answer = listed (length (envelope (s .offers))) (pieceWords (envelope (s .offers))) }
@@ -62,10 +79,7 @@ module _ (s : State) where
 -- A post in range of a number that no live offer has joins a book that is not full, whatever the rates that are live.
 pub joins : (s : State) (n r b : ℤ) → T (numberInRange n) → T (rateInRange r) → T (baseInRange b) →
     ((o : Offer) → List·Memᴰ o (s .offers) → o .number ≢ n) → length (s .offers) < s .capacity →
-    step s (post n r b) ≡ record {
-      state = holding s (join (record { number = n; rate = r; base = b }) (s .offers));
-      answer = live (suc (length (s .offers)));
-    }
+    step s (post n r b) ≡ record { state = posted s n r b; answer = live (suc (length (s .offers))) }
 joins s n r b i j l other room =
     posts s n r b (
       twice (numberInRange n) i,
@@ -83,7 +97,7 @@ joins s n r b i j l other room =
 
 -- A withdrawal of a live offer takes it out, the first of its rate or not.
 pub goes : (s : State) (o : Offer) → List·Memᴰ o (s .offers) → T (numberInRange (o .number)) → step s (withdraw (o .number)) ≡ record {
-  state = holding s (leave (o .number) (s .offers));
+  state = withdrawn s (o .number);
   answer = live (length (leave (o .number) (s .offers)));
 }
 goes s o m i =
@@ -103,12 +117,13 @@ pub shows : (s : State) (room : ℕ) → 3 * length (envelope (s .offers)) ≤ r
 shows s room h = lists s room (failed (le-ltb room (3 * length (envelope (s .offers))) h), tt)
 
 -- a book with an offer answers a load in range
-pub finds : (c : ℕ) (o : Offer) (os : List Offer) (q : ℤ) → T (loadInRange q) → step (record { capacity = c; offers = o ∷ os }) (query q) ≡ record {
-  state =
-      record { capacity = c; offers = o ∷ os };
-  answer = found (cheapest lower q o os .number) (priceAt (cheapest lower q o os) q) (cheapest higher q o os .number);
-}
-finds c o os q t = step-accepted (record { capacity = c; offers = o ∷ os }) (query q) (twice (loadInRange q) t, (lt→nleb (suc (length os)) 0 (omega arith), tt))
+pub finds : (c : ℕ) (o : Offer) (os : List Offer) (us : List Undo) (q : ℤ) → T (loadInRange q) →
+    step (record { capacity = c; offers = o ∷ os; memory = us }) (query q) ≡ record {
+      state = record { capacity = c; offers = o ∷ os; memory = us };
+      answer = found (cheapest lower q o os .number) (priceAt (cheapest lower q o os) q) (cheapest higher q o os .number);
+    }
+finds c o os us q t =
+    step-accepted (record { capacity = c; offers = o ∷ os; memory = us }) (query q) (twice (loadInRange q) t, (lt→nleb (suc (length os)) 0 (omega arith), tt))
 
 -- ---- a listing's words
 

@@ -1,5 +1,5 @@
--- What holds of the plain book after every list of calls: its offers stand in order, no two with one number, each in range, at most c of them; and a
--- refused call changes nothing.
+-- What holds of the plain book after every list of calls: its offers stand in order, no two with one number, each in range, at most c of them; what it
+-- remembers can be undone; and a refused call changes nothing.
 use mathlib.Core.Path.{_≡_, refl, sym, subst, ap}
 use mathlib.Core.Logic.{_⊎_, inl, inr, ⊎-elim, _≢_}
 use mathlib.Core.HLevel.{¬-prop}
@@ -23,8 +23,8 @@ use Rattle.offers.specs.Order.{Ahead, ahead-said, ahead-meant, ahead-trans, com
 use Rattle.plain.specs.Causes.{Cause, declined}
 use Rattle.plain.specs.Causes.{Clear}
 use Rattle.plain.specs.Trials.{clear}
-use Rattle.plain.specs.Book.{State, Call, post, withdraw, query, listing, refused, hasNumber, join, leave, trials}
-use Rattle.plain.specs.Book.{opened, openTrials, accepted, respond, step, after}
+use Rattle.plain.specs.Book.{State, Undo, unpost, restore, Call, post, withdraw, query, listing, takeBack, refused, hasNumber, join, leave, trials}
+use Rattle.plain.specs.Book.{opened, openTrials, accepted, respond, step, undone, undoing, Undoable, Recallable, recalling}
 
 pub record Sound (s : State) : Type 0 where
   pub capacity-low : 1 ≤ s .capacity
@@ -125,11 +125,39 @@ withdraw-sound s n h =
     stay : Sublistᴰ (leave n (s .offers)) (s .offers)
     stay = keep-sublist (λ o. not (hasNumber n o)) (s .offers)
 
-accepted-sound : (s : State) (k : Call) → Sound s → Clear (trials s k) → Sound (accepted s k .state)
-accepted-sound s (post n r b) h c = post-sound s n r b h c
-accepted-sound s (withdraw n) h c = withdraw-sound s n h
-accepted-sound s (query q) h c = h
-accepted-sound s (listing room) h c = h
+-- whatever is remembered
+sound-recalling : (s : State) (os : List Offer) (us vs : List Undo) → Sound (recalling s os us) → Sound (recalling s os vs)
+sound-recalling s os us vs h =
+    record {
+      capacity-low = h .capacity-low;
+      capacity-high = h .capacity-high;
+      ordered = h .ordered;
+      numbered = h .numbered;
+      ranged = h .ranged;
+      fits = h .fits;
+    }
+
+-- nor does what declines a post or a withdrawal depend on it
+pub tried-recalling : (s : State) (us vs : List Undo) (u : Undo) → Clear (trials (recalling s (s .offers) us) (undoing u)) →
+    Clear (trials (recalling s (s .offers) vs) (undoing u))
+tried-recalling s us vs (unpost n) c = c
+tried-recalling s us vs (restore o) c = c
+
+-- what is undone was a call that nothing declines
+undone-sound : (s : State) (u : Undo) (us : List Undo) → Sound s → Clear (trials s (undoing u)) → Sound (recalling s (undone u (s .offers)) us)
+undone-sound s (unpost n) us h c = sound-recalling s (leave n (s .offers)) _ us (withdraw-sound s n h)
+undone-sound s (restore o) us h c = sound-recalling s (join o (s .offers)) _ us (post-sound s (o .number) (o .rate) (o .base) h c)
+
+accepted-sound : (s : State) (k : Call) → Sound s → Recallable s → Clear (trials s k) → Sound (accepted s k .state)
+accepted-sound s (post n r b) h d c = post-sound s n r b h c
+accepted-sound s (withdraw n) h d c = withdraw-sound s n h
+accepted-sound s (query q) h d c = h
+accepted-sound s (listing room) h d c = h
+accepted-sound s takeBack h d c = go (s .memory) d h
+  where
+    go : (m : List Undo) → Undoable (s .capacity) (s .offers) m → Sound (recalling s (s .offers) m) → Sound (accepted (recalling s (s .offers) m) takeBack .state)
+    go [] d h = h
+    go (u ∷ us) (e, d) k = undone-sound s u us h (tried-recalling s us (s .memory) u e)
 
 pub opened-sound : (words start : ℕ) (c : ℤ) → Clear (openTrials words start c) → Sound (opened c)
 opened-sound words start c (range, rest) = fresh c (not-not (between (pos 1) (pos 4_096) c) range)
@@ -147,17 +175,12 @@ opened-sound words start c (range, rest) = fresh c (not-not (between (pos 1) (po
         }
     fresh (negsuc n) t = absurd t
 
-pub step-sound : (s : State) (k : Call) → Sound s → Sound (step s k .state)
-step-sound s k h = go (declined (trials s k)) refl
+pub step-sound : (s : State) (k : Call) → Sound s → Recallable s → Sound (step s k .state)
+step-sound s k h u = go (declined (trials s k)) refl
   where
     go : (d : Option Cause) → declined (trials s k) ≡ d → Sound (respond s k d .state)
-    go none e = accepted-sound s k h (clear (trials s k) e)
+    go none e = accepted-sound s k h u (clear (trials s k) e)
     go (some c) e = h
-
--- The state after any list of calls.
-pub after-sound : (s : State) (ks : List Call) → Sound s → Sound (after s ks)
-after-sound s [] h = h
-after-sound s (k ∷ ks) h = after-sound (step s k .state) ks (step-sound s k h)
 
 -- A refused call changes nothing.
 pub refused-keeps : (s : State) (k : Call) (n : ℕ) → step s k .answer ≡ refused n → step s k .state ≡ s
@@ -169,3 +192,9 @@ refused-keeps s k n e = go (declined (trials s k)) k e
     go none (withdraw m) e = let z : _≡_ {A = ℕ} 0 1 = cc in absurd (omega arith)
     go none (query q) e = refl
     go none (listing room) e = refl
+    go none takeBack e = taken (s .memory) e
+      where
+        taken : (m : List Undo) → accepted (recalling s (s .offers) m) takeBack .answer ≡ refused n → accepted (recalling s (s .offers) m) takeBack .state ≡
+            recalling s (s .offers) m
+        taken [] d = refl
+        taken (u ∷ us) d = let z : _≡_ {A = ℕ} 0 1 = cc in absurd (omega arith)

@@ -24,6 +24,13 @@ firstFreeWord = 5
 abbrev pub orderRootWord : ℕ
 orderRootWord = 6
 
+-- the place in the memory of the last entry, and how many entries there are
+abbrev pub lastEntryWord : ℕ
+lastEntryWord = 7
+
+abbrev pub rememberedWord : ℕ
+rememberedWord = 8
+
 -- ---- a slot's fields; a tree's children and heights are `childField` and `heightField` (Rep)
 
 -- the offer; a free slot has the number 0

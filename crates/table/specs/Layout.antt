@@ -1,5 +1,5 @@
 -- Where a part keeps what. The first 64 words are the header, and word 0 is the capacity c. Then come planes of four words for each slot
--- from 0 to c: field f of slot s is word f % 4 of that slot in plane f / 4. Slot 0 is never used.
+-- from 0 to c: field f of slot s is word f % 4 of that slot in plane f / 4. Slot 0 is never used. Behind the planes' words are 1,024 of the memory.
 --     plane 0   number (0: free), rate, base, rank (free: the next free slot)
 --     plane 1   piece tree: left, right; crossing with the next piece: numerator, denominator
 --     plane 2   offer tree: left, right; the bridge's two ends
@@ -24,9 +24,16 @@ use Rattle.table.specs.Words.{Words, word, wset, word-out, wset-length, 
 
 -- ---- the capacity
 
+-- the header and the planes, and then the memory
+abbrev pub slotsEnd : ℕ → ℕ
+slotsEnd c = 64 * (c + 1)
+
+abbrev pub partEnd : ℕ → ℕ
+partEnd c = slotsEnd c + 1_024
+
 -- c, where a part of that capacity fits into n words
 abbrev pub fitting : ℕ → ℕ → ℕ
-fitting n c = cond (leb (64 * (c + 1)) n) c 0
+fitting n c = cond (leb (partEnd c) n) c 0
 
 -- the capacity that word 0 tells; 0 where there is no book
 unfoldable pub cap : Words → ℕ
@@ -37,17 +44,17 @@ unfolding cap
 cap-of w w′ n z = rw (n, z)
 
 -- by the test that the code makes
-pub cap-cut : (w : Words) (told : ℕ) → told ≡ upTo mostSlots (word w capacityWord) → length w < 64 * (told + 1) → 0 ≡ cap w
+pub cap-cut : (w : Words) (told : ℕ) → told ≡ upTo mostSlots (word w capacityWord) → length w < partEnd told → 0 ≡ cap w
 unfolding cap
-cap-cut w told e h = rw (← e, lt-leb (64 * (told + 1)) (length w) h)
+cap-cut w told e h = rw (← e, lt-leb (partEnd told) (length w) h)
 
-pub cap-whole : (w : Words) (told : ℕ) → told ≡ upTo mostSlots (word w capacityWord) → 64 * (told + 1) ≤ length w → told ≡ cap w
+pub cap-whole : (w : Words) (told : ℕ) → told ≡ upTo mostSlots (word w capacityWord) → partEnd told ≤ length w → told ≡ cap w
 unfolding cap
-cap-whole w told e h = rw (← e, le-leb (64 * (told + 1)) (length w) h)
+cap-whole w told e h = rw (← e, le-leb (partEnd told) (length w) h)
 
 pub cap-most : (w : Words) → cap w ≤ mostSlots
 unfolding cap
-cap-most w = go (leb (64 * (upTo mostSlots (word w capacityWord) + 1)) (length w))
+cap-most w = go (leb (partEnd (upTo mostSlots (word w capacityWord))) (length w))
   where
     go : (b : Bool) → cond b (upTo mostSlots (word w capacityWord)) 0 ≤ mostSlots
     go true = upTo-most mostSlots (word w capacityWord)
@@ -78,8 +85,8 @@ pub place-low : (c f s : ℕ) → 64 ≤ place c f s
 unfolding place
 place-low c f s = omega arith
 
--- every place lies within the part
-pub place-high : {w : Words} {f s : ℕ} → Valid w f s → place (cap w) f s < 64 * (cap w + 1)
+-- every place lies before the memory
+pub place-high : {w : Words} {f s : ℕ} → Valid w f s → place (cap w) f s < slotsEnd (cap w)
 unfolding place
 place-high {w} {f} {s} v = omega (arith, mul-le-mul-right (cap w + 1) plane)
   where
@@ -109,15 +116,15 @@ place-apart {w} {f} {s} {f′} {s′} v v′ e =
     (omega arith, r .1)
 
 -- a part of the capacity that the words tell lies within them
-cap-fits : {w : Words} {f s : ℕ} → Valid w f s → 64 * (cap w + 1) ≤ length w
+cap-fits : {w : Words} {f s : ℕ} → Valid w f s → partEnd (cap w) ≤ length w
 unfolding cap
-cap-fits {w} {f} {s} v = go (leb (64 * (upTo mostSlots (word w capacityWord) + 1)) (length w)) refl (v .low) (v .high)
+cap-fits {w} {f} {s} v = go (leb (partEnd (upTo mostSlots (word w capacityWord))) (length w)) refl (v .low) (v .high)
   where
     c : ℕ
     c = upTo mostSlots (word w capacityWord)
 
-    go : (b : Bool) → leb (64 * (c + 1)) (length w) ≡ b → 1 ≤ s → s ≤ cond b c 0 → 64 * (cond b c 0 + 1) ≤ length w
-    go true e l h = leb-true (64 * (c + 1)) (length w) e
+    go : (b : Bool) → leb (partEnd c) (length w) ≡ b → 1 ≤ s → s ≤ cond b c 0 → partEnd (cond b c 0) ≤ length w
+    go true e l h = leb-true (partEnd c) (length w) e
     go false e l h = absurd (omega arith)
 
 pub place-in : {w : Words} {f s : ℕ} → Valid w f s → place (cap w) f s < length w
@@ -164,7 +171,7 @@ pub record Outside (w : Words) (i : ℕ) : Type 0 where
 pub header-outside : (w : Words) {i : ℕ} → i < 64 → Outside w i
 header-outside w {i} h = record { apart = λ f s v e. omega (arith, place-low (cap w) f s) }
 
-pub beyond-outside : (w : Words) {i : ℕ} → 64 * (cap w + 1) ≤ i → Outside w i
+pub beyond-outside : (w : Words) {i : ℕ} → slotsEnd (cap w) ≤ i → Outside w i
 beyond-outside w {i} h = record { apart = λ f s v e. omega (arith, place-high v) }
 
 -- ---- laws of a write

@@ -27,6 +27,13 @@ pub const FIRST_FREE: usize = 5;
 
 pub const ORDER_ROOT: usize = 6;
 
+pub const LAST_ENTRY: usize = 7;
+
+pub const REMEMBERED: usize = 8;
+
+// The words of the memory, behind the slots.
+pub const MEMORY: usize = 1_024;
+
 // The fields of a slot: its offer, the next free slot or, where the slot is live, its offer's rank, the first of a piece's node (its children, then
 // its crossing), the crossing with the next piece and that piece, the bridge of the offers' inner node, and the pieces that stay with the inner
 // node and with the leaf. `child_field` and `height_field` give the trees'.
@@ -131,7 +138,7 @@ pub fn capacity(part: &[i64]) -> u32
     ensures { λ r. ⌜ r ≡ cap (now (part .entry)) ⌝ }
 {
     let told = number_at(part, CAPACITY, MOST_SLOTS);
-    if part.len() < 64 * (told as usize + 1) {
+    if part.len() < 64 * (told as usize + 1) + MEMORY {
         return 0;
     }
     told
@@ -151,7 +158,7 @@ fn spot(part: &[i64], field: usize, slot: u32) -> usize
     ensures { λ r. ⌜ r ≡ spot (now (part .entry)) field slot ⌝ }
 {
     let c = number_at(part, CAPACITY, MOST_SLOTS);
-    if part.len() < 64 * (c as usize + 1) {
+    if part.len() < 64 * (c as usize + 1) + MEMORY {
         return part.len();
     }
     if slot < 1 {

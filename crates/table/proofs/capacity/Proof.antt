@@ -16,6 +16,9 @@ add-if1 c = search needs
 mul-if1 : tie.Need-mul-if1
 mul-if1 c = search needs
 
+add-if1-2 : tie.Need-add-if1-2
+add-if1-2 c = search needs
+
 returns : tie.Need-returns
 returns c = cap-cut _ _ (c .before .number-at .ensures) (c .if1 .taken)
 
@@ -23,4 +26,4 @@ returns-2 : tie.Need-returns-2
 returns-2 c = cap-whole _ _ (c .before .number-at .ensures) (c .if1 .left)
 
 pub capacity-spec : {M : Type 1} → statement M
-capacity-spec = tie.close (tie.spec number-at-requires cast-if1 add-if1 mul-if1 returns returns-2)
+capacity-spec = tie.close (tie.spec number-at-requires cast-if1 add-if1 mul-if1 add-if1-2 returns returns-2)

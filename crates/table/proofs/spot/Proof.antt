@@ -19,6 +19,9 @@ add-if1 c = search needs
 mul-if1 : tie.Need-mul-if1
 mul-if1 c = search needs
 
+add-if1-2 : tie.Need-add-if1-2
+add-if1-2 c = search needs
+
 returns : tie.Need-returns
 returns c = sym (spot-out (λ v. omega (arith, cap-cut _ _ (c .before .number-at .ensures) (c .if1 .taken))))
 
@@ -56,6 +59,7 @@ spot-spec =
     cast-if1
     add-if1
     mul-if1
+    add-if1-2
     returns
     returns-2
     returns-3
