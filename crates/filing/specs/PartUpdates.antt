@@ -9,12 +9,12 @@ use lib.IntN.{ℤ, pos}
 use Rattle.offers.specs.Offers.{Offer}
 use Rattle.offers.specs.Ranks.{rank}
 use Rattle.trees.specs.Operations.{partLeaves}
-use Rattle.plain.specs.Book.{State, join, leave, partLength, holding}
+use Rattle.plain.specs.Book.{State, join, leave, holding}
 use Rattle.dynamic.specs.OfferTree.{Held}
 use Rattle.table.specs.Fields.{baseField, envelopeRootWord, firstFreeWord, liveCountWord, mostNodes, nextFreeField, numberField, numberTree, numbersRootWord}
 use Rattle.table.specs.Fields.{offerTree, offersRootWord, orderRootWord, orderTree, rankField, rateField}
 use Rattle.table.specs.Words.{Words, word, wset, wset-length, wset-other, upTo, upTo-most}
-use Rattle.table.specs.Layout.{cap, cell, cset, cset-length, cset-cap, cset-rest, header-cap, beyond-outside, linkAt}
+use Rattle.table.specs.Layout.{cap, cell, cset, cset-length, cset-cap, cset-rest, header-cap, header-outside, beyond-outside, linkAt, slotsEnd}
 use Rattle.table.specs.Free.{firstFree, taken, given}
 use Rattle.table.specs.Items.{Item}
 use Rattle.table.specs.Rep.{Within, within-cap}
@@ -37,38 +37,59 @@ use Rattle.filing.specs.Updating.{Updated}
 use Rattle.filing.specs.Posting.{PostSteps, posted-plain}
 use Rattle.filing.specs.Withdrawing.{WithdrawSteps, LiveAt, live-at, withdrawn-plain, withdrawn-count}
 
--- ---- words past the part stay
+-- ---- the memory and the words past the part stay
 
 pub record Kept (w w′ : Words) : Type 0 where
   pub long : length w′ ≡ length w
   pub room : cap w′ ≡ cap w
-  pub rest : (i : ℕ) → partLength (cap w) ≤ i → word w′ i ≡ word w i
+  pub header : (i : ℕ) → orderRootWord < i → i < 64 → word w′ i ≡ word w i
+  pub rest : (i : ℕ) → slotsEnd (cap w) ≤ i → word w′ i ≡ word w i
 
 then : {w w′ w″ : Words} → Kept w w′ → Kept w′ w″ → Kept w w″
-then f g = record { long = g .long ∙ f .long; room = g .room ∙ f .room; rest = λ i h. g .rest i (omega (arith, h, f .room)) ∙ f .rest i h }
+then f g =
+    record {
+      long = g .long ∙ f .long;
+      room = g .room ∙ f .room;
+      header = λ i l h. g .header i l h ∙ f .header i l h;
+      rest = λ i h. g .rest i (omega (arith, h, f .room)) ∙ f .rest i h;
+    }
 
 kept-same : {w w′ : Words} → w′ ≡ w → Kept w w′
-kept-same e = record { long = ap length e; room = ap cap e; rest = λ i h. ap (λ (v : Words). word v i) e }
+kept-same e =
+    record { long = ap length e; room = ap cap e; header = λ i l h. ap (λ (v : Words). word v i) e; rest = λ i h. ap (λ (v : Words). word v i) e }
 
-kept-header : (w : Words) (i : ℕ) (z : ℤ) → 1 ≤ i → i < 64 → Kept w (wset w i z)
-kept-header w i z low high = record {
-  long = wset-length w i z;
-  room = header-cap w i z low high;
-  rest =
-      λ j h. wset-other w i j z (λ e. omega (arith, e, high, h));
-}
+kept-header : (w : Words) (i : ℕ) (z : ℤ) → 1 ≤ i → i ≤ orderRootWord → Kept w (wset w i z)
+kept-header w i z low high =
+    record {
+      long = wset-length w i z;
+      room = header-cap w i z low (omega (arith, high));
+      header = λ j l h. wset-other w i j z (λ e. omega (arith, e, high, l));
+      rest = λ j h. wset-other w i j z (λ e. omega (arith, e, high, h));
+    }
 
 kept-cell : (w : Words) (f s : ℕ) (z : ℤ) → Kept w (cset w f s z)
-kept-cell w f s z = record { long = cset-length w f s z; room = cset-cap w f s z; rest = λ i h. cset-rest w f s z (beyond-outside w h) }
+kept-cell w f s z =
+    record {
+      long = cset-length w f s z;
+      room = cset-cap w f s z;
+      header = λ i l h. cset-rest w f s z (header-outside w h);
+      rest = λ i h. cset-rest w f s z (beyond-outside w h);
+    }
 
 kept-within : {w w′ : Words} → Within w w′ → Kept w w′
-kept-within {w} g = record { long = g .long; room = within-cap g; rest = λ i h. g .rest i (beyond-outside w h) }
+kept-within {w} g =
+    record {
+      long = g .long;
+      room = within-cap g;
+      header = λ i l h. g .rest i (header-outside w h);
+      rest = λ i h. g .rest i (beyond-outside w h);
+    }
 
-kept-entered : {tree field at s : ℕ} {w w′ : Words} → 1 ≤ at → at < 64 → Entered tree field at s w w′ → Kept w w′
+kept-entered : {tree field at s : ℕ} {w w′ : Words} → 1 ≤ at → at ≤ orderRootWord → Entered tree field at s w w′ → Kept w w′
 kept-entered {at = at} low high e =
     then (kept-within (e .added .within)) (then (kept-header (e .mid) at (pos (e .root′)) low high) (kept-same (e .set)))
 
-kept-struck : {tree field at : ℕ} {z : ℤ} {w w′ : Words} → 1 ≤ at → at < 64 → Struck tree field at z w w′ → Kept w w′
+kept-struck : {tree field at : ℕ} {z : ℤ} {w w′ : Words} → 1 ≤ at → at ≤ orderRootWord → Struck tree field at z w w′ → Kept w w′
 kept-struck {at = at} low high e =
     then (kept-within (e .dropped .within)) (then (kept-header (e .mid) at (pos (e .root′)) low high) (kept-same (e .set)))
 
