@@ -1,12 +1,12 @@
 // Whether a part has the form of a book, and whether there is one in a lent table: yes exactly where it has. Any words are safe.
-ghost use Rattle.form.specs.Form.{BookStands};
+ghost use Rattle.form.specs.Form.{FormStands};
 ghost use Rattle.check_trees.specs.Deciding.{Decides};
 ghost use Rattle.promises.specs.Promises.{Checks};
 
 // The free slots, then the tree of offers with its envelopes, then the order over the slots that this left in the scratch array, then the numbers
 // over those that the order left.
 fn book_stands(part: &[i64]) -> bool
-    ensures { λ r. ⌜ Decides r (BookStands (now (part .entry))) ⌝ }
+    ensures { λ r. ⌜ Decides r (FormStands (now (part .entry))) ⌝ }
 {
     if table::capacity(part) < 1 {
         return false;

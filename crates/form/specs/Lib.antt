@@ -15,6 +15,8 @@ pub mod Frames
 pub mod Disjoint
 -- lemmas: where there is a slot, the first word is the capacity, and the words are enough for it
 pub mod There
+-- lemmas: the words of a memory tell its entries
+pub mod Rings
 -- statement and lemmas: the form is a matter of the part's words alone: words past the part may change as they will
 pub mod Local
 -- lemmas: what a part's form says of the leaves of its tree of offers and of its live items; and the plain book that it stands for is sound

@@ -1,5 +1,5 @@
 -- The form is a matter of the part's words alone: words past the part may change as they will. The offers are a matter of the words before the memory.
-use mathlib.Core.Path.{_≡_, sym, _∙_, ap}
+use mathlib.Core.Path.{_≡_, refl, sym, _∙_, ap}
 use mathlib.Core.List.{List, [], _∷_}
 use mathlib.Core.Option.{Option, none, some}
 use Prim.Native.Nat.{ℕ, _+_, _*_, _≤_, _<_}
@@ -138,6 +138,9 @@ book-alike {w} {w′} {s} {held} us b a =
 
     f : Freely w (length (partLeaves (b .order)))
     f = b .free
+
+pub book-recalling : {w : Words} {s : State} {held : Option (Held Item)} (us : List Undo) → Book w s held → Book w (recalling s (s .offers) us) held
+book-recalling us b = book-alike us b (record { long = refl; header = λ i h. refl; slots = λ i l h. refl })
 
 -- ---- the memory
 

@@ -1,13 +1,14 @@
 -- The proof of the claim about a history (`Claim`, in History): from an accepted opening, whatever the capacity, the start and the words were, and
--- after any list of posts, withdrawals, queries and listings, refused ones among them.
+-- after any list of posts, withdrawals, take-backs, queries and listings, refused ones among them.
 use mathlib.Core.Path.{_≡_, refl, sym, _∙_, ap, subst}
-use mathlib.Core.List.{List, _∷_}
+use mathlib.Core.List.{List, [], _∷_}
 use mathlib.Core.Option.{Option, none, some}
 use Prim.Native.Nat.{ℕ}
 use lib.ListN.{length}
 use lib.IntN.{ℤ, natAbs}
 use Rattle.plain.specs.Causes.{Cause, declined, Clear}
-use Rattle.plain.specs.Book.{State, Call, post, withdraw, query, listing, Answer, opened, openTrials, trials, respond, step, after, answers}
+use Rattle.plain.specs.Book.{State, Undo, Call, post, withdraw, query, listing, takeBack, Answer, opened, openTrials, trials, recalling}
+use Rattle.plain.specs.Book.{accepted, respond, step, after, answers}
 use Rattle.trees.specs.Height.{log-height, log-heightP}
 use Rattle.dynamic.specs.OfferTree.{Held, Pair}
 use Rattle.dynamic.specs.Heights.{offers-height, piece-height}
@@ -16,8 +17,8 @@ use Rattle.table.specs.Items.{Item}
 use Rattle.pieces.specs.Pieces.{items}
 use Rattle.promises.specs.declared.Opening.{Opening}
 use Rattle.promises.specs.declared.Opening.the-variants.{Opened}
-use Rattle.form.specs.Form.{Book, OffersIn}
-use Rattle.form.specs.Local.{Alike, book-alike}
+use Rattle.form.specs.Form.{Form, OffersIn}
+use Rattle.form.specs.Local.{Alike, form-alike}
 use Rattle.promises.specs.Promises.{partOf, Opens, Passes}
 use Rattle.history.specs.History.{Happens, by-update, by-query, by-listing, History, finished, next, LowPairs, Kept}
 pub use Rattle.history.specs.History.{Low, Claim}
@@ -44,6 +45,11 @@ step-capacity s k = go (declined (trials s k)) k
     go none (withdraw n) = refl
     go none (query q) = refl
     go none (listing room) = refl
+    go none takeBack = taken (s .memory)
+      where
+        taken : (m : List Undo) → accepted (recalling s (s .offers) m) takeBack .state .capacity ≡ s .capacity
+        taken [] = refl
+        taken (u ∷ us) = refl
 
 -- a query and a listing leave the plain book as it was
 pub asked-state : (s : State) (q : ℤ) → step s (query q) .state ≡ s
@@ -64,52 +70,53 @@ listed-state s room = go (declined (trials s (listing room)))
 pub record OneCall {start : ℕ} {t : List ℤ} {k : Call} {t′ : List ℤ} {a : Answer} (s : State) (held : Option (Held Item)) (p : Happens start t k t′ a) :
     Type 0 where
   pub mid : Option (Held Item)
-  pub stands : Book (partOf t′ start) (step s k .state) mid
+  pub stands : Form (partOf t′ start) (step s k .state) mid
   pub told : a ≡ step s k .answer
   pub kept : Kept s start p held mid
 
 -- a call that leaves the words and the plain book
-unmoved : (start : ℕ) {t t′ : List ℤ} {s s′ : State} {held : Option (Held Item)} → t′ ≡ t → s′ ≡ s → Book (partOf t start) s held →
-    Book (partOf t′ start) s′ held
-unmoved start {t} {s′ = s′} {held} d e book = subst (λ (u : List ℤ). Book (partOf u start) s′ held) (sym d)
-    (subst (λ (x : State). Book (partOf t start) x held) (sym e) book)
+unmoved : (start : ℕ) {t t′ : List ℤ} {s s′ : State} {held : Option (Held Item)} → t′ ≡ t → s′ ≡ s → Form (partOf t start) s held →
+    Form (partOf t′ start) s′ held
+unmoved start {t} {s′ = s′} {held} d e form = subst (λ (u : List ℤ). Form (partOf u start) s′ held) (sym d)
+    (subst (λ (x : State). Form (partOf t start) x held) (sym e) form)
 
 pub one-call : {start : ℕ} {t : List ℤ} {k : Call} {t′ : List ℤ} {a : Answer} (s : State) (held : Option (Held Item)) (p : Happens start t k t′ a) →
-    Book (partOf t start) s held → OneCall s held p
-one-call s held (by-update c u p e) book =
-    let f = p .follows s held book in
+    Form (partOf t start) s held → OneCall s held p
+one-call s held (by-update c u p e) form =
+    let f = p .follows s held form in
     record { mid = f .after; stands = f .stands; told = e ∙ f .answers; kept = (f, refl, low-pairs (f .work)) }
-one-call {start} s held (by-query q f p d e) book =
+one-call {start} s held (by-query q f p d e) form =
     record {
       mid = held;
-      stands = unmoved start d (asked-state s q) book;
-      told = e ∙ p .answers s held book;
-      kept = (p .probes s held book, refl);
+      stands = unmoved start d (asked-state s q) form;
+      told = e ∙ p .answers s held (form .book);
+      kept = (p .probes s held (form .book), refl);
     }
-one-call {start} s held (by-listing {room} out out′ l p m d e) book =
+one-call {start} s held (by-listing {room} out out′ l p m d e) form =
     record {
       mid = held;
-      stands = unmoved start d (listed-state s room) book;
-      told = e ∙ p .answers s held book ∙ ap (λ (n : ℕ). step s (listing n) .answer) (sym m);
+      stands = unmoved start d (listed-state s room) form;
+      told = e ∙ p .answers s held (form .book) ∙ ap (λ (n : ℕ). step s (listing n) .answer) (sym m);
       kept = refl;
     }
 
 -- c is the plain book's capacity
 pub from-book :
     {c start : ℕ} {t : List ℤ} {ks : List Call} {as′ : List Answer} {t′ : List ℤ} (h : History c start t ks as′ t′) (s : State) (held : Option (Held Item)) →
-    s .capacity ≡ c → Book (partOf t start) s held → Claim s held h
-from-book {start} {t} finished s held same book =
+    s .capacity ≡ c → Form (partOf t start) s held → Claim s held h
+from-book {start} {t} finished s held same form =
+    let book = form .book in
     record {
       held = held;
-      stands = book;
+      stands = form;
       told = refl;
       low = low-trees (partOf t start) held (book .offers .offers-in);
       low-numbers = log-heightP (book .numbers .numbers) (book .numbers .numbers-in .balanced);
       low-order = log-heightP (book .order) (book .in-order .order-in .balanced);
       each = refl;
     }
-from-book {c} {start} (next {t} {t₁} {k = k} alike p rest) s held same book =
-    let o = one-call s held p (book-alike book (subst (λ (n : ℕ). Alike n (partOf t start) (partOf t₁ start)) (sym same) alike)) in
+from-book {c} {start} (next {t} {t₁} {k = k} alike p rest) s held same form =
+    let o = one-call s held p (form-alike form (subst (λ (n : ℕ). Alike n (partOf t start) (partOf t₁ start)) (sym same) alike)) in
     onward o (from-book rest (step s k .state) (o .mid) (step-capacity s k ∙ same) (o .stands))
   where
     onward : (o : OneCall s held p) → Claim (step s k .state) (o .mid) rest → Claim s held (next alike p rest)

@@ -7,7 +7,7 @@ use Prim.Native.Nat.{ℕ, _*_, _≤_}
 use lib.ListN.{length}
 use lib.IntN.{ℤ}
 use Rattle.integers.specs.Log.{B}
-use Rattle.plain.specs.Book.{State, Call, post, withdraw, query, listing, Answer, step, after, answers}
+use Rattle.plain.specs.Book.{State, Call, post, withdraw, query, listing, takeBack, Answer, step, after, answers}
 use Rattle.trees.specs.Operations.{Part, partLeaves, partHeight}
 use Rattle.dynamic.specs.OfferTree.{Held, heldShape, Pair}
 use Rattle.dynamic.specs.Rearranged.{pieceTrees}
@@ -15,7 +15,7 @@ use Rattle.table.specs.Items.{Item}
 use Rattle.promises.specs.declared.Update.{Update}
 use Rattle.promises.specs.declared.Found.{Found}
 use Rattle.promises.specs.declared.Listed.{Listed}
-use Rattle.form.specs.Form.{Book}
+use Rattle.form.specs.Form.{Form}
 use Rattle.form.specs.Local.{Alike}
 use Rattle.promises.specs.Promises.{partOf, Updates, Follows, Queries, Probes, Lists, foundTold, updateAnswer, foundAnswer, listingAnswer}
 
@@ -23,6 +23,7 @@ use Rattle.promises.specs.Promises.{partOf, Updates, Follows, Queries, Probes, 
 pub data Changes : Call → Type 0 where
   posting : (n r b : ℤ) → Changes (post n r b)
   withdrawing : (n : ℤ) → Changes (withdraw n)
+  taking-back : Changes takeBack
 
 -- One call: the words before and after it, and its answer.
 pub data Happens (start : ℕ) (t : List ℤ) : Call → List ℤ → Answer → Type 0 where
@@ -75,11 +76,11 @@ Low (some h) = LowTree (some (heldShape h)) × ((p : Part Item) → List·Memᴰ
 pub record Claim {c start : ℕ} {t : List ℤ} {ks : List Call} {as′ : List Answer} {t′ : List ℤ} (s : State) (before : Option (Held Item))
     (h : History c start t ks as′ t′) : Type 0 where
   pub held : Option (Held Item)
-  -- the part passes the check, and the leaves of its order tree hold exactly the plain book's offers, in order
-  pub stands : Book (partOf t′ start) (after s ks) held
+  -- the part passes the check, the leaves of its order tree hold exactly the plain book's offers, in order, and its memory what the plain book remembers
+  pub stands : Form (partOf t′ start) (after s ks) held
   -- refusals' numbers, live counts, prices, offers named, piece counts and words written
   pub told : as′ ≡ answers s ks
   pub low : Low held
-  pub low-numbers : LowTree (stands .numbers .numbers)
-  pub low-order : LowTree (stands .order)
+  pub low-numbers : LowTree (stands .book .numbers .numbers)
+  pub low-order : LowTree (stands .book .order)
   pub each : EachCall s h before held

@@ -10,7 +10,7 @@ use Rattle.lists.specs.Bools.{said}
 use Rattle.plain.specs.Book.{noBookAt}
 use Rattle.table.specs.Fields.{capacityWord}
 use Rattle.table.specs.Words.{Words, word}
-use Rattle.form.specs.Form.{BookStands}
+use Rattle.form.specs.Form.{FormStands}
 use Rattle.check_trees.specs.Deciding.{Decides}
 use Rattle.promises.specs.Promises.{partOf, Checks}
 use Rattle.promises.specs.Plainly.{book-there}
@@ -23,11 +23,11 @@ module _ (t : List ℤ) (start : ℕ) where
       record {
         sound = λ k. absurd (true≢false (sym k));
         complete =
-            λ p. absurd (T-not (noBookAt (length t) start (word (partOf t start) capacityWord)) (book-there start t (p .2)) (said e h));
+            λ p. absurd (T-not (noBookAt (length t) start (word (partOf t start) capacityWord)) (book-there start t (p .2 .book)) (said e h));
       }
 
-  pub checks-part : {r : Bool} → Decides r (BookStands (take (length t - start) (drop start t))) → Checks start t r
-  checks-part {r} d = go (subst (λ (w : Words). Decides r (BookStands w)) (whole-part t start) d)
+  pub checks-part : {r : Bool} → Decides r (FormStands (take (length t - start) (drop start t))) → Checks start t r
+  checks-part {r} d = go (subst (λ (w : Words). Decides r (FormStands w)) (whole-part t start) d)
     where
-      go : Decides r (BookStands (partOf t start)) → Checks start t r
+      go : Decides r (FormStands (partOf t start)) → Checks start t r
       go k = record { sound = k .sound; complete = k .complete }

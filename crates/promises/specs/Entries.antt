@@ -37,7 +37,7 @@ module _ (t : List ℤ) (start : ℕ) (there : T (not (noBookAt (length t) start
 
 -- A capacity of 1, and each other word 1 too: slot 1 is both live, with number 1 and rate 1, and the first free one.
 abbrev pub ones : List ℤ
-ones = replicate 128 (pos 1)
+ones = replicate 1_152 (pos 1)
 
 pub ones-no-book : (s : State) (held : Option (Held Item)) → Book (partOf ones 0) s held → ⊥
 unfolding word

@@ -50,10 +50,10 @@ book-start t start e h = go (word (partOf t start) capacityWord) (denied e h)
   where
     go : (z : ℤ) → T (not (noBookAt (length t) start z)) → start ≤ length t
     go z k =
-        let x = neither (ltb (length t) start || ltb (length t - start) 128 || not (between (pos 1) (pos mostSlots) z))
+        let x = neither (ltb (length t) start || ltb (length t - start) 1_152 || not (between (pos 1) (pos mostSlots) z))
         (ltb (length t - start) (partLength (natAbs z))) k in
-        let y = neither (ltb (length t) start || ltb (length t - start) 128) (not (between (pos 1) (pos mostSlots) z)) (x .0) in
-        nltb→le (length t) start (neither (ltb (length t) start) (ltb (length t - start) 128) (y .0) .0)
+        let y = neither (ltb (length t) start || ltb (length t - start) 1_152) (not (between (pos 1) (pos mostSlots) z)) (x .0) in
+        nltb→le (length t) start (neither (ltb (length t) start) (ltb (length t - start) 1_152) (y .0) .0)
 
 -- the capacity told, where the first word is in range and its part is not cut short
 capacity-is : (w : Words) (z : ℤ) → word w capacityWord ≡ z → T (between (pos 1) (pos mostSlots) z) → partLength (natAbs z) ≤ length w →
@@ -70,9 +70,9 @@ book-cap t start h = go (word (partOf t start) capacityWord) refl h
   where
     go : (z : ℤ) → word (partOf t start) capacityWord ≡ z → T (not (noBookAt (length t) start z)) → (cap (partOf t start) ≡ natAbs z) × (1 ≤ natAbs z)
     go z e k =
-        let x = neither (ltb (length t) start || ltb (length t - start) 128 || not (between (pos 1) (pos mostSlots) z))
+        let x = neither (ltb (length t) start || ltb (length t - start) 1_152 || not (between (pos 1) (pos mostSlots) z))
         (ltb (length t - start) (partLength (natAbs z))) k in
-        let y = neither (ltb (length t) start || ltb (length t - start) 128) (not (between (pos 1) (pos mostSlots) z)) (x .0) in
+        let y = neither (ltb (length t) start || ltb (length t - start) 1_152) (not (between (pos 1) (pos mostSlots) z)) (x .0) in
         capacity-is (partOf t start) z e (not-not (between (pos 1) (pos mostSlots) z) (y .1))
         (omega (arith, length-drop start t, nltb→le (length t - start) (partLength (natAbs z)) (x .1)))
 

@@ -1,6 +1,7 @@
 -- What each call on a lent table promises. `t` are the table's words before the call and `t′` those after it.
 -- On words of any content causes 1 to 4 and 14 to 16 hold as tabled, and no word outside the part changes. Where the part passes the check
--- (`Book`), the answer is the plain book's, and the part stands for the plain book's offers afterwards.
+-- (`Form`), the answer is the plain book's, and the part stands for the plain book afterwards, its offers and its memory. A call that only reads
+-- asks for less: that the part stands for the offers (`Book`).
 use mathlib.Core.Path.{_≡_}
 use mathlib.Core.Bool.{Bool, true}
 use mathlib.Core.List.{List, [], _∷_}
@@ -19,7 +20,7 @@ use Rattle.table.specs.Fields.{capacityWord}
 use Rattle.table.specs.Words.{Words, word}
 use Rattle.table.specs.Items.{Item}
 use Rattle.pieces.specs.Pieces.{items}
-use Rattle.form.specs.Form.{Book}
+use Rattle.form.specs.Form.{Book, Form}
 use Rattle.query.specs.Lookup.{LeafAt}
 use Rattle.promises.specs.declared.Opening.{Opening}
 use Rattle.promises.specs.declared.Opening.the-variants.{Opened, Declined as OpeningDeclined}
@@ -114,9 +115,9 @@ listingAnswer r out = countedBy (λ n. listed n (take (3 * n) out)) (listedTold 
 pub record Opens (c : ℤ) (start : ℕ) (t t′ : List ℤ) (r : Opening) : Type 0 where
   pub answers : openingAnswer r ≡ pos (opening (length t) start c)
   pub declined : (k : Cause) → FirstOf (openTrials (length t) start c) k → (r ≡ OpeningDeclined (pos (causeNumber k))) × (t′ ≡ t)
-  pub accepted : Clear (openTrials (length t) start c) → (r ≡ Opened) × Book (partOf t′ start) (opened c) none × OnlyPart (natAbs c) start t t′
+  pub accepted : Clear (openTrials (length t) start c) → (r ≡ Opened) × Form (partOf t′ start) (opened c) none × OnlyPart (natAbs c) start t t′
 
--- ---- post and withdraw
+-- ---- post, withdraw and take-back
 
 -- the values of an update: behind the live count k, s and H, which are those of the log; a declined call has none, and no log
 abbrev pub Counts : List ℤ → List (Pair Item) → Type 0
@@ -128,7 +129,7 @@ pub record Follows (k : Call) (s : State) (held : Option (Held Item)) (start : �
   pub after : Option (Held Item)
   pub log : List (Pair Item)
   pub answers : updateAnswer r ≡ step s k .answer
-  pub stands : Book (partOf t′ start) (step s k .state) after
+  pub stands : Form (partOf t′ start) (step s k .state) after
   pub refusal : (n : ℕ) → updateAnswer r ≡ refused n → t′ ≡ t
   pub work : Work items held after log
   -- where the first of each rate stays, nothing was searched: k, s and H are 0
@@ -142,7 +143,7 @@ pub record Updates (k : Call) (start : ℕ) (t t′ : List ℤ) (r : Update) : T
   pub outside : OnlyPart (capacityAt t start) start t t′
   -- nor does the part's length change
   pub same-part : word (partOf t′ start) capacityWord ≡ word (partOf t start) capacityWord
-  pub follows : (s : State) (held : Option (Held Item)) → Book (partOf t start) s held → Follows k s held start t t′ r
+  pub follows : (s : State) (held : Option (Held Item)) → Form (partOf t start) s held → Follows k s held start t t′ r
 
 -- ---- query
 
@@ -186,9 +187,9 @@ pub record Lists (start : ℕ) (t out out′ : List ℤ) (r : Listed) : Type 0 w
 
 -- ---- check
 
--- the part has the form, with every envelope the lower envelope of the offers below
+-- the part has the form, with every envelope the lower envelope of the offers below, and what it remembers can be undone
 abbrev pub Passes : ℕ → List ℤ → Type 0
-Passes start t = (s : State) × (held : Option (Held Item)) × Book (partOf t start) s held
+Passes start t = (s : State) × (held : Option (Held Item)) × Form (partOf t start) s held
 
 pub record Checks (start : ℕ) (t : List ℤ) (yes-it-does : Bool) : Type 0 where
   pub sound : yes-it-does ≡ true → Passes start t

@@ -17,7 +17,7 @@ use Rattle.envelopes.specs.Carried.{listed-map}
 use Rattle.lines.specs.Lines.{whole, whole-price}
 use Rattle.lines.specs.OfferLines.{offerFigure}
 use Rattle.plain.specs.Causes.{causeNumber, outputTooShort}
-use Rattle.plain.specs.Book.{State, query, listing, found, listed, refused, lower, higher, cheapest, envelope, firstOfEach, pieceWords, step}
+use Rattle.plain.specs.Book.{State, holding, query, listing, found, listed, refused, lower, higher, cheapest, envelope, firstOfEach, pieceWords, step}
 use Rattle.plain.specs.Sound.{Sound}
 use Rattle.plain.specs.FirstLaws.{self, pairs-standing}
 use Rattle.plain.specs.QueryLaws.{RateOrder, lower-tie, higher-tie, NotFirst, Names, cheapest-names, cheapest-earliest, named-first}
@@ -74,7 +74,7 @@ lookup-plain {ls} t s q h e E r = go (s .offers) e (h .ordered)
         sym (named-first k q (pairs-standing Offer self p) (subst (λ xs. Names tie q xs a) d n) (cheapest-names k q o os) (cheapest-earliest k q o os))
 
     go : (os : List Offer) → map offerOf ls ≡ firstOfEach os → Pairwise (λ a b. T (ahead a b)) os →
-        step (record { capacity = s .capacity; offers = os }) (query q) .answer ≡ found (z .number) (priceAt z q) (y .number)
+        step (holding s os) (query q) .answer ≡ found (z .number) (priceAt z q) (y .number)
     go [] d p = absurd (List·Memᴰ·not-nil (subst (List·Memᴰ z) d (names .live)))
     go (o ∷ os) d p =
         rw (is-true (loadInRange q) r, lt-leb (length (o ∷ os)) 0 (omega arith))

@@ -12,7 +12,7 @@ use Rattle.plain.specs.Causes.{Cause, causeNumber, FirstOf, Clear}
 use Rattle.plain.specs.Book.{State, Call, Answer, opened, openTrials, answers}
 use Rattle.dynamic.specs.OfferTree.{Held}
 use Rattle.table.specs.Items.{Item}
-use Rattle.form.specs.Form.{Book}
+use Rattle.form.specs.Form.{Form}
 use Rattle.promises.specs.declared.Opening.{Opening}
 use Rattle.promises.specs.Promises.{partOf, capacityAt, OnlyPart, Opens}
 use Rattle.history.specs.History.{History}
@@ -54,10 +54,10 @@ pub record Resumes (start : ℕ) (t t′ calls out out′ : List ℤ) (r : Repla
   pub long : length out′ ≡ length out
   pub outside : OnlyPart (capacityAt t start) start t t′
   -- where the part passes the check
-  pub claim : (s : State) (held : Option (Held Item)) → Book (partOf t start) s held → Claim s held (made (s .capacity) .history)
-  pub right : (s : State) (held : Option (Held Item)) → Book (partOf t start) s held →
+  pub claim : (s : State) (held : Option (Held Item)) → Form (partOf t start) s held → Claim s held (made (s .capacity) .history)
+  pub right : (s : State) (held : Option (Held Item)) → Form (partOf t start) s held →
       told (runnable calls (length out)) out′ ≡ answers s (runnable calls (length out))
-  pub spares : (s : State) (held : Option (Held Item)) → Book (partOf t start) s held →
+  pub spares : (s : State) (held : Option (Held Item)) → Form (partOf t start) s held →
       Spares (runnable calls (length out)) (answers s (runnable calls (length out))) out out′
 
 -- After an accepted opening, with its answer and the words `t₀` that it left.

@@ -11,7 +11,7 @@ use Rattle.plain.specs.Causes.{Cause, causeNumber, FirstOf, Clear}
 use Rattle.plain.specs.Book.{State, Answer, opened, openTrials}
 use Rattle.dynamic.specs.OfferTree.{Held}
 use Rattle.table.specs.Items.{Item}
-use Rattle.form.specs.Form.{Book}
+use Rattle.form.specs.Form.{Form}
 use Rattle.promises.specs.declared.Opening.{Opening}
 use Rattle.promises.specs.declared.Opening.the-variants.{Opened, Declined as OpeningDeclined}
 use Rattle.promises.specs.Promises.{partOf, capacityAt, Opens}
@@ -54,7 +54,7 @@ module _ {start : ℕ} {t t′ calls out out′ : List ℤ} {n : ℕ} (e : Ended
 -- ---- from an opening on
 
 -- the first word of a book tells its capacity
-told-capacity : (start : ℕ) (t : List ℤ) {s : State} {held : Option (Held Item)} → Book (partOf t start) s held → capacityAt t start ≡ s .capacity
+told-capacity : (start : ℕ) (t : List ℤ) {s : State} {held : Option (Held Item)} → Form (partOf t start) s held → capacityAt t start ≡ s .capacity
 told-capacity start t b = ap natAbs (cap-there (partOf t start) (b .capacity) (b .some-slot) .first)
 
 module _ {c : ℤ} {start : ℕ} {t t₀ : List ℤ} {o : Opening} (p : Opens c start t t₀ o) where
@@ -73,7 +73,7 @@ module _ {c : ℤ} {start : ℕ} {t t₀ : List ℤ} {o : Opening} (p : Opens c 
       is-open : (k : Cause) → FirstOf (openTrials (length t) start c) k → ⊥
       is-open k f = let q = p .declined k f .0 in let x : _≡_ {A = ℕ} 0 1 = cc in omega arith
 
-      goes : Book (partOf t₀ start) (opened c) none → Clear (openTrials (length t) start c) → Begun c start t t′ calls out out′ r
+      goes : Form (partOf t₀ start) (opened c) none → Clear (openTrials (length t) start c) → Begun c start t t′ calls out out′ r
       goes b clear =
           record {
             t₀ = t₀;

@@ -10,7 +10,7 @@ use lib.ListN.{take, drop, getD}
 use lib.Seq.{getD-take}
 use lib.IntN.{ℤ, pos}
 use Rattle.integers.specs.Equal.{equal}
-use Rattle.plain.specs.Book.{State, Call, post, withdraw, query, listing, Answer, refused, step, answers}
+use Rattle.plain.specs.Book.{State, Call, post, withdraw, query, listing, takeBack, Answer, refused, step, answers}
 use Rattle.promises.specs.declared.Update.{Update}
 use Rattle.promises.specs.declared.Update.the-variants.{Done, Declined as UpdateDeclined}
 use Rattle.promises.specs.declared.Found.{Found}
@@ -19,11 +19,11 @@ use Rattle.promises.specs.declared.Listed.{Listed}
 use Rattle.promises.specs.declared.Listed.the-variants.{Pieces, Declined as ListingDeclined}
 use Rattle.dynamic.specs.OfferTree.{Held}
 use Rattle.table.specs.Items.{Item}
-use Rattle.form.specs.Form.{Book}
-use Rattle.form.specs.Local.{Alike, book-alike}
+use Rattle.form.specs.Form.{Form}
+use Rattle.form.specs.Local.{Alike, form-alike}
 use Rattle.promises.specs.Promises.{partOf, writtenWords, counted, updateAnswer, foundAnswer, listingAnswer}
 use Rattle.promises.specs.Numbered.{numbered}
-use Rattle.history.specs.History.{Happens, posting, withdrawing, by-update, by-query, by-listing, History, finished, next}
+use Rattle.history.specs.History.{Happens, posting, withdrawing, taking-back, by-update, by-query, by-listing, History, finished, next}
 use Rattle.history.specs.Claim.{step-capacity, one-call}
 use Rattle.replay_words.specs.Encoding.{stretch, updateWords, foundWords, listedWords, acceptedAnswer, answerOf, told, spared, Spares}
 use Rattle.replay_words.specs.Decoding.{same-is}
@@ -60,6 +60,10 @@ withdraw-told : (n : ℤ) (u : Update) (out : List ℤ) → updateAnswer u ≢ r
 withdraw-told n (Done m k s h) out f = refl
 withdraw-told n (UpdateDeclined z) out f = refusal-told (withdraw n) z (pos 0) (pos 0) (pos 0) out f
 
+back-told : (u : Update) (out : List ℤ) → updateAnswer u ≢ refused 0 → byWords takeBack (updateWords u) out ≡ updateAnswer u
+back-told (Done m k s h) out f = refl
+back-told (UpdateDeclined z) out f = refusal-told takeBack z (pos 0) (pos 0) (pos 0) out f
+
 query-told : (q : ℤ) (a : Found) (out : List ℤ) → foundAnswer a ≢ refused 0 → byWords (query q) (foundWords a) out ≡ foundAnswer a
 query-told q (Offer n p m s) out f = refl
 query-told q (FoundDeclined z) out f = refusal-told (query q) z (pos 0) (pos 0) (pos 0) out f
@@ -73,6 +77,7 @@ one-told : {start : ℕ} {t : List ℤ} {k : Call} {t′ : List ℤ} {a : Answer
     a ≢ refused 0 → byWords k ws′ (drop 5 ws′) ≡ a
 one-told (by-update (posting n r b) u p e) ws ws′ h f = first-words (post n r b) ws′ (drop 5 ws′) h ∙ post-told n r b u (drop 5 ws′) (λ q. f (e ∙ q)) ∙ sym e
 one-told (by-update (withdrawing n) u p e) ws ws′ h f = first-words (withdraw n) ws′ (drop 5 ws′) h ∙ withdraw-told n u (drop 5 ws′) (λ q. f (e ∙ q)) ∙ sym e
+one-told (by-update taking-back u p e) ws ws′ h f = first-words takeBack ws′ (drop 5 ws′) h ∙ back-told u (drop 5 ws′) (λ q. f (e ∙ q)) ∙ sym e
 one-told (by-query q u p d e) ws ws′ h f = first-words (query q) ws′ (drop 5 ws′) h ∙ query-told q u (drop 5 ws′) (λ z. f (e ∙ z)) ∙ sym e
 one-told (by-listing {room} out out′ l p m d e) ws ws′ (h, b, o) f =
     let q = e ∙ ap (listingAnswer l) (sym o) in
@@ -92,12 +97,13 @@ told-right (next {k} {ks} {a} {as′} alike p rest) ws ws′ (x, y) s e =
 
 one-spares :
     {start : ℕ} {t : List ℤ} {k : Call} {t′ : List ℤ} {a : Answer} (p : Happens start t k t′ a) (ws ws′ : List ℤ) → TellsOne p ws ws′ →
-    (s : State) (held : Option (Held Item)) → Book (partOf t start) s held → spared k a ws′ ≡ spared k a ws
-one-spares (by-update (posting n r b) u p e) ws ws′ w s held book = refl
-one-spares (by-update (withdrawing n) u p e) ws ws′ w s held book = refl
-one-spares (by-query q f p d e) ws ws′ w s held book = refl
-one-spares {a = a} (by-listing {room} out out′ l p m d e) ws ws′ (x, y, z) s held book =
-    ap (λ (n : ℕ). drop n (take room (drop 5 ws′))) same ∙ ap (drop (writtenWords (listingAnswer l out′))) z ∙ p .later s held book
+    (s : State) (held : Option (Held Item)) → Form (partOf t start) s held → spared k a ws′ ≡ spared k a ws
+one-spares (by-update (posting n r b) u p e) ws ws′ w s held form = refl
+one-spares (by-update (withdrawing n) u p e) ws ws′ w s held form = refl
+one-spares (by-update taking-back u p e) ws ws′ w s held form = refl
+one-spares (by-query q f p d e) ws ws′ w s held form = refl
+one-spares {a = a} (by-listing {room} out out′ l p m d e) ws ws′ (x, y, z) s held form =
+    ap (λ (n : ℕ). drop n (take room (drop 5 ws′))) same ∙ ap (drop (writtenWords (listingAnswer l out′))) z ∙ p .later s held (form .book)
     ∙ ap (drop (writtenWords (listingAnswer l out′))) (sym y) ∙ ap (λ (n : ℕ). drop n (take room (drop 5 ws))) (sym same)
   where
     same : writtenWords a ≡ writtenWords (listingAnswer l out′)
@@ -105,10 +111,10 @@ one-spares {a = a} (by-listing {room} out out′ l p m d e) ws ws′ (x, y, z) s
 
 pub spares-right :
     {c start : ℕ} {t : List ℤ} {ks : List Call} {as′ : List Answer} {t′ : List ℤ} (h : History c start t ks as′ t′) (ws ws′ : List ℤ) → Tells h ws ws′ →
-    (s : State) (held : Option (Held Item)) → s .capacity ≡ c → Book (partOf t start) s held → Spares ks as′ ws ws′
-spares-right finished ws ws′ w s held same book = tt
-spares-right {start = start} (next {t} {t₁} {k = k} alike p rest) ws ws′ (x, y) s held same book =
-    let here = book-alike book (subst (λ (n : ℕ). Alike n (partOf t start) (partOf t₁ start)) (sym same) alike) in
+    (s : State) (held : Option (Held Item)) → s .capacity ≡ c → Form (partOf t start) s held → Spares ks as′ ws ws′
+spares-right finished ws ws′ w s held same form = tt
+spares-right {start = start} (next {t} {t₁} {k = k} alike p rest) ws ws′ (x, y) s held same form =
+    let here = form-alike form (subst (λ (n : ℕ). Alike n (partOf t start) (partOf t₁ start)) (sym same) alike) in
     let o = one-call s held p here in (
       one-spares p ws ws′ x s held here,
       spares-right rest (drop (stretch k) ws) (drop (stretch k) ws′) y (step s k .state) (o .mid)

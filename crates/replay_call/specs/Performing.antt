@@ -9,7 +9,7 @@ use lib.ListN.{length, take, drop, length-append, length-drop}
 use lib.Seq.{take-at, drop-at, drop-drop, length-take-le}
 use lib.IntN.{ℤ}
 use borrow.Author.Tests.{leb-true}
-use Rattle.plain.specs.Book.{Call, post, withdraw, query, listing}
+use Rattle.plain.specs.Book.{Call, post, withdraw, query, listing, takeBack}
 use Rattle.promises.specs.declared.Update.{Update}
 use Rattle.promises.specs.declared.Update.the-variants.{Done, Declined as UpdateDeclined}
 use Rattle.promises.specs.declared.Found.{Found}
@@ -17,11 +17,11 @@ use Rattle.promises.specs.declared.Found.the-variants.{Offer, Declined as Found
 use Rattle.promises.specs.declared.Listed.{Listed}
 use Rattle.promises.specs.declared.Listed.the-variants.{Pieces, Declined as ListingDeclined}
 use Rattle.promises.specs.Promises.{Updates, Queries, Lists, updateAnswer, foundAnswer, listingAnswer}
-use Rattle.history.specs.History.{posting, withdrawing, by-update, by-query, by-listing}
+use Rattle.history.specs.History.{Changes, by-update, by-query, by-listing}
 use Rattle.replay_words.specs.Encoding.{nextCall, stretch, fitting, updateWords, foundWords, listedWords}
 use Rattle.replay_call.specs.OneCall.{Performed, Performs, Step}
 
--- ---- the four kinds
+-- ---- the kinds of calls
 
 update-five : (u : Update) → length (updateWords u) ≡ 5
 update-five (Done n k s h) = refl
@@ -46,26 +46,16 @@ module _ (ws : List ℤ) {ws′ : List ℤ} (five : List ℤ) (n : length five �
   five-long = ap length e ∙ length-append five (drop 5 ws) ∙ omega (arith, n, length-drop 5 ws)
 
 module _ {start : ℕ} {t : List ℤ} (ws : List ℤ) {ws′ : List ℤ} (h : 5 ≤ length ws) where
-  pub posts : {t′ : List ℤ} {u : Update} (n r b : ℤ) → Updates (post n r b) start t t′ u → ws′ ≡ updateWords u ++ drop 5 ws →
-      Performed (post n r b) start t t′ ws ws′
-  posts {t′} {u} n r b p e =
+  -- a post, a withdrawal or a take-back
+  pub changes : {k : Call} {t′ : List ℤ} {u : Update} → Changes k → stretch k ≡ 5 → Updates k start t t′ u → ws′ ≡ updateWords u ++ drop 5 ws →
+      Performed k start t t′ ws ws′
+  changes {k} {t′} {u} c five p e =
       record {
         answer = updateAnswer u;
-        happens = by-update (posting n r b) u p refl;
+        happens = by-update c u p refl;
         tells = five-take ws (updateWords u) (update-five u) h e;
         long = five-long ws (updateWords u) (update-five u) h e;
-        later = five-drop ws (updateWords u) (update-five u) h e;
-      }
-
-  pub withdraws : {t′ : List ℤ} {u : Update} (n : ℤ) → Updates (withdraw n) start t t′ u → ws′ ≡ updateWords u ++ drop 5 ws →
-      Performed (withdraw n) start t t′ ws ws′
-  withdraws {t′} {u} n p e =
-      record {
-        answer = updateAnswer u;
-        happens = by-update (withdrawing n) u p refl;
-        tells = five-take ws (updateWords u) (update-five u) h e;
-        long = five-long ws (updateWords u) (update-five u) h e;
-        later = five-drop ws (updateWords u) (update-five u) h e;
+        later = rw five (five-drop ws (updateWords u) (update-five u) h e);
       }
 
   pub asks : {f : Found} (q : ℤ) → Queries q start t f → ws′ ≡ foundWords f ++ drop 5 ws → Performed (query q) start t t ws ws′
@@ -126,6 +116,7 @@ some-words (post n r b) = omega arith
 some-words (withdraw n) = omega arith
 some-words (query q) = omega arith
 some-words (listing room) = omega arith
+some-words takeBack = omega arith
 
 pub step-none : {start : ℕ} {t : List ℤ} (cs ws : List ℤ) {asked : Option Call} → asked ≡ nextCall cs → fitting asked (length ws) ≡ false →
     Step start t t cs ws ws 0

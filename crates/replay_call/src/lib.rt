@@ -4,7 +4,7 @@ ghost use mathlib.Core.Path.{_≡_};
 ghost use mathlib.Core.Bool.{true};
 ghost use Prim.Native.Nat.{_+_, _≤_};
 ghost use lib.ListN.{length};
-ghost use Rattle.plain.specs.Book.{post, withdraw, query, listing};
+ghost use Rattle.plain.specs.Book.{post, withdraw, query, listing, takeBack};
 ghost use Rattle.replay_words.specs.Encoding.{fitting};
 ghost use Rattle.replay_words.specs.Decoding.{asked};
 ghost use Rattle.replay_call.specs.OneCall.{Performed, Performs, Step};
@@ -43,6 +43,14 @@ fn do_listing(table: &[i64], start: usize, room: usize, out: &mut [i64])
     replay_words::tell_listed(out, told);
 }
 
+fn do_take_back(table: &mut [i64], start: usize, out: &mut [i64])
+    requires { ⌜ 5 ≤ length (now out) ⌝ }
+    ensures { λ _. ⌜ Performed takeBack start (now (table .entry)) (now (table .exit)) (now (out .entry)) (now (out .exit)) ⌝ }
+{
+    let told = book::take_back(table, start);
+    replay_words::tell_update(out, told);
+}
+
 // Makes a call whose answer fits. Returns how many words that takes.
 fn perform(table: &mut [i64], start: usize, next: Next, out: &mut [i64]) -> usize
     requires { ⌜ fitting (asked next) (length (now out)) ≡ true ⌝ }
@@ -64,6 +72,10 @@ fn perform(table: &mut [i64], start: usize, next: Next, out: &mut [i64]) -> usiz
         Next::Listing(room) => {
             do_listing(table, start, room, out);
             5 + room
+        }
+        Next::TakeBack => {
+            do_take_back(table, start, out);
+            5
         }
         Next::Nothing => 0,
     }

@@ -1,6 +1,6 @@
 -- The code's reading of a call is the encoding's.
 use mathlib.Core.Path.{_≡_, refl, sym, _∙_, ap, subst}
-use mathlib.Core.Bool.{Bool, true, false, true≢false}
+use mathlib.Core.Bool.{Bool, true, false, _&&_, true≢false}
 use mathlib.Core.List.{List, [], _∷_}
 use mathlib.Core.Option.{Option, none, some}
 use Prim.Native.Nat.{ℕ, _-_, _^_, _≤_, _<_}
@@ -14,9 +14,9 @@ use mir.Syntax.{w64}
 use mir.Val.{Fits, SFits, toZ, ofZ}
 use mir.Facts.{toZ-ofZ, toZ-pos}
 use Rattle.integers.specs.Parts.{equal-is, equal-eq}
-use Rattle.plain.specs.Book.{Call, post, withdraw, query, listing}
+use Rattle.plain.specs.Book.{Call, post, withdraw, query, listing, takeBack}
 use Rattle.replay_words.specs.declared.Next.{Next}
-use Rattle.replay_words.specs.declared.Next.the-variants.{Post, Withdraw, Query, Listing, Nothing}
+use Rattle.replay_words.specs.declared.Next.the-variants.{Post, Withdraw, Query, Listing, TakeBack, Nothing}
 use Rattle.replay_words.specs.Encoding.{listingOf, shortCall, callOf, nextCall, stretch, fitting, firstRun, runnable}
 use Rattle.lists.specs.Bools.{passed, is-true}
 use Rattle.integers.specs.Magnitude.{natAbs-fits}
@@ -28,6 +28,7 @@ asked (Post n r b) = some (post n r b)
 asked (Withdraw n) = some (withdraw n)
 asked (Query q) = some (query q)
 asked (Listing room) = some (listing room)
+asked TakeBack = some takeBack
 asked Nothing = none
 
 -- ---- a word beside a number
@@ -48,22 +49,26 @@ is-not z n f = go (equal z (pos n)) refl
     go true e = absurd (f (ap (ofZ w64) (same-is z (pos n) e)))
     go false e = refl
 
--- ---- a call of one argument
+-- ---- a call of one argument at most
 
 module _ (code a : ℤ) where
-  pub short-withdraw : equal code (pos 2) ≡ true → some (withdraw a) ≡ shortCall code a
-  short-withdraw e = rw e
+  pub short-back : equal code (pos 5) ≡ true → equal a (pos 0) ≡ true → some takeBack ≡ shortCall code a
+  short-back e d = rw (e, d)
 
-  module _ (no2 : equal code (pos 2) ≡ false) where
-    pub short-query : equal code (pos 3) ≡ true → some (query a) ≡ shortCall code a
-    short-query e = rw (no2, e)
+  module _ (no5 : (equal code (pos 5) && equal a (pos 0)) ≡ false) where
+    pub short-withdraw : equal code (pos 2) ≡ true → some (withdraw a) ≡ shortCall code a
+    short-withdraw e = rw (no5, e)
 
-    module _ (no3 : equal code (pos 3) ≡ false) where
-      pub short-none : equal code (pos 4) ≡ false → none ≡ shortCall code a
-      short-none e = rw (no2, no3, e)
+    module _ (no2 : equal code (pos 2) ≡ false) where
+      pub short-query : equal code (pos 3) ≡ true → some (query a) ≡ shortCall code a
+      short-query e = rw (no5, no2, e)
 
-      pub short-listing : equal code (pos 4) ≡ true → listingOf a ≡ shortCall code a
-      short-listing e = rw (no2, no3, e)
+      module _ (no3 : equal code (pos 3) ≡ false) where
+        pub short-none : equal code (pos 4) ≡ false → none ≡ shortCall code a
+        short-none e = rw (no5, no2, no3, e)
+
+        pub short-listing : equal code (pos 4) ≡ true → listingOf a ≡ shortCall code a
+        short-listing e = rw (no5, no2, no3, e)
 
 pub no-room : (a : ℤ) → ltZ a (pos 0) ≡ true → none ≡ listingOf a
 no-room (pos n) e = absurd (omega (arith, ltb-true n 0 e))

@@ -1,6 +1,7 @@
 -- A list of calls as words: four a call. And the words that each answer is written to.
---     1 number rate base   post           3 load 0 0   query
---     2 number 0 0         withdraw       4 room 0 0   listing
+--     1 number rate base   post           4 room 0 0   listing
+--     2 number 0 0         withdraw       5 0 0 0      take back
+--     3 load 0 0           query
 use mathlib.Core.Path.{_≡_}
 use mathlib.Core.List.{List, [], _∷_, _++_}
 use mathlib.Core.Option.{Option, none, some}
@@ -10,7 +11,7 @@ use lib.ListN.{length, take, drop, getD}
 use lib.IntN.{ℤ, pos, negsuc}
 use lib.Dec.{leb}
 use Rattle.integers.specs.Equal.{equal}
-use Rattle.plain.specs.Book.{Call, post, withdraw, query, listing, Answer, refused, live, found, listed}
+use Rattle.plain.specs.Book.{Call, post, withdraw, query, listing, takeBack, Answer, refused, live, found, listed}
 use Rattle.promises.specs.declared.Update.{Update}
 use Rattle.promises.specs.declared.Found.{Found}
 use Rattle.promises.specs.declared.Listed.{Listed}
@@ -23,6 +24,7 @@ encode (post n r b) = pos 1 ∷ n ∷ r ∷ b ∷ []
 encode (withdraw n) = pos 2 ∷ n ∷ pos 0 ∷ pos 0 ∷ []
 encode (query q) = pos 3 ∷ q ∷ pos 0 ∷ pos 0 ∷ []
 encode (listing room) = pos 4 ∷ pos room ∷ pos 0 ∷ pos 0 ∷ []
+encode takeBack = pos 5 ∷ pos 0 ∷ pos 0 ∷ pos 0 ∷ []
 
 abbrev pub encoded : List Call → List ℤ
 encoded [] = []
@@ -33,12 +35,13 @@ abbrev pub listingOf : ℤ → Option Call
 listingOf (pos room) = some (listing room)
 listingOf (negsuc n) = none
 
--- a call with one argument
+-- a call with one argument at most
 abbrev pub shortCall : ℤ → ℤ → Option Call
 shortCall code a =
-    cond (equal code (pos 2)) (some (withdraw a))
+    cond (equal code (pos 5) && equal a (pos 0)) (some takeBack)
+    (cond (equal code (pos 2)) (some (withdraw a))
     (cond (equal code (pos 3)) (some (query a))
-    (cond (equal code (pos 4)) (listingOf a) none))
+    (cond (equal code (pos 4)) (listingOf a) none)))
 
 -- the call that four words encode
 abbrev pub callOf : (code a b c : ℤ) → Option Call
@@ -61,6 +64,7 @@ stretch (post n r b) = 5
 stretch (withdraw n) = 5
 stretch (query q) = 5
 stretch (listing room) = 5 + room
+stretch takeBack = 5
 
 abbrev pub stretches : List Call → ℕ
 stretches [] = 0
@@ -114,6 +118,7 @@ abbrev pub acceptedAnswer : Call → ℤ → ℤ → ℤ → List ℤ → Answer
 acceptedAnswer (post n r b) x y z out = counted live x
 acceptedAnswer (withdraw n) x y z out = counted live x
 acceptedAnswer (query q) x y z out = found x y z
+acceptedAnswer takeBack x y z out = counted live x
 acceptedAnswer (listing room) x y z out = counted (λ m. listed m (take (3 * m) (take room out))) x
 
 abbrev pub answerOf : Call → ℤ → ℤ → ℤ → ℤ → List ℤ → Answer
@@ -132,6 +137,7 @@ abbrev pub spared : Call → Answer → List ℤ → List ℤ
 spared (post n r b) a ws = []
 spared (withdraw n) a ws = []
 spared (query q) a ws = []
+spared takeBack a ws = []
 spared (listing room) a ws = drop (writtenWords a) (take room (drop 5 ws))
 
 -- they keep their contents

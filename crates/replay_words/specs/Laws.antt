@@ -11,7 +11,7 @@ use lib.Seq.{take-add, drop-drop}
 use lib.IntN.{ℤ, pos, negsuc}
 use lib.Dec.{leb}
 use borrow.Author.Tests.{le-leb, leb-true}
-use Rattle.plain.specs.Book.{Call, post, withdraw, query, listing}
+use Rattle.plain.specs.Book.{Call, post, withdraw, query, listing, takeBack}
 use Rattle.replay_words.specs.Encoding.{encode, encoded, listingOf, shortCall, callOf, nextCall, stretch, stretches, fitting, firstRun, runnable, Run}
 use Rattle.replay_words.specs.Decoding.{same-is}
 use Rattle.integers.specs.Equal.{equal}
@@ -23,6 +23,7 @@ read-again (post n r b) ws = refl
 read-again (withdraw n) ws = refl
 read-again (query q) ws = refl
 read-again (listing room) ws = refl
+read-again takeBack ws = refl
 
 -- calls whose answers fit are all run
 pub run-again : (ks : List Call) (room : ℕ) → stretches ks ≤ room → runnable (encoded ks) room ≡ ks
@@ -31,12 +32,13 @@ run-again [] room h = refl
 run-again (post n r b ∷ ks) room h = rw (le-leb 5 room (omega arith), run-again ks (room - 5) (omega arith))
 run-again (withdraw n ∷ ks) room h = rw (le-leb 5 room (omega arith), run-again ks (room - 5) (omega arith))
 run-again (query q ∷ ks) room h = rw (le-leb 5 room (omega arith), run-again ks (room - 5) (omega arith))
+run-again (takeBack ∷ ks) room h = rw (le-leb 5 room (omega arith), run-again ks (room - 5) (omega arith))
 run-again (listing n ∷ ks) room h = rw (le-leb (5 + n) room (omega arith), run-again ks (room - (5 + n)) (omega arith))
 
 -- ---- the words of a call
 
 short-words : (a b : ℤ) {k : Call} → shortCall a b ≡ some k → a ∷ b ∷ pos 0 ∷ pos 0 ∷ [] ≡ encode k
-short-words a b {k} e = second (equal a (pos 2)) refl e
+short-words a b {k} e = back (equal a (pos 5)) (equal b (pos 0)) refl refl e
   where
     words : (n : ℕ) → equal a (pos n) ≡ true → a ∷ b ∷ pos 0 ∷ pos 0 ∷ [] ≡ pos n ∷ b ∷ pos 0 ∷ pos 0 ∷ []
     words n q = ap (λ (z : ℤ). z ∷ b ∷ pos 0 ∷ pos 0 ∷ []) (same-is a (pos n) q)
@@ -58,6 +60,15 @@ short-words a b {k} e = second (equal a (pos 2)) refl e
         (cond (equal a (pos 3)) (some (query b)) (cond (equal a (pos 4)) (listingOf b) none)) ≡ some k → a ∷ b ∷ pos 0 ∷ pos 0 ∷ [] ≡ encode k
     second true f q = let r : withdraw b ≡ k = cc in words 2 f ∙ ap encode r
     second false f q = third (equal a (pos 3)) refl q
+
+    others : Option Call
+    others = cond (equal a (pos 2)) (some (withdraw b)) (cond (equal a (pos 3)) (some (query b)) (cond (equal a (pos 4)) (listingOf b) none))
+
+    back : (x y : Bool) → equal a (pos 5) ≡ x → equal b (pos 0) ≡ y → cond (x && y) (some takeBack) others ≡ some k → a ∷ b ∷ pos 0 ∷ pos 0 ∷ [] ≡ encode k
+    back true true f g q =
+        let r : takeBack ≡ k = cc in (λ i. same-is a (pos 5) f i ∷ same-is b (pos 0) g i ∷ pos 0 ∷ pos 0 ∷ []) ∙ ap encode r
+    back true false f g q = second (equal a (pos 2)) refl q
+    back false y f g q = second (equal a (pos 2)) refl q
 
 call-words : (a b c d : ℤ) {k : Call} → callOf a b c d ≡ some k → a ∷ b ∷ c ∷ d ∷ [] ≡ encode k
 call-words a b c d {k} e = first (equal a (pos 1)) refl e

@@ -13,15 +13,19 @@ pub enum Next {
     Withdraw(i64),
     Query(i64),
     Listing(usize),
+    TakeBack,
     Nothing,
 }
 
 // ---- calls read
 
-// A call with one argument. A listing's room is no number below 0.
+// A call with one argument at most. A listing's room is no number below 0.
 fn read_short(code: i64, a: i64) -> Next
     ensures { λ r. ⌜ asked r ≡ shortCall code a ⌝ }
 {
+    if code == 5 && a == 0 {
+        return Next::TakeBack;
+    }
     if code == 2 {
         return Next::Withdraw(a);
     }
@@ -81,6 +85,7 @@ pub fn fits(next: Next, room: usize) -> bool
         Next::Withdraw(_) => 5 <= room,
         Next::Query(_) => 5 <= room,
         Next::Listing(n) => five_and(n, room),
+        Next::TakeBack => 5 <= room,
         Next::Nothing => false,
     }
 }

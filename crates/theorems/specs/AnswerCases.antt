@@ -10,7 +10,7 @@ use lib.IntN.{ℤ, pos, negsuc}
 use Rattle.plain.specs.Book.{State, Call, query, listing, refused, live, found, listed, step}
 use Rattle.dynamic.specs.OfferTree.{Held}
 use Rattle.table.specs.Items.{Item}
-use Rattle.form.specs.Form.{Book}
+use Rattle.form.specs.Form.{Form}
 use Rattle.promises.specs.declared.Update.{Update}
 use Rattle.promises.specs.declared.Update.the-variants.{Done, Declined as UpdateDeclined}
 use Rattle.promises.specs.declared.Found.{Found}
@@ -96,16 +96,16 @@ plain-number : (s : State) (k : Call) (n : ℕ) → step s k .answer ≡ refused
 plain-number s k zero e = absurd (numbered s k e)
 plain-number s k (suc n) e = omega arith
 
-module _ {start : ℕ} {t : List ℤ} {s : State} {held : Option (Held Item)} (b : Book (partOf t start) s held) where
+module _ {start : ℕ} {t : List ℤ} {s : State} {held : Option (Held Item)} (f : Form (partOf t start) s held) where
   pub update-declined :
       {k : Call} {t′ : List ℤ} {r : Update} → Updates k start t t′ r → (n : ℕ) → step s k .answer ≡ refused n →
       r ≡ UpdateDeclined (pos n)
-  update-declined {k} {r = r} p n e = update-refused r n (plain-number s k n e) (p .follows s held b .answers ∙ e)
+  update-declined {k} {r = r} p n e = update-refused r n (plain-number s k n e) (p .follows s held f .answers ∙ e)
 
   pub query-declined : {q : ℤ} {r : Found} → Queries q start t r → (n : ℕ) → step s (query q) .answer ≡ refused n → r ≡ FoundDeclined (pos n)
-  query-declined {q} {r} p n e = query-refused r n (plain-number s (query q) n e) (p .answers s held b ∙ e)
+  query-declined {q} {r} p n e = query-refused r n (plain-number s (query q) n e) (p .answers s held (f .book) ∙ e)
 
   pub listing-declined :
       {out out′ : List ℤ} {r : Listed} → Lists start t out out′ r → (n : ℕ) → step s (listing (length out)) .answer ≡ refused n →
       r ≡ ListingDeclined (pos n)
-  listing-declined {out} {out′} {r} p n e = listing-refused r out′ n (plain-number s (listing (length out)) n e) (p .answers s held b ∙ e)
+  listing-declined {out} {out′} {r} p n e = listing-refused r out′ n (plain-number s (listing (length out)) n e) (p .answers s held (f .book) ∙ e)

@@ -4,17 +4,18 @@ use mathlib.Core.List.{List, [], _∷_}
 use mathlib.Core.Option.{Option, none, some}
 use Prim.Native.Nat.{ℕ, _*_}
 use native.Mathlib.Omega.{arith}
-use lib.ListN.{length, take}
+use lib.ListN.{length, take, drop}
 use lib.IntN.{ℤ, pos, negsuc}
 use Rattle.offers.specs.Offers.{Offer as PlainOffer}
 use Rattle.plain.specs.Causes.{Cause, causeNumber, declined, Clear}
 use Rattle.plain.specs.Trials.{clear, declined-first}
-use Rattle.plain.specs.Book.{State, Call, post, withdraw, query, listing, Answer, refused, live, found, listed, Outcome, holding, join, leave, trials}
-use Rattle.plain.specs.Book.{accepted, respond, step}
+use Rattle.plain.specs.Book.{State, Undo, Call, post, withdraw, query, listing, takeBack, Answer, refused, live, found, listed, Outcome, holding}
+use Rattle.plain.specs.Book.{recalling, changed, join, leave, trials, accepted, respond, step}
 use Rattle.plain.specs.MeaningLaws.{query-cheapest, listing-listing}
 use Rattle.dynamic.specs.OfferTree.{Held}
 use Rattle.table.specs.Items.{Item}
-use Rattle.form.specs.Form.{Book}
+use Rattle.form.specs.Form.{Book, Form}
+use Rattle.form.specs.Local.{book-recalling}
 use Rattle.form.specs.Live.{book-sound}
 use Rattle.promises.specs.declared.Update.{Update}
 use Rattle.promises.specs.declared.Update.the-variants.{Done, Declined as UpdateDeclined}
@@ -25,7 +26,7 @@ use Rattle.promises.specs.declared.Listed.the-variants.{Pieces, Declined as Lis
 use Rattle.promises.specs.Promises.{partOf, counted, updateAnswer, foundAnswer, listingAnswer, Follows, Queries, Lists}
 use Rattle.promises.specs.Numbered.{from-one, numbered}
 use Rattle.theorems.specs.AnswerCases.{refused-word}
-use Rattle.theorems.specs.Demand2.{Refuses, QueryTells, ListingTells, UpdateTells, Demand2}
+use Rattle.theorems.specs.Demand2.{Refuses, QueryTells, ListingTells, UpdateTells, takenBack, Demand2}
 
 -- ---- a refusal
 
@@ -46,8 +47,8 @@ query-accepted : (s : State) (q : ℤ) (n : ℕ) → Clear (trials s (query q)) 
 query-accepted s q n k e = go (s .offers) k e
   where
     go :
-        (os : List PlainOffer) → Clear (trials (record { capacity = s .capacity; offers = os }) (query q)) →
-        respond (record { capacity = s .capacity; offers = os }) (query q) none .answer ≡ refused n → ⊥
+        (os : List PlainOffer) → Clear (trials (holding s os) (query q)) →
+        respond (holding s os) (query q) none .answer ≡ refused n → ⊥
     go [] (load, (empty, _)) d = empty
     go (o ∷ os) k d = let z : _≡_ {A = ℕ} 0 1 = cc in absurd (omega arith)
 
@@ -69,21 +70,25 @@ listing-refuses s room z e = go (declined (trials s (listing room))) refl e
 
 -- ---- an update, by what it makes of the live offers where no cause applies
 
-module _ (s : State) (k : Call) (os : List PlainOffer) (a : accepted s k ≡ record { state = holding s os; answer = live (length os) }) where
-  said : {m : ℕ} → live m ≡ accepted s k .answer → m ≡ length os
-  said {m} e = let q : live m ≡ live (length os) = e ∙ ap (λ (o : Outcome). o .answer) a in cc
+module _ (s : State) (k : Call) (os : List PlainOffer) (us : List Undo) (a : Clear (trials s k) → accepted s k ≡ changed s os us) where
+  said : {m : ℕ} → Clear (trials s k) → live m ≡ accepted s k .answer → m ≡ length os
+  said {m} c e = let q : live m ≡ live (length os) = e ∙ ap (λ (o : Outcome). o .answer) (a c) in cc
 
-  unsaid : {n : ℕ} → refused n ≡ accepted s k .answer → ⊥
-  unsaid {n} e = let q : refused n ≡ live (length os) = e ∙ ap (λ (o : Outcome). o .answer) a in let z : _≡_ {A = ℕ} 0 1 = cc in absurd (omega arith)
+  unsaid : {n : ℕ} → Clear (trials s k) → refused n ≡ accepted s k .answer → ⊥
+  unsaid {n} c e = let q : refused n ≡ live (length os) = e ∙ ap (λ (o : Outcome). o .answer) (a c) in let z : _≡_ {A = ℕ} 0 1 = cc in absurd (omega arith)
 
   module _ (start : ℕ) (t t′ : List ℤ) where
     update-by :
         (d : Option Cause) → declined (trials s k) ≡ d → (u : Update) → updateAnswer u ≡ respond s k d .answer → (after : Option (Held Item)) →
-        Book (partOf t′ start) (respond s k d .state) after → ((n : ℕ) → updateAnswer u ≡ refused n → t′ ≡ t) → UpdateTells s k os start t t′ u
-    update-by none p (Done (pos m) x y z) e after b r =
-        (clear (trials s k) p, ap pos (said e), (after, subst (λ (o : Outcome). Book (partOf t′ start) (o .state) after) a b))
-    update-by none p (Done (negsuc m) x y z) e after b r = absurd (unsaid e)
-    update-by none p (UpdateDeclined z) e after b r = let (n, q) = a-refusal z in absurd (unsaid (sym q ∙ e))
+        Form (partOf t′ start) (respond s k d .state) after → ((n : ℕ) → updateAnswer u ≡ refused n → t′ ≡ t) → UpdateTells s k os start t t′ u
+    update-by none p (Done (pos m) x y z) e after f r =
+        let c = clear (trials s k) p in (
+          c,
+          ap pos (said c e),
+          (after, book-recalling (s .memory) (subst (λ (o : Outcome). Book (partOf t′ start) (o .state) after) (a c) (f .book))),
+        )
+    update-by none p (Done (negsuc m) x y z) e after f r = absurd (unsaid (clear (trials s k) p) e)
+    update-by none p (UpdateDeclined z) e after f r = let (n, q) = a-refusal z in absurd (unsaid (clear (trials s k) p) (sym q ∙ e))
     update-by (some c) p (Done (pos m) x y z) e after b r = let q : _≡_ {A = ℕ} 0 1 = cc in absurd (omega arith)
     update-by (some c) p (Done (negsuc m) x y z) e after b r = let l = from-one c in let q : 0 ≡ causeNumber c = cc in absurd (omega arith)
     update-by (some c) p (UpdateDeclined z) e after b r = (
@@ -94,11 +99,11 @@ module _ (s : State) (k : Call) (os : List PlainOffer) (a : accepted s k ≡ rec
     update-told : {held : Option (Held Item)} {u : Update} → Follows k s held start t t′ u → UpdateTells s k os start t t′ u
     update-told {u} f = update-by (declined (trials s k)) refl u (f .answers) (f .after) (f .stands) (f .refusal)
 
--- ---- the four calls
+-- ---- the five calls
 
-module _ {start : ℕ} {t : List ℤ} {s : State} {held : Option (Held Item)} (b : Book (partOf t start) s held) where
+module _ {start : ℕ} {t : List ℤ} {s : State} {held : Option (Held Item)} (f : Form (partOf t start) s held) where
   query-told : {q : ℤ} {r : Found} → Queries q start t r → QueryTells s q r
-  query-told {q} {r} p = go r (p .answers s held b)
+  query-told {q} {r} p = go r (p .answers s held (f .book))
     where
       go : (r : Found) → foundAnswer r ≡ step s (query q) .answer → QueryTells s q r
       go (Offer number price second probes) e = (
@@ -108,12 +113,12 @@ module _ {start : ℕ} {t : List ℤ} {s : State} {held : Option (Held Item)} (b
       go (FoundDeclined z) e = query-refuses s q z e
 
   listing-told : {out out′ : List ℤ} {r : Listed} → Lists start t out out′ r → ListingTells s (length out) r out′
-  listing-told {out} {out′} {r} p = go r (p .answers s held b)
+  listing-told {out} {out′} {r} p = go r (p .answers s held (f .book))
     where
       go : (r : Listed) → listingAnswer r out′ ≡ step s (listing (length out)) .answer → ListingTells s (length out) r out′
       go (Pieces (pos n)) e = (
         answered-clear s (listing (length out)) (listed n (take (3 * n) out′)) (λ m h. let z : _≡_ {A = ℕ} 0 1 = cc in absurd (omega arith)) e,
-        (n, refl, listing-listing s (length out) n (take (3 * n) out′) (book-sound b) (sym e)),
+        (n, refl, listing-listing s (length out) n (take (3 * n) out′) (book-sound (f .book)) (sym e)),
       )
       go (Pieces (negsuc n)) e = absurd (numbered s (listing (length out)) (sym e))
       go (ListingDeclined z) e = listing-refuses s (length out) z e
@@ -123,7 +128,14 @@ module _ {start : ℕ} {t : List ℤ} {s : State} {held : Option (Held Item)} (b
       record {
         query-tells = query-told;
         listing-tells = listing-told;
-        post-tells = λ {n} {r} {b = base} {t′} p. update-told s (post n r base) (join (record { number = n; rate = r; base = base }) (s .offers)) refl start
-            t t′ (p .follows s held b);
-        withdraw-tells = λ {n} {t′} p. update-told s (withdraw n) (leave n (s .offers)) refl start t t′ (p .follows s held b);
+        post-tells = λ {n} {r} {b = base} {t′} p. update-told s (post n r base) (join (record { number = n; rate = r; base = base }) (s .offers)) _
+            (λ c. refl) start t t′ (p .follows s held f);
+        withdraw-tells = λ {n} {t′} p. update-told s (withdraw n) (leave n (s .offers)) _ (λ c. refl) start t t′ (p .follows s held f);
+        take-back-tells = λ {t′} p. update-told s takeBack (takenBack (s .memory) (s .offers)) (drop 1 (s .memory)) (undoes (s .memory)) start t t′
+            (p .follows s held f);
       }
+    where
+      undoes : (m : List Undo) → Clear (trials (recalling s (s .offers) m) takeBack) →
+          accepted (recalling s (s .offers) m) takeBack ≡ changed s (takenBack m (s .offers)) (drop 1 m)
+      undoes [] (full, _) = absurd full
+      undoes (u ∷ us) c = refl

@@ -24,7 +24,8 @@ use Rattle.table.specs.Rep.{childField, refOf, Tied, tied-node}
 use Rattle.table.specs.PartTrees.{partRef, TiedPart}
 use Rattle.pieces.specs.Pieces.{items, item-laws, PartIn}
 use Rattle.form.specs.Stored.{nodeSlot, restField, Stored, stored-fork, HeldIn}
-use Rattle.form.specs.Form.{offersRef, envelopeRef, OffersIn, OffersStand, InOrder, plainOffers, Book}
+use Rattle.form.specs.Form.{offersRef, envelopeRef, OffersIn, OffersStand, InOrder, plainOffers, Book, Form}
+use Rattle.form.specs.Rings.{ring-once}
 use Rattle.promises.specs.Promises.{Passes}
 use Rattle.theorems.specs.Unique.{AllLie, all-lie, same-item, same-part, some-root}
 
@@ -124,10 +125,20 @@ module _ (w : Words) where
 
 -- ---- one plain book, one tree of offers, one order
 
-pub one-reading : {w : Words} {s s′ : State} {held held′ : Option (Held Item)} (b : Book w s held) (b′ : Book w s′ held′) →
-    (s ≡ s′) × (held ≡ held′) × (b .order ≡ b′ .order)
-one-reading {w} {s} {s′} {held} {held′} b b′ = (λ i. record { capacity = capacities i; offers = lists i }, trees, orders)
+pub one-reading : {w : Words} {s s′ : State} {held held′ : Option (Held Item)} (f : Form w s held) (f′ : Form w s′ held′) →
+    (s ≡ s′) × (held ≡ held′) × (f .book .order ≡ f′ .book .order)
+one-reading {w} {s} {s′} {held} {held′} f f′ = (
+  λ i. record { capacity = capacities i; offers = lists i; memory = ring-once (f .memory .ring) (f′ .memory .ring) i },
+  trees,
+  orders,
+)
   where
+    b : Book w s held
+    b = f .book
+
+    b′ : Book w s′ held′
+    b′ = f′ .book
+
     o : OffersStand w held
     o = b .offers
 

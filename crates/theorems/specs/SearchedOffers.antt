@@ -70,15 +70,15 @@ searched-lists {lines} {p} o s =
 module _ {k : Call} {s : State} {held : Option (Held Item)} {start : ℕ} {t t′ : List ℤ} {r : Update} (f : Follows k s held start t t′ r) where
   -- every pair of an update's log
   pub follows-lists : (p : Pair Item) → List·Memᴰ p (f .log) → PairLists (bookLines (f .after)) p
-  follows-lists p m = searched-lists (lines-ordered (f .stands)) (f .work .searched p m)
+  follows-lists p m = searched-lists (lines-ordered (f .stands .book)) (f .work .searched p m)
 
   -- its sets hold offers that are live after the update
   pub sets-live : {p : Pair Item} (l : PairLists (bookLines (f .after)) p) {a : Item} → List·Memᴰ a (l .left-set ++ l .right-set) →
       List·Memᴰ (a .offer) (step s k .state .offers)
-  sets-live l m = line-offer (f .stands) (sublist-mem (l .sets) m)
+  sets-live l m = line-offer (f .stands .book) (sublist-mem (l .sets) m)
 
   -- k is at most 8 × B(n) + 4, where n is the larger number of live offers, before or after
   pub few-by-live : Book (partOf t start) s held → length (f .log) ≤ 8 * B (max (length (s .offers)) (length (step s k .state .offers))) + 4
   few-by-live b =
       let larger : B (max (length (bookLines held)) (length (bookLines (f .after)))) ≤ B (max (length (s .offers)) (length (step s k .state .offers))) =
-      B-mono (omega (arith, lines-few b, lines-few (f .stands))) in omega (arith, f .work .few-searches)
+      B-mono (omega (arith, lines-few b, lines-few (f .stands .book))) in omega (arith, f .work .few-searches)

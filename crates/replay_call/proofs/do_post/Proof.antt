@@ -1,6 +1,7 @@
 -- `replay_call::do_post` meets its contract: what the call promises, and its answer written.
 use mir.Facts.{toZ-ofZ}
-use Rattle.replay_call.specs.Performing.{posts}
+use Rattle.replay_call.specs.Performing.{changes}
+use Rattle.history.specs.History.{posting}
 use borrow.Author.Needs.{needs}
 use Rattle.replay_call.proofs.do_post.Statement.{statement}
 use Rattle.replay_call.proofs.do_post.Tie as tie
@@ -22,7 +23,7 @@ returns c =
     let at-tell-update = c .before in
     let at-post = at-tell-update .before .before .before in
     let entry = at-post .before .before in
-    let a = entry .args in let f = entry .fits in posts (a .out .now) (entry .pre) (a .number) (a .rate) (a .base)
+    let a = entry .args in let f = entry .fits in changes (a .out .now) (entry .pre) (posting (a .number) (a .rate) (a .base)) refl
     (simp (toZ-ofZ, f .number, f .rate, f .base) at (at-post .post .ensures)) (at-tell-update .tell-update .ensures)
 
 pub do-post-spec : {M : Type 1} → statement M

@@ -1,6 +1,7 @@
 -- `replay_call::do_withdraw` meets its contract: what the call promises, and its answer written.
 use mir.Facts.{toZ-ofZ}
-use Rattle.replay_call.specs.Performing.{withdraws}
+use Rattle.replay_call.specs.Performing.{changes}
+use Rattle.history.specs.History.{withdrawing}
 use borrow.Author.Needs.{needs}
 use Rattle.replay_call.proofs.do_withdraw.Statement.{statement}
 use Rattle.replay_call.proofs.do_withdraw.Tie as tie
@@ -22,7 +23,7 @@ returns c =
     let at-tell-update = c .before in
     let at-withdraw = at-tell-update .before .before .before in
     let entry = at-withdraw .before .before in
-    let a = entry .args in let f = entry .fits in withdraws (a .out .now) (entry .pre) (a .number)
+    let a = entry .args in let f = entry .fits in changes (a .out .now) (entry .pre) (withdrawing (a .number)) refl
     (simp (toZ-ofZ, f .number) at (at-withdraw .withdraw .ensures)) (at-tell-update .tell-update .ensures)
 
 pub do-withdraw-spec : {M : Type 1} → statement M
