@@ -3,8 +3,9 @@
 use mathlib.Core.Path.{_≡_, refl}
 use mathlib.Core.List.{List, [], _∷_, _++_, map}
 use lib.IntN.{pos, negℤ}
-use Rattle.plain.specs.Book.{Call, post, withdraw, query, listing, Answer, refused, live, found, listed}
+use Rattle.plain.specs.Book.{Call, post, withdraw, query, listing, takeBack, Answer, refused, live, found, listed}
 use Rattle.plain.specs.Book.{opened, opening, after, answers}
+use Rattle.plain.specs.Remaining.{remaining}
 
 -- Calls that make a book, and the answers of the calls asked of it then.
 pub record Row : Type 0 where
@@ -253,3 +254,62 @@ pub openings :
     opening 1_152 0 (pos 0) ∷ opening 1_152 1 (pos 4_097) ∷ opening 1_152 1 (pos 1) ∷ opening 1_151 0 (pos 1) ∷ opening 10 11 (pos 1) ∷
     opening 1_152 0 (pos 1) ∷ [] ≡ 1 ∷ 1 ∷ 2 ∷ 2 ∷ 2 ∷ 0 ∷ []
 openings = refl
+
+-- ---- taking back
+
+-- (3, 0) and (1, 10), the first withdrawn: the first take-back restores it, the second undoes the second post
+abbrev pub regretted : List Call
+regretted =
+    post (pos 1) (pos 3) (pos 0)
+    ∷ post (pos 2) (pos 1) (pos 10)
+    ∷ withdraw (pos 1)
+    ∷ query (pos 5)
+    ∷ takeBack
+    ∷ query (pos 5)
+    ∷ takeBack
+    ∷ query (pos 5)
+    ∷ []
+
+abbrev pub regrets : Row
+regrets =
+    record {
+      made = [];
+      asked = regretted;
+      told =
+          live 1
+          ∷ live 2
+          ∷ live 1
+          ∷ found (pos 2) (pos 15) (pos 2)
+          ∷ live 2
+          ∷ found (pos 2) (pos 15) (pos 1)
+          ∷ live 1
+          ∷ found (pos 1) (pos 15) (pos 1)
+          ∷ [];
+    }
+
+pub regrets-told : answered regrets ≡ regrets .told
+regrets-told = refl
+
+-- of these the first post remains
+pub regrets-leave : remaining regretted (regrets .told) ≡ post (pos 1) (pos 3) (pos 0) ∷ []
+regrets-leave = refl
+
+-- nothing was posted yet
+pub fresh-told : answers (opened (pos 64)) (takeBack ∷ []) ≡ refused 17 ∷ []
+fresh-told = refl
+
+-- a take-back undoes no take-back, but the update before the one that was taken back
+pub back-and-back : answers (opened (pos 64)) (post (pos 1) (pos 3) (pos 0) ∷ post (pos 2) (pos 1) (pos 10) ∷ takeBack ∷ takeBack ∷ takeBack ∷ []) ≡
+    live 1 ∷ live 2 ∷ live 1 ∷ live 0 ∷ refused 17 ∷ []
+back-and-back = refl
+
+-- refused posts and withdrawals are not remembered, nor are a query and a listing
+pub refused-forgotten : answers (opened (pos 64)) (post (pos 1) (pos 3) (pos 0) ∷ post (pos 1) (pos 2) (pos 0) ∷ post (pos 0) (pos 2) (pos 0) ∷
+    withdraw (pos 2) ∷ query (pos 5) ∷ listing 3 ∷ takeBack ∷ takeBack ∷ []) ≡
+    live 1 ∷ refused 5 ∷ refused 4 ∷ refused 8 ∷ found (pos 1) (pos 15) (pos 1) ∷ listed 1 (pos 1 ∷ pos 0 ∷ pos 0 ∷ []) ∷ live 0 ∷ refused 17 ∷ []
+refused-forgotten = refl
+
+-- a withdrawn offer comes back with its rate and base, to its place in the order
+pub restored : answers (after (opened (pos 64)) undercut) (withdraw (pos 2) ∷ query (pos 5) ∷ takeBack ∷ query (pos 5) ∷ listing 3 ∷ []) ≡
+    live 1 ∷ found (pos 1) (pos 20) (pos 1) ∷ live 2 ∷ found (pos 2) (pos 15) (pos 2) ∷ listed 1 (pos 2 ∷ pos 0 ∷ pos 0 ∷ []) ∷ []
+restored = refl

@@ -13,6 +13,8 @@ pub mod Cases
 pub mod Sound
 -- lemmas: who is live after a post and after a withdrawal
 pub mod LiveAfter
+-- lemmas: what undoes an update gives back the offers that it found, and all that a book remembers can be undone, after every list of calls
+pub mod Undoing
 -- lemmas: the first of each rate of a list in order, of offers or of what holds an offer: which they are
 pub mod FirstLaws
 -- lemmas: the plain book's calls, one by one: which trial declines, and what an accepted call answers and leaves
@@ -25,3 +27,5 @@ pub mod QueryLaws
 pub mod ListingLaws
 -- lemmas: the plain book's query and listing tell what `Meaning` says, whatever calls made its offers
 pub mod MeaningLaws
+-- statement and theorem: after calls with take-backs among them the book holds the offers that the remaining accepted calls leave
+pub mod Remaining
