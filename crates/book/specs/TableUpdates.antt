@@ -37,45 +37,6 @@ use Rattle.filing.specs.declared.Told.{Told}
 use Rattle.declining.specs.PartCauses.{PostCause}
 use Rattle.filing.specs.PartUpdates.{Kept, PostDone, WithdrawDone}
 
--- ---- the ranges, as the code tests them
-
--- the number that names a call's first entry out of range, or 0
-pub record RangeCause (k : Call) (m : ℕ) : Type 0 where
-  pub names : 0 < m → Names m k
-  pub clears : m ≤ 0 → Clear (rangeTrials k)
-
-range-named : {k : Call} {m : ℕ} → Names m k → RangeCause k m
-range-named n = let (z, f, e) = names-first n in record { names = λ q. n; clears = λ q. absurd (omega (arith, q, e, from-one z)) }
-
-range-clear : {k : Call} → Clear (rangeTrials k) → RangeCause k 0
-range-clear g = record { names = λ q. absurd (omega (arith, q)); clears = λ q. g }
-
-module _ (n r z : ℤ) {b : Bool} (e : b ≡ not (numberInRange n)) where
-  pub number-out : b ≡ true → RangeCause (post n r z) 4
-  number-out h = range-named (posted-number (said e h))
-
-  module _ {d : Bool} (h : b ≡ false) (e′ : d ≡ not (rateInRange r)) where
-    pub rate-out : d ≡ true → RangeCause (post n r z) 14
-    rate-out k = range-named (posted-rate (not-not (numberInRange n) (denied e h)) (said e′ k))
-
-    module _ {f : Bool} (k : d ≡ false) (e″ : f ≡ not (baseInRange z)) where
-      pub base-out : f ≡ true → RangeCause (post n r z) 15
-      base-out l = range-named (posted-base (not-not (numberInRange n) (denied e h)) (not-not (rateInRange r) (denied e′ k)) (said e″ l))
-
-      pub offer-in : f ≡ false → RangeCause (post n r z) 0
-      offer-in l = range-clear (denied e h, (denied e′ k, (denied e″ l, tt)))
-
-module _ (n : ℤ) {b : Bool} (e : b ≡ not (numberInRange n)) where
-  pub withdraw-out : b ≡ true → RangeCause (withdraw n) 4
-  withdraw-out h = range-named (withdrawn-number (said e h))
-
-  pub withdraw-in : b ≡ false → RangeCause (withdraw n) 0
-  withdraw-in h = range-clear (denied e h, tt)
-
--- an offer that none of them is out of is in range
-pub range-offer : {n r z : ℤ} {m : ℕ} → RangeCause (post n r z) m → m ≤ 0 → T (offerInRange (record { number = n; rate = r; base = z }))
-range-offer {n} {r} {z} o q = clear-offer n r z (o .clears q)
-
 -- ---- where there is a book
 
 -- the words lent

@@ -1,6 +1,6 @@
 -- The code's reading of a call is the encoding's.
 use mathlib.Core.Path.{_≡_, refl, sym, _∙_, ap, subst}
-use mathlib.Core.Bool.{Bool, true, false, _&&_, true≢false}
+use mathlib.Core.Bool.{Bool, true, false, true≢false}
 use mathlib.Core.List.{List, [], _∷_}
 use mathlib.Core.Option.{Option, none, some}
 use Prim.Native.Nat.{ℕ, _-_, _^_, _≤_, _<_}
@@ -55,7 +55,10 @@ module _ (code a : ℤ) where
   pub short-back : equal code (pos 5) ≡ true → equal a (pos 0) ≡ true → some takeBack ≡ shortCall code a
   short-back e d = rw (e, d)
 
-  module _ (no5 : (equal code (pos 5) && equal a (pos 0)) ≡ false) where
+  pub short-argument : equal code (pos 5) ≡ true → equal a (pos 0) ≡ false → none ≡ shortCall code a
+  short-argument e d = rw (e, d)
+
+  module _ (no5 : equal code (pos 5) ≡ false) where
     pub short-withdraw : equal code (pos 2) ≡ true → some (withdraw a) ≡ shortCall code a
     short-withdraw e = rw (no5, e)
 

@@ -38,7 +38,7 @@ listingOf (negsuc n) = none
 -- a call with one argument at most
 abbrev pub shortCall : ℤ → ℤ → Option Call
 shortCall code a =
-    cond (equal code (pos 5) && equal a (pos 0)) (some takeBack)
+    cond (equal code (pos 5)) (cond (equal a (pos 0)) (some takeBack) none)
     (cond (equal code (pos 2)) (some (withdraw a))
     (cond (equal code (pos 3)) (some (query a))
     (cond (equal code (pos 4)) (listingOf a) none)))

@@ -64,10 +64,11 @@ short-words a b {k} e = back (equal a (pos 5)) (equal b (pos 0)) refl refl e
     others : Option Call
     others = cond (equal a (pos 2)) (some (withdraw b)) (cond (equal a (pos 3)) (some (query b)) (cond (equal a (pos 4)) (listingOf b) none))
 
-    back : (x y : Bool) → equal a (pos 5) ≡ x → equal b (pos 0) ≡ y → cond (x && y) (some takeBack) others ≡ some k → a ∷ b ∷ pos 0 ∷ pos 0 ∷ [] ≡ encode k
+    back : (x y : Bool) → equal a (pos 5) ≡ x → equal b (pos 0) ≡ y → cond x (cond y (some takeBack) none) others ≡ some k →
+        a ∷ b ∷ pos 0 ∷ pos 0 ∷ [] ≡ encode k
     back true true f g q =
         let r : takeBack ≡ k = cc in (λ i. same-is a (pos 5) f i ∷ same-is b (pos 0) g i ∷ pos 0 ∷ pos 0 ∷ []) ∙ ap encode r
-    back true false f g q = second (equal a (pos 2)) refl q
+    back true false f g q = let z : _≡_ {A = ℕ} 0 1 = cc in absurd (omega arith)
     back false y f g q = second (equal a (pos 2)) refl q
 
 call-words : (a b c d : ℤ) {k : Call} → callOf a b c d ≡ some k → a ∷ b ∷ c ∷ d ∷ [] ≡ encode k

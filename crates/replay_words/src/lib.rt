@@ -23,8 +23,11 @@ pub enum Next {
 fn read_short(code: i64, a: i64) -> Next
     ensures { λ r. ⌜ asked r ≡ shortCall code a ⌝ }
 {
-    if code == 5 && a == 0 {
-        return Next::TakeBack;
+    if code == 5 {
+        if a == 0 {
+            return Next::TakeBack;
+        }
+        return Next::Nothing;
     }
     if code == 2 {
         return Next::Withdraw(a);

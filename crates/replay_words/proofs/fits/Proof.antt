@@ -25,6 +25,9 @@ five-and-requires c κs = search needs
 enum-told-4 : tie.Need-enum-told-4
 enum-told-4 c = search needs
 
+enum-told-5 : tie.Need-enum-told-5
+enum-told-5 c = search needs
+
 returns : tie.Need-returns
 returns c = ap (λ (n : Next). fitting (asked n) (c .before .before .args .room)) (sym (c .enum-told .given .1))
 
@@ -42,7 +45,10 @@ returns-4 c =
     (sym (at-next .next .given .1))
 
 returns-5 : tie.Need-returns-5
-returns-5 c = search needs
+returns-5 c = ap (λ (n : Next). fitting (asked n) (c .before .before .args .room)) (sym (c .enum-told4 .given .1))
+
+returns-6 : tie.Need-returns-6
+returns-6 c = search needs
 
 pub fits-spec : {M : Type 1} → statement M
 fits-spec =
@@ -54,8 +60,10 @@ fits-spec =
     enum-known-next
     five-and-requires
     enum-told-4
+    enum-told-5
     returns
     returns-2
     returns-3
     returns-4
-    returns-5)
+    returns-5
+    returns-6)

@@ -1,4 +1,4 @@
--- `book::done` meets its contract: the counts as 64-bit numbers.
+-- `recording::done` meets its contract: the counts as 64-bit numbers.
 use mathlib.Core.Path.{_≡_, refl}
 use native.Mathlib.Omega.{arith}
 use lib.IntN.{pos}
@@ -6,8 +6,8 @@ use mir.Facts.{toZ-pos}
 use mir.Syntax.{w64}
 use mir.Val.{toZ}
 use borrow.Author.Needs.{needs}
-use Rattle.book.proofs.done.Statement.{statement}
-use Rattle.book.proofs.done.Tie as tie
+use Rattle.recording.proofs.done.Statement.{statement}
+use Rattle.recording.proofs.done.Tie as tie
 
 cast-t2 : tie.Need-cast-t2
 cast-t2 c = search needs

@@ -1,9 +1,9 @@
--- `book::range_cause` meets its contract: by the three ranges, in the order of the trials.
+-- `recording::range_cause` meets its contract: by the three ranges, in the order of the trials.
 use mir.Facts.{toZ-ofZ}
-use Rattle.book.specs.TableUpdates.{number-out, rate-out, base-out, offer-in}
+use Rattle.recording.specs.Ranges.{number-out, rate-out, base-out, offer-in}
 use borrow.Author.Needs.{needs}
-use Rattle.book.proofs.range_cause.Statement.{statement}
-use Rattle.book.proofs.range_cause.Tie as tie
+use Rattle.recording.proofs.range_cause.Statement.{statement}
+use Rattle.recording.proofs.range_cause.Tie as tie
 
 outside-requires : tie.Need-outside-requires
 outside-requires c κs = search needs
