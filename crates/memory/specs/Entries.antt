@@ -18,7 +18,7 @@ use Rattle.form.specs.Memory.{EntryIn, posting, withdrawing, EntriesIn, Ring, e
 use Rattle.form.specs.Memory.{doneWord, entryNumberWord, entryRateWord, entryBaseWord}
 use Rattle.form.specs.Local.{alike-cap}
 use Rattle.form.specs.There.{cap-there}
-use Rattle.memory.specs.Ring.{Reads, LastOf, OnlyMemory, Entered, of-post, of-withdrawal, Remembering, Forgetting}
+use Rattle.memory.specs.Ring.{Reads, LastOf, OnlyMemory, Entered, of-post, of-withdrawal, Emptying, Remembering, Forgetting}
 use Rattle.memory.specs.declared.Entry.{Entry}
 
 -- ---- places
@@ -132,12 +132,55 @@ written w i z e =
       other = λ j h. ap (λ (v : Words). word v j) e ∙ wset-other w i j z h;
     }
 
+-- ---- the header's two words: the last entry's place, and how many there are
+
+module _ {w w₁ w₂ : Words} {p m : ℕ} (first : Written lastEntryWord (pos p) w w₁) (second : Written rememberedWord (pos m) w₁ w₂) where
+  headed-rest : (j : ℕ) → j ≢ lastEntryWord → j ≢ rememberedWord → word w₂ j ≡ word w j
+  headed-rest j d f = second .other j f ∙ first .other j d
+
+  headed-last : rememberedWord < length w → word w₂ lastEntryWord ≡ pos p
+  headed-last h = second .other lastEntryWord (omega arith) ∙ first .same (omega (arith, h))
+
+  headed-count : rememberedWord < length w → word w₂ rememberedWord ≡ pos m
+  headed-count h = second .same (omega (arith, h, first .long))
+
+  headed-only : OnlyMemory w w₂
+  headed-only =
+      record {
+        offers = record {
+          long = second .long ∙ first .long;
+          header = λ j h. headed-rest j (omega arith) (omega arith);
+          slots = λ j l h. headed-rest j (omega arith) (omega arith);
+        };
+        beyond = λ j h. headed-rest j (omega arith) (omega arith);
+      }
+
+-- no entry
+
+pub emptying : {w w₁ w₂ : Words} → w₁ ≡ wset w lastEntryWord (pos lastPlace) → w₂ ≡ wset w₁ rememberedWord (pos 0) → Emptying w w₂
+emptying {w} {w₁} e₁ e₂ =
+    let s₁ = written w lastEntryWord (pos lastPlace) e₁ in
+    let s₂ = written w₁ rememberedWord (pos 0) e₂ in
+    record {
+      only = headed-only s₁ s₂;
+      ring = λ low.
+          let room = cap-there w refl low .room in
+          record {
+            last = lastPlace;
+            last-place = omega arith;
+            last-word = headed-last s₁ s₂ (omega (arith, room));
+            count-word = headed-count s₁ s₂ (omega (arith, room));
+            few = omega arith;
+            entries = tt;
+          };
+    }
+
 -- ---- one entry less
 
 pub forgetting : {w w₁ w₂ : Words} {i p n m : ℕ} → i ≡ upTo lastPlace (word w lastEntryWord) → p ≡ earlier i →
     n ≡ upTo mostRemembered (word w rememberedWord) → m ≡ n - 1 → w₁ ≡ wset w lastEntryWord (pos p) → w₂ ≡ wset w₁ rememberedWord (pos m) →
     Forgetting w w₂
-forgetting {w} {w₁} {w₂} {i} {p} {n} {m} qi qp qn qm e₁ e₂ = record { only = only; ring = ring }
+forgetting {w} {w₁} {w₂} {i} {p} {n} {m} qi qp qn qm e₁ e₂ = record { only = headed-only s₁ s₂; ring = ring }
   where
     s₁ : Written lastEntryWord (pos p) w w₁
     s₁ = written w lastEntryWord (pos p) e₁
@@ -145,24 +188,10 @@ forgetting {w} {w₁} {w₂} {i} {p} {n} {m} qi qp qn qm e₁ e₂ = record { on
     s₂ : Written rememberedWord (pos m) w₁ w₂
     s₂ = written w₁ rememberedWord (pos m) e₂
 
-    rest : (j : ℕ) → j ≢ lastEntryWord → j ≢ rememberedWord → word w₂ j ≡ word w j
-    rest j d f = s₂ .other j f ∙ s₁ .other j d
-
-    only : OnlyMemory w w₂
-    only =
-        record {
-          offers = record {
-            long = s₂ .long ∙ s₁ .long;
-            header = λ j h. rest j (omega arith) (omega arith);
-            slots = λ j l h. rest j (omega arith) (omega arith);
-          };
-          beyond = λ j h. rest j (omega arith) (omega arith);
-        }
-
     entries : (j : ℕ) (us : List Undo) → EntriesIn w j us → EntriesIn w₂ j us
     entries j [] es = tt
     entries j (u ∷ us) (e, es) = (
-      entry-kept j (alike-cap refl (only .offers)) (λ k h. rest (entryAt w j + k) (omega arith) (omega arith)) e,
+      entry-kept j (alike-cap refl (headed-only s₁ s₂ .offers)) (λ k h. headed-rest s₁ s₂ (entryAt w j + k) (omega arith) (omega arith)) e,
       entries (earlier j) us es,
     )
 
@@ -179,8 +208,8 @@ forgetting {w} {w₁} {w₂} {i} {p} {n} {m} qi qp qn qm e₁ e₂ = record { on
         record {
           last = p;
           last-place = omega (arith, back, earlier-place (r .last) (r .last-place));
-          last-word = s₂ .other lastEntryWord (omega arith) ∙ s₁ .same (omega (arith, room r));
-          count-word = s₂ .same (omega (arith, room r, s₁ .long)) ∙ ap pos (omega (arith, qm, qn, count-read r));
+          last-word = headed-last s₁ s₂ (room r);
+          count-word = headed-count s₁ s₂ (room r) ∙ ap pos (omega (arith, qm, qn, count-read r));
           few = omega (arith, r .few);
           entries = entries p us (subst (λ (j : ℕ). EntriesIn w j us) (sym back) (r .entries .1));
         }

@@ -25,7 +25,7 @@ pub record LastOf (w : Words) (e : Entry) : Type 0 where
   -- whatever the words are, the fields are 64-bit numbers
   pub fits : SFits w64 (e .number) × SFits w64 (e .rate) × SFits w64 (e .base)
 
--- ---- one entry more, one entry less
+-- ---- no entry, one entry more, one entry less
 
 -- only the memory's words are written, whatever the words are
 pub record OnlyMemory (w w′ : Words) : Type 0 where
@@ -36,6 +36,10 @@ pub record OnlyMemory (w w′ : Words) : Type 0 where
 pub data Entered : Undo → ℕ → ℤ → ℤ → ℤ → Type 0 where
   of-post : {n r b : ℤ} → Entered (unpost n) posted n r b
   of-withdrawal : {n r b : ℤ} → Entered (restore (record { number = n; rate = r; base = b })) withdrawn n r b
+
+pub record Emptying (w w′ : Words) : Type 0 where
+  pub only : OnlyMemory w w′
+  pub ring : 1 ≤ cap w → Ring w′ []
 
 pub record Remembering (done : ℕ) (n r b : ℤ) (w w′ : Words) : Type 0 where
   pub only : OnlyMemory w w′

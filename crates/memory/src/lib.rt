@@ -4,7 +4,7 @@ ghost use Prim.Native.Nat.{_+_, _*_, _-_, _≤_, min};
 ghost use Rattle.plain.specs.Book.{mostRemembered};
 ghost use Rattle.table.specs.Layout.{slotsEnd};
 ghost use Rattle.form.specs.Memory.{earlier};
-ghost use Rattle.memory.specs.Ring.{LastOf, Remembering, Forgetting};
+ghost use Rattle.memory.specs.Ring.{LastOf, Emptying, Remembering, Forgetting};
 ghost use Rattle.memory.specs.Entries.{Behind};
 
 // What was done, as an entry tells it.
@@ -82,6 +82,14 @@ fn one_less(n: u32) -> u32
         return 0;
     }
     n - 1
+}
+
+// Nothing is remembered: the first entry will stand at place 0.
+pub fn empty(part: &mut [i64])
+    ensures { λ _. ⌜ Emptying (now (part .entry)) (now (part .exit)) ⌝ }
+{
+    table::set_number(part, table::LAST_ENTRY, LAST_PLACE);
+    table::set_number(part, table::REMEMBERED, 0);
 }
 
 // The last entry.

@@ -16,7 +16,7 @@ use Rattle.plain.specs.Causes.{Cause, causeNumber, FirstOf, at-once, further, C
 use Rattle.plain.specs.Book.{opened, openTrials, openingBy, partLength}
 use Rattle.table.specs.Fields.{mostSlots}
 use Rattle.table.specs.Words.{Words, upTo}
-use Rattle.form.specs.Form.{Book}
+use Rattle.form.specs.Form.{Form}
 use Rattle.promises.specs.declared.Opening.{Opening}
 use Rattle.promises.specs.declared.Opening.the-variants.{Opened, Declined}
 use Rattle.promises.specs.Promises.{partOf, openingAnswer, Opens, OnlyPart}
@@ -66,8 +66,8 @@ module _ (c : ℤ) (start : ℕ) (t t′ : List ℤ) where
           declined = λ z f. absurd (not-clear f clears);
           accepted = λ k. (
             refl,
-            subst (λ (m : ℕ). Book (partOf t′ start) (opened (pos m)) none) is-capacity
-                (subst (λ (u : Words). Book u (opened (pos n)) none) (sym (part-back t start w′ back low)) (g .stands)),
+            subst (λ (m : ℕ). Form (partOf t′ start) (opened (pos m)) none) is-capacity
+                (subst (λ (u : Words). Form u (opened (pos n)) none) (sym (part-back t start w′ back low)) (g .stands)),
             subst (λ (m : ℕ). OnlyPart m start t t′) is-capacity
                 (only-part t start w′ back low (subst (λ (u : Words). Beyond n u w′) (whole-part t start) (g .beyond))),
           );

@@ -1,6 +1,7 @@
--- An empty book is laid out: the header's words, then the slots, each free and followed by the next; words past the part stay.
+-- An empty book is laid out: the header's words, then the slots, each free and followed by the next, then the memory; words past the part stay.
 use mathlib.Core.Path.{_≡_, refl, sym, _∙_, ap, subst}
 use mathlib.Core.Logic.{_≢_}
+use mathlib.Core.List.{[]}
 use mathlib.Core.Option.{none}
 use Prim.Native.Nat.{ℕ, suc, _≤_, _<_}
 use native.Mathlib.Omega.{arith}
@@ -11,8 +12,9 @@ use Rattle.table.specs.Fields.{capacityWord, envelopeRootWord, firstFreeWord, l
 use Rattle.table.specs.Fields.{offersRootWord, orderRootWord}
 use Rattle.table.specs.Words.{Words, word, wset, wset-length, wset-other}
 use Rattle.table.specs.Layout.{cap, cset, beyond-outside}
-use Rattle.form.specs.Form.{Book}
-use Rattle.form.specs.Local.{Beyond}
+use Rattle.form.specs.Form.{Book, Form}
+use Rattle.form.specs.Local.{Beyond, AlikeOffers, book-alike}
+use Rattle.memory.specs.Ring.{Emptying}
 use Rattle.opening.specs.Laying.{Begun, begun, begun-cap, Laid, laid-more, opened-book}
 
 -- ---- the header
@@ -83,16 +85,20 @@ laying-last {c} {n} {w} {w₀} {w₁} {w₂} l h n₁ n₂ e₁ e₂ =
 -- ---- both, on a part
 
 pub record Starts (c : ℕ) (w w′ : Words) : Type 0 where
-  pub stands : Book w′ (opened (pos c)) none
+  pub stands : Form w′ (opened (pos c)) none
   pub beyond : Beyond c w w′
 
-pub starts : {c : ℕ} {w w₀ w′ : Words} → 1 ≤ c → c ≤ mostSlots → partLength c ≤ length w → Heading c w w₀ → Lays c w₀ w′ → Starts c w w′
-starts {c} {w} {w₀} {w′} low high room g l =
+pub starts : {c : ℕ} {w w₀ w₁ w′ : Words} → 1 ≤ c → c ≤ mostSlots → partLength c ≤ length w → Heading c w w₀ → Lays c w₀ w₁ → Emptying w₁ w′ → Starts c w w′
+starts {c} {w} {w₀} {w₁} {w′} low high room g l m =
     record {
-      stands = opened-book b laid;
+      stands =
+          record {
+            book = book-alike [] book (subst (λ (n : ℕ). AlikeOffers n w₁ w′) (book .capacity) (m .only .offers));
+            memory = record { ring = m .ring (omega (arith, low, book .capacity)); undoable = tt };
+          };
       beyond = record {
-        long = l .long ∙ g .long;
-        rest = λ i h. laid .within .rest i (beyond-outside w₀ (omega (arith, h, begun-cap b)))
+        long = m .only .offers .long ∙ l .long ∙ g .long;
+        rest = λ i h. m .only .beyond i (omega (arith, h, book .capacity)) ∙ laid .within .rest i (beyond-outside w₀ (omega (arith, h, begun-cap b)))
             ∙ g .rest i (omega arith);
       };
     }
@@ -100,5 +106,8 @@ starts {c} {w} {w₀} {w′} low high room g l =
     b : Begun c w₀
     b = g .begins low high room
 
-    laid : Laid c c w₀ w′
+    laid : Laid c c w₀ w₁
     laid = l .lays (begun-cap b)
+
+    book : Book w₁ (opened (pos c)) none
+    book = opened-book b laid

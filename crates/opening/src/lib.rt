@@ -44,6 +44,7 @@ fn start_book(part: &mut [i64], capacity: u32)
 {
     begin(part, capacity);
     lay(part, capacity);
+    memory::empty(part);
 }
 
 // Opens an empty book at `start`.
@@ -57,7 +58,7 @@ pub fn open(table: &mut [i64], start: usize, capacity: i64) -> Opening
     if table.len() < start {
         return Opening::Declined(2);
     }
-    if table.len() - start < 64 * (c as usize + 1) {
+    if table.len() - start < 64 * (c as usize + 1) + table::MEMORY {
         return Opening::Declined(2);
     }
     start_book(&mut table[start..], c);

@@ -38,6 +38,9 @@ add-if3 c = search needs
 mul-if3 : tie.Need-mul-if3
 mul-if3 c = search needs
 
+add-if3-2 : tie.Need-add-if3-2
+add-if3-2 c = search needs
+
 returns-3 : tie.Need-returns-3
 returns-3 c =
     let at-up-to = c .before .before in
@@ -106,6 +109,7 @@ open-spec =
     cast-if3
     add-if3
     mul-if3
+    add-if3-2
     returns-3
     mul-start-book
     sub-start-book
