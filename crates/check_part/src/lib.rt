@@ -3,9 +3,9 @@ ghost use Rattle.form.specs.Form.{FormStands};
 ghost use Rattle.check_trees.specs.Deciding.{Decides};
 ghost use Rattle.promises.specs.Promises.{Checks};
 
-// The free slots, then the tree of offers with its envelopes, then the order over the slots that this left in the scratch array, then the numbers
-// over those that the order left.
-fn book_stands(part: &[i64]) -> bool
+// The free slots, then the tree of offers with its envelopes, then the order over the slots that this left in the scratch array, then the memory and the
+// numbers over those that the order left.
+fn form_stands(part: &[i64]) -> bool
     ensures { λ r. ⌜ Decides r (FormStands (now (part .entry))) ⌝ }
 {
     if table::capacity(part) < 1 {
@@ -23,6 +23,9 @@ fn book_stands(part: &[i64]) -> bool
     if !check_order::order(part, &mut scratch, offers.next, n) {
         return false;
     }
+    if !check_memory::memory(part, &scratch, n as usize) {
+        return false;
+    }
     check_numbers::numbers(part, &mut scratch, n as usize)
 }
 
@@ -33,5 +36,5 @@ pub fn check(table: &[i64], start: usize) -> bool
     if promises::no_book(table, start) {
         return false;
     }
-    book_stands(&table[start..])
+    form_stands(&table[start..])
 }

@@ -11,29 +11,29 @@ no-book-requires c κs = search needs
 returns : tie.Need-returns
 returns c = checks-none (c .before .before .args .table .now) (c .before .before .args .start) (c .before .no-book .ensures) (c .if1 .taken)
 
-mul-book-stands : tie.Need-mul-book-stands
-mul-book-stands c =
+mul-form-stands : tie.Need-mul-form-stands
+mul-form-stands c =
     let h = book-start (c .before .before .args .table .now) (c .before .before .args .start) (c .before .no-book .ensures) (c .if1 .left) in search needs
 
-sub-book-stands : tie.Need-sub-book-stands
-sub-book-stands c =
+sub-form-stands : tie.Need-sub-form-stands
+sub-form-stands c =
     let h = book-start (c .before .before .args .table .now) (c .before .before .args .start) (c .before .no-book .ensures) (c .if1 .left) in search needs
 
-part-book-stands-start : tie.Need-part-book-stands-start
-part-book-stands-start c =
+part-form-stands-start : tie.Need-part-form-stands-start
+part-form-stands-start c =
     let h = book-start (c .before .before .args .table .now) (c .before .before .args .start) (c .before .no-book .ensures) (c .if1 .left) in search needs
 
-part-book-stands-end : tie.Need-part-book-stands-end
-part-book-stands-end c = search needs
+part-form-stands-end : tie.Need-part-form-stands-end
+part-form-stands-end c = search needs
 
-book-stands-requires : tie.Need-book-stands-requires
-book-stands-requires c κs = search needs
+form-stands-requires : tie.Need-form-stands-requires
+form-stands-requires c κs = search needs
 
 returns-2 : tie.Need-returns-2
 returns-2 c =
     let at-if1 = c .before .before in
     let entry = at-if1 .before .before in
-    checks-part (entry .args .table .now) (entry .args .start) (c .book-stands .ensures)
+    checks-part (entry .args .table .now) (entry .args .start) (c .form-stands .ensures)
 
 pub check-spec : {M : Type 1} → statement M
 check-spec =
@@ -41,9 +41,9 @@ check-spec =
     (tie.spec
     no-book-requires
     returns
-    mul-book-stands
-    sub-book-stands
-    part-book-stands-start
-    part-book-stands-end
-    book-stands-requires
+    mul-form-stands
+    sub-form-stands
+    part-form-stands-start
+    part-form-stands-end
+    form-stands-requires
     returns-2)
