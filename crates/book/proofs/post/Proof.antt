@@ -5,7 +5,8 @@ use lib.IntN.{pos}
 use mir.Facts.{toZ-ofZ, toZ-pos}
 use mir.Syntax.{w64}
 use mir.Val.{toZ}
-use Rattle.book.specs.TableUpdates.{range-offer, updates-none, updates-range, post-refused, post-accepted}
+use Rattle.recording.specs.Ranges.{range-offer}
+use Rattle.book.specs.TableUpdates.{updates-none, updates-range, post-refused, post-accepted}
 use Rattle.promises.specs.LentPart.{book-start}
 use borrow.Author.Needs.{needs}
 use Rattle.book.proofs.post.Statement.{statement}
@@ -23,8 +24,8 @@ returns c = updates-none _ _ _ _ (c .before .no-book .ensures) (c .if1 .taken) r
 range-cause-requires : tie.Need-range-cause-requires
 range-cause-requires c κs = search needs
 
-cast-t13 : tie.Need-cast-t13
-cast-t13 c = search needs
+cast-t12 : tie.Need-cast-t12
+cast-t12 c = search needs
 
 same-length-2 : tie.Need-same-length-2
 same-length-2 c = search needs
@@ -67,8 +68,8 @@ part-post-cause-end c = search needs
 post-cause-requires : tie.Need-post-cause-requires
 post-cause-requires c κs = search needs
 
-cast-t19 : tie.Need-cast-t19
-cast-t19 c = search needs
+cast-t18 : tie.Need-cast-t18
+cast-t18 c = search needs
 
 same-length-3 : tie.Need-same-length-3
 same-length-3 c = search needs
@@ -87,8 +88,8 @@ returns-3 c =
     (simp (toZ-ofZ, entry .fits .number, entry .fits .rate, entry .fits .base) at (at-range-cause .range-cause .ensures)) (at-if2 .if2 .left)
     (simp (toZ-ofZ, entry .fits .number) at (cause .ensures)) (c .if3 .taken) (simp v refl) refl
 
-mul-post-part : tie.Need-mul-post-part
-mul-post-part c =
+mul-post-kept : tie.Need-mul-post-kept
+mul-post-kept c =
     let at-post-cause = c .before in
     let at-if2 = at-post-cause .before .before .before in
     let at-if1 = at-if2 .before .before in
@@ -96,8 +97,8 @@ mul-post-part c =
     let entry = at-no-book .before .before in
     omega (arith, book-start (entry .args .table .now) (entry .args .start) (at-no-book .no-book .ensures) (at-if1 .if1 .left))
 
-sub-post-part : tie.Need-sub-post-part
-sub-post-part c =
+sub-post-kept : tie.Need-sub-post-kept
+sub-post-kept c =
     let at-post-cause = c .before in
     let at-if2 = at-post-cause .before .before .before in
     let at-if1 = at-if2 .before .before in
@@ -105,8 +106,8 @@ sub-post-part c =
     let entry = at-no-book .before .before in
     omega (arith, book-start (entry .args .table .now) (entry .args .start) (at-no-book .no-book .ensures) (at-if1 .if1 .left))
 
-part-post-part-start : tie.Need-part-post-part-start
-part-post-part-start c =
+part-post-kept-start : tie.Need-part-post-kept-start
+part-post-kept-start c =
     let at-post-cause = c .before in
     let at-if2 = at-post-cause .before .before .before in
     let at-if1 = at-if2 .before .before in
@@ -114,11 +115,11 @@ part-post-part-start c =
     let entry = at-no-book .before .before in
     omega (arith, book-start (entry .args .table .now) (entry .args .start) (at-no-book .no-book .ensures) (at-if1 .if1 .left))
 
-part-post-part-end : tie.Need-part-post-part-end
-part-post-part-end c = search needs
+part-post-kept-end : tie.Need-part-post-kept-end
+part-post-kept-end c = search needs
 
-post-part-requires : tie.Need-post-part-requires
-post-part-requires c κs =
+post-kept-requires : tie.Need-post-kept-requires
+post-kept-requires c κs =
     let at-post-cause = c .before .before in
     let at-if2 = at-post-cause .before .before .before in
     let at-range-cause = at-if2 .before in
@@ -127,27 +128,23 @@ post-part-requires c κs =
     simp (toZ-ofZ, f .number, f .rate, f .base)
     (range-offer (simp (toZ-ofZ, f .number, f .rate, f .base) at (at-range-cause .range-cause .ensures)) (at-if2 .if2 .left))
 
-done-requires : tie.Need-done-requires
-done-requires c κs = search needs
-
 same-length-4 : tie.Need-same-length-4
 same-length-4 c = search needs
 
 returns-4 : tie.Need-returns-4
 returns-4 c =
-    let at-post-part = c .before .before in
-    let at-if3 = at-post-part .before .before in
+    let at-post-kept = c .before in
+    let at-if3 = at-post-kept .before .before in
     let at-post-cause = at-if3 .before in
     let at-if2 = at-post-cause .before .before .before in
     let at-range-cause = at-if2 .before in
     let at-if1 = at-range-cause .before in
     let at-no-book = at-if1 .before in
-    let entry = at-no-book .before .before in
-    let f = entry .fits in
+    let f = at-no-book .before .before .fits in
     post-accepted _ _ _ (at-no-book .no-book .ensures) (at-if1 .if1 .left) _ _ _
-    (simp (toZ-ofZ, entry .fits .number, entry .fits .rate, entry .fits .base) at (at-range-cause .range-cause .ensures)) (at-if2 .if2 .left)
-    (simp (toZ-ofZ, entry .fits .number) at (at-post-cause .post-cause .ensures)) (at-if3 .if3 .left) _
-    (simp (toZ-ofZ, f .number, f .rate, f .base) at (at-post-part .post-part .ensures)) (c .done .ensures) refl
+    (simp (toZ-ofZ, f .number, f .rate, f .base) at (at-range-cause .range-cause .ensures)) (at-if2 .if2 .left)
+    (simp (toZ-ofZ, f .number) at (at-post-cause .post-cause .ensures)) (at-if3 .if3 .left) _
+    (simp (toZ-ofZ, f .number, f .rate, f .base) at (at-post-kept .post-kept .ensures)) refl
 
 pub post-spec : {M : Type 1} → statement M
 post-spec =
@@ -157,7 +154,7 @@ post-spec =
     same-length
     returns
     range-cause-requires
-    cast-t13
+    cast-t12
     same-length-2
     returns-2
     mul-post-cause
@@ -165,14 +162,13 @@ post-spec =
     part-post-cause-start
     part-post-cause-end
     post-cause-requires
-    cast-t19
+    cast-t18
     same-length-3
     returns-3
-    mul-post-part
-    sub-post-part
-    part-post-part-start
-    part-post-part-end
-    post-part-requires
-    done-requires
+    mul-post-kept
+    sub-post-kept
+    part-post-kept-start
+    part-post-kept-end
+    post-kept-requires
     same-length-4
     returns-4)

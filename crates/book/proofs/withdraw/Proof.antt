@@ -2,7 +2,8 @@
 use mathlib.Core.Path.{refl}
 use native.Mathlib.Omega.{arith}
 use mir.Facts.{toZ-ofZ}
-use Rattle.book.specs.TableUpdates.{withdraw-out, withdraw-in, updates-none, updates-range, withdraw-refused, withdraw-accepted}
+use Rattle.recording.specs.Ranges.{withdraw-out, withdraw-in}
+use Rattle.book.specs.TableUpdates.{updates-none, updates-range, withdraw-refused, withdraw-accepted}
 use Rattle.promises.specs.LentPart.{book-start}
 use borrow.Author.Needs.{needs}
 use Rattle.book.proofs.withdraw.Statement.{statement}
@@ -73,8 +74,8 @@ returns-3 c =
     (withdraw-in _ (simp (toZ-ofZ, entry .fits .number) at (at-outside .outside .ensures)) (at-if2 .if2 .left)) (omega arith)
     (simp (toZ-ofZ, entry .fits .number) at (at-live-slot .live-slot .ensures)) (c .if3 .taken) refl
 
-mul-withdraw-part : tie.Need-mul-withdraw-part
-mul-withdraw-part c =
+mul-withdraw-kept : tie.Need-mul-withdraw-kept
+mul-withdraw-kept c =
     let at-live-slot = c .before in
     let at-if2 = at-live-slot .before .before .before in
     let at-if1 = at-if2 .before .before in
@@ -82,8 +83,8 @@ mul-withdraw-part c =
     let entry = at-no-book .before .before in
     omega (arith, book-start (entry .args .table .now) (entry .args .start) (at-no-book .no-book .ensures) (at-if1 .if1 .left))
 
-sub-withdraw-part : tie.Need-sub-withdraw-part
-sub-withdraw-part c =
+sub-withdraw-kept : tie.Need-sub-withdraw-kept
+sub-withdraw-kept c =
     let at-live-slot = c .before in
     let at-if2 = at-live-slot .before .before .before in
     let at-if1 = at-if2 .before .before in
@@ -91,8 +92,8 @@ sub-withdraw-part c =
     let entry = at-no-book .before .before in
     omega (arith, book-start (entry .args .table .now) (entry .args .start) (at-no-book .no-book .ensures) (at-if1 .if1 .left))
 
-part-withdraw-part-start : tie.Need-part-withdraw-part-start
-part-withdraw-part-start c =
+part-withdraw-kept-start : tie.Need-part-withdraw-kept-start
+part-withdraw-kept-start c =
     let at-live-slot = c .before in
     let at-if2 = at-live-slot .before .before .before in
     let at-if1 = at-if2 .before .before in
@@ -100,32 +101,29 @@ part-withdraw-part-start c =
     let entry = at-no-book .before .before in
     omega (arith, book-start (entry .args .table .now) (entry .args .start) (at-no-book .no-book .ensures) (at-if1 .if1 .left))
 
-part-withdraw-part-end : tie.Need-part-withdraw-part-end
-part-withdraw-part-end c = search needs
+part-withdraw-kept-end : tie.Need-part-withdraw-kept-end
+part-withdraw-kept-end c = search needs
 
-withdraw-part-requires : tie.Need-withdraw-part-requires
-withdraw-part-requires c κs = search needs
-
-done-requires : tie.Need-done-requires
-done-requires c κs = search needs
+withdraw-kept-requires : tie.Need-withdraw-kept-requires
+withdraw-kept-requires c κs = search needs
 
 same-length-4 : tie.Need-same-length-4
 same-length-4 c = search needs
 
 returns-4 : tie.Need-returns-4
 returns-4 c =
-    let at-withdraw-part = c .before .before in
-    let at-if3 = at-withdraw-part .before .before in
+    let at-withdraw-kept = c .before in
+    let at-if3 = at-withdraw-kept .before .before in
     let at-live-slot = at-if3 .before in
     let at-if2 = at-live-slot .before .before .before in
     let at-outside = at-if2 .before in
     let at-if1 = at-outside .before in
     let at-no-book = at-if1 .before in
-    let entry = at-no-book .before .before in
+    let f = at-no-book .before .before .fits in
     withdraw-accepted _ _ _ (at-no-book .no-book .ensures) (at-if1 .if1 .left) _
-    (withdraw-in _ (simp (toZ-ofZ, entry .fits .number) at (at-outside .outside .ensures)) (at-if2 .if2 .left)) (omega arith)
-    (simp (toZ-ofZ, entry .fits .number) at (at-live-slot .live-slot .ensures)) (at-if3 .if3 .left) _
-    (simp (toZ-ofZ, entry .fits .number) at (at-withdraw-part .withdraw-part .ensures)) (c .done .ensures) refl
+    (withdraw-in _ (simp (toZ-ofZ, f .number) at (at-outside .outside .ensures)) (at-if2 .if2 .left)) (omega arith)
+    (simp (toZ-ofZ, f .number) at (at-live-slot .live-slot .ensures)) (at-if3 .if3 .left) _
+    (simp (toZ-ofZ, f .number) at (at-withdraw-kept .withdraw-kept .ensures)) refl
 
 pub withdraw-spec : {M : Type 1} → statement M
 withdraw-spec =
@@ -144,11 +142,10 @@ withdraw-spec =
     live-slot-requires
     same-length-3
     returns-3
-    mul-withdraw-part
-    sub-withdraw-part
-    part-withdraw-part-start
-    part-withdraw-part-end
-    withdraw-part-requires
-    done-requires
+    mul-withdraw-kept
+    sub-withdraw-kept
+    part-withdraw-kept-start
+    part-withdraw-kept-end
+    withdraw-kept-requires
     same-length-4
     returns-4)
