@@ -13,7 +13,7 @@ use Rattle.plain.specs.Causes.{Clear}
 use Rattle.counter_print.specs.Texts.{newline}
 use Rattle.dynamic.specs.OfferTree.{Held}
 use Rattle.table.specs.Items.{Item}
-use Rattle.form.specs.Form.{Book}
+use Rattle.form.specs.Form.{Form}
 use Rattle.promises.specs.declared.Opening.{Opening}
 use Rattle.promises.specs.Promises.{partOf, Opens}
 use Rattle.counter_keep.specs.declared.Line.{Line}
@@ -44,7 +44,7 @@ pub data Lines : List ℤ → List (List ℕ) → List ℕ → Type 0 where
       Lines t (line ∷ lines) (take n out′ ++ bytes)
 
 lines-told : {t : List ℤ} {lines : List (List ℕ)} {bytes : List ℕ} → Lines t lines bytes → (s : State) (held : Option (Held Item)) →
-    Book (partOf t 0) s held → bytes ≡ toldAll s lines
+    Form (partOf t 0) s held → bytes ≡ toldAll s lines
 lines-told no-lines s held book = refl
 lines-told (line-more {line = line} {lines} h counts rest) s held book =
     let p = counts .obeys h .follows s held book in
@@ -72,7 +72,7 @@ pub data Input : List ℤ → Line → List ℕ → List ℕ → Type 0 where
       Input t line (byte ∷ input) (take n out′ ++ bytes)
 
 input-told : {t : List ℤ} {line : Line} {input bytes : List ℕ} → Input t line input bytes → (text : List ℕ) → Keeps line text →
-    (s : State) (held : Option (Held Item)) → Book (partOf t 0) s held
+    (s : State) (held : Option (Held Item)) → Form (partOf t 0) s held
     → bytes ≡ toldAll s (linesFrom text input)
 input-told (at-end {out′ = out′} h f) [] k s held book = ap (λ (n : ℕ). take n out′) (f .no-more k .2)
 input-told (at-end h f) (b ∷ text) k s held book =
@@ -82,7 +82,7 @@ input-told (byte-more {t} {t′} {line} {line′} {byte = b} {input} {out} {out�
     go (ℕ-discrete b newline) (λ text k s held book. input-told rest text k s held book)
   where
     More : Type 0
-    More = (text : List ℕ) → Keeps line′ text → (s : State) (held : Option (Held Item)) → Book (partOf t′ 0) s held → bytes ≡ toldAll s (linesFrom text input)
+    More = (text : List ℕ) → Keeps line′ text → (s : State) (held : Option (Held Item)) → Form (partOf t′ 0) s held → bytes ≡ toldAll s (linesFrom text input)
 
     go : Dec (b ≡ newline) → More → take n out′ ++ bytes ≡ toldAll s (linesFrom text (b ∷ input))
     go (yes e) more =
@@ -91,7 +91,7 @@ input-told (byte-more {t} {t′} {line} {line′} {byte = b} {input} {out} {out�
         rw (eq-eqb b newline e) (line-told text (linesFrom [] input) s p (more [] (q .0) (told s text .state) (p .after) (p .stands)))
     go (no e) more =
         let q = f .grows e in
-        rw (ne-eqb b newline e, q .3) (more (text ++ b ∷ []) (q .0 .keeps text k) s held (subst (λ (w : List ℤ). Book (partOf w 0) s held) (sym (q .1)) book))
+        rw (ne-eqb b newline e, q .3) (more (text ++ b ∷ []) (q .0 .keeps text k) s held (subst (λ (w : List ℤ). Form (partOf w 0) s held) (sym (q .1)) book))
 
 -- From an accepted opening and no line yet.
 pub every-input : {t t₀ : List ℤ} {line : Line} {input bytes : List ℕ} (r : Opening) → Opens (pos capacity) 0 t t₀ r →

@@ -17,7 +17,7 @@ use Rattle.table.specs.Fields.{capacityWord}
 use Rattle.table.specs.Words.{word}
 use Rattle.table.specs.Layout.{cap-most}
 use Rattle.table.specs.Items.{Item}
-use Rattle.form.specs.Form.{Book}
+use Rattle.form.specs.Form.{Form}
 use Rattle.promises.specs.declared.Update.{Update}
 use Rattle.promises.specs.declared.Found.{Found}
 use Rattle.promises.specs.declared.Listed.{Listed}
@@ -33,13 +33,13 @@ use Rattle.counter_line.specs.Fitting.{shown, Roomy, answer-fits, refusa
 
 -- where the answer is the plain book's
 plainly : {letter : ℕ} {a : Answer} {before after : List ℕ} {n : ℕ} {t : List ℤ} (k : Call) (s : State) (held : Option (Held Item)) →
-    Book (partOf t 0) s held → Roomy k
+    Form (partOf t 0) s held → Roomy k
     → a ≡ step s k .answer → Replies letter (shown k) a before after n
     → Prints (answered letter (shown k) (step s k .answer)) before after n
-plainly {letter} {a} {before} {after} {n} {t} k s held book roomy e r =
+plainly {letter} {a} {before} {after} {n} {t} k s held form roomy e r =
     subst (λ (x : Answer). Prints (answered letter (shown k) x) before after n) e
-    (r .prints (subst (Fits (shown k)) (sym e) (answer-fits (s .capacity) (s .offers) (omega (arith, book .capacity, cap-most (partOf t 0)))
-    (book-sound book) k roomy)))
+    (r .prints (subst (Fits (shown k)) (sym e) (answer-fits (s .capacity) (s .offers) (s .memory)
+    (omega (arith, form .book .capacity, cap-most (partOf t 0))) (book-sound (form .book)) (form .memory .undoable) k roomy)))
 
 -- where it is a refusal, whatever the words are
 refusing : {letter : ℕ} {number : ℤ} {a : Answer} {before after : List ℕ} {n : ℕ} (z : Cause) → a ≡ refused (causeNumber z) →
@@ -53,7 +53,7 @@ refusing {letter} {number} {before = before} {after} {n} z e r =
 pub record ListsLines (t : List ℤ) (before after : List ℕ) (n : ℕ) : Type 0 where
   pub within : n ≤ length before
   pub declined : (z : Cause) → FirstOf (tableTrials t 0 (listing room)) z → Prints (answered 76 (pos 0) (refused (causeNumber z))) before after n
-  pub prints : (s : State) (held : Option (Held Item)) → Book (partOf t 0) s held → Prints (answered 76 (pos 0) (step s (listing room) .answer)) before after n
+  pub prints : (s : State) (held : Option (Held Item)) → Form (partOf t 0) s held → Prints (answered 76 (pos 0) (step s (listing room) .answer)) before after n
 
 pub lists-lines : {t pieces pieces′ : List ℤ} {before after : List ℕ} {n : ℕ} {l : Listed} → length pieces ≡ 192 → Lists 0 t pieces pieces′ l
     → Replies 76 (pos 0) (listingAnswer l pieces′) before after n → ListsLines t before after n
@@ -61,9 +61,9 @@ lists-lines {pieces = pieces} {pieces′} {before} {after} {n} e l r =
     record {
       within = r .within;
       declined = λ z f. refusing z (l .declined z f .0) r;
-      prints = λ s held book.
+      prints = λ s held form.
           subst (λ (m : ℕ). Prints (answered 76 (pos 0) (step s (listing m) .answer)) before after n) e
-          (plainly (listing (length pieces)) s held book e (l .answers s held book) r);
+          (plainly (listing (length pieces)) s held form e (l .answers s held (form .book)) r);
     }
 
 -- ---- one line
@@ -99,17 +99,17 @@ counts-alike {t = t} {t′} {out} {out′} {n} e c =
     }
 
 -- a post or a withdrawal
-updated : {t t′ : List ℤ} {out out′ : List ℕ} {n letter : ℕ} (k : Call) {u : Update} (s : State) (held : Option (Held Item)) → Book (partOf t 0) s held →
+updated : {t t′ : List ℤ} {out out′ : List ℕ} {n letter : ℕ} (k : Call) {u : Update} (s : State) (held : Option (Held Item)) → Form (partOf t 0) s held →
     Roomy k → Updates k 0 t t′ u
     → Replies letter (shown k) (updateAnswer u) out out′ n
     → Stands (record { state = step s k .state; bytes = answered letter (shown k) (step s k .answer) }) t′ out out′ n
-updated k s held book roomy u r =
-    let f = u .follows s held book in
-    record { after = f .after; stands = f .stands; prints = plainly k s held book roomy (f .answers) r }
+updated k s held form roomy u r =
+    let f = u .follows s held form in
+    record { after = f .after; stands = f .stands; prints = plainly k s held form roomy (f .answers) r }
 
-left : {t t′ : List ℤ} {k : Call} {u : Update} → Updates k 0 t t′ u → (s : State) (held : Option (Held Item)) → Book (partOf t 0) s held → (j : ℕ) →
+left : {t t′ : List ℤ} {k : Call} {u : Update} → Updates k 0 t t′ u → (s : State) (held : Option (Held Item)) → Form (partOf t 0) s held → (j : ℕ) →
     step s k .answer ≡ refused j → t′ ≡ t
-left u s held book j e = let f = u .follows s held book in f .refusal j (f .answers ∙ e)
+left u s held form j e = let f = u .follows s held form in f .refusal j (f .answers ∙ e)
 
 module _ {line : List ℕ} {t : List ℤ} {out out′ : List ℕ} {n : ℕ} (long : most ≤ length out) where
   by-command : {t′ : List ℤ} (m : Command) → Parsed line m → n ≤ length out → OnlyPart (capacityAt t 0) 0 t t′ →
@@ -131,7 +131,7 @@ module _ {line : List ℕ} {t : List ℤ} {out out′ : List ℕ} {n : ℕ} (lon
         asks = λ no. absurd no;
         declined = λ z f. let d = u .declined z f in (d .1, refusing z (d .0) r);
         refusal = left u;
-        follows = λ s held book. updated (post number rate base) s held book tt u r;
+        follows = λ s held form. updated (post number rate base) s held form tt u r;
       })
 
   pub withdrawn : {t′ : List ℤ} (number : ℤ) {u : Update} → Parsed line (Withdraw number) → Updates (withdraw number) 0 t t′ u
@@ -142,26 +142,26 @@ module _ {line : List ℕ} {t : List ℤ} {out out′ : List ℕ} {n : ℕ} (lon
         asks = λ no. absurd no;
         declined = λ z f. let d = u .declined z f in (d .1, refusing z (d .0) r);
         refusal = left u;
-        follows = λ s held book. updated (withdraw number) s held book tt u r;
+        follows = λ s held form. updated (withdraw number) s held form tt u r;
       })
 
   -- a line that only asks
   asking : (m : Command) → Parsed line m → n ≤ length out →
       ((z : Cause) → Declines t m z → Prints (answered (letterOf m) (named m) (refused (causeNumber z))) out out′ n)
       → ((s : State) → outcome s m .state ≡ s)
-      → ((s : State) (held : Option (Held Item)) → Book (partOf t 0) s held → Prints (answered (letterOf m) (named m) (outcome s m .answer)) out out′ n)
+      → ((s : State) (held : Option (Held Item)) → Form (partOf t 0) s held → Prints (answered (letterOf m) (named m) (outcome s m .answer)) out out′ n)
       → Counts line t t out out′ n
   asking m p within declined same prints =
       by-command m p within (untouched (capacityAt t 0) 0 t) refl
       (record {
         asks = λ _. refl;
         declined = λ z f. (refl, declined z f);
-        refusal = λ s held book k e. refl;
-        follows = λ s held book. record {
+        refusal = λ s held form k e. refl;
+        follows = λ s held form. record {
           after = held;
-          stands = subst (λ (o : State). Book (partOf t 0) o held) (sym (same s)) book;
+          stands = subst (λ (o : State). Form (partOf t 0) o held) (sym (same s)) form;
           prints =
-              prints s held book;
+              prints s held form;
         };
       })
 
@@ -169,7 +169,7 @@ module _ {line : List ℕ} {t : List ℤ} {out out′ : List ℕ} {n : ℕ} (lon
       Counts line t t out out′ n
   asked load p f r =
       asking (Query load) p (r .within) (λ z d. refusing z (f .declined z d) r) (λ s. asked-state s load)
-      (λ s held book. plainly (query load) s held book tt (f .answers s held book) r)
+      (λ s held form. plainly (query load) s held form tt (f .answers s held (form .book)) r)
 
   pub listed-all : Parsed line Listing → ListsLines t out out′ n → Counts line t t out out′ n
   listed-all p l = asking Listing p (l .within) (l .declined) (λ s. listed-state s room) (l .prints)
@@ -179,4 +179,4 @@ pub unread : {line : List ℕ} {t : List ℤ} {out out′ : List ℕ} → most �
 unread {out = out} {out′} long p a =
     let r : Replies 63 (pos 0) (refused 11) out out′ 39 = refused-line (omega arith) (pos 11) a in
     asking long Unreadable p (r .within) (λ z e. refusing z (ap (λ (c : Cause). refused (causeNumber c)) (sym e)) r) (λ s. refl)
-    (λ s held book. r .prints (refusal-fits (pos 0) unreadableLine))
+    (λ s held form. r .prints (refusal-fits (pos 0) unreadableLine))

@@ -13,8 +13,8 @@ use Rattle.offers.specs.Offers.{Offer, numberInRange, loadInRange, offerInRange
 use Rattle.offers.specs.Sizes.{number-of, rate-of, base-of, number-size, number-is, price-at-size, base-gap-size, rate-gap-size}
 use Rattle.plain.specs.Causes.{Cause, declined, causeNumber, capacityOutOfRange, tableTooShort, noBook, numberOutOfRange, rateOutOfRange}
 use Rattle.plain.specs.Causes.{baseOutOfRange, loadOutOfRange, priceOutOfRange, numberLive, bookFull, numberNotLive, bookEmpty}
-use Rattle.plain.specs.Causes.{outputTooShort, unreadableLine, ratesNotApart, noSuchMark}
-use Rattle.plain.specs.Book.{State, Call, post, withdraw, query, listing, refused, live, trials, respond, accepted, step}
+use Rattle.plain.specs.Causes.{outputTooShort, unreadableLine, ratesNotApart, noSuchMark, nothingToTakeBack}
+use Rattle.plain.specs.Book.{State, Undo, Call, post, withdraw, query, listing, takeBack, refused, live, trials, Recallable, respond, accepted, step}
 use Rattle.plain.specs.Book.{lower, higher, cheapest, envelope, pieceWords}
 use Rattle.plain.specs.Trials.{clear}
 use Rattle.plain.specs.Sound.{Sound, step-sound}
@@ -28,7 +28,7 @@ use Rattle.table.specs.Fields.{mostSlots}
 
 -- ---- refusals
 
-few-causes : (c : Cause) → causeNumber c ≤ 16
+few-causes : (c : Cause) → causeNumber c ≤ 17
 few-causes capacityOutOfRange = omega arith
 few-causes tableTooShort = omega arith
 few-causes noBook = omega arith
@@ -45,6 +45,7 @@ few-causes outputTooShort = omega arith
 few-causes unreadableLine = omega arith
 few-causes ratesNotApart = omega arith
 few-causes noSuchMark = omega arith
+few-causes nothingToTakeBack = omega arith
 
 pub refusal-fits : (number : ℤ) (c : Cause) → Fits number (refused (causeNumber c))
 refusal-fits number c = (from-one c, fits-unsigned 3 (causeNumber c) (omega arith) (omega (arith, few-causes c)))
@@ -81,6 +82,7 @@ shown (post n r b) = n
 shown (withdraw n) = n
 shown (query q) = pos 0
 shown (listing room) = pos 0
+shown takeBack = pos 0
 
 -- the room that the counter gives
 abbrev pub Roomy : Call → Type 0
@@ -88,13 +90,15 @@ Roomy (post n r b) = Unit {0}
 Roomy (withdraw n) = Unit {0}
 Roomy (query q) = Unit {0}
 Roomy (listing room) = room ≡ 192
+Roomy takeBack = Unit {0}
 
-module _ (c : ℕ) (os : List Offer) (small : c ≤ mostSlots) (sound : Sound (record { capacity = c; offers = os })) where
+module _ (c : ℕ) (os : List Offer) (us : List Undo) (small : c ≤ mostSlots) (sound : Sound (record { capacity = c; offers = os; memory = us }))
+    (kept : Recallable (record { capacity = c; offers = os; memory = us })) where
   abbrev s : State
-  s = record { capacity = c; offers = os }
+  s = record { capacity = c; offers = os; memory = us }
 
   found-fits : (q : ℤ) → T (loadInRange q) → (os : List Offer) → ((o : Offer) → List·Memᴰ o os → T (offerInRange o)) →
-      Fits (pos 0) (accepted (record { capacity = c; offers = os }) (query q) .answer)
+      Fits (pos 0) (accepted (record { capacity = c; offers = os; memory = us }) (query q) .answer)
   found-fits q t [] r = refusal-fits (pos 0) bookEmpty
   found-fits q t (o ∷ os) r =
       let b = cheapest lower q o os in
@@ -105,8 +109,13 @@ module _ (c : ℕ) (os : List Offer) (small : c ≤ mostSlots) (sound : Sound (r
         size-fits (d .number) (omega (arith, number-size (d .number) (number-of d (r d (cheapest-names higher-tie q o os .live))))),
       )
 
+  back-fits : (us : List Undo) → Sound (accepted (record { capacity = c; offers = os; memory = us }) takeBack .state) →
+      Fits (pos 0) (accepted (record { capacity = c; offers = os; memory = us }) takeBack .answer)
+  back-fits [] after = refusal-fits (pos 0) nothingToTakeBack
+  back-fits (u ∷ us) after = (zero-fits 6 (omega arith), count-fits _ (omega (arith, after .fits, small)))
+
   pub answer-fits : (k : Call) → Roomy k → Fits (shown k) (step s k .answer)
-  answer-fits k roomy = go (declined (trials s k)) k refl roomy (step-sound s k sound)
+  answer-fits k roomy = go (declined (trials s k)) k refl roomy (step-sound s k sound kept)
     where
       go : (d : Option Cause) (k : Call) → declined (trials s k) ≡ d → Roomy k → Sound (respond s k d .state) → Fits (shown k) (respond s k d .answer)
       go (some z) k e roomy after = refusal-fits (shown k) z
@@ -115,6 +124,7 @@ module _ (c : ℕ) (os : List Offer) (small : c ≤ mostSlots) (sound : Sound (r
       go none (withdraw n) e roomy after =
           (number-fits n (not-not (numberInRange n) (clear (trials s (withdraw n)) e .0)), count-fits _ (omega (arith, after .fits, small)))
       go none (query q) e roomy after = found-fits q (not-not (loadInRange q) (clear (trials s (query q)) e .0)) os (sound .ranged)
+      go none takeBack e roomy after = back-fits us after
       go none (listing room) e roomy after =
           let m = nltb→le room (3 * length (envelope os)) (clear (trials s (listing room)) e .0) in
           let n : length (envelope os) ≤ 64 = omega arith in

@@ -19,7 +19,7 @@ use Rattle.dynamic.specs.OfferTree.{Held}
 use Rattle.table.specs.Fields.{capacityWord}
 use Rattle.table.specs.Words.{word}
 use Rattle.table.specs.Items.{Item}
-use Rattle.form.specs.Form.{Book}
+use Rattle.form.specs.Form.{Form}
 use Rattle.promises.specs.Promises.{partOf, capacityAt, tableTrials, OnlyPart}
 
 -- ---- the plain counter
@@ -87,7 +87,7 @@ most = 2_535
 -- The part stands for the plain book after the line, and the line's bytes are printed.
 pub record Stands (o : Told) (t′ : List ℤ) (out out′ : List ℕ) (n : ℕ) : Type 0 where
   pub after : Option (Held Item)
-  pub stands : Book (partOf t′ 0) (o .state) after
+  pub stands : Form (partOf t′ 0) (o .state) after
   pub prints : Prints (o .bytes) out out′ n
 
 -- On words of any content: the causes that do not depend on the offers.
@@ -109,8 +109,8 @@ Asks Unreadable = Unit {0}
 pub record Obeys (m : Command) (t t′ : List ℤ) (out out′ : List ℕ) (n : ℕ) : Type 0 where
   pub asks : Asks m → t′ ≡ t
   pub declined : (z : Cause) → Declines t m z → (t′ ≡ t) × Prints (answered (letterOf m) (named m) (refused (causeNumber z))) out out′ n
-  pub refusal : (s : State) (held : Option (Held Item)) → Book (partOf t 0) s held → (k : ℕ) → outcome s m .answer ≡ refused k → t′ ≡ t
-  pub follows : (s : State) (held : Option (Held Item)) → Book (partOf t 0) s held → Stands (commanded s m) t′ out out′ n
+  pub refusal : (s : State) (held : Option (Held Item)) → Form (partOf t 0) s held → (k : ℕ) → outcome s m .answer ≡ refused k → t′ ≡ t
+  pub follows : (s : State) (held : Option (Held Item)) → Form (partOf t 0) s held → Stands (commanded s m) t′ out out′ n
 
 -- An output that is too short for some line gets nothing, and the line is not answered.
 pub record Counts (line : List ℕ) (t t′ : List ℤ) (out out′ : List ℕ) (n : ℕ) : Type 0 where

@@ -55,7 +55,7 @@ module _ {start : ℕ} {t t′ calls out out′ : List ℤ} {n : ℕ} (e : Ended
 
 -- the first word of a book tells its capacity
 told-capacity : (start : ℕ) (t : List ℤ) {s : State} {held : Option (Held Item)} → Form (partOf t start) s held → capacityAt t start ≡ s .capacity
-told-capacity start t b = ap natAbs (cap-there (partOf t start) (b .capacity) (b .some-slot) .first)
+told-capacity start t f = ap natAbs (cap-there (partOf t start) (f .book .capacity) (f .book .some-slot) .first)
 
 module _ {c : ℤ} {start : ℕ} {t t₀ : List ℤ} {o : Opening} (p : Opens c start t t₀ o) where
   pub replays-none : {z : ℤ} {r : Replayed} (calls out : List ℤ) → o ≡ OpeningDeclined z → runAnswer r ≡ unopened z → Replays c start t t₀ calls out out r

@@ -12,7 +12,7 @@ use Rattle.plain.specs.Book.{Call, Answer}
 use Rattle.promises.specs.Promises.{partOf, capacityAt, OnlyPart}
 use Rattle.promises.specs.LentPart.{whole-part, lent-back, only-same}
 use Rattle.form.specs.Local.{Alike}
-use Rattle.history.specs.History.{Happens, posting, withdrawing, by-update, by-query, by-listing, finished, next}
+use Rattle.history.specs.History.{Happens, posting, withdrawing, taking-back, by-update, by-query, by-listing, finished, next}
 use Rattle.replay_words.specs.Encoding.{nextCall, stretch, fitting, runnable}
 use Rattle.replay_words.specs.Decoding.{runnable-none, runnable-next, next-words}
 use Rattle.replay_call.specs.Telling.{TellsOne, Tells}
@@ -55,6 +55,7 @@ tells-front : {start : ℕ} {t : List ℤ} {k : Call} {t′ : List ℤ} {a : Ans
     TellsOne p ws ws′ → TellsOne p ws (take (stretch k) ws′ ++ r)
 tells-front (by-update (posting n q b) u p e) ws ws′ r h w = front-take 5 5 ws′ r (omega arith) h ∙ w
 tells-front (by-update (withdrawing n) u p e) ws ws′ r h w = front-take 5 5 ws′ r (omega arith) h ∙ w
+tells-front (by-update taking-back u p e) ws ws′ r h w = front-take 5 5 ws′ r (omega arith) h ∙ w
 tells-front (by-query q f p d e) ws ws′ r h w = front-take 5 5 ws′ r (omega arith) h ∙ w
 tells-front (by-listing {room} out out′ l p m d e) ws ws′ r h (x, y, z) = (front-take 5 (5 + room) ws′ r (omega arith) h ∙ x, y, front-middle room ws′ r h ∙ z)
 

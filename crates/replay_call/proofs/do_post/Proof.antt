@@ -1,5 +1,6 @@
 -- `replay_call::do_post` meets its contract: what the call promises, and its answer written.
 use mir.Facts.{toZ-ofZ}
+use mathlib.Core.Path.{refl}
 use Rattle.replay_call.specs.Performing.{changes}
 use Rattle.history.specs.History.{posting}
 use borrow.Author.Needs.{needs}

@@ -57,6 +57,15 @@ add-result c =
 enum-told : tie.Need-enum-told
 enum-told c = search needs
 
+do-take-back-requires : tie.Need-do-take-back-requires
+do-take-back-requires c κs =
+    let at-told = c .before .before in
+    let entry = at-told .before .before in
+    call-fits (ap asked (at-told .enum-told .given .1)) (length (entry .args .out .now)) (entry .pre)
+
+enum-told-2 : tie.Need-enum-told-2
+enum-told-2 c = search needs
+
 same-length : tie.Need-same-length
 same-length c = search needs
 
@@ -120,8 +129,19 @@ returns-4 c =
     let at-next4 = at-do-listing-arg2 .before .before .before in
     performs (ap asked (at-next4 .next4 .given .1)) (at-do-listing .do-listing .ensures) refl
 
+same-length-9 : tie.Need-same-length-9
+same-length-9 c = search needs
+
+same-length-10 : tie.Need-same-length-10
+same-length-10 c = search needs
+
 returns-5 : tie.Need-returns-5
-returns-5 c = absurd (never (ap asked (c .enum-told .given .1)) (c .before .before .args .out .now) (c .before .before .pre))
+returns-5 c =
+    let at-do-take-back = c .before .before in
+    performs (ap asked (at-do-take-back .before .before .before .enum-told .given .1)) (at-do-take-back .do-take-back .ensures) refl
+
+returns-6 : tie.Need-returns-6
+returns-6 c = absurd (never (ap asked (c .enum-told2 .given .1)) (c .before .before .args .out .now) (c .before .before .pre))
 
 pub perform-spec : {M : Type 1} → statement M
 perform-spec =
@@ -137,6 +157,8 @@ perform-spec =
     do-listing-requires
     add-result
     enum-told
+    do-take-back-requires
+    enum-told-2
     same-length
     same-length-2
     returns
@@ -149,4 +171,7 @@ perform-spec =
     same-length-7
     same-length-8
     returns-4
-    returns-5)
+    same-length-9
+    same-length-10
+    returns-5
+    returns-6)
