@@ -18,7 +18,7 @@ use Rattle.table.specs.Fields.{envelopeRootWord, mostNodes}
 use Rattle.table.specs.Words.{Words, word, upTo, upTo-in}
 use Rattle.table.specs.Items.{Item, offerOf}
 use Rattle.pieces.specs.Pieces.{items}
-use Rattle.form.specs.Form.{Book, numberOf}
+use Rattle.form.specs.Form.{Book, Form, numberOf}
 use Rattle.promises.specs.declared.Update.{Update}
 use Rattle.promises.specs.declared.Update.the-variants.{Done, Declined as UpdateDeclined}
 use Rattle.promises.specs.declared.Found.{Found}
@@ -70,13 +70,14 @@ listed-number (Pieces (negsuc n)) out a d e = absurd (d (sym e))
 listed-number (ListingDeclined (pos n)) out a d e = ap answerNumber e
 listed-number (ListingDeclined (negsuc n)) out a d e = absurd (d (sym e))
 
-module _ {start : ℕ} {t : List ℤ} (plain : State) (held : Option (Held Item)) (book : Book (partOf t start) plain held) where
-  pub updated-plainly :
-      {k : Call} {t′ counts counts′ : List ℤ} {r : ℤ} → Updated k start t t′ counts counts′ r → 3 ≤ length counts → r ≡ answerNumber (step plain k .answer)
-  updated-plainly {k} p h =
-      let q = p .lent .long h in
-      q .2 .number ∙ update-number (q .0) _ (numbered plain k) (q .1 .follows plain held book .answers)
+pub updated-plainly :
+    {start : ℕ} {t : List ℤ} (plain : State) (held : Option (Held Item)) → Form (partOf t start) plain held → {k : Call} {t′ counts counts′ : List ℤ} {r : ℤ} →
+    Updated k start t t′ counts counts′ r → 3 ≤ length counts → r ≡ answerNumber (step plain k .answer)
+updated-plainly plain held form {k} p h =
+    let q = p .lent .long h in
+    q .2 .number ∙ update-number (q .0) _ (numbered plain k) (q .1 .follows plain held form .answers)
 
+module _ {start : ℕ} {t : List ℤ} (plain : State) (held : Option (Held Item)) (book : Book (partOf t start) plain held) where
   pub queried-plainly :
       {load : ℤ} {found found′ : List ℤ} {r : ℤ} → Queried load start t found found′ r → 3 ≤ length found → r ≡ answerNumber (step plain (query load) .answer)
   queried-plainly {load} p h =

@@ -8,7 +8,7 @@ use Prim.Native.Nat.{ℕ, _≤_, _<_, _^_}
 use lib.ListN.{length, drop}
 use lib.IntN.{ℤ, pos, negℤ, natAbs}
 use lib.Ieee.{Float}
-use Rattle.plain.specs.Book.{Call, post, withdraw}
+use Rattle.plain.specs.Book.{Call, post, withdraw, takeBack}
 use Rattle.table.specs.Words.{upTo}
 use Rattle.promises.specs.declared.Opening.{Opening}
 use Rattle.promises.specs.declared.Update.{Update}
@@ -109,7 +109,7 @@ pub record Opened (c : ℤ) (start : ℕ) (t t′ : List ℤ) (r : ℤ) : Type 0
   pub opens : Opens c start t t′ opening
   pub number : r ≡ openingNumber opening
 
--- a post or a withdrawal, which writes to the table: k, s and H go with its answer
+-- a post, a withdrawal or a take-back, which writes to the table: k, s and H go with its answer
 pub record Updated (k : Call) (start : ℕ) (t t′ counts counts′ : List ℤ) (r : ℤ) : Type 0 where
   pub lent : Lent 3 (Updates k start t t′) updateNumber countsOf counts counts′ r
   pub still : length counts < 3 → t′ ≡ t
@@ -119,6 +119,9 @@ Posted number rate base start t t′ counts counts′ r = Updated (post number r
 
 abbrev pub Withdrawn : (number : ℤ) (start : ℕ) (t t′ counts counts′ : List ℤ) (r : ℤ) → Type 0
 Withdrawn number start t t′ counts counts′ r = Updated (withdraw number) start t t′ counts counts′ r
+
+abbrev pub TakenBack : (start : ℕ) (t t′ counts counts′ : List ℤ) (r : ℤ) → Type 0
+TakenBack start t t′ counts counts′ r = Updated takeBack start t t′ counts counts′ r
 
 -- the price, the second offer's number and the probes go with it
 abbrev pub Queried : (load : ℤ) (start : ℕ) (t found found′ : List ℤ) (r : ℤ) → Type 0

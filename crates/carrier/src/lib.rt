@@ -1,6 +1,6 @@
 // The carrier book for Rust and C: a slice is a pointer and a length there. Every answer is one number, a refusal its cause below 0.
 // Rust's rules hold of what is lent: a pointer is aligned and not null, and what is written overlaps nothing else that is lent.
-ghost use Rattle.answers.specs.Promises.{Opened, Posted, Withdrawn, Queried, Listing, Checked, MetBooks, MarkAsked, Vouchered, Begun, Pieced};
+ghost use Rattle.answers.specs.Promises.{Opened, Posted, Withdrawn, TakenBack, Queried, Listing, Checked, MetBooks, MarkAsked, Vouchered, Begun, Pieced};
 
 // Opens an empty book at `start`: 0.
 #[no_mangle]
@@ -42,6 +42,17 @@ pub extern "C" fn carrier_withdraw(
         return -100;
     }
     telling::tell_update(book::withdraw(table, start, number), counts)
+}
+
+// Undoes the last accepted post or withdrawal that has not itself been undone: the live count, and k, s and H in `counts`.
+#[no_mangle]
+pub extern "C" fn carrier_take_back(table: &mut [i64], start: usize, counts: &mut [i64]) -> i64
+    ensures { λ r. ⌜ TakenBack start (now (table .entry)) (now (table .exit)) (now (counts .entry)) (now (counts .exit)) r ⌝ }
+{
+    if counts.len() < 3 {
+        return -100;
+    }
+    telling::tell_update(book::take_back(table, start), counts)
 }
 
 // The cheapest offer at a load, of several the one with the lowest rate: its number; and in `found` its price, the number of the one with the highest
