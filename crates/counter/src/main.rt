@@ -66,7 +66,7 @@ fn read_all(table: &mut [i64], out: &mut [u8]) -> Line {
 }
 
 fn main() {
-    let mut table = [0i64; 4160];
+    let mut table = [0i64; 5184];
     let mut out = [0u8; 2535];
     book::open(&mut table, 0, 64);
     let line = read_all(&mut table, &mut out);

@@ -140,7 +140,7 @@ fn meeting(met: search::Met, all: [u32; 241]) {
 }
 
 fn main() {
-    let mut words = [0i64; 15424];
+    let mut words = [0i64; 16448];
     let all = bases();
     fill(&mut words, all);
     let l = build(&mut words, 0);

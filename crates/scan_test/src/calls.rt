@@ -6,7 +6,7 @@ use crate::world::Place;
 use crate::world::Tally;
 use crate::world::World;
 
-// ---- open, post and withdraw
+// ---- open, post, withdraw and take_back
 
 // An opening that is to be declined for that cause; 0 for none.
 pub(crate) fn open(w: World, start: usize, room: i64, cause: i64) -> World {
@@ -36,7 +36,7 @@ fn is_same(r: book::Update, cause: i64, count: u32) -> bool {
 }
 
 // The world after an update of its book: the words and slots that it left.
-fn updated(w: World, words: [i64; 6000], os: [i64; 192], r: book::Update, cause: i64) -> World {
+fn updated(w: World, words: [i64; 7000], os: [i64; 192], r: book::Update, cause: i64) -> World {
     let other = w.other;
     let same = is_same(r, cause, slots::count(&os));
     let told = world::counted(w.told, 0, 0, 0, same);
@@ -64,6 +64,17 @@ pub(crate) fn withdraw(w: World, start: usize, number: i64) -> World {
     let r = book::withdraw(&mut words, start, number);
     let after = slots::written(os, cause, number, 0, 0, 0);
     updated(w, words, after, r, cause)
+}
+
+// Takes the last update back, where there was one: the slots are those before it.
+pub(crate) fn take_back(w: World, start: usize, before: [i64; 192]) -> World {
+    let mut words = w.words;
+    let os = w.os;
+    if slots::count(&os) == slots::count(&before) {
+        return w;
+    }
+    let r = book::take_back(&mut words, start);
+    updated(w, words, before, r, 0)
 }
 
 // ---- query and listing

@@ -52,12 +52,20 @@ fn fill(w: World, p: Place) -> World {
     v
 }
 
-// Withdraws `n` offers, in another order, with a sweep after each.
+// A withdrawal, with a sweep after it; before that it is made once and taken back, with a sweep too.
+fn withdraw_twice(w: World, p: Place, number: i64) -> World {
+    let before = w.os;
+    let gone = calls::withdraw(w, p.start, number);
+    let back = sweep(calls::take_back(gone, p.start, before), p);
+    sweep(calls::withdraw(back, p.start, number), p)
+}
+
+// Withdraws `n` offers, in another order.
 fn drain(w: World, p: Place, n: u32) -> World {
     let mut v = w;
     for i in 0..n {
         let number = makers::number(p.kind, 7 * (i % 64) % 30);
-        v = sweep(calls::withdraw(v, p.start, number), p);
+        v = withdraw_twice(v, p, number);
     }
     v
 }
@@ -92,13 +100,13 @@ fn refusals(w: World, p: Place) -> World {
 
 // Two books meet in either order, one with itself, and one with no book.
 fn meet_ways(table: &[i64], l: &[i64; 192], r: &[i64; 192], t: Tally) -> Tally {
-    let a = meetings::meeting(table, 17, l, 3000, r, true, t);
-    let b = meetings::meeting(table, 3000, r, 17, l, true, a);
+    let a = meetings::meeting(table, 17, l, 3200, r, true, t);
+    let b = meetings::meeting(table, 3200, r, 17, l, true, a);
     let c = meetings::meeting(table, 17, l, 17, l, true, b);
     let d = meetings::meeting(table, 17, l, 5990, r, false, c);
     let e = meetings::meeting(table, 5990, r, 17, l, false, d);
-    let f = meetings::meeting(table, 17, l, 7000, r, false, e);
-    meetings::meeting(table, 7000, r, 17, l, false, f)
+    let f = meetings::meeting(table, 17, l, 8000, r, false, e);
+    meetings::meeting(table, 8000, r, 17, l, false, f)
 }
 
 fn meet_all(w: World) -> World {
@@ -112,7 +120,7 @@ fn meet(w: World) -> World {
     let words = w.words;
     let l = w.os;
     let r = w.other;
-    world::with_tally(w, meetings::meeting(&words, 17, &l, 3000, &r, true, w.told))
+    world::with_tally(w, meetings::meeting(&words, 17, &l, 3200, &r, true, w.told))
 }
 
 // Withdraws an offer from each book, and lets them meet after each.
@@ -123,7 +131,7 @@ fn shrink(w: World, left: u32, right: u32) -> World {
         v = meet(calls::withdraw(v, 17, makers::number(left, at % 30)));
         let u = calls::withdraw(
             world::swapped(v),
-            3000,
+            3200,
             makers::number(right, (at + 7) % 30),
         );
         v = meet(world::swapped(u));
@@ -178,12 +186,12 @@ fn ask_nothing(w: World, start: usize, load: i64) -> World {
 // Openings that are declined, one that just fits, and queries where there is no book.
 fn run_openings(w: World) -> World {
     let a = calls::open(w, 17, 0, 1);
-    let b = calls::open(a, 7000, 4_097, 1);
+    let b = calls::open(a, 8000, 4_097, 1);
     let c = calls::open(b, 17, 4_096, 2);
-    let d = calls::open(c, 7000, 1, 2);
-    let e = calls::open(d, 5873, 1, 2);
-    let f = calls::open(ask_nothing(e, 5873, 1_000_001), 5872, 1, 0);
-    ask_nothing(f, 7000, 5)
+    let d = calls::open(c, 8000, 1, 2);
+    let e = calls::open(d, 5849, 1, 2);
+    let f = calls::open(ask_nothing(e, 5849, 1_000_001), 5848, 1, 0);
+    ask_nothing(f, 8000, 5)
 }
 
 // A book of one kind: filled, half emptied, filled again and emptied.
@@ -207,11 +215,11 @@ fn run_pair(w: World, kind: u32) -> World {
     };
     let right = makers::below(kind);
     let q = Place {
-        start: 3000,
+        start: 3200,
         room: 30,
         kind: right,
     };
-    let a = calls::open(calls::open(w, 17, 32, 0), 3000, 30, 0);
+    let a = calls::open(calls::open(w, 17, 32, 0), 3200, 30, 0);
     let b = meet(fill(meet(a), p));
     let c = world::swapped(fill(world::swapped(b), q));
     shrink(meet_all(c), kind, right)
@@ -234,7 +242,7 @@ fn run_nth(w: World, n: u32) -> World {
 }
 
 fn main() {
-    let mut words = [5i64; 6000];
+    let mut words = [5i64; 7000];
     for n in 0..18u32 {
         let w = run_nth(world::begin(words), n);
         say_name(n);

@@ -11,7 +11,7 @@ pub struct Tally {
 
 // The table lent to the books, and the same offers in plain slots: those of the book at hand and those of the other one.
 pub struct World {
-    pub words: [i64; 6000],
+    pub words: [i64; 7000],
     pub os: [i64; 192],
     pub other: [i64; 192],
     pub told: Tally,
@@ -25,7 +25,7 @@ pub struct Place {
 }
 
 // No offer, and no call made; the table stays.
-pub(crate) fn begin(words: [i64; 6000]) -> World {
+pub(crate) fn begin(words: [i64; 7000]) -> World {
     World {
         words: words,
         os: [0i64; 192],

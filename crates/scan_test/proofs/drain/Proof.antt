@@ -19,11 +19,8 @@ mul-number c = search needs
 number-requires : tie.Need-number-requires Inv-loop μ-loop
 number-requires c κs = search needs
 
-withdraw-requires : tie.Need-withdraw-requires Inv-loop μ-loop
-withdraw-requires c κs = search needs
-
-sweep-requires : tie.Need-sweep-requires Inv-loop μ-loop
-sweep-requires c κs = search needs
+withdraw-twice-requires : tie.Need-withdraw-twice-requires Inv-loop μ-loop
+withdraw-twice-requires c κs = search needs
 
 add-i : tie.Need-add-i Inv-loop μ-loop
 add-i c = search needs
@@ -46,8 +43,7 @@ drain-spec =
     loop-holds
     mul-number
     number-requires
-    withdraw-requires
-    sweep-requires
+    withdraw-twice-requires
     add-i
     loop-less
     loop-again

@@ -1,9 +1,9 @@
--- `witness::six_calls` meets its contract: each call adds its promise, and `made` puts them together.
-use Rattle.witness.specs.SixCalls.{made}
+-- `witness::seven_calls` meets its contract: each call adds its promise, and `made` puts them together.
+use Rattle.witness.specs.SevenCalls.{made}
 use mathlib.Core.Path.{refl}
 use borrow.Author.Needs.{needs}
-use Rattle.witness.proofs.six_calls.Statement.{statement}
-use Rattle.witness.proofs.six_calls.Tie as tie
+use Rattle.witness.proofs.seven_calls.Statement.{statement}
+use Rattle.witness.proofs.seven_calls.Tie as tie
 
 slice-aggregate-open : tie.Need-slice-aggregate-open
 slice-aggregate-open c = search needs
@@ -50,19 +50,27 @@ slice-aggregate-query-2 c = search needs
 query-requires-2 : tie.Need-query-requires-2
 query-requires-2 c κs = search needs
 
+slice-aggregate-take-back : tie.Need-slice-aggregate-take-back
+slice-aggregate-take-back c = search needs
+
+take-back-requires : tie.Need-take-back-requires
+take-back-requires c κs = search needs
+
 returns : tie.Need-returns
 returns c =
-    let withdrawn = c .before .before .before in
+    let taken = c .before in
+    let asked2 = taken .before .before in
+    let withdrawn = asked2 .before .before .before in
     let shown = withdrawn .before .before .before in
     let asked = shown .before .before .before in
     let second = asked .before .before .before in
     let first = second .before .before .before in
     let opened = first .before .before .before in
     made refl refl (opened .«open» .ensures) (first .post .ensures) (second .post2 .ensures) (asked .query .ensures) (shown .listing .ensures)
-    (withdrawn .withdraw .ensures) (c .query2 .ensures)
+    (withdrawn .withdraw .ensures) (asked2 .query2 .ensures) (taken .take-back .ensures)
 
-pub six-calls-spec : {M : Type 1} → statement M
-six-calls-spec =
+pub seven-calls-spec : {M : Type 1} → statement M
+seven-calls-spec =
     tie.close
     (tie.spec
     slice-aggregate-open
@@ -80,4 +88,6 @@ six-calls-spec =
     withdraw-requires
     slice-aggregate-query-2
     query-requires-2
+    slice-aggregate-take-back
+    take-back-requires
     returns)
