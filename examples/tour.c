@@ -44,6 +44,8 @@ int main(void) {
     printf("150 cents are %d units\n", (int)units[0]);
     carrier_withdraw(table, WORDS, 0, 1, counts, CARRIER_COUNTS_WORDS);
     printf("then offer %d\n", (int)carrier_query(table, WORDS, 0, 5, found, CARRIER_FOUND_WORDS));
+    carrier_take_back(table, WORDS, 0, counts, CARRIER_COUNTS_WORDS);
+    printf("offer %d is back\n", (int)carrier_query(table, WORDS, 0, 4, found, CARRIER_FOUND_WORDS));
     printf("the words are %s\n", carrier_check(table, WORDS, 0) ? "a book" : "no book");
     return 0;
 }

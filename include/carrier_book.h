@@ -31,10 +31,10 @@ extern "C" {
 #define CARRIER_MOST_OFFERS 4096
 
 /* How many words a book of that capacity takes. */
-#define CARRIER_WORDS(capacity) (64 * ((size_t)(capacity) + 1))
+#define CARRIER_WORDS(capacity) (64 * ((size_t)(capacity) + 1) + 1024)
 
-/* How many words an array has to have: `counts` of a post or a withdrawal, `found` of a query, `out` of a listing a piece, `met` of a
- * meeting, `mark` of a chart mark, `units` of a voucher, `piece` of a reading. Longer ones keep their later words. */
+/* How many words an array has to have: `counts` of a post, a withdrawal or a take-back, `found` of a query, `out` of a listing a piece,
+ * `met` of a meeting, `mark` of a chart mark, `units` of a voucher, `piece` of a reading. Longer ones keep their later words. */
 #define CARRIER_COUNTS_WORDS 3
 #define CARRIER_FOUND_WORDS 3
 #define CARRIER_PIECE_WORDS 3
@@ -53,13 +53,14 @@ extern "C" {
 #define CARRIER_NUMBER_LIVE (-5)      /* post: a live offer has that number */
 #define CARRIER_FULL (-7)             /* post: as many offers are live as the capacity tells */
 #define CARRIER_NOT_LIVE (-8)         /* withdraw: no live offer has that number */
+#define CARRIER_NOTHING_TO_TAKE_BACK (-17) /* take_back: no update is remembered */
 #define CARRIER_EMPTY (-9)            /* query, mark, meet: no offer is live */
 #define CARRIER_OUTPUT_TOO_SHORT (-10) /* listing: `out` is shorter than three words a piece */
 #define CARRIER_RATES_NOT_APART (-12)  /* meet: some rate of the first book is not above some rate of the second */
 #define CARRIER_NO_SUCH_MARK (-13)     /* mark: the index is not in 0 to m, for m pieces */
 #define CARRIER_ARRAY_TOO_SHORT (-100) /* an array has fewer words than listed above, but for `out`; tried before all others */
 
-/* Opens an empty book at `start`, whatever the words there were. Returns 0. */
+/* Opens an empty book at `start`, with nothing to take back, whatever the words there were. Returns 0. */
 int64_t carrier_open(int64_t *table, size_t words, size_t start, int64_t capacity);
 
 /* Posts an offer. Returns the live count after it. Writes how many pairs of envelopes were searched for their meeting (k), the
@@ -70,6 +71,10 @@ int64_t carrier_post(int64_t *table, size_t words, size_t start, int64_t number,
 
 /* Withdraws the live offer with that number. Returns the live count after it, and counts as carrier_post does. */
 int64_t carrier_withdraw(int64_t *table, size_t words, size_t start, int64_t number, int64_t *counts, size_t counts_words);
+
+/* Undoes the last accepted post or withdrawal that has not itself been undone. The last 256 of them are remembered, older ones are not;
+ * nor is a take-back. Returns the live count after it, and counts as carrier_post does. */
+int64_t carrier_take_back(int64_t *table, size_t words, size_t start, int64_t *counts, size_t counts_words);
 
 /* Returns the number of the cheapest live offer at a load; of several, the one with the lowest rate. Writes its price to found[0],
  * to found[1] the number of the second offer: the one with the highest rate at that price, the same where all have one rate; and to

@@ -1,14 +1,16 @@
-//! Instructions of an update, counted by valgrind's callgrind, which do not swing from run to run as times do. `run` is what valgrind is
-//! given: one kind and size; `tables` starts it for each of them and reads what each contender took.
+//! Instructions of an update and of a take-back, counted by valgrind's callgrind, which do not swing from run to run as times do. `run`
+//! is what valgrind is given: one kind and size; `tables` starts it for each of them and reads what each contender took.
 use super::{books, chosen, offers, Listed, IN_TABLES, SIZES};
 use crate::arrays::{Offer, Sorted};
-use crate::same_layout;
+use crate::{same_layout, taking_back};
 use carrier_book::Book;
 use std::fmt::Write;
 use std::process::{Command, Stdio};
 
-/// The contenders' functions below, by the names that valgrind tells.
-const CONTENDERS: [&str; 3] = ["counted::of_book", "counted::of_plain", "counted::of_sorted"];
+/// The contenders' functions, by the names that valgrind tells.
+const CONTENDERS: [&str; 5] =
+    ["counted::of_book", "counted::of_plain", "counted::of_sorted", "taking_back::by_take_backs", "taking_back::by_updates"];
+type Counts = [f64; CONTENDERS.len()];
 
 #[inline(never)]
 fn of_book(book: &mut Book, chosen: &[Offer]) {
@@ -46,6 +48,8 @@ pub(crate) fn run(n: usize, listed: Listed) {
     assert!(book.as_words() == plain.words, "the layouts differ");
     let numbers = book.listing().into_iter().map(|p| p.number);
     assert!(sorted.envelope.iter().map(|o| o.number).eq(numbers), "the envelopes differ");
+    let mut updated = book.clone();
+    taking_back::undone(&mut book, &mut updated, &mut plain, &chosen);
 }
 
 fn text_of(command: &mut Command) -> String {
@@ -55,7 +59,7 @@ fn text_of(command: &mut Command) -> String {
 }
 
 /// instructions of one update by each contender
-fn counted(n: usize, listed: Listed) -> [f64; 3] {
+fn counted(n: usize, listed: Listed) -> Counts {
     let file = std::env::temp_dir().join(format!("bench-{}-{n}-{}", std::process::id(), listed as usize));
     let mut valgrind = Command::new("valgrind");
     valgrind.args(["--tool=callgrind", "--collect-atstart=no"]);
@@ -72,8 +76,8 @@ fn counted(n: usize, listed: Listed) -> [f64; 3] {
 }
 
 /// The number of offers from which an update of the book takes less than a rebuild, by a straight line between two sizes.
-fn break_even(counts: &[(usize, [f64; 3])]) -> String {
-    let ahead = |c: &(usize, [f64; 3])| c.1[2] - c.1[0];
+fn break_even(counts: &[(usize, Counts)]) -> String {
+    let ahead = |c: &(usize, Counts)| c.1[2] - c.1[0];
     match counts.iter().position(|c| ahead(c) >= 0.0) {
         None => format!("above {}", SIZES[SIZES.len() - 1]),
         Some(0) => format!("at most {}", SIZES[0]),
@@ -85,21 +89,23 @@ fn break_even(counts: &[(usize, [f64; 3])]) -> String {
     }
 }
 
-/// the table of all kinds, and where each breaks even
+/// the tables of all kinds, of updates, of where each breaks even, and of take-backs
 pub fn tables() -> String {
     let mut t = String::from(
         "| listed | offers | book | Rust | book ÷ Rust | rebuild | rebuild ÷ book |\n|---|---|---|---|---|---|---|\n",
     );
     let mut even = String::from("| listed | an update takes fewer instructions than a rebuild from |\n|---|---|\n");
+    let mut back = String::from("| listed | offers | take-back | its update | take-back ÷ its update |\n|---|---|---|---|---|\n");
     for listed in Listed::KINDS {
-        let counts: Vec<(usize, [f64; 3])> = SIZES.iter().map(|n| (*n, counted(*n, listed))).collect();
-        for (n, [book, plain, rebuild]) in counts.iter().filter(|c| IN_TABLES.contains(&c.0)) {
-            let thousands = [book, plain, rebuild].map(|c| format!("{:.1} k", c / 1e3));
-            let [b, p, r] = thousands;
-            writeln!(t, "| {} | {n} | {b} | {p} | **{:.2}** | {r} | **{:.2}** |", listed.name(), book / plain, rebuild / book)
-                .unwrap();
+        let counts: Vec<(usize, Counts)> = SIZES.iter().map(|n| (*n, counted(*n, listed))).collect();
+        let name = listed.name();
+        for (n, counts) in counts.iter().filter(|c| IN_TABLES.contains(&c.0)) {
+            let [book, plain, rebuild, taken, undone] = counts;
+            let [b, p, r, k, u] = counts.map(|c| format!("{:.1} k", c / 1e3));
+            writeln!(t, "| {name} | {n} | {b} | {p} | **{:.2}** | {r} | **{:.2}** |", book / plain, rebuild / book).unwrap();
+            writeln!(back, "| {name} | {n} | {k} | {u} | **{:.2}** |", taken / undone).unwrap();
         }
-        writeln!(even, "| {} | {} offers |", listed.name(), break_even(&counts)).unwrap();
+        writeln!(even, "| {name} | {} offers |", break_even(&counts)).unwrap();
     }
-    format!("\n{t}\n{even}\n")
+    format!("\n{t}\n{even}\n{back}\n")
 }

@@ -1,8 +1,8 @@
 //! Times of the proved book against a scan, sorted arrays and plain Rust in the same layout; medians of five runs. It prints
 //! the tables; with the word `record` it also puts them into docs/BENCHMARKS.md, between its two marks, and draws docs/benchmarks.svg.
-//! With the word `instructions` it counts an update's instructions instead, with the word `check` it times the check of a full book; with two libraries
-//! and the word `asking` a query, with the word `printing` a number's printing (rust/bench/asking.sh and printing.sh make them). Their tables go between
-//! marks of their own.
+//! With the word `instructions` it counts an update's and a take-back's instructions instead, with the word `check` it times the check of
+//! a full book; with two libraries and the word `asking` a query, with the word `printing` a number's printing (rust/bench/asking.sh and
+//! printing.sh make them). Their tables go between marks of their own.
 //! Run it in release.
 mod arrays;
 mod asking;
@@ -12,6 +12,7 @@ mod library;
 mod plot;
 mod printing;
 mod same_layout;
+mod taking_back;
 
 use arrays::Offer;
 use carrier_book::Book;
@@ -312,7 +313,8 @@ fn times(recorded: bool) {
     let kinds: Vec<(Listed, usize)> = Listed::KINDS.iter().flat_map(|k| SIZES.map(|n| (*k, n))).collect();
     let rows = medians(kinds.iter().map(|(k, n)| updates(*n, *k)).collect());
     let updated: Vec<(Listed, Row)> = kinds.iter().map(|k| k.0).zip(rows).collect();
-    let tables = format!("\n{}\n{}\n{}\n", query_table(&asked), update_table(&updated), aims(&asked, &updated));
+    let (queries, updates, aims) = (query_table(&asked), update_table(&updated), aims(&asked, &updated));
+    let tables = format!("\n{queries}\n{updates}\n{}\n{aims}\n", taking_back::table());
     print!("{tables}");
     if recorded {
         record("tables", &tables);

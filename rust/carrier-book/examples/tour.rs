@@ -23,6 +23,8 @@ fn main() -> Result<(), Declined> {
     println!("{} cents are {} units", 150, voucher_price(150)?);
     book.withdraw(1)?;
     println!("then offer {}", book.query(5)?.number);
+    book.take_back()?;
+    println!("offer {} is back", book.query(4)?.number);
     let copy = Book::try_from(book.as_words().to_vec())?;
     println!("{copy:?}");
     println!("{}", copy.mark(9).unwrap_err());

@@ -1,7 +1,7 @@
 //! What the calls answer.
 
-/// What a post or a withdrawal tells: the live count after it, and its searches as counted while it ran. Where the first offer of its rate
-/// stays, nothing is searched.
+/// What a post, a withdrawal or a take-back tells: the live count after it, and its searches as counted while it ran. Where the first
+/// offer of its rate stays, nothing is searched.
 ///
 /// ```
 /// let mut book = carrier_book::Book::new(64)?;

@@ -42,10 +42,10 @@ impl Book {
     /// A book from words that [`Book::as_words`] gave, or nothing where they are none. `Book::try_from` does the same.
     ///
     /// ```
-    /// use carrier_book::Book;
+    /// use carrier_book::{words, Book};
     /// let book = Book::new(64)?;
     /// assert!(Book::from_words(book.as_words().to_vec()).is_some());
-    /// assert!(Book::from_words(vec![0; 128]).is_none());
+    /// assert!(Book::from_words(vec![0; words(64)]).is_none());
     /// # Ok::<(), carrier_book::Declined>(())
     /// ```
     pub fn from_words(table: Vec<i64>) -> Option<Book> {
@@ -54,7 +54,7 @@ impl Book {
         whole.then_some(Book { table })
     }
 
-    /// The book's words, to store or send. They depend on nothing else.
+    /// The book's words, to store or send. They depend on nothing else, and what can be taken back is among them.
     ///
     /// ```
     /// let book = carrier_book::Book::new(64)?;
@@ -72,7 +72,7 @@ impl Book {
     /// # Ok::<(), carrier_book::Declined>(())
     /// ```
     pub fn capacity(&self) -> usize {
-        self.table.len() / 64 - 1
+        (self.table.len() - words(0)) / 64
     }
 
     /// Posts an offer. Its rate may be that of live offers.
@@ -102,6 +102,25 @@ impl Book {
     /// ```
     pub fn withdraw(&mut self, number: i64) -> Result<Update, Declined> {
         lent::withdraw(&mut self.table, 0, number)
+    }
+
+    /// Takes back the last accepted post or withdrawal that has not been taken back. The last 256 are remembered; queries, listings
+    /// and declined calls are not among them, nor is a take-back itself.
+    ///
+    /// ```
+    /// use carrier_book::{Book, Declined};
+    /// let mut book = Book::new(64)?;
+    /// book.post(1, 3, 0)?;
+    /// book.withdraw(1)?;
+    /// assert_eq!(book.take_back()?.live, 1);
+    /// assert_eq!(book.query(5)?.price, 15);
+    /// // now the post
+    /// assert_eq!(book.take_back()?.live, 0);
+    /// assert_eq!(book.take_back(), Err(Declined::NothingToTakeBack));
+    /// # Ok::<(), Declined>(())
+    /// ```
+    pub fn take_back(&mut self) -> Result<Update, Declined> {
+        lent::take_back(&mut self.table, 0)
     }
 
     /// The cheapest live offer at a load; of several, the one with the lowest rate, and as the second the one with the highest. Of several
@@ -214,11 +233,11 @@ impl fmt::Debug for Book {
 /// By the check of every particular: words that are no book are declined with [`Declined::NoBook`].
 ///
 /// ```
-/// use carrier_book::{Book, Declined};
+/// use carrier_book::{words, Book, Declined};
 /// use std::convert::TryFrom;
 /// let book = Book::try_from(Book::new(64)?.as_words().to_vec())?;
 /// assert_eq!(book.capacity(), 64);
-/// assert_eq!(Book::try_from(vec![0; 128]).unwrap_err(), Declined::NoBook);
+/// assert_eq!(Book::try_from(vec![0; words(64)]).unwrap_err(), Declined::NoBook);
 /// # Ok::<(), Declined>(())
 /// ```
 impl TryFrom<Vec<i64>> for Book {

@@ -37,6 +37,8 @@ pub enum Declined {
     Full,
     /// 8, withdraw: no live offer has that number.
     NotLive,
+    /// 17, take_back: no update is remembered.
+    NothingToTakeBack,
     /// 9, query, mark and meet: no offer is live.
     Empty,
     /// 10, listing: the output is shorter than three words a piece.
@@ -52,7 +54,7 @@ pub enum Declined {
 use Declined::*;
 
 /// Each cause with its number and what it says, in the order in which they are tried.
-const CAUSES: [(Declined, i64, &str); 14] = [
+const CAUSES: [(Declined, i64, &str); 15] = [
     (Capacity, 1, "the capacity is not in 1 to 4,096"),
     (NoRoom, 2, "the table has too few words"),
     (NoBook, 3, "there is no book there"),
@@ -63,6 +65,7 @@ const CAUSES: [(Declined, i64, &str); 14] = [
     (NumberLive, 5, "a live offer has that number"),
     (Full, 7, "the book is full"),
     (NotLive, 8, "no live offer has that number"),
+    (NothingToTakeBack, 17, "there is nothing to take back"),
     (Empty, 9, "the book is empty"),
     (OutputTooShort, 10, "the output is too short"),
     (RatesNotApart, 12, "the first book's rates are not all above the second's"),

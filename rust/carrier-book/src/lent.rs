@@ -31,7 +31,7 @@ fn update(call: impl FnOnce(*mut i64, usize) -> i64) -> Result<Update, Declined>
     Ok(Update { live, searches, steps, heights })
 }
 
-/// Opens an empty book at `start`, whatever the words there were.
+/// Opens an empty book at `start`, with nothing to take back, whatever the words there were.
 ///
 /// ```
 /// use carrier_book::{lent, words, Declined};
@@ -74,6 +74,23 @@ pub fn withdraw(table: &mut [i64], start: usize, number: i64) -> Result<Update, 
     let (words, length) = (table.as_mut_ptr(), table.len());
     // SAFETY: as in `post`.
     update(|counts, n| unsafe { raw::carrier_withdraw(words, length, start, number, counts, n) })
+}
+
+/// Takes back the last accepted post or withdrawal that has not been taken back. The last 256 are remembered.
+///
+/// ```
+/// use carrier_book::{lent, words, Declined};
+/// let mut table = vec![0; words(2)];
+/// lent::open(&mut table, 0, 2)?;
+/// lent::post(&mut table, 0, 1, 3, 0)?;
+/// assert_eq!(lent::take_back(&mut table, 0)?.live, 0);
+/// assert_eq!(lent::take_back(&mut table, 0), Err(Declined::NothingToTakeBack));
+/// # Ok::<(), Declined>(())
+/// ```
+pub fn take_back(table: &mut [i64], start: usize) -> Result<Update, Declined> {
+    let (words, length) = (table.as_mut_ptr(), table.len());
+    // SAFETY: as in `post`.
+    update(|counts, n| unsafe { raw::carrier_take_back(words, length, start, counts, n) })
 }
 
 /// The cheapest live offer at a load; of several, the one with the lowest rate, and as the second the one with the highest. Of several

@@ -1,14 +1,14 @@
-//! A book of carriers' offers: post and withdraw offers, ask which is the cheapest for a load, list the stretches of loads on which
-//! each is the cheapest.
+//! A book of carriers' offers: post and withdraw offers, take the last of these calls back, ask which offer is the cheapest for a load,
+//! list the stretches of loads on which each is the cheapest.
 //!
 //! An offer has a number (1 to 9,999), a rate in cents per kilogram (−100,000 to 100,000) and a base in cents
 //! (−1,000,000,000 to 1,000,000,000). Its price at a load of `q` kilograms (−1,000,000 to 1,000,000) is `base + rate × q`. No two
 //! live offers have equal numbers. Several may have one rate: offers are ordered by falling rate, then rising base, then rising number,
 //! and of one rate only the first in that order is listed or named.
 //!
-//! Inside is a dynamic lower envelope of lines. With n live offers a post or a withdrawal takes O(log² n), a query O(log n). That every
-//! call answers right, after every history of calls, is proved in Rattle of the very code in the archive; this crate only hands
-//! slices over, and reads no word of a book itself.
+//! Inside is a dynamic lower envelope of lines. With n live offers a post, a withdrawal or a take-back takes O(log² n), a query
+//! O(log n). That every call answers right, after every history of calls, is proved in Rattle of the very code in the archive; this
+//! crate only hands slices over, and reads no word of a book itself.
 //!
 //! ```
 //! use carrier_book::{Book, Declined};
@@ -24,6 +24,9 @@
 //! book.withdraw(1)?;
 //! assert_eq!(book.query(6)?.number, 2);
 //! assert_eq!(book.withdraw(1), Err(Declined::NotLive));
+//! // the wrong carrier was withdrawn
+//! book.take_back()?;
+//! assert_eq!(book.query(4)?.number, 1);
 //! # Ok::<(), Declined>(())
 //! ```
 #![deny(missing_docs)]
@@ -48,13 +51,13 @@ pub use readings::{Marks, Pieces};
 /// ```
 pub const MOST_OFFERS: usize = 4096;
 
-/// How many words a book of that capacity takes.
+/// How many words a book of that capacity takes: 64 for each offer and as many for itself, and 1,024 for what can be taken back.
 ///
 /// ```
-/// assert_eq!(carrier_book::words(64), 4_160);
+/// assert_eq!(carrier_book::words(64), 5_184);
 /// ```
 pub const fn words(capacity: usize) -> usize {
-    64 * (capacity + 1)
+    64 * (capacity + 1) + 1_024
 }
 
 /// A price (−101,000,000,000 to 101,000,000,000 cents) in whole units of 100 cents: the nearest, and an exact half to the even

@@ -7,7 +7,7 @@
 //!
 //! ```
 //! use carrier_book::raw::*;
-//! let mut table = [0i64; 64 * 3];
+//! let mut table = [0i64; carrier_book::words(2)];
 //! let (mut counts, mut found, mut met, mut mark, mut units) = ([0; 3], [0; 3], [0; 4], [0.0; 2], [0]);
 //! let (mut out, mut piece) = ([0; 6], [0; 3]);
 //! let (words, start) = (table.len(), 0);
@@ -29,6 +29,7 @@
 //!     // rates 3 and 1 of the one book do not stand apart from those of the other
 //!     assert_eq!(carrier_meet(table.as_ptr(), words, start, table.as_ptr(), words, start, met.as_mut_ptr(), 4), -12);
 //!     assert_eq!(carrier_withdraw(table.as_mut_ptr(), words, start, 1, counts.as_mut_ptr(), 3), 1);
+//!     assert_eq!(carrier_take_back(table.as_mut_ptr(), words, start, counts.as_mut_ptr(), 3), 2);
 //!     assert_eq!(carrier_check(table.as_ptr(), words, start), 1);
 //!     assert_eq!(carrier_voucher(150, units.as_mut_ptr(), 1), 0);
 //!     assert_eq!(units, [2]);
@@ -58,6 +59,8 @@ extern "C" {
         counts: *mut i64,
         counts_words: usize,
     ) -> i64;
+    /// Takes an update back: see [`lent::take_back`](crate::lent::take_back).
+    pub fn carrier_take_back(table: *mut i64, words: usize, start: usize, counts: *mut i64, counts_words: usize) -> i64;
     /// The cheapest offer at a load, and the second one: see [`lent::query`](crate::lent::query).
     pub fn carrier_query(table: *const i64, words: usize, start: usize, load: i64, found: *mut i64, found_words: usize) -> i64;
     /// Writes the pieces: see [`lent::listing`](crate::lent::listing).

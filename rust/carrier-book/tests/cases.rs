@@ -54,9 +54,9 @@ fn causes_in_order() {
     assert_eq!(lent::listing(b.as_words(), 0, &mut [0; 5]), Err(Declined::OutputTooShort));
     assert_eq!(Book::new(0).unwrap_err(), Declined::Capacity);
     assert_eq!(Book::new(4_097).unwrap_err(), Declined::Capacity);
-    for number in 1..=17 {
+    for number in 1..=18 {
         assert_eq!(Declined::from_number(number).number(), number);
-        assert_eq!(Declined::from_number(number) == Declined::Other(number), [6, 11, 17].contains(&number));
+        assert_eq!(Declined::from_number(number) == Declined::Other(number), [6, 11, 18].contains(&number));
     }
 }
 
@@ -90,6 +90,68 @@ fn several_offers_at_one_rate() {
 }
 
 #[test]
+fn take_backs() {
+    let mut b = book(&[(3, 0), (1, 10), (0, 40)]);
+    // the wrong carrier
+    b.withdraw(1).unwrap();
+    let update = b.take_back().unwrap();
+    assert_eq!(update.live, 3);
+    assert!(update.searches >= 1 && update.steps <= 3 * update.heights + update.searches);
+    assert_eq!(pieces(&b), [(1, 10, 2), (2, 30, 1), (3, 0, 0)]);
+    // neither what was taken back nor the take-back is remembered: the post of offer 3 is the last update
+    assert_eq!(b.take_back().unwrap().live, 2);
+    assert_eq!(pieces(&b), [(1, 10, 2), (2, 0, 0)]);
+    // nor is what is asked or declined
+    asked(&b, 5);
+    b.check();
+    assert_eq!(b.post(1, 0, 0), Err(Declined::NumberLive));
+    assert_eq!(b.withdraw(3), Err(Declined::NotLive));
+    assert_eq!(told(b.take_back()), [1, 0, 0, 0]);
+    assert_eq!(asked(&b, 5), (1, 15, 1));
+    assert_eq!(told(b.take_back()), [0, 0, 0, 0]);
+    assert_eq!(b.take_back(), Err(Declined::NothingToTakeBack));
+    assert_eq!(b.query(5), Err(Declined::Empty));
+    assert!(b.check());
+    // in a full book
+    let mut b = Book::new(1).unwrap();
+    b.post(1, 3, 0).unwrap();
+    b.withdraw(1).unwrap();
+    b.post(2, 1, 10).unwrap();
+    assert_eq!([b.take_back(), b.take_back()].map(|update| update.unwrap().live), [0, 1]);
+    assert_eq!(asked(&b, 5), (1, 15, 1));
+}
+
+#[test]
+fn opening_empties_the_memory() {
+    let mut table = vec![0; words(2)];
+    lent::open(&mut table, 0, 2).unwrap();
+    lent::post(&mut table, 0, 1, 3, 0).unwrap();
+    lent::open(&mut table, 0, 2).unwrap();
+    assert_eq!(lent::take_back(&mut table, 0), Err(Declined::NothingToTakeBack));
+}
+
+#[test]
+fn the_memory_goes_with_the_words() {
+    let mut b = book(&[(3, 0), (1, 10)]);
+    b.withdraw(1).unwrap();
+    let mut again = Book::try_from(b.as_words().to_vec()).unwrap();
+    assert_eq!(b.take_back(), again.take_back());
+    assert!(b.as_words() == again.as_words());
+    assert_eq!(pieces(&again), [(1, 10, 2), (2, 0, 0)]);
+}
+
+#[test]
+fn the_least_and_the_largest_part() {
+    assert_eq!([1, 4_096].map(words), [1_152, 263_232]);
+    let mut table = vec![0; 1_152];
+    assert_eq!(lent::open(&mut table[..1_151], 0, 1), Err(Declined::NoRoom));
+    assert_eq!(lent::open(&mut table, 1, 1), Err(Declined::NoRoom));
+    lent::open(&mut table, 0, 1).unwrap();
+    assert_eq!(lent::query(&table[..1_151], 0, 0), Err(Declined::NoBook));
+    assert_eq!(lent::query(&table, 0, 0), Err(Declined::Empty));
+}
+
+#[test]
 fn ties_within_a_rate() {
     let mut b = book(&[(1, 10), (3, 0), (3, 0), (1, 10), (1, 11)]);
     assert_eq!(asked(&b, 5), (1, 15, 2));
@@ -110,7 +172,8 @@ fn causes_in_words() {
     assert_eq!(said(Declined::RateOutOfRange), "the rate is out of range");
     assert_eq!(said(Declined::BaseOutOfRange), "the base is out of range");
     assert_eq!(said(Declined::LoadOutOfRange), "the load is out of range");
-    assert_eq!(said(Declined::from_number(17)), "declined for cause 17");
+    assert_eq!(said(Declined::NothingToTakeBack), "there is nothing to take back");
+    assert_eq!(said(Declined::from_number(18)), "declined for cause 18");
 }
 
 #[test]
@@ -145,6 +208,8 @@ fn arrays_too_short() {
             assert_eq!(raw::carrier_post(t, n, 0, 2, 2, 2, f, length), -100);
             assert_eq!(raw::carrier_post(t, n, n + 1, 0, 0, 0, f, length), -100);
             assert_eq!(raw::carrier_withdraw(t, n, 0, 1, f, length), -100);
+            assert_eq!(raw::carrier_take_back(t, n, 0, f, length), -100);
+            assert_eq!(raw::carrier_take_back(t, n, n + 1, f, length), -100);
             assert_eq!(raw::carrier_query(t, n, 0, 0, f, length), -100);
             assert_eq!(raw::carrier_query(t, n, n + 1, i64::MAX, f, length), -100);
         }
@@ -162,6 +227,7 @@ fn refusals_leave_counts_and_later_words_stay() {
         let (t, n, f) = (table.as_mut_ptr(), table.len(), room.as_mut_ptr());
         assert_eq!(raw::carrier_withdraw(t, n, 0, 1, f, 5), -8);
         assert_eq!(raw::carrier_query(t, n, 0, 1, f, 5), -9);
+        assert_eq!(raw::carrier_take_back(t, n, 0, f, 5), -17);
         assert_eq!(room, [7; 5]);
         assert_eq!(raw::carrier_post(t, n, 0, 1, 3, 0, f, 5), 1);
         assert_eq!(room, [0, 0, 0, 7, 7]);
@@ -170,6 +236,8 @@ fn refusals_leave_counts_and_later_words_stay() {
         assert_eq!(room, [1, 1, 0, 7, 7]);
         assert_eq!(raw::carrier_query(t, n, 0, 6, f, 5), 2);
         assert_eq!(room, [16, 2, 1, 7, 7]);
+        assert_eq!(raw::carrier_take_back(t, n, 0, f, 5), 1);
+        assert_eq!(room, [0, 0, 0, 7, 7]);
     }
 }
 

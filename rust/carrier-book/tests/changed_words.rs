@@ -2,8 +2,9 @@
 mod common;
 
 use carrier_book::{lent, words};
+use common::memory::entry;
 use common::{offer, Lie, Random, LIES};
-use std::collections::BTreeMap;
+use std::collections::{BTreeMap, BTreeSet};
 
 /// The trees, by the number that the layout gives them.
 const PIECES: usize = 0;
@@ -15,16 +16,21 @@ const ORDER: usize = 3;
 const HEADER: [&str; 7] =
     ["capacity", "root of offers", "root of pieces", "live count", "root of numbers", "first free slot", "root of the order"];
 
-/// The words of a part that its form fixes, each with what it is.
+/// The words of a part that its form fixes, each with what it is, and those of its memory that are read. These may have several right
+/// values; damage.rs holds the check to the rule about them.
 struct Used<'a> {
     part: &'a [i64],
     words: BTreeMap<usize, &'static str>,
+    memory: BTreeSet<usize>,
 }
 
 impl Used<'_> {
     fn of(part: &[i64]) -> Used<'_> {
-        let mut used = Used { part, words: BTreeMap::new() };
+        let mut used = Used { part, words: BTreeMap::new(), memory: BTreeSet::from([7, 8]) };
         used.words.extend(HEADER.into_iter().enumerate());
+        for back in 0..part[8] {
+            used.remembered((part[7] - back).rem_euclid(256) as usize);
+        }
         if part[3] > 0 {
             used.tree(OFFERS, part[1]);
             used.tree(PIECES, part[2]);
@@ -37,6 +43,13 @@ impl Used<'_> {
             slot = used.field(slot, 3, "link of the free chain");
         }
         used
+    }
+
+    /// the rate and the base of a post are not read
+    fn remembered(&mut self, place: usize) {
+        let at = entry(self.part[0] as usize, place);
+        let read = if self.part[at] == 1 { 2 } else { 4 };
+        self.memory.extend(at..at + read);
     }
 
     fn place(&self, slot: i64, field: usize) -> usize {
@@ -97,6 +110,9 @@ fn book(r: &mut Random, capacity: usize, lie: Lie, calls: usize) -> Vec<i64> {
             numbers.push(o.number);
         } else if r.one_in(2) && !numbers.is_empty() {
             lent::withdraw(&mut part, 0, r.pick(&numbers)).ok();
+        }
+        if r.one_in(6) {
+            lent::take_back(&mut part, 0).ok();
         }
     }
     part
@@ -220,9 +236,9 @@ fn words_that_the_form_leaves_free() {
         let capacity = r.pick(&[1, 2, 3, 8, 64]);
         let calls = r.within(0, 5 * capacity as i64) as usize;
         let mut part = book(r, capacity, LIES[seed as usize % LIES.len()], calls);
-        let used = Used::of(&part).words;
+        let Used { words, memory, .. } = Used::of(&part);
         for at in HEADER.len()..part.len() {
-            if !used.contains_key(&at) {
+            if !words.contains_key(&at) && !memory.contains(&at) {
                 part[at] = r.word();
             }
         }

@@ -2,7 +2,8 @@
 mod common;
 
 use carrier_book::{lent, words, Declined, Found, Update};
-use common::{log2_up, offer, Lie, Offer, Random, Scan, FEW_RATES, LIES};
+use common::{log2_up, offer, Done, Lie, Offer, Random, Scan, FEW_RATES, LIES};
+use std::collections::BTreeMap;
 
 /// What an accepted update does to the first offer of its rate.
 #[derive(Clone, Copy)]
@@ -36,6 +37,9 @@ struct Pair {
     scan: Scan,
     /// how often an update of each kind was accepted
     seen: [usize; KINDS_OF_UPDATE],
+    /// how many take-backs were accepted, and how many were declined
+    taken_back: usize,
+    nothing_left: usize,
 }
 
 impl Pair {
@@ -44,7 +48,8 @@ impl Pair {
         let mut table: Vec<i64> = (0..start + words(capacity) + 9).map(|_| r.word()).collect();
         let before = table.clone();
         lent::open(&mut table, start, capacity as i64).unwrap();
-        let pair = Pair { table, start, scan: Scan::new(capacity), seen: [0; KINDS_OF_UPDATE] };
+        let seen = [0; KINDS_OF_UPDATE];
+        let pair = Pair { table, start, scan: Scan::new(capacity), seen, taken_back: 0, nothing_left: 0 };
         pair.same_outside(&before);
         pair
     }
@@ -67,38 +72,65 @@ impl Pair {
     }
 
     /// holds an update's counts to their bounds; nothing is searched where the first offer of its rate stays, nor where no other rate is live
-    fn hold_counts(&mut self, posted: bool, n: usize, rate: i64, first: Option<Offer>, u: Update) {
+    fn hold_counts(&mut self, n: usize, rate: i64, first: Option<Offer>, u: Update) {
         assert!(u.searches <= 8 * log2_up(n.max(self.scan.offers.len())) + 4);
         assert!(u.steps >= u.searches && u.steps <= 3 * u.heights + u.searches);
         let after = self.scan.first_of(rate);
         if first == after || self.scan.offers.iter().all(|o| o.rate == rate) {
             assert_eq!((u.searches, u.steps, u.heights), (0, 0, 0));
         }
-        self.seen[does(posted, first, after) as usize] += 1;
+        self.seen[does(self.scan.offers.len() > n, first, after) as usize] += 1;
     }
 
-    fn post(&mut self, o: Offer, whole: bool) {
+    /// an update of an offer with that rate, by the book and by the scan
+    fn update(
+        &mut self,
+        rate: i64,
+        whole: bool,
+        by_book: impl FnOnce(&mut [i64], usize) -> Result<Update, Declined>,
+        by_scan: impl FnOnce(&mut Scan) -> Result<i64, i64>,
+    ) -> Result<Update, Declined> {
         let before = whole.then(|| self.table.clone());
         let n = self.scan.offers.len();
-        let first = self.scan.first_of(o.rate);
-        let told = lent::post(&mut self.table, self.start, o.number, o.rate, o.base);
-        let expected = self.scan.post(o);
-        self.hold(before, expected, told);
-        if let Ok(u) = told {
-            self.hold_counts(true, n, o.rate, first, u);
-        }
-    }
-
-    fn withdraw(&mut self, number: i64, whole: bool) {
-        let before = whole.then(|| self.table.clone());
-        let n = self.scan.offers.len();
-        let rate = self.scan.offers.iter().find(|o| o.number == number).map_or(0, |o| o.rate);
         let first = self.scan.first_of(rate);
-        let told = lent::withdraw(&mut self.table, self.start, number);
-        let expected = self.scan.withdraw(number);
+        let told = by_book(&mut self.table, self.start);
+        let expected = by_scan(&mut self.scan);
         self.hold(before, expected, told);
         if let Ok(u) = told {
-            self.hold_counts(false, n, rate, first, u);
+            self.hold_counts(n, rate, first, u);
+        }
+        told
+    }
+
+    fn post(&mut self, o: Offer, whole: bool) -> Result<Update, Declined> {
+        let by_book = |table: &mut [i64], start| lent::post(table, start, o.number, o.rate, o.base);
+        self.update(o.rate, whole, by_book, |scan| scan.post(o))
+    }
+
+    fn withdraw(&mut self, number: i64, whole: bool) -> Result<Update, Declined> {
+        let rate = self.scan.offers.iter().find(|o| o.number == number).map_or(0, |o| o.rate);
+        let by_book = |table: &mut [i64], start| lent::withdraw(table, start, number);
+        self.update(rate, whole, by_book, |scan| scan.withdraw(number))
+    }
+
+    fn take_back(&mut self, whole: bool) -> Result<Update, Declined> {
+        let last = self.scan.memory.back().copied();
+        let undoing = last.filter(|_| whole).map(|done| self.undoing(done));
+        let told = self.update(last.map_or(0, |done| done.offer.rate), whole, lent::take_back, Scan::take_back);
+        assert!(undoing.map_or(true, |update| update == told));
+        self.taken_back += told.is_ok() as usize;
+        self.nothing_left += told.is_err() as usize;
+        told
+    }
+
+    /// what the update that undoes another tells on the same words
+    fn undoing(&self, done: Done) -> Result<Update, Declined> {
+        let mut table = self.table.clone();
+        let Offer { number, rate, base } = done.offer;
+        if done.posted {
+            lent::withdraw(&mut table, self.start, number)
+        } else {
+            lent::post(&mut table, self.start, number, rate, base)
         }
     }
 
@@ -169,6 +201,49 @@ impl Pair {
             _ => r.pick(&self.scan.offers).number,
         }
     }
+
+    /// a post or a withdrawal that is accepted
+    fn some_update(&mut self, r: &mut Random, lie: Lie) {
+        loop {
+            let told = if r.one_in(2) {
+                self.post(offer(r, lie, self.scan.capacity as i64), true)
+            } else {
+                let number = self.number_to_withdraw(r);
+                self.withdraw(number, true)
+            };
+            if told.is_ok() {
+                return;
+            }
+        }
+    }
+
+    /// withdraws all offers, so that each hidden one comes up
+    fn withdraw_all(&mut self, r: &mut Random) {
+        while let Some(o) = self.scan.offers.first().copied() {
+            self.withdraw(o.number, true).unwrap();
+            self.sweep(r);
+        }
+    }
+
+    /// the live offers, by number
+    fn offers(&self) -> Vec<Offer> {
+        let mut offers = self.scan.offers.clone();
+        offers.sort_by_key(|o| o.number);
+        offers
+    }
+}
+
+/// the offers that updates leave, by number
+fn left_by(updates: &[Done]) -> Vec<Offer> {
+    let mut left = BTreeMap::new();
+    for done in updates {
+        if done.posted {
+            left.insert(done.offer.number, done.offer);
+        } else {
+            left.remove(&done.offer.number);
+        }
+    }
+    left.into_values().collect()
 }
 
 /// none, some or all of an offer's entries out of range
@@ -191,35 +266,38 @@ struct Kind {
     every: usize,
 }
 
-/// how often an update of each kind was accepted
-fn history(seed: u64, lie: Lie, kind: &Kind) -> [usize; KINDS_OF_UPDATE] {
+fn history(seed: u64, lie: Lie, kind: &Kind) -> Pair {
     let r = &mut Random::new(seed);
     let mut pair = Pair::open(r, kind.capacity);
     let mut posts = 95;
+    let mut take_backs = 3;
     let mut was_full = false;
     for call in 0..kind.calls {
-        // the book fills up first; then it empties, fills and stays about as it is, by turns
+        // the book fills up first; then it empties, fills, is taken back and stays about as it is, by turns
         if call > 3 * kind.capacity && r.one_in(kind.capacity as i64 / 2 + 5) {
             posts = r.pick(&[90, 70, 50, 40, 10]);
+            take_backs = r.pick(&[0, 3, 45, 97]);
         }
         was_full |= pair.scan.offers.len() == kind.capacity;
         let whole = kind.capacity <= 64;
-        if r.within(1, 100) <= posts {
+        if r.within(1, 100) <= take_backs {
+            pair.take_back(whole).ok();
+        } else if r.within(1, 100) <= posts {
             let mut o = offer(r, lie, kind.capacity as i64);
             if r.one_in(20) {
                 key_wrong(r, &mut o);
             }
-            pair.post(o, whole);
+            pair.post(o, whole).ok();
         } else {
             let number = pair.number_to_withdraw(r);
-            pair.withdraw(number, whole);
+            pair.withdraw(number, whole).ok();
         }
         if call % kind.every == 0 {
             pair.sweep(r);
         }
     }
     assert!(was_full);
-    pair.seen
+    pair
 }
 
 fn histories(first: u64, each: u64, kind: Kind) {
@@ -236,8 +314,8 @@ fn few_rates() {
     for (i, lie) in FEW_RATES.iter().enumerate() {
         for capacity in [6, 20, 64, 300] {
             let kind = Kind { capacity, calls: 3_000, every: 10 };
-            let counts = history(700_000 + 1_000 * i as u64 + capacity as u64, *lie, &kind);
-            seen.iter_mut().zip(counts).for_each(|(sum, count)| *sum += count);
+            let pair = history(700_000 + 1_000 * i as u64 + capacity as u64, *lie, &kind);
+            seen.iter_mut().zip(pair.seen).for_each(|(sum, count)| *sum += count);
         }
     }
     assert!(seen.iter().all(|n| *n > 500), "{seen:?}");
@@ -276,6 +354,68 @@ fn capacity_4096() {
     histories(4_096_000, 1, Kind { capacity: 4_096, calls: 20_000, every: 1_000 });
 }
 
+#[test]
+fn a_hundred_thousand_calls() {
+    for (lie, capacity) in [(Lie::Close, 20), (Lie::Mixed, 64), (Lie::Shared, 300), (Lie::Tangent, 900)] {
+        let pair = history(100_000 + capacity as u64, lie, &Kind { capacity, calls: 100_000, every: 100 });
+        // down to an empty memory and past a full one, again and again
+        assert!(pair.taken_back > 15_000 && pair.nothing_left > 100 && pair.scan.forgotten > 1_000);
+    }
+}
+
+/// Of 300 take-backs behind 300 updates 256 are accepted, and what the first 44 updates left stands.
+#[test]
+fn three_hundred_taken_back() {
+    for (i, lie) in LIES.iter().enumerate() {
+        let r = &mut Random::new(300_000 + i as u64);
+        let capacity = r.pick(&[3, 12, 40, 200]);
+        let mut pair = Pair::open(r, capacity);
+        // the offers before the first update, behind it, behind the second, and so on
+        let mut stood = vec![pair.offers()];
+        for _ in 0..300 {
+            pair.some_update(r, *lie);
+            stood.push(pair.offers());
+        }
+        for back in 1..=300 {
+            let told = pair.take_back(true).map(|u| u.live as usize);
+            if back <= 256 {
+                assert_eq!(told, Ok(stood[300 - back].len()));
+            } else {
+                assert_eq!(told, Err(Declined::NothingToTakeBack));
+            }
+            assert_eq!(pair.offers(), stood[300 - back.min(256)]);
+            pair.sweep(r);
+        }
+        pair.withdraw_all(r);
+    }
+}
+
+/// Updates and take-backs by turns, so many that older updates fall out of memory: what the remaining ones leave stands.
+#[test]
+fn what_is_not_taken_back_stands() {
+    for (i, lie) in LIES.iter().enumerate() {
+        let r = &mut Random::new(310_000 + i as u64);
+        let capacity = r.pick(&[3, 12, 40, 200]);
+        let mut pair = Pair::open(r, capacity);
+        let mut remaining = vec![];
+        for _ in 0..25 {
+            for _ in 0..r.within(1, 300) {
+                pair.some_update(r, *lie);
+                remaining.extend(pair.scan.memory.back());
+            }
+            for _ in 0..r.within(1, 300) {
+                if pair.take_back(true).is_ok() {
+                    remaining.pop();
+                }
+            }
+            assert_eq!(pair.offers(), left_by(&remaining));
+            pair.sweep(r);
+        }
+        assert!(pair.scan.forgotten > 50 && pair.nothing_left > 50);
+        pair.withdraw_all(r);
+    }
+}
+
 /// A full book at one rate, filled and emptied in mixed orders. Its tree of offers is one leaf, so nothing is ever searched.
 #[test]
 fn all_4096_at_one_rate() {
@@ -286,17 +426,17 @@ fn all_4096_at_one_rate() {
         numbers.swap(i, r.within(0, i as i64) as usize);
     }
     for (i, number) in numbers.iter().enumerate() {
-        pair.post(Offer { number: *number, rate: 77, base: r.within(-500, 500) }, false);
+        pair.post(Offer { number: *number, rate: 77, base: r.within(-500, 500) }, false).unwrap();
         if i % 256 == 0 {
             pair.sweep(r);
         }
     }
-    pair.post(Offer { number: 5_000, rate: 77, base: 0 }, false);
+    pair.post(Offer { number: 5_000, rate: 77, base: 0 }, false).unwrap_err();
     assert_eq!(pair.scan.offers.len(), 4_096);
     for i in 0..4_096 {
         let first = pair.scan.first_of(77).unwrap().number;
         let number = if r.one_in(2) { first } else { r.pick(&pair.scan.offers).number };
-        pair.withdraw(number, false);
+        pair.withdraw(number, false).unwrap();
         if i % 256 == 0 {
             pair.sweep(r);
         }
@@ -310,20 +450,21 @@ fn all_4096_at_one_rate() {
 
 #[test]
 fn short_histories_of_all_calls() {
-    // every sequence of four of ten calls
+    // every sequence of four of eleven calls
     let offers = [(1, 2, 0), (2, 1, 5), (3, 0, 10), (1, -3, 7), (2, 2, -1), (4, 1, 11)];
-    for sequence in 0..10_000 {
+    for sequence in 0..14_641 {
         let mut pair = Pair::open(&mut Random::new(7), 3);
         let mut rest = sequence;
         for _ in 0..4 {
-            match rest % 10 {
+            match rest % 11 {
                 n @ 0..=5 => {
                     let (number, rate, base) = offers[n];
-                    pair.post(Offer { number, rate, base }, true);
+                    pair.post(Offer { number, rate, base }, true).ok()
                 }
-                n => pair.withdraw(n as i64 - 5, true),
-            }
-            rest /= 10;
+                n @ 6..=9 => pair.withdraw(n as i64 - 5, true).ok(),
+                _ => pair.take_back(true).ok(),
+            };
+            rest /= 11;
             for load in [-12, 2, 5, 10] {
                 pair.query(load);
             }

@@ -1,4 +1,4 @@
-//! Posts and withdrawals: the slots, the two indexes over all live offers, and the tree with a leaf for each rate.
+//! An offer is put in and taken out: the slots, the two indexes over all live offers, and the tree with a leaf for each rate.
 use super::{Book, Counts, Held};
 use super::{CAPACITY, DATA, ENVELOPE_ROOT, FIRST_FREE, LIVE_COUNT, NEXT_FREE, NUMBER, NUMBERS, NUMBERS_ROOT};
 use super::{OFFERS, OFFERS_ROOT, ORDER, ORDER_ROOT, RANK, RATE};
@@ -78,8 +78,8 @@ impl Book {
         }
     }
 
-    /// posts an offer in range; the live count after it, or the cause's number
-    pub fn post(&mut self, number: i64, rate: i64, base: i64) -> Result<(i64, Counts), i64> {
+    /// puts an offer in; the live count after it and the counts, or the cause's number
+    pub(super) fn put_in(&mut self, number: i64, rate: i64, base: i64) -> Result<(i64, Counts), i64> {
         if self.find(NUMBERS, NUMBER, self.root(NUMBERS_ROOT), number) > 0 {
             return Err(5);
         }
@@ -96,8 +96,8 @@ impl Book {
         Ok((self.words[LIVE_COUNT], counts))
     }
 
-    /// withdraws an offer; the live count after it, or the cause's number
-    pub fn withdraw(&mut self, number: i64) -> Result<(i64, Counts), i64> {
+    /// takes an offer out; the slot that it had, and the same
+    pub(super) fn take_out(&mut self, number: i64) -> Result<(usize, (i64, Counts)), i64> {
         let slot = self.find(NUMBERS, NUMBER, self.root(NUMBERS_ROOT), number);
         if slot == 0 {
             return Err(8);
@@ -113,6 +113,6 @@ impl Book {
         };
         self.set_roots(held, self.words[LIVE_COUNT] - 1);
         self.give(slot);
-        Ok((self.words[LIVE_COUNT], counts))
+        Ok((slot, (self.words[LIVE_COUNT], counts)))
     }
 }

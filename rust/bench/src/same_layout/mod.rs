@@ -2,6 +2,7 @@
 //! mistrusted: what the proved archive's times are held to.
 
 mod filing;
+mod memory;
 mod search;
 mod trees;
 
@@ -38,6 +39,8 @@ const LIVE_COUNT: usize = 3;
 const NUMBERS_ROOT: usize = 4;
 const FIRST_FREE: usize = 5;
 const ORDER_ROOT: usize = 6;
+const LAST_ENTRY: usize = 7;
+const REMEMBERED: usize = 8;
 
 pub struct Book {
     pub words: Vec<i64>,
@@ -68,9 +71,11 @@ pub struct Counts {
 
 impl Book {
     pub fn open(capacity: usize) -> Book {
-        let mut book = Book { words: vec![0; 64 * (capacity + 1)], slots: capacity + 1 };
+        let slots = capacity + 1;
+        let mut book = Book { words: vec![0; 64 * slots + memory::MEMORY], slots };
         book.words[CAPACITY] = capacity as i64;
         book.words[FIRST_FREE] = 1;
+        book.words[LAST_ENTRY] = 255;
         for slot in 1..capacity {
             book.put(DATA, slot, NEXT_FREE, slot as i64 + 1);
         }

@@ -32,6 +32,11 @@ static int64_t withdraw(int64_t number) {
     return carrier_withdraw(table, WORDS, START, number, counts, CARRIER_COUNTS_WORDS);
 }
 
+static int64_t take_back(void) {
+    int64_t counts[CARRIER_COUNTS_WORDS];
+    return carrier_take_back(table, WORDS, START, counts, CARRIER_COUNTS_WORDS);
+}
+
 /* the offer named first, its price, and the second offer */
 static int64_t query(int64_t load, int64_t *price, int64_t *other) {
     int64_t found[CARRIER_FOUND_WORDS] = {0, 0, 0};
@@ -109,6 +114,30 @@ static void one_rate(void) {
     EXPECT(query(5, &price, &other) == 2 && price == 15 && other == 2);
 }
 
+/* offer 1, withdrawn last, comes back; then offer 3, posted before that, goes. Both are undone by calls of their own. */
+static void slip_of_the_thumb(void) {
+    int64_t counts[CARRIER_COUNTS_WORDS + 1] = {7, 7, 7, -77};
+    int64_t price, other;
+    EXPECT(carrier_take_back(table, WORDS, START, counts, CARRIER_COUNTS_WORDS + 1) == 3);
+    EXPECT(counts[0] >= 1 && counts[1] <= 3 * counts[2] + counts[0] && counts[3] == -77);
+    EXPECT(query(5, &price, &other) == 2 && price == 15 && other == 1);
+    EXPECT(take_back() == 2);
+    EXPECT(query(31, &price, &other) == 2 && price == 41 && other == 2);
+    EXPECT(post(3, 0, 40) == 3);
+    EXPECT(withdraw(1) == 2);
+}
+
+/* the second book had one post */
+static void nothing_left(void) {
+    int64_t counts[CARRIER_COUNTS_WORDS] = {7, 7, 7};
+    size_t words = CARRIER_WORDS(1);
+    EXPECT(carrier_take_back(second, words, 0, counts, CARRIER_COUNTS_WORDS) == 0);
+    EXPECT(counts[0] == 0 && counts[1] == 0 && counts[2] == 0);
+    counts[0] = 7;
+    EXPECT(carrier_take_back(second, words, 0, counts, CARRIER_COUNTS_WORDS) == CARRIER_NOTHING_TO_TAKE_BACK);
+    EXPECT(counts[0] == 7 && counts[1] == 0 && counts[2] == 0);
+}
+
 static void edges_are_kept(void) {
     size_t i;
     for (i = 0; i < START; i++) {
@@ -121,6 +150,7 @@ static void refusals(void) {
     EXPECT(carrier_open(table, WORDS, START, 4097) == CARRIER_CAPACITY);
     EXPECT(carrier_open(table, WORDS, START, CAPACITY + 1) == CARRIER_NO_ROOM);
     EXPECT(carrier_listing(table, WORDS, WORDS + 1, few, 3) == CARRIER_NO_BOOK);
+    EXPECT(carrier_take_back(table, WORDS, WORDS + 1, few, 3) == CARRIER_NO_BOOK);
     EXPECT(post(0, 100001, INT64_MAX) == CARRIER_OUT_OF_RANGE && withdraw(10000) == CARRIER_OUT_OF_RANGE);
     EXPECT(post(1, 100001, INT64_MAX) == CARRIER_RATE_RANGE && post(1, INT64_MIN, 9) == CARRIER_RATE_RANGE);
     EXPECT(post(1, 3, -1000000001) == CARRIER_BASE_RANGE);
@@ -130,6 +160,7 @@ static void refusals(void) {
     EXPECT(withdraw(9) == CARRIER_NOT_LIVE);
     EXPECT(carrier_listing(table, WORDS, START, few, 3) == CARRIER_OUTPUT_TOO_SHORT);
     EXPECT(carrier_post(table, WORDS, START, 9, 9, 9, few, 2) == CARRIER_ARRAY_TOO_SHORT);
+    EXPECT(carrier_take_back(table, WORDS, START, few, 2) == CARRIER_ARRAY_TOO_SHORT);
     EXPECT(carrier_query(table, WORDS, START, 0, few, 2) == CARRIER_ARRAY_TOO_SHORT);
     EXPECT(few[0] == 0 && few[1] == 0 && few[2] == 0);
 }
@@ -142,6 +173,7 @@ int main(void) {
     for (i = 0; i < WORDS; i++) {
         table[i] = -77;
     }
+    EXPECT(CARRIER_WORDS(1) == 1152 && CARRIER_WORDS(64) == 5184);
     EXPECT(carrier_open(table, WORDS, START, CAPACITY) == 0);
     EXPECT(query(5, &price, &other) == CARRIER_EMPTY);
     EXPECT(post(1, 3, 0) == 1);
@@ -158,6 +190,8 @@ int main(void) {
     refusals();
     EXPECT(withdraw(1) == 2);
     EXPECT(query(5, &price, &other) == 2 && price == 15 && other == 2);
+    slip_of_the_thumb();
+    nothing_left();
     one_rate();
     EXPECT(carrier_check(table, WORDS, START) == 1);
     table[START + 3]++;

@@ -1,6 +1,9 @@
 //! A scan of all offers, written from the requirements alone, and numbers that are the same in every run.
 #![allow(dead_code)]
 pub mod exact;
+pub mod memory;
+
+use std::collections::VecDeque;
 
 /// xorshift64*
 pub struct Random(u64);
@@ -49,15 +52,35 @@ impl Offer {
     }
 }
 
-/// The live offers in no order; every answer is found by going through all of them.
+/// An update that was accepted: a post or a withdrawal of the offer.
+#[derive(Clone, Copy, Debug, PartialEq)]
+pub struct Done {
+    pub posted: bool,
+    pub offer: Offer,
+}
+
+/// The live offers in no order, and the last 256 updates that can be taken back, the last one behind; every answer is found by going
+/// through all offers.
+#[derive(Clone)]
 pub struct Scan {
     pub capacity: usize,
     pub offers: Vec<Offer>,
+    pub memory: VecDeque<Done>,
+    /// how many updates fell out of memory
+    pub forgotten: usize,
 }
 
 impl Scan {
     pub fn new(capacity: usize) -> Scan {
-        Scan { capacity, offers: vec![] }
+        Scan { capacity, offers: vec![], memory: VecDeque::new(), forgotten: 0 }
+    }
+
+    fn remember(&mut self, done: Done) {
+        if self.memory.len() == 256 {
+            self.memory.pop_front();
+            self.forgotten += 1;
+        }
+        self.memory.push_back(done);
     }
 
     pub fn post(&mut self, o: Offer) -> Result<i64, i64> {
@@ -77,6 +100,7 @@ impl Scan {
             return Err(7);
         }
         self.offers.push(o);
+        self.remember(Done { posted: true, offer: o });
         Ok(self.offers.len() as i64)
     }
 
@@ -85,7 +109,18 @@ impl Scan {
             return Err(4);
         }
         let at = self.offers.iter().position(|p| p.number == number).ok_or(8i64)?;
-        self.offers.swap_remove(at);
+        let offer = self.offers.swap_remove(at);
+        self.remember(Done { posted: false, offer });
+        Ok(self.offers.len() as i64)
+    }
+
+    pub fn take_back(&mut self) -> Result<i64, i64> {
+        let done = self.memory.pop_back().ok_or(17i64)?;
+        if done.posted {
+            self.offers.retain(|o| *o != done.offer);
+        } else {
+            self.offers.push(done.offer);
+        }
         Ok(self.offers.len() as i64)
     }
 
