@@ -17,6 +17,7 @@ use Rattle.table.specs.Words.{Words, word, upTo, upTo-in, upTo-most}
 use Rattle.table.specs.Layout.{cap}
 use Rattle.form.specs.Memory.{entryAt, EntryIn, posting, withdrawing, posted, withdrawn, doneWord, entryNumberWord}
 use Rattle.form.specs.Memory.{entryRateWord, entryBaseWord}
+use Rattle.form.specs.Rings.{entry-once}
 use Rattle.check_trees.specs.Deciding.{Decides, decides-as}
 use Rattle.check_memory.specs.declared.Tried.{Tried}
 use Rattle.check_memory.specs.Flags.{mostNumber, Tracks, read-as}
@@ -43,14 +44,6 @@ pub record Tries (w : Words) (i : ℕ) (flags flags′ : List Bool) (room : ℕ)
   pub after : (os : List Offer) → Tracks (cap w) flags room os → r .ok ≡ true → (u : Undo) → EntryIn w (entryAt w i) u →
       Tracks (cap w) flags′ (r .room) (undone u os)
   pub few : r .room ≤ room + 1
-
--- ---- the words tell the entry
-
-pub entry-one : {w : Words} {a : ℕ} {u v : Undo} → EntryIn w a u → EntryIn w a v → u ≡ v
-entry-one (posting d n) (posting d′ n′) = ap unpost (sym n ∙ n′)
-entry-one (posting d n) (withdrawing d′ n′ r′ b′) = let z : _≡_ {A = ℕ} 1 2 = cc in absurd (omega arith)
-entry-one (withdrawing d n r b) (posting d′ n′) = let z : _≡_ {A = ℕ} 1 2 = cc in absurd (omega arith)
-entry-one (withdrawing d n r b) (withdrawing d′ n′ r′ b′) = rw (sym n ∙ n′, sym r ∙ r′, sym b ∙ b′)
 
 -- the first word of an entry stands at its place
 first-word : (w : Words) (a : ℕ) → word w (a + doneWord) ≡ word w a
@@ -100,9 +93,9 @@ module _ {w : Words} {i a room : ℕ} {flags : List Bool} {r : Tried} (ea : a �
       record {
         told = λ os G. record {
           sound = λ t. (u, record { entry = here; clear = clear-append (rangeTrials (undoing u)) _ k (U .told (cap w) os G .sound t) });
-          complete = λ q. U .told (cap w) os G .complete (book-clear (cap w) os u (rw (entry-one (q .1 .entry) here) at (q .1 .clear)));
+          complete = λ q. U .told (cap w) os G .complete (book-clear (cap w) os u (rw (entry-once (q .1 .entry) here) at (q .1 .clear)));
         };
-        after = λ os G t v n. rw (entry-one n here) (U .after (cap w) os G t);
+        after = λ os G t v n. rw (entry-once n here) (U .after (cap w) os G t);
         few = U .few;
       }
     where

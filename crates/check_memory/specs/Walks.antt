@@ -13,10 +13,11 @@ use Rattle.table.specs.Words.{Words}
 use Rattle.table.specs.Layout.{cap}
 use Rattle.form.specs.Memory.{earlier, EntriesIn}
 use Rattle.check_trees.specs.Deciding.{Decides, decides-no}
+use Rattle.form.specs.Rings.{entry-once}
 use Rattle.check_memory.specs.declared.Tried.{Tried}
 use Rattle.check_memory.specs.Flags.{Tracks}
 use Rattle.check_memory.specs.Trying.{bare}
-use Rattle.check_memory.specs.Entries.{Undoes, Tries, entry-one}
+use Rattle.check_memory.specs.Entries.{Undoes, Tries}
 
 -- k entries from place i back can be undone from these offers
 pub data Walks (w : Words) : ℕ → ℕ → List Offer → Type 0 where
@@ -93,7 +94,7 @@ module _ {w : Words} {flags₀ flags flags′ : List Bool} {room₀ last count r
               }
             where
               onto : (v : Undo) × Undoes w i (N .os) v × Walks w (earlier i) (k - 1) (undone v (N .os)) → Walks w i′ (k - 1) (undone u (N .os))
-              onto (v, f, p) = rw (ei, entry-one (d .entry) (f .entry)) p
+              onto (v, f, p) = rw (ei, entry-once (d .entry) (f .entry)) p
 
 pub going-done : {w : Words} {flags₀ flags : List Bool} {room₀ last count room i k : ℕ} → k ≤ 0 → Going w flags₀ room₀ last count flags room i k →
     Walked w flags₀ room₀ last count true

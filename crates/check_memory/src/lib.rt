@@ -7,7 +7,6 @@ ghost use Rattle.plain.specs.Book.{unpost, restore, mostRemembered};
 ghost use Rattle.table.specs.Fields.{mostNodes, mostSlots};
 ghost use Rattle.table.specs.Words.{word};
 ghost use Rattle.table.specs.Layout.{partEnd};
-ghost use Rattle.form.specs.Memory.{entryAt, earlier};
 ghost use Rattle.check_trees.specs.Scratch.{secondHalf};
 ghost use Rattle.check_trees.specs.Deciding.{Decides};
 ghost use Rattle.check_memory.specs.Flags.{Marks};
@@ -20,21 +19,6 @@ ghost use Rattle.check_memory.specs.Recalls.{Recalls};
 const FLAGS: usize = 10_000;
 
 const MOST_NUMBER: u32 = 9_999;
-
-// The ring has places 0 to 255. An entry's words: what was done, and the offer's number, rate and base.
-const ENTRIES: u32 = 256;
-
-const LAST_PLACE: u32 = 255;
-
-const POSTED: u32 = 1;
-
-const WITHDRAWN: u32 = 2;
-
-const ENTRY_NUMBER: usize = 1;
-
-const ENTRY_RATE: usize = 2;
-
-const ENTRY_BASE: usize = 3;
 
 // What trying to undo an entry tells: whether it can be undone, and how many more offers there is room for after it.
 struct Tried {
@@ -110,26 +94,9 @@ fn restorable(part: &[i64], at: usize) -> bool
     requires { ⌜ at < partEnd mostSlots ⌝ }
     ensures { λ r. ⌜ Decides r (Restorable (now (part .entry)) at) ⌝ }
 {
-    check_trees::tells(part, at, WITHDRAWN)
-        && within(part, at + ENTRY_RATE, -100_000, 100_000)
-        && within(part, at + ENTRY_BASE, -1_000_000_000, 1_000_000_000)
-}
-
-// Where the entry at place `i` of the ring stands.
-fn entry_at(part: &[i64], i: u32) -> usize
-    ensures { λ r. ⌜ r ≡ entryAt (now (part .entry)) i ⌝ }
-{
-    64 * (table::capacity(part) as usize + 1) + 4 * (i as usize)
-}
-
-// The place of the entry before it: before place 0 comes the last.
-fn earlier(i: u32) -> u32
-    ensures { λ r. ⌜ r ≡ earlier i ⌝ }
-{
-    if i < 1 {
-        return LAST_PLACE;
-    }
-    i - 1
+    check_trees::tells(part, at, memory::WITHDRAWN)
+        && within(part, at + memory::ENTRY_RATE, -100_000, 100_000)
+        && within(part, at + memory::ENTRY_BASE, -1_000_000_000, 1_000_000_000)
 }
 
 // Undoes the entry at place `i`, on the flags alone: neither rates nor bases matter once they are in range.
@@ -137,12 +104,12 @@ fn undo(part: &[i64], live: &mut [bool; FLAGS], room: u32, i: u32) -> Tried
     requires { ⌜ (i < mostRemembered) × (room ≤ mostNodes) ⌝ }
     ensures { λ r. ⌜ Tries (now (part .entry)) i (now (live .entry)) (now (live .exit)) room r ⌝ }
 {
-    let at = entry_at(part, i);
-    let number = table::number_at(part, at + ENTRY_NUMBER, MOST_NUMBER);
+    let at = memory::entry_at(part, i);
+    let number = table::number_at(part, at + memory::ENTRY_NUMBER, MOST_NUMBER);
     if number < 1 {
         return stuck();
     }
-    if check_trees::tells(part, at, POSTED) {
+    if check_trees::tells(part, at, memory::POSTED) {
         return take_out(live, room, number);
     }
     if !restorable(part, at) {
@@ -165,7 +132,7 @@ fn all_undone(part: &[i64], live: &mut [bool; FLAGS], room: u32, last: u32, coun
             return false;
         }
         left = tried.room;
-        i = earlier(i);
+        i = memory::before(i);
         k -= 1;
     }
     true
@@ -177,11 +144,11 @@ pub fn memory(part: &[i64], scratch: &[u32; check_trees::SCRATCH], n: usize) -> 
     requires { ⌜ n ≤ secondHalf ⌝ }
     ensures { λ r. ⌜ Recalls (now (part .entry)) (now (scratch .entry)) n r ⌝ }
 {
-    let last = table::number_at(part, table::LAST_ENTRY, LAST_PLACE);
+    let last = table::number_at(part, table::LAST_ENTRY, memory::LAST_PLACE);
     if !check_trees::tells(part, table::LAST_ENTRY, last) {
         return false;
     }
-    let count = table::number_at(part, table::REMEMBERED, ENTRIES);
+    let count = table::number_at(part, table::REMEMBERED, memory::ENTRIES);
     if !check_trees::tells(part, table::REMEMBERED, count) {
         return false;
     }

@@ -97,11 +97,11 @@ last-none {w} {n} {e} q h z f = record { reads = go; fits = f }
     go (u ∷ us) r = absurd (omega (arith, q, h, count-read r))
 
 pub last-some :
-    {w : Words} {n i c at : ℕ} {e : Entry} → n ≡ upTo mostRemembered (word w rememberedWord) → 1 ≤ n → i ≡ upTo lastPlace (word w lastEntryWord) →
-    c ≡ cap w → at ≡ slotsEnd c + 4 * i → e .done ≡ upTo withdrawn (word w (at + doneWord)) → e .number ≡ word w (at + entryNumberWord) →
+    {w : Words} {n i at : ℕ} {e : Entry} → n ≡ upTo mostRemembered (word w rememberedWord) → 1 ≤ n → i ≡ upTo lastPlace (word w lastEntryWord) →
+    at ≡ entryAt w i → e .done ≡ upTo withdrawn (word w (at + doneWord)) → e .number ≡ word w (at + entryNumberWord) →
     e .rate ≡ word w (at + entryRateWord) → e .base ≡ word w (at + entryBaseWord) →
     SFits w64 (e .number) × SFits w64 (e .rate) × SFits w64 (e .base) → LastOf w e
-last-some {w} {n} {i} {c} {at} {e} q h qi qc qa qd qn qr qb f = record { reads = go; fits = f }
+last-some {w} {n} {i} {at} {e} q h qi qa qd qn qr qb f = record { reads = go; fits = f }
   where
     done : {k : ℕ} → k ≤ withdrawn → word w (at + doneWord) ≡ pos k → e .done ≡ k
     done {k} l d = qd ∙ ap (upTo withdrawn) d ∙ upTo-in withdrawn k l
@@ -111,7 +111,7 @@ last-some {w} {n} {i} {c} {at} {e} q h qi qc qa qd qn qr qb f = record { reads =
     read us (withdrawing d x y z) = (done (omega arith) d, λ j. record { number = (qn ∙ x) j; rate = (qr ∙ y) j; base = (qb ∙ z) j })
 
     here : {us : List Undo} (r : Ring w us) → entryAt w (r .last) ≡ at
-    here r = omega (arith, qa, qc, qi, last-read r)
+    here r = omega (arith, qa, qi, last-read r)
 
     go : (us : List Undo) → Ring w us → Reads us e
     go [] r = absurd (omega (arith, q, h, count-read r))
@@ -289,18 +289,18 @@ module _ {w w′ : Words} {done p m : ℕ} {n r b : ℤ} (place : p < mostRememb
       )
 
 pub remembering :
-    {w w₁ w₂ w₃ w₄ w₅ w₆ : Words} {i p k m c at done : ℕ} {n r b : ℤ} → i ≡ upTo lastPlace (word w lastEntryWord) → Behind i p →
-    k ≡ upTo mostRemembered (word w rememberedWord) → m ≡ min mostRemembered (k + 1) → c ≡ cap w → at ≡ slotsEnd c + 4 * p →
+    {w w₁ w₂ w₃ w₄ w₅ w₆ : Words} {i p k m at done : ℕ} {n r b : ℤ} → i ≡ upTo lastPlace (word w lastEntryWord) → Behind i p →
+    k ≡ upTo mostRemembered (word w rememberedWord) → m ≡ min mostRemembered (k + 1) → at ≡ entryAt w p →
     w₁ ≡ wset w (at + doneWord) (pos done) → w₂ ≡ wset w₁ (at + entryNumberWord) n → w₃ ≡ wset w₂ (at + entryRateWord) r →
     w₄ ≡ wset w₃ (at + entryBaseWord) b → w₅ ≡ wset w₄ lastEntryWord (pos p) → w₆ ≡ wset w₅ rememberedWord (pos m) → Remembering done n r b w w₆
-remembering {w} {w₆ = w₆} {i} {p} {k} {m} {at = at} {done} {n} {r} {b} qi qp qk qm qc qa e₁ e₂ e₃ e₄ e₅ e₆ =
+remembering {w} {w₆ = w₆} {i} {p} {k} {m} {at = at} {done} {n} {r} {b} qi qp qk qm qa e₁ e₂ e₃ e₄ e₅ e₆ =
     record { only = wrote-only place x; ring = ring }
   where
     place : p < mostRemembered
     place = qp .place
 
     here : at ≡ entryAt w p
-    here = omega (arith, qa, qc)
+    here = omega (arith, qa)
 
     x : Wrote (entryAt w p) done n r b p m w w₆
     x = subst (λ (j : ℕ). Wrote j done n r b p m w w₆) here (wrote (omega (arith, here)) e₁ e₂ e₃ e₄ e₅ e₆)

@@ -1,9 +1,8 @@
 // The memory of a part: a ring of 256 entries behind the slots, each of them four words that tell how to take one update back.
 ghost use mathlib.Core.Path.{_≡_};
-ghost use Prim.Native.Nat.{_+_, _*_, _-_, _≤_, min};
+ghost use Prim.Native.Nat.{_+_, _-_, _≤_, min};
 ghost use Rattle.plain.specs.Book.{mostRemembered};
-ghost use Rattle.table.specs.Layout.{slotsEnd};
-ghost use Rattle.form.specs.Memory.{earlier};
+ghost use Rattle.form.specs.Memory.{entryAt, earlier};
 ghost use Rattle.memory.specs.Ring.{LastOf, Emptying, Remembering, Forgetting};
 ghost use Rattle.memory.specs.Entries.{Behind};
 
@@ -13,20 +12,20 @@ pub const POSTED: u32 = 1;
 pub const WITHDRAWN: u32 = 2;
 
 // The most entries that are remembered: as many as the ring has places.
-const ENTRIES: u32 = 256;
+pub const ENTRIES: u32 = 256;
 
-const LAST_PLACE: u32 = ENTRIES - 1;
+pub const LAST_PLACE: u32 = ENTRIES - 1;
 
 // The words of an entry.
 const ENTRY_WORDS: usize = 4;
 
-const DONE: usize = 0;
+pub const DONE: usize = 0;
 
-const ENTRY_NUMBER: usize = 1;
+pub const ENTRY_NUMBER: usize = 1;
 
-const ENTRY_RATE: usize = 2;
+pub const ENTRY_RATE: usize = 2;
 
-const ENTRY_BASE: usize = 3;
+pub const ENTRY_BASE: usize = 3;
 
 // An entry: what was done, and the offer. `done` is 0 where there is none.
 pub struct Entry {
@@ -36,15 +35,15 @@ pub struct Entry {
     pub base: i64,
 }
 
-// The first word of the entry at place `i`, in a part of capacity `c`.
-fn first_word(c: u32, i: u32) -> usize
-    ensures { λ r. ⌜ r ≡ slotsEnd c + 4 * i ⌝ }
+// Where the entry at place `i` of the ring stands.
+pub fn entry_at(part: &[i64], i: u32) -> usize
+    ensures { λ r. ⌜ r ≡ entryAt (now (part .entry)) i ⌝ }
 {
-    64 * (c as usize + 1) + ENTRY_WORDS * (i as usize)
+    64 * (table::capacity(part) as usize + 1) + ENTRY_WORDS * (i as usize)
 }
 
-// The place before place `i`.
-fn before(i: u32) -> u32
+// The place before place `i`: before place 0 is the last.
+pub fn before(i: u32) -> u32
     ensures { λ r. ⌜ r ≡ earlier i ⌝ }
 {
     if i < 1 {
@@ -105,7 +104,7 @@ pub fn last(part: &[i64]) -> Entry
         };
     }
     let i = table::number_at(part, table::LAST_ENTRY, LAST_PLACE);
-    let at = first_word(table::capacity(part), i);
+    let at = entry_at(part, i);
     Entry {
         done: table::number_at(part, at + DONE, WITHDRAWN),
         number: table::word_at(part, at + ENTRY_NUMBER),
@@ -122,7 +121,7 @@ pub fn remember(part: &mut [i64], done: u32, number: i64, rate: i64, base: i64)
     let next = behind(last);
     let count = table::number_at(part, table::REMEMBERED, ENTRIES);
     let more = one_more(count);
-    let at = first_word(table::capacity(part), next);
+    let at = entry_at(part, next);
     table::set_number(part, at + DONE, done);
     table::set_word(part, at + ENTRY_NUMBER, number);
     table::set_word(part, at + ENTRY_RATE, rate);

@@ -88,6 +88,11 @@ abbrev pub undone : Undo → List Offer → List Offer
 undone (unpost n) os = leave n os
 undone (restore o) os = join o os
 
+-- What undoes an update is itself a call.
+abbrev pub undoing : Undo → Call
+undoing (unpost n) = withdraw n
+undoing (restore o) = post (o .number) (o .rate) (o .base)
+
 -- Whether a tie goes to the first of two rates: to the lower one, or to the higher.
 abbrev pub lower : ℤ → ℤ → Bool
 lower r s = ltZ r s
@@ -231,11 +236,6 @@ answers s [] = []
 answers s (k ∷ ks) = step s k .answer ∷ answers (step s k .state) ks
 
 -- ---- what is remembered can be undone
-
--- What undoes an update is itself a call.
-abbrev pub undoing : Undo → Call
-undoing (unpost n) = withdraw n
-undoing (restore o) = post (o .number) (o .rate) (o .base)
 
 -- In a book of c slots with these offers the entries, undone last first, meet none of the causes of a post and of a withdrawal: 4 to 8, 14 and 15.
 abbrev pub Undoable : ℕ → List Offer → List Undo → Type 0

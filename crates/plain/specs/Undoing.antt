@@ -5,9 +5,10 @@ use mathlib.Core.Logic.{inl, _≢_}
 use mathlib.Core.List.{List, [], _∷_, _++_, map, List·Memᴰ, List·Memᴰ·head, List·Memᴰ·tail, Pairwise, Pairwise·of-cons, rel-of-pairwise-cons}
 use mathlib.Core.Option.{Option, none, some}
 use mathlib.Core.Bool.{Bool, true, false, not, _&&_, cond}
-use Prim.Native.Nat.{ℕ, zero, suc, _≤_}
+use Prim.Native.Nat.{ℕ, zero, suc, _≤_, _<_}
 use native.Mathlib.Omega.{arith}
 use lib.ListN.{length, take, length-take}
+use lib.Seq.{take-all}
 use lib.Dec.{T, T-not, not-T}
 use lib.Arith.{lt→nleb}
 use lib.IntN.{ℤ}
@@ -213,7 +214,11 @@ step-recallable s k h u = go (declined (trials s k)) refl
 pub opened-recallable : (c : ℤ) → Recallable (opened c)
 opened-recallable c = tt
 
--- .. and is at most 256 entries long
+-- up to 256 are remembered, so that none falls out before
+pub remembers-all : (u : Undo) (us : List Undo) → length us < 256 → remember (u ∷ []) us ≡ u ∷ us
+remembers-all u us h = take-all mostRemembered (u ∷ us) (omega arith)
+
+-- .. and no more
 pub remembered-few : (s : State) (k : Call) → length (s .memory) ≤ mostRemembered → length (step s k .state .memory) ≤ mostRemembered
 remembered-few s k h = go (declined (trials s k)) k
   where

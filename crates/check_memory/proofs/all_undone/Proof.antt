@@ -29,8 +29,8 @@ returns c =
     let at-loop-test = at-undo .before .before in
     going-not (at-loop-test .before .loop .inv .2) (at-loop-test .loop-test .taken) (at-undo .undo .ensures) (not-true _ (c .if1 .taken))
 
-earlier-requires : tie.Need-earlier-requires Inv-loop μ-loop
-earlier-requires c κs = search needs
+before-requires : tie.Need-before-requires Inv-loop μ-loop
+before-requires c κs = search needs
 
 sub-k : tie.Need-sub-k Inv-loop μ-loop
 sub-k c = search needs
@@ -44,9 +44,9 @@ loop-again c =
     let at-undo = at-if1 .before .before in
     let at-loop-test = at-undo .before .before in
     let at-loop = at-loop-test .before in (
-      omega (arith, c .earlier .ensures, earlier-place (at-loop .loop .i) (at-loop .loop .inv .0)),
+      omega (arith, c .before2 .ensures, earlier-place (at-loop .loop .i) (at-loop .loop .inv .0)),
       omega (arith, at-undo .undo .ensures .few, at-loop .loop .inv .1, at-loop-test .loop-test .taken),
-      going-more (at-loop .loop .inv .2) (at-loop-test .loop-test .taken) (at-undo .undo .ensures) (not-false _ (at-if1 .if1 .left)) (c .earlier .ensures),
+      going-more (at-loop .loop .inv .2) (at-loop-test .loop-test .taken) (at-undo .undo .ensures) (not-false _ (at-if1 .if1 .left)) (c .before2 .ensures),
     )
 
 returns-2 : tie.Need-returns-2 Inv-loop μ-loop
@@ -61,7 +61,7 @@ all-undone-spec =
     loop-holds
     undo-requires
     returns
-    earlier-requires
+    before-requires
     sub-k
     loop-less
     loop-again

@@ -21,11 +21,8 @@ returns c =
 number-at-requires-2 : tie.Need-number-at-requires-2
 number-at-requires-2 c κs = search needs
 
-capacity-requires : tie.Need-capacity-requires
-capacity-requires c κs = search needs
-
-first-word-requires : tie.Need-first-word-requires
-first-word-requires c κs = search needs
+entry-at-requires : tie.Need-entry-at-requires
+entry-at-requires c κs = search needs
 
 add-number-at : tie.Need-add-number-at
 add-number-at c = search needs
@@ -56,16 +53,15 @@ returns-2 c =
     let at-word-at2 = c .before in
     let at-word-at = at-word-at2 .before in
     let at-number-at3 = at-word-at .before in
-    let at-first-word = at-number-at3 .before in
-    let at-capacity = at-first-word .before in
-    let at-number-at2 = at-capacity .before in
+    let at-entry-at = at-number-at3 .before in
+    let at-number-at2 = at-entry-at .before in
     let at-if1 = at-number-at2 .before in
     let number : SFits w64 (at-word-at .word-at .result) = record { sfits = at-word-at .word-at .ok } in
     let rate : SFits w64 (at-word-at2 .word-at2 .result) = record { sfits = at-word-at2 .word-at2 .ok } in
     let base : SFits w64 (c .word-at3 .result) = record { sfits = c .word-at3 .ok } in
     simp (toZ-ofZ, number, rate, base)
-    (last-some (at-if1 .before .number-at .ensures) (at-if1 .if1 .left) (at-number-at2 .number-at2 .ensures) (at-capacity .capacity .ensures)
-    (at-first-word .first-word .ensures) (at-number-at3 .number-at3 .ensures) (at-word-at .word-at .ensures) (at-word-at2 .word-at2 .ensures)
+    (last-some (at-if1 .before .number-at .ensures) (at-if1 .if1 .left) (at-number-at2 .number-at2 .ensures)
+    (at-entry-at .entry-at .ensures) (at-number-at3 .number-at3 .ensures) (at-word-at .word-at .ensures) (at-word-at2 .word-at2 .ensures)
     (c .word-at3 .ensures) (number, rate, base))
 
 pub last-spec : {M : Type 1} → statement M
@@ -75,8 +71,7 @@ last-spec =
     number-at-requires
     returns
     number-at-requires-2
-    capacity-requires
-    first-word-requires
+    entry-at-requires
     add-number-at
     number-at-requires-3
     add-word-at

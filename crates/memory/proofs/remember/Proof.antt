@@ -17,11 +17,8 @@ number-at-requires-2 c κs = search needs
 one-more-requires : tie.Need-one-more-requires
 one-more-requires c κs = count-most _ (c .number-at2 .ensures)
 
-capacity-requires : tie.Need-capacity-requires
-capacity-requires c κs = search needs
-
-first-word-requires : tie.Need-first-word-requires
-first-word-requires c κs = search needs
+entry-at-requires : tie.Need-entry-at-requires
+entry-at-requires c κs = search needs
 
 add-set-number : tie.Need-add-set-number
 add-set-number c = search needs
@@ -64,14 +61,13 @@ returns c =
     let at-set-word2 = at-set-word3 .before .before .before in
     let at-set-word = at-set-word2 .before .before .before in
     let at-set-number = at-set-word .before .before .before in
-    let at-first-word = at-set-number .before .before in
-    let at-capacity = at-first-word .before in
-    let at-one-more = at-capacity .before .before in
+    let at-entry-at = at-set-number .before .before in
+    let at-one-more = at-entry-at .before .before in
     let at-number-at2 = at-one-more .before in
     let at-behind = at-number-at2 .before .before in
     let fits = at-behind .before .before .before .fits in
     remembering (at-behind .before .number-at .ensures) (at-behind .behind .ensures) (at-number-at2 .number-at2 .ensures) (at-one-more .one-more .ensures)
-    (at-capacity .capacity .ensures) (at-first-word .first-word .ensures) (at-set-number .set-number .ensures)
+    (at-entry-at .entry-at .ensures) (at-set-number .set-number .ensures)
     (simp (toZ-ofZ, fits .number, fits .rate, fits .base) at (at-set-word .set-word .ensures))
     (simp (toZ-ofZ, fits .number, fits .rate, fits .base) at (at-set-word2 .set-word2 .ensures))
     (simp (toZ-ofZ, fits .number, fits .rate, fits .base) at (at-set-word3 .set-word3 .ensures))
@@ -85,8 +81,7 @@ remember-spec =
     behind-requires
     number-at-requires-2
     one-more-requires
-    capacity-requires
-    first-word-requires
+    entry-at-requires
     add-set-number
     set-number-requires
     add-set-word
