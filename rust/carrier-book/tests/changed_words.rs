@@ -237,9 +237,9 @@ fn words_that_the_form_leaves_free() {
         let calls = r.within(0, 5 * capacity as i64) as usize;
         let mut part = book(r, capacity, LIES[seed as usize % LIES.len()], calls);
         let Used { words, memory, .. } = Used::of(&part);
-        for at in HEADER.len()..part.len() {
+        for (at, word) in part.iter_mut().enumerate().skip(HEADER.len()) {
             if !words.contains_key(&at) && !memory.contains(&at) {
-                part[at] = r.word();
+                *word = r.word();
             }
         }
         assert!(lent::check(&part, 0), "seed {seed}");

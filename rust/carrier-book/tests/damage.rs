@@ -223,7 +223,7 @@ fn an_entry_of_the_memory_changed() {
     assert!([Ok(()), Err(5), Err(7), Err(8)].iter().all(|rule| seen[rule] > 100), "{seen:?}");
 }
 
-/// Until the damaged entry's turn has come, and past it.
+/// Until the damaged entry's turn has come, and past it. No more than 256 are accepted, and one that is declined changes no word.
 #[test]
 fn take_backs_with_a_word_of_the_memory_changed() {
     for (seed, capacity) in (0..).zip([1, 3, 16, 64]) {
@@ -234,9 +234,12 @@ fn take_backs_with_a_word_of_the_memory_changed() {
             let words = changes(r, part[at], capacity);
             table[EDGE + at] = r.pick(&words);
             calls(r, &mut table, capacity, 1);
-            for _ in 0..300 {
+            for _ in 0..256 {
                 lent::take_back(&mut table, EDGE).ok();
             }
+            let before = table.clone();
+            lent::take_back(&mut table, EDGE).unwrap_err();
+            assert!(table == before);
             calls(r, &mut table, capacity, 1);
         }
     }
