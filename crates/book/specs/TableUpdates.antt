@@ -77,7 +77,8 @@ module _ (k : Call) (start : ℕ) (t t′ : List ℤ) where
               refusal = λ z d. et;
               outside = only-same et;
               same-part = ap (λ (u : List ℤ). word (partOf u start) capacityWord) et;
-              follows = λ plain held b. follows-declined start t k b (f plain held (subst (λ (u : Words). Book u plain held) (sym (whole-part t start)) (b .book)))
+              follows = λ plain held b. follows-declined start t k b
+                  (f plain held (subst (λ (u : Words). Book u plain held) (sym (whole-part t start)) (b .book)))
                   er et;
             }
 
@@ -171,7 +172,8 @@ module _ (start : ℕ) (t t′ : List ℤ) {b : Bool} (e : b ≡ noBookAt (lengt
           Follows takeBack plain held start t t′ u
       by plain held f p [] em =
           let eu = g .nothing plain held f em in
-          follows-declined start t takeBack (subst (λ (v : Words). Form v plain held) (whole-part t start) f) (nothing-taken plain em) eu (unchanged (pos 17) eu)
+          follows-declined start t takeBack (subst (λ (v : Words). Form v plain held) (whole-part t start) f) (nothing-taken plain em) eu
+          (unchanged (pos 17) eu)
       by plain held f p (v ∷ us) em =
           let (told, eu, r) = g .done plain held v us f em in
           done-follows start t takeBack (f .book)

@@ -1,5 +1,5 @@
 -- Whether what a part remembers can be undone, as a part of the check.
--- lemmas: what the check of the memory tells
+-- statement: what the check of the memory tells
 pub mod Recalls
 -- lemmas: a flag for each number that is live, over an offer that joins or leaves; ways through the code that raises the flags
 pub mod Flags

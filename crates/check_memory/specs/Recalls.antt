@@ -14,7 +14,8 @@ use Rattle.check_trees.specs.Deciding.{Decides}
 use Rattle.check_trees.specs.Stretches.{span}
 use Rattle.check_trees.specs.Laid.{itemsAt}
 
--- The live offers are those in the slots at places 0 up to n. Some entries stand in the ring, and can be undone from these offers.
+-- The answer is yes exactly where some entries stand in the ring and can be undone from the live offers: those in the slots at places 0 up to n, n not
+-- among them, of the scratch array. It is told where these offers are a plain book's.
 pub record Recalls (w : Words) (xs : List ℕ) (n : ℕ) (r : Bool) : Type 0 where
   pub told : (os : List Offer) → os ≡ map offerOf (itemsAt w (span xs 0 n)) → Sound (record { capacity = cap w; offers = os; memory = [] }) →
       Decides r ((us : List Undo) × Ring w us × Undoable (cap w) os us)

@@ -29,7 +29,7 @@ fn form_stands(part: &[i64]) -> bool
     check_numbers::numbers(part, &mut scratch, n as usize)
 }
 
-// Whether the words from `start` on have the form of a book, every envelope the lower envelope of the offers below it.
+// Whether the words from `start` on have the form of a book, every envelope the lower envelope of the offers below it, and a memory that can be undone.
 pub fn check(table: &[i64], start: usize) -> bool
     ensures { λ r. ⌜ Checks start (now (table .entry)) r ⌝ }
 {

@@ -123,6 +123,6 @@ pub record Form (w : Words) (s : State) (held : Option (Held Item)) : Type 0 whe
   pub book : Book w s held
   pub memory : Remembers w s
 
--- some plain book, then
+-- it stands for some plain book: what the check decides
 abbrev pub FormStands : Words → Type 0
 FormStands w = (s : State) × (held : Option (Held Item)) × Form w s held

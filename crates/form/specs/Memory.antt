@@ -1,5 +1,6 @@
 -- The memory of a part: a ring of 256 entries, four words each, behind the slots. Each entry undoes one accepted update. Word 7 of the header tells
--- the last entry's place in the ring, word 8 how many entries there are; the one before an entry stands at the place before it, and before place 0 is 255.
+-- the last entry's place in the ring, 0 to 255 also where there is none, word 8 how many entries there are; the one before an entry stands at the place
+-- before it, and before place 0 is 255.
 --     words of an entry   0 what was done: 1 a post, 2 a withdrawal   1 number   2 rate   3 base
 -- An entry of a post has no rate and base: the words are free, and so are all words of a place that no entry has.
 use mathlib.Core.Path.{_≡_}

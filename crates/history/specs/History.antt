@@ -71,8 +71,8 @@ abbrev pub Low : Option (Held Item) → Type 0
 Low none = Unit {0}
 Low (some h) = LowTree (some (heldShape h)) × ((p : Part Item) → List·Memᴰ p (pieceTrees h) → LowTree p)
 
--- The part passes the check and stands for the plain book's offers, the answers in order are the plain book's, every tree is low, and each update
--- has its list of searched pairs. `every-history` (Claim) proves it from an accepted opening on.
+-- The part passes the check and stands for the plain book, the answers in order are the plain book's, every tree is low, and each update has its list
+-- of searched pairs. `every-history` (Claim) proves it from an accepted opening on; `Remains` tells the offers by the calls that remain.
 pub record Claim {c start : ℕ} {t : List ℤ} {ks : List Call} {as′ : List Answer} {t′ : List ℤ} (s : State) (before : Option (Held Item))
     (h : History c start t ks as′ t′) : Type 0 where
   pub held : Option (Held Item)

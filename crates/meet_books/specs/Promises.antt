@@ -1,5 +1,5 @@
 -- What the meeting of two books promises. Both tables are only read, and they may be one table.
--- On words of any content cause 3 holds as tabled. Where both parts pass the check (`Book`), the call is declined by the first trial
+-- On words of any content cause 3 holds as tabled. Where both parts stand for offers (`Book`), the call is declined by the first trial
 -- that applies, and else it answers where the machine ends on the two root envelopes.
 use mathlib.Core.Path.{_≡_}
 use mathlib.Core.Bool.{not, _||_}

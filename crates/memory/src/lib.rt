@@ -27,7 +27,7 @@ pub const ENTRY_RATE: usize = 2;
 
 pub const ENTRY_BASE: usize = 3;
 
-// An entry: what was done, and the offer. `done` is 0 where there is none.
+// An entry: what was done, and the offer. `done` is 0 where there is none, or the word tells neither.
 pub struct Entry {
     pub done: u32,
     pub number: i64,

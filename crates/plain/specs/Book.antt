@@ -68,7 +68,7 @@ join o (p ∷ ps) = cond (ahead o p) (o ∷ p ∷ ps) (p ∷ join o ps)
 abbrev pub leave : ℤ → List Offer → List Offer
 leave n os = keep (λ o. not (hasNumber n o)) os
 
--- What undoes a post, and a withdrawal of the offer that has the number.
+-- What undoes a post, and a withdrawal of the offer that has the number: one entry, where the call is accepted (`Undoing`).
 abbrev pub undoOf : List Offer → Call → List Undo
 undoOf os (post n r b) = unpost n ∷ []
 undoOf os (withdraw n) = map restore (keep (hasNumber n) os)
@@ -79,7 +79,7 @@ undoOf os takeBack = []
 abbrev pub mostRemembered : ℕ
 mostRemembered = 256
 
--- The last 256 are remembered; older ones fall out of memory.
+-- Up to 256 are remembered: one more, and the oldest falls out of memory for good.
 abbrev pub remember : List Undo → List Undo → List Undo
 remember new memory = take mostRemembered (new ++ memory)
 

@@ -125,7 +125,7 @@ between-loads = row (falling ++ (post (pos 3) (negℤ (pos 6)) (pos 15) ∷ []))
 pub listed-between-loads : answered between-loads ≡ between-loads .told
 listed-between-loads = refl
 
--- ---- the counter program's sample, and one refusal of each number that a call of the book can meet
+-- ---- the counter program's sample, and one refusal of each number that a post, a withdrawal, a query or a listing can meet
 
 -- the sample's six lines in a row: every call sees what those before it left
 abbrev pub sample : Row
@@ -313,3 +313,9 @@ refused-forgotten = refl
 pub restored : answers (after (opened (pos 64)) undercut) (withdraw (pos 2) ∷ query (pos 5) ∷ takeBack ∷ query (pos 5) ∷ listing 3 ∷ []) ≡
     live 1 ∷ found (pos 1) (pos 20) (pos 1) ∷ live 2 ∷ found (pos 2) (pos 15) (pos 2) ∷ listed 1 (pos 2 ∷ pos 0 ∷ pos 0 ∷ []) ∷ []
 restored = refl
+
+-- one slot: what was withdrawn comes back once the slot is free again; a refused take-back is not remembered, nor does it forget
+pub one-slot-back : answers (opened (pos 1)) (takeBack ∷ post (pos 9) (pos 1) (pos 2) ∷ withdraw (pos 9) ∷ post (pos 8) (pos 1) (pos 2) ∷
+    takeBack ∷ takeBack ∷ takeBack ∷ takeBack ∷ []) ≡
+    refused 17 ∷ live 1 ∷ live 0 ∷ live 1 ∷ live 0 ∷ live 1 ∷ live 0 ∷ refused 17 ∷ []
+one-slot-back = refl

@@ -69,7 +69,8 @@ pub refused-names : (s : State) (k : Call) (m : ℕ) → step s k .answer ≡ re
 unfolding numberIn
 refused-names s k m e = subst (λ (i : ℕ). Otherwise i ⊎ Names i k) (ap numberIn e) (go (declined (trials s k)) refl)
   where
-    asked : (c : ℕ) (os : List Offer) (us : List Undo) (q : ℤ) → Otherwise (numberIn (accepted (record { capacity = c; offers = os; memory = us }) (query q) .answer))
+    asked : (c : ℕ) (os : List Offer) (us : List Undo) (q : ℤ) →
+        Otherwise (numberIn (accepted (record { capacity = c; offers = os; memory = us }) (query q) .answer))
     asked c [] us q = (omega arith, omega arith, inl (omega arith))
     asked c (o ∷ os) us q = (omega arith, omega arith, inl (omega arith))
 

@@ -3,7 +3,7 @@
 pub mod Causes
 -- lemmas: what a list of trials decides: no cause exactly when none applies, and a cause exactly when it is the first that applies
 pub mod Trials
--- statement: the plain book: a capacity and a list of live offers in order, fed the calls' arguments, an output's length with them
+-- statement: the plain book: a capacity, a list of live offers in order and a memory, fed the calls' arguments, an output's length with them
 pub mod Book
 -- statement: what a query and a listing tell of a list of live offers, in the words of docs/REQUIREMENTS.md (3) and with no way of computing it
 pub mod Meaning

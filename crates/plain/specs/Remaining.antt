@@ -1,22 +1,25 @@
 -- After any list of calls with take-backs in it the book stands for the offers that the remaining accepted calls leave. Which calls remain is read off
--- the calls and their answers, and not off what the book remembers.
+-- the calls and their answers, and so is how many of them can be taken back; neither is read off what the book remembers.
 use mathlib.Core.Path.{_≡_, refl, sym, subst, ap, ap₂, _∙_}
 use mathlib.Core.List.{List, [], _∷_, _++_, tail, reverse, reverseAux, append-nil, append-assoc, nil≢cons, head-eq-of-cons-eq, tail-eq-of-cons-eq}
 use mathlib.Core.Option.{Option, none, some}
-use Prim.Native.Nat.{ℕ, zero, suc}
-use lib.ListN.{take, drop, take-append-drop}
+use Prim.Native.Nat.{ℕ, zero, suc, _-_, min}
+use native.Mathlib.Omega.{arith}
+use lib.ListN.{length, take, drop, take-append-drop, length-take}
 use lib.IntN.{ℤ}
 use Rattle.plain.specs.Causes.{Cause, declined, Clear}
 use Rattle.plain.specs.Trials.{clear}
 use Rattle.plain.specs.Book.{State, Undo, Call, post, withdraw, query, listing, takeBack, Answer, refused, live, found, listed, undoOf}
-use Rattle.plain.specs.Book.{mostRemembered, remember, undone, trials, recalling, accepted, respond, step, after, answers, Recallable}
-use Rattle.plain.specs.Sound.{Sound}
+use Rattle.plain.specs.Book.{mostRemembered, remember, undone, trials, holding, recalling, accepted, respond, step, after, answers, Recallable}
+use Rattle.offers.specs.Offers.{Offer}
+use Rattle.plain.specs.Sound.{Sound, step-sound}
 use Rattle.plain.specs.Rules.{step-accepted}
-use Rattle.plain.specs.Undoing.{Updating, posting, withdrawing, Undoes, undoes, after-sound}
+use Rattle.plain.specs.Undoing.{Updating, posting, withdrawing, Undoes, undoes, step-recallable, after-sound}
 
 -- ---- which calls remain
 
--- The calls that remain, the last one first, when a call is accepted: a post or a withdrawal is one more, a take-back takes the last one off.
+-- The calls that remain, the last one first, when a call is accepted: a post or a withdrawal is one more, a take-back takes the last one off. Queries
+-- and listings change no offer, and are not among them.
 abbrev pub going : List Call → Call → List Call
 going done (post n r b) = post n r b ∷ done
 going done (withdraw n) = withdraw n ∷ done
@@ -51,6 +54,27 @@ pub record Remains (s : State) (ks : List Call) : Type 0 where
   pub accepted : AllAccepted s (remaining ks (answers s ks))
   -- .. and they leave the same offers
   pub offers : after s (remaining ks (answers s ks)) .offers ≡ after s ks .offers
+
+-- ---- how many can be taken back
+
+-- An accepted post or withdrawal is one more, up to 256, and an accepted take-back one less: an update that fell out of memory stays out.
+abbrev pub countBack : ℕ → Call → ℕ
+countBack n (post m r b) = min 256 (suc n)
+countBack n (withdraw m) = min 256 (suc n)
+countBack n takeBack = n - 1
+countBack n (query q) = n
+countBack n (listing room) = n
+
+abbrev pub canTake : ℕ → Call → Answer → ℕ
+canTake n k (refused m) = n
+canTake n k (live m) = countBack n k
+canTake n k (found m p q) = countBack n k
+canTake n k (listed m ws) = countBack n k
+
+abbrev pub canTakeAll : ℕ → List Call → List Answer → ℕ
+canTakeAll n (k ∷ ks) (a ∷ told) = canTakeAll (canTake n k a) ks told
+canTakeAll n [] told = n
+canTakeAll n (k ∷ ks) [] = n
 
 -- ---- only those are made
 
@@ -191,3 +215,39 @@ remaining-leaves s h fresh ks =
 
     w : Standing s done (after s ks)
     w = all-calls s h fresh ks [] s (record { made = tt; older = []; same = ap (recalling s (s .offers)) (sym (append-nil (s .memory))) })
+
+-- ---- as many as can be taken back are remembered
+
+step-count : (s : State) (k : Call) → Sound s → length (step s k .state .memory) ≡ canTake (length (s .memory)) k (step s k .answer)
+step-count s k h = go (declined (trials s k)) k refl
+  where
+    one : (k : Call) → Updating k → Clear (trials s k) → length (remember (undoOf (s .offers) k) (s .memory)) ≡ min 256 (suc (length (s .memory)))
+    one k u c =
+        let e = undoes s k h u c in
+        ap (λ (us : List Undo). length (remember us (s .memory))) (e .only) ∙ length-take mostRemembered (e .entry ∷ s .memory)
+
+    back : (us : List Undo) → length (accepted (recalling s (s .offers) us) takeBack .state .memory) ≡
+        canTake (length us) takeBack (accepted (recalling s (s .offers) us) takeBack .answer)
+    back [] = refl
+    back (u ∷ us) = omega arith
+
+    asked : (os : List Offer) (q : ℤ) → length (s .memory) ≡ canTake (length (s .memory)) (query q) (accepted (holding s os) (query q) .answer)
+    asked [] q = refl
+    asked (o ∷ os) q = refl
+
+    go : (d : Option Cause) (k : Call) → declined (trials s k) ≡ d →
+        length (respond s k d .state .memory) ≡ canTake (length (s .memory)) k (respond s k d .answer)
+    go (some c) k e = refl
+    go none (post n r b) e = one (post n r b) posting (clear (trials s (post n r b)) e)
+    go none (withdraw n) e = one (withdraw n) withdrawing (clear (trials s (withdraw n)) e)
+    go none (query q) e = asked (s .offers) q
+    go none (listing room) e = refl
+    go none takeBack e = back (s .memory)
+
+-- So a take-back is declined with 17 exactly where that number is 0.
+pub remembered-count : (s : State) → Sound s → Recallable s → (ks : List Call) →
+    length (after s ks .memory) ≡ canTakeAll (length (s .memory)) ks (answers s ks)
+remembered-count s h r [] = refl
+remembered-count s h r (k ∷ ks) =
+    remembered-count (step s k .state) (step-sound s k h r) (step-recallable s k h r) ks
+    ∙ ap (λ (n : ℕ). canTakeAll n ks (answers (step s k .state) ks)) (step-count s k h)

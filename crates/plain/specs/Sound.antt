@@ -1,5 +1,5 @@
--- What holds of the plain book after every list of calls: its offers stand in order, no two with one number, each in range, at most c of them; what it
--- remembers can be undone; and a refused call changes nothing.
+-- What holds of the plain book after every list of calls: its offers stand in order, no two with one number, each in range, at most c of them; and a
+-- refused call changes nothing.
 use mathlib.Core.Path.{_≡_, refl, sym, subst, ap}
 use mathlib.Core.Logic.{_⊎_, inl, inr, ⊎-elim, _≢_}
 use mathlib.Core.HLevel.{¬-prop}
@@ -155,7 +155,8 @@ accepted-sound s (query q) h d c = h
 accepted-sound s (listing room) h d c = h
 accepted-sound s takeBack h d c = go (s .memory) d h
   where
-    go : (m : List Undo) → Undoable (s .capacity) (s .offers) m → Sound (recalling s (s .offers) m) → Sound (accepted (recalling s (s .offers) m) takeBack .state)
+    go : (m : List Undo) → Undoable (s .capacity) (s .offers) m → Sound (recalling s (s .offers) m) →
+        Sound (accepted (recalling s (s .offers) m) takeBack .state)
     go [] d h = h
     go (u ∷ us) (e, d) k = undone-sound s u us h (tried-recalling s us (s .memory) u e)
 

@@ -45,7 +45,8 @@ cap-book start t {c} e low = subst (λ (z : ℤ). T (not (noBookAt (length t) st
     no-cause =
         or-no (ltb (length t) start || ltb (length t - start) 1_152 || not (between (pos 1) (pos mostSlots) (pos c))) _
         (or-no (ltb (length t) start || ltb (length t - start) 1_152) _
-        (or-no (ltb (length t) start) _ (λ q. omega (arith, long, ltb→lt (length t) start q)) (λ q. omega (arith, low, long, ltb→lt (length t - start) 1_152 q)))
+        (or-no (ltb (length t) start) _ (λ q. omega (arith, long, ltb→lt (length t) start q))
+        (λ q. omega (arith, low, long, ltb→lt (length t - start) 1_152 q)))
         (λ q. T-not (between (pos 1) (pos mostSlots) (pos c)) q (and-both (leZ (pos 1) (pos c)) (leZ (pos c) (pos mostSlots)) (omega (arith, intRules, low))
         (omega (arith, intRules, high)))))
         (λ q. omega (arith, long, ltb→lt (length t - start) (partLength c) q))

@@ -1,7 +1,7 @@
 -- What each call on a lent table promises. `t` are the table's words before the call and `t′` those after it.
 -- On words of any content causes 1 to 4 and 14 to 16 hold as tabled, and no word outside the part changes. Where the part passes the check
 -- (`Form`), the answer is the plain book's, and the part stands for the plain book afterwards, its offers and its memory. A call that only reads
--- asks for less: that the part stands for the offers (`Book`).
+-- asks for less: that the part stands for the offers (`Book`). 17 is promised where the part passes.
 use mathlib.Core.Path.{_≡_}
 use mathlib.Core.Bool.{Bool, true}
 use mathlib.Core.List.{List, [], _∷_}

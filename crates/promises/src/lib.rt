@@ -12,7 +12,7 @@ pub enum Opening {
     Declined(i64),
 }
 
-// What a post or a withdrawal answers: the live count after it, the searches, their steps in all and the sum of their trees' heights.
+// What a post, a withdrawal or a take-back answers: the live count after it, the searches, their steps in all and the sum of their trees' heights.
 pub enum Update {
     Done { live: i64, k: i64, s: i64, h: i64 },
     Declined(i64),

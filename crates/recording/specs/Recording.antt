@@ -29,7 +29,7 @@ use Rattle.promises.specs.declared.Update.the-variants.{Done, Declined}
 abbrev pub updateOf : Told → Update
 updateOf t = Done (pos (t .live)) (pos (t .counts .searches)) (pos (t .counts .steps)) (pos (t .counts .heights))
 
--- words past the part stay, whatever the words are
+-- words past the part stay, and its capacity, whatever the words are
 pub record Inside (w w′ : Words) : Type 0 where
   pub beyond : Beyond (cap w) w w′
   pub room : cap w′ ≡ cap w

@@ -102,7 +102,8 @@ module _ (n : ℤ) {w : Words} {s : ℕ} (found : FoundKey numberTree numberFiel
   undo-missing l e =
       undoes-declined (unpost n) e (λ plain held us f m.
       let (clear, rest) = last-clear f m in
-      not-refused plain (withdraw n) (withdraws plain n clear) (withdraw-missing (f .book) n (clear .0, tt) (number-sought (f .book) found refl) (omega (arith, l))))
+      not-refused plain (withdraw n) (withdraws plain n clear)
+      (withdraw-missing (f .book) n (clear .0, tt) (number-sought (f .book) found refl) (omega (arith, l))))
 
   pub undo-post : {w₁ w′ : Words} {t : Told} {u : Update} → 1 ≤ s → WithdrawDone n s w w₁ t → Forgetting w₁ w′ → u ≡ updateOf t → Undoes (unpost n) w w′ u
   undo-post {w₁} {w′} {t} l g m e =
@@ -169,12 +170,14 @@ module _ {w : Words} {e : Entry} (last : LastOf w e) where
     where
       go : (plain : State) (held : Option (Held Item)) (v : Undo) (us : List Undo) → Form w plain held → plain .memory ≡ v ∷ us → Reads (v ∷ us) e →
           (t : Told) × (u ≡ updateOf t) × Recorded w′ (recalling plain (undone v (plain .offers)) us) held t
-      go plain held (unpost n) us f m (k, en) = subst (λ (i : ℤ). (t : Told) × (u ≡ updateOf t) × Recorded w′ (recalling plain (leave i (plain .offers)) us) held t)
+      go plain held (unpost n) us f m (k, en) =
+          subst (λ (i : ℤ). (t : Told) × (u ≡ updateOf t) × Recorded w′ (recalling plain (leave i (plain .offers)) us) held t)
           en (g .done plain held us f (m ∙ ap (λ (i : ℤ). unpost i ∷ us) (sym en)))
       go plain held (restore o) us f m (k, eo) = absurd (omega (arith, k, d))
 
   pub takes-withdrawal :
-      {w′ : Words} {u : Update} → e .done ≡ withdrawn → Undoes (restore (record { number = e .number; rate = e .rate; base = e .base })) w w′ u → TakesBack w w′ u
+      {w′ : Words} {u : Update} → e .done ≡ withdrawn → Undoes (restore (record { number = e .number; rate = e .rate; base = e .base })) w w′ u →
+      TakesBack w w′ u
   takes-withdrawal {w′} {u} d g =
       record {
         inside = g .inside;

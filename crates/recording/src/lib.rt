@@ -35,7 +35,7 @@ pub fn range_cause(number: i64, rate: i64, base: i64) -> u32
     0
 }
 
-// A post that is not declined.
+// A post that is not declined, remembered.
 pub fn post_kept(part: &mut [i64], number: i64, rate: i64, base: i64) -> Update
     requires { ⌜ T (offerInRange (record { number = number; rate = rate; base = base })) ⌝ }
     ensures { λ r. ⌜ PostKept (record { number = number; rate = rate; base = base }) (now (part .entry)) (now (part .exit)) r ⌝ }
@@ -45,7 +45,7 @@ pub fn post_kept(part: &mut [i64], number: i64, rate: i64, base: i64) -> Update
     done(told)
 }
 
-// A withdrawal that is not declined, of the offer in slot `s`. Its rate and base are read before its slot is given back.
+// A withdrawal that is not declined, of the offer in slot `s`, remembered: its rate and base are read before the slot is given back.
 pub fn withdraw_kept(part: &mut [i64], number: i64, s: u32) -> Update
     ensures { λ r. ⌜ WithdrawKept number s (now (part .entry)) (now (part .exit)) r ⌝ }
 {
@@ -56,37 +56,35 @@ pub fn withdraw_kept(part: &mut [i64], number: i64, s: u32) -> Update
     done(told)
 }
 
-// The last update was a post: its offer goes out again. The memory says that it is live; on words of any content it may not be.
+// The last update was a post: its offer goes out again. In a book it is live; on words of any content it may not be, and nothing is taken back.
 fn undo_post(part: &mut [i64], number: i64) -> Update
     ensures { λ r. ⌜ Undoes (unpost number) (now (part .entry)) (now (part .exit)) r ⌝ }
 {
     let s = declining::live_slot(part, number);
     if s < 1 {
-        return Update::Declined(8);
+        return Update::Declined(17);
     }
     let told = filing::withdraw_part(part, number, s);
     memory::forget(part);
     done(told)
 }
 
-// It was a withdrawal: its offer comes back.
+// It was a withdrawal: its offer comes back. In a book nothing is in its way.
 fn undo_withdrawal(part: &mut [i64], number: i64, rate: i64, base: i64) -> Update
     ensures { λ r. ⌜ Undoes (restore (record { number = number; rate = rate; base = base })) (now (part .entry)) (now (part .exit)) r ⌝ }
 {
-    let range = range_cause(number, rate, base);
-    if 0 < range {
-        return Update::Declined(range as i64);
+    if 0 < range_cause(number, rate, base) {
+        return Update::Declined(17);
     }
-    let cause = declining::post_cause(part, number);
-    if 0 < cause {
-        return Update::Declined(cause as i64);
+    if 0 < declining::post_cause(part, number) {
+        return Update::Declined(17);
     }
     let told = filing::post_part(part, number, rate, base);
     memory::forget(part);
     done(told)
 }
 
-// Undoes the last update that is remembered.
+// Undoes the last update that is remembered; 17 where there is none.
 pub fn take_back_part(part: &mut [i64]) -> Update
     ensures { λ r. ⌜ TakesBack (now (part .entry)) (now (part .exit)) r ⌝ }
 {

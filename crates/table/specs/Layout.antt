@@ -1,5 +1,5 @@
 -- Where a part keeps what. The first 64 words are the header, and word 0 is the capacity c. Then come planes of four words for each slot
--- from 0 to c: field f of slot s is word f % 4 of that slot in plane f / 4. Slot 0 is never used. Behind the planes' words are 1,024 of the memory.
+-- from 0 to c: field f of slot s is word f % 4 of that slot in plane f / 4. Slot 0 is never used. From word 64 × (c + 1) on are the 1,024 words of the memory.
 --     plane 0   number (0: free), rate, base, rank (free: the next free slot)
 --     plane 1   piece tree: left, right; crossing with the next piece: numerator, denominator
 --     plane 2   offer tree: left, right; the bridge's two ends
@@ -24,7 +24,7 @@ use Rattle.table.specs.Words.{Words, word, wset, word-out, wset-length, 
 
 -- ---- the capacity
 
--- the header and the planes, and then the memory
+-- where the words of the header and the slots end, and the memory begins; and where it ends
 abbrev pub slotsEnd : ℕ → ℕ
 slotsEnd c = 64 * (c + 1)
 

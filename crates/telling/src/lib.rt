@@ -1,4 +1,4 @@
-// The six calls' answers for Rust and C: each is one number, a refusal its cause below 0, and what goes with it is written over the first
+// The answers of an opening, an update, a query and a listing for Rust and C: each is one number, a refusal its cause below 0, and what goes with it is written over the first
 // words of a lent output.
 ghost use mathlib.Core.Path.{_≡_};
 ghost use Prim.Native.Nat.{_≤_};

@@ -1,4 +1,4 @@
-// The answers of a meeting, a mark, a voucher and a reading for Rust and C, told as those of the six calls.
+// The answers of a meeting, a mark, a voucher and a reading for Rust and C, told as telling does.
 ghost use mathlib.Core.Path.{_≡_};
 ghost use Prim.Native.Nat.{_≤_};
 ghost use lib.ListN.{length};

@@ -25,7 +25,7 @@ pub refused-word : (z : ℤ) (n : ℕ) → 1 ≤ n → counted refused z ≡ ref
 refused-word (pos m) n l e = let d : m ≡ n = cc in ap pos d
 refused-word (negsuc m) n l e = let d : 0 ≡ n = cc in absurd (omega arith)
 
--- ---- post and withdraw
+-- ---- post, withdraw and take-back
 
 pub update-refused : (r : Update) (n : ℕ) → 1 ≤ n → updateAnswer r ≡ refused n → r ≡ UpdateDeclined (pos n)
 update-refused (Done (pos m) k s h) n l e = let z : _≡_ {A = ℕ} 0 1 = cc in absurd (omega arith)

@@ -14,8 +14,7 @@ use Rattle.plain.specs.Book.{recalling, changed, join, leave, trials, accepted,
 use Rattle.plain.specs.MeaningLaws.{query-cheapest, listing-listing}
 use Rattle.dynamic.specs.OfferTree.{Held}
 use Rattle.table.specs.Items.{Item}
-use Rattle.form.specs.Form.{Book, Form}
-use Rattle.form.specs.Local.{book-recalling}
+use Rattle.form.specs.Form.{Form}
 use Rattle.form.specs.Live.{book-sound}
 use Rattle.promises.specs.declared.Update.{Update}
 use Rattle.promises.specs.declared.Update.the-variants.{Done, Declined as UpdateDeclined}
@@ -26,7 +25,7 @@ use Rattle.promises.specs.declared.Listed.the-variants.{Pieces, Declined as Lis
 use Rattle.promises.specs.Promises.{partOf, counted, updateAnswer, foundAnswer, listingAnswer, Follows, Queries, Lists}
 use Rattle.promises.specs.Numbered.{from-one, numbered}
 use Rattle.theorems.specs.AnswerCases.{refused-word}
-use Rattle.theorems.specs.Demand2.{Refuses, QueryTells, ListingTells, UpdateTells, takenBack, Demand2}
+use Rattle.theorems.specs.Demand2.{Refuses, QueryTells, ListingTells, UpdateTells, offersBack, Demand2}
 
 -- ---- a refusal
 
@@ -80,12 +79,12 @@ module _ (s : State) (k : Call) (os : List PlainOffer) (us : List Undo) (a : Cle
   module _ (start : ℕ) (t t′ : List ℤ) where
     update-by :
         (d : Option Cause) → declined (trials s k) ≡ d → (u : Update) → updateAnswer u ≡ respond s k d .answer → (after : Option (Held Item)) →
-        Form (partOf t′ start) (respond s k d .state) after → ((n : ℕ) → updateAnswer u ≡ refused n → t′ ≡ t) → UpdateTells s k os start t t′ u
+        Form (partOf t′ start) (respond s k d .state) after → ((n : ℕ) → updateAnswer u ≡ refused n → t′ ≡ t) → UpdateTells s k os us start t t′ u
     update-by none p (Done (pos m) x y z) e after f r =
         let c = clear (trials s k) p in (
           c,
           ap pos (said c e),
-          (after, book-recalling (s .memory) (subst (λ (o : Outcome). Book (partOf t′ start) (o .state) after) (a c) (f .book))),
+          (after, subst (λ (o : Outcome). Form (partOf t′ start) (o .state) after) (a c) f),
         )
     update-by none p (Done (negsuc m) x y z) e after f r = absurd (unsaid (clear (trials s k) p) e)
     update-by none p (UpdateDeclined z) e after f r = let (n, q) = a-refusal z in absurd (unsaid (clear (trials s k) p) (sym q ∙ e))
@@ -96,7 +95,7 @@ module _ (s : State) (k : Call) (os : List PlainOffer) (us : List Undo) (a : Cle
       r (causeNumber c) e,
     )
 
-    update-told : {held : Option (Held Item)} {u : Update} → Follows k s held start t t′ u → UpdateTells s k os start t t′ u
+    update-told : {held : Option (Held Item)} {u : Update} → Follows k s held start t t′ u → UpdateTells s k os us start t t′ u
     update-told {u} f = update-by (declined (trials s k)) refl u (f .answers) (f .after) (f .stands) (f .refusal)
 
 -- ---- the five calls
@@ -131,11 +130,11 @@ module _ {start : ℕ} {t : List ℤ} {s : State} {held : Option (Held Item)} (f
         post-tells = λ {n} {r} {b = base} {t′} p. update-told s (post n r base) (join (record { number = n; rate = r; base = base }) (s .offers)) _
             (λ c. refl) start t t′ (p .follows s held f);
         withdraw-tells = λ {n} {t′} p. update-told s (withdraw n) (leave n (s .offers)) _ (λ c. refl) start t t′ (p .follows s held f);
-        take-back-tells = λ {t′} p. update-told s takeBack (takenBack (s .memory) (s .offers)) (drop 1 (s .memory)) (undoes (s .memory)) start t t′
+        take-back-tells = λ {t′} p. update-told s takeBack (offersBack (s .memory) (s .offers)) (drop 1 (s .memory)) (undoes (s .memory)) start t t′
             (p .follows s held f);
       }
     where
       undoes : (m : List Undo) → Clear (trials (recalling s (s .offers) m) takeBack) →
-          accepted (recalling s (s .offers) m) takeBack ≡ changed s (takenBack m (s .offers)) (drop 1 m)
-      undoes [] (full, _) = absurd full
+          accepted (recalling s (s .offers) m) takeBack ≡ changed s (offersBack m (s .offers)) (drop 1 m)
+      undoes [] (empty, _) = absurd empty
       undoes (u ∷ us) c = refl

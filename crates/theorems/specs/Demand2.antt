@@ -1,19 +1,20 @@
 -- Demand 2 (docs/REQUIREMENTS.md, 1.3), about the calls on a table that stands for a plain book: a query's answer and a listing's words tell what
--- section 3 says of the live offers (`Meaning`), a post or a withdrawal changes the live offers by that one offer, a take-back by the one that undoes
--- the last update remembered, and a declined call meets the first cause that applies. `AnswersExact` proves it.
+-- section 3 says of the live offers (`Meaning`), a post or a withdrawal changes the live offers by that one offer, a take-back by undoing the last
+-- update remembered, and a declined call meets the first cause that applies. `AnswersExact` proves it.
 use mathlib.Core.Path.{_≡_}
 use mathlib.Core.List.{List, [], _∷_}
 use mathlib.Core.Option.{Option}
 use Prim.Native.Nat.{ℕ, _*_}
-use lib.ListN.{length, take}
+use lib.ListN.{length, take, drop}
 use lib.IntN.{ℤ, pos}
 use Rattle.offers.specs.Offers.{Offer as PlainOffer}
 use Rattle.plain.specs.Causes.{Cause, Trial, causeNumber, Clear, FirstOf}
-use Rattle.plain.specs.Book.{State, Undo, Call, post, withdraw, query, listing, takeBack, holding, join, leave, undone, trials}
+use Rattle.plain.specs.Book.{State, Undo, Call, post, withdraw, query, listing, takeBack, recalling, join, leave, undone, trials}
+use Rattle.plain.specs.Rules.{remembering}
 use Rattle.plain.specs.Meaning.{Cheapest, Listing}
 use Rattle.dynamic.specs.OfferTree.{Held}
 use Rattle.table.specs.Items.{Item}
-use Rattle.form.specs.Form.{Book}
+use Rattle.form.specs.Form.{Form}
 use Rattle.promises.specs.declared.Update.{Update}
 use Rattle.promises.specs.declared.Update.the-variants.{Done, Declined as UpdateDeclined}
 use Rattle.promises.specs.declared.Found.{Found}
@@ -37,22 +38,25 @@ abbrev pub ListingTells : State → ℕ → Listed → List ℤ → Type 0
 ListingTells s room (Pieces m) out = Clear (trials s (listing room)) × ((n : ℕ) × (m ≡ pos n) × Listing (s .offers) n (take (3 * n) out))
 ListingTells s room (ListingDeclined z) out = Refuses (trials s (listing room)) z
 
--- No cause applies: the part stands for the book with these live offers, and their count is told; a declined call leaves every word.
-abbrev pub UpdateTells : State → Call → List PlainOffer → ℕ → (t t′ : List ℤ) → Update → Type 0
-UpdateTells s k os start t t′ (Done n pairs steps heights) =
-    Clear (trials s k) × (n ≡ pos (length os)) × ((after : Option (Held Item)) × Book (partOf t′ start) (holding s os) after)
-UpdateTells s k os start t t′ (UpdateDeclined z) = Refuses (trials s k) z × (t′ ≡ t)
+-- No cause applies: the part stands for the book with these live offers, of which it remembers so much, and their count is told; a declined call leaves
+-- every word.
+abbrev pub UpdateTells : State → Call → List PlainOffer → List Undo → ℕ → (t t′ : List ℤ) → Update → Type 0
+UpdateTells s k os us start t t′ (Done n pairs steps heights) =
+    Clear (trials s k) × (n ≡ pos (length os)) × ((after : Option (Held Item)) × Form (partOf t′ start) (recalling s os us) after)
+UpdateTells s k os us start t t′ (UpdateDeclined z) = Refuses (trials s k) z × (t′ ≡ t)
 
 -- The live offers when the last entry is undone; with no entry there is nothing to take back.
-abbrev pub takenBack : List Undo → List PlainOffer → List PlainOffer
-takenBack [] os = os
-takenBack (u ∷ us) os = undone u os
+abbrev pub offersBack : List Undo → List PlainOffer → List PlainOffer
+offersBack [] os = os
+offersBack (u ∷ us) os = undone u os
 
 -- Of a table whose part stands for the plain book s, and of every call on it.
 pub record Demand2 (start : ℕ) (t : List ℤ) (s : State) : Type 0 where
   pub query-tells : {q : ℤ} {r : Found} → Queries q start t r → QueryTells s q r
   pub listing-tells : {out out′ : List ℤ} {r : Listed} → Lists start t out out′ r → ListingTells s (length out) r out′
   pub post-tells : {n r b : ℤ} {t′ : List ℤ} {u : Update} → Updates (post n r b) start t t′ u
-      → UpdateTells s (post n r b) (join (record { number = n; rate = r; base = b }) (s .offers)) start t t′ u
-  pub withdraw-tells : {n : ℤ} {t′ : List ℤ} {u : Update} → Updates (withdraw n) start t t′ u → UpdateTells s (withdraw n) (leave n (s .offers)) start t t′ u
-  pub take-back-tells : {t′ : List ℤ} {u : Update} → Updates takeBack start t t′ u → UpdateTells s takeBack (takenBack (s .memory) (s .offers)) start t t′ u
+      → UpdateTells s (post n r b) (join (record { number = n; rate = r; base = b }) (s .offers)) (remembering s (post n r b)) start t t′ u
+  pub withdraw-tells : {n : ℤ} {t′ : List ℤ} {u : Update} → Updates (withdraw n) start t t′ u
+      → UpdateTells s (withdraw n) (leave n (s .offers)) (remembering s (withdraw n)) start t t′ u
+  pub take-back-tells : {t′ : List ℤ} {u : Update} → Updates takeBack start t t′ u
+      → UpdateTells s takeBack (offersBack (s .memory) (s .offers)) (drop 1 (s .memory)) start t t′ u

@@ -1,5 +1,5 @@
 -- A table that passes the check stands for exactly one book: the words tell the tree of offers with all that is stored in it, and the tree of their order,
--- and so one capacity and one list of offers.
+-- and so one capacity and one list of offers; and the entries of its memory.
 use mathlib.Core.Path.{_≡_, refl, sym, _∙_, ap}
 use mathlib.Core.List.{List, [], _∷_, _++_, List·Memᴰ, List·Memᴰ·head, Memᴰ·append-left, Memᴰ·append-right}
 use mathlib.Core.Bool.{true, false}
@@ -123,7 +123,7 @@ module _ (w : Words) where
   same-book (some h) none p q d e = absurd (some-root (shape (h .tree)) (all-lie (p .slots) (p .kept)) d)
   same-book (some h) (some h′) p q d e = ap some (same-held p q d e)
 
--- ---- one plain book, one tree of offers, one order
+-- ---- one plain book with its memory, one tree of offers, one order
 
 pub one-reading : {w : Words} {s s′ : State} {held held′ : Option (Held Item)} (f : Form w s held) (f′ : Form w s′ held′) →
     (s ≡ s′) × (held ≡ held′) × (f .book .order ≡ f′ .book .order)

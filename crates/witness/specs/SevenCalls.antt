@@ -43,8 +43,8 @@ made {t} {t₀} {t₁} {t₂} {t₃} {t₄} {out} {out′} {r} {u₁} {u₂} {u�
     free = rw e (tt, (tt, tt))
 
     history :
-        History 3 0 t₀ calls (updateAnswer u₁ ∷ updateAnswer u₂ ∷ foundAnswer f₁ ∷ listingAnswer l out′ ∷ updateAnswer u₃ ∷ foundAnswer f₂ ∷ updateAnswer u₄ ∷ [])
-        t₄
+        History 3 0 t₀ calls
+        (updateAnswer u₁ ∷ updateAnswer u₂ ∷ foundAnswer f₁ ∷ listingAnswer l out′ ∷ updateAnswer u₃ ∷ foundAnswer f₂ ∷ updateAnswer u₄ ∷ []) t₄
     history =
         next (alike t₀) (by-update (posting (pos 1) (pos 3) (pos 0)) u₁ a refl)
         (next (alike t₁) (by-update (posting (pos 2) (pos 1) (pos 10)) u₂ b refl)

@@ -10,9 +10,6 @@ use Rattle.recording.proofs.undo_withdrawal.Tie as tie
 range-cause-requires : tie.Need-range-cause-requires
 range-cause-requires c κs = search needs
 
-cast-t9 : tie.Need-cast-t9
-cast-t9 c = search needs
-
 returns : tie.Need-returns
 returns c =
     let f = c .before .before .fits in
@@ -20,9 +17,6 @@ returns c =
 
 post-cause-requires : tie.Need-post-cause-requires
 post-cause-requires c κs = search needs
-
-cast-t12 : tie.Need-cast-t12
-cast-t12 c = search needs
 
 same-length : tie.Need-same-length
 same-length c = search needs
@@ -71,10 +65,8 @@ undo-withdrawal-spec =
     tie.close
     (tie.spec
     range-cause-requires
-    cast-t9
     returns
     post-cause-requires
-    cast-t12
     same-length
     returns-2
     post-part-requires

@@ -36,7 +36,8 @@ returns-4 c =
     let a = at-if1 .before .args in
     let f = at-if1 .before .fits in
     simp (toZ-ofZ, f .a)
-    (short-query (a .code) (a .a) (is-not (a .code) 5 (at-if1 .if1 .left)) (is-not (a .code) 2 (at-if3 .if3 .left)) (is (f .code) (omega arith) (c .if4 .taken)))
+    (short-query (a .code) (a .a) (is-not (a .code) 5 (at-if1 .if1 .left)) (is-not (a .code) 2 (at-if3 .if3 .left))
+    (is (f .code) (omega arith) (c .if4 .taken)))
 
 returns-5 : tie.Need-returns-5
 returns-5 c =
