@@ -2,9 +2,11 @@
 -- checker computes.
 use mathlib.Core.Path.{_≡_, refl}
 use mathlib.Core.List.{List, [], _∷_, _++_, map}
+use Prim.Native.Nat.{ℕ}
 use lib.IntN.{pos, negℤ}
+use Rattle.offers.specs.Offers.{Offer}
 use Rattle.plain.specs.Book.{Call, post, withdraw, query, listing, takeBack, Answer, refused, live, found, listed}
-use Rattle.plain.specs.Book.{opened, opening, after, answers}
+use Rattle.plain.specs.Book.{opened, opening, after, answers, unpost, restore, Undoable}
 use Rattle.plain.specs.Remaining.{remaining}
 
 -- Calls that make a book, and the answers of the calls asked of it then.
@@ -252,7 +254,7 @@ four-pieces = refl
 
 pub openings :
     opening 1_152 0 (pos 0) ∷ opening 1_152 1 (pos 4_097) ∷ opening 1_152 1 (pos 1) ∷ opening 1_151 0 (pos 1) ∷ opening 10 11 (pos 1) ∷
-    opening 1_152 0 (pos 1) ∷ [] ≡ 1 ∷ 1 ∷ 2 ∷ 2 ∷ 2 ∷ 0 ∷ []
+    opening 1_152 0 (pos 1) ∷ opening 263_231 0 (pos 4_096) ∷ opening 263_232 0 (pos 4_096) ∷ [] ≡ 1 ∷ 1 ∷ 2 ∷ 2 ∷ 2 ∷ 0 ∷ 2 ∷ 0 ∷ []
 openings = refl
 
 -- ---- taking back
@@ -319,3 +321,33 @@ pub one-slot-back : answers (opened (pos 1)) (takeBack ∷ post (pos 9) (pos 1) 
     takeBack ∷ takeBack ∷ takeBack ∷ takeBack ∷ []) ≡
     refused 17 ∷ live 1 ∷ live 0 ∷ live 1 ∷ live 0 ∷ live 1 ∷ live 0 ∷ refused 17 ∷ []
 one-slot-back = refl
+
+-- ---- what cannot be undone
+
+abbrev carrier : (number rate base : ℕ) → Offer
+carrier n r b = record { number = pos n; rate = pos r; base = pos b }
+
+-- by each cause: the number out of range or not live, the rate, the base, the number live, the book full; and a second entry after a first
+pub not-undoable :
+    (Undoable 2 [] (restore (carrier 0 1 1) ∷ []) → ⊥)
+    × (Undoable 2 [] (restore (carrier 10_000 1 1) ∷ []) → ⊥)
+    × (Undoable 2 [] (restore (carrier 1 100_001 1) ∷ []) → ⊥)
+    × (Undoable 2 [] (restore (carrier 1 1 1_000_000_001) ∷ []) → ⊥)
+    × (Undoable 2 (carrier 1 1 1 ∷ []) (restore (carrier 1 2 2) ∷ []) → ⊥)
+    × (Undoable 1 (carrier 1 1 1 ∷ []) (restore (carrier 2 2 2) ∷ []) → ⊥)
+    × (Undoable 2 (carrier 1 1 1 ∷ []) (unpost (pos 2) ∷ []) → ⊥)
+    × (Undoable 2 (carrier 1 1 1 ∷ []) (unpost (pos 1) ∷ unpost (pos 1) ∷ []) → ⊥)
+not-undoable = (
+  λ u. u .0 .0,
+  λ u. u .0 .0,
+  λ u. u .0 .1 .0,
+  λ u. u .0 .1 .1 .0,
+  λ u. u .0 .1 .1 .1 .0,
+  λ u. u .0 .1 .1 .1 .1 .0,
+  λ u. u .0 .1 .0,
+  λ u. u .1 .0 .1 .0,
+)
+
+-- an offer goes out of a full book, and another comes back to it
+pub undoable : Undoable 1 (carrier 1 1 1 ∷ []) (unpost (pos 1) ∷ restore (carrier 2 2 2) ∷ [])
+undoable = ((tt, (tt, tt)), ((tt, (tt, (tt, (tt, (tt, tt))))), tt))

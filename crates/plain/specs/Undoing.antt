@@ -218,8 +218,12 @@ opened-recallable c = tt
 pub remembers-all : (u : Undo) (us : List Undo) → length us < 256 → remember (u ∷ []) us ≡ u ∷ us
 remembers-all u us h = take-all mostRemembered (u ∷ us) (omega arith)
 
+-- the new entry first, and of those before it the last 255
+pub remembers : (u : Undo) (us : List Undo) → remember (u ∷ []) us ≡ u ∷ take 255 us
+remembers u us = refl
+
 -- .. and no more
-pub remembered-few : (s : State) (k : Call) → length (s .memory) ≤ mostRemembered → length (step s k .state .memory) ≤ mostRemembered
+pub remembered-few : (s : State) (k : Call) → length (s .memory) ≤ 256 → length (step s k .state .memory) ≤ 256
 remembered-few s k h = go (declined (trials s k)) k
   where
     few : (us : List Undo) → length (remember us (s .memory)) ≤ mostRemembered
