@@ -9,8 +9,8 @@ use lib.ListN.{length, take, drop}
 use lib.IntN.{ℤ, pos}
 use Rattle.offers.specs.Offers.{Offer as PlainOffer}
 use Rattle.plain.specs.Causes.{Cause, Trial, causeNumber, Clear, FirstOf}
-use Rattle.plain.specs.Book.{State, Undo, Call, post, withdraw, query, listing, takeBack, recalling, join, leave, undone, trials}
-use Rattle.plain.specs.Rules.{remembering}
+use Rattle.plain.specs.Book.{State, Undo, Call, post, withdraw, query, listing, takeBack, recalling, join, leave, undoOf, remember, undone}
+use Rattle.plain.specs.Book.{trials}
 use Rattle.plain.specs.Meaning.{Cheapest, Listing}
 use Rattle.dynamic.specs.OfferTree.{Held}
 use Rattle.table.specs.Items.{Item}
@@ -55,8 +55,8 @@ pub record Demand2 (start : ℕ) (t : List ℤ) (s : State) : Type 0 where
   pub query-tells : {q : ℤ} {r : Found} → Queries q start t r → QueryTells s q r
   pub listing-tells : {out out′ : List ℤ} {r : Listed} → Lists start t out out′ r → ListingTells s (length out) r out′
   pub post-tells : {n r b : ℤ} {t′ : List ℤ} {u : Update} → Updates (post n r b) start t t′ u
-      → UpdateTells s (post n r b) (join (record { number = n; rate = r; base = b }) (s .offers)) (remembering s (post n r b)) start t t′ u
+      → UpdateTells s (post n r b) (join (record { number = n; rate = r; base = b }) (s .offers)) (remember (undoOf (s .offers) (post n r b)) (s .memory)) start t t′ u
   pub withdraw-tells : {n : ℤ} {t′ : List ℤ} {u : Update} → Updates (withdraw n) start t t′ u
-      → UpdateTells s (withdraw n) (leave n (s .offers)) (remembering s (withdraw n)) start t t′ u
+      → UpdateTells s (withdraw n) (leave n (s .offers)) (remember (undoOf (s .offers) (withdraw n)) (s .memory)) start t t′ u
   pub take-back-tells : {t′ : List ℤ} {u : Update} → Updates takeBack start t t′ u
       → UpdateTells s takeBack (offersBack (s .memory) (s .offers)) (drop 1 (s .memory)) start t t′ u
