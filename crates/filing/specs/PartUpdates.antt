@@ -26,6 +26,7 @@ use Rattle.form.specs.Form.{Book}
 use Rattle.form.specs.Live.{live-length}
 use Rattle.form.specs.Roots.{offersRoot}
 use Rattle.form.specs.HeaderWords.{count-read}
+use Rattle.form.specs.There.{cap-there}
 use Rattle.index.specs.Index.{FoundKey}
 use Rattle.declining.specs.Sought.{number-sought}
 use Rattle.declining.specs.PartCauses.{Postable}
@@ -130,6 +131,11 @@ kept-given w s =
 pub read-most : (z : ℤ) {n : ℕ} → n ≡ upTo mostNodes z → n ≤ mostNodes
 read-most z e = omega (arith, e, upTo-most mostNodes z)
 
+-- ---- too few words for a part
+
+too-short : {w : Words} {plain : State} {held : Option (Held Item)} → Book w plain held → length w < 1_152 → ⊥
+too-short {w} b h = omega (arith, h, b .some-slot, cap-there w (b .capacity) (b .some-slot) .room)
+
 -- ---- post
 
 -- a post that is not declined
@@ -182,6 +188,9 @@ module _
         );
       }
 
+pub post-short : (o : Offer) {w : Words} {t : Told} → length w < 1_152 → PostDone o w w t
+post-short o h = record { kept = kept-same refl; done = λ plain held b new. absurd (too-short b h) }
+
 -- ---- withdraw
 
 -- a withdrawal that is not declined, of the live offer in slot s
@@ -190,6 +199,9 @@ pub record WithdrawDone (n : ℤ) (s : ℕ) (w w′ : Words) (t : Told) : Type 0
   pub done :
       (plain : State) (held : Option (Held Item)) → Book w plain held → FoundKey numberTree numberField n (upTo mostNodes (word w numbersRootWord)) w s →
       1 ≤ s → Updated w′ (holding plain (leave n (plain .offers))) held (t .counts) × (t .live ≡ length (leave n (plain .offers)))
+
+pub withdraw-short : (n : ℤ) (s : ℕ) {w : Words} {t : Told} → length w < 1_152 → WithdrawDone n s w w t
+withdraw-short n s h = record { kept = kept-same refl; done = λ plain held b f l. absurd (too-short b h) }
 
 some-live : (live : List Item) {a : Item} → List·Memᴰ a live → 1 ≤ length live
 some-live [] m = absurd (List·Memᴰ·not-nil m)

@@ -12,11 +12,26 @@ pub struct Told {
     pub counts: levels::Counts,
 }
 
+// On words too few for a part nothing is done. A caller has seen that they are enough; said here again, the tests of each word read need not be made.
+fn nothing() -> Told {
+    Told {
+        live: 0,
+        counts: levels::Counts {
+            searches: 0,
+            steps: 0,
+            heights: 0,
+        },
+    }
+}
+
 // A post that is not declined.
 pub fn post_part(part: &mut [i64], number: i64, rate: i64, base: i64) -> Told
     requires { ⌜ T (offerInRange (record { number = number; rate = rate; base = base })) ⌝ }
     ensures { λ r. ⌜ PostDone (record { number = number; rate = rate; base = base }) (now (part .entry)) (now (part .exit)) r ⌝ }
 {
+    if part.len() < table::LEAST_PART {
+        return nothing();
+    }
     let held = settling::roots(part);
     let n = table::number_at(part, table::LIVE_COUNT, table::MOST_NODES);
     let f = settling::find_rate(part, held.tree, rate);
@@ -48,6 +63,9 @@ fn one_less(n: u32) -> u32
 pub fn withdraw_part(part: &mut [i64], number: i64, s: u32) -> Told
     ensures { λ r. ⌜ WithdrawDone number s (now (part .entry)) (now (part .exit)) r ⌝ }
 {
+    if part.len() < table::LEAST_PART {
+        return nothing();
+    }
     let held = settling::roots(part);
     let n = table::number_at(part, table::LIVE_COUNT, table::MOST_NODES);
     let rank = table::get(part, table::RANK, s);

@@ -31,8 +31,10 @@ pub const LAST_ENTRY: usize = 7;
 
 pub const REMEMBERED: usize = 8;
 
-// The words of the memory, behind the slots.
+// The words of the memory, behind the slots, and of the least part.
 pub const MEMORY: usize = 1_024;
+
+pub const LEAST_PART: usize = 64 * 2 + MEMORY;
 
 // The fields of a slot: its offer, the next free slot or, where the slot is live, its offer's rank, the first of a piece's node (its children, then
 // its crossing), the crossing with the next piece and that piece, the bridge of the offers' inner node, and the pieces that stay with the inner

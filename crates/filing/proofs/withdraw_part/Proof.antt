@@ -2,10 +2,16 @@
 use mir.Facts.{toZ-ofZ}
 use mir.Syntax.{w64}
 use mir.Val.{SFits}
-use Rattle.filing.specs.PartUpdates.{withdrawn-part}
+use Rattle.filing.specs.PartUpdates.{withdraw-short, withdrawn-part}
 use borrow.Author.Needs.{needs}
 use Rattle.filing.proofs.withdraw_part.Statement.{statement}
 use Rattle.filing.proofs.withdraw_part.Tie as tie
+
+nothing-requires : tie.Need-nothing-requires
+nothing-requires c κs = search needs
+
+returns : tie.Need-returns
+returns c = withdraw-short _ _ (c .before .if1 .taken)
 
 roots-requires : tie.Need-roots-requires
 roots-requires c κs = search needs
@@ -46,8 +52,8 @@ give-slot-requires c κs = search needs
 same-length : tie.Need-same-length
 same-length c = search needs
 
-returns : tie.Need-returns
-returns c =
+returns-2 : tie.Need-returns-2
+returns-2 c =
     let at-give-slot = c .before in
     let at-set-roots = at-give-slot .before .before .before in
     let at-one-less = at-set-roots .before .before in
@@ -61,7 +67,7 @@ returns c =
     let at-rank = at-rate .before .before in
     let at-count = at-rank .before .before in
     let at-roots = at-count .before .before in
-    let entry = at-roots .before .before in
+    let entry = at-roots .before .before .before in
     let r : SFits w64 (at-rate .get2 .result) = record { sfits = at-rate .get2 .ok } in
     let k : SFits w64 (at-rank .get .result) = record { sfits = at-rank .get .ok } in
     withdrawn-part _ (at-roots .roots .ensures) (at-count .number-at .ensures) (at-rank .get .ensures) (at-rate .get2 .ensures)
@@ -73,6 +79,8 @@ pub withdraw-part-spec : {M : Type 1} → statement M
 withdraw-part-spec =
     tie.close
     (tie.spec
+    nothing-requires
+    returns
     roots-requires
     number-at-requires
     get-requires
@@ -86,4 +94,4 @@ withdraw-part-spec =
     set-roots-requires
     give-slot-requires
     same-length
-    returns)
+    returns-2)
