@@ -72,8 +72,8 @@ int64_t carrier_post(int64_t *table, size_t words, size_t start, int64_t number,
 /* Withdraws the live offer with that number. Returns the live count after it, and counts as carrier_post does. */
 int64_t carrier_withdraw(int64_t *table, size_t words, size_t start, int64_t number, int64_t *counts, size_t counts_words);
 
-/* Undoes the last accepted post or withdrawal that has not itself been undone. The last 256 of them are remembered, older ones are not;
- * nor is a take-back. Returns the live count after it, and counts as carrier_post does. */
+/* Undoes the last accepted post or withdrawal that has not itself been undone. Up to 256 of them are remembered; with one more the oldest is
+ * forgotten for good. A take-back is not remembered. Returns the live count after it, and counts as carrier_post does. */
 int64_t carrier_take_back(int64_t *table, size_t words, size_t start, int64_t *counts, size_t counts_words);
 
 /* Returns the number of the cheapest live offer at a load; of several, the one with the lowest rate. Writes its price to found[0],
@@ -88,7 +88,8 @@ int64_t carrier_query(const int64_t *table, size_t words, size_t start, int64_t 
  * the next piece begins; 0 and 0 for the last piece. Later words stay. */
 int64_t carrier_listing(const int64_t *table, size_t words, size_t start, int64_t *out, size_t out_words);
 
-/* Returns 1 where the words from `start` on are a book in every particular, with every envelope right, and 0 where they are not.
+/* Returns 1 where the words from `start` on are a book in every particular, with every envelope right and a memory that can be undone, and 0 where
+ * they are not.
  * It reads the whole part: meant for tables that come from elsewhere. */
 int64_t carrier_check(const int64_t *table, size_t words, size_t start);
 

@@ -104,8 +104,8 @@ impl Book {
         lent::withdraw(&mut self.table, 0, number)
     }
 
-    /// Takes back the last accepted post or withdrawal that has not been taken back. The last 256 are remembered; queries, listings
-    /// and declined calls are not among them, nor is a take-back itself.
+    /// Takes back the last accepted post or withdrawal that has not been taken back. Up to 256 are remembered, and with
+    /// one more the oldest is forgotten for good; queries, listings and declined calls are not among them, nor is a take-back itself.
     ///
     /// ```
     /// use carrier_book::{Book, Declined};

@@ -76,7 +76,8 @@ pub fn withdraw(table: &mut [i64], start: usize, number: i64) -> Result<Update, 
     update(|counts, n| unsafe { raw::carrier_withdraw(words, length, start, number, counts, n) })
 }
 
-/// Takes back the last accepted post or withdrawal that has not been taken back. The last 256 are remembered.
+/// Takes back the last accepted post or withdrawal that has not been taken back. Up to 256 are remembered, and with
+/// one more the oldest is forgotten for good.
 ///
 /// ```
 /// use carrier_book::{lent, words, Declined};
