@@ -12,11 +12,11 @@ use Rattle.lists.specs.Filter.{every, keep}
 use Rattle.lists.specs.Firsts.{firsts}
 use Rattle.lists.specs.Tests.{any}
 use Rattle.integers.specs.Equal.{equal}
-use Rattle.offers.specs.Offers.{Offer, between, numberInRange, rateInRange, baseInRange, loadInRange, priceAt, precedes, ahead}
+use Rattle.offers.specs.Offers.{Offer, between, numberInRange, rateInRange, baseInRange, loadInRange, priceInRange, priceAt, precedes, ahead}
 use Rattle.offers.specs.Offers.{crossingNumerator, crossingDenominator}
 use Rattle.plain.specs.Causes.{Cause, Trial, _when_, declined, Clear, causeNumber, capacityOutOfRange, tableTooShort, numberOutOfRange}
 use Rattle.plain.specs.Causes.{rateOutOfRange, baseOutOfRange, loadOutOfRange, numberLive, bookFull, numberNotLive, bookEmpty, outputTooShort}
-use Rattle.plain.specs.Causes.{nothingToTakeBack}
+use Rattle.plain.specs.Causes.{priceOutOfRange, nothingToTakeBack}
 
 -- What undoes an accepted update: a posted offer goes out again, a withdrawn one comes back.
 pub data Undo : Type 0 where
@@ -39,6 +39,8 @@ pub data Call : Type 0 where
   -- with the length of the lent output, in words
   listing : (room : ℕ) → Call
   takeBack : Call
+  -- likewise
+  report : (load price : ℤ) (room : ℕ) → Call
 
 pub data Answer : Type 0 where
   -- a declined call's number
@@ -49,6 +51,8 @@ pub data Answer : Type 0 where
   found : (number price second : ℤ) → Answer
   -- the piece count, and the words written
   listed : ℕ → List ℤ → Answer
+  -- the count of the offers reported, and the words written
+  reported : ℕ → List ℤ → Answer
 
 pub record Outcome : Type 0 where
   pub state : State
@@ -75,6 +79,7 @@ undoOf os (withdraw n) = map restore (keep (hasNumber n) os)
 undoOf os (query q) = []
 undoOf os (listing room) = []
 undoOf os takeBack = []
+undoOf os (report q p room) = []
 
 abbrev pub mostRemembered : ℕ
 mostRemembered = 256
@@ -132,6 +137,15 @@ pieceWords [] = []
 pieceWords (o ∷ []) = o .number ∷ pos 0 ∷ pos 0 ∷ []
 pieceWords (o ∷ p ∷ ps) = o .number ∷ crossingNumerator o p ∷ crossingDenominator o p ∷ pieceWords (p ∷ ps)
 
+-- The offers whose price at the load is strictly below p, in order.
+abbrev pub under : ℤ → ℤ → List Offer → List Offer
+under q p os = keep (λ o. ltZ (priceAt o q) p) os
+
+-- Number, rate, base an offer.
+abbrev pub offerWords : List Offer → List ℤ
+offerWords [] = []
+offerWords (o ∷ os) = o .number ∷ o .rate ∷ o .base ∷ offerWords os
+
 -- ---- which calls are declined
 
 -- A part of capacity c has 64 × (c + 1) + 1,024 words.
@@ -160,6 +174,7 @@ rangeTrials (withdraw n) = numberOutOfRange when not (numberInRange n) ∷ []
 rangeTrials (query q) = loadOutOfRange when not (loadInRange q) ∷ []
 rangeTrials (listing room) = []
 rangeTrials takeBack = []
+rangeTrials (report q p room) = priceOutOfRange when not (priceInRange p) ∷ loadOutOfRange when not (loadInRange q) ∷ []
 
 abbrev pub bookTrials : State → Call → List Trial
 bookTrials s (post n r b) =
@@ -170,6 +185,7 @@ bookTrials s (withdraw n) = numberNotLive when not (any (hasNumber n) (s .offers
 bookTrials s (query q) = bookEmpty when leb (length (s .offers)) 0 ∷ []
 bookTrials s (listing room) = outputTooShort when ltb room (3 * length (envelope (s .offers))) ∷ []
 bookTrials s takeBack = nothingToTakeBack when leb (length (s .memory)) 0 ∷ []
+bookTrials s (report q p room) = outputTooShort when ltb room (3 * length (under q p (s .offers))) ∷ []
 
 abbrev pub trials : State → Call → List Trial
 trials s k = rangeTrials k ++ bookTrials s k
@@ -216,6 +232,7 @@ accepted s (query q) = record { state = s; answer = answerOf (s .offers) }
     answerOf [] = refused (causeNumber bookEmpty)  -- idle: an empty book declines the query
     answerOf (o ∷ os) = let best = cheapest lower q o os in found (best .number) (priceAt best q) (cheapest higher q o os .number)
 accepted s (listing room) = record { state = s; answer = listed (length (envelope (s .offers))) (pieceWords (envelope (s .offers))) }
+accepted s (report q p room) = record { state = s; answer = reported (length (under q p (s .offers))) (offerWords (under q p (s .offers))) }
 
 abbrev pub respond : State → Call → Option Cause → Outcome
 respond s k none = accepted s k

@@ -5,7 +5,7 @@ use mathlib.Core.List.{List, [], _∷_, _++_, map}
 use Prim.Native.Nat.{ℕ}
 use lib.IntN.{pos, negℤ}
 use Rattle.offers.specs.Offers.{Offer}
-use Rattle.plain.specs.Book.{Call, post, withdraw, query, listing, takeBack, Answer, refused, live, found, listed}
+use Rattle.plain.specs.Book.{Call, post, withdraw, query, listing, takeBack, report, Answer, refused, live, found, listed, reported}
 use Rattle.plain.specs.Book.{opened, opening, after, answers, unpost, restore, Undoable}
 use Rattle.plain.specs.Remaining.{remaining}
 
@@ -321,6 +321,31 @@ pub one-slot-back : answers (opened (pos 1)) (takeBack ∷ post (pos 9) (pos 1) 
     takeBack ∷ takeBack ∷ takeBack ∷ takeBack ∷ []) ≡
     refused 17 ∷ live 1 ∷ live 0 ∷ live 1 ∷ live 0 ∷ live 1 ∷ live 0 ∷ refused 17 ∷ []
 one-slot-back = refl
+
+-- ---- reports
+
+-- (3, 0), two of rate 2 and (0, 6): at load 1 they cost 3, 4, 6 and 6
+abbrev four-offers : List Call
+four-offers = post (pos 4) (pos 0) (pos 6) ∷ post (pos 3) (pos 2) (pos 4) ∷ post (pos 1) (pos 3) (pos 0) ∷ post (pos 2) (pos 2) (pos 2) ∷ []
+
+-- strictly below: none, the first alone, then with it a rate's first, and at last all four in order; what costs the price itself is not among them
+pub below-a-price : answers (after (opened (pos 4)) four-offers) (report (pos 1) (pos 3) 0 ∷ report (pos 1) (pos 4) 3 ∷ report (pos 1) (pos 6) 6 ∷
+    report (pos 1) (pos 7) 12 ∷ []) ≡
+    reported 0 []
+    ∷ reported 1 (pos 1 ∷ pos 3 ∷ pos 0 ∷ [])
+    ∷ reported 2 (pos 1 ∷ pos 3 ∷ pos 0 ∷ pos 2 ∷ pos 2 ∷ pos 2 ∷ [])
+    ∷ reported 4 (pos 1 ∷ pos 3 ∷ pos 0 ∷ pos 2 ∷ pos 2 ∷ pos 2 ∷ pos 3 ∷ pos 2 ∷ pos 4 ∷ pos 4 ∷ pos 0 ∷ pos 6 ∷ [])
+    ∷ []
+below-a-price = refl
+
+-- price, load and room, each tried before the next; an empty book yields none
+pub reports-refused : answers (after (opened (pos 4)) four-offers) (report (pos 1_000_001) (pos 101_000_000_001) 0 ∷
+    report (pos 1_000_001) (pos 101_000_000_000) 0 ∷ report (pos 1_000_000) (pos 101_000_000_000) 11 ∷ []) ≡ refused 4 ∷ refused 16 ∷ refused 10 ∷ []
+reports-refused = refl
+
+pub nothing-below : answers (opened (pos 4)) (report (pos 0) (pos 101_000_000_000) 0 ∷ report (pos 0) (negℤ (pos 101_000_000_001)) 0 ∷ []) ≡
+    reported 0 [] ∷ refused 4 ∷ []
+nothing-below = refl
 
 -- ---- what cannot be undone
 

@@ -19,7 +19,7 @@ pub data Cause : Type 0 where
   numberNotLive : Cause
   -- query, mark, meet
   bookEmpty : Cause
-  -- listing
+  -- listing, report
   outputTooShort : Cause
   -- the counter program
   unreadableLine : Cause

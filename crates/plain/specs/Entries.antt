@@ -10,22 +10,24 @@ use native.Mathlib.Omega.{arith}
 use lib.IntN.{ℤ}
 use lib.Dec.{T}
 use Rattle.lists.specs.Bools.{twice, not-not}
-use Rattle.offers.specs.Offers.{Offer, numberInRange, rateInRange, baseInRange, loadInRange}
+use Rattle.offers.specs.Offers.{Offer, numberInRange, rateInRange, baseInRange, loadInRange, priceInRange}
 use Rattle.plain.specs.Causes.{Cause, capacityOutOfRange, tableTooShort, noBook, numberOutOfRange, rateOutOfRange, baseOutOfRange, loadOutOfRange}
 use Rattle.plain.specs.Causes.{priceOutOfRange, numberLive, bookFull, numberNotLive, bookEmpty, outputTooShort, unreadableLine, ratesNotApart}
 use Rattle.plain.specs.Causes.{noSuchMark, nothingToTakeBack, causeNumber, declined, FirstOf, at-once, further}
-use Rattle.plain.specs.Book.{State, Undo, Call, post, withdraw, query, listing, takeBack, Answer, refused, live, found, listed}
+use Rattle.plain.specs.Book.{State, Undo, Call, post, withdraw, query, listing, takeBack, report, Answer, refused, live, found, listed, reported}
 use Rattle.plain.specs.Book.{rangeTrials, bookTrials, trials, recalling, respond, accepted, step}
 use Rattle.plain.specs.Trials.{declined-first, first-append}
 use Rattle.plain.specs.Rules.{refusing, step-declined}
 
--- The number names the call's first entry that is out of range: 4 the offer's number, 14 the rate, 15 the base, 16 the load.
+-- The number names the call's first entry that is out of range: 4 the offer's number or the price, 14 the rate, 15 the base, 16 the load.
 pub data Names : ℕ → Call → Type 0 where
   posted-number : {n r b : ℤ} → T (not (numberInRange n)) → Names 4 (post n r b)
   posted-rate : {n r b : ℤ} → T (numberInRange n) → T (not (rateInRange r)) → Names 14 (post n r b)
   posted-base : {n r b : ℤ} → T (numberInRange n) → T (rateInRange r) → T (not (baseInRange b)) → Names 15 (post n r b)
   withdrawn-number : {n : ℤ} → T (not (numberInRange n)) → Names 4 (withdraw n)
   asked-load : {q : ℤ} → T (not (loadInRange q)) → Names 16 (query q)
+  reported-price : {q p : ℤ} {room : ℕ} → T (not (priceInRange p)) → Names 4 (report q p room)
+  reported-load : {q p : ℤ} {room : ℕ} → T (priceInRange p) → T (not (loadInRange q)) → Names 16 (report q p room)
 
 -- it is that of the first trial of the ranges that applies
 pub names-first : {m : ℕ} {k : Call} → Names m k → (z : Cause) × FirstOf (rangeTrials k) z × (causeNumber z ≡ m)
@@ -34,6 +36,8 @@ names-first (posted-rate {n} i x) = (rateOutOfRange, further (twice (numberInRan
 names-first (posted-base {n} {r} i j x) = (baseOutOfRange, further (twice (numberInRange n) i) (further (twice (rateInRange r) j) (at-once x)), refl)
 names-first (withdrawn-number x) = (numberOutOfRange, at-once x, refl)
 names-first (asked-load x) = (loadOutOfRange, at-once x, refl)
+names-first (reported-price x) = (priceOutOfRange, at-once x, refl)
+names-first (reported-load {q} {p} i x) = (loadOutOfRange, further (twice (priceInRange p) i) (at-once x), refl)
 
 -- ---- a call with an entry out of range is refused with its number
 
@@ -57,6 +61,9 @@ by-cause s (query q) z (at-once x) = inr (asked-load x)
 by-cause s (query q) z (further i (at-once x)) = inl (omega arith, omega arith, inl (omega arith))
 by-cause s (listing room) z (at-once x) = inl (omega arith, omega arith, inl (omega arith))
 by-cause s takeBack z (at-once x) = inl (omega arith, omega arith, inr refl)
+by-cause s (report q p room) z (at-once x) = inr (reported-price x)
+by-cause s (report q p room) z (further i (at-once x)) = inr (reported-load (not-not (priceInRange p) i) x)
+by-cause s (report q p room) z (further i (further j (at-once x))) = inl (omega arith, omega arith, inl (omega arith))
 
 -- the number of a refusal; 5 for an accepted call
 numberIn : Answer → ℕ
@@ -64,6 +71,7 @@ numberIn (refused n) = n
 numberIn (live n) = 5
 numberIn (found n p m) = 5
 numberIn (listed n ws) = 5
+numberIn (reported n ws) = 5
 
 pub refused-names : (s : State) (k : Call) (m : ℕ) → step s k .answer ≡ refused m → Otherwise m ⊎ Names m k
 unfolding numberIn
@@ -84,6 +92,7 @@ refused-names s k m e = subst (λ (i : ℕ). Otherwise i ⊎ Names i k) (ap numb
     taken (query q) = asked (s .capacity) (s .offers) (s .memory) q
     taken takeBack = taken-back (s .offers) (s .memory)
     taken (listing room) = (omega arith, omega arith, inl (omega arith))
+    taken (report q p room) = (omega arith, omega arith, inl (omega arith))
 
     go : (d : Option Cause) → declined (trials s k) ≡ d → Otherwise (numberIn (respond s k d .answer)) ⊎ Names (numberIn (respond s k d .answer)) k
     go none p = inl (taken k)
@@ -117,6 +126,8 @@ names-other (posted-rate i x) e = omega arith
 names-other (posted-base i j x) e = omega arith
 names-other (withdrawn-number x) e = omega arith
 names-other (asked-load x) e = omega arith
+names-other (reported-price x) e = omega arith
+names-other (reported-load i x) e = omega arith
 
 pub not-six : (s : State) (k : Call) → step s k .answer ≢ refused 6
 not-six s k e = ⊎-elim (λ o. o .1 refl) (λ n. names-other n refl) (refused-names s k 6 e)

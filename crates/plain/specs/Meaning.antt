@@ -1,5 +1,5 @@
--- What a query and a listing tell of a list of live offers, in the words of docs/REQUIREMENTS.md (3) and with no way of computing it.
--- `MeaningLaws` proves both of the plain book; `demand-2` (theorems) of the calls on a table.
+-- What a query, a listing and a report tell of a list of live offers, in the words of docs/REQUIREMENTS.md (3) and with no way of computing it.
+-- `MeaningLaws` proves them of the plain book; `demand-2` (theorems) of the calls on a table.
 use mathlib.Core.Path.{_≡_}
 use mathlib.Core.Logic.{_≢_, _↔_}
 use mathlib.Core.Bool.{not}
@@ -45,7 +45,7 @@ pub record CheaperThanOthers (os : List Offer) (e : Offer) (x : RationalLoad) : 
   pub first : FirstOfRate os e
   pub cheaper : (o : Offer) → List·Memᴰ o os → o .rate ≢ e .rate → T (ltZ (priceTimesD e x) (priceTimesD o x))
 
--- Number, numerator and denominator of piece i stand at 3 i, 3 i + 1 and 3 i + 2.
+-- Number, numerator and denominator of piece i stand at 3 i, 3 i + 1 and 3 i + 2; of a reported offer number, rate and base.
 pub record PieceAt (ws : List ℤ) (i : ℕ) (number numerator denominator : ℤ) : Type 0 where
   pub first : getD ws (3 * i) (pos 0) ≡ number
   pub second : getD ws (3 * i + 1) (pos 0) ≡ numerator
@@ -65,3 +65,15 @@ pub record Listing (os : List Offer) (m : ℕ) (ws : List ℤ) : Type 0 where
       PieceAt ws i (getD pieces i d .number) (crossingNumerator (getD pieces i d) (getD pieces (suc i) d))
       (crossingDenominator (getD pieces i d) (getD pieces (suc i) d))
   pub last : (i : ℕ) (d : Offer) → suc i ≡ m → PieceAt ws i (getD pieces i d .number) (pos 0) (pos 0)
+
+-- ---- a report
+
+-- The words of m offers: in order, exactly the live offers whose price at the load is strictly below p, number, rate and base each. In order none stands
+-- twice: each is strictly ahead of all later ones, by falling rate, then rising base, then rising number.
+pub record Report (os : List Offer) (q p : ℤ) (m : ℕ) (ws : List ℤ) : Type 0 where
+  pub offers : List Offer
+  pub many : length offers ≡ m
+  pub long : length ws ≡ 3 * m
+  pub in-order : Pairwise (λ a b. T (ahead a b)) offers
+  pub exact : (o : Offer) → List·Memᴰ o offers ↔ (List·Memᴰ o os × T (ltZ (priceAt o q) p))
+  pub told : (i : ℕ) (d : Offer) → i < m → PieceAt ws i (getD offers i d .number) (getD offers i d .rate) (getD offers i d .base)

@@ -1,19 +1,24 @@
--- The plain book's query and listing tell what `Meaning` says, whatever calls made its offers.
+-- The plain book's query, listing and report tell what `Meaning` says, whatever calls made its offers.
 use mathlib.Core.Path.{_≡_, refl, sym, _∙_, ap}
-use mathlib.Core.List.{List, [], _∷_, List·Memᴰ, Pairwise}
+use mathlib.Core.List.{List, [], _∷_, List·Memᴰ, Pairwise, Pairwise·sublistᴰ}
+use mathlib.Core.Bool.{Bool}
 use mathlib.Core.Option.{Option, none, some}
 use Prim.Native.Nat.{ℕ}
 use native.Mathlib.Omega.{arith}
 use lib.ListN.{length}
 use lib.Dec.{T}
 use lib.IntN.{ℤ}
+use lib.Signed.{ltZ}
+use Rattle.lists.specs.Filter.{keep-sublist, keep-passes, keep-in}
+use Rattle.lists.specs.Places.{sublist-mem}
 use Rattle.integers.specs.Parts.{intRules}
 use Rattle.offers.specs.Offers.{Offer, priceAt, ahead}
 use Rattle.plain.specs.Causes.{Cause, declined}
-use Rattle.plain.specs.Book.{State, query, listing, found, listed, lower, higher, cheapest, holding, envelope, pieceWords, respond, trials, step}
+use Rattle.plain.specs.Book.{State, query, listing, report, found, listed, reported, lower, higher, cheapest, holding, envelope, pieceWords}
+use Rattle.plain.specs.Book.{under, offerWords, respond, trials, step}
 use Rattle.plain.specs.Sound.{Sound}
-use Rattle.plain.specs.Meaning.{Cheapest, Listing}
-use Rattle.plain.specs.Rules.{words-length, words-inner, words-last}
+use Rattle.plain.specs.Meaning.{Cheapest, Listing, Report}
+use Rattle.plain.specs.Rules.{words-length, words-inner, words-last, offers-length, offers-at}
 use Rattle.plain.specs.QueryLaws.{lower-tie, higher-tie, Names, cheapest-names, earliest-live, earliest-once, cheapest-earliest}
 use Rattle.plain.specs.ListingLaws.{envelope-falls, listing-exact}
 
@@ -89,3 +94,29 @@ listing-listing s room m ws h e = go (declined (trials s (listing room))) e
         let many : length (envelope (s .offers)) ≡ m = cc in
         let words : pieceWords (envelope (s .offers)) ≡ ws = cc in
         rw (← many, ← words) (envelope-listing (s .offers) (h .ordered))
+
+-- ---- a report
+
+pub under-report : (os : List Offer) (q p : ℤ) → Pairwise (λ a b. T (ahead a b)) os → Report os q p (length (under q p os)) (offerWords (under q p os))
+under-report os q p h =
+    record {
+      offers = under q p os;
+      many = refl;
+      long = offers-length (under q p os);
+      in-order = Pairwise·sublistᴰ (keep-sublist below os) h;
+      exact = λ o. (λ m. (sublist-mem (keep-sublist below os) m, keep-passes below os o m), λ k. keep-in below os o (k .0) (k .1));
+      told = offers-at (under q p os);
+    }
+  where
+    below : Offer → Bool
+    below o = ltZ (priceAt o q) p
+
+pub report-report : (s : State) (q p : ℤ) (room m : ℕ) (ws : List ℤ) → Sound s → step s (report q p room) .answer ≡ reported m ws → Report (s .offers) q p m ws
+report-report s q p room m ws h e = go (declined (trials s (report q p room))) e
+  where
+    go : (d : Option Cause) → respond s (report q p room) d .answer ≡ reported m ws → Report (s .offers) q p m ws
+    go (some c) a = let z : _≡_ {A = ℕ} 0 1 = cc in absurd (omega arith)
+    go none a =
+        let many : length (under q p (s .offers)) ≡ m = cc in
+        let words : offerWords (under q p (s .offers)) ≡ ws = cc in
+        rw (← many, ← words) (under-report (s .offers) q p (h .ordered))

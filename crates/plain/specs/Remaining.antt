@@ -9,8 +9,8 @@ use lib.ListN.{length, take, drop, take-append-drop, length-take}
 use lib.IntN.{ℤ}
 use Rattle.plain.specs.Causes.{Cause, declined, Clear}
 use Rattle.plain.specs.Trials.{clear}
-use Rattle.plain.specs.Book.{State, Undo, Call, post, withdraw, query, listing, takeBack, Answer, refused, live, found, listed, undoOf}
-use Rattle.plain.specs.Book.{mostRemembered, remember, undone, trials, holding, recalling, accepted, respond, step, after, answers, Recallable}
+use Rattle.plain.specs.Book.{State, Undo, Call, post, withdraw, query, listing, takeBack, report, Answer, refused, live, found, listed, reported}
+use Rattle.plain.specs.Book.{undoOf, mostRemembered, remember, undone, trials, holding, recalling, accepted, respond, step, after, answers, Recallable}
 use Rattle.offers.specs.Offers.{Offer}
 use Rattle.plain.specs.Sound.{Sound, step-sound}
 use Rattle.plain.specs.Rules.{step-accepted}
@@ -18,14 +18,15 @@ use Rattle.plain.specs.Undoing.{Updating, posting, withdrawing, Undoes, 
 
 -- ---- which calls remain
 
--- The calls that remain, the last one first, when a call is accepted: a post or a withdrawal is one more, a take-back takes the last one off. Queries
--- and listings change no offer, and are not among them.
+-- The calls that remain, the last one first, when a call is accepted: a post or a withdrawal is one more, a take-back takes the last one off. Queries,
+-- listings and reports change no offer, and are not among them.
 abbrev pub going : List Call → Call → List Call
 going done (post n r b) = post n r b ∷ done
 going done (withdraw n) = withdraw n ∷ done
 going done takeBack = tail done
 going done (query q) = done
 going done (listing room) = done
+going done (report q p room) = done
 
 -- .. and when it was so answered: a refused one changes nothing.
 abbrev pub remains : List Call → Call → Answer → List Call
@@ -33,6 +34,7 @@ remains done k (refused n) = done
 remains done k (live n) = going done k
 remains done k (found n p m) = going done k
 remains done k (listed n ws) = going done k
+remains done k (reported n ws) = going done k
 
 -- .. and after a list of calls, with its answers.
 abbrev pub remainder : List Call → List Call → List Answer → List Call
@@ -64,12 +66,14 @@ countBack n (withdraw m) = min 256 (suc n)
 countBack n takeBack = n - 1
 countBack n (query q) = n
 countBack n (listing room) = n
+countBack n (report q p room) = n
 
 abbrev pub canTake : ℕ → Call → Answer → ℕ
 canTake n k (refused m) = n
 canTake n k (live m) = countBack n k
 canTake n k (found m p q) = countBack n k
 canTake n k (listed m ws) = countBack n k
+canTake n k (reported m ws) = countBack n k
 
 abbrev pub canTakeAll : ℕ → List Call → List Answer → ℕ
 canTakeAll n (k ∷ ks) (a ∷ told) = canTakeAll (canTake n k a) ks told
@@ -163,6 +167,7 @@ asked q done (refused n) = refl
 asked q done (live n) = refl
 asked q done (found n p m) = refl
 asked q done (listed n ws) = refl
+asked q done (reported n ws) = refl
 
 module _ (s : State) (h : Sound s) (fresh : s .memory ≡ []) where
   sound : (done : List Call) → Sound (ran s done)
@@ -197,6 +202,7 @@ module _ (s : State) (h : Sound s) (fresh : s .memory ≡ []) where
       go none (withdraw n) p = one-more withdrawing done t w (p refl)
       go none (query q) p = rw (asked q done (accepted t (query q) .answer)) w
       go none (listing room) p = w
+      go none (report q l room) p = w
       go none takeBack p = one-back done t (t .memory) w
 
   all-calls : (ks done : List Call) (t : State) → Standing s done t → Standing s (remainder done ks (answers t ks)) (after t ks)
@@ -242,6 +248,7 @@ step-count s k h = go (declined (trials s k)) k refl
     go none (withdraw n) e = one (withdraw n) withdrawing (clear (trials s (withdraw n)) e)
     go none (query q) e = asked (s .offers) q
     go none (listing room) e = refl
+    go none (report q p room) e = refl
     go none takeBack e = back (s .memory)
 
 -- So a take-back is declined with 17 exactly where that number is 0.

@@ -8,18 +8,18 @@ use native.Mathlib.Omega.{arith}
 use lib.ListN.{length, getD}
 use lib.Dec.{T, T-not, not-T, le→leb}
 use lib.Arith.{lt→nleb}
-use borrow.Author.Tests.{le-ltb}
+use borrow.Author.Tests.{le-ltb, lt-ltb}
 use lib.IntN.{ℤ, pos}
-use Rattle.lists.specs.Bools.{failed, twice, not-failed}
+use Rattle.lists.specs.Bools.{passed, failed, twice, not-failed}
 use Rattle.lists.specs.Tests.{any, none-at, not-any}
 use Rattle.integers.specs.Equal.{equal}
 use Rattle.integers.specs.Parts.{equal-is, equal-eq}
-use Rattle.offers.specs.Offers.{Offer, numberInRange, rateInRange, baseInRange, loadInRange, priceAt, crossingNumerator, crossingDenominator}
+use Rattle.offers.specs.Offers.{Offer, numberInRange, rateInRange, baseInRange, loadInRange, priceInRange, priceAt, crossingNumerator, crossingDenominator}
 use Rattle.plain.specs.Causes.{Cause, causeNumber, Clear}
-use Rattle.plain.specs.Book.{hasNumber, State, Outcome, Call, post, withdraw, query, listing, takeBack, refused, live, found, listed, join, leave}
-use Rattle.plain.specs.Book.{lower, higher, cheapest, envelope, pieceWords, trials, step, respond, accepted}
+use Rattle.plain.specs.Book.{hasNumber, State, Outcome, Call, post, withdraw, query, listing, takeBack, report, refused, live, found, listed, reported}
+use Rattle.plain.specs.Book.{join, leave, lower, higher, cheapest, envelope, pieceWords, under, offerWords, trials, step, respond, accepted}
 use Rattle.plain.specs.Book.{Undo, undoOf, remember, undone, recalling, changed}
-use Rattle.plain.specs.Causes.{FirstOf, at-once, nothingToTakeBack}
+use Rattle.plain.specs.Causes.{FirstOf, at-once, further, outputTooShort, nothingToTakeBack}
 use Rattle.plain.specs.Trials.{declined-by, not-declined}
 use Rattle.plain.specs.Sound.{length-join}
 use Rattle.plain.specs.Meaning.{PieceAt}
@@ -116,6 +116,22 @@ pub shows : (s : State) (room : ℕ) → 3 * length (envelope (s .offers)) ≤ r
     step s (listing room) ≡ record { state = s; answer = listed (length (envelope (s .offers))) (pieceWords (envelope (s .offers))) }
 shows s room h = lists s room (failed (le-ltb room (3 * length (envelope (s .offers))) h), tt)
 
+-- So is a report whose output has three words an offer, where price and load are in range; an empty book's too.
+pub reports : (s : State) (q p : ℤ) (room : ℕ) → T (priceInRange p) → T (loadInRange q) → 3 * length (under q p (s .offers)) ≤ room →
+    step s (report q p room) ≡ record { state = s; answer = reported (length (under q p (s .offers))) (offerWords (under q p (s .offers))) }
+reports s q p room i j h =
+    step-accepted s (report q p room) (
+      twice (priceInRange p) i,
+      (twice (loadInRange q) j, (failed (le-ltb room (3 * length (under q p (s .offers))) h), tt)),
+    )
+
+-- .. and a shorter one gets 10
+pub report-short : (s : State) (q p : ℤ) (room : ℕ) → T (priceInRange p) → T (loadInRange q) → room < 3 * length (under q p (s .offers)) →
+    step s (report q p room) ≡ refusing s 10
+report-short s q p room i j h =
+    step-declined s (report q p room) outputTooShort
+    (further (twice (priceInRange p) i) (further (twice (loadInRange q) j) (at-once (passed (lt-ltb room (3 * length (under q p (s .offers))) h)))))
+
 -- a book with an offer answers a load in range
 pub finds : (c : ℕ) (o : Offer) (os : List Offer) (us : List Undo) (q : ℤ) → T (loadInRange q) →
     step (record { capacity = c; offers = o ∷ os; memory = us }) (query q) ≡ record {
@@ -156,3 +172,15 @@ words-last (o ∷ []) zero d h = record { first = refl; second = refl; third = r
 words-last (o ∷ []) (suc i) d h = absurd (omega arith)
 words-last (o ∷ p ∷ ps) zero d h = absurd (omega arith)
 words-last (o ∷ p ∷ ps) (suc i) d h = later (words-last (p ∷ ps) i d (omega arith))
+
+-- ---- a report's words
+
+pub offers-length : (os : List Offer) → length (offerWords os) ≡ 3 * length os
+offers-length [] = refl
+offers-length (o ∷ os) = omega (arith, offers-length os)
+
+pub offers-at : (os : List Offer) (i : ℕ) (d : Offer) → i < length os →
+    PieceAt (offerWords os) i (getD os i d .number) (getD os i d .rate) (getD os i d .base)
+offers-at [] i d h = absurd (omega arith)
+offers-at (o ∷ os) zero d h = record { first = refl; second = refl; third = refl }
+offers-at (o ∷ os) (suc i) d h = later (offers-at os i d (omega arith))

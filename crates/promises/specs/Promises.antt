@@ -10,7 +10,7 @@ use Prim.Native.Nat.{ℕ, _+_, _*_}
 use lib.ListN.{length, take, drop}
 use lib.IntN.{ℤ, pos, negsuc, natAbs}
 use Rattle.plain.specs.Causes.{Cause, noBook, Trial, _when_, causeNumber, FirstOf, Clear}
-use Rattle.plain.specs.Book.{State, Call, query, listing, Answer, refused, live, found, listed}
+use Rattle.plain.specs.Book.{State, Call, query, listing, report, Answer, refused, live, found, listed, reported}
 use Rattle.plain.specs.Book.{firstOfEach, opening, opened, openTrials, rangeTrials, noBookAt, partLength, step}
 use Rattle.trees.specs.Tree.{Tree}
 use Rattle.trees.specs.Operations.{Part}
@@ -30,6 +30,8 @@ use Rattle.promises.specs.declared.Found.{Found}
 use Rattle.promises.specs.declared.Found.the-variants.{Offer, Declined as FoundDeclined}
 use Rattle.promises.specs.declared.Listed.{Listed}
 use Rattle.promises.specs.declared.Listed.the-variants.{Pieces, Declined as ListingDeclined}
+use Rattle.promises.specs.declared.Reported.{Reported}
+use Rattle.promises.specs.declared.Reported.the-variants.{Offers, Declined as ReportDeclined}
 
 -- ---- the part of a table
 
@@ -83,6 +85,11 @@ abbrev pub listedTold : Listed → Told
 listedTold (Pieces m) = record { number = pos 0; values = m ∷ [] }
 listedTold (ListingDeclined c) = record { number = c; values = [] }
 
+-- the count of offers
+abbrev pub reportedTold : Reported → Told
+reportedTold (Offers m) = record { number = pos 0; values = m ∷ [] }
+reportedTold (ReportDeclined c) = record { number = c; values = [] }
+
 -- an opening's: 0 alone, or a refusal's number
 abbrev pub openingAnswer : Opening → ℤ
 openingAnswer Opened = pos 0
@@ -109,6 +116,9 @@ foundAnswer r = pricedBy (foundTold r .number) (foundTold r .values)
 -- with the words that the output then begins with
 abbrev pub listingAnswer : Listed → List ℤ → Answer
 listingAnswer r out = countedBy (λ n. listed n (take (3 * n) out)) (listedTold r .number) (listedTold r .values)
+
+abbrev pub reportAnswer : Reported → List ℤ → Answer
+reportAnswer r out = countedBy (λ n. reported n (take (3 * n) out)) (reportedTold r .number) (reportedTold r .values)
 
 -- ---- open
 
@@ -167,13 +177,14 @@ pub record Queries (q : ℤ) (start : ℕ) (t : List ℤ) (r : Found) : Type 0 w
   pub answers : (s : State) (held : Option (Held Item)) → Book (partOf t start) s held → foundAnswer r ≡ step s (query q) .answer
   pub probes : (s : State) (held : Option (Held Item)) → Book (partOf t start) s held → Probes held (foundTold r .values)
 
--- ---- listing, into an output lent with it
+-- ---- listing and report, into an output lent with them
 
 abbrev pub writtenWords : Answer → ℕ
 writtenWords (refused n) = 0
 writtenWords (live n) = 0
 writtenWords (found n p m) = 0
 writtenWords (listed m ws) = length ws
+writtenWords (reported m ws) = length ws
 
 pub record Lists (start : ℕ) (t out out′ : List ℤ) (r : Listed) : Type 0 where
   pub declined : (z : Cause) → FirstOf (tableTrials t start (listing (length out))) z → (listingAnswer r out′ ≡ refused (causeNumber z)) × (out′ ≡ out)
@@ -184,6 +195,15 @@ pub record Lists (start : ℕ) (t out out′ : List ℤ) (r : Listed) : Type 0 w
   -- later output words keep their contents
   pub later : (s : State) (held : Option (Held Item)) → Book (partOf t start) s held →
       drop (writtenWords (listingAnswer r out′)) out′ ≡ drop (writtenWords (listingAnswer r out′)) out
+
+-- The same of a report, of a load q and a price p: the table is only read.
+pub record Reports (q p : ℤ) (start : ℕ) (t out out′ : List ℤ) (r : Reported) : Type 0 where
+  pub declined : (z : Cause) → FirstOf (tableTrials t start (report q p (length out))) z → (reportAnswer r out′ ≡ refused (causeNumber z)) × (out′ ≡ out)
+  pub refusal : (z : ℤ) → r ≡ ReportDeclined z → out′ ≡ out
+  pub long : length out′ ≡ length out
+  pub answers : (s : State) (held : Option (Held Item)) → Book (partOf t start) s held → reportAnswer r out′ ≡ step s (report q p (length out)) .answer
+  pub later : (s : State) (held : Option (Held Item)) → Book (partOf t start) s held →
+      drop (writtenWords (reportAnswer r out′)) out′ ≡ drop (writtenWords (reportAnswer r out′)) out
 
 -- ---- check
 

@@ -36,6 +36,12 @@ pub enum Listed {
     Declined(i64),
 }
 
+// What a report answers: how many offers it wrote, three words each.
+pub enum Reported {
+    Offers(i64),
+    Declined(i64),
+}
+
 // There is no book at `start`: it lies beyond the table, or the words there tell no capacity that they have room for.
 pub fn no_book(table: &[i64], start: usize) -> bool
     ensures { λ r. ⌜ r ≡ noBookAt (length (now (table .entry))) start (word (partOf (now (table .entry)) start) capacityWord) ⌝ }
