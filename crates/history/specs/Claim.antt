@@ -1,5 +1,5 @@
 -- The proof of the claim about a history (`Claim`, in History): from an accepted opening, whatever the capacity, the start and the words were, and
--- after any list of posts, withdrawals, take-backs, queries and listings, refused ones among them.
+-- after any list of posts, withdrawals, take-backs, queries, listings and reports, refused ones among them.
 use mathlib.Core.Path.{_≡_, refl, sym, _∙_, ap, subst}
 use mathlib.Core.List.{List, [], _∷_}
 use mathlib.Core.Option.{Option, none, some}
@@ -7,8 +7,8 @@ use Prim.Native.Nat.{ℕ}
 use lib.ListN.{length}
 use lib.IntN.{ℤ, natAbs}
 use Rattle.plain.specs.Causes.{Cause, declined, Clear}
-use Rattle.plain.specs.Book.{State, Undo, Call, post, withdraw, query, listing, takeBack, Answer, opened, openTrials, trials, recalling}
-use Rattle.plain.specs.Book.{accepted, respond, step, after, answers}
+use Rattle.plain.specs.Book.{State, Undo, Call, post, withdraw, query, listing, takeBack, report, Answer, opened, openTrials, trials}
+use Rattle.plain.specs.Book.{recalling, accepted, respond, step, after, answers}
 use Rattle.trees.specs.Height.{log-height, log-heightP}
 use Rattle.dynamic.specs.OfferTree.{Held, Pair}
 use Rattle.dynamic.specs.Heights.{offers-height, piece-height}
@@ -20,7 +20,7 @@ use Rattle.promises.specs.declared.Opening.the-variants.{Opened}
 use Rattle.form.specs.Form.{Form, OffersIn}
 use Rattle.form.specs.Local.{Alike, form-alike}
 use Rattle.promises.specs.Promises.{partOf, Opens, Passes}
-use Rattle.history.specs.History.{Happens, by-update, by-query, by-listing, History, finished, next, LowPairs, Kept}
+use Rattle.history.specs.History.{Happens, by-update, by-query, by-listing, by-report, History, finished, next, LowPairs, Kept}
 pub use Rattle.history.specs.History.{Low, Claim}
 
 -- ---- heights
@@ -45,26 +45,20 @@ step-capacity s k = go (declined (trials s k)) k
     go none (withdraw n) = refl
     go none (query q) = refl
     go none (listing room) = refl
+    go none (report q p room) = refl
     go none takeBack = taken (s .memory)
       where
         taken : (m : List Undo) → accepted (recalling s (s .offers) m) takeBack .state .capacity ≡ s .capacity
         taken [] = refl
         taken (u ∷ us) = refl
 
--- a query and a listing leave the plain book as it was
-pub asked-state : (s : State) (q : ℤ) → step s (query q) .state ≡ s
-asked-state s q = go (declined (trials s (query q)))
+-- a query, a listing and a report leave the plain book as it was
+pub read-state : (s : State) (k : Call) → accepted s k .state ≡ s → step s k .state ≡ s
+read-state s k e = go (declined (trials s k))
   where
-    go : (d : Option Cause) → respond s (query q) d .state ≡ s
+    go : (d : Option Cause) → respond s k d .state ≡ s
     go (some c) = refl
-    go none = refl
-
-pub listed-state : (s : State) (room : ℕ) → step s (listing room) .state ≡ s
-listed-state s room = go (declined (trials s (listing room)))
-  where
-    go : (d : Option Cause) → respond s (listing room) d .state ≡ s
-    go (some c) = refl
-    go none = refl
+    go none = e
 
 -- what one call does to a part that stands for a plain book
 pub record OneCall {start : ℕ} {t : List ℤ} {k : Call} {t′ : List ℤ} {a : Answer} (s : State) (held : Option (Held Item)) (p : Happens start t k t′ a) :
@@ -88,15 +82,22 @@ one-call s held (by-update c u p e) form =
 one-call {start} s held (by-query q f p d e) form =
     record {
       mid = held;
-      stands = unmoved start d (asked-state s q) form;
+      stands = unmoved start d (read-state s (query q) refl) form;
       told = e ∙ p .answers s held (form .book);
       kept = (p .probes s held (form .book), refl);
     }
 one-call {start} s held (by-listing {room} out out′ l p m d e) form =
     record {
       mid = held;
-      stands = unmoved start d (listed-state s room) form;
+      stands = unmoved start d (read-state s (listing room) refl) form;
       told = e ∙ p .answers s held (form .book) ∙ ap (λ (n : ℕ). step s (listing n) .answer) (sym m);
+      kept = refl;
+    }
+one-call {start} s held (by-report {room} q p out out′ r k m d e) form =
+    record {
+      mid = held;
+      stands = unmoved start d (read-state s (report q p room) refl) form;
+      told = e ∙ k .answers s held (form .book) ∙ ap (λ (n : ℕ). step s (report q p n) .answer) (sym m);
       kept = refl;
     }
 
