@@ -1,10 +1,10 @@
 -- How many nodes the report visits: for each line that it yields, at most two a level, and the root.
-use Prim.Native.Nat.{ℕ, suc, _+_, _*_, _≤_, _<_, max}
+use Prim.Native.Nat.{ℕ, suc, _+_, _*_, _≤_, max}
 use native.Mathlib.Nat.{mul-le-mul}
 use native.Mathlib.Omega.{arith}
 use mathlib.Core.Path.{_≡_, refl, sym, _∙_, ap, subst}
 use mathlib.Core.Bool.{Bool, true, false, cond}
-use mathlib.Core.List.{List, [], _∷_, _++_, List·Memᴰ}
+use mathlib.Core.List.{List, [], _∷_, _++_}
 use lib.Dec.{T}
 use lib.ListN.{length, length-append}
 use Rattle.lists.specs.Filter.{keep, keep-in}
@@ -19,7 +19,7 @@ use Rattle.dynamic.specs.Valid.{Valid, valid-single, valid-fork}
 use Rattle.dynamic.specs.Lower.{valid-env}
 use Rattle.below.specs.Least.{Least}
 use Rattle.below.specs.Children.{Seeks, leftOf, rightOf, Lesser, children}
-use Rattle.below.specs.Below.{Limit, keep-append}
+use Rattle.below.specs.Below.{keep-append}
 
 module _ (S : Figure) (x : S .Point) (seek : Tree (S .Line) → S .Line) where
   -- the nodes at which `below` looks, the root among them

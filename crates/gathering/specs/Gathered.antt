@@ -1,6 +1,6 @@
 -- What is gathered from the root of a book's tree of offers: every leaf below the price, and no other.
 use mathlib.Core.Path.{_≡_, refl, sym, _∙_, ap, subst}
-use mathlib.Core.Bool.{Bool, true, false}
+use mathlib.Core.Bool.{Bool, false}
 use mathlib.Core.Option.{none, some}
 use mathlib.Core.List.{List, [], map}
 use Prim.Native.Nat.{ℕ, _≤_}
@@ -14,7 +14,7 @@ use Rattle.lists.specs.Members.{sub-length}
 use Rattle.offers.specs.Offers.{loadInRange}
 use Rattle.envelopes.specs.Envelope.{Env}
 use Rattle.lines.specs.Lines.{whole}
-use Rattle.trees.specs.Tree.{Tree, leaves}
+use Rattle.trees.specs.Tree.{leaves}
 use Rattle.trees.specs.Operations.{Part, partLeaves}
 use Rattle.dynamic.specs.OfferTree.{Held, heldShape}
 use Rattle.dynamic.specs.Valid.{Valid}
@@ -37,7 +37,7 @@ use Rattle.query.specs.Descent.{Descended}
 use Rattle.check_trees.specs.Stretches.{span, span-length}
 use Rattle.gathering.specs.Limits.{seekAt, cheapAt, seeks-at, limit-at}
 use Rattle.gathering.specs.Nodes.{held-under}
-use Rattle.gathering.specs.Cheapest.{standing-pieces}
+use Rattle.gathering.specs.Cheapest.{found}
 use Rattle.gathering.specs.Gathers.{Gathers, Asked, asked-cheap}
 
 -- the piece that a query on the root's envelope ends at is one to begin with
@@ -45,7 +45,9 @@ record Begun (w : Words) (x slot : ℕ) (q : ℤ) (h : Held Item) : Type 0 where
   cheapest : Item
   asked : Asked w x slot q mostLevels 0 (h .tree) (partLeaves (h .whole)) cheapest
 
-module _ {w : Words} {x root slot second probes : ℕ} {q : ℤ} (d : Descended w root q slot second probes) (h : Held Item) (k : HeldIn w x root h) (range : T (loadInRange q)) where
+module _
+    {w : Words} {x root slot second probes : ℕ} {q : ℤ} (d : Descended w root q slot second probes) (h : Held Item) (k : HeldIn w x root h)
+    (range : T (loadInRange q)) where
   begun : Begun w x slot q h
   begun = go (h .whole) refl
     where
@@ -57,8 +59,9 @@ module _ {w : Words} {x root slot second probes : ℕ} {q : ℤ} (d : Descended 
             asked =
                 record {
                   under = held-under k;
-                  slot = d .finds t (standing-pieces stand) (low w (stand .slots) (stand .balanced)) range .item;
-                  least = subst (λ (e : Part Item). Least items (partLeaves e) (seekAt q t) (whole q)) (sym e) (seeks-at q t (own-env items item-laws (leaves t) (env .chain)));
+                  slot = found d stand range .slot;
+                  least = subst (λ (e : Part Item). Least items (partLeaves e) (seekAt q t) (whole q)) (sym e)
+                      (seeks-at q t (own-env items item-laws (leaves t) (env .chain)));
                   load = range;
                   low = low w (k .slots) (k .right .balanced);
                   room = omega (arith, slots-most (cap w) (leaves (heldShape h)) (k .slots), cap-most w);
@@ -78,7 +81,8 @@ module _
   gathered =
       let b = begun d h k range in
       g .gathers (h .tree) (partLeaves (h .whole)) (b .cheapest) (b .asked)
-      ∙ ap (map slotOf) (below-exact items item-laws (whole q) (cheapAt q p) (limit-at q p) (seekAt q) (seeks-at q) (k .right .valid) (k .right .ordered) (b .asked .least))
+      ∙ ap (map slotOf)
+      (below-exact items item-laws (whole q) (cheapAt q p) (limit-at q p) (seekAt q) (seeks-at q) (k .right .valid) (k .right .ordered) (b .asked .least))
 
   -- so many, and they all have a place
   pub gathered-count : n ≡ length (keep (cheapAt q p) (leaves (heldShape h)))
@@ -86,7 +90,8 @@ module _
 
   pub gathered-few : n ≤ mostSlots
   gathered-few =
-      omega (arith, gathered-count, sub-length (keep-sublist (cheapAt q p) (leaves (heldShape h))), slots-most (cap w) (leaves (heldShape h)) (k .slots), cap-most w)
+      omega
+      (arith, gathered-count, sub-length (keep-sublist (cheapAt q p) (leaves (heldShape h))), slots-most (cap w) (leaves (heldShape h)) (k .slots), cap-most w)
 
 -- where the cheapest of all is not below, none is
 pub none-below :
@@ -94,4 +99,5 @@ pub none-below :
     T (loadInRange q) → b ≡ ltZ (priceIn w slot q) p → b ≡ false → keep (cheapAt q p) (leaves (heldShape h)) ≡ []
 none-below {q} p d h k range test y =
     let b = begun d h k range in
-    nothing-below items item-laws (whole q) (cheapAt q p) (limit-at q p) (valid-env items item-laws (k .right .valid)) (b .asked .least) (asked-cheap p (b .asked) test ∙ y)
+    nothing-below items item-laws (whole q) (cheapAt q p) (limit-at q p) (valid-env items item-laws (k .right .valid)) (b .asked .least)
+    (asked-cheap p (b .asked) test ∙ y)

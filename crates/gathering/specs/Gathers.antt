@@ -1,8 +1,8 @@
 -- The walk that gathers the report: what it promises, and the ways through its code.
-use mathlib.Core.Path.{_≡_, refl, sym, _∙_, ap, ap₂, subst}
+use mathlib.Core.Path.{_≡_, refl, sym, _∙_, ap, ap₂}
 use mathlib.Core.Logic.{_≢_}
-use mathlib.Core.Bool.{Bool, true, false, cond}
-use mathlib.Core.List.{List, [], _∷_, _++_, map, map-append, List·Memᴰ, List·Memᴰ·head}
+use mathlib.Core.Bool.{Bool, true, false}
+use mathlib.Core.List.{List, [], _∷_, _++_, map, map-append, List·Memᴰ·head}
 use Prim.Native.Nat.{ℕ, suc, _+_, _-_, _≤_, _<_}
 use native.Mathlib.Omega.{arith}
 use lib.Dec.{T}
@@ -12,7 +12,6 @@ use lib.ListN.{length, getD, set, length-set, length-append, length-map}
 use lib.Seq.{getD-set-same, getD-set-other}
 use Rattle.lists.specs.Filter.{keep-sublist}
 use Rattle.lists.specs.Members.{sub-length}
-use Rattle.lists.specs.Places.{sublist-mem}
 use Rattle.offers.specs.Offers.{loadInRange}
 use Rattle.lines.specs.Lines.{whole}
 use Rattle.trees.specs.Tree.{height, leaves}
@@ -28,14 +27,12 @@ use Rattle.table.specs.Words.{Words}
 use Rattle.table.specs.Layout.{cap-most}
 use Rattle.table.specs.Items.{Item, slotOf, slots-left}
 use Rattle.table.specs.Rep.{childAt}
-use Rattle.table.specs.Threads.{Held}
 use Rattle.pieces.specs.Pieces.{items, item-laws}
-use Rattle.query.specs.QueriedPieces.{price-kept}
 use Rattle.query.specs.Readings.{priceIn}
 use Rattle.check_trees.specs.Stretches.{span, span-none, span-one, span-cut, span-same, span-length}
 use Rattle.gathering.specs.Limits.{seekAt, cheapAt, reported, seeks-at, limit-at}
-use Rattle.gathering.specs.Nodes.{Under, Forked, forked}
-use Rattle.gathering.specs.Cheapest.{OnLeft, OnRight}
+use Rattle.gathering.specs.Nodes.{Under, under-held, Forked, forked}
+use Rattle.gathering.specs.Cheapest.{Kept, price-told, OnLeft, OnRight}
 
 -- the place of a walk that gave up
 abbrev pub givenUp : ℕ
@@ -56,12 +53,14 @@ pub record Gathers (w : Words) (x e : ℕ) (q p : ℤ) (limit : ℕ) (xs xs′ :
   pub grown : at ≤ next
   pub gathers : (t : OfferTree Item) (es : List Item) (a : Item) → Asked w x e q limit at t es a → span xs′ at next ≡ map slotOf (reported q p t a)
 
-asked-held : {w : Words} {x e limit at : ℕ} {q : ℤ} {t : OfferTree Item} {es : List Item} {a : Item} → Asked w x e q limit at t es a → Held w a
-asked-held k = k .under .kept .held (sublist-mem (valid-env items item-laws (k .under .valid) .sub) (k .least .one-of))
+asked-kept : {w : Words} {x e limit at : ℕ} {q : ℤ} {t : OfferTree Item} {es : List Item} {a : Item} → Asked w x e q limit at t es a → Kept w e q a
+asked-kept k = record { slot = k .slot; held = under-held (k .under) (k .least .one-of); load = k .load }
 
 -- the code's test is the model's
-pub asked-cheap : {w : Words} {x e limit at : ℕ} {q : ℤ} (p : ℤ) {t : OfferTree Item} {es : List Item} {a : Item} {b : Bool} → Asked w x e q limit at t es a → b ≡ ltZ (priceIn w e q) p → cheapAt q p a ≡ b
-asked-cheap {w} {q} p k test = sym (test ∙ ap (λ z. ltZ z p) (ap (λ n. priceIn w n q) (k .slot) ∙ price-kept q (asked-held k) (k .load)))
+pub asked-cheap :
+    {w : Words} {x e limit at : ℕ} {q : ℤ} (p : ℤ) {t : OfferTree Item} {es : List Item} {a : Item} {b : Bool} → Asked w x e q limit at t es a →
+    b ≡ ltZ (priceIn w e q) p → cheapAt q p a ≡ b
+asked-cheap p k test = sym (test ∙ ap (λ z. ltZ z p) (price-told (asked-kept k)))
 
 -- ---- no room is left
 
@@ -70,7 +69,8 @@ gathers-past h = record { long = refl; same = λ i k. refl; grown = omega arith;
 
 -- ---- the cheapest is not below
 
-pub gathers-none : {w : Words} {x e limit at : ℕ} {q p : ℤ} {xs : List ℕ} {b : Bool} → b ≡ ltZ (priceIn w e q) p → b ≡ false → Gathers w x e q p limit xs xs at at
+pub gathers-none : {w : Words} {x e limit at : ℕ} {q p : ℤ} {xs : List ℕ} {b : Bool} → b ≡ ltZ (priceIn w e q) p → b ≡ false →
+    Gathers w x e q p limit xs xs at at
 unfolding below
 gathers-none {w} {x} {e} {limit} {at} {q} {p} {xs} test y = record { long = refl; same = λ i h. refl; grown = omega arith; gathers = go }
   where
@@ -87,7 +87,8 @@ pub data Put (x : ℕ) (xs : List ℕ) : List ℕ → (at next : ℕ) → Type 0
 
 module _ {w : Words} {x e limit at : ℕ} {q p : ℤ} {xs : List ℕ} (leafy : x ≤ mostSlots) {b : Bool} (test : b ≡ ltZ (priceIn w e q) p) (y : b ≡ true) where
   gathers-full : at ≤ mostSlots → mostSlots ≤ at → Gathers w x e q p limit xs xs at givenUp
-  gathers-full g h = record { long = refl; same = λ i h. refl; grown = omega arith; gathers = λ t es a k. absurd (omega (arith, k .room, some-leaf (shape t))) }
+  gathers-full g h =
+      record { long = refl; same = λ i h. refl; grown = omega arith; gathers = λ t es a k. absurd (omega (arith, k .room, some-leaf (shape t))) }
 
   gathers-leaf : length xs ≡ mostSlots → at < mostSlots → Gathers w x e q p limit xs (set xs at x) at (at + 1)
   unfolding below
@@ -100,13 +101,15 @@ module _ {w : Words} {x e limit at : ℕ} {q p : ℤ} {xs : List ℕ} (leafy : x
       go (single c) es a k = one ∙ rw (asked-cheap p k test, y) (ap (λ (s : ℕ). s ∷ []) (k .under .root))
       go (fork u v l ql qr r) es a k = absurd (omega (arith, k .under .root, slots-left (leaves (shape r)) (k .under .slots) .low (last-leaf (shape l))))
 
-pub gathers-put : {w : Words} {x e limit at next : ℕ} {q p : ℤ} {xs xs′ : List ℕ} {b : Bool} → at ≤ mostSlots → x ≤ mostSlots → b ≡ ltZ (priceIn w e q) p → b ≡ true → Put x xs xs′ at next → Gathers w x e q p limit xs xs′ at next
+pub gathers-put : {w : Words} {x e limit at next : ℕ} {q p : ℤ} {xs xs′ : List ℕ} {b : Bool} → at ≤ mostSlots → x ≤ mostSlots →
+    b ≡ ltZ (priceIn w e q) p → b ≡ true → Put x xs xs′ at next → Gathers w x e q p limit xs xs′ at next
 gathers-put g d test y (put-none h) = gathers-full d test y g h
 gathers-put g d test y (put-here n h) = gathers-leaf d test y n h
 
 -- ---- the limit is used up
 
-pub gathers-deep : {w : Words} {x e limit at : ℕ} {q p : ℤ} {xs : List ℕ} → at ≤ mostSlots → mostSlots < x → limit ≡ 0 → Gathers w x e q p limit xs xs at givenUp
+pub gathers-deep : {w : Words} {x e limit at : ℕ} {q p : ℤ} {xs : List ℕ} → at ≤ mostSlots → mostSlots < x → limit ≡ 0 →
+    Gathers w x e q p limit xs xs at givenUp
 gathers-deep {w} {x} {e} {limit} {at} {q} {p} {xs} g d z = record { long = refl; same = λ i h. refl; grown = omega arith; gathers = go }
   where
     go : (t : OfferTree Item) (es : List Item) (a : Item) → Asked w x e q limit at t es a → span xs at givenUp ≡ map slotOf (reported q p t a)
@@ -116,9 +119,11 @@ gathers-deep {w} {x} {e} {limit} {at} {q} {p} {xs} g d z = record { long = refl;
 -- ---- both children
 
 -- no more items are reported than there are
-reported-few : {w : Words} {x : ℕ} {q : ℤ} (p : ℤ) {t : OfferTree Item} {es : List Item} {a : Item} → Under w x t es → Least items es a (whole q) → length (reported q p t a) ≤ length (leaves (shape t))
+reported-few : {w : Words} {x : ℕ} {q : ℤ} (p : ℤ) {t : OfferTree Item} {es : List Item} {a : Item} → Under w x t es → Least items es a (whole q) →
+    length (reported q p t a) ≤ length (leaves (shape t))
 reported-few {q} p {t} n M =
-    omega (arith, ap length (below-exact items item-laws (whole q) (cheapAt q p) (limit-at q p) (seekAt q) (seeks-at q) (n .valid) (n .ordered) M), sub-length (keep-sublist (cheapAt q p) (leaves (shape t))))
+    let exact = below-exact items item-laws (whole q) (cheapAt q p) (limit-at q p) (seekAt q) (seeks-at q) (n .valid) (n .ordered) M in
+    omega (arith, ap length exact, sub-length (keep-sublist (cheapAt q p) (leaves (shape t))))
 
 module _
     {w : Words} {x e limit at mid next c d f g : ℕ} {q p : ℤ} {xs xs₁ xs₂ : List ℕ} {b : Bool}
@@ -127,7 +132,13 @@ module _
     (rc : d ≡ childAt w offerTree true x) (rr : OnRight w x e q g) (C : Gathers w d g q p (limit - 1) xs₁ xs₂ mid next) where
   pub gathers-node : Gathers w x e q p limit xs xs₂ at next
   unfolding below
-  gathers-node = record { long = C .long ∙ A .long; same = λ i h. C .same i (omega (arith, A .grown)) ∙ A .same i h; grown = omega (arith, A .grown, C .grown); gathers = go }
+  gathers-node =
+      record {
+        long = C .long ∙ A .long;
+        same = λ i h. C .same i (omega (arith, A .grown)) ∙ A .same i h;
+        grown = omega (arith, A .grown, C .grown);
+        gathers = go;
+      }
     where
       go : (t : OfferTree Item) (es : List Item) (a : Item) → Asked w x e q limit at t es a → span xs₂ at next ≡ map slotOf (reported q p t a)
       go (single z) es a k = absurd (omega (arith, k .under .root, k .under .slots .high (List·Memᴰ·head refl), cap-most w))
@@ -156,7 +167,7 @@ module _
               A .gathers l _ a₁
               (record {
                 under = rw lc (F .left);
-                slot = ll .is u v l r ql qr es a (k .under) (k .slot) (asked-held k) (k .load);
+                slot = ll .is u v l r ql qr es a (k .under) (asked-kept k);
                 least = M .left;
                 load = k .load;
                 low = omega (arith, k .low);
@@ -171,7 +182,7 @@ module _
               C .gathers r _ a₂
               (record {
                 under = rw rc (F .right);
-                slot = rr .is u v l r ql qr es a (k .under) (k .slot) (asked-held k) (k .load);
+                slot = rr .is u v l r ql qr es a (k .under) (asked-kept k);
                 least = M .right;
                 load = k .load;
                 low = omega (arith, k .low);

@@ -1,7 +1,7 @@
 -- Offers below a price at a whole load: a query's descent finds a cheapest piece, and the price is a limit.
-use mathlib.Core.Path.{_≡_, sym, subst}
+use mathlib.Core.Path.{subst}
 use mathlib.Core.Bool.{Bool}
-use mathlib.Core.List.{List, List·Memᴰ}
+use mathlib.Core.List.{List}
 use native.Mathlib.Omega.{arith}
 use lib.Dec.{T}
 use lib.IntN.{ℤ}
@@ -11,7 +11,6 @@ use Rattle.offers.specs.Offers.{priceAt}
 use Rattle.lines.specs.Lines.{whole, whole-price}
 use Rattle.trees.specs.Tree.{Tree}
 use Rattle.dynamic.specs.OfferTree.{OfferTree}
-use Rattle.below.specs.Least.{Least}
 use Rattle.below.specs.Children.{Seeks}
 use Rattle.below.specs.Below.{below, Limit}
 use Rattle.table.specs.Items.{Item}

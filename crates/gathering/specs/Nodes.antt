@@ -1,9 +1,8 @@
 -- A subtree of offers in words, with the envelope that it has but that no words hold whole.
-use mathlib.Core.Path.{_≡_, refl, sym, _∙_, ap}
+use mathlib.Core.Path.{_≡_, _∙_, ap}
 use mathlib.Core.Bool.{true, false}
-use mathlib.Core.Option.{none, some}
 use mathlib.Core.List.{List, [], _∷_, _++_, List·Memᴰ, Memᴰ·append-left, Memᴰ·append-right}
-use Prim.Native.Nat.{ℕ, _-_, _≤_, _<_}
+use Prim.Native.Nat.{ℕ, _-_}
 use native.Mathlib.Omega.{arith}
 use Rattle.lists.specs.Places.{sublist-mem}
 use Rattle.envelopes.specs.Envelope.{Ordered, Env}
@@ -12,7 +11,7 @@ use Rattle.trees.specs.Tree.{leaves, last}
 use Rattle.trees.specs.Leaves.{last-leaf}
 use Rattle.trees.specs.Operations.{Part, partLeaves}
 use Rattle.trees.specs.Balanced.{AvlP}
-use Rattle.dynamic.specs.OfferTree.{OfferTree, single, fork, shape, Held, heldShape}
+use Rattle.dynamic.specs.OfferTree.{OfferTree, fork, shape, Held}
 use Rattle.dynamic.specs.Valid.{Valid, valid-fork}
 use Rattle.dynamic.specs.Lower.{valid-env}
 use Rattle.table.specs.Fields.{bridgeLeftField, bridgeRightField, mostSlots, offerTree, rateField}
@@ -20,7 +19,7 @@ use Rattle.table.specs.Words.{Words}
 use Rattle.table.specs.Layout.{cap, cell, linkAt}
 use Rattle.table.specs.Items.{Item, Slots, slots-left, slots-right, slots-sublist}
 use Rattle.table.specs.Rep.{childAt, refOf, Tied, tied-node}
-use Rattle.table.specs.Threads.{Holds, holds-left, holds-right}
+use Rattle.table.specs.Threads.{Holds, Held as Kept, holds-left, holds-right}
 use Rattle.pieces.specs.Pieces.{items, item-laws, rateOf, Standing}
 use Rattle.form.specs.Stored.{Stored, stored-fork, RestIn, HeldIn}
 use Rattle.form.specs.RestWords.{restAt, rest-at}
@@ -35,7 +34,20 @@ pub record Under (w : Words) (x : ℕ) (t : OfferTree Item) (es : List Item) : T
   pub valid : Valid items t es
 
 pub held-under : {w : Words} {x e : ℕ} {h : Held Item} → HeldIn w x e h → Under w x (h .tree) (partLeaves (h .whole))
-held-under k = record { root = k .root; slots = k .slots; kept = k .kept; tied = k .tied; stored = k .stored; ordered = k .right .ordered; valid = k .right .valid }
+held-under k =
+    record {
+      root = k .root;
+      slots = k .slots;
+      kept = k .kept;
+      tied = k .tied;
+      stored = k .stored;
+      ordered = k .right .ordered;
+      valid = k .right .valid;
+    }
+
+-- a piece of its envelope is kept in its slot
+pub under-held : {w : Words} {x : ℕ} {t : OfferTree Item} {es : List Item} {a : Item} → Under w x t es → List·Memᴰ a es → Kept w a
+under-held n m = n .kept .held (sublist-mem (valid-env items item-laws (n .valid) .sub) m)
 
 -- what stays with node n, as a piece tree
 rest-standing :
@@ -66,7 +78,8 @@ pub record Forked (w : Words) (x : ℕ) (u v : Item) (l r : OfferTree Item) (ql 
   pub rest-left : Standing w (restAt w (childAt w offerTree false x)) ql
   pub rest-right : Standing w (restAt w (childAt w offerTree true x)) qr
 
-pub forked : {w : Words} {x : ℕ} {es : List Item} (u v : Item) (l r : OfferTree Item) (ql qr : Part Item) → Under w x (fork u v l ql qr r) es → Forked w x u v l r ql qr es
+pub forked : {w : Words} {x : ℕ} {es : List Item} (u v : Item) (l r : OfferTree Item) (ql qr : Part Item) → Under w x (fork u v l ql qr r) es →
+    Forked w x u v l r ql qr es
 forked {w} {x} {es} u v l r ql qr n = go (n .tied) (n .stored) (n .valid)
   where
     here : x - mostSlots ≡ last (shape l) .slot
@@ -85,16 +98,34 @@ forked {w} {x} {es} u v l r ql qr n = go (n .tied) (n .stored) (n .valid)
           v-at = ap (linkAt w bridgeRightField) here ∙ ev;
           rate-at = ap (cell w rateField) here ∙ n .kept .held (Memᴰ·append-left (leaves (shape r)) (last-leaf (shape l))) .rate;
           rest-left = rest-standing l (left .root) (left .slots) rl (slots-right (upTo ++ u ∷ []) (slots-sublist (EL .sub) (left .slots)))
-              (record { held = λ m. left .kept .held (sublist-mem (EL .sub) (Memᴰ·append-right (upTo ++ u ∷ []) m)) }) al;
+              (record { held = λ m. under-held left (Memᴰ·append-right (upTo ++ u ∷ []) m) }) al;
           rest-right = rest-standing r (right .root) (right .slots) rr (slots-left (v ∷ from) (slots-sublist (ER .sub) (right .slots)))
-              (record { held = λ m. right .kept .held (sublist-mem (ER .sub) (Memᴰ·append-left (v ∷ from) m)) }) ar;
+              (record { held = λ m. under-held right (Memᴰ·append-left (v ∷ from) m) }) ar;
         }
       where
         left : Under w (childAt w offerTree false x) l ((upTo ++ u ∷ []) ++ partLeaves ql)
-        left = record { root = ap (linkAt w _) here ∙ el; slots = slots-left (leaves (shape r)) (n .slots); kept = holds-left (leaves (shape r)) (n .kept); tied = a; stored = sl; ordered = ordered-left items (leaves (shape l)) (leaves (shape r)) (n .ordered); valid = vl }
+        left =
+            record {
+              root = ap (linkAt w _) here ∙ el;
+              slots = slots-left (leaves (shape r)) (n .slots);
+              kept = holds-left (leaves (shape r)) (n .kept);
+              tied = a;
+              stored = sl;
+              ordered = ordered-left items (leaves (shape l)) (leaves (shape r)) (n .ordered);
+              valid = vl;
+            }
 
         right : Under w (childAt w offerTree true x) r (partLeaves qr ++ v ∷ from)
-        right = record { root = ap (linkAt w _) here ∙ er; slots = slots-right (leaves (shape l)) (n .slots); kept = holds-right (leaves (shape l)) (n .kept); tied = b; stored = sr; ordered = ordered-right items (leaves (shape l)) (leaves (shape r)) (n .ordered); valid = vr }
+        right =
+            record {
+              root = ap (linkAt w _) here ∙ er;
+              slots = slots-right (leaves (shape l)) (n .slots);
+              kept = holds-right (leaves (shape l)) (n .kept);
+              tied = b;
+              stored = sr;
+              ordered = ordered-right items (leaves (shape l)) (leaves (shape r)) (n .ordered);
+              valid = vr;
+            }
 
         EL : Env items (leaves (shape l)) ((upTo ++ u ∷ []) ++ partLeaves ql)
         EL = valid-env items item-laws vl

@@ -10,7 +10,7 @@ ghost use Rattle.gathering.specs.Cheapest.{Cheaper, OnLeft, OnRight};
 ghost use Rattle.gathering.specs.Gathers.{Put, Gathers};
 
 // A place for each slot that a part may have.
-const SLOTS: usize = table::MOST_SLOTS as usize;
+pub const SLOTS: usize = table::MOST_SLOTS as usize;
 
 // The place of a walk that gave up: above SLOTS, so that it leaves no room.
 pub const GIVEN_UP: usize = SLOTS + 1;

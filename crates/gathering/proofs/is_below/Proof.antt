@@ -2,7 +2,7 @@
 use mir.Facts.{toZ-ofZ}
 use mir.Syntax.{w64}
 use mir.Val.{SFits}
-use mathlib.Core.Path.{_∙_, refl, ap₂}
+use mathlib.Core.Path.{refl, ap₂}
 use lib.Signed.{ltZ}
 use borrow.Author.Needs.{needs}
 use Rattle.gathering.proofs.is_below.Statement.{statement}

@@ -38,7 +38,8 @@ returns-2 c =
     let compared = tested .before in
     let at-node = compared .before in
     left-rest (at-node .inner-slot .ensures) (compared .is-later .ensures) (at-rest .rest-in .ensures)
-    (simp (toZ-ofZ, at-node .before .fits .load) at (c .cheaper .ensures)) (not-false _ (tested .if1 .left)) (at-child .child-in .ensures) (at-bridge .link-in .ensures)
+    (simp (toZ-ofZ, at-node .before .fits .load) at (c .cheaper .ensures)) (not-false _ (tested .if1 .left))
+    (at-child .child-in .ensures) (at-bridge .link-in .ensures)
 
 pub left-cheapest-spec : {M : Type 1} → statement M
 left-cheapest-spec =

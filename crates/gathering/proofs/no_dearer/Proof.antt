@@ -2,7 +2,7 @@
 use mir.Facts.{toZ-ofZ}
 use mir.Syntax.{w64}
 use mir.Val.{SFits}
-use mathlib.Core.Path.{_∙_, refl, ap₂}
+use mathlib.Core.Path.{ap₂}
 use lib.Signed.{leZ}
 use borrow.Author.Needs.{needs}
 use Rattle.gathering.proofs.no_dearer.Statement.{statement}
