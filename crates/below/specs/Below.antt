@@ -2,9 +2,8 @@
 use mathlib.Core.Path.{_≡_, refl, sym, _∙_, ap, ap₂, subst}
 use mathlib.Core.Bool.{Bool, true, false, cond}
 use mathlib.Core.List.{List, [], _∷_, _++_, List·Memᴰ, List·Memᴰ·head, List·Memᴰ·tail, List·Memᴰ·eq-of-singleton}
-use lib.Dec.{T, not-T}
-use Rattle.lists.specs.Bools.{cond-no}
-use Rattle.lists.specs.Filter.{keep}
+use lib.Dec.{T}
+use Rattle.lists.specs.Filter.{keep, keep-append, keep-none}
 use Rattle.envelopes.specs.PseudoLines.{Figure, PseudoLines}
 use Rattle.envelopes.specs.Envelope.{Ordered, Env}
 use Rattle.envelopes.specs.EnvelopeLaws.{ordered-left, ordered-right}
@@ -25,20 +24,6 @@ module _ (S : Figure) (x : S .Point) (seek : Tree (S .Line) → S .Line) where
 -- a test of a price: a line at or below one that passes it passes too
 abbrev pub Limit : (S : Figure) → S .Point → (S .Line → Bool) → Type 0
 Limit S x test = (a b : S .Line) → T (S .atMost a b x) → T (test b) → T (test a)
-
-module _ {A : Type 0} (p : A → Bool) where
-  pub keep-append : (xs ys : List A) → keep p (xs ++ ys) ≡ keep p xs ++ keep p ys
-  keep-append [] ys = refl
-  keep-append (x ∷ xs) ys = step (p x) (keep-append xs ys)
-    where
-      step : (b : Bool) → keep p (xs ++ ys) ≡ keep p xs ++ keep p ys →
-          cond b (x ∷ keep p (xs ++ ys)) (keep p (xs ++ ys)) ≡ cond b (x ∷ keep p xs) (keep p xs) ++ keep p ys
-      step true e = ap (λ l. x ∷ l) e
-      step false e = e
-
-  pub keep-none : (xs : List A) → ((a : A) → List·Memᴰ a xs → ¬ T (p a)) → keep p xs ≡ []
-  keep-none [] h = refl
-  keep-none (x ∷ xs) h = cond-no (p x) (x ∷ keep p xs) (keep p xs) (not-T (p x) (h x (List·Memᴰ·head refl))) ∙ keep-none xs (λ a m. h a (List·Memᴰ·tail m))
 
 module _ (S : Figure) (L : PseudoLines S) (x : S .Point) (test : S .Line → Bool) (limit : Limit S x test) where
   -- where the cheapest does not pass, none does

@@ -7,7 +7,7 @@ use mathlib.Core.Bool.{Bool, true, false, cond}
 use mathlib.Core.List.{List, [], _∷_, _++_}
 use lib.Dec.{T}
 use lib.ListN.{length, length-append}
-use Rattle.lists.specs.Filter.{keep, keep-in}
+use Rattle.lists.specs.Filter.{keep, keep-append, keep-in}
 use Rattle.lists.specs.Places.{place-of, sublist-mem}
 use Rattle.envelopes.specs.PseudoLines.{Figure, PseudoLines}
 use Rattle.envelopes.specs.Envelope.{Ordered, Env}
@@ -19,7 +19,6 @@ use Rattle.dynamic.specs.Valid.{Valid, valid-single, valid-fork}
 use Rattle.dynamic.specs.Lower.{valid-env}
 use Rattle.below.specs.Least.{Least}
 use Rattle.below.specs.Children.{Seeks, leftOf, rightOf, Lesser, children}
-use Rattle.below.specs.Below.{keep-append}
 
 module _ (S : Figure) (x : S .Point) (seek : Tree (S .Line) → S .Line) where
   -- the nodes at which `below` looks, the root among them

@@ -5,3 +5,5 @@ pub mod Joins
 pub mod Follower
 -- lemmas: what a post and a withdrawal do to the tree of the firsts: one of three things each, with the searches that it costs
 pub mod Filed
+-- lemmas: a list in order, walked from the first of each class: which of its elements pass a test
+pub mod Runs

@@ -47,7 +47,7 @@ pub piece-put :
 piece-put w s last out k ex ey ez e₁ e₂ e₃ = rw (e₃, e₂, e₁, ex, ey, ez)
 
 -- the words at k are put behind those that are done
-three-words : (done base : List ℤ) (k : ℕ) (x y z : ℤ) → length done ≡ k → k + 3 ≤ length base
+pub three-words : (done base : List ℤ) (k : ℕ) (x y z : ℤ) → length done ≡ k → k + 3 ≤ length base
     → wset (wset (wset (done ++ drop k base) k x) (k + 1) y) (k + 2) z ≡ (done ++ x ∷ y ∷ z ∷ []) ++ drop (k + 3) base
 unfolding wset
 three-words done base k x y z e h =

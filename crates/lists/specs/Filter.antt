@@ -2,10 +2,10 @@
 use mathlib.Core.Path.{_≡_, refl, sym, _∙_, subst, ap}
 use mathlib.Core.Logic.{_⊎_, inl, inr, ⊎-elim}
 use mathlib.Core.Bool.{Bool, true, false, _&&_, cond}
-use mathlib.Core.List.{List, map, [], _∷_, List·Memᴰ, List·Memᴰ·head, List·Memᴰ·tail, List·Memᴰ·cases-cons, Sublistᴰ, Sublistᴰ·slnil, Sublistᴰ·cons}
+use mathlib.Core.List.{List, map, [], _∷_, _++_, List·Memᴰ, List·Memᴰ·head, List·Memᴰ·tail, List·Memᴰ·cases-cons, Sublistᴰ, Sublistᴰ·slnil, Sublistᴰ·cons}
 use mathlib.Core.List.{Sublistᴰ·cons-cons}
-use lib.Dec.{T}
-use Rattle.lists.specs.Bools.{and-both, and-left, and-right, cond-yes}
+use lib.Dec.{T, not-T}
+use Rattle.lists.specs.Bools.{and-both, and-left, and-right, cond-yes, cond-no}
 
 module _ {A : Type 0} where
   abbrev pub every : (A → Bool) → List A → Bool
@@ -60,6 +60,21 @@ module _ {A : Type 0} where
   pub keep-same : (p q : A → Bool) → ((a : A) → p a ≡ q a) → (l : List A) → keep p l ≡ keep q l
   keep-same p q h [] = refl
   keep-same p q h (x ∷ xs) = rw (h x, keep-same p q h xs)
+
+  pub keep-append : (p : A → Bool) (xs ys : List A) → keep p (xs ++ ys) ≡ keep p xs ++ keep p ys
+  keep-append p [] ys = refl
+  keep-append p (x ∷ xs) ys = step (p x) (keep-append p xs ys)
+    where
+      step : (b : Bool) → keep p (xs ++ ys) ≡ keep p xs ++ keep p ys →
+          cond b (x ∷ keep p (xs ++ ys)) (keep p (xs ++ ys)) ≡ cond b (x ∷ keep p xs) (keep p xs) ++ keep p ys
+      step true e = ap {B = List A} (λ (r : List A). x ∷ r) e
+      step false e = e
+
+  -- where none passes, none is kept
+  pub keep-none : (p : A → Bool) (xs : List A) → ((a : A) → List·Memᴰ a xs → ¬ T (p a)) → keep p xs ≡ []
+  keep-none p [] h = refl
+  keep-none p (x ∷ xs) h =
+      cond-no (p x) (x ∷ keep p xs) (keep p xs) (not-T (p x) (h x (List·Memᴰ·head refl))) ∙ keep-none p xs (λ a m. h a (List·Memᴰ·tail m))
 
 module _ {A B : Type 0} where
   pub every-map : (p : B → Bool) (f : A → B) (l : List A) → every p (map f l) ≡ every (λ a. p (f a)) l

@@ -10,7 +10,7 @@ use native.Mathlib.Omega.{arith}
 use lib.Dec.{T, T-not}
 use lib.IntN.{ℤ}
 use lib.Signed.{ltZ}
-use Rattle.lists.specs.Filter.{keep, keep-all}
+use Rattle.lists.specs.Filter.{keep, keep-all, keep-append}
 use Rattle.lists.specs.Firsts.{firsts-sub}
 use Rattle.lists.specs.Places.{sublist-mem}
 use Rattle.lists.specs.Tests.{any, not-any, none-at}
@@ -97,15 +97,6 @@ offers-above b b′ h o p m n =
     omega (arith, intRules)
 
 -- ---- the first offers of both books
-
-keep-append : (p : Offer → Bool) (xs ys : List Offer) → keep p (xs ++ ys) ≡ keep p xs ++ keep p ys
-keep-append p [] ys = refl
-keep-append p (x ∷ xs) ys = go (p x) (keep-append p xs ys)
-  where
-    go : (b : Bool) → keep p (xs ++ ys) ≡ keep p xs ++ keep p ys →
-        cond b (x ∷ keep p (xs ++ ys)) (keep p (xs ++ ys)) ≡ cond b (x ∷ keep p xs) (keep p xs) ++ keep p ys
-    go true e = ap {B = List Offer} (λ (r : List Offer). x ∷ r) e
-    go false e = e
 
 -- are those of the one and those of the other
 pub firsts-apart : (os os′ : List Offer) → AllAbove os os′ → firstOfEach (os ++ os′) ≡ firstOfEach os ++ firstOfEach os′
