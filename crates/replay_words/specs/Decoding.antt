@@ -14,10 +14,10 @@ use mir.Syntax.{w64}
 use mir.Val.{Fits, SFits, toZ, ofZ}
 use mir.Facts.{toZ-ofZ, toZ-pos}
 use Rattle.integers.specs.Parts.{equal-is, equal-eq}
-use Rattle.plain.specs.Book.{Call, post, withdraw, query, listing, takeBack}
+use Rattle.plain.specs.Book.{Call, post, withdraw, query, listing, takeBack, report}
 use Rattle.replay_words.specs.declared.Next.{Next}
-use Rattle.replay_words.specs.declared.Next.the-variants.{Post, Withdraw, Query, Listing, TakeBack, Nothing}
-use Rattle.replay_words.specs.Encoding.{listingOf, shortCall, callOf, nextCall, stretch, fitting, firstRun, runnable}
+use Rattle.replay_words.specs.declared.Next.the-variants.{Post, Withdraw, Query, Listing, TakeBack, Report, Nothing}
+use Rattle.replay_words.specs.Encoding.{withRoom, listingOf, reportOf, shortCall, callOf, nextCall, stretch, fitting, firstRun, runnable}
 use Rattle.lists.specs.Bools.{passed, is-true}
 use Rattle.integers.specs.Magnitude.{natAbs-fits}
 use Rattle.integers.specs.Equal.{equal}
@@ -29,6 +29,7 @@ asked (Withdraw n) = some (withdraw n)
 asked (Query q) = some (query q)
 asked (Listing room) = some (listing room)
 asked TakeBack = some takeBack
+asked (Report q p room) = some (report q p room)
 asked Nothing = none
 
 -- ---- a word beside a number
@@ -73,13 +74,15 @@ module _ (code a : ℤ) where
         pub short-listing : equal code (pos 4) ≡ true → listingOf a ≡ shortCall code a
         short-listing e = rw (no5, no2, no3, e)
 
-pub no-room : (a : ℤ) → ltZ a (pos 0) ≡ true → none ≡ listingOf a
-no-room (pos n) e = absurd (omega (arith, ltb-true n 0 e))
-no-room (negsuc n) e = refl
+-- a call with a room
+module _ (call : ℕ → Call) where
+  pub no-room : (a : ℤ) → ltZ a (pos 0) ≡ true → none ≡ withRoom call a
+  no-room (pos n) e = absurd (omega (arith, ltb-true n 0 e))
+  no-room (negsuc n) e = refl
 
-pub some-room : (a : ℤ) → SFits w64 a → ltZ a (pos 0) ≡ false → (T (nonNeg a) × Fits w64 (natAbs a)) × (some (listing (natAbs a)) ≡ listingOf a)
-some-room (pos n) f e = (natAbs-fits (pos n) f e, refl)
-some-room (negsuc n) f e = absurd (true≢false e)
+  pub some-room : (a : ℤ) → SFits w64 a → ltZ a (pos 0) ≡ false → (T (nonNeg a) × Fits w64 (natAbs a)) × (some (call (natAbs a)) ≡ withRoom call a)
+  some-room (pos n) f e = (natAbs-fits (pos n) f e, refl)
+  some-room (negsuc n) f e = absurd (true≢false e)
 
 -- ---- any call
 
@@ -87,16 +90,20 @@ module _ (code a b c : ℤ) where
   pub reads-post : equal code (pos 1) ≡ true → some (post a b c) ≡ callOf code a b c
   reads-post e = rw e
 
-  module _ (no : equal code (pos 1) ≡ false) where
-    pub reads-none : equal b (pos 0) ≡ false → none ≡ callOf code a b c
-    reads-none e = rw (no, e)
+  module _ (no1 : equal code (pos 1) ≡ false) where
+    pub reads-report : {k : Option Call} → equal code (pos 6) ≡ true → k ≡ reportOf a b c → k ≡ callOf code a b c
+    reads-report e q = q ∙ rw (no1, e)
 
-    module _ (yes′ : equal b (pos 0) ≡ true) where
-      pub reads-none-2 : equal c (pos 0) ≡ false → none ≡ callOf code a b c
-      reads-none-2 e = rw (no, yes′, e)
+    module _ (no6 : equal code (pos 6) ≡ false) where
+      pub reads-none : equal b (pos 0) ≡ false → none ≡ callOf code a b c
+      reads-none e = rw (no1, no6, e)
 
-      pub reads-short : {k : Option Call} → equal c (pos 0) ≡ true → k ≡ shortCall code a → k ≡ callOf code a b c
-      reads-short e q = q ∙ rw (no, yes′, e)
+      module _ (yes′ : equal b (pos 0) ≡ true) where
+        pub reads-none-2 : equal c (pos 0) ≡ false → none ≡ callOf code a b c
+        reads-none-2 e = rw (no1, no6, yes′, e)
+
+        pub reads-short : {k : Option Call} → equal c (pos 0) ≡ true → k ≡ shortCall code a → k ≡ callOf code a b c
+        reads-short e q = q ∙ rw (no1, no6, yes′, e)
 
 -- ---- the next call
 

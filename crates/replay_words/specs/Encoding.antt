@@ -1,7 +1,7 @@
 -- A list of calls as words: four a call. And the words that each answer is written to.
---     1 number rate base   post           4 room 0 0   listing
---     2 number 0 0         withdraw       5 0 0 0      take back
---     3 load 0 0           query
+--     1 number rate base   post           4 room 0 0          listing
+--     2 number 0 0         withdraw       5 0 0 0             take back
+--     3 load 0 0           query          6 load price room   report
 use mathlib.Core.Path.{_≡_}
 use mathlib.Core.List.{List, [], _∷_, _++_}
 use mathlib.Core.Option.{Option, none, some}
@@ -11,11 +11,12 @@ use lib.ListN.{length, take, drop, getD}
 use lib.IntN.{ℤ, pos, negsuc}
 use lib.Dec.{leb}
 use Rattle.integers.specs.Equal.{equal}
-use Rattle.plain.specs.Book.{Call, post, withdraw, query, listing, takeBack, Answer, refused, live, found, listed}
+use Rattle.plain.specs.Book.{Call, post, withdraw, query, listing, takeBack, report, Answer, refused, live, found, listed, reported}
 use Rattle.promises.specs.declared.Update.{Update}
 use Rattle.promises.specs.declared.Found.{Found}
 use Rattle.promises.specs.declared.Listed.{Listed}
-use Rattle.promises.specs.Promises.{counted, updateTold, foundTold, listedTold, writtenWords}
+use Rattle.promises.specs.declared.Reported.{Reported}
+use Rattle.promises.specs.Promises.{counted, updateTold, foundTold, listedTold, reportedTold, writtenWords}
 
 -- ---- calls
 
@@ -25,15 +26,22 @@ encode (withdraw n) = pos 2 ∷ n ∷ pos 0 ∷ pos 0 ∷ []
 encode (query q) = pos 3 ∷ q ∷ pos 0 ∷ pos 0 ∷ []
 encode (listing room) = pos 4 ∷ pos room ∷ pos 0 ∷ pos 0 ∷ []
 encode takeBack = pos 5 ∷ pos 0 ∷ pos 0 ∷ pos 0 ∷ []
+encode (report q p room) = pos 6 ∷ q ∷ p ∷ pos room ∷ []
 
 abbrev pub encoded : List Call → List ℤ
 encoded [] = []
 encoded (k ∷ ks) = encode k ++ encoded ks
 
 -- a room is no number below 0
+abbrev pub withRoom : (ℕ → Call) → ℤ → Option Call
+withRoom call (pos room) = some (call room)
+withRoom call (negsuc n) = none
+
 abbrev pub listingOf : ℤ → Option Call
-listingOf (pos room) = some (listing room)
-listingOf (negsuc n) = none
+listingOf room = withRoom listing room
+
+abbrev pub reportOf : ℤ → ℤ → ℤ → Option Call
+reportOf q p room = withRoom (report q p) room
 
 -- a call with one argument at most
 abbrev pub shortCall : ℤ → ℤ → Option Call
@@ -47,7 +55,8 @@ shortCall code a =
 abbrev pub callOf : (code a b c : ℤ) → Option Call
 callOf code a b c =
     cond (equal code (pos 1)) (some (post a b c))
-    (cond (equal b (pos 0) && equal c (pos 0)) (shortCall code a) none)
+    (cond (equal code (pos 6)) (reportOf a b c)
+    (cond (equal b (pos 0) && equal c (pos 0)) (shortCall code a) none))
 
 -- the first call, where there are four words and they encode one
 abbrev pub nextCall : List ℤ → Option Call
@@ -65,6 +74,7 @@ stretch (withdraw n) = 5
 stretch (query q) = 5
 stretch (listing room) = 5 + room
 stretch takeBack = 5
+stretch (report q p room) = 5 + room
 
 abbrev pub stretches : List Call → ℕ
 stretches [] = 0
@@ -111,6 +121,10 @@ foundWords r = foundTold r .number ∷ padded 4 (foundTold r .values)
 abbrev pub listedWords : Listed → List ℤ
 listedWords r = listedTold r .number ∷ padded 4 (listedTold r .values)
 
+-- likewise
+abbrev pub reportedWords : Reported → List ℤ
+reportedWords r = reportedTold r .number ∷ padded 4 (reportedTold r .values)
+
 -- ---- and read off again
 
 -- an accepted call's answer, by its first three values and the words behind the five
@@ -120,6 +134,7 @@ acceptedAnswer (withdraw n) x y z out = counted live x
 acceptedAnswer (query q) x y z out = found x y z
 acceptedAnswer takeBack x y z out = counted live x
 acceptedAnswer (listing room) x y z out = counted (λ m. listed m (take (3 * m) (take room out))) x
+acceptedAnswer (report q p room) x y z out = counted (λ m. reported m (take (3 * m) (take room out))) x
 
 abbrev pub answerOf : Call → ℤ → ℤ → ℤ → ℤ → List ℤ → Answer
 answerOf k refusal x y z out = cond (equal refusal (pos 0)) (acceptedAnswer k x y z out) (counted refused refusal)
@@ -132,13 +147,14 @@ told (k ∷ ks) ws =
 
 -- ---- words that no answer is written to
 
--- of one call's stretch: behind what a listing writes, and all of a refused listing's room
+-- of one call's stretch: behind what a listing or a report writes, and all of the room of a refused one
 abbrev pub spared : Call → Answer → List ℤ → List ℤ
 spared (post n r b) a ws = []
 spared (withdraw n) a ws = []
 spared (query q) a ws = []
 spared takeBack a ws = []
 spared (listing room) a ws = drop (writtenWords a) (take room (drop 5 ws))
+spared (report q p room) a ws = drop (writtenWords a) (take room (drop 5 ws))
 
 -- they keep their contents
 abbrev pub Spares : List Call → List Answer → (ws ws′ : List ℤ) → Type 0

@@ -11,8 +11,8 @@ use lib.Seq.{take-add, drop-drop}
 use lib.IntN.{ℤ, pos, negsuc}
 use lib.Dec.{leb}
 use borrow.Author.Tests.{le-leb, leb-true}
-use Rattle.plain.specs.Book.{Call, post, withdraw, query, listing, takeBack}
-use Rattle.replay_words.specs.Encoding.{encode, encoded, listingOf, shortCall, callOf, nextCall, stretch, stretches, fitting, firstRun, runnable, Run}
+use Rattle.plain.specs.Book.{Call, post, withdraw, query, listing, takeBack, report}
+use Rattle.replay_words.specs.Encoding.{encode, encoded, listingOf, reportOf, shortCall, callOf, nextCall, stretch, stretches, fitting, firstRun, runnable, Run}
 use Rattle.replay_words.specs.Decoding.{same-is}
 use Rattle.integers.specs.Equal.{equal}
 
@@ -24,6 +24,7 @@ read-again (withdraw n) ws = refl
 read-again (query q) ws = refl
 read-again (listing room) ws = refl
 read-again takeBack ws = refl
+read-again (report q p room) ws = refl
 
 -- calls whose answers fit are all run
 pub run-again : (ks : List Call) (room : ℕ) → stretches ks ≤ room → runnable (encoded ks) room ≡ ks
@@ -34,6 +35,7 @@ run-again (withdraw n ∷ ks) room h = rw (le-leb 5 room (omega arith), run-agai
 run-again (query q ∷ ks) room h = rw (le-leb 5 room (omega arith), run-again ks (room - 5) (omega arith))
 run-again (takeBack ∷ ks) room h = rw (le-leb 5 room (omega arith), run-again ks (room - 5) (omega arith))
 run-again (listing n ∷ ks) room h = rw (le-leb (5 + n) room (omega arith), run-again ks (room - (5 + n)) (omega arith))
+run-again (report q p n ∷ ks) room h = rw (le-leb (5 + n) room (omega arith), run-again ks (room - (5 + n)) (omega arith))
 
 -- ---- the words of a call
 
@@ -79,10 +81,24 @@ call-words a b c d {k} e = first (equal a (pos 1)) refl e
     padded true false p q f = let z : _≡_ {A = ℕ} 0 1 = cc in absurd (omega arith)
     padded false y p q f = let z : _≡_ {A = ℕ} 0 1 = cc in absurd (omega arith)
 
-    first : (x : Bool) → equal a (pos 1) ≡ x → cond x (some (post b c d)) (cond (equal c (pos 0) && equal d (pos 0)) (shortCall a b) none) ≡ some k →
+    words : (n : ℕ) → equal a (pos n) ≡ true → a ∷ b ∷ c ∷ d ∷ [] ≡ pos n ∷ b ∷ c ∷ d ∷ []
+    words n q = ap (λ (z : ℤ). z ∷ b ∷ c ∷ d ∷ []) (same-is a (pos n) q)
+
+    reported : (z : ℤ) → reportOf b c z ≡ some k → pos 6 ∷ b ∷ c ∷ z ∷ [] ≡ encode k
+    reported (pos n) q = let r : report b c n ≡ k = cc in ap encode r
+    reported (negsuc n) q = let z : _≡_ {A = ℕ} 0 1 = cc in absurd (omega arith)
+
+    shorter : Option Call
+    shorter = cond (equal c (pos 0) && equal d (pos 0)) (shortCall a b) none
+
+    sixth : (x : Bool) → equal a (pos 6) ≡ x → cond x (reportOf b c d) shorter ≡ some k → a ∷ b ∷ c ∷ d ∷ [] ≡ encode k
+    sixth true f q = words 6 f ∙ reported d q
+    sixth false f q = padded (equal c (pos 0)) (equal d (pos 0)) refl refl q
+
+    first : (x : Bool) → equal a (pos 1) ≡ x → cond x (some (post b c d)) (cond (equal a (pos 6)) (reportOf b c d) shorter) ≡ some k →
         a ∷ b ∷ c ∷ d ∷ [] ≡ encode k
-    first true f q = let r : post b c d ≡ k = cc in ap (λ (z : ℤ). z ∷ b ∷ c ∷ d ∷ []) (same-is a (pos 1) f) ∙ ap encode r
-    first false f q = padded (equal c (pos 0)) (equal d (pos 0)) refl refl q
+    first true f q = let r : post b c d ≡ k = cc in words 1 f ∙ ap encode r
+    first false f q = sixth (equal a (pos 6)) refl q
 
 -- ---- the calls run
 

@@ -4,7 +4,7 @@ ghost use mathlib.Core.List.{_++_, _∷_};
 ghost use Prim.Native.Nat.{_+_, _≤_};
 ghost use lib.ListN.{length, drop};
 ghost use lib.Dec.{leb};
-ghost use Rattle.replay_words.specs.Encoding.{shortCall, callOf, nextCall, fitting, updateWords, foundWords, listedWords};
+ghost use Rattle.replay_words.specs.Encoding.{shortCall, callOf, nextCall, fitting, updateWords, foundWords, listedWords, reportedWords};
 ghost use Rattle.replay_words.specs.Decoding.{asked};
 
 // The call that the next words encode.
@@ -14,6 +14,7 @@ pub enum Next {
     Query(i64),
     Listing(usize),
     TakeBack,
+    Report { load: i64, price: i64, room: usize },
     Nothing,
 }
 
@@ -41,7 +42,7 @@ fn read_short(code: i64, a: i64) -> Next
     Next::Listing(a as usize)
 }
 
-// The call that four words encode. Only a post uses all of them; of another the last two are 0.
+// The call that four words encode. A post and a report use all of them; of another the last two are 0.
 fn read_call(code: i64, a: i64, b: i64, c: i64) -> Next
     ensures { λ r. ⌜ asked r ≡ callOf code a b c ⌝ }
 {
@@ -50,6 +51,16 @@ fn read_call(code: i64, a: i64, b: i64, c: i64) -> Next
             number: a,
             rate: b,
             base: c,
+        };
+    }
+    if code == 6 {
+        if c < 0 {
+            return Next::Nothing;
+        }
+        return Next::Report {
+            load: a,
+            price: b,
+            room: c as usize,
         };
     }
     if b != 0 || c != 0 {
@@ -89,6 +100,11 @@ pub fn fits(next: Next, room: usize) -> bool
         Next::Query(_) => 5 <= room,
         Next::Listing(n) => five_and(n, room),
         Next::TakeBack => 5 <= room,
+        Next::Report {
+            load: _,
+            price: _,
+            room: n,
+        } => five_and(n, room),
         Next::Nothing => false,
     }
 }
@@ -142,5 +158,16 @@ pub fn tell_listed(out: &mut [i64], told: promises::Listed)
     match told {
         promises::Listed::Pieces(count) => put_five(out, 0, count, 0, 0, 0),
         promises::Listed::Declined(cause) => put_five(out, cause, 0, 0, 0, 0),
+    }
+}
+
+// A report's answer: 0 and the count of offers; or the refusal's number.
+pub fn tell_reported(out: &mut [i64], told: promises::Reported)
+    requires { ⌜ 5 ≤ length (now out) ⌝ }
+    ensures { λ _. ⌜ now (out .exit) ≡ reportedWords told ++ drop 5 (now (out .entry)) ⌝ }
+{
+    match told {
+        promises::Reported::Offers(count) => put_five(out, 0, count, 0, 0, 0),
+        promises::Reported::Declined(cause) => put_five(out, cause, 0, 0, 0, 0),
     }
 }

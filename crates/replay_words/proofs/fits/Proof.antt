@@ -25,6 +25,12 @@ five-and-requires c κs = search needs
 enum-told-4 : tie.Need-enum-told-4
 enum-told-4 c = search needs
 
+enum-known-next-2 : tie.Need-enum-known-next-2
+enum-known-next-2 c = search needs
+
+five-and-requires-2 : tie.Need-five-and-requires-2
+five-and-requires-2 c κs = search needs
+
 enum-told-5 : tie.Need-enum-told-5
 enum-told-5 c = search needs
 
@@ -48,7 +54,14 @@ returns-5 : tie.Need-returns-5
 returns-5 c = ap (λ (n : Next). fitting (asked n) (c .before .before .args .room)) (sym (c .enum-told4 .given .1))
 
 returns-6 : tie.Need-returns-6
-returns-6 c = search needs
+returns-6 c =
+    let at-next2 = c .before .before in
+    let entry = at-next2 .before .before in
+    c .five-and2 .ensures ∙ ap (λ (n : Next). fitting (asked n) (entry .args .room))
+    (sym (at-next2 .next2 .given .1))
+
+returns-7 : tie.Need-returns-7
+returns-7 c = search needs
 
 pub fits-spec : {M : Type 1} → statement M
 fits-spec =
@@ -60,10 +73,13 @@ fits-spec =
     enum-known-next
     five-and-requires
     enum-told-4
+    enum-known-next-2
+    five-and-requires-2
     enum-told-5
     returns
     returns-2
     returns-3
     returns-4
     returns-5
-    returns-6)
+    returns-6
+    returns-7)

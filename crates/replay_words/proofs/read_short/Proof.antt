@@ -3,6 +3,7 @@ use mathlib.Core.Path.{_∙_}
 use mathlib.Core.Logic.{⊎-elim}
 use native.Mathlib.Omega.{arith}
 use mir.Facts.{toZ-ofZ}
+use Rattle.plain.specs.Book.{listing}
 use Rattle.replay_words.specs.Decoding.{is, is-not, short-back, short-argument, short-withdraw, short-query, short-none, short-listing}
 use Rattle.replay_words.specs.Decoding.{no-room, some-room}
 use Rattle.replay_words.proofs.read_short.Statement.{statement}
@@ -49,7 +50,7 @@ returns-5 c =
     let n = is-not (a .code) 2 (at-if3 .if3 .left) in
     let m = is-not (a .code) 3 (c .before .if4 .left) in
     ⊎-elim (λ y. short-none (a .code) (a .a) o n m (is-not (a .code) 4 (y .taken)))
-    (λ y. no-room (a .a) (simp (toZ-ofZ, f .a) at (y .1 .taken)) ∙ short-listing (a .code) (a .a) o n m (is (f .code) (omega arith) (y .0 .left)))
+    (λ y. no-room listing (a .a) (simp (toZ-ofZ, f .a) at (y .1 .taken)) ∙ short-listing (a .code) (a .a) o n m (is (f .code) (omega arith) (y .0 .left)))
     (c .if5 .came)
 
 cast-t7 : tie.Need-cast-t7
@@ -58,7 +59,7 @@ cast-t7 c =
     let entry = at-if3 .before .before in
     let a = entry .args in
     let f = entry .fits in
-    simp (toZ-ofZ, f .a) (some-room (a .a) (f .a) (simp (toZ-ofZ, f .a) at (c .if6 .left)) .0)
+    simp (toZ-ofZ, f .a) (some-room listing (a .a) (f .a) (simp (toZ-ofZ, f .a) at (c .if6 .left)) .0)
 
 returns-6 : tie.Need-returns-6
 returns-6 c =
@@ -71,7 +72,7 @@ returns-6 c =
     let n = is-not (a .code) 2 (at-if3 .if3 .left) in
     let m = is-not (a .code) 3 (at-if4 .if4 .left) in
     simp (toZ-ofZ, f .a)
-    (some-room (a .a) (f .a) (simp (toZ-ofZ, f .a) at (c .if6 .left)) .1 ∙ short-listing (a .code) (a .a) o n m
+    (some-room listing (a .a) (f .a) (simp (toZ-ofZ, f .a) at (c .if6 .left)) .1 ∙ short-listing (a .code) (a .a) o n m
     (is (f .code) (omega arith) (c .before .if5 .left)))
 
 pub read-short-spec : {M : Type 1} → statement M
