@@ -12,7 +12,8 @@ use lib.IntN.{ℤ, pos, negsuc}
 use lib.Dec.{leb}
 use borrow.Author.Tests.{le-leb, leb-true}
 use Rattle.plain.specs.Book.{Call, post, withdraw, query, listing, takeBack, report}
-use Rattle.replay_words.specs.Encoding.{encode, encoded, listingOf, reportOf, shortCall, callOf, nextCall, stretch, stretches, fitting, firstRun, runnable, Run}
+use Rattle.replay_words.specs.Encoding.{encode, encoded, listingOf, reportOf, shortCall, callOf, nextCall, stretch, stretches, fitting, firstRun}
+use Rattle.replay_words.specs.Encoding.{runnable, Run}
 use Rattle.replay_words.specs.Decoding.{same-is}
 use Rattle.integers.specs.Equal.{equal}
 
