@@ -23,7 +23,7 @@ use Rattle.promises.specs.declared.Found.{Found}
 use Rattle.promises.specs.declared.Listed.{Listed}
 use Rattle.promises.specs.Promises.{partOf, capacityAt, tableTrials, OnlyPart, Updates, Queries, Lists, updateAnswer, foundAnswer, listingAnswer}
 use Rattle.form.specs.Live.{book-sound}
-use Rattle.history.specs.Claim.{asked-state, listed-state}
+use Rattle.history.specs.Claim.{read-state}
 use Rattle.counter_line.specs.Promises.{room, letterOf, named, outcome, most, Stands, Declines, Obeys, Counts}
 use Rattle.counter_reply.specs.Answered.{answered, Prints}
 use Rattle.counter_reply.specs.Replies.{Fits, Replies, refused-line}
@@ -168,11 +168,11 @@ module _ {line : List ℕ} {t : List ℤ} {out out′ : List ℕ} {n : ℕ} (lon
   pub asked : (load : ℤ) {f : Found} → Parsed line (Query load) → Queries load 0 t f → Replies 81 (pos 0) (foundAnswer f) out out′ n →
       Counts line t t out out′ n
   asked load p f r =
-      asking (Query load) p (r .within) (λ z d. refusing z (f .declined z d) r) (λ s. asked-state s load)
+      asking (Query load) p (r .within) (λ z d. refusing z (f .declined z d) r) (λ s. read-state s (query load) refl)
       (λ s held form. plainly (query load) s held form tt (f .answers s held (form .book)) r)
 
   pub listed-all : Parsed line Listing → ListsLines t out out′ n → Counts line t t out out′ n
-  listed-all p l = asking Listing p (l .within) (l .declined) (λ s. listed-state s room) (l .prints)
+  listed-all p l = asking Listing p (l .within) (l .declined) (λ s. read-state s (listing room) refl) (l .prints)
 
 pub unread : {line : List ℕ} {t : List ℤ} {out out′ : List ℕ} → most ≤ length out → Parsed line Unreadable
     → Answers 63 (pos 11) (pos 0) (pos 0) (pos 0) out out′ → Counts line t t out out′ 39

@@ -14,8 +14,8 @@ use Rattle.offers.specs.Sizes.{number-of, rate-of, base-of, number-size, number
 use Rattle.plain.specs.Causes.{Cause, declined, causeNumber, capacityOutOfRange, tableTooShort, noBook, numberOutOfRange, rateOutOfRange}
 use Rattle.plain.specs.Causes.{baseOutOfRange, loadOutOfRange, priceOutOfRange, numberLive, bookFull, numberNotLive, bookEmpty}
 use Rattle.plain.specs.Causes.{outputTooShort, unreadableLine, ratesNotApart, noSuchMark, nothingToTakeBack}
-use Rattle.plain.specs.Book.{State, Undo, Call, post, withdraw, query, listing, takeBack, refused, live, trials, Recallable, respond, accepted, step}
-use Rattle.plain.specs.Book.{lower, higher, cheapest, envelope, pieceWords}
+use Rattle.plain.specs.Book.{State, Undo, Call, post, withdraw, query, listing, takeBack, report, refused, live, trials, Recallable, respond, accepted}
+use Rattle.plain.specs.Book.{step, lower, higher, cheapest, envelope, pieceWords}
 use Rattle.plain.specs.Trials.{clear}
 use Rattle.plain.specs.Sound.{Sound, step-sound}
 use Rattle.plain.specs.QueryLaws.{lower-tie, higher-tie, cheapest-names}
@@ -83,14 +83,16 @@ shown (withdraw n) = n
 shown (query q) = pos 0
 shown (listing room) = pos 0
 shown takeBack = pos 0
+shown (report q p room) = pos 0
 
--- the room that the counter gives
+-- the room that the counter gives: it asks for no report
 abbrev pub Roomy : Call → Type 0
 Roomy (post n r b) = Unit {0}
 Roomy (withdraw n) = Unit {0}
 Roomy (query q) = Unit {0}
 Roomy (listing room) = room ≡ 192
 Roomy takeBack = Unit {0}
+Roomy (report q p room) = ⊥
 
 module _ (c : ℕ) (os : List Offer) (us : List Undo) (small : c ≤ mostSlots) (sound : Sound (record { capacity = c; offers = os; memory = us }))
     (kept : Recallable (record { capacity = c; offers = os; memory = us })) where
@@ -125,6 +127,7 @@ module _ (c : ℕ) (os : List Offer) (us : List Undo) (small : c ≤ mostSlots) 
           (number-fits n (not-not (numberInRange n) (clear (trials s (withdraw n)) e .0)), count-fits _ (omega (arith, after .fits, small)))
       go none (query q) e roomy after = found-fits q (not-not (loadInRange q) (clear (trials s (query q)) e .0)) os (sound .ranged)
       go none takeBack e roomy after = back-fits us after
+      go none (report q p room) e roomy after = absurd roomy
       go none (listing room) e roomy after =
           let m = nltb→le room (3 * length (envelope os)) (clear (trials s (listing room)) e .0) in
           let n : length (envelope os) ≤ 64 = omega arith in
