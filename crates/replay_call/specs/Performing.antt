@@ -9,16 +9,18 @@ use lib.ListN.{length, take, drop, length-append, length-drop}
 use lib.Seq.{take-at, drop-at, drop-drop, length-take-le}
 use lib.IntN.{ℤ}
 use borrow.Author.Tests.{leb-true}
-use Rattle.plain.specs.Book.{Call, post, withdraw, query, listing, takeBack}
+use Rattle.plain.specs.Book.{Call, post, withdraw, query, listing, takeBack, report}
 use Rattle.promises.specs.declared.Update.{Update}
 use Rattle.promises.specs.declared.Update.the-variants.{Done, Declined as UpdateDeclined}
 use Rattle.promises.specs.declared.Found.{Found}
 use Rattle.promises.specs.declared.Found.the-variants.{Offer, Declined as FoundDeclined}
 use Rattle.promises.specs.declared.Listed.{Listed}
 use Rattle.promises.specs.declared.Listed.the-variants.{Pieces, Declined as ListingDeclined}
-use Rattle.promises.specs.Promises.{Updates, Queries, Lists, updateAnswer, foundAnswer, listingAnswer}
-use Rattle.history.specs.History.{Changes, by-update, by-query, by-listing}
-use Rattle.replay_words.specs.Encoding.{nextCall, stretch, fitting, updateWords, foundWords, listedWords}
+use Rattle.promises.specs.declared.Reported.{Reported}
+use Rattle.promises.specs.declared.Reported.the-variants.{Offers, Declined as ReportDeclined}
+use Rattle.promises.specs.Promises.{Updates, Queries, Lists, Reports, updateAnswer, foundAnswer, listingAnswer, reportAnswer}
+use Rattle.history.specs.History.{Changes, by-update, by-query, by-listing, by-report}
+use Rattle.replay_words.specs.Encoding.{nextCall, stretch, fitting, updateWords, foundWords, listedWords, reportedWords}
 use Rattle.replay_call.specs.OneCall.{Performed, Performs, Step}
 
 -- ---- the kinds of calls
@@ -34,6 +36,10 @@ found-five (FoundDeclined c) = refl
 listed-five : (l : Listed) → length (listedWords l) ≡ 5
 listed-five (Pieces m) = refl
 listed-five (ListingDeclined c) = refl
+
+reported-five : (r : Reported) → length (reportedWords r) ≡ 5
+reported-five (Offers m) = refl
+reported-five (ReportDeclined c) = refl
 
 module _ (ws : List ℤ) {ws′ : List ℤ} (five : List ℤ) (n : length five ≡ 5) (h : 5 ≤ length ws) (e : ws′ ≡ five ++ drop 5 ws) where
   five-take : take 5 ws′ ≡ five
@@ -68,46 +74,85 @@ module _ {start : ℕ} {t : List ℤ} (ws : List ℤ) {ws′ : List ℤ} (h : 5 
         later = five-drop ws (foundWords f) (found-five f) h e;
       }
 
--- the output lent to a listing, and what comes back
-pub lists :
-    {start : ℕ} {t : List ℤ} (ws : List ℤ) {ws₁ ws′ out′ : List ℤ} {l : Listed} (room : ℕ) → 5 + room ≤ length ws →
-    Lists start t (take room (drop 5 ws)) out′ l → ws₁ ≡ take 5 ws ++ (out′ ++ drop room (drop 5 ws)) → ws′ ≡ listedWords l ++ drop 5 ws₁ →
-    Performed (listing room) start t t ws ws′
-lists {start} {t} ws {ws₁} {ws′} {out′} {l} room h p e₁ e =
+-- The output lent to a listing or a report, with the words behind it, and all words with what comes back. Its end is told as five and the room.
+abbrev behind : ℕ → List ℤ → List ℤ
+behind room ws = drop (5 + room - 5) (drop 5 ws)
+
+abbrev lentTo : ℕ → List ℤ → List ℤ
+lentTo room ws = take (5 + room - 5) (drop 5 ws)
+
+abbrev lentBack : ℕ → List ℤ → List ℤ → List ℤ
+lentBack room ws out′ = take 5 ws ++ (out′ ++ behind room ws)
+
+record Written (ws ws′ five out out′ : List ℤ) (room : ℕ) : Type 0 where
+  lent : room ≡ length out
+  told : (take 5 ws′ ≡ five) × (take room (drop 5 ws) ≡ out) × (take room (drop 5 ws′) ≡ out′)
+  long : length ws′ ≡ length ws
+  later : drop (5 + room) ws′ ≡ drop (5 + room) ws
+
+written :
+    (ws : List ℤ) {ws₁ ws′ out′ : List ℤ} (five : List ℤ) (room : ℕ) → length five ≡ 5 → 5 + room ≤ length ws → length out′ ≡ length (lentTo room ws) →
+    ws₁ ≡ lentBack room ws out′ → ws′ ≡ five ++ drop 5 ws₁ → Written ws ws′ five (lentTo room ws) out′ room
+written ws {ws₁} {ws′} {out′} five room n h long e₁ e =
     record {
-      answer = listingAnswer l out′;
-      happens = by-listing (take room (drop 5 ws)) out′ l p (sym lent) refl refl;
-      tells = (five-take ws₁ (listedWords l) (listed-five l) h₁ e, refl, ap (take room) back ∙ take-at out′ (drop room (drop 5 ws)) room kept);
-      long = five-long ws₁ (listedWords l) (listed-five l) h₁ e ∙ long₁;
-      later = sym (drop-drop room 5 ws′) ∙ ap (drop room) back ∙ drop-at out′ (drop room (drop 5 ws)) room kept ∙ drop-drop room 5 ws;
+      lent = sym lent;
+      told = (
+        five-take ws₁ five n h₁ e,
+        ap (λ (m : ℕ). take m (drop 5 ws)) (sym same),
+        ap (take room) back ∙ take-at out′ (behind room ws) room kept,
+      );
+      long = five-long ws₁ five n h₁ e ∙ long₁;
+      later = sym (drop-drop room 5 ws′) ∙ ap (drop room) back ∙ drop-at out′ (behind room ws) room kept ∙ ap (λ (m : ℕ). drop m (drop 5 ws)) same
+          ∙ drop-drop room 5 ws;
     }
   where
-    lent : length (take room (drop 5 ws)) ≡ room
-    lent = length-take-le room (drop 5 ws) (omega (arith, length-drop 5 ws))
+    same : 5 + room - 5 ≡ room
+    same = omega arith
+
+    lent : length (lentTo room ws) ≡ room
+    lent = length-take-le (5 + room - 5) (drop 5 ws) (omega (arith, length-drop 5 ws)) ∙ same
 
     kept : length out′ ≡ room
-    kept = p .long ∙ lent
+    kept = long ∙ lent
+
+    front : length (take 5 ws) ≡ 5
+    front = length-take-le 5 ws (omega arith)
 
     long₁ : length ws₁ ≡ length ws
     long₁ =
-        ap length e₁ ∙ length-append (take 5 ws) (out′ ++ drop room (drop 5 ws))
-        ∙ omega (arith, length-append out′ (drop room (drop 5 ws)), kept, length-drop room (drop 5 ws), length-drop 5 ws, length-take-le 5 ws (omega arith))
+        ap length e₁ ∙ length-append (take 5 ws) (out′ ++ behind room ws)
+        ∙ omega (arith, length-append out′ (behind room ws), kept, length-drop (5 + room - 5) (drop 5 ws), length-drop 5 ws, front)
 
     h₁ : 5 ≤ length ws₁
     h₁ = omega (arith, long₁)
 
-    back : drop 5 ws′ ≡ out′ ++ drop room (drop 5 ws)
-    back = five-drop ws₁ (listedWords l) (listed-five l) h₁ e ∙ ap (drop 5) e₁ ∙ drop-at (take 5 ws) (out′ ++ drop room (drop 5 ws)) 5
-        (length-take-le 5 ws (omega arith))
+    back : drop 5 ws′ ≡ out′ ++ behind room ws
+    back = five-drop ws₁ five n h₁ e ∙ ap (drop 5) e₁ ∙ drop-at (take 5 ws) (out′ ++ behind room ws) 5 front
 
--- its end is told as the words in front and the room
-pub lists-to :
-    {start : ℕ} {t : List ℤ} (ws : List ℤ) {ws₁ ws′ out′ : List ℤ} {l : Listed} (room : ℕ) → 5 + room ≤ length ws →
-    Lists start t (take (5 + room - 5) (drop 5 ws)) out′ l → ws₁ ≡ take 5 ws ++ (out′ ++ drop (5 + room - 5) (drop 5 ws)) → ws′ ≡ listedWords l ++ drop 5 ws₁ →
-    Performed (listing room) start t t ws ws′
-lists-to {start} {t} ws {ws₁} {ws′} {out′} {l} room h p e₁ e =
-    let r : 5 + room - 5 ≡ room = omega arith in
-    lists ws room h (subst (λ (n : ℕ). Lists start t (take n (drop 5 ws)) out′ l) r p) (e₁ ∙ ap (λ (n : ℕ). take 5 ws ++ (out′ ++ drop n (drop 5 ws))) r) e
+module _ {start : ℕ} {t : List ℤ} (ws : List ℤ) {ws₁ ws′ out′ : List ℤ} (room : ℕ) (h : 5 + room ≤ length ws) where
+  pub lists : {l : Listed} → Lists start t (lentTo room ws) out′ l → ws₁ ≡ lentBack room ws out′ →
+      ws′ ≡ listedWords l ++ drop 5 ws₁ → Performed (listing room) start t t ws ws′
+  lists {l} p e₁ e =
+      let w = written ws (listedWords l) room (listed-five l) h (p .long) e₁ e in
+      record {
+        answer = listingAnswer l out′;
+        happens = by-listing (lentTo room ws) out′ l p (w .lent) refl refl;
+        tells = w .told;
+        long = w .long;
+        later = w .later;
+      }
+
+  pub reports : {r : Reported} (q p : ℤ) → Reports q p start t (lentTo room ws) out′ r → ws₁ ≡ lentBack room ws out′ →
+      ws′ ≡ reportedWords r ++ drop 5 ws₁ → Performed (report q p room) start t t ws ws′
+  reports {r} q p k e₁ e =
+      let w = written ws (reportedWords r) room (reported-five r) h (k .long) e₁ e in
+      record {
+        answer = reportAnswer r out′;
+        happens = by-report q p (lentTo room ws) out′ r k (w .lent) refl refl;
+        tells = w .told;
+        long = w .long;
+        later = w .later;
+      }
 
 -- ---- and which it is
 
@@ -117,6 +162,7 @@ some-words (withdraw n) = omega arith
 some-words (query q) = omega arith
 some-words (listing room) = omega arith
 some-words takeBack = omega arith
+some-words (report q p room) = omega arith
 
 pub step-none : {start : ℕ} {t : List ℤ} (cs ws : List ℤ) {asked : Option Call} → asked ≡ nextCall cs → fitting asked (length ws) ≡ false →
     Step start t t cs ws ws 0

@@ -4,7 +4,7 @@ ghost use mathlib.Core.Path.{_≡_};
 ghost use mathlib.Core.Bool.{true};
 ghost use Prim.Native.Nat.{_+_, _≤_};
 ghost use lib.ListN.{length};
-ghost use Rattle.plain.specs.Book.{post, withdraw, query, listing, takeBack};
+ghost use Rattle.plain.specs.Book.{post, withdraw, query, listing, takeBack, report};
 ghost use Rattle.replay_words.specs.Encoding.{fitting};
 ghost use Rattle.replay_words.specs.Decoding.{asked};
 ghost use Rattle.replay_call.specs.OneCall.{Performed, Performs, Step};
@@ -43,6 +43,16 @@ fn do_listing(table: &[i64], start: usize, room: usize, out: &mut [i64])
     replay_words::tell_listed(out, told);
 }
 
+// The output lent is as a listing's.
+fn do_report(table: &[i64], start: usize, load: i64, price: i64, room: usize, out: &mut [i64])
+    requires { ⌜ 5 + room ≤ length (now out) ⌝ }
+    ensures { λ _. ⌜ Performed (report load price room) start (now (table .entry)) (now (table .entry)) (now (out .entry)) (now (out .exit)) ⌝ }
+{
+    let last = 5 + room;
+    let told = book::report(table, start, load, price, &mut out[5..last]);
+    replay_words::tell_reported(out, told);
+}
+
 fn do_take_back(table: &mut [i64], start: usize, out: &mut [i64])
     requires { ⌜ 5 ≤ length (now out) ⌝ }
     ensures { λ _. ⌜ Performed takeBack start (now (table .entry)) (now (table .exit)) (now (out .entry)) (now (out .exit)) ⌝ }
@@ -76,6 +86,14 @@ fn perform(table: &mut [i64], start: usize, next: Next, out: &mut [i64]) -> usiz
         Next::TakeBack => {
             do_take_back(table, start, out);
             5
+        }
+        Next::Report {
+            load,
+            price,
+            room: words,
+        } => {
+            do_report(table, start, load, price, words, out);
+            5 + words
         }
         Next::Nothing => 0,
     }

@@ -1,6 +1,6 @@
 -- `replay_call::do_listing` meets its contract: what the call promises on the output lent to it, and its answer written.
 use mathlib.Core.Path.{refl}
-use Rattle.replay_call.specs.Performing.{lists-to}
+use Rattle.replay_call.specs.Performing.{lists}
 use borrow.Author.Needs.{needs}
 use Rattle.replay_call.proofs.do_listing.Statement.{statement}
 use Rattle.replay_call.proofs.do_listing.Tie as tie
@@ -31,7 +31,7 @@ returns c =
     let at-tell-listed = c .before in
     let at-listing = at-tell-listed .before .before .before in
     let entry = at-listing .before .before in
-    let a = entry .args in lists-to (a .out .now) (a .room) (entry .pre) (at-listing .listing .ensures) refl (at-tell-listed .tell-listed .ensures)
+    let a = entry .args in lists (a .out .now) (a .room) (entry .pre) (at-listing .listing .ensures) refl (at-tell-listed .tell-listed .ensures)
 
 pub do-listing-spec : {M : Type 1} → statement M
 do-listing-spec =

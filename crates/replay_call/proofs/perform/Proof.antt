@@ -63,6 +63,22 @@ do-take-back-requires c κs =
     let entry = at-told .before .before in
     call-fits (ap asked (at-told .enum-told .given .1)) (length (entry .args .out .now)) (entry .pre)
 
+enum-known-next-5 : tie.Need-enum-known-next-5
+enum-known-next-5 c = search needs
+
+do-report-requires : tie.Need-do-report-requires
+do-report-requires c κs =
+    let at-next5 = c .before .before .before in
+    let entry = at-next5 .before .before in
+    call-fits (ap asked (at-next5 .next5 .given .1)) (length (entry .args .out .now)) (entry .pre)
+
+add-result-2 : tie.Need-add-result-2
+add-result-2 c =
+    let at-do-report-arg2 = c .before .before in
+    let at-next5 = at-do-report-arg2 .before .before .before in
+    let entry = at-next5 .before .before in
+    omega (arith, call-fits (ap asked (at-next5 .next5 .given .1)) (length (entry .args .out .now)) (entry .pre))
+
 enum-told-2 : tie.Need-enum-told-2
 enum-told-2 c = search needs
 
@@ -140,8 +156,25 @@ returns-5 c =
     let at-do-take-back = c .before .before in
     performs (ap asked (at-do-take-back .before .before .before .enum-told .given .1)) (at-do-take-back .do-take-back .ensures) refl
 
+same-length-11 : tie.Need-same-length-11
+same-length-11 c = search needs
+
+same-length-12 : tie.Need-same-length-12
+same-length-12 c = search needs
+
 returns-6 : tie.Need-returns-6
-returns-6 c = absurd (never (ap asked (c .enum-told2 .given .1)) (c .before .before .args .out .now) (c .before .before .pre))
+returns-6 c =
+    let at-do-report = c .before in
+    let at-known-told5 = at-do-report .before .before .before in
+    let at-next5 = at-known-told5 .before in
+    let v = at-next5 .next5 .given .0 in
+    let k = at-known-told5 .known-told5 .given in
+    let f0 : SFits w64 (v .0) = record { sfits = k .0 .1 } in
+    let f1 : SFits w64 (v .1 .0) = record { sfits = k .1 .0 .1 } in
+    performs (ap asked (at-next5 .next5 .given .1)) (simp (toZ-ofZ, f0, f1) at (at-do-report .do-report .ensures)) refl
+
+returns-7 : tie.Need-returns-7
+returns-7 c = absurd (never (ap asked (c .enum-told2 .given .1)) (c .before .before .args .out .now) (c .before .before .pre))
 
 pub perform-spec : {M : Type 1} → statement M
 perform-spec =
@@ -158,6 +191,9 @@ perform-spec =
     add-result
     enum-told
     do-take-back-requires
+    enum-known-next-5
+    do-report-requires
+    add-result-2
     enum-told-2
     same-length
     same-length-2
@@ -174,4 +210,7 @@ perform-spec =
     same-length-9
     same-length-10
     returns-5
-    returns-6)
+    same-length-11
+    same-length-12
+    returns-6
+    returns-7)
