@@ -10,22 +10,24 @@ use lib.ListN.{take, drop, getD}
 use lib.Seq.{getD-take}
 use lib.IntN.{ℤ, pos}
 use Rattle.integers.specs.Equal.{equal}
-use Rattle.plain.specs.Book.{State, Call, post, withdraw, query, listing, takeBack, Answer, refused, step, answers}
+use Rattle.plain.specs.Book.{State, Call, post, withdraw, query, listing, takeBack, report, Answer, refused, step, answers}
 use Rattle.promises.specs.declared.Update.{Update}
 use Rattle.promises.specs.declared.Update.the-variants.{Done, Declined as UpdateDeclined}
 use Rattle.promises.specs.declared.Found.{Found}
 use Rattle.promises.specs.declared.Found.the-variants.{Offer, Declined as FoundDeclined}
 use Rattle.promises.specs.declared.Listed.{Listed}
 use Rattle.promises.specs.declared.Listed.the-variants.{Pieces, Declined as ListingDeclined}
+use Rattle.promises.specs.declared.Reported.{Reported}
+use Rattle.promises.specs.declared.Reported.the-variants.{Offers, Declined as ReportDeclined}
 use Rattle.dynamic.specs.OfferTree.{Held}
 use Rattle.table.specs.Items.{Item}
 use Rattle.form.specs.Form.{Form}
 use Rattle.form.specs.Local.{Alike, form-alike}
-use Rattle.promises.specs.Promises.{partOf, writtenWords, counted, updateAnswer, foundAnswer, listingAnswer}
+use Rattle.promises.specs.Promises.{partOf, writtenWords, counted, updateAnswer, foundAnswer, listingAnswer, reportAnswer}
 use Rattle.promises.specs.Numbered.{numbered}
-use Rattle.history.specs.History.{Happens, posting, withdrawing, taking-back, by-update, by-query, by-listing, History, finished, next}
+use Rattle.history.specs.History.{Happens, posting, withdrawing, taking-back, by-update, by-query, by-listing, by-report, History, finished, next}
 use Rattle.history.specs.Claim.{step-capacity, one-call}
-use Rattle.replay_words.specs.Encoding.{stretch, updateWords, foundWords, listedWords, acceptedAnswer, answerOf, told, spared, Spares}
+use Rattle.replay_words.specs.Encoding.{stretch, updateWords, foundWords, listedWords, reportedWords, acceptedAnswer, answerOf, told, spared, Spares}
 use Rattle.replay_words.specs.Decoding.{same-is}
 use Rattle.replay_call.specs.Telling.{TellsOne, Tells}
 
@@ -73,6 +75,11 @@ listing-told : (room : ℕ) (l : Listed) (out : List ℤ) → listingAnswer l (t
 listing-told room (Pieces m) out f = refl
 listing-told room (ListingDeclined z) out f = refusal-told (listing room) z (pos 0) (pos 0) (pos 0) out f
 
+report-told : (q p : ℤ) (room : ℕ) (r : Reported) (out : List ℤ) → reportAnswer r (take room out) ≢ refused 0 →
+    byWords (report q p room) (reportedWords r) out ≡ reportAnswer r (take room out)
+report-told q p room (Offers m) out f = refl
+report-told q p room (ReportDeclined z) out f = refusal-told (report q p room) z (pos 0) (pos 0) (pos 0) out f
+
 one-told : {start : ℕ} {t : List ℤ} {k : Call} {t′ : List ℤ} {a : Answer} (p : Happens start t k t′ a) (ws ws′ : List ℤ) → TellsOne p ws ws′ →
     a ≢ refused 0 → byWords k ws′ (drop 5 ws′) ≡ a
 one-told (by-update (posting n r b) u p e) ws ws′ h f = first-words (post n r b) ws′ (drop 5 ws′) h ∙ post-told n r b u (drop 5 ws′) (λ q. f (e ∙ q)) ∙ sym e
@@ -82,6 +89,9 @@ one-told (by-query q u p d e) ws ws′ h f = first-words (query q) ws′ (drop 5
 one-told (by-listing {room} out out′ l p m d e) ws ws′ (h, b, o) f =
     let q = e ∙ ap (listingAnswer l) (sym o) in
     first-words (listing room) ws′ (drop 5 ws′) h ∙ listing-told room l (drop 5 ws′) (λ z. f (q ∙ z)) ∙ sym q
+one-told (by-report {room} q p out out′ r k m d e) ws ws′ (h, b, o) f =
+    let u = e ∙ ap (reportAnswer r) (sym o) in
+    first-words (report q p room) ws′ (drop 5 ws′) h ∙ report-told q p room r (drop 5 ws′) (λ z. f (u ∙ z)) ∙ sym u
 
 pub told-right : {c start : ℕ} {t : List ℤ} {ks : List Call} {as′ : List Answer} {t′ : List ℤ} (h : History c start t ks as′ t′) (ws ws′ : List ℤ) →
     Tells h ws ws′ → (s : State) → as′ ≡ answers s ks → told ks ws′ ≡ as′
@@ -95,6 +105,13 @@ told-right (next {k} {ks} {a} {as′} alike p rest) ws ws′ (x, y) s e =
 
 -- ---- what is not written stays
 
+-- an output lent, and what comes back: an answer `a` is told as `b`
+behind-stays : {a b : Answer} {lent back out out′ : List ℤ} → a ≡ b → lent ≡ out → back ≡ out′ →
+    drop (writtenWords b) out′ ≡ drop (writtenWords b) out → drop (writtenWords a) back ≡ drop (writtenWords a) lent
+behind-stays {a} {b} {lent} {back} e y z later =
+    ap (λ (x : Answer). drop (writtenWords x) back) e ∙ ap (drop (writtenWords b)) z ∙ later ∙ ap (drop (writtenWords b)) (sym y)
+    ∙ ap (λ (x : Answer). drop (writtenWords x) lent) (sym e)
+
 one-spares :
     {start : ℕ} {t : List ℤ} {k : Call} {t′ : List ℤ} {a : Answer} (p : Happens start t k t′ a) (ws ws′ : List ℤ) → TellsOne p ws ws′ →
     (s : State) (held : Option (Held Item)) → Form (partOf t start) s held → spared k a ws′ ≡ spared k a ws
@@ -102,12 +119,8 @@ one-spares (by-update (posting n r b) u p e) ws ws′ w s held form = refl
 one-spares (by-update (withdrawing n) u p e) ws ws′ w s held form = refl
 one-spares (by-update taking-back u p e) ws ws′ w s held form = refl
 one-spares (by-query q f p d e) ws ws′ w s held form = refl
-one-spares {a = a} (by-listing {room} out out′ l p m d e) ws ws′ (x, y, z) s held form =
-    ap (λ (n : ℕ). drop n (take room (drop 5 ws′))) same ∙ ap (drop (writtenWords (listingAnswer l out′))) z ∙ p .later s held (form .book)
-    ∙ ap (drop (writtenWords (listingAnswer l out′))) (sym y) ∙ ap (λ (n : ℕ). drop n (take room (drop 5 ws))) (sym same)
-  where
-    same : writtenWords a ≡ writtenWords (listingAnswer l out′)
-    same = ap writtenWords e
+one-spares (by-listing out out′ l p m d e) ws ws′ (x, y, z) s held form = behind-stays e y z (p .later s held (form .book))
+one-spares (by-report q p out out′ r k m d e) ws ws′ (x, y, z) s held form = behind-stays e y z (k .later s held (form .book))
 
 pub spares-right :
     {c start : ℕ} {t : List ℤ} {ks : List Call} {as′ : List Answer} {t′ : List ℤ} (h : History c start t ks as′ t′) (ws ws′ : List ℤ) → Tells h ws ws′ →
