@@ -7,7 +7,7 @@ use Prim.Native.Nat.{ℕ, zero, suc, _*_, _≤_}
 use native.Mathlib.Omega.{arith}
 use lib.ListN.{length, take}
 use lib.IntN.{ℤ, pos, negsuc}
-use Rattle.plain.specs.Book.{State, Call, query, listing, refused, live, found, listed, step}
+use Rattle.plain.specs.Book.{State, Call, query, listing, report, refused, live, found, listed, reported, step}
 use Rattle.dynamic.specs.OfferTree.{Held}
 use Rattle.table.specs.Items.{Item}
 use Rattle.form.specs.Form.{Form}
@@ -17,7 +17,10 @@ use Rattle.promises.specs.declared.Found.{Found}
 use Rattle.promises.specs.declared.Found.the-variants.{Offer, Declined as FoundDeclined}
 use Rattle.promises.specs.declared.Listed.{Listed}
 use Rattle.promises.specs.declared.Listed.the-variants.{Pieces, Declined as ListingDeclined}
-use Rattle.promises.specs.Promises.{partOf, counted, updateTold, foundTold, updateAnswer, foundAnswer, listingAnswer, Updates, Queries, Lists}
+use Rattle.promises.specs.declared.Reported.{Reported}
+use Rattle.promises.specs.declared.Reported.the-variants.{Offers, Declined as ReportDeclined}
+use Rattle.promises.specs.Promises.{partOf, counted, updateTold, foundTold, updateAnswer, foundAnswer, listingAnswer, reportAnswer, Updates, Queries}
+use Rattle.promises.specs.Promises.{Lists, Reports}
 use Rattle.promises.specs.Numbered.{numbered}
 
 -- a refusal told by a word is told by its number
@@ -90,6 +93,22 @@ listing-listed (Pieces (negsuc m)) out n ws e = let z : _≡_ {A = ℕ} 0 1 = cc
 listing-listed (ListingDeclined (pos m)) out n ws e = let z : _≡_ {A = ℕ} 0 1 = cc in absurd (omega arith)
 listing-listed (ListingDeclined (negsuc m)) out n ws e = let z : _≡_ {A = ℕ} 0 1 = cc in absurd (omega arith)
 
+-- ---- report
+
+pub report-refused : (r : Reported) (out : List ℤ) (n : ℕ) → 1 ≤ n → reportAnswer r out ≡ refused n → r ≡ ReportDeclined (pos n)
+report-refused (Offers (pos m)) out n l e = let z : _≡_ {A = ℕ} 0 1 = cc in absurd (omega arith)
+report-refused (Offers (negsuc m)) out n l e = let d : 0 ≡ n = cc in absurd (omega arith)
+report-refused (ReportDeclined c) out n l e = ap ReportDeclined (refused-word c n l e)
+
+pub report-reported : (r : Reported) (out : List ℤ) (n : ℕ) (ws : List ℤ) → reportAnswer r out ≡ reported n ws → (r ≡ Offers (pos n)) × (ws ≡ take (3 * n) out)
+report-reported (Offers (pos m)) out n ws e =
+    let d : m ≡ n = cc in
+    let f : take (3 * m) out ≡ ws = cc in
+    (ap (λ x. Offers (pos x)) d, sym f ∙ ap (λ x. take (3 * x) out) d)
+report-reported (Offers (negsuc m)) out n ws e = let z : _≡_ {A = ℕ} 0 1 = cc in absurd (omega arith)
+report-reported (ReportDeclined (pos m)) out n ws e = let z : _≡_ {A = ℕ} 0 1 = cc in absurd (omega arith)
+report-reported (ReportDeclined (negsuc m)) out n ws e = let z : _≡_ {A = ℕ} 0 1 = cc in absurd (omega arith)
+
 -- ---- on a book: where the plain book refuses, the call is declined with that number
 
 plain-number : (s : State) (k : Call) (n : ℕ) → step s k .answer ≡ refused n → 1 ≤ n
@@ -109,3 +128,9 @@ module _ {start : ℕ} {t : List ℤ} {s : State} {held : Option (Held Item)} (f
       {out out′ : List ℤ} {r : Listed} → Lists start t out out′ r → (n : ℕ) → step s (listing (length out)) .answer ≡ refused n →
       r ≡ ListingDeclined (pos n)
   listing-declined {out} {out′} {r} p n e = listing-refused r out′ n (plain-number s (listing (length out)) n e) (p .answers s held (f .book) ∙ e)
+
+  pub report-declined :
+      {q p : ℤ} {out out′ : List ℤ} {r : Reported} → Reports q p start t out out′ r → (n : ℕ) → step s (report q p (length out)) .answer ≡ refused n →
+      r ≡ ReportDeclined (pos n)
+  report-declined {q} {p} {out} {out′} {r} k n e =
+      report-refused r out′ n (plain-number s (report q p (length out)) n e) (k .answers s held (f .book) ∙ e)

@@ -9,9 +9,9 @@ use lib.IntN.{ℤ, pos, negsuc}
 use Rattle.offers.specs.Offers.{Offer as PlainOffer}
 use Rattle.plain.specs.Causes.{Cause, causeNumber, declined, Clear}
 use Rattle.plain.specs.Trials.{clear, declined-first}
-use Rattle.plain.specs.Book.{State, Undo, Call, post, withdraw, query, listing, takeBack, Answer, refused, live, found, listed, Outcome, holding}
-use Rattle.plain.specs.Book.{recalling, changed, join, leave, trials, accepted, respond, step}
-use Rattle.plain.specs.MeaningLaws.{query-cheapest, listing-listing}
+use Rattle.plain.specs.Book.{State, Undo, Call, post, withdraw, query, listing, takeBack, report, Answer, refused, live, found, listed, reported}
+use Rattle.plain.specs.Book.{Outcome, holding, recalling, changed, join, leave, trials, accepted, respond, step}
+use Rattle.plain.specs.MeaningLaws.{query-cheapest, listing-listing, report-report}
 use Rattle.dynamic.specs.OfferTree.{Held}
 use Rattle.table.specs.Items.{Item}
 use Rattle.form.specs.Form.{Form}
@@ -22,10 +22,12 @@ use Rattle.promises.specs.declared.Found.{Found}
 use Rattle.promises.specs.declared.Found.the-variants.{Offer, Declined as FoundDeclined}
 use Rattle.promises.specs.declared.Listed.{Listed}
 use Rattle.promises.specs.declared.Listed.the-variants.{Pieces, Declined as ListingDeclined}
-use Rattle.promises.specs.Promises.{partOf, counted, updateAnswer, foundAnswer, listingAnswer, Follows, Queries, Lists}
+use Rattle.promises.specs.declared.Reported.{Reported}
+use Rattle.promises.specs.declared.Reported.the-variants.{Offers, Declined as ReportDeclined}
+use Rattle.promises.specs.Promises.{partOf, counted, updateAnswer, foundAnswer, listingAnswer, reportAnswer, writtenWords, Follows, Queries, Lists, Reports}
 use Rattle.promises.specs.Numbered.{from-one, numbered}
 use Rattle.theorems.specs.AnswerCases.{refused-word}
-use Rattle.theorems.specs.Demand2.{Refuses, QueryTells, ListingTells, UpdateTells, offersBack, Demand2}
+use Rattle.theorems.specs.Demand2.{Refuses, QueryTells, ListingTells, ReportTells, UpdateTells, offersBack, Demand2}
 
 -- ---- a refusal
 
@@ -42,30 +44,22 @@ answered-clear s k a unlike e = go (declined (trials s k)) refl e
     go none p q = clear (trials s k) p
 
 -- a query past the trials is not refused
-query-accepted : (s : State) (q : ℤ) (n : ℕ) → Clear (trials s (query q)) → respond s (query q) none .answer ≡ refused n → ⊥
+query-accepted : (s : State) (q : ℤ) (n : ℕ) → Clear (trials s (query q)) → accepted s (query q) .answer ≡ refused n → ⊥
 query-accepted s q n k e = go (s .offers) k e
   where
-    go :
-        (os : List PlainOffer) → Clear (trials (holding s os) (query q)) →
-        respond (holding s os) (query q) none .answer ≡ refused n → ⊥
+    go : (os : List PlainOffer) → Clear (trials (holding s os) (query q)) → accepted (holding s os) (query q) .answer ≡ refused n → ⊥
     go [] (load, (empty, _)) d = empty
     go (o ∷ os) k d = let z : _≡_ {A = ℕ} 0 1 = cc in absurd (omega arith)
 
-query-refuses : (s : State) (q z : ℤ) → counted refused z ≡ step s (query q) .answer → Refuses (trials s (query q)) z
-query-refuses s q z e = go (declined (trials s (query q))) refl e
+-- .. and a refused one met the first that applies
+refuses :
+    (s : State) (k : Call) (z : ℤ) → ((n : ℕ) → Clear (trials s k) → accepted s k .answer ≡ refused n → ⊥) → counted refused z ≡ step s k .answer →
+    Refuses (trials s k) z
+refuses s k z unlike e = go (declined (trials s k)) refl e
   where
-    go : (d : Option Cause) → declined (trials s (query q)) ≡ d → counted refused z ≡ respond s (query q) d .answer → Refuses (trials s (query q)) z
-    go (some c) p a = (c, declined-first (trials s (query q)) c p, refused-word z (causeNumber c) (from-one c) a)
-    go none p a = let (n, b) = a-refusal z in absurd (query-accepted s q n (clear (trials s (query q)) p) (sym a ∙ b))
-
-listing-refuses : (s : State) (room : ℕ) (z : ℤ) → counted refused z ≡ step s (listing room) .answer → Refuses (trials s (listing room)) z
-listing-refuses s room z e = go (declined (trials s (listing room))) refl e
-  where
-    go :
-        (d : Option Cause) → declined (trials s (listing room)) ≡ d → counted refused z ≡ respond s (listing room) d .answer →
-        Refuses (trials s (listing room)) z
-    go (some c) p a = (c, declined-first (trials s (listing room)) c p, refused-word z (causeNumber c) (from-one c) a)
-    go none p a = let (n, b) = a-refusal z in let d : _≡_ {A = ℕ} 0 1 = cc in absurd (omega arith)
+    go : (d : Option Cause) → declined (trials s k) ≡ d → counted refused z ≡ respond s k d .answer → Refuses (trials s k) z
+    go (some c) p a = (c, declined-first (trials s k) c p, refused-word z (causeNumber c) (from-one c) a)
+    go none p a = let (n, b) = a-refusal z in absurd (unlike n (clear (trials s k) p) (sym a ∙ b))
 
 -- ---- an update, by what it makes of the live offers where no cause applies
 
@@ -98,7 +92,7 @@ module _ (s : State) (k : Call) (os : List PlainOffer) (us : List Undo) (a : Cle
     update-told : {held : Option (Held Item)} {u : Update} → Follows k s held start t t′ u → UpdateTells s k os us start t t′ u
     update-told {u} f = update-by (declined (trials s k)) refl u (f .answers) (f .after) (f .stands) (f .refusal)
 
--- ---- the five calls
+-- ---- the six calls
 
 module _ {start : ℕ} {t : List ℤ} {s : State} {held : Option (Held Item)} (f : Form (partOf t start) s held) where
   query-told : {q : ℤ} {r : Found} → Queries q start t r → QueryTells s q r
@@ -109,7 +103,7 @@ module _ {start : ℕ} {t : List ℤ} {s : State} {held : Option (Held Item)} (f
         answered-clear s (query q) (found number price second) (λ n h. let z : _≡_ {A = ℕ} 0 1 = cc in absurd (omega arith)) e,
         query-cheapest s q number price second (sym e),
       )
-      go (FoundDeclined z) e = query-refuses s q z e
+      go (FoundDeclined z) e = refuses s (query q) z (query-accepted s q) e
 
   listing-told : {out out′ : List ℤ} {r : Listed} → Lists start t out out′ r → ListingTells s (length out) r out′
   listing-told {out} {out′} {r} p = go r (p .answers s held (f .book))
@@ -120,13 +114,35 @@ module _ {start : ℕ} {t : List ℤ} {s : State} {held : Option (Held Item)} (f
         (n, refl, listing-listing s (length out) n (take (3 * n) out′) (book-sound (f .book)) (sym e)),
       )
       go (Pieces (negsuc n)) e = absurd (numbered s (listing (length out)) (sym e))
-      go (ListingDeclined z) e = listing-refuses s (length out) z e
+      go (ListingDeclined z) e = refuses s (listing (length out)) z (λ n k h. let d : _≡_ {A = ℕ} 0 1 = cc in absurd (omega arith)) e
+
+  report-told : {q p : ℤ} {out out′ : List ℤ} {r : Reported} → Reports q p start t out out′ r → ReportTells s q p out out′ r
+  report-told {q} {p} {out} {out′} {r} k = go r (k .answers s held (f .book)) (k .later s held (f .book)) (k .refusal)
+    where
+      room : ℕ
+      room = length out
+
+      go :
+          (r : Reported) → reportAnswer r out′ ≡ step s (report q p room) .answer →
+          drop (writtenWords (reportAnswer r out′)) out′ ≡ drop (writtenWords (reportAnswer r out′)) out → ((z : ℤ) → r ≡ ReportDeclined z → out′ ≡ out) →
+          ReportTells s q p out out′ r
+      go (Offers (pos n)) e l same =
+          let m = report-report s q p room n (take (3 * n) out′) (book-sound (f .book)) (sym e) in (
+            answered-clear s (report q p room) (reported n (take (3 * n) out′)) (λ m h. let z : _≡_ {A = ℕ} 0 1 = cc in absurd (omega arith)) e,
+            (n, refl, m, subst (λ (i : ℕ). drop i out′ ≡ drop i out) (m .long) l),
+          )
+      go (Offers (negsuc n)) e l same = absurd (numbered s (report q p room) (sym e))
+      go (ReportDeclined z) e l same = (
+        refuses s (report q p room) z (λ n k h. let d : _≡_ {A = ℕ} 0 1 = cc in absurd (omega arith)) e,
+        same z refl,
+      )
 
   pub demand-2 : Demand2 start t s
   demand-2 =
       record {
         query-tells = query-told;
         listing-tells = listing-told;
+        report-tells = report-told;
         post-tells = λ {n} {r} {b = base} {t′} p. update-told s (post n r base) (join (record { number = n; rate = r; base = base }) (s .offers)) _
             (λ c. refl) start t t′ (p .follows s held f);
         withdraw-tells = λ {n} {t′} p. update-told s (withdraw n) (leave n (s .offers)) _ (λ c. refl) start t t′ (p .follows s held f);

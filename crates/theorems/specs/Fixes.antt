@@ -1,22 +1,27 @@
--- The sentences of demand 2 fix the answers: of a list of offers, one price and two numbers at a load, and one listing, word for word. A query's probes are
--- free with the arrangement, and one number in each.
-use mathlib.Core.Path.{_≡_, sym, _∙_, ap, subst}
-use mathlib.Core.List.{List, List·Memᴰ}
+-- The sentences of demand 2 fix the answers: of a list of offers, one price and two numbers at a load, one listing, and one report of a load and a price,
+-- word for word. A query's probes are free with the arrangement, and one number in each.
+use mathlib.Core.Path.{_≡_, refl, sym, _∙_, ap, ap₂, subst}
+use mathlib.Core.Logic.{⊎-elim}
+use mathlib.Core.List.{List, [], _∷_, List·Memᴰ, List·Memᴰ·head, List·Memᴰ·tail, List·Memᴰ·cases-cons, List·Memᴰ·not-nil}
+use mathlib.Core.List.{Pairwise, Pairwise·of-cons, rel-of-pairwise-cons}
 use mathlib.Core.Option.{Option, none, some}
 use Prim.Native.Nat.{ℕ, zero, suc, _+_, _*_, _/_, _%_, _<_}
 use native.Mathlib.Decide.{decLt}
 use native.Mathlib.Omega.{arith}
 use lib.ListN.{length, getD}
 use lib.Seq.{ext-getD}
+use lib.Dec.{T}
 use lib.IntN.{ℤ, pos}
 use Rattle.lists.specs.Places.{sublist-mem}
+use Rattle.lists.specs.Members.{Among}
 use Rattle.integers.specs.Parts.{intRules}
-use Rattle.offers.specs.Offers.{Offer, crossingNumerator, crossingDenominator}
+use Rattle.offers.specs.Offers.{Offer, ahead, crossingNumerator, crossingDenominator}
+use Rattle.offers.specs.Order.{Ahead, ahead-said, ahead-asym, ahead-other}
 use Rattle.envelopes.specs.Envelope.{Env}
 use Rattle.envelopes.specs.EnvelopeLaws.{same-members}
 use Rattle.lines.specs.OfferLines.{offerFigure, offerLaws}
 use Rattle.plain.specs.Book.{State}
-use Rattle.plain.specs.Meaning.{Priced, Cheapest, PieceAt, Listing}
+use Rattle.plain.specs.Meaning.{Priced, Cheapest, PieceAt, Listing, Report}
 use Rattle.plain.specs.QueryLaws.{earliest-live, earliest-once}
 use Rattle.plain.specs.ListingLaws.{in-order}
 use Rattle.trees.specs.Tree.{leaves}
@@ -89,9 +94,8 @@ probes-once {w} {held = some h} b (t, a, n, e, leaf, m, d) (t′, a′, n′, e�
     same : a ≡ a′
     same = number-tells b (live leaf) (live there) (m ∙ sym m′)
 
--- ---- a listing
+-- ---- three words each
 
--- three words of two pieces
 same-piece :
     {ws ws′ : List ℤ} {i : ℕ} {n u v : ℤ} → PieceAt ws i n u v → PieceAt ws′ i n u v → (r : ℕ) → r < 3 →
     getD ws (3 * i + r) (pos 0) ≡ getD ws′ (3 * i + r) (pos 0)
@@ -100,23 +104,37 @@ same-piece a b (suc zero) h = a .second ∙ sym (b .second)
 same-piece a b (suc (suc zero)) h = a .third ∙ sym (b .third)
 same-piece a b (suc (suc (suc r))) h = absurd (omega arith)
 
+-- two lists of so many threes, each of which stands in both
+same-words :
+    {m m′ : ℕ} {ws ws′ : List ℤ} → m ≡ m′ → length ws ≡ 3 * m → length ws′ ≡ 3 * m′ →
+    ((i : ℕ) → i < m → (n u v : ℤ) × PieceAt ws i n u v × PieceAt ws′ i n u v) → ws ≡ ws′
+same-words {m} {m′} {ws} {ws′} e l l′ threes = ext-getD (pos 0) ws ws′ (omega arith) word-at
+  where
+    word-at : (j : ℕ) → j < length ws → getD ws j (pos 0) ≡ getD ws′ j (pos 0)
+    word-at j h =
+        let e : j ≡ 3 * (j / 3) + j % 3 = omega arith in
+        let (n, u, v, x, y) = threes (j / 3) (omega (arith, l)) in
+        rw e (same-piece x y (j % 3) (omega arith))
+
+anyOffer : Offer
+anyOffer = record { number = pos 0; rate = pos 0; base = pos 0 }
+
+-- ---- a listing
+
 pub listing-once : {os : List Offer} {m m′ : ℕ} {ws ws′ : List ℤ} → Listing os m ws → Listing os m′ ws′ → (m ≡ m′) × (ws ≡ ws′)
-listing-once {os} {m} {m′} {ws} {ws′} a b = (many, ext-getD (pos 0) ws ws′ (omega (arith, a .long, b .long, many)) word-at)
+listing-once {os} {m} {m′} {ws} {ws′} a b = (many, same-words many (a .long) (b .long) piece-at)
   where
     same : a .pieces ≡ b .pieces
     same =
         same-members offerFigure offerLaws (a .pieces) (b .pieces) (in-order (a .in-order)) (in-order (b .in-order))
         (λ e k. b .exact e .1 (a .exact e .0 k)) (λ e k. a .exact e .1 (b .exact e .0 k))
 
-    d : Offer
-    d = record { number = pos 0; rate = pos 0; base = pos 0 }
-
     Inner : ℕ → List Offer → Type 0
     Inner i es =
-        PieceAt ws′ i (getD es i d .number) (crossingNumerator (getD es i d) (getD es (suc i) d)) (crossingDenominator (getD es i d) (getD es (suc i) d))
+        PieceAt ws′ i (getD es i anyOffer .number) (crossingNumerator (getD es i anyOffer) (getD es (suc i) anyOffer)) (crossingDenominator (getD es i anyOffer) (getD es (suc i) anyOffer))
 
     Last : ℕ → List Offer → Type 0
-    Last i es = PieceAt ws′ i (getD es i d .number) (pos 0) (pos 0)
+    Last i es = PieceAt ws′ i (getD es i anyOffer .number) (pos 0) (pos 0)
 
     many : m ≡ m′
     many = sym (a .many) ∙ ap length same ∙ b .many
@@ -125,11 +143,46 @@ listing-once {os} {m} {m′} {ws} {ws′} a b = (many, ext-getD (pos 0) ws ws′
     piece-at i h = go (decLt (suc i) m)
       where
         go : Dec (suc i < m) → (n u v : ℤ) × PieceAt ws i n u v × PieceAt ws′ i n u v
-        go (yes k) = (_, _, _, a .inner i d k, subst (Inner i) (sym same) (b .inner i d (omega (arith, many))))
-        go (no k) = (_, _, _, a .last i d (omega arith), subst (Last i) (sym same) (b .last i d (omega (arith, many))))
+        go (yes k) = (_, _, _, a .inner i anyOffer k, subst (Inner i) (sym same) (b .inner i anyOffer (omega (arith, many))))
+        go (no k) = (_, _, _, a .last i anyOffer (omega arith), subst (Last i) (sym same) (b .last i anyOffer (omega (arith, many))))
 
-    word-at : (j : ℕ) → j < length ws → getD ws j (pos 0) ≡ getD ws′ j (pos 0)
-    word-at j h =
-        let e : j ≡ 3 * (j / 3) + j % 3 = omega arith in
-        let (n, u, v, x, y) = piece-at (j / 3) (omega (arith, a .long)) in
-        rw e (same-piece x y (j % 3) (omega arith))
+-- ---- a report
+
+abbrev Ordered : List Offer → Type 0
+Ordered os = Pairwise (λ a b. T (ahead a b)) os
+
+ahead-of : {o a : Offer} {os : List Offer} → Ordered (o ∷ os) → List·Memᴰ a os → Ahead o a
+ahead-of {o} {a} h m = ahead-said o a (rel-of-pairwise-cons h ∣ m ∣₁)
+
+-- in order, the members are the list
+same-offers : (os ps : List Offer) → Ordered os → Ordered ps → Among os ps → Among ps os → os ≡ ps
+same-offers [] [] h k to from = refl
+same-offers [] (p ∷ ps) h k to from = absurd (List·Memᴰ·not-nil (from p (List·Memᴰ·head refl)))
+same-offers (o ∷ os) [] h k to from = absurd (List·Memᴰ·not-nil (to o (List·Memᴰ·head refl)))
+same-offers (o ∷ os) (p ∷ ps) h k to from =
+    ap₂ {C = List Offer} (λ (a : Offer) (l : List Offer). a ∷ l) heads
+    (same-offers os ps (Pairwise·of-cons h) (Pairwise·of-cons k)
+    (λ a m. ⊎-elim (λ (q : a ≡ p). absurd (ahead-other (ahead-of h m) (heads ∙ sym q))) (λ n. n) (List·Memᴰ·cases-cons (to a (List·Memᴰ·tail m))))
+    (λ a m. ⊎-elim (λ (q : a ≡ o). absurd (ahead-other (ahead-of k m) (sym heads ∙ sym q))) (λ n. n) (List·Memᴰ·cases-cons (from a (List·Memᴰ·tail m)))))
+  where
+    heads : o ≡ p
+    heads =
+        ⊎-elim (λ (q : o ≡ p). q)
+        (λ m. ⊎-elim (λ (q : p ≡ o). sym q) (λ n. absurd (ahead-asym (ahead-of h n) (ahead-of k m))) (List·Memᴰ·cases-cons (from p (List·Memᴰ·head refl))))
+        (List·Memᴰ·cases-cons (to o (List·Memᴰ·head refl)))
+
+pub report-once : {os : List Offer} {q p : ℤ} {m m′ : ℕ} {ws ws′ : List ℤ} → Report os q p m ws → Report os q p m′ ws′ → (m ≡ m′) × (ws ≡ ws′)
+report-once {m} {m′} {ws} {ws′} a b = (many, same-words many (a .long) (b .long) offer-at)
+  where
+    same : a .offers ≡ b .offers
+    same =
+        same-offers (a .offers) (b .offers) (a .in-order) (b .in-order) (λ o k. b .exact o .1 (a .exact o .0 k)) (λ o k. a .exact o .1 (b .exact o .0 k))
+
+    many : m ≡ m′
+    many = sym (a .many) ∙ ap length same ∙ b .many
+
+    Told : ℕ → List Offer → Type 0
+    Told i os = let o = getD os i anyOffer in PieceAt ws′ i (o .number) (o .rate) (o .base)
+
+    offer-at : (i : ℕ) → i < m → (n u v : ℤ) × PieceAt ws i n u v × PieceAt ws′ i n u v
+    offer-at i h = (_, _, _, a .told i anyOffer h, subst (Told i) (sym same) (b .told i anyOffer (omega (arith, many))))
