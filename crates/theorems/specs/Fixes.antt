@@ -131,7 +131,8 @@ listing-once {os} {m} {m′} {ws} {ws′} a b = (many, same-words many (a .long)
 
     Inner : ℕ → List Offer → Type 0
     Inner i es =
-        PieceAt ws′ i (getD es i anyOffer .number) (crossingNumerator (getD es i anyOffer) (getD es (suc i) anyOffer)) (crossingDenominator (getD es i anyOffer) (getD es (suc i) anyOffer))
+        PieceAt ws′ i (getD es i anyOffer .number) (crossingNumerator (getD es i anyOffer) (getD es (suc i) anyOffer))
+        (crossingDenominator (getD es i anyOffer) (getD es (suc i) anyOffer))
 
     Last : ℕ → List Offer → Type 0
     Last i es = PieceAt ws′ i (getD es i anyOffer .number) (pos 0) (pos 0)
