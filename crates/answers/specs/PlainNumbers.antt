@@ -10,7 +10,7 @@ use lib.ListN.{length, take, drop, length-append, length-map}
 use lib.IntN.{ℤ, pos, negsuc, negℤ}
 use lib.Ieee.{Float}
 use Rattle.plain.specs.Causes.{Cause, causeNumber, FirstOf, Clear}
-use Rattle.plain.specs.Book.{State, Call, query, listing, Answer, refused, live, found, listed, step, envelope, pieceWords}
+use Rattle.plain.specs.Book.{State, Call, query, listing, report, Answer, refused, live, found, listed, reported, step, envelope, pieceWords}
 use Rattle.trees.specs.Tree.{height}
 use Rattle.meeting.specs.Machine.{meet}
 use Rattle.dynamic.specs.OfferTree.{Held}
@@ -25,7 +25,9 @@ use Rattle.promises.specs.declared.Found.{Found}
 use Rattle.promises.specs.declared.Found.the-variants.{Offer, Declined as FoundDeclined}
 use Rattle.promises.specs.declared.Listed.{Listed}
 use Rattle.promises.specs.declared.Listed.the-variants.{Pieces, Declined as ListingDeclined}
-use Rattle.promises.specs.Promises.{partOf, updateAnswer, foundAnswer, listingAnswer}
+use Rattle.promises.specs.declared.Reported.{Reported}
+use Rattle.promises.specs.declared.Reported.the-variants.{Offers, Declined as ReportDeclined}
+use Rattle.promises.specs.Promises.{partOf, updateAnswer, foundAnswer, listingAnswer, reportAnswer}
 use Rattle.promises.specs.Numbered.{numbered}
 use Rattle.meet_books.specs.declared.Met.{Met}
 use Rattle.meet_books.specs.Promises.{meetTrials, Found as MeetsAt}
@@ -33,9 +35,9 @@ use Rattle.chart.specs.Promises.{plainMark}
 use Rattle.vouchers.specs.Span.{due, only-due}
 use Rattle.reading.specs.Promises.{pieceOf as handedOf, listedAt, rootPieces, PlaceOf, at-piece, past-last, Before}
 use Rattle.reading.specs.PartReading.{none-past, listed-is}
-use Rattle.answers.specs.Promises.{refusal, updateNumber, foundNumber, listedNumber, meetNumber, markNumber, placeNumber, metOf, pieceOf, over}
-use Rattle.answers.specs.Promises.{foundOf}
-use Rattle.answers.specs.Promises.{Updated, Queried, Listing, MetBooks, MarkAsked, Vouchered, Begun, Steps, Pieced, placeOf}
+use Rattle.answers.specs.Promises.{refusal, updateNumber, foundNumber, listedNumber, reportedNumber, meetNumber, markNumber, placeNumber}
+use Rattle.answers.specs.Promises.{foundOf, metOf, pieceOf, over}
+use Rattle.answers.specs.Promises.{Updated, Queried, Listing, Report, MetBooks, MarkAsked, Vouchered, Begun, Steps, Pieced, placeOf}
 
 -- an answer of the plain book as one number
 abbrev pub answerNumber : Answer → ℤ
@@ -43,6 +45,7 @@ answerNumber (refused n) = negℤ (pos n)
 answerNumber (live n) = pos n
 answerNumber (found number price second) = number
 answerNumber (listed n ws) = pos n
+answerNumber (reported n ws) = pos n
 
 update-number : (u : Update) (a : Answer) → a ≢ refused 0 → updateAnswer u ≡ a → updateNumber u ≡ answerNumber a
 update-number (Done (pos n) k s h) a d e = ap answerNumber e
@@ -70,6 +73,12 @@ listed-number (Pieces (negsuc n)) out a d e = absurd (d (sym e))
 listed-number (ListingDeclined (pos n)) out a d e = ap answerNumber e
 listed-number (ListingDeclined (negsuc n)) out a d e = absurd (d (sym e))
 
+reported-number : (m : Reported) (out : List ℤ) (a : Answer) → a ≢ refused 0 → reportAnswer m out ≡ a → reportedNumber m ≡ answerNumber a
+reported-number (Offers (pos n)) out a d e = ap answerNumber e
+reported-number (Offers (negsuc n)) out a d e = absurd (d (sym e))
+reported-number (ReportDeclined (pos n)) out a d e = ap answerNumber e
+reported-number (ReportDeclined (negsuc n)) out a d e = absurd (d (sym e))
+
 pub updated-plainly :
     {start : ℕ} {t : List ℤ} (plain : State) (held : Option (Held Item)) → Form (partOf t start) plain held → {k : Call} {t′ counts counts′ : List ℤ} {r : ℤ} →
     Updated k start t t′ counts counts′ r → 3 ≤ length counts → r ≡ answerNumber (step plain k .answer)
@@ -96,6 +105,12 @@ module _ {start : ℕ} {t : List ℤ} (plain : State) (held : Option (Held Item)
   pub listing-plainly : {out out′ : List ℤ} {r : ℤ} → Listing start t out out′ r → r ≡ answerNumber (step plain (listing (length out)) .answer)
   listing-plainly {out} {out′} p =
       p .number ∙ listed-number (p .listed) out′ _ (numbered plain (listing (length out))) (p .lists .answers plain held book)
+
+  pub report-plainly :
+      {load price : ℤ} {out out′ : List ℤ} {r : ℤ} → Report load price start t out out′ r →
+      r ≡ answerNumber (step plain (report load price (length out)) .answer)
+  report-plainly {load} {price} {out} {out′} p =
+      p .number ∙ reported-number (p .reported) out′ _ (numbered plain (report load price (length out))) (p .reports .answers plain held book)
 
   pub marked-plainly : {index : ℤ} {mark mark′ : List Float} {r : ℤ} → MarkAsked start t index mark mark′ r → 2 ≤ length mark
       → (r ≡ markNumber (plainMark (plain .offers) index .number) (plainMark (plain .offers) index .values))

@@ -14,7 +14,8 @@ use Rattle.promises.specs.declared.Opening.{Opening}
 use Rattle.promises.specs.declared.Update.{Update}
 use Rattle.promises.specs.declared.Found.{Found}
 use Rattle.promises.specs.declared.Listed.{Listed}
-use Rattle.promises.specs.Promises.{openingAnswer, updateTold, foundTold, listedTold, Opens, Updates, Queries, Lists, Checks}
+use Rattle.promises.specs.declared.Reported.{Reported}
+use Rattle.promises.specs.Promises.{openingAnswer, updateTold, foundTold, listedTold, reportedTold, Opens, Updates, Queries, Lists, Reports, Checks}
 use Rattle.meet_books.specs.Promises.{MeetAnswer, refused, met, meetAnswer, MeetsBooks}
 use Rattle.chart.specs.Promises.{told as markTold, Marks}
 use Rattle.vouchers.specs.VoucherTold.{told as voucherTold, Vouches}
@@ -47,6 +48,9 @@ foundNumber r = firstOr (foundTold r .number) (foundTold r .values)
 
 abbrev pub listedNumber : Listed → ℤ
 listedNumber r = firstOr (listedTold r .number) (listedTold r .values)
+
+abbrev pub reportedNumber : Reported → ℤ
+reportedNumber r = firstOr (reportedTold r .number) (reportedTold r .values)
 
 abbrev pub meetNumber : MeetAnswer → ℤ
 meetNumber (refused cause) = refusal cause
@@ -131,6 +135,11 @@ pub record Listing (start : ℕ) (t out out′ : List ℤ) (r : ℤ) : Type 0 wh
   pub listed : Listed
   pub lists : Lists start t out out′ listed
   pub number : r ≡ listedNumber listed
+
+pub record Report (load price : ℤ) (start : ℕ) (t out out′ : List ℤ) (r : ℤ) : Type 0 where
+  pub reported : Reported
+  pub reports : Reports load price start t out out′ reported
+  pub number : r ≡ reportedNumber reported
 
 pub record Checked (start : ℕ) (t : List ℤ) (r : ℤ) : Type 0 where
   pub passes : Bool
