@@ -1,9 +1,9 @@
-// The answers of an opening, an update, a query and a listing for Rust and C: each is one number, a refusal its cause below 0, and what goes with it is written over the first
-// words of a lent output.
+// The answers of an opening, an update, a query, a listing and a report for Rust and C: each is one number, a refusal its cause below 0, and what goes with
+// it is written over the first words of a lent output.
 ghost use mathlib.Core.Path.{_≡_};
 ghost use Prim.Native.Nat.{_≤_};
 ghost use lib.ListN.{length};
-ghost use Rattle.answers.specs.Promises.{refusal, openingNumber, updateNumber, foundNumber, listedNumber, countsOf, foundOf, Tells};
+ghost use Rattle.answers.specs.Promises.{refusal, openingNumber, updateNumber, foundNumber, listedNumber, reportedNumber, countsOf, foundOf, Tells};
 
 // A cause, below 0.
 pub fn below_zero(cause: i64) -> i64
@@ -32,6 +32,16 @@ pub fn listed_number(l: promises::Listed) -> i64
     match l {
         promises::Listed::Pieces(n) => n,
         promises::Listed::Declined(cause) => below_zero(cause),
+    }
+}
+
+// A report's answer.
+pub fn reported_number(m: promises::Reported) -> i64
+    ensures { λ r. ⌜ r ≡ reportedNumber m ⌝ }
+{
+    match m {
+        promises::Reported::Offers(n) => n,
+        promises::Reported::Declined(cause) => below_zero(cause),
     }
 }
 
