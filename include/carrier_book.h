@@ -6,7 +6,7 @@
  * An offer has a number (1 to 9,999), a rate in cents per kilogram (-100,000 to 100,000) and a base in cents (-1,000,000,000 to
  * 1,000,000,000). Its price at a load of q kilograms (-1,000,000 to 1,000,000) is base + rate * q. No two live offers have equal
  * numbers. Several may have one rate: offers are ordered by falling rate, then rising base, then rising number, and of one rate only
- * the first in that order is listed or named.
+ * the first in that order is listed or named by a query; a report has each.
  *
  * Every array is passed as a pointer to its first word and its length in words, so that no call can step outside it. The pointer is
  * not null, also where the length is 0. What a call writes overlaps no other array of the call. A book occupies CARRIER_WORDS(capacity) words of its
@@ -33,11 +33,13 @@ extern "C" {
 /* How many words a book of that capacity takes. */
 #define CARRIER_WORDS(capacity) (64 * ((size_t)(capacity) + 1) + 1024)
 
-/* How many words an array has to have: `counts` of a post, a withdrawal or a take-back, `found` of a query, `out` of a listing a piece,
- * `met` of a meeting, `mark` of a chart mark, `units` of a voucher, `piece` of a reading. Longer ones keep their later words. */
+/* How many words an array has to have: `counts` of a post, a withdrawal or a take-back, `found` of a query, `out` of a listing a piece
+ * and of a report an offer, `met` of a meeting, `mark` of a chart mark, `units` of a voucher, `piece` of a reading. Longer ones keep
+ * their later words. */
 #define CARRIER_COUNTS_WORDS 3
 #define CARRIER_FOUND_WORDS 3
 #define CARRIER_PIECE_WORDS 3
+#define CARRIER_OFFER_WORDS 3
 #define CARRIER_MET_WORDS 4
 #define CARRIER_MARK_WORDS 2
 #define CARRIER_UNITS_WORDS 1
@@ -46,16 +48,16 @@ extern "C" {
 #define CARRIER_CAPACITY (-1)         /* open: the capacity is not in 1 to 4,096 */
 #define CARRIER_NO_ROOM (-2)          /* open: fewer words than the book takes from `start` on */
 #define CARRIER_NO_BOOK (-3)          /* each on a table but open and check: no book at `start`, or its part is cut short */
-#define CARRIER_OUT_OF_RANGE (-4)     /* post, withdraw: the number is out of range; voucher: the price is */
+#define CARRIER_OUT_OF_RANGE (-4)     /* post, withdraw: the number is out of range; report, voucher: the price is */
 #define CARRIER_RATE_RANGE (-14)      /* post: the rate is out of range */
 #define CARRIER_BASE_RANGE (-15)      /* post: the base is out of range */
-#define CARRIER_LOAD_RANGE (-16)      /* query: the load is out of range */
+#define CARRIER_LOAD_RANGE (-16)      /* query, report: the load is out of range */
 #define CARRIER_NUMBER_LIVE (-5)      /* post: a live offer has that number */
 #define CARRIER_FULL (-7)             /* post: as many offers are live as the capacity tells */
 #define CARRIER_NOT_LIVE (-8)         /* withdraw: no live offer has that number */
 #define CARRIER_NOTHING_TO_TAKE_BACK (-17) /* take_back: no update is remembered */
 #define CARRIER_EMPTY (-9)            /* query, mark, meet: no offer is live */
-#define CARRIER_OUTPUT_TOO_SHORT (-10) /* listing: `out` is shorter than three words a piece */
+#define CARRIER_OUTPUT_TOO_SHORT (-10) /* listing, report: `out` is shorter than three words a piece or an offer */
 #define CARRIER_RATES_NOT_APART (-12)  /* meet: some rate of the first book is not above some rate of the second */
 #define CARRIER_NO_SUCH_MARK (-13)     /* mark: the index is not in 0 to m, for m pieces */
 #define CARRIER_ARRAY_TOO_SHORT (-100) /* an array has fewer words than listed above, but for `out`; tried before all others */
@@ -87,6 +89,13 @@ int64_t carrier_query(const int64_t *table, size_t words, size_t start, int64_t 
  * Writes three words a piece from out[0] on: the offer's number, and the numerator and denominator, unreduced, of the load at which
  * the next piece begins; 0 and 0 for the last piece. Later words stay. */
 int64_t carrier_listing(const int64_t *table, size_t words, size_t start, int64_t *out, size_t out_words);
+
+/* Reports every live offer whose price at a load is strictly below `price` (-101,000,000,000 to 101,000,000,000 cents), also those that
+ * a listing leaves out, by falling rate, then rising base, then rising number. Returns their count: 0 where the book is empty.
+ * Writes three words an offer from out[0] on: its number, its rate and its base. Later words stay; three words for each live offer are
+ * always enough. The causes, in order: CARRIER_NO_BOOK, CARRIER_OUT_OF_RANGE for the price, CARRIER_LOAD_RANGE, CARRIER_OUTPUT_TOO_SHORT.
+ * The table is only read. The work goes with log n + m * (log n)^2, for m offers reported of n that are live. */
+int64_t carrier_report(const int64_t *table, size_t words, size_t start, int64_t load, int64_t price, int64_t *out, size_t out_words);
 
 /* Returns 1 where the words from `start` on are a book in every particular, with every envelope right and a memory that can be undone, and 0 where
  * they are not.

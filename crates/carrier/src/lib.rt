@@ -1,6 +1,7 @@
 // The carrier book for Rust and C: a slice is a pointer and a length there. Every answer is one number, a refusal its cause below 0.
 // Rust's rules hold of what is lent: a pointer is aligned and not null, and what is written overlaps nothing else that is lent.
-ghost use Rattle.answers.specs.Promises.{Opened, Posted, Withdrawn, TakenBack, Queried, Listing, Checked, MetBooks, MarkAsked, Vouchered, Begun, Pieced};
+ghost use Rattle.answers.specs.Promises.{Opened, Posted, Withdrawn, TakenBack, Queried, Listing, Report, Checked, MetBooks, MarkAsked};
+ghost use Rattle.answers.specs.Promises.{Vouchered, Begun, Pieced};
 
 // Opens an empty book at `start`: 0.
 #[no_mangle]
@@ -73,6 +74,20 @@ pub extern "C" fn carrier_listing(table: &[i64], start: usize, out: &mut [i64]) 
     ensures { λ r. ⌜ Listing start (now (table .entry)) (now (out .entry)) (now (out .exit)) r ⌝ }
 {
     telling::listed_number(book::listing(table, start, out))
+}
+
+// Writes the offers whose price at the load is strictly below `price`, three words each: how many.
+#[no_mangle]
+pub extern "C" fn carrier_report(
+    table: &[i64],
+    start: usize,
+    load: i64,
+    price: i64,
+    out: &mut [i64],
+) -> i64
+    ensures { λ r. ⌜ Report load price start (now (table .entry)) (now (out .entry)) (now (out .exit)) r ⌝ }
+{
+    telling::reported_number(book::report(table, start, load, price, out))
 }
 
 // Whether the words from `start` on pass the check: 1 or 0.
