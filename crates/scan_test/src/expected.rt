@@ -34,23 +34,48 @@ pub(crate) fn query_cause(is_open: bool, os: &[i64; 192], load: i64) -> i64 {
     cause(!is_open, 3, outside)
 }
 
-// ---- the pieces
+// `fits` says whether the output has room for the offers reported.
+pub(crate) fn report_cause(is_open: bool, load: i64, limit: i64, fits: bool) -> i64 {
+    let short = cause(!fits, 10, 0);
+    let load_outside = cause(is_outside(-1_000_000, 1_000_000, load), 16, short);
+    let price_outside = cause(
+        is_outside(-101_000_000_000, 101_000_000_000, limit),
+        4,
+        load_outside,
+    );
+    cause(!is_open, 3, price_outside)
+}
 
-// How many pieces there are, and their words with 7 behind them.
+// ---- the pieces, and the offers under a price
+
+// How many pieces or offers there are, and their words with 7 behind them.
 pub struct Pieces {
     pub count: u32,
     pub words: [i64; 192],
 }
 
+fn put_three(words: &mut [i64; 192], k: usize, first: i64, second: i64, third: i64) {
+    if k < 64 {
+        words[3 * k] = first;
+        words[3 * k + 1] = second;
+        words[3 * k + 2] = third;
+    }
+}
+
 // Of each piece its number and its crossing with the next, 0 and 0 where there is none.
 fn put_piece(words: &mut [i64; 192], k: usize, number: i64, x: slots::Ratio) {
-    let numerator = x.numerator;
-    let denominator = x.denominator;
-    if k < 64 {
-        words[3 * k] = number;
-        words[3 * k + 1] = numerator;
-        words[3 * k + 2] = denominator;
-    }
+    put_three(words, k, number, x.numerator, x.denominator);
+}
+
+// Of each offer under a price its number, its rate and its base.
+fn put_offer(words: &mut [i64; 192], k: usize, os: &[i64; 192], i: usize) {
+    put_three(
+        words,
+        k,
+        slots::number(os, i),
+        slots::rate(os, i),
+        slots::base(os, i),
+    );
 }
 
 fn end(os: &[i64; 192], i: usize, j: usize) -> slots::Ratio {
@@ -79,7 +104,22 @@ pub(crate) fn all_pieces(os: &[i64; 192]) -> Pieces {
     }
 }
 
-// What an output that is all 7 has after a listing.
+pub(crate) fn all_under(os: &[i64; 192], load: i64, limit: i64) -> Pieces {
+    let mut words = [7i64; 192];
+    let mut i = slots::next_under(os, load, limit, 64);
+    let mut k: u32 = 0;
+    while k < 64 && i < 64 {
+        put_offer(&mut words, k as usize, os, i);
+        i = slots::next_under(os, load, limit, i);
+        k = k + 1;
+    }
+    Pieces {
+        count: k,
+        words: words,
+    }
+}
+
+// What an output that is all 7 has after a listing or a report.
 pub(crate) fn words_listed(p: Pieces, fits: bool) -> [i64; 192] {
     if fits {
         return p.words;

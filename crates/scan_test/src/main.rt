@@ -5,6 +5,7 @@ mod calls;
 mod expected;
 mod makers;
 mod meetings;
+mod reports;
 mod slots;
 mod world;
 
@@ -31,13 +32,13 @@ fn listings(table: &[i64], start: usize, os: &[i64; 192], t: Tally) -> Tally {
     calls::listing(table, start, os, &mut short, a)
 }
 
-// The queries and the listings after each update.
+// The queries, the listings and the reports after each update.
 fn sweep(w: World, p: Place) -> World {
     let words = w.words;
     let os = w.os;
     let a = queries(&words, p, &os, w.told);
     let b = listings(&words, p.start, &os, a);
-    world::with_tally(w, b)
+    world::with_tally(w, reports::all(&words, p, &os, b))
 }
 
 // Posts 30 offers, with a sweep after each.
@@ -176,14 +177,21 @@ fn summary(t: Tally) {
     say_byte(b'\n');
 }
 
-// A query where there is no book.
+// A query and a report where there is no book.
 fn ask_nothing(w: World, start: usize, load: i64) -> World {
     let words = w.words;
     let os = w.os;
-    world::with_tally(w, calls::query(&words, start, false, &os, load, w.told))
+    let a = calls::query(&words, start, false, &os, load, w.told);
+    let asked = reports::Asked {
+        start: start,
+        is_open: false,
+        load: load,
+        limit: 101_000_000_001,
+    };
+    world::with_tally(w, reports::both(&words, asked, &os, a))
 }
 
-// Openings that are declined, one that just fits, and queries where there is no book.
+// Openings that are declined, one that just fits, and queries and reports where there is no book.
 fn run_openings(w: World) -> World {
     let a = calls::open(w, 17, 0, 1);
     let b = calls::open(a, 8000, 4_097, 1);

@@ -155,6 +155,34 @@ pub(crate) fn cheapest(os: &[i64; 192], load: i64, higher: bool) -> usize {
     best
 }
 
+// ---- the offers under a price
+
+// Slot i stands before slot j: by the higher rate, within a rate by the lower base, then by the lower number.
+fn stands_before(os: &[i64; 192], i: usize, j: usize) -> bool {
+    (rate(os, j) < rate(os, i)) | is_ahead(os, i, j)
+}
+
+// Slot i has an offer whose price at the load is strictly below `limit`.
+fn is_under(os: &[i64; 192], load: i64, limit: i64, i: usize) -> bool {
+    (number(os, i) != 0) & (price(os, i, load) < limit)
+}
+
+// Of two slots the one that stands before the other, i only where it is under the limit and behind slot `last`.
+fn sooner(os: &[i64; 192], load: i64, limit: i64, last: usize, best: usize, i: usize) -> usize {
+    let behind = (last > 63) | stands_before(os, last, i);
+    let first = (best > 63) | stands_before(os, i, best);
+    either(is_under(os, load, limit, i) & behind & first, i, best)
+}
+
+// The first slot under the limit behind slot `last`, with 64 the first of all; 64 where there is none.
+pub(crate) fn next_under(os: &[i64; 192], load: i64, limit: i64, last: usize) -> usize {
+    let mut best: usize = 64;
+    for i in 0..64 {
+        best = sooner(os, load, limit, last, best, i);
+    }
+    best
+}
+
 // ---- the pieces
 
 pub struct Ratio {
