@@ -48,6 +48,25 @@ pub struct Found {
     pub probes: i64,
 }
 
+/// An offer, as a report tells it.
+///
+/// ```
+/// use carrier_book::Offer;
+/// let mut book = carrier_book::Book::new(64)?;
+/// book.post(1, 3, 0)?;
+/// assert_eq!(book.report(5, 16)?, [Offer { number: 1, rate: 3, base: 0 }]);
+/// # Ok::<(), carrier_book::Declined>(())
+/// ```
+#[derive(Clone, Copy, Debug, PartialEq, Eq)]
+pub struct Offer {
+    /// its number
+    pub number: i64,
+    /// its rate, in cents per kilogram
+    pub rate: i64,
+    /// its base, in cents
+    pub base: i64,
+}
+
 /// A stretch of loads on which one offer, the first of its rate, is strictly cheaper than every offer of another rate. It ends at the
 /// load `numerator / denominator`, where the next begins. The last one has no end: 0 and 0.
 ///

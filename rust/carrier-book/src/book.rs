@@ -1,7 +1,10 @@
 //! A book that owns its words.
-use crate::{lent, words, Declined, Found, Mark, Marks, Meeting, Piece, Pieces, Update, MOST_OFFERS};
+use crate::{lent, words, Declined, Found, Mark, Marks, Meeting, Offer, Piece, Pieces, Update, MOST_OFFERS};
 use std::convert::TryFrom;
 use std::fmt;
+
+/// So many offers a report has room for before it asks for more.
+const FEW: usize = 32;
 
 /// A book that owns its words. For a book in a table of the caller's see [`lent`].
 ///
@@ -139,6 +142,33 @@ impl Book {
         lent::query(&self.table, 0, load)
     }
 
+    /// The live offers whose price at the load is strictly below `price`, all of a rate among them: by falling rate, then rising base, then
+    /// rising number. The price is in −101,000,000,000 to 101,000,000,000, and an empty book reports none.
+    ///
+    /// ```
+    /// use carrier_book::{Book, Declined, Offer};
+    /// let mut book = Book::new(64)?;
+    /// book.post(1, 3, 0)?;
+    /// book.post(2, 1, 10)?;
+    /// book.post(3, 1, 11)?;
+    /// // at load 5 they cost 15, 15 and 16
+    /// assert_eq!(book.report(5, 15)?, []);
+    /// assert_eq!(book.report(5, 16)?, [Offer { number: 1, rate: 3, base: 0 }, Offer { number: 2, rate: 1, base: 10 }]);
+    /// assert_eq!(book.report(5, 101_000_000_001), Err(Declined::OutOfRange));
+    /// # Ok::<(), Declined>(())
+    /// ```
+    pub fn report(&self, load: i64, price: i64) -> Result<Vec<Offer>, Declined> {
+        // most reports are short: room for all is asked for only where it is needed
+        let mut few = [0; 3 * FEW];
+        match lent::report(&self.table, 0, load, price, &mut few) {
+            Err(Declined::OutputTooShort) => {
+                let mut out = vec![0; 3 * self.capacity()];
+                lent::report(&self.table, 0, load, price, &mut out).map(|count| offers(&out, count))
+            }
+            told => told.map(|count| offers(&few, count)),
+        }
+    }
+
     /// The pieces of the lower envelope, by falling rate: of each rate at most the first offer in order, where at some load it is strictly
     /// cheaper than every offer of another rate.
     ///
@@ -221,6 +251,11 @@ impl Book {
     pub fn check(&self) -> bool {
         lent::check(&self.table, 0)
     }
+}
+
+/// the offers that a report wrote
+fn offers(out: &[i64], count: usize) -> Vec<Offer> {
+    out.chunks(3).take(count).map(|w| Offer { number: w[0], rate: w[1], base: w[2] }).collect()
 }
 
 /// The capacity and the pieces.

@@ -22,14 +22,14 @@ pub enum Declined {
     NoRoom,
     /// 3, each call on a table but open and check: there is no book at `start`, or its part is cut short.
     NoBook,
-    /// 4, post, withdraw, voucher: the number is not in 1 to 9,999, or the price not in −101,000,000,000 to 101,000,000,000. A rate, a
-    /// base and a load have causes of their own.
+    /// 4, post, withdraw: the number is not in 1 to 9,999; report, voucher: the price is not in −101,000,000,000 to 101,000,000,000. A
+    /// rate, a base and a load have causes of their own.
     OutOfRange,
     /// 14, post: the rate is not in −100,000 to 100,000.
     RateOutOfRange,
     /// 15, post: the base is not in −1,000,000,000 to 1,000,000,000.
     BaseOutOfRange,
-    /// 16, query: the load is not in −1,000,000 to 1,000,000.
+    /// 16, query, report: the load is not in −1,000,000 to 1,000,000.
     LoadOutOfRange,
     /// 5, post: a live offer has that number.
     NumberLive,
@@ -41,7 +41,7 @@ pub enum Declined {
     NothingToTakeBack,
     /// 9, query, mark and meet: no offer is live.
     Empty,
-    /// 10, listing: the output is shorter than three words a piece.
+    /// 10, listing, report: the output is shorter than three words a piece or an offer reported.
     OutputTooShort,
     /// 12, meet: some rate of the first book is not above some rate of the second.
     RatesNotApart,
@@ -58,7 +58,7 @@ const CAUSES: [(Declined, i64, &str); 15] = [
     (Capacity, 1, "the capacity is not in 1 to 4,096"),
     (NoRoom, 2, "the table has too few words"),
     (NoBook, 3, "there is no book there"),
-    (OutOfRange, 4, "the offer's number or the voucher's price is out of range"),
+    (OutOfRange, 4, "the offer's number or the price is out of range"),
     (RateOutOfRange, 14, "the rate is out of range"),
     (BaseOutOfRange, 15, "the base is out of range"),
     (LoadOutOfRange, 16, "the load is out of range"),

@@ -133,6 +133,30 @@ pub fn listing(table: &[i64], start: usize, out: &mut [i64]) -> Result<usize, De
     told(answer).map(|pieces| pieces as usize)
 }
 
+/// Writes the live offers whose price at the load is strictly below `price` into `out`, three words each as in
+/// [`Offer`](crate::Offer) and in the order of the book, and returns their count. Later words stay.
+///
+/// ```
+/// use carrier_book::{lent, words, Declined};
+/// let mut table = vec![0; words(2)];
+/// lent::open(&mut table, 0, 2)?;
+/// lent::post(&mut table, 0, 1, 3, 0)?;
+/// lent::post(&mut table, 0, 2, 1, 10)?;
+/// let mut out = [-7; 4];
+/// // at load 4 they cost 12 and 14
+/// assert_eq!(lent::report(&table, 0, 4, 14, &mut out)?, 1);
+/// assert_eq!(out, [1, 3, 0, -7]);
+/// assert_eq!(lent::report(&table, 0, 4, 15, &mut out), Err(Declined::OutputTooShort));
+/// # Ok::<(), Declined>(())
+/// ```
+#[inline]
+pub fn report(table: &[i64], start: usize, load: i64, price: i64, out: &mut [i64]) -> Result<usize, Declined> {
+    let (words, length) = (table.as_ptr(), table.len());
+    // SAFETY: as in `listing`.
+    let answer = unsafe { raw::carrier_report(words, length, start, load, price, out.as_mut_ptr(), out.len()) };
+    told(answer).map(|offers| offers as usize)
+}
+
 /// A reading of the pieces: the same ones, one at a time. On words that are no book it ends after at most 4,096 of them.
 ///
 /// ```

@@ -1,10 +1,10 @@
 //! A book of carriers' offers: post and withdraw offers, take the last of these calls back, ask which offer is the cheapest for a load,
-//! list the stretches of loads on which each is the cheapest.
+//! list the stretches of loads on which each is the cheapest, or report every offer under a price.
 //!
 //! An offer has a number (1 to 9,999), a rate in cents per kilogram (−100,000 to 100,000) and a base in cents
 //! (−1,000,000,000 to 1,000,000,000). Its price at a load of `q` kilograms (−1,000,000 to 1,000,000) is `base + rate × q`. No two
 //! live offers have equal numbers. Several may have one rate: offers are ordered by falling rate, then rising base, then rising number,
-//! and of one rate only the first in that order is listed or named.
+//! and of one rate only the first in that order is listed or named; a report has them all.
 //!
 //! Inside is a dynamic lower envelope of lines. With n live offers a post, a withdrawal or a take-back takes O(log² n), a query
 //! O(log n). That every call answers right, after every history of calls, is proved in Rattle of the very code in the archive; this
@@ -21,6 +21,8 @@
 //! // offer 1 is the cheapest up to the load 10 / 2
 //! let pieces = book.listing();
 //! assert_eq!((pieces[0].number, pieces[0].numerator, pieces[0].denominator), (1, 10, 2));
+//! // below 18 cents at load 6 is offer 2 alone
+//! assert_eq!(book.report(6, 18)?.len(), 1);
 //! book.withdraw(1)?;
 //! assert_eq!(book.query(6)?.number, 2);
 //! assert_eq!(book.withdraw(1), Err(Declined::NotLive));
@@ -38,7 +40,7 @@ pub mod lent;
 pub mod raw;
 mod readings;
 
-pub use answers::{Found, Mark, Meeting, Piece, Point, Update};
+pub use answers::{Found, Mark, Meeting, Offer, Piece, Point, Update};
 pub use book::Book;
 pub use declined::Declined;
 pub use readings::{Marks, Pieces};

@@ -21,6 +21,9 @@
 //!     assert_eq!(found, [16, 2, 1]);
 //!     assert_eq!(carrier_listing(table.as_ptr(), words, start, out.as_mut_ptr(), 6), 2);
 //!     assert_eq!(out, [1, 10, 2, 2, 0, 0]);
+//!     // at load 6 they cost 18 and 16
+//!     assert_eq!(carrier_report(table.as_ptr(), words, start, 6, 18, out.as_mut_ptr(), 6), 1);
+//!     assert_eq!(out[..3], [2, 1, 10]);
 //!     assert_eq!(carrier_mark(table.as_ptr(), words, start, 1, mark.as_mut_ptr(), 2), 1);
 //!     assert_eq!(mark, [5.0, 15.0]);
 //!     let first = carrier_begin(table.as_ptr(), words, start);
@@ -65,6 +68,16 @@ extern "C" {
     pub fn carrier_query(table: *const i64, words: usize, start: usize, load: i64, found: *mut i64, found_words: usize) -> i64;
     /// Writes the pieces: see [`lent::listing`](crate::lent::listing).
     pub fn carrier_listing(table: *const i64, words: usize, start: usize, out: *mut i64, out_words: usize) -> i64;
+    /// Writes the offers under a price: see [`lent::report`](crate::lent::report).
+    pub fn carrier_report(
+        table: *const i64,
+        words: usize,
+        start: usize,
+        load: i64,
+        price: i64,
+        out: *mut i64,
+        out_words: usize,
+    ) -> i64;
     /// Whether the words are a book: see [`lent::check`](crate::lent::check).
     pub fn carrier_check(table: *const i64, words: usize, start: usize) -> i64;
     /// The meeting of two books: see [`lent::meet`](crate::lent::meet).

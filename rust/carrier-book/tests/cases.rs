@@ -1,5 +1,5 @@
 //! The requirements' worked cases, the order of causes, and the archive's own numbers.
-use carrier_book::{lent, raw, words, Book, Declined, Piece, Update};
+use carrier_book::{lent, raw, words, Book, Declined, Offer, Piece, Update};
 
 fn book(offers: &[(i64, i64)]) -> Book {
     let mut book = Book::new(64).unwrap();
@@ -57,6 +57,79 @@ fn causes_in_order() {
     for number in 1..=18 {
         assert_eq!(Declined::from_number(number).number(), number);
         assert_eq!(Declined::from_number(number) == Declined::Other(number), [6, 11, 18].contains(&number));
+    }
+}
+
+/// the numbers that a report has
+fn reported(book: &Book, load: i64, price: i64) -> Vec<i64> {
+    book.report(load, price).unwrap().iter().map(|o| o.number).collect()
+}
+
+#[test]
+fn reports() {
+    let b = book(&[(3, 0), (1, 10), (0, 40), (1, 10), (1, 9), (3, 0)]);
+    // at load 5: 15, 15, 40, 15, 14, 15; an offer at the price itself is not below it
+    assert_eq!(reported(&b, 5, 14), []);
+    assert_eq!(reported(&b, 5, 15), [5]);
+    assert_eq!(reported(&b, 5, 16), [1, 6, 5, 2, 4]);
+    assert_eq!(reported(&b, 5, 40), [1, 6, 5, 2, 4]);
+    assert_eq!(reported(&b, 5, 41), [1, 6, 5, 2, 4, 3]);
+    let all = [(1, 3, 0), (6, 3, 0), (5, 1, 9), (2, 1, 10), (4, 1, 10), (3, 0, 40)];
+    let all = all.map(|(number, rate, base)| Offer { number, rate, base });
+    assert_eq!(b.report(5, 101_000_000_000).unwrap(), all);
+    assert_eq!(b.report(-1_000_000, -3_000_000), Ok(vec![]));
+    assert_eq!(reported(&b, -1_000_000, -2_999_999), [1, 6]);
+    // a hidden one: at no load the cheapest, and yet below the price
+    let b = book(&[(2, 0), (1, 11), (0, 10)]);
+    assert_eq!(pieces(&b), [(1, 10, 2), (3, 0, 0)]);
+    assert_eq!(reported(&b, 5, 17), [1, 2, 3]);
+    assert_eq!(reported(&b, 5, 16), [1, 3]);
+}
+
+#[test]
+fn reports_declined_in_order() {
+    let (least, most) = (-101_000_000_000, 101_000_000_000);
+    let mut table = vec![0; words(2)];
+    let mut out = [-7; 6];
+    assert_eq!(lent::report(&table, 0, 1_000_001, most + 1, &mut out), Err(Declined::NoBook));
+    lent::open(&mut table, 0, 2).unwrap();
+    // an empty book has none to report, and needs no output
+    assert_eq!([least, 0, most].map(|price| lent::report(&table, 0, 0, price, &mut [])), [Ok(0); 3]);
+    assert_eq!(lent::report(&table, 0, 1_000_001, most, &mut []), Err(Declined::LoadOutOfRange));
+    lent::post(&mut table, 0, 1, 3, 0).unwrap();
+    lent::post(&mut table, 0, 2, 3, 1).unwrap();
+    for price in [least - 1, most + 1, i64::MIN, i64::MAX] {
+        assert_eq!(lent::report(&table, 0, 1_000_001, price, &mut []), Err(Declined::OutOfRange));
+    }
+    for load in [-1_000_001, 1_000_001, i64::MIN, i64::MAX] {
+        assert_eq!(lent::report(&table, 0, load, least, &mut out), Err(Declined::LoadOutOfRange));
+        assert_eq!(lent::report(&table, 0, load, most, &mut []), Err(Declined::LoadOutOfRange));
+    }
+    for short in 0..6 {
+        assert_eq!(lent::report(&table, 0, 0, most, &mut out[..short]), Err(Declined::OutputTooShort));
+    }
+    // one of the two costs nothing, and three words are enough for it
+    assert_eq!(lent::report(&table, 0, 0, 1, &mut out[..2]), Err(Declined::OutputTooShort));
+    assert_eq!(out, [-7; 6]);
+    assert_eq!(lent::report(&table, 0, 0, 1, &mut out), Ok(1));
+    assert_eq!(out, [1, 3, 0, -7, -7, -7]);
+    assert_eq!(lent::report(&table, 0, 0, most, &mut out), Ok(2));
+    assert_eq!(out, [1, 3, 0, 2, 3, 1]);
+}
+
+#[test]
+fn a_report_of_many() {
+    // past the room of a short report, at its edge, and all of a full book
+    for count in [1, 31, 32, 33, 4_096] {
+        let mut b = Book::new(count as usize).unwrap();
+        for number in 1..=count {
+            b.post(number, number % 7, number).unwrap();
+        }
+        let mut all: Vec<i64> = (1..=count).collect();
+        all.sort_by_key(|number| (-(number % 7), *number));
+        assert_eq!(reported(&b, 0, count + 1), all);
+        all.retain(|number| *number < count);
+        assert_eq!(reported(&b, 0, count), all);
     }
 }
 
@@ -168,7 +241,7 @@ fn ties_within_a_rate() {
 fn causes_in_words() {
     let said = |declined: Declined| declined.to_string();
     assert_eq!(said(Declined::Capacity), "the capacity is not in 1 to 4,096");
-    assert_eq!(said(Declined::OutOfRange), "the offer's number or the voucher's price is out of range");
+    assert_eq!(said(Declined::OutOfRange), "the offer's number or the price is out of range");
     assert_eq!(said(Declined::RateOutOfRange), "the rate is out of range");
     assert_eq!(said(Declined::BaseOutOfRange), "the base is out of range");
     assert_eq!(said(Declined::LoadOutOfRange), "the load is out of range");

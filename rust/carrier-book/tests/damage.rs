@@ -11,6 +11,9 @@ use std::collections::BTreeMap;
 const EDGE: usize = 40;
 const MARK: i64 = 0x7a7a_7a7a;
 
+/// the greatest price of a report
+const MOST: i64 = 101_000_000_000;
+
 /// A part between marked words.
 fn framed(part: &[i64]) -> Vec<i64> {
     let edge = vec![MARK; EDGE];
@@ -48,6 +51,18 @@ fn wild(r: &mut Random, capacity: usize) -> i64 {
     }
 }
 
+/// Reports of all, of none and of some: words around the output keep their marks, and so do all of it where the report is declined.
+fn report(r: &mut Random, table: &[i64], capacity: usize) {
+    let load = r.within(-1_000_000, 1_000_000);
+    for price in [MOST, -MOST, r.within(-MOST, MOST), r.within(-1_000, 1_000)] {
+        let mut out = vec![MARK; r.within(0, 3 * capacity as i64) as usize + 2 * EDGE];
+        let room = out.len() - 2 * EDGE;
+        let told = lent::report(table, EDGE, load, price, &mut out[EDGE..EDGE + room]);
+        let written = if told.is_ok() { room } else { 0 };
+        assert!(out[..EDGE].iter().chain(&out[EDGE + written..]).all(|w| *w == MARK));
+    }
+}
+
 /// All calls on a part, with what must hold on any words.
 fn calls(r: &mut Random, table: &mut [i64], capacity: usize, rounds: usize) {
     let end = EDGE + words(capacity);
@@ -63,6 +78,7 @@ fn calls(r: &mut Random, table: &mut [i64], capacity: usize, rounds: usize) {
         let room = out.len() - EDGE;
         lent::listing(table, EDGE, &mut out[EDGE..room]).ok();
         assert!(out[..EDGE].iter().chain(&out[room..]).all(|w| *w == MARK));
+        report(r, table, capacity);
         lent::query(table, EDGE, r.within(-1_000_000, 1_000_000)).ok();
         lent::check(table, EDGE);
         lent::mark(table, EDGE, r.within(0, capacity as i64)).ok();
@@ -79,6 +95,8 @@ fn calls(r: &mut Random, table: &mut [i64], capacity: usize, rounds: usize) {
         assert_eq!(lent::post(table, EDGE, o.number, o.rate, 1_000_000_001), Err(Declined::BaseOutOfRange));
         assert_eq!(lent::withdraw(table, EDGE, 0), Err(Declined::OutOfRange));
         assert_eq!(lent::query(table, EDGE, -1_000_001), Err(Declined::LoadOutOfRange));
+        assert_eq!(lent::report(table, EDGE, 1_000_001, MOST + 1, &mut []), Err(Declined::OutOfRange));
+        assert_eq!(lent::report(table, EDGE, 1_000_001, -MOST, &mut []), Err(Declined::LoadOutOfRange));
         assert!(table == before);
         assert!(table[..EDGE].iter().chain(&table[end..]).all(|w| *w == MARK));
     }
@@ -266,6 +284,9 @@ fn no_book() {
         assert_eq!(lent::take_back(&mut table, start), Err(Declined::NoBook));
         assert_eq!(lent::query(&table, start, i64::MAX), Err(Declined::NoBook));
         assert_eq!(lent::listing(&table, start, &mut []), Err(Declined::NoBook));
+        for (load, price) in [(i64::MAX, i64::MIN), (i64::MAX, 0), (0, 0)] {
+            assert_eq!(lent::report(&table, start, load, price, &mut []), Err(Declined::NoBook));
+        }
         assert_eq!(lent::mark(&table, start, -1), Err(Declined::NoBook));
         assert_eq!(lent::pieces(&table, start).unwrap_err(), Declined::NoBook);
         assert_eq!(lent::marks(&table, start).next(), None);
@@ -295,6 +316,7 @@ fn opening_on_any_words() {
         assert!(table[..EDGE] == before[..EDGE] && table[EDGE + part.len()..] == before[EDGE + part.len()..]);
         assert_eq!(lent::query(&table, EDGE, 0), Err(Declined::Empty));
         assert_eq!(lent::listing(&table, EDGE, &mut []), Ok(0));
+        assert_eq!(lent::report(&table, EDGE, 0, MOST, &mut []), Ok(0));
         assert_eq!(lent::take_back(&mut table, EDGE), Err(Declined::NothingToTakeBack));
         assert_eq!(lent::post(&mut table, EDGE, 5, 1, 2).map(|u| u.live), Ok(1));
         assert_eq!(lent::take_back(&mut table, EDGE).map(|u| u.live), Ok(0));

@@ -2,6 +2,7 @@
 mod common;
 
 use carrier_book::{lent, words, Declined, Found, Update};
+use common::reports::{hold_report, hold_reports};
 use common::{log2_up, offer, Done, Lie, Offer, Random, Scan, FEW_RATES, LIES};
 use std::collections::BTreeMap;
 
@@ -40,6 +41,8 @@ struct Pair {
     /// how many take-backs were accepted, and how many were declined
     taken_back: usize,
     nothing_left: usize,
+    /// how many offers were reported between the updates
+    reported: usize,
 }
 
 impl Pair {
@@ -49,7 +52,7 @@ impl Pair {
         let before = table.clone();
         lent::open(&mut table, start, capacity as i64).unwrap();
         let seen = [0; KINDS_OF_UPDATE];
-        let pair = Pair { table, start, scan: Scan::new(capacity), seen, taken_back: 0, nothing_left: 0 };
+        let pair = Pair { table, start, scan: Scan::new(capacity), seen, taken_back: 0, nothing_left: 0, reported: 0 };
         pair.same_outside(&before);
         pair
     }
@@ -169,7 +172,13 @@ impl Pair {
         assert!(lent::check(&self.table, self.start));
     }
 
-    /// a listing, queries and the check; no probe goes deeper than so many pieces ask for
+    /// a report at a price that is a live offer's, or one cent off
+    fn report(&self, r: &mut Random, load: i64) -> usize {
+        let price = if self.scan.offers.is_empty() { 0 } else { r.pick(&self.scan.offers).price(load) + r.within(-1, 1) };
+        hold_report(&self.table, self.start, &self.scan, load, price).unwrap_or_default()
+    }
+
+    /// a listing, queries, reports and the check; no probe goes deeper than so many pieces ask for
     fn sweep(&self, r: &mut Random) {
         let deepest = 2 * log2_up(self.listing());
         let mut loads = vec![-1_000_000, 1_000_000, 1_000_001, -1_000_001, i64::MIN, 13];
@@ -177,6 +186,9 @@ impl Pair {
         loads.extend((0..4).map(|_| self.near_crossing(r)));
         for load in loads {
             assert!(self.query(load).map_or(true, |found| found.probes <= deepest));
+        }
+        for load in [r.pick(&[-1_000_000, 1_000_000, 1_000_001, i64::MIN]), r.within(-40, 40), self.near_crossing(r)] {
+            hold_reports(r, &self.table, self.start, &self.scan, load);
         }
         self.check();
     }
@@ -284,7 +296,10 @@ fn history(seed: u64, lie: Lie, kind: &Kind) -> Pair {
         }
         was_full |= pair.scan.offers.len() == kind.capacity;
         let whole = kind.capacity <= 64 || call % kind.every == 0;
-        if r.within(1, 100) <= take_backs {
+        if r.one_in(8) {
+            let load = pair.near_crossing(r);
+            pair.reported += pair.report(r, load);
+        } else if r.within(1, 100) <= take_backs {
             pair.take_back(whole).ok();
         } else if r.within(1, 100) <= posts {
             let mut o = offer(r, lie, kind.capacity as i64);
@@ -364,6 +379,7 @@ fn a_hundred_thousand_calls() {
         let pair = history(100_000 + capacity as u64, lie, &Kind { capacity, calls: 100_000, every: 100 });
         // down to an empty memory and past a full one, again and again
         assert!(pair.taken_back > 15_000 && pair.nothing_left > 100 && pair.scan.forgotten > 1_000);
+        assert!(pair.reported > 50_000, "{}", pair.reported);
     }
 }
 
@@ -471,6 +487,7 @@ fn short_histories_of_all_calls() {
             rest /= 11;
             for load in [-12, 2, 5, 10] {
                 pair.query(load);
+                hold_report(&pair.table, pair.start, &pair.scan, load, 10).unwrap();
             }
             pair.listing();
             pair.check();

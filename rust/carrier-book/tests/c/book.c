@@ -62,6 +62,25 @@ static void reading(const int64_t *pieces, size_t count) {
     EXPECT(carrier_piece(table, WORDS, START, 1, piece, 2) == CARRIER_ARRAY_TOO_SHORT);
 }
 
+/* of the offers (3, 0), (1, 10) and (0, 40), which cost 15, 15 and 40 at load 5: an offer at the price itself is not below it */
+static void reports(void) {
+    static const int64_t offers[9] = {1, 3, 0, 2, 1, 10, 3, 0, 40};
+    int64_t out[10] = {-7, -7, -7, -7, -7, -7, -7, -7, -7, -7};
+    const int64_t most = INT64_C(101000000000);
+    EXPECT(carrier_report(table, WORDS, WORDS + 1, 1000001, most + 1, out, 10) == CARRIER_NO_BOOK);
+    EXPECT(carrier_report(table, WORDS, START, 1000001, most + 1, out, 10) == CARRIER_OUT_OF_RANGE);
+    EXPECT(carrier_report(table, WORDS, START, 0, -most - 1, out, 10) == CARRIER_OUT_OF_RANGE);
+    EXPECT(carrier_report(table, WORDS, START, 1000001, most, out, 0) == CARRIER_LOAD_RANGE);
+    EXPECT(carrier_report(table, WORDS, START, 5, most, out, 8) == CARRIER_OUTPUT_TOO_SHORT);
+    EXPECT(carrier_report(table, WORDS, START, 5, 16, out, 5) == CARRIER_OUTPUT_TOO_SHORT);
+    EXPECT(carrier_report(table, WORDS, START, 5, 15, out, 0) == 0);
+    EXPECT(out[0] == -7 && out[8] == -7);
+    EXPECT(carrier_report(table, WORDS, START, 5, 16, out, 6) == 2);
+    EXPECT(memcmp(out, offers, 6 * sizeof *offers) == 0 && out[6] == -7);
+    EXPECT(carrier_report(table, WORDS, START, 5, most, out, 10) == 3);
+    EXPECT(memcmp(out, offers, sizeof offers) == 0 && out[9] == -7);
+}
+
 /* of the pieces (3, 0), (1, 10) and (0, 40) */
 static void marks(void) {
     double mark[CARRIER_MARK_WORDS] = {7, 7};
@@ -176,6 +195,7 @@ int main(void) {
     EXPECT(CARRIER_WORDS(1) == 1152 && CARRIER_WORDS(64) == 5184);
     EXPECT(carrier_open(table, WORDS, START, CAPACITY) == 0);
     EXPECT(query(5, &price, &other) == CARRIER_EMPTY);
+    EXPECT(carrier_report(table, WORDS, START, 5, 100, out, 0) == 0);
     EXPECT(post(1, 3, 0) == 1);
     EXPECT(post(2, 1, 10) == 2);
     EXPECT(post(3, 0, 40) == 3);
@@ -184,6 +204,7 @@ int main(void) {
     EXPECT(carrier_listing(table, WORDS, START, out, 9) == 3);
     EXPECT(memcmp(out, pieces, sizeof pieces) == 0);
     reading(pieces, 3);
+    reports();
     marks();
     meeting();
     vouchers();

@@ -2,6 +2,7 @@
 #![allow(dead_code)]
 pub mod exact;
 pub mod memory;
+pub mod reports;
 
 use std::collections::VecDeque;
 
@@ -148,6 +149,19 @@ impl Scan {
         let lowest = tied().min_by_key(|o| (o.rate, o.base, o.number)).ok_or(9i64)?;
         let highest = tied().min_by_key(|o| o.place()).ok_or(9i64)?;
         Ok((lowest.number, least, highest.number))
+    }
+
+    /// number, rate, base of each offer whose price at the load is strictly below `price`, in order
+    pub fn report(&self, load: i64, price: i64) -> Result<Vec<i64>, i64> {
+        if price.unsigned_abs() > 101_000_000_000 {
+            return Err(4);
+        }
+        if load.unsigned_abs() > 1_000_000 {
+            return Err(16);
+        }
+        let mut under: Vec<Offer> = self.offers.iter().copied().filter(|o| o.price(load) < price).collect();
+        under.sort_by_key(Offer::place);
+        Ok(under.iter().flat_map(|o| [o.number, o.rate, o.base]).collect())
     }
 
     /// Whether an offer is strictly cheaper than every one of another rate at some rational load: it is so right of its greatest crossing
