@@ -1,8 +1,8 @@
 //! Times of the proved book against a scan, sorted arrays and plain Rust in the same layout; medians of five runs. It prints
 //! the tables; with the word `record` it also puts them into docs/BENCHMARKS.md, between its two marks, and draws docs/benchmarks.svg.
 //! With the word `instructions` it counts an update's and a take-back's instructions instead, with the word `check` it times the check of
-//! a full book; with two libraries and the word `asking` a query, with the word `printing` a number's printing (rust/bench/asking.sh and
-//! printing.sh make them). Their tables go between marks of their own.
+//! a full book, with the word `reports` reports, for which it draws docs/reports.svg; with two libraries and the word `asking` a query, with
+//! the word `printing` a number's printing (rust/bench/asking.sh and printing.sh make them). Their tables go between marks of their own.
 //! Run it in release.
 mod arrays;
 mod asking;
@@ -11,12 +11,13 @@ mod counted;
 mod library;
 mod plot;
 mod printing;
+mod reporting;
 mod same_layout;
 mod taking_back;
 
 use arrays::Offer;
 use carrier_book::Book;
-use plot::{Line, Panel};
+use plot::{Axis, Line, Panel};
 use std::fmt::Write;
 
 const RUNS: usize = 5;
@@ -132,7 +133,7 @@ fn timed(turns: usize, work: impl FnOnce()) -> f64 {
     (processor_time() - start) / turns as f64
 }
 
-/// Offers, and a run that times its three contenders one after the other.
+/// Offers, or how many of them are reported, and a run that times its three contenders one after the other.
 struct Case {
     offers: usize,
     pieces: usize,
@@ -279,7 +280,8 @@ fn aims(queries: &[Row], updates: &[(Listed, Row)]) -> String {
 fn panel<'a>(title: &'a str, rows: &[&Row], contenders: [(&'a str, &'a str); 3]) -> Panel<'a> {
     let line =
         |(at, (name, colour))| Line { name, colour, points: rows.iter().map(|r| (r.offers as f64, r.times[at])).collect() };
-    Panel { title, lines: contenders.into_iter().enumerate().map(line).collect() }
+    let axis = Axis { name: "offers", ticks: &[64.0, 128.0, 256.0, 512.0, 1_024.0, 2_048.0, 4_096.0] };
+    Panel { title, axis, lines: contenders.into_iter().enumerate().map(line).collect() }
 }
 
 fn panels(queries: &[Row], updates: &[(Listed, Row)]) -> String {
@@ -338,6 +340,13 @@ fn main() {
             print!("{table}");
             record("check", &table);
         }
+        ["reports"] => {
+            let rows = reporting::rows();
+            let table = format!("\n{}\n", reporting::table(&rows));
+            print!("{table}");
+            record("reports", &table);
+            std::fs::write(format!("{DOCS}reports.svg"), reporting::drawing(&rows)).unwrap();
+        }
         ["asking", before, after] => {
             let table = asking::table(before, after);
             print!("{table}");
@@ -352,6 +361,6 @@ fn main() {
             let listed = Listed::KINDS.into_iter().find(|k| k.name() == kind).expect("a kind of books");
             counted::run(n.parse().expect("a number of offers"), listed);
         }
-        _ => panic!("no word, `record`, `instructions`, `check`, or `asking` or `printing` with two libraries"),
+        _ => panic!("no word, `record`, `instructions`, `check`, `reports`, or `asking` or `printing` with two libraries"),
     }
 }

@@ -1,4 +1,4 @@
-//! Times over numbers of offers, both axes logarithmic, as an SVG.
+//! Times over numbers of offers, or of those reported, both axes logarithmic, as an SVG.
 use std::fmt::Write;
 
 pub struct Line<'a> {
@@ -8,8 +8,16 @@ pub struct Line<'a> {
     pub points: Vec<(f64, f64)>,
 }
 
+/// The axis below: what it counts, and the numbers that stand there, from its left end to its right.
+#[derive(Clone, Copy)]
+pub struct Axis<'a> {
+    pub name: &'a str,
+    pub ticks: &'a [f64],
+}
+
 pub struct Panel<'a> {
     pub title: &'a str,
+    pub axis: Axis<'a>,
     pub lines: Vec<Line<'a>>,
 }
 
@@ -35,7 +43,8 @@ fn in_units(power: i32) -> String {
 
 fn panel(svg: &mut String, panel: &Panel, left: f64) {
     let (low, high) = decades(panel);
-    let (first, last) = (64f64.log2(), 4_096f64.log2());
+    let ticks = panel.axis.ticks;
+    let (first, last) = (ticks[0].log2(), ticks[ticks.len() - 1].log2());
     let x = |n: f64| left + LEFT + (n.log2() - first) / (last - first) * PLOT.0;
     let y = |t: f64| TOP + PLOT.1 - (t.log10() - low as f64) / (high - low) as f64 * PLOT.1;
     writeln!(svg, "<text x=\"{}\" y=\"24\" font-weight=\"bold\">{}</text>", left + LEFT, panel.title).unwrap();
@@ -45,14 +54,15 @@ fn panel(svg: &mut String, panel: &Panel, left: f64) {
         writeln!(svg, "<text x=\"{}\" y=\"{:.1}\" text-anchor=\"end\">{}</text>", left + LEFT - 6.0, at + 4.0, in_units(power))
             .unwrap();
     }
-    for n in [64.0, 128.0, 256.0, 512.0, 1_024.0, 2_048.0, 4_096.0] {
-        writeln!(svg, "<text x=\"{:.1}\" y=\"{}\" text-anchor=\"middle\">{n}</text>", x(n), TOP + PLOT.1 + 18.0).unwrap();
+    for n in ticks {
+        writeln!(svg, "<text x=\"{:.1}\" y=\"{}\" text-anchor=\"middle\">{n}</text>", x(*n), TOP + PLOT.1 + 18.0).unwrap();
     }
     writeln!(
         svg,
-        "<text x=\"{:.1}\" y=\"{}\" text-anchor=\"middle\">offers</text>",
+        "<text x=\"{:.1}\" y=\"{}\" text-anchor=\"middle\">{}</text>",
         left + LEFT + PLOT.0 / 2.0,
-        TOP + PLOT.1 + 36.0
+        TOP + PLOT.1 + 36.0,
+        panel.axis.name
     )
     .unwrap();
     for (i, line) in panel.lines.iter().enumerate() {
