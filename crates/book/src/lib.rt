@@ -1,4 +1,4 @@
-// The carrier book in a lent table: open, post, withdraw, take_back, query, listing, check.
+// The carrier book in a lent table: open, post, withdraw, take_back, query, listing, report, check.
 ghost use Rattle.plain.specs.Book.{post, withdraw, takeBack};
 ghost use Rattle.promises.specs.Promises.{Updates};
 pub use asking::listing;
@@ -8,8 +8,10 @@ pub use opening::open;
 pub use promises::Found;
 pub use promises::Listed;
 pub use promises::Opening;
+pub use promises::Reported;
 pub use promises::Update;
 pub use promises::no_book;
+pub use reporting::report;
 
 // Posts an offer to the book at `start`.
 pub fn post(table: &mut [i64], start: usize, number: i64, rate: i64, base: i64) -> Update

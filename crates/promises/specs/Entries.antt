@@ -9,7 +9,7 @@ use lib.ListN.{length, replicate}
 use lib.IntN.{ℤ, pos}
 use lib.Dec.{T}
 use Rattle.plain.specs.Causes.{declined, further}
-use Rattle.plain.specs.Book.{State, Call, post, withdraw, query, refused, noBookAt, openingBy as numberBy}
+use Rattle.plain.specs.Book.{State, Call, post, withdraw, query, report, refused, noBookAt, openingBy as numberBy}
 use Rattle.plain.specs.Entries.{Names, names-first}
 use Rattle.trees.specs.Operations.{partLeaves}
 use Rattle.dynamic.specs.OfferTree.{Held}
@@ -20,8 +20,9 @@ use Rattle.table.specs.Items.{Item}
 use Rattle.form.specs.Form.{Book, head0}
 use Rattle.promises.specs.declared.Update.{Update}
 use Rattle.promises.specs.declared.Found.{Found}
+use Rattle.promises.specs.declared.Reported.{Reported}
 use Rattle.promises.specs.LentPart.{book-cap}
-use Rattle.promises.specs.Promises.{partOf, tableTrials, updateAnswer, foundAnswer, Updates, Queries}
+use Rattle.promises.specs.Promises.{partOf, tableTrials, updateAnswer, foundAnswer, reportAnswer, Updates, Queries, Reports}
 
 -- ---- on a table of any content
 
@@ -32,6 +33,10 @@ module _ (t : List ℤ) (start : ℕ) (there : T (not (noBookAt (length t) start
 
   pub query-names : {q : ℤ} {r : Found} → Names m (query q) → Queries q start t r → foundAnswer r ≡ refused m
   query-names n p = let (z, f, e) = names-first n in p .declined z (further there f) ∙ ap refused e
+
+  pub report-names : {q p : ℤ} {out out′ : List ℤ} {r : Reported} → Names m (report q p (length out)) → Reports q p start t out out′ r →
+      (reportAnswer r out′ ≡ refused m) × (out′ ≡ out)
+  report-names n k = let (z, f, e) = names-first n in let (told, kept) = k .declined z (further there f) in (told ∙ ap refused e, kept)
 
 -- ---- a part that no opening made
 

@@ -7,6 +7,9 @@ fn main() -> Result<(), Declined> {
     println!("{}", book.post(3, 100_001, 0).unwrap_err());
     let found = book.query(5)?;
     println!("offer {} at {} cents, and offer {}", found.number, found.price, found.second);
+    for offer in book.report(4, 14)? {
+        println!("offer {} costs less than 14 cents at load 4", offer.number);
+    }
     for piece in book.pieces() {
         println!("offer {} up to {}/{}", piece.number, piece.numerator, piece.denominator);
     }
