@@ -1,7 +1,7 @@
 -- Every line that passes a test on prices, in order: a node is left alone where its cheapest line does not pass.
 use mathlib.Core.Path.{_≡_, refl, sym, _∙_, ap, ap₂, subst}
 use mathlib.Core.Bool.{Bool, true, false, cond}
-use mathlib.Core.List.{List, [], _∷_, _++_, List·Memᴰ, List·Memᴰ·head, List·Memᴰ·tail, List·Memᴰ·eq-of-singleton}
+use mathlib.Core.List.{List, [], _∷_, _++_, List·Memᴰ·eq-of-singleton}
 use lib.Dec.{T}
 use Rattle.lists.specs.Filter.{keep, keep-append, keep-none}
 use Rattle.envelopes.specs.PseudoLines.{Figure, PseudoLines}

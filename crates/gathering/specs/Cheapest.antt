@@ -30,7 +30,7 @@ use Rattle.query.specs.QueriedPieces.{Pieces, price-kept}
 use Rattle.query.specs.Readings.{priceIn}
 use Rattle.query.specs.Descent.{Descended}
 use Rattle.gathering.specs.Limits.{seekAt}
-use Rattle.gathering.specs.Nodes.{Under, under-held, Forked, forked}
+use Rattle.gathering.specs.Nodes.{Subtree, subtree-held, Forked, forked}
 
 -- slot s keeps item a, whose price at the load is read there
 pub record Kept (w : Words) (s : ℕ) (q : ℤ) (a : Item) : Type 0 where
@@ -92,11 +92,11 @@ module _
 -- ---- the children's
 
 pub record OnLeft (w : Words) (x e : ℕ) (q : ℤ) (s : ℕ) : Type 0 where
-  pub is : (u v : Item) (l r : OfferTree Item) (ql qr : Part Item) (es : List Item) (a : Item) → Under w x (fork u v l ql qr r) es → Kept w e q a →
+  pub is : (u v : Item) (l r : OfferTree Item) (ql qr : Part Item) (es : List Item) (a : Item) → Subtree w x (fork u v l ql qr r) es → Kept w e q a →
       s ≡ leftOf items (whole q) (seekAt q) u l ql a .slot
 
 pub record OnRight (w : Words) (x e : ℕ) (q : ℤ) (s : ℕ) : Type 0 where
-  pub is : (u v : Item) (l r : OfferTree Item) (ql qr : Part Item) (es : List Item) (a : Item) → Under w x (fork u v l ql qr r) es → Kept w e q a →
+  pub is : (u v : Item) (l r : OfferTree Item) (ql qr : Part Item) (es : List Item) (a : Item) → Subtree w x (fork u v l ql qr r) es → Kept w e q a →
       s ≡ rightOf items (whole q) (seekAt q) v l qr a .slot
 
 module _
@@ -121,7 +121,7 @@ module _
               let f = forked u v l r ql qr n in
               let in-left = Memᴰ·append-left (partLeaves ql) (Memᴰ·append-right (f .upTo) (List·Memᴰ·head refl)) in
               let own : Kept w b q u =
-              record { slot = eb ∙ ap (linkAt w bridgeLeftField) here ∙ f .u-at; held = under-held (f .left) in-left; load = k .load } in
+              record { slot = eb ∙ ap (linkAt w bridgeLeftField) here ∙ f .u-at; held = subtree-held (f .left) in-left; load = k .load } in
               rw (side-is f k, y)
               (least .is ql u (rw (stays, ec) (f .rest-left)) own);
         }
@@ -133,7 +133,7 @@ module _
               let f = forked u v l r ql qr n in
               let in-right = Memᴰ·append-right (partLeaves qr) (List·Memᴰ·head refl) in
               let own : Kept w b q v =
-              record { slot = eb ∙ ap (linkAt w bridgeRightField) here ∙ f .v-at; held = under-held (f .right) in-right; load = k .load } in
+              record { slot = eb ∙ ap (linkAt w bridgeRightField) here ∙ f .v-at; held = subtree-held (f .right) in-right; load = k .load } in
               rw (side-is f k, y)
               (least .is qr v (rw (stays, ec) (f .rest-right)) own);
         }

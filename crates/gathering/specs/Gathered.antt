@@ -36,7 +36,7 @@ use Rattle.query.specs.Readings.{priceIn}
 use Rattle.query.specs.Descent.{Descended}
 use Rattle.check_trees.specs.Stretches.{span, span-length}
 use Rattle.gathering.specs.Limits.{seekAt, cheapAt, seeks-at, limit-at}
-use Rattle.gathering.specs.Nodes.{held-under}
+use Rattle.gathering.specs.Nodes.{held-subtree}
 use Rattle.gathering.specs.Cheapest.{found}
 use Rattle.gathering.specs.Gathers.{Gathers, Asked, asked-cheap}
 
@@ -58,7 +58,7 @@ module _
             cheapest = seekAt q t;
             asked =
                 record {
-                  under = held-under k;
+                  under = held-subtree k;
                   slot = found d stand range .slot;
                   least = subst (λ (e : Part Item). Least items (partLeaves e) (seekAt q t) (whole q)) (sym e)
                       (seeks-at q t (own-env items item-laws (leaves t) (env .chain)));

@@ -31,7 +31,7 @@ use Rattle.pieces.specs.Pieces.{items, item-laws}
 use Rattle.query.specs.Readings.{priceIn}
 use Rattle.check_trees.specs.Stretches.{span, span-none, span-one, span-cut, span-same, span-length}
 use Rattle.gathering.specs.Limits.{seekAt, cheapAt, reported, seeks-at, limit-at}
-use Rattle.gathering.specs.Nodes.{Under, under-held, Forked, forked}
+use Rattle.gathering.specs.Nodes.{Subtree, subtree-held, Forked, forked}
 use Rattle.gathering.specs.Cheapest.{Kept, price-told, OnLeft, OnRight}
 
 -- the place of a walk that gave up
@@ -40,7 +40,7 @@ givenUp = mostSlots + 1
 
 -- a subtree with a cheapest item of its envelope, and room for all its leaves
 pub record Asked (w : Words) (x e : ℕ) (q : ℤ) (limit at : ℕ) (t : OfferTree Item) (es : List Item) (a : Item) : Type 0 where
-  pub under : Under w x t es
+  pub under : Subtree w x t es
   pub slot : e ≡ a .slot
   pub least : Least items es a (whole q)
   pub load : T (loadInRange q)
@@ -54,7 +54,7 @@ pub record Gathers (w : Words) (x e : ℕ) (q p : ℤ) (limit : ℕ) (xs xs′ :
   pub gathers : (t : OfferTree Item) (es : List Item) (a : Item) → Asked w x e q limit at t es a → span xs′ at next ≡ map slotOf (reported q p t a)
 
 asked-kept : {w : Words} {x e limit at : ℕ} {q : ℤ} {t : OfferTree Item} {es : List Item} {a : Item} → Asked w x e q limit at t es a → Kept w e q a
-asked-kept k = record { slot = k .slot; held = under-held (k .under) (k .least .one-of); load = k .load }
+asked-kept k = record { slot = k .slot; held = subtree-held (k .under) (k .least .one-of); load = k .load }
 
 -- the code's test is the model's
 pub asked-cheap :
@@ -119,7 +119,7 @@ gathers-deep {w} {x} {e} {limit} {at} {q} {p} {xs} g d z = record { long = refl;
 -- ---- both children
 
 -- no more items are reported than there are
-reported-few : {w : Words} {x : ℕ} {q : ℤ} (p : ℤ) {t : OfferTree Item} {es : List Item} {a : Item} → Under w x t es → Least items es a (whole q) →
+reported-few : {w : Words} {x : ℕ} {q : ℤ} (p : ℤ) {t : OfferTree Item} {es : List Item} {a : Item} → Subtree w x t es → Least items es a (whole q) →
     length (reported q p t a) ≤ length (leaves (shape t))
 reported-few {q} p {t} n M =
     let exact = below-exact items item-laws (whole q) (cheapAt q p) (limit-at q p) (seekAt q) (seeks-at q) (n .valid) (n .ordered) M in

@@ -24,7 +24,7 @@ use Rattle.pieces.specs.Pieces.{items, item-laws, rateOf, Standing}
 use Rattle.form.specs.Stored.{Stored, stored-fork, RestIn, HeldIn}
 use Rattle.form.specs.RestWords.{restAt, rest-at}
 
-pub record Under (w : Words) (x : ℕ) (t : OfferTree Item) (es : List Item) : Type 0 where
+pub record Subtree (w : Words) (x : ℕ) (t : OfferTree Item) (es : List Item) : Type 0 where
   pub root : x ≡ refOf (shape t)
   pub slots : Slots (cap w) (leaves (shape t))
   pub kept : Holds w (leaves (shape t))
@@ -33,8 +33,8 @@ pub record Under (w : Words) (x : ℕ) (t : OfferTree Item) (es : List Item) : T
   pub ordered : Ordered items (leaves (shape t))
   pub valid : Valid items t es
 
-pub held-under : {w : Words} {x e : ℕ} {h : Held Item} → HeldIn w x e h → Under w x (h .tree) (partLeaves (h .whole))
-held-under k =
+pub held-subtree : {w : Words} {x e : ℕ} {h : Held Item} → HeldIn w x e h → Subtree w x (h .tree) (partLeaves (h .whole))
+held-subtree k =
     record {
       root = k .root;
       slots = k .slots;
@@ -46,8 +46,8 @@ held-under k =
     }
 
 -- a piece of its envelope is kept in its slot
-pub under-held : {w : Words} {x : ℕ} {t : OfferTree Item} {es : List Item} {a : Item} → Under w x t es → List·Memᴰ a es → Kept w a
-under-held n m = n .kept .held (sublist-mem (valid-env items item-laws (n .valid) .sub) m)
+pub subtree-held : {w : Words} {x : ℕ} {t : OfferTree Item} {es : List Item} {a : Item} → Subtree w x t es → List·Memᴰ a es → Kept w a
+subtree-held n m = n .kept .held (sublist-mem (valid-env items item-laws (n .valid) .sub) m)
 
 -- what stays with node n, as a piece tree
 rest-standing :
@@ -70,15 +70,15 @@ pub record Forked (w : Words) (x : ℕ) (u v : Item) (l r : OfferTree Item) (ql 
   pub from : List Item
   pub pieces : es ≡ (upTo ++ u ∷ []) ++ v ∷ from
   pub envelope : Env items (leaves (shape l) ++ leaves (shape r)) es
-  pub left : Under w (childAt w offerTree false x) l ((upTo ++ u ∷ []) ++ partLeaves ql)
-  pub right : Under w (childAt w offerTree true x) r (partLeaves qr ++ v ∷ from)
+  pub left : Subtree w (childAt w offerTree false x) l ((upTo ++ u ∷ []) ++ partLeaves ql)
+  pub right : Subtree w (childAt w offerTree true x) r (partLeaves qr ++ v ∷ from)
   pub u-at : linkAt w bridgeLeftField (x - mostSlots) ≡ u .slot
   pub v-at : linkAt w bridgeRightField (x - mostSlots) ≡ v .slot
   pub rate-at : cell w rateField (x - mostSlots) ≡ rateOf (last (shape l))
   pub rest-left : Standing w (restAt w (childAt w offerTree false x)) ql
   pub rest-right : Standing w (restAt w (childAt w offerTree true x)) qr
 
-pub forked : {w : Words} {x : ℕ} {es : List Item} (u v : Item) (l r : OfferTree Item) (ql qr : Part Item) → Under w x (fork u v l ql qr r) es →
+pub forked : {w : Words} {x : ℕ} {es : List Item} (u v : Item) (l r : OfferTree Item) (ql qr : Part Item) → Subtree w x (fork u v l ql qr r) es →
     Forked w x u v l r ql qr es
 forked {w} {x} {es} u v l r ql qr n = go (n .tied) (n .stored) (n .valid)
   where
@@ -98,12 +98,12 @@ forked {w} {x} {es} u v l r ql qr n = go (n .tied) (n .stored) (n .valid)
           v-at = ap (linkAt w bridgeRightField) here ∙ ev;
           rate-at = ap (cell w rateField) here ∙ n .kept .held (Memᴰ·append-left (leaves (shape r)) (last-leaf (shape l))) .rate;
           rest-left = rest-standing l (left .root) (left .slots) rl (slots-right (upTo ++ u ∷ []) (slots-sublist (EL .sub) (left .slots)))
-              (record { held = λ m. under-held left (Memᴰ·append-right (upTo ++ u ∷ []) m) }) al;
+              (record { held = λ m. subtree-held left (Memᴰ·append-right (upTo ++ u ∷ []) m) }) al;
           rest-right = rest-standing r (right .root) (right .slots) rr (slots-left (v ∷ from) (slots-sublist (ER .sub) (right .slots)))
-              (record { held = λ m. under-held right (Memᴰ·append-left (v ∷ from) m) }) ar;
+              (record { held = λ m. subtree-held right (Memᴰ·append-left (v ∷ from) m) }) ar;
         }
       where
-        left : Under w (childAt w offerTree false x) l ((upTo ++ u ∷ []) ++ partLeaves ql)
+        left : Subtree w (childAt w offerTree false x) l ((upTo ++ u ∷ []) ++ partLeaves ql)
         left =
             record {
               root = ap (linkAt w _) here ∙ el;
@@ -115,7 +115,7 @@ forked {w} {x} {es} u v l r ql qr n = go (n .tied) (n .stored) (n .valid)
               valid = vl;
             }
 
-        right : Under w (childAt w offerTree true x) r (partLeaves qr ++ v ∷ from)
+        right : Subtree w (childAt w offerTree true x) r (partLeaves qr ++ v ∷ from)
         right =
             record {
               root = ap (linkAt w _) here ∙ er;

@@ -3,7 +3,7 @@
 ghost use mathlib.Core.Path.{_≡_};
 ghost use lib.ListN.{length};
 ghost use lib.Signed.{leZ, ltZ};
-ghost use Rattle.table.specs.Fields.{mostSlots, rateField};
+ghost use Rattle.table.specs.Fields.{mostLevels, mostSlots, rateField};
 ghost use Rattle.table.specs.Layout.{cap, cell};
 ghost use Rattle.query.specs.Readings.{priceIn};
 ghost use Rattle.gathering.specs.Cheapest.{Cheaper, OnLeft, OnRight};
@@ -102,8 +102,8 @@ fn put(x: u32, firsts: &mut [u32; SLOTS], at: usize) -> usize
 }
 
 // Puts the leaves below node `x` whose price is below `price` from place `at` on, and returns the place behind the last. `e` is the slot of a cheapest of
-// them; a node whose cheapest is not below is left alone. `limit` bounds the tree's height. Words that are no book's are given up: of an entered node one
-// child has the cheapest `e`, so that it is entered too, and every entered node leads to a leaf that is put, or to giving up, which ends the whole walk.
+// them; a node whose cheapest is not below is left alone. `limit` bounds the tree's height. Words that are no book's may make it give up, which ends the whole
+// walk: of an entered node one child has the cheapest `e` and is entered too, so that every entered node leads to a leaf that is put, or to giving up.
 fn gather_in(
     part: &[i64],
     c: u32,
@@ -138,7 +138,8 @@ fn gather_in(
     gather_in(part, c, right, g, load, price, firsts, mid, limit - 1)
 }
 
-// The same by the capacity that the words tell.
+// Puts the leaves of the tree of offers at `x` whose price is below `price`, and returns how many; GIVEN_UP where a walk gave up. `e` is the slot of a
+// cheapest offer.
 pub fn gather(
     part: &[i64],
     x: u32,
@@ -146,21 +147,10 @@ pub fn gather(
     load: i64,
     price: i64,
     firsts: &mut [u32; SLOTS],
-    at: usize,
-    limit: u32,
 ) -> usize
     requires { ⌜ length (now firsts) ≡ mostSlots ⌝ }
-    ensures { λ r. ⌜ Gathers (now (part .entry)) x e load price limit (now (firsts .entry)) (now (firsts .exit)) at r ⌝ }
+    ensures { λ r. ⌜ Gathers (now (part .entry)) x e load price mostLevels (now (firsts .entry)) (now (firsts .exit)) 0 r ⌝ }
 {
-    gather_in(
-        part,
-        table::capacity(part),
-        x,
-        e,
-        load,
-        price,
-        firsts,
-        at,
-        limit,
-    )
+    let c = table::capacity(part);
+    gather_in(part, c, x, e, load, price, firsts, 0, table::MOST_LEVELS)
 }

@@ -39,7 +39,7 @@ pub data Call : Type 0 where
   -- with the length of the lent output, in words
   listing : (room : ℕ) → Call
   takeBack : Call
-  -- likewise
+  -- with the length of the lent output, in words
   report : (load price : ℤ) (room : ℕ) → Call
 
 pub data Answer : Type 0 where

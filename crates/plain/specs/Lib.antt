@@ -5,7 +5,7 @@ pub mod Causes
 pub mod Trials
 -- statement: the plain book: a capacity, a list of live offers in order and a memory, fed the calls' arguments, an output's length with them
 pub mod Book
--- statement: what a query and a listing tell of a list of live offers, in the words of docs/REQUIREMENTS.md (3) and with no way of computing it
+-- statement: what a query, a listing and a report tell of a list of live offers, in the words of docs/REQUIREMENTS.md (3) and with no way of computing it
 pub mod Meaning
 -- lemmas: prices to prove, and other cases: each through the calls of a freshly opened book, the ten as one table that the checker computes
 pub mod Cases
@@ -25,7 +25,7 @@ pub mod Entries
 pub mod QueryLaws
 -- lemmas: the listing names the first of a rate exactly when at some rational load, of any size, it is strictly cheaper than every other rate's offers
 pub mod ListingLaws
--- lemmas: the plain book's query and listing tell what `Meaning` says, whatever calls made its offers
+-- lemmas: the plain book's query, listing and report tell what `Meaning` says, whatever calls made its offers
 pub mod MeaningLaws
 -- statement and theorem: after calls with take-backs among them the book holds the offers that the remaining accepted calls leave
 pub mod Remaining

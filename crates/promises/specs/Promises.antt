@@ -196,7 +196,7 @@ pub record Lists (start : ℕ) (t out out′ : List ℤ) (r : Listed) : Type 0 w
   pub later : (s : State) (held : Option (Held Item)) → Book (partOf t start) s held →
       drop (writtenWords (listingAnswer r out′)) out′ ≡ drop (writtenWords (listingAnswer r out′)) out
 
--- The same of a report, of a load q and a price p: the table is only read.
+-- What a listing promises of its output a report does too, of a load q and a price p.
 pub record Reports (q p : ℤ) (start : ℕ) (t out out′ : List ℤ) (r : Reported) : Type 0 where
   pub declined : (z : Cause) → FirstOf (tableTrials t start (report q p (length out))) z → (reportAnswer r out′ ≡ refused (causeNumber z)) × (out′ ≡ out)
   pub refusal : (z : ℤ) → r ≡ ReportDeclined z → out′ ≡ out

@@ -20,7 +20,7 @@ fn write_under(part: &[i64], load: i64, price: i64, out: &mut [i64]) -> u32
         return 0;
     }
     let mut firsts = [0; gathering::SLOTS];
-    let n = gathering::gather(part, x, e, load, price, &mut firsts, 0, table::MOST_LEVELS);
+    let n = gathering::gather(part, x, e, load, price, &mut firsts);
     if gathering::SLOTS < n {
         return 0;
     }

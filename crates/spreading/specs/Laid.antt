@@ -1,8 +1,8 @@
 -- What is put and written is the plain book's report: how many offers are below, and their words.
 use mathlib.Core.Path.{_≡_, sym, _∙_, ap}
-use mathlib.Core.List.{List, [], _∷_, _++_, map, nil≢cons}
+use mathlib.Core.List.{List, [], _++_, map, nil≢cons}
 use mathlib.Core.Option.{Option}
-use Prim.Native.Nat.{ℕ, _*_, _≤_, _<_}
+use Prim.Native.Nat.{ℕ, _*_, _≤_}
 use native.Mathlib.Omega.{arith}
 use lib.Dec.{T}
 use lib.IntN.{ℤ}
@@ -44,7 +44,8 @@ pub no-first : {w : Words} {s : State} {held : Option (Held Item)} (b : Book w s
     under q p (s .offers) ≡ []
 no-first b q p e =
     ap (under q p) (sym (b .stands-for)) ∙ keep-map (λ (o : Offer). ltZ (priceAt o q) p) offerOf (partLeaves (b .order))
-    ∙ ap (map offerOf) (nowhere (ap (keep (cheapAt q p)) (sym (b .leaf-per-rate)) ∙ e) (starting (items .before) (cheapAt q p) (partLeaves (b .order)) (live-stand b q p)))
+    ∙ ap (map offerOf) (nowhere (ap (keep (cheapAt q p)) (sym (b .leaf-per-rate)) ∙ e)
+    (starting (items .before) (cheapAt q p) (partLeaves (b .order)) (live-stand b q p)))
   where
     nowhere : {xs gs : List Item} → gs ≡ [] → Resumes (items .before) (cheapAt q p) xs gs → keep (cheapAt q p) xs ≡ []
     nowhere d (resumes-nowhere k) = k

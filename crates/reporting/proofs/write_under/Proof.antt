@@ -1,7 +1,7 @@
 -- `reporting::write_under` meets its contract: by what was gathered, spread and written.
 use native.Mathlib.Omega.{arith}
 use mir.Facts.{toZ-ofZ}
-use borrow.Author.Tests.{not-true, not-false}
+use borrow.Author.Tests.{not-true}
 use Rattle.reporting.specs.Counting.{under-empty, under-none, under-lost, under-astray, under-all}
 use borrow.Author.Needs.{needs}
 use Rattle.reporting.proofs.write_under.Statement.{statement}
