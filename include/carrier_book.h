@@ -6,7 +6,7 @@
  * An offer has a number (1 to 9,999), a rate in cents per kilogram (-100,000 to 100,000) and a base in cents (-1,000,000,000 to
  * 1,000,000,000). Its price at a load of q kilograms (-1,000,000 to 1,000,000) is base + rate * q. No two live offers have equal
  * numbers. Several may have one rate: offers are ordered by falling rate, then rising base, then rising number, and of one rate only
- * the first in that order is listed or named by a query; a report has each.
+ * the first in that order is listed or named by a query; a report has every one under its price.
  *
  * Every array is passed as a pointer to its first word and its length in words, so that no call can step outside it. The pointer is
  * not null, also where the length is 0. What a call writes overlaps no other array of the call. A book occupies CARRIER_WORDS(capacity) words of its
@@ -94,7 +94,8 @@ int64_t carrier_listing(const int64_t *table, size_t words, size_t start, int64_
  * a listing leaves out, by falling rate, then rising base, then rising number. Returns their count: 0 where the book is empty.
  * Writes three words an offer from out[0] on: its number, its rate and its base. Later words stay; three words for each live offer are
  * always enough. The causes, in order: CARRIER_NO_BOOK, CARRIER_OUT_OF_RANGE for the price, CARRIER_LOAD_RANGE, CARRIER_OUTPUT_TOO_SHORT.
- * The table is only read. The work goes with log n + m * (log n)^2, for m offers reported of n that are live. */
+ * The table is only read. The work goes with log n + m * (log n)^2, for m offers reported of n that are live; where there are
+ * any, 32 KB of the stack are cleared besides. */
 int64_t carrier_report(const int64_t *table, size_t words, size_t start, int64_t load, int64_t price, int64_t *out, size_t out_words);
 
 /* Returns 1 where the words from `start` on are a book in every particular, with every envelope right and a memory that can be undone, and 0 where

@@ -48,7 +48,7 @@ fn scan(offers: &[Offer], (load, price): Asked, out: &mut [i64]) -> usize {
     words / 3
 }
 
-/// each one asked, and one word of all answers, which differs where they do
+/// each one asked, and one word of all counts and last words
 fn sum(asked: &[Asked], out: &mut [i64], answer: impl Fn(Asked, &mut [i64]) -> usize) -> i64 {
     asked.iter().fold(0, |sum, one| {
         let count = answer(*one, out);
@@ -77,7 +77,8 @@ fn report(listed: Listed, reported: usize) -> Case {
             timed(LOADS, || sums[1] = sum(&asked, &mut expected, |one, out| scan(&offers, one, out))),
             timed(LOADS, || found = asked.iter().fold(0, |sum, one| sum ^ book.query(one.0).unwrap().number)),
         ];
-        assert!(sums[0] == sums[1] && found >= 0, "the answers differ");
+        assert!(sums[0] == sums[1], "the answers differ");
+        assert!(found >= 0, "an offer's number is below 0");
         times
     };
     Case { offers: reported, pieces, run: Box::new(run) }
@@ -90,7 +91,9 @@ pub fn rows() -> Vec<Row> {
 }
 
 pub fn table(rows: &[Row]) -> String {
-    let mut t = String::from("| listed | pieces | reported | report, ns | scan, ns | scan ÷ report | query, ns | report ÷ query |\n|---|---|---|---|---|---|---|---|\n");
+    let mut t = String::from(
+        "| listed | pieces | reported | report, ns | scan, ns | scan ÷ report | query, ns | report ÷ query |\n|---|---|---|---|---|---|---|---|\n",
+    );
     for (rows, listed) in rows.chunks(REPORTED.len()).zip(Listed::KINDS) {
         for r in rows {
             let [report, scan, query] = r.times;

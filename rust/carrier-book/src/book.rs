@@ -3,9 +3,6 @@ use crate::{lent, words, Declined, Found, Mark, Marks, Meeting, Offer, Piece, Pi
 use std::convert::TryFrom;
 use std::fmt;
 
-/// So many offers a report has room for before it asks for more.
-const FEW: usize = 32;
-
 /// A book that owns its words. For a book in a table of the caller's see [`lent`].
 ///
 /// ```
@@ -108,7 +105,7 @@ impl Book {
     }
 
     /// Takes back the last accepted post or withdrawal that has not been taken back. Up to 256 are remembered, and with
-    /// one more the oldest is forgotten for good; queries, listings and declined calls are not among them, nor is a take-back itself.
+    /// one more the oldest is forgotten for good; queries, listings, reports and declined calls are not among them, nor is a take-back itself.
     ///
     /// ```
     /// use carrier_book::{Book, Declined};
@@ -158,15 +155,8 @@ impl Book {
     /// # Ok::<(), Declined>(())
     /// ```
     pub fn report(&self, load: i64, price: i64) -> Result<Vec<Offer>, Declined> {
-        // most reports are short: room for all is asked for only where it is needed
-        let mut few = [0; 3 * FEW];
-        match lent::report(&self.table, 0, load, price, &mut few) {
-            Err(Declined::OutputTooShort) => {
-                let mut out = vec![0; 3 * self.capacity()];
-                lent::report(&self.table, 0, load, price, &mut out).map(|count| offers(&out, count))
-            }
-            told => told.map(|count| offers(&few, count)),
-        }
+        let words = lent::reported(&self.table, load, price, self.capacity())?;
+        Ok(words.chunks(3).map(|w| Offer { number: w[0], rate: w[1], base: w[2] }).collect())
     }
 
     /// The pieces of the lower envelope, by falling rate: of each rate at most the first offer in order, where at some load it is strictly
@@ -251,11 +241,6 @@ impl Book {
     pub fn check(&self) -> bool {
         lent::check(&self.table, 0)
     }
-}
-
-/// the offers that a report wrote
-fn offers(out: &[i64], count: usize) -> Vec<Offer> {
-    out.chunks(3).take(count).map(|w| Offer { number: w[0], rate: w[1], base: w[2] }).collect()
 }
 
 /// The capacity and the pieces.

@@ -157,6 +157,18 @@ pub fn report(table: &[i64], start: usize, load: i64, price: i64, out: &mut [i64
     told(answer).map(|offers| offers as usize)
 }
 
+/// A book's report in a vector of its own, with room for `most` offers that is not cleared before: the words of a short report cost no
+/// more in a large book.
+pub(crate) fn reported(book: &[i64], load: i64, price: i64, most: usize) -> Result<Vec<i64>, Declined> {
+    let mut out = Vec::with_capacity(3 * most);
+    // SAFETY: there is room for so many words behind the pointer, and the call only writes them.
+    let answer = unsafe { raw::carrier_report(book.as_ptr(), book.len(), 0, load, price, out.as_mut_ptr(), 3 * most) };
+    let offers = told(answer)? as usize;
+    // SAFETY: of a book a report writes three words for each offer that it counts.
+    unsafe { out.set_len(3 * offers) };
+    Ok(out)
+}
+
 /// A reading of the pieces: the same ones, one at a time. On words that are no book it ends after at most 4,096 of them.
 ///
 /// ```

@@ -4,10 +4,10 @@
 //! An offer has a number (1 to 9,999), a rate in cents per kilogram (−100,000 to 100,000) and a base in cents
 //! (−1,000,000,000 to 1,000,000,000). Its price at a load of `q` kilograms (−1,000,000 to 1,000,000) is `base + rate × q`. No two
 //! live offers have equal numbers. Several may have one rate: offers are ordered by falling rate, then rising base, then rising number,
-//! and of one rate only the first in that order is listed or named; a report has them all.
+//! and of one rate only the first in that order is listed or named; a report has every one under its price.
 //!
 //! Inside is a dynamic lower envelope of lines. With n live offers a post, a withdrawal or a take-back takes O(log² n), a query
-//! O(log n). That every call answers right, after every history of calls, is proved in Rattle of the very code in the archive; this
+//! O(log n), a report of m offers O(log n + m log² n). That every call answers right, after every history of calls, is proved in Rattle of the very code in the archive; this
 //! crate only hands slices over, and reads no word of a book itself.
 //!
 //! ```

@@ -14,14 +14,14 @@ const BOOKS: &str = "CARRIER_BOOKS";
 
 /// A call on a damaged table takes at most so many times the instructions of the costliest call of its name on the sound book. An update
 /// searches at each level, of which a sound book has twelve and damaged words can feign twenty-four; each search there goes on to its own
-/// bound.
+/// bound. A report of damaged words can cut off a child at each level below each slot that it puts, each time after a descent.
 const MOST_TIMES: [(&str, u64); 11] = [
     ("post", 100),
     ("withdraw", 100),
     ("take_back", 100),
     ("query", 4),
     ("listing", 2),
-    ("report", 2),
+    ("report", 20),
     ("pieces", 2),
     ("mark", 2),
     ("marks", 2),
@@ -66,7 +66,10 @@ const ROOTS: [usize; TREES] = [2, 1, 4, 6];
 /// the header's word with the first free slot
 const FIRST_FREE: usize = 5;
 /// fields of a slot
+const RATE: usize = 1;
+const BASE: usize = 2;
 const NEXT_FREE: usize = 3;
+const CROSSING: [usize; 2] = [6, 7];
 const NEXT_PIECE: usize = 19;
 /// the bridge's ends, and what stays with an inner node and with a leaf
 const BRIDGE: [usize; 2] = [10, 11];
@@ -142,10 +145,37 @@ fn free_in_a_circle(part: &mut [i64], _: usize) {
     put(part, NEXT_FREE, free as usize, free);
 }
 
+/// For each slot that a report puts, as much work as can be: twelve levels of shared children, where both are under the price, and below
+/// them twelve at which one child is cut off, after a descent through twenty-four levels of what stays with it.
+fn cut_off_at_each_level(part: &mut [i64], _: usize) {
+    let [cheap, dear, leaf, other, rests] = [100, 200, 300, 500, 400];
+    for slot in 1..=MOST_OFFERS {
+        put(part, RATE, slot, 10);
+        put(part, BASE, slot, 1_000_000);
+    }
+    put(part, RATE, cheap, 5);
+    put(part, BASE, cheap, 0);
+    (part[ROOTS[1]], part[ROOTS[0]]) = (inner(1), cheap as i64);
+    for level in 1..=LEVELS {
+        let below = if level < LEVELS { inner(level + 1) } else { other as i64 };
+        let (left, bridge) = if level <= LEVELS / 2 { (below, cheap) } else { (dear as i64, leaf) };
+        link(part, 1, level, [left, below]);
+        put(part, BRIDGE[0], level, bridge as i64);
+        put(part, RESTS[0], level, inner(rests + 1));
+        let slot = rests + level;
+        link(part, 0, slot, if level < LEVELS { [inner(slot + 1); 2] } else { [leaf as i64; 2] });
+        put(part, CROSSING[0], slot, 1);
+        put(part, CROSSING[1], slot, 1);
+    }
+    [dear, other].iter().for_each(|slot| put(part, RESTS[1], *slot, inner(rests + 1)));
+}
+
 /// The sound table, and each damage to all trees and to one of them.
 fn damages() -> Vec<(String, Vec<(Damage, usize)>)> {
     let circle: Damage = ("the free slots in a circle", free_in_a_circle);
-    let mut tables = vec![("sound".to_string(), vec![]), (circle.0.to_string(), vec![(circle, 0)])];
+    let costly: Damage = ("a child cut off at each level", cut_off_at_each_level);
+    let mut tables = vec![("sound".to_string(), vec![])];
+    tables.extend([circle, costly].map(|damage| (damage.0.to_string(), vec![(damage, 0)])));
     for damage in DAMAGES {
         tables.push((format!("{}, all trees", damage.0), (0..TREES).map(|tree| (damage, tree)).collect()));
         tables.extend((0..TREES).map(|tree| (format!("{}, tree {tree}", damage.0), vec![(damage, tree)])));
@@ -165,9 +195,9 @@ fn damaged(part: &[i64], damages: &[(Damage, usize)]) -> Vec<i64> {
 type Call = (&'static str, fn(&mut Books, &Books, &mut [i64]) -> bool);
 
 /// A post at a rate of its own, ahead of the first of a rate, and behind it. A take-back undoes a withdrawal, and without the last entry a
-/// post. Marks are asked one at a time: all of them take at most 4,097 times as much as the last. Reports are of all offers, of none and
-/// of some.
-const CALLS: [Call; 22] = [
+/// post. Marks are asked one at a time: all of them take at most 4,097 times as much as the last. Reports are of all offers, of most, of
+/// some thirty and of none.
+const CALLS: [Call; 23] = [
     ("post", |b, _, _| lent::post(&mut b.first, 0, 9_999, 14_003, 14_003 * 14_003).is_ok()),
     ("post", |b, _, _| lent::post(&mut b.first, 0, 9_999, 14_001, 14_001 * 14_001 - 1).is_ok()),
     ("post", |b, _, _| lent::post(&mut b.first, 0, 9_999, 14_001, 14_001 * 14_001 + 1).is_ok()),
@@ -185,8 +215,9 @@ const CALLS: [Call; 22] = [
     ("listing", |b, _, out| lent::listing(&b.first, 0, out).is_ok()),
     ("listing", |b, _, _| lent::listing(&b.first, 0, &mut []).is_ok()),
     ("report", |b, _, out| lent::report(&b.first, 0, -28_001, MOST, out).is_ok()),
-    ("report", |b, _, out| lent::report(&b.first, 0, -28_001, -MOST, out).is_ok()),
+    ("report", |b, _, out| lent::report(&b.first, 0, -28_001, 500_000, out).is_ok()),
     ("report", |b, _, out| lent::report(&b.first, 0, -28_001, -14_000 * 14_000, out).is_ok()),
+    ("report", |b, _, out| lent::report(&b.first, 0, -28_001, -MOST, out).is_ok()),
     ("pieces", |b, _, _| lent::pieces(&b.first, 0).map_or(false, |pieces| pieces.count() == MOST_OFFERS - 1)),
     ("mark", |b, _, _| lent::mark(&b.first, 0, MOST_OFFERS as i64 - 1).is_ok()),
     ("marks", |b, _, _| lent::marks(&b.first, 0).take(64).count() == 64),
@@ -262,4 +293,10 @@ fn work_on_damaged_words() {
         }
     }
     assert!(over.is_empty(), "{over:#?}");
+    // on the sound book a report of none is about a query, and one of some thirty offers far from one of all
+    let of =
+        |name: &str| CALLS.iter().zip(&counts).filter(|(call, _)| call.0 == name).map(|(_, count)| *count).collect::<Vec<_>>();
+    let (queries, reports) = (of("query"), of("report"));
+    assert!(reports[3] < 2 * queries[1], "{} instructions for none, {} for a query", reports[3], queries[1]);
+    assert!(20 * reports[2] < reports[0], "{} instructions for some, {} for all", reports[2], reports[0]);
 }
