@@ -28,7 +28,7 @@ use Rattle.pieces.specs.Pieces.{items}
 use Rattle.form.specs.Form.{Book}
 use Rattle.gathering.specs.Limits.{cheapAt}
 use Rattle.check_trees.specs.Stretches.{span, span-length, span-none, span-cut, span-cons, span-one, span-same}
-use Rattle.spreading.specs.Nexts.{NextBelow, Turns, goes-on, goes-off, turns, live-stand}
+use Rattle.spreading.specs.Nexts.{NextBelow, LastOf, Turns, goes-on, goes-off, turns, live-stand}
 
 -- the slots of those that are below
 abbrev pub slotsBelow : ℤ → ℤ → List Item → List ℕ
@@ -123,12 +123,12 @@ module _ {w : Words} {plain : State} {held : Option (Held Item)} (b : Book w pla
     all-put (at-end h put) none = put
     all-put (at-one front a post cut es t h put to-come) none = absurd (omega arith)
 
-    module _ (room : m < length ys) (range : T (loadInRange q)) where
+    module _ (room : m < length ys) (range : T (loadInRange q)) {last : ℕ} (end : LastOf w last) where
       -- to the next of the rate
-      goes-to : {y : ℕ} → Midway q p (partLeaves (b .order)) xs ys n i m s → i < n → NextBelow w q p s y → 1 ≤ y →
+      goes-to : {y : ℕ} → Midway q p (partLeaves (b .order)) xs ys n i m s → i < n → NextBelow w q p s last y → 1 ≤ y →
           Midway q p (partLeaves (b .order)) xs (set ys m s) n i (m + 1) y
       goes-to (at-end h put) more next some = absurd (omega arith)
-      goes-to {y} (at-one front a post cut es t h put to-come) more next some = go cut to-come (turns b front a q p range post cut es next)
+      goes-to {y} (at-one front a post cut es t h put to-come) more next some = go cut to-come (turns b front a q p range end es post cut next)
         where
           go : {post : List Item} → partLeaves (b .order) ≡ front ++ a ∷ post →
               span xs (suc i) n ≡ slotsBelow q p (behind (items .before) (cheapAt q p) a post) →
@@ -140,10 +140,10 @@ module _ {w : Words} {plain : State} {held : Option (Held Item)} (b : Book w pla
               (rel-of-pairwise-cons (behind-stand front a (c ∷ rest) cut) ∣ List·Memᴰ·head refl ∣₁) k))
 
       -- to the next first
-      goes-past : {y z : ℕ} → Midway q p (partLeaves (b .order)) xs ys n i m s → i < n → NextBelow w q p s y → y < 1 → (i + 1 < n → z ≡ getD xs (i + 1) 0) →
-          Midway q p (partLeaves (b .order)) xs (set ys m s) n (i + 1) (m + 1) z
+      goes-past : {y z : ℕ} → Midway q p (partLeaves (b .order)) xs ys n i m s → i < n → NextBelow w q p s last y → y < 1 →
+          (i + 1 < n → z ≡ getD xs (i + 1) 0) → Midway q p (partLeaves (b .order)) xs (set ys m s) n (i + 1) (m + 1) z
       goes-past (at-end h put) more next none is = absurd (omega arith)
-      goes-past {y} {z} (at-one front a post cut es t h put to-come) more next none is = go cut to-come (turns b front a q p range post cut es next)
+      goes-past {y} {z} (at-one front a post cut es t h put to-come) more next none is = go cut to-come (turns b front a q p range end es post cut next)
         where
           go : {post : List Item} → partLeaves (b .order) ≡ front ++ a ∷ post →
               span xs (suc i) n ≡ slotsBelow q p (behind (items .before) (cheapAt q p) a post) →
@@ -176,21 +176,21 @@ module _ {w : Words} (q p : ℤ) {xs : List ℕ} (ys₀ : List ℕ) {n : ℕ} (f
     pub spreading-ends : n ≤ i → Spreads w q p xs ys₀ ys n m
     spreading-ends none = record { long = g .long; is = λ plain held b range firsts. all-put b q p (g .midway plain held b range firsts) none }
 
-    module _ (size : length ys₀ ≡ mostSlots) (more : i < n) (room : m < mostSlots) where
-      pub spreading-goes-to : {y : ℕ} → NextBelow w q p s y → 1 ≤ y → Spreading w q p xs ys₀ (set ys m s) n i (m + 1) y
+    module _ (size : length ys₀ ≡ mostSlots) (more : i < n) (room : m < mostSlots) {last : ℕ} (end : LastOf w last) where
+      pub spreading-goes-to : {y : ℕ} → NextBelow w q p s last y → 1 ≤ y → Spreading w q p xs ys₀ (set ys m s) n i (m + 1) y
       spreading-goes-to next some =
           record {
             within = omega arith;
             long = length-set ys m s ∙ g .long;
-            midway = λ plain held b range firsts. goes-to b q p (omega (arith, g .long)) range (g .midway plain held b range firsts) more next some;
+            midway = λ plain held b range firsts. goes-to b q p (omega (arith, g .long)) range end (g .midway plain held b range firsts) more next some;
           }
 
-      pub spreading-goes-past : {y z : ℕ} → NextBelow w q p s y → y < 1 → (i + 1 < mostSlots → z ≡ getD xs (i + 1) 0) →
+      pub spreading-goes-past : {y z : ℕ} → NextBelow w q p s last y → y < 1 → (i + 1 < mostSlots → z ≡ getD xs (i + 1) 0) →
           Spreading w q p xs ys₀ (set ys m s) n (i + 1) (m + 1) z
       spreading-goes-past next none is =
           record {
             within = omega arith;
             long = length-set ys m s ∙ g .long;
             midway = λ plain held b range firsts.
-                goes-past b q p (omega (arith, g .long)) range (g .midway plain held b range firsts) more next none (λ h. is (omega arith));
+                goes-past b q p (omega (arith, g .long)) range end (g .midway plain held b range firsts) more next none (λ h. is (omega arith));
           }

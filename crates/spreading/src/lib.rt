@@ -3,16 +3,36 @@ ghost use mathlib.Core.Path.{_≡_};
 ghost use Prim.Native.Nat.{_≤_, _<_};
 ghost use lib.ListN.{length, getD};
 ghost use Rattle.table.specs.Fields.{mostSlots};
+ghost use Rattle.table.specs.Layout.{cap};
+ghost use Rattle.spreading.specs.Neighbours.{Behind};
 ghost use Rattle.spreading.specs.Nexts.{NextBelow};
 ghost use Rattle.spreading.specs.Spreads.{Spreads};
 ghost use Rattle.spreading.specs.Writes.{offerAt, Copied};
 
-// The slot of the offer behind that in slot `s`, where it has the same rate and is below too, and 0 otherwise.
-fn next_below(part: &[i64], s: u32, load: i64, price: i64) -> u32
-    ensures { λ r. ⌜ NextBelow (now (part .entry)) load price s r ⌝ }
+// The slot of the offer behind that in slot `s` in order, and 0 behind the last one, in slot `last`. The inner node kept in slot `s` stands between the
+// two: what is behind is the first leaf on its right. `c` is the capacity.
+fn behind(part: &[i64], c: u32, s: u32, last: u32) -> u32
+    requires { ⌜ c ≡ cap (now part) ⌝ }
+    ensures { λ r. ⌜ Behind (now (part .entry)) s last r ⌝ }
 {
-    let b = settling::follower(part, s);
+    if s == last {
+        return 0;
+    }
+    let right = table::link_in(part, c, table::child_field(table::ORDER, true), s);
+    descents::end_in(part, c, table::ORDER, false, right)
+}
+
+// The slot of the offer behind that in slot `s`, where it has the same rate and is below too, and 0 otherwise. Rates fall, so one that is as high is the same.
+fn next_below(part: &[i64], c: u32, s: u32, last: u32, load: i64, price: i64) -> u32
+    requires { ⌜ c ≡ cap (now part) ⌝ }
+    ensures { λ r. ⌜ NextBelow (now (part .entry)) load price s last r ⌝ }
+{
+    let b = behind(part, c, s, last);
     if b < 1 {
+        return 0;
+    }
+    let rate = table::get_in(part, c, table::RATE, s);
+    if !table::at_least_in(part, c, table::RATE, b, rate) {
         return 0;
     }
     if gathering::is_below(part, b, load, price) {
@@ -44,6 +64,9 @@ pub fn spread(
     requires { ⌜ (length (now all) ≡ mostSlots) × (n ≤ mostSlots) ⌝ }
     ensures { λ r. ⌜ Spreads (now (part .entry)) load price (now (firsts .entry)) (now (all .entry)) (now (all .exit)) n r ⌝ }
 {
+    let c = table::capacity(part);
+    let root = table::number_at(part, table::ORDER_ROOT, table::MOST_NODES);
+    let last = descents::end_in(part, c, table::ORDER, true, root);
     let mut i: usize = 0;
     let mut m: usize = 0;
     let mut s = entry(firsts, 0);
@@ -53,7 +76,7 @@ pub fn spread(
         }
         all[m] = s;
         m += 1;
-        s = next_below(part, s, load, price);
+        s = next_below(part, c, s, last, load, price);
         if s < 1 {
             i += 1;
             s = entry(firsts, i);
