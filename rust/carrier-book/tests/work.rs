@@ -21,7 +21,7 @@ const MOST_TIMES: [(&str, u64); 11] = [
     ("take_back", 100),
     ("query", 4),
     ("listing", 2),
-    ("report", 20),
+    ("report", 40),
     ("pieces", 2),
     ("mark", 2),
     ("marks", 2),
