@@ -8,8 +8,8 @@ use Rattle.plain.specs.Book.{Call}
 use Rattle.promises.specs.Promises.{Updates, Checks}
 use Rattle.promises.specs.declared.Update.{Update}
 use Rattle.reading.specs.Promises.{told}
-use Rattle.answers.specs.Promises.{refusal, tooShort, over, Tells, Lent, updateNumber, countsOf, Updated, Checked}
-use Rattle.answers.specs.Promises.{place_of, placeNumber, piece_of, Step, Steps, Pieced}
+use Rattle.answers.specs.Promises.{refusal, too_short, over, Tells, Lent, update_number, counts_of, Updated, Checked}
+use Rattle.answers.specs.Promises.{place_of, place_number, piece_of, Step, Steps, Pieced}
 
 -- ---- a cause, below 0
 
@@ -66,34 +66,34 @@ pub tells : {A B : Type 0} (number_of : B → ℤ) (values_of : B → List A) {b
 tells number_of values_of e n w = rw e (record { number = n; words = w })
 
 module _ {A B : Type 0} (room : ℕ) (Keeps : B → Type 0) (number_of : B → ℤ) (values_of : B → List A) where
-  pub lent-short : {out : List A} → length out < room → Lent room Keeps number_of values_of out out tooShort
-  lent-short h = record { short = λ _. (refl, refl); long = λ g. absurd (omega arith) }
+  pub lent_short : {out : List A} → length out < room → Lent room Keeps number_of values_of out out too_short
+  lent_short h = record { short = λ _. (refl, refl); long = λ g. absurd (omega arith) }
 
-  pub lent-long : {out out' : List A} {r : ℤ} → room ≤ length out → (b : B) → Keeps b → Tells (number_of b) (values_of b) out out' r
+  pub lent_long : {out out' : List A} {r : ℤ} → room ≤ length out → (b : B) → Keeps b → Tells (number_of b) (values_of b) out out' r
       → Lent room Keeps number_of values_of out out' r
-  lent-long h b p q = record { short = λ g. absurd (omega arith); long = λ _. (b, p, q) }
+  lent_long h b p q = record { short = λ g. absurd (omega arith); long = λ _. (b, p, q) }
 
 module _ (k : Call) (start : ℕ) (t : List ℤ) where
-  pub updated-short : {counts : List ℤ} → length counts < 3 → Updated k start t t counts counts tooShort
-  updated-short h = record { lent = lent-short 3 (Updates k start t t) updateNumber countsOf h; still = λ _. refl }
+  pub updated_short : {counts : List ℤ} → length counts < 3 → Updated k start t t counts counts too_short
+  updated_short h = record { lent = lent_short 3 (Updates k start t t) update_number counts_of h; still = λ _. refl }
 
-  pub updated-long : {t' counts counts' : List ℤ} {r : ℤ} → 3 ≤ length counts → (u : Update) → Updates k start t t' u
-      → Tells (updateNumber u) (countsOf u) counts counts' r → Updated k start t t' counts counts' r
-  updated-long {t'} h u p q = record { lent = lent-long 3 (Updates k start t t') updateNumber countsOf h u p q; still = λ g. absurd (omega arith) }
+  pub updated_long : {t' counts counts' : List ℤ} {r : ℤ} → 3 ≤ length counts → (u : Update) → Updates k start t t' u
+      → Tells (update_number u) (counts_of u) counts counts' r → Updated k start t t' counts counts' r
+  updated_long {t'} h u p q = record { lent = lent_long 3 (Updates k start t t') update_number counts_of h u p q; still = λ g. absurd (omega arith) }
 
 -- ---- a reading's step
 
-pub pieced-long : (start : ℕ) (t : List ℤ) (place : ℤ) {out out' : List ℤ} {r : ℤ} {at : ℕ} → at ≡ place_of place → 3 ≤ length out
-    → (s : Step) → Steps start t at s → Tells (placeNumber s.next (told s.handed)) (piece_of (told s.handed)) out out' r →
+pub pieced_long : (start : ℕ) (t : List ℤ) (place : ℤ) {out out' : List ℤ} {r : ℤ} {at : ℕ} → at ≡ place_of place → 3 ≤ length out
+    → (s : Step) → Steps start t at s → Tells (place_number s.next (told s.handed)) (piece_of (told s.handed)) out out' r →
     Pieced start t place out out' r
-pieced-long start t place e h s p q =
-    lent-long 3 (Steps start t (place_of place)) (λ x. placeNumber x.next (told x.handed)) (λ x. piece_of (told x.handed)) h s
+pieced_long start t place e h s p q =
+    lent_long 3 (Steps start t (place_of place)) (λ x. place_number x.next (told x.handed)) (λ x. piece_of (told x.handed)) h s
     (subst (λ (i : ℕ). Steps start t i s) e p) q
 
 -- ---- a check's answer
 
-pub checked-yes : (start : ℕ) (t : List ℤ) (b : Bool) → Checks start t b → b ≡ true → Checked start t (pos 1)
-checked-yes start t b p e = record { passes = b; checks = p; number = rw e }
+pub checked_yes : (start : ℕ) (t : List ℤ) (b : Bool) → Checks start t b → b ≡ true → Checked start t (pos 1)
+checked_yes start t b p e = record { passes = b; checks = p; number = rw e }
 
-pub checked-no : (start : ℕ) (t : List ℤ) (b : Bool) → Checks start t b → b ≡ false → Checked start t (pos 0)
-checked-no start t b p e = record { passes = b; checks = p; number = rw e }
+pub checked_no : (start : ℕ) (t : List ℤ) (b : Bool) → Checks start t b → b ≡ false → Checked start t (pos 0)
+checked_no start t b p e = record { passes = b; checks = p; number = rw e }

@@ -4,26 +4,26 @@ use Rattle.std.proofs.Common.{sym, ◌∙◌, ap, subst, arith, take_at, drop_at
 use Rattle.std.proofs.Math.Option.{Option, none}
 use Rattle.std.proofs.lemmas.List.{length-map}
 use Rattle.lists.specs.Bools.{said, denied}
-use Rattle.envelopes.specs.Envelope.{Ordered·nil}
+use Rattle.envelopes.specs.Envelope.{ordered_nil}
 use Rattle.envelopes.specs.Small.{env_nil}
-use Rattle.plain.specs.Causes.{noBook, FirstOf, at_once}
-use Rattle.plain.specs.Book.{State, listing, Outcome, listed, refused, pieceWords, noBookAt, step}
-use Rattle.plain.specs.Rules.{words-length}
+use Rattle.plain.specs.Causes.{no_book, FirstOf, at_once}
+use Rattle.plain.specs.Book.{State, listing, Outcome, listed, refused, piece_words, no_book_at, step}
+use Rattle.plain.specs.Rules.{words_length}
 use Rattle.trees.specs.Tree.{leaves}
 use Rattle.dynamic.specs.OfferTree.{Held}
-use Rattle.table.specs.Fields.{capacityWord, envelopeRootWord, mostNodes}
+use Rattle.table.specs.Fields.{capacity_word, envelope_root_word, most_nodes}
 use Rattle.table.specs.Words.{Words, word, up_to}
 use Rattle.table.specs.Items.{Item}
 use Rattle.pieces.specs.Pieces.{items}
 use Rattle.form.specs.Form.{Book}
-use Rattle.query.specs.Plain.{offerOf, listing-plain, listing-short}
+use Rattle.query.specs.Plain.{offer_of, listing_plain, listing_short}
 use Rattle.listing.specs.Listing.{Written}
-use Rattle.promises.specs.Promises.{part_of, tableTrials, listingAnswer, writtenWords, Lists}
-use Rattle.form.specs.Live.{first-offers, lines-ordered}
-use Rattle.promises.specs.Plainly.{table-declined}
+use Rattle.promises.specs.Promises.{part_of, table_trials, listing_answer, written_words, Lists}
+use Rattle.form.specs.Live.{first_offers, lines_ordered}
+use Rattle.promises.specs.Plainly.{table_declined}
 use Rattle.promises.specs.LentPart.{whole_part}
-use Rattle.promises.specs.Rooted.{Root, bare, topped, root-of}
-use Rattle.promises.specs.OneCause.{one-cause, not-clear}
+use Rattle.promises.specs.Rooted.{Root, bare, topped, root_of}
+use Rattle.promises.specs.OneCause.{one_cause, not_clear}
 use Rattle.promises.specs.declared.Listed.{Listed}
 use Rattle.promises.specs.declared.Listed.TheVariants.{Pieces, Declined}
 
@@ -32,57 +32,57 @@ use Rattle.promises.specs.declared.Listed.TheVariants.{Pieces, Declined}
 pub record Shown (w : Words) (out out' : List ℤ) (r : Listed) : Type 0 where
   pub refusal : (z : ℤ) → r ≡ Declined z → out' ≡ out
   pub long : length out' ≡ length out
-  pub answers : (plain : State) (held : Option (Held Item)) → Book w plain held → listingAnswer r out' ≡ (step plain (listing (length out))).answer
+  pub answers : (plain : State) (held : Option (Held Item)) → Book w plain held → listing_answer r out' ≡ (step plain (listing (length out))).answer
   pub later : (plain : State) (held : Option (Held Item)) → Book w plain held →
-      drop (writtenWords (listingAnswer r out')) out' ≡ drop (writtenWords (listingAnswer r out')) out
+      drop (written_words (listing_answer r out')) out' ≡ drop (written_words (listing_answer r out')) out
 
 -- the output begins with the words of these pieces, and goes on as before
 record Laid (n : ℕ) (out out' : List ℤ) (es : List Item) : Type 0 where
   count : n ≡ length es
-  words : out' ≡ pieceWords (map offerOf es) ++ drop (3 * n) out
+  words : out' ≡ piece_words (map offer_of es) ++ drop (3 * n) out
 
 module _ {n : ℕ} {out out' : List ℤ} {es : List Item} (l : Laid n out out' es) where
-  size : length (pieceWords (map offerOf es)) ≡ 3 * n
-  size = omega (arith, words-length (map offerOf es), length-map es offerOf, l.count)
+  size : length (piece_words (map offer_of es)) ≡ 3 * n
+  size = omega (arith, words_length (map offer_of es), length-map es offer_of, l.count)
 
-  begins : take (3 * n) out' ≡ pieceWords (map offerOf es)
-  begins = ap (take (3 * n)) l.words ∙ take_at (pieceWords (map offerOf es)) (drop (3 * n) out) (3 * n) size
+  begins : take (3 * n) out' ≡ piece_words (map offer_of es)
+  begins = ap (take (3 * n)) l.words ∙ take_at (piece_words (map offer_of es)) (drop (3 * n) out) (3 * n) size
 
-  laid-answer : listed n (take (3 * n) out') ≡ listed (length es) (pieceWords (map offerOf es))
-  laid-answer = ap (listed n) begins ∙ ap (λ (m : ℕ). listed m (pieceWords (map offerOf es))) l.count
+  laid_answer : listed n (take (3 * n) out') ≡ listed (length es) (piece_words (map offer_of es))
+  laid_answer = ap (listed n) begins ∙ ap (λ (m : ℕ). listed m (piece_words (map offer_of es))) l.count
 
-  laid-later : drop (length (take (3 * n) out')) out' ≡ drop (length (take (3 * n) out')) out
-  laid-later =
+  laid_later : drop (length (take (3 * n) out')) out' ≡ drop (length (take (3 * n) out')) out
+  laid_later =
       subst (λ (k : ℕ). drop k out' ≡ drop k out) (sym (ap length begins ∙ size))
-      (ap (drop (3 * n)) l.words ∙ drop_at (pieceWords (map offerOf es)) (drop (3 * n) out) (3 * n) size)
+      (ap (drop (3 * n)) l.words ∙ drop_at (piece_words (map offer_of es)) (drop (3 * n) out) (3 * n) size)
 
-pieces-declined : {m z : ℤ} → Pieces m ≡ Declined z → ⊥
-pieces-declined e = let x : ◌≡◌ {A = ℕ} 0 1 = cc in omega arith
+pieces_declined : {m z : ℤ} → Pieces m ≡ Declined z → ⊥
+pieces_declined e = let x : ◌≡◌ {A = ℕ} 0 1 = cc in omega arith
 
-module _ {w : Words} {root n : ℕ} {out out' : List ℤ} (e : root ≡ up_to mostNodes (word w envelopeRootWord)) (k : Written w root out out' n) where
+module _ {w : Words} {root n : ℕ} {out out' : List ℤ} (e : root ≡ up_to most_nodes (word w envelope_root_word)) (k : Written w root out out' n) where
   -- too short an output
-  pub shown-short : length out < 3 * n → Shown w out out' (Declined (pos 10))
-  shown-short h = record {
+  pub shown_short : length out < 3 * n → Shown w out out' (Declined (pos 10))
+  shown_short h = record {
     refusal = λ z d. k.short h;
     long = k.long;
-    answers = λ plain held b. go plain b (root-of b e);
+    answers = λ plain held b. go plain b (root_of b e);
     later =
         λ plain held b. ap (drop 0) (k.short h);
   }
     where
       go : (plain : State) {held : Option (Held Item)} → Book w plain held → Root w root held → refused 10 ≡ (step plain (listing (length out))).answer
       go plain b (bare z) = absurd (omega (arith, k.counted.none z))
-      go plain b (topped t f p) = sym (listing-short plain (first-offers b) (lines-ordered b) p.env (length out)
+      go plain b (topped t f p) = sym (listing_short plain (first_offers b) (lines_ordered b) p.env (length out)
           (omega (arith, k.counted.is t p.pieces p.balanced)))
 
   -- every piece
-  pub shown-all : 3 * n ≤ length out → Shown w out out' (Pieces (pos n))
-  shown-all h = record {
-    refusal = λ z d. absurd (pieces-declined d);
+  pub shown_all : 3 * n ≤ length out → Shown w out out' (Pieces (pos n))
+  shown_all h = record {
+    refusal = λ z d. absurd (pieces_declined d);
     long = k.long;
-    answers = λ plain held b. go plain b (root-of b e);
+    answers = λ plain held b. go plain b (root_of b e);
     later =
-        λ plain held b. behind (root-of b e);
+        λ plain held b. behind (root_of b e);
   }
     where
       nothing : root ≡ 0 → Laid n out out' []
@@ -90,15 +90,15 @@ module _ {w : Words} {root n : ℕ} {out out' : List ℤ} (e : root ≡ up_to mo
 
       go : (plain : State) {held : Option (Held Item)} → Book w plain held → Root w root held →
           listed n (take (3 * n) out') ≡ (step plain (listing (length out))).answer
-      go plain b (bare z) = laid-answer (nothing z) ∙ sym (listing-plain {ls = []} {es = []} plain (first-offers b) Ordered·nil (env_nil items)
+      go plain b (bare z) = laid_answer (nothing z) ∙ sym (listing_plain {ls = []} {es = []} plain (first_offers b) ordered_nil (env_nil items)
           (length out) (omega arith))
       go plain b (topped t f p) =
           let l : Laid n out out' (leaves t) = record { count = k.counted.is t p.pieces p.balanced; words = k.words t p.pieces p.balanced h } in
-          laid-answer l ∙ sym (listing-plain plain (first-offers b) (lines-ordered b) p.env (length out) (omega (arith, l.count)))
+          laid_answer l ∙ sym (listing_plain plain (first_offers b) (lines_ordered b) p.env (length out) (omega (arith, l.count)))
 
       behind : {held : Option (Held Item)} → Root w root held → drop (length (take (3 * n) out')) out' ≡ drop (length (take (3 * n) out')) out
-      behind (bare z) = laid-later {es = []} (nothing z)
-      behind (topped t f p) = laid-later {es = leaves t} (record {
+      behind (bare z) = laid_later {es = []} (nothing z)
+      behind (topped t f p) = laid_later {es = leaves t} (record {
         count = k.counted.is t p.pieces p.balanced;
         words =
             k.words t p.pieces p.balanced h;
@@ -106,25 +106,25 @@ module _ {w : Words} {root n : ℕ} {out out' : List ℤ} (e : root ≡ up_to mo
 
 -- ---- on a table
 
-module _ (start : ℕ) (t out : List ℤ) {no : Bool} (e : no ≡ noBookAt (length t) start (word (part_of t start) capacityWord)) where
-  pub listing-no-book : no ≡ true → Lists start t out out (Declined (pos 3))
-  listing-no-book d =
+module _ (start : ℕ) (t out : List ℤ) {no : Bool} (e : no ≡ no_book_at (length t) start (word (part_of t start) capacity_word)) where
+  pub listing_no_book : no ≡ true → Lists start t out out (Declined (pos 3))
+  listing_no_book d =
       record {
-        declined = λ z g. (ap refused (sym (one-cause none-there g)), refl);
+        declined = λ z g. (ap refused (sym (one_cause none_there g)), refl);
         refusal = λ z d. refl;
         long = refl;
-        answers = λ plain held b. sym (ap (λ (o : Outcome). o.answer) (table-declined start t (listing (length out)) b none-there));
+        answers = λ plain held b. sym (ap (λ (o : Outcome). o.answer) (table_declined start t (listing (length out)) b none_there));
         later = λ plain held b. refl;
       }
     where
-      none-there : FirstOf (tableTrials t start (listing (length out))) noBook
-      none-there = at_once (said e d)
+      none_there : FirstOf (table_trials t start (listing (length out))) no_book
+      none_there = at_once (said e d)
 
-  pub listing-done : {out' : List ℤ} {r : Listed} → no ≡ false → Shown (take (length t - start) (drop start t)) out out' r → Lists start t out out' r
-  listing-done {out'} {r} d k =
+  pub listing_done : {out' : List ℤ} {r : Listed} → no ≡ false → Shown (take (length t - start) (drop start t)) out out' r → Lists start t out out' r
+  listing_done {out'} {r} d k =
       let s : Shown (part_of t start) out out' r = subst (λ (w : Words). Shown w out out' r) (whole_part t start) k in
       record {
-        declined = λ z f. absurd (not-clear f (denied e d, tt));
+        declined = λ z f. absurd (not_clear f (denied e d, tt));
         refusal = s.refusal;
         long = s.long;
         answers = s.answers;

@@ -1,6 +1,6 @@
 // What is asked of a book in a lent table: a query and a listing.
 ghost use Rattle.std.specs.Prelude.{◌≡◌};
-ghost use Rattle.table.specs.Fields.{numberField};
+ghost use Rattle.table.specs.Fields.{number_field};
 ghost use Rattle.table.specs.Layout.{cell};
 ghost use Rattle.promises.specs.Promises.{Queries, Lists};
 ghost use Rattle.asking.specs.Asking.{Asks};
@@ -10,8 +10,8 @@ use promises::{Found, Listed};
 
 // The number in slot `other`. Without a tie that is `slot`, whose number is known.
 fn beside(part: &[i64], slot: u32, number: i64, other: u32) -> i64
-    requires { number ≡ cell part.now numberField slot }
-    ensures { result ≡ cell part.now numberField other }
+    requires { number ≡ cell part.now number_field slot }
+    ensures { result ≡ cell part.now number_field other }
 {
     if other == slot {
         return number;

@@ -6,24 +6,24 @@ use mathlib.Core.List.Memᴰ
 use mathlib.Core.List.{List, [], ◌∷◌, ◌++◌, append_assoc, Memᴰ}
 use mathlib.Core.List.Sublistᴰ
 use Rattle.std.proofs.Math.ListN.{get_or-append}
-use Rattle.lists.specs.Places.{sublist-mem}
+use Rattle.lists.specs.Places.{sublist_mem}
 use Rattle.envelopes.specs.PseudoLines.{Figure, PseudoLines}
-use Rattle.envelopes.specs.Crossing.{price-refl, below-le}
+use Rattle.envelopes.specs.Crossing.{price_refl, below_le}
 use Rattle.envelopes.specs.Envelope.{Ordered, Env}
-use Rattle.envelopes.specs.EnvelopeLaws.{ordered-left, ordered-apart, ordered-pairs}
+use Rattle.envelopes.specs.EnvelopeLaws.{ordered_left, ordered_apart, ordered_pairs}
 use Rattle.trees.specs.Tree.{Tree, leaves, last}
 use Rattle.trees.specs.Leaves.{last_leaf}
-use Rattle.trees.specs.Order.{up-to-last}
-use Rattle.trees.specs.Operations.{Part, partLeaves}
+use Rattle.trees.specs.Order.{up_to_last}
+use Rattle.trees.specs.Operations.{Part, part_leaves}
 use Rattle.dynamic.specs.OfferTree.{OfferTree, shape}
-use Rattle.dynamic.specs.Lower.{not-before}
-use Rattle.below.specs.Least.{Least, Chained, later-least, earlier-least}
+use Rattle.dynamic.specs.Lower.{not_before}
+use Rattle.below.specs.Least.{Least, Chained, later_least, earlier_least}
 
 -- ---- a part of an envelope is its own envelope
 
 module _ (S : Figure) where
-  chained-front : (xs ys : List S.Line) → Chained S (xs ++ ys) → Chained S xs
-  chained-front xs ys K d =
+  chained_front : (xs ys : List S.Line) → Chained S (xs ++ ys) → Chained S xs
+  chained_front xs ys K d =
       record {
         ordered = λ i h.
             rw (get_or-append xs ys d i (omega arith), get_or-append xs ys d (suc i) h) at
@@ -33,8 +33,8 @@ module _ (S : Figure) where
             ((K d).turning i (omega (arith, length-append xs ys)));
       }
 
-  chained-back : (xs ys : List S.Line) → Chained S (xs ++ ys) → Chained S ys
-  chained-back xs ys K d =
+  chained_back : (xs ys : List S.Line) → Chained S (xs ++ ys) → Chained S ys
+  chained_back xs ys K d =
       record {
         ordered = λ i h. rw (← place i, ← later (suc (length xs + i)) (suc i) (omega arith))
             ((K d).ordered (length xs + i) (omega (arith, length-append xs ys)));
@@ -50,8 +50,8 @@ module _ (S : Figure) where
       later j i e = ap (λ k. get_or (xs ++ ys) k d) e ∙ place i
 
   module _ (L : PseudoLines S) where
-    pub own-env : (qs : List S.Line) → Chained S qs → Env S qs qs
-    own-env qs K = record { sub = Sublistᴰ.refl qs; chain = K; low = λ x l m. (l, m, price-refl S L l x) }
+    pub own_env : (qs : List S.Line) → Chained S qs → Env S qs qs
+    own_env qs K = record { sub = Sublistᴰ.refl qs; chain = K; low = λ x l m. (l, m, price_refl S L l x) }
 
 -- ---- the cheaper of a line and the cheapest of a part
 
@@ -68,35 +68,35 @@ module _ (S : Figure) (x : S.Point) (seek : Tree S.Line → S.Line) where
   abbrev pub left_of : S.Line → OfferTree S.Line → Part S.Line → S.Line → S.Line
   left_of u l ql e = cond (S.before (last (shape l)) e) (cheaper u ql) e
 
-  abbrev pub rightOf : S.Line → OfferTree S.Line → Part S.Line → S.Line → S.Line
-  rightOf v l qr e = cond (S.before (last (shape l)) e) e (cheaper v qr)
+  abbrev pub right_of : S.Line → OfferTree S.Line → Part S.Line → S.Line → S.Line
+  right_of v l qr e = cond (S.before (last (shape l)) e) e (cheaper v qr)
 
   module _ (L : PseudoLines S) (seeks : Seeks) where
-    cheaper-least :
+    cheaper_least :
         {xs zs : List S.Line} (v : S.Line) (q : Part S.Line) →
         Least S xs v x →
-        Chained S (partLeaves q) →
+        Chained S (part_leaves q) →
         ((a : S.Line) → Memᴰ a xs → Memᴰ a zs) →
-        ((a : S.Line) → Memᴰ a (partLeaves q) → Memᴰ a zs) →
-        ((a : S.Line) → Memᴰ a zs → Memᴰ a xs ⊎ Memᴰ a (partLeaves q)) →
+        ((a : S.Line) → Memᴰ a (part_leaves q) → Memᴰ a zs) →
+        ((a : S.Line) → Memᴰ a zs → Memᴰ a xs ⊎ Memᴰ a (part_leaves q)) →
         Least S zs (cheaper v q) x
-    cheaper-least v none M K f g h =
+    cheaper_least v none M K f g h =
         record { one_of = f v M.one_of; least = λ l m. M.least l (⊎_elim (λ i. i) (λ i. absurd (Memᴰ.not-nil i)) (h l m)) }
-    cheaper-least {xs} {zs} v (some t) M K f g h = go (S.at_most v (seek t) x) refl
+    cheaper_least {xs} {zs} v (some t) M K f g h = go (S.at_most v (seek t) x) refl
       where
         N : Least S (leaves t) (seek t) x
-        N = seeks t (own-env S L (leaves t) K)
+        N = seeks t (own_env S L (leaves t) K)
 
         go : (b : Bool) → S.at_most v (seek t) x ≡ b → Least S zs (cond b v (seek t)) x
         go true e =
             record {
               one_of = f v M.one_of;
-              least = λ l m. ⊎_elim (M.least l) (λ i. L.price-trans v (seek t) l x (subst T (sym e) tt) (N.least l i)) (h l m);
+              least = λ l m. ⊎_elim (M.least l) (λ i. L.price_trans v (seek t) l x (subst T (sym e) tt) (N.least l i)) (h l m);
             }
         go false e =
             record {
               one_of = g (seek t) N.one_of;
-              least = λ l m. ⊎_elim (λ i. L.price-trans (seek t) v l x (below-le S L (seek t) v x (λ k. subst T e k)) (M.least l i)) (N.least l) (h l m);
+              least = λ l m. ⊎_elim (λ i. L.price_trans (seek t) v l x (below_le S L (seek t) v x (λ k. subst T e k)) (M.least l i)) (N.least l) (h l m);
             }
 
 -- ---- the children of a node
@@ -107,8 +107,8 @@ pub record Lesser (S : Figure) (x : S.Point) (le re : List S.Line) (a b : S.Line
 
 module _ (S : Figure) (L : PseudoLines S) (x : S.Point) where
   -- the cheapest of an envelope is at or below every line that it is the envelope of
-  pub least-all : {ls es : List S.Line} {e : S.Line} → Env S ls es → Least S es e x → (l : S.Line) → Memᴰ l ls → T (S.at_most e l x)
-  least-all {e} E M l m = let (f, i, h) = E.low x l m in L.price-trans e f l x (M.least f i) h
+  pub least_all : {ls es : List S.Line} {e : S.Line} → Env S ls es → Least S es e x → (l : S.Line) → Memᴰ l ls → T (S.at_most e l x)
+  least_all {e} E M l m = let (f, i, h) = E.low x l m in L.price_trans e f l x (M.least f i) h
 
 module _ (S : Figure) (L : PseudoLines S) (x : S.Point) (seek : Tree S.Line → S.Line) (seeks : Seeks S x seek) where
   pub children :
@@ -116,73 +116,73 @@ module _ (S : Figure) (L : PseudoLines S) (x : S.Point) (seek : Tree S.Line → 
       Ordered S (leaves (shape l) ++ leaves (shape r)) →
       es ≡ (up_to ++ u ∷ []) ++ v ∷ from →
       Env S (leaves (shape l) ++ leaves (shape r)) es →
-      Env S (leaves (shape l)) ((up_to ++ u ∷ []) ++ partLeaves ql) →
-      Env S (leaves (shape r)) (partLeaves qr ++ v ∷ from) →
+      Env S (leaves (shape l)) ((up_to ++ u ∷ []) ++ part_leaves ql) →
+      Env S (leaves (shape r)) (part_leaves qr ++ v ∷ from) →
       Least S es e x →
-      Lesser S x ((up_to ++ u ∷ []) ++ partLeaves ql) (partLeaves qr ++ v ∷ from) (left_of S x seek u l ql e) (rightOf S x seek v l qr e)
+      Lesser S x ((up_to ++ u ∷ []) ++ part_leaves ql) (part_leaves qr ++ v ∷ from) (left_of S x seek u l ql e) (right_of S x seek v l qr e)
   children u v l r ql qr {e} {es} up_to from o d E EL ER M =
       side (S.before (last (shape l)) e) refl (Memᴰ.append_cases (up_to ++ u ∷ []) (subst (Memᴰ e) d M.one_of))
     where
       joint : Env S (leaves (shape l) ++ leaves (shape r)) ((up_to ++ u ∷ []) ++ v ∷ from)
       joint = subst (Env S (leaves (shape l) ++ leaves (shape r))) d E
 
-      at-most : (a : S.Line) → Memᴰ a ((up_to ++ u ∷ []) ++ v ∷ from) → T (S.at_most e a x)
-      at-most a m = M.least a (subst (Memᴰ a) (sym d) m)
+      at_most : (a : S.Line) → Memᴰ a ((up_to ++ u ∷ []) ++ v ∷ from) → T (S.at_most e a x)
+      at_most a m = M.least a (subst (Memᴰ a) (sym d) m)
 
-      in_left : (a : S.Line) → Memᴰ a ((up_to ++ u ∷ []) ++ partLeaves ql) → Memᴰ a (leaves (shape l))
-      in_left a m = sublist-mem EL.sub m
+      in_left : (a : S.Line) → Memᴰ a ((up_to ++ u ∷ []) ++ part_leaves ql) → Memᴰ a (leaves (shape l))
+      in_left a m = sublist_mem EL.sub m
 
-      in_right : (a : S.Line) → Memᴰ a (partLeaves qr ++ v ∷ from) → Memᴰ a (leaves (shape r))
-      in_right a m = sublist-mem ER.sub m
+      in_right : (a : S.Line) → Memᴰ a (part_leaves qr ++ v ∷ from) → Memᴰ a (leaves (shape r))
+      in_right a m = sublist_mem ER.sub m
 
-      on-left : Memᴰ e (up_to ++ u ∷ []) → Lesser S x ((up_to ++ u ∷ []) ++ partLeaves ql) (partLeaves qr ++ v ∷ from) e (cheaper S x seek v qr)
-      on-left m =
+      on_left : Memᴰ e (up_to ++ u ∷ []) → Lesser S x ((up_to ++ u ∷ []) ++ part_leaves ql) (part_leaves qr ++ v ∷ from) e (cheaper S x seek v qr)
+      on_left m =
           record {
             left =
                 record {
-                  one_of = Memᴰ.append_left (partLeaves ql) m;
-                  least = λ a k. least-all S L x E M a (Memᴰ.append_left (leaves (shape r)) (in_left a k));
+                  one_of = Memᴰ.append_left (part_leaves ql) m;
+                  least = λ a k. least_all S L x E M a (Memᴰ.append_left (leaves (shape r)) (in_left a k));
                 };
             right =
-                cheaper-least S x seek L seeks v qr
-                (later-least S L x (up_to ++ u ∷ []) v from joint.chain e m (at-most v (Memᴰ.append_right (up_to ++ u ∷ []) (Memᴰ.head refl))))
-                (chained-front S (partLeaves qr) (v ∷ from) ER.chain)
-                (λ a k. Memᴰ.append_right (partLeaves qr) k)
+                cheaper_least S x seek L seeks v qr
+                (later_least S L x (up_to ++ u ∷ []) v from joint.chain e m (at_most v (Memᴰ.append_right (up_to ++ u ∷ []) (Memᴰ.head refl))))
+                (chained_front S (part_leaves qr) (v ∷ from) ER.chain)
+                (λ a k. Memᴰ.append_right (part_leaves qr) k)
                 (λ a k. Memᴰ.append_left (v ∷ from) k)
-                (λ a k. ⊎_elim inr inl (Memᴰ.append_cases (partLeaves qr) k));
+                (λ a k. ⊎_elim inr inl (Memᴰ.append_cases (part_leaves qr) k));
           }
 
       -- the mirror image
-      on-right : Memᴰ e (v ∷ from) → Lesser S x ((up_to ++ u ∷ []) ++ partLeaves ql) (partLeaves qr ++ v ∷ from) (cheaper S x seek u ql) e
-      on-right m =
+      on_right : Memᴰ e (v ∷ from) → Lesser S x ((up_to ++ u ∷ []) ++ part_leaves ql) (part_leaves qr ++ v ∷ from) (cheaper S x seek u ql) e
+      on_right m =
           record {
             left =
-                cheaper-least S x seek L seeks u ql
-                (earlier-least S L x (leaves (shape l) ++ leaves (shape r)) up_to u (v ∷ from) o (rw append_assoc at joint) e m
-                (at-most u (Memᴰ.append_left (v ∷ from) (Memᴰ.append_right up_to (Memᴰ.head refl)))))
-                (chained-back S (up_to ++ u ∷ []) (partLeaves ql) EL.chain)
-                (λ a k. Memᴰ.append_left (partLeaves ql) k)
+                cheaper_least S x seek L seeks u ql
+                (earlier_least S L x (leaves (shape l) ++ leaves (shape r)) up_to u (v ∷ from) o (rw append_assoc at joint) e m
+                (at_most u (Memᴰ.append_left (v ∷ from) (Memᴰ.append_right up_to (Memᴰ.head refl)))))
+                (chained_back S (up_to ++ u ∷ []) (part_leaves ql) EL.chain)
+                (λ a k. Memᴰ.append_left (part_leaves ql) k)
                 (λ a k. Memᴰ.append_right (up_to ++ u ∷ []) k)
                 (λ a k. Memᴰ.append_cases (up_to ++ u ∷ []) k);
             right =
                 record {
-                  one_of = Memᴰ.append_right (partLeaves qr) m;
-                  least = λ a k. least-all S L x E M a (Memᴰ.append_right (leaves (shape l)) (in_right a k));
+                  one_of = Memᴰ.append_right (part_leaves qr) m;
+                  least = λ a k. least_all S L x E M a (Memᴰ.append_right (leaves (shape l)) (in_right a k));
                 };
           }
 
       side : (b : Bool) → S.before (last (shape l)) e ≡ b → Memᴰ e (up_to ++ u ∷ []) ⊎ Memᴰ e (v ∷ from)
-          → Lesser S x ((up_to ++ u ∷ []) ++ partLeaves ql) (partLeaves qr ++ v ∷ from) (cond b (cheaper S x seek u ql) e) (cond b e (cheaper S x seek v qr))
-      side false p (inl m) = on-left m
-      side true p (inr m) = on-right m
+          → Lesser S x ((up_to ++ u ∷ []) ++ part_leaves ql) (part_leaves qr ++ v ∷ from) (cond b (cheaper S x seek u ql) e) (cond b e (cheaper S x seek v qr))
+      side false p (inl m) = on_left m
+      side true p (inr m) = on_right m
       side true p (inl m) =
           absurd
           (T_not (S.before (last (shape l)) e)
-          (not-before S L (last (shape l)) e
-          (up-to-last (shape l) (ordered-pairs (ordered-left S (leaves (shape l)) (leaves (shape r)) o)) (in_left e (Memᴰ.append_left (partLeaves ql) m))))
+          (not_before S L (last (shape l)) e
+          (up_to_last (shape l) (ordered_pairs (ordered_left S (leaves (shape l)) (leaves (shape r)) o)) (in_left e (Memᴰ.append_left (part_leaves ql) m))))
           (subst T (sym p) tt))
       side false p (inr m) =
           absurd
           (subst T p
-          (ordered-apart S (leaves (shape l)) (leaves (shape r)) o (last (shape l)) e (last_leaf (shape l))
-          (in_right e (Memᴰ.append_right (partLeaves qr) m))))
+          (ordered_apart S (leaves (shape l)) (leaves (shape r)) o (last (shape l)) e (last_leaf (shape l))
+          (in_right e (Memᴰ.append_right (part_leaves qr) m))))

@@ -6,14 +6,14 @@ use mathlib.Core.List.Memᴰ
 use mathlib.Core.List.{List, [], ◌∷◌, ◌++◌, reverse, Memᴰ}
 use Rattle.std.proofs.Math.ListN.{get_or-append}
 use Rattle.std.proofs.Math.Seq.{get_or-append_seam}
-use Rattle.lists.specs.Bools.{not-refused}
-use Rattle.lists.specs.Places.{place_of, mem-reverse, reverse-about}
-use Rattle.envelopes.specs.PseudoLines.{Figure, PseudoLines, mirror, mirror-laws}
-use Rattle.envelopes.specs.Crossing.{price-refl}
+use Rattle.lists.specs.Bools.{not_refused}
+use Rattle.lists.specs.Places.{place_of, mem_reverse, reverse_about}
+use Rattle.envelopes.specs.PseudoLines.{Figure, PseudoLines, mirror, mirror_laws}
+use Rattle.envelopes.specs.Crossing.{price_refl}
 use Rattle.envelopes.specs.Bridge.{Chain}
-use Rattle.envelopes.specs.Chains.{outer-above, inner-above, turns-upto}
+use Rattle.envelopes.specs.Chains.{outer_above, inner_above, turns_upto}
 use Rattle.envelopes.specs.Envelope.{Ordered, Env}
-use Rattle.envelopes.specs.Query.{env-mirror}
+use Rattle.envelopes.specs.Query.{env_mirror}
 
 -- One of the lines, at the point at or below every other. Of several, any: a tie is no matter here.
 pub record Least (S : Figure) (es : List S.Line) (e : S.Line) (x : S.Point) : Type 0 where
@@ -27,23 +27,23 @@ module _ (S : Figure) (L : PseudoLines S) (a : ℕ → S.Line) (n : ℕ) (K : Ch
   turned i (suc k) j h g b t =
       elim (dec_lt (suc k) j) [
         | yes q ↦
-            inner-above S L a n K x (suc k) j
-            (λ r. L.point-trans x (S.cross (a k) (a (suc k))) (S.cross (a (suc k)) (a (suc (suc k)))) up (turns-upto S L a n K k (suc k) (omega arith) r))
+            inner_above S L a n K x (suc k) j
+            (λ r. L.point_trans x (S.cross (a k) (a (suc k))) (S.cross (a (suc k)) (a (suc (suc k)))) up (turns_upto S L a n K k (suc k) (omega arith) r))
             q b
-        | no q ↦ subst (λ m. T (S.at_most (a (suc k)) (a m) x)) (omega arith) (price-refl S L (a (suc k)) x)
+        | no q ↦ subst (λ m. T (S.at_most (a (suc k)) (a m) x)) (omega arith) (price_refl S L (a (suc k)) x)
       ]
     where
       up : T (S.up_to x (S.cross (a k) (a (suc k))))
-      up = not-refused (S.up_to x (S.cross (a k) (a (suc k)))) (λ l. outer-above S L a n K x (suc k) i (omega arith) l h t)
+      up = not_refused (S.up_to x (S.cross (a k) (a (suc k)))) (λ l. outer_above S L a n K x (suc k) i (omega arith) l h t)
 
 -- a list's chain
 abbrev pub Chained : (S : Figure) → List S.Line → Type 0
 Chained S es = (d : S.Line) → Chain S (λ i. get_or es i d) (length es)
 
 module _ (S : Figure) (L : PseudoLines S) (x : S.Point) where
-  pub later-least : (xs : List S.Line) (v : S.Line) (ys : List S.Line) → Chained S (xs ++ v ∷ ys) → (e : S.Line) → Memᴰ e xs →
+  pub later_least : (xs : List S.Line) (v : S.Line) (ys : List S.Line) → Chained S (xs ++ v ∷ ys) → (e : S.Line) → Memᴰ e xs →
       T (S.at_most e v x) → Least S (v ∷ ys) v x
-  later-least xs v ys K e m t =
+  later_least xs v ys K e m t =
       record {
         one_of = Memᴰ.head refl;
         least = λ l k.
@@ -59,14 +59,14 @@ module _ (S : Figure) (L : PseudoLines S) (x : S.Point) where
 
 -- the mirror image: a line before one that it is at or above
 module _ (S : Figure) (L : PseudoLines S) (x : S.Point) where
-  pub earlier-least : (ls xs : List S.Line) (u : S.Line) (ys : List S.Line) → Ordered S ls → Env S ls (xs ++ u ∷ ys) → (e : S.Line) →
+  pub earlier_least : (ls xs : List S.Line) (u : S.Line) (ys : List S.Line) → Ordered S ls → Env S ls (xs ++ u ∷ ys) → (e : S.Line) →
       Memᴰ e ys → T (S.at_most e u x) → Least S (xs ++ u ∷ []) u x
-  earlier-least ls xs u ys o E e m t =
-      let K : Chained (mirror S) (reverse ys ++ u ∷ reverse xs) = rw (reverse-about xs u ys) at (env-mirror S L ls (xs ++ u ∷ ys) o E).chain in
-      let M = later-least (mirror S) (mirror-laws S L) x (reverse ys) u (reverse xs) K e (mem-reverse m) t in
+  earlier_least ls xs u ys o E e m t =
+      let K : Chained (mirror S) (reverse ys ++ u ∷ reverse xs) = rw (reverse_about xs u ys) at (env_mirror S L ls (xs ++ u ∷ ys) o E).chain in
+      let M = later_least (mirror S) (mirror_laws S L) x (reverse ys) u (reverse xs) K e (mem_reverse m) t in
       record {
         one_of = Memᴰ.append_right xs (Memᴰ.head refl);
         least = λ l k.
             M.least l
-            (⊎_elim (λ i. Memᴰ.tail (mem-reverse i)) (λ i. Memᴰ.head (Memᴰ.eq_of_singleton i)) (Memᴰ.append_cases xs k));
+            (⊎_elim (λ i. Memᴰ.tail (mem_reverse i)) (λ i. Memᴰ.head (Memᴰ.eq_of_singleton i)) (Memᴰ.append_cases xs k));
       }

@@ -3,28 +3,28 @@ use Rattle.std.specs.Prelude.{ℕ, suc, ◌+◌, ◌*◌, ◌≤◌, max, ◌≡
 use Rattle.std.proofs.Common.{mul-le-mul, sym, ◌∙◌, ap, subst, length-append}
 use native.Mathlib.Omega.{arith}
 use Rattle.std.proofs.Math.Path.{refl}
-use Rattle.lists.specs.Filter.{keep, keep_append, keep-in}
-use Rattle.lists.specs.Places.{place_of, sublist-mem}
+use Rattle.lists.specs.Filter.{keep, keep_append, keep_in}
+use Rattle.lists.specs.Places.{place_of, sublist_mem}
 use Rattle.envelopes.specs.PseudoLines.{Figure, PseudoLines}
 use Rattle.envelopes.specs.Envelope.{Ordered, Env}
-use Rattle.envelopes.specs.EnvelopeLaws.{ordered-left, ordered-right}
+use Rattle.envelopes.specs.EnvelopeLaws.{ordered_left, ordered_right}
 use Rattle.trees.specs.Tree.{Tree, height, leaves}
-use Rattle.trees.specs.Operations.{partLeaves}
+use Rattle.trees.specs.Operations.{part_leaves}
 use Rattle.dynamic.specs.OfferTree.{OfferTree, single, fork, shape}
-use Rattle.dynamic.specs.Valid.{Valid, valid-single, valid-fork}
-use Rattle.dynamic.specs.Lower.{valid-env}
+use Rattle.dynamic.specs.Valid.{Valid, valid_single, valid_fork}
+use Rattle.dynamic.specs.Lower.{valid_env}
 use Rattle.below.specs.Least.{Least}
-use Rattle.below.specs.Children.{Seeks, left_of, rightOf, Lesser, children}
+use Rattle.below.specs.Children.{Seeks, left_of, right_of, Lesser, children}
 
 module _ (S : Figure) (x : S.Point) (seek : Tree S.Line → S.Line) where
   -- the nodes at which `below` looks, the root among them
   unfoldable pub visits : (S.Line → Bool) → OfferTree S.Line → S.Line → ℕ
   visits test (single a) e = 1
-  visits test (fork u v l ql qr r) e = cond (test e) (suc (visits test l (left_of S x seek u l ql e) + visits test r (rightOf S x seek v l qr e))) 1
+  visits test (fork u v l ql qr r) e = cond (test e) (suc (visits test l (left_of S x seek u l ql e) + visits test r (right_of S x seek v l qr e))) 1
 
 -- two subtrees' bounds under one node, of which at least one line is reported
-two-bounds : (m n hl hr a b : ℕ) → 1 ≤ m + n → a ≤ m * (2 * suc hl) + 1 → b ≤ n * (2 * suc hr) + 1 → suc (a + b) ≤ (m + n) * (2 * suc (suc (max hl hr))) + 1
-two-bounds m n hl hr a b s p q = omega (arith, front, back)
+two_bounds : (m n hl hr a b : ℕ) → 1 ≤ m + n → a ≤ m * (2 * suc hl) + 1 → b ≤ n * (2 * suc hr) + 1 → suc (a + b) ≤ (m + n) * (2 * suc (suc (max hl hr))) + 1
+two_bounds m n hl hr a b s p q = omega (arith, front, back)
   where
     front : m * (2 * suc hl) ≤ m * (2 * suc (max hl hr))
     front = mul-le-mul (omega arith) (omega arith)
@@ -34,19 +34,19 @@ two-bounds m n hl hr a b s p q = omega (arith, front, back)
 
 module _ (S : Figure) (L : PseudoLines S) (x : S.Point) (seek : Tree S.Line → S.Line) (seeks : Seeks S x seek) (test : S.Line → Bool) where
   -- a cheapest line that passes is reported
-  some-kept : {ls es : List S.Line} {e : S.Line} → Env S ls es → Least S es e x → test e ≡ true → 1 ≤ length (keep test ls)
-  some-kept {ls} {e = e} E M q = let (i, h, p) = place_of e (keep-in test ls e (sublist-mem E.sub M.one_of_lem) (subst T (sym q) tt)) in omega arith
+  some_kept : {ls es : List S.Line} {e : S.Line} → Env S ls es → Least S es e x → test e ≡ true → 1 ≤ length (keep test ls)
+  some_kept {ls} {e = e} E M q = let (i, h, p) = place_of e (keep_in test ls e (sublist_mem E.sub M.one_of_lem) (subst T (sym q) tt)) in omega arith
 
-  pub few-visits : {t : OfferTree S.Line} {es : List S.Line} {e : S.Line} → Valid S t es → Ordered S (leaves (shape t)) → Least S es e x
+  pub few_visits : {t : OfferTree S.Line} {es : List S.Line} {e : S.Line} → Valid S t es → Ordered S (leaves (shape t)) → Least S es e x
       → visits S x seek test t e ≤ length (keep test (leaves (shape t))) * (2 * suc (height (shape t))) + 1
   unfolding visits
-  few-visits (valid-single {a}) o M = omega arith
-  few-visits {e} (valid-fork {u} {v} {l} {r} {ql} {qr} {es} up_to from d vl vr al ar E) o M =
-      go (test e) refl (few-visits vl (ordered-left S (leaves (shape l)) (leaves (shape r)) o) C.left)
-      (few-visits vr (ordered-right S (leaves (shape l)) (leaves (shape r)) o) C.right)
+  few_visits (valid_single {a}) o M = omega arith
+  few_visits {e} (valid_fork {u} {v} {l} {r} {ql} {qr} {es} up_to from d vl vr al ar E) o M =
+      go (test e) refl (few_visits vl (ordered_left S (leaves (shape l)) (leaves (shape r)) o) C.left)
+      (few_visits vr (ordered_right S (leaves (shape l)) (leaves (shape r)) o) C.right)
     where
-      C : Lesser S x ((up_to ++ u ∷ []) ++ partLeaves ql) (partLeaves qr ++ v ∷ from) (left_of S x seek u l ql e) (rightOf S x seek v l qr e)
-      C = children S L x seek seeks u v l r ql qr up_to from o d E (valid-env S L vl) (valid-env S L vr) M
+      C : Lesser S x ((up_to ++ u ∷ []) ++ part_leaves ql) (part_leaves qr ++ v ∷ from) (left_of S x seek u l ql e) (right_of S x seek v l qr e)
+      C = children S L x seek seeks u v l r ql qr up_to from o d E (valid_env S L vl) (valid_env S L vr) M
 
       both : length (keep test (leaves (shape l) ++ leaves (shape r))) ≡ length (keep test (leaves (shape l))) + length (keep test (leaves (shape r)))
       both = ap length (keep_append test (leaves (shape l)) (leaves (shape r))) ∙ length-append (keep test (leaves (shape l))) (keep test (leaves (shape r)))
@@ -57,6 +57,6 @@ module _ (S : Figure) (L : PseudoLines S) (x : S.Point) (seek : Tree S.Line → 
           ≤ length (keep test (leaves (shape l) ++ leaves (shape r))) * (2 * suc (suc (max (height (shape l)) (height (shape r))))) + 1
       go {a} {b} true q f g =
           rw both
-          (two-bounds (length (keep test (leaves (shape l)))) (length (keep test (leaves (shape r)))) (height (shape l)) (height (shape r)) a b
-          (omega (arith, both, some-kept E M q)) f g)
+          (two_bounds (length (keep test (leaves (shape l)))) (length (keep test (leaves (shape r)))) (height (shape l)) (height (shape r)) a b
+          (omega (arith, both, some_kept E M q)) f g)
       go false q f g = omega arith

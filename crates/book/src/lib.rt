@@ -1,5 +1,5 @@
 // The carrier book in a lent table: open, post, withdraw, take_back, query, listing, report, largest_load, check.
-ghost use Rattle.plain.specs.Book.{post, withdraw, takeBack};
+ghost use Rattle.plain.specs.Book.{post, withdraw, take_back};
 ghost use Rattle.promises.specs.Promises.{Updates};
 
 pub use asking::{listing, query};
@@ -46,7 +46,7 @@ pub fn withdraw(table: &mut [i64], start: usize, number: i64) -> Update
 
 // Undoes the last accepted post or withdrawal that has not itself been undone, of the book at `start`.
 pub fn take_back(table: &mut [i64], start: usize) -> Update
-    ensures { Updates takeBack start table.old table.new result }
+    ensures { Updates take_back start table.old table.new result }
 {
     if no_book(table, start) {
         return Update::Declined(3);

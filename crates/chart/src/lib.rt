@@ -3,7 +3,7 @@ ghost use Rattle.std.specs.Prelude.{◌≡◌};
 ghost use Rattle.marks.specs.MarkTold.{told};
 ghost use Rattle.chart.specs.Promises.{Marks};
 ghost use Rattle.chart.specs.ChartWalks.{SlotOf};
-ghost use Rattle.chart.specs.Marking.{crossingAt, PartMark};
+ghost use Rattle.chart.specs.Marking.{crossing_at, PartMark};
 
 // What asking for a mark answers: the mark, or the number of the cause for which it was declined.
 #[derive(Drop)]
@@ -27,7 +27,7 @@ fn slot_of(part: &[i64], root: u32, i: u32) -> u32
 
 // The crossing of a slot's piece with the next.
 fn crossing_at(part: &[i64], slot: u32) -> marks::Mark
-    ensures { told result ≡ crossingAt part.now slot }
+    ensures { told result ≡ crossing_at part.now slot }
 {
     let n = prices::numerator(part, slot);
     let d = prices::denominator(part, slot);

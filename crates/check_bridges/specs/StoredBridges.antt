@@ -5,33 +5,33 @@ use Rattle.std.proofs.lemmas.Bool.{not-true}
 use Rattle.std.specs.Int.{w64}
 use Rattle.lists.specs.Bools.{never}
 use Rattle.integers.specs.Equal.{equal}
-use Rattle.integers.specs.Parts.{equal-eq, equal_is}
-use Rattle.offers.specs.Offers.{crossingNumerator, crossingDenominator}
-use Rattle.table.specs.Fields.{denominatorField, nextPieceField, numeratorField}
+use Rattle.integers.specs.Parts.{equal_eq, equal_is}
+use Rattle.offers.specs.Offers.{crossing_numerator, crossing_denominator}
+use Rattle.table.specs.Fields.{denominator_field, next_piece_field, numerator_field}
 use Rattle.table.specs.Words.{Words}
 use Rattle.table.specs.Layout.{cell, link_at}
 use Rattle.table.specs.Threads.{Next}
-use Rattle.check_trees.specs.Scratch.{scratchLength}
+use Rattle.check_trees.specs.Scratch.{scratch_length}
 use Rattle.check_trees.specs.Laid.{item_at}
-use Rattle.check_trees.specs.Deciding.{Decides, decides-as, decides-by, decides-no, Every, every-none}
+use Rattle.check_trees.specs.Deciding.{Decides, decides_as, decides_by, decides_no, Every, every_none}
 use Rattle.check_trees.specs.Loops.{RangedHere, NextHere}
-use Rattle.check_bridges.specs.Gaps.{InRange, baseGap, rateGap, base-is, rate-is, crossAt}
+use Rattle.check_bridges.specs.Gaps.{InRange, base_gap, rate_gap, base_is, rate_is, cross_at}
 
 -- u stands at place i of the stretch from `from` up to `mid`, v at place j of the stretch from `mid` up to `to`; their crossing lies strictly
 -- right of u's piece's left end and not right of its right end, and so for v in the mirror
 pub record Bridges (w : Words) (xs : List ℕ) (from mid to i j : ℕ) : Type 0 where
-  pub left-outer : from < i → crossAt w (get_or xs i 0) (get_or xs j 0) (get_or xs (i - 1) 0) (get_or xs i 0) ≡ false
-  pub left-inner : i + 1 < mid → crossAt w (get_or xs i 0) (get_or xs j 0) (get_or xs i 0) (get_or xs (i + 1) 0) ≡ true
-  pub right-inner : mid < j → crossAt w (get_or xs (j - 1) 0) (get_or xs j 0) (get_or xs i 0) (get_or xs j 0) ≡ true
-  pub right-outer : j + 1 < to → crossAt w (get_or xs j 0) (get_or xs (j + 1) 0) (get_or xs i 0) (get_or xs j 0) ≡ false
+  pub left_outer : from < i → cross_at w (get_or xs i 0) (get_or xs j 0) (get_or xs (i - 1) 0) (get_or xs i 0) ≡ false
+  pub left_inner : i + 1 < mid → cross_at w (get_or xs i 0) (get_or xs j 0) (get_or xs i 0) (get_or xs (i + 1) 0) ≡ true
+  pub right_inner : mid < j → cross_at w (get_or xs (j - 1) 0) (get_or xs j 0) (get_or xs i 0) (get_or xs j 0) ≡ true
+  pub right_outer : j + 1 < to → cross_at w (get_or xs j 0) (get_or xs (j + 1) 0) (get_or xs i 0) (get_or xs j 0) ≡ false
 
 -- the places of a bridge's ends
 pub record Ends (from mid to i j : ℕ) : Type 0 where
-  pub left-low : from ≤ i
-  pub left-high : i < mid
-  pub right-low : mid ≤ j
-  pub right-high : j < to
-  pub room : to ≤ scratchLength
+  pub left_low : from ≤ i
+  pub left_high : i < mid
+  pub right_low : mid ≤ j
+  pub right_high : j < to
+  pub room : to ≤ scratch_length
 
 -- a slot threaded to another
 pub record Follows (w : Words) (a b : ℕ) (r : Bool) : Type 0 where
@@ -48,24 +48,24 @@ leads {s} b e = record { sound = λ t. sym e ∙ eqb-true s b t; complete = λ q
 
 pub keeps : {q : Bool} {n m z : ℤ} → n ≡ m → SFits w64 n → q ≡ equal z (to_z w64 (of_z w64 n)) → Decides q (z ≡ m)
 keeps {q} {n} {m} {z} e f p =
-    decides-as (λ t. equal-eq z n t ∙ e) (λ g. equal_is z n (g ∙ sym e)) (decides-by (simp (to_z-of_z, f) at p))
+    decides_as (λ t. equal_eq z n t ∙ e) (λ g. equal_is z n (g ∙ sym e)) (decides_by (simp (to_z-of_z, f) at p))
 
 module _ {w : Words} {a b : ℕ} where
-  numerator-is : InRange w a → InRange w b → baseGap w a b ≡ crossingNumerator (item_at w a).offer (item_at w b).offer
-  numerator-is ha hb = ap₂ ◌-ℤ◌ (base-is hb) (base-is ha)
+  numerator_is : InRange w a → InRange w b → base_gap w a b ≡ crossing_numerator (item_at w a).offer (item_at w b).offer
+  numerator_is ha hb = ap₂ ◌-ℤ◌ (base_is hb) (base_is ha)
 
-  denominator-is : InRange w a → InRange w b → rateGap w a b ≡ crossingDenominator (item_at w a).offer (item_at w b).offer
-  denominator-is ha hb = ap₂ ◌-ℤ◌ (rate-is ha) (rate-is hb)
+  denominator_is : InRange w a → InRange w b → rate_gap w a b ≡ crossing_denominator (item_at w a).offer (item_at w b).offer
+  denominator_is ha hb = ap₂ ◌-ℤ◌ (rate_is ha) (rate_is hb)
 
   pub follows_by :
       {r : Bool} →
-      Decides r ((link_at w nextPieceField a ≡ b × cell w numeratorField a ≡ baseGap w a b) × cell w denominatorField a ≡ rateGap w a b) →
+      Decides r ((link_at w next_piece_field a ≡ b × cell w numerator_field a ≡ base_gap w a b) × cell w denominator_field a ≡ rate_gap w a b) →
       Follows w a b r
   follows_by d =
       record {
-        told = λ ha hb. decides-as
-            (λ p. record { next = p.0.0; numerator = p.0.1 ∙ numerator-is ha hb; denominator = p.1 ∙ denominator-is ha hb })
-            (λ n. ((n.next, n.numerator ∙ sym (numerator-is ha hb)), n.denominator ∙ sym (denominator-is ha hb)))
+        told = λ ha hb. decides_as
+            (λ p. record { next = p.0.0; numerator = p.0.1 ∙ numerator_is ha hb; denominator = p.1 ∙ denominator_is ha hb })
+            (λ n. ((n.next, n.numerator ∙ sym (numerator_is ha hb)), n.denominator ∙ sym (denominator_is ha hb)))
             d;
       }
 
@@ -84,11 +84,11 @@ module _ {w : Words} {xs : List ℕ} {from to i s t : ℕ} {r : Bool} (low : fro
   pub next_here : r ≡ true → Every (RangedHere w xs) from to → NextHere w xs i
   next_here e h = record { next = (told_here h).sound e }
 
-  pub not-threaded : r ≡ false → Threads w xs from to false
-  not-threaded e = record { told = λ h. decides-no (λ p. never ((told_here h).complete (p.at i low (omega arith)).next) e) }
+  pub not_threaded : r ≡ false → Threads w xs from to false
+  not_threaded e = record { told = λ h. decides_no (λ p. never ((told_here h).complete (p.at i low (omega arith)).next) e) }
 
-pub threaded-none : {w : Words} {xs : List ℕ} {from to : ℕ} → ThreadedTo w xs from to from
-threaded-none h = every-none (omega arith)
+pub threaded_none : {w : Words} {xs : List ℕ} {from to : ℕ} → ThreadedTo w xs from to from
+threaded_none h = every_none (omega arith)
 
 -- ---- the tests of the neighbours
 
@@ -96,37 +96,37 @@ module _ {A : Type 0} {b y : Bool} where
   pub near_none : {z : Bool} → b ≡ true → (A → ⊥) → Decides b (A → y ≡ z)
   near_none t n = record { sound = λ u a. absurd (n a); complete = λ f. t }
 
-  pub near-is : b ≡ y → A → Decides b (A → y ≡ true)
-  near-is e a = record { sound = λ u x. sym e ∙ u; complete = λ f. e ∙ f a }
+  pub near_is : b ≡ y → A → Decides b (A → y ≡ true)
+  near_is e a = record { sound = λ u x. sym e ∙ u; complete = λ f. e ∙ f a }
 
-  pub near-not : b ≡ y → A → Decides (not b) (A → y ≡ false)
-  near-not e a = record { sound = λ u x. sym e ∙ not-true b u; complete = λ f. rw (e ∙ f a) }
+  pub near_not : b ≡ y → A → Decides (not b) (A → y ≡ false)
+  near_not e a = record { sound = λ u x. sym e ∙ not-true b u; complete = λ f. rw (e ∙ f a) }
 
 -- ---- the four of them together
 
 abbrev LeftOuter : Words → List ℕ → ℕ → ℕ → ℕ → ℕ → Type 0
-LeftOuter w xs from i u v = from < i → crossAt w u v (get_or xs (i - 1) 0) u ≡ false
+LeftOuter w xs from i u v = from < i → cross_at w u v (get_or xs (i - 1) 0) u ≡ false
 
 abbrev LeftInner : Words → List ℕ → ℕ → ℕ → ℕ → ℕ → Type 0
-LeftInner w xs mid i u v = i + 1 < mid → crossAt w u v u (get_or xs (i + 1) 0) ≡ true
+LeftInner w xs mid i u v = i + 1 < mid → cross_at w u v u (get_or xs (i + 1) 0) ≡ true
 
 abbrev RightInner : Words → List ℕ → ℕ → ℕ → ℕ → ℕ → Type 0
-RightInner w xs mid j u v = mid < j → crossAt w (get_or xs (j - 1) 0) v u v ≡ true
+RightInner w xs mid j u v = mid < j → cross_at w (get_or xs (j - 1) 0) v u v ≡ true
 
 abbrev RightOuter : Words → List ℕ → ℕ → ℕ → ℕ → ℕ → Type 0
-RightOuter w xs to j u v = j + 1 < to → crossAt w v (get_or xs (j + 1) 0) u v ≡ false
+RightOuter w xs to j u v = j + 1 < to → cross_at w v (get_or xs (j + 1) 0) u v ≡ false
 
 module _ {w : Words} {xs : List ℕ} {from mid to i j u v : ℕ} (eu : u ≡ get_or xs i 0) (ev : v ≡ get_or xs j 0) where
-  pub bridges-by :
+  pub bridges_by :
       {r : Bool} →
       Decides r (((LeftOuter w xs from i u v × LeftInner w xs mid i u v) × RightInner w xs mid j u v) × RightOuter w xs to j u v) →
       Decides r (Bridges w xs from mid to i j)
-  bridges-by =
-      decides-as
+  bridges_by =
+      decides_as
       (λ p. record {
-        left-outer = rw (← eu, ← ev) p.0.0.0;
-        left-inner = rw (← eu, ← ev) p.0.0.1;
-        right-inner = rw (← eu, ← ev) p.0.1;
-        right-outer = rw (← eu, ← ev) p.1;
+        left_outer = rw (← eu, ← ev) p.0.0.0;
+        left_inner = rw (← eu, ← ev) p.0.0.1;
+        right_inner = rw (← eu, ← ev) p.0.1;
+        right_outer = rw (← eu, ← ev) p.1;
       })
-      (λ b. (((rw (eu, ev) b.left-outer, rw (eu, ev) b.left-inner), rw (eu, ev) b.right-inner), rw (eu, ev) b.right-outer))
+      (λ b. (((rw (eu, ev) b.left_outer, rw (eu, ev) b.left_inner), rw (eu, ev) b.right_inner), rw (eu, ev) b.right_outer))

@@ -1,20 +1,20 @@
 // Crossings of the lines that slots hold: threads from slot to slot, and bridges between two stretches. Any words are safe.
 ghost use Rattle.std.specs.Prelude.{◌≡◌, true, false, ◌+◌, ◌-◌, ◌≤◌, ◌<◌, get_or};
-ghost use Rattle.check_trees.specs.Scratch.{scratchLength};
+ghost use Rattle.check_trees.specs.Scratch.{scratch_length};
 ghost use Rattle.check_trees.specs.Deciding.{Decides};
-ghost use Rattle.check_bridges.specs.Gaps.{baseGap, rateGap, crossAt};
+ghost use Rattle.check_bridges.specs.Gaps.{base_gap, rate_gap, cross_at};
 ghost use Rattle.check_bridges.specs.StoredBridges.{Bridges, Ends, Follows, Threads};
 
 // The numerator of the crossing of the lines in two slots.
 fn base_gap(part: &[i64], a: u32, b: u32) -> i64
-    ensures { result ≡ baseGap part.now a b }
+    ensures { result ≡ base_gap part.now a b }
 {
     prices::base(part, b) - prices::base(part, a)
 }
 
 // The denominator.
 fn rate_gap(part: &[i64], a: u32, b: u32) -> i64
-    ensures { result ≡ rateGap part.now a b }
+    ensures { result ≡ rate_gap part.now a b }
 {
     prices::rate(part, a) - prices::rate(part, b)
 }
@@ -30,7 +30,7 @@ fn follows(part: &[i64], a: u32, b: u32) -> bool
 
 // The slots from place `from` up to `to` lead each to the next.
 pub fn threaded(part: &[i64], scratch: &[u32; check_trees::SCRATCH], from: usize, to: usize) -> bool
-    requires { (from ≤ to) × (to ≤ scratchLength) }
+    requires { (from ≤ to) × (to ≤ scratch_length) }
     ensures { Threads part.now scratch.now from to result }
 {
     let mut i = from;
@@ -49,7 +49,7 @@ pub fn threaded(part: &[i64], scratch: &[u32; check_trees::SCRATCH], from: usize
 
 // The crossing of `a` and `b` is at that of `c` and `d` or left of it.
 fn crosses(part: &[i64], a: u32, b: u32, c: u32, d: u32) -> bool
-    ensures { result ≡ crossAt part.now a b c d }
+    ensures { result ≡ cross_at part.now a b c d }
 {
     base_gap(part, a, b) * rate_gap(part, c, d) <= base_gap(part, c, d) * rate_gap(part, a, b)
 }
@@ -63,8 +63,8 @@ fn left_outer(
     u: u32,
     v: u32,
 ) -> bool
-    requires { i < scratchLength }
-    ensures { Decides result (from < i → crossAt part.now u v (get_or scratch.now (i - 1) 0) u ≡ false) }
+    requires { i < scratch_length }
+    ensures { Decides result (from < i → cross_at part.now u v (get_or scratch.now (i - 1) 0) u ≡ false) }
 {
     i <= from || !crosses(part, u, v, check_trees::entry(scratch, i - 1), u)
 }
@@ -78,8 +78,8 @@ fn left_inner(
     u: u32,
     v: u32,
 ) -> bool
-    requires { (i < scratchLength) × (to ≤ scratchLength) }
-    ensures { Decides result (i + 1 < to → crossAt part.now u v u (get_or scratch.now (i + 1) 0) ≡ true) }
+    requires { (i < scratch_length) × (to ≤ scratch_length) }
+    ensures { Decides result (i + 1 < to → cross_at part.now u v u (get_or scratch.now (i + 1) 0) ≡ true) }
 {
     to <= i + 1 || crosses(part, u, v, u, check_trees::entry(scratch, i + 1))
 }
@@ -93,8 +93,8 @@ fn right_inner(
     u: u32,
     v: u32,
 ) -> bool
-    requires { j < scratchLength }
-    ensures { Decides result (from < j → crossAt part.now (get_or scratch.now (j - 1) 0) v u v ≡ true) }
+    requires { j < scratch_length }
+    ensures { Decides result (from < j → cross_at part.now (get_or scratch.now (j - 1) 0) v u v ≡ true) }
 {
     j <= from || crosses(part, check_trees::entry(scratch, j - 1), v, u, v)
 }
@@ -108,8 +108,8 @@ fn right_outer(
     u: u32,
     v: u32,
 ) -> bool
-    requires { (j < scratchLength) × (to ≤ scratchLength) }
-    ensures { Decides result (j + 1 < to → crossAt part.now v (get_or scratch.now (j + 1) 0) u v ≡ false) }
+    requires { (j < scratch_length) × (to ≤ scratch_length) }
+    ensures { Decides result (j + 1 < to → cross_at part.now v (get_or scratch.now (j + 1) 0) u v ≡ false) }
 {
     to <= j + 1 || !crosses(part, v, check_trees::entry(scratch, j + 1), u, v)
 }

@@ -4,12 +4,12 @@ use Rattle.std.proofs.Common.{ap, subst, arith}
 use Rattle.lists.specs.Bools.{never}
 use Rattle.offers.specs.Offers.{Offer}
 use Rattle.plain.specs.Book.{Undo, undone, Undoable}
-use Rattle.plain.specs.Sound.{tried-recalling}
+use Rattle.plain.specs.Sound.{tried_recalling}
 use Rattle.table.specs.Words.{Words}
 use Rattle.table.specs.Layout.{cap}
 use Rattle.form.specs.Memory.{earlier, EntriesIn}
-use Rattle.check_trees.specs.Deciding.{Decides, decides-no}
-use Rattle.form.specs.Rings.{entry-once}
+use Rattle.check_trees.specs.Deciding.{Decides, decides_no}
+use Rattle.form.specs.Rings.{entry_once}
 use Rattle.check_memory.specs.declared.Tried.{Tried}
 use Rattle.check_memory.specs.Flags.{Tracks}
 use Rattle.check_memory.specs.Trying.{bare}
@@ -36,12 +36,12 @@ listed {w} {os} (onward u h p) =
       entries = u ∷ q.entries;
       long = ap suc q.long;
       there = (h.entry, q.there);
-      undoable = (tried-recalling (bare (cap w) os) [] q.entries u h.clear, q.undoable);
+      undoable = (tried_recalling (bare (cap w) os) [] q.entries u h.clear, q.undoable);
     }
 
 pub walks : {w : Words} {i : ℕ} {os : List Offer} (us : List Undo) → EntriesIn w i us → Undoable (cap w) os us → Walks w i (length us) os
 walks [] e d = ended
-walks {w} {os} (u ∷ us) (e, es) (d, ds) = onward u (record { entry = e; clear = tried-recalling (bare (cap w) os) us [] u d }) (walks us es ds)
+walks {w} {os} (u ∷ us) (e, es) (d, ds) = onward u (record { entry = e; clear = tried_recalling (bare (cap w) os) us [] u d }) (walks us es ds)
 
 -- ---- the loop
 
@@ -58,8 +58,8 @@ pub record Now (w : Words) (flags : List Bool) (room i k : ℕ) (P : Type 0) : T
 pub record Going (w : Words) (flags₀ : List Bool) (room₀ last count : ℕ) (flags : List Bool) (room i k : ℕ) : Type 0 where
   pub so_far : (os : List Offer) → Tracks (cap w) flags₀ room₀ os → Now w flags room i k (Walks w last count os)
 
-pub going-all : {w : Words} {flags : List Bool} {room last count : ℕ} → Going w flags room last count flags room last count
-going-all = record { so_far = λ os G. record { os = os; tracks = G; there = λ p. p; back = λ p. p } }
+pub going_all : {w : Words} {flags : List Bool} {room last count : ℕ} → Going w flags room last count flags room last count
+going_all = record { so_far = λ os G. record { os = os; tracks = G; there = λ p. p; back = λ p. p } }
 
 -- the first of the entries that are left
 first : {w : Words} {i k : ℕ} {os : List Offer} → 0 < k → Walks w i k os → (u : Undo) × Undoes w i os u × Walks w (earlier i) (k - 1) (undone u os)
@@ -68,9 +68,9 @@ first {w} {i} h (onward {k} {os} u d p) = let e : k ≡ suc k - 1 = omega arith 
 
 module _ {w : Words} {flags₀ flags flags' : List Bool} {room₀ last count room i k : ℕ} {r : Tried} (g : Going w flags₀ room₀ last count flags room i k)
     (more : 0 < k) (S : Tries w i flags flags' room r) where
-  pub going-not : r.ok ≡ false → Walked w flags₀ room₀ last count false
-  going-not e = record {
-    told = λ os₀ G. let N = g.so_far os₀ G in decides-no (λ p. let (u, d, q) = first more (N.there p) in
+  pub going_not : r.ok ≡ false → Walked w flags₀ room₀ last count false
+  going_not e = record {
+    told = λ os₀ G. let N = g.so_far os₀ G in decides_no (λ p. let (u, d, q) = first more (N.there p) in
         never ((S.told N.os N.tracks).complete (u, d)) e);
   }
 
@@ -90,7 +90,7 @@ module _ {w : Words} {flags₀ flags flags' : List Bool} {room₀ last count roo
               }
             where
               onto : (v : Undo) × Undoes w i N.os v × Walks w (earlier i) (k - 1) (undone v N.os) → Walks w i' (k - 1) (undone u N.os)
-              onto (v, f, p) = rw (ei, entry-once d.entry f.entry) p
+              onto (v, f, p) = rw (ei, entry_once d.entry f.entry) p
 
 pub going_done : {w : Words} {flags₀ flags : List Bool} {room₀ last count room i k : ℕ} → k ≤ 0 → Going w flags₀ room₀ last count flags room i k →
     Walked w flags₀ room₀ last count true

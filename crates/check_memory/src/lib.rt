@@ -1,11 +1,11 @@
 // Whether what a part remembers can be undone, as a part of the check. Any words are safe: the ring is gone through at most once.
 ghost use Rattle.std.specs.Prelude.{◌≡◌, ◌≤◌, ◌<◌, pos};
 ghost use Rattle.offers.specs.Offers.{Offer, between};
-ghost use Rattle.plain.specs.Book.{unpost, restore, mostRemembered};
-ghost use Rattle.table.specs.Fields.{mostNodes, mostSlots};
+ghost use Rattle.plain.specs.Book.{unpost, restore, most_remembered};
+ghost use Rattle.table.specs.Fields.{most_nodes, most_slots};
 ghost use Rattle.table.specs.Words.{word};
-ghost use Rattle.table.specs.Layout.{partEnd};
-ghost use Rattle.check_trees.specs.Scratch.{secondHalf};
+ghost use Rattle.table.specs.Layout.{part_end};
+ghost use Rattle.check_trees.specs.Scratch.{second_half};
 ghost use Rattle.check_trees.specs.Deciding.{Decides};
 ghost use Rattle.check_memory.specs.Flags.{Marks};
 ghost use Rattle.check_memory.specs.Trying.{Ready, Fails, Undoing};
@@ -33,7 +33,7 @@ fn stuck() -> Tried
 
 // Raises the flags of the offers in the slots at places 0 up to `n`. A number out of range raises flag 0, which nobody reads.
 fn mark(part: &[i64], scratch: &[u32; check_trees::SCRATCH], n: usize, live: &mut [bool; FLAGS])
-    requires { n ≤ secondHalf }
+    requires { n ≤ second_half }
     ensures { Marks part.now scratch.now n live.old live.new }
 {
     let mut i = n;
@@ -90,7 +90,7 @@ fn within(part: &[i64], at: usize, low: i64, high: i64) -> bool
 
 // The words from `at` on are the entry of a withdrawal, rate and base in range.
 fn restorable(part: &[i64], at: usize) -> bool
-    requires { at < partEnd mostSlots }
+    requires { at < part_end most_slots }
     ensures { Decides result (Restorable part.now at) }
 {
     check_trees::tells(part, at, memory::WITHDRAWN)
@@ -100,7 +100,7 @@ fn restorable(part: &[i64], at: usize) -> bool
 
 // Undoes the entry at place `i`, on the flags alone: neither rates nor bases matter once they are in range.
 fn undo(part: &[i64], live: &mut [bool; FLAGS], room: u32, i: u32) -> Tried
-    requires { (i < mostRemembered) × (room ≤ mostNodes) }
+    requires { (i < most_remembered) × (room ≤ most_nodes) }
     ensures { Tries part.now i live.old live.new room result }
 {
     let at = memory::entry_at(part, i);
@@ -119,7 +119,7 @@ fn undo(part: &[i64], live: &mut [bool; FLAGS], room: u32, i: u32) -> Tried
 
 // From place `last` back, `count` entries can be undone one after the other.
 fn all_undone(part: &[i64], live: &mut [bool; FLAGS], room: u32, last: u32, count: u32) -> bool
-    requires { (room ≤ mostSlots) × (last < mostRemembered) × (count ≤ mostRemembered) }
+    requires { (room ≤ most_slots) × (last < most_remembered) × (count ≤ most_remembered) }
     ensures { Walked part.now live.old room last count result }
 {
     let mut left = room;
@@ -140,7 +140,7 @@ fn all_undone(part: &[i64], live: &mut [bool; FLAGS], room: u32, last: u32, coun
 // The memory's entries can be undone, last first, from the live offers, whose slots stand at places 0 up to `n`. The two words of the header
 // are compared, since words outside their range are read as 0 too.
 pub fn memory(part: &[i64], scratch: &[u32; check_trees::SCRATCH], n: usize) -> bool
-    requires { n ≤ secondHalf }
+    requires { n ≤ second_half }
     ensures { Recalls part.now scratch.now n result }
 {
     let last = table::number_at(part, table::LAST_ENTRY, memory::LAST_PLACE);

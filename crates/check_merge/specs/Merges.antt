@@ -5,12 +5,12 @@ use mathlib.Core.List.Memᴰ
 use mathlib.Core.List.{List, ◌++◌, Memᴰ}
 use Rattle.std.proofs.Math.Decide.{dec_lt}
 use Rattle.lists.specs.Bools.{never}
-use Rattle.table.specs.Fields.{bridgeLeftField, bridgeRightField, mostSlots, offerTree}
+use Rattle.table.specs.Fields.{bridge_left_field, bridge_right_field, most_slots, offer_tree}
 use Rattle.table.specs.Words.{Words}
 use Rattle.table.specs.Layout.{link_at}
-use Rattle.table.specs.Rep.{childAt}
-use Rattle.check_trees.specs.Scratch.{secondHalf}
-use Rattle.check_trees.specs.Stretches.{span, stretch-same, span_same, span-cut}
+use Rattle.table.specs.Rep.{child_at}
+use Rattle.check_trees.specs.Scratch.{second_half}
+use Rattle.check_trees.specs.Stretches.{span, stretch_same, span_same, span_cut}
 use Rattle.check_trees.specs.Deciding.{Decides, Every}
 use Rattle.check_trees.specs.Loops.{PlaceOf, Moved}
 use Rattle.check_bridges.specs.StoredBridges.{Bridges, Ends}
@@ -22,7 +22,7 @@ use Rattle.check_merge.specs.Joints.{Joins}
 pub record Merges (w : Words) (x : ℕ) (xs xs' : List ℕ) (at mid to : ℕ) (r : Walked) : Type 0 where
   pub long : length xs' ≡ length xs
   pub same : (i : ℕ) → i < at → get_or xs' i 0 ≡ get_or xs i 0
-  pub inside : r.ok ≡ true → (at < r.next) × (r.next ≤ secondHalf)
+  pub inside : r.ok ≡ true → (at < r.next) × (r.next ≤ second_half)
   pub sound : AllKnown w (span xs at to) → r.ok ≡ true → (i : ℕ) × (j : ℕ) × Joins w x xs at mid to i j
       × (span xs' at r.next ≡ span xs at (suc i) ++ span xs j to)
   pub complete : AllKnown w (span xs at to) → (i j : ℕ) → Joins w x xs at mid to i j → r.ok ≡ true
@@ -33,14 +33,14 @@ pub record Refuses (r : Walked) : Type 0 where
 -- the words below 4,096 are as they were
 pub record Upper (xs xs' : List ℕ) : Type 0 where
   pub long : length xs' ≡ length xs
-  pub same : (i : ℕ) → i < secondHalf → get_or xs' i 0 ≡ get_or xs i 0
+  pub same : (i : ℕ) → i < second_half → get_or xs' i 0 ≡ get_or xs i 0
 
-pub upper-refl : {xs : List ℕ} → Upper xs xs
-upper-refl = record { long = refl; same = λ i h. refl }
+pub upper_refl : {xs : List ℕ} → Upper xs xs
+upper_refl = record { long = refl; same = λ i h. refl }
 
-pub merges-not : {w : Words} {x at mid to : ℕ} {xs xs' : List ℕ} {r : Walked} → Upper xs xs' → at ≤ secondHalf → Refuses r →
+pub merges_not : {w : Words} {x at mid to : ℕ} {xs xs' : List ℕ} {r : Walked} → Upper xs xs' → at ≤ second_half → Refuses r →
     (AllKnown w (span xs at to) → (i j : ℕ) → Joins w x xs at mid to i j → ⊥) → Merges w x xs xs' at mid to r
-merges-not u m e n =
+merges_not u m e n =
     record {
       long = u.long;
       same = λ i h. u.same i (omega arith);
@@ -50,8 +50,8 @@ merges-not u m e n =
     }
 
 -- a first place is the only one
-first-is : {xs : List ℕ} {a b s i k : ℕ} → PlaceOf xs a b s k → a ≤ i → i < b → s ≡ get_or xs i 0 → Every (λ n. get_or xs n 0 ≢ get_or xs i 0) a i → k ≡ i
-first-is {xs} {a} {b} {s} {i} {k} P l h e f = go (dec_lt i k) (dec_lt k i)
+first_is : {xs : List ℕ} {a b s i k : ℕ} → PlaceOf xs a b s k → a ≤ i → i < b → s ≡ get_or xs i 0 → Every (λ n. get_or xs n 0 ≢ get_or xs i 0) a i → k ≡ i
+first_is {xs} {a} {b} {s} {i} {k} P l h e f = go (dec_lt i k) (dec_lt k i)
   where
     go : Dec (i < k) → Dec (k < i) → k ≡ i
     go (yes d) q = absurd (P.first.at i l d (sym e))
@@ -64,17 +64,17 @@ first-is {xs} {a} {b} {s} {i} {k} P l h e f = go (dec_lt i k) (dec_lt k i)
 pub record Two (at mid to : ℕ) : Type 0 where
   pub upper : at ≤ mid
   pub lower : mid ≤ to
-  pub room : to ≤ secondHalf
+  pub room : to ≤ second_half
 
 -- the first places of u and v, or the stretches' ends
 pub record Left (w : Words) (x : ℕ) (xs : List ℕ) (at mid to i : ℕ) : Type 0 where
   pub two : Two at mid to
-  pub place : PlaceOf xs at mid (link_at w bridgeLeftField (x - mostSlots)) i
+  pub place : PlaceOf xs at mid (link_at w bridge_left_field (x - most_slots)) i
 
 pub record Right (w : Words) (x : ℕ) (xs : List ℕ) (at mid to i j : ℕ) : Type 0 where
   pub left : Left w x xs at mid to i
   pub high : i < mid
-  pub place : PlaceOf xs mid to (link_at w bridgeRightField (x - mostSlots)) j
+  pub place : PlaceOf xs mid to (link_at w bridge_right_field (x - most_slots)) j
 
 -- u and v are there, and bridge the stretches
 pub record Middle (w : Words) (x : ℕ) (xs : List ℕ) (at mid to i j : ℕ) : Type 0 where
@@ -82,45 +82,45 @@ pub record Middle (w : Words) (x : ℕ) (xs : List ℕ) (at mid to i j : ℕ) : 
   pub high : j < to
   pub bridges : Bridges w xs at mid to i j
 
-pub left-place : {w : Words} {x at mid to g s i : ℕ} {xs : List ℕ} → Two at mid to → g ≡ x - mostSlots → s ≡ link_at w bridgeLeftField g →
+pub left_place : {w : Words} {x at mid to g s i : ℕ} {xs : List ℕ} → Two at mid to → g ≡ x - most_slots → s ≡ link_at w bridge_left_field g →
     PlaceOf xs at mid s i → Left w x xs at mid to i
-left-place {w} {at} {mid} {i} {xs} two eg es P = record {
+left_place {w} {at} {mid} {i} {xs} two eg es P = record {
   two = two;
   place =
-      subst (λ (n : ℕ). PlaceOf xs at mid n i) (es ∙ ap (link_at w bridgeLeftField) eg) P;
+      subst (λ (n : ℕ). PlaceOf xs at mid n i) (es ∙ ap (link_at w bridge_left_field) eg) P;
 }
 
-pub right-place : {w : Words} {x at mid to g t i j : ℕ} {xs : List ℕ} → Left w x xs at mid to i → i < mid → g ≡ x - mostSlots →
-    t ≡ link_at w bridgeRightField g → PlaceOf xs mid to t j → Right w x xs at mid to i j
-right-place {w} {mid} {to} {j} {xs} left h eg et Q = record {
+pub right_place : {w : Words} {x at mid to g t i j : ℕ} {xs : List ℕ} → Left w x xs at mid to i → i < mid → g ≡ x - most_slots →
+    t ≡ link_at w bridge_right_field g → PlaceOf xs mid to t j → Right w x xs at mid to i j
+right_place {w} {mid} {to} {j} {xs} left h eg et Q = record {
   left = left;
   high = h;
   place =
-      subst (λ (n : ℕ). PlaceOf xs mid to n j) (et ∙ ap (link_at w bridgeRightField) eg) Q;
+      subst (λ (n : ℕ). PlaceOf xs mid to n j) (et ∙ ap (link_at w bridge_right_field) eg) Q;
 }
 
 module _ {w : Words} {x at mid to i : ℕ} {xs : List ℕ} (L : Left w x xs at mid to i) where
-  place-i : (a b : ℕ) → Joins w x xs at mid to a b → i ≡ a
-  place-i a b j = first-is L.place j.left-low j.left-high j.u-at j.u-first
+  place_i : (a b : ℕ) → Joins w x xs at mid to a b → i ≡ a
+  place_i a b j = first_is L.place j.left_low j.left_high j.u_at j.u_first
 
-  pub merges-no-u : {r : Walked} → mid ≤ i → Refuses r → Merges w x xs xs at mid to r
-  merges-no-u h f = merges-not upper-refl (omega (arith, L.two)) f (λ known a b j. omega (arith, place-i a b j, j.left-high))
+  pub merges_no_u : {r : Walked} → mid ≤ i → Refuses r → Merges w x xs xs at mid to r
+  merges_no_u h f = merges_not upper_refl (omega (arith, L.two)) f (λ known a b j. omega (arith, place_i a b j, j.left_high))
 
 module _ {w : Words} {x at mid to i j : ℕ} {xs : List ℕ} (R : Right w x xs at mid to i j) where
-  place-j : (a b : ℕ) → Joins w x xs at mid to a b → j ≡ b
-  place-j a b k = first-is R.place k.right-low k.right-high k.v-at k.v-first
+  place_j : (a b : ℕ) → Joins w x xs at mid to a b → j ≡ b
+  place_j a b k = first_is R.place k.right_low k.right_high k.v_at k.v_first
 
-  joins-here : (a b : ℕ) → Joins w x xs at mid to a b → Joins w x xs at mid to i j
-  joins-here a b k = rw (place-i R.left a b k, place-j a b k) k
+  joins_here : (a b : ℕ) → Joins w x xs at mid to a b → Joins w x xs at mid to i j
+  joins_here a b k = rw (place_i R.left a b k, place_j a b k) k
 
-  pub merges-no-v : {r : Walked} → to ≤ j → Refuses r → Merges w x xs xs at mid to r
-  merges-no-v h f = merges-not upper-refl (omega (arith, R.left.two)) f (λ known a b k. omega (arith, place-j a b k, k.right-high))
+  pub merges_no_v : {r : Walked} → to ≤ j → Refuses r → Merges w x xs xs at mid to r
+  merges_no_v h f = merges_not upper_refl (omega (arith, R.left.two)) f (λ known a b k. omega (arith, place_j a b k, k.right_high))
 
-  pub merge-ends : j < to → Ends at mid to i j
-  merge-ends h = record { left-low = R.left.place.low; left-high = R.high; right-low = R.place.low; right-high = h; room = omega (arith, R.left.two) }
+  pub merge_ends : j < to → Ends at mid to i j
+  merge_ends h = record { left_low = R.left.place.low; left_high = R.high; right_low = R.place.low; right_high = h; room = omega (arith, R.left.two) }
 
-  pub merges-no-bridge : {r : Walked} {b : Bool} → Decides b (Bridges w xs at mid to i j) → b ≡ false → Refuses r → Merges w x xs xs at mid to r
-  merges-no-bridge B e f = merges-not upper-refl (omega (arith, R.left.two)) f (λ known a c k. never (B.complete (joins-here a c k).bridges) e)
+  pub merges_no_bridge : {r : Walked} {b : Bool} → Decides b (Bridges w xs at mid to i j) → b ≡ false → Refuses r → Merges w x xs xs at mid to r
+  merges_no_bridge B e f = merges_not upper_refl (omega (arith, R.left.two)) f (λ known a c k. never (B.complete (joins_here a c k).bridges) e)
 
   pub middle : {b : Bool} → j < to → Decides b (Bridges w xs at mid to i j) → b ≡ true → Middle w x xs at mid to i j
   middle h B e = record { right = R; high = h; bridges = B.sound e }
@@ -130,15 +130,15 @@ module _ {w : Words} {x at mid to i j : ℕ} {xs : List ℕ} (R : Right w x xs a
 -- what stays with the left child, over the array as it was then
 pub record RestLeft (w : Words) (x : ℕ) (xs xs₁ : List ℕ) (mid i : ℕ) (m : Bool) : Type 0 where
   pub upper : Upper xs xs₁
-  pub told : AllKnown w (span xs (suc i) mid) → Decides m (RestTree w (childAt w offerTree false x) (span xs (suc i) mid))
+  pub told : AllKnown w (span xs (suc i) mid) → Decides m (RestTree w (child_at w offer_tree false x) (span xs (suc i) mid))
 
 pub record RestRight (w : Words) (x : ℕ) (xs xs₂ : List ℕ) (mid j : ℕ) (m : Bool) : Type 0 where
   pub upper : Upper xs xs₂
-  pub told : AllKnown w (span xs mid j) → Decides m (RestTree w (childAt w offerTree true x) (span xs mid j))
+  pub told : AllKnown w (span xs mid j) → Decides m (RestTree w (child_at w offer_tree true x) (span xs mid j))
 
-pub rest-left : {w : Words} {x mid i l : ℕ} {xs xs₁ : List ℕ} {m : Bool} → l ≡ childAt w offerTree false x → Stays w l xs xs₁ (i + 1) mid m →
+pub rest_left : {w : Words} {x mid i l : ℕ} {xs xs₁ : List ℕ} {m : Bool} → l ≡ child_at w offer_tree false x → Stays w l xs xs₁ (i + 1) mid m →
     RestLeft w x xs xs₁ mid i m
-rest-left {w} {x} {mid} {i} {l} {xs} {m} el S =
+rest_left {w} {x} {mid} {i} {l} {xs} {m} el S =
     record {
       upper = record { long = S.long; same = S.same };
       told =
@@ -147,9 +147,9 @@ rest-left {w} {x} {mid} {i} {l} {xs} {m} el S =
           (subst (λ (n : ℕ). AllKnown w (span xs n mid) → Decides m (RestTree w l (span xs n mid))) e S.told);
     }
 
-pub rest-right : {w : Words} {x mid j r : ℕ} {xs xs₁ xs₂ : List ℕ} {m : Bool} → Upper xs xs₁ → j ≤ secondHalf → r ≡ childAt w offerTree true x →
+pub rest_right : {w : Words} {x mid j r : ℕ} {xs xs₁ xs₂ : List ℕ} {m : Bool} → Upper xs xs₁ → j ≤ second_half → r ≡ child_at w offer_tree true x →
     Stays w r xs₁ xs₂ mid j m → RestRight w x xs xs₂ mid j m
-rest-right {w} {x} {mid} {j} {r} {xs} {xs₁} {xs₂} {m} u h er S =
+rest_right {w} {x} {mid} {j} {r} {xs} {xs₁} {xs₂} {m} u h er S =
     record {
       upper = record { long = S.long ∙ u.long; same = λ i k. S.same i k ∙ u.same i k };
       told =
@@ -161,44 +161,44 @@ module _ {w : Words} {x at mid to i j : ℕ} {xs : List ℕ} (K : Middle w x xs 
   abbrev two : Two at mid to
   two = K.right.left.two
 
-  abbrev low-i : at ≤ i
-  low-i = K.right.left.place.low
+  abbrev low_i : at ≤ i
+  low_i = K.right.left.place.low
 
-  abbrev high-i : i < mid
-  high-i = K.right.high
+  abbrev high_i : i < mid
+  high_i = K.right.high
 
-  abbrev low-j : mid ≤ j
-  low-j = K.right.place.low
+  abbrev low_j : mid ≤ j
+  low_j = K.right.place.low
 
-  left-known : AllKnown w (span xs at to) → AllKnown w (span xs (suc i) mid)
-  left-known known n k =
+  left_known : AllKnown w (span xs at to) → AllKnown w (span xs (suc i) mid)
+  left_known known n k =
       known n
-      (subst (Memᴰ n) (sym (span-cut xs at (suc i) to (omega (arith, low-i)) (omega (arith, two))))
-      (Memᴰ.append_right (span xs at (suc i)) (subst (Memᴰ n) (sym (span-cut xs (suc i) mid to high-i two.lower))
+      (subst (Memᴰ n) (sym (span_cut xs at (suc i) to (omega (arith, low_i)) (omega (arith, two))))
+      (Memᴰ.append_right (span xs at (suc i)) (subst (Memᴰ n) (sym (span_cut xs (suc i) mid to high_i two.lower))
       (Memᴰ.append_left (span xs mid to) k))))
 
-  right-known : AllKnown w (span xs at to) → AllKnown w (span xs mid j)
-  right-known known n k =
+  right_known : AllKnown w (span xs at to) → AllKnown w (span xs mid j)
+  right_known known n k =
       known n
-      (subst (Memᴰ n) (sym (span-cut xs at mid to two.upper two.lower))
-      (Memᴰ.append_right (span xs at mid) (subst (Memᴰ n) (sym (span-cut xs mid j to low-j (omega (arith, K.high))))
+      (subst (Memᴰ n) (sym (span_cut xs at mid to two.upper two.lower))
+      (Memᴰ.append_right (span xs at mid) (subst (Memᴰ n) (sym (span_cut xs mid j to low_j (omega (arith, K.high))))
       (Memᴰ.append_left (span xs j to) k))))
 
-  pub merges-no-left : {xs₁ : List ℕ} {m : Bool} {r : Walked} → RestLeft w x xs xs₁ mid i m → m ≡ false → Refuses r → Merges w x xs xs₁ at mid to r
-  merges-no-left L e f = merges-not L.upper (omega (arith, two)) f
-      (λ known a b k. never ((L.told (left-known known)).complete (joins-here K.right a b k).left-rest) e)
+  pub merges_no_left : {xs₁ : List ℕ} {m : Bool} {r : Walked} → RestLeft w x xs xs₁ mid i m → m ≡ false → Refuses r → Merges w x xs xs₁ at mid to r
+  merges_no_left L e f = merges_not L.upper (omega (arith, two)) f
+      (λ known a b k. never ((L.told (left_known known)).complete (joins_here K.right a b k).left_rest) e)
 
-  pub merges-no-right : {xs₂ : List ℕ} {m : Bool} {r : Walked} → RestRight w x xs xs₂ mid j m → m ≡ false → Refuses r → Merges w x xs xs₂ at mid to r
-  merges-no-right R e f = merges-not R.upper (omega (arith, two)) f
-      (λ known a b k. never ((R.told (right-known known)).complete (joins-here K.right a b k).right-rest) e)
+  pub merges_no_right : {xs₂ : List ℕ} {m : Bool} {r : Walked} → RestRight w x xs xs₂ mid j m → m ≡ false → Refuses r → Merges w x xs xs₂ at mid to r
+  merges_no_right R e f = merges_not R.upper (omega (arith, two)) f
+      (λ known a b k. never ((R.told (right_known known)).complete (joins_here K.right a b k).right_rest) e)
 
-  pub merges-all : {xs₁ xs₂ xs₃ : List ℕ} {m n : Bool} → RestLeft w x xs xs₁ mid i m → m ≡ true → RestRight w x xs xs₂ mid j n → n ≡ true →
+  pub merges_all : {xs₁ xs₂ xs₃ : List ℕ} {m n : Bool} → RestLeft w x xs xs₁ mid i m → m ≡ true → RestRight w x xs xs₂ mid j n → n ≡ true →
       Moved xs₂ xs₃ (i + 1) j (to - j) → Merges w x xs xs₃ at mid to (record { ok = true; next = i + 1 + (to - j) })
-  merges-all {xs₁} {xs₂} {xs₃} L el R er M =
+  merges_all {xs₁} {xs₂} {xs₃} L el R er M =
       record {
         long = M.long ∙ R.upper.long;
-        same = λ k h. M.front k (omega (arith, low-i)) ∙ R.upper.same k (omega (arith, two));
-        inside = λ t. omega (arith, low-i, high-i, low-j, K.high, two);
+        same = λ k h. M.front k (omega (arith, low_i)) ∙ R.upper.same k (omega (arith, two));
+        inside = λ t. omega (arith, low_i, high_i, low_j, K.high, two);
         sound = λ known t. (i, j, joins known, whole);
         complete = λ known a b k. refl;
       }
@@ -206,28 +206,28 @@ module _ {w : Words} {x at mid to i j : ℕ} {xs : List ℕ} (K : Middle w x xs 
       joins : AllKnown w (span xs at to) → Joins w x xs at mid to i j
       joins known =
           record {
-            left-low = low-i;
-            left-high = high-i;
-            right-low = low-j;
-            right-high = K.high;
-            u-at = sym (K.right.left.place.found high-i);
-            v-at = sym (K.right.place.found K.high);
-            u-first = record { at = λ k l h e. K.right.left.place.first.at k l h (e ∙ K.right.left.place.found high-i) };
-            v-first = record { at = λ k l h e. K.right.place.first.at k l h (e ∙ K.right.place.found K.high) };
+            left_low = low_i;
+            left_high = high_i;
+            right_low = low_j;
+            right_high = K.high;
+            u_at = sym (K.right.left.place.found high_i);
+            v_at = sym (K.right.place.found K.high);
+            u_first = record { at = λ k l h e. K.right.left.place.first.at k l h (e ∙ K.right.left.place.found high_i) };
+            v_first = record { at = λ k l h e. K.right.place.first.at k l h (e ∙ K.right.place.found K.high) };
             bridges = K.bridges;
-            left-rest = (L.told (left-known known)).sound el;
-            right-rest = (R.told (right-known known)).sound er;
+            left_rest = (L.told (left_known known)).sound el;
+            right_rest = (R.told (right_known known)).sound er;
           }
 
       front : span xs₃ at (i + 1) ≡ span xs at (suc i)
       front =
           let e : i + 1 ≡ suc i = omega arith in
-          rw (← e) (span_same xs₃ xs at (i + 1) (λ k a b. M.front k b ∙ R.upper.same k (omega (arith, high-i, two))))
+          rw (← e) (span_same xs₃ xs at (i + 1) (λ k a b. M.front k b ∙ R.upper.same k (omega (arith, high_i, two))))
 
       back : span xs₃ (i + 1) (i + 1 + (to - j)) ≡ span xs j to
       back =
           let e : i + 1 + (to - j) - (i + 1) ≡ to - j = omega arith in
-          rw e (stretch-same xs₃ xs (i + 1) j (to - j) (λ k h. M.moved k h ∙ R.upper.same (j + k) (omega (arith, two, K.high))))
+          rw e (stretch_same xs₃ xs (i + 1) j (to - j) (λ k h. M.moved k h ∙ R.upper.same (j + k) (omega (arith, two, K.high))))
 
       whole : span xs₃ at (i + 1 + (to - j)) ≡ span xs at (suc i) ++ span xs j to
-      whole = span-cut xs₃ at (i + 1) (i + 1 + (to - j)) (omega (arith, low-i)) (omega arith) ∙ ap₂ ◌++◌ front back
+      whole = span_cut xs₃ at (i + 1) (i + 1 + (to - j)) (omega (arith, low_i)) (omega arith) ∙ ap₂ ◌++◌ front back

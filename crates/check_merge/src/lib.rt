@@ -1,7 +1,7 @@
 // Two envelopes merged at a stored bridge, as part of the check of a book's part. Any words are safe.
 ghost use Rattle.std.specs.Prelude.{◌≡◌, ◌≤◌, length, pos};
-ghost use Rattle.form.specs.RestWords.{restWord};
-ghost use Rattle.check_trees.specs.Scratch.{scratchLength, secondHalf};
+ghost use Rattle.form.specs.RestWords.{rest_word};
+ghost use Rattle.check_trees.specs.Scratch.{scratch_length, second_half};
 ghost use Rattle.check_trees.specs.Deciding.{Decides};
 ghost use Rattle.check_merge.specs.PieceTrees.{Matches};
 ghost use Rattle.check_merge.specs.Rests.{Stays};
@@ -23,7 +23,7 @@ pub fn matches(
     from: usize,
     to: usize,
 ) -> bool
-    requires { (length scratch.old ≡ scratchLength) × (from ≤ to) × (to ≤ secondHalf) }
+    requires { (length scratch.old ≡ scratch_length) × (from ≤ to) × (to ≤ second_half) }
     ensures { Matches part.now q scratch.old scratch.new from to result }
 {
     if q == 0 {
@@ -52,7 +52,7 @@ pub fn matches(
 
 // The word of what stays with node `n` is that number, and not only read as such.
 fn rest_tells(part: &[i64], n: u32, q: u32) -> bool
-    ensures { Decides result (restWord part.now n ≡ pos q) }
+    ensures { Decides result (rest_word part.now n ≡ pos q) }
 {
     if table::MOST_SLOTS < n {
         return check_trees::slot_tells(part, table::INNER_REST, table::inner_slot(n), q);
@@ -68,7 +68,7 @@ fn stays(
     from: usize,
     to: usize,
 ) -> bool
-    requires { (length scratch.old ≡ scratchLength) × (from ≤ to) × (to ≤ secondHalf) }
+    requires { (length scratch.old ≡ scratch_length) × (from ≤ to) × (to ≤ second_half) }
     ensures { Stays part.now n scratch.old scratch.new from to result }
 {
     let q = form::rest(part, n);
@@ -94,7 +94,7 @@ pub fn merge(
     mid: usize,
     to: usize,
 ) -> Walked
-    requires { (length scratch.old ≡ scratchLength) × Two at mid to }
+    requires { (length scratch.old ≡ scratch_length) × Two at mid to }
     ensures { Merges part.now x scratch.old scratch.new at mid to result }
 {
     let gap = table::inner_slot(x);

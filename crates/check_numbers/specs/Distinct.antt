@@ -28,16 +28,16 @@ module _ {A : Type 0} where
         rest = λ b n d. ⊎_elim (λ e. Memᴰ.head e) (λ k. Memᴰ.tail (q.rest b k d)) (Memᴰ.cases_cons n);
       }
 
-  pub among-length : (xs ys : List A) → Distinct xs → Among xs ys → length xs ≤ length ys
-  among-length [] ys p f = omega arith
-  among-length (x ∷ xs) ys p f =
+  pub among_length : (xs ys : List A) → Distinct xs → Among xs ys → length xs ≤ length ys
+  among_length [] ys p f = omega arith
+  among_length (x ∷ xs) ys p f =
       let q = without (f x (Memᴰ.head refl)) in
-      let k = among-length xs q.others (Pairwise.of_cons p) (λ a m. q.rest a (f a (Memᴰ.tail m)) (λ e. rel_of_Pairwise-cons p ∣ m ∣₁ (sym e))) in
+      let k = among_length xs q.others (Pairwise.of_cons p) (λ a m. q.rest a (f a (Memᴰ.tail m)) (λ e. rel_of_Pairwise-cons p ∣ m ∣₁ (sym e))) in
       omega (arith, q.long)
 
-  member? : (b : A) (xs : List A) → ((a : A) → Memᴰ a xs → Dec (b ≡ a)) → Dec (Memᴰ b xs)
-  member? b [] d = no Memᴰ.not-nil
-  member? b (x ∷ xs) d = go (d x (Memᴰ.head refl)) (member? b xs (λ a m. d a (Memᴰ.tail m)))
+  decide_member : (b : A) (xs : List A) → ((a : A) → Memᴰ a xs → Dec (b ≡ a)) → Dec (Memᴰ b xs)
+  decide_member b [] d = no Memᴰ.not-nil
+  decide_member b (x ∷ xs) d = go (d x (Memᴰ.head refl)) (decide_member b xs (λ a m. d a (Memᴰ.tail m)))
     where
       go : Dec (b ≡ x) → Dec (Memᴰ b xs) → Dec (Memᴰ b (x ∷ xs))
       go (yes e) q = yes (Memᴰ.head e)
@@ -45,13 +45,13 @@ module _ {A : Type 0} where
       go (no e) (no n) = no (λ m. ⊎_elim e n (Memᴰ.cases_cons m))
 
   -- members that can be told apart
-  pub among-all : (xs ys : List A) → Distinct xs → Among xs ys → length ys ≤ length xs → ((a b : A) → Memᴰ a xs → Memᴰ b ys → Dec (b ≡ a)) →
+  pub among_all : (xs ys : List A) → Distinct xs → Among xs ys → length ys ≤ length xs → ((a b : A) → Memᴰ a xs → Memᴰ b ys → Dec (b ≡ a)) →
       Among ys xs
-  among-all xs ys p f h d b m = go (member? b xs (λ a n. d a b n m))
+  among_all xs ys p f h d b m = go (decide_member b xs (λ a n. d a b n m))
     where
       go : Dec (Memᴰ b xs) → Memᴰ b xs
       go (yes n) = n
       go (no n) =
           let q = without m in
-          let k = among-length xs q.others p (λ a i. q.rest a (f a i) (λ e. n (rw e at i))) in
+          let k = among_length xs q.others p (λ a i. q.rest a (f a i) (λ e. n (rw e at i))) in
           absurd (omega (arith, q.long))

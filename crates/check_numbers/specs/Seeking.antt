@@ -6,9 +6,9 @@ use Rattle.std.proofs.Math.Option.{Option, none, some}
 use Rattle.lists.specs.Bools.{never}
 use Rattle.trees.specs.Tree.{Tree, leaves}
 use Rattle.trees.specs.Operations.{find}
-use Rattle.trees.specs.Find.{find-sound, find-complete}
+use Rattle.trees.specs.Find.{find_sound, find_complete}
 use Rattle.trees.specs.Order.{Falling}
-use Rattle.table.specs.Fields.{numberField, numberTree}
+use Rattle.table.specs.Fields.{number_field, number_tree}
 use Rattle.table.specs.Words.{Words}
 use Rattle.table.specs.Layout.{cell}
 use Rattle.table.specs.Items.{Item}
@@ -16,48 +16,48 @@ use Rattle.table.specs.Keys.{Keyed}
 use Rattle.table.specs.Rep.{Rep}
 use Rattle.descents.specs.Finds.{Found, found_at}
 use Rattle.form.specs.Form.{number_of}
-use Rattle.check_trees.specs.Deciding.{Decides, decides-no, decides-yes, Every, every-none, every_more, every-less}
+use Rattle.check_trees.specs.Deciding.{Decides, decides_no, decides_yes, Every, every_none, every_more, every_less}
 use Rattle.check_trees.specs.Laid.{item_at, AllPlaced, Laid}
-use Rattle.check_trees.specs.Along.{falling-apart}
+use Rattle.check_trees.specs.Along.{falling_apart}
 
 -- an item's number is in its slot
-pub placed-numbers : {w : Words} {xs : List Item} → AllPlaced w xs → Keyed w numberField number_of xs
-placed-numbers p = record { read = λ {a} m. sym (ap number_of (p a m).is) }
+pub placed_numbers : {w : Words} {xs : List Item} → AllPlaced w xs → Keyed w number_field number_of xs
+placed_numbers p = record { read = λ {a} m. sym (ap number_of (p a m).is) }
 
-module _ {w : Words} {root : ℕ} (t : Tree Item) (L : Laid w numberTree root t) (F : Falling number_of (leaves t)) where
-  laid-rep : Rep w numberTree root t
-  laid-rep =
+module _ {w : Words} {root : ℕ} (t : Tree Item) (L : Laid w number_tree root t) (F : Falling number_of (leaves t)) where
+  laid_rep : Rep w number_tree root t
+  laid_rep =
       record {
         kind = omega arith;
         root = L.root;
-        slots = record { low = λ {a} m. (L.placed a m).low; high = λ {a} m. (L.placed a m).high; apart = falling-apart number_of L.placed F };
+        slots = record { low = λ {a} m. (L.placed a m).low; high = λ {a} m. (L.placed a m).high; apart = falling_apart number_of L.placed F };
         tied = L.tied;
       }
 
-  laid-keyed : Keyed w numberField number_of (leaves t)
-  laid-keyed = placed-numbers L.placed
+  laid_keyed : Keyed w number_field number_of (leaves t)
+  laid_keyed = placed_numbers L.placed
 
 -- the answer to whether the tree at that root has slot s
 pub record Seeks (w : Words) (root s : ℕ) (r : Bool) : Type 0 where
-  pub told : (t : Tree Item) → Laid w numberTree root t → Falling number_of (leaves t) → 1 ≤ s → Decides r (Memᴰ (item_at w s) (leaves t))
+  pub told : (t : Tree Item) → Laid w number_tree root t → Falling number_of (leaves t) → 1 ≤ s → Decides r (Memᴰ (item_at w s) (leaves t))
 
-pub seeks : {w : Words} {root s y : ℕ} {z : ℤ} → z ≡ cell w numberField s → Found w numberTree numberField z root y → Seeks w root s (eqb y s)
+pub seeks : {w : Words} {root s y : ℕ} {z : ℤ} → z ≡ cell w number_field s → Found w number_tree number_field z root y → Seeks w root s (eqb y s)
 seeks {w} {root} {s} {y} {z} e f = record { told = told }
   where
-    told : (t : Tree Item) → Laid w numberTree root t → Falling number_of (leaves t) → 1 ≤ s → Decides (eqb y s) (Memᴰ (item_at w s) (leaves t))
+    told : (t : Tree Item) → Laid w number_tree root t → Falling number_of (leaves t) → 1 ≤ s → Decides (eqb y s) (Memᴰ (item_at w s) (leaves t))
     told t L F l = record {
       sound = λ q. sound (find number_of z t) refl (sym is ∙ eqb-true y s q);
       complete =
-          λ m. eq-eqb y s (is ∙ ap found_at (find-complete number_of z t F (record { inside = m; keyed = sym e })));
+          λ m. eq-eqb y s (is ∙ ap found_at (find_complete number_of z t F (record { inside = m; keyed = sym e })));
     }
       where
         is : y ≡ found_at (find number_of z t)
-        is = f.is t number_of (laid-rep t L F) L.balanced (laid-keyed t L F)
+        is = f.is t number_of (laid_rep t L F) L.balanced (laid_keyed t L F)
 
         sound : (o : Option Item) → find number_of z t ≡ o → found_at o ≡ s → Memᴰ (item_at w s) (leaves t)
         sound none q h = absurd (omega arith)
         sound (some a) q h =
-            let m = (find-sound number_of z t q).inside in
+            let m = (find_sound number_of z t q).inside in
             subst (λ (b : Item). Memᴰ b (leaves t)) ((L.placed a m).is ∙ ap (item_at w) h) m
 
 -- ---- one slot after another
@@ -67,26 +67,26 @@ pub record HasHere (w : Words) (t : Tree Item) (xs : List ℕ) (k : ℕ) : Type 
   pub has : Memᴰ (item_at w (get_or xs k 0)) (leaves t)
 
 pub record SeeksAll (w : Words) (root : ℕ) (xs : List ℕ) (n : ℕ) (r : Bool) : Type 0 where
-  pub told : (t : Tree Item) → Laid w numberTree root t → Falling number_of (leaves t) → Every (λ k. 1 ≤ get_or xs k 0) 0 n →
+  pub told : (t : Tree Item) → Laid w number_tree root t → Falling number_of (leaves t) → Every (λ k. 1 ≤ get_or xs k 0) 0 n →
       Decides r (Every (HasHere w t xs) 0 n)
 
 -- all up to place i were found
 pub record Sought (w : Words) (root : ℕ) (xs : List ℕ) (n i : ℕ) : Type 0 where
-  pub so_far : (t : Tree Item) → Laid w numberTree root t → Falling number_of (leaves t) → Every (λ k. 1 ≤ get_or xs k 0) 0 n → Every (HasHere w t xs) 0 i
+  pub so_far : (t : Tree Item) → Laid w number_tree root t → Falling number_of (leaves t) → Every (λ k. 1 ≤ get_or xs k 0) 0 n → Every (HasHere w t xs) 0 i
 
-pub sought-none : {w : Words} {root n : ℕ} {xs : List ℕ} → Sought w root xs n 0
-sought-none = record { so_far = λ t L F l. every-none (omega arith) }
+pub sought_none : {w : Words} {root n : ℕ} {xs : List ℕ} → Sought w root xs n 0
+sought_none = record { so_far = λ t L F l. every_none (omega arith) }
 
 module _ {w : Words} {root n i s : ℕ} {b : Bool} (xs : List ℕ) (h : i < n) (es : s ≡ get_or xs i 0) (S : Seeks w root s b) where
-  here : (t : Tree Item) → Laid w numberTree root t → Falling number_of (leaves t) → Every (λ k. 1 ≤ get_or xs k 0) 0 n →
+  here : (t : Tree Item) → Laid w number_tree root t → Falling number_of (leaves t) → Every (λ k. 1 ≤ get_or xs k 0) 0 n →
       Decides b (Memᴰ (item_at w s) (leaves t))
   here t L F l = S.told t L F (omega (arith, l.at i (omega arith) h))
 
-  pub sought-more : Sought w root xs n i → b ≡ true → Sought w root xs n (i + 1)
-  sought-more g e = record { so_far = λ t L F l. every_more (g.so_far t L F l) (record { has = rw (← es) ((here t L F l).sound e) }) }
+  pub sought_more : Sought w root xs n i → b ≡ true → Sought w root xs n (i + 1)
+  sought_more g e = record { so_far = λ t L F l. every_more (g.so_far t L F l) (record { has = rw (← es) ((here t L F l).sound e) }) }
 
-  pub sought-not : b ≡ false → SeeksAll w root xs n false
-  sought-not e = record { told = λ t L F l. decides-no (λ p. never ((here t L F l).complete (rw es (p.at i (omega arith) h).has)) e) }
+  pub sought_not : b ≡ false → SeeksAll w root xs n false
+  sought_not e = record { told = λ t L F l. decides_no (λ p. never ((here t L F l).complete (rw es (p.at i (omega arith) h).has)) e) }
 
-pub sought-all : {w : Words} {root n i : ℕ} {xs : List ℕ} → n ≤ i → Sought w root xs n i → SeeksAll w root xs n true
-sought-all h g = record { told = λ t L F l. decides-yes (every-less h (g.so_far t L F l)) }
+pub sought_all : {w : Words} {root n i : ℕ} {xs : List ℕ} → n ≤ i → Sought w root xs n i → SeeksAll w root xs n true
+sought_all h g = record { told = λ t L F l. decides_yes (every_less h (g.so_far t L F l)) }

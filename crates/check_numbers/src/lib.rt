@@ -2,7 +2,7 @@
 ghost use Rattle.std.specs.Prelude.{◌≡◌, ◌≤◌, length};
 ghost use Rattle.form.specs.Form.{Freely};
 ghost use Rattle.check_numbers.specs.Tallies.{Tallies};
-ghost use Rattle.check_trees.specs.Scratch.{scratchLength, secondHalf};
+ghost use Rattle.check_trees.specs.Scratch.{scratch_length, second_half};
 ghost use Rattle.check_trees.specs.Deciding.{Decides};
 ghost use Rattle.check_numbers.specs.FreeChains.{IsFree, Chained};
 ghost use Rattle.check_numbers.specs.Seeking.{Seeks, SeeksAll};
@@ -66,7 +66,7 @@ fn sought(part: &[i64], root: u32, s: u32) -> bool
 
 // .. and so for the slot at each place up to `n`.
 fn all_sought(part: &[i64], root: u32, scratch: &[u32; check_trees::SCRATCH], n: usize) -> bool
-    requires { n ≤ scratchLength }
+    requires { n ≤ scratch_length }
     ensures { SeeksAll part.now root scratch.now n result }
 {
     let mut i = 0;
@@ -82,7 +82,7 @@ fn all_sought(part: &[i64], root: u32, scratch: &[u32; check_trees::SCRATCH], n:
 // Node `root` of the numbers is the root of a balanced tree, by falling number, of the items in the slots at places 0 up to `n`. As many
 // leaves as items, and every item among them, leave no room for another leaf. Entries from 4,096 on are written.
 fn number_tree(part: &[i64], root: u32, scratch: &mut [u32; check_trees::SCRATCH], n: usize) -> bool
-    requires { (length scratch.old ≡ scratchLength) × (n ≤ secondHalf) }
+    requires { (length scratch.old ≡ scratch_length) × (n ≤ second_half) }
     ensures { Trees part.now root scratch.old scratch.new n result }
 {
     let f = check_trees::fill(
@@ -108,7 +108,7 @@ fn number_tree(part: &[i64], root: u32, scratch: &mut [u32; check_trees::SCRATCH
 
 // The live items stand in the slots at places 0 up to `n`, and the tree of their numbers hangs from word 4.
 pub fn numbers(part: &[i64], scratch: &mut [u32; check_trees::SCRATCH], n: usize) -> bool
-    requires { (length scratch.old ≡ scratchLength) × (n ≤ secondHalf) }
+    requires { (length scratch.old ≡ scratch_length) × (n ≤ second_half) }
     ensures { Tallies part.now scratch.old scratch.new n result }
 {
     let root = table::number_at(part, table::NUMBERS_ROOT, table::MOST_NODES);

@@ -1,31 +1,31 @@
 -- The envelopes stored with a tree of offers, and the root of the whole one's pieces: how the code finds them.
 use Rattle.std.specs.Prelude.{◌≡◌, Bool, true, false, List, ℕ, length}
 use Rattle.std.proofs.Common.{sym, ◌∙◌, subst, arith}
-use Rattle.lists.specs.Places.{sublist-mem}
+use Rattle.lists.specs.Places.{sublist_mem}
 use Rattle.lists.specs.Bools.{never}
-use Rattle.envelopes.specs.Query.{env-unique}
+use Rattle.envelopes.specs.Query.{env_unique}
 use Rattle.trees.specs.Tree.{Tree, leaves}
-use Rattle.trees.specs.Operations.{Part, partLeaves}
+use Rattle.trees.specs.Operations.{Part, part_leaves}
 use Rattle.trees.specs.Balanced.{AvlP}
-use Rattle.table.specs.Fields.{mostLevels}
+use Rattle.table.specs.Fields.{most_levels}
 use Rattle.table.specs.Words.{Words}
 use Rattle.table.specs.Items.{Item}
-use Rattle.table.specs.PartTrees.{partRef}
-use Rattle.pieces.specs.Pieces.{items, item-laws, PartIn}
+use Rattle.table.specs.PartTrees.{part_ref}
+use Rattle.pieces.specs.Pieces.{items, item_laws_lem, PartIn}
 use Rattle.check_trees.specs.Stretches.{span}
-use Rattle.check_trees.specs.Deciding.{Decides, decides-no}
-use Rattle.check_trees.specs.Laid.{itemsAt}
+use Rattle.check_trees.specs.Deciding.{Decides, decides_no}
+use Rattle.check_trees.specs.Laid.{items_at}
 use Rattle.check_merge.specs.declared.Walked.{Walked}
 use Rattle.check_merge.specs.PieceTrees.{AllKnown, PieceTree, Matches}
-use Rattle.check_merge.specs.Stands.{Stands, stands-known, Decorated, decorated-env}
+use Rattle.check_merge.specs.Stands.{Stands, stands_known, Decorated, decorated_env}
 use Rattle.check_offers.specs.OfferWalks.{Walks}
-use Rattle.check_offers.specs.Orders.{stands-most, stands-low}
+use Rattle.check_offers.specs.Orders.{stands_most, stands_low}
 
 -- node e of the pieces is the root of the whole envelope
 pub record Enveloped (w : Words) (e : ℕ) (t : Tree Item) : Type 0 where
   pub whole : Part Item
-  pub root : e ≡ partRef whole
-  pub decorated : Decorated w t (partLeaves whole)
+  pub root : e ≡ part_ref whole
+  pub decorated : Decorated w t (part_leaves whole)
   pub pieces : PartIn w whole
   pub balanced : AvlP whole
 
@@ -33,21 +33,21 @@ pub record Envelops (w : Words) (x e : ℕ) (xs xs' : List ℕ) (r : Bool) : Typ
   pub long : length xs' ≡ length xs
   pub told : (t : Tree Item) → Stands w x t → Decides r (Enveloped w e t)
 
-module _ {w : Words} {x : ℕ} {xs xs₁ : List ℕ} {a : Walked} (A : Walks w x mostLevels xs xs₁ 0 a) where
-  pub envelops-not : {e : ℕ} → a.ok ≡ false → Envelops w x e xs xs₁ false
-  envelops-not f =
+module _ {w : Words} {x : ℕ} {xs xs₁ : List ℕ} {a : Walked} (A : Walks w x most_levels xs xs₁ 0 a) where
+  pub envelops_not : {e : ℕ} → a.ok ≡ false → Envelops w x e xs xs₁ false
+  envelops_not f =
       record {
         long = A.long;
         told =
-            λ t s. decides-no (λ v. never (A.complete t s (stands-low s) (omega (arith, stands-most s)) (partLeaves v.whole) v.decorated) f);
+            λ t s. decides_no (λ v. never (A.complete t s (stands_low s) (omega (arith, stands_most s)) (part_leaves v.whole) v.decorated) f);
       }
 
   module _ (ok : a.ok ≡ true) {t : Tree Item} (s : Stands w x t) where
     known : AllKnown w (span xs₁ 0 a.next)
-    known = stands-known s (span xs₁ 0 a.next) (λ b m. sublist-mem (decorated-env (A.sound t s ok)).sub m)
+    known = stands_known s (span xs₁ 0 a.next) (λ b m. sublist_mem (decorated_env (A.sound t s ok)).sub m)
 
-    over-pieces : {e : ℕ} → PieceTree w e (span xs₁ 0 a.next) → Enveloped w e t
-    over-pieces p =
+    over_pieces : {e : ℕ} → PieceTree w e (span xs₁ 0 a.next) → Enveloped w e t
+    over_pieces p =
         record {
           whole = p.whole;
           root = p.root;
@@ -57,24 +57,24 @@ module _ {w : Words} {x : ℕ} {xs xs₁ : List ℕ} {a : Walked} (A : Walks w x
               p.balanced;
         }
 
-    pieces-over : {e : ℕ} → Enveloped w e t → PieceTree w e (span xs₁ 0 a.next)
-    pieces-over v =
+    pieces_over : {e : ℕ} → Enveloped w e t → PieceTree w e (span xs₁ 0 a.next)
+    pieces_over v =
         record {
           whole = v.whole;
           root = v.root;
-          over = env-unique items item-laws (leaves t) (partLeaves v.whole) (itemsAt w (span xs₁ 0 a.next)) s.ordered
-              (decorated-env v.decorated) (decorated-env (A.sound t s ok));
+          over = env_unique items item_laws_lem (leaves t) (part_leaves v.whole) (items_at w (span xs₁ 0 a.next)) s.ordered
+              (decorated_env v.decorated) (decorated_env (A.sound t s ok));
           pieces = v.pieces;
           balanced = v.balanced;
         }
 
-  pub envelops-rest : {e : ℕ} {xs₂ : List ℕ} {r : Bool} → a.ok ≡ true → Matches w e xs₁ xs₂ 0 a.next r → Envelops w x e xs xs₂ r
-  envelops-rest ok M =
+  pub envelops_rest : {e : ℕ} {xs₂ : List ℕ} {r : Bool} → a.ok ≡ true → Matches w e xs₁ xs₂ 0 a.next r → Envelops w x e xs xs₂ r
+  envelops_rest ok M =
       record {
         long = M.long ∙ A.long;
         told = λ t s. record {
-          sound = λ o. over-pieces ok s ((M.told (known ok s)).sound o);
+          sound = λ o. over_pieces ok s ((M.told (known ok s)).sound o);
           complete =
-              λ v. (M.told (known ok s)).complete (pieces-over ok s v);
+              λ v. (M.told (known ok s)).complete (pieces_over ok s v);
         };
       }

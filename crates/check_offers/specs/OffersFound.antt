@@ -3,14 +3,14 @@ use Rattle.std.specs.Prelude.{◌≡◌, true, List, ℕ, ◌≤◌, length}
 use Rattle.std.proofs.Math.Option.{Option}
 use Rattle.trees.specs.Tree.{Tree, leaves}
 use Rattle.dynamic.specs.OfferTree.{Held}
-use Rattle.dynamic.specs.Valid.{bookLines}
+use Rattle.dynamic.specs.Valid.{book_lines}
 use Rattle.table.specs.Words.{Words}
 use Rattle.table.specs.Items.{Item}
 use Rattle.form.specs.Form.{OffersStand}
-use Rattle.check_trees.specs.Scratch.{secondHalf}
+use Rattle.check_trees.specs.Scratch.{second_half}
 use Rattle.check_trees.specs.Stretches.{span}
 use Rattle.check_trees.specs.Deciding.{Decides}
-use Rattle.check_trees.specs.Laid.{itemsAt}
+use Rattle.check_trees.specs.Laid.{items_at}
 use Rattle.check_merge.specs.declared.Walked.{Walked}
 use Rattle.check_merge.specs.Stands.{Stands}
 use Rattle.check_offers.specs.Headers.{Header}
@@ -32,6 +32,6 @@ pub record OffersAt (w : Words) (x e : ℕ) (lines : List Item) : Type 0 where
 pub record Offers (w : Words) (xs xs' : List ℕ) (r : Walked) : Type 0 where
   pub long : length xs' ≡ length xs
   pub told : Decides r.ok (OffersFound w)
-  pub inside : r.ok ≡ true → r.next ≤ secondHalf
+  pub inside : r.ok ≡ true → r.next ≤ second_half
   -- the slots of its leaves stand from place 0 on
-  pub listed : r.ok ≡ true → (s : OffersFound w) → itemsAt w (span xs' 0 r.next) ≡ bookLines s.held
+  pub listed : r.ok ≡ true → (s : OffersFound w) → items_at w (span xs' 0 r.next) ≡ book_lines s.held

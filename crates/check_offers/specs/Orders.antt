@@ -7,35 +7,35 @@ use Rattle.std.proofs.Math.Numerals.{add-one}
 use Rattle.std.proofs.Math.Dec.{T}
 use Rattle.std.proofs.Math.ListN.{get_or-map}
 use Rattle.lists.specs.Bools.{never}
-use Rattle.envelopes.specs.Envelope.{Ordered, Ordered·nil, Ordered·cons}
+use Rattle.envelopes.specs.Envelope.{Ordered, ordered_nil, ordered_cons}
 use Rattle.envelopes.specs.EnvelopeLaws.{ordered_at}
 use Rattle.trees.specs.Tree.{Tree, leaves, height}
-use Rattle.table.specs.Fields.{mostLevels, mostSlots, offerTree, rateField}
+use Rattle.table.specs.Fields.{most_levels, most_slots, offer_tree, rate_field}
 use Rattle.table.specs.Words.{Words}
-use Rattle.table.specs.Layout.{cap, cap-most}
-use Rattle.table.specs.Items.{Item, slots-most}
+use Rattle.table.specs.Layout.{cap, cap_most}
+use Rattle.table.specs.Items.{Item, slots_most}
 use Rattle.table.specs.PartTrees.{low}
-use Rattle.pieces.specs.Pieces.{items, item-laws}
+use Rattle.pieces.specs.Pieces.{items, item_laws_lem}
 use Rattle.check_trees.specs.declared.Filled.{Filled}
-use Rattle.check_trees.specs.Stretches.{stretch, span, span-length, span-at}
-use Rattle.check_trees.specs.Deciding.{Decides, decides-no, Every}
+use Rattle.check_trees.specs.Stretches.{stretch, span, span_length, span_at}
+use Rattle.check_trees.specs.Deciding.{Decides, decides_no, Every}
 use Rattle.check_trees.specs.Loops.{FallsHere, RangedHere}
-use Rattle.check_trees.specs.Laid.{item_at, itemsAt, items-length, items_back, Laid, laid-unique}
-use Rattle.check_trees.specs.Along.{AllRanged, ranged-span, span-ranged}
+use Rattle.check_trees.specs.Laid.{item_at, items_at, items_length, items_back, Laid, laid_unique}
+use Rattle.check_trees.specs.Along.{AllRanged, ranged_span, span_ranged}
 use Rattle.check_trees.specs.Fills.{Fills}
-use Rattle.check_trees.specs.FillWalks.{written-length}
-use Rattle.check_merge.specs.Stands.{Stands, stands-slots}
+use Rattle.check_trees.specs.FillWalks.{written_length}
+use Rattle.check_merge.specs.Stands.{Stands, stands_slots}
 
 -- ---- the order along a stretch
 
-span-line : (w : Words) (xs : List ℕ) (a b k : ℕ) → a ≤ k → k < b → get_or (itemsAt w (span xs a b)) (k - a) (item_at w 0) ≡ item_at w (get_or xs k 0)
-span-line w xs a b k l h =
+span_line : (w : Words) (xs : List ℕ) (a b k : ℕ) → a ≤ k → k < b → get_or (items_at w (span xs a b)) (k - a) (item_at w 0) ≡ item_at w (get_or xs k 0)
+span_line w xs a b k l h =
     let e : a + (k - a) ≡ k = omega arith in
-    get_or-map (item_at w) (span xs a b) (k - a) 0 ∙ ap (item_at w) (span-at xs a b (k - a) 0 (omega arith) ∙ ap (λ (z : ℕ). get_or xs z 0) e)
+    get_or-map (item_at w) (span xs a b) (k - a) 0 ∙ ap (item_at w) (span_at xs a b (k - a) 0 (omega arith) ∙ ap (λ (z : ℕ). get_or xs z 0) e)
 
 module _ {w : Words} {xs : List ℕ} where
   -- the first of a stretch stands before all others
-  head_first : (a n : ℕ) → ((k : ℕ) → a ≤ k → k < a + n → FallsHere w rateField xs k) → (b : Item) → Memᴰ b (itemsAt w (stretch xs (suc a) n)) →
+  head_first : (a n : ℕ) → ((k : ℕ) → a ≤ k → k < a + n → FallsHere w rate_field xs k) → (b : Item) → Memᴰ b (items_at w (stretch xs (suc a) n)) →
       T (items.before (item_at w (get_or xs a 0)) b)
   unfolding stretch
   head_first a zero f b m = elim m [ ]
@@ -44,29 +44,29 @@ module _ {w : Words} {xs : List ℕ} where
       next : T (items.before (item_at w (get_or xs a 0)) (item_at w (get_or xs (suc a) 0)))
       next = rw add-one at (f a (omega arith) (omega arith)).falls
 
-      go : Memᴰ b (item_at w (get_or xs (suc a) 0) ∷ itemsAt w (stretch xs (suc (suc a)) n)) →
-          (Memᴰ b (itemsAt w (stretch xs (suc (suc a)) n)) → T (items.before (item_at w (get_or xs (suc a) 0)) b)) →
+      go : Memᴰ b (item_at w (get_or xs (suc a) 0) ∷ items_at w (stretch xs (suc (suc a)) n)) →
+          (Memᴰ b (items_at w (stretch xs (suc (suc a)) n)) → T (items.before (item_at w (get_or xs (suc a) 0)) b)) →
           T (items.before (item_at w (get_or xs a 0)) b)
       go (Memᴰ.head e) g = subst (λ (c : Item). T (items.before (item_at w (get_or xs a 0)) c)) (sym e) next
-      go (Memᴰ.tail i) g = item-laws.before-trans (item_at w (get_or xs a 0)) (item_at w (get_or xs (suc a) 0)) b next (g i)
+      go (Memᴰ.tail i) g = item_laws_lem.before_trans (item_at w (get_or xs a 0)) (item_at w (get_or xs (suc a) 0)) b next (g i)
 
-  ordered-stretch : (a n : ℕ) → ((k : ℕ) → a ≤ k → k + 1 < a + n → FallsHere w rateField xs k) → Ordered items (itemsAt w (stretch xs a n))
+  ordered_stretch : (a n : ℕ) → ((k : ℕ) → a ≤ k → k + 1 < a + n → FallsHere w rate_field xs k) → Ordered items (items_at w (stretch xs a n))
   unfolding stretch
-  ordered-stretch a zero f = Ordered·nil
-  ordered-stretch a (suc n) f = Ordered·cons (head_first a n (λ k l h. f k l (omega arith)))
-      (ordered-stretch (suc a) n (λ k l h. f k (omega arith) (omega arith)))
+  ordered_stretch a zero f = ordered_nil
+  ordered_stretch a (suc n) f = ordered_cons (head_first a n (λ k l h. f k l (omega arith)))
+      (ordered_stretch (suc a) n (λ k l h. f k (omega arith) (omega arith)))
 
-  pub ordered-span : (a b : ℕ) → Every (FallsHere w rateField xs) a (b - 1) → Ordered items (itemsAt w (span xs a b))
-  ordered-span a b e = ordered-stretch a (b - a) (λ k l h. e.at k l (omega arith))
+  pub ordered_span : (a b : ℕ) → Every (FallsHere w rate_field xs) a (b - 1) → Ordered items (items_at w (span xs a b))
+  ordered_span a b e = ordered_stretch a (b - a) (λ k l h. e.at k l (omega arith))
 
-  pub span-ordered : (a b : ℕ) → Ordered items (itemsAt w (span xs a b)) → Every (FallsHere w rateField xs) a (b - 1)
-  span-ordered a b o = record { at = λ k l h. record { falls = falls k l h } }
+  pub span_ordered : (a b : ℕ) → Ordered items (items_at w (span xs a b)) → Every (FallsHere w rate_field xs) a (b - 1)
+  span_ordered a b o = record { at = λ k l h. record { falls = falls k l h } }
     where
       falls : (k : ℕ) → a ≤ k → k < b - 1 → T (items.before (item_at w (get_or xs k 0)) (item_at w (get_or xs (k + 1) 0)))
       falls k l h =
-          subst₂ (λ (c d : Item). T (items.before c d)) (span-line w xs a b k l (omega arith)) (span-line w xs a b (k + 1) (omega arith) (omega arith))
-          (ordered_at items (itemsAt w (span xs a b)) o (item_at w 0) (k - a) (k + 1 - a) (omega arith)
-          (omega (arith, items-length w (span xs a b), span-length xs a b)))
+          subst₂ (λ (c d : Item). T (items.before c d)) (span_line w xs a b k l (omega arith)) (span_line w xs a b (k + 1) (omega arith) (omega arith))
+          (ordered_at items (items_at w (span xs a b)) o (item_at w 0) (k - a) (k + 1 - a) (omega arith)
+          (omega (arith, items_length w (span xs a b), span_length xs a b)))
 
 -- ---- the ways through the code
 
@@ -81,47 +81,47 @@ pub record Orders (w : Words) (x : ℕ) (xs xs' : List ℕ) (r : Bool) : Type 0 
 
 -- it is no larger than a part
 module _ {w : Words} {x : ℕ} {t : Tree Item} (s : Stands w x t) where
-  pub stands-most : length (leaves t) ≤ mostSlots
-  stands-most = omega (arith, slots-most (cap w) (leaves t) (stands-slots s), cap-most w)
+  pub stands_most : length (leaves t) ≤ most_slots
+  stands_most = omega (arith, slots_most (cap w) (leaves t) (stands_slots s), cap_most w)
 
-  pub stands-low : height t ≤ mostLevels
-  stands-low = low w (stands-slots s) s.laid.balanced
+  pub stands_low : height t ≤ most_levels
+  stands_low = low w (stands_slots s) s.laid.balanced
 
-module _ {w : Words} {x : ℕ} {xs xs' : List ℕ} {f : Filled} (F : Fills w offerTree x mostLevels xs xs' 0 f) where
-  pub stands-filled : {t : Tree Item} → Stands w x t → f.ok ≡ true
-  stands-filled {t} s = F.complete t s.laid (stands-low s) (omega (arith, stands-most s))
+module _ {w : Words} {x : ℕ} {xs xs' : List ℕ} {f : Filled} (F : Fills w offer_tree x most_levels xs xs' 0 f) where
+  pub stands_filled : {t : Tree Item} → Stands w x t → f.ok ≡ true
+  stands_filled {t} s = F.complete t s.laid (stands_low s) (omega (arith, stands_most s))
 
   module _ (ok : f.ok ≡ true) where
     -- it is the tree that was written
-    pub filled-tree : {t : Tree Item} → Laid w offerTree x t → (F.sound ok).tree ≡ t
-    filled-tree {t} p = laid-unique (F.sound ok).tree t (F.sound ok).laid p
+    pub filled_tree : {t : Tree Item} → Laid w offer_tree x t → (F.sound ok).tree ≡ t
+    filled_tree {t} p = laid_unique (F.sound ok).tree t (F.sound ok).laid p
 
     pub filled_next : f.next ≡ length (leaves (F.sound ok).tree)
-    filled_next = omega (arith, written-length (F.sound ok))
+    filled_next = omega (arith, written_length (F.sound ok))
 
-    pub filled-items : itemsAt w (span xs' 0 f.next) ≡ leaves (F.sound ok).tree
-    filled-items = ap (itemsAt w) (F.sound ok).slots ∙ items_back (leaves (F.sound ok).tree) (F.sound ok).laid.placed
+    pub filled_items : items_at w (span xs' 0 f.next) ≡ leaves (F.sound ok).tree
+    filled_items = ap (items_at w) (F.sound ok).slots ∙ items_back (leaves (F.sound ok).tree) (F.sound ok).laid.placed
 
-  orders-no : (StandsAt w x → ⊥) → Orders w x xs xs' false
-  orders-no g = record { long = F.long; told = decides-no g }
+  orders_no : (StandsAt w x → ⊥) → Orders w x xs xs' false
+  orders_no g = record { long = F.long; told = decides_no g }
 
-  pub orders-not-filled : f.ok ≡ false → Orders w x xs xs' false
-  orders-not-filled e = orders-no (λ s. never (stands-filled s.stands) e)
+  pub orders_not_filled : f.ok ≡ false → Orders w x xs xs' false
+  orders_not_filled e = orders_no (λ s. never (stands_filled s.stands) e)
 
   module _ (ok : f.ok ≡ true) {b : Bool} (R : Decides b (Every (RangedHere w xs') 0 f.next)) where
-    items-are : (s : StandsAt w x) → leaves s.tree ≡ itemsAt w (span xs' 0 f.next)
-    items-are s = ap leaves (sym (filled-tree ok s.stands.laid)) ∙ sym (filled-items ok)
+    items_are : (s : StandsAt w x) → leaves s.tree ≡ items_at w (span xs' 0 f.next)
+    items_are s = ap leaves (sym (filled_tree ok s.stands.laid)) ∙ sym (filled_items ok)
 
-    pub orders-not-ranged : b ≡ false → Orders w x xs xs' false
-    orders-not-ranged g = orders-no (λ s. never (R.complete (span-ranged 0 f.next (subst AllRanged (items-are s) s.stands.ranged))) g)
+    pub orders_not_ranged : b ≡ false → Orders w x xs xs' false
+    orders_not_ranged g = orders_no (λ s. never (R.complete (span_ranged 0 f.next (subst AllRanged (items_are s) s.stands.ranged))) g)
 
-    pub orders-rest : {r : Bool} → b ≡ true → Decides r (Every (FallsHere w rateField xs') 0 (f.next - 1)) → Orders w x xs xs' r
-    orders-rest {r} g D = record {
+    pub orders_rest : {r : Bool} → b ≡ true → Decides r (Every (FallsHere w rate_field xs') 0 (f.next - 1)) → Orders w x xs xs' r
+    orders_rest {r} g D = record {
       long = F.long;
       told = record {
         sound = found;
         complete =
-            λ s. D.complete (span-ordered 0 f.next (subst (Ordered items) (items-are s) s.stands.ordered));
+            λ s. D.complete (span_ordered 0 f.next (subst (Ordered items) (items_are s) s.stands.ordered));
       };
     }
       where
@@ -132,7 +132,7 @@ module _ {w : Words} {x : ℕ} {xs xs' : List ℕ} {f : Filled} (F : Fills w off
               stands =
                   record {
                     laid = (F.sound ok).laid;
-                    ranged = subst AllRanged (filled-items ok) (ranged-span 0 f.next (R.sound g));
-                    ordered = subst (Ordered items) (filled-items ok) (ordered-span 0 f.next (D.sound o));
+                    ranged = subst AllRanged (filled_items ok) (ranged_span 0 f.next (R.sound g));
+                    ordered = subst (Ordered items) (filled_items ok) (ordered_span 0 f.next (D.sound o));
                   };
             }

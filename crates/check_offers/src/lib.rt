@@ -1,8 +1,8 @@
 // The offers of a part with their envelopes, as parts of the check of a book's part. Any words are safe.
 ghost use Rattle.std.specs.Prelude.{◌≡◌, ℕ, ◌≤◌, length};
-ghost use Rattle.table.specs.Fields.{mostSlots};
+ghost use Rattle.table.specs.Fields.{most_slots};
 ghost use Rattle.table.specs.Words.{Words};
-ghost use Rattle.check_trees.specs.Scratch.{scratchLength};
+ghost use Rattle.check_trees.specs.Scratch.{scratch_length};
 ghost use Rattle.check_trees.specs.Deciding.{Decides};
 ghost use Rattle.check_offers.specs.OfferWalks.{Walks};
 ghost use Rattle.check_offers.specs.Headers.{Header};
@@ -14,8 +14,8 @@ use check_merge::Walked;
 
 // The envelope of leaf `x` is its own line.
 fn single(x: u32, scratch: &mut [u32; check_trees::SCRATCH], at: usize) -> Walked
-    requires { length scratch.old ≡ scratchLength }
-    ensures { x ≤ mostSlots → (w : Words) (limit : ℕ) → Walks w x limit scratch.old scratch.new at result }
+    requires { length scratch.old ≡ scratch_length }
+    ensures { x ≤ most_slots → (w : Words) (limit : ℕ) → Walks w x limit scratch.old scratch.new at result }
 {
     if check_trees::SECOND_HALF <= at {
         return check_merge::refused();
@@ -36,7 +36,7 @@ fn walk(
     at: usize,
     limit: u32,
 ) -> Walked
-    requires { length scratch.old ≡ scratchLength }
+    requires { length scratch.old ≡ scratch_length }
     ensures { Walks part.now x limit scratch.old scratch.new at result }
 {
     if x <= table::MOST_SLOTS {
@@ -79,7 +79,7 @@ fn header(part: &[i64], x: u32, e: u32) -> bool
 
 // A tree of offers stands at node `x`: offers in range, whose rates fall.
 fn ordered(part: &[i64], x: u32, scratch: &mut [u32; check_trees::SCRATCH]) -> bool
-    requires { length scratch.old ≡ scratchLength }
+    requires { length scratch.old ≡ scratch_length }
     ensures { Orders part.now x scratch.old scratch.new result }
 {
     let f = check_trees::fill(part, table::OFFERS, x, scratch, 0, table::MOST_LEVELS);
@@ -95,7 +95,7 @@ fn ordered(part: &[i64], x: u32, scratch: &mut [u32; check_trees::SCRATCH]) -> b
 
 // Envelopes are stored with the tree of offers from node `x` on, and node `e` of the pieces is the root of the whole one.
 fn enveloped(part: &[i64], x: u32, e: u32, scratch: &mut [u32; check_trees::SCRATCH]) -> bool
-    requires { length scratch.old ≡ scratchLength }
+    requires { length scratch.old ≡ scratch_length }
     ensures { Envelops part.now x e scratch.old scratch.new result }
 {
     let a = walk(part, x, scratch, 0, table::MOST_LEVELS);
@@ -108,7 +108,7 @@ fn enveloped(part: &[i64], x: u32, e: u32, scratch: &mut [u32; check_trees::SCRA
 
 // The tree of offers of a part, with its envelopes. The slots of its leaves are left in order from place 0 on.
 pub fn offers(part: &[i64], scratch: &mut [u32; check_trees::SCRATCH]) -> Walked
-    requires { length scratch.old ≡ scratchLength }
+    requires { length scratch.old ≡ scratch_length }
     ensures { Offers part.now scratch.old scratch.new result }
 {
     let x = form::offers_root(part);

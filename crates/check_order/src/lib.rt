@@ -1,20 +1,20 @@
 // The order of a part, its tree of all live offers by rank, and the tree of offers as the first of each rate: parts of the check of a book's
 // part. Any words are safe: every loop is bounded.
 ghost use Rattle.std.specs.Prelude.{◌≡◌, T, ◌≤◌, length};
-ghost use Rattle.offers.specs.Offers.{offerInRange};
-ghost use Rattle.check_trees.specs.Scratch.{scratchLength, secondHalf};
+ghost use Rattle.offers.specs.Offers.{offer_in_range};
+ghost use Rattle.check_trees.specs.Scratch.{scratch_length, second_half};
 ghost use Rattle.check_trees.specs.Deciding.{Decides, Every};
 ghost use Rattle.check_trees.specs.Loops.{RangedHere};
 ghost use Rattle.check_trees.specs.Laid.{item_at};
-ghost use Rattle.check_order.specs.Ranked.{rankTold, RankedHere};
+ghost use Rattle.check_order.specs.Ranked.{rank_told, RankedHere};
 ghost use Rattle.check_order.specs.OrderTrees.{Trees};
-ghost use Rattle.check_order.specs.Heads.{newRate, Heads};
+ghost use Rattle.check_order.specs.Heads.{new_rate, Heads};
 ghost use Rattle.check_order.specs.OrderFound.{Header, Order};
 
 // A slot's rank is that of its offer.
 fn ranked(part: &[i64], slot: u32) -> bool
-    requires { T (offerInRange (item_at part.now slot).offer) }
-    ensures { result ≡ rankTold part.now slot }
+    requires { T (offer_in_range (item_at part.now slot).offer) }
+    ensures { result ≡ rank_told part.now slot }
 {
     let number = table::get(part, table::NUMBER, slot);
     let rate = table::get(part, table::RATE, slot);
@@ -25,7 +25,7 @@ fn ranked(part: &[i64], slot: u32) -> bool
 
 // .. and so for the slot at each place from `from` up to `to`.
 fn all_ranked(part: &[i64], scratch: &[u32; check_trees::SCRATCH], from: usize, to: usize) -> bool
-    requires { (from ≤ to) × (to ≤ scratchLength) × Every (RangedHere part.now scratch.now) from to }
+    requires { (from ≤ to) × (to ≤ scratch_length) × Every (RangedHere part.now scratch.now) from to }
     ensures { Decides result (Every (RankedHere part.now scratch.now) from to) }
 {
     let mut i = from;
@@ -41,7 +41,7 @@ fn all_ranked(part: &[i64], scratch: &[u32; check_trees::SCRATCH], from: usize, 
 // Node `root` of the order is the root of a balanced tree of `n` offers in range, each with its rank, by falling rank. Their slots are left
 // from place 4,096 on.
 fn order_tree(part: &[i64], root: u32, scratch: &mut [u32; check_trees::SCRATCH], n: usize) -> bool
-    requires { (length scratch.old ≡ scratchLength) × (n ≤ secondHalf) }
+    requires { (length scratch.old ≡ scratch_length) × (n ≤ second_half) }
     ensures { Trees part.now root scratch.old scratch.new n result }
 {
     let f = check_trees::fill(
@@ -70,7 +70,7 @@ fn order_tree(part: &[i64], root: u32, scratch: &mut [u32; check_trees::SCRATCH]
 
 // Slot `s` begins a new rate behind slot `last`, and behind 0, which is none, in any case.
 fn is_new(part: &[i64], last: u32, s: u32) -> bool
-    ensures { result ≡ newRate part.now last s }
+    ensures { result ≡ new_rate part.now last s }
 {
     if last < 1 {
         return true;
@@ -80,7 +80,7 @@ fn is_new(part: &[i64], last: u32, s: u32) -> bool
 
 // The slots at places 0 up to `m` are the first of each rate of those at places 4,096 up to 4,096 + `n`.
 fn heads(part: &[i64], scratch: &[u32; check_trees::SCRATCH], m: usize, n: usize) -> bool
-    requires { (m ≤ secondHalf) × (n ≤ secondHalf) }
+    requires { (m ≤ second_half) × (n ≤ second_half) }
     ensures { Decides result (Heads part.now scratch.now m n) }
 {
     let mut i = 0;
@@ -115,7 +115,7 @@ fn header(part: &[i64], root: u32, n: u32) -> bool
 // The order of a part, of `n` offers, and the slots at places 0 up to `m` are the first of each rate. The slots of the order are left from
 // place 0 on.
 pub fn order(part: &[i64], scratch: &mut [u32; check_trees::SCRATCH], m: usize, n: u32) -> bool
-    requires { (length scratch.old ≡ scratchLength) × (m ≤ secondHalf) × (n ≤ secondHalf) }
+    requires { (length scratch.old ≡ scratch_length) × (m ≤ second_half) × (n ≤ second_half) }
     ensures { Order part.now scratch.old scratch.new m n result }
 {
     let root = table::number_at(part, table::ORDER_ROOT, table::MOST_NODES);

@@ -4,7 +4,7 @@ use Rattle.std.proofs.Common.{sym, ◌∙◌, true≢false, arith, length-set, g
 use Rattle.std.proofs.Math.Decide.{ℕ_discrete}
 use Rattle.std.specs.Int.Signed.{lt_z}
 use Rattle.lists.specs.Bools.{passed, is_true}
-use Rattle.offers.specs.Offers.{offerInRange}
+use Rattle.offers.specs.Offers.{offer_in_range}
 use Rattle.table.specs.Words.{Words}
 use Rattle.table.specs.Layout.{cell}
 use Rattle.table.specs.Threads.{Next}
@@ -17,7 +17,7 @@ pub record FallsHere (w : Words) (f : ℕ) (xs : List ℕ) (k : ℕ) : Type 0 wh
 
 -- the slot's offer is in range
 pub record RangedHere (w : Words) (xs : List ℕ) (k : ℕ) : Type 0 where
-  pub ranged : T (offerInRange (item_at w (get_or xs k 0)).offer)
+  pub ranged : T (offer_in_range (item_at w (get_or xs k 0)).offer)
 
 -- the slot is threaded to the next entry's
 pub record NextHere (w : Words) (xs : List ℕ) (k : ℕ) : Type 0 where
@@ -50,12 +50,12 @@ pub record Moving (xs xs' : List ℕ) (to from k : ℕ) : Type 0 where
   pub so_far : Moved xs xs' to from k
   pub back : (i : ℕ) → to + k ≤ i → get_or xs' i 0 ≡ get_or xs i 0
 
-pub moving-none : {xs : List ℕ} {to from : ℕ} → Moving xs xs to from 0
-moving-none = record { so_far = record { long = refl; front = λ i h. refl; moved = λ j h. absurd (omega arith) }; back = λ i h. refl }
+pub moving_none : {xs : List ℕ} {to from : ℕ} → Moving xs xs to from 0
+moving_none = record { so_far = record { long = refl; front = λ i h. refl; moved = λ j h. absurd (omega arith) }; back = λ i h. refl }
 
-pub moving-more : {xs xs' : List ℕ} {to from k v : ℕ} → to ≤ from → to + k < length xs → Moving xs xs' to from k → v ≡ get_or xs' (from + k) 0 →
+pub moving_more : {xs xs' : List ℕ} {to from k v : ℕ} → to ≤ from → to + k < length xs → Moving xs xs' to from k → v ≡ get_or xs' (from + k) 0 →
     Moving xs (set xs' (to + k) v) to from (k + 1)
-moving-more {xs} {xs'} {to} {from} {k} {v} le room g e =
+moving_more {xs} {xs'} {to} {from} {k} {v} le room g e =
     record {
       so_far =
           record {
@@ -71,21 +71,21 @@ moving-more {xs} {xs'} {to} {from} {k} {v} le room g e =
         rw q (get_or-set_same xs' (to + k) v 0 (omega (arith, g.so_far.long)) ∙ e ∙ g.back (from + k) (omega arith))
     here j h (no q) = get_or-set_other xs' (to + k) (to + j) v 0 (omega arith) ∙ g.so_far.moved j (omega arith)
 
-pub moving-done : {xs xs' : List ℕ} {to from k n : ℕ} → n ≤ k → k ≤ n → Moving xs xs' to from k → Moved xs xs' to from n
-moving-done h l g = record { long = g.so_far.long; front = g.so_far.front; moved = λ j m. g.so_far.moved j (omega arith) }
+pub moving_done : {xs xs' : List ℕ} {to from k n : ℕ} → n ≤ k → k ≤ n → Moving xs xs' to from k → Moved xs xs' to from n
+moving_done h l g = record { long = g.so_far.long; front = g.so_far.front; moved = λ j m. g.so_far.moved j (omega arith) }
 
 -- ---- the tests of the loops
 
 module _ {w : Words} {f k s t : ℕ} {xs : List ℕ} {b : Bool} (es : s ≡ get_or xs k 0) (et : t ≡ get_or xs (k + 1) 0) (eb : b ≡ lt_z (cell w f t) (cell w f s)) where
-  pub falls-here : b ≡ true → FallsHere w f xs k
-  falls-here e = record { falls = rw (← es, ← et) (passed (sym eb ∙ e)) }
+  pub falls_here : b ≡ true → FallsHere w f xs k
+  falls_here e = record { falls = rw (← es, ← et) (passed (sym eb ∙ e)) }
 
-  pub not-falls-here : b ≡ false → ¬ FallsHere w f xs k
-  not-falls-here e h = true≢false (sym (eb ∙ is_true _ (rw (es, et) h.falls)) ∙ e)
+  pub not_falls_here : b ≡ false → ¬ FallsHere w f xs k
+  not_falls_here e h = true≢false (sym (eb ∙ is_true _ (rw (es, et) h.falls)) ∙ e)
 
-module _ {w : Words} {k s : ℕ} {xs : List ℕ} {b : Bool} (es : s ≡ get_or xs k 0) (eb : b ≡ offerInRange (item_at w s).offer) where
-  pub ranged-here : b ≡ true → RangedHere w xs k
-  ranged-here e = record { ranged = rw (← es) (passed (sym eb ∙ e)) }
+module _ {w : Words} {k s : ℕ} {xs : List ℕ} {b : Bool} (es : s ≡ get_or xs k 0) (eb : b ≡ offer_in_range (item_at w s).offer) where
+  pub ranged_here : b ≡ true → RangedHere w xs k
+  ranged_here e = record { ranged = rw (← es) (passed (sym eb ∙ e)) }
 
-  pub not-ranged-here : b ≡ false → ¬ RangedHere w xs k
-  not-ranged-here e h = true≢false (sym (eb ∙ is_true _ (rw es h.ranged)) ∙ e)
+  pub not_ranged_here : b ≡ false → ¬ RangedHere w xs k
+  not_ranged_here e h = true≢false (sym (eb ∙ is_true _ (rw es h.ranged)) ∙ e)

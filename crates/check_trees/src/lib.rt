@@ -1,11 +1,11 @@
 // Trees of a part, read into a scratch array and compared with what stands there. Any words are safe: every walk has a limit.
 ghost use Rattle.std.specs.Prelude.{◌≡◌, true, false, ℕ, ◌+◌, ◌-◌, ◌≤◌, ◌<◌, length, get_or, pos};
 ghost use Rattle.std.specs.Int.Signed.{lt_z};
-ghost use Rattle.offers.specs.Offers.{between, offerInRange};
-ghost use Rattle.table.specs.Fields.{mostSlots};
+ghost use Rattle.offers.specs.Offers.{between, offer_in_range};
+ghost use Rattle.table.specs.Fields.{most_slots};
 ghost use Rattle.table.specs.Words.{word};
 ghost use Rattle.table.specs.Layout.{cell};
-ghost use Rattle.check_trees.specs.Scratch.{scratchLength};
+ghost use Rattle.check_trees.specs.Scratch.{scratch_length};
 ghost use Rattle.check_trees.specs.Deciding.{Decides, Every, Agree};
 ghost use Rattle.check_trees.specs.Laid.{item_at};
 ghost use Rattle.check_trees.specs.Loops.{FallsHere, RangedHere, PlaceOf, Moved};
@@ -40,7 +40,7 @@ pub struct Filled {
 
 // Entry `i` of the scratch array.
 pub fn entry(scratch: &[u32; SCRATCH], i: usize) -> u32
-    requires { i < scratchLength }
+    requires { i < scratch_length }
     ensures { result ≡ get_or scratch.now i 0 }
 {
     scratch[i]
@@ -58,8 +58,8 @@ fn nothing() -> Filled
 
 // Writes leaf `x` at place `at`.
 fn fill_leaf(part: &[i64], x: u32, scratch: &mut [u32; SCRATCH], at: usize) -> Filled
-    requires { length scratch.old ≡ scratchLength }
-    ensures { x ≤ mostSlots → (k limit : ℕ) → Fills part.now k x limit scratch.old scratch.new at result }
+    requires { length scratch.old ≡ scratch_length }
+    ensures { x ≤ most_slots → (k limit : ℕ) → Fills part.now k x limit scratch.old scratch.new at result }
 {
     if x < 1 || table::capacity(part) < x {
         return nothing();
@@ -111,7 +111,7 @@ pub fn fill(
     at: usize,
     limit: u32,
 ) -> Filled
-    requires { length scratch.old ≡ scratchLength }
+    requires { length scratch.old ≡ scratch_length }
     ensures { Fills part.now tree x limit scratch.old scratch.new at result }
 {
     if x <= table::MOST_SLOTS {
@@ -147,7 +147,7 @@ pub fn fill(
 
 // The two stretches of `count` entries from `a` and from `b` on are the same.
 pub fn same(scratch: &[u32; SCRATCH], a: usize, b: usize, count: usize) -> bool
-    requires { (a + count ≤ scratchLength) × (b + count ≤ scratchLength) }
+    requires { (a + count ≤ scratch_length) × (b + count ≤ scratch_length) }
     ensures { Decides result (Agree scratch.now a b count) }
 {
     let mut k = 0;
@@ -162,7 +162,7 @@ pub fn same(scratch: &[u32; SCRATCH], a: usize, b: usize, count: usize) -> bool
 
 // The first place of `slot` from `from` up to `to`, and `to` where it has none.
 pub fn place(scratch: &[u32; SCRATCH], from: usize, to: usize, slot: u32) -> usize
-    requires { (from ≤ to) × (to ≤ scratchLength) }
+    requires { (from ≤ to) × (to ≤ scratch_length) }
     ensures { PlaceOf scratch.now from to slot result }
 {
     let mut i = from;
@@ -177,7 +177,7 @@ pub fn place(scratch: &[u32; SCRATCH], from: usize, to: usize, slot: u32) -> usi
 
 // Moves the `count` entries from `from` on down to `to`.
 pub fn shift(scratch: &mut [u32; SCRATCH], to: usize, from: usize, count: usize)
-    requires { (length scratch.old ≡ scratchLength) × (to ≤ from) × (from + count ≤ scratchLength) }
+    requires { (length scratch.old ≡ scratch_length) × (to ≤ from) × (from + count ≤ scratch_length) }
     ensures { Moved scratch.old scratch.new to from count }
 {
     let mut k = 0;
@@ -197,7 +197,7 @@ pub fn falls(part: &[i64], field: usize, a: u32, b: u32) -> bool
 
 // A field falls from slot to slot, from place `from` up to `to`.
 pub fn falling(part: &[i64], field: usize, scratch: &[u32; SCRATCH], from: usize, to: usize) -> bool
-    requires { (from ≤ to) × (to ≤ scratchLength) }
+    requires { (from ≤ to) × (to ≤ scratch_length) }
     ensures { Decides result (Every (FallsHere part.now field scratch.now) from (to - 1)) }
 {
     let mut i = from;
@@ -219,7 +219,7 @@ fn within(part: &[i64], field: usize, slot: u32, low: i64, high: i64) -> bool
 
 // A slot's offer is in range.
 fn ranged(part: &[i64], slot: u32) -> bool
-    ensures { result ≡ offerInRange (item_at part.now slot).offer }
+    ensures { result ≡ offer_in_range (item_at part.now slot).offer }
 {
     within(part, table::NUMBER, slot, 1, 9_999)
         && within(part, table::RATE, slot, -100_000, 100_000)
@@ -228,7 +228,7 @@ fn ranged(part: &[i64], slot: u32) -> bool
 
 // All slots from place `from` up to `to` hold offers in range.
 pub fn all_ranged(part: &[i64], scratch: &[u32; SCRATCH], from: usize, to: usize) -> bool
-    requires { (from ≤ to) × (to ≤ scratchLength) }
+    requires { (from ≤ to) × (to ≤ scratch_length) }
     ensures { Decides result (Every (RangedHere part.now scratch.now) from to) }
 {
     let mut i = from;

@@ -1,21 +1,21 @@
 -- The lines of the calls (docs/REQUIREMENTS.md, 14.2), as lists of bytes, without their newlines.
 use Rattle.std.specs.Prelude.{ℕ, ◌≡◌, List, [], ◌∷◌, ◌++◌, replicate, ℤ, pos}
-use Rattle.plain.specs.Book.{Call, post, withdraw, query, listing, takeBack, report, largestLoad}
+use Rattle.plain.specs.Book.{Call, post, withdraw, query, listing, take_back, report, largest_load}
 use Rattle.counter_print.specs.Texts.{space, decimal, justified, FitsIn}
 
 -- One number in the last 12 of 26 columns.
-unfoldable pub lastColumns : ℤ → List ℕ
-lastColumns z = replicate 14 space ++ justified 12 (decimal z)
+unfoldable pub last_columns : ℤ → List ℕ
+last_columns z = replicate 14 space ++ justified 12 (decimal z)
 
 -- P, W, Q and L. A listing's line does not tell its room. A take-back, a report and a largest load have no line.
 unfoldable pub line_of : Call → List ℕ
 line_of (post number rate base) = 80 ∷ justified 6 (decimal number) ++ justified 8 (decimal rate) ++ justified 12 (decimal base)
-line_of (withdraw number) = 87 ∷ lastColumns number
-line_of (query load) = 81 ∷ lastColumns load
-line_of (listing room) = 76 ∷ lastColumns (pos 0)
-line_of takeBack = []
+line_of (withdraw number) = 87 ∷ last_columns number
+line_of (query load) = 81 ∷ last_columns load
+line_of (listing room) = 76 ∷ last_columns (pos 0)
+line_of take_back = []
 line_of (report load price room) = []
-line_of (largestLoad budget) = []
+line_of (largest_load budget) = []
 
 -- The calls that have a line: each number fits its columns.
 abbrev pub HasLine : Call → Type 0
@@ -23,9 +23,9 @@ HasLine (post number rate base) = FitsIn 6 number × FitsIn 8 rate × FitsIn 12 
 HasLine (withdraw number) = FitsIn 12 number
 HasLine (query load) = FitsIn 12 load
 HasLine (listing room) = Unit {0}
-HasLine takeBack = ⊥
+HasLine take_back = ⊥
 HasLine (report load price room) = ⊥
-HasLine (largestLoad budget) = ⊥
+HasLine (largest_load budget) = ⊥
 
 pub record IsLineOf (k : Call) (line : List ℕ) : Type 0 where
   pub fits : HasLine k

@@ -3,41 +3,41 @@ use Rattle.std.specs.Prelude.{◌≡◌, refl, List, [], ◌∷◌, ◌++◌, ma
 use Rattle.std.proofs.Common.{◌∙◌, ap, arith}
 use Rattle.std.proofs.Math.Option.{some}
 use Rattle.plain.specs.Book.{State, Call, post, withdraw, query, listing, opened}
-use Rattle.counter_print.specs.Texts.{digitsWithin, digits, numeral, decimal, justified, answerLine}
-use Rattle.counter_columns.specs.Columns.{lastColumns, line_of, HasLine}
+use Rattle.counter_print.specs.Texts.{digits_within, digits, numeral, decimal, justified, answer_line}
+use Rattle.counter_columns.specs.Columns.{last_columns, line_of, HasLine}
 use Rattle.counter_columns.specs.declared.Command.{Command}
 use Rattle.counter_columns.specs.declared.Command.TheVariants.{Post, Withdraw, Query, List as Listing}
-use Rattle.counter_columns.specs.Commands.{asCommand, parsed, parsed-unique, commandOf, command-parsed}
+use Rattle.counter_columns.specs.Commands.{as_command, parsed, parsed_unique, command_of, command_parsed}
 use Rattle.counter_columns.specs.Samples.{bytes}
-use Rattle.counter_line.specs.Promises.{capacity, commanded, toldAll, lines_from, output}
-use Rattle.counter_reply.specs.Answered.{pieceLines}
+use Rattle.counter_line.specs.Promises.{capacity, commanded, told_all, lines_from, output}
+use Rattle.counter_reply.specs.Answered.{piece_lines}
 
 -- ---- calls' lines are answered as their calls
 
-command-of : (k : Call) {m : Command} → some m ≡ asCommand k → HasLine k → commandOf (line_of k) ≡ m
-command-of k e h = parsed-unique (line_of k) _ _ (command-parsed (line_of k)) (parsed k (line_of k) e (record { fits = h; text = refl }))
+command_of_lem : (k : Call) {m : Command} → some m ≡ as_command k → HasLine k → command_of (line_of k) ≡ m
+command_of_lem k e h = parsed_unique (line_of k) _ _ (command_parsed (line_of k)) (parsed k (line_of k) e (record { fits = h; text = refl }))
 
 abbrev HaveLines : List Call → List Command → Type 0
 HaveLines [] [] = Unit {0}
 HaveLines [] (m ∷ ms) = ⊥
 HaveLines (k ∷ ks) [] = ⊥
-HaveLines (k ∷ ks) (m ∷ ms) = (some m ≡ asCommand k) × HasLine k × HaveLines ks ms
+HaveLines (k ∷ ks) (m ∷ ms) = (some m ≡ as_command k) × HasLine k × HaveLines ks ms
 
-abbrev calledAll : State → List Command → List ℕ
-calledAll s [] = []
-calledAll s (m ∷ ms) = (commanded s m).bytes ++ calledAll (commanded s m).state ms
+abbrev called_all : State → List Command → List ℕ
+called_all s [] = []
+called_all s (m ∷ ms) = (commanded s m).bytes ++ called_all (commanded s m).state ms
 
-called : (ks : List Call) (ms : List Command) → HaveLines ks ms → (s : State) → toldAll s (map line_of ks) ≡ calledAll s ms
+called : (ks : List Call) (ms : List Command) → HaveLines ks ms → (s : State) → told_all s (map line_of ks) ≡ called_all s ms
 called [] [] h s = refl
 called [] (m ∷ ms) h s = absurd h
 called (k ∷ ks) [] h s = absurd h
 called (k ∷ ks) (m ∷ ms) h s =
-    (λ i. (commanded s (command-of k h.0 h.1 i)).bytes ++ toldAll (commanded s (command-of k h.0 h.1 i)).state (map line_of ks))
+    (λ i. (commanded s (command_of_lem k h.0 h.1 i)).bytes ++ told_all (commanded s (command_of_lem k h.0 h.1 i)).state (map line_of ks))
     ∙ ap (λ (t : List ℕ). (commanded s m).bytes ++ t) (called ks ms h.2 (commanded s m).state)
 
 printed : (text : List ℕ) {answer : List ℕ} (ks : List Call) (ms : List Command) → lines_from [] text ≡ map line_of ks → HaveLines ks ms →
-    calledAll (opened (pos capacity)) ms ≡ answer → output text ≡ answer
-printed text ks ms lines fits told = ap (toldAll (opened (pos capacity))) lines ∙ called ks ms fits (opened (pos capacity)) ∙ told
+    called_all (opened (pos capacity)) ms ≡ answer → output text ≡ answer
+printed text ks ms lines fits told = ap (told_all (opened (pos capacity))) lines ∙ called ks ms fits (opened (pos capacity)) ∙ told
 
 -- ---- the sample
 
@@ -64,27 +64,27 @@ answer =
 abbrev calls : List Call
 calls = post (pos 1) (pos 3) (pos 0) ∷ post (pos 2) (pos 1) (pos 10) ∷ query (pos 5) ∷ listing 0 ∷ withdraw (pos 1) ∷ query (pos 5) ∷ []
 
-sample-lines : lines_from [] sample ≡ map line_of calls
-unfolding line_of lastColumns justified decimal numeral digits digitsWithin
-sample-lines = refl
+sample_lines : lines_from [] sample ≡ map line_of calls
+unfolding line_of last_columns justified decimal numeral digits digits_within
+sample_lines = refl
 
 abbrev commands : List Command
 commands = Post (pos 1) (pos 3) (pos 0) ∷ Post (pos 2) (pos 1) (pos 10) ∷ Query (pos 5) ∷ Listing ∷ Withdraw (pos 1) ∷ Query (pos 5) ∷ []
 
-sample-fits : HaveLines calls commands
-unfolding decimal numeral digits digitsWithin
-sample-fits = (
+sample_fits : HaveLines calls commands
+unfolding decimal numeral digits digits_within
+sample_fits = (
   refl,
   (omega arith, omega arith, omega arith),
   (refl, (omega arith, omega arith, omega arith), (refl, omega arith, (refl, tt, (refl, omega arith, (refl, omega arith, tt))))),
 )
 
-sample-called : calledAll (opened (pos capacity)) commands ≡ answer
-unfolding pieceLines answerLine justified decimal numeral digits digitsWithin
-sample-called = refl
+sample_called : called_all (opened (pos capacity)) commands ≡ answer
+unfolding piece_lines answer_line justified decimal numeral digits digits_within
+sample_called = refl
 
-pub sample-printed : output sample ≡ answer
-sample-printed = printed sample calls commands sample-lines sample-fits sample-called
+pub sample_printed : output sample ≡ answer
+sample_printed = printed sample calls commands sample_lines sample_fits sample_called
 
 -- ---- entries out of range
 
@@ -111,29 +111,29 @@ slipped =
     ∷ query (pos 1_000_001)
     ∷ []
 
-slip-lines : lines_from [] slips ≡ map line_of slipped
-unfolding line_of lastColumns justified decimal numeral digits digitsWithin
-slip-lines = refl
+slip_lines : lines_from [] slips ≡ map line_of slipped
+unfolding line_of last_columns justified decimal numeral digits digits_within
+slip_lines = refl
 
-abbrev slip-commands : List Command
-slip-commands =
+abbrev slip_commands : List Command
+slip_commands =
     Post (pos 0) (pos 100_001) (pos 1_000_000_001)
     ∷ Post (pos 1) (negsuc 100_000) (negsuc 1_000_000_000)
     ∷ Post (pos 1) (pos 3) (pos 1_000_000_001)
     ∷ Query (pos 1_000_001)
     ∷ []
 
-slips-fit : HaveLines slipped slip-commands
-unfolding decimal numeral digits digitsWithin
-slips-fit = (
+slips_fit : HaveLines slipped slip_commands
+unfolding decimal numeral digits digits_within
+slips_fit = (
   refl,
   (omega arith, omega arith, omega arith),
   (refl, (omega arith, omega arith, omega arith), (refl, (omega arith, omega arith, omega arith), (refl, omega arith, tt))),
 )
 
-slips-called : calledAll (opened (pos capacity)) slip-commands ≡ refusals
-unfolding answerLine justified decimal numeral digits digitsWithin
-slips-called = refl
+slips_called : called_all (opened (pos capacity)) slip_commands ≡ refusals
+unfolding answer_line justified decimal numeral digits digits_within
+slips_called = refl
 
-pub slips-printed : output slips ≡ refusals
-slips-printed = printed slips slipped slip-commands slip-lines slips-fit slips-called
+pub slips_printed : output slips ≡ refusals
+slips_printed = printed slips slipped slip_commands slip_lines slips_fit slips_called

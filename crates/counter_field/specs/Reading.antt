@@ -4,10 +4,10 @@ use Rattle.std.proofs.Common.{ap, sym, ◌∙◌, arith, length-take-le, take_at
 use Rattle.counter_field.specs.declared.Field.{Field}
 use Rattle.counter_field.specs.declared.Field.TheVariants.{Number, Bad}
 use Rattle.counter_print.specs.Texts.{decimal, justified, FitsIn}
-use Rattle.counter_field.specs.Values.{told, told-justified, told-fits}
-use Rattle.counter_print.specs.Justified.{justified-length}
+use Rattle.counter_field.specs.Values.{told, told_justified, told_fits}
+use Rattle.counter_print.specs.Justified.{justified_length}
 use Rattle.counter_print.specs.Printed.{Justifies}
-use Rattle.counter_print.specs.Decimals.{decimal-some}
+use Rattle.counter_print.specs.Decimals.{decimal_some}
 
 -- The columns hold a number: its decimal text, justified to their width.
 abbrev pub Holds : List ℕ → ℤ → Type 0
@@ -19,19 +19,19 @@ FieldRead columns (Number z) = Holds columns z
 FieldRead columns Bad = ((z : ℤ) → Holds columns z → ⊥)
 
 -- They hold no other number than the one that they tell.
-pub holds-told : (columns : List ℕ) (z : ℤ) → Holds columns z → told columns ≡ z
-holds-told columns z e = ap told e ∙ told-justified (length columns) z
+pub holds_told : (columns : List ℕ) (z : ℤ) → Holds columns z → told columns ≡ z
+holds_told columns z e = ap told e ∙ told_justified (length columns) z
 
-pub field-unique : (columns : List ℕ) (f g : Field) → FieldRead columns f → FieldRead columns g → f ≡ g
-field-unique columns (Number y) (Number z) p q = ap Number (sym (holds-told columns y p) ∙ holds-told columns z q)
-field-unique columns (Number y) Bad p q = absurd (q y p)
-field-unique columns Bad (Number z) p q = absurd (p z q)
-field-unique columns Bad Bad p q = refl
+pub field_unique : (columns : List ℕ) (f g : Field) → FieldRead columns f → FieldRead columns g → f ≡ g
+field_unique columns (Number y) (Number z) p q = ap Number (sym (holds_told columns y p) ∙ holds_told columns z q)
+field_unique columns (Number y) Bad p q = absurd (q y p)
+field_unique columns Bad (Number z) p q = absurd (p z q)
+field_unique columns Bad Bad p q = refl
 
 -- ---- the one candidate, printed into as many bytes
 
-pub holds-none : (columns : List ℕ) (z : ℤ) → length columns ≡ 0 → Holds columns z → ⊥
-holds-none columns z e h = omega (arith, ap length h, justified-length (length columns) (decimal z), decimal-some z)
+pub holds_none : (columns : List ℕ) (z : ℤ) → length columns ≡ 0 → Holds columns z → ⊥
+holds_none columns z e h = omega (arith, ap length h, justified_length (length columns) (decimal z), decimal_some z)
 
 module _ (columns bytes text : List ℕ) (z : ℤ) (some : length columns ≢ 0) (room : length columns ≤ length bytes) (number : z ≡ told columns)
     (kept : length text ≡ length (take (length columns) bytes)) (printed : Justifies z (take (length columns) bytes) text) where
@@ -39,11 +39,11 @@ module _ (columns bytes text : List ℕ) (z : ℤ) (some : length columns ≢ 0)
   wide = length-take-le (length columns) bytes room
 
   fits : FitsIn (length (take (length columns) bytes)) z
-  fits = rw (wide, number) (told-fits columns (omega arith))
+  fits = rw (wide, number) (told_fits columns (omega arith))
 
   pub candidate : take (length columns) (text ++ drop (length columns) bytes) ≡ justified (length columns) (decimal z)
   candidate = take_at text (drop (length columns) bytes) (length columns) (kept ∙ wide) ∙ printed.text fits ∙ ap (λ (w : ℕ). justified w (decimal z)) wide
 
   -- Whatever the columns hold is the candidate.
   pub held : (y : ℤ) → Holds columns y → columns ≡ take (length columns) (text ++ drop (length columns) bytes)
-  held y h = h ∙ ap (λ (x : ℤ). justified (length columns) (decimal x)) (sym (number ∙ holds-told columns y h)) ∙ sym candidate
+  held y h = h ∙ ap (λ (x : ℤ). justified (length columns) (decimal x)) (sym (number ∙ holds_told columns y h)) ∙ sym candidate

@@ -1,6 +1,6 @@
 // A number in some columns of a line.
 ghost use Rattle.std.specs.Prelude.{◌≡◌, ◌^◌, ◌≤◌, ◌<◌, length};
-ghost use Rattle.counter_field.specs.Values.{taken, valueFrom, hasMinus, told};
+ghost use Rattle.counter_field.specs.Values.{taken, value_from, has_minus, told};
 ghost use Rattle.counter_field.specs.Reading.{FieldRead};
 
 // What some columns hold.
@@ -24,7 +24,7 @@ fn with_byte(value: u64, byte: u8) -> u64
 // What the digits of a text say.
 fn value_in(text: &[u8]) -> u64
     requires { length text.now ≤ 18 }
-    ensures { (result ≡ valueFrom 0 text.now) × (result < 10 ^ 18) }
+    ensures { (result ≡ value_from 0 text.now) × (result < 10 ^ 18) }
 {
     let mut value: u64 = 0;
     let mut at = 0;
@@ -36,7 +36,7 @@ fn value_in(text: &[u8]) -> u64
 }
 
 fn has_minus(text: &[u8]) -> bool
-    ensures { result ≡ hasMinus text.now }
+    ensures { result ≡ has_minus text.now }
 {
     let mut at = 0;
     while at < text.len() {

@@ -15,30 +15,30 @@ pub record Pushes (line : Line) (byte : ℕ) (line' : Line) : Type 0 where
   pub keeps : (text : List ℕ) → Keeps line text → Keeps line' (text ++ byte ∷ [])
 
 -- how many are kept
-pub kept-length : {line : Line} {text : List ℕ} → Keeps line text → line.length ≡ length (take 28 text)
-kept-length {line} k = sym (length-take-le line.length line.bytes (omega (arith, k.room, k.few))) ∙ ap length k.front
+pub kept_length : {line : Line} {text : List ℕ} → Keeps line text → line.length ≡ length (take 28 text)
+kept_length {line} k = sym (length-take-le line.length line.bytes (omega (arith, k.room, k.few))) ∙ ap length k.front
 
-pub kept-all : {line : Line} {text : List ℕ} → Keeps line text → line.length < 28 → length text ≡ line.length
-kept-all {line} {text} k h = go (dec_le 28 (length text))
+pub kept_all : {line : Line} {text : List ℕ} → Keeps line text → line.length < 28 → length text ≡ line.length
+kept_all {line} {text} k h = go (dec_le 28 (length text))
   where
     go : Dec (28 ≤ length text) → length text ≡ line.length
-    go (yes g) = absurd (omega (arith, kept-length k, length-take-le 28 text g))
-    go (no g) = ap length (sym (take_all 28 text (omega arith))) ∙ sym (kept-length k)
+    go (yes g) = absurd (omega (arith, kept_length k, length-take-le 28 text g))
+    go (no g) = ap length (sym (take_all 28 text (omega arith))) ∙ sym (kept_length k)
 
-kept-some : {line : Line} {text : List ℕ} → Keeps line text → 28 ≤ line.length → 28 ≤ length text
-kept-some {line} {text} k h = go (dec_le 28 (length text))
+kept_some : {line : Line} {text : List ℕ} → Keeps line text → 28 ≤ line.length → 28 ≤ length text
+kept_some {line} {text} k h = go (dec_le 28 (length text))
   where
     go : Dec (28 ≤ length text) → 28 ≤ length text
     go (yes g) = g
-    go (no g) = absurd (omega (arith, kept-length k, ap length (take_all 28 text (omega arith))))
+    go (no g) = absurd (omega (arith, kept_length k, ap length (take_all 28 text (omega arith))))
 
 pub pushes_full : (line : Line) (byte : ℕ) → 28 ≤ line.length → Pushes line byte line
 pushes_full line byte h =
-    record { keeps = λ text k. record { room = k.room; few = k.few; front = k.front ∙ sym (take-append-le 28 text (byte ∷ []) (kept-some k h)) } }
+    record { keeps = λ text k. record { room = k.room; few = k.few; front = k.front ∙ sym (take-append-le 28 text (byte ∷ []) (kept_some k h)) } }
 
-pub pushes-one : (line : Line) (byte : ℕ) → line.length < 28 →
+pub pushes_one : (line : Line) (byte : ℕ) → line.length < 28 →
     Pushes line byte (record { bytes = set line.bytes line.length byte; length = line.length + 1 })
-pushes-one line byte h = record { keeps = λ text k. keeps text k (kept-all k h) }
+pushes_one line byte h = record { keeps = λ text k. keeps text k (kept_all k h) }
   where
     keeps : (text : List ℕ) → Keeps line text → length text ≡ line.length →
         Keeps (record { bytes = set line.bytes line.length byte; length = line.length + 1 }) (text ++ byte ∷ [])

@@ -2,28 +2,28 @@
 use Rattle.std.specs.Prelude.{◌≡◌, refl, List, ℕ, ◌≤◌, ◌<◌, length, ℤ, pos}
 use Rattle.std.proofs.Common.{sym, ◌∙◌, subst, ap, arith}
 use Rattle.std.proofs.Math.Option.{Option}
-use Rattle.plain.specs.Causes.{Cause, causeNumber, unreadableLine, FirstOf}
+use Rattle.plain.specs.Causes.{Cause, cause_number, unreadable_line, FirstOf}
 use Rattle.plain.specs.Book.{State, Call, post, withdraw, query, listing, Answer, refused, step}
 use Rattle.counter_columns.specs.declared.Command.{Command}
 use Rattle.counter_columns.specs.declared.Command.TheVariants.{Post, Withdraw, Query, List as Listing, Unreadable}
-use Rattle.counter_columns.specs.Commands.{Parsed, parsed-unique, commandOf, command-parsed}
+use Rattle.counter_columns.specs.Commands.{Parsed, parsed_unique, command_of, command_parsed}
 use Rattle.counter_print.specs.Printed.{Answers}
 use Rattle.dynamic.specs.OfferTree.{Held}
-use Rattle.table.specs.Fields.{capacityWord}
+use Rattle.table.specs.Fields.{capacity_word}
 use Rattle.table.specs.Words.{word}
-use Rattle.table.specs.Layout.{cap-most}
+use Rattle.table.specs.Layout.{cap_most}
 use Rattle.table.specs.Items.{Item}
 use Rattle.form.specs.Form.{Form}
 use Rattle.promises.specs.declared.Update.{Update}
 use Rattle.promises.specs.declared.Found.{Found}
 use Rattle.promises.specs.declared.Listed.{Listed}
-use Rattle.promises.specs.Promises.{part_of, capacityAt, tableTrials, OnlyPart, Updates, Queries, Lists, updateAnswer, foundAnswer, listingAnswer}
-use Rattle.form.specs.Live.{book-sound}
-use Rattle.history.specs.Claim.{read-state}
-use Rattle.counter_line.specs.Promises.{room, letterOf, named, outcome, most, Stands, Declines, Obeys, Counts}
+use Rattle.promises.specs.Promises.{part_of, capacity_at, table_trials, OnlyPart, Updates, Queries, Lists, update_answer, found_answer, listing_answer}
+use Rattle.form.specs.Live.{book_sound}
+use Rattle.history.specs.Claim.{read_state}
+use Rattle.counter_line.specs.Promises.{room, letter_of, named, outcome, most, Stands, Declines, Obeys, Counts}
 use Rattle.counter_reply.specs.Answered.{answered, Prints}
-use Rattle.counter_reply.specs.Replies.{Fits, Replies, refused-line}
-use Rattle.counter_line.specs.Fitting.{shown, Roomy, answer-fits, refusal-fits}
+use Rattle.counter_reply.specs.Replies.{Fits, Replies, refused_line}
+use Rattle.counter_line.specs.Fitting.{shown, Roomy, answer_fits, refusal_fits}
 
 -- ---- the lines of an answer are the plain book's
 
@@ -34,26 +34,26 @@ plainly : {letter : ℕ} {a : Answer} {before after : List ℕ} {n : ℕ} {t : L
     → Prints (answered letter (shown k) (step s k).answer) before after n
 plainly {letter} {a} {before} {after} {n} {t} k s held form roomy e r =
     subst (λ (x : Answer). Prints (answered letter (shown k) x) before after n) e
-    (r.prints (subst (Fits (shown k)) (sym e) (answer-fits s.capacity s.offers s.memory
-    (omega (arith, form.book.capacity, cap-most (part_of t 0))) (book-sound form.book) form.memory.undoable k roomy)))
+    (r.prints (subst (Fits (shown k)) (sym e) (answer_fits s.capacity s.offers s.memory
+    (omega (arith, form.book.capacity, cap_most (part_of t 0))) (book_sound form.book) form.memory.undoable k roomy)))
 
 -- where it is a refusal, whatever the words are
-refusing : {letter : ℕ} {number : ℤ} {a : Answer} {before after : List ℕ} {n : ℕ} (z : Cause) → a ≡ refused (causeNumber z) →
+refusing : {letter : ℕ} {number : ℤ} {a : Answer} {before after : List ℕ} {n : ℕ} (z : Cause) → a ≡ refused (cause_number z) →
     Replies letter number a before after n
-    → Prints (answered letter number (refused (causeNumber z))) before after n
+    → Prints (answered letter number (refused (cause_number z))) before after n
 refusing {letter} {number} {before = before} {after} {n} z e r =
-    (subst (λ (x : Answer). Replies letter number x before after n) e r).prints (refusal-fits number z)
+    (subst (λ (x : Answer). Replies letter number x before after n) e r).prints (refusal_fits number z)
 
 -- ---- a listing's lines
 
 pub record ListsLines (t : List ℤ) (before after : List ℕ) (n : ℕ) : Type 0 where
   pub within : n ≤ length before
-  pub declined : (z : Cause) → FirstOf (tableTrials t 0 (listing room)) z → Prints (answered 76 (pos 0) (refused (causeNumber z))) before after n
+  pub declined : (z : Cause) → FirstOf (table_trials t 0 (listing room)) z → Prints (answered 76 (pos 0) (refused (cause_number z))) before after n
   pub prints : (s : State) (held : Option (Held Item)) → Form (part_of t 0) s held → Prints (answered 76 (pos 0) (step s (listing room)).answer) before after n
 
-pub lists-lines : {t pieces pieces' : List ℤ} {before after : List ℕ} {n : ℕ} {l : Listed} → length pieces ≡ 192 → Lists 0 t pieces pieces' l
-    → Replies 76 (pos 0) (listingAnswer l pieces') before after n → ListsLines t before after n
-lists-lines {pieces = pieces} {pieces'} {before} {after} {n} e l r =
+pub lists_lines : {t pieces pieces' : List ℤ} {before after : List ℕ} {n : ℕ} {l : Listed} → length pieces ≡ 192 → Lists 0 t pieces pieces' l
+    → Replies 76 (pos 0) (listing_answer l pieces') before after n → ListsLines t before after n
+lists_lines {pieces = pieces} {pieces'} {before} {after} {n} e l r =
     record {
       within = r.within;
       declined = λ z f. refusing z (l.declined z f).0 r;
@@ -67,29 +67,29 @@ lists-lines {pieces = pieces} {pieces'} {before} {after} {n} e l r =
 pub untouched : (c start : ℕ) (t : List ℤ) → OnlyPart c start t t
 untouched c start t = record { long = refl; front = refl; back = refl }
 
-pub command-is : {line : List ℕ} {r m : Command} → Parsed line r → r ≡ m → Parsed line m
-command-is {line} p e = subst (Parsed line) e p
+pub command_is : {line : List ℕ} {r m : Command} → Parsed line r → r ≡ m → Parsed line m
+command_is {line} p e = subst (Parsed line) e p
 
-pub counts-short : (line : List ℕ) (t : List ℤ) (out : List ℕ) → length out < most → Counts line t t out out 0
-counts-short line t out h =
+pub counts_short : (line : List ℕ) (t : List ℤ) (out : List ℕ) → length out < most → Counts line t t out out 0
+counts_short line t out h =
     record {
       short = λ _. (refl, refl, refl);
       within = omega arith;
-      outside = untouched (capacityAt t 0) 0 t;
-      same-part = refl;
+      outside = untouched (capacity_at t 0) 0 t;
+      same_part = refl;
       obeys =
           λ g. absurd (omega arith);
     }
 
 -- lines of one command
-pub counts-alike : {line line' : List ℕ} {t t' : List ℤ} {out out' : List ℕ} {n : ℕ} → commandOf line ≡ commandOf line' → Counts line t t' out out' n →
+pub counts_alike : {line line' : List ℕ} {t t' : List ℤ} {out out' : List ℕ} {n : ℕ} → command_of line ≡ command_of line' → Counts line t t' out out' n →
     Counts line' t t' out out' n
-counts-alike {t = t} {t'} {out} {out'} {n} e c =
+counts_alike {t = t} {t'} {out} {out'} {n} e c =
     record {
       short = c.short;
       within = c.within;
       outside = c.outside;
-      same-part = c.same-part;
+      same_part = c.same_part;
       obeys =
           λ h. subst (λ (m : Command). Obeys m t t' out out' n) e (c.obeys h);
     }
@@ -97,7 +97,7 @@ counts-alike {t = t} {t'} {out} {out'} {n} e c =
 -- a post or a withdrawal
 updated : {t t' : List ℤ} {out out' : List ℕ} {n letter : ℕ} (k : Call) {u : Update} (s : State) (held : Option (Held Item)) → Form (part_of t 0) s held →
     Roomy k → Updates k 0 t t' u
-    → Replies letter (shown k) (updateAnswer u) out out' n
+    → Replies letter (shown k) (update_answer u) out out' n
     → Stands (record { state = (step s k).state; bytes = answered letter (shown k) (step s k).answer }) t' out out' n
 updated k s held form roomy u r =
     let f = u.follows s held form in
@@ -108,21 +108,21 @@ left : {t t' : List ℤ} {k : Call} {u : Update} → Updates k 0 t t' u → (s :
 left u s held form j e = let f = u.follows s held form in f.refusal j (f.answers ∙ e)
 
 module _ {line : List ℕ} {t : List ℤ} {out out' : List ℕ} {n : ℕ} (long : most ≤ length out) where
-  by-command : {t' : List ℤ} (m : Command) → Parsed line m → n ≤ length out → OnlyPart (capacityAt t 0) 0 t t' →
-      word (part_of t' 0) capacityWord ≡ word (part_of t 0) capacityWord → Obeys m t t' out out' n → Counts line t t' out out' n
-  by-command {t'} m p within outside same o =
+  by_command : {t' : List ℤ} (m : Command) → Parsed line m → n ≤ length out → OnlyPart (capacity_at t 0) 0 t t' →
+      word (part_of t' 0) capacity_word ≡ word (part_of t 0) capacity_word → Obeys m t t' out out' n → Counts line t t' out out' n
+  by_command {t'} m p within outside same o =
       record {
         short = λ h. absurd (omega (arith, long));
         within = within;
         outside = outside;
-        same-part = same;
-        obeys = λ _. subst (λ (m : Command). Obeys m t t' out out' n) (parsed-unique line m (commandOf line) p (command-parsed line)) o;
+        same_part = same;
+        obeys = λ _. subst (λ (m : Command). Obeys m t t' out out' n) (parsed_unique line m (command_of line) p (command_parsed line)) o;
       }
 
   pub posted : {t' : List ℤ} (number rate base : ℤ) {u : Update} → Parsed line (Post number rate base) → Updates (post number rate base) 0 t t' u
-      → Replies 80 number (updateAnswer u) out out' n → Counts line t t' out out' n
+      → Replies 80 number (update_answer u) out out' n → Counts line t t' out out' n
   posted number rate base p u r =
-      by-command (Post number rate base) p r.within u.outside u.same-part
+      by_command (Post number rate base) p r.within u.outside u.same_part
       (record {
         asks = λ no. absurd no;
         declined = λ z f. let d = u.declined z f in (d.1, refusing z d.0 r);
@@ -131,9 +131,9 @@ module _ {line : List ℕ} {t : List ℤ} {out out' : List ℕ} {n : ℕ} (long 
       })
 
   pub withdrawn : {t' : List ℤ} (number : ℤ) {u : Update} → Parsed line (Withdraw number) → Updates (withdraw number) 0 t t' u
-      → Replies 87 number (updateAnswer u) out out' n → Counts line t t' out out' n
+      → Replies 87 number (update_answer u) out out' n → Counts line t t' out out' n
   withdrawn number p u r =
-      by-command (Withdraw number) p r.within u.outside u.same-part
+      by_command (Withdraw number) p r.within u.outside u.same_part
       (record {
         asks = λ no. absurd no;
         declined = λ z f. let d = u.declined z f in (d.1, refusing z d.0 r);
@@ -143,12 +143,12 @@ module _ {line : List ℕ} {t : List ℤ} {out out' : List ℕ} {n : ℕ} (long 
 
   -- a line that only asks
   asking : (m : Command) → Parsed line m → n ≤ length out →
-      ((z : Cause) → Declines t m z → Prints (answered (letterOf m) (named m) (refused (causeNumber z))) out out' n)
+      ((z : Cause) → Declines t m z → Prints (answered (letter_of m) (named m) (refused (cause_number z))) out out' n)
       → ((s : State) → (outcome s m).state ≡ s)
-      → ((s : State) (held : Option (Held Item)) → Form (part_of t 0) s held → Prints (answered (letterOf m) (named m) (outcome s m).answer) out out' n)
+      → ((s : State) (held : Option (Held Item)) → Form (part_of t 0) s held → Prints (answered (letter_of m) (named m) (outcome s m).answer) out out' n)
       → Counts line t t out out' n
   asking m p within declined same prints =
-      by-command m p within (untouched (capacityAt t 0) 0 t) refl
+      by_command m p within (untouched (capacity_at t 0) 0 t) refl
       (record {
         asks = λ _. refl;
         declined = λ z f. (refl, declined z f);
@@ -161,18 +161,18 @@ module _ {line : List ℕ} {t : List ℤ} {out out' : List ℕ} {n : ℕ} (long 
         };
       })
 
-  pub asked : (load : ℤ) {f : Found} → Parsed line (Query load) → Queries load 0 t f → Replies 81 (pos 0) (foundAnswer f) out out' n →
+  pub asked : (load : ℤ) {f : Found} → Parsed line (Query load) → Queries load 0 t f → Replies 81 (pos 0) (found_answer f) out out' n →
       Counts line t t out out' n
   asked load p f r =
-      asking (Query load) p r.within (λ z d. refusing z (f.declined z d) r) (λ s. read-state s (query load) refl)
+      asking (Query load) p r.within (λ z d. refusing z (f.declined z d) r) (λ s. read_state s (query load) refl)
       (λ s held form. plainly (query load) s held form tt (f.answers s held form.book) r)
 
-  pub listed-all : Parsed line Listing → ListsLines t out out' n → Counts line t t out out' n
-  listed-all p l = asking Listing p l.within l.declined (λ s. read-state s (listing room) refl) l.prints
+  pub listed_all : Parsed line Listing → ListsLines t out out' n → Counts line t t out out' n
+  listed_all p l = asking Listing p l.within l.declined (λ s. read_state s (listing room) refl) l.prints
 
 pub unread : {line : List ℕ} {t : List ℤ} {out out' : List ℕ} → most ≤ length out → Parsed line Unreadable
     → Answers 63 (pos 11) (pos 0) (pos 0) (pos 0) out out' → Counts line t t out out' 39
 unread {out = out} {out'} long p a =
-    let r : Replies 63 (pos 0) (refused 11) out out' 39 = refused-line (omega arith) (pos 11) a in
-    asking long Unreadable p r.within (λ z e. refusing z (ap (λ (c : Cause). refused (causeNumber c)) (sym e)) r) (λ s. refl)
-    (λ s held form. r.prints (refusal-fits (pos 0) unreadableLine))
+    let r : Replies 63 (pos 0) (refused 11) out out' 39 = refused_line (omega arith) (pos 11) a in
+    asking long Unreadable p r.within (λ z e. refusing z (ap (λ (c : Cause). refused (cause_number c)) (sym e)) r) (λ s. refl)
+    (λ s held form. r.prints (refusal_fits (pos 0) unreadable_line))

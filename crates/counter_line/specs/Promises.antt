@@ -2,19 +2,19 @@
 -- beginning, and a listing has room for 192 words. The program opens a book of capacity 64; a line is answered on one of any capacity.
 use Rattle.std.specs.Prelude.{◌≡◌, List, [], ◌∷◌, ◌++◌, cond, ℕ, ◌≤◌, ◌<◌, length, eqb, ℤ, pos}
 use Rattle.std.proofs.Math.Option.{Option}
-use Rattle.plain.specs.Causes.{Cause, causeNumber, unreadableLine, FirstOf}
+use Rattle.plain.specs.Causes.{Cause, cause_number, unreadable_line, FirstOf}
 use Rattle.plain.specs.Book.{State, post, withdraw, query, listing, refused, Outcome, opened, step}
 use Rattle.counter_columns.specs.declared.Command.{Command}
 use Rattle.counter_columns.specs.declared.Command.TheVariants.{Post, Withdraw, Query, List as Listing, Unreadable}
 use Rattle.counter_print.specs.Texts.{newline}
 use Rattle.counter_reply.specs.Answered.{answered, Prints}
-use Rattle.counter_columns.specs.Commands.{commandOf}
+use Rattle.counter_columns.specs.Commands.{command_of}
 use Rattle.dynamic.specs.OfferTree.{Held}
-use Rattle.table.specs.Fields.{capacityWord}
+use Rattle.table.specs.Fields.{capacity_word}
 use Rattle.table.specs.Words.{word}
 use Rattle.table.specs.Items.{Item}
 use Rattle.form.specs.Form.{Form}
-use Rattle.promises.specs.Promises.{part_of, capacityAt, tableTrials, OnlyPart}
+use Rattle.promises.specs.Promises.{part_of, capacity_at, table_trials, OnlyPart}
 
 -- ---- the plain counter
 
@@ -29,12 +29,12 @@ pub record Told : Type 0 where
   pub state : State
   pub bytes : List ℕ
 
-abbrev pub letterOf : Command → ℕ
-letterOf (Post number rate base) = 80
-letterOf (Withdraw number) = 87
-letterOf (Query load) = 81
-letterOf Listing = 76
-letterOf Unreadable = 63
+abbrev pub letter_of : Command → ℕ
+letter_of (Post number rate base) = 80
+letter_of (Withdraw number) = 87
+letter_of (Query load) = 81
+letter_of Listing = 76
+letter_of Unreadable = 63
 
 abbrev pub named : Command → ℤ
 named (Post number rate base) = number
@@ -48,19 +48,19 @@ outcome s (Post number rate base) = step s (post number rate base)
 outcome s (Withdraw number) = step s (withdraw number)
 outcome s (Query load) = step s (query load)
 outcome s Listing = step s (listing room)
-outcome s Unreadable = record { state = s; answer = refused (causeNumber unreadableLine) }
+outcome s Unreadable = record { state = s; answer = refused (cause_number unreadable_line) }
 
 abbrev pub commanded : State → Command → Told
-commanded s m = record { state = (outcome s m).state; bytes = answered (letterOf m) (named m) (outcome s m).answer }
+commanded s m = record { state = (outcome s m).state; bytes = answered (letter_of m) (named m) (outcome s m).answer }
 
 -- A line, without its newline.
 abbrev pub told : State → List ℕ → Told
-told s line = commanded s (commandOf line)
+told s line = commanded s (command_of line)
 
 -- Lines one after the other.
-abbrev pub toldAll : State → List (List ℕ) → List ℕ
-toldAll s [] = []
-toldAll s (line ∷ lines) = (told s line).bytes ++ toldAll (told s line).state lines
+abbrev pub told_all : State → List (List ℕ) → List ℕ
+told_all s [] = []
+told_all s (line ∷ lines) = (told s line).bytes ++ told_all (told s line).state lines
 
 -- The lines of an input, the bytes `text` of the first one being there already. The last line may lack its newline; after a final newline there is none.
 abbrev pub lines_from : List ℕ → List ℕ → List (List ℕ)
@@ -70,7 +70,7 @@ lines_from text (b ∷ input) = cond (eqb b newline) (text ∷ lines_from [] inp
 
 -- What the counter prints for an input.
 abbrev pub output : List ℕ → List ℕ
-output input = toldAll (opened (pos capacity)) (lines_from [] input)
+output input = told_all (opened (pos capacity)) (lines_from [] input)
 
 -- ---- the counter on words
 
@@ -86,11 +86,11 @@ pub record Stands (o : Told) (t' : List ℤ) (out out' : List ℕ) (n : ℕ) : T
 
 -- On words of any content: the causes that do not depend on the offers.
 abbrev pub Declines : List ℤ → Command → Cause → Type 0
-Declines t (Post number rate base) z = FirstOf (tableTrials t 0 (post number rate base)) z
-Declines t (Withdraw number) z = FirstOf (tableTrials t 0 (withdraw number)) z
-Declines t (Query load) z = FirstOf (tableTrials t 0 (query load)) z
-Declines t Listing z = FirstOf (tableTrials t 0 (listing room)) z
-Declines t Unreadable z = z ≡ unreadableLine
+Declines t (Post number rate base) z = FirstOf (table_trials t 0 (post number rate base)) z
+Declines t (Withdraw number) z = FirstOf (table_trials t 0 (withdraw number)) z
+Declines t (Query load) z = FirstOf (table_trials t 0 (query load)) z
+Declines t Listing z = FirstOf (table_trials t 0 (listing room)) z
+Declines t Unreadable z = z ≡ unreadable_line
 
 -- Only a post and a withdrawal write.
 abbrev pub Asks : Command → Type 0
@@ -102,7 +102,7 @@ Asks Unreadable = Unit {0}
 
 pub record Obeys (m : Command) (t t' : List ℤ) (out out' : List ℕ) (n : ℕ) : Type 0 where
   pub asks : Asks m → t' ≡ t
-  pub declined : (z : Cause) → Declines t m z → (t' ≡ t) × Prints (answered (letterOf m) (named m) (refused (causeNumber z))) out out' n
+  pub declined : (z : Cause) → Declines t m z → (t' ≡ t) × Prints (answered (letter_of m) (named m) (refused (cause_number z))) out out' n
   pub refusal : (s : State) (held : Option (Held Item)) → Form (part_of t 0) s held → (k : ℕ) → (outcome s m).answer ≡ refused k → t' ≡ t
   pub follows : (s : State) (held : Option (Held Item)) → Form (part_of t 0) s held → Stands (commanded s m) t' out out' n
 
@@ -110,7 +110,7 @@ pub record Obeys (m : Command) (t t' : List ℤ) (out out' : List ℕ) (n : ℕ)
 pub record Counts (line : List ℕ) (t t' : List ℤ) (out out' : List ℕ) (n : ℕ) : Type 0 where
   pub short : length out < most → (n ≡ 0) × (t' ≡ t) × (out' ≡ out)
   pub within : n ≤ length out
-  pub outside : OnlyPart (capacityAt t 0) 0 t t'
+  pub outside : OnlyPart (capacity_at t 0) 0 t t'
   -- so that the part is the same one from line to line
-  pub same-part : word (part_of t' 0) capacityWord ≡ word (part_of t 0) capacityWord
-  pub obeys : most ≤ length out → Obeys (commandOf line) t t' out out' n
+  pub same_part : word (part_of t' 0) capacity_word ≡ word (part_of t 0) capacity_word
+  pub obeys : most ≤ length out → Obeys (command_of line) t t' out out' n

@@ -5,12 +5,12 @@ use Rattle.std.proofs.Math.Nat.{pow-zero}
 use Rattle.lists.specs.Bools.{and_left, and_right}
 
 -- So many digits are enough for every signed word: 2^63 has so many.
-abbrev pub mostDigits : ℕ
-mostDigits = 19
+abbrev pub most_digits : ℕ
+most_digits = 19
 
 -- The first entry is 1, and each other ten times the one before: a power for each digit.
 pub record PowersOfTen (table : List ℕ) : Type 0 where
-  pub size : length table ≡ mostDigits
+  pub size : length table ≡ most_digits
   pub first : get_or table 0 0 ≡ 1
   pub next : (i : ℕ) → suc i < length table → get_or table (suc i) 0 ≡ 10 * get_or table i 0
 
@@ -24,10 +24,10 @@ abbrev pub tenfold : ℕ → List ℕ → Bool
 tenfold p [] = true
 tenfold p (q ∷ t) = eqb q (10 * p) && tenfold q t
 
-tenfold-next : (p : ℕ) (t : List ℕ) → T (tenfold p t) → (i : ℕ) → i < length t → get_or t i 0 ≡ 10 * get_or (p ∷ t) i 0
-tenfold-next p [] h i l = absurd (omega arith)
-tenfold-next p (q ∷ t) h zero l = eqb→eq q (10 * p) (and_left (eqb q (10 * p)) (tenfold q t) h)
-tenfold-next p (q ∷ t) h (suc i) l = tenfold-next q t (and_right (eqb q (10 * p)) (tenfold q t) h) i (omega arith)
+tenfold_next : (p : ℕ) (t : List ℕ) → T (tenfold p t) → (i : ℕ) → i < length t → get_or t i 0 ≡ 10 * get_or (p ∷ t) i 0
+tenfold_next p [] h i l = absurd (omega arith)
+tenfold_next p (q ∷ t) h zero l = eqb→eq q (10 * p) (and_left (eqb q (10 * p)) (tenfold q t) h)
+tenfold_next p (q ∷ t) h (suc i) l = tenfold_next q t (and_right (eqb q (10 * p)) (tenfold q t) h) i (omega arith)
 
-pub powers-rule : (t : List ℕ) → length (1 ∷ t) ≡ mostDigits → T (tenfold 1 t) → PowersOfTen (1 ∷ t)
-powers-rule t e h = record { size = e; first = refl; next = λ i l. tenfold-next 1 t h i (omega arith) }
+pub powers_rule : (t : List ℕ) → length (1 ∷ t) ≡ most_digits → T (tenfold 1 t) → PowersOfTen (1 ∷ t)
+powers_rule t e h = record { size = e; first = refl; next = λ i l. tenfold_next 1 t h i (omega arith) }

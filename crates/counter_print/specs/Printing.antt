@@ -8,13 +8,13 @@ use Rattle.std.specs.Int.Signed.{lt_z}
 use Rattle.std.specs.Int.{w64}
 use mir.Val.{Fits, SFits, bool_byte}
 use Rattle.std.proofs.lemmas.List.Edits.{fill_more}
-use Rattle.counter_print.specs.Texts.{space, minus, decimal, justified, FitsIn, newline, answerLine}
+use Rattle.counter_print.specs.Texts.{space, minus, decimal, justified, FitsIn, newline, answer_line}
 use Rattle.counter_print.specs.Printed.{Justifies, Puts, Answers}
-use Rattle.counter_print.specs.Decimals.{sign, decimal-parts}
-use Rattle.counter_print.specs.Powers.{mostDigits}
-use Rattle.counter_print.specs.Places.{places, places-length, CountsDigits, counts-text}
-use Rattle.counter_print.specs.Sections.{between, parts-left, parts-middle, parts-right}
-use Rattle.counter_print.specs.Justified.{justified-append}
+use Rattle.counter_print.specs.Decimals.{sign, decimal_parts}
+use Rattle.counter_print.specs.Powers.{most_digits}
+use Rattle.counter_print.specs.Places.{places, places_length, CountsDigits, counts_text}
+use Rattle.counter_print.specs.Sections.{between, parts_left, parts_middle, parts_right}
+use Rattle.counter_print.specs.Justified.{justified_append}
 
 -- ---- what stands before the digits
 
@@ -23,39 +23,39 @@ pub record Blanking (before column : List ℕ) (at : ℕ) : Type 0 where
   pub high : at ≤ length before
   pub text : column ≡ replicate at space ++ drop at before
 
-pub minus-room : (negative : Bool) (n : ℕ) → negative ≡ true → length (sign negative) ≤ n → 0 < n
-minus-room negative n e h = rw e at h
+pub minus_room : (negative : Bool) (n : ℕ) → negative ≡ true → length (sign negative) ≤ n → 0 < n
+minus_room negative n e h = rw e at h
 
-minus-last : (k : ℕ) → set (replicate (suc k) space) k minus ≡ replicate k space ++ minus ∷ []
-minus-last zero = refl
-minus-last (suc k) = ap (λ (t : List ℕ). space ∷ t) (minus-last k)
+minus_last : (k : ℕ) → set (replicate (suc k) space) k minus ≡ replicate k space ++ minus ∷ []
+minus_last zero = refl
+minus_last (suc k) = ap (λ (t : List ℕ). space ∷ t) (minus_last k)
 
 module _ {before column : List ℕ} {at : ℕ} (b : Blanking before column at) where
-  pub blanking-size : length column ≡ length before
-  blanking-size = rw (b.text, length-append, length-replicate, length-drop) (omega (arith, b.high))
+  pub blanking_size : length column ≡ length before
+  blanking_size = rw (b.text, length-append, length-replicate, length-drop) (omega (arith, b.high))
 
-  pub blanking-more : at < length column → Blanking before (set column at space) (at + 1)
-  blanking-more h =
+  pub blanking_more : at < length column → Blanking before (set column at space) (at + 1)
+  blanking_more h =
       record {
-        high = omega (arith, blanking-size);
-        text = ap (λ (t : List ℕ). set t at space) b.text ∙ fill_more at space before (omega (arith, blanking-size));
+        high = omega (arith, blanking_size);
+        text = ap (λ (t : List ℕ). set t at space) b.text ∙ fill_more at space before (omega (arith, blanking_size));
       }
 
   blanks : length column ≤ at → column ≡ replicate (length before) space
   blanks h =
-      let e : at ≡ length before = omega (arith, b.high, blanking-size) in
+      let e : at ≡ length before = omega (arith, b.high, blanking_size) in
       b.text ∙ rw (e, drop_of_length-le before {i = length before} (omega arith), append-nil)
 
-  pub signed-blank : length column ≤ at → column ≡ justified (length before) []
+  pub signed_blank : length column ≤ at → column ≡ justified (length before) []
   unfolding justified
-  signed-blank h = blanks h ∙ rw (append-nil, sub-zero)
+  signed_blank h = blanks h ∙ rw (append-nil, sub-zero)
 
-  pub signed-minus : length column ≤ at → 0 < length before → set column (at - 1) minus ≡ justified (length before) (minus ∷ [])
+  pub signed_minus : length column ≤ at → 0 < length before → set column (at - 1) minus ≡ justified (length before) (minus ∷ [])
   unfolding justified
-  signed-minus h some = rw (all, here) (minus-last (length before - 1))
+  signed_minus h some = rw (all, here) (minus_last (length before - 1))
     where
       here : at - 1 ≡ length before - 1
-      here = omega (arith, b.high, blanking-size)
+      here = omega (arith, b.high, blanking_size)
 
       all : column ≡ replicate (suc (length before - 1)) space
       all =
@@ -65,87 +65,87 @@ module _ {before column : List ℕ} {at : ℕ} (b : Blanking before column at) w
 -- ---- a whole number
 
 -- A signed word has no more digits than the table has powers.
-pub word-digits : (z : ℤ) → SFits w64 z → nat_abs z < 10 ^ mostDigits
-word-digits (pos n) f = omega arith
-word-digits (negsuc n) f = omega arith
+pub word_digits : (z : ℤ) → SFits w64 z → nat_abs z < 10 ^ most_digits
+word_digits (pos n) f = omega arith
+word_digits (negsuc n) f = omega arith
 
-pub count_fits : (negative : Bool) (count : ℕ) → count ≤ mostDigits → Fits w64 (count + bool_byte negative)
+pub count_fits : (negative : Bool) (count : ℕ) → count ≤ most_digits → Fits w64 (count + bool_byte negative)
 count_fits true count h = omega arith
 count_fits false count h = omega arith
 
-sign-length : (negative : Bool) → length (sign negative) ≡ bool_byte negative
-sign-length true = refl
-sign-length false = refl
+sign_length : (negative : Bool) → length (sign negative) ≡ bool_byte negative
+sign_length true = refl
+sign_length false = refl
 
 -- The sign fits before the digits where the text fits.
 pub sign_fits : (negative : Bool) (count : ℕ) (before : List ℕ) → count + bool_byte negative ≤ length before
     → length (sign negative) ≤ length (take (length before - count) before)
-sign_fits negative count before h = rw (length-take-le (length before - count) before (omega arith), sign-length negative) (omega arith)
+sign_fits negative count before h = rw (length-take-le (length before - count) before (omega arith), sign_length negative) (omega arith)
 
-text-length : (z : ℤ) (number count : ℕ) → number ≡ nat_abs z → CountsDigits number count → length (decimal z) ≡ bool_byte (lt_z z (pos 0)) + count
-text-length z number count e c =
-    rw (decimal-parts z, length-append, ← e, counts-text number count c, places-length count number, sign-length (lt_z z (pos 0)))
+text_length : (z : ℤ) (number count : ℕ) → number ≡ nat_abs z → CountsDigits number count → length (decimal z) ≡ bool_byte (lt_z z (pos 0)) + count
+text_length z number count e c =
+    rw (decimal_parts z, length-append, ← e, counts_text number count c, places_length count number, sign_length (lt_z z (pos 0)))
 
 -- In a column that is too narrow anything may stand.
-pub justifies-narrow : (z : ℤ) (number count : ℕ) (before after : List ℕ) → number ≡ nat_abs z → CountsDigits number count
+pub justifies_narrow : (z : ℤ) (number count : ℕ) (before after : List ℕ) → number ≡ nat_abs z → CountsDigits number count
     → length before < count + bool_byte (lt_z z (pos 0)) → Justifies z before after
-justifies-narrow z number count before after e c h = record { text = λ fits. absurd (omega (arith, fits, h, text-length z number count e c)) }
+justifies_narrow z number count before after e c h = record { text = λ fits. absurd (omega (arith, fits, h, text_length z number count e c)) }
 
 -- The columns before the digits are lent for the sign, and then the rest for the digits.
 module _ (from : ℕ) (front rest : List ℕ) (same : length front ≡ from) where
-  rest-lent : between from (length (front ++ rest)) (front ++ rest) ≡ rest
-  rest-lent = rw (drop_at front rest from same, length-append) (take_all (length front + length rest - from) rest (omega arith))
+  rest_lent : between from (length (front ++ rest)) (front ++ rest) ≡ rest
+  rest_lent = rw (drop_at front rest from same, length-append) (take_all (length front + length rest - from) rest (omega arith))
 
-  rest-done : drop (length (front ++ rest) - from) (drop from (front ++ rest)) ≡ []
-  rest-done = rw (drop_at front rest from same, length-append) (drop_of_length-le rest {i = length front + length rest - from} (omega arith))
+  rest_done : drop (length (front ++ rest) - from) (drop from (front ++ rest)) ≡ []
+  rest_done = rw (drop_at front rest from same, length-append) (drop_of_length-le rest {i = length front + length rest - from} (omega arith))
 
   -- The digits have the columns that they need.
-  pub digits-fit : (number count : ℕ) → CountsDigits number count → length rest ≡ count
-      → (length (between from (length (front ++ rest)) (front ++ rest)) ≤ mostDigits)
+  pub digits_fit : (number count : ℕ) → CountsDigits number count → length rest ≡ count
+      → (length (between from (length (front ++ rest)) (front ++ rest)) ≤ most_digits)
       × (number < 10 ^ length (between from (length (front ++ rest)) (front ++ rest)))
-  digits-fit number count c e = rw (rest-lent, e) (c.0.most, c.1)
+  digits_fit number count c e = rw (rest_lent, e) (c.0.most, c.1)
 
-  pub justifies-wide : (z : ℤ) (number count : ℕ) (before digits : List ℕ) → number ≡ nat_abs z → CountsDigits number count → from + count ≡ length before
+  pub justifies_wide : (z : ℤ) (number count : ℕ) (before digits : List ℕ) → number ≡ nat_abs z → CountsDigits number count → from + count ≡ length before
       → length rest ≡ count → front ≡ justified (length (take from before)) (sign (lt_z z (pos 0)))
       → digits ≡ places (length (between from (length (front ++ rest)) (front ++ rest))) number
       → Justifies z before (take from (front ++ rest) ++ (digits ++ drop (length (front ++ rest) - from) (drop from (front ++ rest))))
-  justifies-wide z number count before digits e c sum l signed shown =
+  justifies_wide z number count before digits e c sum l signed shown =
       record {
         text = λ _.
-            rw (take_at front rest from same, rest-done, append-nil, text)
-            (ap (λ (t : List ℕ). t ++ digits) before-digits ∙ ap (λ (t : List ℕ). justified from mark ++ t) all ∙ sym apart);
+            rw (take_at front rest from same, rest_done, append-nil, text)
+            (ap (λ (t : List ℕ). t ++ digits) before_digits ∙ ap (λ (t : List ℕ). justified from mark ++ t) all ∙ sym apart);
       }
     where
       mark : List ℕ
       mark = sign (lt_z z (pos 0))
 
       text : decimal z ≡ mark ++ places count number
-      text = decimal-parts z ∙ rw (← e, counts-text number count c)
+      text = decimal_parts z ∙ rw (← e, counts_text number count c)
 
       room : length (take from before) ≡ from
       room = length-take-le from before (omega arith)
 
-      before-digits : front ≡ justified from mark
-      before-digits = rw room at signed
+      before_digits : front ≡ justified from mark
+      before_digits = rw room at signed
 
       all : digits ≡ places count number
-      all = shown ∙ rw (rest-lent, l)
+      all = shown ∙ rw (rest_lent, l)
 
       apart : justified (length before) (mark ++ places count number) ≡ justified from mark ++ places count number
       apart =
-          let n : length before - length (places count number) ≡ from = omega (arith, places-length count number) in
-          rw n at (justified-append (length before) mark (places count number) (omega (arith, places-length count number)))
+          let n : length before - length (places count number) ≡ from = omega (arith, places_length count number) in
+          rw n at (justified_append (length before) mark (places count number) (omega (arith, places_length count number)))
 
 -- ---- a number among other bytes
 
-pub puts-part : (from width : ℕ) (z : ℤ) (before column : List ℕ) → from + width ≤ length before
+pub puts_part : (from width : ℕ) (z : ℤ) (before column : List ℕ) → from + width ≤ length before
     → length column ≡ length (between from (from + width) before) → Justifies z (between from (from + width) before) column
     → Puts from width z before (take from before ++ (column ++ drop (from + width - from) (drop from before)))
-puts-part from width z before column h e j =
+puts_part from width z before column h e j =
     record {
-      text = λ fits. parts-middle left column right from width l m ∙ rw wide at (j.text (rw wide fits));
-      left = parts-left left column right from width l m;
-      right = parts-right left column right from width l m ∙ drop-drop (from + width - from) from before ∙ ap (λ (i : ℕ). drop (from + i) before) q;
+      text = λ fits. parts_middle left column right from width l m ∙ rw wide at (j.text (rw wide fits));
+      left = parts_left left column right from width l m;
+      right = parts_right left column right from width l m ∙ drop-drop (from + width - from) from before ∙ ap (λ (i : ℕ). drop (from + i) before) q;
     }
   where
     left : List ℕ
@@ -169,29 +169,29 @@ puts-part from width z before column h e j =
 -- ---- a line, number after number
 
 -- One more number after the bytes so far.
-puts-more : {from width : ℕ} {z : ℤ} {before after text : List ℕ} → Puts from width z before after → FitsIn width z
+puts_more : {from width : ℕ} {z : ℤ} {before after text : List ℕ} → Puts from width z before after → FitsIn width z
     → take from before ≡ text → take (from + width) after ≡ text ++ justified width (decimal z)
-puts-more {from} {width} {after = after} p fits e = take-add from width after ∙ rw (p.text fits, p.left, e)
+puts_more {from} {width} {after = after} p fits e = take-add from width after ∙ rw (p.text fits, p.left, e)
 
-drop-later : (i j : ℕ) (a b : List ℕ) → i ≤ j → drop i a ≡ drop i b → drop j a ≡ drop j b
-drop-later i j a b h e =
+drop_later : (i j : ℕ) (a b : List ℕ) → i ≤ j → drop i a ≡ drop i b → drop j a ≡ drop j b
+drop_later i j a b h e =
     let q : j ≡ i + (j - i) = omega arith in
     rw (q, ← drop-drop (j - i) i a, ← drop-drop (j - i) i b, e)
 
-puts-rest : {from width : ℕ} {z : ℤ} {before after : List ℕ} → Puts from width z before after → from + width ≤ 39 → drop 39 after ≡ drop 39 before
-puts-rest {from} {width} {before = before} {after} p h = drop-later (from + width) 39 after before h p.right
+puts_rest : {from width : ℕ} {z : ℤ} {before after : List ℕ} → Puts from width z before after → from + width ≤ 39 → drop 39 after ≡ drop 39 before
+puts_rest {from} {width} {before = before} {after} p h = drop_later (from + width) 39 after before h p.right
 
 pub answers : (letter : ℕ) (refusal offer value second : ℤ) (b₀ b₁ b₂ b₃ b₄ : List ℕ) → 39 ≤ length b₀ → 39 ≤ length b₄
     → Puts 1 3 refusal (set b₀ 0 letter) b₁ → Puts 4 6 offer b₁ b₂ → Puts 10 14 value b₂ b₃ → Puts 24 14 second b₃ b₄
     → Answers letter refusal offer value second b₀ (set b₄ 38 newline)
-unfolding answerLine
+unfolding answer_line
 answers letter refusal offer value second b₀ b₁ b₂ b₃ b₄ h₀ h₄ p₁ p₂ p₃ p₄ =
     record {
       text = λ f₁ f₂ f₃ f₄.
           take-suc-set b₄ 38 newline h₄
-          ∙ ap (λ (t : List ℕ). t ++ newline ∷ []) (puts-more p₄ f₄
-          (puts-more p₃ f₃ (puts-more p₂ f₂ (puts-more p₁ f₁ (take-suc-set b₀ 0 letter (omega arith))))));
+          ∙ ap (λ (t : List ℕ). t ++ newline ∷ []) (puts_more p₄ f₄
+          (puts_more p₃ f₃ (puts_more p₂ f₂ (puts_more p₁ f₁ (take-suc-set b₀ 0 letter (omega arith))))));
       rest =
-          drop-set-lt 39 b₄ 38 newline (omega arith) ∙ puts-rest p₄ (omega arith) ∙ puts-rest p₃ (omega arith) ∙ puts-rest p₂ (omega arith)
-          ∙ puts-rest p₁ (omega arith) ∙ drop-set-lt 39 b₀ 0 letter (omega arith);
+          drop-set-lt 39 b₄ 38 newline (omega arith) ∙ puts_rest p₄ (omega arith) ∙ puts_rest p₃ (omega arith) ∙ puts_rest p₂ (omega arith)
+          ∙ puts_rest p₁ (omega arith) ∙ drop-set-lt 39 b₀ 0 letter (omega arith);
     }

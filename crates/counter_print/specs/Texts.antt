@@ -18,13 +18,13 @@ digit d = 48 + d
 -- ---- numbers
 
 -- The digits of a number, the leading one first, and none for 0. The first argument bounds how many there are.
-unfoldable pub digitsWithin : ℕ → ℕ → List ℕ
-digitsWithin zero n = []
-digitsWithin (suc k) zero = []
-digitsWithin (suc k) (suc m) = digitsWithin k (suc m / 10) ++ digit (suc m % 10) ∷ []
+unfoldable pub digits_within : ℕ → ℕ → List ℕ
+digits_within zero n = []
+digits_within (suc k) zero = []
+digits_within (suc k) (suc m) = digits_within k (suc m / 10) ++ digit (suc m % 10) ∷ []
 
 unfoldable pub digits : ℕ → List ℕ
-digits n = digitsWithin n n
+digits n = digits_within n n
 
 -- The digits of its tens, and its last digit: 0 is written too.
 unfoldable pub numeral : ℕ → List ℕ
@@ -48,6 +48,6 @@ FitsIn width z = length (decimal z) ≤ width
 -- ---- an answer's line, with its newline
 
 -- Letter, refusal or 0, offer, value, second value.
-unfoldable pub answerLine : ℕ → (refusal offer value second : ℤ) → List ℕ
-answerLine letter refusal offer value second =
+unfoldable pub answer_line : ℕ → (refusal offer value second : ℤ) → List ℕ
+answer_line letter refusal offer value second =
     letter ∷ justified 3 (decimal refusal) ++ justified 6 (decimal offer) ++ justified 14 (decimal value) ++ justified 14 (decimal second) ++ newline ∷ []

@@ -2,7 +2,7 @@
 ghost use Rattle.std.specs.Prelude.{◌≡◌, ◌+◌, ◌*◌, ◌^◌, ◌≤◌, ◌<◌, length, nat_abs};
 ghost use Rattle.counter_print.specs.Texts.{justified};
 ghost use Rattle.counter_print.specs.Decimals.{sign};
-ghost use Rattle.counter_print.specs.Powers.{PowersOfTen, mostDigits};
+ghost use Rattle.counter_print.specs.Powers.{PowersOfTen, most_digits};
 ghost use Rattle.counter_print.specs.Places.{places, CountsDigits, LeadDigit};
 ghost use Rattle.counter_print.specs.Printed.{Justifies, Puts, Answers};
 
@@ -60,7 +60,7 @@ fn powers_of_ten() -> [u64; MOST_DIGITS]
 
 // How many digits a number has: 0 has one.
 fn digit_count(powers: &[u64], number: u64) -> usize
-    requires { PowersOfTen powers.now × (number < 10 ^ mostDigits) }
+    requires { PowersOfTen powers.now × (number < 10 ^ most_digits) }
     ensures { CountsDigits number result }
 {
     let mut count = 1;
@@ -90,7 +90,7 @@ fn lead_digit(number: u64, power: u64) -> Lead
 
 // Fills columns with a number's digits, the highest first, zeros before them where there are more columns.
 fn put_digits(column: &mut [u8], powers: &[u64], number: u64)
-    requires { PowersOfTen powers.now × (length column.old ≤ mostDigits) × (number < 10 ^ length column.old) }
+    requires { PowersOfTen powers.now × (length column.old ≤ most_digits) × (number < 10 ^ length column.old) }
     ensures { column.new ≡ places (length column.old) number }
 {
     let mut at = 0;

@@ -1,6 +1,6 @@
 // The lines of the book's answers, as the counter prints them.
 ghost use Rattle.std.specs.Prelude.{◌≡◌, ◌+◌, ◌*◌, ◌≤◌, length, pos};
-ghost use Rattle.promises.specs.Promises.{updateAnswer, foundAnswer, listingAnswer};
+ghost use Rattle.promises.specs.Promises.{update_answer, found_answer, listing_answer};
 ghost use Rattle.counter_reply.specs.Replies.{Replies};
 ghost use Rattle.counter_reply.specs.PieceLines.{PieceLine, PiecesTo};
 
@@ -9,7 +9,7 @@ use promises::{Found, Listed, Update};
 // The line of a post's or a withdrawal's answer.
 pub fn update_line(out: &mut [u8], letter: u8, number: i64, update: Update) -> usize
     requires { 39 ≤ length out.old }
-    ensures { Replies letter number (updateAnswer update) out.old out.new result }
+    ensures { Replies letter number (update_answer update) out.old out.new result }
 {
     match update {
         Update::Done {
@@ -31,7 +31,7 @@ pub fn update_line(out: &mut [u8], letter: u8, number: i64, update: Update) -> u
 // The line of a query's answer.
 pub fn found_line(out: &mut [u8], found: Found) -> usize
     requires { 39 ≤ length out.old }
-    ensures { Replies 81 (pos 0) (foundAnswer found) out.old out.new result }
+    ensures { Replies 81 (pos 0) (found_answer found) out.old out.new result }
 {
     match found {
         Found::Offer {
@@ -77,7 +77,7 @@ fn piece_lines(pieces: &[i64], count: usize, out: &mut [u8])
 // The lines of a listing's answer: its pieces, and its own line.
 pub fn listed_lines(out: &mut [u8], listed: Listed, pieces: &[i64]) -> usize
     requires { (2535 ≤ length out.old) × (length pieces.now ≡ 192) }
-    ensures { Replies 76 (pos 0) (listingAnswer listed pieces.now) out.old out.new result }
+    ensures { Replies 76 (pos 0) (listing_answer listed pieces.now) out.old out.new result }
 {
     match listed {
         Listed::Pieces(m) => {

@@ -2,11 +2,11 @@
 ghost use Rattle.std.specs.Prelude.{◌≡◌};
 ghost use Rattle.table.specs.Layout.{cap};
 ghost use Rattle.cuts.specs.PieceCuts.{CutAt, CutBehind, CutBefore};
-ghost use Rattle.cuts.specs.Cutting.{leastRate};
+ghost use Rattle.cuts.specs.Cutting.{least_rate};
 
 // The least rate in front of a cut: for a strict one a rate more. No offer's rate reaches a million.
 fn least_rate(strict: bool, rate: i64) -> i64
-    ensures { result ≡ leastRate strict rate }
+    ensures { result ≡ least_rate strict rate }
 {
     if strict {
         if rate < 1_000_000 {

@@ -11,12 +11,12 @@ use Rattle.lists.specs.Bools.{cond_both}
 use Rattle.integers.specs.Parts.{intRules}
 use Rattle.trees.specs.Tree.{Tree, leaf, node, leaves, last}
 use Rattle.trees.specs.Leaves.{last_leaf}
-use Rattle.trees.specs.Order.{Falling, parted, last-lowest}
-use Rattle.table.specs.Fields.{mostSlots}
+use Rattle.trees.specs.Order.{Falling, parted, last_lowest}
+use Rattle.table.specs.Fields.{most_slots}
 use Rattle.table.specs.Words.{Words}
 use Rattle.table.specs.Layout.{cell}
 use Rattle.table.specs.Items.{Item}
-use Rattle.descents.specs.Seeks.{found_at, Answered, Looking, Leads, looking-ends}
+use Rattle.descents.specs.Seeks.{found_at, Answered, Looking, Leads, looking_ends}
 
 -- ---- the tree
 
@@ -39,8 +39,8 @@ module _ {A : Type 0} (key : A → ℤ) (k : ℤ) where
   Following xs none = NoneBelow xs
   Following xs (some b) = Follows xs b
 
-  not-both : (z : ℤ) → T (le_z k z) → T (lt_z z k) → ⊥
-  not-both z t u = omega (arith, intRules)
+  not_both : (z : ℤ) → T (le_z k z) → T (lt_z z k) → ⊥
+  not_both z t u = omega (arith, intRules)
 
   one_below : (x : A) → T (not (le_z k (key x))) → Follows (leaves (leaf x)) x
   one_below x t =
@@ -50,32 +50,32 @@ module _ {A : Type 0} (key : A → ℤ) (k : ℤ) where
         greatest = λ a m u. subst (λ (y : A). T (le_z (key y) (key x))) (sym (Memᴰ.eq_of_singleton m)) (omega (arith, intRules));
       }
 
-  pub below-follows : (t : Tree A) → Falling key (leaves t) → Following (leaves t) (below key k t)
+  pub below_follows : (t : Tree A) → Falling key (leaves t) → Following (leaves t) (below key k t)
   unfolding below
-  below-follows (leaf x) p =
+  below_follows (leaf x) p =
       cond_both (Following (leaves (leaf x))) (le_z k (key x)) (λ t a m. subst (λ y. T (le_z k (key y))) (sym (Memᴰ.eq_of_singleton m)) t) (one_below x)
-  below-follows (node l r) p =
-      cond_both (Following (leaves l ++ leaves r)) (le_z k (key (last l))) (λ t. on-right t (below key k r) (below-follows r (parted (leaves l) p).right))
-      (λ t. on-left t (below key k l) (below-follows l (parted (leaves l) p).left))
+  below_follows (node l r) p =
+      cond_both (Following (leaves l ++ leaves r)) (le_z k (key (last l))) (λ t. on_right t (below key k r) (below_follows r (parted (leaves l) p).right))
+      (λ t. on_left t (below key k l) (below_follows l (parted (leaves l) p).left))
     where
       high : T (le_z k (key (last l))) → (a : A) → Memᴰ a (leaves l) → T (le_z k (key a))
-      high t a m = let u = last-lowest key l (parted (leaves l) p).left m in omega (arith, intRules)
+      high t a m = let u = last_lowest key l (parted (leaves l) p).left m in omega (arith, intRules)
 
-      on-right : T (le_z k (key (last l))) → (o : Option A) → Following (leaves r) o → Following (leaves l ++ leaves r) o
-      on-right t none g = λ a m. ⊎_elim (high t a) (g a) (Memᴰ.append_cases (leaves l) m)
-      on-right t (some b) g =
+      on_right : T (le_z k (key (last l))) → (o : Option A) → Following (leaves r) o → Following (leaves l ++ leaves r) o
+      on_right t none g = λ a m. ⊎_elim (high t a) (g a) (Memᴰ.append_cases (leaves l) m)
+      on_right t (some b) g =
           record {
             inside = Memᴰ.append_right (leaves l) g.inside;
             less = g.less;
-            greatest = λ a m v. ⊎_elim (λ j. absurd (not-both (key a) (high t a j) v)) (λ j. g.greatest a j v) (Memᴰ.append_cases (leaves l) m);
+            greatest = λ a m v. ⊎_elim (λ j. absurd (not_both (key a) (high t a j) v)) (λ j. g.greatest a j v) (Memᴰ.append_cases (leaves l) m);
           }
 
-      on-left : T (not (le_z k (key (last l)))) → (o : Option A) → Following (leaves l) o → Following (leaves l ++ leaves r) o
-      on-left t none g = absurd (off (g (last l) (last_leaf l)))
+      on_left : T (not (le_z k (key (last l)))) → (o : Option A) → Following (leaves l) o → Following (leaves l ++ leaves r) o
+      on_left t none g = absurd (off (g (last l) (last_leaf l)))
         where
           off : T (le_z k (key (last l))) → ⊥
           off u = omega (arith, intRules)
-      on-left t (some b) g =
+      on_left t (some b) g =
           record {
             inside = Memᴰ.append_left (leaves r) g.inside;
             less = g.less;
@@ -94,16 +94,16 @@ abbrev pub After : Words → ℕ → ℕ → ℤ → ℕ → ℕ → Type 0
 After w k f sought x r = Answered below w k f sought x r
 
 -- it is right of a leaf whose key is not below
-pub below-leads : Leads below le_z
+pub below_leads : Leads below le_z
 unfolding below
-below-leads key sought true l r e = ap (λ c. cond c (below key sought r) (below key sought l)) e
-below-leads key sought false l r e = ap (λ c. cond c (below key sought r) (below key sought l)) e
+below_leads key sought true l r e = ap (λ c. cond c (below key sought r) (below key sought l)) e
+below_leads key sought false l r e = ap (λ c. cond c (below key sought r) (below key sought l)) e
 
-pub below-ends : {w : Words} {k f x y limit : ℕ} {b : Bool} (sought : ℤ) (d : Bool) → Looking below w k f sought x y limit → y ≤ mostSlots →
+pub below_ends : {w : Words} {k f x y limit : ℕ} {b : Bool} (sought : ℤ) (d : Bool) → Looking below w k f sought x y limit → y ≤ most_slots →
     b ≡ le_z sought (cell w f y) → b ≡ d
     → After w k f sought x (cond d 0 y)
 unfolding below
-below-ends {w} {k} {f} {x} {y} sought d j h eb e = looking-ends (cond d 0 y) j h (zero d) (λ key a s i. one d key a s (told key a i))
+below_ends {w} {k} {f} {x} {y} sought d j h eb e = looking_ends (cond d 0 y) j h (zero d) (λ key a s i. one d key a s (told key a i))
   where
     zero : (d : Bool) → y ≡ 0 → cond d 0 y ≡ 0
     zero true i = refl

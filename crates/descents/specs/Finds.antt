@@ -5,27 +5,27 @@ use Rattle.std.proofs.Math.Option.{none, some}
 use Rattle.std.specs.Int.Signed.{le_z, lt_z}
 use Rattle.trees.specs.Tree.{leaf}
 use Rattle.trees.specs.Operations.{find}
-use Rattle.table.specs.Fields.{mostSlots}
+use Rattle.table.specs.Fields.{most_slots}
 use Rattle.table.specs.Words.{Words}
 use Rattle.table.specs.Layout.{cell}
 use Rattle.table.specs.Items.{Item}
 pub use Rattle.descents.specs.Seeks.{found_at}
-use Rattle.descents.specs.Seeks.{Answered, Looking, Leads, looking-ends}
+use Rattle.descents.specs.Seeks.{Answered, Looking, Leads, looking_ends}
 
 abbrev pub Found : Words → ℕ → ℕ → ℤ → ℕ → ℕ → Type 0
 Found w k f sought x r = Answered find w k f sought x r
 
 -- it is right of a leaf with a greater key
-pub find-leads : Leads find lt_z
+pub find_leads : Leads find lt_z
 unfolding find
-find-leads key sought true l r e = ap (λ c. cond c (find key sought r) (find key sought l)) e
-find-leads key sought false l r e = ap (λ c. cond c (find key sought r) (find key sought l)) e
+find_leads key sought true l r e = ap (λ c. cond c (find key sought r) (find key sought l)) e
+find_leads key sought false l r e = ap (λ c. cond c (find key sought r) (find key sought l)) e
 
-pub find-ends : {w : Words} {k f x y limit : ℕ} {b : Bool} (sought : ℤ) (d : Bool) → Looking find w k f sought x y limit → y ≤ mostSlots →
+pub find_ends : {w : Words} {k f x y limit : ℕ} {b : Bool} (sought : ℤ) (d : Bool) → Looking find w k f sought x y limit → y ≤ most_slots →
     b ≡ le_z (cell w f y) sought && le_z sought (cell w f y) → b ≡ d
     → Found w k f sought x (cond d y 0)
 unfolding find
-find-ends {w} {k} {f} {x} {y} sought d j h eb e = looking-ends (cond d y 0) j h (zero d) (λ key a s i. one d key a s (told key a i))
+find_ends {w} {k} {f} {x} {y} sought d j h eb e = looking_ends (cond d y 0) j h (zero d) (λ key a s i. one d key a s (told key a i))
   where
     zero : (d : Bool) → y ≡ 0 → cond d y 0 ≡ 0
     zero true i = i

@@ -5,16 +5,16 @@ use Rattle.std.proofs.Math.Option.{Option, none, some}
 use mathlib.Core.List.Memᴰ
 use Rattle.trees.specs.Tree.{Tree, leaf, node, height, leaves, last, Avl}
 use Rattle.trees.specs.Leaves.{last_leaf}
-use Rattle.table.specs.Fields.{mostLevels, mostSlots}
+use Rattle.table.specs.Fields.{most_levels, most_slots}
 use Rattle.table.specs.Words.{Words}
 use Rattle.table.specs.Layout.{cell}
 use Rattle.table.specs.Items.{Item}
-use Rattle.table.specs.Rep.{childAt, Rep}
-use Rattle.table.specs.Nodes.{parents, leaf-low, not-spent}
+use Rattle.table.specs.Rep.{child_at, Rep}
+use Rattle.table.specs.Nodes.{parents, leaf_low, not_spent}
 use Rattle.table.specs.PartTrees.{low}
-use Rattle.table.specs.Keys.{Keyed, keyed-left, keyed-right}
-use Rattle.shape.specs.Splices.{inner-ref}
-use Rattle.descents.specs.Ends.{pick, down, down-low}
+use Rattle.table.specs.Keys.{Keyed, keyed_left, keyed_right}
+use Rattle.shape.specs.Splices.{inner_ref}
+use Rattle.descents.specs.Ends.{pick, down, down_low}
 
 -- what a key finds in a tree
 abbrev pub Answer : Type 0
@@ -49,18 +49,18 @@ Leads answer right =
     (key : Item → ℤ) (sought : ℤ) (b : Bool) (l r : Tree Item) → b ≡ right sought (key (last l)) →
     answer key sought (pick b l r) ≡ answer key sought (node l r)
 
-pub looking-begins : (answer : Answer) (w : Words) (k f : ℕ) (sought : ℤ) (x : ℕ) → Looking answer w k f sought x x mostLevels
-looking-begins answer w k f sought x =
+pub looking_begins : (answer : Answer) (w : Words) (k f : ℕ) (sought : ℤ) (x : ℕ) → Looking answer w k f sought x x most_levels
+looking_begins answer w k f sought x =
     record { is = λ t key r a q. record { here = t; rep = r; keyed = q; same = refl; high = low w r.slots a }; nothing = λ e. e }
 
-down-keyed : {w : Words} {f : ℕ} {key : Item → ℤ} (side : Bool) (l r : Tree Item) → Keyed w f key (leaves (node l r)) → Keyed w f key (leaves (pick side l r))
-down-keyed false l r q = keyed-left (leaves r) q
-down-keyed true l r q = keyed-right (leaves l) q
+down_keyed : {w : Words} {f : ℕ} {key : Item → ℤ} (side : Bool) (l r : Tree Item) → Keyed w f key (leaves (node l r)) → Keyed w f key (leaves (pick side l r))
+down_keyed false l r q = keyed_left (leaves r) q
+down_keyed true l r q = keyed_right (leaves l) q
 
-pub looking-on : {answer : Answer} {w : Words} {k f x y limit g z : ℕ} {b : Bool} (right : ℤ → ℤ → Bool) → Leads answer right → (sought : ℤ) →
-    Looking answer w k f sought x y limit → mostSlots < y → g ≡ y - mostSlots → b ≡ right sought (cell w f g) → z ≡ childAt w k b y
+pub looking_on : {answer : Answer} {w : Words} {k f x y limit g z : ℕ} {b : Bool} (right : ℤ → ℤ → Bool) → Leads answer right → (sought : ℤ) →
+    Looking answer w k f sought x y limit → most_slots < y → g ≡ y - most_slots → b ≡ right sought (cell w f g) → z ≡ child_at w k b y
     → Looking answer w k f sought x z (limit - 1)
-looking-on {answer} {w} {k} {f} {x} {y} {limit} {g} {z} {b} right leads sought j h eg eb e =
+looking_on {answer} {w} {k} {f} {x} {y} {limit} {g} {z} {b} right leads sought j h eg eb e =
     record {
       is = λ t key r a q. step t key (j.is t key r a q).here (j.is t key r a q).rep (j.is t key r a q).keyed (j.is t key r a q).same
           (j.is t key r a q).high;
@@ -69,33 +69,33 @@ looking-on {answer} {w} {k} {f} {x} {y} {limit} {g} {z} {b} right leads sought j
   where
     step : (t : Tree Item) (key : Item → ℤ) (u : Tree Item) → Rep w k y u → Keyed w f key (leaves u) → answer key sought u ≡ answer key sought t →
         height u ≤ limit → Closer answer w k f sought z (limit - 1) t key
-    step t key (leaf a) r q d n = absurd (omega (arith, h, leaf-low r))
+    step t key (leaf a) r q d n = absurd (omega (arith, h, leaf_low r))
     step t key (node l s) r q d n =
         record {
           here = pick b l s;
           rep = down b r e;
-          keyed = down-keyed b l s q;
+          keyed = down_keyed b l s q;
           same = leads key sought b l s told ∙ d;
-          high = omega (arith, n, down-low b l s);
+          high = omega (arith, n, down_low b l s);
         }
       where
         told : b ≡ right sought (key (last l))
-        told = eb ∙ ap (right sought) (ap (cell w f) (eg ∙ (parents r).seam-at) ∙ q.read (Memᴰ.append_left (leaves s) (last_leaf l)))
+        told = eb ∙ ap (right sought) (ap (cell w f) (eg ∙ (parents r).seam_at) ∙ q.read (Memᴰ.append_left (leaves s) (last_leaf l)))
 
 -- the limit is used up, which no balanced tree comes to
-pub looking-over : {answer : Answer} {w : Words} {k f x y limit r : ℕ} {sought : ℤ} → Looking answer w k f sought x y limit → mostSlots < y → limit ≡ 0 →
+pub looking_over : {answer : Answer} {w : Words} {k f x y limit r : ℕ} {sought : ℤ} → Looking answer w k f sought x y limit → most_slots < y → limit ≡ 0 →
     Answered answer w k f sought x r
-looking-over j h e =
+looking_over j h e =
     record {
-      is = λ t key r a q. absurd (not-spent (j.is t key r a q).here h e (j.is t key r a q).rep (j.is t key r a q).high);
+      is = λ t key r a q. absurd (not_spent (j.is t key r a q).here h e (j.is t key r a q).rep (j.is t key r a q).high);
       nothing = λ d. absurd (omega (arith, h, j.nothing d));
     }
 
 -- at a leaf
-pub looking-ends : {answer : Answer} {w : Words} {k f x y limit : ℕ} {sought : ℤ} (r : ℕ) → Looking answer w k f sought x y limit → y ≤ mostSlots →
+pub looking_ends : {answer : Answer} {w : Words} {k f x y limit : ℕ} {sought : ℤ} (r : ℕ) → Looking answer w k f sought x y limit → y ≤ most_slots →
     (y ≡ 0 → r ≡ 0) → ((key : Item → ℤ) (a : Item) → y ≡ a.slot → cell w f y ≡ key a → r ≡ found_at (answer key sought (leaf a)))
     → Answered answer w k f sought x r
-looking-ends {answer} {w} {k} {f} {x} {y} {limit} {sought} r j h zero told =
+looking_ends {answer} {w} {k} {f} {x} {y} {limit} {sought} r j h zero told =
     record {
       is = λ t key r a q. stop t key (j.is t key r a q).here (j.is t key r a q).rep (j.is t key r a q).keyed (j.is t key r a q).same;
       nothing = λ i. zero (j.nothing i);
@@ -104,4 +104,4 @@ looking-ends {answer} {w} {k} {f} {x} {y} {limit} {sought} r j h zero told =
     stop : (t : Tree Item) (key : Item → ℤ) (u : Tree Item) → Rep w k y u → Keyed w f key (leaves u) → answer key sought u ≡ answer key sought t →
         r ≡ found_at (answer key sought t)
     stop t key (leaf a) p q i = told key a p.root (ap (cell w f) p.root ∙ q.read (Memᴰ.head refl)) ∙ ap found_at i
-    stop t key (node l s) p q i = absurd (omega (arith, h, inner-ref p (omega arith)))
+    stop t key (node l s) p q i = absurd (omega (arith, h, inner_ref p (omega arith)))

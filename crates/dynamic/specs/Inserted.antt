@@ -8,21 +8,21 @@ use mathlib.Core.List.{List, [], ◌∷◌, ◌++◌}
 use Rattle.std.proofs.Math.Seq.{append_snoc}
 use Rattle.lists.specs.Bools.{cond_both, cond_yes, cond_no}
 use Rattle.envelopes.specs.PseudoLines.{Figure, PseudoLines}
-use Rattle.envelopes.specs.Envelope.{Ordered, Ordered·nil, Ordered·cons}
-use Rattle.envelopes.specs.EnvelopeLaws.{ordered-left}
-use Rattle.trees.specs.Tree.{height, leaves, last, avl-leaf}
+use Rattle.envelopes.specs.Envelope.{Ordered, ordered_nil, ordered_cons}
+use Rattle.envelopes.specs.EnvelopeLaws.{ordered_left}
+use Rattle.trees.specs.Tree.{height, leaves, last, avl_leaf}
 use Rattle.trees.specs.Operations.{Part}
 use Rattle.trees.specs.Leaves.{last_leaf}
 use Rattle.meeting.specs.Machine.{left}
-use Rattle.dynamic.specs.OfferTree.{OfferTree, single, fork, shape, Held, hold, alone, Made, made, and_then, lower, lowerTree, raise}
+use Rattle.dynamic.specs.OfferTree.{OfferTree, single, fork, shape, Held, hold, alone, Made, made, and_then, lower, lower_tree, raise}
 use Rattle.dynamic.specs.Updates.{rebalance, insert}
-use Rattle.dynamic.specs.Valid.{Whole, valid-single, placed}
+use Rattle.dynamic.specs.Valid.{Whole, valid_single, placed}
 use Rattle.dynamic.specs.Work.{Inner}
-use Rattle.dynamic.specs.Floors.{added-here, added-there, added-between, added-behind}
-use Rattle.dynamic.specs.Forests.{lines_of, lines-append, lines_left, lines-right, Merged, merged-here, merged-behind}
-use Rattle.dynamic.specs.Kept.{Kept, heldHeight, Above, above-turned, lowered-on, raised-on, line_joins}
-use Rattle.dynamic.specs.Rebalanced.{Balances, balances-turned, rebalanced}
-use Rattle.dynamic.specs.Placed.{placed-left, placed-right, none-behind}
+use Rattle.dynamic.specs.Floors.{added_here, added_there, added_between, added_behind}
+use Rattle.dynamic.specs.Forests.{lines_of, lines_append, lines_left, lines_right, Merged, merged_here, merged_behind}
+use Rattle.dynamic.specs.Kept.{Kept, held_height, Above, above_turned, lowered_on, raised_on, line_joins}
+use Rattle.dynamic.specs.Rebalanced.{Balances, balances_turned, rebalanced}
+use Rattle.dynamic.specs.Placed.{placed_left, placed_right, none_behind}
 
 -- ---- heights: below h stand f and g, and f grows to k
 
@@ -44,59 +44,59 @@ climbs {h} {f} {g} {k} e p q low high = record { near = omega arith; far = omega
 pub record Grown (S : Figure) (before : List (Inner S.Line)) (live : List S.Line) (row : List (Held S.Line)) (h : ℕ) (m : Made S.Line) :
     Type 0 where
   pub kept : Kept S before live row m.log
-  pub low : h ≤ heldHeight m.held
-  pub high : heldHeight m.held ≤ suc h
+  pub low : h ≤ held_height m.held
+  pub high : held_height m.held ≤ suc h
   pub few : length m.log ≤ 3 * h + 1
 
-pub alone-whole : (S : Figure) (s : S.Line) → Whole S (alone s)
-alone-whole S s =
-    record { ordered = Ordered·cons (λ b m. absurd (Memᴰ.not-nil m)) Ordered·nil; valid = valid-single; balanced = avl-leaf; balanced-whole = avl-leaf }
+pub alone_whole : (S : Figure) (s : S.Line) → Whole S (alone s)
+alone_whole S s =
+    record { ordered = ordered_cons (λ b m. absurd (Memᴰ.not-nil m)) ordered_nil; valid = valid_single; balanced = avl_leaf; balanced_whole = avl_leaf }
 
 module _ (S : Figure) (L : PseudoLines S) {before : List (Inner S.Line)} {live : List S.Line} where
   -- f grew, and was rebalanced beside its sibling g
   regrown :
       {h f g : ℕ} (m n : Made S.Line) {row more : List (Held S.Line)} →
-      Climbs h f g (heldHeight m.held) →
+      Climbs h f g (held_height m.held) →
       Grown S before live row f m →
       Kept S before live more (m.log ++ n.log) →
-      Balances (heldHeight m.held) g (heldHeight n.held) →
+      Balances (held_height m.held) g (held_height n.held) →
       length n.log ≤ 3 →
       Grown S before live more h (made n.held (m.log ++ n.log))
   regrown m n C G k b few =
       let (low, high) = C.fits _ b in
       record { kept = k; low = low; high = high; few = rw length-append (C.few (length m.log) (length n.log) G.few few) }
 
-  grown-left :
+  grown_left :
       {h f g : Held S.Line} {m : Made S.Line} (xs ys : List (Held S.Line)) →
       Above f g h →
-      Grown S before live (xs ++ m.held ∷ g ∷ ys) (heldHeight f) m →
-      Grown S before live (xs ++ (rebalance S m.held g).held ∷ ys) (heldHeight h) (and_then m (λ l. rebalance S l g))
-  grown-left {h} {f} {g} {m} xs ys a G =
-      let C = climbs a.higher a.left-level a.right-level G.low G.high in
+      Grown S before live (xs ++ m.held ∷ g ∷ ys) (held_height f) m →
+      Grown S before live (xs ++ (rebalance S m.held g).held ∷ ys) (held_height h) (and_then m (λ l. rebalance S l g))
+  grown_left {h} {f} {g} {m} xs ys a G =
+      let C = climbs a.higher a.left_level a.right_level G.low G.high in
       let J = rebalanced S L before live xs ys m.held g G.kept C.near C.far in
       regrown m (rebalance S m.held g) C G J.kept J.heights J.few
 
-  grown-right :
+  grown_right :
       {h f g : Held S.Line} {m : Made S.Line} (xs ys : List (Held S.Line)) →
       Above g f h →
-      Grown S before live (xs ++ g ∷ m.held ∷ ys) (heldHeight f) m →
-      Grown S before live (xs ++ (rebalance S g m.held).held ∷ ys) (heldHeight h) (and_then m (λ r. rebalance S g r))
-  grown-right {h} {f} {g} {m} xs ys b G =
-      let a = above-turned b in
-      let C = climbs a.higher a.left-level a.right-level G.low G.high in
+      Grown S before live (xs ++ g ∷ m.held ∷ ys) (held_height f) m →
+      Grown S before live (xs ++ (rebalance S g m.held).held ∷ ys) (held_height h) (and_then m (λ r. rebalance S g r))
+  grown_right {h} {f} {g} {m} xs ys b G =
+      let a = above_turned b in
+      let C = climbs a.higher a.left_level a.right_level G.low G.high in
       let J = rebalanced S L before live xs ys g m.held G.kept C.far C.near in
-      regrown m (rebalance S g m.held) C G J.kept (balances-turned J.heights) J.few
+      regrown m (rebalance S g m.held) C G J.kept (balances_turned J.heights) J.few
 
 -- ---- the insertion
 
 module _ (S : Figure) (L : PseudoLines S) (before : List (Inner S.Line)) (live : List S.Line) (o : Ordered S live) (s : S.Line) where
   -- two single lines side by side
-  raised-pair :
-      (xs ys : List (Held S.Line)) (l r : Held S.Line) → heldHeight l ≡ 0 → heldHeight r ≡ 0 → Kept S before live (xs ++ l ∷ r ∷ ys) [] →
+  raised_pair :
+      (xs ys : List (Held S.Line)) (l r : Held S.Line) → held_height l ≡ 0 → held_height r ≡ 0 → Kept S before live (xs ++ l ∷ r ∷ ys) [] →
       Grown S before live (xs ++ (raise S l r).held ∷ ys) 0 (raise S l r)
-  raised-pair xs ys l r p q k =
-      let m : Merged l r (raise S l r).held (xs ++ l ∷ r ∷ ys) (xs ++ (raise S l r).held ∷ ys) = merged-behind xs merged-here in
-      let R = raised-on S L left k m (omega arith) (omega arith) in
+  raised_pair xs ys l r p q k =
+      let m : Merged l r (raise S l r).held (xs ++ l ∷ r ∷ ys) (xs ++ (raise S l r).held ∷ ys) = merged_behind xs merged_here in
+      let R = raised_on S L left k m (omega arith) (omega arith) in
       record { kept = R.kept; low = omega arith; high = omega arith; few = omega arith }
 
   -- in any row
@@ -107,37 +107,37 @@ module _ (S : Figure) (L : PseudoLines S) (before : List (Inner S.Line)) (live :
       lines_of xs ++ (placed S s (leaves (shape t)) ++ lines_of ys) ≡ live →
       Grown S before live (xs ++ (insert S s t e).held ∷ ys) (height (shape t)) (insert S s t e)
 
-  inserted-single : (a : S.Line) → Inserts (single a)
+  inserted_single : (a : S.Line) → Inserts (single a)
   unfolding insert
-  inserted-single a e xs ys old k d =
+  inserted_single a e xs ys old k d =
       cond_both (λ m. Grown S before live (xs ++ m.held ∷ ys) 0 m) (S.before s a)
-      (λ t. raised-pair xs ys (alone s) (hold (single a) e) refl refl
-      (line_joins S k (added-between xs (hold (single a) e ∷ ys)) (alone-whole S s) refl o
-      (lines-append xs (alone s ∷ hold (single a) e ∷ ys) ∙ rw (cond_yes (S.before s a) (s ∷ a ∷ []) (a ∷ s ∷ []) t) at d)))
-      (λ t. raised-pair xs ys (hold (single a) e) (alone s) refl refl
-      (line_joins S k (added-behind xs (added-there (added-here refl))) (alone-whole S s) refl o
-      (lines-append xs (hold (single a) e ∷ alone s ∷ ys) ∙ rw (cond_no (S.before s a) (s ∷ a ∷ []) (a ∷ s ∷ []) t) at d)))
+      (λ t. raised_pair xs ys (alone s) (hold (single a) e) refl refl
+      (line_joins S k (added_between xs (hold (single a) e ∷ ys)) (alone_whole S s) refl o
+      (lines_append xs (alone s ∷ hold (single a) e ∷ ys) ∙ rw (cond_yes (S.before s a) (s ∷ a ∷ []) (a ∷ s ∷ []) t) at d)))
+      (λ t. raised_pair xs ys (hold (single a) e) (alone s) refl refl
+      (line_joins S k (added_behind xs (added_there (added_here refl))) (alone_whole S s) refl o
+      (lines_append xs (hold (single a) e ∷ alone s ∷ ys) ∙ rw (cond_no (S.before s a) (s ∷ a ∷ []) (a ∷ s ∷ []) t) at d)))
 
-  inserted-fork : (u v : S.Line) (l r : OfferTree S.Line) (ql qr : Part S.Line) → Inserts l → Inserts r → Inserts (fork u v l ql qr r)
-  unfolding insert lowerTree
-  inserted-fork u v l r ql qr on-left on-right e xs ys old k d =
+  inserted_fork : (u v : S.Line) (l r : OfferTree S.Line) (ql qr : Part S.Line) → Inserts l → Inserts r → Inserts (fork u v l ql qr r)
+  unfolding insert lower_tree
+  inserted_fork u v l r ql qr on_left on_right e xs ys old k d =
       let h = hold (fork u v l ql qr r) e in
       let c = lower S h in
       let w = k.whole h (Memᴰ.append_right xs (Memᴰ.head refl)) in
-      let (k₁, a) = lowered-on S L left h k (omega arith) (merged-behind xs merged-here) in
+      let (k₁, a) = lowered_on S L left h k (omega arith) (merged_behind xs merged_here) in
       let k₂ : Kept S before old ((xs ++ c.front ∷ []) ++ c.back ∷ ys) [] = rw append_snoc k₁ in
-      cond_both (λ m. Grown S before live (xs ++ m.held ∷ ys) (heldHeight h) m) (S.before s (last (shape l)))
-      (λ t. grown-left S L xs ys a
-      (on-left c.front.whole xs (c.back ∷ ys) old k₁
+      cond_both (λ m. Grown S before live (xs ++ m.held ∷ ys) (held_height h) m) (S.before s (last (shape l)))
+      (λ t. grown_left S L xs ys a
+      (on_left c.front.whole xs (c.back ∷ ys) old k₁
       (lines_left (lines_of xs) (placed S s (leaves (shape l))) (leaves (shape r)) (lines_of ys) d
-      (placed-left S s (leaves (shape l)) (leaves (shape r)) (last_leaf (shape l)) t))))
-      (λ t. grown-right S L xs ys a
+      (placed_left S s (leaves (shape l)) (leaves (shape r)) (last_leaf (shape l)) t))))
+      (λ t. grown_right S L xs ys a
       (rw append_snoc at
-      (on-right c.back.whole (xs ++ c.front ∷ []) ys old k₂
-      (lines-right xs c.front (placed S s (leaves (shape r))) (lines_of ys) d
-      (placed-right S s (leaves (shape l)) (leaves (shape r))
-      (none-behind S L s (shape l) (ordered-left S (leaves (shape l)) (leaves (shape r)) w.ordered) t))))))
+      (on_right c.back.whole (xs ++ c.front ∷ []) ys old k₂
+      (lines_right xs c.front (placed S s (leaves (shape r))) (lines_of ys) d
+      (placed_right S s (leaves (shape l)) (leaves (shape r))
+      (none_behind S L s (shape l) (ordered_left S (leaves (shape l)) (leaves (shape r)) w.ordered) t))))))
 
   pub inserted : (t : OfferTree S.Line) → Inserts t
-  inserted (single a) = inserted-single a
-  inserted (fork u v l ql qr r) = inserted-fork u v l r ql qr (inserted l) (inserted r)
+  inserted (single a) = inserted_single a
+  inserted (fork u v l ql qr r) = inserted_fork u v l r ql qr (inserted l) (inserted r)

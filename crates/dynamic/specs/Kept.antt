@@ -5,20 +5,20 @@ use mathlib.Core.List.Memᴰ
 use mathlib.Core.List.{List, [], ◌∷◌, ◌++◌, Memᴰ}
 use Rattle.envelopes.specs.PseudoLines.{Figure, PseudoLines}
 use Rattle.envelopes.specs.Envelope.{Ordered}
-use Rattle.envelopes.specs.EnvelopeLaws.{ordered-sublist}
-use Rattle.trees.specs.Tree.{node, height, Avl, avl-node}
+use Rattle.envelopes.specs.EnvelopeLaws.{ordered_sublist}
+use Rattle.trees.specs.Tree.{node, height, Avl, avl_node}
 use Rattle.meeting.specs.Machine.{Side, left, right, meet}
-use Rattle.dynamic.specs.OfferTree.{OfferTree, single, fork, shape, Held, heldShape, Pair, Made, Lowered, outer, inner, lower, raise, raiseOn}
+use Rattle.dynamic.specs.OfferTree.{OfferTree, single, fork, shape, Held, held_shape, Pair, Made, Lowered, outer, inner, lower, raise, raise_on}
 use Rattle.dynamic.specs.Valid.{Whole}
-use Rattle.dynamic.specs.Work.{Inner, inners, Searched, Floor, steps_of, heightsOf}
-use Rattle.dynamic.specs.Lower.{whole-lower}
-use Rattle.dynamic.specs.Raise.{raised-shape, raised-steps, whole-raise}
-use Rattle.dynamic.specs.Floors.{Added, added-between, added-last, floor-drop, floor-add}
-use Rattle.dynamic.specs.Forests.{lines_of, innersOf, single-inners, added-all, added-in, Merged, MergedOn, left_in, right-in, whole_in}
-use Rattle.dynamic.specs.Forests.{merge-all, part-all, merged-sub, merged-lines, merged-inners}
+use Rattle.dynamic.specs.Work.{Inner, inners, Searched, Floor, steps_of, heights_of}
+use Rattle.dynamic.specs.Lower.{whole_lower}
+use Rattle.dynamic.specs.Raise.{raised_shape, raised_steps, whole_raise}
+use Rattle.dynamic.specs.Floors.{Added, added_between, added_last, floor_drop, floor_add}
+use Rattle.dynamic.specs.Forests.{lines_of, inners_of, single_inners, added_all, added_in, Merged, MergedOn, left_in, right_in, whole_in}
+use Rattle.dynamic.specs.Forests.{merge_all, part_all, merged_sub, merged_lines, merged_inners}
 
-abbrev pub heldHeight : {A : Type 0} → Held A → ℕ
-heldHeight h = height (heldShape h)
+abbrev pub held_height : {A : Type 0} → Held A → ℕ
+held_height h = height (held_shape h)
 
 -- `before` are the inner nodes before the update, `live` the lines after it.
 pub record Kept (S : Figure) (before : List (Inner S.Line)) (live : List S.Line) (row : List (Held S.Line)) (log : List (Pair S.Line)) :
@@ -27,75 +27,75 @@ pub record Kept (S : Figure) (before : List (Inner S.Line)) (live : List S.Line)
   pub lines : lines_of row ≡ live
   pub whole : (h : Held S.Line) → Memᴰ h row → Whole S h
   pub searched : (p : Pair S.Line) → Memᴰ p log → Searched S live p
-  pub few-steps : steps_of S log ≤ 3 * heightsOf log + length log
-  pub floor : Floor S before (innersOf row) log
+  pub few_steps : steps_of S log ≤ 3 * heights_of log + length log
+  pub floor : Floor S before (inners_of row) log
 
 -- h is a fork above the other two, which are level within one
 pub record Above {A : Type 0} (l r h : Held A) : Type 0 where
-  pub higher : heldHeight h ≡ suc (max (heldHeight l) (heldHeight r))
-  pub left-level : heldHeight l ≤ suc (heldHeight r)
-  pub right-level : heldHeight r ≤ suc (heldHeight l)
+  pub higher : held_height h ≡ suc (max (held_height l) (held_height r))
+  pub left_level : held_height l ≤ suc (held_height r)
+  pub right_level : held_height r ≤ suc (held_height l)
 
-pub above-turned : {A : Type 0} {l r h : Held A} → Above l r h → Above r l h
-above-turned a = record { higher = a.higher ∙ omega arith; left-level = a.right-level; right-level = a.left-level }
+pub above_turned : {A : Type 0} {l r h : Held A} → Above l r h → Above r l h
+above_turned a = record { higher = a.higher ∙ omega arith; left_level = a.right_level; right_level = a.left_level }
 
 -- ---- counts of a longer log
 
-pub steps-append : (S : Figure) (xs ys : List (Pair S.Line)) → steps_of S (xs ++ ys) ≡ steps_of S xs + steps_of S ys
-steps-append S [] ys = omega arith
-steps-append S (x ∷ xs) ys = omega (arith, steps-append S xs ys)
+pub steps_append : (S : Figure) (xs ys : List (Pair S.Line)) → steps_of S (xs ++ ys) ≡ steps_of S xs + steps_of S ys
+steps_append S [] ys = omega arith
+steps_append S (x ∷ xs) ys = omega (arith, steps_append S xs ys)
 
-pub heights-append : {A : Type 0} (xs ys : List (Pair A)) → heightsOf (xs ++ ys) ≡ heightsOf xs + heightsOf ys
-heights-append [] ys = omega arith
-heights-append (x ∷ xs) ys = omega (arith, heights-append xs ys)
+pub heights_append : {A : Type 0} (xs ys : List (Pair A)) → heights_of (xs ++ ys) ≡ heights_of xs + heights_of ys
+heights_append [] ys = omega arith
+heights_append (x ∷ xs) ys = omega (arith, heights_append xs ys)
 
-few-more :
+few_more :
     (S : Figure) (log : List (Pair S.Line)) (p : Pair S.Line) →
-    steps_of S log ≤ 3 * heightsOf log + length log →
+    steps_of S log ≤ 3 * heights_of log + length log →
     (meet S p.front p.back).steps ≤ 3 * (height p.front + height p.back) + 1 →
-    steps_of S (log ++ p ∷ []) ≤ 3 * heightsOf (log ++ p ∷ []) + length (log ++ p ∷ [])
-few-more S log p h k = rw (steps-append S log (p ∷ []), heights-append log (p ∷ []), length-append log (p ∷ [])) (omega arith)
+    steps_of S (log ++ p ∷ []) ≤ 3 * heights_of (log ++ p ∷ []) + length (log ++ p ∷ [])
+few_more S log p h k = rw (steps_append S log (p ∷ []), heights_append log (p ∷ []), length-append log (p ∷ [])) (omega arith)
 
-searched-more :
+searched_more :
     (S : Figure) {live : List S.Line} (log : List (Pair S.Line)) {p : Pair S.Line} →
     ((q : Pair S.Line) → Memᴰ q log → Searched S live q) →
     Searched S live p →
     (q : Pair S.Line) →
     Memᴰ q (log ++ p ∷ []) →
     Searched S live q
-searched-more S {live} log f s q m = ⊎_elim (f q) (λ i. subst (Searched S live) (sym (Memᴰ.eq_of_singleton i)) s) (Memᴰ.append_cases log m)
+searched_more S {live} log f s q m = ⊎_elim (f q) (λ i. subst (Searched S live) (sym (Memᴰ.eq_of_singleton i)) s) (Memᴰ.append_cases log m)
 
 -- ---- before the first search
 
 -- a row with an empty log, and other lines that are to stay
 pub started : (S : Figure) {before : List (Inner S.Line)} {live : List S.Line} {row : List (Held S.Line)} → Ordered S live → lines_of row ≡ live →
-    ((h : Held S.Line) → Memᴰ h row → Whole S h) → Floor S before (innersOf row) [] → Kept S before live row []
-started S o e w f = record { ordered = o; lines = e; whole = w; searched = λ p m. absurd (Memᴰ.not-nil m); few-steps = omega arith; floor = f }
+    ((h : Held S.Line) → Memᴰ h row → Whole S h) → Floor S before (inners_of row) [] → Kept S before live row []
+started S o e w f = record { ordered = o; lines = e; whole = w; searched = λ p m. absurd (Memᴰ.not-nil m); few_steps = omega arith; floor = f }
 
 -- a single line joins the row, leaves it, or makes room for another
 module _ (S : Figure) {before : List (Inner S.Line)} {old live : List S.Line} {h : Held S.Line} {row more : List (Held S.Line)} where
-  pub line_joins : Kept S before old row [] → Added h row more → Whole S h → inners (heldShape h) ≡ [] → Ordered S live → lines_of more ≡ live →
+  pub line_joins : Kept S before old row [] → Added h row more → Whole S h → inners (held_shape h) ≡ [] → Ordered S live → lines_of more ≡ live →
       Kept S before live more []
-  line_joins k a w e o l = started S o l (added-all a w k.whole) (rw (single-inners e a) k.floor)
+  line_joins k a w e o l = started S o l (added_all a w k.whole) (rw (single_inners e a) k.floor)
 
-  pub line-leaves : Kept S before old more [] → Added h row more → inners (heldShape h) ≡ [] → Ordered S live → lines_of row ≡ live → Kept S before live row []
-  line-leaves k a e o l = started S o l (λ x i. k.whole x (added-in a i)) (rw (← single-inners e a) k.floor)
+  pub line_leaves : Kept S before old more [] → Added h row more → inners (held_shape h) ≡ [] → Ordered S live → lines_of row ≡ live → Kept S before live row []
+  line_leaves k a e o l = started S o l (λ x i. k.whole x (added_in a i)) (rw (← single_inners e a) k.floor)
 
-pub line-changes :
+pub line_changes :
     (S : Figure) {before : List (Inner S.Line)} {old live : List S.Line} (g h : Held S.Line) (xs ys : List (Held S.Line)) →
     Kept S before old (xs ++ g ∷ ys) [] →
-    inners (heldShape g) ≡ [] →
+    inners (held_shape g) ≡ [] →
     Whole S h →
-    inners (heldShape h) ≡ [] →
+    inners (held_shape h) ≡ [] →
     Ordered S live →
     lines_of (xs ++ h ∷ ys) ≡ live →
     Kept S before live (xs ++ h ∷ ys) []
-line-changes S {before} g h xs ys k e w d o l =
-    started S o l (added-all (added-between xs ys) w (λ x i. k.whole x (added-in (added-between xs {a = g} ys) i)))
+line_changes S {before} g h xs ys k e w d o l =
+    started S o l (added_all (added_between xs ys) w (λ x i. k.whole x (added_in (added_between xs {a = g} ys) i)))
     (subst (λ ns. Floor S before ns []) same k.floor)
   where
-    same : innersOf (xs ++ g ∷ ys) ≡ innersOf (xs ++ h ∷ ys)
-    same = single-inners {h = g} e (added-between xs ys) ∙ sym (single-inners {h = h} d (added-between xs ys))
+    same : inners_of (xs ++ g ∷ ys) ≡ inners_of (xs ++ h ∷ ys)
+    same = single_inners {h = g} e (added_between xs ys) ∙ sym (single_inners {h = h} d (added_between xs ys))
 
 -- ---- what is made
 
@@ -103,7 +103,7 @@ line-changes S {before} g h xs ys k e w d o l =
 pub record Parted (S : Figure) (h : Held S.Line) (c : Lowered S.Line) : Type 0 where
   pub front : Whole S c.front
   pub back : Whole S c.back
-  pub forked : heldShape h ≡ node (heldShape c.front) (heldShape c.back)
+  pub forked : held_shape h ≡ node (held_shape c.front) (held_shape c.back)
   pub level : Above c.front c.back h
 
 -- Two neighbours made one, by one search.
@@ -113,19 +113,19 @@ pub record Raises (S : Figure) (before : List (Inner S.Line)) (live : List S.Lin
   pub level : Above l r m.held
   pub one : length m.log ≡ 1
 
-above-node : {A : Type 0} {l r h : Held A} → heldShape h ≡ node (heldShape l) (heldShape r) → Avl (node (heldShape l) (heldShape r)) → Above l r h
-above-node e (avl-node pl pr hl hr) = record { higher = ap height e; left-level = hl; right-level = hr }
+above_node : {A : Type 0} {l r h : Held A} → held_shape h ≡ node (held_shape l) (held_shape r) → Avl (node (held_shape l) (held_shape r)) → Above l r h
+above_node e (avl_node pl pr hl hr) = record { higher = ap height e; left_level = hl; right_level = hr }
 
 module _ (S : Figure) (L : PseudoLines S) where
-  pub part : (h : Held S.Line) → Whole S h → 1 ≤ heldHeight h → Parted S h (lower S h)
+  pub part : (h : Held S.Line) → Whole S h → 1 ≤ held_height h → Parted S h (lower S h)
   part h w high = go h.tree refl
     where
       go : (t : OfferTree S.Line) → h.tree ≡ t → Parted S h (lower S h)
       go (single a) e = absurd (omega (arith, ap (λ t. height (shape t)) e))
       go (fork u v l ql qr r) e =
-          let p = whole-lower S L w e in
-          let forked : heldShape h ≡ node (heldShape (lower S h).front) (heldShape (lower S h).back) = rw (p.front-tree, p.back-tree) (ap shape e) in
-          record { front = p.front; back = p.back; forked = forked; level = above-node forked (subst Avl forked w.balanced) }
+          let p = whole_lower S L w e in
+          let forked : held_shape h ≡ node (held_shape (lower S h).front) (held_shape (lower S h).back) = rw (p.front_tree, p.back_tree) (ap shape e) in
+          record { front = p.front; back = p.back; forked = forked; level = above_node forked (subst Avl forked w.balanced) }
 
   module _ {before : List (Inner S.Line)} {live : List S.Line} where
     lowered :
@@ -137,57 +137,57 @@ module _ (S : Figure) (L : PseudoLines S) where
     lowered k p m =
         record {
           ordered = k.ordered;
-          lines = sym (merged-lines p.forked m) ∙ k.lines;
-          whole = part-all m p.front p.back k.whole;
+          lines = sym (merged_lines p.forked m) ∙ k.lines;
+          whole = part_all m p.front p.back k.whole;
           searched = k.searched;
-          few-steps = k.few-steps;
-          floor = floor-drop S before (merged-inners p.forked m) k.floor;
+          few_steps = k.few_steps;
+          floor = floor_drop S before (merged_inners p.forked m) k.floor;
         }
 
     raised :
         {l r : Held S.Line} {row rest : List (Held S.Line)} {log : List (Pair S.Line)} →
         Kept S before live row log →
         Merged l r (raise S l r).held row rest →
-        heldHeight l ≤ suc (heldHeight r) →
-        heldHeight r ≤ suc (heldHeight l) →
+        held_height l ≤ suc (held_height r) →
+        held_height r ≤ suc (held_height l) →
         Raises S before live rest log l r (raise S l r)
     raised {l} {r} {row} {rest} {log} k m hl hr =
         let wl = k.whole l (left_in m) in
-        let wr = k.whole r (right-in m) in
-        let avl = avl-node wl.balanced wr.balanced hl hr in
-        let R = whole-raise S L wl wr (ordered-sublist S (merged-sub m) (rw k.lines k.ordered)) avl in
-        let forked = raised-shape S R in
+        let wr = k.whole r (right_in m) in
+        let avl = avl_node wl.balanced wr.balanced hl hr in
+        let R = whole_raise S L wl wr (ordered_sublist S (merged_sub m) (rw k.lines k.ordered)) avl in
+        let forked = raised_shape S R in
         record {
           kept =
               record {
                 ordered = k.ordered;
-                lines = merged-lines forked m ∙ k.lines;
-                whole = merge-all m R.whole k.whole;
-                searched = rw R.logged (searched-more S log k.searched (R.searched live (rw (← k.lines) (merged-sub m))));
-                few-steps = rw R.logged (few-more S log R.pair k.few-steps (raised-steps S R));
-                floor = rw R.logged (floor-add S before (merged-inners forked m) (added-last log) R.holds k.floor);
+                lines = merged_lines forked m ∙ k.lines;
+                whole = merge_all m R.whole k.whole;
+                searched = rw R.logged (searched_more S log k.searched (R.searched live (rw (← k.lines) (merged_sub m))));
+                few_steps = rw R.logged (few_more S log R.pair k.few_steps (raised_steps S R));
+                floor = rw R.logged (floor_add S before (merged_inners forked m) (added_last log) R.holds k.floor);
               };
-          level = above-node forked avl;
+          level = above_node forked avl;
           one = ap length R.logged;
         }
 
     -- ---- on either side
 
-    pub lowered-on :
+    pub lowered_on :
         (side : Side) (h : Held S.Line) {row rest : List (Held S.Line)} {log : List (Pair S.Line)} →
         Kept S before live row log →
-        1 ≤ heldHeight h →
+        1 ≤ held_height h →
         MergedOn side (outer side (lower S h)) (inner side (lower S h)) h rest row →
         Kept S before live rest log × Above (outer side (lower S h)) (inner side (lower S h)) h
-    lowered-on left h k high m = let p = part h (k.whole h (whole_in m)) high in (lowered k p m, p.level)
-    lowered-on right h k high m = let p = part h (k.whole h (whole_in m)) high in (lowered k p m, above-turned p.level)
+    lowered_on left h k high m = let p = part h (k.whole h (whole_in m)) high in (lowered k p m, p.level)
+    lowered_on right h k high m = let p = part h (k.whole h (whole_in m)) high in (lowered k p m, above_turned p.level)
 
-    pub raised-on :
+    pub raised_on :
         (side : Side) {o i : Held S.Line} {row rest : List (Held S.Line)} {log : List (Pair S.Line)} →
         Kept S before live row log →
-        MergedOn side o i (raiseOn S side o i).held row rest →
-        heldHeight o ≤ suc (heldHeight i) →
-        heldHeight i ≤ suc (heldHeight o) →
-        Raises S before live rest log o i (raiseOn S side o i)
-    raised-on left k m ho hi = raised k m ho hi
-    raised-on right k m ho hi = let R = raised k m hi ho in record { kept = R.kept; level = above-turned R.level; one = R.one }
+        MergedOn side o i (raise_on S side o i).held row rest →
+        held_height o ≤ suc (held_height i) →
+        held_height i ≤ suc (held_height o) →
+        Raises S before live rest log o i (raise_on S side o i)
+    raised_on left k m ho hi = raised k m ho hi
+    raised_on right k m ho hi = let R = raised k m hi ho in record { kept = R.kept; level = above_turned R.level; one = R.one }

@@ -5,7 +5,7 @@ use Rattle.std.specs.Prelude.{not, List, [], ◌∷◌, ◌++◌}
 use Rattle.std.proofs.Math.Option.{none, some}
 use Rattle.envelopes.specs.PseudoLines.{Figure}
 use Rattle.trees.specs.Tree.{Tree, leaf, node, first, last}
-use Rattle.trees.specs.Operations.{Part, Cut, split, splitP, joinP}
+use Rattle.trees.specs.Operations.{Part, Cut, split, split_p, join_p}
 use Rattle.meeting.specs.Machine.{Side, left, right, meet}
 
 pub data OfferTree (A : Type 0) : Type 0 where
@@ -48,8 +48,8 @@ module _ {A : Type 0} where
   and_then m f = let n = f m.held in made n.held (m.log ++ n.log)
 
   -- the tree alone of what is held
-  abbrev pub heldShape : Held A → Tree A
-  heldShape h = shape h.tree
+  abbrev pub held_shape : Held A → Tree A
+  held_shape h = shape h.tree
 
 -- A node's children, each with its whole envelope.
 pub record Lowered (A : Type 0) : Type 0 where
@@ -68,35 +68,35 @@ module _ {A : Type 0} where
 
 module _ (S : Figure) where
   -- Lower: cut the whole envelope behind the last line of the left child, and give each child its rest back.
-  abbrev pub cutBehind : S.Line → Part S.Line → Cut S.Line
-  cutBehind s e = splitP (λ x. not (S.before s x)) e
+  abbrev pub cut_behind : S.Line → Part S.Line → Cut S.Line
+  cut_behind s e = split_p (λ x. not (S.before s x)) e
 
-  unfoldable pub lowerTree : OfferTree S.Line → Part S.Line → Lowered S.Line
-  lowerTree (single a) e = record { front = hold (single a) e; back = hold (single a) e }  -- idle
-  lowerTree (fork u v l ql qr r) e =
-      let c = cutBehind (last (shape l)) e in
-      record { front = hold l (joinP c.front ql); back = hold r (joinP qr c.back) }
+  unfoldable pub lower_tree : OfferTree S.Line → Part S.Line → Lowered S.Line
+  lower_tree (single a) e = record { front = hold (single a) e; back = hold (single a) e }  -- idle
+  lower_tree (fork u v l ql qr r) e =
+      let c = cut_behind (last (shape l)) e in
+      record { front = hold l (join_p c.front ql); back = hold r (join_p qr c.back) }
 
   abbrev pub lower : Held S.Line → Lowered S.Line
-  lower h = lowerTree h.tree h.whole
+  lower h = lower_tree h.tree h.whole
 
   -- Raise: search the bridge of the children's envelopes, keep the left pieces up to u and the right ones from v, store the two rests.
   abbrev pub bridged : (u v : S.Line) → Held S.Line → Held S.Line → Cut S.Line → Cut S.Line → Held S.Line
-  bridged u v l r cl cr = hold (fork u v l.tree cl.back cr.front r.tree) (joinP cl.front cr.back)
+  bridged u v l r cl cr = hold (fork u v l.tree cl.back cr.front r.tree) (join_p cl.front cr.back)
 
-  unfoldable pub raiseBy : Part S.Line → Part S.Line → Held S.Line → Held S.Line → Made S.Line
-  raiseBy none e l r = made r []  -- idle
-  raiseBy (some a) none l r = made l []  -- idle
-  raiseBy (some a) (some b) l r =
+  unfoldable pub raise_by : Part S.Line → Part S.Line → Held S.Line → Held S.Line → Made S.Line
+  raise_by none e l r = made r []  -- idle
+  raise_by (some a) none l r = made l []  -- idle
+  raise_by (some a) (some b) l r =
       let found = meet S a b in
       let u = first found.u.tree in
       let v = first found.v.tree in
       made (bridged u v l r (split (λ x. not (S.before u x)) a) (split (λ x. S.before x v) b)) (record { front = a; back = b } ∷ [])
 
   abbrev pub raise : Held S.Line → Held S.Line → Made S.Line
-  raise l r = raiseBy l.whole r.whole l r
+  raise l r = raise_by l.whole r.whole l r
 
   -- with the outer one on the given side
-  abbrev pub raiseOn : Side → Held S.Line → Held S.Line → Made S.Line
-  raiseOn left o i = raise o i
-  raiseOn right o i = raise i o
+  abbrev pub raise_on : Side → Held S.Line → Held S.Line → Made S.Line
+  raise_on left o i = raise o i
+  raise_on right o i = raise i o

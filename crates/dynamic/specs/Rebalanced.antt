@@ -6,18 +6,18 @@ use Rattle.lists.specs.Bools.{cond_both}
 use Rattle.envelopes.specs.PseudoLines.{Figure, PseudoLines}
 use Rattle.trees.specs.Operations.{towers}
 use Rattle.meeting.specs.Machine.{Side, left, right}
-use Rattle.dynamic.specs.OfferTree.{Held, heldShape, Pair, Made, and_then, outer, inner, lower, raise, raiseOn}
+use Rattle.dynamic.specs.OfferTree.{Held, held_shape, Pair, Made, and_then, outer, inner, lower, raise, raise_on}
 use Rattle.dynamic.specs.Updates.{rotate, rebalance}
 use Rattle.dynamic.specs.Work.{Inner}
-use Rattle.dynamic.specs.Forests.{rowOn, merged-here, merged-there, merged_on}
-use Rattle.dynamic.specs.Kept.{Kept, heldHeight, Above, lowered-on, raised-on}
+use Rattle.dynamic.specs.Forests.{row_on, merged_here, merged_there, merged_on}
+use Rattle.dynamic.specs.Kept.{Kept, held_height, Above, lowered_on, raised_on}
 
 -- What a rotation makes where the taller sibling has height h.
 record Rotated (S : Figure) (before : List (Inner S.Line)) (live : List S.Line) (row : List (Held S.Line)) (log : List (Pair S.Line)) (h : ℕ)
     (m : Made S.Line) : Type 0 where
   kept : Kept S before live row (log ++ m.log)
-  low : h ≤ heldHeight m.held
-  high : heldHeight m.held ≤ suc h
+  low : h ≤ held_height m.held
+  high : held_height m.held ≤ suc h
   few : length m.log ≤ 3
 
 -- Heights: siblings l and r come under a tree of height h; where they are level within one, under a node of their own.
@@ -26,23 +26,23 @@ pub record Balances (l r h : ℕ) : Type 0 where
   pub high : h ≤ suc (max l r)
   pub level : l ≤ suc r → r ≤ suc l → h ≡ suc (max l r)
 
-pub balances-turned : {l r h : ℕ} → Balances l r h → Balances r l h
-balances-turned {l} {r} {h} b = record { low = omega (arith, b.low); high = omega (arith, b.high); level = λ p q. b.level q p ∙ omega arith }
+pub balances_turned : {l r h : ℕ} → Balances l r h → Balances r l h
+balances_turned {l} {r} {h} b = record { low = omega (arith, b.low); high = omega (arith, b.high); level = λ p q. b.level q p ∙ omega arith }
 
 -- What rebalancing makes of the siblings l and r.
 pub record Joined (S : Figure) (before : List (Inner S.Line)) (live : List S.Line) (row : List (Held S.Line)) (log : List (Pair S.Line))
     (l r : Held S.Line) (m : Made S.Line) : Type 0 where
   pub kept : Kept S before live row (log ++ m.log)
-  pub heights : Balances (heldHeight l) (heldHeight r) (heldHeight m.held)
+  pub heights : Balances (held_height l) (held_height r) (held_height m.held)
   pub few : length m.log ≤ 3
 
 -- Heights at a double rotation: t and s are the siblings', o and i those of the taller one's children, p and q of i's, x of the tree above o and p.
 record Doubled (t o p q s x : ℕ) : Type 0 where
-  o-level : o ≤ suc p
-  p-level : p ≤ suc o
-  q-level : q ≤ suc s
-  s-level : s ≤ suc q
-  x-level : x ≡ suc (max o p) → (x ≤ suc (suc (max q s))) × (max q s ≤ x) × (t ≤ suc (max x (suc (max q s)))) × (suc (max x (suc (max q s))) ≤ suc t)
+  o_level : o ≤ suc p
+  p_level : p ≤ suc o
+  q_level : q ≤ suc s
+  s_level : s ≤ suc q
+  x_level : x ≡ suc (max o p) → (x ≤ suc (suc (max q s))) × (max q s ≤ x) × (t ≤ suc (max x (suc (max q s)))) × (suc (max x (suc (max q s))) ≤ suc t)
 
 doubled :
     {t o i p q s : ℕ} (x : ℕ) → t ≡ suc (suc s) → t ≡ suc (max o i) → o ≤ suc i → i ≤ suc o → i ≡ suc (max p q) → p ≤ suc q → q ≤ suc p → o < i →
@@ -51,59 +51,59 @@ doubled x e a ao ai b bp bq lt = omega arith
 
 -- Three neighbours made one: the inner two first, then the outer one with them.
 abbrev gather : (S : Figure) → Side → (o i s : Held S.Line) → Made S.Line
-gather S side o i s = and_then (raiseOn S side i s) (λ y. raiseOn S side o y)
+gather S side o i s = and_then (raise_on S side i s) (λ y. raise_on S side o y)
 
 record Gathered (S : Figure) (before : List (Inner S.Line)) (live : List S.Line) (row : List (Held S.Line)) (log : List (Pair S.Line))
     (o i s : Held S.Line) (m : Made S.Line) : Type 0 where
   kept : Kept S before live row (log ++ m.log)
-  higher : heldHeight m.held ≡ suc (max (heldHeight o) (suc (max (heldHeight i) (heldHeight s))))
+  higher : held_height m.held ≡ suc (max (held_height o) (suc (max (held_height i) (held_height s))))
   two : length m.log ≡ 2
 
 module _ (S : Figure) (L : PseudoLines S) (before : List (Inner S.Line)) (live : List S.Line) (xs ys : List (Held S.Line)) where
   module _ (side : Side) where
     gathered :
         (o i s : Held S.Line) {log : List (Pair S.Line)} →
-        Kept S before live (xs ++ rowOn side (o ∷ i ∷ s ∷ []) ys) log →
-        heldHeight i ≤ suc (heldHeight s) →
-        heldHeight s ≤ suc (heldHeight i) →
-        heldHeight o ≤ suc (suc (max (heldHeight i) (heldHeight s))) →
-        max (heldHeight i) (heldHeight s) ≤ heldHeight o →
-        Gathered S before live (xs ++ rowOn side ((gather S side o i s).held ∷ []) ys) log o i s (gather S side o i s)
+        Kept S before live (xs ++ row_on side (o ∷ i ∷ s ∷ []) ys) log →
+        held_height i ≤ suc (held_height s) →
+        held_height s ≤ suc (held_height i) →
+        held_height o ≤ suc (suc (max (held_height i) (held_height s))) →
+        max (held_height i) (held_height s) ≤ held_height o →
+        Gathered S before live (xs ++ row_on side ((gather S side o i s).held ∷ []) ys) log o i s (gather S side o i s)
     gathered o i s k hi hs ho hm =
-        let Y = raised-on S L side k (merged_on side xs (merged-there merged-here) ys) hi hs in
-        let Z = raised-on S L side Y.kept (merged_on side xs merged-here ys) (omega arith) (omega arith) in
+        let Y = raised_on S L side k (merged_on side xs (merged_there merged_here) ys) hi hs in
+        let Z = raised_on S L side Y.kept (merged_on side xs merged_here ys) (omega arith) (omega arith) in
         record { kept = rw append_assoc at Z.kept; higher = omega arith; two = rw length-append (omega arith) }
 
     -- the row after a rotation
     abbrev After : List (Pair S.Line) → ℕ → Made S.Line → Type 0
-    After log h m = Rotated S before live (xs ++ rowOn side (m.held ∷ []) ys) log h m
+    After log h m = Rotated S before live (xs ++ row_on side (m.held ∷ []) ys) log h m
 
-    module _ (tall s : Held S.Line) (log : List (Pair S.Line)) (e : heldHeight tall ≡ suc (suc (heldHeight s))) where
+    module _ (tall s : Held S.Line) (log : List (Pair S.Line)) (e : held_height tall ≡ suc (suc (held_height s))) where
       -- o and i are the children of the tall one
-      rotated-once :
+      rotated_once :
           (o i : Held S.Line) →
-          Kept S before live (xs ++ rowOn side (o ∷ i ∷ s ∷ []) ys) log →
+          Kept S before live (xs ++ row_on side (o ∷ i ∷ s ∷ []) ys) log →
           Above o i tall →
-          heldHeight i ≤ heldHeight o →
-          After log (heldHeight tall) (gather S side o i s)
-      rotated-once o i k a le =
+          held_height i ≤ held_height o →
+          After log (held_height tall) (gather S side o i s)
+      rotated_once o i k a le =
           let G = gathered o i s k (omega arith) (omega arith) (omega arith) (omega arith) in
           record { kept = G.kept; low = omega arith; high = omega arith; few = omega arith }
 
       -- and p and q those of i
-      rotated-twice :
+      rotated_twice :
           (o i p q : Held S.Line) →
-          Kept S before live (xs ++ rowOn side (o ∷ p ∷ q ∷ s ∷ []) ys) log →
+          Kept S before live (xs ++ row_on side (o ∷ p ∷ q ∷ s ∷ []) ys) log →
           Above o i tall →
           Above p q i →
-          heldHeight o < heldHeight i →
-          After log (heldHeight tall) (and_then (raiseOn S side o p) (λ x. gather S side x q s))
-      rotated-twice o i p q k a b lt =
-          let d = doubled (heldHeight (raiseOn S side o p).held) e a.higher a.left-level a.right-level b.higher b.left-level
-          b.right-level lt in
-          let X = raised-on S L side k (merged_on side xs merged-here ys) d.o-level d.p-level in
-          let (xq, qx, low, high) = d.x-level X.level.higher in
-          let G = gathered (raiseOn S side o p).held q s X.kept d.q-level d.s-level xq qx in
+          held_height o < held_height i →
+          After log (held_height tall) (and_then (raise_on S side o p) (λ x. gather S side x q s))
+      rotated_twice o i p q k a b lt =
+          let d = doubled (held_height (raise_on S side o p).held) e a.higher a.left_level a.right_level b.higher b.left_level
+          b.right_level lt in
+          let X = raised_on S L side k (merged_on side xs merged_here ys) d.o_level d.p_level in
+          let (xq, qx, low, high) = d.x_level X.level.higher in
+          let G = gathered (raise_on S side o p).held q s X.kept d.q_level d.s_level xq qx in
           record {
             kept = rw append_assoc at G.kept;
             low = rw G.higher low;
@@ -112,52 +112,52 @@ module _ (S : Figure) (L : PseudoLines S) (before : List (Inner S.Line)) (live :
                 rw (length-append, X.one, G.two) (omega arith);
           }
 
-      rotated : Kept S before live (xs ++ rowOn side (tall ∷ s ∷ []) ys) log → After log (heldHeight tall) (rotate S side tall s)
+      rotated : Kept S before live (xs ++ row_on side (tall ∷ s ∷ []) ys) log → After log (held_height tall) (rotate S side tall s)
       unfolding rotate
       rotated k =
           let c = lower S tall in
           let d = lower S (inner side c) in
-          let (k₁, a) = lowered-on S L side tall k (omega arith) (merged_on side xs merged-here ys) in
-          cond_both (After log (heldHeight tall)) (leb (heldHeight (inner side c)) (heldHeight (outer side c)))
-          (λ t. rotated-once (outer side c) (inner side c) k₁ a (leb→le _ _ t))
-          (λ t. let lt : heldHeight (outer side c) < heldHeight (inner side c) = nleb→lt _ _ t in
-          let (k₂, b) = lowered-on S L side (inner side c) k₁ (omega arith) (merged_on side xs (merged-there merged-here) ys) in
-          rotated-twice (outer side c) (inner side c) (outer side d) (inner side d) k₂ a b lt)
+          let (k₁, a) = lowered_on S L side tall k (omega arith) (merged_on side xs merged_here ys) in
+          cond_both (After log (held_height tall)) (leb (held_height (inner side c)) (held_height (outer side c)))
+          (λ t. rotated_once (outer side c) (inner side c) k₁ a (leb→le _ _ t))
+          (λ t. let lt : held_height (outer side c) < held_height (inner side c) = nleb→lt _ _ t in
+          let (k₂, b) = lowered_on S L side (inner side c) k₁ (omega arith) (merged_on side xs (merged_there merged_here) ys) in
+          rotated_twice (outer side c) (inner side c) (outer side d) (inner side d) k₂ a b lt)
 
-  tall-joined :
+  tall_joined :
       {l r : Held S.Line} {row : List (Held S.Line)} {log : List (Pair S.Line)} {h : ℕ} {m : Made S.Line} →
-      max (heldHeight l) (heldHeight r) ≡ h →
-      (heldHeight l ≤ suc (heldHeight r) → heldHeight r ≤ suc (heldHeight l) → ⊥) →
+      max (held_height l) (held_height r) ≡ h →
+      (held_height l ≤ suc (held_height r) → held_height r ≤ suc (held_height l) → ⊥) →
       Rotated S before live row log h m →
       Joined S before live row log l r m
-  tall-joined e f R = record { kept = R.kept; heights = record { low = rw e R.low; high = rw e R.high; level = λ a b. absurd (f a b) }; few = R.few }
+  tall_joined e f R = record { kept = R.kept; heights = record { low = rw e R.low; high = rw e R.high; level = λ a b. absurd (f a b) }; few = R.few }
 
-  raised-level :
+  raised_level :
       (l r : Held S.Line) {log : List (Pair S.Line)} →
       Kept S before live (xs ++ l ∷ r ∷ ys) log →
-      heldHeight l ≤ suc (heldHeight r) →
-      heldHeight r ≤ suc (heldHeight l) →
+      held_height l ≤ suc (held_height r) →
+      held_height r ≤ suc (held_height l) →
       Joined S before live (xs ++ (raise S l r).held ∷ ys) log l r (raise S l r)
-  raised-level l r k hl hr =
-      let R = raised-on S L left k (merged_on left xs {hs = l ∷ r ∷ []} merged-here ys) hl hr in
+  raised_level l r k hl hr =
+      let R = raised_on S L left k (merged_on left xs {hs = l ∷ r ∷ []} merged_here ys) hl hr in
       record { kept = R.kept; heights = record { low = omega arith; high = omega arith; level = λ a b. R.level.higher }; few = omega arith }
 
   pub rebalanced :
       (l r : Held S.Line) {log : List (Pair S.Line)} →
       Kept S before live (xs ++ l ∷ r ∷ ys) log →
-      heldHeight l ≤ suc (suc (heldHeight r)) →
-      heldHeight r ≤ suc (suc (heldHeight l)) →
+      held_height l ≤ suc (suc (held_height r)) →
+      held_height r ≤ suc (suc (held_height l)) →
       Joined S before live (xs ++ (rebalance S l r).held ∷ ys) log l r (rebalance S l r)
   unfolding rebalance
   rebalanced l r {log} k hl hr =
-      cond_both Joins (towers (heldShape l) (heldShape r)) (λ t. left-tall (ltb→lt _ _ t))
-      (λ t. cond_both Joins (towers (heldShape r) (heldShape l)) (λ u. right-tall (ltb→lt _ _ u)) (λ u. raised-level l r k (nltb→le _ _ t) (nltb→le _ _ u)))
+      cond_both Joins (towers (held_shape l) (held_shape r)) (λ t. left_tall (ltb→lt _ _ t))
+      (λ t. cond_both Joins (towers (held_shape r) (held_shape l)) (λ u. right_tall (ltb→lt _ _ u)) (λ u. raised_level l r k (nltb→le _ _ t) (nltb→le _ _ u)))
     where
       Joins : Made S.Line → Type 0
       Joins m = Joined S before live (xs ++ m.held ∷ ys) log l r m
 
-      left-tall : suc (heldHeight r) < heldHeight l → Joins (rotate S left l r)
-      left-tall t = tall-joined (omega arith) (omega arith) (rotated left l r log (omega arith) k)
+      left_tall : suc (held_height r) < held_height l → Joins (rotate S left l r)
+      left_tall t = tall_joined (omega arith) (omega arith) (rotated left l r log (omega arith) k)
 
-      right-tall : suc (heldHeight l) < heldHeight r → Joins (rotate S right r l)
-      right-tall t = tall-joined (omega arith) (omega arith) (rotated right r l log (omega arith) k)
+      right_tall : suc (held_height l) < held_height r → Joins (rotate S right r l)
+      right_tall t = tall_joined (omega arith) (omega arith) (rotated right r l log (omega arith) k)

@@ -11,21 +11,21 @@ use Rattle.std.proofs.Math.Seq.{append_snoc}
 use Rattle.lists.specs.Bools.{cond_both, or_left, or_right}
 use Rattle.envelopes.specs.PseudoLines.{Figure, PseudoLines}
 use Rattle.envelopes.specs.Envelope.{Ordered}
-use Rattle.envelopes.specs.EnvelopeLaws.{ordered-left, ordered-apart}
+use Rattle.envelopes.specs.EnvelopeLaws.{ordered_left, ordered_apart}
 use Rattle.trees.specs.Tree.{height, leaves, last}
 use Rattle.trees.specs.Operations.{Part}
 use Rattle.trees.specs.Leaves.{last_leaf}
 use Rattle.meeting.specs.Machine.{left}
-use Rattle.dynamic.specs.OfferTree.{OfferTree, single, fork, shape, Held, hold, alone, Pair, Made, lower, lowerTree}
-use Rattle.dynamic.specs.Updates.{Removed, rebalance, besideLeft, besideRight, standing, remove}
-use Rattle.dynamic.specs.Valid.{standIn, instead}
+use Rattle.dynamic.specs.OfferTree.{OfferTree, single, fork, shape, Held, hold, alone, Pair, Made, lower, lower_tree}
+use Rattle.dynamic.specs.Updates.{Removed, rebalance, beside_left, beside_right, standing, remove}
+use Rattle.dynamic.specs.Valid.{stand_in, instead}
 use Rattle.dynamic.specs.Work.{Inner}
-use Rattle.dynamic.specs.Floors.{added-between}
-use Rattle.dynamic.specs.Forests.{row_of, lines_of, lines-append, lines_left, lines-right, merged-here, merged-behind}
-use Rattle.dynamic.specs.Kept.{Kept, heldHeight, Above, above-turned, lowered-on, line-leaves, line-changes}
-use Rattle.dynamic.specs.Rebalanced.{Balances, balances-turned, rebalanced}
-use Rattle.dynamic.specs.Inserted.{alone-whole}
-use Rattle.dynamic.specs.Placed.{instead-append, instead-all, instead-one, all-before}
+use Rattle.dynamic.specs.Floors.{added_between}
+use Rattle.dynamic.specs.Forests.{row_of, lines_of, lines_append, lines_left, lines_right, merged_here, merged_behind}
+use Rattle.dynamic.specs.Kept.{Kept, held_height, Above, above_turned, lowered_on, line_leaves, line_changes}
+use Rattle.dynamic.specs.Rebalanced.{Balances, balances_turned, rebalanced}
+use Rattle.dynamic.specs.Inserted.{alone_whole}
+use Rattle.dynamic.specs.Placed.{instead_append, instead_all, instead_one, all_before}
 
 -- ---- heights: below h stand f and g, and f falls to k
 
@@ -47,7 +47,7 @@ falls {h} {f} {g} {k} e p q low high = record { near = omega arith; far = omega 
 -- nothing only of a single line
 abbrev pub Shorter : {A : Type 0} → ℕ → Option (Held A) → Type 0
 Shorter h none = h ≡ 0
-Shorter h (some r) = (heldHeight r ≤ h) × (h ≤ suc (heldHeight r))
+Shorter h (some r) = (held_height r ≤ h) × (h ≤ suc (held_height r))
 
 pub record Shrunk (S : Figure) (before : List (Inner S.Line)) (live : List S.Line) (row : List (Held S.Line)) (h : ℕ) (m : Removed S.Line) :
     Type 0 where
@@ -59,39 +59,39 @@ module _ (S : Figure) (L : PseudoLines S) {before : List (Inner S.Line)} {live :
   -- f shrank, and was rebalanced beside its sibling g
   reshrunk :
       {h f g : ℕ} (l : Held S.Line) (log : List (Pair S.Line)) (n : Made S.Line) {more : List (Held S.Line)} →
-      Falls h f g (heldHeight l) →
+      Falls h f g (held_height l) →
       length log ≤ 3 * f →
       Kept S before live more (log ++ n.log) →
-      Balances (heldHeight l) g (heldHeight n.held) →
+      Balances (held_height l) g (held_height n.held) →
       length n.log ≤ 3 →
       Shrunk S before live more h (record { rest = some n.held; log = log ++ n.log })
   reshrunk l log n C few k b more =
       record { kept = k; heights = C.fits _ b; few = rw length-append (C.few (length log) (length n.log) few more) }
 
-  shrunk-left :
+  shrunk_left :
       {h f g : Held S.Line} (xs ys : List (Held S.Line)) (rest : Option (Held S.Line)) (log : List (Pair S.Line)) →
       Above f g h →
-      Shrunk S before live (xs ++ (row_of rest ++ g ∷ ys)) (heldHeight f) (record { rest = rest; log = log }) →
-      Shrunk S before live (xs ++ (row_of (besideRight S (record { rest = rest; log = log }) g).rest ++ ys)) (heldHeight h)
-      (besideRight S (record { rest = rest; log = log }) g)
-  shrunk-left xs ys none log a G = record { kept = G.kept; heights = omega arith; few = omega arith }
-  shrunk-left {g = g} xs ys (some l) log a G =
-      let C = falls a.higher a.left-level a.right-level G.heights.0 G.heights.1 in
+      Shrunk S before live (xs ++ (row_of rest ++ g ∷ ys)) (held_height f) (record { rest = rest; log = log }) →
+      Shrunk S before live (xs ++ (row_of (beside_right S (record { rest = rest; log = log }) g).rest ++ ys)) (held_height h)
+      (beside_right S (record { rest = rest; log = log }) g)
+  shrunk_left xs ys none log a G = record { kept = G.kept; heights = omega arith; few = omega arith }
+  shrunk_left {g = g} xs ys (some l) log a G =
+      let C = falls a.higher a.left_level a.right_level G.heights.0 G.heights.1 in
       let J = rebalanced S L before live xs ys l g G.kept C.near C.far in
       reshrunk l log (rebalance S l g) C G.few J.kept J.heights J.few
 
-  shrunk-right :
+  shrunk_right :
       {h f g : Held S.Line} (xs ys : List (Held S.Line)) (rest : Option (Held S.Line)) (log : List (Pair S.Line)) →
       Above g f h →
-      Shrunk S before live (xs ++ g ∷ (row_of rest ++ ys)) (heldHeight f) (record { rest = rest; log = log }) →
-      Shrunk S before live (xs ++ (row_of (besideLeft S g (record { rest = rest; log = log })).rest ++ ys)) (heldHeight h)
-      (besideLeft S g (record { rest = rest; log = log }))
-  shrunk-right xs ys none log a G = record { kept = G.kept; heights = omega arith; few = omega arith }
-  shrunk-right {g = g} xs ys (some r) log b G =
-      let a = above-turned b in
-      let C = falls a.higher a.left-level a.right-level G.heights.0 G.heights.1 in
+      Shrunk S before live (xs ++ g ∷ (row_of rest ++ ys)) (held_height f) (record { rest = rest; log = log }) →
+      Shrunk S before live (xs ++ (row_of (beside_left S g (record { rest = rest; log = log })).rest ++ ys)) (held_height h)
+      (beside_left S g (record { rest = rest; log = log }))
+  shrunk_right xs ys none log a G = record { kept = G.kept; heights = omega arith; few = omega arith }
+  shrunk_right {g = g} xs ys (some r) log b G =
+      let a = above_turned b in
+      let C = falls a.higher a.left_level a.right_level G.heights.0 G.heights.1 in
       let J = rebalanced S L before live xs ys g r G.kept C.far C.near in
-      reshrunk r log (rebalance S g r) C G.few J.kept (balances-turned J.heights) J.few
+      reshrunk r log (rebalance S g r) C G.few J.kept (balances_turned J.heights) J.few
 
 -- ---- the removal
 
@@ -106,20 +106,20 @@ module _ (S : Figure) (L : PseudoLines S) (before : List (Inner S.Line)) (live :
       lines_of xs ++ (instead S s by (leaves (shape t)) ++ lines_of ys) ≡ live →
       Shrunk S before live (xs ++ (row_of (remove S s by t e).rest ++ ys)) (height (shape t)) (remove S s by t e)
 
-  removed-single : (a : S.Line) → Removes (single a)
+  removed_single : (a : S.Line) → Removes (single a)
   unfolding remove
-  removed-single a e xs ys old k m d = go by (sym (instead-one S L s by (Memᴰ.eq_of_singleton m)))
+  removed_single a e xs ys old k m d = go by (sym (instead_one S L s by (Memᴰ.eq_of_singleton m)))
     where
       go :
-          (c : Option S.Line) → standIn c ≡ instead S s by (a ∷ []) →
+          (c : Option S.Line) → stand_in c ≡ instead S s by (a ∷ []) →
           Shrunk S before live (xs ++ (row_of (standing S c) ++ ys)) 0 (record { rest = standing S c; log = [] })
       go none q =
-          let l : lines_of (xs ++ ys) ≡ live = lines-append xs ys ∙ ap (λ ls. lines_of xs ++ (ls ++ lines_of ys)) q ∙ d in
-          record { kept = line-leaves S k (added-between xs ys) refl o l; heights = refl; few = omega arith }
+          let l : lines_of (xs ++ ys) ≡ live = lines_append xs ys ∙ ap (λ ls. lines_of xs ++ (ls ++ lines_of ys)) q ∙ d in
+          record { kept = line_leaves S k (added_between xs ys) refl o l; heights = refl; few = omega arith }
       go (some b) q =
-          let l : lines_of (xs ++ alone b ∷ ys) ≡ live = lines-append xs (alone b ∷ ys) ∙ ap (λ ls. lines_of xs ++ (ls ++ lines_of ys)) q ∙ d in
+          let l : lines_of (xs ++ alone b ∷ ys) ≡ live = lines_append xs (alone b ∷ ys) ∙ ap (λ ls. lines_of xs ++ (ls ++ lines_of ys)) q ∙ d in
           record {
-            kept = line-changes S (hold (single a) e) (alone b) xs ys k refl (alone-whole S b) refl o l;
+            kept = line_changes S (hold (single a) e) (alone b) xs ys k refl (alone_whole S b) refl o l;
             heights = omega arith;
             few = omega arith;
           }
@@ -129,55 +129,55 @@ module _ (S : Figure) (L : PseudoLines S) (before : List (Inner S.Line)) (live :
     in_right : T (S.before (last (shape l)) s) → Memᴰ s (leaves (shape r))
     in_right t =
         ⊎_elim
-        (λ i. absurd (L.before-irrefl s (all-before S L s (shape l) (ordered-left S (leaves (shape l)) (leaves (shape r)) ord) t s i)))
+        (λ i. absurd (L.before_irrefl s (all_before S L s (shape l) (ordered_left S (leaves (shape l)) (leaves (shape r)) ord) t s i)))
         (λ i. i)
         (Memᴰ.append_cases (leaves (shape l)) m)
 
-    left-stays :
+    left_stays :
         T (S.before (last (shape l)) s) →
         instead S s by (leaves (shape l) ++ leaves (shape r)) ≡ leaves (shape l) ++ instead S s by (leaves (shape r))
-    left-stays t =
-        instead-append S s by (leaves (shape l)) (leaves (shape r))
+    left_stays t =
+        instead_append S s by (leaves (shape l)) (leaves (shape r))
         ∙ ap (λ ls. ls ++ instead S s by (leaves (shape r)))
-        (instead-all S s by (leaves (shape l))
-        (λ x i. or_right (S.before s x) (S.before x s) (all-before S L s (shape l) (ordered-left S (leaves (shape l)) (leaves (shape r)) ord) t x i)))
+        (instead_all S s by (leaves (shape l))
+        (λ x i. or_right (S.before s x) (S.before x s) (all_before S L s (shape l) (ordered_left S (leaves (shape l)) (leaves (shape r)) ord) t x i)))
 
     in_left : T (not (S.before (last (shape l)) s)) → Memᴰ s (leaves (shape l))
     in_left t =
         ⊎_elim
         (λ i. i)
-        (λ i. absurd (T_not (S.before (last (shape l)) s) t (ordered-apart S (leaves (shape l)) (leaves (shape r)) ord (last (shape l)) s
+        (λ i. absurd (T_not (S.before (last (shape l)) s) t (ordered_apart S (leaves (shape l)) (leaves (shape r)) ord (last (shape l)) s
         (last_leaf (shape l)) i)))
         (Memᴰ.append_cases (leaves (shape l)) m)
 
-    right-stays :
+    right_stays :
         T (not (S.before (last (shape l)) s)) →
         instead S s by (leaves (shape l) ++ leaves (shape r)) ≡ instead S s by (leaves (shape l)) ++ leaves (shape r)
-    right-stays t =
-        instead-append S s by (leaves (shape l)) (leaves (shape r))
+    right_stays t =
+        instead_append S s by (leaves (shape l)) (leaves (shape r))
         ∙ ap (λ ls. instead S s by (leaves (shape l)) ++ ls)
-        (instead-all S s by (leaves (shape r))
-        (λ x i. or_left (S.before s x) (S.before x s) (ordered-apart S (leaves (shape l)) (leaves (shape r)) ord s x (in_left t) i)))
+        (instead_all S s by (leaves (shape r))
+        (λ x i. or_left (S.before s x) (S.before x s) (ordered_apart S (leaves (shape l)) (leaves (shape r)) ord s x (in_left t) i)))
 
-  removed-fork : (u v : S.Line) (l r : OfferTree S.Line) (ql qr : Part S.Line) → Removes l → Removes r → Removes (fork u v l ql qr r)
-  unfolding remove lowerTree
-  removed-fork u v l r ql qr on-left on-right e xs ys old k m d =
+  removed_fork : (u v : S.Line) (l r : OfferTree S.Line) (ql qr : Part S.Line) → Removes l → Removes r → Removes (fork u v l ql qr r)
+  unfolding remove lower_tree
+  removed_fork u v l r ql qr on_left on_right e xs ys old k m d =
       let h = hold (fork u v l ql qr r) e in
       let c = lower S h in
       let w = k.whole h (Memᴰ.append_right xs (Memᴰ.head refl)) in
-      let (k₁, a) = lowered-on S L left h k (omega arith) (merged-behind xs merged-here) in
+      let (k₁, a) = lowered_on S L left h k (omega arith) (merged_behind xs merged_here) in
       let k₂ : Kept S before old ((xs ++ c.front ∷ []) ++ c.back ∷ ys) [] = rw append_snoc k₁ in
       let ml = remove S s by l c.front.whole in
       let mr = remove S s by r c.back.whole in
-      cond_both (λ n. Shrunk S before live (xs ++ (row_of n.rest ++ ys)) (heldHeight h) n) (S.before (last (shape l)) s)
-      (λ t. shrunk-right S L xs ys mr.rest mr.log a
+      cond_both (λ n. Shrunk S before live (xs ++ (row_of n.rest ++ ys)) (held_height h) n) (S.before (last (shape l)) s)
+      (λ t. shrunk_right S L xs ys mr.rest mr.log a
       (rw append_snoc at
-      (on-right c.back.whole (xs ++ c.front ∷ []) ys old k₂ (in_right l r w.ordered m t)
-      (lines-right xs c.front (instead S s by (leaves (shape r))) (lines_of ys) d (left-stays l r w.ordered m t)))))
-      (λ t. shrunk-left S L xs ys ml.rest ml.log a
-      (on-left c.front.whole xs (c.back ∷ ys) old k₁ (in_left l r w.ordered m t)
-      (lines_left (lines_of xs) (instead S s by (leaves (shape l))) (leaves (shape r)) (lines_of ys) d (right-stays l r w.ordered m t))))
+      (on_right c.back.whole (xs ++ c.front ∷ []) ys old k₂ (in_right l r w.ordered m t)
+      (lines_right xs c.front (instead S s by (leaves (shape r))) (lines_of ys) d (left_stays l r w.ordered m t)))))
+      (λ t. shrunk_left S L xs ys ml.rest ml.log a
+      (on_left c.front.whole xs (c.back ∷ ys) old k₁ (in_left l r w.ordered m t)
+      (lines_left (lines_of xs) (instead S s by (leaves (shape l))) (leaves (shape r)) (lines_of ys) d (right_stays l r w.ordered m t))))
 
   pub removed : (t : OfferTree S.Line) → Removes t
-  removed (single a) = removed-single a
-  removed (fork u v l ql qr r) = removed-fork u v l r ql qr (removed l) (removed r)
+  removed (single a) = removed_single a
+  removed (fork u v l ql qr r) = removed_fork u v l r ql qr (removed l) (removed r)

@@ -15,7 +15,7 @@ pub record Bridged (S : Figure) (ls rs : List S.Line) (tl tr : Tree S.Line) : Ty
   pub beyond : List S.Line
   pub short : List S.Line
   pub from : List S.Line
-  pub left-pieces : leaves tl ≡ up_to ++ u ∷ beyond
-  pub right-pieces : leaves tr ≡ short ++ v ∷ from
+  pub left_pieces : leaves tl ≡ up_to ++ u ∷ beyond
+  pub right_pieces : leaves tr ≡ short ++ v ∷ from
   pub merged : Env S (ls ++ rs) (up_to ++ u ∷ v ∷ from)
   pub met : Met (limit tl tr) u v (meet S tl tr)

@@ -4,24 +4,24 @@
 use Rattle.std.specs.Prelude.{◌≡◌, refl, List, [], ◌∷◌, ◌++◌, ℕ, pos}
 use Rattle.std.proofs.Common.{sym, ◌∙◌}
 use Rattle.std.proofs.Math.Option.{Option, none, some}
-use Rattle.offers.specs.Offers.{Offer, crossingNumerator, crossingDenominator}
-use Rattle.lines.specs.OfferLines.{offerFigure}
-use Rattle.trees.specs.Operations.{split, splitP, join, joinR, joinL, balance, rotateRight, rotateLeft, doubleRight, doubleLeft}
-use Rattle.meeting.specs.Machine.{meet, run, step, compare, onOrAbove, advance, retreat, pop, recede, ended, counted}
-use Rattle.dynamic.specs.OfferTree.{Held, lowerTree, raiseBy}
+use Rattle.offers.specs.Offers.{Offer, crossing_numerator, crossing_denominator}
+use Rattle.lines.specs.OfferLines.{offer_figure}
+use Rattle.trees.specs.Operations.{split, split_p, join, join_r, join_l, balance, rotate_right, rotate_left, double_right, double_left}
+use Rattle.meeting.specs.Machine.{meet, run, step, compare, on_or_above, advance, retreat, pop, recede, ended, counted}
+use Rattle.dynamic.specs.OfferTree.{Held, lower_tree, raise_by}
 use Rattle.dynamic.specs.Updates.{posted, withdrawn, insert, remove, rebalance, rotate}
-use Rattle.dynamic.specs.Valid.{bookEnvelope}
+use Rattle.dynamic.specs.Valid.{book_envelope}
 
 pub data Event : Type 0 where
   posts leaves : Offer → Event
 
 -- the book after some events
 unfoldable pub book : Option (Held Offer) → List Event → Option (Held Offer)
-unfolding insert remove rebalance rotate raiseBy lowerTree split splitP join joinR joinL balance rotateRight rotateLeft doubleRight doubleLeft meet run step
-    compare onOrAbove advance retreat pop recede ended counted
+unfolding insert remove rebalance rotate raise_by lower_tree split split_p join join_r join_l balance rotate_right rotate_left double_right double_left meet run step
+    compare on_or_above advance retreat pop recede ended counted
 book h [] = h
-book h (posts o ∷ es) = book (some (posted offerFigure o h).held) es
-book h (leaves o ∷ es) = book (withdrawn offerFigure o h).rest es
+book h (posts o ∷ es) = book (some (posted offer_figure o h).held) es
+book h (leaves o ∷ es) = book (withdrawn offer_figure o h).rest es
 
 abbrev pub offer : (number rate base : ℕ) → Offer
 offer n r b = record { number = pos n; rate = pos r; base = pos b }
@@ -101,22 +101,22 @@ abbrev pub fresh : List Event
 fresh = posts a1 ∷ posts a2 ∷ posts a3 ∷ posts a4 ∷ posts a5 ∷ posts a6 ∷ posts a7 ∷ posts a8 ∷ posts a9 ∷ posts a10 ∷ posts a11 ∷ []
 
 -- with the cover there, it stands where (30, 5050) would
-pub covered : bookEnvelope (book none before_last) ≡ a1 ∷ a2 ∷ a3 ∷ a4 ∷ cover ∷ a6 ∷ a7 ∷ a8 ∷ a9 ∷ a10 ∷ a11 ∷ []
+pub covered : book_envelope (book none before_last) ≡ a1 ∷ a2 ∷ a3 ∷ a4 ∷ cover ∷ a6 ∷ a7 ∷ a8 ∷ a9 ∷ a10 ∷ a11 ∷ []
 unfolding book
 covered = refl
 
-pub uncovered : bookEnvelope (book none (before_last ++ (leaves cover ∷ []))) ≡ eleven
+pub uncovered : book_envelope (book none (before_last ++ (leaves cover ∷ []))) ≡ eleven
 unfolding book
 uncovered = refl
 
-pub freshly-listed : bookEnvelope (book none fresh) ≡ eleven
+pub freshly_listed : book_envelope (book none fresh) ≡ eleven
 unfolding book
-freshly-listed = refl
+freshly_listed = refl
 
-pub same-listing : bookEnvelope (book none (before_last ++ (leaves cover ∷ []))) ≡ bookEnvelope (book none fresh)
-same-listing = uncovered ∙ sym freshly-listed
+pub same_listing : book_envelope (book none (before_last ++ (leaves cover ∷ []))) ≡ book_envelope (book none fresh)
+same_listing = uncovered ∙ sym freshly_listed
 
 -- 410 and 455 kg, unreduced
-pub between-410-and-455 : crossingNumerator a4 a5 ∷ crossingDenominator a4 a5 ∷ crossingNumerator a5 a6 ∷ crossingDenominator a5 a6 ∷ [] ≡ pos 2050 ∷ pos 5
+pub between_410_and_455 : crossing_numerator a4 a5 ∷ crossing_denominator a4 a5 ∷ crossing_numerator a5 a6 ∷ crossing_denominator a5 a6 ∷ [] ≡ pos 2050 ∷ pos 5
     ∷ pos 2275 ∷ pos 5 ∷ []
-between-410-and-455 = refl
+between_410_and_455 = refl

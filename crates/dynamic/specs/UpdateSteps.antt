@@ -8,14 +8,14 @@ use Rattle.lists.specs.Places.{all_cons}
 use Rattle.envelopes.specs.PseudoLines.{Figure, PseudoLines}
 use Rattle.envelopes.specs.Envelope.{Ordered}
 use Rattle.trees.specs.Tree.{leaves}
-use Rattle.dynamic.specs.OfferTree.{Held, heldShape, Made}
+use Rattle.dynamic.specs.OfferTree.{Held, held_shape, Made}
 use Rattle.dynamic.specs.Updates.{Removed, rebalance, insert, remove}
-use Rattle.dynamic.specs.Valid.{Whole, WholeBook, bookLines, placed, instead, Fits}
+use Rattle.dynamic.specs.Valid.{Whole, WholeBook, book_lines, placed, instead, Fits}
 use Rattle.dynamic.specs.Work.{inners}
-use Rattle.dynamic.specs.Floors.{floor-old}
-use Rattle.dynamic.specs.Forests.{row_of, lines-row, lines_of, innersOf}
-use Rattle.dynamic.specs.Kept.{Kept, heldHeight, started}
-use Rattle.dynamic.specs.Placed.{New, placed-ordered, instead-ordered}
+use Rattle.dynamic.specs.Floors.{floor_old}
+use Rattle.dynamic.specs.Forests.{row_of, lines_row, lines_of, inners_of}
+use Rattle.dynamic.specs.Kept.{Kept, held_height, started}
+use Rattle.dynamic.specs.Placed.{New, placed_ordered, instead_ordered}
 use Rattle.dynamic.specs.Rebalanced.{Balances, rebalanced}
 use Rattle.dynamic.specs.Inserted.{inserted}
 use Rattle.dynamic.specs.Removed.{Shorter, removed}
@@ -28,41 +28,41 @@ whole_row S (some h) f = f h (Memᴰ.head refl)
 -- Siblings made one.
 pub record Rebalances (S : Figure) (l r : Held S.Line) (m : Made S.Line) : Type 0 where
   pub whole : Whole S m.held
-  pub lines : leaves (heldShape m.held) ≡ leaves (heldShape l) ++ leaves (heldShape r)
-  pub heights : Balances (heldHeight l) (heldHeight r) (heldHeight m.held)
+  pub lines : leaves (held_shape m.held) ≡ leaves (held_shape l) ++ leaves (held_shape r)
+  pub heights : Balances (held_height l) (held_height r) (held_height m.held)
   pub few : length m.log ≤ 3
 
 -- A line more.
 pub record Gains (S : Figure) (s : S.Line) (h : Held S.Line) (m : Made S.Line) : Type 0 where
   pub whole : Whole S m.held
-  pub lines : leaves (heldShape m.held) ≡ placed S s (leaves (heldShape h))
-  pub low : heldHeight h ≤ heldHeight m.held
-  pub high : heldHeight m.held ≤ suc (heldHeight h)
-  pub few : length m.log ≤ 3 * heldHeight h + 1
+  pub lines : leaves (held_shape m.held) ≡ placed S s (leaves (held_shape h))
+  pub low : held_height h ≤ held_height m.held
+  pub high : held_height m.held ≤ suc (held_height h)
+  pub few : length m.log ≤ 3 * held_height h + 1
 
 -- A line less, or another in its place.
 pub record Loses (S : Figure) (s : S.Line) (by : Option S.Line) (h : Held S.Line) (m : Removed S.Line) : Type 0 where
   pub whole : WholeBook S m.rest
-  pub lines : bookLines m.rest ≡ instead S s by (leaves (heldShape h))
-  pub heights : Shorter (heldHeight h) m.rest
-  pub few : length m.log ≤ 3 * heldHeight h
+  pub lines : book_lines m.rest ≡ instead S s by (leaves (held_shape h))
+  pub heights : Shorter (held_height h) m.rest
+  pub few : length m.log ≤ 3 * held_height h
 
 module _ (S : Figure) (L : PseudoLines S) where
-  pub rebalance-whole :
+  pub rebalance_whole :
       {l r : Held S.Line} →
       Whole S l →
       Whole S r →
-      Ordered S (leaves (heldShape l) ++ leaves (heldShape r)) →
-      heldHeight l ≤ suc (suc (heldHeight r)) →
-      heldHeight r ≤ suc (suc (heldHeight l)) →
+      Ordered S (leaves (held_shape l) ++ leaves (held_shape r)) →
+      held_height l ≤ suc (suc (held_height r)) →
+      held_height r ≤ suc (suc (held_height l)) →
       Rebalances S l r (rebalance S l r)
-  rebalance-whole {l} {r} wl wr o hl hr =
-      let e : lines_of (l ∷ r ∷ []) ≡ leaves (heldShape l) ++ leaves (heldShape r) = ap (λ ls. leaves (heldShape l) ++ ls) (append-nil (leaves (heldShape r))) in
-      let k : Kept S (innersOf (l ∷ r ∷ [])) (lines_of (l ∷ r ∷ [])) (l ∷ r ∷ []) [] =
+  rebalance_whole {l} {r} wl wr o hl hr =
+      let e : lines_of (l ∷ r ∷ []) ≡ leaves (held_shape l) ++ leaves (held_shape r) = ap (λ ls. leaves (held_shape l) ++ ls) (append-nil (leaves (held_shape r))) in
+      let k : Kept S (inners_of (l ∷ r ∷ [])) (lines_of (l ∷ r ∷ [])) (l ∷ r ∷ []) [] =
       started S (rw e o) refl (all_cons {P = Whole S} wl (all_cons {P = Whole S} wr (λ h m. absurd (Memᴰ.not-nil m))))
-      (floor-old S (innersOf (l ∷ r ∷ [])) _ (λ n m. m))
+      (floor_old S (inners_of (l ∷ r ∷ [])) _ (λ n m. m))
       in
-      let J = rebalanced S L (innersOf (l ∷ r ∷ [])) (lines_of (l ∷ r ∷ [])) [] [] l r k hl hr in
+      let J = rebalanced S L (inners_of (l ∷ r ∷ [])) (lines_of (l ∷ r ∷ [])) [] [] l r k hl hr in
       record {
         whole = J.kept.whole _ (Memᴰ.head refl);
         lines = sym (append-nil _) ∙ J.kept.lines ∙ e;
@@ -71,17 +71,17 @@ module _ (S : Figure) (L : PseudoLines S) where
       }
 
   module _ (s : S.Line) {h : Held S.Line} (w : Whole S h) where
-    pub insert-whole : New S s (leaves (heldShape h)) → Gains S s h (insert S s h.tree h.whole)
-    insert-whole n =
-        let G = inserted S L (inners (heldShape h)) (placed S s (leaves (heldShape h))) (placed-ordered S L s (leaves (heldShape h)) w.ordered n) s
-        h.tree h.whole [] [] (leaves (heldShape h)) (opened S h w) (append-nil _) in
+    pub insert_whole : New S s (leaves (held_shape h)) → Gains S s h (insert S s h.tree h.whole)
+    insert_whole n =
+        let G = inserted S L (inners (held_shape h)) (placed S s (leaves (held_shape h))) (placed_ordered S L s (leaves (held_shape h)) w.ordered n) s
+        h.tree h.whole [] [] (leaves (held_shape h)) (opened S h w) (append-nil _) in
         record { whole = G.kept.whole _ (Memᴰ.head refl); lines = sym (append-nil _) ∙ G.kept.lines; low = G.low; high = G.high; few = G.few }
 
-    pub remove-whole :
-        (by : Option S.Line) → Fits S s by → Memᴰ s (leaves (heldShape h)) → Loses S s by h (remove S s by h.tree h.whole)
-    remove-whole by f m =
-        let G = removed S L (inners (heldShape h)) (instead S s by (leaves (heldShape h))) (instead-ordered S L s by w.ordered m f) s by
-        h.tree h.whole [] [] (leaves (heldShape h)) (opened S h w) m (append-nil _) in
+    pub remove_whole :
+        (by : Option S.Line) → Fits S s by → Memᴰ s (leaves (held_shape h)) → Loses S s by h (remove S s by h.tree h.whole)
+    remove_whole by f m =
+        let G = removed S L (inners (held_shape h)) (instead S s by (leaves (held_shape h))) (instead_ordered S L s by w.ordered m f) s by
+        h.tree h.whole [] [] (leaves (held_shape h)) (opened S h w) m (append-nil _) in
         let rest = (remove S s by h.tree h.whole).rest in
         let k = rw (append-nil (row_of rest)) at G.kept in
-        record { whole = whole_row S rest k.whole; lines = sym (lines-row rest) ∙ k.lines; heights = G.heights; few = G.few }
+        record { whole = whole_row S rest k.whole; lines = sym (lines_row rest) ∙ k.lines; heights = G.heights; few = G.few }

@@ -6,8 +6,8 @@ use Rattle.envelopes.specs.PseudoLines.{Figure}
 use Rattle.trees.specs.Tree.{height, last}
 use Rattle.trees.specs.Operations.{Part, towers}
 use Rattle.meeting.specs.Machine.{Side, left, right}
-use Rattle.dynamic.specs.OfferTree.{OfferTree, single, fork, shape, Held, hold, alone, heldShape, Pair, Made, made, and_then, Lowered, outer}
-use Rattle.dynamic.specs.OfferTree.{inner, lower, raise, raiseOn}
+use Rattle.dynamic.specs.OfferTree.{OfferTree, single, fork, shape, Held, hold, alone, held_shape, Pair, Made, made, and_then, Lowered, outer}
+use Rattle.dynamic.specs.OfferTree.{inner, lower, raise, raise_on}
 
 -- What a removal leaves: nothing, or a tree with its envelope; and the pairs searched.
 pub record Removed (A : Type 0) : Type 0 where
@@ -16,23 +16,23 @@ pub record Removed (A : Type 0) : Type 0 where
 
 module _ (S : Figure) where
   -- the child on this side towers over the other: a single rotation, or a double one where its inner child is the higher
-  abbrev pub rotateOnce : Side → Lowered S.Line → Held S.Line → Made S.Line
-  rotateOnce side c short = and_then (raiseOn S side (inner side c) short) (λ y. raiseOn S side (outer side c) y)
+  abbrev pub rotate_once : Side → Lowered S.Line → Held S.Line → Made S.Line
+  rotate_once side c short = and_then (raise_on S side (inner side c) short) (λ y. raise_on S side (outer side c) y)
 
-  abbrev pub rotateTwice : Side → Lowered S.Line → Lowered S.Line → Held S.Line → Made S.Line
-  rotateTwice side c d short =
-      and_then (raiseOn S side (outer side c) (outer side d)) (λ x. and_then (raiseOn S side (inner side d) short) (λ y. raiseOn S side x y))
+  abbrev pub rotate_twice : Side → Lowered S.Line → Lowered S.Line → Held S.Line → Made S.Line
+  rotate_twice side c d short =
+      and_then (raise_on S side (outer side c) (outer side d)) (λ x. and_then (raise_on S side (inner side d) short) (λ y. raise_on S side x y))
 
   unfoldable pub rotate : Side → Held S.Line → Held S.Line → Made S.Line
   rotate side tall short =
       let c = lower S tall in
-      cond (leb (height (heldShape (inner side c))) (height (heldShape (outer side c)))) (rotateOnce side c short)
-      (rotateTwice side c (lower S (inner side c)) short)
+      cond (leb (height (held_shape (inner side c))) (height (held_shape (outer side c)))) (rotate_once side c short)
+      (rotate_twice side c (lower S (inner side c)) short)
 
   -- two siblings whose heights differ by at most 2
   unfoldable pub rebalance : Held S.Line → Held S.Line → Made S.Line
   rebalance l r =
-      cond (towers (heldShape l) (heldShape r)) (rotate left l r) (cond (towers (heldShape r) (heldShape l)) (rotate right r l) (raise S l r))
+      cond (towers (held_shape l) (held_shape r)) (rotate left l r) (cond (towers (held_shape r) (held_shape l)) (rotate right r l) (raise S l r))
 
   unfoldable pub insert : S.Line → OfferTree S.Line → Part S.Line → Made S.Line
   insert s (single a) e = cond (S.before s a) (raise S (alone s) (hold (single a) e)) (raise S (hold (single a) e) (alone s))
@@ -44,15 +44,15 @@ module _ (S : Figure) where
       (and_then (insert s r c.back.whole) (λ r'. rebalance c.front r'))
 
   -- a child that is left, beside its sibling
-  abbrev pub besideRight : Removed S.Line → Held S.Line → Removed S.Line
-  besideRight m r = elim m.rest [
+  abbrev pub beside_right : Removed S.Line → Held S.Line → Removed S.Line
+  beside_right m r = elim m.rest [
     | none ↦ record { rest = some r; log = m.log }
     | some l ↦ let n = rebalance l r in
         record { rest = some n.held; log = m.log ++ n.log }
   ]
 
-  abbrev pub besideLeft : Held S.Line → Removed S.Line → Removed S.Line
-  besideLeft l m = elim m.rest [
+  abbrev pub beside_left : Held S.Line → Removed S.Line → Removed S.Line
+  beside_left l m = elim m.rest [
     | none ↦ record { rest = some l; log = m.log }
     | some r ↦ let n = rebalance l r in
         record { rest = some n.held; log = m.log ++ n.log }
@@ -70,8 +70,8 @@ module _ (S : Figure) where
       let c = lower S (hold (fork u v l ql qr r) e) in
       cond
       (S.before (last (shape l)) s)
-      (besideLeft c.front (remove s by r c.back.whole))
-      (besideRight (remove s by l c.front.whole) c.back)
+      (beside_left c.front (remove s by r c.back.whole))
+      (beside_right (remove s by l c.front.whole) c.back)
 
   -- ---- the whole book: no offers, or a tree with its envelope
 

@@ -27,8 +27,8 @@ pub record Facing (S : Figure) (a : ℕ → S.Line) (m : ℕ) (c : ℕ → S.Lin
 
 -- The bridge: the crossing of u = a i and v = c j lies in u's piece (right end in, left end out) and in v's piece (left end in, right end out).
 pub record Bridge (S : Figure) (a : ℕ → S.Line) (m : ℕ) (c : ℕ → S.Line) (n i j : ℕ) : Type 0 where
-  pub on-left : InPiece S a m i (S.cross (a i) (c j))
-  pub on-right : InPiece (mirror S) c n j (S.cross (a i) (c j))
+  pub on_left : InPiece S a m i (S.cross (a i) (c j))
+  pub on_right : InPiece (mirror S) c n j (S.cross (a i) (c j))
 
 -- ---- what the search compares
 

@@ -7,8 +7,8 @@ use Rattle.envelopes.specs.Bridge.{Chain}
 
 -- The lines stand in order, each before all later ones.
 pub data Ordered (S : Figure) : List S.Line → Type 0 where
-  Ordered·nil : Ordered S []
-  Ordered·cons : {a : S.Line} {ls : List S.Line} → ((b : S.Line) → Memᴰ b ls → T (S.before a b)) → Ordered S ls → Ordered S (a ∷ ls)
+  ordered_nil : Ordered S []
+  ordered_cons : {a : S.Line} {ls : List S.Line} → ((b : S.Line) → Memᴰ b ls → T (S.before a b)) → Ordered S ls → Ordered S (a ∷ ls)
 
 -- es is the lower envelope of ls: some of its lines, a chain, and at every point one of them is at or below each line of ls.
 pub record Env (S : Figure) (ls es : List S.Line) : Type 0 where

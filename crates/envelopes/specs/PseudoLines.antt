@@ -25,26 +25,26 @@ Below S a b x = ¬ T (S.at_most b a x)
 
 pub record PseudoLines (S : Figure) : Type 0 where
   -- at each point the lines are in a total preorder by price
-  pub price-total : (a b : S.Line) (x : S.Point) → T (S.at_most a b x) ⊎ T (S.at_most b a x)
-  pub price-trans : (a b c : S.Line) (x : S.Point) → T (S.at_most a b x) → T (S.at_most b c x) → T (S.at_most a c x)
+  pub price_total : (a b : S.Line) (x : S.Point) → T (S.at_most a b x) ⊎ T (S.at_most b a x)
+  pub price_trans : (a b c : S.Line) (x : S.Point) → T (S.at_most a b x) → T (S.at_most b c x) → T (S.at_most a c x)
   -- so are the points, from left to right, with no first, no last and no gap
   pub point_total : (x y : S.Point) → T (S.up_to x y) ⊎ T (S.up_to y x)
-  pub point-trans : (x y z : S.Point) → T (S.up_to x y) → T (S.up_to y z) → T (S.up_to x z)
+  pub point_trans : (x y z : S.Point) → T (S.up_to x y) → T (S.up_to y z) → T (S.up_to x z)
   pub somewhere : S.Point
-  pub left-of : (x : S.Point) → (y : S.Point) × LeftOf S y x
+  pub left_of : (x : S.Point) → (y : S.Point) × LeftOf S y x
   pub right_of : (x : S.Point) → (y : S.Point) × LeftOf S x y
   pub between : (x z : S.Point) → LeftOf S x z → (y : S.Point) × LeftOf S x y × LeftOf S y z
   -- the order at −∞ is strict
-  pub before-irrefl : (a : S.Line) → ¬ T (S.before a a)
-  pub before-trans : (a b c : S.Line) → T (S.before a b) → T (S.before b c) → T (S.before a c)
+  pub before_irrefl : (a : S.Line) → ¬ T (S.before a a)
+  pub before_trans : (a b c : S.Line) → T (S.before a b) → T (S.before b c) → T (S.before a c)
   -- two lines cross one time: where the earlier is on or above the later it stays so to the right, strictly so further right
   pub rise : (a b : S.Line) (x y : S.Point) → T (S.before a b) → T (S.at_most b a x) → T (S.up_to x y) → T (S.at_most b a y)
-  pub rise-strict : (a b : S.Line) (x y : S.Point) → T (S.before a b) → T (S.at_most b a x) → LeftOf S x y → Below S b a y
+  pub rise_strict : (a b : S.Line) (x y : S.Point) → T (S.before a b) → T (S.at_most b a x) → LeftOf S x y → Below S b a y
   -- and where the earlier is on or below the later it was so to the left
   pub fall : (a b : S.Line) (x y : S.Point) → T (S.before a b) → T (S.at_most a b y) → T (S.up_to x y) → T (S.at_most a b x)
   -- at the crossing both have one price
-  pub cross-le : (a b : S.Line) → T (S.before a b) → T (S.at_most a b (S.cross a b))
-  pub cross-ge : (a b : S.Line) → T (S.before a b) → T (S.at_most b a (S.cross a b))
+  pub cross_le : (a b : S.Line) → T (S.before a b) → T (S.at_most a b (S.cross a b))
+  pub cross_ge : (a b : S.Line) → T (S.before a b) → T (S.at_most b a (S.cross a b))
 
 -- The mirror image: the order of lines and of points turned round.
 abbrev pub mirror : Figure → Figure
@@ -58,22 +58,22 @@ mirror S =
       cross = λ a b. S.cross b a;
     }
 
-pub mirror-laws : (S : Figure) → PseudoLines S → PseudoLines (mirror S)
-mirror-laws S L =
+pub mirror_laws : (S : Figure) → PseudoLines S → PseudoLines (mirror S)
+mirror_laws S L =
     record {
-      price-total = L.price-total;
-      price-trans = L.price-trans;
+      price_total = L.price_total;
+      price_trans = L.price_trans;
       point_total = λ x y. L.point_total y x;
-      point-trans = λ x y z p q. L.point-trans z y x q p;
+      point_trans = λ x y z p q. L.point_trans z y x q p;
       somewhere = L.somewhere;
-      left-of = L.right_of;
-      right_of = L.left-of;
+      left_of = L.right_of;
+      right_of = L.left_of;
       between = λ x z h. let (y, p, q) = L.between z x h in (y, q, p);
-      before-irrefl = L.before-irrefl;
-      before-trans = λ a b c p q. L.before-trans c b a q p;
+      before_irrefl = L.before_irrefl;
+      before_trans = λ a b c p q. L.before_trans c b a q p;
       rise = λ a b x y p h u. L.fall b a y x p h u;
-      rise-strict = λ a b x y p h l k. L.rise-strict b a y x p k l h;
+      rise_strict = λ a b x y p h l k. L.rise_strict b a y x p k l h;
       fall = λ a b x y p h u. L.rise b a y x p h u;
-      cross-le = λ a b p. L.cross-ge b a p;
-      cross-ge = λ a b p. L.cross-le b a p;
+      cross_le = λ a b p. L.cross_ge b a p;
+      cross_ge = λ a b p. L.cross_le b a p;
     }

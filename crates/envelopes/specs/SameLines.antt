@@ -9,8 +9,8 @@ module _ (S : Figure) {a b : ℕ → S.Line} {n : ℕ} (e : (k : ℕ) → k < n 
   past_same zero h x p = p
   past_same (suc i) h x p = rw (← e i (omega arith), ← e (suc i) h) p
 
-  pub piece-same : {i : ℕ} {x : S.Point} → InPiece S a n i x → InPiece S b n i x
-  piece-same {i} {x} P =
+  pub piece_same : {i : ℕ} {x : S.Point} → InPiece S a n i x → InPiece S b n i x
+  piece_same {i} {x} P =
       record {
         inside = P.inside;
         outer = past_same i P.inside x P.outer;
@@ -18,9 +18,9 @@ module _ (S : Figure) {a b : ℕ → S.Line} {n : ℕ} (e : (k : ℕ) → k < n 
       }
 
 module _ (S : Figure) {a b c d : ℕ → S.Line} {m n i j : ℕ} where
-  pub bridge-same : ((k : ℕ) → k < m → a k ≡ b k) → ((k : ℕ) → k < n → c k ≡ d k) → Bridge S a m c n i j → Bridge S b m d n i j
-  bridge-same e f B =
+  pub bridge_same : ((k : ℕ) → k < m → a k ≡ b k) → ((k : ℕ) → k < n → c k ≡ d k) → Bridge S a m c n i j → Bridge S b m d n i j
+  bridge_same e f B =
       record {
-        on-left = rw (← e i B.on-left.inside, ← f j B.on-right.inside) (piece-same S e B.on-left);
-        on-right = rw (← e i B.on-left.inside, ← f j B.on-right.inside) (piece-same (mirror S) f B.on-right);
+        on_left = rw (← e i B.on_left.inside, ← f j B.on_right.inside) (piece_same S e B.on_left);
+        on_right = rw (← e i B.on_left.inside, ← f j B.on_right.inside) (piece_same (mirror S) f B.on_right);
       }

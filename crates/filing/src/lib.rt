@@ -1,7 +1,7 @@
 // A book's part as its calls change it: an offer posted, an offer withdrawn. What declines them is tried before, by declining; the calls
 // themselves, with their guards, are book's.
 ghost use Rattle.std.specs.Prelude.{◌≡◌, ◌-◌, T};
-ghost use Rattle.offers.specs.Offers.{offerInRange};
+ghost use Rattle.offers.specs.Offers.{offer_in_range};
 ghost use Rattle.filing.specs.PartUpdates.{PostDone, WithdrawDone};
 
 // The live count after an update, and what its searches took.
@@ -25,7 +25,7 @@ fn nothing() -> Told {
 
 // A post that is not declined.
 pub fn post_part(part: &mut [i64], number: i64, rate: i64, base: i64) -> Told
-    requires { T (offerInRange (record { number = number; rate = rate; base = base })) }
+    requires { T (offer_in_range (record { number = number; rate = rate; base = base })) }
     ensures { PostDone (record { number = number; rate = rate; base = base }) part.old part.new result }
 {
     if part.len() < table::LEAST_PART {

@@ -5,7 +5,7 @@ use mathlib.Core.List.{List, Memᴰ}
 use Rattle.std.specs.Int.Signed.{le_z}
 use Rattle.integers.specs.Parts.{intRules}
 use Rattle.offers.specs.Offers.{Offer}
-use Rattle.offers.specs.Order.{Ahead, rate-falls}
+use Rattle.offers.specs.Order.{Ahead, rate_falls}
 use Rattle.plain.specs.FirstLaws.{FirstOf}
 use Rattle.firsts.specs.Joins.{Leaves}
 
@@ -17,23 +17,23 @@ module _ (A : Type 0) (of : A → Offer) where
 
   module _ {a : A} {os os' : List A} (l : Leaves A of a os os') (f : FirstOf A of os a) where
     -- another of its rate is behind it
-    of-its-rate : (x : A) → Memᴰ x os' → (of x).rate ≡ (of a).rate → Ahead (of a) (of x)
-    of-its-rate x m r = ⊎_elim (λ e. absurd ((l.there x m).1 e)) (λ k. k) (f.first x (l.there x m).0 r)
+    of_its_rate : (x : A) → Memᴰ x os' → (of x).rate ≡ (of a).rate → Ahead (of a) (of x)
+    of_its_rate x m r = ⊎_elim (λ e. absurd ((l.there x m).1 e)) (λ k. k) (f.first x (l.there x m).0 r)
 
     -- a follower of its rate is the first then
-    pub follower-first : (b : A) → Follower a os' b → (of a).rate ≡ (of b).rate → FirstOf A of os' b
-    follower-first b n r = record { live = n.there; first = λ x m d. n.next x m (of-its-rate x m (d ∙ sym r)) }
+    pub follower_first : (b : A) → Follower a os' b → (of a).rate ≡ (of b).rate → FirstOf A of os' b
+    follower_first b n r = record { live = n.there; first = λ x m d. n.next x m (of_its_rate x m (d ∙ sym r)) }
 
     -- a follower of another rate, or none: nobody of its rate is left
-    pub follower-other : (b : A) → Follower a os' b → (of a).rate ≢ (of b).rate → (x : A) → Memᴰ x os' → (of a).rate ≢ (of x).rate
-    follower-other b n d x m r =
-        d (between (rate-falls n.behind) (⊎_elim (λ (e : x ≡ b). same-rate e) (λ k. rate-falls k) (n.next x m (of-its-rate x m (sym r)))) r)
+    pub follower_other : (b : A) → Follower a os' b → (of a).rate ≢ (of b).rate → (x : A) → Memᴰ x os' → (of a).rate ≢ (of x).rate
+    follower_other b n d x m r =
+        d (between (rate_falls n.behind) (⊎_elim (λ (e : x ≡ b). same_rate e) (λ k. rate_falls k) (n.next x m (of_its_rate x m (sym r)))) r)
       where
-        same-rate : x ≡ b → T (le_z (of x).rate (of b).rate)
-        same-rate e = let q : (of x).rate ≡ (of b).rate = ap (λ y. (of y).rate) e in omega (arith, intRules)
+        same_rate : x ≡ b → T (le_z (of x).rate (of b).rate)
+        same_rate e = let q : (of x).rate ≡ (of b).rate = ap (λ y. (of y).rate) e in omega (arith, intRules)
 
         between : {p q s : ℤ} → T (le_z q p) → T (le_z s q) → p ≡ s → p ≡ q
         between t u e = omega (arith, intRules)
 
-    pub follower-none : ((x : A) → Memᴰ x os' → ¬ Ahead (of a) (of x)) → (x : A) → Memᴰ x os' → (of a).rate ≢ (of x).rate
-    follower-none n x m r = n x m (of-its-rate x m (sym r))
+    pub follower_none : ((x : A) → Memᴰ x os' → ¬ Ahead (of a) (of x)) → (x : A) → Memᴰ x os' → (of a).rate ≢ (of x).rate
+    follower_none n x m r = n x m (of_its_rate x m (sym r))

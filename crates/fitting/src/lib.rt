@@ -2,8 +2,8 @@
 // the walk has a limit.
 ghost use Rattle.std.specs.Prelude.{◌≡◌};
 ghost use Rattle.table.specs.Layout.{cap};
-ghost use Rattle.fitting.specs.Edge.{passesAt};
-ghost use Rattle.fitting.specs.Walk.{Ranged, seamPasses, Edged};
+ghost use Rattle.fitting.specs.Edge.{passes_at};
+ghost use Rattle.fitting.specs.Walk.{Ranged, seam_passes, Edged};
 
 // The greatest load.
 pub const MOST_LOAD: i64 = 1_000_000;
@@ -11,7 +11,7 @@ pub const MOST_LOAD: i64 = 1_000_000;
 // The load n / d lies at the greatest load or left of it, and there the price of the line with the base and the rate is at most the budget.
 fn passes(n: i64, d: i64, base: i64, rate: i64, budget: i64) -> bool
     requires { Ranged budget n d base rate }
-    ensures { result ≡ passesAt budget n d base rate }
+    ensures { result ≡ passes_at budget n d base rate }
 {
     n <= MOST_LOAD * d && base * d + rate * n <= budget * d
 }
@@ -19,7 +19,7 @@ fn passes(n: i64, d: i64, base: i64, rate: i64, budget: i64) -> bool
 // The same of the crossing that `slot` keeps, with the offer in the slot. `c` is the part's capacity.
 fn seam_passes(part: &[i64], c: u32, slot: u32, budget: i64) -> bool
     requires { c ≡ cap part.now }
-    ensures { result ≡ seamPasses part.now slot budget }
+    ensures { result ≡ seam_passes part.now slot budget }
 {
     let n = table::bounded(
         -2_000_000_000,

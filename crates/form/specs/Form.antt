@@ -12,52 +12,52 @@ use Rattle.lists.specs.Firsts.{firsts}
 use Rattle.offers.specs.Offers.{Offer}
 use Rattle.offers.specs.Ranks.{rank}
 use Rattle.plain.specs.Book.{State}
-use Rattle.trees.specs.Operations.{Part, partLeaves}
+use Rattle.trees.specs.Operations.{Part, part_leaves}
 use Rattle.trees.specs.Balanced.{AvlP}
 use Rattle.trees.specs.Order.{Falling}
-use Rattle.dynamic.specs.OfferTree.{Held, heldShape}
-use Rattle.dynamic.specs.Valid.{bookLines}
-use Rattle.table.specs.Fields.{envelopeRootWord, firstFreeWord, liveCountWord, numberTree, numbersRootWord, offersRootWord, orderRootWord, orderTree, rankField}
+use Rattle.dynamic.specs.OfferTree.{Held, held_shape}
+use Rattle.dynamic.specs.Valid.{book_lines}
+use Rattle.table.specs.Fields.{envelope_root_word, first_free_word, live_count_word, number_tree, numbers_root_word, offers_root_word, order_root_word, order_tree, rank_field}
 use Rattle.table.specs.Words.{Words, word}
 use Rattle.table.specs.Layout.{cap}
-pub use Rattle.table.specs.Free.{head0, FreeChain, free-none, free_more}
-use Rattle.table.specs.Items.{Item, Slots, offerOf}
-use Rattle.table.specs.Rep.{refOf}
+pub use Rattle.table.specs.Free.{head0, FreeChain, free_none, free_more}
+use Rattle.table.specs.Items.{Item, Slots, offer_of}
+use Rattle.table.specs.Rep.{ref_of}
 use Rattle.table.specs.Threads.{Holds}
 use Rattle.table.specs.Keys.{Keyed}
-use Rattle.table.specs.PartTrees.{partRef, TiedPart}
+use Rattle.table.specs.PartTrees.{part_ref, TiedPart}
 use Rattle.pieces.specs.Pieces.{items}
 use Rattle.form.specs.Stored.{HeldIn}
 use Rattle.form.specs.Memory.{Remembers}
 
 -- ---- the offers
 
-abbrev pub offersRef : Option (Held Item) → ℕ
-offersRef none = 0
-offersRef (some h) = refOf (heldShape h)
+abbrev pub offers_ref : Option (Held Item) → ℕ
+offers_ref none = 0
+offers_ref (some h) = ref_of (held_shape h)
 
-abbrev pub envelopeRef : Option (Held Item) → ℕ
-envelopeRef none = 0
-envelopeRef (some h) = partRef h.whole
+abbrev pub envelope_ref : Option (Held Item) → ℕ
+envelope_ref none = 0
+envelope_ref (some h) = part_ref h.whole
 
 abbrev pub OffersIn : Words → Option (Held Item) → Type 0
 OffersIn w none = Unit {0}
-OffersIn w (some h) = HeldIn w (refOf (heldShape h)) (partRef h.whole) h
+OffersIn w (some h) = HeldIn w (ref_of (held_shape h)) (part_ref h.whole) h
 
 -- the header tells the tree of offers, and that tree stands there with its envelopes
 pub record OffersStand (w : Words) (held : Option (Held Item)) : Type 0 where
-  pub offers-root : word w offersRootWord ≡ pos (offersRef held)
-  pub envelope-root : word w envelopeRootWord ≡ pos (envelopeRef held)
-  pub offers-in : OffersIn w held
+  pub offers_root : word w offers_root_word ≡ pos (offers_ref held)
+  pub envelope_root : word w envelope_root_word ≡ pos (envelope_ref held)
+  pub offers_in : OffersIn w held
 
 -- ---- the indexes: balanced trees of the live items by a falling key
 
 pub record IndexIn (w : Words) (tree : ℕ) (key : Item → ℤ) (live : List Item) (index : Part Item) : Type 0 where
   pub tied : TiedPart w tree index
   pub balanced : AvlP index
-  pub falling : Falling key (partLeaves index)
-  pub all_live : Among (partLeaves index) live
-  pub all_there : Among live (partLeaves index)
+  pub falling : Falling key (part_leaves index)
+  pub all_live : Among (part_leaves index) live
+  pub all_there : Among live (part_leaves index)
 
 -- by number
 
@@ -66,8 +66,8 @@ number_of a = a.offer.number
 
 pub record Numbered (w : Words) (live : List Item) : Type 0 where
   pub numbers : Part Item
-  pub numbers-root : word w numbersRootWord ≡ pos (partRef numbers)
-  pub numbers-in : IndexIn w numberTree number_of live numbers
+  pub numbers_root : word w numbers_root_word ≡ pos (part_ref numbers)
+  pub numbers_in : IndexIn w number_tree number_of live numbers
 
 -- by rank, which falls along the order of offers: the leaves are the live items in order
 
@@ -76,43 +76,43 @@ rank_of a = rank a.offer
 
 -- the header tells the tree and its count, and every live slot holds its offer and its rank
 pub record InOrder (w : Words) (order : Part Item) : Type 0 where
-  pub order-root : word w orderRootWord ≡ pos (partRef order)
-  pub live-count : word w liveCountWord ≡ pos (length (partLeaves order))
-  pub order-in : IndexIn w orderTree rank_of (partLeaves order) order
-  pub slots : Slots (cap w) (partLeaves order)
-  pub holds : Holds w (partLeaves order)
-  pub ranked : Keyed w rankField rank_of (partLeaves order)
+  pub order_root : word w order_root_word ≡ pos (part_ref order)
+  pub live_count : word w live_count_word ≡ pos (length (part_leaves order))
+  pub order_in : IndexIn w order_tree rank_of (part_leaves order) order
+  pub slots : Slots (cap w) (part_leaves order)
+  pub holds : Holds w (part_leaves order)
+  pub ranked : Keyed w rank_field rank_of (part_leaves order)
 
 -- ---- the free slots: a chain that repeats none, told beside n live ones
 
 pub record Freely (w : Words) (n : ℕ) : Type 0 where
   pub free : List ℕ
-  pub first-free : word w firstFreeWord ≡ pos (head0 free)
-  pub free-chain : FreeChain w free
-  pub free-apart : Pairwise (λ (a b : ℕ). a ≢ b) free
-  pub slots-used : length free + n ≡ cap w
+  pub first_free : word w first_free_word ≡ pos (head0 free)
+  pub free_chain : FreeChain w free
+  pub free_apart : Pairwise (λ (a b : ℕ). a ≢ b) free
+  pub slots_used : length free + n ≡ cap w
 
 -- ---- the form
 
 -- the plain list: the order's leaves hold exactly those offers, in order
-abbrev pub plainOffers : Part Item → List Offer
-plainOffers order = map offerOf (partLeaves order)
+abbrev pub plain_offers : Part Item → List Offer
+plain_offers order = map offer_of (part_leaves order)
 
 -- the tree of offers has a leaf per rate: the first of those that have it
 abbrev pub LeafPerRate : Option (Held Item) → Part Item → Type 0
-LeafPerRate held order = bookLines held ≡ firsts items.before (partLeaves order)
+LeafPerRate held order = book_lines held ≡ firsts items.before (part_leaves order)
 
 -- The part stands for this plain book's capacity and offers, with this tree of offers. Who only reads needs no more.
 pub record Book (w : Words) (s : State) (held : Option (Held Item)) : Type 0 where
   pub capacity : cap w ≡ s.capacity
-  pub some-slot : 1 ≤ s.capacity
+  pub some_slot : 1 ≤ s.capacity
   pub offers : OffersStand w held
   pub order : Part Item
   pub in_order : InOrder w order
-  pub leaf-per-rate : LeafPerRate held order
-  pub numbers : Numbered w (partLeaves order)
-  pub free : Freely w (length (partLeaves order))
-  pub stands-for : plainOffers order ≡ s.offers
+  pub leaf_per_rate : LeafPerRate held order
+  pub numbers : Numbered w (part_leaves order)
+  pub free : Freely w (length (part_leaves order))
+  pub stands_for : plain_offers order ≡ s.offers
 
 -- The part has the form, and stands for this plain book: its offers, and what it remembers.
 pub record Form (w : Words) (s : State) (held : Option (Held Item)) : Type 0 where

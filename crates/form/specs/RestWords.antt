@@ -5,44 +5,44 @@ use Rattle.std.proofs.Math.Option.{none, some}
 use mathlib.Core.List.Memᴰ
 use Rattle.trees.specs.Tree.{leaves, last}
 use Rattle.trees.specs.Leaves.{last_leaf}
-use Rattle.trees.specs.Operations.{Part, partLeaves}
+use Rattle.trees.specs.Operations.{Part, part_leaves}
 use Rattle.dynamic.specs.OfferTree.{OfferTree, single, fork, shape}
-use Rattle.table.specs.Fields.{innerRestField, leafRestField, mostNodes, mostSlots}
-use Rattle.table.specs.Words.{Words, up_to, upTo-in}
-use Rattle.table.specs.Layout.{cap, cap-most, cell, link_at}
+use Rattle.table.specs.Fields.{inner_rest_field, leaf_rest_field, most_nodes, most_slots}
+use Rattle.table.specs.Words.{Words, up_to, up_to_in}
+use Rattle.table.specs.Layout.{cap, cap_most, cell, link_at}
 use Rattle.table.specs.Items.{Item, Slots}
-use Rattle.table.specs.Rep.{refOf}
-use Rattle.table.specs.Nodes.{ref-high}
-use Rattle.table.specs.PartTrees.{partRef}
-use Rattle.form.specs.Stored.{nodeSlot, restField, RestIn}
+use Rattle.table.specs.Rep.{ref_of}
+use Rattle.table.specs.Nodes.{ref_high}
+use Rattle.table.specs.PartTrees.{part_ref}
+use Rattle.form.specs.Stored.{node_slot, rest_field, RestIn}
 
 -- the word that tells what stays with node n, and the root that is read off it
-abbrev pub restWord : Words → ℕ → ℤ
-restWord w n = cond (ltb mostSlots n) (cell w innerRestField (n - mostSlots)) (cell w leafRestField n)
+abbrev pub rest_word : Words → ℕ → ℤ
+rest_word w n = cond (ltb most_slots n) (cell w inner_rest_field (n - most_slots)) (cell w leaf_rest_field n)
 
 abbrev pub rest_at : Words → ℕ → ℕ
-rest_at w n = up_to mostNodes (restWord w n)
+rest_at w n = up_to most_nodes (rest_word w n)
 
-rest-word : (w : Words) (t : OfferTree Item) → Slots (cap w) (leaves (shape t)) → restWord w (refOf (shape t)) ≡ cell w (restField t) (nodeSlot t)
-rest-word w (single a) s = rw (le-ltb mostSlots a.slot (omega (arith, s.high (Memᴰ.head refl), cap-most w))) refl
-rest-word w (fork u v l ql qr r) s =
-    let here : mostSlots + (last (shape l)).slot - mostSlots ≡ (last (shape l)).slot = omega arith in
-    rw (lt-ltb mostSlots (mostSlots + (last (shape l)).slot) (omega (arith, s.low (Memᴰ.append_left (leaves (shape r)) (last_leaf (shape l))))))
-    (ap (cell w innerRestField) here)
+rest_word_lem : (w : Words) (t : OfferTree Item) → Slots (cap w) (leaves (shape t)) → rest_word w (ref_of (shape t)) ≡ cell w (rest_field t) (node_slot t)
+rest_word_lem w (single a) s = rw (le-ltb most_slots a.slot (omega (arith, s.high (Memᴰ.head refl), cap_most w))) refl
+rest_word_lem w (fork u v l ql qr r) s =
+    let here : most_slots + (last (shape l)).slot - most_slots ≡ (last (shape l)).slot = omega arith in
+    rw (lt-ltb most_slots (most_slots + (last (shape l)).slot) (omega (arith, s.low (Memᴰ.append_left (leaves (shape r)) (last_leaf (shape l))))))
+    (ap (cell w inner_rest_field) here)
 
 -- a piece tree's number is that of a node
-part_small : {c : ℕ} (q : Part Item) → Slots c (partLeaves q) → c ≤ mostSlots → partRef q ≤ mostNodes
+part_small : {c : ℕ} (q : Part Item) → Slots c (part_leaves q) → c ≤ most_slots → part_ref q ≤ most_nodes
 part_small none s h = omega arith
-part_small (some t) s h = ref-high t s h
+part_small (some t) s h = ref_high t s h
 
-pub rest-at : {w : Words} (t : OfferTree Item) (q : Part Item) → Slots (cap w) (leaves (shape t)) → Slots (cap w) (partLeaves q) → RestIn w t q →
-    rest_at w (refOf (shape t)) ≡ partRef q
-rest-at {w} t q s own h = ap (up_to mostNodes) (rest-word w t s ∙ h.root) ∙ upTo-in mostNodes (partRef q) (part_small q own (cap-most w))
+pub rest_at_lem : {w : Words} (t : OfferTree Item) (q : Part Item) → Slots (cap w) (leaves (shape t)) → Slots (cap w) (part_leaves q) → RestIn w t q →
+    rest_at w (ref_of (shape t)) ≡ part_ref q
+rest_at_lem {w} t q s own h = ap (up_to most_nodes) (rest_word_lem w t s ∙ h.root) ∙ up_to_in most_nodes (part_ref q) (part_small q own (cap_most w))
 
 -- ---- the ways through the code
 
-pub rest-of-inner : (w : Words) (n m r : ℕ) → mostSlots < n → m ≡ n - mostSlots → r ≡ link_at w innerRestField m → r ≡ rest_at w n
-rest-of-inner w n m r h d e = rw (lt-ltb mostSlots n h) (e ∙ ap (link_at w innerRestField) d)
+pub rest_of_inner : (w : Words) (n m r : ℕ) → most_slots < n → m ≡ n - most_slots → r ≡ link_at w inner_rest_field m → r ≡ rest_at w n
+rest_of_inner w n m r h d e = rw (lt-ltb most_slots n h) (e ∙ ap (link_at w inner_rest_field) d)
 
-pub rest-of-leaf : (w : Words) (n r : ℕ) → n ≤ mostSlots → r ≡ link_at w leafRestField n → r ≡ rest_at w n
-rest-of-leaf w n r h e = rw (le-ltb mostSlots n h) e
+pub rest_of_leaf : (w : Words) (n r : ℕ) → n ≤ most_slots → r ≡ link_at w leaf_rest_field n → r ≡ rest_at w n
+rest_of_leaf w n r h e = rw (le-ltb most_slots n h) e

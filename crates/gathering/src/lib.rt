@@ -2,9 +2,9 @@
 // words are safe.
 ghost use Rattle.std.specs.Prelude.{◌≡◌, length};
 ghost use Rattle.std.specs.Int.Signed.{le_z, lt_z};
-ghost use Rattle.table.specs.Fields.{mostLevels, mostSlots, rateField};
+ghost use Rattle.table.specs.Fields.{most_levels, most_slots, rate_field};
 ghost use Rattle.table.specs.Layout.{cap, cell};
-ghost use Rattle.query.specs.Readings.{priceIn};
+ghost use Rattle.query.specs.Readings.{price_in};
 ghost use Rattle.gathering.specs.Cheapest.{Cheaper, OnLeft, OnRight};
 ghost use Rattle.gathering.specs.Gathers.{Put, Gathers};
 
@@ -16,14 +16,14 @@ pub const GIVEN_UP: usize = SLOTS + 1;
 
 // The price of the offer in a slot is strictly below `price`.
 pub fn is_below(part: &[i64], slot: u32, load: i64, price: i64) -> bool
-    ensures { result ≡ lt_z (priceIn part.now slot load) price }
+    ensures { result ≡ lt_z (price_in part.now slot load) price }
 {
     query::price(part, slot, load) < price
 }
 
 // The offer in slot `a` costs at most what the one in slot `b` costs.
 fn no_dearer(part: &[i64], a: u32, b: u32, load: i64) -> bool
-    ensures { result ≡ le_z (priceIn part.now a load) (priceIn part.now b load) }
+    ensures { result ≡ le_z (price_in part.now a load) (price_in part.now b load) }
 {
     query::price(part, a, load) <= query::price(part, b, load)
 }
@@ -31,7 +31,7 @@ fn no_dearer(part: &[i64], a: u32, b: u32, load: i64) -> bool
 // The rate in slot `a` is below the one in slot `b`. `c` is the capacity, here and below.
 fn is_later(part: &[i64], c: u32, a: u32, b: u32) -> bool
     requires { c ≡ cap part.now }
-    ensures { result ≡ lt_z (cell part.now rateField a) (cell part.now rateField b) }
+    ensures { result ≡ lt_z (cell part.now rate_field a) (cell part.now rate_field b) }
 {
     table::get_in(part, c, table::RATE, a) < table::get_in(part, c, table::RATE, b)
 }
@@ -90,7 +90,7 @@ fn right_cheapest(part: &[i64], c: u32, x: u32, e: u32, load: i64) -> u32
 
 // Puts leaf `x` at place `at`, and returns the next place; gives up where there is no room.
 fn put(x: u32, firsts: &mut [u32; SLOTS], at: usize) -> usize
-    requires { length firsts.old ≡ mostSlots }
+    requires { length firsts.old ≡ most_slots }
     ensures { Put x firsts.old firsts.new at result }
 {
     if SLOTS <= at {
@@ -114,7 +114,7 @@ fn gather_in(
     at: usize,
     limit: u32,
 ) -> usize
-    requires { (c ≡ cap part.now) × (length firsts.old ≡ mostSlots) }
+    requires { (c ≡ cap part.now) × (length firsts.old ≡ most_slots) }
     ensures { Gathers part.now x e load price limit firsts.old firsts.new at result }
 {
     if SLOTS < at {
@@ -147,8 +147,8 @@ pub fn gather(
     price: i64,
     firsts: &mut [u32; SLOTS],
 ) -> usize
-    requires { length firsts.old ≡ mostSlots }
-    ensures { Gathers part.now x e load price mostLevels firsts.old firsts.new 0 result }
+    requires { length firsts.old ≡ most_slots }
+    ensures { Gathers part.now x e load price most_levels firsts.old firsts.new 0 result }
 {
     let c = table::capacity(part);
     gather_in(part, c, x, e, load, price, firsts, 0, table::MOST_LEVELS)

@@ -4,37 +4,37 @@ use Rattle.std.specs.Prelude.{◌≡◌, refl, List, [], ◌∷◌, ℕ, length,
 use Rattle.std.proofs.Common.{sym, ◌∙◌, ap, subst}
 use Rattle.std.proofs.Math.Option.{Option, none, some}
 use Rattle.plain.specs.Causes.{Cause, declined, Clear}
-use Rattle.plain.specs.Book.{State, Undo, Call, post, withdraw, query, listing, takeBack, report, largestLoad, Answer, opened, openTrials, trials}
+use Rattle.plain.specs.Book.{State, Undo, Call, post, withdraw, query, listing, take_back, report, largest_load, Answer, opened, open_trials, trials}
 use Rattle.plain.specs.Book.{recalling, accepted, respond, step, after, answers}
-use Rattle.trees.specs.Height.{log-height, log-heightP}
+use Rattle.trees.specs.Height.{log_height, log_height_p}
 use Rattle.dynamic.specs.OfferTree.{Held, Pair}
-use Rattle.dynamic.specs.Heights.{offers-height, piece-height}
+use Rattle.dynamic.specs.Heights.{offers_height, piece_height}
 use Rattle.dynamic.specs.Work.{Work}
 use Rattle.table.specs.Items.{Item}
 use Rattle.pieces.specs.Pieces.{items}
 use Rattle.promises.specs.declared.Opening.{Opening}
 use Rattle.promises.specs.declared.Opening.TheVariants.{Opened}
 use Rattle.form.specs.Form.{Form, OffersIn}
-use Rattle.form.specs.Local.{Alike, form-alike}
+use Rattle.form.specs.Local.{Alike, form_alike}
 use Rattle.promises.specs.Promises.{part_of, Opens, Passes}
-use Rattle.history.specs.History.{Happens, by-update, by-query, by-listing, by-report, by-largest, History, finished, next, LowPairs, Kept}
+use Rattle.history.specs.History.{Happens, by_update, by_query, by_listing, by_report, by_largest, History, finished, next, LowPairs, Kept}
 pub use Rattle.history.specs.History.{Low, Claim}
 
 -- ---- heights
 
-pub low-trees : (w : List ℤ) (held : Option (Held Item)) → OffersIn w held → Low held
-low-trees w none o = tt
-low-trees w (some h) o = (offers-height items o.right, piece-height items o.right)
+pub low_trees : (w : List ℤ) (held : Option (Held Item)) → OffersIn w held → Low held
+low_trees w none o = tt
+low_trees w (some h) o = (offers_height items o.right, piece_height items o.right)
 
 -- so is every tree that went into a search
-pub low-pairs : {before after : Option (Held Item)} {log : List (Pair Item)} → Work items before after log → LowPairs log
-low-pairs w p m = let s = w.searched p m in (log-height s.left-balanced, log-height s.right-balanced)
+pub low_pairs : {before after : Option (Held Item)} {log : List (Pair Item)} → Work items before after log → LowPairs log
+low_pairs w p m = let s = w.searched p m in (log_height s.left_balanced, log_height s.right_balanced)
 
 -- ---- its proof
 
 -- a call leaves the capacity as it was
-pub step-capacity : (s : State) (k : Call) → (step s k).state.capacity ≡ s.capacity
-step-capacity s k = go (declined (trials s k)) k
+pub step_capacity : (s : State) (k : Call) → (step s k).state.capacity ≡ s.capacity
+step_capacity s k = go (declined (trials s k)) k
   where
     go : (d : Option Cause) (k : Call) → (respond s k d).state.capacity ≡ s.capacity
     go (some c) k = refl
@@ -43,16 +43,16 @@ step-capacity s k = go (declined (trials s k)) k
     go none (query q) = refl
     go none (listing room) = refl
     go none (report q p room) = refl
-    go none (largestLoad b) = refl
-    go none takeBack = taken s.memory
+    go none (largest_load b) = refl
+    go none take_back = taken s.memory
       where
-        taken : (m : List Undo) → (accepted (recalling s s.offers m) takeBack).state.capacity ≡ s.capacity
+        taken : (m : List Undo) → (accepted (recalling s s.offers m) take_back).state.capacity ≡ s.capacity
         taken [] = refl
         taken (u ∷ us) = refl
 
 -- a query, a listing, a report and a largest load leave the plain book as it was
-pub read-state : (s : State) (k : Call) → (accepted s k).state ≡ s → (step s k).state ≡ s
-read-state s k e = go (declined (trials s k))
+pub read_state : (s : State) (k : Call) → (accepted s k).state ≡ s → (step s k).state ≡ s
+read_state s k e = go (declined (trials s k))
   where
     go : (d : Option Cause) → (respond s k d).state ≡ s
     go (some c) = refl
@@ -72,58 +72,58 @@ unmoved : (start : ℕ) {t t' : List ℤ} {s s' : State} {held : Option (Held It
 unmoved start {t} {s' = s'} {held} d e form = subst (λ (u : List ℤ). Form (part_of u start) s' held) (sym d)
     (subst (λ (x : State). Form (part_of t start) x held) (sym e) form)
 
-pub one-call : {start : ℕ} {t : List ℤ} {k : Call} {t' : List ℤ} {a : Answer} (s : State) (held : Option (Held Item)) (p : Happens start t k t' a) →
+pub one_call : {start : ℕ} {t : List ℤ} {k : Call} {t' : List ℤ} {a : Answer} (s : State) (held : Option (Held Item)) (p : Happens start t k t' a) →
     Form (part_of t start) s held → OneCall s held p
-one-call s held (by-update c u p e) form =
+one_call s held (by_update c u p e) form =
     let f = p.follows s held form in
-    record { mid = f.after; stands = f.stands; told = e ∙ f.answers; kept = (f, refl, low-pairs f.work) }
-one-call {start} s held (by-query q f p d e) form =
+    record { mid = f.after; stands = f.stands; told = e ∙ f.answers; kept = (f, refl, low_pairs f.work) }
+one_call {start} s held (by_query q f p d e) form =
     record {
       mid = held;
-      stands = unmoved start d (read-state s (query q) refl) form;
+      stands = unmoved start d (read_state s (query q) refl) form;
       told = e ∙ p.answers s held form.book;
       kept = (p.probes s held form.book, refl);
     }
-one-call {start} s held (by-listing {room} out out' l p m d e) form =
+one_call {start} s held (by_listing {room} out out' l p m d e) form =
     record {
       mid = held;
-      stands = unmoved start d (read-state s (listing room) refl) form;
+      stands = unmoved start d (read_state s (listing room) refl) form;
       told = e ∙ p.answers s held form.book ∙ ap (λ (n : ℕ). (step s (listing n)).answer) (sym m);
       kept = refl;
     }
-one-call {start} s held (by-report {room} q p out out' r k m d e) form =
+one_call {start} s held (by_report {room} q p out out' r k m d e) form =
     record {
       mid = held;
-      stands = unmoved start d (read-state s (report q p room) refl) form;
+      stands = unmoved start d (read_state s (report q p room) refl) form;
       told = e ∙ k.answers s held form.book ∙ ap (λ (n : ℕ). (step s (report q p n)).answer) (sym m);
       kept = refl;
     }
-one-call {start} s held (by-largest b r p d e) form =
+one_call {start} s held (by_largest b r p d e) form =
     record {
       mid = held;
-      stands = unmoved start d (read-state s (largestLoad b) refl) form;
+      stands = unmoved start d (read_state s (largest_load b) refl) form;
       told = e ∙ p.answers s held form.book;
       kept = refl;
     }
 
 -- c is the plain book's capacity
-pub from-book :
+pub from_book :
     {c start : ℕ} {t : List ℤ} {ks : List Call} {as' : List Answer} {t' : List ℤ} (h : History c start t ks as' t') (s : State) (held : Option (Held Item)) →
     s.capacity ≡ c → Form (part_of t start) s held → Claim s held h
-from-book {start} {t} finished s held same form =
+from_book {start} {t} finished s held same form =
     let book = form.book in
     record {
       held = held;
       stands = form;
       told = refl;
-      low = low-trees (part_of t start) held book.offers.offers-in;
-      low-numbers = log-heightP book.numbers.numbers book.numbers.numbers-in.balanced;
-      low-order = log-heightP book.order book.in_order.order-in.balanced;
+      low = low_trees (part_of t start) held book.offers.offers_in;
+      low_numbers = log_height_p book.numbers.numbers book.numbers.numbers_in.balanced;
+      low_order = log_height_p book.order book.in_order.order_in.balanced;
       each = refl;
     }
-from-book {c} {start} (next {t} {t₁} {k = k} alike p rest) s held same form =
-    let o = one-call s held p (form-alike form (subst (λ (n : ℕ). Alike n (part_of t start) (part_of t₁ start)) (sym same) alike)) in
-    onward o (from-book rest (step s k).state o.mid (step-capacity s k ∙ same) o.stands)
+from_book {c} {start} (next {t} {t₁} {k = k} alike p rest) s held same form =
+    let o = one_call s held p (form_alike form (subst (λ (n : ℕ). Alike n (part_of t start) (part_of t₁ start)) (sym same) alike)) in
+    onward o (from_book rest (step s k).state o.mid (step_capacity s k ∙ same) o.stands)
   where
     onward : (o : OneCall s held p) → Claim (step s k).state o.mid rest → Claim s held (next alike p rest)
     onward o r =
@@ -132,21 +132,21 @@ from-book {c} {start} (next {t} {t₁} {k = k} alike p rest) s held same form =
           stands = r.stands;
           told = λ i. o.told i ∷ r.told i;
           low = r.low;
-          low-numbers = r.low-numbers;
-          low-order = r.low-order;
+          low_numbers = r.low_numbers;
+          low_order = r.low_order;
           each = (o.mid, o.kept, r.each);
         }
 
 -- Every history: the list begins at an opening that meets neither cause 1 nor cause 2. That opening is accepted.
-pub every-history :
+pub every_history :
     {start : ℕ} {t t₀ : List ℤ} {ks : List Call} {as' : List Answer} {t' : List ℤ} (c : ℤ) (r : Opening) →
     Opens c start t t₀ r →
-    Clear (openTrials (length t) start c) →
+    Clear (open_trials (length t) start c) →
     (h : History (nat_abs c) start t₀ ks as' t') →
     (r ≡ Opened) × Claim (opened c) none h
-every-history c r p clear h = ((p.accepted clear).0, from-book h (opened c) none refl (p.accepted clear).1)
+every_history c r p clear h = ((p.accepted clear).0, from_book h (opened c) none refl (p.accepted clear).1)
 
 -- so the part passes the check
-pub history-passes : {c start : ℕ} {t : List ℤ} {ks : List Call} {as' : List Answer} {t' : List ℤ} {s : State} {held : Option (Held Item)}
+pub history_passes : {c start : ℕ} {t : List ℤ} {ks : List Call} {as' : List Answer} {t' : List ℤ} {s : State} {held : Option (Held Item)}
     {h : History c start t ks as' t'} → Claim s held h → Passes start t'
-history-passes {ks = ks} {s = s} q = (after s ks, q.held, q.stands)
+history_passes {ks = ks} {s = s} q = (after s ks, q.held, q.stands)

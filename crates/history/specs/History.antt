@@ -3,11 +3,11 @@
 use Rattle.std.specs.Prelude.{◌≡◌, ℕ, ◌*◌, ◌≤◌, length, ℤ}
 use mathlib.Core.List.{List, [], ◌∷◌, Memᴰ}
 use Rattle.std.proofs.Math.Option.{Option, none, some}
-use Rattle.integers.specs.Log.{B}
-use Rattle.plain.specs.Book.{State, Call, post, withdraw, query, listing, takeBack, report, largestLoad, Answer, step, after, answers}
-use Rattle.trees.specs.Operations.{Part, partLeaves, partHeight}
-use Rattle.dynamic.specs.OfferTree.{Held, heldShape, Pair}
-use Rattle.dynamic.specs.Rearranged.{pieceTrees}
+use Rattle.integers.specs.Log.{log_up}
+use Rattle.plain.specs.Book.{State, Call, post, withdraw, query, listing, take_back, report, largest_load, Answer, step, after, answers}
+use Rattle.trees.specs.Operations.{Part, part_leaves, part_height}
+use Rattle.dynamic.specs.OfferTree.{Held, held_shape, Pair}
+use Rattle.dynamic.specs.Rearranged.{piece_trees}
 use Rattle.table.specs.Items.{Item}
 use Rattle.promises.specs.declared.Update.{Update}
 use Rattle.promises.specs.declared.Found.{Found}
@@ -16,24 +16,24 @@ use Rattle.promises.specs.declared.Reported.{Reported}
 use Rattle.promises.specs.declared.Fitted.{Fitted}
 use Rattle.form.specs.Form.{Form}
 use Rattle.form.specs.Local.{Alike}
-use Rattle.promises.specs.Promises.{part_of, Updates, Follows, Queries, Probes, Lists, Reports, Sends, foundTold, updateAnswer, foundAnswer, listingAnswer}
-use Rattle.promises.specs.Promises.{reportAnswer, fittedAnswer}
+use Rattle.promises.specs.Promises.{part_of, Updates, Follows, Queries, Probes, Lists, Reports, Sends, found_told, update_answer, found_answer, listing_answer}
+use Rattle.promises.specs.Promises.{report_answer, fitted_answer}
 
 -- The calls that change a book: each is an update.
 pub data Changes : Call → Type 0 where
   posting : (n r b : ℤ) → Changes (post n r b)
   withdrawing : (n : ℤ) → Changes (withdraw n)
-  taking-back : Changes takeBack
+  taking_back : Changes take_back
 
 -- One call: the words before and after it, and its answer.
 pub data Happens (start : ℕ) (t : List ℤ) : Call → List ℤ → Answer → Type 0 where
-  by-update : {k : Call} {t' : List ℤ} {a : Answer} → Changes k → (u : Update) → Updates k start t t' u → a ≡ updateAnswer u → Happens start t k t' a
-  by-query : {t' : List ℤ} {a : Answer} (q : ℤ) (f : Found) → Queries q start t f → t' ≡ t → a ≡ foundAnswer f → Happens start t (query q) t' a
-  by-listing : {t' : List ℤ} {a : Answer} {room : ℕ} (out out' : List ℤ) (l : Listed) → Lists start t out out' l → room ≡ length out → t' ≡ t →
-      a ≡ listingAnswer l out' → Happens start t (listing room) t' a
-  by-report : {t' : List ℤ} {a : Answer} {room : ℕ} (q p : ℤ) (out out' : List ℤ) (r : Reported) → Reports q p start t out out' r → room ≡ length out →
-      t' ≡ t → a ≡ reportAnswer r out' → Happens start t (report q p room) t' a
-  by-largest : {t' : List ℤ} {a : Answer} (b : ℤ) (r : Fitted) → Sends b start t r → t' ≡ t → a ≡ fittedAnswer r → Happens start t (largestLoad b) t' a
+  by_update : {k : Call} {t' : List ℤ} {a : Answer} → Changes k → (u : Update) → Updates k start t t' u → a ≡ update_answer u → Happens start t k t' a
+  by_query : {t' : List ℤ} {a : Answer} (q : ℤ) (f : Found) → Queries q start t f → t' ≡ t → a ≡ found_answer f → Happens start t (query q) t' a
+  by_listing : {t' : List ℤ} {a : Answer} {room : ℕ} (out out' : List ℤ) (l : Listed) → Lists start t out out' l → room ≡ length out → t' ≡ t →
+      a ≡ listing_answer l out' → Happens start t (listing room) t' a
+  by_report : {t' : List ℤ} {a : Answer} {room : ℕ} (q p : ℤ) (out out' : List ℤ) (r : Reported) → Reports q p start t out out' r → room ≡ length out →
+      t' ≡ t → a ≡ report_answer r out' → Happens start t (report q p room) t' a
+  by_largest : {t' : List ℤ} {a : Answer} (b : ℤ) (r : Fitted) → Sends b start t r → t' ≡ t → a ≡ fitted_answer r → Happens start t (largest_load b) t' a
 
 -- A list of calls with their answers, from the words `t` to the words `t'`.
 pub data History (c start : ℕ) : List ℤ → List Call → List Answer → List ℤ → Type 0 where
@@ -45,9 +45,9 @@ pub data History (c start : ℕ) : List ℤ → List Call → List Answer → Li
       History c start t₂ ks as' t' →
       History c start t (k ∷ ks) (a ∷ as') t'
 
--- A tree is at most 2 × B(n) high over its n leaves.
+-- A tree is at most 2 × log_up(n) high over its n leaves.
 abbrev pub LowTree : Part Item → Type 0
-LowTree p = partHeight p ≤ 2 * B (length (partLeaves p))
+LowTree p = part_height p ≤ 2 * log_up (length (part_leaves p))
 
 -- every tree that went into a search
 abbrev pub LowPairs : List (Pair Item) → Type 0
@@ -57,11 +57,11 @@ LowPairs log = (p : Pair Item) → Memᴰ p log → LowTree (some p.front) × Lo
 -- a query's probes.
 abbrev pub Kept : (s : State) (start : ℕ) {t : List ℤ} {k : Call} {t' : List ℤ} {a : Answer} → Happens start t k t' a →
     (before after : Option (Held Item)) → Type 0
-Kept s start {t} {k} {t'} (by-update c u p e) held held' = (f : Follows k s held start t t' u) × (f.after ≡ held') × LowPairs f.log
-Kept s start (by-query q f p d e) held held' = Probes held (foundTold f).values × (held ≡ held')
-Kept s start (by-listing out out' l p m d e) held held' = held ≡ held'
-Kept s start (by-report q p out out' r k m d e) held held' = held ≡ held'
-Kept s start (by-largest b r p d e) held held' = held ≡ held'
+Kept s start {t} {k} {t'} (by_update c u p e) held held' = (f : Follows k s held start t t' u) × (f.after ≡ held') × LowPairs f.log
+Kept s start (by_query q f p d e) held held' = Probes held (found_told f).values × (held ≡ held')
+Kept s start (by_listing out out' l p m d e) held held' = held ≡ held'
+Kept s start (by_report q p out out' r k m d e) held held' = held ≡ held'
+Kept s start (by_largest b r p d e) held held' = held ≡ held'
 
 -- each on the plain book that the calls before it left
 abbrev pub EachCall : {c start : ℕ} {t : List ℤ} {ks : List Call} {as' : List Answer} {t' : List ℤ} (s : State) → History c start t ks as' t' →
@@ -74,7 +74,7 @@ EachCall {start = start} s (next {k = k} q p rest) held held' = (mid : Option (H
 -- the tree of offers, and every tree of pieces
 abbrev pub Low : Option (Held Item) → Type 0
 Low none = Unit {0}
-Low (some h) = LowTree (some (heldShape h)) × ((p : Part Item) → Memᴰ p (pieceTrees h) → LowTree p)
+Low (some h) = LowTree (some (held_shape h)) × ((p : Part Item) → Memᴰ p (piece_trees h) → LowTree p)
 
 -- The part passes the check and stands for the plain book, the answers in order are the plain book's, every tree is low, and each update has its list
 -- of searched pairs. `every-history` (Claim) proves it from an accepted opening on; `Remains` tells the offers by the calls that remain.
@@ -86,6 +86,6 @@ pub record Claim {c start : ℕ} {t : List ℤ} {ks : List Call} {as' : List Ans
   -- refusals' numbers, live counts, prices, offers named, piece counts and words written
   pub told : as' ≡ answers s ks
   pub low : Low held
-  pub low-numbers : LowTree stands.book.numbers.numbers
-  pub low-order : LowTree stands.book.order
+  pub low_numbers : LowTree stands.book.numbers.numbers
+  pub low_order : LowTree stands.book.order
   pub each : EachCall s h before held

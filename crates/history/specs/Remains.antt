@@ -4,35 +4,35 @@ use Rattle.std.specs.Prelude.{◌≡◌, refl, List, [], ℕ, length, ℤ, nat_a
 use Rattle.std.proofs.Common.{sym, ◌∙◌, ap, subst}
 use Rattle.std.proofs.Math.Option.{Option, none}
 use Rattle.plain.specs.Causes.{Clear}
-use Rattle.plain.specs.Book.{State, Call, Answer, opened, openTrials, after}
-use Rattle.plain.specs.Sound.{Sound, opened-sound}
-use Rattle.plain.specs.Remaining.{remaining, AllAccepted, remaining-leaves}
+use Rattle.plain.specs.Book.{State, Call, Answer, opened, open_trials, after}
+use Rattle.plain.specs.Sound.{Sound, opened_sound}
+use Rattle.plain.specs.Remaining.{remaining, AllAccepted, remaining_leaves}
 use Rattle.dynamic.specs.OfferTree.{Held}
 use Rattle.table.specs.Items.{Item}
-use Rattle.form.specs.Form.{plainOffers}
+use Rattle.form.specs.Form.{plain_offers}
 use Rattle.promises.specs.declared.Opening.{Opening}
 use Rattle.promises.specs.Promises.{Opens}
 use Rattle.history.specs.History.{History, Claim}
-use Rattle.history.specs.Claim.{every-history}
+use Rattle.history.specs.Claim.{every_history}
 
 -- What remains of the calls, told by their answers, is accepted call for call when it alone is made, and leaves what the order's leaves hold.
 pub record Stays {c start : ℕ} {t : List ℤ} {ks : List Call} {as' : List Answer} {t' : List ℤ} {s : State} {before : Option (Held Item)}
     {h : History c start t ks as' t'} (q : Claim s before h) : Type 0 where
   pub accepted : AllAccepted s (remaining ks as')
-  pub stands-for : plainOffers q.stands.book.order ≡ (after s (remaining ks as')).offers
+  pub stands_for : plain_offers q.stands.book.order ≡ (after s (remaining ks as')).offers
 
 -- from a plain book that remembers nothing
-pub remaining-stands : {c start : ℕ} {t : List ℤ} {ks : List Call} {as' : List Answer} {t' : List ℤ} {s : State} {before : Option (Held Item)}
+pub remaining_stands : {c start : ℕ} {t : List ℤ} {ks : List Call} {as' : List Answer} {t' : List ℤ} {s : State} {before : Option (Held Item)}
     {h : History c start t ks as' t'} → Sound s → s.memory ≡ [] → (q : Claim s before h) → Stays q
-remaining-stands {ks = ks} {s = s} sound empty q =
-    let r = remaining-leaves s sound empty ks in
+remaining_stands {ks = ks} {s = s} sound empty q =
+    let r = remaining_leaves s sound empty ks in
     record {
       accepted = subst (λ (told : List Answer). AllAccepted s (remaining ks told)) (sym q.told) r.accepted;
-      stands-for = q.stands.book.stands-for ∙ sym r.offers ∙ ap (λ (told : List Answer). (after s (remaining ks told)).offers) (sym q.told);
+      stands_for = q.stands.book.stands_for ∙ sym r.offers ∙ ap (λ (told : List Answer). (after s (remaining ks told)).offers) (sym q.told);
     }
 
 -- from an opening on
-pub every-remainder :
+pub every_remainder :
     {start : ℕ} {t t₀ : List ℤ} {ks : List Call} {as' : List Answer} {t' : List ℤ} (c : ℤ) (r : Opening) (p : Opens c start t t₀ r)
-    (clear : Clear (openTrials (length t) start c)) (h : History (nat_abs c) start t₀ ks as' t') → Stays (every-history c r p clear h).1
-every-remainder {start} {t} c r p clear h = remaining-stands (opened-sound (length t) start c clear) refl (every-history c r p clear h).1
+    (clear : Clear (open_trials (length t) start c)) (h : History (nat_abs c) start t₀ ks as' t') → Stays (every_history c r p clear h).1
+every_remainder {start} {t} c r p clear h = remaining_stands (opened_sound (length t) start c clear) refl (every_history c r p clear h).1

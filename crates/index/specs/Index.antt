@@ -4,16 +4,16 @@ use Rattle.std.specs.Prelude.{◌≡◌, ◌≢◌, ◌⊎◌, ℕ, ◌≤◌, T
 use mathlib.Core.List.{List, ◌∷◌, Memᴰ}
 use Rattle.std.proofs.Common.{arith}
 use Rattle.std.specs.Int.Signed.{lt_z}
-use Rattle.integers.specs.Parts.{intRules, range-parts}
-use Rattle.offers.specs.Sizes.{number-of}
-use Rattle.offers.specs.Ranks.{mostRank, rank-small}
+use Rattle.integers.specs.Parts.{intRules, range_parts}
+use Rattle.offers.specs.Sizes.{number_of_lem}
+use Rattle.offers.specs.Ranks.{most_rank, rank_small}
 use Rattle.trees.specs.Operations.{Part}
-use Rattle.table.specs.Fields.{numberField, numberTree, orderTree, rankField}
+use Rattle.table.specs.Fields.{number_field, number_tree, order_tree, rank_field}
 use Rattle.table.specs.Words.{Words}
 use Rattle.table.specs.Layout.{cap}
 use Rattle.table.specs.Items.{Item, Slots}
 use Rattle.table.specs.Rep.{Within, Only}
-use Rattle.table.specs.PartTrees.{partRef}
+use Rattle.table.specs.PartTrees.{part_ref}
 use Rattle.table.specs.Keys.{Keyed}
 use Rattle.table.specs.Threads.{Held, Holds}
 use Rattle.form.specs.Form.{IndexIn, number_of, rank_of}
@@ -23,25 +23,25 @@ pub use Rattle.descents.specs.Afters.{NoneBelow, Follows}
 
 -- no tree's nodes are in that field, and a word holds one more than a key
 pub record Index (tree field : ℕ) (key : Item → ℤ) : Type 0 where
-  pub kind : tree ≤ orderTree
-  pub low : field ≤ rankField
-  pub small : {w : Words} {a : Item} → Held w a → T (lt_z (key a) (pos mostRank))
+  pub kind : tree ≤ order_tree
+  pub low : field ≤ rank_field
+  pub small : {w : Words} {a : Item} → Held w a → T (lt_z (key a) (pos most_rank))
 
-pub by_number : Index numberTree numberField number_of
+pub by_number : Index number_tree number_field number_of
 by_number =
     record {
       kind = omega arith;
       low = omega arith;
-      small = λ {w} {a} h. let k = range-parts (pos 1) (number_of a) (pos 9_999) (number-of a.offer h.ranged) in omega (arith, intRules);
+      small = λ {w} {a} h. let k = range_parts (pos 1) (number_of a) (pos 9_999) (number_of_lem a.offer h.ranged) in omega (arith, intRules);
     }
 
-pub by_rank : Index orderTree rankField rank_of
-by_rank = record { kind = omega arith; low = omega arith; small = λ {w} {a} h. rank-small a.offer h.ranged }
+pub by_rank : Index order_tree rank_field rank_of
+by_rank = record { kind = omega arith; low = omega arith; small = λ {w} {a} h. rank_small a.offer h.ranged }
 
 -- it stands in the words, with that root
 pub record IndexAt (w : Words) (tree field : ℕ) (key : Item → ℤ) (root : ℕ) (live : List Item) (p : Part Item) : Type 0 where
   pub index : Index tree field key
-  pub root_is : root ≡ partRef p
+  pub root_is : root ≡ part_ref p
   pub slots : Slots (cap w) live
   pub holds : Holds w live
   pub keyed : Keyed w field key live

@@ -8,17 +8,17 @@ use Rattle.std.proofs.Math.Option.{none, some}
 use Rattle.std.specs.Int.Signed.{lt_z}
 use Rattle.lists.specs.Members.{Among}
 use Rattle.integers.specs.Parts.{intRules}
-use Rattle.trees.specs.Operations.{Part, partLeaves, partHeight, joinP}
+use Rattle.trees.specs.Operations.{Part, part_leaves, part_height, join_p}
 use Rattle.trees.specs.Balanced.{AvlP}
 use Rattle.trees.specs.Order.{Falling}
-use Rattle.table.specs.Fields.{mostLevels, rankField}
+use Rattle.table.specs.Fields.{most_levels, rank_field}
 use Rattle.table.specs.Words.{Words}
 use Rattle.table.specs.Layout.{cap, cell}
 use Rattle.table.specs.Items.{Item, In, at, Slots, Apart}
 use Rattle.table.specs.Rep.{Within, within_cap, Only}
-use Rattle.table.specs.PartTrees.{RepP, rep-some, MadeP, Seam, low}
+use Rattle.table.specs.PartTrees.{RepP, rep_some, MadeP, Seam, low}
 use Rattle.table.specs.Keys.{Keyed}
-use Rattle.table.specs.Threads.{Holds, holds-still, only-offer, field-high}
+use Rattle.table.specs.Threads.{Holds, holds_still, only_offer, field_high}
 use Rattle.shape.specs.JoinSteps.{Merged}
 use Rattle.descents.specs.Ends.{Ended}
 use Rattle.index.specs.Index.{Index, IndexAt}
@@ -28,21 +28,21 @@ use Rattle.index.specs.Index.{Index, IndexAt}
 pub among_in : {xs ys : List Item} → Among xs ys → (s : ℕ) → In s xs → In s ys
 among_in f s (at m e) = at (f _ m) e
 
-pub among-holds : {w : Words} {xs ys : List Item} → Among xs ys → Holds w ys → Holds w xs
-among-holds f h = record { held = λ {a} m. h.held (f a m) }
+pub among_holds : {w : Words} {xs ys : List Item} → Among xs ys → Holds w ys → Holds w xs
+among_holds f h = record { held = λ {a} m. h.held (f a m) }
 
-pub among-keyed : {w : Words} {f : ℕ} {key : Item → ℤ} {xs ys : List Item} → Among xs ys → Keyed w f key ys → Keyed w f key xs
-among-keyed i h = record { read = λ {a} m. h.read (i a m) }
+pub among_keyed : {w : Words} {f : ℕ} {key : Item → ℤ} {xs ys : List Item} → Among xs ys → Keyed w f key ys → Keyed w f key xs
+among_keyed i h = record { read = λ {a} m. h.read (i a m) }
 
 -- a tree's nodes are in other fields than keys
-pub keyed-still : {w w' : Words} {tree field : ℕ} {key : Item → ℤ} {xs ys : List Item} → field ≤ rankField → Only tree xs w w' → Keyed w field key ys →
+pub keyed_still : {w w' : Words} {tree field : ℕ} {key : Item → ℤ} {xs ys : List Item} → field ≤ rank_field → Only tree xs w w' → Keyed w field key ys →
     Keyed w' field key ys
-keyed-still {field} low o h = record { read = λ {a} m. o.cells field a.slot (λ q. omega (arith, low, field-high q.0)) ∙ h.read m }
+keyed_still {field} low o h = record { read = λ {a} m. o.cells field a.slot (λ q. omega (arith, low, field_high q.0)) ∙ h.read m }
 
 -- items with falling keys, each in the slot that holds its key, are in slots apart
-pub falling-slots : {w : Words} {c field : ℕ} {key : Item → ℤ} {xs ys : List Item} → Among xs ys → Slots c ys → Keyed w field key xs → Falling key xs →
+pub falling_slots : {w : Words} {c field : ℕ} {key : Item → ℤ} {xs ys : List Item} → Among xs ys → Slots c ys → Keyed w field key xs → Falling key xs →
     Slots c xs
-falling-slots {w} {c} {field} {key} {xs} f s h p =
+falling_slots {w} {c} {field} {key} {xs} f s h p =
     record { low = λ {a} m. s.low (f a m); high = λ {a} m. s.high (f a m); apart = Pairwise.imp_of_mem apart p }
   where
     differ : {k l : ℤ} → T (lt_z l k) → k ≡ l → ⊥
@@ -55,25 +55,25 @@ falling-slots {w} {c} {field} {key} {xs} f s h p =
 -- ---- the tree
 
 module _ {w : Words} {tree field root : ℕ} {key : Item → ℤ} {live : List Item} (p : Part Item) (n : IndexAt w tree field key root live p) where
-  pub leaves-keyed : Keyed w field key (partLeaves p)
-  leaves-keyed = among-keyed n.index_in.all_live n.keyed
+  pub leaves_keyed : Keyed w field key (part_leaves p)
+  leaves_keyed = among_keyed n.index_in.all_live n.keyed
 
-  pub index-rep : RepP w tree root p
-  index-rep =
+  pub index_rep : RepP w tree root p
+  index_rep =
       record {
         kind = n.index.kind;
         root = n.root_is;
-        slots = falling-slots n.index_in.all_live n.slots leaves-keyed n.index_in.falling;
+        slots = falling_slots n.index_in.all_live n.slots leaves_keyed n.index_in.falling;
         tied = n.index_in.tied;
       }
 
 -- a balanced tree in a table is low
-pub part_low : (w : Words) (p : Part Item) → Slots (cap w) (partLeaves p) → AvlP p → partHeight p ≤ mostLevels
+pub part_low : (w : Words) (p : Part Item) → Slots (cap w) (part_leaves p) → AvlP p → part_height p ≤ most_levels
 part_low w none s a = omega arith
 part_low w (some t) s a = low w s a
 
 -- a tree that was made of other live items
-pub index-made :
+pub index_made :
     {w w' : Words} {tree field root : ℕ} {key : Item → ℤ} {xs live : List Item} {q : Part Item} →
     Index tree field key →
     RepP w' tree root q →
@@ -83,45 +83,45 @@ pub index-made :
     Holds w live →
     Keyed w field key live →
     AvlP q →
-    Falling key (partLeaves q) →
-    Among (partLeaves q) live →
-    Among live (partLeaves q) →
+    Falling key (part_leaves q) →
+    Among (part_leaves q) live →
+    Among live (part_leaves q) →
     IndexAt w' tree field key root live q
-index-made x r g o s h k a f i j =
+index_made x r g o s h k a f i j =
     record {
       index = x;
       root_is = r.root;
       slots = rw (within_cap g) s;
-      holds = holds-still h (λ s i. only-offer o s);
-      keyed = keyed-still x.low o k;
+      holds = holds_still h (λ s i. only_offer o s);
+      keyed = keyed_still x.low o k;
       index_in = record { tied = r.tied; balanced = a; falling = f; all_live = i; all_there = j };
     }
 
 -- ---- two of them side by side
 
 -- the seam is at the end of the left one
-pub seam-end : {w : Words} {tree x g : ℕ} (p q : Part Item) → Ended w tree true x g → RepP w tree x p → AvlP p → Seam g p q
-seam-end none q e r a = tt
-seam-end (some t) none e r a = tt
-seam-end (some t) (some u) e r a = e.is t (rep-some r) a
+pub seam_end : {w : Words} {tree x g : ℕ} (p q : Part Item) → Ended w tree true x g → RepP w tree x p → AvlP p → Seam g p q
+seam_end none q e r a = tt
+seam_end (some t) none e r a = tt
+seam_end (some t) (some u) e r a = e.is t (rep_some r) a
 
 pub record Beside (w : Words) (tree x y : ℕ) (p q : Part Item) : Type 0 where
   pub left : RepP w tree x p
   pub right : RepP w tree y q
-  pub slots : Slots (cap w) (partLeaves p ++ partLeaves q)
-  pub balanced-left : AvlP p
-  pub balanced-right : AvlP q
+  pub slots : Slots (cap w) (part_leaves p ++ part_leaves q)
+  pub balanced_left : AvlP p
+  pub balanced_right : AvlP q
 
 pub joined : {w w' : Words} {tree g x y z : ℕ} {p q : Part Item} → Merged tree g x y w w' z → Seam g p q → Beside w tree x y p q →
-    MadeP tree w w' z (joinP p q)
+    MadeP tree w w' z (join_p p q)
 joined {p} {q} j s b =
     j.made p q (record {
       kind = b.left.kind;
       left = b.left.root;
       right = b.right.root;
       slots = b.slots;
-      tied-left = b.left.tied;
-      tied-right =
+      tied_left = b.left.tied;
+      tied_right =
           b.right.tied;
     }) s
-    b.balanced-left b.balanced-right
+    b.balanced_left b.balanced_right

@@ -3,7 +3,7 @@
 ghost use Rattle.std.specs.Prelude.{◌≡◌};
 ghost use Rattle.table.specs.Layout.{cap};
 ghost use Rattle.index.specs.Index.{Added, Dropped};
-ghost use Rattle.index.specs.Above.{leastAbove};
+ghost use Rattle.index.specs.Above.{least_above};
 ghost use Rattle.index.specs.Growing.{Grown};
 ghost use Rattle.index.specs.Thinning.{Thinned};
 
@@ -59,7 +59,7 @@ pub fn add(part: &mut [i64], tree: u8, field: usize, root: u32, s: u32) -> u32
 
 // The least key above a key, as far as keys go.
 fn least_above(key: i64) -> i64
-    ensures { result ≡ leastAbove key }
+    ensures { result ≡ least_above key }
 {
     if key < MOST_KEY {
         return key + 1;

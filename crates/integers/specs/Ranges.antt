@@ -3,15 +3,15 @@
 use Rattle.std.specs.Prelude.{◌≡◌, true, false, ◌&&◌, ℤ}
 use Rattle.std.proofs.Common.{arith}
 use Rattle.std.specs.Int.Signed.{le_z, lt_z}
-use Rattle.lists.specs.Bools.{and_is, not_first, not-second}
+use Rattle.lists.specs.Bools.{and_is, not_first, not_second}
 use Rattle.integers.specs.Parts.{intRules}
 
 module _ (l h z : ℤ) where
-  pub too-low : lt_z z l ≡ true → (le_z l z && le_z z h) ≡ false
-  too-low e = not_first (le_z l z) (le_z z h) (omega (arith, intRules))
+  pub too_low : lt_z z l ≡ true → (le_z l z && le_z z h) ≡ false
+  too_low e = not_first (le_z l z) (le_z z h) (omega (arith, intRules))
 
-  pub too-high : lt_z h z ≡ true → (le_z l z && le_z z h) ≡ false
-  too-high e = not-second (le_z l z) (le_z z h) (omega (arith, intRules))
+  pub too_high : lt_z h z ≡ true → (le_z l z && le_z z h) ≡ false
+  too_high e = not_second (le_z l z) (le_z z h) (omega (arith, intRules))
 
-  pub in-range : lt_z z l ≡ false → lt_z h z ≡ false → (le_z l z && le_z z h) ≡ true
-  in-range e f = and_is (le_z l z) (le_z z h) (omega (arith, intRules)) (omega (arith, intRules))
+  pub in_range_lem : lt_z z l ≡ false → lt_z h z ≡ false → (le_z l z && le_z z h) ≡ true
+  in_range_lem e f = and_is (le_z l z) (le_z z h) (omega (arith, intRules)) (omega (arith, intRules))

@@ -4,9 +4,9 @@
 use Rattle.std.specs.Prelude.{◌≡◌, List, ◌++◌, ℕ, ◌^◌, ◌%◌, ◌<◌, length}
 use Rattle.envelopes.specs.Envelope.{Ordered}
 use Rattle.trees.specs.Tree.{node, leaves, last, Avl}
-use Rattle.dynamic.specs.OfferTree.{Held, heldShape, Pair, Made, lower, raise}
-use Rattle.dynamic.specs.Work.{steps_of, heightsOf}
-use Rattle.table.specs.Fields.{mostSlots}
+use Rattle.dynamic.specs.OfferTree.{Held, held_shape, Pair, Made, lower, raise}
+use Rattle.dynamic.specs.Work.{steps_of, heights_of}
+use Rattle.table.specs.Fields.{most_slots}
 use Rattle.table.specs.Words.{Words}
 use Rattle.table.specs.Layout.{cap}
 use Rattle.table.specs.Items.{Item, Slots}
@@ -32,7 +32,7 @@ line_at s = record { tree = s; envelope = s }
 pub record Counted (log : List (Pair Item)) (n : Counts) : Type 0 where
   pub searches : n.searches ≡ length log % 2 ^ 32
   pub steps : n.steps ≡ steps_of items log % 2 ^ 32
-  pub heights : n.heights ≡ heightsOf log % 2 ^ 32
+  pub heights : n.heights ≡ heights_of log % 2 ^ 32
 
 -- the words hold what was made, and count its log
 pub record MadeIn (w : Words) (m : Outcome) (made : Made Item) : Type 0 where
@@ -43,9 +43,9 @@ pub record MadeIn (w : Words) (m : Outcome) (made : Made Item) : Type 0 where
 
 pub record LoweredIn (x : InHand) (w w' : Words) (c : Lowered) : Type 0 where
   pub within : Within w w'
-  pub front : (h : Held Item) → HandIn w x h → mostSlots < x.tree → HandIn w' c.left (lower items h).front
-  pub back : (h : Held Item) → HandIn w x h → mostSlots < x.tree → HandIn w' c.right (lower items h).back
-  pub touched : (h : Held Item) → HandIn w x h → mostSlots < x.tree → Touched (leaves (heldShape h)) w w'
+  pub front : (h : Held Item) → HandIn w x h → most_slots < x.tree → HandIn w' c.left (lower items h).front
+  pub back : (h : Held Item) → HandIn w x h → most_slots < x.tree → HandIn w' c.right (lower items h).back
+  pub touched : (h : Held Item) → HandIn w x h → most_slots < x.tree → Touched (leaves (held_shape h)) w w'
 
 -- ---- raise
 
@@ -53,13 +53,13 @@ pub record LoweredIn (x : InHand) (w w' : Words) (c : Lowered) : Type 0 where
 pub record Siblings (w : Words) (gap : ℕ) (x y : InHand) (l r : Held Item) : Type 0 where
   pub left : HandIn w x l
   pub right : HandIn w y r
-  pub seam : gap ≡ (last (heldShape l)).slot
-  pub slots : Slots (cap w) (leaves (heldShape l) ++ leaves (heldShape r))
-  pub ordered : Ordered items (leaves (heldShape l) ++ leaves (heldShape r))
+  pub seam : gap ≡ (last (held_shape l)).slot
+  pub slots : Slots (cap w) (leaves (held_shape l) ++ leaves (held_shape r))
+  pub ordered : Ordered items (leaves (held_shape l) ++ leaves (held_shape r))
 
 pub record RaisedIn (gap : ℕ) (x y : InHand) (w w' : Words) (m : Outcome) : Type 0 where
   pub within : Within w w'
-  pub made : (l r : Held Item) → Siblings w gap x y l r → Avl (node (heldShape l) (heldShape r)) → MadeIn w' m (raise items l r)
+  pub made : (l r : Held Item) → Siblings w gap x y l r → Avl (node (held_shape l) (held_shape r)) → MadeIn w' m (raise items l r)
   pub touched :
-      (l r : Held Item) → Siblings w gap x y l r → Avl (node (heldShape l) (heldShape r)) →
-      Touched (leaves (heldShape l) ++ leaves (heldShape r)) w w'
+      (l r : Held Item) → Siblings w gap x y l r → Avl (node (held_shape l) (held_shape r)) →
+      Touched (leaves (held_shape l) ++ leaves (held_shape r)) w w'

@@ -3,27 +3,27 @@ use Rattle.std.specs.Prelude.{◌≡◌, refl, ◌++◌, ℕ, pos}
 use Rattle.std.proofs.Common.{◌∙◌, ap}
 use Rattle.trees.specs.Tree.{leaves, last}
 use Rattle.trees.specs.Leaves.{last_leaf}
-use Rattle.trees.specs.Operations.{Part, Cut, partLeaves, joinP}
-use Rattle.dynamic.specs.OfferTree.{OfferTree, shape, Held, heldShape, bridged}
+use Rattle.trees.specs.Operations.{Part, Cut, part_leaves, join_p}
+use Rattle.dynamic.specs.OfferTree.{OfferTree, shape, Held, held_shape, bridged}
 use Rattle.dynamic.specs.Valid.{Whole}
 use Rattle.dynamic.specs.Rearranged.{stored}
-use Rattle.table.specs.Fields.{bridgeLeftField, bridgeRightField}
+use Rattle.table.specs.Fields.{bridge_left_field, bridge_right_field}
 use Rattle.table.specs.Words.{Words}
 use Rattle.table.specs.Layout.{cell}
 use Rattle.table.specs.Items.{Item, In, at}
-use Rattle.table.specs.Rep.{Within, within-trans}
-use Rattle.table.specs.Threads.{holds-join}
+use Rattle.table.specs.Rep.{Within, within_trans}
+use Rattle.table.specs.Threads.{holds_join}
 use Rattle.pieces.specs.Pieces.{items, PieceField, PiecesOnly, Standing, Beside, SeamAt, Seamed}
-use Rattle.form.specs.Stored.{RestIn, Stored, stored-fork, HeldIn, Touched, nodeSlot, restField}
+use Rattle.form.specs.Stored.{RestIn, Stored, stored_fork, HeldIn, Touched, node_slot, rest_field}
 use Rattle.levels.specs.Levels.{Siblings}
 use Rattle.levels.specs.declared.Held.{Held as InHand}
-use Rattle.form.specs.Frames.{Inside, Disjoint, disjoint-across, bridge-u, bridge-v, same-link, tied-same, part_same, holds_same, held-slots}
-use Rattle.form.specs.Frames.{whole-inside, stored-inside, pieces-tree, pieces-rests, pieces-else, pieces-touched, slots-within, touched-offers}
-use Rattle.form.specs.Frames.{touched-trans, touched-more}
-use Rattle.form.specs.Disjoint.{inside-refl, inside-trans, inside-left, inside-right, inside-join, disjoint-both, disjoint-join, disjoint-turned, slots-join}
-use Rattle.levels.specs.RaisingRests.{Tells, tells-field, tells-in, rest-field, node_in, Retold, stored-retold}
-use Rattle.levels.specs.RaisingCuts.{Halved, halved-same, wholes-apart, AfterCuts}
-use Rattle.levels.specs.RaisingWires.{Wires, left-untold, right-untold, wired-touched, wired-pieces, AfterWires}
+use Rattle.form.specs.Frames.{Inside, Disjoint, disjoint_across, bridge_u, bridge_v, same_link, tied_same, part_same, holds_same, held_slots}
+use Rattle.form.specs.Frames.{whole_inside, stored_inside, pieces_tree, pieces_rests, pieces_else, pieces_touched, slots_within, touched_offers}
+use Rattle.form.specs.Frames.{touched_trans, touched_more}
+use Rattle.form.specs.Disjoint.{inside_refl, inside_trans, inside_left, inside_right, inside_join, disjoint_both, disjoint_join, disjoint_turned, slots_join}
+use Rattle.levels.specs.RaisingRests.{Tells, tells_field, tells_in, rest_field_lem, node_in, Retold, stored_retold}
+use Rattle.levels.specs.RaisingCuts.{Halved, halved_same, wholes_apart, AfterCuts}
+use Rattle.levels.specs.RaisingWires.{Wires, left_untold, right_untold, wired_touched, wired_pieces, AfterWires}
 
 -- ---- from the subtrees in hand to the subtree raised
 
@@ -33,40 +33,40 @@ module _
     (cuts : AfterCuts w w₁ l r c d lf lb rf rb) (wires : AfterWires l.tree r.tree w₁ w₂ z lb rf mu mv) (seam : SeamAt mu mv c.front d.back)
     (cat : Seamed lf rb mu mv w₂ w₃ e) where
   -- no piece is written between
-  left-halves : Halved w₂ lf lb l.whole c
-  left-halves = halved-same wires.within cuts.left (touched-offers (wired-touched wires.only) _) (wired-pieces wires.only _)
+  left_halves : Halved w₂ lf lb l.whole c
+  left_halves = halved_same wires.within cuts.left (touched_offers (wired_touched wires.only) _) (wired_pieces wires.only _)
 
-  right-halves : Halved w₂ rf rb r.whole d
-  right-halves = halved-same wires.within cuts.right (touched-offers (wired-touched wires.only) _) (wired-pieces wires.only _)
+  right_halves : Halved w₂ rf rb r.whole d
+  right_halves = halved_same wires.within cuts.right (touched_offers (wired_touched wires.only) _) (wired_pieces wires.only _)
 
-  across : Disjoint (partLeaves c.front) (partLeaves d.back)
-  across = disjoint-both left-halves.front-inside right-halves.back_inside (wholes-apart sib)
+  across : Disjoint (part_leaves c.front) (part_leaves d.back)
+  across = disjoint_both left_halves.front_inside right_halves.back_inside (wholes_apart sib)
 
   beside : Beside w₂ lf rb c.front d.back
-  beside = record { left = left-halves.front; right = right-halves.back; slots = slots-join left-halves.front.slots right-halves.back.slots across }
+  beside = record { left = left_halves.front; right = right_halves.back; slots = slots_join left_halves.front.slots right_halves.back.slots across }
 
   -- the last change
-  kept : PiecesOnly (partLeaves c.front ++ partLeaves d.back) w₂ w₃
+  kept : PiecesOnly (part_leaves c.front ++ part_leaves d.back) w₂ w₃
   kept = cat.only c.front d.back beside seam
 
   within : Within w w₃
-  within = within-trans cuts.within (within-trans wires.within cat.within)
+  within = within_trans cuts.within (within_trans wires.within cat.within)
 
   -- both wholes, and what is kept of them, are in slots of leaves
-  wholes-inside : Inside (partLeaves l.whole ++ partLeaves r.whole) (leaves (heldShape l) ++ leaves (heldShape r))
-  wholes-inside =
-      inside-join (partLeaves l.whole) (inside-trans (whole-inside sib.left) (inside-left (leaves (heldShape r))))
-      (inside-trans (whole-inside sib.right) (inside-right (leaves (heldShape l))))
+  wholes_inside : Inside (part_leaves l.whole ++ part_leaves r.whole) (leaves (held_shape l) ++ leaves (held_shape r))
+  wholes_inside =
+      inside_join (part_leaves l.whole) (inside_trans (whole_inside sib.left) (inside_left (leaves (held_shape r))))
+      (inside_trans (whole_inside sib.right) (inside_right (leaves (held_shape l))))
 
-  kept-inside : Inside (partLeaves c.front ++ partLeaves d.back) (partLeaves l.whole ++ partLeaves r.whole)
-  kept-inside =
-      inside-join (partLeaves c.front) (inside-trans left-halves.front-inside (inside-left (partLeaves r.whole)))
-      (inside-trans right-halves.back_inside (inside-right (partLeaves l.whole)))
+  kept_inside : Inside (part_leaves c.front ++ part_leaves d.back) (part_leaves l.whole ++ part_leaves r.whole)
+  kept_inside =
+      inside_join (part_leaves c.front) (inside_trans left_halves.front_inside (inside_left (part_leaves r.whole)))
+      (inside_trans right_halves.back_inside (inside_right (part_leaves l.whole)))
 
-  pub touched : Touched (leaves (heldShape l) ++ leaves (heldShape r)) w w₃
+  pub touched : Touched (leaves (held_shape l) ++ leaves (held_shape r)) w w₃
   touched =
-      touched-trans (touched-more wholes-inside (pieces-touched cuts.only))
-      (touched-trans (wired-touched wires.only) (touched-more (inside-trans kept-inside wholes-inside) (pieces-touched kept)))
+      touched_trans (touched_more wholes_inside (pieces_touched cuts.only))
+      (touched_trans (wired_touched wires.only) (touched_more (inside_trans kept_inside wholes_inside) (pieces_touched kept)))
 
   -- ---- a child t of the two, its stored parts apart from both wholes
 
@@ -75,77 +75,77 @@ module _
     retold =
         record {
           cells = λ f s i.
-              (pieces-rests kept (leaves (shape t))).cells f s (tells-field i) (tells-in i)
+              (pieces_rests kept (leaves (shape t))).cells f s (tells_field i) (tells_in i)
               ∙ wires.only.cells f s (untold f s i)
-              ∙ (pieces-rests cuts.only (leaves (shape t))).cells f s (tells-field i) (tells-in i);
+              ∙ (pieces_rests cuts.only (leaves (shape t))).cells f s (tells_field i) (tells_in i);
         }
 
-    still-stored : Stored w t → Disjoint (stored t) (partLeaves l.whole ++ partLeaves r.whole) → Stored w₃ t
-    still-stored st apart =
-        stored-retold st retold
+    still_stored : Stored w t → Disjoint (stored t) (part_leaves l.whole ++ part_leaves r.whole) → Stored w₃ t
+    still_stored st apart =
+        stored_retold st retold
         (record {
           cells = λ f s p i.
-              (pieces-else kept PieceField (disjoint-both (inside-refl _) kept-inside apart)).cells f s p i
-              ∙ (wired-pieces wires.only (stored t)).cells f s p i
-              ∙ (pieces-else cuts.only PieceField apart).cells f s p i;
+              (pieces_else kept PieceField (disjoint_both (inside_refl _) kept_inside apart)).cells f s p i
+              ∙ (wired_pieces wires.only (stored t)).cells f s p i
+              ∙ (pieces_else cuts.only PieceField apart).cells f s p i;
         })
 
   -- a part of a whole that is not kept
-  rest-stored : {n : ℕ} {q : Part Item} (t : OfferTree Item) → cell w₂ (restField t) (nodeSlot t) ≡ pos n → Standing w₂ n q →
-      Disjoint (partLeaves q) (partLeaves c.front ++ partLeaves d.back) → RestIn w₃ t q
-  rest-stored {q} t at-node st apart =
+  rest_stored : {n : ℕ} {q : Part Item} (t : OfferTree Item) → cell w₂ (rest_field t) (node_slot t) ≡ pos n → Standing w₂ n q →
+      Disjoint (part_leaves q) (part_leaves c.front ++ part_leaves d.back) → RestIn w₃ t q
+  rest_stored {q} t at_node st apart =
       record {
-        root = (pieces-rests kept (leaves (shape t))).cells _ _ (rest-field t refl) (node_in t refl) ∙ at-node ∙ ap pos st.root;
-        pieces = part_same q st.pieces (pieces-else kept PieceField apart);
+        root = (pieces_rests kept (leaves (shape t))).cells _ _ (rest_field_lem t refl) (node_in t refl) ∙ at_node ∙ ap pos st.root;
+        pieces = part_same q st.pieces (pieces_else kept PieceField apart);
       }
 
   -- ---- the fork
 
-  whole-raised : Standing w₃ e (joinP c.front d.back)
-  whole-raised = cat.root c.front d.back beside seam
+  whole_raised : Standing w₃ e (join_p c.front d.back)
+  whole_raised = cat.root c.front d.back beside seam
 
-  front-apart : Disjoint (partLeaves c.back) (partLeaves c.front ++ partLeaves d.back)
-  front-apart = disjoint-turned (disjoint-join (partLeaves c.front) left-halves.apart
-      (disjoint-turned (disjoint-both left-halves.back_inside right-halves.back_inside (wholes-apart sib))))
+  front_apart : Disjoint (part_leaves c.back) (part_leaves c.front ++ part_leaves d.back)
+  front_apart = disjoint_turned (disjoint_join (part_leaves c.front) left_halves.apart
+      (disjoint_turned (disjoint_both left_halves.back_inside right_halves.back_inside (wholes_apart sib))))
 
-  back-apart : Disjoint (partLeaves d.front) (partLeaves c.front ++ partLeaves d.back)
-  back-apart = disjoint-turned (disjoint-join (partLeaves c.front) (disjoint-both left-halves.front-inside right-halves.front-inside
-      (wholes-apart sib)) (disjoint-turned right-halves.apart))
+  back_apart : Disjoint (part_leaves d.front) (part_leaves c.front ++ part_leaves d.back)
+  back_apart = disjoint_turned (disjoint_join (part_leaves c.front) (disjoint_both left_halves.front_inside right_halves.front_inside
+      (wholes_apart sib)) (disjoint_turned right_halves.apart))
 
-  sides : Disjoint (leaves (heldShape l)) (leaves (heldShape r))
-  sides = disjoint-across (leaves (heldShape l)) sib.slots
+  sides : Disjoint (leaves (held_shape l)) (leaves (held_shape r))
+  sides = disjoint_across (leaves (held_shape l)) sib.slots
 
-  left-apart : Disjoint (stored l.tree) (partLeaves l.whole ++ partLeaves r.whole)
-  left-apart =
-      disjoint-turned
-      (disjoint-join (partLeaves l.whole) (disjoint-across (partLeaves l.whole) (held-slots sib.left))
-      (disjoint-both (whole-inside sib.right) (stored-inside sib.left) (disjoint-turned sides)))
+  left_apart : Disjoint (stored l.tree) (part_leaves l.whole ++ part_leaves r.whole)
+  left_apart =
+      disjoint_turned
+      (disjoint_join (part_leaves l.whole) (disjoint_across (part_leaves l.whole) (held_slots sib.left))
+      (disjoint_both (whole_inside sib.right) (stored_inside sib.left) (disjoint_turned sides)))
 
-  right-apart : Disjoint (stored r.tree) (partLeaves l.whole ++ partLeaves r.whole)
-  right-apart =
-      disjoint-turned
-      (disjoint-join (partLeaves l.whole) (disjoint-both (whole-inside sib.left) (stored-inside sib.right) sides)
-      (disjoint-across (partLeaves r.whole) (held-slots sib.right)))
+  right_apart : Disjoint (stored r.tree) (part_leaves l.whole ++ part_leaves r.whole)
+  right_apart =
+      disjoint_turned
+      (disjoint_join (part_leaves l.whole) (disjoint_both (whole_inside sib.left) (stored_inside sib.right) sides)
+      (disjoint_across (part_leaves r.whole) (held_slots sib.right)))
 
-  pub held-raised : {u v : Item} → mu ≡ u.slot → mv ≡ v.slot → Whole items (bridged items u v l r c d) → HeldIn w₃ z e (bridged items u v l r c d)
-  held-raised eu ev right =
+  pub held_raised : {u v : Item} → mu ≡ u.slot → mv ≡ v.slot → Whole items (bridged items u v l r c d) → HeldIn w₃ z e (bridged items u v l r c d)
+  held_raised eu ev right =
       record {
         root = wires.root;
-        envelope = whole-raised.root;
-        slots = slots-within within sib.slots;
-        kept = holds_same (holds-join sib.left.kept sib.right.kept) (touched-offers touched _);
-        tied = tied-same wires.tied (pieces-tree kept _);
+        envelope = whole_raised.root;
+        slots = slots_within within sib.slots;
+        kept = holds_same (holds_join sib.left.kept sib.right.kept) (touched_offers touched _);
+        tied = tied_same wires.tied (pieces_tree kept _);
         stored =
-            stored-fork
-            (still-stored (λ f s i. left-untold sib.slots i) sib.left.stored left-apart)
-            (still-stored (λ f s i. right-untold sib.slots i) sib.right.stored right-apart)
-            (same-link bridgeLeftField (pieces-rests kept (leaves (heldShape l))) (bridge-u refl) last-in ∙ wires.left_end ∙ eu)
-            (same-link bridgeRightField (pieces-rests kept (leaves (heldShape l))) (bridge-v refl) last-in ∙ wires.right_end ∙ ev)
-            (rest-stored l.tree wires.left-rest left-halves.back front-apart)
-            (rest-stored r.tree wires.right-rest right-halves.front back-apart);
-        pieces = whole-raised.pieces;
+            stored_fork
+            (still_stored (λ f s i. left_untold sib.slots i) sib.left.stored left_apart)
+            (still_stored (λ f s i. right_untold sib.slots i) sib.right.stored right_apart)
+            (same_link bridge_left_field (pieces_rests kept (leaves (held_shape l))) (bridge_u refl) last_in ∙ wires.left_end ∙ eu)
+            (same_link bridge_right_field (pieces_rests kept (leaves (held_shape l))) (bridge_v refl) last_in ∙ wires.right_end ∙ ev)
+            (rest_stored l.tree wires.left_rest left_halves.back front_apart)
+            (rest_stored r.tree wires.right_rest right_halves.front back_apart);
+        pieces = whole_raised.pieces;
         right = right;
       }
     where
-      last-in : In (last (heldShape l)).slot (leaves (heldShape l))
-      last-in = at (last_leaf (heldShape l)) refl
+      last_in : In (last (held_shape l)).slot (leaves (held_shape l))
+      last_in = at (last_leaf (held_shape l)) refl

@@ -3,7 +3,7 @@ use Rattle.std.proofs.Math.Option.{some}
 use Rattle.std.specs.Prelude.{ℕ, ◌≤◌}
 use Rattle.std.proofs.Common.{arith}
 use Rattle.trees.specs.Tree.{Tree, height}
-use Rattle.table.specs.Fields.{mostLevels}
+use Rattle.table.specs.Fields.{most_levels}
 use Rattle.table.specs.Words.{Words}
 use Rattle.table.specs.Items.{Item}
 use Rattle.search.specs.declared.Met.{Met}
@@ -11,7 +11,7 @@ use Rattle.search.specs.Runs.{Kept, Meets}
 use Rattle.pieces.specs.Pieces.{Standing}
 use Rattle.levels.specs.Raising.{MetIn}
 
-kept : {w : Words} {x : ℕ} {t : Tree Item} → Standing w x (some t) → height t ≤ mostLevels → Kept w x t
+kept : {w : Words} {x : ℕ} {t : Tree Item} → Standing w x (some t) → height t ≤ most_levels → Kept w x t
 kept st low =
     record {
       rep = record { kind = omega arith; root = st.root; slots = st.slots; tied = st.pieces.0 };
@@ -20,13 +20,13 @@ kept st low =
       low = low;
     }
 
-pub met-in : {w : Words} {x y : ℕ} {m : Met} → Meets w w x y m → MetIn w x y m.u m.v m.steps
-met-in meets =
+pub met_in : {w : Words} {x y : ℕ} {m : Met} → Meets w w x y m → MetIn w x y m.u m.v m.steps
+met_in meets =
     record {
       met = λ tl tr f.
           let a = meets.met {tl = tl} {tr = tr} (record {
-            left-kept = kept f.left f.left-low;
-            right_kept = kept f.right f.right-low;
+            left_kept = kept f.left f.left_low;
+            right_kept = kept f.right f.right_low;
             facing =
                 f.facing;
           }) in

@@ -1,7 +1,7 @@
 // One level of the tree of offers with its envelopes, in the table: taken apart, and put together by one search. Every function takes any words.
 // Left is false, right is true.
 ghost use Rattle.std.specs.Prelude.{◌≡◌};
-ghost use Rattle.table.specs.Fields.{bridgeLeftField, bridgeRightField};
+ghost use Rattle.table.specs.Fields.{bridge_left_field, bridge_right_field};
 ghost use Rattle.table.specs.Layout.{cap, link_at};
 ghost use Rattle.pieces.specs.Pieces.{CattedAfter, CattedBefore};
 ghost use Rattle.levels.specs.Levels.{LoweredIn, RaisedIn};
@@ -52,7 +52,7 @@ fn set_rest(part: &mut [i64], c: u32, x: u32, q: u32)
 // read only where there is a rest.
 fn put_behind(part: &mut [i64], c: u32, m: u32, front: u32, q: u32) -> u32
     requires { c ≡ cap part.old }
-    ensures { CattedAfter front q (link_at part.old bridgeLeftField m) part.old part.new result }
+    ensures { CattedAfter front q (link_at part.old bridge_left_field m) part.old part.new result }
 {
     if q == 0 {
         return front;
@@ -64,7 +64,7 @@ fn put_behind(part: &mut [i64], c: u32, m: u32, front: u32, q: u32) -> u32
 // Puts a right child's rest `q` in front of its part `back`, which begins with the bridge's other end.
 fn put_in_front(part: &mut [i64], c: u32, m: u32, q: u32, back: u32) -> u32
     requires { c ≡ cap part.old }
-    ensures { CattedBefore q back (link_at part.old bridgeRightField m) part.old part.new result }
+    ensures { CattedBefore q back (link_at part.old bridge_right_field m) part.old part.new result }
 {
     if q == 0 {
         return back;

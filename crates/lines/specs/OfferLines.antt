@@ -1,60 +1,60 @@
 -- Offers as lines: the figure's tests are the comparisons of docs/REQUIREMENTS.md, 2.4.
 use Rattle.std.specs.Prelude.{◌≡◌, refl, ◌↔◌, T, ℤ, ◌+ℤ◌, ◌*ℤ◌}
 use Rattle.std.specs.Int.Signed.{le_z, lt_z}
-use Rattle.integers.specs.Parts.{not-le-is-lt}
-use Rattle.offers.specs.Offers.{Offer, RationalLoad, denominator, priceAt, priceTimesD, precedes, crossingNumerator, crossingDenominator}
+use Rattle.integers.specs.Parts.{not_le_is_lt}
+use Rattle.offers.specs.Offers.{Offer, RationalLoad, denominator, price_at, price_times_d, precedes, crossing_numerator, crossing_denominator}
 use Rattle.envelopes.specs.PseudoLines.{Figure, PseudoLines, LeftOf, Below}
-use Rattle.lines.specs.Lines.{lineFigure, lineLaws, cross-denominator, whole, whole-price, whole-left, cross-left, price-at-cross}
+use Rattle.lines.specs.Lines.{line_figure, line_laws, cross_denominator, whole, whole_price, whole_left, cross_left, price_at_cross}
 
-abbrev pub offerFigure : Figure
-offerFigure = lineFigure Offer (λ o. o.rate) (λ o. o.base)
+abbrev pub offer_figure : Figure
+offer_figure = line_figure Offer (λ o. o.rate) (λ o. o.base)
 
-pub offerLaws : PseudoLines offerFigure
-offerLaws = lineLaws Offer (λ o. o.rate) (λ o. o.base)
+pub offer_laws : PseudoLines offer_figure
+offer_laws = line_laws Offer (λ o. o.rate) (λ o. o.base)
 
 -- ---- by computation
 
-pub at-most-is : (a b : Offer) (x : RationalLoad) → offerFigure.at_most a b x ≡ le_z (priceTimesD a x) (priceTimesD b x)
-at-most-is a b x = refl
+pub at_most_is : (a b : Offer) (x : RationalLoad) → offer_figure.at_most a b x ≡ le_z (price_times_d a x) (price_times_d b x)
+at_most_is a b x = refl
 
-pub before-is : (a b : Offer) → offerFigure.before a b ≡ precedes a b
-before-is a b = refl
+pub before_is : (a b : Offer) → offer_figure.before a b ≡ precedes a b
+before_is a b = refl
 
-pub numerator-is : (a b : Offer) → (offerFigure.cross a b).numerator ≡ crossingNumerator a b
-numerator-is a b = refl
+pub numerator_is : (a b : Offer) → (offer_figure.cross a b).numerator ≡ crossing_numerator a b
+numerator_is a b = refl
 
 -- ---- of offers in order
 
-pub denominator-is : (a b : Offer) → T (precedes a b) → denominator (offerFigure.cross a b) ≡ crossingDenominator a b
-denominator-is a b h = cross-denominator Offer (λ o. o.rate) (λ o. o.base) a b h
+pub denominator_is : (a b : Offer) → T (precedes a b) → denominator (offer_figure.cross a b) ≡ crossing_denominator a b
+denominator_is a b h = cross_denominator Offer (λ o. o.rate) (λ o. o.base) a b h
 
 -- at a whole load, the comparison of prices
-pub at-most-whole : (a b : Offer) (q : ℤ) → offerFigure.at_most a b (whole q) ≡ le_z (priceAt a q) (priceAt b q)
-at-most-whole a b q = whole-price Offer (λ o. o.rate) (λ o. o.base) a b q
+pub at_most_whole : (a b : Offer) (q : ℤ) → offer_figure.at_most a b (whole q) ≡ le_z (price_at a q) (price_at b q)
+at_most_whole a b q = whole_price Offer (λ o. o.rate) (λ o. o.base) a b q
 
 -- a query's test: the load is at or left of the crossing
-pub query-test : (a b : Offer) (q : ℤ) → T (precedes a b) →
-    offerFigure.up_to (whole q) (offerFigure.cross a b) ≡ le_z (q *ℤ crossingDenominator a b) (crossingNumerator a b)
-query-test a b q h = whole-left Offer (λ o. o.rate) (λ o. o.base) a b q h
+pub query_test : (a b : Offer) (q : ℤ) → T (precedes a b) →
+    offer_figure.up_to (whole q) (offer_figure.cross a b) ≡ le_z (q *ℤ crossing_denominator a b) (crossing_numerator a b)
+query_test a b q h = whole_left Offer (λ o. o.rate) (λ o. o.base) a b q h
 
 -- the comparison of two crossings
-pub crossing-test : (a b c d : Offer) → T (precedes a b) → T (precedes c d) →
-    offerFigure.up_to (offerFigure.cross a b) (offerFigure.cross c d) ≡ le_z (crossingNumerator a b *ℤ crossingDenominator c d)
-    (crossingNumerator c d *ℤ crossingDenominator a b)
-crossing-test a b c d h k = cross-left Offer (λ o. o.rate) (λ o. o.base) a b c d h k
+pub crossing_test : (a b c d : Offer) → T (precedes a b) → T (precedes c d) →
+    offer_figure.up_to (offer_figure.cross a b) (offer_figure.cross c d) ≡ le_z (crossing_numerator a b *ℤ crossing_denominator c d)
+    (crossing_numerator c d *ℤ crossing_denominator a b)
+crossing_test a b c d h k = cross_left Offer (λ o. o.rate) (λ o. o.base) a b c d h k
 
 -- two offers' prices at the crossing of a and b
-pub price-test : (l m a b : Offer) → T (precedes a b) → offerFigure.at_most l m (offerFigure.cross a b) ≡ le_z
-    (l.base *ℤ crossingDenominator a b +ℤ l.rate *ℤ crossingNumerator a b) (m.base *ℤ crossingDenominator a b +ℤ m.rate *ℤ crossingNumerator a b)
-price-test l m a b h = price-at-cross Offer (λ o. o.rate) (λ o. o.base) l m a b h
+pub price_test : (l m a b : Offer) → T (precedes a b) → offer_figure.at_most l m (offer_figure.cross a b) ≡ le_z
+    (l.base *ℤ crossing_denominator a b +ℤ l.rate *ℤ crossing_numerator a b) (m.base *ℤ crossing_denominator a b +ℤ m.rate *ℤ crossing_numerator a b)
+price_test l m a b h = price_at_cross Offer (λ o. o.rate) (λ o. o.base) l m a b h
 
 -- ---- strictly
 
-pub strictly-cheaper : (a b : Offer) (x : RationalLoad) → Below offerFigure a b x ↔ T (lt_z (priceTimesD a x) (priceTimesD b x))
-strictly-cheaper a b x = not-le-is-lt (priceTimesD b x) (priceTimesD a x)
+pub strictly_cheaper : (a b : Offer) (x : RationalLoad) → Below offer_figure a b x ↔ T (lt_z (price_times_d a x) (price_times_d b x))
+strictly_cheaper a b x = not_le_is_lt (price_times_d b x) (price_times_d a x)
 
-pub strictly-left : (a b c d : Offer) → T (precedes a b) → T (precedes c d) →
-    LeftOf offerFigure (offerFigure.cross a b) (offerFigure.cross c d) ↔ T
-    (lt_z (crossingNumerator a b *ℤ crossingDenominator c d) (crossingNumerator c d *ℤ crossingDenominator a b))
-strictly-left a b c d h k =
-    rw (crossing-test c d a b k h) (not-le-is-lt (crossingNumerator c d *ℤ crossingDenominator a b) (crossingNumerator a b *ℤ crossingDenominator c d))
+pub strictly_left : (a b c d : Offer) → T (precedes a b) → T (precedes c d) →
+    LeftOf offer_figure (offer_figure.cross a b) (offer_figure.cross c d) ↔ T
+    (lt_z (crossing_numerator a b *ℤ crossing_denominator c d) (crossing_numerator c d *ℤ crossing_denominator a b))
+strictly_left a b c d h k =
+    rw (crossing_test c d a b k h) (not_le_is_lt (crossing_numerator c d *ℤ crossing_denominator a b) (crossing_numerator a b *ℤ crossing_denominator c d))

@@ -1,7 +1,7 @@
 // Listings of a part: its pieces along the thread, counted and written. Any words are safe: every walk has a limit.
 ghost use Rattle.std.specs.Prelude.{◌≡◌, ◌≤◌};
 ghost use Rattle.listing.specs.PieceCounts.{Counted};
-ghost use Rattle.listing.specs.Listing.{crossingWord, piece_at, Written};
+ghost use Rattle.listing.specs.Listing.{crossing_word, piece_at, Written};
 
 // How many pieces a tree has, counted along the thread from its first to its last; 0 for no tree.
 pub fn count(part: &[i64], root: u32) -> u32
@@ -25,7 +25,7 @@ pub fn count(part: &[i64], root: u32) -> u32
 
 // A word of a piece's crossing with the next; the last piece has none.
 pub fn crossing_word(part: &[i64], field: usize, slot: u32, last: bool) -> i64
-    ensures { result ≡ crossingWord part.now field slot last }
+    ensures { result ≡ crossing_word part.now field slot last }
 {
     if last {
         return 0;

@@ -32,32 +32,32 @@ pub refuted : {b c : Bool} → b ≡ c → b ≡ false → ¬ T c
 refuted {c} e d t = never (e ∙ is_true c t) d
 
 -- what the first comes to, by what the second says
-pub to-true : {b c : Bool} → b ≡ c → T c → b ≡ true
-to-true {c} e t = e ∙ is_true c t
+pub to_true : {b c : Bool} → b ≡ c → T c → b ≡ true
+to_true {c} e t = e ∙ is_true c t
 
-pub to-false : {b c : Bool} → b ≡ c → ¬ T c → b ≡ false
-to-false {b = false} e f = refl
-to-false {b = true} {c = true} e f = absurd (f tt)
-to-false {b = true} {c = false} e f = e
+pub to_false : {b c : Bool} → b ≡ c → ¬ T c → b ≡ false
+to_false {b = false} e f = refl
+to_false {b = true} {c = true} e f = absurd (f tt)
+to_false {b = true} {c = false} e f = e
 
 pub either : (b : Bool) → T b ⊎ T (not b)
 either true = inl tt
 either false = inr tt
 
-pub not-not : (b : Bool) → T (not (not b)) → T b
-not-not true t = tt
+pub not_not : (b : Bool) → T (not (not b)) → T b
+not_not true t = tt
 
 pub twice : (b : Bool) → T b → T (not (not b))
 twice true t = tt
 
 -- a test that is not refused passes
-pub not-refused : (b : Bool) → ¬ ¬ T b → T b
-not-refused true h = tt
-not-refused false h = absurd (h (λ t. t))
+pub not_refused : (b : Bool) → ¬ ¬ T b → T b
+not_refused true h = tt
+not_refused false h = absurd (h (λ t. t))
 
-pub not-failed : (b : Bool) → ¬ T (not b) → T b
-not-failed true h = tt
-not-failed false h = absurd (h tt)
+pub not_failed : (b : Bool) → ¬ T (not b) → T b
+not_failed true h = tt
+not_failed false h = absurd (h tt)
 
 -- two tests that pass together are one
 pub same_test : (b c : Bool) → (T b → T c) → (T c → T b) → b ≡ c
@@ -83,16 +83,16 @@ and_is a b e f = rw (e, f)
 pub not_first : (a b : Bool) → a ≡ false → (a && b) ≡ false
 not_first a b e = rw e
 
-pub not-second : (a b : Bool) → b ≡ false → (a && b) ≡ false
-not-second true b e = e
-not-second false b e = refl
+pub not_second : (a b : Bool) → b ≡ false → (a && b) ≡ false
+not_second true b e = e
+not_second false b e = refl
 
 -- a && c as code makes it: c where a passes, and a itself where it fails; b is what a says
 pub first_passes : {a b c r : Bool} → a ≡ b → a ≡ true → r ≡ c → r ≡ b && c
 first_passes p t q = rw (sym p ∙ t) q
 
-pub first-fails : {a b : Bool} (c : Bool) → a ≡ b → a ≡ false → a ≡ b && c
-first-fails c p f = rw (sym p ∙ f) f
+pub first_fails : {a b : Bool} (c : Bool) → a ≡ b → a ≡ false → a ≡ b && c
+first_fails c p f = rw (sym p ∙ f) f
 
 pub or_left : (a b : Bool) → T a → T (a || b)
 or_left true b t = tt
@@ -105,8 +105,8 @@ pub or_cases : (a b : Bool) → T (a || b) → T a ⊎ T b
 or_cases true b t = inl tt
 or_cases false b t = inr t
 
-pub or-exactly : (a b : Bool) → T (a || b) ↔ (T a ⊎ T b)
-or-exactly a b = (or_cases a b, ⊎_elim (or_left a b) (or_right a b))
+pub or_exactly : (a b : Bool) → T (a || b) ↔ (T a ⊎ T b)
+or_exactly a b = (or_cases a b, ⊎_elim (or_left a b) (or_right a b))
 
 pub or_no : (a b : Bool) → ¬ T a → ¬ T b → ¬ T (a || b)
 or_no true b p q t = p t
@@ -115,36 +115,36 @@ or_no false b p q t = q t
 pub neither : (a b : Bool) → T (not (a || b)) → T (not a) × T (not b)
 neither false b t = (tt, t)
 
-pub not-either : (a b : Bool) → T (not a) → T (not b) → T (not (a || b))
-not-either false b s t = t
+pub not_either : (a b : Bool) → T (not a) → T (not b) → T (not (a || b))
+not_either false b s t = t
 
 -- ---- three tests
 
 -- (x && y) && z as code makes it, a test at a time: a and b are what the first two say, e the third
-pub first-of-three : {a x : Bool} (y z : Bool) → a ≡ x → a ≡ false → false ≡ (x && y) && z
-first-of-three y z p e = rw (sym p ∙ e)
+pub first_of_three : {a x : Bool} (y z : Bool) → a ≡ x → a ≡ false → false ≡ (x && y) && z
+first_of_three y z p e = rw (sym p ∙ e)
 
-pub second-of-three : {a b x y : Bool} (z : Bool) → a ≡ x → b ≡ y → a ≡ true → b ≡ false → false ≡ (x && y) && z
-second-of-three z p q d e = rw (sym p ∙ d, sym q ∙ e)
+pub second_of_three : {a b x y : Bool} (z : Bool) → a ≡ x → b ≡ y → a ≡ true → b ≡ false → false ≡ (x && y) && z
+second_of_three z p q d e = rw (sym p ∙ d, sym q ∙ e)
 
-pub third-of-three : {a b x y e z : Bool} → a ≡ x → b ≡ y → a ≡ true → b ≡ true → e ≡ z → e ≡ (x && y) && z
-third-of-three p q d e r = rw (sym p ∙ d, sym q ∙ e) r
+pub third_of_three : {a b x y e z : Bool} → a ≡ x → b ≡ y → a ≡ true → b ≡ true → e ≡ z → e ≡ (x && y) && z
+third_of_three p q d e r = rw (sym p ∙ d, sym q ∙ e) r
 
 -- where p and q hold, t is the contrary of u
-pub as-one-test : (p q t u : Bool) → (T p → T q → t ≡ not u) → (not (p && q) || t) ≡ not (p && q && u)
-as-one-test true true t u f = f tt tt
-as-one-test true false t u f = refl
-as-one-test false q t u f = refl
+pub as_one_test : (p q t u : Bool) → (T p → T q → t ≡ not u) → (not (p && q) || t) ≡ not (p && q && u)
+as_one_test true true t u f = f tt tt
+as_one_test true false t u f = refl
+as_one_test false q t u f = refl
 
 -- ---- a choice by a test
 
-pub cond-itself : (b : Bool) → cond b true false ≡ b
-cond-itself true = refl
-cond-itself false = refl
+pub cond_itself : (b : Bool) → cond b true false ≡ b
+cond_itself true = refl
+cond_itself false = refl
 
-pub cond-or : (b c : Bool) → cond b true c ≡ b || c
-cond-or true c = refl
-cond-or false c = refl
+pub cond_or : (b c : Bool) → cond b true c ≡ b || c
+cond_or true c = refl
+cond_or false c = refl
 
 -- What holds of both branches, each under its outcome of the test, holds of the choice.
 pub cond_both : {X : Type 0} (P : X → Type 0) (b : Bool) {x y : X} → (T b → P x) → (T (not b) → P y) → P (cond b x y)
@@ -160,17 +160,17 @@ module _ {X : Type 0} where
   cond_no true x y t = absurd t
   cond_no false x y t = refl
 
-  pub cond-again : (b : Bool) (x y : X) → cond b (cond b x y) y ≡ cond b x y
-  cond-again true x y = refl
-  cond-again false x y = refl
+  pub cond_again : (b : Bool) (x y : X) → cond b (cond b x y) y ≡ cond b x y
+  cond_again true x y = refl
+  cond_again false x y = refl
 
   pub cond_map : {Y : Type 0} (f : X → Y) (b : Bool) (x y : X) → f (cond b x y) ≡ cond b (f x) (f y)
   cond_map f true x y = refl
   cond_map f false x y = refl
 
   -- two tests that never both pass may be made in either order
-  pub cond-swap : (b c : Bool) (x y z : X) → (T b → T c → ⊥) → cond b x (cond c y z) ≡ cond c y (cond b x z)
-  cond-swap true true x y z apart = absurd (apart tt tt)
-  cond-swap true false x y z apart = refl
-  cond-swap false true x y z apart = refl
-  cond-swap false false x y z apart = refl
+  pub cond_swap : (b c : Bool) (x y z : X) → (T b → T c → ⊥) → cond b x (cond c y z) ≡ cond c y (cond b x z)
+  cond_swap true true x y z apart = absurd (apart tt tt)
+  cond_swap true false x y z apart = refl
+  cond_swap false true x y z apart = refl
+  cond_swap false false x y z apart = refl

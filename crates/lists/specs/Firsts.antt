@@ -6,8 +6,8 @@ use mathlib.Core.List.Pairwise
 use mathlib.Core.List.{Pairwise}
 use Rattle.std.proofs.Common.{◌∙◌, ap}
 use Rattle.std.proofs.Math.Dec.{T_prop}
-use Rattle.lists.specs.Filter.{keep, keep-map, keep-sublist, keep-passes, keep_all}
-use Rattle.lists.specs.Members.{pairs-cons}
+use Rattle.lists.specs.Filter.{keep, keep_map, keep_sublist, keep_passes, keep_all}
+use Rattle.lists.specs.Members.{pairs_cons}
 
 module _ {A : Type 0} where
   -- an element, then the firsts behind it that are of a later class
@@ -15,28 +15,28 @@ module _ {A : Type 0} where
   firsts before [] = []
   firsts before (x ∷ xs) = x ∷ keep (before x) (firsts before xs)
 
-pub firsts-map : {A B : Type 0} (before : B → B → Bool) (f : A → B) (xs : List A) → firsts before (map f xs) ≡ map f (firsts (λ a b. before (f a) (f b)) xs)
-firsts-map before f [] = refl
-firsts-map {A} {B} before f (x ∷ xs) =
+pub firsts_map : {A B : Type 0} (before : B → B → Bool) (f : A → B) (xs : List A) → firsts before (map f xs) ≡ map f (firsts (λ a b. before (f a) (f b)) xs)
+firsts_map before f [] = refl
+firsts_map {A} {B} before f (x ∷ xs) =
     ap {B = List B} (λ (r : List B). f x ∷ r)
-    (ap (keep (before (f x))) (firsts-map before f xs) ∙ keep-map (before (f x)) f (firsts (λ a b. before (f a) (f b)) xs))
+    (ap (keep (before (f x))) (firsts_map before f xs) ∙ keep_map (before (f x)) f (firsts (λ a b. before (f a) (f b)) xs))
 
 -- ---- of any list and test
 
 module _ {A : Type 0} (before : A → A → Bool) where
-  pub firsts-sub : (xs : List A) → Sublistᴰ (firsts before xs) xs
-  firsts-sub [] = Sublistᴰ.slnil
-  firsts-sub (x ∷ xs) = Sublistᴰ.cons-cons refl (Sublistᴰ.trans (keep-sublist (before x) (firsts before xs)) (firsts-sub xs))
+  pub firsts_sub : (xs : List A) → Sublistᴰ (firsts before xs) xs
+  firsts_sub [] = Sublistᴰ.slnil
+  firsts_sub (x ∷ xs) = Sublistᴰ.cons-cons refl (Sublistᴰ.trans (keep_sublist (before x) (firsts before xs)) (firsts_sub xs))
 
   -- each is before all later ones
-  pub firsts-pairs : (xs : List A) → Pairwise (λ a b. T (before a b)) (firsts before xs)
-  firsts-pairs [] = Pairwise.nil
-  firsts-pairs (x ∷ xs) =
-      pairs-cons (λ a b. T_prop (before a b)) (λ b m. keep-passes (before x) (firsts before xs) b m)
-      (Pairwise.sublistᴰ (keep-sublist (before x) (firsts before xs)) (firsts-pairs xs))
+  pub firsts_pairs : (xs : List A) → Pairwise (λ a b. T (before a b)) (firsts before xs)
+  firsts_pairs [] = Pairwise.nil
+  firsts_pairs (x ∷ xs) =
+      pairs_cons (λ a b. T_prop (before a b)) (λ b m. keep_passes (before x) (firsts before xs) b m)
+      (Pairwise.sublistᴰ (keep_sublist (before x) (firsts before xs)) (firsts_pairs xs))
 
   -- so where each is before all later ones, each is a first
-  pub firsts-all : {xs : List A} → Pairwise (λ a b. T (before a b)) xs → firsts before xs ≡ xs
-  firsts-all Pairwise.nil = refl
-  firsts-all (Pairwise.cons {a} {l} h p) =
-      ap {B = List A} (λ (r : List A). a ∷ r) (ap (keep (before a)) (firsts-all p) ∙ keep_all (before a) l (λ b m. h b ∣ m ∣₁))
+  pub firsts_all : {xs : List A} → Pairwise (λ a b. T (before a b)) xs → firsts before xs ≡ xs
+  firsts_all Pairwise.nil = refl
+  firsts_all (Pairwise.cons {a} {l} h p) =
+      ap {B = List A} (λ (r : List A). a ∷ r) (ap (keep (before a)) (firsts_all p) ∙ keep_all (before a) l (λ b m. h b ∣ m ∣₁))

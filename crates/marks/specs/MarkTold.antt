@@ -11,16 +11,16 @@ pub record Told : Type 0 where
   pub values : List Float
 
 -- a point's load and price
-abbrev pub atPoint : Point → Told
-atPoint p = record { number = pos 0; values = p.load ∷ p.price ∷ [] }
+abbrev pub at_point : Point → Told
+at_point p = record { number = pos 0; values = p.load ∷ p.price ∷ [] }
 
 abbrev pub told : Mark → Told
 told (OpenEnd rate) = record { number = pos 0; values = rate ∷ [] }
-told (Crossing p) = atPoint p
+told (Crossing p) = at_point p
 
 -- an open end, with its rate
-abbrev pub openEnd : ℤ → Told
-openEnd rate = record { number = pos 0; values = double rate ∷ [] }
+abbrev pub open_end : ℤ → Told
+open_end rate = record { number = pos 0; values = double rate ∷ [] }
 
 -- a crossing at n over d, whose price times d is p
 abbrev pub crossing : ℤ → ℤ → ℤ → Told

@@ -13,12 +13,12 @@ use Rattle.offers.specs.Offers.{between, within}
 abbrev pub exact : ℤ → Bool
 exact z = within (2 ^ 53) z
 
-abbrev pub plusZero : Float
-plusZero = fin false 0 (pos 0)
+abbrev pub plus_zero : Float
+plus_zero = fin false 0 (pos 0)
 
 -- An integer as a double. Further out, where the doubles have gaps, it is 0.
 abbrev pub double : ℤ → Float
-double z = cond (exact z) (of_int binary64 z) plusZero
+double z = cond (exact z) (of_int binary64 z) plus_zero
 
 abbrev pub negative : ℤ → Bool
 negative z = not (non_neg z)
@@ -61,5 +61,5 @@ pub record HalfUnit (n d : ℤ) (x : Float) : Type 0 where
 -- x is n / d, rounded once
 pub record Quotient (n d : ℤ) (x : Float) : Type 0 where
   pub is : x ≡ quotient n d
-  pub zero : T (divisible n d) → n ≡ pos 0 → x ≡ plusZero
+  pub zero : T (divisible n d) → n ≡ pos 0 → x ≡ plus_zero
   pub half : T (divisible n d) → n ≢ pos 0 → HalfUnit n d x

@@ -13,20 +13,20 @@ use Rattle.std.specs.Float.Ieee.Order.{drop}
 use Rattle.std.specs.Float.Ieee.Scale.{round_same, grid, overflow, normal_of_fraction}
 use Rattle.std.specs.Float.Ieee.Back.{round_whole, whole_unique}
 use Rattle.lists.specs.Bools.{and_left, and_right}
-use Rattle.integers.specs.Parts.{P, N, range-parts}
+use Rattle.integers.specs.Parts.{pos_part, neg_part, range_parts}
 use Rattle.integers.specs.Ring.{var, nat, ◌:-◌, ◌:*◌, parts}
-use Rattle.integers.specs.Magnitude.{natAbs-gap, within-natAbs, natAbs-within}
-use Rattle.integers.specs.Ranges.{too-low, too-high, in-range}
+use Rattle.integers.specs.Magnitude.{nat_abs_gap, within_nat_abs, nat_abs_within}
+use Rattle.integers.specs.Ranges.{too_low, too_high, in_range}
 use Rattle.offers.specs.Offers.{between}
-use Rattle.marks.specs.Rounding.{Within, Near, round-near, kept-most}
-use Rattle.marks.specs.Quotient.{exact, plusZero, double, negative, quotient, divisible, Doubled, HalfUnit, Quotient}
+use Rattle.marks.specs.Rounding.{Within, Near, round_near, kept_most}
+use Rattle.marks.specs.Quotient.{exact, plus_zero, double, negative, quotient, divisible, Doubled, HalfUnit, Quotient}
 
 -- ---- a quotient of whole numbers up to 2 ^ prec keeps all digits and does not overflow
 
-abbrev roomy : Format → Type 0
-roomy f = (prec f - 1 + prec f ≤ low f) × (prec f + low f + 1 < low f + suc (emax f))
+abbrev IsRoomy : Format → Type 0
+IsRoomy f = (prec f - 1 + prec f ≤ low f) × (prec f + low f + 1 < low f + suc (emax f))
 
-room : (f : Format) → roomy f
+room : (f : Format) → IsRoomy f
 room binary32 = (lit≤ tt, lit< tt)
 room binary64 = (lit≤ tt, lit< tt)
 
@@ -47,7 +47,7 @@ module _ (f : Format) (a c : ℕ) (A : 0 < a) (a-most : a ≤ 2 ^ prec f) (C : 0
       let w : n < 2 ^ (p + low f + 1) = lt_of_le_of_lt (subst (λ (t : ℕ). n ≤ t) (sym (pow-add 2 p (low f))) (mul-le-mul_right (2 ^ low f) a-most))
       (pow-lt (more p (low f))) in
       let z : size (n / c) ≤ p + low f + 1 = size-le (n / c) (p + low f + 1) (lt_of_le_of_lt (div-le_self n c) w) in
-      let g : grid f a c ≤ 2 ^ (p + k) = subst (λ (t : ℕ). grid f a c ≤ t) (sym (pow-add 2 p k)) (mul-le-mul_right (2 ^ k) (kept-most p n c (two f) enough)) in
+      let g : grid f a c ≤ 2 ^ (p + k) = subst (λ (t : ℕ). grid f a c ≤ t) (sym (pow-add 2 p k)) (mul-le-mul_right (2 ^ k) (kept_most p n c (two f) enough)) in
       lt_of_le_of_lt (le_trans g (pow_mono (together (size (n / c)) p (p + low f + 1) enough z))) (pow-lt (room f).1)
     where
       more : (p l : ℕ) → p + l < p + l + 1
@@ -56,8 +56,8 @@ module _ (f : Format) (a c : ℕ) (A : 0 < a) (a-most : a ≤ 2 ^ prec f) (C : 0
       together : (z p t : ℕ) → p ≤ z → z ≤ t → p + (z - p) ≤ t
       together z p t h k = omega arith
 
-  pub whole-near : (s : Bool) → Near f (round f s a c) s a c
-  whole-near s = round-near f s a c C enough under
+  pub whole_near : (s : Bool) → Near f (round f s a c) s a c
+  whole_near s = round_near f s a c C enough under
 
 -- ---- the operation `div`, on two doubles that are whole numbers, rounds their fraction
 
@@ -67,9 +67,9 @@ cross x y u v a c p q = omega (arith, ap (λ (t : ℕ). t * (v * c)) p, ap (λ (
 above_zero : (y c v : ℕ) → y * 1 ≡ c * v → 0 < c → 0 < v → 0 < y
 above_zero y c v e C D = omega (arith, mul-pos C D)
 
-div-whole : (f : Format) (x y : Float) (s t : Bool) (a c : ℕ) → 0 < c → HasValue x s a 1 → HasValue y t c 1 → div f x y ≡ round f (unlike s t) a c
+div_whole : (f : Format) (x y : Float) (s t : Bool) (a c : ℕ) → 0 < c → HasValue x s a 1 → HasValue y t c 1 → div f x y ≡ round f (unlike s t) a c
 unfolding div
-div-whole f (fin s' m e) (fin t' n d) s t a c C v w = go (eqb n 0) (eqb→eq n 0)
+div_whole f (fin s' m e) (fin t' n d) s t a c C v w = go (eqb n 0) (eqb→eq n 0)
   where
     Y : 0 < n * up d
     Y = above_zero (n * up d) c (down d) w.1 C (down_pos d)
@@ -88,32 +88,32 @@ div-whole f (fin s' m e) (fin t' n d) s t a c C v w = go (eqb n 0) (eqb→eq n 0
 
 -- ---- integers as doubles
 
-ofInt-value : (z : ℤ) → nat_abs z ≤ 2 ^ 53 → HasValue (of_int binary64 z) (negative z) (nat_abs z) 1
+of_int_value : (z : ℤ) → nat_abs z ≤ 2 ^ 53 → HasValue (of_int binary64 z) (negative z) (nat_abs z) 1
 unfolding of_int
-ofInt-value (pos n) h = round_whole binary64 false n h
-ofInt-value (negsuc n) h = round_whole binary64 true (suc n) h
+of_int_value (pos n) h = round_whole binary64 false n h
+of_int_value (negsuc n) h = round_whole binary64 true (suc n) h
 
-pub exact-size : (z : ℤ) → T (exact z) → nat_abs z ≤ 2 ^ 53
-exact-size z t = within-natAbs 9_007_199_254_740_991 z t
+pub exact_size : (z : ℤ) → T (exact z) → nat_abs z ≤ 2 ^ 53
+exact_size z t = within_nat_abs 9_007_199_254_740_991 z t
 
-pub double-is : (z : ℤ) → T (exact z) → double z ≡ of_int binary64 z
-double-is z t = go (exact z) t
+pub double_is : (z : ℤ) → T (exact z) → double z ≡ of_int binary64 z
+double_is z t = go (exact z) t
   where
-    go : (b : Bool) → T b → cond b (of_int binary64 z) plusZero ≡ of_int binary64 z
+    go : (b : Bool) → T b → cond b (of_int binary64 z) plus_zero ≡ of_int binary64 z
     go true u = refl
     go false u = absurd u
 
-pub double-value : (z : ℤ) → T (exact z) → HasValue (double z) (negative z) (nat_abs z) 1
-double-value z t = subst (λ (x : Float). HasValue x (negative z) (nat_abs z) 1) (sym (double-is z t)) (ofInt-value z (exact-size z t))
+pub double_value : (z : ℤ) → T (exact z) → HasValue (double z) (negative z) (nat_abs z) 1
+double_value z t = subst (λ (x : Float). HasValue x (negative z) (nat_abs z) 1) (sym (double_is z t)) (of_int_value z (exact_size z t))
 
 pub doubled : (z : ℤ) → Doubled z (double z)
-doubled z = record { is = refl; exactly = λ t. subst (λ (k : ℕ). HasValue (double z) (negative z) k 1) (sym (mul-one (nat_abs z))) (double-value z t) }
+doubled z = record { is = refl; exactly = λ t. subst (λ (k : ℕ). HasValue (double z) (negative z) k 1) (sym (mul-one (nat_abs z))) (double_value z t) }
 
 -- what the cast asks
-pub cast-asks : (z : ℤ) → T (exact z) → T (in_float binary64 z)
+pub cast_asks : (z : ℤ) → T (exact z) → T (in_float binary64 z)
 unfolding in_float
-cast-asks (pos n) t = le→leb n (2 ^ 53) (exact-size (pos n) t)
-cast-asks (negsuc n) t = lt→ltb n (2 ^ 53) (exact-size (negsuc n) t)
+cast_asks (pos n) t = le→leb n (2 ^ 53) (exact_size (pos n) t)
+cast_asks (negsuc n) t = lt→ltb n (2 ^ 53) (exact_size (negsuc n) t)
 
 -- as the code tests it
 abbrev least : ℤ
@@ -123,14 +123,14 @@ abbrev most : ℤ
 most = pos 9_007_199_254_740_992
 
 module _ (z : ℤ) where
-  pub is-exact : lt_z z least ≡ false → lt_z most z ≡ false → T (exact z)
-  is-exact h k = subst T (sym (in-range least most z h k)) tt
+  pub is_exact : lt_z z least ≡ false → lt_z most z ≡ false → T (exact z)
+  is_exact h k = subst T (sym (in_range_lem least most z h k)) tt
 
-  pub zero-below : lt_z z least ≡ true → double z ≡ plusZero
-  zero-below h = ap (λ (b : Bool). cond b (of_int binary64 z) plusZero) (too-low least most z h)
+  pub zero_below : lt_z z least ≡ true → double z ≡ plus_zero
+  zero_below h = ap (λ (b : Bool). cond b (of_int binary64 z) plus_zero) (too_low least most z h)
 
-  pub zero-above : lt_z most z ≡ true → double z ≡ plusZero
-  zero-above h = ap (λ (b : Bool). cond b (of_int binary64 z) plusZero) (too-high least most z h)
+  pub zero_above : lt_z most z ≡ true → double z ≡ plus_zero
+  zero_above h = ap (λ (b : Bool). cond b (of_int binary64 z) plus_zero) (too_high least most z h)
 
 -- ---- the quotient is the rounded fraction
 
@@ -139,16 +139,16 @@ same_sign true = refl
 same_sign false = refl
 
 module _ (n : ℤ) (c : ℕ) (t : T (divisible n (pos c))) where
-  exact-dividend : T (exact n)
-  exact-dividend = and_left (exact n) (between (pos 1) (pos (2 ^ 53)) (pos c)) t
+  exact_dividend : T (exact n)
+  exact_dividend = and_left (exact n) (between (pos 1) (pos (2 ^ 53)) (pos c)) t
 
   divisor_range : (1 ≤ c) × (c ≤ 2 ^ 53)
-  divisor_range = omega (arith, range-parts (pos 1) (pos c) (pos (2 ^ 53)) (and_right (exact n) (between (pos 1) (pos (2 ^ 53)) (pos c)) t))
+  divisor_range = omega (arith, range_parts (pos 1) (pos c) (pos (2 ^ 53)) (and_right (exact n) (between (pos 1) (pos (2 ^ 53)) (pos c)) t))
 
-  quotient-rounds : quotient n (pos c) ≡ round binary64 (negative n) (nat_abs n) c
-  quotient-rounds =
-      div-whole binary64 (double n) (double (pos c)) (negative n) false (nat_abs n) c divisor_range.0
-      (double-value n exact-dividend) (double-value (pos c) (natAbs-within 9_007_199_254_740_991 (pos c) divisor_range.1))
+  quotient_rounds : quotient n (pos c) ≡ round binary64 (negative n) (nat_abs n) c
+  quotient_rounds =
+      div_whole binary64 (double n) (double (pos c)) (negative n) false (nat_abs n) c divisor_range.0
+      (double_value n exact_dividend) (double_value (pos c) (nat_abs_within 9_007_199_254_740_991 (pos c) divisor_range.1))
       ∙ ap (λ (s : Bool). round binary64 s (nat_abs n) c) (same_sign (negative n))
 
 -- ---- zero
@@ -161,20 +161,20 @@ unscaled (fin t m e) s c C v =
     let k : m * up e ≡ 0 = eq_of_mul-eq-mul_right c C (m * up e) 0 (omega arith) in
     (v.0, omega arith)
 
-round-zero : (c : ℕ) → 0 < c → round binary64 false 0 c ≡ plusZero
+round_zero : (c : ℕ) → 0 < c → round binary64 false 0 c ≡ plus_zero
 unfolding fits
-round-zero c C =
-    whole_unique binary64 (round binary64 false 0 c) plusZero false 0 (round-fits binary64 false 0 c) tt
+round_zero c C =
+    whole_unique binary64 (round binary64 false 0 c) plus_zero false 0 (round-fits binary64 false 0 c) tt
     (unscaled (round binary64 false 0 c) false c C (round_exact binary64 false 0 c 0 0 C (lit< tt) (lit< tt) (sym (zero-mul c))))
     (refl, refl)
 
 -- ---- the bound, over integers
 
-spread : (z : ℤ) (a b w : ℕ) → P z + b ≡ N z + a → 2 * a ≤ 2 * b + w → 2 * b ≤ 2 * a + w → 2 * nat_abs z ≤ w
-spread z a b w e h k = omega (arith, natAbs-gap z a b e)
+spread : (z : ℤ) (a b w : ℕ) → pos_part z + b ≡ neg_part z + a → 2 * a ≤ 2 * b + w → 2 * b ≤ 2 * a + w → 2 * nat_abs z ≤ w
+spread z a b w e h k = omega (arith, nat_abs_gap z a b e)
 
-positive-half : (a c : ℕ) (x : Float) → Near binary64 x false a c → HalfUnit (pos a) (pos c) x
-positive-half a c x r = record {
+positive_half : (a c : ℕ) (x : Float) → Near binary64 x false a c → HalfUnit (pos a) (pos c) x
+positive_half a c x r = record {
   m = pos r.m;
   e = r.e;
   value = r.value;
@@ -184,10 +184,10 @@ positive-half a c x r = record {
       (omega (arith, parts (nat (r.m * up r.e * c) :- nat (a * down r.e)))) (omega (arith, r.half.1)) (omega (arith, r.half.0));
 }
 
-negative-half : (a c : ℕ) (x : Float) (m : ℕ) (e : ℤ) → HasValue x true (m * up e) (down e) → 2 ^ 52 ≤ m → m < 2 ^ 53
+negative_half : (a c : ℕ) (x : Float) (m : ℕ) (e : ℤ) → HasValue x true (m * up e) (down e) → 2 ^ 52 ≤ m → m < 2 ^ 53
     → Within (suc a * down e) (up e * c) m (up e * c) → HalfUnit (negsuc a) (pos c) x
-negative-half a c x zero e v lo hi w = let f : ⊥ = omega arith in absurd f
-negative-half a c x (suc m) e v lo hi w = record {
+negative_half a c x zero e v lo hi w = let f : ⊥ = omega arith in absurd f
+negative_half a c x (suc m) e v lo hi w = record {
   m = negsuc m;
   e = e;
   value = v;
@@ -200,20 +200,20 @@ negative-half a c x (suc m) e v lo hi w = record {
 -- ---- together
 
 module _ (n : ℤ) (c : ℕ) (t : T (divisible n (pos c))) where
-  half-unit : n ≢ pos 0 → HalfUnit n (pos c) (quotient n (pos c))
-  half-unit ne = subst (λ (x : Float). HalfUnit n (pos c) x) (sym (quotient-rounds n c t)) (go n (exact-size n (exact-dividend n c t)) ne)
+  half_unit : n ≢ pos 0 → HalfUnit n (pos c) (quotient n (pos c))
+  half_unit ne = subst (λ (x : Float). HalfUnit n (pos c) x) (sym (quotient_rounds n c t)) (go n (exact_size n (exact_dividend n c t)) ne)
     where
       near : (a : ℕ) → suc a ≤ 2 ^ 53 → (s : Bool) → Near binary64 (round binary64 s (suc a) c) s (suc a) c
-      near a l s = whole-near binary64 (suc a) c (zero-lt-suc a) l (divisor_range n c t).0 (divisor_range n c t).1 s
+      near a l s = whole_near binary64 (suc a) c (zero-lt-suc a) l (divisor_range n c t).0 (divisor_range n c t).1 s
 
       go : (n : ℤ) → nat_abs n ≤ 2 ^ 53 → n ≢ pos 0 → HalfUnit n (pos c) (round binary64 (negative n) (nat_abs n) c)
       go (pos zero) l ne = absurd (ne refl)
-      go (pos (suc a)) l ne = positive-half (suc a) c (round binary64 false (suc a) c) (near a l false)
-      go (negsuc a) l ne = let r = near a l true in negative-half a c (round binary64 true (suc a) c) r.m r.e r.value r.full r.short r.half
+      go (pos (suc a)) l ne = positive_half (suc a) c (round binary64 false (suc a) c) (near a l false)
+      go (negsuc a) l ne = let r = near a l true in negative_half a c (round binary64 true (suc a) c) r.m r.e r.value r.full r.short r.half
 
-  zero-quotient : n ≡ pos 0 → quotient n (pos c) ≡ plusZero
-  zero-quotient e = quotient-rounds n c t ∙ ap (λ (z : ℤ). round binary64 (negative z) (nat_abs z) c) e ∙ round-zero c (divisor_range n c t).0
+  zero_quotient : n ≡ pos 0 → quotient n (pos c) ≡ plus_zero
+  zero_quotient e = quotient_rounds n c t ∙ ap (λ (z : ℤ). round binary64 (negative z) (nat_abs z) c) e ∙ round_zero c (divisor_range n c t).0
 
 pub quotient_is : (n d : ℤ) → Quotient n d (quotient n d)
-quotient_is n (pos c) = record { is = refl; zero = zero-quotient n c; half = half-unit n c }
+quotient_is n (pos c) = record { is = refl; zero = zero_quotient n c; half = half_unit n c }
 quotient_is n (negsuc c) = record { is = refl; zero = λ t e. absurd (and_right (exact n) false t); half = λ t ne. absurd (and_right (exact n) false t) }

@@ -35,8 +35,8 @@ cmp a b = go (compare a b) (leb→le a b) (nleb→lt a b) (eqb→eq a b) (λ (e 
 abbrev pub Within : (a b q w : ℕ) → Type 0
 Within a b q w = (2 * a ≤ 2 * (q * b) + w) × (2 * (q * b) ≤ 2 * a + w)
 
-closest-half : (a b : ℕ) → 0 < b → Within a b (closest a b) b
-closest-half a b B = go (a / b) (a % b) (div-add-mod' a b) (mod-lt a B) (compare (a % b * 2) b) (cmp (a % b * 2) b)
+closest_half : (a b : ℕ) → 0 < b → Within a b (closest a b) b
+closest_half a b B = go (a / b) (a % b) (div-add-mod' a b) (mod-lt a B) (compare (a % b * 2) b) (cmp (a % b * 2) b)
   where
     tie : (q r t : ℕ) → q * b + r ≡ a → r * 2 ≡ b → t < 2 → Within a b (q + t) b
     tie q r zero e h k = omega arith
@@ -54,13 +54,13 @@ closest-half a b B = go (a / b) (a % b) (div-add-mod' a b) (mod-lt a B) (compare
 -- ---- the number kept has all the format's digits, or is the next power of two
 
 module _ (p n c : ℕ) (P : 2 ≤ p) (enough : p ≤ size (n / c)) where
-  pub kept-most : kept p n c ≤ 2 ^ p
-  kept-most =
+  pub kept_most : kept p n c ≤ 2 ^ p
+  kept_most =
       let u = c * 2 ^ drop p n c in
       le_trans (nearest-le (n / u) (compare (n % u * 2) u)) (subst (λ (x : ℕ). x < 2 ^ p) (div-div-eq-div-mul n c (2 ^ drop p n c)) (kept-lt p (n / c)))
 
-  kept-least : 2 ^ (p - 1) ≤ kept p n c
-  kept-least =
+  kept_least : 2 ^ (p - 1) ≤ kept p n c
+  kept_least =
       let u = c * 2 ^ drop p n c in
       let j : p - 1 + drop p n c < size (n / c) = omega arith in
       let h : 2 ^ (p - 1) * 2 ^ drop p n c ≤ n / c = subst (λ (x : ℕ). x ≤ n / c) (pow-add 2 (p - 1) (drop p n c))
@@ -81,8 +81,8 @@ pub record Near (f : Format) (x : Float) (s : Bool) (a c : ℕ) : Type 0 where
 -- ---- from multiples of 2 ^ -l to a fraction in lowest powers
 
 -- u / d is j / l: what holds at the second fraction holds at the first
-to-fraction : (a c m j l u d : ℕ) → 0 < l → u * l ≡ j * d → Within (a * l) (j * c) m (j * c) → Within (a * d) (u * c) m (u * c)
-to-fraction a c m j l u d L e h = (
+to_fraction : (a c m j l u d : ℕ) → 0 < l → u * l ≡ j * d → Within (a * l) (j * c) m (j * c) → Within (a * d) (u * c) m (u * c)
+to_fraction a c m j l u d L e h = (
   le_of_mul-le-mul_right (omega (arith, x, y, mul-le-mul_right d h.0)) L,
   le_of_mul-le-mul_right (omega (arith, x, y, mul-le-mul_right d h.1)) L,
 )
@@ -93,10 +93,10 @@ to-fraction a c m j l u d L e h = (
     y : c * (u * l) ≡ c * (j * d)
     y = ap (λ (t : ℕ). c * t) e
 
-same-value : (x : Float) (s : Bool) (m j l u d : ℕ) → 0 < l → u * l ≡ j * d → HasValue x s (m * j) l → HasValue x s (m * u) d
-same-value nan s m j l u d L e h = h
-same-value (inf t) s m j l u d L e h = h
-same-value (fin t n g) s m j l u d L e h = (
+same_value : (x : Float) (s : Bool) (m j l u d : ℕ) → 0 < l → u * l ≡ j * d → HasValue x s (m * j) l → HasValue x s (m * u) d
+same_value nan s m j l u d L e h = h
+same_value (inf t) s m j l u d L e h = h
+same_value (fin t n g) s m j l u d L e h = (
   h.0,
   eq_of_mul-eq-mul_right l L (n * up g * d) (m * u * down g)
       (omega (arith, ap (λ (t : ℕ). t * d) h.1, ap (λ (t : ℕ). m * down g * t) e)),
@@ -105,24 +105,24 @@ same-value (fin t n g) s m j l u d L e h = (
 power : (j l : ℕ) → up (minus j l) * 2 ^ l ≡ 2 ^ j * down (minus j l)
 power j l = omega (arith, minus_val 1 j l)
 
-near-at : (f : Format) (x : Float) (s : Bool) (a c m j : ℕ) → 2 ^ (prec f - 1) ≤ m → m < 2 ^ prec f
+near_at : (f : Format) (x : Float) (s : Bool) (a c m j : ℕ) → 2 ^ (prec f - 1) ≤ m → m < 2 ^ prec f
     → HasValue x s (m * 2 ^ j) (2 ^ low f) → Within (a * 2 ^ low f) (2 ^ j * c) m (2 ^ j * c) → Near f x s a c
-near-at f x s a c m j full short v h =
+near_at f x s a c m j full short v h =
     let l = low f in
     let e = minus j l in
     record {
       m = m;
       e = e;
-      value = same-value x s m (2 ^ j) (2 ^ l) (up e) (down e) (pow_pos l) (power j l) v;
+      value = same_value x s m (2 ^ j) (2 ^ l) (up e) (down e) (pow_pos l) (power j l) v;
       full = full;
       short = short;
-      half = to-fraction a c m (2 ^ j) (2 ^ l) (up e) (down e) (pow_pos l) (power j l) h;
+      half = to_fraction a c m (2 ^ j) (2 ^ l) (up e) (down e) (pow_pos l) (power j l) h;
     }
 
 -- ---- the bound
 
-two-halves : (p : ℕ) → 2 ≤ p → 2 ^ p ≡ 2 ^ (p - 1) + 2 ^ (p - 1)
-two-halves p P = let e : p ≡ suc (p - 1) = omega arith in ap (λ (t : ℕ). 2 ^ t) e ∙ two-pow-succ (p - 1)
+two_halves : (p : ℕ) → 2 ≤ p → 2 ^ p ≡ 2 ^ (p - 1) + 2 ^ (p - 1)
+two_halves p P = let e : p ≡ suc (p - 1) = omega arith in ap (λ (t : ℕ). 2 ^ t) e ∙ two-pow-succ (p - 1)
 
 halve : (q h k j : ℕ) → q ≡ h + h → j ≡ k + k → q * k ≡ h * j
 halve q h k j d e = omega (arith, ap (λ (t : ℕ). t * k) d, ap (λ (t : ℕ). h * t) e)
@@ -136,21 +136,21 @@ settle : (f : Format) (x : Float) (s : Bool) (a c q k : ℕ) → HasValue x s (q
     → Within (a * 2 ^ low f) (c * 2 ^ k) q (c * 2 ^ k) → (q ≡ 2 ^ prec f) ⊎ (q < 2 ^ prec f) → Near f x s a c
 settle f x s a c q k v lo w (inl e) =
     let h = 2 ^ (prec f - 1) in
-    let d : q * 2 ^ k ≡ h * 2 ^ suc k = halve q h (2 ^ k) (2 ^ suc k) (e ∙ two-halves (prec f) (two f)) (two-pow-succ k) in
-    near-at f x s a c h (suc k) (le_refl h) (pow-lt (one_less (prec f) (two f))) (subst (λ (t : ℕ). HasValue x s t (2 ^ low f)) d v)
+    let d : q * 2 ^ k ≡ h * 2 ^ suc k = halve q h (2 ^ k) (2 ^ suc k) (e ∙ two_halves (prec f) (two f)) (two-pow-succ k) in
+    near_at f x s a c h (suc k) (le_refl h) (pow-lt (one_less (prec f) (two f))) (subst (λ (t : ℕ). HasValue x s t (2 ^ low f)) d v)
     (widen (a * 2 ^ low f) c q h (2 ^ k) (2 ^ suc k) d (pow_mono (le-suc k)) w)
   where
     one_less : (p : ℕ) → 2 ≤ p → p - 1 < p
     one_less p P = omega arith
-settle f x s a c q k v lo w (inr h) = near-at f x s a c q k lo h v (widen (a * 2 ^ low f) c q q (2 ^ k) (2 ^ k) refl (le_refl (2 ^ k)) w)
+settle f x s a c q k v lo w (inr h) = near_at f x s a c q k lo h v (widen (a * 2 ^ low f) c q q (2 ^ k) (2 ^ k) refl (le_refl (2 ^ k)) w)
 
 module _ (f : Format) (s : Bool) (a c : ℕ) (C : 0 < c) (enough : prec f ≤ size (a * 2 ^ low f / c)) (under : grid f a c < overflow f) where
-  pub round-near : Near f (round f s a c) s a c
-  round-near =
+  pub round_near : Near f (round f s a c) s a c
+  round_near =
       let p = prec f in
       let n = a * 2 ^ low f in
       let k = drop p n c in
       let q = kept p n c in
       subst (λ (x : Float). Near f x s a c) (sym (round_is f s a c))
-      (settle f (units f s q k) s a c q k (units_val f s q k under) (kept-least p n c (two f) enough) (closest-half n (c * 2 ^ k) (mul-pos C (pow_pos k)))
-      (eq-or-lt_of_le (kept-most p n c (two f) enough)))
+      (settle f (units f s q k) s a c q k (units_val f s q k under) (kept_least p n c (two f) enough) (closest_half n (c * 2 ^ k) (mul-pos C (pow_pos k)))
+      (eq-or-lt_of_le (kept_most p n c (two f) enough)))

@@ -16,19 +16,19 @@ lift (pos a) (negsuc b) = a + suc b
 lift (negsuc a) (pos b) = 0
 lift (negsuc a) (negsuc b) = suc b
 
-lift-is : (e g : ℤ) → up e * down g ≡ 2 ^ lift e g
+lift_is : (e g : ℤ) → up e * down g ≡ 2 ^ lift e g
 unfolding lift
-lift-is (pos a) (pos b) = mul-one (2 ^ a)
-lift-is (pos a) (negsuc b) = sym (pow-add 2 a (suc b))
-lift-is (negsuc a) (pos b) = refl
-lift-is (negsuc a) (negsuc b) = one-mul (2 ^ suc b)
+lift_is (pos a) (pos b) = mul-one (2 ^ a)
+lift_is (pos a) (negsuc b) = sym (pow-add 2 a (suc b))
+lift_is (negsuc a) (pos b) = refl
+lift_is (negsuc a) (negsuc b) = one-mul (2 ^ suc b)
 
-same-lift : (e g : ℤ) → lift e g ≡ lift g e → e ≡ g
+same_lift : (e g : ℤ) → lift e g ≡ lift g e → e ≡ g
 unfolding lift
-same-lift (pos a) (pos b) h = ap pos h
-same-lift (pos a) (negsuc b) h = let f : ⊥ = omega arith in absurd f
-same-lift (negsuc a) (pos b) h = let f : ⊥ = omega arith in absurd f
-same-lift (negsuc a) (negsuc b) h = let k : a ≡ b = omega arith in ap negsuc k
+same_lift (pos a) (pos b) h = ap pos h
+same_lift (pos a) (negsuc b) h = let f : ⊥ = omega arith in absurd f
+same_lift (negsuc a) (pos b) h = let f : ⊥ = omega arith in absurd f
+same_lift (negsuc a) (negsuc b) h = let k : a ≡ b = omega arith in ap negsuc k
 
 -- ---- all digits
 
@@ -62,11 +62,11 @@ written_once (inf t) m e n g v a w b = absurd v
 written_once (fin t k h) m e n g v a w b =
     let i : nat_abs m * (up e * down g) ≡ nat_abs n * (up g * down e) =
     cancel (k * up h) (nat_abs m) (nat_abs n) (up e) (up g) (down e) (down g) (down h) (down_pos h) v.1 w.1 in
-    let j : nat_abs m * 2 ^ lift e g ≡ nat_abs n * 2 ^ lift g e = rw (← lift-is e g, ← lift-is g e) i in
+    let j : nat_abs m * 2 ^ lift e g ≡ nat_abs n * 2 ^ lift g e = rw (← lift_is e g, ← lift_is g e) i in
     let r = same_digits (2 ^ 52) (nat_abs m) (nat_abs n) (lift e g) (lift g e) a.0 a.1 b.0 b.1 j in
-    (same_sign m n (sym v.0 ∙ w.0) r.0, same-lift e g r.1)
+    (same_sign m n (sym v.0 ∙ w.0) r.0, same_lift e g r.1)
 
-pub half-unit-always : (n d : ℤ) (x : Float) → HalfUnit n d x → (m e : ℤ) → Is x m e → Full m → WithinHalf n d m e
-half-unit-always n d x h m e v f =
+pub half_unit_always : (n d : ℤ) (x : Float) → HalfUnit n d x → (m e : ℤ) → Is x m e → Full m → WithinHalf n d m e
+half_unit_always n d x h m e v f =
     let r = written_once x h.m h.e m e h.value h.digits v f in
     subst (λ (k : ℤ). WithinHalf n d k e) r.0 (subst (λ (k : ℤ). WithinHalf n d h.m k) r.1 h.near)

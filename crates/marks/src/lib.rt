@@ -1,7 +1,7 @@
 // Chart marks: the doubles of open ends and crossings.
 ghost use Rattle.std.specs.Prelude.{◌≡◌};
 ghost use Rattle.marks.specs.Quotient.{Doubled};
-ghost use Rattle.marks.specs.MarkTold.{told, atPoint, openEnd, crossing, PointOf};
+ghost use Rattle.marks.specs.MarkTold.{told, at_point, open_end, crossing, PointOf};
 
 // Where two pieces cross.
 #[derive(Drop)]
@@ -38,14 +38,14 @@ fn crossing_point(n: i64, d: i64, p: i64) -> Point
 }
 
 pub fn open_end(rate: i64) -> Mark
-    ensures { told result ≡ openEnd rate }
+    ensures { told result ≡ open_end rate }
 {
     Mark::OpenEnd(to_double(rate))
 }
 
 // The mark of a point.
 fn point_mark(point: Point) -> Mark
-    ensures { told result ≡ atPoint point }
+    ensures { told result ≡ at_point point }
 {
     Mark::Crossing(point)
 }

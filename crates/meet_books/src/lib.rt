@@ -1,7 +1,7 @@
 // The meeting of two books: where the envelope of both goes over from the first book's offers to the second's. Both tables are only read,
 // and they may be one table.
 ghost use Rattle.std.specs.Prelude.{◌≡◌, ltb};
-ghost use Rattle.table.specs.Fields.{liveCountWord, mostNodes};
+ghost use Rattle.table.specs.Fields.{live_count_word, most_nodes};
 ghost use Rattle.table.specs.Words.{word, up_to};
 ghost use Rattle.meet_books.specs.Promises.{MeetsBooks};
 ghost use Rattle.meet_books.specs.Apart.{SetsApart};
@@ -23,7 +23,7 @@ pub enum Met {
 
 // No offer is live.
 fn is_empty(part: &[i64]) -> bool
-    ensures { result ≡ ltb (up_to mostNodes (word part.now liveCountWord)) 1 }
+    ensures { result ≡ ltb (up_to most_nodes (word part.now live_count_word)) 1 }
 {
     table::number_at(part, table::LIVE_COUNT, table::MOST_NODES) < 1
 }

@@ -9,10 +9,10 @@ use Rattle.std.proofs.Math.Option.{Option, none, some}
 use Rattle.envelopes.specs.PseudoLines.{Figure}
 use Rattle.envelopes.specs.Bridge.{Kind, inner}
 use Rattle.trees.specs.Tree.{Tree, leaf, node}
-use Rattle.meeting.specs.Machine.{Side, left, right, opposite, isLeaf, Place, Case, mine, theirs, neither, compare, Half, State, pair, pop}
-use Rattle.meeting.specs.Machine.{second, recedeBy, recede, advanceUnless, stepBy, step, Result, ended, counted, run}
-use Rattle.meeting.specs.Located.{Spans, one, edge_of, Stacked, bottom, kind, rank, rank-before, spans-some, Top, top-located, Stands, located}
-use Rattle.meeting.specs.Moves.{half, Inner, owes, Moved, retreat-moved, advance-moved, pop-moved}
+use Rattle.meeting.specs.Machine.{Side, left, right, opposite, is_leaf, Place, Case, mine, theirs, neither, compare, Half, State, pair, pop}
+use Rattle.meeting.specs.Machine.{second, recede_by, recede, advance_unless, step_by, step, Result, ended, counted, run}
+use Rattle.meeting.specs.Located.{Spans, one, edge_of, Stacked, bottom, kind, rank, rank_before, spans_some, Top, top_located, Stands, located}
+use Rattle.meeting.specs.Moves.{half, Inner, owes, Moved, retreat_moved, advance_moved, pop_moved}
 use Rattle.meeting.specs.Verdicts.{Meeting, aim, Apart, Verdict, verdict}
 
 -- The invariant: both halves stand well, and one of the two lines looked for is below its place (source [1], Invariant 4.1).
@@ -37,9 +37,9 @@ module _ {S : Figure} (M : Meeting S) where
   better right i k h = (record { us = i.them; them = i.us; held = ⊎_swap i.held }, omega arith)
 
   -- what is left to pay is the same from either side
-  same-potential : {u v : Half S.Line} (i : Sound M left u v) (j : Sound M right v u) → i.us ≡ j.them → i.them ≡ j.us → potential i ≡ potential j
+  same_potential : {u v : Half S.Line} (i : Sound M left u v) (j : Sound M right v u) → i.us ≡ j.them → i.them ≡ j.us → potential i ≡ potential j
   unfolding potential
-  same-potential i j p q = rw (p, q) (omega arith)
+  same_potential i j p q = rw (p, q) (omega arith)
 
   -- ---- case 1 on the left, case 2 on the right
 
@@ -61,54 +61,54 @@ module _ {S : Figure} (M : Meeting S) where
       (i : Sound M side (half t e (top ∷ rest)) other) → (aim M side).star < i.us.lo → Better (potential i) (pair side (pop side top rest) other)
   unfolding potential
   popped side i below =
-      let m = pop-moved (aim M side) i.us below in
+      let m = pop_moved (aim M side) i.us below in
       let h = ⊎_elim (λ z. absurd (omega arith)) (λ z. z) i.held in
       better side (record { us = m.after; them = i.them; held = inr h }) _ (omega arith)
 
-  bottom-lo : {side : Side} {a : ℕ → S.Line} {H lo : ℕ} → Stacked side a H [] lo → lo ≡ 0
-  bottom-lo bottom = refl
+  bottom_lo : {side : Side} {a : ℕ → S.Line} {H lo : ℕ} → Stacked side a H [] lo → lo ≡ 0
+  bottom_lo bottom = refl
 
-  leaf-rank : {side : Side} {a : ℕ → S.Line} {x : S.Line} {lo hi : ℕ} (s : Spans side a lo (leaf x) hi) → rank s ≡ lo
-  leaf-rank (one p) = refl
+  leaf_rank : {side : Side} {a : ℕ → S.Line} {x : S.Line} {lo hi : ℕ} (s : Spans side a lo (leaf x) hi) → rank s ≡ lo
+  leaf_rank (one p) = refl
 
-  leaf-hi : {side : Side} {a : ℕ → S.Line} {x : S.Line} {lo hi : ℕ} (s : Spans side a lo (leaf x) hi) → hi ≡ suc lo
-  leaf-hi (one p) = refl
+  leaf_hi : {side : Side} {a : ℕ → S.Line} {x : S.Line} {lo hi : ℕ} (s : Spans side a lo (leaf x) hi) → hi ≡ suc lo
+  leaf_hi (one p) = refl
 
   -- neither on or above, of a place and of one that covers its line: the first's point is short of its line, or the second is inner and short of its own
   short : (side : Side) {i : ℕ} {k : Kind} (q : Tree S.Line) {lo hi : ℕ} (s : Spans (opposite side) (aim M (opposite side)).line lo q hi) →
       (aim M (opposite side)).star < hi → Apart M side i k (rank s) (kind q) → (i ≤ (aim M side).star) ⊎ (Inner q × (rank s ≤ (aim M (opposite side)).star))
   short side (node l r) s c v = ⊎_elim (λ z. inl z) (λ z. inr (tt, z)) v.short
-  short side (leaf x) s c v = ⊎_elim (λ z. inl z) (λ z. inl (v.other refl (omega (arith, leaf-rank s, leaf-hi s)))) v.short
+  short side (leaf x) s c v = ⊎_elim (λ z. inl z) (λ z. inl (v.other refl (omega (arith, leaf_rank s, leaf_hi s)))) v.short
 
   -- the second comparison
-  second-better : (side : Side) {l r : Tree S.Line} {e : Option S.Line} {top : Place S.Line} {rest : List (Place S.Line)}
+  second_better : (side : Side) {l r : Tree S.Line} {e : Option S.Line} {top : Place S.Line} {rest : List (Place S.Line)}
       {other : Half S.Line} (i : Sound M side (half (node l r) e (top ∷ rest)) other) → (aim M side).star < rank i.us.spans → (c : Case) →
       Verdict M side i.us.lo inner (rank i.them.spans) (kind other.at.tree) c →
       Better (potential i) (second S side c (half (node l r) e (top ∷ rest)) other top rest)
-  second-better side i below mine v = popped side i v
-  second-better side i below theirs v = both side i (retreat-moved (aim M side) i.us below) (retreat-moved (aim M (opposite side)) i.them v) i.held
+  second_better side i below mine v = popped side i v
+  second_better side i below theirs v = both side i (retreat_moved (aim M side) i.us below) (retreat_moved (aim M (opposite side)) i.them v) i.held
       (omega arith)
-  second-better side {other = other} i below neither v = both side i (retreat-moved (aim M side) i.us below)
-      (advance-moved (aim M (opposite side)) i.them) (short side other.at.tree i.them.spans i.them.covers v) (omega arith)
+  second_better side {other = other} i below neither v = both side i (retreat_moved (aim M side) i.us below)
+      (advance_moved (aim M (opposite side)) i.them) (short side other.at.tree i.them.spans i.them.covers v) (omega arith)
 
-  top-verdict : (side : Side) {t : Tree S.Line} {e : Option S.Line} {top : Place S.Line} {rest : List (Place S.Line)} {other : Half S.Line}
+  top_verdict : (side : Side) {t : Tree S.Line} {e : Option S.Line} {top : Place S.Line} {rest : List (Place S.Line)} {other : Half S.Line}
       (i : Sound M side (half t e (top ∷ rest)) other) → Verdict M side i.us.lo inner (rank i.them.spans) (kind other.at.tree)
       (compare S side top other.at)
-  top-verdict side {top = top} i =
-      let p : Top side (aim M side).line i.us.lo top = top-located i.us.stacked in
-      rw (p.ranked, p.isInner) at (verdict M side p.place (located i.them) (omega (arith, p.ranked, spans-some i.us.spans, i.us.bounded))
-      (omega (arith, rank-before i.them.spans, i.them.bounded)))
+  top_verdict side {top = top} i =
+      let p : Top side (aim M side).line i.us.lo top = top_located i.us.stacked in
+      rw (p.ranked, p.is_inner) at (verdict M side p.place (located i.them) (omega (arith, p.ranked, spans_some i.us.spans, i.us.bounded))
+      (omega (arith, rank_before i.them.spans, i.them.bounded)))
 
-  recede-by : (side : Side) (t : Tree S.Line) (e : Option S.Line) (stack : List (Place S.Line)) (other : Half S.Line)
-      (i : Sound M side (half t e stack) other) → (aim M side).star < rank i.us.spans → Better (potential i) (recedeBy S side stack t (half t e stack) other)
-  recede-by side t e [] other i below = only side i (retreat-moved (aim M side) i.us below) (omega (arith, bottom-lo i.us.stacked))
-  recede-by side (leaf x) e (top ∷ rest) other i below = popped side i (omega (arith, leaf-rank i.us.spans))
-  recede-by side (node l r) e (top ∷ rest) other i below = second-better side i below (compare S side top other.at) (top-verdict side i)
+  recede_by : (side : Side) (t : Tree S.Line) (e : Option S.Line) (stack : List (Place S.Line)) (other : Half S.Line)
+      (i : Sound M side (half t e stack) other) → (aim M side).star < rank i.us.spans → Better (potential i) (recede_by S side stack t (half t e stack) other)
+  recede_by side t e [] other i below = only side i (retreat_moved (aim M side) i.us below) (omega (arith, bottom_lo i.us.stacked))
+  recede_by side (leaf x) e (top ∷ rest) other i below = popped side i (omega (arith, leaf_rank i.us.spans))
+  recede_by side (node l r) e (top ∷ rest) other i below = second_better side i below (compare S side top other.at) (top_verdict side i)
 
-  recede-better : (side : Side) {ours other : Half S.Line} (i : Sound M side ours other) → (aim M side).star < rank i.us.spans →
+  recede_better : (side : Side) {ours other : Half S.Line} (i : Sound M side ours other) → (aim M side).star < rank i.us.spans →
       Better (potential i) (recede S side ours other)
   unfolding recede
-  recede-better side {ours} {other} i below = recede-by side ours.at.tree ours.at.edge ours.stack other i below
+  recede_better side {ours} {other} i below = recede_by side ours.at.tree ours.at.edge ours.stack other i below
 
   -- ---- case 3, and the step
 
@@ -117,64 +117,64 @@ module _ {S : Figure} (M : Meeting S) where
     pub line : p.tree ≡ leaf ((aim M side).line (aim M side).star)
     pub edge : p.edge ≡ edge_of (aim M side).line (aim M side).star
 
-  found-by : (side : Side) {x : S.Line} {e : Option S.Line} {lo hi : ℕ} → Spans side (aim M side).line lo (leaf x) hi →
+  found_by : (side : Side) {x : S.Line} {e : Option S.Line} {lo hi : ℕ} → Spans side (aim M side).line lo (leaf x) hi →
       e ≡ edge_of (aim M side).line lo → lo ≡ (aim M side).star → Found side (record { tree = leaf x; edge = e })
-  found-by side (one p) q r = record { line = ap leaf (p ∙ ap (aim M side).line r); edge = q ∙ ap (edge_of (aim M side).line) r }
+  found_by side (one p) q r = record { line = ap leaf (p ∙ ap (aim M side).line r); edge = q ∙ ap (edge_of (aim M side).line) r }
 
   -- what a step does: it ends at the bridge, or less is left to pay
   abbrev pub Stepped : {u v : Half S.Line} → Sound M left u v → Option (State S.Line) → Type 0
   Stepped {u} {v} i none = Found left u.at × Found right v.at
   Stepped i (some s) = Better (potential i) s
 
-  apart-step : (t t' : Tree S.Line) (e e' : Option S.Line) (st st' : List (Place S.Line)) (i : Sound M left (half t e st) (half t' e' st')) →
+  apart_step : (t t' : Tree S.Line) (e e' : Option S.Line) (st st' : List (Place S.Line)) (i : Sound M left (half t e st) (half t' e' st')) →
       Apart M left (rank i.us.spans) (kind t) (rank i.them.spans) (kind t') →
-      Stepped i (advanceUnless S (isLeaf t && isLeaf t') (record { u = half t e st; v = half t' e' st' }))
-  apart-step (leaf x) (leaf y) e e' st st' i v =
-      let p : i.us.lo ≡ (aim M left).star = ⊎_elim (λ z. omega (arith, leaf-rank i.us.spans, leaf-hi i.us.spans)) (λ z. absurd z.0)
+      Stepped i (advance_unless S (is_leaf t && is_leaf t') (record { u = half t e st; v = half t' e' st' }))
+  apart_step (leaf x) (leaf y) e e' st st' i v =
+      let p : i.us.lo ≡ (aim M left).star = ⊎_elim (λ z. omega (arith, leaf_rank i.us.spans, leaf_hi i.us.spans)) (λ z. absurd z.0)
       (short left (leaf y) i.them.spans i.them.covers v) in
-      let q : rank i.us.spans ≡ (aim M left).star = leaf-rank i.us.spans ∙ p in (
-        found-by left i.us.spans i.us.edged p,
-        found-by right i.them.spans i.them.edged
-            (omega (arith, v.found refl q, leaf-rank i.them.spans, leaf-hi i.them.spans)),
+      let q : rank i.us.spans ≡ (aim M left).star = leaf_rank i.us.spans ∙ p in (
+        found_by left i.us.spans i.us.edged p,
+        found_by right i.them.spans i.them.edged
+            (omega (arith, v.found refl q, leaf_rank i.them.spans, leaf_hi i.them.spans)),
       )
-  apart-step (leaf x) (node l r) e e' st st' i v =
-      both left i (advance-moved (aim M left) i.us) (advance-moved (aim M right) i.them)
-      (⊎_elim (λ z. inr (tt, v.found refl (omega (arith, leaf-rank i.us.spans, leaf-hi i.us.spans)))) (λ z. inr z)
+  apart_step (leaf x) (node l r) e e' st st' i v =
+      both left i (advance_moved (aim M left) i.us) (advance_moved (aim M right) i.them)
+      (⊎_elim (λ z. inr (tt, v.found refl (omega (arith, leaf_rank i.us.spans, leaf_hi i.us.spans)))) (λ z. inr z)
       (short left (node l r) i.them.spans i.them.covers v)) (omega arith)
-  apart-step (node l r) t' e e' st st' i v = both left i (advance-moved (aim M left) i.us) (advance-moved (aim M right) i.them)
+  apart_step (node l r) t' e e' st st' i v = both left i (advance_moved (aim M left) i.us) (advance_moved (aim M right) i.them)
       (⊎_elim (λ z. inl (tt, z)) (λ z. inr z) (short left t' i.them.spans i.them.covers v)) (omega arith)
 
-  step_by : (s : State S.Line) (i : Sound M left s.u s.v) (c : Case) →
-      Verdict M left (rank i.us.spans) (kind s.u.at.tree) (rank i.them.spans) (kind s.v.at.tree) c → Stepped i (stepBy S c s)
-  step_by s i mine v = recede-better left i v
-  step_by s i theirs v =
+  step_by_lem : (s : State S.Line) (i : Sound M left s.u s.v) (c : Case) →
+      Verdict M left (rank i.us.spans) (kind s.u.at.tree) (rank i.them.spans) (kind s.v.at.tree) c → Stepped i (step_by S c s)
+  step_by_lem s i mine v = recede_better left i v
+  step_by_lem s i theirs v =
       let j : Sound M right s.v s.u = record { us = i.them; them = i.us; held = ⊎_swap i.held } in
-      let (b, h) = recede-better right j v in
-      (b, omega (arith, same-potential i j refl refl))
-  step_by s i neither v = apart-step s.u.at.tree s.v.at.tree s.u.at.edge s.v.at.edge s.u.stack s.v.stack i v
+      let (b, h) = recede_better right j v in
+      (b, omega (arith, same_potential i j refl refl))
+  step_by_lem s i neither v = apart_step s.u.at.tree s.v.at.tree s.u.at.edge s.v.at.edge s.u.stack s.v.stack i v
 
-  pub step-sound : (s : State S.Line) (i : Sound M left s.u s.v) → Stepped i (step S s)
+  pub step_sound : (s : State S.Line) (i : Sound M left s.u s.v) → Stepped i (step S s)
   unfolding step
-  step-sound s i = step_by s i (compare S left s.u.at s.v.at)
-      (verdict M left (located i.us) (located i.them) (omega (arith, rank-before i.us.spans, i.us.bounded))
-      (omega (arith, rank-before i.them.spans, i.them.bounded)))
+  step_sound s i = step_by_lem s i (compare S left s.u.at s.v.at)
+      (verdict M left (located i.us) (located i.them) (omega (arith, rank_before i.us.spans, i.us.bounded))
+      (omega (arith, rank_before i.them.spans, i.them.bounded)))
 
   -- ---- the run
 
   pub record Finds (limit : ℕ) (r : Result S.Line) : Type 0 where
     pub finished : r.finished ≡ true
-    pub foundLeft : Found left r.u
-    pub foundRight : Found right r.v
+    pub found_left : Found left r.u
+    pub found_right : Found right r.v
     pub steps : r.steps ≤ limit
 
-  pub run-finds : (n : ℕ) (s : State S.Line) (i : Sound M left s.u s.v) → potential i < n → Finds (suc (potential i)) (run S n s)
+  pub run_finds : (n : ℕ) (s : State S.Line) (i : Sound M left s.u s.v) → potential i < n → Finds (suc (potential i)) (run S n s)
   unfolding run ended counted
-  run-finds zero s i h = absurd (omega arith)
-  run-finds (suc n) s i h = go (λ s' j. run-finds n s' j) (step S s) (step-sound s i)
+  run_finds zero s i h = absurd (omega arith)
+  run_finds (suc n) s i h = go (λ s' j. run_finds n s' j) (step S s) (step_sound s i)
     where
       go : ((s' : State S.Line) (j : Sound M left s'.u s'.v) → potential j < n → Finds (suc (potential j)) (run S n s')) →
           (o : Option (State S.Line)) → Stepped i o → Finds (suc (potential i)) (elim o [ none ↦ ended true s 1 | some s' ↦ counted (run S n s') ])
-      go again none w = record { finished = refl; foundLeft = w.0; foundRight = w.1; steps = omega arith }
+      go again none w = record { finished = refl; found_left = w.0; found_right = w.1; steps = omega arith }
       go again (some s') (j, less) =
           let r = again s' j (omega arith) in
-          record { finished = r.finished; foundLeft = r.foundLeft; foundRight = r.foundRight; steps = omega (arith, r.steps) }
+          record { finished = r.finished; found_left = r.found_left; found_right = r.found_right; steps = omega (arith, r.steps) }

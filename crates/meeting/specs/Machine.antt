@@ -34,9 +34,9 @@ module _ {A : Type 0} where
   farthest left t = first t
   farthest right t = last t
 
-  abbrev pub isLeaf : Tree A → Bool
-  isLeaf (leaf a) = true
-  isLeaf (node l r) = false
+  abbrev pub is_leaf : Tree A → Bool
+  is_leaf (leaf a) = true
+  is_leaf (node l r) = false
 
 -- A node of a tree: its subtree, and the line that comes just before the subtree's lines, counted from the outer end. The first has none.
 pub record Place (A : Type 0) : Type 0 where
@@ -57,40 +57,40 @@ module _ {A : Type 0} where
   end_of none a = none
   end_of (some o) a = some (record { outer = o; inner = a })
 
-  abbrev pub pointAt : Side → Tree A → Option A → Option (Crossing A)
-  pointAt side (leaf a) e = end_of e a
-  pointAt side (node l r) e = some (record { outer = nearest side (away side l r); inner = farthest side (toward side l r) })
+  abbrev pub point_at : Side → Tree A → Option A → Option (Crossing A)
+  point_at side (leaf a) e = end_of e a
+  point_at side (node l r) e = some (record { outer = nearest side (away side l r); inner = farthest side (toward side l r) })
 
   -- the children's places; a leaf stays
-  abbrev pub awayFrom : Side → Tree A → Option A → Place A
-  awayFrom side (leaf a) e = record { tree = leaf a; edge = e }
-  awayFrom side (node l r) e = record { tree = away side l r; edge = e }
+  abbrev pub away_from : Side → Tree A → Option A → Place A
+  away_from side (leaf a) e = record { tree = leaf a; edge = e }
+  away_from side (node l r) e = record { tree = away side l r; edge = e }
 
-  abbrev pub towardFrom : Side → Tree A → Option A → Place A
-  towardFrom side (leaf a) e = record { tree = leaf a; edge = e }
-  towardFrom side (node l r) e = record { tree = toward side l r; edge = some (nearest side (away side l r)) }
+  abbrev pub toward_from : Side → Tree A → Option A → Place A
+  toward_from side (leaf a) e = record { tree = leaf a; edge = e }
+  toward_from side (node l r) e = record { tree = toward side l r; edge = some (nearest side (away side l r)) }
 
 -- ---- the comparison
 
 module _ (S : Figure) where
   -- where the two lines cross: the one further left is the outer one on the left, the inner one on the right
-  abbrev pub crossingPoint : Side → Crossing S.Line → S.Point
-  crossingPoint left c = S.cross c.outer c.inner
-  crossingPoint right c = S.cross c.inner c.outer
+  abbrev pub crossing_point : Side → Crossing S.Line → S.Point
+  crossing_point left c = S.cross c.outer c.inner
+  crossing_point right c = S.cross c.inner c.outer
 
   -- at the point, the local envelope is at most the line: at an inner node it is the lesser of two lines
-  abbrev pub localAtMost : Tree S.Line → S.Line → S.Point → Bool
-  localAtMost (leaf a) b x = S.at_most a b x
-  localAtMost (node l r) b x = S.at_most (last l) b x || S.at_most (first r) b x
+  abbrev pub local_at_most : Tree S.Line → S.Line → S.Point → Bool
+  local_at_most (leaf a) b x = S.at_most a b x
+  local_at_most (node l r) b x = S.at_most (last l) b x || S.at_most (first r) b x
 
   -- the crossing is on or above the local envelope; a missing end lies below everything
-  abbrev pub crossingOnOrAbove : Side → Option (Crossing S.Line) → Tree S.Line → Bool
-  crossingOnOrAbove side none t = false
-  crossingOnOrAbove side (some c) t = localAtMost t c.outer (crossingPoint side c)
+  abbrev pub crossing_on_or_above : Side → Option (Crossing S.Line) → Tree S.Line → Bool
+  crossing_on_or_above side none t = false
+  crossing_on_or_above side (some c) t = local_at_most t c.outer (crossing_point side c)
 
   -- the first place's p is on or above the second place's local envelope
-  unfoldable pub onOrAbove : Side → Place S.Line → Place S.Line → Bool
-  onOrAbove side p q = crossingOnOrAbove side (pointAt side p.tree p.edge) q.tree
+  unfoldable pub on_or_above : Side → Place S.Line → Place S.Line → Bool
+  on_or_above side p q = crossing_on_or_above side (point_at side p.tree p.edge) q.tree
 
 -- Which of two is on or above the other; where both are, the first counts.
 pub data Case : Type 0 where
@@ -102,7 +102,7 @@ case_of false true = theirs
 case_of false false = neither
 
 unfoldable pub compare : (S : Figure) → Side → Place S.Line → Place S.Line → Case
-compare S side p q = case_of (onOrAbove S side p q) (onOrAbove S (opposite side) q p)
+compare S side p q = case_of (on_or_above S side p q) (on_or_above S (opposite side) q p)
 
 -- ---- the moves
 
@@ -129,17 +129,17 @@ module _ {A : Type 0} where
   unfoldable pub advance : Side → Half A → Half A
   advance side h =
       record {
-        at = towardFrom side h.at.tree h.at.edge;
+        at = toward_from side h.at.tree h.at.edge;
         stack = pushed h.at.tree h.at.edge h.stack;
       }
 
   -- an inner node goes away; a leaf stays
   unfoldable pub retreat : Side → Half A → Half A
-  retreat side h = record { at = awayFrom side h.at.tree h.at.edge; stack = h.stack }
+  retreat side h = record { at = away_from side h.at.tree h.at.edge; stack = h.stack }
 
   -- the top is popped; on to the popped node's away child
   unfoldable pub pop : Side → Place A → List (Place A) → Half A
-  pop side top rest = record { at = awayFrom side top.tree top.edge; stack = rest }
+  pop side top rest = record { at = away_from side top.tree top.edge; stack = rest }
 
 -- Case 1 on the left, and its mirror image, case 2, on the right: our point is on or above the other's local envelope.
 module _ (S : Figure) (side : Side) where
@@ -149,30 +149,30 @@ module _ (S : Figure) (side : Side) where
   second theirs ours other top rest = pair side (retreat side ours) (retreat (opposite side) other)
   second neither ours other top rest = pair side (retreat side ours) (advance (opposite side) other)
 
-  abbrev pub recedeBy : List (Place S.Line) → Tree S.Line → (ours other : Half S.Line) → State S.Line
-  recedeBy [] t ours other = pair side (retreat side ours) other
-  recedeBy (top ∷ rest) (leaf a) ours other = pair side (pop side top rest) other
-  recedeBy (top ∷ rest) (node l r) ours other = second (compare S side top other.at) ours other top rest
+  abbrev pub recede_by : List (Place S.Line) → Tree S.Line → (ours other : Half S.Line) → State S.Line
+  recede_by [] t ours other = pair side (retreat side ours) other
+  recede_by (top ∷ rest) (leaf a) ours other = pair side (pop side top rest) other
+  recede_by (top ∷ rest) (node l r) ours other = second (compare S side top other.at) ours other top rest
 
   unfoldable pub recede : (ours other : Half S.Line) → State S.Line
-  recede ours other = recedeBy ours.stack ours.at.tree ours other
+  recede ours other = recede_by ours.stack ours.at.tree ours other
 
 -- ---- the search
 
 module _ (S : Figure) where
   -- Case 3: finished where both are leaves, before any move.
-  abbrev pub advanceUnless : Bool → State S.Line → Option (State S.Line)
-  advanceUnless true s = none
-  advanceUnless false s = some (record { u = advance left s.u; v = advance right s.v })
+  abbrev pub advance_unless : Bool → State S.Line → Option (State S.Line)
+  advance_unless true s = none
+  advance_unless false s = some (record { u = advance left s.u; v = advance right s.v })
 
-  abbrev pub stepBy : Case → State S.Line → Option (State S.Line)
-  stepBy mine s = some (recede S left s.u s.v)
-  stepBy theirs s = some (recede S right s.v s.u)
-  stepBy neither s = advanceUnless (isLeaf s.u.at.tree && isLeaf s.v.at.tree) s
+  abbrev pub step_by : Case → State S.Line → Option (State S.Line)
+  step_by mine s = some (recede S left s.u s.v)
+  step_by theirs s = some (recede S right s.v s.u)
+  step_by neither s = advance_unless (is_leaf s.u.at.tree && is_leaf s.v.at.tree) s
 
   -- One step; none where the search is finished.
   unfoldable pub step : State S.Line → Option (State S.Line)
-  step s = stepBy (compare S left s.u.at s.v.at) s
+  step s = step_by (compare S left s.u.at s.v.at) s
 
 -- What a search returns: u, v and the steps, the last included. It is unfinished where the steps allowed did not suffice.
 pub record Result (A : Type 0) : Type 0 where

@@ -7,7 +7,7 @@ use Rattle.std.proofs.Math.Logic.{ite, if_neg}
 use Rattle.std.proofs.Math.Option.{Option, none}
 use Rattle.trees.specs.Tree.{Tree, leaf, node, height}
 use Rattle.meeting.specs.Machine.{Side, away, toward, Place, Half, advance, retreat, pop}
-use Rattle.meeting.specs.Located.{Spans, one, two, edge_of, Stacked, bottom, on, rank, spans-some, height-away, height-toward, nearest-edge, Aim, Stands}
+use Rattle.meeting.specs.Located.{Spans, one, two, edge_of, Stacked, bottom, on, rank, spans_some, height_away, height_toward, nearest_edge, Aim, Stands}
 
 module _ {A : Type 0} {side : Side} {a : ℕ → A} {H : ℕ} where
   -- for a line below the stacked nodes
@@ -32,24 +32,24 @@ pub record Moved {A : Type 0} {side : Side} {g : Aim A} {h : Half A} (s : Stands
   pub depth : length h'.stack + pops ≤ length h.stack + pushes
 
 -- a choice between numbers is monotone, and strictly so where it is made
-ite-le : {P : Type 0} (d : Dec P) (m n m' n' : ℕ) → m ≤ m' → n ≤ n' → ite d m n ≤ ite d m' n'
-ite-le (yes p) m n m' n' h k = h
-ite-le (no p) m n m' n' h k = k
+ite_le : {P : Type 0} (d : Dec P) (m n m' n' : ℕ) → m ≤ m' → n ≤ n' → ite d m n ≤ ite d m' n'
+ite_le (yes p) m n m' n' h k = h
+ite_le (no p) m n m' n' h k = k
 
-ite-lt : {P : Type 0} (d : Dec P) (m n m' n' : ℕ) → P → m < m' → ite d m n < ite d m' n'
-ite-lt (yes p) m n m' n' q h = h
-ite-lt (no p) m n m' n' q h = absurd (p q)
+ite_lt : {P : Type 0} (d : Dec P) (m n m' n' : ℕ) → P → m < m' → ite d m n < ite d m' n'
+ite_lt (yes p) m n m' n' q h = h
+ite_lt (no p) m n m' n' q h = absurd (p q)
 
 -- what a push does to a choice between the three subtrees that may hold the line
 deeper : {P Q : Type 0} (d : Dec P) (f : Dec Q) → (P → Q) → (ht ha hn o : ℕ) → ht < hn → ha < hn → ite d ht (ite f (suc ha) o) ≤ ite f hn o
 deeper (yes p) (yes q) i ht ha hn o h k = omega arith
 deeper (yes p) (no q) i ht ha hn o h k = absurd (q (i p))
-deeper (no p) f i ht ha hn o h k = ite-le f _ _ _ _ k (omega arith)
+deeper (no p) f i ht ha hn o h k = ite_le f _ _ _ _ k (omega arith)
 
-deeper-won : {P Q : Type 0} (d : Dec P) (f : Dec Q) → (P → Q) → (ht ha hn o : ℕ) → ht < hn → P → ite d ht (ite f (suc ha) o) < ite f hn o
-deeper-won (yes p) (yes q) i ht ha hn o h w = h
-deeper-won (yes p) (no q) i ht ha hn o h w = absurd (q (i p))
-deeper-won (no p) f i ht ha hn o h w = absurd (p w)
+deeper_won : {P Q : Type 0} (d : Dec P) (f : Dec Q) → (P → Q) → (ht ha hn o : ℕ) → ht < hn → P → ite d ht (ite f (suc ha) o) < ite f hn o
+deeper_won (yes p) (yes q) i ht ha hn o h w = h
+deeper_won (yes p) (no q) i ht ha hn o h w = absurd (q (i p))
+deeper_won (no p) f i ht ha hn o h w = absurd (p w)
 
 module _ {A : Type 0} where
   abbrev pub half : Tree A → Option A → List (Place A) → Half A
@@ -70,11 +70,11 @@ module _ {A : Type 0} where
       }
 
 module _ {A : Type 0} {side : Side} (g : Aim A) where
-  retreat-by : (t : Tree A) (e : Option A) (stack : List (Place A)) {lo hi : ℕ} (st : Stacked side g.line g.tall stack lo)
+  retreat_by : (t : Tree A) (e : Option A) (stack : List (Place A)) {lo hi : ℕ} (st : Stacked side g.line g.tall stack lo)
       (p : Spans side g.line lo t hi) (q : e ≡ edge_of g.line lo) (b : length stack + height t ≤ g.tall) (c : hi ≤ g.count) (d : g.star < hi) →
       g.star < rank p → Moved (standing g t e stack st p q b c d) 0 0 (lo ≤ g.star) (retreat side (half t e stack))
   unfolding retreat owes
-  retreat-by t e stack st (one z) q b c d below =
+  retreat_by t e stack st (one z) q b c d below =
       record {
         after = standing g t e stack st (one z) q b c d;
         no_more = omega arith;
@@ -82,22 +82,22 @@ module _ {A : Type 0} {side : Side} (g : Aim A) where
         inside = λ w. w;
         depth = omega arith;
       }
-  retreat-by t e stack {lo} st (two {mid = mid} {l = l} {r = r} s s') q b c d below =
-      let shorter : height (away side l r) < height (node l r) = height-away side l r in
+  retreat_by t e stack {lo} st (two {mid = mid} {l = l} {r = r} s s') q b c d below =
+      let shorter : height (away side l r) < height (node l r) = height_away side l r in
       let h : height (away side l r) ≤ height (node l r) = omega arith in
       record {
-        after = standing g (away side l r) e stack st s q (omega arith) (omega (arith, spans-some s')) below;
-        no_more = ite-le (dec_le lo g.star) _ _ _ _ h (omega arith);
-        less = λ w. ite-lt (dec_le lo g.star) _ _ _ _ w shorter;
+        after = standing g (away side l r) e stack st s q (omega arith) (omega (arith, spans_some s')) below;
+        no_more = ite_le (dec_le lo g.star) _ _ _ _ h (omega arith);
+        less = λ w. ite_lt (dec_le lo g.star) _ _ _ _ w shorter;
         inside = λ w. w;
         depth = omega arith;
       }
 
-  advance-by : (t : Tree A) (e : Option A) (stack : List (Place A)) {lo hi : ℕ} (st : Stacked side g.line g.tall stack lo)
+  advance_by : (t : Tree A) (e : Option A) (stack : List (Place A)) {lo hi : ℕ} (st : Stacked side g.line g.tall stack lo)
       (p : Spans side g.line lo t hi) (q : e ≡ edge_of g.line lo) (b : length stack + height t ≤ g.tall) (c : hi ≤ g.count) (d : g.star < hi) →
       Moved (standing g t e stack st p q b c d) 0 1 (Inner t × (rank p ≤ g.star)) (advance side (half t e stack))
   unfolding advance owes
-  advance-by t e stack st (one z) q b c d =
+  advance_by t e stack st (one z) q b c d =
       record {
         after = standing g t e stack st (one z) q b c d;
         no_more = omega arith;
@@ -105,48 +105,48 @@ module _ {A : Type 0} {side : Side} (g : Aim A) where
         inside = λ w. absurd w.0;
         depth = omega arith;
       }
-  advance-by t e stack {lo} st (two {mid = mid} {l = l} {r = r} s s') q b c d =
-      let k : height (away side l r) < height (node l r) = height-away side l r in
-      let h : height (toward side l r) < height (node l r) = height-toward side l r in
-      let before : mid ≤ g.star → lo ≤ g.star = λ w. omega (arith, spans-some s) in
+  advance_by t e stack {lo} st (two {mid = mid} {l = l} {r = r} s s') q b c d =
+      let k : height (away side l r) < height (node l r) = height_away side l r in
+      let h : height (toward side l r) < height (node l r) = height_toward side l r in
+      let before : mid ≤ g.star → lo ≤ g.star = λ w. omega (arith, spans_some s) in
       record {
-        after = standing g (toward side l r) _ _ (on st s s' q b) s' (nearest-edge s) (omega arith) c d;
+        after = standing g (toward side l r) _ _ (on st s s' q b) s' (nearest_edge s) (omega arith) c d;
         no_more = deeper (dec_le mid g.star) (dec_le lo g.star) before (height (toward side l r)) (height (away side l r)) (height (node l r))
             (owed g.star st) h k;
-        less = λ w. deeper-won (dec_le mid g.star) (dec_le lo g.star) before (height (toward side l r)) (height (away side l r)) (height (node l r))
+        less = λ w. deeper_won (dec_le mid g.star) (dec_le lo g.star) before (height (toward side l r)) (height (away side l r)) (height (node l r))
             (owed g.star st) h w.1;
         inside = λ w. w.1;
         depth = omega arith;
       }
 
   -- the popped node's away child owes one edge less than the stack did for it
-  pop-by : (t : Tree A) (e : Option A) (top : Place A) (rest : List (Place A)) {lo hi : ℕ} (st : Stacked side g.line g.tall (top ∷ rest) lo)
+  pop_by : (t : Tree A) (e : Option A) (top : Place A) (rest : List (Place A)) {lo hi : ℕ} (st : Stacked side g.line g.tall (top ∷ rest) lo)
       (p : Spans side g.line lo t hi) (q : e ≡ edge_of g.line lo) (b : length (top ∷ rest) + height t ≤ g.tall) (c : hi ≤ g.count) (d : g.star < hi)
       → g.star < lo → Moved (standing g t e (top ∷ rest) st p q b c d) 1 0 ⊥ (pop side top rest)
   unfolding pop owes
-  pop-by t e top rest (on {lo = from} {mid = mid} {l = l} {r = r} st s s' z y) p q b c d below =
+  pop_by t e top rest (on {lo = from} {mid = mid} {l = l} {r = r} st s s' z y) p q b c d below =
       record {
-        after = standing g (away side l r) _ rest st s z (omega (arith, height-away side l r)) (omega (arith, spans-some p)) below;
-        no_more = rw (if_neg (dec_le mid g.star) (omega arith)) (ite-le (dec_le from g.star) _ _ _ _ (omega arith) (omega arith));
+        after = standing g (away side l r) _ rest st s z (omega (arith, height_away side l r)) (omega (arith, spans_some p)) below;
+        no_more = rw (if_neg (dec_le mid g.star) (omega arith)) (ite_le (dec_le from g.star) _ _ _ _ (omega arith) (omega arith));
         less = λ w. absurd w;
         inside = λ w. absurd w;
         depth = omega arith;
       }
 
-  pub retreat-moved : {h : Half A} (s : Stands side g h) → g.star < rank s.spans → Moved s 0 0 (s.lo ≤ g.star) (retreat side h)
-  retreat-moved {h} s below = retreat-by h.at.tree h.at.edge h.stack s.stacked s.spans s.edged s.shallow s.bounded s.covers below
+  pub retreat_moved : {h : Half A} (s : Stands side g h) → g.star < rank s.spans → Moved s 0 0 (s.lo ≤ g.star) (retreat side h)
+  retreat_moved {h} s below = retreat_by h.at.tree h.at.edge h.stack s.stacked s.spans s.edged s.shallow s.bounded s.covers below
 
-  pub advance-moved : {h : Half A} (s : Stands side g h) → Moved s 0 1 (Inner h.at.tree × (rank s.spans ≤ g.star)) (advance side h)
-  advance-moved {h} s = advance-by h.at.tree h.at.edge h.stack s.stacked s.spans s.edged s.shallow s.bounded s.covers
+  pub advance_moved : {h : Half A} (s : Stands side g h) → Moved s 0 1 (Inner h.at.tree × (rank s.spans ≤ g.star)) (advance side h)
+  advance_moved {h} s = advance_by h.at.tree h.at.edge h.stack s.stacked s.spans s.edged s.shallow s.bounded s.covers
 
-  pub pop-moved : {t : Tree A} {e : Option A} {top : Place A} {rest : List (Place A)} (s : Stands side g (half t e (top ∷ rest))) → g.star < s.lo →
+  pub pop_moved : {t : Tree A} {e : Option A} {top : Place A} {rest : List (Place A)} (s : Stands side g (half t e (top ∷ rest))) → g.star < s.lo →
       Moved s 1 0 ⊥ (pop side top rest)
-  pop-moved {t} {e} {top} {rest} s below = pop-by t e top rest s.stacked s.spans s.edged s.shallow s.bounded s.covers below
+  pop_moved {t} {e} {top} {rest} s below = pop_by t e top rest s.stacked s.spans s.edged s.shallow s.bounded s.covers below
 
 -- At the root all that is owed is the tree's height.
-pub owes-root : {A : Type 0} {side : Side} {g : Aim A} {t : Tree A} (s : Stands side g (half t none [])) → owes s ≤ height t
+pub owes_root : {A : Type 0} {side : Side} {g : Aim A} {t : Tree A} (s : Stands side g (half t none [])) → owes s ≤ height t
 unfolding owes
-owes-root {A = A} {g = g} {t = t} s = go s.stacked (dec_le s.lo g.star)
+owes_root {A = A} {g = g} {t = t} s = go s.stacked (dec_le s.lo g.star)
   where
     go : {P : Type 0} {side : Side} {a : ℕ → A} {H lo : ℕ} (st : Stacked side a H [] lo) (d : Dec P) → ite d (height t) (owed g.star st) ≤ height t
     go bottom (yes p) = omega arith

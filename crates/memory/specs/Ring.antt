@@ -4,7 +4,7 @@ use Rattle.std.specs.Int.{w64}
 use Rattle.std.proofs.Common.{SFits}
 use Rattle.plain.specs.Book.{Undo, unpost, restore, remember}
 use Rattle.table.specs.Words.{Words, word}
-use Rattle.table.specs.Layout.{cap, partEnd}
+use Rattle.table.specs.Layout.{cap, part_end}
 use Rattle.form.specs.Memory.{Ring, posted, withdrawn}
 use Rattle.form.specs.Local.{AlikeOffers}
 use Rattle.memory.specs.declared.Entry.{Entry}
@@ -27,12 +27,12 @@ pub record LastOf (w : Words) (e : Entry) : Type 0 where
 -- only the memory's words are written, whatever the words are
 pub record OnlyMemory (w w' : Words) : Type 0 where
   pub offers : AlikeOffers (cap w) w w'
-  pub beyond : (i : ℕ) → partEnd (cap w) ≤ i → word w' i ≡ word w i
+  pub beyond : (i : ℕ) → part_end (cap w) ≤ i → word w' i ≡ word w i
 
 -- what an entry with these words undoes
 pub data Entered : Undo → ℕ → ℤ → ℤ → ℤ → Type 0 where
-  of-post : {n r b : ℤ} → Entered (unpost n) posted n r b
-  of-withdrawal : {n r b : ℤ} → Entered (restore (record { number = n; rate = r; base = b })) withdrawn n r b
+  of_post : {n r b : ℤ} → Entered (unpost n) posted n r b
+  of_withdrawal : {n r b : ℤ} → Entered (restore (record { number = n; rate = r; base = b })) withdrawn n r b
 
 pub record Emptying (w w' : Words) : Type 0 where
   pub only : OnlyMemory w w'

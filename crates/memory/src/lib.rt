@@ -1,6 +1,6 @@
 // The memory of a part: a ring of 256 entries behind the slots, each of them four words that tell how to take one update back.
 ghost use Rattle.std.specs.Prelude.{◌≡◌, ◌+◌, ◌-◌, ◌≤◌, min};
-ghost use Rattle.plain.specs.Book.{mostRemembered};
+ghost use Rattle.plain.specs.Book.{most_remembered};
 ghost use Rattle.form.specs.Memory.{entry_at, earlier};
 ghost use Rattle.memory.specs.Ring.{LastOf, Emptying, Remembering, Forgetting};
 ghost use Rattle.memory.specs.Entries.{Behind};
@@ -64,8 +64,8 @@ fn behind(i: u32) -> u32
 
 // A count with one entry more, but no more than the ring has places.
 fn one_more(n: u32) -> u32
-    requires { n ≤ mostRemembered }
-    ensures { result ≡ min mostRemembered (n + 1) }
+    requires { n ≤ most_remembered }
+    ensures { result ≡ min most_remembered (n + 1) }
 {
     if n < ENTRIES {
         return n + 1;

@@ -3,12 +3,12 @@
 use Rattle.std.specs.Prelude.{◌≡◌, Bool, not, ℕ, suc, ◌+◌, ◌<◌, max, pos}
 use Rattle.std.proofs.Common.{sym, ◌∙◌, ap, subst, arith}
 use Rattle.trees.specs.Tree.{Tree}
-use Rattle.table.specs.Fields.{mostSlots}
+use Rattle.table.specs.Fields.{most_slots}
 use Rattle.table.specs.Words.{Words}
-use Rattle.table.specs.Layout.{cap-most, cset}
+use Rattle.table.specs.Layout.{cap_most, cset}
 use Rattle.table.specs.Items.{Item}
-use Rattle.table.specs.Rep.{childField, heightField, heightAt, nodeOn, seam, Within, within-refl}
-use Rattle.table.specs.Nodes.{Pair, Made, wired, wired-within, made-node, seam-in}
+use Rattle.table.specs.Rep.{child_field, height_field, height_at, node_on, seam, Within, within_refl}
+use Rattle.table.specs.Nodes.{Pair, Made, wired, wired_within, made_node, seam_in}
 
 pub record Joined (shape : Tree Item → Tree Item → Tree Item) (k : ℕ) (side : Bool) (gap p q : ℕ) (w w' : Words) (x : ℕ) : Type 0 where
   pub within : Within w w'
@@ -16,31 +16,31 @@ pub record Joined (shape : Tree Item → Tree Item → Tree Item) (k : ℕ) (sid
 
 -- the same for a node of a given height, where it is the height of one over the two
 pub record Raised (k : ℕ) (side : Bool) (gap p q h : ℕ) (w w' : Words) (x : ℕ) : Type 0 where
-  pub joined : h ≡ suc (max (heightAt w k p) (heightAt w k q)) → Joined (nodeOn side) k side gap p q w w' x
+  pub joined : h ≡ suc (max (height_at w k p) (height_at w k q)) → Joined (node_on side) k side gap p q w w' x
 
 -- by the two heights as read
-pub raised : {k gap p q h hp hq x : ℕ} {side : Bool} {w w' : Words} → hp ≡ heightAt w k p → hq ≡ heightAt w k q → h ≡ suc (max hp hq) →
-    Raised k side gap p q h w w' x → Joined (nodeOn side) k side gap p q w w' x
+pub raised : {k gap p q h hp hq x : ℕ} {side : Bool} {w w' : Words} → hp ≡ height_at w k p → hq ≡ height_at w k q → h ≡ suc (max hp hq) →
+    Raised k side gap p q h w w' x → Joined (node_on side) k side gap p q w w' x
 raised ep eq e r = r.joined (omega (arith, ep, eq, e))
 
 -- ---- a node
 
 -- a slot that no part has
-pub no_gap : {shape : Tree Item → Tree Item → Tree Item} {k : ℕ} {side : Bool} {gap p q : ℕ} {w : Words} {x : ℕ} → mostSlots < gap →
+pub no_gap : {shape : Tree Item → Tree Item → Tree Item} {k : ℕ} {side : Bool} {gap p q : ℕ} {w : Words} {x : ℕ} → most_slots < gap →
     Joined shape k side gap p q w w x
 no_gap {side} {w} h =
-    record { within = within-refl w; made = λ tp tq pair e. absurd (omega (arith, h, e, pair.slots.high (seam-in side tp tq), cap-most w)) }
+    record { within = within_refl w; made = λ tp tq pair e. absurd (omega (arith, h, e, pair.slots.high (seam_in side tp tq), cap_most w)) }
 
-pub joined-node : {k gap p q h f₁ f₂ f₃ : ℕ} {side : Bool} {w w₁ w₂ w₃ : Words}
-    → h ≡ suc (max (heightAt w k p) (heightAt w k q)) → f₁ ≡ childField k side → w₁ ≡ cset w f₁ gap (pos p)
-    → f₂ ≡ childField k (not side) → w₂ ≡ cset w₁ f₂ gap (pos q) → f₃ ≡ heightField k → w₃ ≡ cset w₂ f₃ gap (pos h)
-    → Joined (nodeOn side) k side gap p q w w₃ (mostSlots + gap)
-joined-node {k} {gap} {p} {q} {h} {side} {w} {w₁} {w₂} {w₃} e d₁ e₁ d₂ e₂ d₃ e₃ =
-    subst (λ v. Joined (nodeOn side) k side gap p q w v (mostSlots + gap)) (sym all)
-    (record { within = wired-within w k side gap p q h; made = λ tp tq pair d. made-node pair gap h d e })
+pub joined_node : {k gap p q h f₁ f₂ f₃ : ℕ} {side : Bool} {w w₁ w₂ w₃ : Words}
+    → h ≡ suc (max (height_at w k p) (height_at w k q)) → f₁ ≡ child_field k side → w₁ ≡ cset w f₁ gap (pos p)
+    → f₂ ≡ child_field k (not side) → w₂ ≡ cset w₁ f₂ gap (pos q) → f₃ ≡ height_field k → w₃ ≡ cset w₂ f₃ gap (pos h)
+    → Joined (node_on side) k side gap p q w w₃ (most_slots + gap)
+joined_node {k} {gap} {p} {q} {h} {side} {w} {w₁} {w₂} {w₃} e d₁ e₁ d₂ e₂ d₃ e₃ =
+    subst (λ v. Joined (node_on side) k side gap p q w v (most_slots + gap)) (sym all)
+    (record { within = wired_within w k side gap p q h; made = λ tp tq pair d. made_node pair gap h d e })
   where
     all : w₃ ≡ wired w k side gap p q h
     all =
         e₃ ∙ ap (λ f. cset w₂ f gap (pos h)) d₃
-        ∙ ap (λ v. cset v (heightField k) gap (pos h))
-        (e₂ ∙ ap (λ f. cset w₁ f gap (pos q)) d₂ ∙ ap (λ v. cset v (childField k (not side)) gap (pos q)) (e₁ ∙ ap (λ f. cset w f gap (pos p)) d₁))
+        ∙ ap (λ v. cset v (height_field k) gap (pos h))
+        (e₂ ∙ ap (λ f. cset w₁ f gap (pos q)) d₂ ∙ ap (λ v. cset v (child_field k (not side)) gap (pos q)) (e₁ ∙ ap (λ f. cset w f gap (pos p)) d₁))

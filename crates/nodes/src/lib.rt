@@ -1,7 +1,7 @@
 // One node over two trees of the table.
 ghost use Rattle.std.specs.Prelude.{◌≡◌};
 ghost use Rattle.table.specs.Layout.{cap};
-ghost use Rattle.table.specs.Rep.{nodeOn};
+ghost use Rattle.table.specs.Rep.{node_on};
 ghost use Rattle.nodes.specs.Joining.{Joined, Raised};
 
 // One node of height `h` over two trees side by side, `p` on a side and `q` on the other, kept in the slot `gap` of the seam. `c` is the
@@ -39,7 +39,7 @@ pub fn set_node(
 // The same, by the heights of the two.
 pub fn make_node_in(part: &mut [i64], c: u32, tree: u8, side: bool, gap: u32, p: u32, q: u32) -> u32
     requires { c ≡ cap part.old }
-    ensures { Joined (nodeOn side) tree side gap p q part.old part.new result }
+    ensures { Joined (node_on side) tree side gap p q part.old part.new result }
 {
     let hp = table::height_in(part, c, tree, p);
     let hq = table::height_in(part, c, tree, q);
@@ -47,7 +47,7 @@ pub fn make_node_in(part: &mut [i64], c: u32, tree: u8, side: bool, gap: u32, p:
 }
 
 pub fn make_node(part: &mut [i64], tree: u8, side: bool, gap: u32, p: u32, q: u32) -> u32
-    ensures { Joined (nodeOn side) tree side gap p q part.old part.new result }
+    ensures { Joined (node_on side) tree side gap p q part.old part.new result }
 {
     let c = table::capacity(part);
     make_node_in(part, c, tree, side, gap, p, q)

@@ -8,37 +8,37 @@ use Rattle.offers.specs.Offers.{between}
 unfoldable pub bounded : ℤ → ℤ → ℤ → ℤ
 bounded low high z = cond (between low high z) z (pos 0)
 
-pub bounded-in : (low high z : ℤ) → T (between low high z) → bounded low high z ≡ z
+pub bounded_in : (low high z : ℤ) → T (between low high z) → bounded low high z ≡ z
 unfolding bounded
-bounded-in low high z t = go (between low high z) t
+bounded_in low high z t = go (between low high z) t
   where
     go : (b : Bool) → T b → cond b z (pos 0) ≡ z
     go true t = refl
     go false t = absurd t
 
-pub bounded-ranged : (low high z : ℤ) → T (between low high (pos 0)) → T (between low high (bounded low high z))
+pub bounded_ranged : (low high z : ℤ) → T (between low high (pos 0)) → T (between low high (bounded low high z))
 unfolding bounded
-bounded-ranged low high z t = go (between low high z) (λ h. h)
+bounded_ranged low high z t = go (between low high z) (λ h. h)
   where
     go : (b : Bool) → (T b → T (between low high z)) → T (between low high (cond b z (pos 0)))
     go true f = f tt
     go false f = t
 
 -- by the code's two tests
-pub bounded-below : (low high z : ℤ) → lt_z z low ≡ true → pos 0 ≡ bounded low high z
+pub bounded_below : (low high z : ℤ) → lt_z z low ≡ true → pos 0 ≡ bounded low high z
 unfolding bounded
-bounded-below low high z t = let e : le_z low z ≡ false = omega (arith, intRules) in rw e
+bounded_below low high z t = let e : le_z low z ≡ false = omega (arith, intRules) in rw e
 
-pub bounded-over : (low high z : ℤ) → lt_z z low ≡ false → lt_z high z ≡ true → pos 0 ≡ bounded low high z
+pub bounded_over : (low high z : ℤ) → lt_z z low ≡ false → lt_z high z ≡ true → pos 0 ≡ bounded low high z
 unfolding bounded
-bounded-over low high z f t =
+bounded_over low high z f t =
     let d : le_z low z ≡ true = omega (arith, intRules) in
     let e : le_z z high ≡ false = omega (arith, intRules) in
     rw (d, e)
 
-pub bounded-inside : (low high z : ℤ) → lt_z z low ≡ false → lt_z high z ≡ false → z ≡ bounded low high z
+pub bounded_inside : (low high z : ℤ) → lt_z z low ≡ false → lt_z high z ≡ false → z ≡ bounded low high z
 unfolding bounded
-bounded-inside low high z f g =
+bounded_inside low high z f g =
     let d : le_z low z ≡ true = omega (arith, intRules) in
     let e : le_z z high ≡ true = omega (arith, intRules) in
     rw (d, e)

@@ -19,30 +19,30 @@ between low high z = le_z low z && le_z z high
 abbrev pub within : ℕ → ℤ → Bool
 within n z = between (neg_ℤ (pos n)) (pos n) z
 
-abbrev pub numberInRange : ℤ → Bool
-numberInRange z = between (pos 1) (pos 9_999) z
+abbrev pub number_in_range : ℤ → Bool
+number_in_range z = between (pos 1) (pos 9_999) z
 
-abbrev pub rateInRange : ℤ → Bool
-rateInRange z = within 100_000 z
+abbrev pub rate_in_range : ℤ → Bool
+rate_in_range z = within 100_000 z
 
-abbrev pub baseInRange : ℤ → Bool
-baseInRange z = within 1_000_000_000 z
+abbrev pub base_in_range : ℤ → Bool
+base_in_range z = within 1_000_000_000 z
 
 -- whole kilograms over or under the run's standard load
-abbrev pub loadInRange : ℤ → Bool
-loadInRange z = within 1_000_000 z
+abbrev pub load_in_range : ℤ → Bool
+load_in_range z = within 1_000_000 z
 
 -- the span of a voucher's price
-abbrev pub priceInRange : ℤ → Bool
-priceInRange z = within 101_000_000_000 z
+abbrev pub price_in_range : ℤ → Bool
+price_in_range z = within 101_000_000_000 z
 
-abbrev pub offerInRange : Offer → Bool
-offerInRange o = numberInRange o.number && rateInRange o.rate && baseInRange o.base
+abbrev pub offer_in_range : Offer → Bool
+offer_in_range o = number_in_range o.number && rate_in_range o.rate && base_in_range o.base
 
 -- ---- prices
 
-abbrev pub priceAt : Offer → ℤ → ℤ
-priceAt o q = o.base +ℤ o.rate *ℤ q
+abbrev pub price_at : Offer → ℤ → ℤ
+price_at o q = o.base +ℤ o.rate *ℤ q
 
 -- A rational load: N over D, whole numbers with D above 0. `above` is D − 1.
 pub record RationalLoad : Type 0 where
@@ -53,8 +53,8 @@ abbrev pub denominator : RationalLoad → ℤ
 denominator x = pos (suc x.above)
 
 -- The price at a rational load, times its D: prices at one load are compared so.
-abbrev pub priceTimesD : Offer → RationalLoad → ℤ
-priceTimesD o x = o.base *ℤ denominator x +ℤ o.rate *ℤ x.numerator
+abbrev pub price_times_d : Offer → RationalLoad → ℤ
+price_times_d o x = o.base *ℤ denominator x +ℤ o.rate *ℤ x.numerator
 
 -- ---- the order of offers, and crossings
 
@@ -69,8 +69,8 @@ ahead a b =
     || equal a.rate b.rate && (lt_z a.base b.base || equal a.base b.base && lt_z a.number b.number)
 
 -- The crossing of an offer with the next, unreduced.
-abbrev pub crossingNumerator : Offer → Offer → ℤ
-crossingNumerator own next = next.base -ℤ own.base
+abbrev pub crossing_numerator : Offer → Offer → ℤ
+crossing_numerator own next = next.base -ℤ own.base
 
-abbrev pub crossingDenominator : Offer → Offer → ℤ
-crossingDenominator own next = own.rate -ℤ next.rate
+abbrev pub crossing_denominator : Offer → Offer → ℤ
+crossing_denominator own next = own.rate -ℤ next.rate

@@ -3,12 +3,12 @@ use Rattle.std.proofs.Common.{arith, sym, ◌∙◌, ap, subst, inl, inr, ⊎_el
 use Rattle.std.specs.Prelude.{◌≡◌, refl, ◌⊎◌, ◌≢◌, Bool, true, false, not, ◌&&◌, ◌||◌, T, ℤ}
 use Rattle.std.specs.Int.Signed.{le_z, lt_z}
 use Rattle.integers.specs.Equal.{equal}
-use Rattle.integers.specs.Parts.{intRules, trichotomy, equal-eq}
+use Rattle.integers.specs.Parts.{intRules, trichotomy, equal_eq}
 use Rattle.offers.specs.Offers.{Offer, ahead, precedes}
 
 pub data Ahead (a b : Offer) : Type 0 where
-  by-rate : T (lt_z b.rate a.rate) → Ahead a b
-  by-base : a.rate ≡ b.rate → T (lt_z a.base b.base) → Ahead a b
+  by_rate_lem : T (lt_z b.rate a.rate) → Ahead a b
+  by_base : a.rate ≡ b.rate → T (lt_z a.base b.base) → Ahead a b
   by_number : a.rate ≡ b.rate → a.base ≡ b.base → T (lt_z a.number b.number) → Ahead a b
 
 -- ---- the test says so
@@ -18,84 +18,84 @@ lexical true q r s t h = inl tt
 lexical false true true s t h = inr (tt, inl tt)
 lexical false true false true t h = inr (tt, inr (tt, h))
 
-lexical-rate : (p q : Bool) → T p → T (p || q)
-lexical-rate true q h = tt
+lexical_rate : (p q : Bool) → T p → T (p || q)
+lexical_rate true q h = tt
 
-lexical-later : (p q r : Bool) → T q → T r → T (p || q && r)
-lexical-later true q r h k = tt
-lexical-later false true r h k = k
+lexical_later : (p q r : Bool) → T q → T r → T (p || q && r)
+lexical_later true q r h k = tt
+lexical_later false true r h k = k
 
-pub ahead-said : (a b : Offer) → T (ahead a b) → Ahead a b
-ahead-said a b t =
-    ⊎_elim by-rate
-    (λ s. ⊎_elim (λ k. by-base (equal-eq a.rate b.rate s.0) k)
-    (λ k. by_number (equal-eq a.rate b.rate s.0) (equal-eq a.base b.base k.0) k.1) s.1)
+pub ahead_said : (a b : Offer) → T (ahead a b) → Ahead a b
+ahead_said a b t =
+    ⊎_elim by_rate_lem
+    (λ s. ⊎_elim (λ k. by_base (equal_eq a.rate b.rate s.0) k)
+    (λ k. by_number (equal_eq a.rate b.rate s.0) (equal_eq a.base b.base k.0) k.1) s.1)
     (lexical (precedes a b) (equal a.rate b.rate) (lt_z a.base b.base) (equal a.base b.base) (lt_z a.number b.number) t)
 
-pub ahead-meant : (a b : Offer) → Ahead a b → T (ahead a b)
-ahead-meant a b (by-rate t) =
-    lexical-rate (precedes a b)
+pub ahead_meant : (a b : Offer) → Ahead a b → T (ahead a b)
+ahead_meant a b (by_rate_lem t) =
+    lexical_rate (precedes a b)
     (equal a.rate b.rate && (lt_z a.base b.base || equal a.base b.base && lt_z a.number b.number)) t
-ahead-meant a b (by-base e t) =
-    lexical-later (precedes a b) (equal a.rate b.rate) (lt_z a.base b.base || equal a.base b.base && lt_z a.number b.number)
-    (omega (arith, intRules)) (lexical-rate (lt_z a.base b.base) (equal a.base b.base && lt_z a.number b.number) t)
-ahead-meant a b (by_number e d t) =
-    lexical-later (precedes a b) (equal a.rate b.rate) (lt_z a.base b.base || equal a.base b.base && lt_z a.number b.number)
-    (omega (arith, intRules)) (lexical-later (lt_z a.base b.base) (equal a.base b.base) (lt_z a.number b.number) (omega (arith, intRules)) t)
+ahead_meant a b (by_base e t) =
+    lexical_later (precedes a b) (equal a.rate b.rate) (lt_z a.base b.base || equal a.base b.base && lt_z a.number b.number)
+    (omega (arith, intRules)) (lexical_rate (lt_z a.base b.base) (equal a.base b.base && lt_z a.number b.number) t)
+ahead_meant a b (by_number e d t) =
+    lexical_later (precedes a b) (equal a.rate b.rate) (lt_z a.base b.base || equal a.base b.base && lt_z a.number b.number)
+    (omega (arith, intRules)) (lexical_later (lt_z a.base b.base) (equal a.base b.base) (lt_z a.number b.number) (omega (arith, intRules)) t)
 
 -- ---- an order
 
-pub ahead-asym : {a b : Offer} → Ahead a b → Ahead b a → ⊥
-ahead-asym (by-rate t) (by-rate u) = omega (arith, intRules)
-ahead-asym (by-rate t) (by-base e u) = omega (arith, intRules)
-ahead-asym (by-rate t) (by_number e d u) = omega (arith, intRules)
-ahead-asym (by-base e t) (by-rate u) = omega (arith, intRules)
-ahead-asym (by-base e t) (by-base f u) = omega (arith, intRules)
-ahead-asym (by-base e t) (by_number f d u) = omega (arith, intRules)
-ahead-asym (by_number e d t) (by-rate u) = omega (arith, intRules)
-ahead-asym (by_number e d t) (by-base f u) = omega (arith, intRules)
-ahead-asym (by_number e d t) (by_number f g u) = omega (arith, intRules)
+pub ahead_asym : {a b : Offer} → Ahead a b → Ahead b a → ⊥
+ahead_asym (by_rate_lem t) (by_rate_lem u) = omega (arith, intRules)
+ahead_asym (by_rate_lem t) (by_base e u) = omega (arith, intRules)
+ahead_asym (by_rate_lem t) (by_number e d u) = omega (arith, intRules)
+ahead_asym (by_base e t) (by_rate_lem u) = omega (arith, intRules)
+ahead_asym (by_base e t) (by_base f u) = omega (arith, intRules)
+ahead_asym (by_base e t) (by_number f d u) = omega (arith, intRules)
+ahead_asym (by_number e d t) (by_rate_lem u) = omega (arith, intRules)
+ahead_asym (by_number e d t) (by_base f u) = omega (arith, intRules)
+ahead_asym (by_number e d t) (by_number f g u) = omega (arith, intRules)
 
 -- no offer stands ahead of itself
-pub ahead-other : {a b : Offer} → Ahead a b → a ≢ b
-ahead-other {a} {b} k e = ahead-asym k (subst (λ y. Ahead y a) e (subst (λ y. Ahead a y) (sym e) k))
+pub ahead_other : {a b : Offer} → Ahead a b → a ≢ b
+ahead_other {a} {b} k e = ahead_asym k (subst (λ y. Ahead y a) e (subst (λ y. Ahead a y) (sym e) k))
 
-pub ahead-trans : {a b c : Offer} → Ahead a b → Ahead b c → Ahead a c
-ahead-trans (by-rate t) (by-rate u) = by-rate (omega (arith, intRules))
-ahead-trans (by-rate t) (by-base e u) = by-rate (omega (arith, intRules))
-ahead-trans (by-rate t) (by_number e d u) = by-rate (omega (arith, intRules))
-ahead-trans (by-base e t) (by-rate u) = by-rate (omega (arith, intRules))
-ahead-trans (by-base e t) (by-base f u) = by-base (e ∙ f) (omega (arith, intRules))
-ahead-trans (by-base e t) (by_number f d u) = by-base (e ∙ f) (omega (arith, intRules))
-ahead-trans (by_number e d t) (by-rate u) = by-rate (omega (arith, intRules))
-ahead-trans (by_number e d t) (by-base f u) = by-base (e ∙ f) (omega (arith, intRules))
-ahead-trans (by_number e d t) (by_number f g u) = by_number (e ∙ f) (d ∙ g) (omega (arith, intRules))
+pub ahead_trans : {a b c : Offer} → Ahead a b → Ahead b c → Ahead a c
+ahead_trans (by_rate_lem t) (by_rate_lem u) = by_rate_lem (omega (arith, intRules))
+ahead_trans (by_rate_lem t) (by_base e u) = by_rate_lem (omega (arith, intRules))
+ahead_trans (by_rate_lem t) (by_number e d u) = by_rate_lem (omega (arith, intRules))
+ahead_trans (by_base e t) (by_rate_lem u) = by_rate_lem (omega (arith, intRules))
+ahead_trans (by_base e t) (by_base f u) = by_base (e ∙ f) (omega (arith, intRules))
+ahead_trans (by_base e t) (by_number f d u) = by_base (e ∙ f) (omega (arith, intRules))
+ahead_trans (by_number e d t) (by_rate_lem u) = by_rate_lem (omega (arith, intRules))
+ahead_trans (by_number e d t) (by_base f u) = by_base (e ∙ f) (omega (arith, intRules))
+ahead_trans (by_number e d t) (by_number f g u) = by_number (e ∙ f) (d ∙ g) (omega (arith, intRules))
 
 -- two offers are one, or one stands ahead of the other
-pub compare-offers : (a b : Offer) → (a ≡ b) ⊎ (Ahead a b ⊎ Ahead b a)
-compare-offers a b = go (trichotomy a.rate b.rate) (trichotomy a.base b.base) (trichotomy a.number b.number)
+pub compare_offers : (a b : Offer) → (a ≡ b) ⊎ (Ahead a b ⊎ Ahead b a)
+compare_offers a b = go (trichotomy a.rate b.rate) (trichotomy a.base b.base) (trichotomy a.number b.number)
   where
     go : T (lt_z a.rate b.rate) ⊎ ((a.rate ≡ b.rate) ⊎ T (lt_z b.rate a.rate)) →
         T (lt_z a.base b.base) ⊎ ((a.base ≡ b.base) ⊎ T (lt_z b.base a.base)) →
         T (lt_z a.number b.number) ⊎ ((a.number ≡ b.number) ⊎ T (lt_z b.number a.number)) → (a ≡ b) ⊎ (Ahead a b ⊎ Ahead b a)
-    go (inl t) s n = inr (inr (by-rate t))
-    go (inr (inr t)) s n = inr (inl (by-rate t))
-    go (inr (inl e)) (inl t) n = inr (inl (by-base e t))
-    go (inr (inl e)) (inr (inr t)) n = inr (inr (by-base (sym e) t))
+    go (inl t) s n = inr (inr (by_rate_lem t))
+    go (inr (inr t)) s n = inr (inl (by_rate_lem t))
+    go (inr (inl e)) (inl t) n = inr (inl (by_base e t))
+    go (inr (inl e)) (inr (inr t)) n = inr (inr (by_base (sym e) t))
     go (inr (inl e)) (inr (inl d)) (inl t) = inr (inl (by_number e d t))
     go (inr (inl e)) (inr (inl d)) (inr (inr t)) = inr (inr (by_number (sym e) (sym d) t))
     go (inr (inl e)) (inr (inl d)) (inr (inl f)) = inl (rw (e, d, f) refl)
 
 -- ---- what it says of rates and bases
 
-pub rate-falls : {a b : Offer} → Ahead a b → T (le_z b.rate a.rate)
-rate-falls (by-rate t) = omega (arith, intRules)
-rate-falls (by-base e t) = omega (arith, intRules)
-rate-falls (by_number e d t) = omega (arith, intRules)
+pub rate_falls : {a b : Offer} → Ahead a b → T (le_z b.rate a.rate)
+rate_falls (by_rate_lem t) = omega (arith, intRules)
+rate_falls (by_base e t) = omega (arith, intRules)
+rate_falls (by_number e d t) = omega (arith, intRules)
 
 -- within a rate the base rises
-pub base-rises : {a b : Offer} → (a ≡ b) ⊎ Ahead a b → a.rate ≡ b.rate → T (le_z a.base b.base)
-base-rises {a} {b} (inl e) r = let d : a.base ≡ b.base = ap (λ o. o.base) e in omega (arith, intRules)
-base-rises (inr (by-rate t)) r = omega (arith, intRules)
-base-rises (inr (by-base e t)) r = omega (arith, intRules)
-base-rises (inr (by_number e d t)) r = omega (arith, intRules)
+pub base_rises : {a b : Offer} → (a ≡ b) ⊎ Ahead a b → a.rate ≡ b.rate → T (le_z a.base b.base)
+base_rises {a} {b} (inl e) r = let d : a.base ≡ b.base = ap (λ o. o.base) e in omega (arith, intRules)
+base_rises (inr (by_rate_lem t)) r = omega (arith, intRules)
+base_rises (inr (by_base e t)) r = omega (arith, intRules)
+base_rises (inr (by_number e d t)) r = omega (arith, intRules)

@@ -3,141 +3,141 @@ use Rattle.std.specs.Prelude.{◌≤◌, ◌≡◌, refl, Bool, ◌&&◌, T, ℤ
 use Rattle.std.proofs.Common.{mul-le-mul, arith, SFits}
 use Rattle.std.specs.Int.{w64}
 use Rattle.lists.specs.Bools.{and_left, and_right, and_both}
-use Rattle.integers.specs.Parts.{range-parts}
-use Rattle.integers.specs.Magnitude.{natAbs-add, natAbs-sub, nat_abs_mul, fits, within-natAbs, natAbs-within}
-use Rattle.offers.specs.Offers.{Offer, within, numberInRange, rateInRange, baseInRange, loadInRange, priceInRange, offerInRange}
+use Rattle.integers.specs.Parts.{range_parts}
+use Rattle.integers.specs.Magnitude.{nat_abs_add, nat_abs_sub, nat_abs_mul, fits, within_nat_abs, nat_abs_within}
+use Rattle.offers.specs.Offers.{Offer, within, number_in_range, rate_in_range, base_in_range, load_in_range, price_in_range, offer_in_range}
 
 -- ---- an offer in range
 
 module _ (o : Offer) where
   numbered : Bool
-  numbered = numberInRange o.number && rateInRange o.rate
+  numbered = number_in_range o.number && rate_in_range o.rate
 
-  pub number-of : T (offerInRange o) → T (numberInRange o.number)
+  pub number_of_lem : T (offer_in_range o) → T (number_in_range o.number)
   unfolding numbered
-  number-of t = and_left (numberInRange o.number) (rateInRange o.rate) (and_left numbered (baseInRange o.base) t)
+  number_of_lem t = and_left (number_in_range o.number) (rate_in_range o.rate) (and_left numbered (base_in_range o.base) t)
 
-  pub rate-of : T (offerInRange o) → T (rateInRange o.rate)
+  pub rate_of_lem : T (offer_in_range o) → T (rate_in_range o.rate)
   unfolding numbered
-  rate-of t = and_right (numberInRange o.number) (rateInRange o.rate) (and_left numbered (baseInRange o.base) t)
+  rate_of_lem t = and_right (number_in_range o.number) (rate_in_range o.rate) (and_left numbered (base_in_range o.base) t)
 
-  pub base-of : T (offerInRange o) → T (baseInRange o.base)
+  pub base_of_lem : T (offer_in_range o) → T (base_in_range o.base)
   unfolding numbered
-  base-of t = and_right numbered (baseInRange o.base) t
+  base_of_lem t = and_right numbered (base_in_range o.base) t
 
-  pub offer-of : T (numberInRange o.number) → T (rateInRange o.rate) → T (baseInRange o.base) → T (offerInRange o)
+  pub offer_of_lem : T (number_in_range o.number) → T (rate_in_range o.rate) → T (base_in_range o.base) → T (offer_in_range o)
   unfolding numbered
-  offer-of n r b = and_both numbered (baseInRange o.base) (and_both (numberInRange o.number) (rateInRange o.rate) n r) b
+  offer_of_lem n r b = and_both numbered (base_in_range o.base) (and_both (number_in_range o.number) (rate_in_range o.rate) n r) b
 
 -- ---- the ranges as sizes
 
-pub number_size : (n : ℤ) → T (numberInRange n) → (1 ≤ nat_abs n) × (nat_abs n ≤ 9_999)
-number_size (pos n) t = omega (arith, range-parts (pos 1) (pos n) (pos 9_999) t)
-number_size (negsuc n) t = omega (arith, range-parts (pos 1) (negsuc n) (pos 9_999) t)
+pub number_size : (n : ℤ) → T (number_in_range n) → (1 ≤ nat_abs n) × (nat_abs n ≤ 9_999)
+number_size (pos n) t = omega (arith, range_parts (pos 1) (pos n) (pos 9_999) t)
+number_size (negsuc n) t = omega (arith, range_parts (pos 1) (negsuc n) (pos 9_999) t)
 
-pub number_is : (n : ℤ) → T (numberInRange n) → n ≡ pos (nat_abs n)
+pub number_is : (n : ℤ) → T (number_in_range n) → n ≡ pos (nat_abs n)
 number_is (pos n) t = refl
 number_is (negsuc n) t = absurd t
 
-pub rate-size : (r : ℤ) → T (rateInRange r) → nat_abs r ≤ 100_000
-rate-size r t = within-natAbs 99_999 r t
+pub rate_size : (r : ℤ) → T (rate_in_range r) → nat_abs r ≤ 100_000
+rate_size r t = within_nat_abs 99_999 r t
 
-pub base-size : (b : ℤ) → T (baseInRange b) → nat_abs b ≤ 1_000_000_000
-base-size b t = within-natAbs 999_999_999 b t
+pub base_size : (b : ℤ) → T (base_in_range b) → nat_abs b ≤ 1_000_000_000
+base_size b t = within_nat_abs 999_999_999 b t
 
-pub load-size : (q : ℤ) → T (loadInRange q) → nat_abs q ≤ 1_000_000
-load-size q t = within-natAbs 999_999 q t
+pub load_size : (q : ℤ) → T (load_in_range q) → nat_abs q ≤ 1_000_000
+load_size q t = within_nat_abs 999_999 q t
 
-pub price-size : (p : ℤ) → T (priceInRange p) → nat_abs p ≤ 101_000_000_000
-price-size p t = within-natAbs 100_999_999_999 p t
+pub price_size : (p : ℤ) → T (price_in_range p) → nat_abs p ≤ 101_000_000_000
+price_size p t = within_nat_abs 100_999_999_999 p t
 
 -- ---- prices
 
-pub product-size : (r q : ℤ) → T (rateInRange r) → T (loadInRange q) → nat_abs (r *ℤ q) ≤ 100_000_000_000
-product-size r q hr hq = omega (arith, nat_abs_mul r q, mul-le-mul (rate-size r hr) (load-size q hq))
+pub product_size : (r q : ℤ) → T (rate_in_range r) → T (load_in_range q) → nat_abs (r *ℤ q) ≤ 100_000_000_000
+product_size r q hr hq = omega (arith, nat_abs_mul r q, mul-le-mul (rate_size r hr) (load_size q hq))
 
-pub product-fits : (r q : ℤ) → T (rateInRange r) → T (loadInRange q) → SFits w64 (r *ℤ q)
-product-fits r q hr hq = fits (r *ℤ q) (omega (arith, product-size r q hr hq))
+pub product_fits : (r q : ℤ) → T (rate_in_range r) → T (load_in_range q) → SFits w64 (r *ℤ q)
+product_fits r q hr hq = fits (r *ℤ q) (omega (arith, product_size r q hr hq))
 
-pub price-at-size : (b r q : ℤ) → T (baseInRange b) → T (rateInRange r) → T (loadInRange q) → nat_abs (b +ℤ r *ℤ q) ≤ 101_000_000_000
-price-at-size b r q hb hr hq = omega (arith, natAbs-add b (r *ℤ q), base-size b hb, product-size r q hr hq)
+pub price_at_size : (b r q : ℤ) → T (base_in_range b) → T (rate_in_range r) → T (load_in_range q) → nat_abs (b +ℤ r *ℤ q) ≤ 101_000_000_000
+price_at_size b r q hb hr hq = omega (arith, nat_abs_add b (r *ℤ q), base_size b hb, product_size r q hr hq)
 
-pub price-at-fits : (b r q : ℤ) → T (baseInRange b) → T (rateInRange r) → T (loadInRange q) → SFits w64 (b +ℤ r *ℤ q)
-price-at-fits b r q hb hr hq = fits (b +ℤ r *ℤ q) (omega (arith, price-at-size b r q hb hr hq))
+pub price_at_fits : (b r q : ℤ) → T (base_in_range b) → T (rate_in_range r) → T (load_in_range q) → SFits w64 (b +ℤ r *ℤ q)
+price_at_fits b r q hb hr hq = fits (b +ℤ r *ℤ q) (omega (arith, price_at_size b r q hb hr hq))
 
 -- so an answered price is one that a voucher takes
-pub price-at-in-range : (b r q : ℤ) → T (baseInRange b) → T (rateInRange r) → T (loadInRange q) → T (priceInRange (b +ℤ r *ℤ q))
-price-at-in-range b r q hb hr hq = natAbs-within 100_999_999_999 (b +ℤ r *ℤ q) (price-at-size b r q hb hr hq)
+pub price_at_in_range : (b r q : ℤ) → T (base_in_range b) → T (rate_in_range r) → T (load_in_range q) → T (price_in_range (b +ℤ r *ℤ q))
+price_at_in_range b r q hb hr hq = nat_abs_within 100_999_999_999 (b +ℤ r *ℤ q) (price_at_size b r q hb hr hq)
 
 -- ---- crossings: the numerator next base − own base, the denominator own rate − next rate
 
-abbrev pub numeratorInRange : ℤ → Bool
-numeratorInRange n = within 2_000_000_000 n
+abbrev pub numerator_in_range : ℤ → Bool
+numerator_in_range n = within 2_000_000_000 n
 
-abbrev pub denominatorInRange : ℤ → Bool
-denominatorInRange d = within 200_000 d
+abbrev pub denominator_in_range : ℤ → Bool
+denominator_in_range d = within 200_000 d
 
-pub numerator-size : (n : ℤ) → T (numeratorInRange n) → nat_abs n ≤ 2_000_000_000
-numerator-size n t = within-natAbs 1_999_999_999 n t
+pub numerator_size : (n : ℤ) → T (numerator_in_range n) → nat_abs n ≤ 2_000_000_000
+numerator_size n t = within_nat_abs 1_999_999_999 n t
 
-pub denominator-size : (d : ℤ) → T (denominatorInRange d) → nat_abs d ≤ 200_000
-denominator-size d t = within-natAbs 199_999 d t
+pub denominator_size : (d : ℤ) → T (denominator_in_range d) → nat_abs d ≤ 200_000
+denominator_size d t = within_nat_abs 199_999 d t
 
-module _ (b b' : ℤ) (hb : T (baseInRange b)) (hb' : T (baseInRange b')) where
-  pub base-gap-size : nat_abs (b' -ℤ b) ≤ 2_000_000_000
-  base-gap-size = omega (arith, natAbs-sub b' b, base-size b hb, base-size b' hb')
+module _ (b b' : ℤ) (hb : T (base_in_range b)) (hb' : T (base_in_range b')) where
+  pub base_gap_size : nat_abs (b' -ℤ b) ≤ 2_000_000_000
+  base_gap_size = omega (arith, nat_abs_sub b' b, base_size b hb, base_size b' hb')
 
-  pub base-gap-fits : SFits w64 (b' -ℤ b)
-  base-gap-fits = fits (b' -ℤ b) (omega (arith, base-gap-size))
+  pub base_gap_fits : SFits w64 (b' -ℤ b)
+  base_gap_fits = fits (b' -ℤ b) (omega (arith, base_gap_size))
 
-  pub base-gap-in-range : T (numeratorInRange (b' -ℤ b))
-  base-gap-in-range = natAbs-within 1_999_999_999 (b' -ℤ b) base-gap-size
+  pub base_gap_in_range : T (numerator_in_range (b' -ℤ b))
+  base_gap_in_range = nat_abs_within 1_999_999_999 (b' -ℤ b) base_gap_size
 
-module _ (r r' : ℤ) (hr : T (rateInRange r)) (hr' : T (rateInRange r')) where
-  pub rate-gap-size : nat_abs (r -ℤ r') ≤ 200_000
-  rate-gap-size = omega (arith, natAbs-sub r r', rate-size r hr, rate-size r' hr')
+module _ (r r' : ℤ) (hr : T (rate_in_range r)) (hr' : T (rate_in_range r')) where
+  pub rate_gap_size : nat_abs (r -ℤ r') ≤ 200_000
+  rate_gap_size = omega (arith, nat_abs_sub r r', rate_size r hr, rate_size r' hr')
 
-  pub rate-gap-fits : SFits w64 (r -ℤ r')
-  rate-gap-fits = fits (r -ℤ r') (omega (arith, rate-gap-size))
+  pub rate_gap_fits : SFits w64 (r -ℤ r')
+  rate_gap_fits = fits (r -ℤ r') (omega (arith, rate_gap_size))
 
-  pub rate-gap-in-range : T (denominatorInRange (r -ℤ r'))
-  rate-gap-in-range = natAbs-within 199_999 (r -ℤ r') rate-gap-size
+  pub rate_gap_in_range : T (denominator_in_range (r -ℤ r'))
+  rate_gap_in_range = nat_abs_within 199_999 (r -ℤ r') rate_gap_size
 
 -- ---- the price of a line at a crossing, times its denominator
 
-module _ (b d : ℤ) (hb : T (baseInRange b)) (hd : T (denominatorInRange d)) where
-  pub base-times-size : nat_abs (b *ℤ d) ≤ 200_000_000_000_000
-  base-times-size = omega (arith, nat_abs_mul b d, mul-le-mul (base-size b hb) (denominator-size d hd))
+module _ (b d : ℤ) (hb : T (base_in_range b)) (hd : T (denominator_in_range d)) where
+  pub base_times_size : nat_abs (b *ℤ d) ≤ 200_000_000_000_000
+  base_times_size = omega (arith, nat_abs_mul b d, mul-le-mul (base_size b hb) (denominator_size d hd))
 
-  pub base-times-fits : SFits w64 (b *ℤ d)
-  base-times-fits = fits (b *ℤ d) (omega (arith, base-times-size))
+  pub base_times_fits : SFits w64 (b *ℤ d)
+  base_times_fits = fits (b *ℤ d) (omega (arith, base_times_size))
 
-module _ (r n : ℤ) (hr : T (rateInRange r)) (hn : T (numeratorInRange n)) where
-  pub rate-times-size : nat_abs (r *ℤ n) ≤ 200_000_000_000_000
-  rate-times-size = omega (arith, nat_abs_mul r n, mul-le-mul (rate-size r hr) (numerator-size n hn))
+module _ (r n : ℤ) (hr : T (rate_in_range r)) (hn : T (numerator_in_range n)) where
+  pub rate_times_size : nat_abs (r *ℤ n) ≤ 200_000_000_000_000
+  rate_times_size = omega (arith, nat_abs_mul r n, mul-le-mul (rate_size r hr) (numerator_size n hn))
 
-  pub rate-times-fits : SFits w64 (r *ℤ n)
-  rate-times-fits = fits (r *ℤ n) (omega (arith, rate-times-size))
+  pub rate_times_fits : SFits w64 (r *ℤ n)
+  rate_times_fits = fits (r *ℤ n) (omega (arith, rate_times_size))
 
-module _ (b r n d : ℤ) (hb : T (baseInRange b)) (hr : T (rateInRange r)) (hn : T (numeratorInRange n)) (hd : T (denominatorInRange d)) where
-  pub scaled-price-size : nat_abs (b *ℤ d +ℤ r *ℤ n) ≤ 400_000_000_000_000
-  scaled-price-size = omega (arith, natAbs-add (b *ℤ d) (r *ℤ n), base-times-size b d hb hd, rate-times-size r n hr hn)
+module _ (b r n d : ℤ) (hb : T (base_in_range b)) (hr : T (rate_in_range r)) (hn : T (numerator_in_range n)) (hd : T (denominator_in_range d)) where
+  pub scaled_price_size : nat_abs (b *ℤ d +ℤ r *ℤ n) ≤ 400_000_000_000_000
+  scaled_price_size = omega (arith, nat_abs_add (b *ℤ d) (r *ℤ n), base_times_size b d hb hd, rate_times_size r n hr hn)
 
-  pub scaled-price-fits : SFits w64 (b *ℤ d +ℤ r *ℤ n)
-  scaled-price-fits = fits (b *ℤ d +ℤ r *ℤ n) (omega (arith, scaled-price-size))
+  pub scaled_price_fits : SFits w64 (b *ℤ d +ℤ r *ℤ n)
+  scaled_price_fits = fits (b *ℤ d +ℤ r *ℤ n) (omega (arith, scaled_price_size))
 
 -- ---- the comparison of two crossings, and of a load with one
 
-module _ (n d : ℤ) (hn : T (numeratorInRange n)) (hd : T (denominatorInRange d)) where
-  pub cross-product-size : nat_abs (n *ℤ d) ≤ 400_000_000_000_000
-  cross-product-size = omega (arith, nat_abs_mul n d, mul-le-mul (numerator-size n hn) (denominator-size d hd))
+module _ (n d : ℤ) (hn : T (numerator_in_range n)) (hd : T (denominator_in_range d)) where
+  pub cross_product_size : nat_abs (n *ℤ d) ≤ 400_000_000_000_000
+  cross_product_size = omega (arith, nat_abs_mul n d, mul-le-mul (numerator_size n hn) (denominator_size d hd))
 
-  pub cross-product-fits : SFits w64 (n *ℤ d)
-  cross-product-fits = fits (n *ℤ d) (omega (arith, cross-product-size))
+  pub cross_product_fits : SFits w64 (n *ℤ d)
+  cross_product_fits = fits (n *ℤ d) (omega (arith, cross_product_size))
 
-module _ (q d : ℤ) (hq : T (loadInRange q)) (hd : T (denominatorInRange d)) where
-  pub load-times-size : nat_abs (q *ℤ d) ≤ 200_000_000_000
-  load-times-size = omega (arith, nat_abs_mul q d, mul-le-mul (load-size q hq) (denominator-size d hd))
+module _ (q d : ℤ) (hq : T (load_in_range q)) (hd : T (denominator_in_range d)) where
+  pub load_times_size : nat_abs (q *ℤ d) ≤ 200_000_000_000
+  load_times_size = omega (arith, nat_abs_mul q d, mul-le-mul (load_size q hq) (denominator_size d hd))
 
-  pub load-times-fits : SFits w64 (q *ℤ d)
-  load-times-fits = fits (q *ℤ d) (omega (arith, load-times-size))
+  pub load_times_fits : SFits w64 (q *ℤ d)
+  load_times_fits = fits (q *ℤ d) (omega (arith, load_times_size))

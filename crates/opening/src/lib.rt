@@ -1,7 +1,7 @@
 // A book opened in a lent table: its part laid out empty.
 ghost use Rattle.std.specs.Prelude.{◌≤◌, length};
-ghost use Rattle.plain.specs.Book.{partLength};
-ghost use Rattle.table.specs.Fields.{mostSlots};
+ghost use Rattle.plain.specs.Book.{part_length};
+ghost use Rattle.table.specs.Fields.{most_slots};
 ghost use Rattle.promises.specs.Promises.{Opens};
 ghost use Rattle.opening.specs.Starting.{Heading, Lays, Starts};
 
@@ -24,7 +24,7 @@ fn begin(part: &mut [i64], capacity: u32)
 
 // Each slot is free, and the next free one follows it.
 fn lay(part: &mut [i64], capacity: u32)
-    requires { (1 ≤ capacity) × (capacity ≤ mostSlots) }
+    requires { (1 ≤ capacity) × (capacity ≤ most_slots) }
     ensures { Lays capacity part.old part.new }
 {
     let mut n: u32 = 0;
@@ -39,7 +39,7 @@ fn lay(part: &mut [i64], capacity: u32)
 
 // An empty book on words enough for it.
 fn start_book(part: &mut [i64], capacity: u32)
-    requires { (1 ≤ capacity) × (capacity ≤ mostSlots) × (partLength capacity ≤ length part.old) }
+    requires { (1 ≤ capacity) × (capacity ≤ most_slots) × (part_length capacity ≤ length part.old) }
     ensures { Starts capacity part.old part.new }
 {
     begin(part, capacity);

@@ -7,11 +7,11 @@ use Rattle.lists.specs.Filter.{every, keep}
 use Rattle.lists.specs.Firsts.{firsts}
 use Rattle.lists.specs.Tests.{any}
 use Rattle.integers.specs.Equal.{equal}
-use Rattle.offers.specs.Offers.{Offer, between, numberInRange, rateInRange, baseInRange, loadInRange, priceInRange, priceAt, precedes, ahead}
-use Rattle.offers.specs.Offers.{crossingNumerator, crossingDenominator}
-use Rattle.plain.specs.Causes.{Cause, Trial, ◌when◌, declined, Clear, causeNumber, capacityOutOfRange, tableTooShort, numberOutOfRange}
-use Rattle.plain.specs.Causes.{rateOutOfRange, baseOutOfRange, loadOutOfRange, numberLive, bookFull, numberNotLive, bookEmpty, outputTooShort}
-use Rattle.plain.specs.Causes.{priceOutOfRange, nothingToTakeBack, noLoadFits}
+use Rattle.offers.specs.Offers.{Offer, between, number_in_range, rate_in_range, base_in_range, load_in_range, price_in_range, price_at, precedes, ahead}
+use Rattle.offers.specs.Offers.{crossing_numerator, crossing_denominator}
+use Rattle.plain.specs.Causes.{Cause, Trial, ◌when◌, declined, Clear, cause_number, capacity_out_of_range, table_too_short, number_out_of_range}
+use Rattle.plain.specs.Causes.{rate_out_of_range, base_out_of_range, load_out_of_range, number_live, book_full, number_not_live, book_empty, output_too_short}
+use Rattle.plain.specs.Causes.{price_out_of_range, nothing_to_take_back, no_load_fits}
 
 -- What undoes an accepted update: a posted offer goes out again, a withdrawn one comes back.
 pub data Undo : Type 0 where
@@ -33,10 +33,10 @@ pub data Call : Type 0 where
   query : (load : ℤ) → Call
   -- with the length of the lent output, in words
   listing : (room : ℕ) → Call
-  takeBack : Call
+  take_back : Call
   -- with the length of the lent output, in words
   report : (load price : ℤ) (room : ℕ) → Call
-  largestLoad : (budget : ℤ) → Call
+  largest_load : (budget : ℤ) → Call
 
 pub data Answer : Type 0 where
   -- a declined call's number
@@ -58,8 +58,8 @@ pub record Outcome : Type 0 where
 
 -- ---- parts of the rules
 
-abbrev pub hasNumber : ℤ → Offer → Bool
-hasNumber n o = equal o.number n
+abbrev pub has_number : ℤ → Offer → Bool
+has_number n o = equal o.number n
 
 -- The offer joins, in order.
 abbrev pub join : Offer → List Offer → List Offer
@@ -68,24 +68,24 @@ join o (p ∷ ps) = cond (ahead o p) (o ∷ p ∷ ps) (p ∷ join o ps)
 
 -- The offer leaves.
 abbrev pub leave : ℤ → List Offer → List Offer
-leave n os = keep (λ o. not (hasNumber n o)) os
+leave n os = keep (λ o. not (has_number n o)) os
 
 -- What undoes a post, and a withdrawal of the offer that has the number: one entry, where the call is accepted (`Undoing`).
-abbrev pub undoOf : List Offer → Call → List Undo
-undoOf os (post n r b) = unpost n ∷ []
-undoOf os (withdraw n) = map restore (keep (hasNumber n) os)
-undoOf os (query q) = []
-undoOf os (listing room) = []
-undoOf os takeBack = []
-undoOf os (report q p room) = []
-undoOf os (largestLoad b) = []
+abbrev pub undo_of : List Offer → Call → List Undo
+undo_of os (post n r b) = unpost n ∷ []
+undo_of os (withdraw n) = map restore (keep (has_number n) os)
+undo_of os (query q) = []
+undo_of os (listing room) = []
+undo_of os take_back = []
+undo_of os (report q p room) = []
+undo_of os (largest_load b) = []
 
-abbrev pub mostRemembered : ℕ
-mostRemembered = 256
+abbrev pub most_remembered : ℕ
+most_remembered = 256
 
 -- Up to 256 are remembered: one more, and the oldest falls out of memory for good.
 abbrev pub remember : List Undo → List Undo → List Undo
-remember new memory = take mostRemembered (new ++ memory)
+remember new memory = take most_remembered (new ++ memory)
 
 -- The live offers when it is undone.
 abbrev pub undone : Undo → List Offer → List Offer
@@ -105,54 +105,54 @@ abbrev pub higher : ℤ → ℤ → Bool
 higher r s = lt_z s r
 
 -- At a load the first offer comes before the second: it is cheaper, or as cheap and of the rate that a tie goes to.
-abbrev pub goesFirst : (ℤ → ℤ → Bool) → ℤ → Offer → Offer → Bool
-goesFirst tie q o p = lt_z (priceAt o q) (priceAt p q) || (equal (priceAt o q) (priceAt p q) && tie o.rate p.rate)
+abbrev pub goes_first : (ℤ → ℤ → Bool) → ℤ → Offer → Offer → Bool
+goes_first tie q o p = lt_z (price_at o q) (price_at p q) || (equal (price_at o q) (price_at p q) && tie o.rate p.rate)
 
 -- The cheapest at a load of an offer and those after it, by the rate that a tie goes to; within one rate the first in order.
 abbrev pub cheapest : (ℤ → ℤ → Bool) → ℤ → Offer → List Offer → Offer
 cheapest tie q best [] = best
-cheapest tie q best (o ∷ os) = cheapest tie q (cond (goesFirst tie q o best) o best) os
+cheapest tie q best (o ∷ os) = cheapest tie q (cond (goes_first tie q o best) o best) os
 
 -- The crossing of a and e lies strictly left of the crossing of e and c.
 abbrev pub turns : Offer → Offer → Offer → Bool
-turns a e c = lt_z (crossingNumerator a e *ℤ crossingDenominator e c) (crossingNumerator e c *ℤ crossingDenominator a e)
+turns a e c = lt_z (crossing_numerator a e *ℤ crossing_denominator e c) (crossing_numerator e c *ℤ crossing_denominator a e)
 
 -- Of one rate the first alone: an offer, then the firsts behind it that have a lower rate.
-abbrev pub firstOfEach : List Offer → List Offer
-firstOfEach os = firsts precedes os
+abbrev pub first_of_each : List Offer → List Offer
+first_of_each os = firsts precedes os
 
 -- Of offers with different rates, those whose every crossing with an earlier offer lies strictly left of their every crossing with a later one.
-abbrev pub lowerEnvelope : List Offer → List Offer
-lowerEnvelope os = keep (λ e. every (λ a. every (λ c. not (precedes a e && precedes e c) || turns a e c) os) os) os
+abbrev pub lower_envelope : List Offer → List Offer
+lower_envelope os = keep (λ e. every (λ a. every (λ c. not (precedes a e && precedes e c) || turns a e c) os) os) os
 
 -- The offers on the lower envelope. `ListingLaws` proves that each is the first of its rate and at some rational load, of any size, strictly cheaper
 -- than every offer of another rate, and that there is no other such offer.
 abbrev pub envelope : List Offer → List Offer
-envelope os = lowerEnvelope (firstOfEach os)
+envelope os = lower_envelope (first_of_each os)
 
 -- Number, numerator, denominator a piece: its crossing with the next, unreduced. The last carries 0 and 0.
-abbrev pub pieceWords : List Offer → List ℤ
-pieceWords [] = []
-pieceWords (o ∷ []) = o.number ∷ pos 0 ∷ pos 0 ∷ []
-pieceWords (o ∷ p ∷ ps) = o.number ∷ crossingNumerator o p ∷ crossingDenominator o p ∷ pieceWords (p ∷ ps)
+abbrev pub piece_words : List Offer → List ℤ
+piece_words [] = []
+piece_words (o ∷ []) = o.number ∷ pos 0 ∷ pos 0 ∷ []
+piece_words (o ∷ p ∷ ps) = o.number ∷ crossing_numerator o p ∷ crossing_denominator o p ∷ piece_words (p ∷ ps)
 
 -- The offers whose price at the load is strictly below p, in order.
 abbrev pub under : ℤ → ℤ → List Offer → List Offer
-under q p os = keep (λ o. lt_z (priceAt o q) p) os
+under q p os = keep (λ o. lt_z (price_at o q) p) os
 
 -- Number, rate, base an offer.
-abbrev pub offerWords : List Offer → List ℤ
-offerWords [] = []
-offerWords (o ∷ os) = o.number ∷ o.rate ∷ o.base ∷ offerWords os
+abbrev pub offer_words : List Offer → List ℤ
+offer_words [] = []
+offer_words (o ∷ os) = o.number ∷ o.rate ∷ o.base ∷ offer_words os
 
 -- The least price at the load is at most the budget. No offers, no price.
 abbrev pub fits : ℤ → List Offer → ℤ → Bool
 fits b [] q = false
-fits b (o ∷ os) q = le_z (priceAt (cheapest lower q o os) q) b
+fits b (o ∷ os) q = le_z (price_at (cheapest lower q o os) q) b
 
 -- The loads in range by a place: −1,000,000 at place 0, 1,000,000 at place 2,000,000.
-abbrev pub loadAt : ℕ → ℤ
-loadAt i = pos i -ℤ pos 1_000_000
+abbrev pub load_at : ℕ → ℤ
+load_at i = pos i -ℤ pos 1_000_000
 
 -- how many they are
 abbrev pub loads : ℕ
@@ -163,62 +163,62 @@ missing none = true
 missing (some q) = false
 
 -- Of the first n loads the last that passes a test, if one does.
-unfoldable pub lastThat : (ℤ → Bool) → ℕ → Option ℤ
-lastThat test zero = none
-lastThat test (suc i) = cond (test (loadAt i)) (some (loadAt i)) (lastThat test i)
+unfoldable pub last_that : (ℤ → Bool) → ℕ → Option ℤ
+last_that test zero = none
+last_that test (suc i) = cond (test (load_at i)) (some (load_at i)) (last_that test i)
 
 -- Of all loads in range the last that fits: the largest.
-abbrev pub largestFit : ℤ → List Offer → Option ℤ
-largestFit b os = lastThat (fits b os) loads
+abbrev pub largest_fit : ℤ → List Offer → Option ℤ
+largest_fit b os = last_that (fits b os) loads
 
 -- ---- which calls are declined
 
 -- A part of capacity c has 64 × (c + 1) + 1,024 words.
-abbrev pub partLength : ℕ → ℕ
-partLength c = 64 * (c + 1) + 1_024
+abbrev pub part_length : ℕ → ℕ
+part_length c = 64 * (c + 1) + 1_024
 
 -- No book: `start` beyond the table, fewer than 1,152 words there, first word outside 1 to 4,096, or part cut short.
-abbrev pub noBookAt : (words start : ℕ) → ℤ → Bool
-noBookAt words start first =
-    ltb words start || ltb (words - start) 1_152 || not (between (pos 1) (pos 4_096) first) || ltb (words - start) (partLength (nat_abs first))
+abbrev pub no_book_at : (words start : ℕ) → ℤ → Bool
+no_book_at words start first =
+    ltb words start || ltb (words - start) 1_152 || not (between (pos 1) (pos 4_096) first) || ltb (words - start) (part_length (nat_abs first))
 
 -- Open, on a table of so many words.
-abbrev pub openTrials : (words start : ℕ) → ℤ → List Trial
-openTrials words start c =
-    capacityOutOfRange when not (between (pos 1) (pos 4_096) c)
-    ∷ tableTooShort when (ltb words start || ltb (words - start) (partLength (nat_abs c)))
+abbrev pub open_trials : (words start : ℕ) → ℤ → List Trial
+open_trials words start c =
+    capacity_out_of_range when not (between (pos 1) (pos 4_096) c)
+    ∷ table_too_short when (ltb words start || ltb (words - start) (part_length (nat_abs c)))
     ∷ []
 
-abbrev pub rangeTrials : Call → List Trial
-rangeTrials (post n r b) =
-    numberOutOfRange when not (numberInRange n)
-    ∷ rateOutOfRange when not (rateInRange r)
-    ∷ baseOutOfRange when not (baseInRange b)
+abbrev pub range_trials : Call → List Trial
+range_trials (post n r b) =
+    number_out_of_range when not (number_in_range n)
+    ∷ rate_out_of_range when not (rate_in_range r)
+    ∷ base_out_of_range when not (base_in_range b)
     ∷ []
-rangeTrials (withdraw n) = numberOutOfRange when not (numberInRange n) ∷ []
-rangeTrials (query q) = loadOutOfRange when not (loadInRange q) ∷ []
-rangeTrials (listing room) = []
-rangeTrials takeBack = []
-rangeTrials (report q p room) = priceOutOfRange when not (priceInRange p) ∷ loadOutOfRange when not (loadInRange q) ∷ []
-rangeTrials (largestLoad b) = priceOutOfRange when not (priceInRange b) ∷ []
+range_trials (withdraw n) = number_out_of_range when not (number_in_range n) ∷ []
+range_trials (query q) = load_out_of_range when not (load_in_range q) ∷ []
+range_trials (listing room) = []
+range_trials take_back = []
+range_trials (report q p room) = price_out_of_range when not (price_in_range p) ∷ load_out_of_range when not (load_in_range q) ∷ []
+range_trials (largest_load b) = price_out_of_range when not (price_in_range b) ∷ []
 
-abbrev pub bookTrials : State → Call → List Trial
-bookTrials s (post n r b) =
-    numberLive when any (hasNumber n) s.offers
-    ∷ bookFull when leb s.capacity (length s.offers)
+abbrev pub book_trials : State → Call → List Trial
+book_trials s (post n r b) =
+    number_live when any (has_number n) s.offers
+    ∷ book_full when leb s.capacity (length s.offers)
     ∷ []
-bookTrials s (withdraw n) = numberNotLive when not (any (hasNumber n) s.offers) ∷ []
-bookTrials s (query q) = bookEmpty when leb (length s.offers) 0 ∷ []
-bookTrials s (listing room) = outputTooShort when ltb room (3 * length (envelope s.offers)) ∷ []
-bookTrials s takeBack = nothingToTakeBack when leb (length s.memory) 0 ∷ []
-bookTrials s (report q p room) = outputTooShort when ltb room (3 * length (under q p s.offers)) ∷ []
-bookTrials s (largestLoad b) =
-    bookEmpty when leb (length s.offers) 0
-    ∷ noLoadFits when missing (largestFit b s.offers)
+book_trials s (withdraw n) = number_not_live when not (any (has_number n) s.offers) ∷ []
+book_trials s (query q) = book_empty when leb (length s.offers) 0 ∷ []
+book_trials s (listing room) = output_too_short when ltb room (3 * length (envelope s.offers)) ∷ []
+book_trials s take_back = nothing_to_take_back when leb (length s.memory) 0 ∷ []
+book_trials s (report q p room) = output_too_short when ltb room (3 * length (under q p s.offers)) ∷ []
+book_trials s (largest_load b) =
+    book_empty when leb (length s.offers) 0
+    ∷ no_load_fits when missing (largest_fit b s.offers)
     ∷ []
 
 abbrev pub trials : State → Call → List Trial
-trials s k = rangeTrials k ++ bookTrials s k
+trials s k = range_trials k ++ book_trials s k
 
 -- ---- the book
 
@@ -227,12 +227,12 @@ abbrev pub opened : ℤ → State
 opened c = record { capacity = nat_abs c; offers = []; memory = [] }
 
 -- What opening a table of so many words answers: a refusal's number, or 0 alone.
-abbrev pub openingBy : Option Cause → ℕ
-openingBy none = 0
-openingBy (some k) = causeNumber k
+abbrev pub opening_by : Option Cause → ℕ
+opening_by none = 0
+opening_by (some k) = cause_number k
 
 abbrev pub opening : (words start : ℕ) → ℤ → ℕ
-opening words start c = openingBy (declined (openTrials words start c))
+opening words start c = opening_by (declined (open_trials words start c))
 
 -- The book with other live offers.
 abbrev pub holding : State → List Offer → State
@@ -247,33 +247,33 @@ abbrev pub changed : State → List Offer → List Undo → Outcome
 changed s os us = record { state = recalling s os us; answer = live (length os) }
 
 -- The load, with the offer that a query names first there.
-abbrev pub fittedAt : List Offer → Option ℤ → Answer
-fittedAt [] q = refused (causeNumber bookEmpty)  -- idle: an empty book declines the call
-fittedAt (o ∷ os) none = refused (causeNumber noLoadFits)  -- idle: it is declined then
-fittedAt (o ∷ os) (some q) = fitted (cheapest lower q o os).number q
+abbrev pub fitted_at : List Offer → Option ℤ → Answer
+fitted_at [] q = refused (cause_number book_empty)  -- idle: an empty book declines the call
+fitted_at (o ∷ os) none = refused (cause_number no_load_fits)  -- idle: it is declined then
+fitted_at (o ∷ os) (some q) = fitted (cheapest lower q o os).number q
 
 -- What an accepted call does.
 abbrev pub accepted : State → Call → Outcome
 accepted s (post n r b) =
-    changed s (join (record { number = n; rate = r; base = b }) s.offers) (remember (undoOf s.offers (post n r b)) s.memory)
-accepted s (withdraw n) = changed s (leave n s.offers) (remember (undoOf s.offers (withdraw n)) s.memory)
-accepted s takeBack = takenBack s.memory
+    changed s (join (record { number = n; rate = r; base = b }) s.offers) (remember (undo_of s.offers (post n r b)) s.memory)
+accepted s (withdraw n) = changed s (leave n s.offers) (remember (undo_of s.offers (withdraw n)) s.memory)
+accepted s take_back = taken_back s.memory
   where
-    takenBack : List Undo → Outcome
-    takenBack [] = record { state = s; answer = refused (causeNumber nothingToTakeBack) }  -- idle: it is declined
-    takenBack (u ∷ us) = changed s (undone u s.offers) us
+    taken_back : List Undo → Outcome
+    taken_back [] = record { state = s; answer = refused (cause_number nothing_to_take_back) }  -- idle: it is declined
+    taken_back (u ∷ us) = changed s (undone u s.offers) us
 accepted s (query q) = record { state = s; answer = answer_of s.offers }
   where
     answer_of : List Offer → Answer
-    answer_of [] = refused (causeNumber bookEmpty)  -- idle: an empty book declines the query
-    answer_of (o ∷ os) = let best = cheapest lower q o os in found best.number (priceAt best q) (cheapest higher q o os).number
-accepted s (listing room) = record { state = s; answer = listed (length (envelope s.offers)) (pieceWords (envelope s.offers)) }
-accepted s (report q p room) = record { state = s; answer = reported (length (under q p s.offers)) (offerWords (under q p s.offers)) }
-accepted s (largestLoad b) = record { state = s; answer = fittedAt s.offers (largestFit b s.offers) }
+    answer_of [] = refused (cause_number book_empty)  -- idle: an empty book declines the query
+    answer_of (o ∷ os) = let best = cheapest lower q o os in found best.number (price_at best q) (cheapest higher q o os).number
+accepted s (listing room) = record { state = s; answer = listed (length (envelope s.offers)) (piece_words (envelope s.offers)) }
+accepted s (report q p room) = record { state = s; answer = reported (length (under q p s.offers)) (offer_words (under q p s.offers)) }
+accepted s (largest_load b) = record { state = s; answer = fitted_at s.offers (largest_fit b s.offers) }
 
 abbrev pub respond : State → Call → Option Cause → Outcome
 respond s k none = accepted s k
-respond s k (some c) = record { state = s; answer = refused (causeNumber c) }
+respond s k (some c) = record { state = s; answer = refused (cause_number c) }
 
 -- One call.
 abbrev pub step : State → Call → Outcome

@@ -2,7 +2,7 @@
 -- checker computes.
 use Rattle.std.specs.Prelude.{◌≡◌, refl, List, [], ◌∷◌, ◌++◌, map, ℕ, pos, neg_ℤ}
 use Rattle.offers.specs.Offers.{Offer}
-use Rattle.plain.specs.Book.{Call, post, withdraw, query, listing, takeBack, report, Answer, refused, live, found, listed, reported}
+use Rattle.plain.specs.Book.{Call, post, withdraw, query, listing, take_back, report, Answer, refused, live, found, listed, reported}
 use Rattle.plain.specs.Book.{opened, opening, after, answers, unpost, restore, Undoable}
 use Rattle.plain.specs.Remaining.{remaining}
 
@@ -48,15 +48,15 @@ table =
     ∷ row falling (query (pos 3)) (found (pos 2) (neg_ℤ (pos 2)) (pos 2))
     ∷ []
 
-pub prices-to-prove : map answered table ≡ map (λ r. r.told) table
-prices-to-prove = refl
+pub prices_to_prove : map answered table ≡ map (λ r. r.told) table
+prices_to_prove = refl
 
 -- Three offers at one price: (2, 0), (1, 5), (0, 10) at load 5. The one between, which is no piece, is named neither first nor second.
-abbrev pub three-at-once : Row
-three-at-once = row touching (query (pos 5)) (found (pos 3) (pos 10) (pos 1))
+abbrev pub three_at_once : Row
+three_at_once = row touching (query (pos 5)) (found (pos 3) (pos 10) (pos 1))
 
-pub three-told : answered three-at-once ≡ three-at-once.told
-three-told = refl
+pub three_told : answered three_at_once ≡ three_at_once.told
+three_told = refl
 
 -- ---- several offers of one rate
 
@@ -69,11 +69,11 @@ abbrev pub alike : List Call
 alike = post (pos 2) (pos 3) (pos 0) ∷ post (pos 1) (pos 3) (pos 0) ∷ []
 
 -- Within one rate the first in order is named, here the one posted second.
-abbrev pub one-rate-twice : Row
-one-rate-twice = row alike (query (pos 5)) (found (pos 1) (pos 15) (pos 1))
+abbrev pub one_rate_twice : Row
+one_rate_twice = row alike (query (pos 5)) (found (pos 1) (pos 15) (pos 1))
 
-pub earlier-named : answered one-rate-twice ≡ one-rate-twice.told
-earlier-named = refl
+pub earlier_named : answered one_rate_twice ≡ one_rate_twice.told
+earlier_named = refl
 
 -- (2, 0) and (0, 10), twice each: at load 5 all four have one price
 abbrev pub pairs : List Call
@@ -103,26 +103,26 @@ shared =
     ∷ []
 
 -- a follower is withdrawn, and the first stays; five of one rate, in order
-pub followers-told : answers (after (opened (pos 64)) undercut) (withdraw (pos 1) ∷ withdraw (pos 1) ∷ query (pos 5) ∷ listing 3 ∷ []) ≡
+pub followers_told : answers (after (opened (pos 64)) undercut) (withdraw (pos 1) ∷ withdraw (pos 1) ∷ query (pos 5) ∷ listing 3 ∷ []) ≡
     live 1 ∷ refused 8 ∷ found (pos 2) (pos 15) (pos 2) ∷ listed 1 (pos 2 ∷ pos 0 ∷ pos 0 ∷ []) ∷ []
-followers-told = refl
+followers_told = refl
 
-pub five-told : answers (after (opened (pos 64)) alike) (post (pos 5) (pos 3) (pos 0) ∷ post (pos 4) (pos 3) (pos 0) ∷ post (pos 3) (pos 3) (pos 0) ∷
+pub five_told : answers (after (opened (pos 64)) alike) (post (pos 5) (pos 3) (pos 0) ∷ post (pos 4) (pos 3) (pos 0) ∷ post (pos 3) (pos 3) (pos 0) ∷
     withdraw (pos 2) ∷ withdraw (pos 1) ∷ query (pos 5) ∷ []) ≡ live 3 ∷ live 4 ∷ live 5 ∷ live 4 ∷ live 3 ∷ found (pos 3) (pos 15) (pos 3) ∷ []
-five-told = refl
+five_told = refl
 
-pub shared-told : map answered shared ≡ map (λ r. r.told) shared
-shared-told = refl
+pub shared_told : map answered shared ≡ map (λ r. r.told) shared
+shared_told = refl
 
 -- ---- between whole loads
 
 -- Crossings are not rounded: (0, 0), (−3, 7), (−6, 15) cross at 7/3 and 8/3, so the second is the cheapest only between two whole loads.
-abbrev pub between-loads : Row
-between-loads = row (falling ++ (post (pos 3) (neg_ℤ (pos 6)) (pos 15) ∷ [])) (listing 9)
+abbrev pub between_loads : Row
+between_loads = row (falling ++ (post (pos 3) (neg_ℤ (pos 6)) (pos 15) ∷ [])) (listing 9)
     (listed 3 (pos 1 ∷ pos 7 ∷ pos 3 ∷ pos 2 ∷ pos 8 ∷ pos 3 ∷ pos 3 ∷ pos 0 ∷ pos 0 ∷ []))
 
-pub listed-between-loads : answered between-loads ≡ between-loads.told
-listed-between-loads = refl
+pub listed_between_loads : answered between_loads ≡ between_loads.told
+listed_between_loads = refl
 
 -- ---- the counter program's sample, and one refusal of each number that a post, a withdrawal, a query or a listing can meet
 
@@ -142,8 +142,8 @@ sample =
           ∷ [];
     }
 
-pub sample-told : answered sample ≡ sample.told
-sample-told = refl
+pub sample_told : answered sample ≡ sample.told
+sample_told = refl
 
 -- where several causes apply, the first that is tried counts; a refused call leaves the book as it was. A live number is refused, a live rate is not
 abbrev pub refusals : Row
@@ -182,8 +182,8 @@ refusals =
           ∷ [];
     }
 
-pub refusals-told : answered refusals ≡ refusals.told
-refusals-told = refl
+pub refusals_told : answered refusals ≡ refusals.told
+refusals_told = refl
 
 -- Which entry is out of range: the number before the rate, the rate before the base, and each before what the book holds. In the third and the
 -- fourth post the number is live.
@@ -202,8 +202,8 @@ entries =
       told = refused 4 ∷ refused 14 ∷ refused 14 ∷ refused 15 ∷ refused 4 ∷ refused 16 ∷ [];
     }
 
-pub entries-told : answered entries ≡ entries.told
-entries-told = refl
+pub entries_told : answered entries ≡ entries.told
+entries_told = refl
 
 -- the ends of the ranges are in range
 abbrev pub ends : Row
@@ -228,26 +228,26 @@ ends =
           ∷ [];
     }
 
-pub ends-told : answered ends ≡ ends.told
-ends-told = refl
+pub ends_told : answered ends ≡ ends.told
+ends_told = refl
 
 -- a book of one slot: full, then empty; nothing listed takes no room
-pub one-slot : answers (opened (pos 1)) (query (pos 0) ∷ listing 0 ∷ post (pos 9) (pos 1) (pos 2) ∷ post (pos 9) (pos 1) (pos 2) ∷ post (pos 8) (pos 2)
+pub one_slot : answers (opened (pos 1)) (query (pos 0) ∷ listing 0 ∷ post (pos 9) (pos 1) (pos 2) ∷ post (pos 9) (pos 1) (pos 2) ∷ post (pos 8) (pos 2)
     (pos 2) ∷ post (pos 8) (pos 1) (pos 2) ∷ withdraw (pos 9) ∷ query (pos 0) ∷ []) ≡
     refused 9 ∷ listed 0 [] ∷ live 1 ∷ refused 5 ∷ refused 7 ∷ refused 7 ∷ live 0 ∷ refused 9 ∷ []
-one-slot = refl
+one_slot = refl
 
 -- .. and an entry out of range is told before a full book, and before an empty one
-pub one-slot-entries : answers (opened (pos 1)) (query (pos 1_000_001) ∷ post (pos 9) (pos 1) (pos 2) ∷ post (pos 8) (pos 100_001) (pos 2) ∷
+pub one_slot_entries : answers (opened (pos 1)) (query (pos 1_000_001) ∷ post (pos 9) (pos 1) (pos 2) ∷ post (pos 8) (pos 100_001) (pos 2) ∷
     post (pos 8) (pos 2) (pos 1_000_000_001) ∷ []) ≡ refused 16 ∷ live 1 ∷ refused 14 ∷ refused 15 ∷ []
-one-slot-entries = refl
+one_slot_entries = refl
 
 -- four pieces, and an opening of each kind
-pub four-pieces :
+pub four_pieces :
     answers (opened (pos 4)) (post (pos 1) (pos 3) (pos 0) ∷ post (pos 2) (pos 2) (pos 1) ∷ post (pos 3) (pos 1) (pos 3) ∷ post (pos 4) (pos 0) (pos 6) ∷
     listing 12 ∷ []) ≡
     live 1 ∷ live 2 ∷ live 3 ∷ live 4 ∷ listed 4 (pos 1 ∷ pos 1 ∷ pos 1 ∷ pos 2 ∷ pos 2 ∷ pos 1 ∷ pos 3 ∷ pos 3 ∷ pos 1 ∷ pos 4 ∷ pos 0 ∷ pos 0 ∷ []) ∷ []
-four-pieces = refl
+four_pieces = refl
 
 pub openings :
     opening 1_152 0 (pos 0) ∷ opening 1_152 1 (pos 4_097) ∷ opening 1_152 1 (pos 1) ∷ opening 1_151 0 (pos 1) ∷ opening 10 11 (pos 1) ∷
@@ -263,9 +263,9 @@ regretted =
     ∷ post (pos 2) (pos 1) (pos 10)
     ∷ withdraw (pos 1)
     ∷ query (pos 5)
-    ∷ takeBack
+    ∷ take_back
     ∷ query (pos 5)
-    ∷ takeBack
+    ∷ take_back
     ∷ query (pos 5)
     ∷ []
 
@@ -286,63 +286,63 @@ regrets =
           ∷ [];
     }
 
-pub regrets-told : answered regrets ≡ regrets.told
-regrets-told = refl
+pub regrets_told : answered regrets ≡ regrets.told
+regrets_told = refl
 
 -- of these the first post remains
-pub regrets-leave : remaining regretted regrets.told ≡ post (pos 1) (pos 3) (pos 0) ∷ []
-regrets-leave = refl
+pub regrets_leave : remaining regretted regrets.told ≡ post (pos 1) (pos 3) (pos 0) ∷ []
+regrets_leave = refl
 
 -- nothing was posted yet
-pub fresh-told : answers (opened (pos 64)) (takeBack ∷ []) ≡ refused 17 ∷ []
-fresh-told = refl
+pub fresh_told : answers (opened (pos 64)) (take_back ∷ []) ≡ refused 17 ∷ []
+fresh_told = refl
 
 -- a take-back undoes no take-back, but the update before the one that was taken back
-pub back-and-back : answers (opened (pos 64)) (post (pos 1) (pos 3) (pos 0) ∷ post (pos 2) (pos 1) (pos 10) ∷ takeBack ∷ takeBack ∷ takeBack ∷ []) ≡
+pub back_and_back : answers (opened (pos 64)) (post (pos 1) (pos 3) (pos 0) ∷ post (pos 2) (pos 1) (pos 10) ∷ take_back ∷ take_back ∷ take_back ∷ []) ≡
     live 1 ∷ live 2 ∷ live 1 ∷ live 0 ∷ refused 17 ∷ []
-back-and-back = refl
+back_and_back = refl
 
 -- refused posts and withdrawals are not remembered, nor are a query and a listing
-pub refused-forgotten : answers (opened (pos 64)) (post (pos 1) (pos 3) (pos 0) ∷ post (pos 1) (pos 2) (pos 0) ∷ post (pos 0) (pos 2) (pos 0) ∷
-    withdraw (pos 2) ∷ query (pos 5) ∷ listing 3 ∷ takeBack ∷ takeBack ∷ []) ≡
+pub refused_forgotten : answers (opened (pos 64)) (post (pos 1) (pos 3) (pos 0) ∷ post (pos 1) (pos 2) (pos 0) ∷ post (pos 0) (pos 2) (pos 0) ∷
+    withdraw (pos 2) ∷ query (pos 5) ∷ listing 3 ∷ take_back ∷ take_back ∷ []) ≡
     live 1 ∷ refused 5 ∷ refused 4 ∷ refused 8 ∷ found (pos 1) (pos 15) (pos 1) ∷ listed 1 (pos 1 ∷ pos 0 ∷ pos 0 ∷ []) ∷ live 0 ∷ refused 17 ∷ []
-refused-forgotten = refl
+refused_forgotten = refl
 
 -- a withdrawn offer comes back with its rate and base, to its place in the order
-pub restored : answers (after (opened (pos 64)) undercut) (withdraw (pos 2) ∷ query (pos 5) ∷ takeBack ∷ query (pos 5) ∷ listing 3 ∷ []) ≡
+pub restored : answers (after (opened (pos 64)) undercut) (withdraw (pos 2) ∷ query (pos 5) ∷ take_back ∷ query (pos 5) ∷ listing 3 ∷ []) ≡
     live 1 ∷ found (pos 1) (pos 20) (pos 1) ∷ live 2 ∷ found (pos 2) (pos 15) (pos 2) ∷ listed 1 (pos 2 ∷ pos 0 ∷ pos 0 ∷ []) ∷ []
 restored = refl
 
 -- one slot: what was withdrawn comes back once the slot is free again; a refused take-back is not remembered, nor does it forget
-pub one-slot-back : answers (opened (pos 1)) (takeBack ∷ post (pos 9) (pos 1) (pos 2) ∷ withdraw (pos 9) ∷ post (pos 8) (pos 1) (pos 2) ∷
-    takeBack ∷ takeBack ∷ takeBack ∷ takeBack ∷ []) ≡
+pub one_slot_back : answers (opened (pos 1)) (take_back ∷ post (pos 9) (pos 1) (pos 2) ∷ withdraw (pos 9) ∷ post (pos 8) (pos 1) (pos 2) ∷
+    take_back ∷ take_back ∷ take_back ∷ take_back ∷ []) ≡
     refused 17 ∷ live 1 ∷ live 0 ∷ live 1 ∷ live 0 ∷ live 1 ∷ live 0 ∷ refused 17 ∷ []
-one-slot-back = refl
+one_slot_back = refl
 
 -- ---- reports
 
 -- (3, 0), two of rate 2 and (0, 6): at load 1 they cost 3, 4, 6 and 6
-abbrev four-offers : List Call
-four-offers = post (pos 4) (pos 0) (pos 6) ∷ post (pos 3) (pos 2) (pos 4) ∷ post (pos 1) (pos 3) (pos 0) ∷ post (pos 2) (pos 2) (pos 2) ∷ []
+abbrev four_offers : List Call
+four_offers = post (pos 4) (pos 0) (pos 6) ∷ post (pos 3) (pos 2) (pos 4) ∷ post (pos 1) (pos 3) (pos 0) ∷ post (pos 2) (pos 2) (pos 2) ∷ []
 
 -- strictly below: none, the first alone, then with it a rate's first, and at last all four in order; what costs the price itself is not among them
-pub below-a-price : answers (after (opened (pos 4)) four-offers) (report (pos 1) (pos 3) 0 ∷ report (pos 1) (pos 4) 3 ∷ report (pos 1) (pos 6) 6 ∷
+pub below_a_price : answers (after (opened (pos 4)) four_offers) (report (pos 1) (pos 3) 0 ∷ report (pos 1) (pos 4) 3 ∷ report (pos 1) (pos 6) 6 ∷
     report (pos 1) (pos 7) 12 ∷ []) ≡
     reported 0 []
     ∷ reported 1 (pos 1 ∷ pos 3 ∷ pos 0 ∷ [])
     ∷ reported 2 (pos 1 ∷ pos 3 ∷ pos 0 ∷ pos 2 ∷ pos 2 ∷ pos 2 ∷ [])
     ∷ reported 4 (pos 1 ∷ pos 3 ∷ pos 0 ∷ pos 2 ∷ pos 2 ∷ pos 2 ∷ pos 3 ∷ pos 2 ∷ pos 4 ∷ pos 4 ∷ pos 0 ∷ pos 6 ∷ [])
     ∷ []
-below-a-price = refl
+below_a_price = refl
 
 -- price, load and room, each tried before the next; an empty book yields none
-pub reports-refused : answers (after (opened (pos 4)) four-offers) (report (pos 1_000_001) (pos 101_000_000_001) 0 ∷
+pub reports_refused : answers (after (opened (pos 4)) four_offers) (report (pos 1_000_001) (pos 101_000_000_001) 0 ∷
     report (pos 1_000_001) (pos 101_000_000_000) 0 ∷ report (pos 1_000_000) (pos 101_000_000_000) 11 ∷ []) ≡ refused 4 ∷ refused 16 ∷ refused 10 ∷ []
-reports-refused = refl
+reports_refused = refl
 
-pub nothing-below : answers (opened (pos 4)) (report (pos 0) (pos 101_000_000_000) 0 ∷ report (pos 0) (neg_ℤ (pos 101_000_000_001)) 0 ∷ []) ≡
+pub nothing_below : answers (opened (pos 4)) (report (pos 0) (pos 101_000_000_000) 0 ∷ report (pos 0) (neg_ℤ (pos 101_000_000_001)) 0 ∷ []) ≡
     reported 0 [] ∷ refused 4 ∷ []
-nothing-below = refl
+nothing_below = refl
 
 -- ---- what cannot be undone
 
@@ -350,7 +350,7 @@ abbrev carrier : (number rate base : ℕ) → Offer
 carrier n r b = record { number = pos n; rate = pos r; base = pos b }
 
 -- by each cause: the number out of range or not live, the rate, the base, the number live, the book full; and a second entry after a first
-pub not-undoable :
+pub not_undoable :
     (Undoable 2 [] (restore (carrier 0 1 1) ∷ []) → ⊥)
     × (Undoable 2 [] (restore (carrier 10_000 1 1) ∷ []) → ⊥)
     × (Undoable 2 [] (restore (carrier 1 100_001 1) ∷ []) → ⊥)
@@ -359,7 +359,7 @@ pub not-undoable :
     × (Undoable 1 (carrier 1 1 1 ∷ []) (restore (carrier 2 2 2) ∷ []) → ⊥)
     × (Undoable 2 (carrier 1 1 1 ∷ []) (unpost (pos 2) ∷ []) → ⊥)
     × (Undoable 2 (carrier 1 1 1 ∷ []) (unpost (pos 1) ∷ unpost (pos 1) ∷ []) → ⊥)
-not-undoable = (
+not_undoable = (
   λ u. u.0.0,
   λ u. u.0.0,
   λ u. u.0.1.0,

@@ -5,50 +5,50 @@ use Rattle.std.proofs.Math.Option.{Option, none, some}
 
 pub data Cause : Type 0 where
   -- open
-  capacityOutOfRange tableTooShort : Cause
+  capacity_out_of_range table_too_short : Cause
   -- any other call: at `start` there is no book
-  noBook : Cause
+  no_book : Cause
   -- an argument out of its range
-  numberOutOfRange rateOutOfRange baseOutOfRange loadOutOfRange priceOutOfRange : Cause
+  number_out_of_range rate_out_of_range base_out_of_range load_out_of_range price_out_of_range : Cause
   -- post
-  numberLive bookFull : Cause
+  number_live book_full : Cause
   -- withdraw
-  numberNotLive : Cause
+  number_not_live : Cause
   -- query, largest load, mark, meet
-  bookEmpty : Cause
+  book_empty : Cause
   -- listing, report
-  outputTooShort : Cause
+  output_too_short : Cause
   -- the counter program
-  unreadableLine : Cause
+  unreadable_line : Cause
   -- meet: some rate of the first book is not above some rate of the second
-  ratesNotApart : Cause
+  rates_not_apart : Cause
   -- mark
-  noSuchMark : Cause
+  no_such_mark : Cause
   -- take-back: no update is remembered
-  nothingToTakeBack : Cause
+  nothing_to_take_back : Cause
   -- largest load: at every load in range the least price is above the budget
-  noLoadFits : Cause
+  no_load_fits : Cause
 
 -- Number 6 told of a rate that was live; no cause has it any more.
-abbrev pub causeNumber : Cause → ℕ
-causeNumber capacityOutOfRange = 1
-causeNumber tableTooShort = 2
-causeNumber noBook = 3
-causeNumber numberOutOfRange = 4
-causeNumber rateOutOfRange = 14
-causeNumber baseOutOfRange = 15
-causeNumber loadOutOfRange = 16
-causeNumber priceOutOfRange = 4
-causeNumber numberLive = 5
-causeNumber bookFull = 7
-causeNumber numberNotLive = 8
-causeNumber bookEmpty = 9
-causeNumber outputTooShort = 10
-causeNumber unreadableLine = 11
-causeNumber ratesNotApart = 12
-causeNumber noSuchMark = 13
-causeNumber nothingToTakeBack = 17
-causeNumber noLoadFits = 18
+abbrev pub cause_number : Cause → ℕ
+cause_number capacity_out_of_range = 1
+cause_number table_too_short = 2
+cause_number no_book = 3
+cause_number number_out_of_range = 4
+cause_number rate_out_of_range = 14
+cause_number base_out_of_range = 15
+cause_number load_out_of_range = 16
+cause_number price_out_of_range = 4
+cause_number number_live = 5
+cause_number book_full = 7
+cause_number number_not_live = 8
+cause_number book_empty = 9
+cause_number output_too_short = 10
+cause_number unreadable_line = 11
+cause_number rates_not_apart = 12
+cause_number no_such_mark = 13
+cause_number nothing_to_take_back = 17
+cause_number no_load_fits = 18
 
 -- A cause, and whether it applies.
 pub record Trial : Type 0 where

@@ -3,29 +3,29 @@
 use Rattle.std.specs.Prelude.{◌≡◌, ◌≢◌, ◌↔◌, not, ℕ, suc, ◌+◌, ◌*◌, ◌<◌, length, get_or, T, ℤ, pos}
 use mathlib.Core.List.{List, ◌∷◌, Memᴰ, Pairwise}
 use Rattle.std.specs.Int.Signed.{le_z, lt_z}
-use Rattle.offers.specs.Offers.{Offer, RationalLoad, loadInRange, priceAt, priceTimesD, precedes, ahead, crossingNumerator, crossingDenominator}
+use Rattle.offers.specs.Offers.{Offer, RationalLoad, load_in_range, price_at, price_times_d, precedes, ahead, crossing_numerator, crossing_denominator}
 
 -- ---- a query
 
 -- The offer stands in the list, and none before it has its price at the load and its rate.
 pub data Earliest (q : ℤ) (o : Offer) : List Offer → Type 0 where
   here : {os : List Offer} → Earliest q o (o ∷ os)
-  later : {x : Offer} {os : List Offer} → (priceAt x q ≡ priceAt o q → x.rate ≢ o.rate) → Earliest q o os → Earliest q o (x ∷ os)
+  later : {x : Offer} {os : List Offer} → (price_at x q ≡ price_at o q → x.rate ≢ o.rate) → Earliest q o os → Earliest q o (x ∷ os)
 
 -- A live offer of this number has this price at the load; of those with this price and its rate it is the first in order.
 pub record Priced (os : List Offer) (q number price : ℤ) : Type 0 where
   pub offer : Offer
   pub earliest : Earliest q offer os
   pub named : number ≡ offer.number
-  pub priced : price ≡ priceAt offer q
+  pub priced : price ≡ price_at offer q
 
 -- The least price at the load, the number of the first offer with the lowest rate at that price, and of the first with the highest.
 pub record Cheapest (os : List Offer) (q number price second : ℤ) : Type 0 where
-  pub least : (x : Offer) → Memᴰ x os → T (le_z price (priceAt x q))
+  pub least : (x : Offer) → Memᴰ x os → T (le_z price (price_at x q))
   pub one : Priced os q number price
-  pub lowest : (x : Offer) → Memᴰ x os → priceAt x q ≡ price → T (le_z one.offer.rate x.rate)
+  pub lowest : (x : Offer) → Memᴰ x os → price_at x q ≡ price → T (le_z one.offer.rate x.rate)
   pub other : Priced os q second price
-  pub highest : (x : Offer) → Memᴰ x os → priceAt x q ≡ price → T (le_z x.rate other.offer.rate)
+  pub highest : (x : Offer) → Memᴰ x os → price_at x q ≡ price → T (le_z x.rate other.offer.rate)
 
 -- ---- a listing
 
@@ -37,7 +37,7 @@ pub record FirstOfRate (os : List Offer) (e : Offer) : Type 0 where
 -- At the load, the first of its rate is strictly cheaper than every live offer of another rate.
 pub record CheaperThanOthers (os : List Offer) (e : Offer) (x : RationalLoad) : Type 0 where
   pub first : FirstOfRate os e
-  pub cheaper : (o : Offer) → Memᴰ o os → o.rate ≢ e.rate → T (lt_z (priceTimesD e x) (priceTimesD o x))
+  pub cheaper : (o : Offer) → Memᴰ o os → o.rate ≢ e.rate → T (lt_z (price_times_d e x) (price_times_d o x))
 
 -- Number, numerator and denominator of piece i stand at 3 i, 3 i + 1 and 3 i + 2; of a reported offer number, rate and base.
 pub record PieceAt (ws : List ℤ) (i : ℕ) (number numerator denominator : ℤ) : Type 0 where
@@ -56,8 +56,8 @@ pub record Listing (os : List Offer) (m : ℕ) (ws : List ℤ) : Type 0 where
   pub exact : (e : Offer) → Memᴰ e pieces ↔ ((x : RationalLoad) × CheaperThanOthers os e x)
   pub inner :
       (i : ℕ) (d : Offer) → suc i < m →
-      PieceAt ws i (get_or pieces i d).number (crossingNumerator (get_or pieces i d) (get_or pieces (suc i) d))
-      (crossingDenominator (get_or pieces i d) (get_or pieces (suc i) d))
+      PieceAt ws i (get_or pieces i d).number (crossing_numerator (get_or pieces i d) (get_or pieces (suc i) d))
+      (crossing_denominator (get_or pieces i d) (get_or pieces (suc i) d))
   pub last : (i : ℕ) (d : Offer) → suc i ≡ m → PieceAt ws i (get_or pieces i d).number (pos 0) (pos 0)
 
 -- ---- a report
@@ -69,25 +69,25 @@ pub record Report (os : List Offer) (q p : ℤ) (m : ℕ) (ws : List ℤ) : Type
   pub many : length offers ≡ m
   pub long : length ws ≡ 3 * m
   pub in_order : Pairwise (λ a b. T (ahead a b)) offers
-  pub exact : (o : Offer) → Memᴰ o offers ↔ (Memᴰ o os × T (lt_z (priceAt o q) p))
+  pub exact : (o : Offer) → Memᴰ o offers ↔ (Memᴰ o os × T (lt_z (price_at o q) p))
   pub told : (i : ℕ) (d : Offer) → i < m → PieceAt ws i (get_or offers i d).number (get_or offers i d).rate (get_or offers i d).base
 
 -- ---- a largest load
 
 -- At the load every live offer's price is above the budget.
 abbrev pub TooDear : List Offer → ℤ → ℤ → Type 0
-TooDear os b q = (x : Offer) → Memᴰ x os → T (lt_z b (priceAt x q))
+TooDear os b q = (x : Offer) → Memᴰ x os → T (lt_z b (price_at x q))
 
 -- The largest whole load in range whose least price is at most the budget, and the number of the offer that a query names first there. Loads that fit
 -- may lie on both sides of a gap: of all those in range it is the largest.
 pub record Largest (os : List Offer) (b number load : ℤ) : Type 0 where
-  pub in-range : T (loadInRange load)
+  pub in_range : T (load_in_range load)
   pub price : ℤ
   pub second : ℤ
   pub named : Cheapest os load number price second
   pub affordable : T (le_z price b)
-  pub last : (q : ℤ) → T (loadInRange q) → T (lt_z load q) → TooDear os b q
+  pub last : (q : ℤ) → T (load_in_range q) → T (lt_z load q) → TooDear os b q
 
 -- No load in range fits.
 abbrev pub NoneFits : List Offer → ℤ → Type 0
-NoneFits os b = (q : ℤ) → T (loadInRange q) → TooDear os b q
+NoneFits os b = (q : ℤ) → T (load_in_range q) → TooDear os b q

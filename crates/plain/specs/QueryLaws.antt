@@ -8,16 +8,16 @@ use mathlib.Core.List.{List, [], ◌∷◌, Memᴰ, Pairwise}
 use Rattle.std.proofs.Math.Dec.{not_T}
 use Rattle.std.specs.Int.Signed.{le_z, lt_z}
 use Rattle.lists.specs.Filter.{keep}
-use Rattle.lists.specs.Firsts.{firsts-sub}
-use Rattle.lists.specs.Places.{all_cons, sublist-mem}
+use Rattle.lists.specs.Firsts.{firsts_sub}
+use Rattle.lists.specs.Places.{all_cons, sublist_mem}
 use Rattle.lists.specs.Bools.{and_both, and_left, and_right, or_cases, neither, cond_both}
 use Rattle.integers.specs.Parts.{intRules, add_parts}
 use Rattle.integers.specs.Equal.{equal}
-use Rattle.offers.specs.Offers.{Offer, priceAt, precedes, ahead}
-use Rattle.offers.specs.Order.{Ahead, ahead-asym, ahead-other, base-rises}
-use Rattle.plain.specs.Book.{lower, higher, goesFirst, cheapest, firstOfEach}
+use Rattle.offers.specs.Offers.{Offer, price_at, precedes, ahead}
+use Rattle.offers.specs.Order.{Ahead, ahead_asym, ahead_other, base_rises}
+use Rattle.plain.specs.Book.{lower, higher, goes_first, cheapest, first_of_each}
 use Rattle.plain.specs.Meaning.{Earliest, here, later}
-use Rattle.plain.specs.FirstLaws.{self, Standing, standing-cons, pairs-standing, Covered, cover, one-of-rate}
+use Rattle.plain.specs.FirstLaws.{self, Standing, standing_cons, pairs_standing, Covered, cover, one_of_rate}
 
 -- ---- two rates
 
@@ -28,8 +28,8 @@ pub record RateOrder (tie : ℤ → ℤ → Bool) : Type 0 where
   pub passed : (r s t : ℤ) → T (not (tie r s)) → T (not (tie s t)) → T (not (tie r t))
   pub same : (r s : ℤ) → T (not (tie r s)) → T (not (tie s r)) → r ≡ s
 
-pub lower-tie : RateOrder lower
-lower-tie =
+pub lower_tie : RateOrder lower
+lower_tie =
     record {
       itself = λ r. omega (arith, intRules);
       turned = λ r s h. omega (arith, intRules);
@@ -37,8 +37,8 @@ lower-tie =
       same = λ r s h k. omega (arith, intRules);
     }
 
-pub higher-tie : RateOrder higher
-higher-tie =
+pub higher_tie : RateOrder higher
+higher_tie =
     record {
       itself = λ r. omega (arith, intRules);
       turned = λ r s h. omega (arith, intRules);
@@ -50,8 +50,8 @@ higher-tie =
 
 -- At the load the first offer does not go before the second.
 pub record NotFirst (tie : ℤ → ℤ → Bool) (q : ℤ) (x o : Offer) : Type 0 where
-  pub least : T (le_z (priceAt o q) (priceAt x q))
-  pub best : priceAt x q ≡ priceAt o q → T (not (tie x.rate o.rate))
+  pub least : T (le_z (price_at o q) (price_at x q))
+  pub best : price_at x q ≡ price_at o q → T (not (tie x.rate o.rate))
 
 module _ {tie : ℤ → ℤ → Bool} (t : RateOrder tie) (q : ℤ) where
   itself : (o : Offer) → NotFirst tie q o o
@@ -67,21 +67,21 @@ module _ {tie : ℤ → ℤ → Bool} (t : RateOrder tie) (q : ℤ) where
       }
 
   -- by the test
-  gone : (o p : Offer) → T (goesFirst tie q o p) → NotFirst tie q p o
-  gone o p h = ⊎_elim cheaper tied (or_cases (lt_z (priceAt o q) (priceAt p q)) (equal (priceAt o q) (priceAt p q) && tie o.rate p.rate) h)
+  gone : (o p : Offer) → T (goes_first tie q o p) → NotFirst tie q p o
+  gone o p h = ⊎_elim cheaper tied (or_cases (lt_z (price_at o q) (price_at p q)) (equal (price_at o q) (price_at p q) && tie o.rate p.rate) h)
     where
-      cheaper : T (lt_z (priceAt o q) (priceAt p q)) → NotFirst tie q p o
+      cheaper : T (lt_z (price_at o q) (price_at p q)) → NotFirst tie q p o
       cheaper k = record { least = omega (arith, intRules); best = λ e. absurd (omega (arith, intRules)) }
 
-      tied : T (equal (priceAt o q) (priceAt p q) && tie o.rate p.rate) → NotFirst tie q p o
+      tied : T (equal (price_at o q) (price_at p q) && tie o.rate p.rate) → NotFirst tie q p o
       tied k =
-          let e = and_left (equal (priceAt o q) (priceAt p q)) _ k in
-          record { least = omega (arith, intRules); best = λ d. t.turned o.rate p.rate (and_right (equal (priceAt o q) (priceAt p q)) _ k) }
+          let e = and_left (equal (price_at o q) (price_at p q)) _ k in
+          record { least = omega (arith, intRules); best = λ d. t.turned o.rate p.rate (and_right (equal (price_at o q) (price_at p q)) _ k) }
 
-  stays : (o p : Offer) → T (not (goesFirst tie q o p)) → NotFirst tie q o p
+  stays : (o p : Offer) → T (not (goes_first tie q o p)) → NotFirst tie q o p
   stays o p h =
-      let tied = equal (priceAt o q) (priceAt p q) in
-      let (a, b) = neither (lt_z (priceAt o q) (priceAt p q)) (tied && tie o.rate p.rate) h in
+      let tied = equal (price_at o q) (price_at p q) in
+      let (a, b) = neither (lt_z (price_at o q) (price_at p q)) (tied && tie o.rate p.rate) h in
       record {
         least = omega (arith, intRules);
         best = λ e. not_T (tie o.rate p.rate)
@@ -107,25 +107,25 @@ module _ {tie : ℤ → ℤ → Bool} (t : RateOrder tie) (q : ℤ) where
         none_first = all_cons (onward t q h top) (all_cons (onward t q k top) (λ y m. n.none_first y (Memᴰ.tail m)));
       }
 
-  pub cheapest-names : (o : Offer) (os : List Offer) → Names tie q (o ∷ os) (cheapest tie q o os)
-  cheapest-names o [] = record { live = Memᴰ.head refl; none_first = all_cons (itself t q o) (λ x n. elim n [ ]) }
-  cheapest-names o (x ∷ xs) =
-      cond_both (λ b. Names tie q (b ∷ xs) (cheapest tie q b xs) → Names tie q (o ∷ x ∷ xs) (cheapest tie q b xs)) (goesFirst tie q x o)
+  pub cheapest_names : (o : Offer) (os : List Offer) → Names tie q (o ∷ os) (cheapest tie q o os)
+  cheapest_names o [] = record { live = Memᴰ.head refl; none_first = all_cons (itself t q o) (λ x n. elim n [ ]) }
+  cheapest_names o (x ∷ xs) =
+      cond_both (λ b. Names tie q (b ∷ xs) (cheapest tie q b xs) → Names tie q (o ∷ x ∷ xs) (cheapest tie q b xs)) (goes_first tie q x o)
       (λ h. joined (inr refl) (gone t q x o h) (itself t q x)) (λ h. joined (inl refl) (itself t q o) (stays t q x o h))
-      (cheapest-names (cond (goesFirst tie q x o) x o) xs)
+      (cheapest_names (cond (goes_first tie q x o) x o) xs)
 
 -- ---- within one rate
 
-pub earliest-live : {q : ℤ} {o : Offer} {os : List Offer} → Earliest q o os → Memᴰ o os
-earliest-live here = Memᴰ.head refl
-earliest-live (later f n) = Memᴰ.tail (earliest-live n)
+pub earliest_live : {q : ℤ} {o : Offer} {os : List Offer} → Earliest q o os → Memᴰ o os
+earliest_live here = Memᴰ.head refl
+earliest_live (later f n) = Memᴰ.tail (earliest_live n)
 
 -- a price and a rate have one such offer
-pub earliest-once : {q : ℤ} {o p : Offer} {os : List Offer} → Earliest q o os → Earliest q p os → priceAt o q ≡ priceAt p q → o.rate ≡ p.rate → o ≡ p
-earliest-once here here e d = refl
-earliest-once here (later f n) e d = absurd (f e d)
-earliest-once (later f n) here e d = absurd (f (sym e) (sym d))
-earliest-once (later f m) (later g n) e d = earliest-once m n e d
+pub earliest_once : {q : ℤ} {o p : Offer} {os : List Offer} → Earliest q o os → Earliest q p os → price_at o q ≡ price_at p q → o.rate ≡ p.rate → o ≡ p
+earliest_once here here e d = refl
+earliest_once here (later f n) e d = absurd (f e d)
+earliest_once (later f n) here e d = absurd (f (sym e) (sym d))
+earliest_once (later f m) (later g n) e d = earliest_once m n e d
 
 -- The offer stands in the list, and goes before each one ahead of it.
 data Leads (tie : ℤ → ℤ → Bool) (q : ℤ) (o : Offer) : List Offer → Type 0 where
@@ -133,13 +133,13 @@ data Leads (tie : ℤ → ℤ → Bool) (q : ℤ) (o : Offer) : List Offer → T
   behind : {x : Offer} {os : List Offer} → ¬ NotFirst tie q o x → Leads tie q o os → Leads tie q o (x ∷ os)
 
 module _ {tie : ℤ → ℤ → Bool} (t : RateOrder tie) (q : ℤ) where
-  not-both : (o p : Offer) → T (goesFirst tie q o p) → ¬ NotFirst tie q o p
-  not-both o p h k =
+  not_both : (o p : Offer) → T (goes_first tie q o p) → ¬ NotFirst tie q o p
+  not_both o p h k =
       ⊎_elim (λ c. let l = k.least in absurd (omega (arith, intRules)))
       (λ c.
-      let e = and_left (equal (priceAt o q) (priceAt p q)) _ c in
-      T_not (tie o.rate p.rate) (k.best (omega (arith, intRules))) (and_right (equal (priceAt o q) (priceAt p q)) _ c))
-      (or_cases (lt_z (priceAt o q) (priceAt p q)) (equal (priceAt o q) (priceAt p q) && tie o.rate p.rate) h)
+      let e = and_left (equal (price_at o q) (price_at p q)) _ c in
+      T_not (tie o.rate p.rate) (k.best (omega (arith, intRules))) (and_right (equal (price_at o q) (price_at p q)) _ c))
+      (or_cases (lt_z (price_at o q) (price_at p q)) (equal (price_at o q) (price_at p q) && tie o.rate p.rate) h)
 
   -- b is one of two offers, and neither goes before it
   led_on : {x o b r : Offer} {os : List Offer} → (b ≡ o) ⊎ ((b ≡ x) × ¬ NotFirst tie q b o) → NotFirst tie q o b → NotFirst tie q x b →
@@ -151,43 +151,43 @@ module _ {tie : ℤ → ℤ → Bool} (t : RateOrder tie) (q : ℤ) where
   leads : (o : Offer) (os : List Offer) → Leads tie q (cheapest tie q o os) (o ∷ os)
   leads o [] = at_head refl
   leads o (x ∷ xs) =
-      cond_both (λ b. Leads tie q (cheapest tie q b xs) (b ∷ xs) → Leads tie q (cheapest tie q b xs) (o ∷ x ∷ xs)) (goesFirst tie q x o)
-      (λ h. led_on (inr (refl, not-both x o h)) (gone t q x o h) (itself t q x)) (λ h. led_on (inl refl) (itself t q o) (stays t q x o h))
-      (leads (cond (goesFirst tie q x o) x o) xs)
+      cond_both (λ b. Leads tie q (cheapest tie q b xs) (b ∷ xs) → Leads tie q (cheapest tie q b xs) (o ∷ x ∷ xs)) (goes_first tie q x o)
+      (λ h. led_on (inr (refl, not_both x o h)) (gone t q x o h) (itself t q x)) (λ h. led_on (inl refl) (itself t q o) (stays t q x o h))
+      (leads (cond (goes_first tie q x o) x o) xs)
 
   earliest : {o : Offer} {os : List Offer} → Leads tie q o os → Earliest q o os
   earliest {o} (at_head {os = os} e) = subst (λ (x : Offer). Earliest q o (x ∷ os)) e here
-  earliest {o} (behind {x} f n) = later (λ e d. f (as-good e d)) (earliest n)
+  earliest {o} (behind {x} f n) = later (λ e d. f (as_good e d)) (earliest n)
     where
-      as-good : priceAt x q ≡ priceAt o q → x.rate ≡ o.rate → NotFirst tie q o x
-      as-good e d =
+      as_good : price_at x q ≡ price_at o q → x.rate ≡ o.rate → NotFirst tie q o x
+      as_good e d =
           record { least = omega (arith, intRules); best = λ u. subst (λ (r : ℤ). T (not (tie o.rate r))) (sym d) (t.itself o.rate) }
 
-  pub cheapest-earliest : (o : Offer) (os : List Offer) → Earliest q (cheapest tie q o os) (o ∷ os)
-  cheapest-earliest o os = earliest (leads o os)
+  pub cheapest_earliest : (o : Offer) (os : List Offer) → Earliest q (cheapest tie q o os) (o ∷ os)
+  cheapest_earliest o os = earliest (leads o os)
 
 -- ---- among the first offers of their rates
 
 -- of one rate the lower base is the lower price
-no-dearer : (a b : Offer) (q : ℤ) → a.rate ≡ b.rate → T (le_z a.base b.base) → T (le_z (priceAt a q) (priceAt b q))
-no-dearer a b q r h =
+no_dearer : (a b : Offer) (q : ℤ) → a.rate ≡ b.rate → T (le_z a.base b.base) → T (le_z (price_at a q) (price_at b q))
+no_dearer a b q r h =
     let e : a.rate *ℤ q ≡ b.rate *ℤ q = ap (λ (z : ℤ). z *ℤ q) r in
     omega (arith, intRules, add_parts a.base (a.rate *ℤ q), add_parts b.base (b.rate *ℤ q))
 
 -- none ahead has the price and the rate
-not-ahead : {q : ℤ} {d f : Offer} {os : List Offer} → Earliest q d os → Standing Offer self os → Memᴰ f os → Ahead f d → priceAt f q ≡ priceAt d q →
+not_ahead : {q : ℤ} {d f : Offer} {os : List Offer} → Earliest q d os → Standing Offer self os → Memᴰ f os → Ahead f d → price_at f q ≡ price_at d q →
     f.rate ≡ d.rate → ⊥
-not-ahead here (standing-cons h s) m k p r = ⊎_elim (λ e. ahead-other k e) (λ n. ahead-asym k (h _ n)) (Memᴰ.cases_cons m)
-not-ahead {q} {d} (later {x} g n) (standing-cons h s) m k p r =
-    ⊎_elim (λ e. subst (λ (y : Offer). priceAt y q ≡ priceAt d q → y.rate ≢ d.rate) (sym e) g p r) (λ i. not-ahead n s i k p r) (Memᴰ.cases_cons m)
+not_ahead here (standing_cons h s) m k p r = ⊎_elim (λ e. ahead_other k e) (λ n. ahead_asym k (h _ n)) (Memᴰ.cases_cons m)
+not_ahead {q} {d} (later {x} g n) (standing_cons h s) m k p r =
+    ⊎_elim (λ e. subst (λ (y : Offer). price_at y q ≡ price_at d q → y.rate ≢ d.rate) (sym e) g p r) (λ i. not_ahead n s i k p r) (Memᴰ.cases_cons m)
 
 module _ {tie : ℤ → ℤ → Bool} (t : RateOrder tie) (q : ℤ) where
   -- who is named among them is named among all
-  pub named-first : {os : List Offer} {c d : Offer} → Standing Offer self os → Names tie q (firstOfEach os) c → Names tie q os d → Earliest q d os → c ≡ d
-  named-first {os} {c} {d} s n m first = same ∙ ⊎_elim (λ e. e) (λ k. absurd (not-ahead first s (live f.one_of) k price f.rate)) f.no-later
+  pub named_first : {os : List Offer} {c d : Offer} → Standing Offer self os → Names tie q (first_of_each os) c → Names tie q os d → Earliest q d os → c ≡ d
+  named_first {os} {c} {d} s n m first = same ∙ ⊎_elim (λ e. e) (λ k. absurd (not_ahead first s (live f.one_of) k price f.rate)) f.no_later
     where
-      live : {x : Offer} → Memᴰ x (firstOfEach os) → Memᴰ x os
-      live i = sublist-mem (firsts-sub precedes os) i
+      live : {x : Offer} → Memᴰ x (first_of_each os) → Memᴰ x os
+      live i = sublist_mem (firsts_sub precedes os) i
 
       -- the first of its rate
       f : Covered Offer self os d
@@ -199,10 +199,10 @@ module _ {tie : ℤ → ℤ → Bool} (t : RateOrder tie) (q : ℤ) where
       above : NotFirst tie q f.by c
       above = n.none_first f.by f.one_of
 
-      cheap : T (le_z (priceAt f.by q) (priceAt d q))
-      cheap = no-dearer f.by d q f.rate (base-rises f.no-later f.rate)
+      cheap : T (le_z (price_at f.by q) (price_at d q))
+      cheap = no_dearer f.by d q f.rate (base_rises f.no_later f.rate)
 
-      price : priceAt f.by q ≡ priceAt d q
+      price : price_at f.by q ≡ price_at d q
       price = let i = below.least in let j = above.least in let k = cheap in omega (arith, intRules)
 
       rates : c.rate ≡ f.by.rate
@@ -214,11 +214,11 @@ module _ {tie : ℤ → ℤ → Bool} (t : RateOrder tie) (q : ℤ) where
           (above.best (omega (arith, intRules)))
 
       same : c ≡ f.by
-      same = one-of-rate Offer self os n.live f.one_of rates
+      same = one_of_rate Offer self os n.live f.one_of rates
 
   -- so the query over the first offers of their rates is the query over all
-  pub cheapest-firsts : (o : Offer) (os : List Offer) → Pairwise (λ a b. T (ahead a b)) (o ∷ os) →
-      cheapest tie q o (keep (precedes o) (firstOfEach os)) ≡ cheapest tie q o os
-  cheapest-firsts o os h =
-      named-first (pairs-standing Offer self h) (cheapest-names t q o (keep (precedes o) (firstOfEach os))) (cheapest-names t q o os)
-      (cheapest-earliest t q o os)
+  pub cheapest_firsts : (o : Offer) (os : List Offer) → Pairwise (λ a b. T (ahead a b)) (o ∷ os) →
+      cheapest tie q o (keep (precedes o) (first_of_each os)) ≡ cheapest tie q o os
+  cheapest_firsts o os h =
+      named_first (pairs_standing Offer self h) (cheapest_names t q o (keep (precedes o) (first_of_each os))) (cheapest_names t q o os)
+      (cheapest_earliest t q o os)

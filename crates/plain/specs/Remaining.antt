@@ -6,12 +6,12 @@ use mathlib.Core.List.{List, [], ◌∷◌, ◌++◌, tail, reverse, reverse_aux
 use Rattle.std.proofs.Math.Option.{Option, none, some}
 use Rattle.plain.specs.Causes.{Cause, declined, Clear}
 use Rattle.plain.specs.Trials.{clear}
-use Rattle.plain.specs.Book.{State, Undo, Call, post, withdraw, query, listing, takeBack, report, largestLoad}
+use Rattle.plain.specs.Book.{State, Undo, Call, post, withdraw, query, listing, take_back, report, largest_load}
 use Rattle.plain.specs.Book.{Answer, refused, live, found, listed, reported, fitted}
-use Rattle.plain.specs.Book.{undoOf, mostRemembered, remember, undone, trials, recalling, accepted, respond, step, after, answers, Recallable}
-use Rattle.plain.specs.Sound.{Sound, step-sound}
-use Rattle.plain.specs.Rules.{step-accepted}
-use Rattle.plain.specs.Undoing.{Updating, posting, withdrawing, Undoes, undoes, step-recallable, after-sound}
+use Rattle.plain.specs.Book.{undo_of, most_remembered, remember, undone, trials, recalling, accepted, respond, step, after, answers, Recallable}
+use Rattle.plain.specs.Sound.{Sound, step_sound}
+use Rattle.plain.specs.Rules.{step_accepted}
+use Rattle.plain.specs.Undoing.{Updating, posting, withdrawing, Undoes, undoes, step_recallable, after_sound}
 
 -- ---- which calls remain
 
@@ -20,11 +20,11 @@ use Rattle.plain.specs.Undoing.{Updating, posting, withdrawing, Undoes, undoes, 
 abbrev pub going : List Call → Call → List Call
 going done (post n r b) = post n r b ∷ done
 going done (withdraw n) = withdraw n ∷ done
-going done takeBack = tail done
+going done take_back = tail done
 going done (query q) = done
 going done (listing room) = done
 going done (report q p room) = done
-going done (largestLoad b) = done
+going done (largest_load b) = done
 
 -- .. and when it was so answered: a refused one changes nothing.
 abbrev pub remains : List Call → Call → Answer → List Call
@@ -59,27 +59,27 @@ pub record Remains (s : State) (ks : List Call) : Type 0 where
 -- ---- how many can be taken back
 
 -- An accepted post or withdrawal is one more, up to 256, and an accepted take-back one less: an update that fell out of memory stays out.
-abbrev pub countBack : ℕ → Call → ℕ
-countBack n (post m r b) = min 256 (suc n)
-countBack n (withdraw m) = min 256 (suc n)
-countBack n takeBack = n - 1
-countBack n (query q) = n
-countBack n (listing room) = n
-countBack n (report q p room) = n
-countBack n (largestLoad b) = n
+abbrev pub count_back : ℕ → Call → ℕ
+count_back n (post m r b) = min 256 (suc n)
+count_back n (withdraw m) = min 256 (suc n)
+count_back n take_back = n - 1
+count_back n (query q) = n
+count_back n (listing room) = n
+count_back n (report q p room) = n
+count_back n (largest_load b) = n
 
-abbrev pub canTake : ℕ → Call → Answer → ℕ
-canTake n k (refused m) = n
-canTake n k (live m) = countBack n k
-canTake n k (found m p q) = countBack n k
-canTake n k (listed m ws) = countBack n k
-canTake n k (reported m ws) = countBack n k
-canTake n k (fitted m q) = countBack n k
+abbrev pub can_take : ℕ → Call → Answer → ℕ
+can_take n k (refused m) = n
+can_take n k (live m) = count_back n k
+can_take n k (found m p q) = count_back n k
+can_take n k (listed m ws) = count_back n k
+can_take n k (reported m ws) = count_back n k
+can_take n k (fitted m q) = count_back n k
 
-abbrev pub canTakeAll : ℕ → List Call → List Answer → ℕ
-canTakeAll n (k ∷ ks) (a ∷ told) = canTakeAll (canTake n k a) ks told
-canTakeAll n [] told = n
-canTakeAll n (k ∷ ks) [] = n
+abbrev pub can_take_all : ℕ → List Call → List Answer → ℕ
+can_take_all n (k ∷ ks) (a ∷ told) = can_take_all (can_take n k a) ks told
+can_take_all n [] told = n
+can_take_all n (k ∷ ks) [] = n
 
 -- ---- only those are made
 
@@ -93,16 +93,16 @@ abbrev Done : State → List Call → Type 0
 Done s [] = Unit {0}
 Done s (k ∷ done) = Updating k × Clear (trials (ran s done) k) × Done s done
 
-ran-after : (s : State) (done ks : List Call) → after (ran s done) ks ≡ after s (reverse_aux done ks)
-ran-after s [] ks = refl
-ran-after s (k ∷ done) ks = ran-after s done (k ∷ ks)
+ran_after : (s : State) (done ks : List Call) → after (ran s done) ks ≡ after s (reverse_aux done ks)
+ran_after s [] ks = refl
+ran_after s (k ∷ done) ks = ran_after s done (k ∷ ks)
 
-ran-accepted : (s : State) (done ks : List Call) → Done s done → AllAccepted (ran s done) ks → AllAccepted s (reverse_aux done ks)
-ran-accepted s [] ks d a = a
-ran-accepted s (k ∷ done) ks (u, c, d) a = ran-accepted s done (k ∷ ks) d (c, a)
+ran_accepted : (s : State) (done ks : List Call) → Done s done → AllAccepted (ran s done) ks → AllAccepted s (reverse_aux done ks)
+ran_accepted s [] ks d a = a
+ran_accepted s (k ∷ done) ks (u, c, d) a = ran_accepted s done (k ∷ ks) d (c, a)
 
-ran-sound : (s : State) (done : List Call) → Sound s → Recallable s → Sound (ran s done)
-ran-sound s done h r = subst Sound (sym (ran-after s done [])) (after-sound s (reverse done) h r).0
+ran_sound : (s : State) (done : List Call) → Sound s → Recallable s → Sound (ran s done)
+ran_sound s done h r = subst Sound (sym (ran_after s done [])) (after_sound s (reverse done) h r).0
 
 -- ---- a book that remembers more
 
@@ -116,42 +116,42 @@ take_more zero xs ys = ([], refl)
 take_more (suc n) [] ys = (take (suc n) ys, refl)
 take_more {A} (suc n) (x ∷ xs) ys = let (zs, e) = take_more n xs ys in (zs, ap {B = List A} (λ (r : List A). x ∷ r) e)
 
-take-first : {A : Type 0} {x y : A} {ys : List A} (n : ℕ) (xs : List A) → take n (x ∷ xs) ≡ y ∷ ys → (x ≡ y) × ((zs : List A) × (xs ≡ ys ++ zs))
-take-first zero xs e = absurd (nil≢cons e)
-take-first {A} (suc n) xs e =
+take_first : {A : Type 0} {x y : A} {ys : List A} (n : ℕ) (xs : List A) → take n (x ∷ xs) ≡ y ∷ ys → (x ≡ y) × ((zs : List A) × (xs ≡ ys ++ zs))
+take_first zero xs e = absurd (nil≢cons e)
+take_first {A} (suc n) xs e =
     (head-eq_of_cons-eq e, (drop n xs, sym (take-append-drop n xs) ∙ ap (λ (r : List A). r ++ drop n xs) (tail-eq_of_cons-eq e)))
 
 -- it accepts the same updates, and they leave it alike
-more-clear : {k : Call} → Updating k → (t : State) (rest : List Undo) → Clear (trials t k) → Clear (trials (more t rest) k)
-more-clear posting t rest c = c
-more-clear withdrawing t rest c = c
+more_clear : {k : Call} → Updating k → (t : State) (rest : List Undo) → Clear (trials t k) → Clear (trials (more t rest) k)
+more_clear posting t rest c = c
+more_clear withdrawing t rest c = c
 
 updated : {k : Call} → Updating k → (t : State) (us : List Undo) →
-    (accepted (recalling t t.offers us) k).state ≡ recalling t (accepted t k).state.offers (remember (undoOf t.offers k) us)
+    (accepted (recalling t t.offers us) k).state ≡ recalling t (accepted t k).state.offers (remember (undo_of t.offers k) us)
 updated posting t us = refl
 updated withdrawing t us = refl
 
-more-updated : {k : Call} → Updating k → (t : State) (rest : List Undo) →
+more_updated : {k : Call} → Updating k → (t : State) (rest : List Undo) →
     (older : List Undo) × ((accepted (more t rest) k).state ≡ more (accepted t k).state older)
-more-updated {k} u t rest =
-    let new : List Undo = undoOf t.offers k in
-    let (older, e) = take_more mostRemembered (new ++ t.memory) rest in (
+more_updated {k} u t rest =
+    let new : List Undo = undo_of t.offers k in
+    let (older, e) = take_more most_remembered (new ++ t.memory) rest in (
       older,
       updated u t (t.memory ++ rest)
-          ∙ ap (recalling t (accepted t k).state.offers) (ap (take mostRemembered) (sym (append_assoc new t.memory rest)) ∙ e)
+          ∙ ap (recalling t (accepted t k).state.offers) (ap (take most_remembered) (sym (append_assoc new t.memory rest)) ∙ e)
           ∙ ap (λ (a : State). more a older) (sym (updated u t t.memory)),
     )
 
 -- .. and where the last update is undone, what is left stands so to the book before that update
-more-undone : {k : Call} → Updating k → (r t : State) (u : Undo) (us rest : List Undo) → Undoes r k →
+more_undone : {k : Call} → Updating k → (r t : State) (u : Undo) (us rest : List Undo) → Undoes r k →
     (accepted r k).state ≡ recalling t t.offers (u ∷ (us ++ rest)) → (older : List Undo) × (r ≡ more (recalling t (undone u t.offers) us) older)
-more-undone {k} up r t u us rest d e =
-    let (same, (zs, m)) = take-first mostRemembered r.memory (rw d.only at (ap (λ (a : State). a.memory) made)) in
+more_undone {k} up r t u us rest d e =
+    let (same, (zs, m)) = take_first most_remembered r.memory (rw d.only at (ap (λ (a : State). a.memory) made)) in
     let held : r.offers ≡ undone u t.offers = sym d.back ∙ ap₂ undone same (ap (λ (a : State). a.offers) made) in
     let older : r.memory ≡ us ++ (rest ++ zs) = m ∙ append_assoc us rest zs in
     (rest ++ zs, λ i. record { capacity = (made i).capacity; offers = held i; memory = older i })
   where
-    made : recalling r (accepted r k).state.offers (remember (undoOf r.offers k) r.memory) ≡ recalling t t.offers (u ∷ (us ++ rest))
+    made : recalling r (accepted r k).state.offers (remember (undo_of r.offers k) r.memory) ≡ recalling t t.offers (u ∷ (us ++ rest))
     made = sym (updated up r r.memory) ∙ e
 
 -- ---- the book and the calls that remain
@@ -163,106 +163,106 @@ record Standing (s : State) (done : List Call) (t : State) : Type 0 where
   same : ran s done ≡ more t older
 
 -- a call that changes no offer is not among them, whatever it is told
-not-among : (k : Call) (done : List Call) (a : Answer) → going done k ≡ done → remains done k a ≡ done
-not-among k done (refused n) e = refl
-not-among k done (live n) e = e
-not-among k done (found n p m) e = e
-not-among k done (listed n ws) e = e
-not-among k done (reported n ws) e = e
-not-among k done (fitted n q) e = e
+not_among : (k : Call) (done : List Call) (a : Answer) → going done k ≡ done → remains done k a ≡ done
+not_among k done (refused n) e = refl
+not_among k done (live n) e = e
+not_among k done (found n p m) e = e
+not_among k done (listed n ws) e = e
+not_among k done (reported n ws) e = e
+not_among k done (fitted n q) e = e
 
 module _ (s : State) (h : Sound s) (fresh : s.memory ≡ []) where
   sound : (done : List Call) → Sound (ran s done)
-  sound done = ran-sound s done h (rw fresh tt)
+  sound done = ran_sound s done h (rw fresh tt)
 
   one_more : {k : Call} (u : Updating k) (done : List Call) (t : State) → Standing s done t → Clear (trials t k) → Standing s (k ∷ done) (accepted t k).state
   one_more {k} u done t w c =
-      let d : Clear (trials (ran s done) k) = subst (λ (a : State). Clear (trials a k)) (sym w.same) (more-clear u t w.older c) in
-      let (older, e) = more-updated u t w.older in
+      let d : Clear (trials (ran s done) k) = subst (λ (a : State). Clear (trials a k)) (sym w.same) (more_clear u t w.older c) in
+      let (older, e) = more_updated u t w.older in
       record {
         made = (u, d, w.made);
         older = older;
-        same = ap (λ a. a.state) (step-accepted (ran s done) k d) ∙ ap (λ (a : State). (accepted a k).state) w.same ∙ e;
+        same = ap (λ a. a.state) (step_accepted (ran s done) k d) ∙ ap (λ (a : State). (accepted a k).state) w.same ∙ e;
       }
 
-  one-back : (done : List Call) (t : State) (us : List Undo) → Standing s done (recalling t t.offers us) →
-      Standing s (remains done takeBack (accepted (recalling t t.offers us) takeBack).answer) (accepted (recalling t t.offers us) takeBack).state
-  one-back done t [] w = w
-  one-back [] t (u ∷ us) w = absurd (nil≢cons (sym fresh ∙ ap (λ (a : State). a.memory) w.same))
-  one-back (k ∷ done) t (u ∷ us) w =
+  one_back : (done : List Call) (t : State) (us : List Undo) → Standing s done (recalling t t.offers us) →
+      Standing s (remains done take_back (accepted (recalling t t.offers us) take_back).answer) (accepted (recalling t t.offers us) take_back).state
+  one_back done t [] w = w
+  one_back [] t (u ∷ us) w = absurd (nil≢cons (sym fresh ∙ ap (λ (a : State). a.memory) w.same))
+  one_back (k ∷ done) t (u ∷ us) w =
       let (up, c, d) = w.made in
-      let (older, e) = more-undone up (ran s done) t u us w.older (undoes (ran s done) k (sound done) up c)
-      (sym (ap (λ a. a.state) (step-accepted (ran s done) k c)) ∙ w.same) in
+      let (older, e) = more_undone up (ran s done) t u us w.older (undoes (ran s done) k (sound done) up c)
+      (sym (ap (λ a. a.state) (step_accepted (ran s done) k c)) ∙ w.same) in
       record { made = d; older = older; same = e }
 
-  one-call : (done : List Call) (t : State) (k : Call) → Standing s done t → Standing s (remains done k (step t k).answer) (step t k).state
-  one-call done t k w = go (declined (trials t k)) k (clear (trials t k))
+  one_call : (done : List Call) (t : State) (k : Call) → Standing s done t → Standing s (remains done k (step t k).answer) (step t k).state
+  one_call done t k w = go (declined (trials t k)) k (clear (trials t k))
     where
       go : (d : Option Cause) (k : Call) → (d ≡ none → Clear (trials t k)) → Standing s (remains done k (respond t k d).answer) (respond t k d).state
       go (some c) k p = w
       go none (post n r b) p = one_more posting done t w (p refl)
       go none (withdraw n) p = one_more withdrawing done t w (p refl)
-      go none (query q) p = rw (not-among (query q) done (accepted t (query q)).answer refl) w
+      go none (query q) p = rw (not_among (query q) done (accepted t (query q)).answer refl) w
       go none (listing room) p = w
       go none (report q l room) p = w
-      go none (largestLoad b) p = rw (not-among (largestLoad b) done (accepted t (largestLoad b)).answer refl) w
-      go none takeBack p = one-back done t t.memory w
+      go none (largest_load b) p = rw (not_among (largest_load b) done (accepted t (largest_load b)).answer refl) w
+      go none take_back p = one_back done t t.memory w
 
-  all-calls : (ks done : List Call) (t : State) → Standing s done t → Standing s (remainder done ks (answers t ks)) (after t ks)
-  all-calls [] done t w = w
-  all-calls (k ∷ ks) done t w = all-calls ks (remains done k (step t k).answer) (step t k).state (one-call done t k w)
+  all_calls : (ks done : List Call) (t : State) → Standing s done t → Standing s (remainder done ks (answers t ks)) (after t ks)
+  all_calls [] done t w = w
+  all_calls (k ∷ ks) done t w = all_calls ks (remains done k (step t k).answer) (step t k).state (one_call done t k w)
 
-pub remaining-leaves : (s : State) → Sound s → s.memory ≡ [] → (ks : List Call) → Remains s ks
-remaining-leaves s h fresh ks =
+pub remaining_leaves : (s : State) → Sound s → s.memory ≡ [] → (ks : List Call) → Remains s ks
+remaining_leaves s h fresh ks =
     record {
-      accepted = ran-accepted s done [] w.made tt;
-      offers = ap (λ (a : State). a.offers) (sym (ran-after s done []) ∙ w.same);
+      accepted = ran_accepted s done [] w.made tt;
+      offers = ap (λ (a : State). a.offers) (sym (ran_after s done []) ∙ w.same);
     }
   where
     done : List Call
     done = remainder [] ks (answers s ks)
 
     w : Standing s done (after s ks)
-    w = all-calls s h fresh ks [] s (record { made = tt; older = []; same = ap (recalling s s.offers) (sym (append-nil s.memory)) })
+    w = all_calls s h fresh ks [] s (record { made = tt; older = []; same = ap (recalling s s.offers) (sym (append-nil s.memory)) })
 
 -- ---- as many as can be taken back are remembered
 
-not-counted : (n : ℕ) (k : Call) (a : Answer) → n ≡ countBack n k → n ≡ canTake n k a
-not-counted n k (refused m) e = refl
-not-counted n k (live m) e = e
-not-counted n k (found m p q) e = e
-not-counted n k (listed m ws) e = e
-not-counted n k (reported m ws) e = e
-not-counted n k (fitted m q) e = e
+not_counted : (n : ℕ) (k : Call) (a : Answer) → n ≡ count_back n k → n ≡ can_take n k a
+not_counted n k (refused m) e = refl
+not_counted n k (live m) e = e
+not_counted n k (found m p q) e = e
+not_counted n k (listed m ws) e = e
+not_counted n k (reported m ws) e = e
+not_counted n k (fitted m q) e = e
 
-step_count : (s : State) (k : Call) → Sound s → length (step s k).state.memory ≡ canTake (length s.memory) k (step s k).answer
+step_count : (s : State) (k : Call) → Sound s → length (step s k).state.memory ≡ can_take (length s.memory) k (step s k).answer
 step_count s k h = go (declined (trials s k)) k refl
   where
-    one : (k : Call) → Updating k → Clear (trials s k) → length (remember (undoOf s.offers k) s.memory) ≡ min 256 (suc (length s.memory))
+    one : (k : Call) → Updating k → Clear (trials s k) → length (remember (undo_of s.offers k) s.memory) ≡ min 256 (suc (length s.memory))
     one k u c =
         let e = undoes s k h u c in
-        ap (λ (us : List Undo). length (remember us s.memory)) e.only ∙ length-take mostRemembered (e.entry ∷ s.memory)
+        ap (λ (us : List Undo). length (remember us s.memory)) e.only ∙ length-take most_remembered (e.entry ∷ s.memory)
 
-    back : (us : List Undo) → length (accepted (recalling s s.offers us) takeBack).state.memory ≡
-        canTake (length us) takeBack (accepted (recalling s s.offers us) takeBack).answer
+    back : (us : List Undo) → length (accepted (recalling s s.offers us) take_back).state.memory ≡
+        can_take (length us) take_back (accepted (recalling s s.offers us) take_back).answer
     back [] = refl
     back (u ∷ us) = omega arith
 
     go : (d : Option Cause) (k : Call) → declined (trials s k) ≡ d →
-        length (respond s k d).state.memory ≡ canTake (length s.memory) k (respond s k d).answer
+        length (respond s k d).state.memory ≡ can_take (length s.memory) k (respond s k d).answer
     go (some c) k e = refl
     go none (post n r b) e = one (post n r b) posting (clear (trials s (post n r b)) e)
     go none (withdraw n) e = one (withdraw n) withdrawing (clear (trials s (withdraw n)) e)
-    go none (query q) e = not-counted (length s.memory) (query q) (accepted s (query q)).answer refl
+    go none (query q) e = not_counted (length s.memory) (query q) (accepted s (query q)).answer refl
     go none (listing room) e = refl
     go none (report q p room) e = refl
-    go none (largestLoad b) e = not-counted (length s.memory) (largestLoad b) (accepted s (largestLoad b)).answer refl
-    go none takeBack e = back s.memory
+    go none (largest_load b) e = not_counted (length s.memory) (largest_load b) (accepted s (largest_load b)).answer refl
+    go none take_back e = back s.memory
 
 -- So a take-back is declined with 17 exactly where that number is 0.
-pub remembered-count : (s : State) → Sound s → Recallable s → (ks : List Call) →
-    length (after s ks).memory ≡ canTakeAll (length s.memory) ks (answers s ks)
-remembered-count s h r [] = refl
-remembered-count s h r (k ∷ ks) =
-    remembered-count (step s k).state (step-sound s k h r) (step-recallable s k h r) ks
-    ∙ ap (λ (n : ℕ). canTakeAll n ks (answers (step s k).state ks)) (step_count s k h)
+pub remembered_count : (s : State) → Sound s → Recallable s → (ks : List Call) →
+    length (after s ks).memory ≡ can_take_all (length s.memory) ks (answers s ks)
+remembered_count s h r [] = refl
+remembered_count s h r (k ∷ ks) =
+    remembered_count (step s k).state (step_sound s k h r) (step_recallable s k h r) ks
+    ∙ ap (λ (n : ℕ). can_take_all n ks (answers (step s k).state ks)) (step_count s k h)

@@ -4,18 +4,18 @@ use Rattle.std.proofs.Common.{◌∙◌, ap, arith, T_not, le→leb, le-ltb, lt-
 use mathlib.Core.List.{List, [], ◌∷◌, Memᴰ}
 use Rattle.std.proofs.Math.Dec.{not_T}
 use Rattle.std.proofs.Math.Arith.{lt→nleb}
-use Rattle.lists.specs.Bools.{passed, failed, twice, not-failed}
-use Rattle.lists.specs.Tests.{any, none-at, not-any}
+use Rattle.lists.specs.Bools.{passed, failed, twice, not_failed}
+use Rattle.lists.specs.Tests.{any, none_at, not_any}
 use Rattle.integers.specs.Equal.{equal}
-use Rattle.integers.specs.Parts.{equal_is, equal-eq}
-use Rattle.offers.specs.Offers.{Offer, numberInRange, rateInRange, baseInRange, loadInRange, priceInRange, priceAt, crossingNumerator, crossingDenominator}
-use Rattle.plain.specs.Causes.{Cause, causeNumber, Clear}
-use Rattle.plain.specs.Book.{hasNumber, State, Outcome, Call, post, withdraw, query, listing, takeBack, report, refused, live, found, listed, reported}
-use Rattle.plain.specs.Book.{join, leave, lower, higher, cheapest, envelope, pieceWords, under, offerWords, trials, step, respond, accepted}
-use Rattle.plain.specs.Book.{Undo, undoOf, remember, undone, holding, recalling, changed}
-use Rattle.plain.specs.Causes.{FirstOf, at_once, further, outputTooShort, nothingToTakeBack}
-use Rattle.plain.specs.Trials.{declined-by, not-declined}
-use Rattle.plain.specs.Sound.{length-join}
+use Rattle.integers.specs.Parts.{equal_is, equal_eq}
+use Rattle.offers.specs.Offers.{Offer, number_in_range, rate_in_range, base_in_range, load_in_range, price_in_range, price_at, crossing_numerator, crossing_denominator}
+use Rattle.plain.specs.Causes.{Cause, cause_number, Clear}
+use Rattle.plain.specs.Book.{has_number, State, Outcome, Call, post, withdraw, query, listing, take_back, report, refused, live, found, listed, reported}
+use Rattle.plain.specs.Book.{join, leave, lower, higher, cheapest, envelope, piece_words, under, offer_words, trials, step, respond, accepted}
+use Rattle.plain.specs.Book.{Undo, undo_of, remember, undone, holding, recalling, changed}
+use Rattle.plain.specs.Causes.{FirstOf, at_once, further, output_too_short, nothing_to_take_back}
+use Rattle.plain.specs.Trials.{declined_by, not_declined}
+use Rattle.plain.specs.Sound.{length_join}
 use Rattle.plain.specs.Meaning.{PieceAt}
 
 -- a declined call
@@ -25,22 +25,22 @@ refusing s n = record { state = s; answer = refused n }
 -- ---- what each call does
 
 module _ (s : State) where
-  pub step-declined : (k : Call) (c : Cause) → FirstOf (trials s k) c → step s k ≡ record { state = s; answer = refused (causeNumber c) }
-  step-declined k c f = ap (respond s k) (declined-by (trials s k) c f)
+  pub step_declined : (k : Call) (c : Cause) → FirstOf (trials s k) c → step s k ≡ record { state = s; answer = refused (cause_number c) }
+  step_declined k c f = ap (respond s k) (declined_by (trials s k) c f)
 
-  pub step-accepted : (k : Call) → Clear (trials s k) → step s k ≡ accepted s k
-  step-accepted k c = ap (respond s k) (not-declined (trials s k) c)
+  pub step_accepted : (k : Call) → Clear (trials s k) → step s k ≡ accepted s k
+  step_accepted k c = ap (respond s k) (not_declined (trials s k) c)
 
   -- what is remembered after it
   abbrev pub remembering : Call → List Undo
-  remembering k = remember (undoOf s.offers k) s.memory
+  remembering k = remember (undo_of s.offers k) s.memory
 
   -- one offer more, and the count says so
   abbrev pub posted : (n r b : ℤ) → State
   posted n r b = recalling s (join (record { number = n; rate = r; base = b }) s.offers) (remembering (post n r b))
 
   pub posts : (n r b : ℤ) → Clear (trials s (post n r b)) → step s (post n r b) ≡ record { state = posted n r b; answer = live (suc (length s.offers)) }
-  posts n r b c = step-accepted (post n r b) c ∙ ap (λ m. record { state = posted n r b; answer = live m }) (length-join (record {
+  posts n r b c = step_accepted (post n r b) c ∙ ap (λ m. record { state = posted n r b; answer = live m }) (length_join (record {
     number = n;
     rate = r;
     base = b;
@@ -54,35 +54,35 @@ module _ (s : State) where
     answer =
         live (length (leave n s.offers));
   }
-  withdraws n c = step-accepted (withdraw n) c
+  withdraws n c = step_accepted (withdraw n) c
 
   -- the last entry is undone, and is remembered no more
-  pub takes_back : (u : Undo) (us : List Undo) → s.memory ≡ u ∷ us → step s takeBack ≡ changed s (undone u s.offers) us
-  takes_back u us e = step-accepted takeBack (lt→nleb (length s.memory) 0 (omega (arith, ap length e)), tt) ∙ go s.memory e
+  pub takes_back : (u : Undo) (us : List Undo) → s.memory ≡ u ∷ us → step s take_back ≡ changed s (undone u s.offers) us
+  takes_back u us e = step_accepted take_back (lt→nleb (length s.memory) 0 (omega (arith, ap length e)), tt) ∙ go s.memory e
     where
-      go : (m : List Undo) → m ≡ u ∷ us → accepted (recalling s s.offers m) takeBack ≡ changed s (undone u s.offers) us
+      go : (m : List Undo) → m ≡ u ∷ us → accepted (recalling s s.offers m) take_back ≡ changed s (undone u s.offers) us
       go m d = rw d refl
 
-  pub nothing-taken : s.memory ≡ [] → step s takeBack ≡ refusing s 17
-  nothing-taken e = step-declined takeBack nothingToTakeBack (at_once (le→leb (length s.memory) 0 (omega (arith, ap length e))))
+  pub nothing_taken : s.memory ≡ [] → step s take_back ≡ refusing s 17
+  nothing_taken e = step_declined take_back nothing_to_take_back (at_once (le→leb (length s.memory) 0 (omega (arith, ap length e))))
 
   pub lists : (room : ℕ) → Clear (trials s (listing room)) →
-      step s (listing room) ≡ record { state = s; answer = listed (length (envelope s.offers)) (pieceWords (envelope s.offers)) }
-  lists room c = step-accepted (listing room) c
+      step s (listing room) ≡ record { state = s; answer = listed (length (envelope s.offers)) (piece_words (envelope s.offers)) }
+  lists room c = step_accepted (listing room) c
 
 -- A post in range of a number that no live offer has joins a book that is not full, whatever the rates that are live.
-pub joins : (s : State) (n r b : ℤ) → T (numberInRange n) → T (rateInRange r) → T (baseInRange b) →
+pub joins : (s : State) (n r b : ℤ) → T (number_in_range n) → T (rate_in_range r) → T (base_in_range b) →
     ((o : Offer) → Memᴰ o s.offers → o.number ≢ n) → length s.offers < s.capacity →
     step s (post n r b) ≡ record { state = posted s n r b; answer = live (suc (length s.offers)) }
 joins s n r b i j l other room =
     posts s n r b (
-      twice (numberInRange n) i,
+      twice (number_in_range n) i,
       (
-        twice (rateInRange r) j,
+        twice (rate_in_range r) j,
         (
-          twice (baseInRange b) l,
+          twice (base_in_range b) l,
           (
-            not-any (hasNumber n) s.offers (λ o m. not_T (equal o.number n) (λ t. other o m (equal-eq o.number n t))),
+            not_any (has_number n) s.offers (λ o m. not_T (equal o.number n) (λ t. other o m (equal_eq o.number n t))),
             (lt→nleb s.capacity (length s.offers) room, tt),
           ),
         ),
@@ -90,65 +90,65 @@ joins s n r b i j l other room =
     )
 
 -- A withdrawal of a live offer takes it out, the first of its rate or not.
-pub goes : (s : State) (o : Offer) → Memᴰ o s.offers → T (numberInRange o.number) → step s (withdraw o.number) ≡ record {
+pub goes : (s : State) (o : Offer) → Memᴰ o s.offers → T (number_in_range o.number) → step s (withdraw o.number) ≡ record {
   state = withdrawn s o.number;
   answer = live (length (leave o.number s.offers));
 }
 goes s o m i =
     withdraws s o.number (
-      twice (numberInRange o.number) i,
+      twice (number_in_range o.number) i,
       (
-        twice (any (hasNumber o.number) s.offers)
-            (not-failed (any (hasNumber o.number) s.offers)
-            (λ t. T_not (equal o.number o.number) (none-at (hasNumber o.number) s.offers t o m) (equal_is o.number o.number refl))),
+        twice (any (has_number o.number) s.offers)
+            (not_failed (any (has_number o.number) s.offers)
+            (λ t. T_not (equal o.number o.number) (none_at (has_number o.number) s.offers t o m) (equal_is o.number o.number refl))),
         tt,
       ),
     )
 
 -- A listing whose output has three words a piece is accepted, however many offers are live.
 pub shows : (s : State) (room : ℕ) → 3 * length (envelope s.offers) ≤ room →
-    step s (listing room) ≡ record { state = s; answer = listed (length (envelope s.offers)) (pieceWords (envelope s.offers)) }
+    step s (listing room) ≡ record { state = s; answer = listed (length (envelope s.offers)) (piece_words (envelope s.offers)) }
 shows s room h = lists s room (failed (le-ltb room (3 * length (envelope s.offers)) h), tt)
 
 -- So is a report whose output has three words an offer, where price and load are in range; an empty book's too.
-pub reports : (s : State) (q p : ℤ) (room : ℕ) → T (priceInRange p) → T (loadInRange q) → 3 * length (under q p s.offers) ≤ room →
-    step s (report q p room) ≡ record { state = s; answer = reported (length (under q p s.offers)) (offerWords (under q p s.offers)) }
+pub reports : (s : State) (q p : ℤ) (room : ℕ) → T (price_in_range p) → T (load_in_range q) → 3 * length (under q p s.offers) ≤ room →
+    step s (report q p room) ≡ record { state = s; answer = reported (length (under q p s.offers)) (offer_words (under q p s.offers)) }
 reports s q p room i j h =
-    step-accepted s (report q p room) (
-      twice (priceInRange p) i,
-      (twice (loadInRange q) j, (failed (le-ltb room (3 * length (under q p s.offers)) h), tt)),
+    step_accepted s (report q p room) (
+      twice (price_in_range p) i,
+      (twice (load_in_range q) j, (failed (le-ltb room (3 * length (under q p s.offers)) h), tt)),
     )
 
 -- .. and a shorter one gets 10
-pub report-short : (s : State) (q p : ℤ) (room : ℕ) → T (priceInRange p) → T (loadInRange q) → room < 3 * length (under q p s.offers) →
+pub report_short : (s : State) (q p : ℤ) (room : ℕ) → T (price_in_range p) → T (load_in_range q) → room < 3 * length (under q p s.offers) →
     step s (report q p room) ≡ refusing s 10
-report-short s q p room i j h =
-    step-declined s (report q p room) outputTooShort
-    (further (twice (priceInRange p) i) (further (twice (loadInRange q) j) (at_once (passed (lt-ltb room (3 * length (under q p s.offers)) h)))))
+report_short s q p room i j h =
+    step_declined s (report q p room) output_too_short
+    (further (twice (price_in_range p) i) (further (twice (load_in_range q) j) (at_once (passed (lt-ltb room (3 * length (under q p s.offers)) h)))))
 
 -- a book with an offer answers a load in range
-pub finds : (c : ℕ) (o : Offer) (os : List Offer) (us : List Undo) (q : ℤ) → T (loadInRange q) →
+pub finds : (c : ℕ) (o : Offer) (os : List Offer) (us : List Undo) (q : ℤ) → T (load_in_range q) →
     step (record { capacity = c; offers = o ∷ os; memory = us }) (query q) ≡ record {
       state = record { capacity = c; offers = o ∷ os; memory = us };
-      answer = found (cheapest lower q o os).number (priceAt (cheapest lower q o os) q) (cheapest higher q o os).number;
+      answer = found (cheapest lower q o os).number (price_at (cheapest lower q o os) q) (cheapest higher q o os).number;
     }
 finds c o os us q t =
-    step-accepted (record { capacity = c; offers = o ∷ os; memory = us }) (query q) (twice (loadInRange q) t, (lt→nleb (suc (length os)) 0 (omega arith), tt))
+    step_accepted (record { capacity = c; offers = o ∷ os; memory = us }) (query q) (twice (load_in_range q) t, (lt→nleb (suc (length os)) 0 (omega arith), tt))
 
-pub asked : (s : State) (q : ℤ) → T (loadInRange q) → (o : Offer) (os : List Offer) → s.offers ≡ o ∷ os →
-    (step s (query q)).answer ≡ found (cheapest lower q o os).number (priceAt (cheapest lower q o os) q) (cheapest higher q o os).number
+pub asked : (s : State) (q : ℤ) → T (load_in_range q) → (o : Offer) (os : List Offer) → s.offers ≡ o ∷ os →
+    (step s (query q)).answer ≡ found (cheapest lower q o os).number (price_at (cheapest lower q o os) q) (cheapest higher q o os).number
 asked s q h o os e = go s.offers e
   where
     go : (xs : List Offer) → xs ≡ o ∷ os →
-        (step (holding s xs) (query q)).answer ≡ found (cheapest lower q o os).number (priceAt (cheapest lower q o os) q) (cheapest higher q o os).number
+        (step (holding s xs) (query q)).answer ≡ found (cheapest lower q o os).number (price_at (cheapest lower q o os) q) (cheapest higher q o os).number
     go xs d = rw d (ap (λ (z : Outcome). z.answer) (finds s.capacity o os s.memory q h))
 
 -- ---- a listing's words
 
-pub words-length : (es : List Offer) → length (pieceWords es) ≡ 3 * length es
-words-length [] = refl
-words-length (o ∷ []) = refl
-words-length (o ∷ p ∷ ps) = let e = words-length (p ∷ ps) in omega arith
+pub words_length : (es : List Offer) → length (piece_words es) ≡ 3 * length es
+words_length [] = refl
+words_length (o ∷ []) = refl
+words_length (o ∷ p ∷ ps) = let e = words_length (p ∷ ps) in omega arith
 
 later : {ws : List ℤ} {a b c n u v : ℤ} {i : ℕ} → PieceAt ws i n u v → PieceAt (a ∷ b ∷ c ∷ ws) (suc i) n u v
 later {ws} {a} {b} {c} {i} h = record {
@@ -160,15 +160,15 @@ later {ws} {a} {b} {c} {i} h = record {
     at : (m n : ℕ) → m ≡ suc (suc (suc n)) → get_or (a ∷ b ∷ c ∷ ws) m (pos 0) ≡ get_or ws n (pos 0)
     at m n e = rw e refl
 
-pub words-inner : (es : List Offer) (i : ℕ) (d : Offer) → suc i < length es →
-    PieceAt (pieceWords es) i (get_or es i d).number (crossingNumerator (get_or es i d) (get_or es (suc i) d))
-    (crossingDenominator (get_or es i d) (get_or es (suc i) d))
-words-inner [] i d h = absurd (omega arith)
-words-inner (o ∷ []) i d h = absurd (omega arith)
-words-inner (o ∷ p ∷ ps) zero d h = record { first = refl; second = refl; third = refl }
-words-inner (o ∷ p ∷ ps) (suc i) d h = later (words-inner (p ∷ ps) i d (omega arith))
+pub words_inner : (es : List Offer) (i : ℕ) (d : Offer) → suc i < length es →
+    PieceAt (piece_words es) i (get_or es i d).number (crossing_numerator (get_or es i d) (get_or es (suc i) d))
+    (crossing_denominator (get_or es i d) (get_or es (suc i) d))
+words_inner [] i d h = absurd (omega arith)
+words_inner (o ∷ []) i d h = absurd (omega arith)
+words_inner (o ∷ p ∷ ps) zero d h = record { first = refl; second = refl; third = refl }
+words_inner (o ∷ p ∷ ps) (suc i) d h = later (words_inner (p ∷ ps) i d (omega arith))
 
-pub words_last : (es : List Offer) (i : ℕ) (d : Offer) → suc i ≡ length es → PieceAt (pieceWords es) i (get_or es i d).number (pos 0) (pos 0)
+pub words_last : (es : List Offer) (i : ℕ) (d : Offer) → suc i ≡ length es → PieceAt (piece_words es) i (get_or es i d).number (pos 0) (pos 0)
 words_last [] i d h = absurd (omega arith)
 words_last (o ∷ []) zero d h = record { first = refl; second = refl; third = refl }
 words_last (o ∷ []) (suc i) d h = absurd (omega arith)
@@ -177,12 +177,12 @@ words_last (o ∷ p ∷ ps) (suc i) d h = later (words_last (p ∷ ps) i d (omeg
 
 -- ---- a report's words
 
-pub offers-length : (os : List Offer) → length (offerWords os) ≡ 3 * length os
-offers-length [] = refl
-offers-length (o ∷ os) = omega (arith, offers-length os)
+pub offers_length : (os : List Offer) → length (offer_words os) ≡ 3 * length os
+offers_length [] = refl
+offers_length (o ∷ os) = omega (arith, offers_length os)
 
-pub offers-at : (os : List Offer) (i : ℕ) (d : Offer) → i < length os →
-    PieceAt (offerWords os) i (get_or os i d).number (get_or os i d).rate (get_or os i d).base
-offers-at [] i d h = absurd (omega arith)
-offers-at (o ∷ os) zero d h = record { first = refl; second = refl; third = refl }
-offers-at (o ∷ os) (suc i) d h = later (offers-at os i d (omega arith))
+pub offers_at_lem : (os : List Offer) (i : ℕ) (d : Offer) → i < length os →
+    PieceAt (offer_words os) i (get_or os i d).number (get_or os i d).rate (get_or os i d).base
+offers_at_lem [] i d h = absurd (omega arith)
+offers_at_lem (o ∷ os) zero d h = record { first = refl; second = refl; third = refl }
+offers_at_lem (o ∷ os) (suc i) d h = later (offers_at_lem os i d (omega arith))

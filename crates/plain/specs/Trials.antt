@@ -14,9 +14,9 @@ clear (k ∷ ks) e = go k.applies e (clear ks)
     go true p rec = let z : ◌≡◌ {A = ℕ} 0 1 = cc in absurd (omega arith)
     go false p rec = (tt, rec p)
 
-pub not-declined : (ks : List Trial) → Clear ks → declined ks ≡ none
-not-declined [] c = refl
-not-declined (k ∷ ks) (t, c) = go k.applies t (not-declined ks c)
+pub not_declined : (ks : List Trial) → Clear ks → declined ks ≡ none
+not_declined [] c = refl
+not_declined (k ∷ ks) (t, c) = go k.applies t (not_declined ks c)
   where
     go : (b : Bool) → T (not b) → declined ks ≡ none → cond b (some k.cause) (declined ks) ≡ none
     go true t e = absurd t
@@ -24,22 +24,22 @@ not-declined (k ∷ ks) (t, c) = go k.applies t (not-declined ks c)
 
 -- ---- the first that applies
 
-pub declined-by : (ks : List Trial) (c : Cause) → FirstOf ks c → declined ks ≡ some c
-declined-by (k ∷ ks) c (at_once t) = go k.applies t
+pub declined_by : (ks : List Trial) (c : Cause) → FirstOf ks c → declined ks ≡ some c
+declined_by (k ∷ ks) c (at_once t) = go k.applies t
   where
     go : (b : Bool) → T b → cond b (some k.cause) (declined ks) ≡ some k.cause
     go true t = refl
     go false t = absurd t
-declined-by (k ∷ ks) c (further t f) = go k.applies t (declined-by ks c f)
+declined_by (k ∷ ks) c (further t f) = go k.applies t (declined_by ks c f)
   where
     go : (b : Bool) → T (not b) → declined ks ≡ some c → cond b (some k.cause) (declined ks) ≡ some c
     go true t e = absurd t
     go false t e = e
 
 -- and back: the cause told is the first that applies
-pub declined-first : (ks : List Trial) (c : Cause) → declined ks ≡ some c → FirstOf ks c
-declined-first [] c e = let z : ◌≡◌ {A = ℕ} 0 1 = cc in absurd (omega arith)
-declined-first (k ∷ ks) c e = go k.applies (λ t. t) (λ t. t) e (declined-first ks c)
+pub declined_first : (ks : List Trial) (c : Cause) → declined ks ≡ some c → FirstOf ks c
+declined_first [] c e = let z : ◌≡◌ {A = ℕ} 0 1 = cc in absurd (omega arith)
+declined_first (k ∷ ks) c e = go k.applies (λ t. t) (λ t. t) e (declined_first ks c)
   where
     go :
         (b : Bool) → (T b → T k.applies) → (T (not b) → T (not k.applies)) → cond b (some k.cause) (declined ks) ≡ some c →
@@ -49,14 +49,14 @@ declined-first (k ∷ ks) c e = go k.applies (λ t. t) (λ t. t) e (declined-fir
 
 -- ---- trials one behind the other
 
-pub first-append : {ks : List Trial} {c : Cause} (ls : List Trial) → FirstOf ks c → FirstOf (ks ++ ls) c
-first-append ls (at_once t) = at_once t
-first-append ls (further t f) = further t (first-append ls f)
+pub first_append : {ks : List Trial} {c : Cause} (ls : List Trial) → FirstOf ks c → FirstOf (ks ++ ls) c
+first_append ls (at_once t) = at_once t
+first_append ls (further t f) = further t (first_append ls f)
 
-pub first-behind : (ks : List Trial) {ls : List Trial} {c : Cause} → Clear ks → FirstOf ls c → FirstOf (ks ++ ls) c
-first-behind [] k f = f
-first-behind (t ∷ ks) k f = further k.0 (first-behind ks k.1 f)
+pub first_behind : (ks : List Trial) {ls : List Trial} {c : Cause} → Clear ks → FirstOf ls c → FirstOf (ks ++ ls) c
+first_behind [] k f = f
+first_behind (t ∷ ks) k f = further k.0 (first_behind ks k.1 f)
 
-pub clear-append : (ks ls : List Trial) → Clear ks → Clear ls → Clear (ks ++ ls)
-clear-append [] ls k l = l
-clear-append (t ∷ ks) ls k l = (k.0, clear-append ks ls k.1 l)
+pub clear_append : (ks ls : List Trial) → Clear ks → Clear ls → Clear (ks ++ ls)
+clear_append [] ls k l = l
+clear_append (t ∷ ks) ls k l = (k.0, clear_append ks ls k.1 l)

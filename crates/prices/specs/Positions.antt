@@ -25,21 +25,21 @@ lies y z = go (lt_z y z) (lt_z z y) refl refl
     go false false d e = on (omega (arith, intRules))
 
 -- not on it: a query has a tie where this fails
-abbrev pub isApart : Position → Bool
-isApart Below = true
-isApart On = false
-isApart Above = true
+abbrev pub is_apart : Position → Bool
+is_apart Below = true
+is_apart On = false
+is_apart Above = true
 
 -- what the three cases of a meeting ask, and where a query goes on to the right
-abbrev pub onOrAbove : Position → Bool
-onOrAbove Below = false
-onOrAbove On = true
-onOrAbove Above = true
+abbrev pub on_or_above : Position → Bool
+on_or_above Below = false
+on_or_above On = true
+on_or_above Above = true
 
-pub on-or-above : (y z : ℤ) → onOrAbove (position_of y z) ≡ le_z z y
-on-or-above y z = sym (go (position_of y z) (lies y z))
+pub on_or_above_lem : (y z : ℤ) → on_or_above (position_of y z) ≡ le_z z y
+on_or_above_lem y z = sym (go (position_of y z) (lies y z))
   where
-    go : (p : Position) → Lies y z p → le_z z y ≡ onOrAbove p
+    go : (p : Position) → Lies y z p → le_z z y ≡ on_or_above p
     go Below (below h) = omega (arith, intRules)
     go On (on h) = omega (arith, intRules)
     go Above (above h) = omega (arith, intRules)

@@ -3,12 +3,12 @@
 ghost use Rattle.std.specs.Prelude.{◌≡◌};
 ghost use Rattle.std.specs.Int.Signed.{le_z};
 ghost use Rattle.table.specs.Layout.{cap};
-ghost use Rattle.prices.specs.Positions.{position_of, isApart};
-ghost use Rattle.prices.specs.Prices.{rateAt, base_at, numeratorAt, denominatorAt, crossingPriceAt, Priced, priceIn, keptIn, aboveAt};
+ghost use Rattle.prices.specs.Positions.{position_of, is_apart};
+ghost use Rattle.prices.specs.Prices.{rate_at, base_at, numerator_at, denominator_at, crossing_price_at, Priced, price_in, kept_in, above_at};
 
 pub fn rate_in(part: &[i64], c: u32, slot: u32) -> i64
     requires { c ≡ cap part.now }
-    ensures { result ≡ rateAt part.now slot }
+    ensures { result ≡ rate_at part.now slot }
 {
     table::bounded(-100_000, 100_000, table::get_in(part, c, table::RATE, slot))
 }
@@ -27,7 +27,7 @@ pub fn base_in(part: &[i64], c: u32, slot: u32) -> i64
 // The crossing with the next piece.
 fn numerator_in(part: &[i64], c: u32, slot: u32) -> i64
     requires { c ≡ cap part.now }
-    ensures { result ≡ numeratorAt part.now slot }
+    ensures { result ≡ numerator_at part.now slot }
 {
     table::bounded(
         -2_000_000_000,
@@ -38,7 +38,7 @@ fn numerator_in(part: &[i64], c: u32, slot: u32) -> i64
 
 fn denominator_in(part: &[i64], c: u32, slot: u32) -> i64
     requires { c ≡ cap part.now }
-    ensures { result ≡ denominatorAt part.now slot }
+    ensures { result ≡ denominator_at part.now slot }
 {
     table::bounded(0, 200_000, table::get_in(part, c, table::DENOMINATOR, slot))
 }
@@ -46,7 +46,7 @@ fn denominator_in(part: &[i64], c: u32, slot: u32) -> i64
 // The price of a slot's line at the load n over d, times d.
 fn price(part: &[i64], c: u32, slot: u32, n: i64, d: i64) -> i64
     requires { Priced c part.now n d }
-    ensures { result ≡ priceIn part.now slot n d }
+    ensures { result ≡ price_in part.now slot n d }
 {
     base_in(part, c, slot) * d + rate_in(part, c, slot) * n
 }
@@ -75,7 +75,7 @@ pub fn compare(point: i64, line: i64) -> Position
 // Not on it: on it a query has its tie. This reading and the next give a test, and not three ways: where the outcome only selects a value, no branch comes
 // of it.
 pub fn apart(point: i64, line: i64) -> bool
-    ensures { result ≡ isApart (position_of point line) }
+    ensures { result ≡ is_apart (position_of point line) }
 {
     match compare(point, line) {
         Position::Below => true,
@@ -97,7 +97,7 @@ pub fn on_or_above(point: i64, line: i64) -> bool
 
 // The slot in which a node is kept.
 fn kept_in(x: u32) -> u32
-    ensures { result ≡ keptIn x }
+    ensures { result ≡ kept_in x }
 {
     if x <= table::MOST_SLOTS {
         return x;
@@ -109,7 +109,7 @@ fn kept_in(x: u32) -> u32
 // at most the line of slot `p`. Slot 0 stands for a missing end. `c` and `k` are the capacities.
 pub fn above(ours: &[i64], c: u32, p: u32, other: &[i64], k: u32, x: u32) -> bool
     requires { (c ≡ cap ours.now) × (k ≡ cap other.now) }
-    ensures { result ≡ aboveAt ours.now p other.now x }
+    ensures { result ≡ above_at ours.now p other.now x }
 {
     if p < 1 {
         return false;
@@ -131,7 +131,7 @@ pub fn above(ours: &[i64], c: u32, p: u32, other: &[i64], k: u32, x: u32) -> boo
 // ---- by the capacity that the words tell
 
 pub fn rate(part: &[i64], slot: u32) -> i64
-    ensures { result ≡ rateAt part.now slot }
+    ensures { result ≡ rate_at part.now slot }
 {
     table::bounded(-100_000, 100_000, table::get(part, table::RATE, slot))
 }
@@ -148,7 +148,7 @@ pub fn base(part: &[i64], slot: u32) -> i64
 
 // The crossing with the next piece: where the words hold one, its numerator and its denominator.
 pub fn numerator(part: &[i64], slot: u32) -> i64
-    ensures { result ≡ numeratorAt part.now slot }
+    ensures { result ≡ numerator_at part.now slot }
 {
     table::bounded(
         -2_000_000_000,
@@ -158,14 +158,14 @@ pub fn numerator(part: &[i64], slot: u32) -> i64
 }
 
 pub fn denominator(part: &[i64], slot: u32) -> i64
-    ensures { result ≡ denominatorAt part.now slot }
+    ensures { result ≡ denominator_at part.now slot }
 {
     table::bounded(0, 200_000, table::get(part, table::DENOMINATOR, slot))
 }
 
 // The price of a slot's line at the crossing that the slot keeps, times its denominator.
 pub fn crossing_price(part: &[i64], slot: u32) -> i64
-    ensures { result ≡ crossingPriceAt part.now slot }
+    ensures { result ≡ crossing_price_at part.now slot }
 {
     let n = numerator(part, slot);
     let d = denominator(part, slot);

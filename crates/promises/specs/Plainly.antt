@@ -7,52 +7,52 @@ use Rattle.std.specs.Int.Signed.{le_z}
 use Rattle.lists.specs.Bools.{and_both, or_no}
 use Rattle.integers.specs.Parts.{intRules}
 use Rattle.offers.specs.Offers.{between}
-use Rattle.plain.specs.Causes.{Cause, causeNumber, FirstOf, at_once, further}
-use Rattle.plain.specs.Book.{State, Call, bookTrials, noBookAt, partLength, step}
-use Rattle.plain.specs.Rules.{step-declined}
+use Rattle.plain.specs.Causes.{Cause, cause_number, FirstOf, at_once, further}
+use Rattle.plain.specs.Book.{State, Call, book_trials, no_book_at, part_length, step}
+use Rattle.plain.specs.Rules.{step_declined}
 use Rattle.dynamic.specs.OfferTree.{Held}
-use Rattle.table.specs.Fields.{capacityWord, mostSlots}
+use Rattle.table.specs.Fields.{capacity_word, most_slots}
 use Rattle.table.specs.Words.{word}
-use Rattle.table.specs.Layout.{cap, cap-most}
+use Rattle.table.specs.Layout.{cap, cap_most}
 use Rattle.table.specs.Items.{Item}
 use Rattle.form.specs.Form.{Book}
-use Rattle.form.specs.There.{There, cap-there}
-use Rattle.plain.specs.Trials.{first-append}
+use Rattle.form.specs.There.{There, cap_there}
+use Rattle.plain.specs.Trials.{first_append}
 use Rattle.plain.specs.Rules.{refusing}
-use Rattle.promises.specs.Promises.{part_of, tableTrials}
+use Rattle.promises.specs.Promises.{part_of, table_trials}
 
 -- ---- a part that has the form is there
 
 -- cause 3 does not apply
-pub cap-book : (start : ℕ) (t : List ℤ) {c : ℕ} → cap (part_of t start) ≡ c → 1 ≤ c → T (not (noBookAt (length t) start (word (part_of t start) capacityWord)))
-cap-book start t {c} e low = subst (λ (z : ℤ). T (not (noBookAt (length t) start z))) (sym there.first) (not_T (noBookAt (length t) start (pos c)) no-cause)
+pub cap_book : (start : ℕ) (t : List ℤ) {c : ℕ} → cap (part_of t start) ≡ c → 1 ≤ c → T (not (no_book_at (length t) start (word (part_of t start) capacity_word)))
+cap_book start t {c} e low = subst (λ (z : ℤ). T (not (no_book_at (length t) start z))) (sym there.first) (not_T (no_book_at (length t) start (pos c)) no_cause)
   where
     there : There (part_of t start) c
-    there = cap-there (part_of t start) e low
+    there = cap_there (part_of t start) e low
 
-    high : c ≤ mostSlots
-    high = omega (arith, e, cap-most (part_of t start))
+    high : c ≤ most_slots
+    high = omega (arith, e, cap_most (part_of t start))
 
-    long : partLength c ≤ length t - start
+    long : part_length c ≤ length t - start
     long = omega (arith, there.room, length-drop start t)
 
-    no-cause : T (noBookAt (length t) start (pos c)) → ⊥
-    no-cause =
-        or_no (ltb (length t) start || ltb (length t - start) 1_152 || not (between (pos 1) (pos mostSlots) (pos c))) _
+    no_cause : T (no_book_at (length t) start (pos c)) → ⊥
+    no_cause =
+        or_no (ltb (length t) start || ltb (length t - start) 1_152 || not (between (pos 1) (pos most_slots) (pos c))) _
         (or_no (ltb (length t) start || ltb (length t - start) 1_152) _
         (or_no (ltb (length t) start) _ (λ q. omega (arith, long, ltb→lt (length t) start q))
         (λ q. omega (arith, low, long, ltb→lt (length t - start) 1_152 q)))
-        (λ q. T_not (between (pos 1) (pos mostSlots) (pos c)) q (and_both (le_z (pos 1) (pos c)) (le_z (pos c) (pos mostSlots)) (omega (arith, intRules, low))
+        (λ q. T_not (between (pos 1) (pos most_slots) (pos c)) q (and_both (le_z (pos 1) (pos c)) (le_z (pos c) (pos most_slots)) (omega (arith, intRules, low))
         (omega (arith, intRules, high)))))
-        (λ q. omega (arith, long, ltb→lt (length t - start) (partLength c) q))
+        (λ q. omega (arith, long, ltb→lt (length t - start) (part_length c) q))
 
-pub book-there : (start : ℕ) (t : List ℤ) {plain : State} {held : Option (Held Item)} → Book (part_of t start) plain held →
-    T (not (noBookAt (length t) start (word (part_of t start) capacityWord)))
-book-there start t b = cap-book start t b.capacity b.some-slot
+pub book_there : (start : ℕ) (t : List ℤ) {plain : State} {held : Option (Held Item)} → Book (part_of t start) plain held →
+    T (not (no_book_at (length t) start (word (part_of t start) capacity_word)))
+book_there start t b = cap_book start t b.capacity b.some_slot
 
 -- so the trials on words of any content decide for the plain book
-pub table-declined : (start : ℕ) (t : List ℤ) (k : Call) {plain : State} {held : Option (Held Item)} {z : Cause} → Book (part_of t start) plain held →
-    FirstOf (tableTrials t start k) z → step plain k ≡ refusing plain (causeNumber z)
-table-declined start t k {plain} {held} {z} b (at_once h) =
-    absurd (T_not (noBookAt (length t) start (word (part_of t start) capacityWord)) (book-there start t b) h)
-table-declined start t k {plain} {held} {z} b (further h f) = step-declined plain k z (first-append (bookTrials plain k) f)
+pub table_declined : (start : ℕ) (t : List ℤ) (k : Call) {plain : State} {held : Option (Held Item)} {z : Cause} → Book (part_of t start) plain held →
+    FirstOf (table_trials t start k) z → step plain k ≡ refusing plain (cause_number z)
+table_declined start t k {plain} {held} {z} b (at_once h) =
+    absurd (T_not (no_book_at (length t) start (word (part_of t start) capacity_word)) (book_there start t b) h)
+table_declined start t k {plain} {held} {z} b (further h f) = step_declined plain k z (first_append (book_trials plain k) f)

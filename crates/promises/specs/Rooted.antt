@@ -5,19 +5,19 @@ use Rattle.std.proofs.Math.Option.{Option, none, some}
 use Rattle.envelopes.specs.Envelope.{Env}
 use Rattle.plain.specs.Book.{State}
 use Rattle.trees.specs.Tree.{Tree, leaves, Avl}
-use Rattle.trees.specs.Operations.{Part, partLeaves}
-use Rattle.dynamic.specs.OfferTree.{Held, heldShape}
+use Rattle.trees.specs.Operations.{Part, part_leaves}
+use Rattle.dynamic.specs.OfferTree.{Held, held_shape}
 use Rattle.dynamic.specs.Valid.{Valid}
-use Rattle.dynamic.specs.Lower.{valid-env}
-use Rattle.dynamic.specs.Raise.{some-piece}
-use Rattle.table.specs.Fields.{envelopeRootWord, mostNodes}
+use Rattle.dynamic.specs.Lower.{valid_env}
+use Rattle.dynamic.specs.Raise.{some_piece}
+use Rattle.table.specs.Fields.{envelope_root_word, most_nodes}
 use Rattle.table.specs.Words.{Words, word, up_to}
 use Rattle.table.specs.Items.{Item}
-use Rattle.pieces.specs.Pieces.{items, item-laws, Standing}
-use Rattle.form.specs.Frames.{whole-standing}
-use Rattle.form.specs.Form.{Book, OffersIn, envelopeRef}
+use Rattle.pieces.specs.Pieces.{items, item_laws_lem, Standing}
+use Rattle.form.specs.Frames.{whole_standing}
+use Rattle.form.specs.Form.{Book, OffersIn, envelope_ref}
 use Rattle.query.specs.QueriedPieces.{Pieces}
-use Rattle.form.specs.HeaderWords.{envelope-read}
+use Rattle.form.specs.HeaderWords.{envelope_read}
 
 -- the tree of the pieces of these lines
 pub record Top (w : Words) (root : ℕ) (ls : List Item) (t : Tree Item) : Type 0 where
@@ -27,22 +27,22 @@ pub record Top (w : Words) (root : ℕ) (ls : List Item) (t : Tree Item) : Type 
 
 pub data Root (w : Words) (root : ℕ) : Option (Held Item) → Type 0 where
   bare : root ≡ 0 → Root w root none
-  topped : {h : Held Item} (t : Tree Item) → h.whole ≡ some t → Top w root (leaves (heldShape h)) t → Root w root (some h)
+  topped : {h : Held Item} (t : Tree Item) → h.whole ≡ some t → Top w root (leaves (held_shape h)) t → Root w root (some h)
 
-top : {w : Words} {root : ℕ} {h : Held Item} (p : Part Item) → h.whole ≡ p → Standing w root p → Valid items h.tree (partLeaves p) → Root w root (some h)
-top none e s v = absurd (some-piece items item-laws v)
+top : {w : Words} {root : ℕ} {h : Held Item} (p : Part Item) → h.whole ≡ p → Standing w root p → Valid items h.tree (part_leaves p) → Root w root (some h)
+top none e s v = absurd (some_piece items item_laws_lem v)
 top (some t) e s v =
     topped t e
     (record {
       pieces = record { rep = record { kind = omega arith; root = s.root; slots = s.slots; tied = s.pieces.0 }; thread = s.pieces.1; holds = s.holds };
       balanced = s.balanced;
-      env = valid-env items item-laws v;
+      env = valid_env items item_laws_lem v;
     })
 
-pub root-of : {w : Words} {plain : State} {root : ℕ} {held : Option (Held Item)} → Book w plain held → root ≡ up_to mostNodes (word w envelopeRootWord) →
+pub root_of : {w : Words} {plain : State} {root : ℕ} {held : Option (Held Item)} → Book w plain held → root ≡ up_to most_nodes (word w envelope_root_word) →
     Root w root held
-root-of {w} {root = root} {held} b e = go held b.offers.offers-in (e ∙ envelope-read b)
+root_of {w} {root = root} {held} b e = go held b.offers.offers_in (e ∙ envelope_read b)
   where
-    go : (held : Option (Held Item)) → OffersIn w held → root ≡ envelopeRef held → Root w root held
+    go : (held : Option (Held Item)) → OffersIn w held → root ≡ envelope_ref held → Root w root held
     go none o d = bare d
-    go (some h) o d = top h.whole refl (subst (λ (x : ℕ). Standing w x h.whole) (sym d) (whole-standing o)) o.right.valid
+    go (some h) o d = top h.whole refl (subst (λ (x : ℕ). Standing w x h.whole) (sym d) (whole_standing o)) o.right.valid

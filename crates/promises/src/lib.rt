@@ -1,7 +1,7 @@
 // What the calls on a lent table answer, and whether there is a book at a start.
 ghost use Rattle.std.specs.Prelude.{◌≡◌, length};
-ghost use Rattle.plain.specs.Book.{noBookAt};
-ghost use Rattle.table.specs.Fields.{capacityWord};
+ghost use Rattle.plain.specs.Book.{no_book_at};
+ghost use Rattle.table.specs.Fields.{capacity_word};
 ghost use Rattle.table.specs.Words.{word};
 ghost use Rattle.promises.specs.Promises.{part_of};
 
@@ -55,7 +55,7 @@ pub enum Fitted {
 
 // There is no book at `start`: it lies beyond the table, or the words there tell no capacity that they have room for.
 pub fn no_book(table: &[i64], start: usize) -> bool
-    ensures { result ≡ noBookAt (length table.now) start (word (part_of table.now start) capacityWord) }
+    ensures { result ≡ no_book_at (length table.now) start (word (part_of table.now start) capacity_word) }
 {
     table.len() < start || table::capacity(&table[start..]) < 1
 }

@@ -2,19 +2,19 @@
 use Rattle.std.specs.Prelude.{◌≡◌, refl, ℕ, ◌+◌, ◌≤◌, ◌<◌, T, ℤ}
 use Rattle.std.proofs.Common.{sym, ◌∙◌, ap, subst, arith, le-ltb}
 use Rattle.std.proofs.Math.Option.{Option, none, some}
-use Rattle.offers.specs.Offers.{loadInRange}
+use Rattle.offers.specs.Offers.{load_in_range}
 use Rattle.trees.specs.Tree.{Tree, leaf, node, height, first, last}
 use Rattle.trees.specs.Leaves.{first_leaf}
-use Rattle.table.specs.Fields.{mostLevels, mostSlots}
+use Rattle.table.specs.Fields.{most_levels, most_slots}
 use Rattle.table.specs.Words.{Words}
 use Rattle.table.specs.Layout.{cap}
 use Rattle.table.specs.Items.{Item}
-use Rattle.table.specs.Nodes.{ref-low}
+use Rattle.table.specs.Nodes.{ref_low}
 use Rattle.prices.specs.declared.Position.{Position}
 use Rattle.prices.specs.declared.Position.TheVariants.{Below as LiesBelow, On, Above}
-use Rattle.prices.specs.Positions.{onOrAbove}
-use Rattle.query.specs.Lookup.{Reached, against, deeper, keptOr, walk, lookup, walk-turned}
-use Rattle.query.specs.Readings.{keptAt, towardAt, mindAt, keptElse}
+use Rattle.prices.specs.Positions.{on_or_above}
+use Rattle.query.specs.Lookup.{Reached, against, deeper, kept_or, walk, lookup, walk_turned}
+use Rattle.query.specs.Readings.{kept_at, toward_at, mind_at, kept_else}
 use Rattle.query.specs.QueriedPieces.{Pieces, Opened, opened, at_leaf}
 
 -- what a query on t finds
@@ -23,13 +23,13 @@ pub record Finds (q : ℤ) (t : Tree Item) (slot second probes : ℕ) : Type 0 w
   pub other : second ≡ (lookup q t).second.slot
   pub depth : probes ≡ (lookup q t).depth
 
--- the promise: on words that hold a tree of pieces, at most mostLevels high, and with a load in range
+-- the promise: on words that hold a tree of pieces, at most most_levels high, and with a load in range
 pub record Descended (w : Words) (root : ℕ) (q : ℤ) (slot second probes : ℕ) : Type 0 where
-  pub finds : (t : Tree Item) → Pieces w root t → height t ≤ mostLevels → T (loadInRange q) → Finds q t slot second probes
+  pub finds : (t : Tree Item) → Pieces w root t → height t ≤ most_levels → T (load_in_range q) → Finds q t slot second probes
 
 -- words of no capacity hold no tree
-pub no-slots : {w : Words} {c : ℕ} → c ≡ cap w → c < 1 → (root : ℕ) (q : ℤ) (slot other found : ℕ) → Descended w root q slot other found
-no-slots e h root q slot other found =
+pub no_slots : {w : Words} {c : ℕ} → c ≡ cap w → c < 1 → (root : ℕ) (q : ℤ) (slot other found : ℕ) → Descended w root q slot other found
+no_slots e h root q slot other found =
     record {
       finds = λ t p k r. absurd (omega (arith, e, h, p.rep.slots.low (first_leaf t), p.rep.slots.high (first_leaf t)));
     }
@@ -53,10 +53,10 @@ pub record Below (w : Words) (q : ℤ) (t : Tree Item) (x second probes : ℕ) :
   pub high : probes + height tree ≤ height t
 
 pub record Ongoing (w : Words) (root : ℕ) (q : ℤ) (x second probes : ℕ) : Type 0 where
-  pub below : (t : Tree Item) → Pieces w root t → T (loadInRange q) → Below w q t x second probes
+  pub below : (t : Tree Item) → Pieces w root t → T (load_in_range q) → Below w q t x second probes
 
-pub ongoing-start : (w : Words) (root : ℕ) (q : ℤ) → Ongoing w root q root 0 0
-ongoing-start w root q =
+pub ongoing_start : (w : Words) (root : ℕ) (q : ℤ) → Ongoing w root q root 0 0
+ongoing_start w root q =
     record {
       below = λ t p h. record {
         tree = t;
@@ -71,10 +71,10 @@ ongoing-start w root q =
     }
 
 -- to a child
-step-to : {w : Words} {q : ℤ} {t : Tree Item} {x y second second' probes : ℕ} (s : Tree Item) (kept : Option Item) (b : Below w q t x second probes) →
+step_to : {w : Words} {q : ℤ} {t : Tree Item} {x y second second' probes : ℕ} (s : Tree Item) (kept : Option Item) (b : Below w q t x second probes) →
     walk q b.kept b.tree ≡ deeper (walk q kept s) → height s < height b.tree → Pieces w y s → Mind kept second' →
     Below w q t y second' (probes + 1)
-step-to s kept b k h p m =
+step_to s kept b k h p m =
     record {
       tree = s;
       kept = kept;
@@ -86,11 +86,11 @@ step-to s kept b k h p m =
       high = omega (arith, b.high);
     }
 
-pub ongoing-step : {w : Words} {root x y kept second probes : ℕ} {q : ℤ} → Ongoing w root q x second probes → mostSlots < x →
-    (y ≡ towardAt w x q) × (kept ≡ mindAt w x q second) → Ongoing w root q y kept (probes + 1)
-ongoing-step {w} {root} {x} {y} {kept} {second} {probes} {q} g d (e, k) = record { below = λ t p h. next t h (g.below t p h) }
+pub ongoing_step : {w : Words} {root x y kept second probes : ℕ} {q : ℤ} → Ongoing w root q x second probes → most_slots < x →
+    (y ≡ toward_at w x q) × (kept ≡ mind_at w x q second) → Ongoing w root q y kept (probes + 1)
+ongoing_step {w} {root} {x} {y} {kept} {second} {probes} {q} g d (e, k) = record { below = λ t p h. next t h (g.below t p h) }
   where
-    next : (t : Tree Item) → T (loadInRange q) → Below w q t x second probes → Below w q t y kept (probes + 1)
+    next : (t : Tree Item) → T (load_in_range q) → Below w q t x second probes → Below w q t y kept (probes + 1)
     next t h b = go (against q (last o.l).offer (first o.r).offer) refl
       where
         o : Opened w x q b.tree
@@ -99,53 +99,53 @@ ongoing-step {w} {root} {x} {y} {kept} {second} {probes} {q} g d (e, k) = record
         shape : {z : Reached} → walk q b.kept (node o.l o.r) ≡ z → walk q b.kept b.tree ≡ z
         shape f = ap (walk q b.kept) o.shape ∙ f
 
-        told : {z : Position} → against q (last o.l).offer (first o.r).offer ≡ z → kept ≡ keptAt z (last o.l).slot second
-        told c = k ∙ o.mind second ∙ ap (λ u. keptAt u (last o.l).slot second) c
+        told : {z : Position} → against q (last o.l).offer (first o.r).offer ≡ z → kept ≡ kept_at z (last o.l).slot second
+        told c = k ∙ o.mind second ∙ ap (λ u. kept_at u (last o.l).slot second) c
 
         go : (z : Position) → against q (last o.l).offer (first o.r).offer ≡ z → Below w q t y kept (probes + 1)
         go LiesBelow c =
-            step-to o.l b.kept b (shape (walk-turned q b.kept o.l o.r c)) (omega (arith, ap height o.shape))
-            (subst (λ n. Pieces w n o.l) (sym e) (o.left (ap onOrAbove c))) (subst (Mind b.kept) (sym (told c)) b.mind)
+            step_to o.l b.kept b (shape (walk_turned q b.kept o.l o.r c)) (omega (arith, ap height o.shape))
+            (subst (λ n. Pieces w n o.l) (sym e) (o.left (ap on_or_above c))) (subst (Mind b.kept) (sym (told c)) b.mind)
         go On c =
-            step-to o.r (some (last o.l)) b (shape (walk-turned q b.kept o.l o.r c)) (omega (arith, ap height o.shape))
-            (subst (λ n. Pieces w n o.r) (sym e) (o.right (ap onOrAbove c))) (item (told c) (omega (arith, told c, o.low)))
+            step_to o.r (some (last o.l)) b (shape (walk_turned q b.kept o.l o.r c)) (omega (arith, ap height o.shape))
+            (subst (λ n. Pieces w n o.r) (sym e) (o.right (ap on_or_above c))) (item (told c) (omega (arith, told c, o.low)))
         go Above c =
-            step-to o.r b.kept b (shape (walk-turned q b.kept o.l o.r c)) (omega (arith, ap height o.shape))
-            (subst (λ n. Pieces w n o.r) (sym e) (o.right (ap onOrAbove c))) (subst (Mind b.kept) (sym (told c)) b.mind)
+            step_to o.r b.kept b (shape (walk_turned q b.kept o.l o.r c)) (omega (arith, ap height o.shape))
+            (subst (λ n. Pieces w n o.r) (sym e) (o.right (ap on_or_above c))) (subst (Mind b.kept) (sym (told c)) b.mind)
 
 -- ---- at a leaf
 
 -- its slot is told where nothing is kept in mind
-kept-else : {kept : Option Item} {second : ℕ} (a : Item) → Mind kept second → keptElse second a.slot ≡ (keptOr kept a).slot
-kept-else a nothing = refl
-kept-else a (item {n = n} e h) = rw (le-ltb n 1 h) e
+kept_else_lem : {kept : Option Item} {second : ℕ} (a : Item) → Mind kept second → kept_else second a.slot ≡ (kept_or kept a).slot
+kept_else_lem a nothing = refl
+kept_else_lem a (item {n = n} e h) = rw (le-ltb n 1 h) e
 
-at-end : {w : Words} {q : ℤ} {t : Tree Item} {x second probes : ℕ} (a : Item) (b : Below w q t x second probes) → b.tree ≡ leaf a → x ≡ a.slot →
-    Finds q t x (keptElse second x) probes
+at_end : {w : Words} {q : ℤ} {t : Tree Item} {x second probes : ℕ} (a : Item) (b : Below w q t x second probes) → b.tree ≡ leaf a → x ≡ a.slot →
+    Finds q t x (kept_else second x) probes
 unfolding walk
-at-end {q} {second = second} a b s e =
+at_end {q} {second = second} a b s e =
     record {
       item = e ∙ sym (ap (λ z. z.slot) (b.item ∙ ap (λ u. (walk q b.kept u).item) s));
-      other = ap (keptElse second) e ∙ kept-else a b.mind ∙ sym (ap (λ z. z.slot) (b.other ∙ ap (λ u. (walk q b.kept u).second) s));
+      other = ap (kept_else second) e ∙ kept_else_lem a b.mind ∙ sym (ap (λ z. z.slot) (b.other ∙ ap (λ u. (walk q b.kept u).second) s));
       depth = omega (arith, b.depth, ap (λ u. (walk q b.kept u).depth) s);
     }
 
-pub ongoing-leaf : {w : Words} {root x second probes : ℕ} {q : ℤ} → Ongoing w root q x second probes → x ≤ mostSlots →
-    Descended w root q x (keptElse second x) probes
-ongoing-leaf {q} g d =
-    record { finds = λ t p k h. let b = g.below t p h in let (a, s, e) = at_leaf b.pieces d in at-end a b s e }
+pub ongoing_leaf : {w : Words} {root x second probes : ℕ} {q : ℤ} → Ongoing w root q x second probes → x ≤ most_slots →
+    Descended w root q x (kept_else second x) probes
+ongoing_leaf {q} g d =
+    record { finds = λ t p k h. let b = g.below t p h in let (a, s, e) = at_leaf b.pieces d in at_end a b s e }
 
 -- no node of a tree of pieces is without a child on the load's side
-pub ongoing-off : {w : Words} {root x second probes : ℕ} {q : ℤ} → Ongoing w root q x second probes → mostSlots < x → 0 ≡ towardAt w x q →
+pub ongoing_off : {w : Words} {root x second probes : ℕ} {q : ℤ} → Ongoing w root q x second probes → most_slots < x → 0 ≡ toward_at w x q →
     (slot other found : ℕ) → Descended w root q slot other found
-ongoing-off g d e slot other found =
+ongoing_off g d e slot other found =
     record {
-      finds = λ t p k h. let b = (ongoing-step g d (e, refl)).below t p h in
-          absurd (omega (arith, b.pieces.rep.root, ref-low b.tree b.pieces.rep.slots));
+      finds = λ t p k h. let b = (ongoing_step g d (e, refl)).below t p h in
+          absurd (omega (arith, b.pieces.rep.root, ref_low b.tree b.pieces.rep.slots));
     }
 
--- a tree at most mostLevels high has a leaf after mostLevels probes
-pub ongoing-limit : {w : Words} {root x second probes : ℕ} {q : ℤ} → Ongoing w root q x second probes → mostSlots < x → mostLevels ≤ probes →
+-- a tree at most most_levels high has a leaf after most_levels probes
+pub ongoing_limit : {w : Words} {root x second probes : ℕ} {q : ℤ} → Ongoing w root q x second probes → most_slots < x → most_levels ≤ probes →
     (slot other found : ℕ) → Descended w root q slot other found
-ongoing-limit {q} g d l slot other found =
+ongoing_limit {q} g d l slot other found =
     record { finds = λ t p k h. let b = g.below t p h in let o = opened q b.pieces h d in absurd (omega (arith, b.high, ap height o.shape)) }

@@ -1,11 +1,11 @@
 // Queries on a part. Any words are safe: what a word tells is brought into its range, and every walk has a limit.
 ghost use Rattle.std.specs.Prelude.{◌≡◌, not};
 ghost use Rattle.offers.specs.Offers.{between};
-ghost use Rattle.table.specs.Fields.{numberField};
+ghost use Rattle.table.specs.Fields.{number_field};
 ghost use Rattle.table.specs.Layout.{cap, cell};
 ghost use Rattle.table.specs.Rep.{bit};
-ghost use Rattle.prices.specs.Positions.{position_of, onOrAbove};
-ghost use Rattle.query.specs.Readings.{keptAt, Turns, Stepped, keptElse, priceIn};
+ghost use Rattle.prices.specs.Positions.{position_of, on_or_above};
+ghost use Rattle.query.specs.Readings.{kept_at, Turns, Stepped, kept_else, price_in};
 ghost use Rattle.query.specs.Descent.{Descended};
 
 // The highest number of a leaf, and of a node, in the widths that a descent counts in.
@@ -28,7 +28,7 @@ struct Turn {
 }
 
 fn side_of(point: i64, line: i64) -> usize
-    ensures { result ≡ bit (onOrAbove (position_of point line)) }
+    ensures { result ≡ bit (on_or_above (position_of point line)) }
 {
     if prices::on_or_above(point, line) {
         return 1;
@@ -37,7 +37,7 @@ fn side_of(point: i64, line: i64) -> usize
 }
 
 fn kept_at(point: i64, line: i64, slot: u32, before: u32) -> u32
-    ensures { result ≡ keptAt (position_of point line) slot before }
+    ensures { result ≡ kept_at (position_of point line) slot before }
 {
     if prices::apart(point, line) {
         return before;
@@ -119,7 +119,7 @@ fn astray(probes: u32) -> Probe
 
 // What is kept in mind, and where it is nothing, 0, `slot`.
 fn kept_else(kept: u32, slot: u32) -> u32
-    ensures { result ≡ keptElse kept slot }
+    ensures { result ≡ kept_else kept slot }
 {
     if kept < 1 {
         return slot;
@@ -162,7 +162,7 @@ pub fn descend(part: &[i64], root: u32, load: i64) -> Probe
 
 // The number of the offer in a slot, 0 where the part has no such slot: what `table::get` reads, without its test of the length, which always passes.
 pub fn number(part: &[i64], slot: u32) -> i64
-    ensures { result ≡ cell part.now numberField slot }
+    ensures { result ≡ cell part.now number_field slot }
 {
     let c = table::capacity(part);
     if slot < 1 {
@@ -176,7 +176,7 @@ pub fn number(part: &[i64], slot: u32) -> i64
 
 // The price of the offer in a slot.
 pub fn price(part: &[i64], slot: u32, load: i64) -> i64
-    ensures { result ≡ priceIn part.now slot load }
+    ensures { result ≡ price_in part.now slot load }
 {
     let c = table::capacity(part);
     if slot < 1 {

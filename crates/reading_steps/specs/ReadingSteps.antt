@@ -8,30 +8,30 @@ use Rattle.plain.specs.Book.{State}
 use Rattle.dynamic.specs.OfferTree.{Held}
 use Rattle.table.specs.Items.{Item}
 use Rattle.form.specs.Form.{Book}
-use Rattle.promises.specs.Promises.{part_of, noBookTrial}
+use Rattle.promises.specs.Promises.{part_of, no_book_trial}
 use Rattle.reading_steps.specs.declared.Reading.{Reading}
 use Rattle.reading.specs.declared.Handed.{Handed}
 use Rattle.reading.specs.Promises.{told, refusal, listed_at, Before, Nowhere, Starts, Moves, Hands}
 
 -- a reading of that table and `start`, before the first piece
 pub record Begins (table : Bor (List ℤ)) (start : ℕ) (r : Reading) : Type 0 where
-  pub same-table : r.table ≡ table
+  pub same_table : r.table ≡ table
   pub same_start : r.start ≡ start
   pub place : Starts start table.now r.place
 
 -- the same reading, one step on
 pub record Advances (r q : Reading) : Type 0 where
-  pub same-table : q.table ≡ r.table
+  pub same_table : q.table ≡ r.table
   pub same_start : q.start ≡ r.start
   pub moves : Moves r.start r.table.now r.place q.place
 
 -- what is handed out after n steps
 pub record HandsAt (start : ℕ) (t : List ℤ) (n : ℕ) (s : Handed) : Type 0 where
-  pub declined : (z : Cause) → FirstOf (noBookTrial t start ∷ []) z → told s ≡ refusal z
+  pub declined : (z : Cause) → FirstOf (no_book_trial t start ∷ []) z → told s ≡ refusal z
   pub answers : (plain : State) (held : Option (Held Item)) → Book (part_of t start) plain held → told s ≡ listed_at plain.offers n
 
-pub hands-at : {start : ℕ} {t : List ℤ} {n place : ℕ} {s : Handed} → Before (part_of t start) n place → Hands start t place s → HandsAt start t n s
-hands-at {n} b h = record { declined = h.declined; answers = h.answers n b }
+pub hands_at : {start : ℕ} {t : List ℤ} {n place : ℕ} {s : Handed} → Before (part_of t start) n place → Hands start t place s → HandsAt start t n s
+hands_at {n} b h = record { declined = h.declined; answers = h.answers n b }
 
 -- ---- any number of steps
 
@@ -42,31 +42,31 @@ pub data Moved (table : Bor (List ℤ)) (start : ℕ) : ℕ → Reading → Type
 
 -- it is of the same table, and stands before piece n
 record Stands (table : Bor (List ℤ)) (start n : ℕ) (r : Reading) : Type 0 where
-  same-table : r.table ≡ table
+  same_table : r.table ≡ table
   same_start : r.start ≡ start
   nowhere : Nowhere start table.now r.place
   before : Before (part_of table.now start) n r.place
 
 stands : {table : Bor (List ℤ)} {start n : ℕ} {r : Reading} → Moved table start n r → Stands table start n r
-stands (begun b) = record { same-table = b.same-table; same_start = b.same_start; nowhere = b.place.nowhere; before = b.place.before }
+stands (begun b) = record { same_table = b.same_table; same_start = b.same_start; nowhere = b.place.nowhere; before = b.place.before }
 stands {table} {start} (onward {n} {r} {q} m a) =
     let k = stands m in
     record {
-      same-table = a.same-table ∙ k.same-table;
+      same_table = a.same_table ∙ k.same_table;
       same_start = a.same_start ∙ k.same_start;
-      nowhere = rw (← k.same-table, ← k.same_start) a.moves.nowhere;
+      nowhere = rw (← k.same_table, ← k.same_start) a.moves.nowhere;
       before = subst (λ (i : ℕ). Before (part_of table.now start) i q.place) (add-one n)
-          (rw (← k.same-table, ← k.same_start) (a.moves.on n (rw (k.same-table, k.same_start) k.before)));
+          (rw (← k.same_table, ← k.same_start) (a.moves.on n (rw (k.same_table, k.same_start) k.before)));
     }
 
 -- After n steps it hands out the n-th piece as listed, or the end; and it is declined where there is no book.
-pub every-step : {table : Bor (List ℤ)} {start n : ℕ} {r : Reading} {s : Handed} → Moved table start n r → Hands r.start r.table.now r.place s →
+pub every_step : {table : Bor (List ℤ)} {start n : ℕ} {r : Reading} {s : Handed} → Moved table start n r → Hands r.start r.table.now r.place s →
     HandsAt start table.now n s
-every-step {table} {start} {n} {r} {s} m h =
+every_step {table} {start} {n} {r} {s} m h =
     let k = stands m in
-    hands-at k.before (subst (λ (i : ℕ). Hands i table.now r.place s) k.same_start
-    (subst (λ (x : Bor (List ℤ)). Hands r.start x.now r.place s) k.same-table h))
+    hands_at k.before (subst (λ (i : ℕ). Hands i table.now r.place s) k.same_start
+    (subst (λ (x : Bor (List ℤ)). Hands r.start x.now r.place s) k.same_table h))
 
 -- where there is no book it stands at place 0
-pub every-place : {table : Bor (List ℤ)} {start n : ℕ} {r : Reading} → Moved table start n r → Nowhere start table.now r.place
-every-place m = (stands m).nowhere
+pub every_place : {table : Bor (List ℤ)} {start n : ℕ} {r : Reading} → Moved table start n r → Nowhere start table.now r.place
+every_place m = (stands m).nowhere

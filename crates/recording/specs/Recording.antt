@@ -5,9 +5,9 @@ use Rattle.offers.specs.Offers.{Offer}
 use Rattle.plain.specs.Causes.{Clear}
 use Rattle.plain.specs.Book.{State, Undo, post, withdraw, trials, undone, recalling}
 use Rattle.plain.specs.Rules.{posted, withdrawn}
-use Rattle.trees.specs.Operations.{partLeaves}
+use Rattle.trees.specs.Operations.{part_leaves}
 use Rattle.dynamic.specs.OfferTree.{Held}
-use Rattle.table.specs.Fields.{mostNodes, numberField, numberTree, numbersRootWord}
+use Rattle.table.specs.Fields.{most_nodes, number_field, number_tree, numbers_root_word}
 use Rattle.table.specs.Words.{Words, word, up_to}
 use Rattle.table.specs.Layout.{cap}
 use Rattle.table.specs.Items.{Item}
@@ -22,8 +22,8 @@ use Rattle.promises.specs.declared.Update.{Update}
 use Rattle.promises.specs.declared.Update.TheVariants.{Done, Declined}
 
 -- an update's answer
-abbrev pub updateOf : Told → Update
-updateOf t = Done (pos t.live) (pos t.counts.searches) (pos t.counts.steps) (pos t.counts.heights)
+abbrev pub update_of : Told → Update
+update_of t = Done (pos t.live) (pos t.counts.searches) (pos t.counts.steps) (pos t.counts.heights)
 
 -- words past the part stay, and its capacity, whatever the words are
 pub record Inside (w w' : Words) : Type 0 where
@@ -41,19 +41,19 @@ pub record Recorded (w' : Words) (next : State) (held : Option (Held Item)) (t :
 pub record PostKept (o : Offer) (w w' : Words) (u : Update) : Type 0 where
   pub inside : Inside w w'
   pub told : Told
-  pub answer : u ≡ updateOf told
+  pub answer : u ≡ update_of told
   pub done :
       (plain : State) (held : Option (Held Item)) (f : Form w plain held) → Clear (trials plain (post o.number o.rate o.base)) →
-      Postable o plain.capacity (partLeaves f.book.order) → Recorded w' (posted plain o.number o.rate o.base) held told
+      Postable o plain.capacity (part_leaves f.book.order) → Recorded w' (posted plain o.number o.rate o.base) held told
 
 -- of the live offer in slot s
 pub record WithdrawKept (n : ℤ) (s : ℕ) (w w' : Words) (u : Update) : Type 0 where
   pub inside : Inside w w'
   pub told : Told
-  pub answer : u ≡ updateOf told
+  pub answer : u ≡ update_of told
   pub done :
       (plain : State) (held : Option (Held Item)) → Form w plain held → Clear (trials plain (withdraw n)) →
-      FoundKey numberTree numberField n (up_to mostNodes (word w numbersRootWord)) w s → 1 ≤ s → Recorded w' (withdrawn plain n) held told
+      FoundKey number_tree number_field n (up_to most_nodes (word w numbers_root_word)) w s → 1 ≤ s → Recorded w' (withdrawn plain n) held told
 
 -- ---- undone
 
@@ -63,7 +63,7 @@ pub record Undoes (v : Undo) (w w' : Words) (u : Update) : Type 0 where
   pub refusal : (z : ℤ) → u ≡ Declined z → w' ≡ w
   pub done :
       (plain : State) (held : Option (Held Item)) (us : List Undo) → Form w plain held → plain.memory ≡ v ∷ us →
-      (t : Told) × (u ≡ updateOf t) × Recorded w' (recalling plain (undone v plain.offers) us) held t
+      (t : Told) × (u ≡ update_of t) × Recorded w' (recalling plain (undone v plain.offers) us) held t
 
 -- the last one, whatever it is
 pub record TakesBack (w w' : Words) (u : Update) : Type 0 where
@@ -72,4 +72,4 @@ pub record TakesBack (w w' : Words) (u : Update) : Type 0 where
   pub nothing : (plain : State) (held : Option (Held Item)) → Form w plain held → plain.memory ≡ [] → u ≡ Declined (pos 17)
   pub done :
       (plain : State) (held : Option (Held Item)) (v : Undo) (us : List Undo) → Form w plain held → plain.memory ≡ v ∷ us →
-      (t : Told) × (u ≡ updateOf t) × Recorded w' (recalling plain (undone v plain.offers) us) held t
+      (t : Told) × (u ≡ update_of t) × Recorded w' (recalling plain (undone v plain.offers) us) held t

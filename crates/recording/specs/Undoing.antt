@@ -5,42 +5,42 @@ use Rattle.std.proofs.Math.Option.{Option}
 use Rattle.offers.specs.Offers.{Offer}
 use Rattle.plain.specs.Causes.{Clear}
 use Rattle.plain.specs.Book.{State, Undo, unpost, restore, Outcome, Call, post, withdraw, live, refused, join, leave, undone, undoing, Undoable, trials}
-use Rattle.plain.specs.Book.{bookTrials, rangeTrials, recalling, remember, accepted, step}
-use Rattle.plain.specs.Rules.{refusing, step-accepted, posts, withdraws}
-use Rattle.plain.specs.Sound.{length-join, tried-recalling}
-use Rattle.plain.specs.Trials.{first-append}
-use Rattle.plain.specs.Undoing.{accepted-recallable}
-use Rattle.plain.specs.Entries.{names-first}
-use Rattle.trees.specs.Operations.{partLeaves}
+use Rattle.plain.specs.Book.{book_trials, range_trials, recalling, remember, accepted, step}
+use Rattle.plain.specs.Rules.{refusing, step_accepted, posts, withdraws}
+use Rattle.plain.specs.Sound.{length_join, tried_recalling}
+use Rattle.plain.specs.Trials.{first_append}
+use Rattle.plain.specs.Undoing.{accepted_recallable}
+use Rattle.plain.specs.Entries.{names_first}
+use Rattle.trees.specs.Operations.{part_leaves}
 use Rattle.dynamic.specs.OfferTree.{Held}
-use Rattle.table.specs.Fields.{baseField, mostNodes, numberField, numberTree, numbersRootWord, rateField}
+use Rattle.table.specs.Fields.{base_field, most_nodes, number_field, number_tree, numbers_root_word, rate_field}
 use Rattle.table.specs.Words.{Words, word, up_to}
 use Rattle.table.specs.Layout.{cell}
 use Rattle.table.specs.Items.{Item}
 use Rattle.form.specs.Form.{Form}
 use Rattle.form.specs.Memory.{Ring, posted, withdrawn}
-use Rattle.form.specs.Live.{book-sound}
-use Rattle.memory.specs.Ring.{LastOf, Reads, of-post, of-withdrawal, Remembering, Forgetting}
+use Rattle.form.specs.Live.{book_sound}
+use Rattle.memory.specs.Ring.{LastOf, Reads, of_post, of_withdrawal, Remembering, Forgetting}
 use Rattle.memory.specs.declared.Entry.{Entry}
 use Rattle.index.specs.Index.{FoundKey}
-use Rattle.declining.specs.Sought.{number-sought}
-use Rattle.declining.specs.Declining.{withdraw-missing}
+use Rattle.declining.specs.Sought.{number_sought}
+use Rattle.declining.specs.Declining.{withdraw_missing}
 use Rattle.declining.specs.PartCauses.{PostCause}
 use Rattle.filing.specs.Withdrawing.{live_at}
 use Rattle.filing.specs.PartUpdates.{PostDone, WithdrawDone}
 use Rattle.filing.specs.declared.Told.{Told}
 use Rattle.promises.specs.declared.Update.{Update}
 use Rattle.promises.specs.declared.Update.TheVariants.{Done, Declined}
-use Rattle.promises.specs.OneCause.{not-clear}
+use Rattle.promises.specs.OneCause.{not_clear}
 use Rattle.recording.specs.Ranges.{RangeCause}
-use Rattle.recording.specs.Recording.{updateOf, Recorded, PostKept, WithdrawKept, Undoes, TakesBack}
-use Rattle.recording.specs.Recorded.{inside_both, inside-same, recorded, some-room, undo-of-slot}
+use Rattle.recording.specs.Recording.{update_of, Recorded, PostKept, WithdrawKept, Undoes, TakesBack}
+use Rattle.recording.specs.Recorded.{inside_both, inside_same, recorded, some_room, undo_of_slot}
 
 -- ---- an update remembered
 
-pub post-kept : (o : Offer) {w w₁ w' : Words} {t : Told} {u : Update} → PostDone o w w₁ t → Remembering posted o.number o.rate o.base w₁ w' →
-    u ≡ updateOf t → PostKept o w w' u
-post-kept o {t = t} g m e =
+pub post_kept : (o : Offer) {w w₁ w' : Words} {t : Told} {u : Update} → PostDone o w w₁ t → Remembering posted o.number o.rate o.base w₁ w' →
+    u ≡ update_of t → PostKept o w w' u
+post_kept o {t = t} g m e =
     record {
       inside = inside_both g.kept m.only;
       told = t;
@@ -48,66 +48,66 @@ post-kept o {t = t} g m e =
       done = λ plain held f clear new.
           let (updated, count) = g.done plain held f.book new in
           recorded (join o plain.offers) (remember (unpost o.number ∷ []) plain.memory) f g.kept updated m.only
-          (m.ring (unpost o.number) plain.memory of-post (some-room f g.kept))
-          (accepted-recallable plain (post o.number o.rate o.base) (book-sound f.book) f.memory.undoable clear)
-          (count ∙ sym (length-join o plain.offers));
+          (m.ring (unpost o.number) plain.memory of_post (some_room f g.kept))
+          (accepted_recallable plain (post o.number o.rate o.base) (book_sound f.book) f.memory.undoable clear)
+          (count ∙ sym (length_join o plain.offers));
     }
 
-pub withdraw-kept : (n r z : ℤ) {w w₁ w' : Words} {s : ℕ} {t : Told} {u : Update} → r ≡ cell w rateField s → z ≡ cell w baseField s →
-    WithdrawDone n s w w₁ t → Remembering withdrawn n r z w₁ w' → u ≡ updateOf t → WithdrawKept n s w w' u
-withdraw-kept n r z {w' = w'} {t = t} er ez g m e =
+pub withdraw_kept : (n r z : ℤ) {w w₁ w' : Words} {s : ℕ} {t : Told} {u : Update} → r ≡ cell w rate_field s → z ≡ cell w base_field s →
+    WithdrawDone n s w w₁ t → Remembering withdrawn n r z w₁ w' → u ≡ update_of t → WithdrawKept n s w w' u
+withdraw_kept n r z {w' = w'} {t = t} er ez g m e =
     record {
       inside = inside_both g.kept m.only;
       told = t;
       answer = e;
       done = λ plain held f clear found low.
           let (updated, count) = g.done plain held f.book found low in
-          let (a, there) = live_at (number-sought f.book found refl) (λ q. omega (arith, q, low)) in
-          let entry = undo-of-slot f.book there er ez in
+          let (a, there) = live_at (number_sought f.book found refl) (λ q. omega (arith, q, low)) in
+          let entry = undo_of_slot f.book there er ez in
           recorded (leave n plain.offers) _ f g.kept updated m.only
           (λ ring. subst (λ (us : List Undo). Ring w' (remember us plain.memory)) (sym entry)
-          (m.ring (restore (record { number = n; rate = r; base = z })) plain.memory of-withdrawal (some-room f g.kept) ring))
-          (accepted-recallable plain (withdraw n) (book-sound f.book) f.memory.undoable clear) count;
+          (m.ring (restore (record { number = n; rate = r; base = z })) plain.memory of_withdrawal (some_room f g.kept) ring))
+          (accepted_recallable plain (withdraw n) (book_sound f.book) f.memory.undoable clear) count;
     }
 
 -- ---- the last one undone
 
-done-declined : {t : Told} {z : ℤ} → updateOf t ≡ Declined z → ⊥
-done-declined e = let x : ◌≡◌ {A = ℕ} 0 1 = cc in omega arith
+done_declined : {t : Told} {z : ℤ} → update_of t ≡ Declined z → ⊥
+done_declined e = let x : ◌≡◌ {A = ℕ} 0 1 = cc in omega arith
 
 -- a call that nothing declines is not refused
-not-refused : (s : State) (k : Call) {next : State} {i m : ℕ} → step s k ≡ record { state = next; answer = live i } → step s k ≡ refusing s m → ⊥
-not-refused s k {i = i} {m} e d = let q : live i ≡ refused m = sym (ap (λ (o : Outcome). o.answer) e) ∙ ap (λ (o : Outcome). o.answer) d in
+not_refused : (s : State) (k : Call) {next : State} {i m : ℕ} → step s k ≡ record { state = next; answer = live i } → step s k ≡ refusing s m → ⊥
+not_refused s k {i = i} {m} e d = let q : live i ≡ refused m = sym (ap (λ (o : Outcome). o.answer) e) ∙ ap (λ (o : Outcome). o.answer) d in
     let x : ◌≡◌ {A = ℕ} 0 1 = cc in omega arith
 
 -- what the form says of the last entry
-last-clear : {w : Words} {plain : State} {held : Option (Held Item)} {v : Undo} {us : List Undo} → Form w plain held → plain.memory ≡ v ∷ us →
+last_clear : {w : Words} {plain : State} {held : Option (Held Item)} {v : Undo} {us : List Undo} → Form w plain held → plain.memory ≡ v ∷ us →
     Clear (trials plain (undoing v)) × Undoable plain.capacity (undone v plain.offers) us
-last-clear {plain = plain} {v = v} {us} f e =
+last_clear {plain = plain} {v = v} {us} f e =
     let (clear, rest) = subst (Undoable plain.capacity plain.offers) e f.memory.undoable in
-    (tried-recalling plain us plain.memory v clear, rest)
+    (tried_recalling plain us plain.memory v clear, rest)
 
 -- nothing is done
-pub undoes-declined : (v : Undo) {w w' : Words} {u : Update} → w' ≡ w →
+pub undoes_declined : (v : Undo) {w w' : Words} {u : Update} → w' ≡ w →
     ((plain : State) (held : Option (Held Item)) (us : List Undo) → Form w plain held → plain.memory ≡ v ∷ us → ⊥) → Undoes v w w' u
-undoes-declined v e never =
-    record { inside = inside-same e; refusal = λ z d. e; done = λ plain held us f m. absurd (never plain held us f m) }
+undoes_declined v e never =
+    record { inside = inside_same e; refusal = λ z d. e; done = λ plain held us f m. absurd (never plain held us f m) }
 
-module _ (n : ℤ) {w : Words} {s : ℕ} (found : FoundKey numberTree numberField n (up_to mostNodes (word w numbersRootWord)) w s) where
-  pub undo-missing : {w' : Words} {u : Update} → s < 1 → w' ≡ w → Undoes (unpost n) w w' u
-  undo-missing l e =
-      undoes-declined (unpost n) e (λ plain held us f m.
-      let (clear, rest) = last-clear f m in
-      not-refused plain (withdraw n) (withdraws plain n clear)
-      (withdraw-missing f.book n (clear.0, tt) (number-sought f.book found refl) (omega (arith, l))))
+module _ (n : ℤ) {w : Words} {s : ℕ} (found : FoundKey number_tree number_field n (up_to most_nodes (word w numbers_root_word)) w s) where
+  pub undo_missing : {w' : Words} {u : Update} → s < 1 → w' ≡ w → Undoes (unpost n) w w' u
+  undo_missing l e =
+      undoes_declined (unpost n) e (λ plain held us f m.
+      let (clear, rest) = last_clear f m in
+      not_refused plain (withdraw n) (withdraws plain n clear)
+      (withdraw_missing f.book n (clear.0, tt) (number_sought f.book found refl) (omega (arith, l))))
 
-  pub undo-post : {w₁ w' : Words} {t : Told} {u : Update} → 1 ≤ s → WithdrawDone n s w w₁ t → Forgetting w₁ w' → u ≡ updateOf t → Undoes (unpost n) w w' u
-  undo-post {w₁} {w'} {t} l g m e =
+  pub undo_post : {w₁ w' : Words} {t : Told} {u : Update} → 1 ≤ s → WithdrawDone n s w w₁ t → Forgetting w₁ w' → u ≡ update_of t → Undoes (unpost n) w w' u
+  undo_post {w₁} {w'} {t} l g m e =
       record {
         inside = inside_both g.kept m.only;
-        refusal = λ z d. absurd (done-declined (sym e ∙ d));
+        refusal = λ z d. absurd (done_declined (sym e ∙ d));
         done = λ plain held us f em.
-            let (clear, rest) = last-clear f em in
+            let (clear, rest) = last_clear f em in
             let (updated, count) = g.done plain held f.book found l in (
               t,
               e,
@@ -116,33 +116,33 @@ module _ (n : ℤ) {w : Words} {s : ℕ} (found : FoundKey numberTree numberFiel
       }
 
 module _ (n r z : ℤ) {w : Words} {i : ℕ} (range : RangeCause (post n r z) i) where
-  pub undo-range : {w' : Words} {u : Update} → 0 < i → w' ≡ w → Undoes (restore (record { number = n; rate = r; base = z })) w w' u
-  undo-range l e =
-      undoes-declined (restore (record { number = n; rate = r; base = z })) e (λ plain held us f m.
-      let (k, first, d) = names-first (range.names l) in
-      not-clear (first-append (bookTrials plain (post n r z)) first) (last-clear f m).0)
+  pub undo_range : {w' : Words} {u : Update} → 0 < i → w' ≡ w → Undoes (restore (record { number = n; rate = r; base = z })) w w' u
+  undo_range l e =
+      undoes_declined (restore (record { number = n; rate = r; base = z })) e (λ plain held us f m.
+      let (k, first, d) = names_first (range.names l) in
+      not_clear (first_append (book_trials plain (post n r z)) first) (last_clear f m).0)
 
   module _ (q : i ≤ 0) {m : ℕ} (cause : PostCause n w m) where
-    pub undo-cause : {w' : Words} {u : Update} → 0 < m → w' ≡ w → Undoes (restore (record { number = n; rate = r; base = z })) w w' u
-    undo-cause l e =
-        undoes-declined (restore (record { number = n; rate = r; base = z })) e (λ plain held us f em.
-        not-refused plain (post n r z) (posts plain n r z (last-clear f em).0) (cause.declines r z plain held f.book (range.clears q) l))
+    pub undo_cause : {w' : Words} {u : Update} → 0 < m → w' ≡ w → Undoes (restore (record { number = n; rate = r; base = z })) w w' u
+    undo_cause l e =
+        undoes_declined (restore (record { number = n; rate = r; base = z })) e (λ plain held us f em.
+        not_refused plain (post n r z) (posts plain n r z (last_clear f em).0) (cause.declines r z plain held f.book (range.clears q) l))
 
-    pub undo-withdrawal :
-        {w₁ w' : Words} {t : Told} {u : Update} → m ≤ 0 → PostDone (record { number = n; rate = r; base = z }) w w₁ t → Forgetting w₁ w' → u ≡ updateOf t →
+    pub undo_withdrawal :
+        {w₁ w' : Words} {t : Told} {u : Update} → m ≤ 0 → PostDone (record { number = n; rate = r; base = z }) w w₁ t → Forgetting w₁ w' → u ≡ update_of t →
         Undoes (restore (record { number = n; rate = r; base = z })) w w' u
-    undo-withdrawal {w₁} {t = t} l g forgets e =
+    undo_withdrawal {w₁} {t = t} l g forgets e =
         record {
           inside = inside_both g.kept forgets.only;
-          refusal = λ y d. absurd (done-declined (sym e ∙ d));
+          refusal = λ y d. absurd (done_declined (sym e ∙ d));
           done = λ plain held us f em.
-              let (clear, rest) = last-clear f em in
+              let (clear, rest) = last_clear f em in
               let (_, new) = cause.clears r z plain held f.book (range.clears q) l in
               let (updated, count) = g.done plain held f.book new in (
                 t,
                 e,
                 recorded (join o plain.offers) us f g.kept updated forgets.only
-                    (λ ring. forgets.ring (restore o) us (subst (Ring w₁) em ring)) rest (count ∙ sym (length-join o plain.offers)),
+                    (λ ring. forgets.ring (restore o) us (subst (Ring w₁) em ring)) rest (count ∙ sym (length_join o plain.offers)),
               );
         }
       where
@@ -155,8 +155,8 @@ module _ {w : Words} {e : Entry} (last : LastOf w e) where
   reads : {plain : State} {held : Option (Held Item)} {us : List Undo} → Form w plain held → plain.memory ≡ us → Reads us e
   reads {us = us} f m = last.reads us (subst (Ring w) m f.memory.ring)
 
-  pub takes-post : {w' : Words} {u : Update} → e.done ≡ posted → Undoes (unpost e.number) w w' u → TakesBack w w' u
-  takes-post {w'} {u} d g =
+  pub takes_post : {w' : Words} {u : Update} → e.done ≡ posted → Undoes (unpost e.number) w w' u → TakesBack w w' u
+  takes_post {w'} {u} d g =
       record {
         inside = g.inside;
         refusal = g.refusal;
@@ -165,16 +165,16 @@ module _ {w : Words} {e : Entry} (last : LastOf w e) where
       }
     where
       go : (plain : State) (held : Option (Held Item)) (v : Undo) (us : List Undo) → Form w plain held → plain.memory ≡ v ∷ us → Reads (v ∷ us) e →
-          (t : Told) × (u ≡ updateOf t) × Recorded w' (recalling plain (undone v plain.offers) us) held t
+          (t : Told) × (u ≡ update_of t) × Recorded w' (recalling plain (undone v plain.offers) us) held t
       go plain held (unpost n) us f m (k, en) =
-          subst (λ (i : ℤ). (t : Told) × (u ≡ updateOf t) × Recorded w' (recalling plain (leave i plain.offers) us) held t)
+          subst (λ (i : ℤ). (t : Told) × (u ≡ update_of t) × Recorded w' (recalling plain (leave i plain.offers) us) held t)
           en (g.done plain held us f (m ∙ ap (λ (i : ℤ). unpost i ∷ us) (sym en)))
       go plain held (restore o) us f m (k, eo) = absurd (omega (arith, k, d))
 
-  pub takes-withdrawal :
+  pub takes_withdrawal :
       {w' : Words} {u : Update} → e.done ≡ withdrawn → Undoes (restore (record { number = e.number; rate = e.rate; base = e.base })) w w' u →
       TakesBack w w' u
-  takes-withdrawal {w'} {u} d g =
+  takes_withdrawal {w'} {u} d g =
       record {
         inside = g.inside;
         refusal = g.refusal;
@@ -183,15 +183,15 @@ module _ {w : Words} {e : Entry} (last : LastOf w e) where
       }
     where
       go : (plain : State) (held : Option (Held Item)) (v : Undo) (us : List Undo) → Form w plain held → plain.memory ≡ v ∷ us → Reads (v ∷ us) e →
-          (t : Told) × (u ≡ updateOf t) × Recorded w' (recalling plain (undone v plain.offers) us) held t
+          (t : Told) × (u ≡ update_of t) × Recorded w' (recalling plain (undone v plain.offers) us) held t
       go plain held (unpost n) us f m (k, en) = absurd (omega (arith, k, d))
-      go plain held (restore o) us f m (k, eo) = subst (λ (p : Offer). (t : Told) × (u ≡ updateOf t) × Recorded w' (recalling plain (join p plain.offers) us)
+      go plain held (restore o) us f m (k, eo) = subst (λ (p : Offer). (t : Told) × (u ≡ update_of t) × Recorded w' (recalling plain (join p plain.offers) us)
           held t) eo (g.done plain held us f (m ∙ ap (λ (p : Offer). restore p ∷ us) (sym eo)))
 
-  pub takes-nothing : {w' : Words} {u : Update} → (e.done ≡ posted → ⊥) → (e.done ≡ withdrawn → ⊥) → u ≡ Declined (pos 17) → w' ≡ w → TakesBack w w' u
-  takes-nothing {w'} {u} p q eu ew =
+  pub takes_nothing : {w' : Words} {u : Update} → (e.done ≡ posted → ⊥) → (e.done ≡ withdrawn → ⊥) → u ≡ Declined (pos 17) → w' ≡ w → TakesBack w w' u
+  takes_nothing {w'} {u} p q eu ew =
       record {
-        inside = inside-same ew;
+        inside = inside_same ew;
         refusal = λ z d. ew;
         nothing = λ plain held f m. eu;
         done = λ plain held v us f m. absurd (some plain v us (reads f m));

@@ -1,15 +1,15 @@
 // The updates of a part with its memory: a post and a withdrawal are remembered, and the last of them is taken back.
 ghost use Rattle.std.specs.Prelude.{◌≡◌, T};
-ghost use Rattle.offers.specs.Offers.{offerInRange};
+ghost use Rattle.offers.specs.Offers.{offer_in_range};
 ghost use Rattle.plain.specs.Book.{post, unpost, restore};
 ghost use Rattle.recording.specs.Ranges.{RangeCause};
-ghost use Rattle.recording.specs.Recording.{updateOf, PostKept, WithdrawKept, Undoes, TakesBack};
+ghost use Rattle.recording.specs.Recording.{update_of, PostKept, WithdrawKept, Undoes, TakesBack};
 
 use promises::Update;
 
 // An update's answer.
 fn done(told: filing::Told) -> Update
-    ensures { result ≡ updateOf told }
+    ensures { result ≡ update_of told }
 {
     Update::Done {
         live: told.live as i64,
@@ -37,7 +37,7 @@ pub fn range_cause(number: i64, rate: i64, base: i64) -> u32
 
 // A post that is not declined, remembered.
 pub fn post_kept(part: &mut [i64], number: i64, rate: i64, base: i64) -> Update
-    requires { T (offerInRange (record { number = number; rate = rate; base = base })) }
+    requires { T (offer_in_range (record { number = number; rate = rate; base = base })) }
     ensures { PostKept (record { number = number; rate = rate; base = base }) part.old part.new result }
 {
     let told = filing::post_part(part, number, rate, base);

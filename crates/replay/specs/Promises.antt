@@ -2,13 +2,13 @@
 -- the words that answers are written to, before and after.
 use Rattle.std.specs.Prelude.{◌≡◌, Bool, true, false, List, ℕ, ◌*◌, length, leb, ℤ, pos, nat_abs}
 use Rattle.std.proofs.Math.Option.{Option, none}
-use Rattle.plain.specs.Causes.{Cause, causeNumber, FirstOf, Clear}
-use Rattle.plain.specs.Book.{State, Call, Answer, opened, openTrials, answers}
+use Rattle.plain.specs.Causes.{Cause, cause_number, FirstOf, Clear}
+use Rattle.plain.specs.Book.{State, Call, Answer, opened, open_trials, answers}
 use Rattle.dynamic.specs.OfferTree.{Held}
 use Rattle.table.specs.Items.{Item}
 use Rattle.form.specs.Form.{Form}
 use Rattle.promises.specs.declared.Opening.{Opening}
-use Rattle.promises.specs.Promises.{part_of, capacityAt, OnlyPart, Opens}
+use Rattle.promises.specs.Promises.{part_of, capacity_at, OnlyPart, Opens}
 use Rattle.history.specs.History.{History}
 use Rattle.history.specs.Claim.{Claim}
 use Rattle.replay.specs.declared.Replayed.{Replayed}
@@ -29,24 +29,24 @@ pub data RunAnswer : Type 0 where
   ran : (calls : ℕ) (all : Bool) → RunAnswer
   unopened : ℤ → RunAnswer
 
-abbrev pub runAnswer : Replayed → RunAnswer
-runAnswer (Ran n) = ran n true
-runAnswer (Stopped n) = ran n false
-runAnswer (Declined k) = unopened k
+abbrev pub run_answer : Replayed → RunAnswer
+run_answer (Ran n) = ran n true
+run_answer (Stopped n) = ran n false
+run_answer (Declined k) = unopened k
 
 -- n calls were run: all, if no word is left
-abbrev pub runCount : List ℤ → ℕ → RunAnswer
-runCount calls n = ran n (leb (length calls) (4 * n))
+abbrev pub run_count : List ℤ → ℕ → RunAnswer
+run_count calls n = ran n (leb (length calls) (4 * n))
 
 -- ---- the promises
 
 -- On a part that is there already. The calls run are those up to the first that is unreadable or whose answer does not fit.
 pub record Resumes (start : ℕ) (t t' calls out out' : List ℤ) (r : Replayed) : Type 0 where
-  pub count : runAnswer r ≡ runCount calls (length (runnable calls (length out)))
+  pub count : run_answer r ≡ run_count calls (length (runnable calls (length out)))
   pub reach : Run calls (length out) (runnable calls (length out))
   pub made : (c : ℕ) → Made c start t t' (runnable calls (length out)) out out'
   pub long : length out' ≡ length out
-  pub outside : OnlyPart (capacityAt t start) start t t'
+  pub outside : OnlyPart (capacity_at t start) start t t'
   -- where the part passes the check
   pub claim : (s : State) (held : Option (Held Item)) → Form (part_of t start) s held → Claim s held (made s.capacity).history
   pub right : (s : State) (held : Option (Held Item)) → Form (part_of t start) s held →
@@ -66,5 +66,5 @@ pub record Begun (c : ℤ) (start : ℕ) (t t' calls out out' : List ℤ) (r : R
   pub outside : OnlyPart (nat_abs c) start t t'
 
 pub record Replays (c : ℤ) (start : ℕ) (t t' calls out out' : List ℤ) (r : Replayed) : Type 0 where
-  pub declined : (k : Cause) → FirstOf (openTrials (length t) start c) k → (runAnswer r ≡ unopened (pos (causeNumber k))) × (t' ≡ t) × (out' ≡ out)
-  pub accepted : Clear (openTrials (length t) start c) → Begun c start t t' calls out out' r
+  pub declined : (k : Cause) → FirstOf (open_trials (length t) start c) k → (run_answer r ≡ unopened (pos (cause_number k))) × (t' ≡ t) × (out' ≡ out)
+  pub accepted : Clear (open_trials (length t) start c) → Begun c start t t' calls out out' r

@@ -3,73 +3,73 @@ use Rattle.std.specs.Prelude.{◌≡◌, refl, List, ℕ, ◌*◌, ◌≤◌, �
 use Rattle.std.proofs.Common.{◌∙◌, ap, subst, arith, le-leb}
 use Rattle.std.proofs.Math.Option.{Option, none}
 use Rattle.std.proofs.lemmas.Bool.{lt-leb}
-use Rattle.plain.specs.Causes.{Cause, causeNumber, FirstOf, Clear}
-use Rattle.plain.specs.Book.{State, Answer, opened, openTrials}
+use Rattle.plain.specs.Causes.{Cause, cause_number, FirstOf, Clear}
+use Rattle.plain.specs.Book.{State, Answer, opened, open_trials}
 use Rattle.dynamic.specs.OfferTree.{Held}
 use Rattle.table.specs.Items.{Item}
 use Rattle.form.specs.Form.{Form}
 use Rattle.promises.specs.declared.Opening.{Opening}
 use Rattle.promises.specs.declared.Opening.TheVariants.{Opened, Declined as OpeningDeclined}
-use Rattle.promises.specs.Promises.{part_of, capacityAt, Opens}
-use Rattle.form.specs.There.{cap-there}
-use Rattle.history.specs.Claim.{from-book}
+use Rattle.promises.specs.Promises.{part_of, capacity_at, Opens}
+use Rattle.form.specs.There.{cap_there}
+use Rattle.history.specs.Claim.{from_book}
 use Rattle.replay.specs.declared.Replayed.{Replayed}
 use Rattle.replay.specs.declared.Replayed.TheVariants.{Ran, Stopped}
 use Rattle.replay_words.specs.Encoding.{runnable, Spares}
-use Rattle.replay_words.specs.Laws.{run-reach}
-use Rattle.replay.specs.Right.{told-right, spares-right}
-use Rattle.replay.specs.Promises.{unopened, runAnswer, runCount, Resumes, Begun, Replays}
+use Rattle.replay_words.specs.Laws.{run_reach}
+use Rattle.replay.specs.Right.{told_right, spares_right}
+use Rattle.replay.specs.Promises.{unopened, run_answer, run_count, Resumes, Begun, Replays}
 use Rattle.replay.specs.Running.{Ended, only_then}
 
 module _ {start : ℕ} {t t' calls out out' : List ℤ} {n : ℕ} (e : Ended start t t' calls out out' n) where
-  resumes : {r : Replayed} → runAnswer r ≡ runCount calls n → Resumes start t t' calls out out' r
+  resumes : {r : Replayed} → run_answer r ≡ run_count calls n → Resumes start t t' calls out out' r
   resumes q =
       record {
-        count = q ∙ ap (runCount calls) e.count;
-        reach = run-reach calls (length out);
+        count = q ∙ ap (run_count calls) e.count;
+        reach = run_reach calls (length out);
         made = e.made;
         long = e.long;
         outside = e.outside;
-        claim = λ s held b. from-book (e.made s.capacity).history s held refl b;
+        claim = λ s held b. from_book (e.made s.capacity).history s held refl b;
         right = λ s held b.
             let m = e.made s.capacity in
-            let k = (from-book m.history s held refl b).told in
-            told-right m.history out out' m.tells s k ∙ k;
+            let k = (from_book m.history s held refl b).told in
+            told_right m.history out out' m.tells s k ∙ k;
         spares = λ s held b.
             let m = e.made s.capacity in
-            subst (λ (as' : List Answer). Spares (runnable calls (length out)) as' out out') (from-book m.history s held refl b).told
-            (spares-right m.history out out' m.tells s held refl b);
+            subst (λ (as' : List Answer). Spares (runnable calls (length out)) as' out out') (from_book m.history s held refl b).told
+            (spares_right m.history out out' m.tells s held refl b);
       }
 
-  pub resumes-all : length calls ≤ 4 * n → Resumes start t t' calls out out' (Ran n)
-  resumes-all h = resumes (rw (le-leb (length calls) (4 * n) h))
+  pub resumes_all : length calls ≤ 4 * n → Resumes start t t' calls out out' (Ran n)
+  resumes_all h = resumes (rw (le-leb (length calls) (4 * n) h))
 
-  pub resumes-some : 4 * n < length calls → Resumes start t t' calls out out' (Stopped n)
-  resumes-some h = resumes (rw (lt-leb (length calls) (4 * n) h))
+  pub resumes_some : 4 * n < length calls → Resumes start t t' calls out out' (Stopped n)
+  resumes_some h = resumes (rw (lt-leb (length calls) (4 * n) h))
 
 -- ---- from an opening on
 
 -- the first word of a book tells its capacity
-told-capacity : (start : ℕ) (t : List ℤ) {s : State} {held : Option (Held Item)} → Form (part_of t start) s held → capacityAt t start ≡ s.capacity
-told-capacity start t f = ap nat_abs (cap-there (part_of t start) f.book.capacity f.book.some-slot).first
+told_capacity : (start : ℕ) (t : List ℤ) {s : State} {held : Option (Held Item)} → Form (part_of t start) s held → capacity_at t start ≡ s.capacity
+told_capacity start t f = ap nat_abs (cap_there (part_of t start) f.book.capacity f.book.some_slot).first
 
 module _ {c : ℤ} {start : ℕ} {t t₀ : List ℤ} {o : Opening} (p : Opens c start t t₀ o) where
-  pub replays-none : {z : ℤ} {r : Replayed} (calls out : List ℤ) → o ≡ OpeningDeclined z → runAnswer r ≡ unopened z → Replays c start t t₀ calls out out r
-  replays-none {z} {r} calls out e d = record { declined = λ k f. (number k f, (p.declined k f).1, refl); accepted = λ clear. absurd (not-open clear) }
+  pub replays_none : {z : ℤ} {r : Replayed} (calls out : List ℤ) → o ≡ OpeningDeclined z → run_answer r ≡ unopened z → Replays c start t t₀ calls out out r
+  replays_none {z} {r} calls out e d = record { declined = λ k f. (number k f, (p.declined k f).1, refl); accepted = λ clear. absurd (not_open clear) }
     where
-      number : (k : Cause) → FirstOf (openTrials (length t) start c) k → runAnswer r ≡ unopened (pos (causeNumber k))
-      number k f = let q = (p.declined k f).0 in d ∙ ap unopened (let x : ◌≡◌ {A = ℤ} z (pos (causeNumber k)) = cc in x)
+      number : (k : Cause) → FirstOf (open_trials (length t) start c) k → run_answer r ≡ unopened (pos (cause_number k))
+      number k f = let q = (p.declined k f).0 in d ∙ ap unopened (let x : ◌≡◌ {A = ℤ} z (pos (cause_number k)) = cc in x)
 
-      not-open : Clear (openTrials (length t) start c) → ⊥
-      not-open clear = let q = (p.accepted clear).0 in let x : ◌≡◌ {A = ℕ} 0 1 = cc in omega arith
+      not_open : Clear (open_trials (length t) start c) → ⊥
+      not_open clear = let q = (p.accepted clear).0 in let x : ◌≡◌ {A = ℕ} 0 1 = cc in omega arith
 
-  pub replays-opened : {t' calls out out' : List ℤ} {r : Replayed} → o ≡ Opened → Resumes start t₀ t' calls out out' r → Replays c start t t' calls out out' r
-  replays-opened {t'} {calls} {out} {out'} {r} e s = record { declined = λ k f. absurd (is_open k f); accepted = λ clear. goes (p.accepted clear).1 clear }
+  pub replays_opened : {t' calls out out' : List ℤ} {r : Replayed} → o ≡ Opened → Resumes start t₀ t' calls out out' r → Replays c start t t' calls out out' r
+  replays_opened {t'} {calls} {out} {out'} {r} e s = record { declined = λ k f. absurd (is_open k f); accepted = λ clear. goes (p.accepted clear).1 clear }
     where
-      is_open : (k : Cause) → FirstOf (openTrials (length t) start c) k → ⊥
+      is_open : (k : Cause) → FirstOf (open_trials (length t) start c) k → ⊥
       is_open k f = let q = (p.declined k f).0 in let x : ◌≡◌ {A = ℕ} 0 1 = cc in omega arith
 
-      goes : Form (part_of t₀ start) (opened c) none → Clear (openTrials (length t) start c) → Begun c start t t' calls out out' r
+      goes : Form (part_of t₀ start) (opened c) none → Clear (open_trials (length t) start c) → Begun c start t t' calls out out' r
       goes b clear =
           record {
             t₀ = t₀;
@@ -79,5 +79,5 @@ module _ {c : ℤ} {start : ℕ} {t t₀ : List ℤ} {o : Opening} (p : Opens c 
             claim = s.claim (opened c) none b;
             right = s.right (opened c) none b;
             spares = s.spares (opened c) none b;
-            outside = only_then (p.accepted clear).2 (told-capacity start t₀ b) s.outside;
+            outside = only_then (p.accepted clear).2 (told_capacity start t₀ b) s.outside;
           }

@@ -8,12 +8,12 @@ use Rattle.std.proofs.Math.ListN.{length, length-append, length-drop}
 use Rattle.std.proofs.Math.Seq.{drop-drop}
 use Rattle.std.proofs.lemmas.List.{take-append-le, drop-append-le}
 use Rattle.plain.specs.Book.{Call, Answer}
-use Rattle.promises.specs.Promises.{part_of, capacityAt, OnlyPart}
+use Rattle.promises.specs.Promises.{part_of, capacity_at, OnlyPart}
 use Rattle.promises.specs.LentPart.{whole_part, lent_back, only_same}
 use Rattle.form.specs.Local.{Alike}
-use Rattle.history.specs.History.{Happens, posting, withdrawing, taking-back, by-update, by-query, by-listing, by-report, by-largest, finished, next}
-use Rattle.replay_words.specs.Encoding.{nextCall, stretch, fitting, runnable}
-use Rattle.replay_words.specs.Decoding.{runnable-none, runnable-next, next-words}
+use Rattle.history.specs.History.{Happens, posting, withdrawing, taking_back, by_update, by_query, by_listing, by_report, by_largest, finished, next}
+use Rattle.replay_words.specs.Encoding.{next_call, stretch, fitting, runnable}
+use Rattle.replay_words.specs.Decoding.{runnable_none, runnable_next, next_words}
 use Rattle.replay_call.specs.Telling.{TellsOne, Tells}
 use Rattle.replay_call.specs.OneCall.{Performed, Ready, Step}
 use Rattle.replay.specs.Promises.{Made}
@@ -26,56 +26,56 @@ only_then {c} {c'} {start} {t} {t₁} {t₂} f e g =
     record { long = h.long ∙ f.long; front = h.front ∙ f.front; back = h.back ∙ f.back }
 
 record Inside (start : ℕ) (t t' : List ℤ) : Type 0 where
-  outside : OnlyPart (capacityAt t start) start t t'
-  same-part : capacityAt t' start ≡ capacityAt t start
+  outside : OnlyPart (capacity_at t start) start t t'
+  same_part : capacity_at t' start ≡ capacity_at t start
 
-inside-same : {start : ℕ} {t t' : List ℤ} → t' ≡ t → Inside start t t'
-inside-same {start} e = record { outside = only_same e; same-part = ap (λ (u : List ℤ). capacityAt u start) e }
+inside_same : {start : ℕ} {t t' : List ℤ} → t' ≡ t → Inside start t t'
+inside_same {start} e = record { outside = only_same e; same_part = ap (λ (u : List ℤ). capacity_at u start) e }
 
-happens-inside : {start : ℕ} {t : List ℤ} {k : Call} {t' : List ℤ} {a : Answer} → Happens start t k t' a → Inside start t t'
-happens-inside (by-update c u p e) = record { outside = p.outside; same-part = ap nat_abs p.same-part }
-happens-inside (by-query q f p d e) = inside-same d
-happens-inside (by-listing out out' l p m d e) = inside-same d
-happens-inside (by-report q p out out' r k m d e) = inside-same d
-happens-inside (by-largest b r p d e) = inside-same d
+happens_inside : {start : ℕ} {t : List ℤ} {k : Call} {t' : List ℤ} {a : Answer} → Happens start t k t' a → Inside start t t'
+happens_inside (by_update c u p e) = record { outside = p.outside; same_part = ap nat_abs p.same_part }
+happens_inside (by_query q f p d e) = inside_same d
+happens_inside (by_listing out out' l p m d e) = inside_same d
+happens_inside (by_report q p out out' r k m d e) = inside_same d
+happens_inside (by_largest b r p d e) = inside_same d
 
 -- ---- its words, with others behind them
 
-front-take : (n m : ℕ) (l r : List ℤ) → n ≤ m → m ≤ length l → take n (take m l ++ r) ≡ take n l
-front-take n m l r h k = take-append-le n (take m l) r (omega (arith, length-take-le m l k)) ∙ take-take n m l h
+front_take : (n m : ℕ) (l r : List ℤ) → n ≤ m → m ≤ length l → take n (take m l ++ r) ≡ take n l
+front_take n m l r h k = take-append-le n (take m l) r (omega (arith, length-take-le m l k)) ∙ take-take n m l h
 
-front-middle : (m : ℕ) (l r : List ℤ) → 5 + m ≤ length l → take m (drop 5 (take (5 + m) l ++ r)) ≡ take m (drop 5 l)
-front-middle m l r h =
+front_middle : (m : ℕ) (l r : List ℤ) → 5 + m ≤ length l → take m (drop 5 (take (5 + m) l ++ r)) ≡ take m (drop 5 l)
+front_middle m l r h =
     ap (take m) (drop-append-le 5 (take (5 + m) l) r (omega (arith, length-take-le (5 + m) l h)) ∙ ap (λ (x : List ℤ). x ++ r) back)
     ∙ take_at (take m (drop 5 l)) r m (length-take-le m (drop 5 l) (omega (arith, length-drop 5 l)))
   where
     back : drop 5 (take (5 + m) l) ≡ take m (drop 5 l)
     back = ap (drop 5) (take-add 5 m l) ∙ drop_at (take 5 l) (take m (drop 5 l)) 5 (length-take-le 5 l (omega arith))
 
-tells-front : {start : ℕ} {t : List ℤ} {k : Call} {t' : List ℤ} {a : Answer} (p : Happens start t k t' a) (ws ws' r : List ℤ) → stretch k ≤ length ws' →
+tells_front : {start : ℕ} {t : List ℤ} {k : Call} {t' : List ℤ} {a : Answer} (p : Happens start t k t' a) (ws ws' r : List ℤ) → stretch k ≤ length ws' →
     TellsOne p ws ws' → TellsOne p ws (take (stretch k) ws' ++ r)
-tells-front (by-update (posting n q b) u p e) ws ws' r h w = front-take 5 5 ws' r (omega arith) h ∙ w
-tells-front (by-update (withdrawing n) u p e) ws ws' r h w = front-take 5 5 ws' r (omega arith) h ∙ w
-tells-front (by-update taking-back u p e) ws ws' r h w = front-take 5 5 ws' r (omega arith) h ∙ w
-tells-front (by-query q f p d e) ws ws' r h w = front-take 5 5 ws' r (omega arith) h ∙ w
-tells-front (by-listing {room} out out' l p m d e) ws ws' r h (x, y, z) = (front-take 5 (5 + room) ws' r (omega arith) h ∙ x, y, front-middle room ws' r h ∙ z)
-tells-front (by-report {room} q p out out' u k m d e) ws ws' r h (x, y, z) =
-    (front-take 5 (5 + room) ws' r (omega arith) h ∙ x, y, front-middle room ws' r h ∙ z)
-tells-front (by-largest b u p d e) ws ws' r h w = front-take 5 5 ws' r (omega arith) h ∙ w
+tells_front (by_update (posting n q b) u p e) ws ws' r h w = front_take 5 5 ws' r (omega arith) h ∙ w
+tells_front (by_update (withdrawing n) u p e) ws ws' r h w = front_take 5 5 ws' r (omega arith) h ∙ w
+tells_front (by_update taking_back u p e) ws ws' r h w = front_take 5 5 ws' r (omega arith) h ∙ w
+tells_front (by_query q f p d e) ws ws' r h w = front_take 5 5 ws' r (omega arith) h ∙ w
+tells_front (by_listing {room} out out' l p m d e) ws ws' r h (x, y, z) = (front_take 5 (5 + room) ws' r (omega arith) h ∙ x, y, front_middle room ws' r h ∙ z)
+tells_front (by_report {room} q p out out' u k m d e) ws ws' r h (x, y, z) =
+    (front_take 5 (5 + room) ws' r (omega arith) h ∙ x, y, front_middle room ws' r h ∙ z)
+tells_front (by_largest b u p d e) ws ws' r h w = front_take 5 5 ws' r (omega arith) h ∙ w
 
-alike-itself : (c : ℕ) (w : List ℤ) → Alike c w w
-alike-itself c w = record { long = refl; words = λ i h. refl }
+alike_itself : (c : ℕ) (w : List ℤ) → Alike c w w
+alike_itself c w = record { long = refl; words = λ i h. refl }
 
 -- one call in front of others
-made-next :
+made_next :
     {c start : ℕ} {t t₁ t' : List ℤ} {k : Call} {ks : List Call} (ws ws₁ ws' : List ℤ) → stretch k ≤ length ws₁ →
     Performed k start t t₁ ws ws₁ → Made c start t₁ t' ks (drop (stretch k) ws) ws' → Made c start t t' (k ∷ ks) ws (take (stretch k) ws₁ ++ ws')
-made-next {c} {start} {t} {k} ws ws₁ ws' h p m =
+made_next {c} {start} {t} {k} ws ws₁ ws' h p m =
     record {
       answered = p.answer ∷ m.answered;
-      history = next (alike-itself c (part_of t start)) p.happens m.history;
+      history = next (alike_itself c (part_of t start)) p.happens m.history;
       tells = (
-        tells-front p.happens ws ws₁ ws' h p.tells,
+        tells_front p.happens ws ws₁ ws' h p.tells,
         subst (λ (l : List ℤ). Tells m.history (drop (stretch k) ws) l)
             (sym (drop_at (take (stretch k) ws₁) ws' (stretch k) (length-take-le (stretch k) ws₁ h))) m.tells,
       );
@@ -89,21 +89,21 @@ pub record Going (start : ℕ) (t₀ t calls out₀ out : List ℤ) (n at : ℕ)
   pub placed : at ≤ length out₀
   pub long : length out ≡ length out₀
   pub behind : drop at out ≡ drop at out₀
-  pub outside : OnlyPart (capacityAt t₀ start) start t₀ t
-  pub same-part : capacityAt t start ≡ capacityAt t₀ start
+  pub outside : OnlyPart (capacity_at t₀ start) start t₀ t
+  pub same_part : capacity_at t start ≡ capacity_at t₀ start
   pub counted : length (runnable calls (length out₀)) ≡ n + length (runnable (drop (4 * n) calls) (length out₀ - at))
   pub onward : (c : ℕ) {t' ws' : List ℤ} → Made c start t t' (runnable (drop (4 * n) calls) (length out₀ - at)) (drop at out₀) ws' →
       Made c start t₀ t' (runnable calls (length out₀)) out₀ (take at out ++ ws')
 
-pub going-none : (start : ℕ) (t calls out : List ℤ) → Going start t t calls out out 0 0
-going-none start t calls out =
+pub going_none : (start : ℕ) (t calls out : List ℤ) → Going start t t calls out out 0 0
+going_none start t calls out =
     record {
       words = omega arith;
       placed = omega arith;
       long = refl;
       behind = refl;
       outside = only_same refl;
-      same-part = refl;
+      same_part = refl;
       counted = omega (arith, ap length all);
       onward = λ c {t'} {ws'} m. subst (λ (ks : List Call). Made c start t t' ks out ws') all m;
     }
@@ -117,14 +117,14 @@ pub record Ended (start : ℕ) (t t' calls out out' : List ℤ) (n : ℕ) : Type
   pub count : n ≡ length (runnable calls (length out))
   pub made : (c : ℕ) → Made c start t t' (runnable calls (length out)) out out'
   pub long : length out' ≡ length out
-  pub outside : OnlyPart (capacityAt t start) start t t'
+  pub outside : OnlyPart (capacity_at t start) start t t'
 
 module _ {start : ℕ} {t₀ t calls out₀ out : List ℤ} {n at : ℕ} (g : Going start t₀ t calls out₀ out n at) where
-  left-long : length (drop at out) ≡ length out₀ - at
-  left-long = length-drop at out ∙ ap (λ (m : ℕ). m - at) g.long
+  left_long : length (drop at out) ≡ length out₀ - at
+  left_long = length-drop at out ∙ ap (λ (m : ℕ). m - at) g.long
 
-  pub going-ends : fitting (nextCall (drop (4 * n) calls)) (length (drop at out)) ≡ false → Ended start t₀ t calls out₀ out n
-  going-ends f =
+  pub going_ends : fitting (next_call (drop (4 * n) calls)) (length (drop at out)) ≡ false → Ended start t₀ t calls out₀ out n
+  going_ends f =
       record {
         words = g.words;
         count = omega (arith, g.counted, ap length none_left);
@@ -134,7 +134,7 @@ module _ {start : ℕ} {t₀ t calls out₀ out : List ℤ} {n at : ℕ} (g : Go
       }
     where
       none_left : runnable (drop (4 * n) calls) (length out₀ - at) ≡ []
-      none_left = runnable-none (drop (4 * n) calls) (length out₀ - at) (ap (λ (m : ℕ). fitting (nextCall (drop (4 * n) calls)) m) (sym left-long) ∙ f)
+      none_left = runnable_none (drop (4 * n) calls) (length out₀ - at) (ap (λ (m : ℕ). fitting (next_call (drop (4 * n) calls)) m) (sym left_long) ∙ f)
 
       last : (c : ℕ) → Made c start t t (runnable (drop (4 * n) calls) (length out₀ - at)) (drop at out₀) (drop at out)
       last c = subst (λ (ks : List Call). Made c start t t ks (drop at out₀) (drop at out)) (sym none_left)
@@ -145,7 +145,7 @@ module _ {start : ℕ} {t₀ t calls out₀ out : List ℤ} {n at : ℕ} (g : Go
 
   module _ {t₁ ws₁ : List ℤ} {k : Call} (r : Ready k (drop (4 * n) calls) (drop at out)) (p : Performed k start t t₁ (drop at out) ws₁) where
     fit : stretch k ≤ length out₀ - at
-    fit = omega (arith, left-long, leb-true (stretch k) (length (drop at out)) r.fits)
+    fit = omega (arith, left_long, leb-true (stretch k) (length (drop at out)) r.fits)
 
     rest : List Call
     rest = runnable (drop (4 * (n + 1)) calls) (length out₀ - (at + stretch k))
@@ -153,38 +153,38 @@ module _ {start : ℕ} {t₀ t calls out₀ out : List ℤ} {n at : ℕ} (g : Go
     on : runnable (drop (4 * n) calls) (length out₀ - at) ≡ k ∷ rest
     unfolding rest
     on =
-        ap (runnable (drop (4 * n) calls)) (sym left-long) ∙ runnable-next (drop (4 * n) calls) (length (drop at out)) r.reads r.fits
+        ap (runnable (drop (4 * n) calls)) (sym left_long) ∙ runnable_next (drop (4 * n) calls) (length (drop at out)) r.reads r.fits
         ∙ ap (λ (l : List Call). k ∷ l) (ap (λ (l : List ℤ). runnable l (length (drop at out) - stretch k)) (drop-drop 4 (4 * n) calls) ∙ both)
       where
         both : runnable (drop (4 * n + 4) calls) (length (drop at out) - stretch k) ≡ runnable (drop (4 * (n + 1)) calls) (length out₀ - (at + stretch k))
         both =
             let x : 4 * n + 4 ≡ 4 * (n + 1) = omega arith in
-            let y : length (drop at out) - stretch k ≡ length out₀ - (at + stretch k) = omega (arith, left-long) in
+            let y : length (drop at out) - stretch k ≡ length out₀ - (at + stretch k) = omega (arith, left_long) in
             ap (λ (m : ℕ). runnable (drop m calls) (length (drop at out) - stretch k)) x ∙ ap (runnable (drop (4 * (n + 1)) calls)) y
 
     pub going_on : (out₁ : List ℤ) → out₁ ≡ take at out ++ ws₁ → Going start t₀ t₁ calls out₀ out₁ (n + 1) (at + stretch k)
     unfolding rest
     going_on out₁ e =
         record {
-          words = omega (arith, next-words (drop (4 * n) calls) r.reads, length-drop (4 * n) calls);
+          words = omega (arith, next_words (drop (4 * n) calls) r.reads, length-drop (4 * n) calls);
           placed = omega (arith, fit, g.placed);
           long = ap length e ∙ length-append (take at out) ws₁ ∙ omega (arith, front, long₁, g.long, g.placed);
           behind = sym (drop-drop (stretch k) at out₁) ∙ ap (drop (stretch k)) tail ∙ p.later ∙ ap (drop (stretch k)) g.behind
               ∙ drop-drop (stretch k) at out₀;
-          outside = only_then g.outside g.same-part inside.outside;
-          same-part = inside.same-part ∙ g.same-part;
+          outside = only_then g.outside g.same_part inside.outside;
+          same_part = inside.same_part ∙ g.same_part;
           counted = g.counted ∙ omega (arith, ap length on);
           onward = λ c m. onward₁ c m;
         }
       where
         inside : Inside start t t₁
-        inside = happens-inside p.happens
+        inside = happens_inside p.happens
 
         front : length (take at out) ≡ at
         front = length-take-le at out (omega (arith, g.placed, g.long))
 
         long₁ : length ws₁ ≡ length out₀ - at
-        long₁ = p.long ∙ left-long
+        long₁ = p.long ∙ left_long
 
         tail : drop at out₁ ≡ ws₁
         tail = ap (drop at) e ∙ drop_at (take at out) ws₁ at front
@@ -211,7 +211,7 @@ module _ {start : ℕ} {t₀ t calls out₀ out : List ℤ} {n at : ℕ} (g : Go
 
             here : Made c start t t' (k ∷ runnable (drop (4 * (n + 1)) calls) (length out₀ - (at + stretch k))) (drop at out₀) (take (stretch k) ws₁ ++ ws')
             here = subst (λ (l : List ℤ). Made c start t t' (k ∷ runnable (drop (4 * (n + 1)) calls) (length out₀ - (at + stretch k))) l
-                (take (stretch k) ws₁ ++ ws')) g.behind (made-next (drop at out) ws₁ ws' fits₁ p m₁)
+                (take (stretch k) ws₁ ++ ws')) g.behind (made_next (drop at out) ws₁ ws' fits₁ p m₁)
 
 -- ---- a turn, on the words as they are lent
 
@@ -227,13 +227,13 @@ module _ {start : ℕ} {t₀ t t₁ calls out₀ out : List ℤ} {n at used : �
   back : out₁ ≡ take at out ++ ws₁
   back = lent_back out at ws₁ e
 
-  pub turn-ends : used < 1 → Ended start t₀ t₁ calls out₀ out₁ n
-  turn-ends h =
+  pub turn_ends : used < 1 → Ended start t₀ t₁ calls out₀ out₁ n
+  turn_ends h =
       let (f, et, ew) = turn.stopped (omega (arith, h)) in
       let same : out₁ ≡ out = back ∙ ap (λ (l : List ℤ). take at out ++ l) ew ∙ take-append-drop at out in
-      subst (λ (l : List ℤ). Ended start t₀ t₁ calls out₀ l n) (sym same) (subst (λ (l : List ℤ). Ended start t₀ l calls out₀ out n) (sym et) (going-ends g f))
+      subst (λ (l : List ℤ). Ended start t₀ t₁ calls out₀ l n) (sym same) (subst (λ (l : List ℤ). Ended start t₀ l calls out₀ out n) (sym et) (going_ends g f))
 
-  pub turn-goes : 1 ≤ used → Going start t₀ t₁ calls out₀ out₁ (n + 1) (at + used)
-  turn-goes h =
+  pub turn_goes : 1 ≤ used → Going start t₀ t₁ calls out₀ out₁ (n + 1) (at + used)
+  turn_goes h =
       let (k, r, p, u) = turn.ran (omega (arith, h)) in
       subst (λ (m : ℕ). Going start t₀ t₁ calls out₀ out₁ (n + 1) (at + m)) (sym u) (going_on g r p out₁ back)

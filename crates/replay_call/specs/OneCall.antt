@@ -3,7 +3,7 @@ use Rattle.std.specs.Prelude.{◌≡◌, true, false, List, ℕ, ◌≤◌, ◌<
 use Rattle.std.proofs.Math.Option.{Option, none, some}
 use Rattle.plain.specs.Book.{Call, Answer}
 use Rattle.history.specs.History.{Happens}
-use Rattle.replay_words.specs.Encoding.{nextCall, stretch, fitting}
+use Rattle.replay_words.specs.Encoding.{next_call, stretch, fitting}
 use Rattle.replay_call.specs.Telling.{TellsOne}
 
 pub record Performed (k : Call) (start : ℕ) (t t' ws ws' : List ℤ) : Type 0 where
@@ -20,9 +20,9 @@ Performs (some k) start t t' ws ws' used = Performed k start t t' ws ws' × (use
 
 -- the next call, where it can be run
 pub record Ready (k : Call) (cs ws : List ℤ) : Type 0 where
-  pub reads : nextCall cs ≡ some k
+  pub reads : next_call cs ≡ some k
   pub fits : leb (stretch k) (length ws) ≡ true
 
 pub record Step (start : ℕ) (t t' cs ws ws' : List ℤ) (used : ℕ) : Type 0 where
-  pub stopped : used ≤ 0 → (fitting (nextCall cs) (length ws) ≡ false) × (t' ≡ t) × (ws' ≡ ws)
+  pub stopped : used ≤ 0 → (fitting (next_call cs) (length ws) ≡ false) × (t' ≡ t) × (ws' ≡ ws)
   pub ran : 0 < used → (k : Call) × Ready k cs ws × Performed k start t t' ws ws' × (used ≡ stretch k)

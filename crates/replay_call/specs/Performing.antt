@@ -2,7 +2,7 @@
 use Rattle.std.specs.Prelude.{◌≡◌, refl, true, false, List, ◌++◌, ℕ, ◌+◌, ◌-◌, ◌≤◌, length, take, drop, ℤ}
 use Rattle.std.proofs.Common.{sym, ◌∙◌, ap, subst, true≢false, arith, length-append, length-drop, take_at, drop_at, drop-drop, length-take-le, leb-true}
 use Rattle.std.proofs.Math.Option.{Option, none, some}
-use Rattle.plain.specs.Book.{Call, post, withdraw, query, listing, takeBack, report, largestLoad}
+use Rattle.plain.specs.Book.{Call, post, withdraw, query, listing, take_back, report, largest_load}
 use Rattle.promises.specs.declared.Update.{Update}
 use Rattle.promises.specs.declared.Update.TheVariants.{Done, Declined as UpdateDeclined}
 use Rattle.promises.specs.declared.Found.{Found}
@@ -13,85 +13,85 @@ use Rattle.promises.specs.declared.Reported.{Reported}
 use Rattle.promises.specs.declared.Reported.TheVariants.{Offers, Declined as ReportDeclined}
 use Rattle.promises.specs.declared.Fitted.{Fitted}
 use Rattle.promises.specs.declared.Fitted.TheVariants.{Load, Declined as FittedDeclined}
-use Rattle.promises.specs.Promises.{Updates, Queries, Lists, Reports, Sends, updateAnswer, foundAnswer, listingAnswer, reportAnswer, fittedAnswer}
-use Rattle.history.specs.History.{Changes, by-update, by-query, by-listing, by-report, by-largest}
-use Rattle.replay_words.specs.Encoding.{nextCall, stretch, fitting, updateWords, foundWords, listedWords, reportedWords, fittedWords}
+use Rattle.promises.specs.Promises.{Updates, Queries, Lists, Reports, Sends, update_answer, found_answer, listing_answer, report_answer, fitted_answer}
+use Rattle.history.specs.History.{Changes, by_update, by_query, by_listing, by_report, by_largest}
+use Rattle.replay_words.specs.Encoding.{next_call, stretch, fitting, update_words, found_words, listed_words, reported_words, fitted_words}
 use Rattle.replay_call.specs.OneCall.{Performed, Performs, Step}
 
 -- ---- the kinds of calls
 
-update-five : (u : Update) → length (updateWords u) ≡ 5
-update-five (Done n k s h) = refl
-update-five (UpdateDeclined c) = refl
+update_five : (u : Update) → length (update_words u) ≡ 5
+update_five (Done n k s h) = refl
+update_five (UpdateDeclined c) = refl
 
-found-five : (f : Found) → length (foundWords f) ≡ 5
-found-five (Offer n p m q) = refl
-found-five (FoundDeclined c) = refl
+found_five : (f : Found) → length (found_words f) ≡ 5
+found_five (Offer n p m q) = refl
+found_five (FoundDeclined c) = refl
 
-listed-five : (l : Listed) → length (listedWords l) ≡ 5
-listed-five (Pieces m) = refl
-listed-five (ListingDeclined c) = refl
+listed_five : (l : Listed) → length (listed_words l) ≡ 5
+listed_five (Pieces m) = refl
+listed_five (ListingDeclined c) = refl
 
-reported-five : (r : Reported) → length (reportedWords r) ≡ 5
-reported-five (Offers m) = refl
-reported-five (ReportDeclined c) = refl
+reported_five : (r : Reported) → length (reported_words r) ≡ 5
+reported_five (Offers m) = refl
+reported_five (ReportDeclined c) = refl
 
-fitted-five : (r : Fitted) → length (fittedWords r) ≡ 5
-fitted-five (Load n q) = refl
-fitted-five (FittedDeclined c) = refl
+fitted_five : (r : Fitted) → length (fitted_words r) ≡ 5
+fitted_five (Load n q) = refl
+fitted_five (FittedDeclined c) = refl
 
 module _ (ws : List ℤ) {ws' : List ℤ} (five : List ℤ) (n : length five ≡ 5) (h : 5 ≤ length ws) (e : ws' ≡ five ++ drop 5 ws) where
-  five-take : take 5 ws' ≡ five
-  five-take = ap (take 5) e ∙ take_at five (drop 5 ws) 5 n
+  five_take : take 5 ws' ≡ five
+  five_take = ap (take 5) e ∙ take_at five (drop 5 ws) 5 n
 
-  five-drop : drop 5 ws' ≡ drop 5 ws
-  five-drop = ap (drop 5) e ∙ drop_at five (drop 5 ws) 5 n
+  five_drop : drop 5 ws' ≡ drop 5 ws
+  five_drop = ap (drop 5) e ∙ drop_at five (drop 5 ws) 5 n
 
-  five-long : length ws' ≡ length ws
-  five-long = ap length e ∙ length-append five (drop 5 ws) ∙ omega (arith, n, length-drop 5 ws)
+  five_long : length ws' ≡ length ws
+  five_long = ap length e ∙ length-append five (drop 5 ws) ∙ omega (arith, n, length-drop 5 ws)
 
 module _ {start : ℕ} {t : List ℤ} (ws : List ℤ) {ws' : List ℤ} (h : 5 ≤ length ws) where
   -- a post, a withdrawal or a take-back
-  pub changes : {k : Call} {t' : List ℤ} {u : Update} → Changes k → stretch k ≡ 5 → Updates k start t t' u → ws' ≡ updateWords u ++ drop 5 ws →
+  pub changes : {k : Call} {t' : List ℤ} {u : Update} → Changes k → stretch k ≡ 5 → Updates k start t t' u → ws' ≡ update_words u ++ drop 5 ws →
       Performed k start t t' ws ws'
   changes {k} {t'} {u} c five p e =
       record {
-        answer = updateAnswer u;
-        happens = by-update c u p refl;
-        tells = five-take ws (updateWords u) (update-five u) h e;
-        long = five-long ws (updateWords u) (update-five u) h e;
-        later = rw five (five-drop ws (updateWords u) (update-five u) h e);
+        answer = update_answer u;
+        happens = by_update c u p refl;
+        tells = five_take ws (update_words u) (update_five u) h e;
+        long = five_long ws (update_words u) (update_five u) h e;
+        later = rw five (five_drop ws (update_words u) (update_five u) h e);
       }
 
-  pub asks : {f : Found} (q : ℤ) → Queries q start t f → ws' ≡ foundWords f ++ drop 5 ws → Performed (query q) start t t ws ws'
+  pub asks : {f : Found} (q : ℤ) → Queries q start t f → ws' ≡ found_words f ++ drop 5 ws → Performed (query q) start t t ws ws'
   asks {f} q p e =
       record {
-        answer = foundAnswer f;
-        happens = by-query q f p refl refl;
-        tells = five-take ws (foundWords f) (found-five f) h e;
-        long = five-long ws (foundWords f) (found-five f) h e;
-        later = five-drop ws (foundWords f) (found-five f) h e;
+        answer = found_answer f;
+        happens = by_query q f p refl refl;
+        tells = five_take ws (found_words f) (found_five f) h e;
+        long = five_long ws (found_words f) (found_five f) h e;
+        later = five_drop ws (found_words f) (found_five f) h e;
       }
 
-  pub sends : {r : Fitted} (b : ℤ) → Sends b start t r → ws' ≡ fittedWords r ++ drop 5 ws → Performed (largestLoad b) start t t ws ws'
+  pub sends : {r : Fitted} (b : ℤ) → Sends b start t r → ws' ≡ fitted_words r ++ drop 5 ws → Performed (largest_load b) start t t ws ws'
   sends {r} b p e =
       record {
-        answer = fittedAnswer r;
-        happens = by-largest b r p refl refl;
-        tells = five-take ws (fittedWords r) (fitted-five r) h e;
-        long = five-long ws (fittedWords r) (fitted-five r) h e;
-        later = five-drop ws (fittedWords r) (fitted-five r) h e;
+        answer = fitted_answer r;
+        happens = by_largest b r p refl refl;
+        tells = five_take ws (fitted_words r) (fitted_five r) h e;
+        long = five_long ws (fitted_words r) (fitted_five r) h e;
+        later = five_drop ws (fitted_words r) (fitted_five r) h e;
       }
 
 -- The output lent to a listing or a report, with the words behind it, and all words with what comes back. Its end is told as five and the room.
 abbrev behind : ℕ → List ℤ → List ℤ
 behind room ws = drop (5 + room - 5) (drop 5 ws)
 
-abbrev lentTo : ℕ → List ℤ → List ℤ
-lentTo room ws = take (5 + room - 5) (drop 5 ws)
+abbrev lent_to : ℕ → List ℤ → List ℤ
+lent_to room ws = take (5 + room - 5) (drop 5 ws)
 
-abbrev lentBack : ℕ → List ℤ → List ℤ → List ℤ
-lentBack room ws out' = take 5 ws ++ (out' ++ behind room ws)
+abbrev lent_back : ℕ → List ℤ → List ℤ → List ℤ
+lent_back room ws out' = take 5 ws ++ (out' ++ behind room ws)
 
 record Written (ws ws' five out out' : List ℤ) (room : ℕ) : Type 0 where
   lent : room ≡ length out
@@ -100,17 +100,17 @@ record Written (ws ws' five out out' : List ℤ) (room : ℕ) : Type 0 where
   later : drop (5 + room) ws' ≡ drop (5 + room) ws
 
 written :
-    (ws : List ℤ) {ws₁ ws' out' : List ℤ} (five : List ℤ) (room : ℕ) → length five ≡ 5 → 5 + room ≤ length ws → length out' ≡ length (lentTo room ws) →
-    ws₁ ≡ lentBack room ws out' → ws' ≡ five ++ drop 5 ws₁ → Written ws ws' five (lentTo room ws) out' room
+    (ws : List ℤ) {ws₁ ws' out' : List ℤ} (five : List ℤ) (room : ℕ) → length five ≡ 5 → 5 + room ≤ length ws → length out' ≡ length (lent_to room ws) →
+    ws₁ ≡ lent_back room ws out' → ws' ≡ five ++ drop 5 ws₁ → Written ws ws' five (lent_to room ws) out' room
 written ws {ws₁} {ws'} {out'} five room n h long e₁ e =
     record {
       lent = sym lent;
       told = (
-        five-take ws₁ five n h₁ e,
+        five_take ws₁ five n h₁ e,
         ap (λ (m : ℕ). take m (drop 5 ws)) (sym same),
         ap (take room) back ∙ take_at out' (behind room ws) room kept,
       );
-      long = five-long ws₁ five n h₁ e ∙ long₁;
+      long = five_long ws₁ five n h₁ e ∙ long₁;
       later = sym (drop-drop room 5 ws') ∙ ap (drop room) back ∙ drop_at out' (behind room ws) room kept ∙ ap (λ (m : ℕ). drop m (drop 5 ws)) same
           ∙ drop-drop room 5 ws;
     }
@@ -118,7 +118,7 @@ written ws {ws₁} {ws'} {out'} five room n h long e₁ e =
     same : 5 + room - 5 ≡ room
     same = omega arith
 
-    lent : length (lentTo room ws) ≡ room
+    lent : length (lent_to room ws) ≡ room
     lent = length-take-le (5 + room - 5) (drop 5 ws) (omega (arith, length-drop 5 ws)) ∙ same
 
     kept : length out' ≡ room
@@ -136,28 +136,28 @@ written ws {ws₁} {ws'} {out'} five room n h long e₁ e =
     h₁ = omega (arith, long₁)
 
     back : drop 5 ws' ≡ out' ++ behind room ws
-    back = five-drop ws₁ five n h₁ e ∙ ap (drop 5) e₁ ∙ drop_at (take 5 ws) (out' ++ behind room ws) 5 front
+    back = five_drop ws₁ five n h₁ e ∙ ap (drop 5) e₁ ∙ drop_at (take 5 ws) (out' ++ behind room ws) 5 front
 
 module _ {start : ℕ} {t : List ℤ} (ws : List ℤ) {ws₁ ws' out' : List ℤ} (room : ℕ) (h : 5 + room ≤ length ws) where
-  pub lists : {l : Listed} → Lists start t (lentTo room ws) out' l → ws₁ ≡ lentBack room ws out' →
-      ws' ≡ listedWords l ++ drop 5 ws₁ → Performed (listing room) start t t ws ws'
+  pub lists : {l : Listed} → Lists start t (lent_to room ws) out' l → ws₁ ≡ lent_back room ws out' →
+      ws' ≡ listed_words l ++ drop 5 ws₁ → Performed (listing room) start t t ws ws'
   lists {l} p e₁ e =
-      let w = written ws (listedWords l) room (listed-five l) h p.long e₁ e in
+      let w = written ws (listed_words l) room (listed_five l) h p.long e₁ e in
       record {
-        answer = listingAnswer l out';
-        happens = by-listing (lentTo room ws) out' l p w.lent refl refl;
+        answer = listing_answer l out';
+        happens = by_listing (lent_to room ws) out' l p w.lent refl refl;
         tells = w.told;
         long = w.long;
         later = w.later;
       }
 
-  pub reports : {r : Reported} (q p : ℤ) → Reports q p start t (lentTo room ws) out' r → ws₁ ≡ lentBack room ws out' →
-      ws' ≡ reportedWords r ++ drop 5 ws₁ → Performed (report q p room) start t t ws ws'
+  pub reports : {r : Reported} (q p : ℤ) → Reports q p start t (lent_to room ws) out' r → ws₁ ≡ lent_back room ws out' →
+      ws' ≡ reported_words r ++ drop 5 ws₁ → Performed (report q p room) start t t ws ws'
   reports {r} q p k e₁ e =
-      let w = written ws (reportedWords r) room (reported-five r) h k.long e₁ e in
+      let w = written ws (reported_words r) room (reported_five r) h k.long e₁ e in
       record {
-        answer = reportAnswer r out';
-        happens = by-report q p (lentTo room ws) out' r k w.lent refl refl;
+        answer = report_answer r out';
+        happens = by_report q p (lent_to room ws) out' r k w.lent refl refl;
         tells = w.told;
         long = w.long;
         later = w.later;
@@ -170,19 +170,19 @@ some_words (post n r b) = omega arith
 some_words (withdraw n) = omega arith
 some_words (query q) = omega arith
 some_words (listing room) = omega arith
-some_words takeBack = omega arith
+some_words take_back = omega arith
 some_words (report q p room) = omega arith
-some_words (largestLoad b) = omega arith
+some_words (largest_load b) = omega arith
 
-pub step-none : {start : ℕ} {t : List ℤ} (cs ws : List ℤ) {asked : Option Call} → asked ≡ nextCall cs → fitting asked (length ws) ≡ false →
+pub step_none : {start : ℕ} {t : List ℤ} (cs ws : List ℤ) {asked : Option Call} → asked ≡ next_call cs → fitting asked (length ws) ≡ false →
     Step start t t cs ws ws 0
-step-none cs ws e f = record { stopped = λ h. (ap (λ (k : Option Call). fitting k (length ws)) (sym e) ∙ f, refl, refl); ran = λ h. absurd (omega arith) }
+step_none cs ws e f = record { stopped = λ h. (ap (λ (k : Option Call). fitting k (length ws)) (sym e) ∙ f, refl, refl); ran = λ h. absurd (omega arith) }
 
-pub step-some :
+pub step_some :
     {start : ℕ} {t t' : List ℤ} (cs ws ws' : List ℤ) (asked : Option Call) {used : ℕ} →
-    asked ≡ nextCall cs → fitting asked (length ws) ≡ true → Performs asked start t t' ws ws' used → Step start t t' cs ws ws' used
-step-some cs ws ws' none e f p = absurd p
-step-some cs ws ws' (some k) e f p = record {
+    asked ≡ next_call cs → fitting asked (length ws) ≡ true → Performs asked start t t' ws ws' used → Step start t t' cs ws ws' used
+step_some cs ws ws' none e f p = absurd p
+step_some cs ws ws' (some k) e f p = record {
   stopped = λ h. absurd (omega (arith, h, p.1, some_words k));
   ran =
       λ h. (k, record { reads = sym e; fits = f }, p.0, p.1);

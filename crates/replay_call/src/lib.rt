@@ -1,6 +1,6 @@
 // One encoded call on a book: made, and its answer written.
 ghost use Rattle.std.specs.Prelude.{◌≡◌, true, ◌+◌, ◌≤◌, length};
-ghost use Rattle.plain.specs.Book.{post, withdraw, query, listing, takeBack, report, largestLoad};
+ghost use Rattle.plain.specs.Book.{post, withdraw, query, listing, take_back, report, largest_load};
 ghost use Rattle.replay_words.specs.Encoding.{fitting};
 ghost use Rattle.replay_words.specs.Decoding.{asked};
 ghost use Rattle.replay_call.specs.OneCall.{Performed, Performs, Step};
@@ -53,7 +53,7 @@ fn do_report(table: &[i64], start: usize, load: i64, price: i64, room: usize, ou
 
 fn do_take_back(table: &mut [i64], start: usize, out: &mut [i64])
     requires { 5 ≤ length out.old }
-    ensures { Performed takeBack start table.old table.new out.old out.new }
+    ensures { Performed take_back start table.old table.new out.old out.new }
 {
     let told = book::take_back(table, start);
     replay_words::tell_update(out, told);
@@ -61,7 +61,7 @@ fn do_take_back(table: &mut [i64], start: usize, out: &mut [i64])
 
 fn do_largest_load(table: &[i64], start: usize, budget: i64, out: &mut [i64])
     requires { 5 ≤ length out.old }
-    ensures { Performed (largestLoad budget) start table.now table.now out.old out.new }
+    ensures { Performed (largest_load budget) start table.now table.now out.old out.new }
 {
     let told = book::largest_load(table, start, budget);
     replay_words::tell_fitted(out, told);

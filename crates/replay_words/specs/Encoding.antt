@@ -6,13 +6,13 @@
 use Rattle.std.specs.Prelude.{◌≡◌, List, [], ◌∷◌, ◌++◌, Bool, false, ◌&&◌, cond, ℕ, zero, suc, ◌+◌, ◌*◌, ◌-◌, ◌≤◌, length, take, drop, get_or, ℤ, pos, negsuc, leb}
 use Rattle.std.proofs.Math.Option.{Option, none, some}
 use Rattle.integers.specs.Equal.{equal}
-use Rattle.plain.specs.Book.{Call, post, withdraw, query, listing, takeBack, report, largestLoad, Answer, refused, live, found, listed, reported, fitted}
+use Rattle.plain.specs.Book.{Call, post, withdraw, query, listing, take_back, report, largest_load, Answer, refused, live, found, listed, reported, fitted}
 use Rattle.promises.specs.declared.Update.{Update}
 use Rattle.promises.specs.declared.Found.{Found}
 use Rattle.promises.specs.declared.Listed.{Listed}
 use Rattle.promises.specs.declared.Reported.{Reported}
 use Rattle.promises.specs.declared.Fitted.{Fitted}
-use Rattle.promises.specs.Promises.{counted, updateTold, foundTold, listedTold, reportedTold, fittedTold, writtenWords}
+use Rattle.promises.specs.Promises.{counted, update_told, found_told, listed_told, reported_told, fitted_told, written_words}
 
 -- ---- calls
 
@@ -21,48 +21,48 @@ encode (post n r b) = pos 1 ∷ n ∷ r ∷ b ∷ []
 encode (withdraw n) = pos 2 ∷ n ∷ pos 0 ∷ pos 0 ∷ []
 encode (query q) = pos 3 ∷ q ∷ pos 0 ∷ pos 0 ∷ []
 encode (listing room) = pos 4 ∷ pos room ∷ pos 0 ∷ pos 0 ∷ []
-encode takeBack = pos 5 ∷ pos 0 ∷ pos 0 ∷ pos 0 ∷ []
+encode take_back = pos 5 ∷ pos 0 ∷ pos 0 ∷ pos 0 ∷ []
 encode (report q p room) = pos 6 ∷ q ∷ p ∷ pos room ∷ []
-encode (largestLoad b) = pos 7 ∷ b ∷ pos 0 ∷ pos 0 ∷ []
+encode (largest_load b) = pos 7 ∷ b ∷ pos 0 ∷ pos 0 ∷ []
 
 abbrev pub encoded : List Call → List ℤ
 encoded [] = []
 encoded (k ∷ ks) = encode k ++ encoded ks
 
 -- a room is no number below 0
-abbrev pub withRoom : (ℕ → Call) → ℤ → Option Call
-withRoom call (pos room) = some (call room)
-withRoom call (negsuc n) = none
+abbrev pub with_room : (ℕ → Call) → ℤ → Option Call
+with_room call (pos room) = some (call room)
+with_room call (negsuc n) = none
 
-abbrev pub listingOf : ℤ → Option Call
-listingOf room = withRoom listing room
+abbrev pub listing_of : ℤ → Option Call
+listing_of room = with_room listing room
 
-abbrev pub reportOf : ℤ → ℤ → ℤ → Option Call
-reportOf q p room = withRoom (report q p) room
+abbrev pub report_of : ℤ → ℤ → ℤ → Option Call
+report_of q p room = with_room (report q p) room
 
 -- a call with one argument at most
-abbrev pub shortCall : ℤ → ℤ → Option Call
-shortCall code a =
-    cond (equal code (pos 5)) (cond (equal a (pos 0)) (some takeBack) none)
+abbrev pub short_call : ℤ → ℤ → Option Call
+short_call code a =
+    cond (equal code (pos 5)) (cond (equal a (pos 0)) (some take_back) none)
     (cond (equal code (pos 2)) (some (withdraw a))
     (cond (equal code (pos 3)) (some (query a))
-    (cond (equal code (pos 7)) (some (largestLoad a))
-    (cond (equal code (pos 4)) (listingOf a) none))))
+    (cond (equal code (pos 7)) (some (largest_load a))
+    (cond (equal code (pos 4)) (listing_of a) none))))
 
 -- the call that four words encode
 abbrev pub call_of : (code a b c : ℤ) → Option Call
 call_of code a b c =
     cond (equal code (pos 1)) (some (post a b c))
-    (cond (equal code (pos 6)) (reportOf a b c)
-    (cond (equal b (pos 0) && equal c (pos 0)) (shortCall code a) none))
+    (cond (equal code (pos 6)) (report_of a b c)
+    (cond (equal b (pos 0) && equal c (pos 0)) (short_call code a) none))
 
 -- the first call, where there are four words and they encode one
-abbrev pub nextCall : List ℤ → Option Call
-nextCall [] = none
-nextCall (a ∷ []) = none
-nextCall (a ∷ b ∷ []) = none
-nextCall (a ∷ b ∷ c ∷ []) = none
-nextCall (a ∷ b ∷ c ∷ d ∷ ws) = call_of a b c d
+abbrev pub next_call : List ℤ → Option Call
+next_call [] = none
+next_call (a ∷ []) = none
+next_call (a ∷ b ∷ []) = none
+next_call (a ∷ b ∷ c ∷ []) = none
+next_call (a ∷ b ∷ c ∷ d ∷ ws) = call_of a b c d
 
 -- ---- the words of an answer, told by the call alone
 
@@ -71,9 +71,9 @@ stretch (post n r b) = 5
 stretch (withdraw n) = 5
 stretch (query q) = 5
 stretch (listing room) = 5 + room
-stretch takeBack = 5
+stretch take_back = 5
 stretch (report q p room) = 5 + room
-stretch (largestLoad b) = 5
+stretch (largest_load b) = 5
 
 abbrev pub stretches : List Call → ℕ
 stretches [] = 0
@@ -85,22 +85,22 @@ fitting none room = false
 fitting (some k) room = leb (stretch k) room
 
 -- the calls that are run: up to the first that is unreadable or whose answer does not fit any more
-abbrev pub firstRun : Option Call → ℕ → (ℕ → List Call) → List Call
-firstRun none room rest = []
-firstRun (some k) room rest = cond (leb (stretch k) room) (k ∷ rest (room - stretch k)) []
+abbrev pub first_run : Option Call → ℕ → (ℕ → List Call) → List Call
+first_run none room rest = []
+first_run (some k) room rest = cond (leb (stretch k) room) (k ∷ rest (room - stretch k)) []
 
 unfoldable pub runnable : List ℤ → ℕ → List Call
 runnable [] room = []
 runnable (a ∷ []) room = []
 runnable (a ∷ b ∷ []) room = []
 runnable (a ∷ b ∷ c ∷ []) room = []
-runnable (a ∷ b ∷ c ∷ d ∷ ws) room = firstRun (call_of a b c d) room (runnable ws)
+runnable (a ∷ b ∷ c ∷ d ∷ ws) room = first_run (call_of a b c d) room (runnable ws)
 
 -- how far calls reach, in the words of the calls and in those of the answers, and that the next cannot be run
 pub record Run (calls : List ℤ) (room : ℕ) (ks : List Call) : Type 0 where
   pub words : take (4 * length ks) calls ≡ encoded ks
   pub fits : stretches ks ≤ room
-  pub ends : fitting (nextCall (drop (4 * length ks) calls)) (room - stretches ks) ≡ false
+  pub ends : fitting (next_call (drop (4 * length ks) calls)) (room - stretches ks) ≡ false
 
 -- ---- answers: a refusal's number, or 0 and four values
 
@@ -110,37 +110,37 @@ padded zero values = []
 padded (suc n) [] = pos 0 ∷ padded n []
 padded (suc n) (value ∷ values) = value ∷ padded n values
 
-abbrev pub updateWords : Update → List ℤ
-updateWords r = (updateTold r).number ∷ padded 4 (updateTold r).values
+abbrev pub update_words : Update → List ℤ
+update_words r = (update_told r).number ∷ padded 4 (update_told r).values
 
-abbrev pub foundWords : Found → List ℤ
-foundWords r = (foundTold r).number ∷ padded 4 (foundTold r).values
+abbrev pub found_words : Found → List ℤ
+found_words r = (found_told r).number ∷ padded 4 (found_told r).values
 
 -- the words written follow
-abbrev pub listedWords : Listed → List ℤ
-listedWords r = (listedTold r).number ∷ padded 4 (listedTold r).values
+abbrev pub listed_words : Listed → List ℤ
+listed_words r = (listed_told r).number ∷ padded 4 (listed_told r).values
 
 -- likewise
-abbrev pub reportedWords : Reported → List ℤ
-reportedWords r = (reportedTold r).number ∷ padded 4 (reportedTold r).values
+abbrev pub reported_words : Reported → List ℤ
+reported_words r = (reported_told r).number ∷ padded 4 (reported_told r).values
 
-abbrev pub fittedWords : Fitted → List ℤ
-fittedWords r = (fittedTold r).number ∷ padded 4 (fittedTold r).values
+abbrev pub fitted_words : Fitted → List ℤ
+fitted_words r = (fitted_told r).number ∷ padded 4 (fitted_told r).values
 
 -- ---- and read off again
 
 -- an accepted call's answer, by its first three values and the words behind the five
-abbrev pub acceptedAnswer : Call → ℤ → ℤ → ℤ → List ℤ → Answer
-acceptedAnswer (post n r b) x y z out = counted live x
-acceptedAnswer (withdraw n) x y z out = counted live x
-acceptedAnswer (query q) x y z out = found x y z
-acceptedAnswer takeBack x y z out = counted live x
-acceptedAnswer (listing room) x y z out = counted (λ m. listed m (take (3 * m) (take room out))) x
-acceptedAnswer (report q p room) x y z out = counted (λ m. reported m (take (3 * m) (take room out))) x
-acceptedAnswer (largestLoad b) x y z out = fitted x y
+abbrev pub accepted_answer : Call → ℤ → ℤ → ℤ → List ℤ → Answer
+accepted_answer (post n r b) x y z out = counted live x
+accepted_answer (withdraw n) x y z out = counted live x
+accepted_answer (query q) x y z out = found x y z
+accepted_answer take_back x y z out = counted live x
+accepted_answer (listing room) x y z out = counted (λ m. listed m (take (3 * m) (take room out))) x
+accepted_answer (report q p room) x y z out = counted (λ m. reported m (take (3 * m) (take room out))) x
+accepted_answer (largest_load b) x y z out = fitted x y
 
 abbrev pub answer_of : Call → ℤ → ℤ → ℤ → ℤ → List ℤ → Answer
-answer_of k refusal x y z out = cond (equal refusal (pos 0)) (acceptedAnswer k x y z out) (counted refused refusal)
+answer_of k refusal x y z out = cond (equal refusal (pos 0)) (accepted_answer k x y z out) (counted refused refusal)
 
 -- the answers in order
 abbrev pub told : List Call → List ℤ → List Answer
@@ -155,10 +155,10 @@ abbrev pub spared : Call → Answer → List ℤ → List ℤ
 spared (post n r b) a ws = []
 spared (withdraw n) a ws = []
 spared (query q) a ws = []
-spared (largestLoad b) a ws = []
-spared takeBack a ws = []
-spared (listing room) a ws = drop (writtenWords a) (take room (drop 5 ws))
-spared (report q p room) a ws = drop (writtenWords a) (take room (drop 5 ws))
+spared (largest_load b) a ws = []
+spared take_back a ws = []
+spared (listing room) a ws = drop (written_words a) (take room (drop 5 ws))
+spared (report q p room) a ws = drop (written_words a) (take room (drop 5 ws))
 
 -- they keep their contents
 abbrev pub Spares : List Call → List Answer → (ws ws' : List ℤ) → Type 0

@@ -1,7 +1,7 @@
 // Calls and answers as words: a call is read from four words, and an answer is written over five.
 ghost use Rattle.std.specs.Prelude.{◌≡◌, ◌++◌, ◌∷◌, ◌+◌, ◌≤◌, length, drop, leb};
-ghost use Rattle.replay_words.specs.Encoding.{shortCall, call_of, nextCall, fitting, updateWords, foundWords, listedWords, reportedWords};
-ghost use Rattle.replay_words.specs.Encoding.{fittedWords};
+ghost use Rattle.replay_words.specs.Encoding.{short_call, call_of, next_call, fitting, update_words, found_words, listed_words, reported_words};
+ghost use Rattle.replay_words.specs.Encoding.{fitted_words};
 ghost use Rattle.replay_words.specs.Decoding.{asked};
 
 // The call that the next words encode.
@@ -21,7 +21,7 @@ pub enum Next {
 
 // A call with one argument at most. A listing's room is no number below 0.
 fn read_short(code: i64, a: i64) -> Next
-    ensures { asked result ≡ shortCall code a }
+    ensures { asked result ≡ short_call code a }
 {
     if code == 5 {
         if a == 0 {
@@ -73,7 +73,7 @@ fn read_call(code: i64, a: i64, b: i64, c: i64) -> Next
 
 // The first call, where there are four words and they encode one.
 pub fn next_call(calls: &[i64]) -> Next
-    ensures { asked result ≡ nextCall calls.now }
+    ensures { asked result ≡ next_call calls.now }
 {
     if calls.len() < 4 {
         return Next::Nothing;
@@ -129,7 +129,7 @@ fn put_five(out: &mut [i64], a: i64, b: i64, c: i64, d: i64, e: i64)
 // An update's answer: 0, the live count, k, s and H; or the refusal's number.
 pub fn tell_update(out: &mut [i64], told: promises::Update)
     requires { 5 ≤ length out.old }
-    ensures { out.new ≡ updateWords told ++ drop 5 out.old }
+    ensures { out.new ≡ update_words told ++ drop 5 out.old }
 {
     match told {
         promises::Update::Done { live, k, s, h } => put_five(out, 0, live, k, s, h),
@@ -140,7 +140,7 @@ pub fn tell_update(out: &mut [i64], told: promises::Update)
 // A query's answer: 0, the offer's number, the price, the second offer's number and the probes; or the refusal's number.
 pub fn tell_found(out: &mut [i64], told: promises::Found)
     requires { 5 ≤ length out.old }
-    ensures { out.new ≡ foundWords told ++ drop 5 out.old }
+    ensures { out.new ≡ found_words told ++ drop 5 out.old }
 {
     match told {
         promises::Found::Offer {
@@ -156,7 +156,7 @@ pub fn tell_found(out: &mut [i64], told: promises::Found)
 // A listing's answer: 0 and the piece count; or the refusal's number.
 pub fn tell_listed(out: &mut [i64], told: promises::Listed)
     requires { 5 ≤ length out.old }
-    ensures { out.new ≡ listedWords told ++ drop 5 out.old }
+    ensures { out.new ≡ listed_words told ++ drop 5 out.old }
 {
     match told {
         promises::Listed::Pieces(count) => put_five(out, 0, count, 0, 0, 0),
@@ -167,7 +167,7 @@ pub fn tell_listed(out: &mut [i64], told: promises::Listed)
 // A report's answer: 0 and the count of offers; or the refusal's number.
 pub fn tell_reported(out: &mut [i64], told: promises::Reported)
     requires { 5 ≤ length out.old }
-    ensures { out.new ≡ reportedWords told ++ drop 5 out.old }
+    ensures { out.new ≡ reported_words told ++ drop 5 out.old }
 {
     match told {
         promises::Reported::Offers(count) => put_five(out, 0, count, 0, 0, 0),
@@ -178,7 +178,7 @@ pub fn tell_reported(out: &mut [i64], told: promises::Reported)
 // A largest load's answer: 0, the offer's number and the load; or the refusal's number.
 pub fn tell_fitted(out: &mut [i64], told: promises::Fitted)
     requires { 5 ≤ length out.old }
-    ensures { out.new ≡ fittedWords told ++ drop 5 out.old }
+    ensures { out.new ≡ fitted_words told ++ drop 5 out.old }
 {
     match told {
         promises::Fitted::Load { number, load } => put_five(out, 0, number, load, 0, 0),

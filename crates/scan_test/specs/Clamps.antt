@@ -2,18 +2,18 @@
 use Rattle.std.specs.Prelude.{◌≡◌, ℕ, suc, ◌+◌, ◌*◌, ◌<◌, ◌≤◌, ℤ, pos, ◌-ℤ◌, ◌*ℤ◌, FitsSigned, unsigned_abs}
 use Rattle.std.proofs.Common.{arith}
 use Rattle.std.specs.Int.{w64}
-use Rattle.integers.specs.Magnitude.{fits, natAbs-sub}
-use Rattle.query.specs.Readings.{clamped, clamped-size, clamped-product}
+use Rattle.integers.specs.Magnitude.{fits, nat_abs_sub}
+use Rattle.query.specs.Readings.{clamped, clamped_size, clamped_product}
 
 size : {x : ℤ} (m : ℕ) (a : ℤ) → x ≡ clamped (suc m) a → unsigned_abs x ≤ suc m
-size m a e = rw e (clamped-size m a)
+size m a e = rw e (clamped_size m a)
 
 pub one_less_fits : {x : ℤ} (m : ℕ) (a : ℤ) → x ≡ clamped (suc m) a → suc m < 1_000_000_000_000_000 → FitsSigned w64 (x -ℤ pos 1)
-one_less_fits {x} m a e h = fits _ (omega (arith, natAbs-sub x (pos 1), size m a e))
+one_less_fits {x} m a e h = fits _ (omega (arith, nat_abs_sub x (pos 1), size m a e))
 
 module _ {x y : ℤ} (m n : ℕ) (a b : ℤ) (ex : x ≡ clamped (suc m) a) (ey : y ≡ clamped (suc n) b) where
-  pub product-fits : suc m * suc n < 1_000_000_000_000_000 → FitsSigned w64 (x *ℤ y)
-  product-fits h = fits _ (omega (arith, clamped-product m n a b ex ey))
+  pub product_fits : suc m * suc n < 1_000_000_000_000_000 → FitsSigned w64 (x *ℤ y)
+  product_fits h = fits _ (omega (arith, clamped_product m n a b ex ey))
 
-  pub gap-fits : suc m + suc n < 1_000_000_000_000_000 → FitsSigned w64 (x -ℤ y)
-  gap-fits h = fits _ (omega (arith, natAbs-sub x y, size m a ex, size n b ey))
+  pub gap_fits : suc m + suc n < 1_000_000_000_000_000 → FitsSigned w64 (x -ℤ y)
+  gap_fits h = fits _ (omega (arith, nat_abs_sub x y, size m a ex, size n b ey))

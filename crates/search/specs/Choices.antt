@@ -1,18 +1,18 @@
 -- What a step is to do, by numbers alone: whoever does it has made the machine's step.
 use Rattle.std.specs.Prelude.{ℕ, ◌-◌, ◌≤◌, ◌<◌, ◌≡◌, refl, Bool, true, false, not, ◌&&◌, List, leb}
 use Rattle.std.proofs.Common.{sym, ◌∙◌, ap, true≢false}
-use Rattle.table.specs.Fields.{mostSlots}
+use Rattle.table.specs.Fields.{most_slots}
 use Rattle.table.specs.Words.{Words}
 use Rattle.walks.specs.declared.Action.{Action}
 use Rattle.walks.specs.declared.Action.TheVariants.{Stay, Retreat, Advance, Pop}
 use Rattle.walks.specs.declared.Move.{Move}
 use Rattle.search.specs.declared.Search.{Search}
-use Rattle.prices.specs.Prices.{aboveAt}
+use Rattle.prices.specs.Prices.{above_at}
 use Rattle.walks.specs.Walks.{Walk}
-use Rattle.walks.specs.CodeMoves.{Topped, Pointed, pointWord, pointed-by}
+use Rattle.walks.specs.CodeMoves.{Topped, Pointed, point_word, pointed_by}
 use Rattle.walks.specs.Actions.{walk, Does, sided}
-use Rattle.search.specs.SearchSteps.{uOf, vOf, Receded, Stepped, receded-bottom, receded-leaf, receded-mine, receded-theirs, receded-neither}
-use Rattle.search.specs.SearchSteps.{stepped-mine, stepped-theirs, stepped-done, stepped-on}
+use Rattle.search.specs.SearchSteps.{u_of, v_of, Receded, Stepped, receded_bottom, receded_leaf, receded_mine, receded_theirs, receded_neither}
+use Rattle.search.specs.SearchSteps.{stepped_mine, stepped_theirs, stepped_done, stepped_on}
 
 -- ---- the promises
 
@@ -39,59 +39,59 @@ state u us ud v vs vd done =
 pub record Chooses (wl wr : Words) (u t v w : ℕ) (m : Move) : Type 0 where
   pub stays : m.done ≡ true → (m.u ≡ Stay) × (m.v ≡ Stay)
   pub next : (us : List ℕ) (ud : ℕ) (vs : List ℕ) (vd : ℕ) (b : Bool) → Topped (walk u us ud) t → Topped (walk v vs vd) w → (r : Search) →
-      r.done ≡ m.done → Does wl false m.u (walk u us ud) (uOf r) → Does wr true m.v (walk v vs vd) (vOf r) → Stepped wl wr (state u us ud v vs vd b) r
+      r.done ≡ m.done → Does wl false m.u (walk u us ud) (u_of r) → Does wr true m.v (walk v vs vd) (v_of r) → Stepped wl wr (state u us ud v vs vd b) r
 
 -- ---- each answer of the code
 
 module _ {ours other : Words} {side : Bool} {x t y p : ℕ} {m : Move} where
-  pub recedes-bottom : m ≡ sided side Retreat Stay → t < 1 → Recedes ours other side x t y p m
-  recedes-bottom e d = record { mine = Retreat; theirs = Stay; is = e; next = λ a b f g. receded-bottom t a d f g }
+  pub recedes_bottom : m ≡ sided side Retreat Stay → t < 1 → Recedes ours other side x t y p m
+  recedes_bottom e d = record { mine = Retreat; theirs = Stay; is = e; next = λ a b f g. receded_bottom t a d f g }
 
   module _ (deep : 1 ≤ t) where
-    pub recedes-leaf : m ≡ sided side Pop Stay → x ≤ mostSlots → Recedes ours other side x t y p m
-    recedes-leaf e l = record { mine = Pop; theirs = Stay; is = e; next = λ a b f g. receded-leaf t a deep l f g }
+    pub recedes_leaf : m ≡ sided side Pop Stay → x ≤ most_slots → Recedes ours other side x t y p m
+    recedes_leaf e l = record { mine = Pop; theirs = Stay; is = e; next = λ a b f g. receded_leaf t a deep l f g }
 
-    module _ (inner : mostSlots < x) {s : ℕ} (at_top : s ≡ t - mostSlots) where
-      pub recedes-mine : m ≡ sided side Pop Stay → aboveAt ours s other y ≡ true → Recedes ours other side x t y p m
-      recedes-mine e z = record { mine = Pop; theirs = Stay; is = e; next = λ a b f g. receded-mine t a deep inner s at_top f g z }
+    module _ (inner : most_slots < x) {s : ℕ} (at_top : s ≡ t - most_slots) where
+      pub recedes_mine : m ≡ sided side Pop Stay → above_at ours s other y ≡ true → Recedes ours other side x t y p m
+      recedes_mine e z = record { mine = Pop; theirs = Stay; is = e; next = λ a b f g. receded_mine t a deep inner s at_top f g z }
 
-      module _ (clear : aboveAt ours s other y ≡ false) where
-        pub recedes-theirs : m ≡ sided side Retreat Retreat → aboveAt other p ours t ≡ true → Recedes ours other side x t y p m
-        recedes-theirs e z =
-            record { mine = Retreat; theirs = Retreat; is = e; next = λ a b f g. receded-theirs t a deep inner s at_top p b clear f g z }
+      module _ (clear : above_at ours s other y ≡ false) where
+        pub recedes_theirs : m ≡ sided side Retreat Retreat → above_at other p ours t ≡ true → Recedes ours other side x t y p m
+        recedes_theirs e z =
+            record { mine = Retreat; theirs = Retreat; is = e; next = λ a b f g. receded_theirs t a deep inner s at_top p b clear f g z }
 
-        pub recedes-neither : m ≡ sided side Retreat Advance → aboveAt other p ours t ≡ false → Recedes ours other side x t y p m
-        recedes-neither e z =
-            record { mine = Retreat; theirs = Advance; is = e; next = λ a b f g. receded-neither t a deep inner s at_top p b clear f g z }
+        pub recedes_neither : m ≡ sided side Retreat Advance → above_at other p ours t ≡ false → Recedes ours other side x t y p m
+        recedes_neither e z =
+            record { mine = Retreat; theirs = Advance; is = e; next = λ a b f g. receded_neither t a deep inner s at_top p b clear f g z }
 
-module _ {wl wr : Words} {u t v w p q : ℕ} (ep : p ≡ pointWord u t) (eq : q ≡ pointWord v w) where
-  pub chooses-mine : {m : Move} → aboveAt wl p wr v ≡ true → Recedes wl wr false u t v q m → Chooses wl wr u t v w m
-  chooses-mine a z =
+module _ {wl wr : Words} {u t v w p q : ℕ} (ep : p ≡ point_word u t) (eq : q ≡ point_word v w) where
+  pub chooses_mine : {m : Move} → above_at wl p wr v ≡ true → Recedes wl wr false u t v q m → Chooses wl wr u t v w m
+  chooses_mine a z =
       record {
         stays = λ e. absurd (true≢false (sym e ∙ ap (λ (n : Move). n.done) z.is));
         next = λ us ud vs vd b tu tv r d f g.
-            stepped-mine (pointed-by tu ep) a (d ∙ ap (λ (n : Move). n.done) z.is)
-            (z.next tu (pointed-by tv eq) (rw (ap (λ (n : Move). n.u) z.is) at f) (rw (ap (λ (n : Move). n.v) z.is) at g));
+            stepped_mine (pointed_by tu ep) a (d ∙ ap (λ (n : Move). n.done) z.is)
+            (z.next tu (pointed_by tv eq) (rw (ap (λ (n : Move). n.u) z.is) at f) (rw (ap (λ (n : Move). n.v) z.is) at g));
       }
 
-  module _ (clear : aboveAt wl p wr v ≡ false) where
-    pub chooses-theirs : {m : Move} → aboveAt wr q wl u ≡ true → Recedes wr wl true v w u p m → Chooses wl wr u t v w m
-    chooses-theirs a z =
+  module _ (clear : above_at wl p wr v ≡ false) where
+    pub chooses_theirs : {m : Move} → above_at wr q wl u ≡ true → Recedes wr wl true v w u p m → Chooses wl wr u t v w m
+    chooses_theirs a z =
         record {
           stays = λ e. absurd (true≢false (sym e ∙ ap (λ (n : Move). n.done) z.is));
           next = λ us ud vs vd b tu tv r d f g.
-              stepped-theirs (pointed-by tu ep) (pointed-by tv eq) clear a (d ∙ ap (λ (n : Move). n.done) z.is)
-              (z.next tv (pointed-by tu ep) (rw (ap (λ (n : Move). n.v) z.is) at g) (rw (ap (λ (n : Move). n.u) z.is) at f));
+              stepped_theirs (pointed_by tu ep) (pointed_by tv eq) clear a (d ∙ ap (λ (n : Move). n.done) z.is)
+              (z.next tv (pointed_by tu ep) (rw (ap (λ (n : Move). n.v) z.is) at g) (rw (ap (λ (n : Move). n.u) z.is) at f));
         }
 
-    module _ (clear' : aboveAt wr q wl u ≡ false) where
-      pub chooses-done : leb u mostSlots && leb v mostSlots ≡ true → Chooses wl wr u t v w (record { u = Stay; v = Stay; done = true })
-      chooses-done e =
-          record { stays = λ d. (refl, refl); next = λ us ud vs vd b tu tv r d f g. stepped-done (pointed-by tu ep) (pointed-by tv eq) clear clear' e d f g }
+    module _ (clear' : above_at wr q wl u ≡ false) where
+      pub chooses_done : leb u most_slots && leb v most_slots ≡ true → Chooses wl wr u t v w (record { u = Stay; v = Stay; done = true })
+      chooses_done e =
+          record { stays = λ d. (refl, refl); next = λ us ud vs vd b tu tv r d f g. stepped_done (pointed_by tu ep) (pointed_by tv eq) clear clear' e d f g }
 
-      pub chooses-on : leb u mostSlots && leb v mostSlots ≡ false → Chooses wl wr u t v w (record { u = Advance; v = Advance; done = false })
-      chooses-on e =
+      pub chooses_on : leb u most_slots && leb v most_slots ≡ false → Chooses wl wr u t v w (record { u = Advance; v = Advance; done = false })
+      chooses_on e =
           record {
             stays = λ d. absurd (true≢false (sym d));
-            next = λ us ud vs vd b tu tv r d f g. stepped-on (pointed-by tu ep) (pointed-by tv eq) clear clear' e d f g;
+            next = λ us ud vs vd b tu tv r d f g. stepped_on (pointed_by tu ep) (pointed_by tv eq) clear clear' e d f g;
           }

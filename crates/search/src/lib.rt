@@ -1,9 +1,9 @@
 // The meeting of two envelopes that are kept in tables: the search of docs/REQUIREMENTS.md, 6 (its source [1], section 4), by two walks that carry a
 // stack each. Every function takes any words. Left is false, right is true; toward is the way to the other envelope, away the way to the outer end.
 ghost use Rattle.std.specs.Prelude.{◌≡◌, ◌&&◌, leb};
-ghost use Rattle.table.specs.Fields.{mostSlots};
+ghost use Rattle.table.specs.Fields.{most_slots};
 ghost use Rattle.table.specs.Layout.{cap};
-ghost use Rattle.walks.specs.CodeMoves.{topIn};
+ghost use Rattle.walks.specs.CodeMoves.{top_in};
 ghost use Rattle.search.specs.SearchSteps.{Stepped};
 ghost use Rattle.search.specs.Choices.{Recedes, Chooses};
 ghost use Rattle.search.specs.Runs.{started, Meets};
@@ -63,7 +63,7 @@ fn recede(
 }
 
 fn both_leaves(u: u32, v: u32) -> bool
-    ensures { result ≡ leb u mostSlots && leb v mostSlots }
+    ensures { result ≡ leb u most_slots && leb v most_slots }
 {
     u <= table::MOST_SLOTS && v <= table::MOST_SLOTS
 }
@@ -82,7 +82,7 @@ fn choose(
     vd: usize,
 ) -> Move
     requires { (c ≡ cap left.now) × (k ≡ cap right.now) }
-    ensures { Chooses left.now right.now u (topIn us.now ud) v (topIn vs.now vd) result }
+    ensures { Chooses left.now right.now u (top_in us.now ud) v (top_in vs.now vd) result }
 {
     let p = point(u, us, ud);
     let q = point(v, vs, vd);

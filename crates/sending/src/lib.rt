@@ -1,6 +1,6 @@
 // The call `largest_load`: how much can be sent for a budget. The table is only read, and any words are safe.
 ghost use Rattle.std.specs.Prelude.{T};
-ghost use Rattle.offers.specs.Offers.{priceInRange};
+ghost use Rattle.offers.specs.Offers.{price_in_range};
 ghost use Rattle.promises.specs.Promises.{Sends};
 ghost use Rattle.sending.specs.OneLine.{LastFit};
 ghost use Rattle.sending.specs.Sending.{Reaches, Named};
@@ -15,7 +15,7 @@ const NO_LOAD: i64 = LEAST_LOAD - 1;
 // The last load at which a rising line is at most the budget, by its price at the least load and its rate; it may lie past the greatest. None where that
 // price is above the budget, or the line does not rise.
 fn last_fit(least: i64, rate: i64, budget: i64) -> i64
-    requires { T (priceInRange least) × T (priceInRange budget) }
+    requires { T (price_in_range least) × T (price_in_range budget) }
     ensures { LastFit least rate budget result }
 {
     if budget < least {
@@ -29,7 +29,7 @@ fn last_fit(least: i64, rate: i64, budget: i64) -> i64
 
 // The last load that fits where the greatest does not, or none. One piece's offer decides.
 fn last_load(part: &[i64], budget: i64) -> i64
-    requires { T (priceInRange budget) }
+    requires { T (price_in_range budget) }
     ensures { Reaches budget part.now result }
 {
     let root = form::envelope_root(part);

@@ -1,19 +1,19 @@
 // The steps by which an offer comes into a book's part or leaves it: a slot filled, both indexes, the tree of offers with a leaf per rate. Filing makes
 // an update of them.
 ghost use Rattle.std.specs.Prelude.{◌≡◌, T};
-ghost use Rattle.offers.specs.Offers.{offerInRange};
-ghost use Rattle.table.specs.Fields.{offerTree, rateField};
-ghost use Rattle.table.specs.Free.{firstFree};
+ghost use Rattle.offers.specs.Offers.{offer_in_range};
+ghost use Rattle.table.specs.Fields.{offer_tree, rate_field};
+ghost use Rattle.table.specs.Free.{first_free};
 ghost use Rattle.descents.specs.Finds.{Found};
 ghost use Rattle.settling.specs.Indexes.{Entered, Struck};
 ghost use Rattle.settling.specs.Settling.{idle, Joined, Left};
 ghost use Rattle.settling.specs.Following.{FollowedAt};
-ghost use Rattle.settling.specs.Writing.{filling, rootsOf, rooting};
+ghost use Rattle.settling.specs.Writing.{filling, roots_of, rooting};
 
 // Puts an offer with its rank into the first free slot.
 pub fn fill(part: &mut [i64], number: i64, rate: i64, base: i64) -> u32
-    requires { T (offerInRange (record { number = number; rate = rate; base = base })) }
-    ensures is { result ≡ firstFree part.old }
+    requires { T (offer_in_range (record { number = number; rate = rate; base = base })) }
+    ensures is { result ≡ first_free part.old }
     ensures words { part.new ≡ filling (record { number = number; rate = rate; base = base }) result part.old }
 {
     let s = table::take_slot(part);
@@ -44,7 +44,7 @@ pub fn strike(part: &mut [i64], tree: u8, field: usize, at: usize, key: i64)
 
 // The roots that the header tells: of the offers and of their envelope.
 pub fn roots(part: &[i64]) -> levels::Held
-    ensures { result ≡ rootsOf part.now }
+    ensures { result ≡ roots_of part.now }
 {
     levels::Held {
         tree: form::offers_root(part),
@@ -54,7 +54,7 @@ pub fn roots(part: &[i64]) -> levels::Held
 
 // The slot of the first offer of that rate, and 0 where none has it.
 pub fn find_rate(part: &[i64], root: u32, rate: i64) -> u32
-    ensures { Found part.now offerTree rateField rate root result }
+    ensures { Found part.now offer_tree rate_field rate root result }
 {
     descents::find(part, table::OFFERS, table::RATE, rate, root)
 }

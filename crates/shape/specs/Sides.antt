@@ -2,122 +2,122 @@
 -- with the side true their mirror images.
 use Rattle.std.specs.Prelude.{◌≡◌, refl, Bool, true, false, not, cond, ◌++◌, leb}
 use Rattle.std.proofs.Common.{sym, ◌∙◌, ap, append_assoc}
-use Rattle.lists.specs.Bools.{cond-swap}
+use Rattle.lists.specs.Bools.{cond_swap}
 use Rattle.trees.specs.Tree.{Tree, leaf, node, height, leaves}
-use Rattle.trees.specs.Operations.{towers, doubleRight, doubleLeft, rotateRight, rotateLeft, balance, joinR, joinL}
-use Rattle.trees.specs.Leaves.{leaves-balance, leaves-joinR, leaves-joinL, same-last}
-use Rattle.trees.specs.Mirror.{towers-apart}
+use Rattle.trees.specs.Operations.{towers, double_right, double_left, rotate_right, rotate_left, balance, join_r, join_l}
+use Rattle.trees.specs.Leaves.{leaves_balance, leaves_join_r, leaves_join_l, same_last}
+use Rattle.trees.specs.Mirror.{towers_apart}
 use Rattle.table.specs.Items.{Item}
-use Rattle.table.specs.Rep.{nodeOn, seam}
+use Rattle.table.specs.Rep.{node_on, seam}
 
 -- three trees in a row
-abbrev pub rowOn : Bool → Tree Item → Tree Item → Tree Item → Tree Item
-rowOn side p m q = nodeOn side p (nodeOn side m q)
+abbrev pub row_on : Bool → Tree Item → Tree Item → Tree Item → Tree Item
+row_on side p m q = node_on side p (node_on side m q)
 
-abbrev pub doubleOn : Bool → Tree Item → Tree Item → Tree Item → Tree Item
-doubleOn false p m q = doubleRight p m q
-doubleOn true p m q = doubleLeft q m p
+abbrev pub double_on : Bool → Tree Item → Tree Item → Tree Item → Tree Item
+double_on false p m q = double_right p m q
+double_on true p m q = double_left q m p
 
-abbrev pub rotateOn : Bool → Tree Item → Tree Item → Tree Item
-rotateOn false p q = rotateRight p q
-rotateOn true p q = rotateLeft q p
+abbrev pub rotate_on : Bool → Tree Item → Tree Item → Tree Item
+rotate_on false p q = rotate_right p q
+rotate_on true p q = rotate_left q p
 
-abbrev pub balanceOn : Bool → Tree Item → Tree Item → Tree Item
-balanceOn false p q = balance p q
-balanceOn true p q = balance q p
+abbrev pub balance_on : Bool → Tree Item → Tree Item → Tree Item
+balance_on false p q = balance p q
+balance_on true p q = balance q p
 
-abbrev pub joinOn : Bool → Tree Item → Tree Item → Tree Item
-joinOn false p q = joinR p q
-joinOn true p q = joinL q p
+abbrev pub join_on : Bool → Tree Item → Tree Item → Tree Item
+join_on false p q = join_r p q
+join_on true p q = join_l q p
 
 -- ---- the same trees
 
-pub row-leaves : (side : Bool) (p m q : Tree Item) → leaves (nodeOn side (nodeOn side p m) q) ≡ leaves (rowOn side p m q)
-row-leaves false p m q = append_assoc (leaves p) (leaves m) (leaves q)
-row-leaves true p m q = sym (append_assoc (leaves q) (leaves m) (leaves p))
+pub row_leaves : (side : Bool) (p m q : Tree Item) → leaves (node_on side (node_on side p m) q) ≡ leaves (row_on side p m q)
+row_leaves false p m q = append_assoc (leaves p) (leaves m) (leaves q)
+row_leaves true p m q = sym (append_assoc (leaves q) (leaves m) (leaves p))
 
-pub four-leaves : (side : Bool) (p m n q : Tree Item) → leaves (rowOn side p (nodeOn side m n) q) ≡ leaves (rowOn side (nodeOn side p m) n q)
-four-leaves false p m n q = simp append_assoc
-four-leaves true p m n q = simp append_assoc
+pub four_leaves : (side : Bool) (p m n q : Tree Item) → leaves (row_on side p (node_on side m n) q) ≡ leaves (row_on side (node_on side p m) n q)
+four_leaves false p m n q = simp append_assoc
+four_leaves true p m n q = simp append_assoc
 
 -- only leaves count
-pub on-leaves : (side : Bool) (p s t : Tree Item) → leaves s ≡ leaves t → leaves (nodeOn side p s) ≡ leaves (nodeOn side p t)
-on-leaves false p s t e = ap (λ l. leaves p ++ l) e
-on-leaves true p s t e = ap (λ l. l ++ leaves p) e
+pub on_leaves : (side : Bool) (p s t : Tree Item) → leaves s ≡ leaves t → leaves (node_on side p s) ≡ leaves (node_on side p t)
+on_leaves false p s t e = ap (λ l. leaves p ++ l) e
+on_leaves true p s t e = ap (λ l. l ++ leaves p) e
 
-pub other_way : (side : Bool) (p q : Tree Item) → nodeOn (not side) q p ≡ nodeOn side p q
+pub other_way : (side : Bool) (p q : Tree Item) → node_on (not side) q p ≡ node_on side p q
 other_way false p q = refl
 other_way true p q = refl
 
-pub seam-other : (side : Bool) (p q : Tree Item) → seam (not side) q p ≡ seam side p q
-seam-other false p q = refl
-seam-other true p q = refl
+pub seam_other : (side : Bool) (p q : Tree Item) → seam (not side) q p ≡ seam side p q
+seam_other false p q = refl
+seam_other true p q = refl
 
 -- the seam of three trees in a row, between the first and the others, and between the first two and the last
-pub seam-first : (side : Bool) (p m q : Tree Item) → seam side p (nodeOn side m q) ≡ seam side p m
-seam-first false p m q = refl
-seam-first true p m q = refl
+pub seam_first : (side : Bool) (p m q : Tree Item) → seam side p (node_on side m q) ≡ seam side p m
+seam_first false p m q = refl
+seam_first true p m q = refl
 
-pub seam-last : (side : Bool) (p m q : Tree Item) → seam side (nodeOn side p m) q ≡ seam side m q
-seam-last false p m q = refl
-seam-last true p m q = refl
+pub seam_last : (side : Bool) (p m q : Tree Item) → seam side (node_on side p m) q ≡ seam side m q
+seam_last false p m q = refl
+seam_last true p m q = refl
 
 -- ---- the operations' clauses
 
-pub double-leaf : (side : Bool) (p : Tree Item) (a : Item) (q : Tree Item) → doubleOn side p (leaf a) q ≡ rowOn side p (leaf a) q
-unfolding doubleRight doubleLeft
-double-leaf false p a q = refl
-double-leaf true p a q = refl
+pub double_leaf : (side : Bool) (p : Tree Item) (a : Item) (q : Tree Item) → double_on side p (leaf a) q ≡ row_on side p (leaf a) q
+unfolding double_right double_left
+double_leaf false p a q = refl
+double_leaf true p a q = refl
 
-pub double-node : (side : Bool) (p m n q : Tree Item) → doubleOn side p (nodeOn side m n) q ≡ rowOn side (nodeOn side p m) n q
-unfolding doubleRight doubleLeft
-double-node false p m n q = refl
-double-node true p m n q = refl
+pub double_node : (side : Bool) (p m n q : Tree Item) → double_on side p (node_on side m n) q ≡ row_on side (node_on side p m) n q
+unfolding double_right double_left
+double_node false p m n q = refl
+double_node true p m n q = refl
 
-pub rotate-leaf : (side : Bool) (a : Item) (q : Tree Item) → rotateOn side (leaf a) q ≡ nodeOn side (leaf a) q
-unfolding rotateRight rotateLeft
-rotate-leaf false a q = refl
-rotate-leaf true a q = refl
+pub rotate_leaf : (side : Bool) (a : Item) (q : Tree Item) → rotate_on side (leaf a) q ≡ node_on side (leaf a) q
+unfolding rotate_right rotate_left
+rotate_leaf false a q = refl
+rotate_leaf true a q = refl
 
-pub rotate-node : (side : Bool) (p m q : Tree Item) → rotateOn side (nodeOn side p m) q ≡ cond (leb (height m) (height p)) (rowOn side p m q)
-    (doubleOn side p m q)
-unfolding rotateRight rotateLeft
-rotate-node false p m q = refl
-rotate-node true p m q = refl
+pub rotate_node : (side : Bool) (p m q : Tree Item) → rotate_on side (node_on side p m) q ≡ cond (leb (height m) (height p)) (row_on side p m q)
+    (double_on side p m q)
+unfolding rotate_right rotate_left
+rotate_node false p m q = refl
+rotate_node true p m q = refl
 
-pub balance-on : (side : Bool) (p q : Tree Item) → balanceOn side p q ≡ cond (towers p q) (rotateOn side p q)
-    (cond (towers q p) (rotateOn (not side) q p) (nodeOn side p q))
+pub balance_on_lem : (side : Bool) (p q : Tree Item) → balance_on side p q ≡ cond (towers p q) (rotate_on side p q)
+    (cond (towers q p) (rotate_on (not side) q p) (node_on side p q))
 unfolding balance
-balance-on false p q = refl
-balance-on true p q = cond-swap (towers q p) (towers p q) (rotateRight q p) (rotateLeft q p) (node q p) (towers-apart q p)
+balance_on_lem false p q = refl
+balance_on_lem true p q = cond_swap (towers q p) (towers p q) (rotate_right q p) (rotate_left q p) (node q p) (towers_apart q p)
 
-pub join-leaf : (side : Bool) (a : Item) (q : Tree Item) → joinOn side (leaf a) q ≡ nodeOn side (leaf a) q
-unfolding joinR joinL
-join-leaf false a q = refl
-join-leaf true a q = refl
+pub join_leaf : (side : Bool) (a : Item) (q : Tree Item) → join_on side (leaf a) q ≡ node_on side (leaf a) q
+unfolding join_r join_l
+join_leaf false a q = refl
+join_leaf true a q = refl
 
-pub join-node : (side : Bool) (p m q : Tree Item) → joinOn side (nodeOn side p m) q ≡ cond (towers (nodeOn side p m) q) (balanceOn side p (joinOn side m q))
-    (nodeOn side (nodeOn side p m) q)
-unfolding joinR joinL
-join-node false p m q = refl
-join-node true p m q = refl
+pub join_node : (side : Bool) (p m q : Tree Item) → join_on side (node_on side p m) q ≡ cond (towers (node_on side p m) q) (balance_on side p (join_on side m q))
+    (node_on side (node_on side p m) q)
+unfolding join_r join_l
+join_node false p m q = refl
+join_node true p m q = refl
 
 -- a tree that does not tower is joined at its root
-pub join-low : (side : Bool) (p q : Tree Item) → towers p q ≡ false → joinOn side p q ≡ nodeOn side p q
-join-low side (leaf a) q e = join-leaf side a q
-join-low false (node l r) q e = join-node false l r q ∙ rw e
-join-low true (node l r) q e = join-node true r l q ∙ rw e
+pub join_low : (side : Bool) (p q : Tree Item) → towers p q ≡ false → join_on side p q ≡ node_on side p q
+join_low side (leaf a) q e = join_leaf side a q
+join_low false (node l r) q e = join_node false l r q ∙ rw e
+join_low true (node l r) q e = join_node true r l q ∙ rw e
 
 -- ---- leaves, and the last of them
 
-pub balance-leaves : (side : Bool) (p q : Tree Item) → leaves (balanceOn side p q) ≡ leaves (nodeOn side p q)
-balance-leaves false p q = leaves-balance p q
-balance-leaves true p q = leaves-balance q p
+pub balance_leaves : (side : Bool) (p q : Tree Item) → leaves (balance_on side p q) ≡ leaves (node_on side p q)
+balance_leaves false p q = leaves_balance p q
+balance_leaves true p q = leaves_balance q p
 
-pub join-leaves : (side : Bool) (p q : Tree Item) → leaves (joinOn side p q) ≡ leaves (nodeOn side p q)
-join-leaves false p q = leaves-joinR p q
-join-leaves true p q = leaves-joinL q p
+pub join_leaves : (side : Bool) (p q : Tree Item) → leaves (join_on side p q) ≡ leaves (node_on side p q)
+join_leaves false p q = leaves_join_r p q
+join_leaves true p q = leaves_join_l q p
 
-pub seam-join : (side : Bool) (p m q : Tree Item) → seam side p (joinOn side m q) ≡ seam side p m
-seam-join false p m q = refl
-seam-join true p m q = same-last (joinL q m) (node q m) (leaves-joinL q m)
+pub seam_join : (side : Bool) (p m q : Tree Item) → seam side p (join_on side m q) ≡ seam side p m
+seam_join false p m q = refl
+seam_join true p m q = same_last (join_l q m) (node q m) (leaves_join_l q m)

@@ -1,8 +1,8 @@
 // Balanced trees in the table. One set of functions serves the four trees and both sides.
 ghost use Rattle.std.specs.Prelude.{◌≡◌, suc, ◌≤◌, ltb};
-ghost use Rattle.table.specs.Fields.{mostNodes};
+ghost use Rattle.table.specs.Fields.{most_nodes};
 ghost use Rattle.table.specs.Layout.{cap};
-ghost use Rattle.shape.specs.Sides.{rowOn, doubleOn, rotateOn, balanceOn};
+ghost use Rattle.shape.specs.Sides.{row_on, double_on, rotate_on, balance_on};
 ghost use Rattle.nodes.specs.Joining.{Joined};
 ghost use Rattle.shape.specs.Rows.{Rowed};
 ghost use Rattle.shape.specs.Splices.{Spliced};
@@ -13,7 +13,7 @@ use nodes::{make_node, set_node};
 
 // Three trees in a row: a node over the last two, and one over the first and that. `near` is the first seam's slot, `far` the second's.
 fn hang(part: &mut [i64], tree: u8, side: bool, near: u32, far: u32, p: u32, m: u32, q: u32) -> u32
-    ensures { Rowed (rowOn side) tree side near far p m q part.old part.new result }
+    ensures { Rowed (row_on side) tree side near far p m q part.old part.new result }
 {
     let y = make_node(part, tree, side, far, m, q);
     make_node(part, tree, side, near, p, y)
@@ -30,7 +30,7 @@ fn double(
     m: u32,
     q: u32,
 ) -> u32
-    ensures { Rowed (doubleOn side) tree side near far p m q part.old part.new result }
+    ensures { Rowed (double_on side) tree side near far p m q part.old part.new result }
 {
     if m <= table::MOST_SLOTS {
         return hang(part, tree, side, near, far, p, m, q);
@@ -44,7 +44,7 @@ fn double(
 
 // A rotation away from the side on which `p`, the higher tree, stands.
 fn rotate(part: &mut [i64], tree: u8, side: bool, gap: u32, p: u32, q: u32) -> u32
-    ensures { Joined (rotateOn side) tree side gap p q part.old part.new result }
+    ensures { Joined (rotate_on side) tree side gap p q part.old part.new result }
 {
     if p <= table::MOST_SLOTS {
         return make_node(part, tree, side, gap, p, q);
@@ -61,7 +61,7 @@ fn rotate(part: &mut [i64], tree: u8, side: bool, gap: u32, p: u32, q: u32) -> u
 // One tree of two side by side whose heights differ by at most 2. `c` is the capacity.
 fn balance(part: &mut [i64], c: u32, tree: u8, side: bool, gap: u32, p: u32, q: u32) -> u32
     requires { c ≡ cap part.old }
-    ensures { Joined (balanceOn side) tree side gap p q part.old part.new result }
+    ensures { Joined (balance_on side) tree side gap p q part.old part.new result }
 {
     let hp = table::height_in(part, c, tree, p);
     let hq = table::height_in(part, c, tree, q);
@@ -76,7 +76,7 @@ fn balance(part: &mut [i64], c: u32, tree: u8, side: bool, gap: u32, p: u32, q: 
 
 // One height is more than one above another.
 pub fn above(h: u32, other: u32) -> bool
-    requires { other ≤ mostNodes }
+    requires { other ≤ most_nodes }
     ensures { result ≡ ltb (suc other) h }
 {
     other + 1 < h

@@ -3,16 +3,16 @@ use Rattle.std.specs.Prelude.{◌≡◌, refl, ◌≢◌, true, false, ℕ, leng
 use Rattle.std.proofs.Common.{sym, ◌∙◌, ap, arith, length-append}
 use mathlib.Core.List.{List, [], ◌∷◌, ◌++◌, head-eq_of_cons-eq, tail-eq_of_cons-eq}
 use Rattle.std.proofs.Math.Option.{none, some}
-use Rattle.trees.specs.Tree.{Tree, leaf, node, leaves, first, last, Avl, avl-node}
-use Rattle.trees.specs.Operations.{Part, partLeaves}
+use Rattle.trees.specs.Tree.{Tree, leaf, node, leaves, first, last, Avl, avl_node}
+use Rattle.trees.specs.Operations.{Part, part_leaves}
 use Rattle.trees.specs.Balanced.{AvlP}
-use Rattle.table.specs.Fields.{orderTree}
+use Rattle.table.specs.Fields.{order_tree}
 use Rattle.table.specs.Words.{Words}
 use Rattle.table.specs.Layout.{link_at}
 use Rattle.table.specs.Items.{Item, slot_of}
-use Rattle.table.specs.Rep.{childField, Rep, Inner, of-root, of_left, of_right, inner_last}
+use Rattle.table.specs.Rep.{child_field, Rep, Inner, of_root, of_left, of_right, inner_last}
 use Rattle.table.specs.Nodes.{parents}
-use Rattle.table.specs.PartTrees.{RepP, rep-some}
+use Rattle.table.specs.PartTrees.{RepP, rep_some}
 use Rattle.descents.specs.Ends.{Ended, down}
 use Rattle.levels.specs.RaisingModel.{last_of, first_of}
 
@@ -43,7 +43,7 @@ between (x ∷ xs) ys (z ∷ front) a b post e = longer (head-eq_of_cons-eq e) (
 -- the node kept in the slot of a has b first on its right
 pub record Neighbour (w : Words) (k : ℕ) (t : Tree Item) (a b : Item) : Type 0 where
   pub right : Tree Item
-  pub rep : Rep w k (link_at w (childField k true) a.slot) right
+  pub rep : Rep w k (link_at w (child_field k true) a.slot) right
   pub balanced : Avl right
   pub begins : first right ≡ b
   pub kept : Inner a.slot t
@@ -52,55 +52,55 @@ pub neighbour :
     {w : Words} {k x : ℕ} (t : Tree Item) → Rep w k x t → Avl t → (front : List Item) (a b : Item) (post : List Item) → leaves t ≡ front ++ a ∷ b ∷ post →
     Neighbour w k t a b
 neighbour (leaf c) h v front a b post e = absurd (omega (arith, ap length e, length-append front (a ∷ b ∷ post)))
-neighbour {w} {k} {x} (node l r) h (avl-node vl vr g d) front a b post e =
+neighbour {w} {k} {x} (node l r) h (avl_node vl vr g d) front a b post e =
     go (between (leaves l) (leaves r) front a b post e) (neighbour l (down false h refl) vl front a b) (λ f. neighbour r (down true h refl) vr f a b post)
   where
-    on-left : Neighbour w k l a b → Neighbour w k (node l r) a b
-    on-left n = record { right = n.right; rep = n.rep; balanced = n.balanced; begins = n.begins; kept = of_left n.kept }
+    on_left : Neighbour w k l a b → Neighbour w k (node l r) a b
+    on_left n = record { right = n.right; rep = n.rep; balanced = n.balanced; begins = n.begins; kept = of_left n.kept }
 
-    on-right : Neighbour w k r a b → Neighbour w k (node l r) a b
-    on-right n = record { right = n.right; rep = n.rep; balanced = n.balanced; begins = n.begins; kept = of_right n.kept }
+    on_right : Neighbour w k r a b → Neighbour w k (node l r) a b
+    on_right n = record { right = n.right; rep = n.rep; balanced = n.balanced; begins = n.begins; kept = of_right n.kept }
 
     here : leaves l ≡ front ++ a ∷ [] → leaves r ≡ b ∷ post → Neighbour w k (node l r) a b
     here el er =
         let s : a.slot ≡ (last l).slot = ap slot_of (sym (last_of l front a el)) in
         record {
           right = r;
-          rep = down true h (ap (link_at w (childField k true)) (s ∙ sym (parents h).seam-at));
+          rep = down true h (ap (link_at w (child_field k true)) (s ∙ sym (parents h).seam_at));
           balanced = vr;
           begins = first_of r b post er;
-          kept = of-root s;
+          kept = of_root s;
         }
 
     go : Between (leaves l) (leaves r) front a b post → ((mid : List Item) → leaves l ≡ front ++ a ∷ b ∷ mid → Neighbour w k l a b) →
         ((f : List Item) → leaves r ≡ f ++ a ∷ b ∷ post → Neighbour w k r a b) → Neighbour w k (node l r) a b
-    go (both_left mid el) left right = on-left (left mid el)
+    go (both_left mid el) left right = on_left (left mid el)
     go (across el er) left right = here el er
-    go (both_right f er) left right = on-right (right f er)
+    go (both_right f er) left right = on_right (right f er)
 
 -- ---- as the code finds it
 
 -- behind the leaf in slot s of the order, whose last one is in slot `last`, there is none, or y is the slot of the first one on the right of that node
 pub data Behind (w : Words) (s last y : ℕ) : Type 0 where
   at_last : s ≡ last → y ≡ 0 → Behind w s last y
-  on-its-right : {f z : ℕ} → s ≢ last → f ≡ childField orderTree true → z ≡ link_at w f s → Ended w orderTree false z y → Behind w s last y
+  on_its_right : {f z : ℕ} → s ≢ last → f ≡ child_field order_tree true → z ≡ link_at w f s → Ended w order_tree false z y → Behind w s last y
 
 -- c is the slot of the head, and 0 where there is none
 abbrev pub HeadSlot : ℕ → List Item → Type 0
 HeadSlot c [] = c ≡ 0
 HeadSlot c (x ∷ xs) = c ≡ x.slot
 
-pub head-is :
-    {w : Words} {root s end y : ℕ} (p : Part Item) → RepP w orderTree root p → AvlP p → Ended w orderTree true root end →
-    (front : List Item) (a : Item) (post : List Item) → partLeaves p ≡ front ++ a ∷ post → s ≡ a.slot → Behind w s end y → HeadSlot y post
-head-is none h v n front a post e es d = absurd (omega (arith, ap length e, length-append front (a ∷ post)))
-head-is (some t) h v n front a [] e es (at_last k d) = d
-head-is (some t) h v n front a [] e es (on-its-right k ef ez d) =
-    absurd (k (es ∙ ap slot_of (sym (last_of t front a e)) ∙ sym (n.is t (rep-some h) v)))
-head-is (some t) h v n front a (b ∷ post) e es (at_last k d) =
-    absurd (inner_last h.slots (neighbour t (rep-some h) v front a b post e).kept (sym es ∙ k ∙ n.is t (rep-some h) v))
-head-is {w} {s = s} (some t) h v n front a (b ∷ post) e es (on-its-right k ef ez d) =
-    let m = neighbour t (rep-some h) v front a b post e in
-    let z = ez ∙ ap (λ (f : ℕ). link_at w f s) ef ∙ ap (link_at w (childField orderTree true)) es in
+pub head_is :
+    {w : Words} {root s end y : ℕ} (p : Part Item) → RepP w order_tree root p → AvlP p → Ended w order_tree true root end →
+    (front : List Item) (a : Item) (post : List Item) → part_leaves p ≡ front ++ a ∷ post → s ≡ a.slot → Behind w s end y → HeadSlot y post
+head_is none h v n front a post e es d = absurd (omega (arith, ap length e, length-append front (a ∷ post)))
+head_is (some t) h v n front a [] e es (at_last k d) = d
+head_is (some t) h v n front a [] e es (on_its_right k ef ez d) =
+    absurd (k (es ∙ ap slot_of (sym (last_of t front a e)) ∙ sym (n.is t (rep_some h) v)))
+head_is (some t) h v n front a (b ∷ post) e es (at_last k d) =
+    absurd (inner_last h.slots (neighbour t (rep_some h) v front a b post e).kept (sym es ∙ k ∙ n.is t (rep_some h) v))
+head_is {w} {s = s} (some t) h v n front a (b ∷ post) e es (on_its_right k ef ez d) =
+    let m = neighbour t (rep_some h) v front a b post e in
+    let z = ez ∙ ap (λ (f : ℕ). link_at w f s) ef ∙ ap (link_at w (child_field order_tree true)) es in
     d.is m.right (record { kind = m.rep.kind; root = z ∙ m.rep.root; slots = m.rep.slots; tied = m.rep.tied }) m.balanced
     ∙ ap slot_of m.begins

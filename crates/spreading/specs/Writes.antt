@@ -2,46 +2,46 @@
 use Rattle.std.specs.Prelude.{◌≡◌, refl, List, [], ◌∷◌, ◌++◌, map, ℕ, suc, ◌+◌, ◌*◌, ◌≤◌, ◌<◌, length, get_or, drop, ℤ}
 use Rattle.std.proofs.Common.{sym, ◌∙◌, ap, add-one, arith}
 use mathlib.Core.List.Memᴰ
-use Rattle.plain.specs.Book.{offerWords}
-use Rattle.table.specs.Fields.{baseField, mostSlots, numberField, rateField}
-use Rattle.table.specs.Words.{Words, wset, wset-length}
+use Rattle.plain.specs.Book.{offer_words}
+use Rattle.table.specs.Fields.{base_field, most_slots, number_field, rate_field}
+use Rattle.table.specs.Words.{Words, wset, wset_length}
 use Rattle.table.specs.Layout.{cell}
-use Rattle.table.specs.Items.{Item, offerOf, slot_of}
-use Rattle.table.specs.Threads.{Holds, holds-right}
-use Rattle.listing.specs.Listing.{three-words}
-use Rattle.check_trees.specs.Stretches.{span, span-length, span_none, span-cut, span-one}
+use Rattle.table.specs.Items.{Item, offer_of, slot_of}
+use Rattle.table.specs.Threads.{Holds, holds_right}
+use Rattle.listing.specs.Listing.{three_words}
+use Rattle.check_trees.specs.Stretches.{span, span_length, span_none, span_cut, span_one}
 
 -- number, rate, base a slot
-abbrev pub slotWords : Words → List ℕ → List ℤ
-slotWords w [] = []
-slotWords w (s ∷ ss) = cell w numberField s ∷ cell w rateField s ∷ cell w baseField s ∷ slotWords w ss
+abbrev pub slot_words : Words → List ℕ → List ℤ
+slot_words w [] = []
+slot_words w (s ∷ ss) = cell w number_field s ∷ cell w rate_field s ∷ cell w base_field s ∷ slot_words w ss
 
-words_append : (w : Words) (xs ys : List ℕ) → slotWords w (xs ++ ys) ≡ slotWords w xs ++ slotWords w ys
+words_append : (w : Words) (xs ys : List ℕ) → slot_words w (xs ++ ys) ≡ slot_words w xs ++ slot_words w ys
 words_append w [] ys = refl
-words_append w (s ∷ xs) ys = ap (λ (l : List ℤ). cell w numberField s ∷ cell w rateField s ∷ cell w baseField s ∷ l) (words_append w xs ys)
+words_append w (s ∷ xs) ys = ap (λ (l : List ℤ). cell w number_field s ∷ cell w rate_field s ∷ cell w base_field s ∷ l) (words_append w xs ys)
 
-words-length : (w : Words) (xs : List ℕ) → length (slotWords w xs) ≡ 3 * length xs
-words-length w [] = refl
-words-length w (s ∷ xs) = omega (arith, words-length w xs)
+words_length : (w : Words) (xs : List ℕ) → length (slot_words w xs) ≡ 3 * length xs
+words_length w [] = refl
+words_length w (s ∷ xs) = omega (arith, words_length w xs)
 
 -- where the slots hold their offers, these are the offers' words
-pub held-words : {w : Words} (xs : List Item) → Holds w xs → slotWords w (map slot_of xs) ≡ offerWords (map offerOf xs)
-held-words [] h = refl
-held-words {w} (a ∷ xs) h =
+pub held_words : {w : Words} (xs : List Item) → Holds w xs → slot_words w (map slot_of xs) ≡ offer_words (map offer_of xs)
+held_words [] h = refl
+held_words {w} (a ∷ xs) h =
     let k = h.held (Memᴰ.head refl) in
     rw (k.number, k.rate, k.base)
-    (ap (λ (l : List ℤ). a.offer.number ∷ a.offer.rate ∷ a.offer.base ∷ l) (held-words xs (holds-right (a ∷ []) h)))
+    (ap (λ (l : List ℤ). a.offer.number ∷ a.offer.rate ∷ a.offer.base ∷ l) (held_words xs (holds_right (a ∷ []) h)))
 
 -- ---- one offer
 
 -- the three words of the offer in slot s, from place k on
-abbrev pub offerAt : Words → ℕ → List ℤ → ℕ → List ℤ
-offerAt w s out k = wset (wset (wset out k (cell w numberField s)) (k + 1) (cell w rateField s)) (k + 2) (cell w baseField s)
+abbrev pub offer_at : Words → ℕ → List ℤ → ℕ → List ℤ
+offer_at w s out k = wset (wset (wset out k (cell w number_field s)) (k + 1) (cell w rate_field s)) (k + 2) (cell w base_field s)
 
-pub offer-put :
-    (w : Words) (s : ℕ) (out : List ℤ) (k : ℕ) {x y z : ℤ} {out₁ out₂ out₃ : List ℤ} → x ≡ cell w numberField s → y ≡ cell w rateField s →
-    z ≡ cell w baseField s → out₁ ≡ wset out k x → out₂ ≡ wset out₁ (k + 1) y → out₃ ≡ wset out₂ (k + 2) z → out₃ ≡ offerAt w s out k
-offer-put w s out k ex ey ez e₁ e₂ e₃ = rw (e₃, e₂, e₁, ex, ey, ez)
+pub offer_put :
+    (w : Words) (s : ℕ) (out : List ℤ) (k : ℕ) {x y z : ℤ} {out₁ out₂ out₃ : List ℤ} → x ≡ cell w number_field s → y ≡ cell w rate_field s →
+    z ≡ cell w base_field s → out₁ ≡ wset out k x → out₂ ≡ wset out₁ (k + 1) y → out₃ ≡ wset out₂ (k + 2) z → out₃ ≡ offer_at w s out k
+offer_put w s out k ex ey ez e₁ e₂ e₃ = rw (e₃, e₂, e₁, ex, ey, ez)
 
 -- ---- all of them
 
@@ -49,33 +49,33 @@ offer-put w s out k ex ey ez e₁ e₂ e₃ = rw (e₃, e₂, e₁, ex, ey, ez)
 pub record Copied (w : Words) (xs : List ℕ) (n : ℕ) (out out' : List ℤ) : Type 0 where
   pub long : length out' ≡ length out
   pub short : length out < 3 * n → out' ≡ out
-  pub words : 3 * n ≤ length out → out' ≡ slotWords w (span xs 0 n) ++ drop (3 * n) out
+  pub words : 3 * n ≤ length out → out' ≡ slot_words w (span xs 0 n) ++ drop (3 * n) out
 
-pub copied-short : {w : Words} {xs : List ℕ} {n : ℕ} {out : List ℤ} → length out < 3 * n → Copied w xs n out out
-copied-short h = record { long = refl; short = λ k. refl; words = λ k. absurd (omega arith) }
+pub copied_short : {w : Words} {xs : List ℕ} {n : ℕ} {out : List ℤ} → length out < 3 * n → Copied w xs n out out
+copied_short h = record { long = refl; short = λ k. refl; words = λ k. absurd (omega arith) }
 
 -- i offers are written
 pub record Copying (w : Words) (xs : List ℕ) (n : ℕ) (base : List ℤ) (i : ℕ) (out : List ℤ) : Type 0 where
   pub within : i ≤ n
   pub long : length out ≡ length base
-  pub now : out ≡ slotWords w (span xs 0 i) ++ drop (3 * i) base
+  pub now : out ≡ slot_words w (span xs 0 i) ++ drop (3 * i) base
 
-pub copying-begins : (w : Words) (xs : List ℕ) (n : ℕ) (base : List ℤ) → Copying w xs n base 0 base
-copying-begins w xs n base =
-    record { within = omega arith; long = refl; now = ap (λ (l : List ℕ). slotWords w l ++ drop 0 base) (sym (span_none xs 0 0 (omega arith))) }
+pub copying_begins : (w : Words) (xs : List ℕ) (n : ℕ) (base : List ℤ) → Copying w xs n base 0 base
+copying_begins w xs n base =
+    record { within = omega arith; long = refl; now = ap (λ (l : List ℕ). slot_words w l ++ drop 0 base) (sym (span_none xs 0 0 (omega arith))) }
 
 module _ {w : Words} {xs : List ℕ} {n i : ℕ} {base out : List ℤ} (room : 3 * n ≤ length base) (h : Copying w xs n base i out) where
-  pub copying-goes-on : {s : ℕ} {out' : List ℤ} → n ≤ mostSlots → i < n → (i < mostSlots → s ≡ get_or xs i 0) → out' ≡ offerAt w s out (3 * i) →
+  pub copying_goes_on : {s : ℕ} {out' : List ℤ} → n ≤ most_slots → i < n → (i < most_slots → s ≡ get_or xs i 0) → out' ≡ offer_at w s out (3 * i) →
       Copying w xs n base (i + 1) out'
-  copying-goes-on {s} {out'} few more es e =
+  copying_goes_on {s} {out'} few more es e =
       record {
         within = omega arith;
-        long = ap length e ∙ wset-length _ _ _ ∙ wset-length _ _ _ ∙ wset-length _ _ _ ∙ h.long;
+        long = ap length e ∙ wset_length _ _ _ ∙ wset_length _ _ _ ∙ wset_length _ _ _ ∙ h.long;
         now = e
-            ∙ ap (λ (o : List ℤ). offerAt w s o (3 * i)) h.now
-            ∙ three-words (slotWords w (span xs 0 i)) base (3 * i) (cell w numberField s) (cell w rateField s) (cell w baseField s)
-            (omega (arith, words-length w (span xs 0 i), span-length xs 0 i)) (omega arith)
-            ∙ ap (λ (k : ℕ). (slotWords w (span xs 0 i) ++ slotWords w (s ∷ [])) ++ drop k base) three
+            ∙ ap (λ (o : List ℤ). offer_at w s o (3 * i)) h.now
+            ∙ three_words (slot_words w (span xs 0 i)) base (3 * i) (cell w number_field s) (cell w rate_field s) (cell w base_field s)
+            (omega (arith, words_length w (span xs 0 i), span_length xs 0 i)) (omega arith)
+            ∙ ap (λ (k : ℕ). (slot_words w (span xs 0 i) ++ slot_words w (s ∷ [])) ++ drop k base) three
             ∙ ap (λ (l : List ℤ). l ++ drop (3 * (i + 1)) base) (sym grown);
       }
     where
@@ -83,18 +83,18 @@ module _ {w : Words} {xs : List ℕ} {n i : ℕ} {base out : List ℤ} (room : 3
       three = omega arith
 
       one : span xs i (suc i) ≡ s ∷ []
-      one = span-one xs i ∙ ap (λ (z : ℕ). z ∷ []) (sym (es (omega arith)))
+      one = span_one xs i ∙ ap (λ (z : ℕ). z ∷ []) (sym (es (omega arith)))
 
-      grown : slotWords w (span xs 0 (i + 1)) ≡ slotWords w (span xs 0 i) ++ slotWords w (s ∷ [])
+      grown : slot_words w (span xs 0 (i + 1)) ≡ slot_words w (span xs 0 i) ++ slot_words w (s ∷ [])
       grown =
-          ap (slotWords w) (ap (span xs 0) (add-one i) ∙ span-cut xs 0 i (suc i) (omega arith) (omega arith) ∙ ap (λ (l : List ℕ). span xs 0 i ++ l) one)
+          ap (slot_words w) (ap (span xs 0) (add-one i) ∙ span_cut xs 0 i (suc i) (omega arith) (omega arith) ∙ ap (λ (l : List ℕ). span xs 0 i ++ l) one)
           ∙ words_append w (span xs 0 i) (s ∷ [])
 
-  pub copying-ends : n ≤ i → Copied w xs n base out
-  copying-ends f =
+  pub copying_ends : n ≤ i → Copied w xs n base out
+  copying_ends f =
       let d : i ≡ n = omega (arith, h.within) in
       record {
         long = h.long;
         short = λ k. absurd (omega arith);
-        words = λ k. h.now ∙ ap (λ (j : ℕ). slotWords w (span xs 0 j) ++ drop (3 * j) base) d;
+        words = λ k. h.now ∙ ap (λ (j : ℕ). slot_words w (span xs 0 j) ++ drop (3 * j) base) d;
       }

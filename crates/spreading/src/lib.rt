@@ -1,11 +1,11 @@
 // The offers of a part that are below a price, from the first of each rate on, and their words. The part is only read; any words are safe.
 ghost use Rattle.std.specs.Prelude.{◌≡◌, ◌≤◌, ◌<◌, length, get_or};
-ghost use Rattle.table.specs.Fields.{mostSlots};
+ghost use Rattle.table.specs.Fields.{most_slots};
 ghost use Rattle.table.specs.Layout.{cap};
 ghost use Rattle.spreading.specs.Neighbours.{Behind};
 ghost use Rattle.spreading.specs.Nexts.{NextBelow};
 ghost use Rattle.spreading.specs.Spreads.{Spreads};
-ghost use Rattle.spreading.specs.Writes.{offerAt, Copied};
+ghost use Rattle.spreading.specs.Writes.{offer_at, Copied};
 
 // The slot of the offer behind that in slot `s` in order, and 0 behind the last one, in slot `last`. The inner node kept in slot `s` stands between the
 // two: what is behind is the first leaf on its right. `c` is the capacity.
@@ -41,7 +41,7 @@ fn next_below(part: &[i64], c: u32, s: u32, last: u32, load: i64, price: i64) ->
 
 // Entry `i`, and 0 past the end.
 fn entry(slots: &[u32; gathering::SLOTS], i: usize) -> u32
-    ensures { i < mostSlots → result ≡ get_or slots.now i 0 }
+    ensures { i < most_slots → result ≡ get_or slots.now i 0 }
 {
     if gathering::SLOTS <= i {
         return 0;
@@ -59,7 +59,7 @@ pub fn spread(
     price: i64,
     all: &mut [u32; gathering::SLOTS],
 ) -> usize
-    requires { (length all.old ≡ mostSlots) × (n ≤ mostSlots) }
+    requires { (length all.old ≡ most_slots) × (n ≤ most_slots) }
     ensures { Spreads part.now load price firsts.now all.old all.new n result }
 {
     let c = table::capacity(part);
@@ -86,7 +86,7 @@ pub fn spread(
 // Number, rate and base of the offer in a slot, to the three words from `at` on.
 fn put_offer(part: &[i64], slot: u32, out: &mut [i64], at: usize)
     requires { at ≤ 12_288 }
-    ensures { out.new ≡ offerAt part.now slot out.old at }
+    ensures { out.new ≡ offer_at part.now slot out.old at }
 {
     table::set_word(out, at, table::get(part, table::NUMBER, slot));
     table::set_word(out, at + 1, table::get(part, table::RATE, slot));
@@ -95,7 +95,7 @@ fn put_offer(part: &[i64], slot: u32, out: &mut [i64], at: usize)
 
 // Writes number, rate, base of the offers in the first `n` slots, where the output is long enough for all of them.
 pub fn write(part: &[i64], all: &[u32; gathering::SLOTS], n: usize, out: &mut [i64])
-    requires { n ≤ mostSlots }
+    requires { n ≤ most_slots }
     ensures { Copied part.now all.now n out.old out.new }
 {
     if out.len() < 3 * n {

@@ -3,107 +3,107 @@ use Rattle.std.specs.Prelude.{ℕ}
 
 -- ---- the header
 
-abbrev pub capacityWord : ℕ
-capacityWord = 0
+abbrev pub capacity_word : ℕ
+capacity_word = 0
 
-abbrev pub offersRootWord : ℕ
-offersRootWord = 1
+abbrev pub offers_root_word : ℕ
+offers_root_word = 1
 
-abbrev pub envelopeRootWord : ℕ
-envelopeRootWord = 2
+abbrev pub envelope_root_word : ℕ
+envelope_root_word = 2
 
-abbrev pub liveCountWord : ℕ
-liveCountWord = 3
+abbrev pub live_count_word : ℕ
+live_count_word = 3
 
-abbrev pub numbersRootWord : ℕ
-numbersRootWord = 4
+abbrev pub numbers_root_word : ℕ
+numbers_root_word = 4
 
-abbrev pub firstFreeWord : ℕ
-firstFreeWord = 5
+abbrev pub first_free_word : ℕ
+first_free_word = 5
 
-abbrev pub orderRootWord : ℕ
-orderRootWord = 6
+abbrev pub order_root_word : ℕ
+order_root_word = 6
 
 -- the place in the memory of the last entry, and how many entries there are
-abbrev pub lastEntryWord : ℕ
-lastEntryWord = 7
+abbrev pub last_entry_word : ℕ
+last_entry_word = 7
 
-abbrev pub rememberedWord : ℕ
-rememberedWord = 8
+abbrev pub remembered_word : ℕ
+remembered_word = 8
 
 -- ---- a slot's fields; a tree's children and heights are `childField` and `heightField` (Rep)
 
 -- the offer; a free slot has the number 0
-abbrev pub numberField : ℕ
-numberField = 0
+abbrev pub number_field : ℕ
+number_field = 0
 
-abbrev pub rateField : ℕ
-rateField = 1
+abbrev pub rate_field : ℕ
+rate_field = 1
 
-abbrev pub baseField : ℕ
-baseField = 2
+abbrev pub base_field : ℕ
+base_field = 2
 
 -- of a free slot
-abbrev pub nextFreeField : ℕ
-nextFreeField = 3
+abbrev pub next_free_field : ℕ
+next_free_field = 3
 
 -- of a live slot, in the same place: the rank of its offer
-abbrev pub rankField : ℕ
-rankField = 3
+abbrev pub rank_field : ℕ
+rank_field = 3
 
 -- the first of a piece's node: its two children, and then its crossing
-abbrev pub pieceNodeField : ℕ
-pieceNodeField = 4
+abbrev pub piece_node_field : ℕ
+piece_node_field = 4
 
 -- the crossing with the next piece
-abbrev pub numeratorField : ℕ
-numeratorField = 6
+abbrev pub numerator_field : ℕ
+numerator_field = 6
 
-abbrev pub denominatorField : ℕ
-denominatorField = 7
+abbrev pub denominator_field : ℕ
+denominator_field = 7
 
 -- of an inner node of the offers
-abbrev pub bridgeLeftField : ℕ
-bridgeLeftField = 10
+abbrev pub bridge_left_field : ℕ
+bridge_left_field = 10
 
-abbrev pub bridgeRightField : ℕ
-bridgeRightField = 11
+abbrev pub bridge_right_field : ℕ
+bridge_right_field = 11
 
-abbrev pub nextPieceField : ℕ
-nextPieceField = 19
+abbrev pub next_piece_field : ℕ
+next_piece_field = 19
 
 -- the pieces that stay with an inner node, and with a leaf
-abbrev pub innerRestField : ℕ
-innerRestField = 20
+abbrev pub inner_rest_field : ℕ
+inner_rest_field = 20
 
-abbrev pub leafRestField : ℕ
-leafRestField = 21
+abbrev pub leaf_rest_field : ℕ
+leaf_rest_field = 21
 
 -- ---- the trees
 
-abbrev pub pieceTree : ℕ
-pieceTree = 0
+abbrev pub piece_tree : ℕ
+piece_tree = 0
 
-abbrev pub offerTree : ℕ
-offerTree = 1
+abbrev pub offer_tree : ℕ
+offer_tree = 1
 
-abbrev pub numberTree : ℕ
-numberTree = 2
+abbrev pub number_tree : ℕ
+number_tree = 2
 
 -- all live offers in order; the last of the trees
-abbrev pub orderTree : ℕ
-orderTree = 3
+abbrev pub order_tree : ℕ
+order_tree = 3
 
 -- ---- limits
 
 -- the most slots of a part: a node up to here is the leaf of that slot, one above it an inner node
-abbrev pub mostSlots : ℕ
-mostSlots = 4096
+abbrev pub most_slots : ℕ
+most_slots = 4096
 
 -- the highest number of a node; any link, height or count is read up to here
-abbrev pub mostNodes : ℕ
-mostNodes = 8192
+abbrev pub most_nodes : ℕ
+most_nodes = 8192
 
 -- no balanced tree of so many leaves is higher
-abbrev pub mostLevels : ℕ
-mostLevels = 24
+abbrev pub most_levels : ℕ
+most_levels = 24

@@ -3,10 +3,10 @@
 use Rattle.std.specs.Prelude.{◌≡◌, refl, ◌≢◌, ℕ, ◌≤◌, ◌<◌, length, pos}
 use Rattle.std.proofs.Common.{◌∙◌, ap, arith}
 use mathlib.Core.List.{List, [], ◌∷◌, Memᴰ}
-use Rattle.table.specs.Fields.{firstFreeWord, mostNodes, mostSlots, nextFreeField, numberField}
-use Rattle.table.specs.Words.{Words, word, wset, wset-length, wset-same, wset-other, up_to, upTo-in}
-use Rattle.table.specs.Layout.{cap, cap-most, cell, cset, link_at, Outside, outside_of, place-low, place_in, cset-length, cset-cap, cset-rest}
-use Rattle.table.specs.Layout.{cset-same, cset-other, header-cap, header-cell}
+use Rattle.table.specs.Fields.{first_free_word, most_nodes, most_slots, next_free_field, number_field}
+use Rattle.table.specs.Words.{Words, word, wset, wset_length, wset_same, wset_other, up_to, up_to_in}
+use Rattle.table.specs.Layout.{cap, cap_most, cell, cset, link_at, Outside, outside_of, place_low, place_in, cset_length, cset_cap, cset_rest}
+use Rattle.table.specs.Layout.{cset_same, cset_other, header_cap, header_cell}
 
 -- the first of a list, and 0 of none
 abbrev pub head0 : List ℕ → ℕ
@@ -14,45 +14,45 @@ head0 [] = 0
 head0 (s ∷ ss) = s
 
 pub data FreeChain (w : Words) : List ℕ → Type 0 where
-  free-none : FreeChain w []
-  free_more : {s : ℕ} {ss : List ℕ} → 1 ≤ s → s ≤ cap w → cell w numberField s ≡ pos 0 → cell w nextFreeField s ≡ pos (head0 ss) → FreeChain w ss →
+  free_none : FreeChain w []
+  free_more : {s : ℕ} {ss : List ℕ} → 1 ≤ s → s ≤ cap w → cell w number_field s ≡ pos 0 → cell w next_free_field s ≡ pos (head0 ss) → FreeChain w ss →
       FreeChain w (s ∷ ss)
 
 -- the free slots are ss
 pub record FreeSlots (w : Words) (ss : List ℕ) : Type 0 where
-  pub first : word w firstFreeWord ≡ pos (head0 ss)
+  pub first : word w first_free_word ≡ pos (head0 ss)
   pub chain : FreeChain w ss
 
-pub head-most : {w : Words} (ss : List ℕ) → FreeChain w ss → head0 ss ≤ mostSlots
-head-most [] f = omega arith
-head-most {w} (s ∷ ss) (free_more l h z n f) = omega (arith, cap-most w)
+pub head_most : {w : Words} (ss : List ℕ) → FreeChain w ss → head0 ss ≤ most_slots
+head_most [] f = omega arith
+head_most {w} (s ∷ ss) (free_more l h z n f) = omega (arith, cap_most w)
 
 -- the word that leads on in a chain, read as a link
-pub free-link : {w : Words} {ss : List ℕ} (s : ℕ) → FreeChain w ss → cell w nextFreeField s ≡ pos (head0 ss) → link_at w nextFreeField s ≡ head0 ss
-free-link {ss} s f n = ap (up_to mostNodes) n ∙ upTo-in mostNodes (head0 ss) (omega (arith, head-most ss f))
+pub free_link : {w : Words} {ss : List ℕ} (s : ℕ) → FreeChain w ss → cell w next_free_field s ≡ pos (head0 ss) → link_at w next_free_field s ≡ head0 ss
+free_link {ss} s f n = ap (up_to most_nodes) n ∙ up_to_in most_nodes (head0 ss) (omega (arith, head_most ss f))
 
 -- a chain whose slots were not touched
-pub chain-still : {w w' : Words} {ss : List ℕ} → FreeChain w ss → cap w' ≡ cap w → ((s : ℕ) → Memᴰ s ss → cell w' numberField s ≡ cell w numberField s)
-    → ((s : ℕ) → Memᴰ s ss → cell w' nextFreeField s ≡ cell w nextFreeField s) → FreeChain w' ss
-chain-still free-none c e d = free-none
-chain-still (free_more {s} l h z n f) c e d =
+pub chain_still : {w w' : Words} {ss : List ℕ} → FreeChain w ss → cap w' ≡ cap w → ((s : ℕ) → Memᴰ s ss → cell w' number_field s ≡ cell w number_field s)
+    → ((s : ℕ) → Memᴰ s ss → cell w' next_free_field s ≡ cell w next_free_field s) → FreeChain w' ss
+chain_still free_none c e d = free_none
+chain_still (free_more {s} l h z n f) c e d =
     free_more l (omega (arith, c)) (e s (Memᴰ.head refl) ∙ z) (d s (Memᴰ.head refl) ∙ n)
-    (chain-still f c (λ t m. e t (Memᴰ.tail m)) (λ t m. d t (Memᴰ.tail m)))
+    (chain_still f c (λ t m. e t (Memᴰ.tail m)) (λ t m. d t (Memᴰ.tail m)))
 
 -- ---- a slot is taken
 
-abbrev pub firstFree : Words → ℕ
-firstFree w = up_to mostNodes (word w firstFreeWord)
+abbrev pub first_free : Words → ℕ
+first_free w = up_to most_nodes (word w first_free_word)
 
 abbrev pub taken : Words → Words
-taken w = wset w firstFreeWord (pos (link_at w nextFreeField (firstFree w)))
+taken w = wset w first_free_word (pos (link_at w next_free_field (first_free w)))
 
 -- what a part with a slot has
-long : (w : Words) {s : ℕ} → 1 ≤ s → s ≤ cap w → firstFreeWord < length w
-long w {s} l h = omega (arith, place-low (cap w) numberField s, place_in {w = w} {f = numberField} {s = s} (record { low = l; high = h; field = omega arith }))
+long : (w : Words) {s : ℕ} → 1 ≤ s → s ≤ cap w → first_free_word < length w
+long w {s} l h = omega (arith, place_low (cap w) number_field s, place_in {w = w} {f = number_field} {s = s} (record { low = l; high = h; field = omega arith }))
 
-pub first-free : {w : Words} {ss : List ℕ} → FreeSlots w ss → firstFree w ≡ head0 ss
-first-free {w} {ss} f = ap (up_to mostNodes) f.first ∙ upTo-in mostNodes (head0 ss) (omega (arith, head-most ss f.chain))
+pub first_free_lem : {w : Words} {ss : List ℕ} → FreeSlots w ss → first_free w ≡ head0 ss
+first_free_lem {w} {ss} f = ap (up_to most_nodes) f.first ∙ up_to_in most_nodes (head0 ss) (omega (arith, head_most ss f.chain))
 
 pub took : {w : Words} {s : ℕ} {ss : List ℕ} → FreeSlots w (s ∷ ss) → FreeSlots (taken w) ss
 took {w} {s} {ss} f = go f.chain
@@ -60,71 +60,71 @@ took {w} {s} {ss} f = go f.chain
     go : FreeChain w (s ∷ ss) → FreeSlots (taken w) ss
     go (free_more l h z n g) =
         record {
-          first = wset-same w firstFreeWord _ (long w l h) ∙ ap pos (ap (link_at w nextFreeField) (first-free f) ∙ free-link s g n);
-          chain = chain-still g (header-cap w firstFreeWord _ (omega arith) (omega arith)) (λ t m. header-cell w firstFreeWord _ (omega arith) (omega arith)
-              numberField t) (λ t m. header-cell w firstFreeWord _ (omega arith) (omega arith) nextFreeField t);
+          first = wset_same w first_free_word _ (long w l h) ∙ ap pos (ap (link_at w next_free_field) (first_free_lem f) ∙ free_link s g n);
+          chain = chain_still g (header_cap w first_free_word _ (omega arith) (omega arith)) (λ t m. header_cell w first_free_word _ (omega arith) (omega arith)
+              number_field t) (λ t m. header_cell w first_free_word _ (omega arith) (omega arith) next_free_field t);
         }
 
 -- every other word is as before
-pub taken-cell : (w : Words) (f s : ℕ) → cell (taken w) f s ≡ cell w f s
-taken-cell w f s = header-cell w firstFreeWord _ (omega arith) (omega arith) f s
+pub taken_cell : (w : Words) (f s : ℕ) → cell (taken w) f s ≡ cell w f s
+taken_cell w f s = header_cell w first_free_word _ (omega arith) (omega arith) f s
 
-pub taken_word : (w : Words) {i : ℕ} → i ≢ firstFreeWord → word (taken w) i ≡ word w i
-taken_word w d = wset-other w firstFreeWord _ _ d
+pub taken_word : (w : Words) {i : ℕ} → i ≢ first_free_word → word (taken w) i ≡ word w i
+taken_word w d = wset_other w first_free_word _ _ d
 
 -- ---- a slot is given back
 
 abbrev pub given : Words → ℕ → Words
-given w s = wset (cset (cset w numberField s (pos 0)) nextFreeField s (pos (firstFree w))) firstFreeWord (pos s)
+given w s = wset (cset (cset w number_field s (pos 0)) next_free_field s (pos (first_free w))) first_free_word (pos s)
 
-pub given-cap : (w : Words) (s : ℕ) → cap (given w s) ≡ cap w
-given-cap w s = header-cap _ firstFreeWord _ (omega arith) (omega arith) ∙ cset-cap _ nextFreeField s _ ∙ cset-cap w numberField s _
+pub given_cap : (w : Words) (s : ℕ) → cap (given w s) ≡ cap w
+given_cap w s = header_cap _ first_free_word _ (omega arith) (omega arith) ∙ cset_cap _ next_free_field s _ ∙ cset_cap w number_field s _
 
-pub given-length : (w : Words) (s : ℕ) → length (given w s) ≡ length w
-given-length w s = wset-length _ firstFreeWord _ ∙ cset-length _ nextFreeField s _ ∙ cset-length w numberField s _
+pub given_length : (w : Words) (s : ℕ) → length (given w s) ≡ length w
+given_length w s = wset_length _ first_free_word _ ∙ cset_length _ next_free_field s _ ∙ cset_length w number_field s _
 
 -- fields of other slots, and other fields of that slot
-pub given-cell : (w : Words) (s f t : ℕ) → ¬ ((f ≡ numberField) × (t ≡ s)) → ¬ ((f ≡ nextFreeField) × (t ≡ s)) → cell (given w s) f t ≡ cell w f t
-given-cell w s f t d e = header-cell _ firstFreeWord _ (omega arith) (omega arith) f t ∙ cset-other _ nextFreeField s _ e ∙ cset-other w numberField s _ d
+pub given_cell : (w : Words) (s f t : ℕ) → ¬ ((f ≡ number_field) × (t ≡ s)) → ¬ ((f ≡ next_free_field) × (t ≡ s)) → cell (given w s) f t ≡ cell w f t
+given_cell w s f t d e = header_cell _ first_free_word _ (omega arith) (omega arith) f t ∙ cset_other _ next_free_field s _ e ∙ cset_other w number_field s _ d
 
-pub given_word : (w : Words) (s : ℕ) {i : ℕ} → Outside w i → i ≢ firstFreeWord → word (given w s) i ≡ word w i
-given_word w s {i} o d = wset-other _ firstFreeWord i _ d ∙ cset-rest w₁ nextFreeField s _ further ∙ cset-rest w numberField s _ o
+pub given_word : (w : Words) (s : ℕ) {i : ℕ} → Outside w i → i ≢ first_free_word → word (given w s) i ≡ word w i
+given_word w s {i} o d = wset_other _ first_free_word i _ d ∙ cset_rest w₁ next_free_field s _ further ∙ cset_rest w number_field s _ o
   where
     w₁ : Words
-    w₁ = cset w numberField s (pos 0)
+    w₁ = cset w number_field s (pos 0)
 
     further : Outside w₁ i
-    further = outside_of (cset-cap w numberField s (pos 0)) o
+    further = outside_of (cset_cap w number_field s (pos 0)) o
 
 pub gave : {w : Words} {s : ℕ} {ss : List ℕ} → FreeSlots w ss → 1 ≤ s → s ≤ cap w → ((t : ℕ) → Memᴰ t ss → t ≢ s) → FreeSlots (given w s) (s ∷ ss)
 gave {w} {s} {ss} f l h d =
     record {
-      first = wset-same w₂ firstFreeWord (pos s) (omega (
+      first = wset_same w₂ first_free_word (pos s) (omega (
         arith,
         long w l h,
-        cset-length w numberField s (pos 0),
-        cset-length w₁ nextFreeField s (pos (firstFree w)),
+        cset_length w number_field s (pos 0),
+        cset_length w₁ next_free_field s (pos (first_free w)),
       ));
-      chain = free_more l (omega (arith, given-cap w s)) number next rest;
+      chain = free_more l (omega (arith, given_cap w s)) number next rest;
     }
   where
     w₁ : Words
-    w₁ = cset w numberField s (pos 0)
+    w₁ = cset w number_field s (pos 0)
 
     w₂ : Words
-    w₂ = cset w₁ nextFreeField s (pos (firstFree w))
+    w₂ = cset w₁ next_free_field s (pos (first_free w))
 
-    number : cell (given w s) numberField s ≡ pos 0
+    number : cell (given w s) number_field s ≡ pos 0
     number =
-        header-cell w₂ firstFreeWord (pos s) (omega arith) (omega arith) numberField s ∙ cset-other w₁ nextFreeField s _ (λ e. omega (arith, e.0))
-        ∙ cset-same (pos 0) (record { low = l; high = h; field = omega arith })
+        header_cell w₂ first_free_word (pos s) (omega arith) (omega arith) number_field s ∙ cset_other w₁ next_free_field s _ (λ e. omega (arith, e.0))
+        ∙ cset_same (pos 0) (record { low = l; high = h; field = omega arith })
 
-    next : cell (given w s) nextFreeField s ≡ pos (head0 ss)
+    next : cell (given w s) next_free_field s ≡ pos (head0 ss)
     next =
-        header-cell w₂ firstFreeWord (pos s) (omega arith) (omega arith) nextFreeField s ∙ cset-same (pos (firstFree w))
-        (record { low = l; high = omega (arith, cset-cap w numberField s (pos 0)); field = omega arith })
-        ∙ ap pos (first-free f)
+        header_cell w₂ first_free_word (pos s) (omega arith) (omega arith) next_free_field s ∙ cset_same (pos (first_free w))
+        (record { low = l; high = omega (arith, cset_cap w number_field s (pos 0)); field = omega arith })
+        ∙ ap pos (first_free_lem f)
 
     rest : FreeChain (given w s) ss
-    rest = chain-still f.chain (given-cap w s) (λ t m. given-cell w s numberField t (λ q. d t m q.1) (λ q. d t m q.1))
-        (λ t m. given-cell w s nextFreeField t (λ q. d t m q.1) (λ q. d t m q.1))
+    rest = chain_still f.chain (given_cap w s) (λ t m. given_cell w s number_field t (λ q. d t m q.1) (λ q. d t m q.1))
+        (λ t m. given_cell w s next_free_field t (λ q. d t m q.1) (λ q. d t m q.1))

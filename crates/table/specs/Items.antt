@@ -8,18 +8,18 @@ use mathlib.Core.List.Sublistᴰ
 use mathlib.Core.List.{Pairwise}
 use mathlib.Core.List.{rel_of_Pairwise-cons}
 use Rattle.std.proofs.Math.Decide.{ℕ_discrete}
-use Rattle.lists.specs.Places.{sublist-mem}
+use Rattle.lists.specs.Places.{sublist_mem}
 use Rattle.offers.specs.Offers.{Offer}
 use Rattle.trees.specs.Tree.{Tree, leaf, node, height, leaves}
-use Rattle.trees.specs.Leaves.{some-leaf}
+use Rattle.trees.specs.Leaves.{some_leaf}
 use Rattle.trees.specs.Order.{parted}
 
 pub record Item : Type 0 where
   pub slot : ℕ
   pub offer : Offer
 
-abbrev pub offerOf : Item → Offer
-offerOf a = a.offer
+abbrev pub offer_of : Item → Offer
+offer_of a = a.offer
 
 abbrev pub slot_of : Item → ℕ
 slot_of a = a.slot
@@ -44,23 +44,23 @@ pub record Slots (c : ℕ) (xs : List Item) : Type 0 where
   pub high : {a : Item} → Memᴰ a xs → a.slot ≤ c
   pub apart : Pairwise Apart xs
 
-pub slots-none : {c : ℕ} → Slots c []
-slots-none = record { low = λ m. elim m [ ]; high = λ m. elim m [ ]; apart = Pairwise.nil }
+pub slots_none : {c : ℕ} → Slots c []
+slots_none = record { low = λ m. elim m [ ]; high = λ m. elim m [ ]; apart = Pairwise.nil }
 
-pub slots-left : {c : ℕ} {xs : List Item} (ys : List Item) → Slots c (xs ++ ys) → Slots c xs
-slots-left {c} {xs} ys s =
+pub slots_left : {c : ℕ} {xs : List Item} (ys : List Item) → Slots c (xs ++ ys) → Slots c xs
+slots_left {c} {xs} ys s =
     record { low = λ m. s.low (Memᴰ.append_left ys m); high = λ m. s.high (Memᴰ.append_left ys m); apart = (parted xs s.apart).left }
 
-pub slots-right : {c : ℕ} (xs : List Item) {ys : List Item} → Slots c (xs ++ ys) → Slots c ys
-slots-right xs s =
+pub slots_right : {c : ℕ} (xs : List Item) {ys : List Item} → Slots c (xs ++ ys) → Slots c ys
+slots_right xs s =
     record { low = λ m. s.low (Memᴰ.append_right xs m); high = λ m. s.high (Memᴰ.append_right xs m); apart = (parted xs s.apart).right }
 
-pub slots-sublist : {c : ℕ} {xs ys : List Item} → Sublistᴰ xs ys → Slots c ys → Slots c xs
-slots-sublist d s = record { low = λ m. s.low (sublist-mem d m); high = λ m. s.high (sublist-mem d m); apart = Pairwise.sublistᴰ d s.apart }
+pub slots_sublist : {c : ℕ} {xs ys : List Item} → Sublistᴰ xs ys → Slots c ys → Slots c xs
+slots_sublist d s = record { low = λ m. s.low (sublist_mem d m); high = λ m. s.high (sublist_mem d m); apart = Pairwise.sublistᴰ d s.apart }
 
 -- two lists one behind the other share no slot
-pub slots-across : {c s : ℕ} (xs : List Item) {ys : List Item} → Slots c (xs ++ ys) → In s xs → In s ys → ⊥
-slots-across xs s (at m e) (at n d) = (parted xs s.apart).across m n (sym e ∙ d)
+pub slots_across : {c s : ℕ} (xs : List Item) {ys : List Item} → Slots c (xs ++ ys) → In s xs → In s ys → ⊥
+slots_across xs s (at m e) (at n d) = (parted xs s.apart).across m n (sym e ∙ d)
 
 -- ---- there are at most c of them
 
@@ -86,10 +86,10 @@ less n (a ∷ xs) p = go (ℕ_discrete a.slot n) (less n xs (Pairwise.of_cons p)
           long = omega (arith, q.long);
         }
 
-pub slots-most : (c : ℕ) (xs : List Item) → Slots c xs → length xs ≤ c
-slots-most zero [] s = omega arith
-slots-most zero (a ∷ xs) s = absurd (omega (arith, s.low (Memᴰ.head refl), s.high (Memᴰ.head refl)))
-slots-most (suc c) xs s = omega (arith, q.long, slots-most c q.others fewer)
+pub slots_most : (c : ℕ) (xs : List Item) → Slots c xs → length xs ≤ c
+slots_most zero [] s = omega arith
+slots_most zero (a ∷ xs) s = absurd (omega (arith, s.low (Memᴰ.head refl), s.high (Memᴰ.head refl)))
+slots_most (suc c) xs s = omega (arith, q.long, slots_most c q.others fewer)
   where
     q : Less (suc c) xs
     q = less (suc c) xs s.apart
@@ -97,8 +97,8 @@ slots-most (suc c) xs s = omega (arith, q.long, slots-most c q.others fewer)
     fewer : Slots c q.others
     fewer =
         record {
-          low = λ m. s.low (sublist-mem q.sub m);
-          high = λ {a} m. lower a (s.high (sublist-mem q.sub m)) (q.miss m);
+          low = λ m. s.low (sublist_mem q.sub m);
+          high = λ {a} m. lower a (s.high (sublist_mem q.sub m)) (q.miss m);
           apart = Pairwise.sublistᴰ q.sub s.apart;
         }
       where
@@ -106,10 +106,10 @@ slots-most (suc c) xs s = omega (arith, q.long, slots-most c q.others fewer)
         lower a h d = omega arith
 
 -- a tree is lower than it has leaves
-pub height-below : (t : Tree Item) → height t < length (leaves t)
-height-below (leaf a) = omega arith
-height-below (node l r) =
-    omega (arith, length-append (leaves l) (leaves r), height-below l, height-below r, some-leaf l, some-leaf r)
+pub height_below : (t : Tree Item) → height t < length (leaves t)
+height_below (leaf a) = omega arith
+height_below (node l r) =
+    omega (arith, length-append (leaves l) (leaves r), height_below l, height_below r, some_leaf l, some_leaf r)
 
-pub height-most : {c : ℕ} (t : Tree Item) → Slots c (leaves t) → height t < c
-height-most {c} t s = omega (arith, height-below t, slots-most c (leaves t) s)
+pub height_most : {c : ℕ} (t : Tree Item) → Slots c (leaves t) → height t < c
+height_most {c} t s = omega (arith, height_below t, slots_most c (leaves t) s)

@@ -5,90 +5,90 @@ use mathlib.Core.List.Memᴰ
 use mathlib.Core.List.{List, [], ◌∷◌, Memᴰ}
 use Rattle.trees.specs.Tree.{Tree, leaf, node, height, leaves, last}
 use Rattle.trees.specs.Leaves.{last_leaf}
-use Rattle.table.specs.Fields.{mostNodes, mostSlots, orderTree}
-use Rattle.table.specs.Words.{Words, word, word_out, up_to, upTo-in}
-use Rattle.table.specs.Layout.{cap, cap-most, cell, cset, link_at, spot_out, Valid, cset-same, cset-other}
-use Rattle.table.specs.Items.{Item, In, at, in_left, in_right, Slots, slots-left, slots-right, slots-across, height-most}
-use Rattle.table.specs.Rep.{childField, heightField, a-child, a-height, childAt, heightAt, refOf, nodeOn, seam, Tied, tied-node, tied-still}
-use Rattle.table.specs.Rep.{Rep, Within, within_cap, within-refl, within-trans, within-cset, Only, only-trans, only-cset, Inner, inner-in}
+use Rattle.table.specs.Fields.{most_nodes, most_slots, order_tree}
+use Rattle.table.specs.Words.{Words, word, word_out, up_to, up_to_in}
+use Rattle.table.specs.Layout.{cap, cap_most, cell, cset, link_at, spot_out, Valid, cset_same, cset_other}
+use Rattle.table.specs.Items.{Item, In, at, in_left, in_right, Slots, slots_left, slots_right, slots_across, height_most}
+use Rattle.table.specs.Rep.{child_field, height_field, a_child, a_height, child_at, height_at, ref_of, node_on, seam, Tied, tied_node, tied_still}
+use Rattle.table.specs.Rep.{Rep, Within, within_cap, within_refl, within_trans, within_cset, Only, only_trans, only_cset, Inner, inner_in}
 use Rattle.table.specs.Rep.{inner_last}
 
 -- ---- the root's number
 
-pub link-none : (w : Words) (f : ℕ) → link_at w f 0 ≡ 0
+pub link_none : (w : Words) (f : ℕ) → link_at w f 0 ≡ 0
 unfolding cell
-link-none w f =
-    ap (up_to mostNodes) (ap (word w) (spot_out (λ v. omega (arith, v.low))) ∙ word_out w _ (omega arith)) ∙ upTo-in mostNodes 0 (omega arith)
+link_none w f =
+    ap (up_to most_nodes) (ap (word w) (spot_out (λ v. omega (arith, v.low))) ∙ word_out w _ (omega arith)) ∙ up_to_in most_nodes 0 (omega arith)
 
-pub ref-low : {c : ℕ} (t : Tree Item) → Slots c (leaves t) → 1 ≤ refOf t
-ref-low (leaf a) s = s.low (Memᴰ.head refl)
-ref-low (node l r) s = omega arith
+pub ref_low : {c : ℕ} (t : Tree Item) → Slots c (leaves t) → 1 ≤ ref_of t
+ref_low (leaf a) s = s.low (Memᴰ.head refl)
+ref_low (node l r) s = omega arith
 
-pub ref-high : {c : ℕ} (t : Tree Item) → Slots c (leaves t) → c ≤ mostSlots → refOf t ≤ mostNodes
-ref-high (leaf a) s h = omega (arith, s.high (Memᴰ.head refl))
-ref-high (node l r) s h = omega (arith, (slots-left (leaves r) s).high (last_leaf l))
+pub ref_high : {c : ℕ} (t : Tree Item) → Slots c (leaves t) → c ≤ most_slots → ref_of t ≤ most_nodes
+ref_high (leaf a) s h = omega (arith, s.high (Memᴰ.head refl))
+ref_high (node l r) s h = omega (arith, (slots_left (leaves r) s).high (last_leaf l))
 
-pub rep-height : {w : Words} {k x : ℕ} {t : Tree Item} → Rep w k x t → heightAt w k x ≡ height t
-rep-height {w} {k} {x} {t = leaf a} h = ap (link_at w (heightField k)) low ∙ link-none w (heightField k)
+pub rep_height : {w : Words} {k x : ℕ} {t : Tree Item} → Rep w k x t → height_at w k x ≡ height t
+rep_height {w} {k} {x} {t = leaf a} h = ap (link_at w (height_field k)) low ∙ link_none w (height_field k)
   where
-    low : x - mostSlots ≡ 0
-    low = omega (arith, h.root, h.slots.high (Memᴰ.head refl), cap-most w)
-rep-height {w} {k} {x} {t = node l r} h = ap (link_at w (heightField k)) (omega (arith, h.root)) ∙ stored h.tied
+    low : x - most_slots ≡ 0
+    low = omega (arith, h.root, h.slots.high (Memᴰ.head refl), cap_most w)
+rep_height {w} {k} {x} {t = node l r} h = ap (link_at w (height_field k)) (omega (arith, h.root)) ∙ stored h.tied
   where
-    stored : Tied w k (node l r) → link_at w (heightField k) (last l).slot ≡ suc (max (height l) (height r))
-    stored (tied-node tl tr el er eh) = eh
+    stored : Tied w k (node l r) → link_at w (height_field k) (last l).slot ≡ suc (max (height l) (height r))
+    stored (tied_node tl tr el er eh) = eh
 
 -- ---- an inner node
 
 pub record Parents (w : Words) (k x : ℕ) (l r : Tree Item) : Type 0 where
-  pub left_at : childAt w k false x ≡ refOf l
-  pub right-at : childAt w k true x ≡ refOf r
-  pub seam-at : x - mostSlots ≡ (last l).slot
-  pub tied-left : Tied w k l
-  pub tied-right : Tied w k r
+  pub left_at : child_at w k false x ≡ ref_of l
+  pub right_at : child_at w k true x ≡ ref_of r
+  pub seam_at : x - most_slots ≡ (last l).slot
+  pub tied_left : Tied w k l
+  pub tied_right : Tied w k r
 
 pub parents : {w : Words} {k x : ℕ} {l r : Tree Item} → Rep w k x (node l r) → Parents w k x l r
 parents {w} {k} {x} {l} {r} h = go h.tied
   where
-    here : x - mostSlots ≡ (last l).slot
+    here : x - most_slots ≡ (last l).slot
     here = omega (arith, h.root)
 
     go : Tied w k (node l r) → Parents w k x l r
-    go (tied-node tl tr el er eh) =
+    go (tied_node tl tr el er eh) =
         record {
-          left_at = ap (link_at w (childField k false)) here ∙ el;
-          right-at = ap (link_at w (childField k true)) here ∙ er;
-          seam-at = here;
-          tied-left =
+          left_at = ap (link_at w (child_field k false)) here ∙ el;
+          right_at = ap (link_at w (child_field k true)) here ∙ er;
+          seam_at = here;
+          tied_left =
               tl;
-          tied-right = tr;
+          tied_right = tr;
         }
 
 -- a leaf has no such number
-pub leaf-low : {w : Words} {k x : ℕ} {a : Item} → Rep w k x (leaf a) → x ≤ mostSlots
-leaf-low {w} h = omega (arith, h.root, h.slots.high (Memᴰ.head refl), cap-most w)
+pub leaf_low : {w : Words} {k x : ℕ} {a : Item} → Rep w k x (leaf a) → x ≤ most_slots
+leaf_low {w} h = omega (arith, h.root, h.slots.high (Memᴰ.head refl), cap_most w)
 
-pub node-high : {w : Words} {k x : ℕ} {l r : Tree Item} → Rep w k x (node l r) → mostSlots < x
-node-high {l} {r} h = omega (arith, h.root, (slots-left (leaves r) h.slots).low (last_leaf l))
+pub node_high : {w : Words} {k x : ℕ} {l r : Tree Item} → Rep w k x (node l r) → most_slots < x
+node_high {l} {r} h = omega (arith, h.root, (slots_left (leaves r) h.slots).low (last_leaf l))
 
 -- at an inner node the limit is not used up
-pub not-spent : {w : Words} {k x limit : ℕ} (t : Tree Item) → mostSlots < x → limit ≡ 0 → Rep w k x t → height t ≤ limit → ⊥
-not-spent (leaf a) h e r n = omega (arith, leaf-low r)
-not-spent (node l r) h e q n = omega arith
+pub not_spent : {w : Words} {k x limit : ℕ} (t : Tree Item) → most_slots < x → limit ≡ 0 → Rep w k x t → height t ≤ limit → ⊥
+not_spent (leaf a) h e r n = omega (arith, leaf_low r)
+not_spent (node l r) h e q n = omega arith
 
 -- the same, seen from a side
 pub record Opened (w : Words) (k : ℕ) (side : Bool) (x : ℕ) (t : Tree Item) : Type 0 where
   pub one : Tree Item
   pub other : Tree Item
-  pub shape : t ≡ nodeOn side one other
-  pub one_at : childAt w k side x ≡ refOf one
-  pub other_at : childAt w k (not side) x ≡ refOf other
-  pub seam-at : x - mostSlots ≡ (seam side one other).slot
-  pub tied-one : Tied w k one
-  pub tied-other : Tied w k other
+  pub shape : t ≡ node_on side one other
+  pub one_at : child_at w k side x ≡ ref_of one
+  pub other_at : child_at w k (not side) x ≡ ref_of other
+  pub seam_at : x - most_slots ≡ (seam side one other).slot
+  pub tied_one : Tied w k one
+  pub tied_other : Tied w k other
 
-pub opened : {w : Words} {k x : ℕ} {t : Tree Item} (side : Bool) → Rep w k x t → mostSlots < x → Opened w k side x t
-opened {t = leaf a} side h d = absurd (omega (arith, leaf-low h))
+pub opened : {w : Words} {k x : ℕ} {t : Tree Item} (side : Bool) → Rep w k x t → most_slots < x → Opened w k side x t
+opened {t = leaf a} side h d = absurd (omega (arith, leaf_low h))
 opened {w} {k} {x} {t = node l r} side h d = go side (parents h)
   where
     go : (side : Bool) → Parents w k x l r → Opened w k side x (node l r)
@@ -98,35 +98,35 @@ opened {w} {k} {x} {t = node l r} side h d = go side (parents h)
           other = r;
           shape = refl;
           one_at = p.left_at;
-          other_at = p.right-at;
-          seam-at = p.seam-at;
-          tied-one = p.tied-left;
-          tied-other =
-              p.tied-right;
+          other_at = p.right_at;
+          seam_at = p.seam_at;
+          tied_one = p.tied_left;
+          tied_other =
+              p.tied_right;
         }
     go true p =
         record {
           one = r;
           other = l;
           shape = refl;
-          one_at = p.right-at;
+          one_at = p.right_at;
           other_at = p.left_at;
-          seam-at = p.seam-at;
-          tied-one = p.tied-right;
-          tied-other =
-              p.tied-left;
+          seam_at = p.seam_at;
+          tied_one = p.tied_right;
+          tied_other =
+              p.tied_left;
         }
 
 -- ---- two trees side by side
 
 -- node p is the root of tp on a side, node q that of tq on the other
 pub record Pair (w : Words) (k : ℕ) (side : Bool) (p q : ℕ) (tp tq : Tree Item) : Type 0 where
-  pub kind : k ≤ orderTree
-  pub one : p ≡ refOf tp
-  pub other : q ≡ refOf tq
-  pub slots : Slots (cap w) (leaves (nodeOn side tp tq))
-  pub tied-one : Tied w k tp
-  pub tied-other : Tied w k tq
+  pub kind : k ≤ order_tree
+  pub one : p ≡ ref_of tp
+  pub other : q ≡ ref_of tq
+  pub slots : Slots (cap w) (leaves (node_on side tp tq))
+  pub tied_one : Tied w k tp
+  pub tied_other : Tied w k tq
 
 -- x is the root of t, and nothing but nodes of t was written
 pub record Made (k : ℕ) (w w' : Words) (x : ℕ) (t : Tree Item) : Type 0 where
@@ -134,120 +134,120 @@ pub record Made (k : ℕ) (w w' : Words) (x : ℕ) (t : Tree Item) : Type 0 wher
   pub only : Only k (leaves t) w w'
 
 module _ {c : ℕ} (tp tq : Tree Item) where
-  pub on_one : (side : Bool) → Slots c (leaves (nodeOn side tp tq)) → Slots c (leaves tp)
-  on_one false s = slots-left (leaves tq) s
-  on_one true s = slots-right (leaves tq) s
+  pub on_one : (side : Bool) → Slots c (leaves (node_on side tp tq)) → Slots c (leaves tp)
+  on_one false s = slots_left (leaves tq) s
+  on_one true s = slots_right (leaves tq) s
 
-  pub on-other : (side : Bool) → Slots c (leaves (nodeOn side tp tq)) → Slots c (leaves tq)
-  on-other false s = slots-right (leaves tp) s
-  on-other true s = slots-left (leaves tp) s
+  pub on_other : (side : Bool) → Slots c (leaves (node_on side tp tq)) → Slots c (leaves tq)
+  on_other false s = slots_right (leaves tp) s
+  on_other true s = slots_left (leaves tp) s
 
-  pub on-across : (side : Bool) {n : ℕ} → Slots c (leaves (nodeOn side tp tq)) → In n (leaves tp) → In n (leaves tq) → ⊥
-  on-across false s i j = slots-across (leaves tp) s i j
-  on-across true s i j = slots-across (leaves tq) s j i
+  pub on_across : (side : Bool) {n : ℕ} → Slots c (leaves (node_on side tp tq)) → In n (leaves tp) → In n (leaves tq) → ⊥
+  on_across false s i j = slots_across (leaves tp) s i j
+  on_across true s i j = slots_across (leaves tq) s j i
 
 pub pair_one : {w : Words} {k p q : ℕ} {side : Bool} {tp tq : Tree Item} → Pair w k side p q tp tq → Rep w k p tp
-pair_one {side} {tp} {tq} h = record { kind = h.kind; root = h.one; slots = on_one tp tq side h.slots; tied = h.tied-one }
+pair_one {side} {tp} {tq} h = record { kind = h.kind; root = h.one; slots = on_one tp tq side h.slots; tied = h.tied_one }
 
-pub pair-other : {w : Words} {k p q : ℕ} {side : Bool} {tp tq : Tree Item} → Pair w k side p q tp tq → Rep w k q tq
-pair-other {side} {tp} {tq} h = record { kind = h.kind; root = h.other; slots = on-other tp tq side h.slots; tied = h.tied-other }
+pub pair_other : {w : Words} {k p q : ℕ} {side : Bool} {tp tq : Tree Item} → Pair w k side p q tp tq → Rep w k q tq
+pair_other {side} {tp} {tq} h = record { kind = h.kind; root = h.other; slots = on_other tp tq side h.slots; tied = h.tied_other }
 
-pub in_one : (side : Bool) {n : ℕ} (tp tq : Tree Item) → In n (leaves tp) → In n (leaves (nodeOn side tp tq))
+pub in_one : (side : Bool) {n : ℕ} (tp tq : Tree Item) → In n (leaves tp) → In n (leaves (node_on side tp tq))
 in_one false tp tq i = in_left (leaves tq) i
 in_one true tp tq i = in_right (leaves tq) i
 
-pub in-other : (side : Bool) {n : ℕ} (tp tq : Tree Item) → In n (leaves tq) → In n (leaves (nodeOn side tp tq))
-in-other false tp tq i = in_right (leaves tp) i
-in-other true tp tq i = in_left (leaves tp) i
+pub in_other : (side : Bool) {n : ℕ} (tp tq : Tree Item) → In n (leaves tq) → In n (leaves (node_on side tp tq))
+in_other false tp tq i = in_right (leaves tp) i
+in_other true tp tq i = in_left (leaves tp) i
 
-pub seam-in : (side : Bool) (tp tq : Tree Item) → Memᴰ (seam side tp tq) (leaves (nodeOn side tp tq))
-seam-in false tp tq = Memᴰ.append_left (leaves tq) (last_leaf tp)
-seam-in true tp tq = Memᴰ.append_left (leaves tp) (last_leaf tq)
+pub seam_in : (side : Bool) (tp tq : Tree Item) → Memᴰ (seam side tp tq) (leaves (node_on side tp tq))
+seam_in false tp tq = Memᴰ.append_left (leaves tq) (last_leaf tp)
+seam_in true tp tq = Memᴰ.append_left (leaves tp) (last_leaf tq)
 
-pub ref-on : (side : Bool) (tp tq : Tree Item) → refOf (nodeOn side tp tq) ≡ mostSlots + (seam side tp tq).slot
-ref-on false tp tq = refl
-ref-on true tp tq = refl
+pub ref_on : (side : Bool) (tp tq : Tree Item) → ref_of (node_on side tp tq) ≡ most_slots + (seam side tp tq).slot
+ref_on false tp tq = refl
+ref_on true tp tq = refl
 
-pub height-on : (side : Bool) (tp tq : Tree Item) → height (nodeOn side tp tq) ≡ suc (max (height tp) (height tq))
-height-on false tp tq = refl
-height-on true tp tq = omega arith
+pub height_on : (side : Bool) (tp tq : Tree Item) → height (node_on side tp tq) ≡ suc (max (height tp) (height tq))
+height_on false tp tq = refl
+height_on true tp tq = omega arith
 
 pub tied_on : {w : Words} {k : ℕ} {tp tq : Tree Item} (side : Bool) → Tied w k tp → Tied w k tq →
-    link_at w (childField k side) (seam side tp tq).slot ≡ refOf tp → link_at w (childField k (not side)) (seam side tp tq).slot ≡ refOf tq →
-    link_at w (heightField k) (seam side tp tq).slot ≡ suc (max (height tp) (height tq)) → Tied w k (nodeOn side tp tq)
-tied_on false a b ep eq eh = tied-node a b ep eq eh
-tied_on true a b ep eq eh = tied-node b a eq ep (omega (arith, eh))
+    link_at w (child_field k side) (seam side tp tq).slot ≡ ref_of tp → link_at w (child_field k (not side)) (seam side tp tq).slot ≡ ref_of tq →
+    link_at w (height_field k) (seam side tp tq).slot ≡ suc (max (height tp) (height tq)) → Tied w k (node_on side tp tq)
+tied_on false a b ep eq eh = tied_node a b ep eq eh
+tied_on true a b ep eq eh = tied_node b a eq ep (omega (arith, eh))
 
 -- ---- a new node
 
 -- the words of a node whose child on a side is p, whose other child is q, and whose height is h
 abbrev pub wired : Words → ℕ → Bool → ℕ → ℕ → ℕ → ℕ → Words
 wired w k side gap p q h =
-    cset (cset (cset w (childField k side) gap (pos p)) (childField k (not side)) gap (pos q)) (heightField k) gap (pos h)
+    cset (cset (cset w (child_field k side) gap (pos p)) (child_field k (not side)) gap (pos q)) (height_field k) gap (pos h)
 
-two-children : (k : ℕ) (side : Bool) → childField k side ≢ childField k (not side)
-two-children k false e = omega arith
-two-children k true e = omega arith
+two_children : (k : ℕ) (side : Bool) → child_field k side ≢ child_field k (not side)
+two_children k false e = omega arith
+two_children k true e = omega arith
 
-no-height : {k : ℕ} (side : Bool) → k ≤ orderTree → childField k side ≢ heightField k
-no-height {k} false h e = omega arith
-no-height {k} true h e = omega arith
+no_height : {k : ℕ} (side : Bool) → k ≤ order_tree → child_field k side ≢ height_field k
+no_height {k} false h e = omega arith
+no_height {k} true h e = omega arith
 
-child-field : {k : ℕ} (side : Bool) → k ≤ orderTree → childField k side < 32
-child-field {k} false h = omega arith
-child-field {k} true h = omega arith
+child_field_lem : {k : ℕ} (side : Bool) → k ≤ order_tree → child_field k side < 32
+child_field_lem {k} false h = omega arith
+child_field_lem {k} true h = omega arith
 
 module _ (w : Words) (k : ℕ) (side : Bool) (gap p q h : ℕ) where
-  pub wired-within : Within w (wired w k side gap p q h)
-  wired-within = within-trans (within-cset w _ gap (pos p)) (within-trans (within-cset _ _ gap (pos q)) (within-cset _ _ gap (pos h)))
+  pub wired_within : Within w (wired w k side gap p q h)
+  wired_within = within_trans (within_cset w _ gap (pos p)) (within_trans (within_cset _ _ gap (pos q)) (within_cset _ _ gap (pos h)))
 
   -- the node's slot is the only one written
-  wired-only : {xs : List Item} → In gap xs → Only k xs w (wired w k side gap p q h)
-  wired-only i =
-      only-trans (only-cset w (pos p) (a-child side refl) i)
-      (only-trans (only-cset _ (pos q) (a-child (not side) refl) i) (only-cset _ (pos h) (a-height refl) i))
+  wired_only : {xs : List Item} → In gap xs → Only k xs w (wired w k side gap p q h)
+  wired_only i =
+      only_trans (only_cset w (pos p) (a_child side refl) i)
+      (only_trans (only_cset _ (pos q) (a_child (not side) refl) i) (only_cset _ (pos h) (a_height refl) i))
 
-  module _ (kind : k ≤ orderTree) (low : 1 ≤ gap) (high : gap ≤ cap w) where
+  module _ (kind : k ≤ order_tree) (low : 1 ≤ gap) (high : gap ≤ cap w) where
     here : (f : ℕ) {w' : Words} → f < 32 → Within w w' → Valid w' f gap
     here f b g = record { low = low; high = omega (arith, within_cap g); field = b }
 
-    wired-one : cell (wired w k side gap p q h) (childField k side) gap ≡ pos p
-    wired-one =
-        cset-other _ (heightField k) gap (pos h) (λ e. no-height side kind e.0)
-        ∙ cset-other _ (childField k (not side)) gap (pos q) (λ e. two-children k side e.0)
-        ∙ cset-same (pos p) (here _ (child-field side kind) (within-refl w))
+    wired_one : cell (wired w k side gap p q h) (child_field k side) gap ≡ pos p
+    wired_one =
+        cset_other _ (height_field k) gap (pos h) (λ e. no_height side kind e.0)
+        ∙ cset_other _ (child_field k (not side)) gap (pos q) (λ e. two_children k side e.0)
+        ∙ cset_same (pos p) (here _ (child_field_lem side kind) (within_refl w))
 
-    wired-other : cell (wired w k side gap p q h) (childField k (not side)) gap ≡ pos q
-    wired-other =
-        cset-other _ (heightField k) gap (pos h) (λ e. no-height (not side) kind e.0)
-        ∙ cset-same (pos q) (here _ (child-field (not side) kind) (within-cset w _ gap (pos p)))
+    wired_other : cell (wired w k side gap p q h) (child_field k (not side)) gap ≡ pos q
+    wired_other =
+        cset_other _ (height_field k) gap (pos h) (λ e. no_height (not side) kind e.0)
+        ∙ cset_same (pos q) (here _ (child_field_lem (not side) kind) (within_cset w _ gap (pos p)))
 
-    wired-height : cell (wired w k side gap p q h) (heightField k) gap ≡ pos h
-    wired-height = cset-same (pos h) (here _ (omega arith) (within-trans (within-cset w _ gap (pos p)) (within-cset _ _ gap (pos q))))
+    wired_height : cell (wired w k side gap p q h) (height_field k) gap ≡ pos h
+    wired_height = cset_same (pos h) (here _ (omega arith) (within_trans (within_cset w _ gap (pos p)) (within_cset _ _ gap (pos q))))
 
 -- no inner node of either tree is kept in the new node's slot
 module _ {c s : ℕ} (tp tq : Tree Item) where
-  away-one : (side : Bool) → Slots c (leaves (nodeOn side tp tq)) → Inner s tp → s ≢ (seam side tp tq).slot
-  away-one false h i e = inner_last (slots-left (leaves tq) h) i e
-  away-one true h i e = slots-across (leaves tq) h (at (last_leaf tq) e) (inner-in i)
+  away_one : (side : Bool) → Slots c (leaves (node_on side tp tq)) → Inner s tp → s ≢ (seam side tp tq).slot
+  away_one false h i e = inner_last (slots_left (leaves tq) h) i e
+  away_one true h i e = slots_across (leaves tq) h (at (last_leaf tq) e) (inner_in i)
 
-  away-other : (side : Bool) → Slots c (leaves (nodeOn side tp tq)) → Inner s tq → s ≢ (seam side tp tq).slot
-  away-other false h i e = slots-across (leaves tp) h (at (last_leaf tp) e) (inner-in i)
-  away-other true h i e = inner_last (slots-left (leaves tp) h) i e
+  away_other : (side : Bool) → Slots c (leaves (node_on side tp tq)) → Inner s tq → s ≢ (seam side tp tq).slot
+  away_other false h i e = slots_across (leaves tp) h (at (last_leaf tp) e) (inner_in i)
+  away_other true h i e = inner_last (slots_left (leaves tp) h) i e
 
-in-single : {s : ℕ} {a : Item} → In s (a ∷ []) → s ≡ a.slot
-in-single (at {a = b} m e) = e ∙ ap (λ (i : Item). i.slot) (Memᴰ.eq_of_singleton m)
+in_single : {s : ℕ} {a : Item} → In s (a ∷ []) → s ≡ a.slot
+in_single (at {a = b} m e) = e ∙ ap (λ (i : Item). i.slot) (Memᴰ.eq_of_singleton m)
 
 -- a field that holds the number n
-linked : {z : ℤ} {n m : ℕ} → z ≡ pos n → n ≡ m → m ≤ mostNodes → up_to mostNodes z ≡ m
-linked {z} {n} {m} e d h = ap (up_to mostNodes) e ∙ ap (λ j. up_to mostNodes (pos j)) d ∙ upTo-in mostNodes m h
+linked : {z : ℤ} {n m : ℕ} → z ≡ pos n → n ≡ m → m ≤ most_nodes → up_to most_nodes z ≡ m
+linked {z} {n} {m} e d h = ap (up_to most_nodes) e ∙ ap (λ j. up_to most_nodes (pos j)) d ∙ up_to_in most_nodes m h
 
-made-here : {w : Words} {k p q : ℕ} {side : Bool} {tp tq : Tree Item} → Pair w k side p q tp tq → (h : ℕ) → h ≡ suc (max (heightAt w k p) (heightAt w k q))
-    → Made k w (wired w k side (seam side tp tq).slot p q h) (mostSlots + (seam side tp tq).slot) (nodeOn side tp tq)
-made-here {w} {k} {p} {q} {side} {tp} {tq} pair h e =
+made_here : {w : Words} {k p q : ℕ} {side : Bool} {tp tq : Tree Item} → Pair w k side p q tp tq → (h : ℕ) → h ≡ suc (max (height_at w k p) (height_at w k q))
+    → Made k w (wired w k side (seam side tp tq).slot p q h) (most_slots + (seam side tp tq).slot) (node_on side tp tq)
+made_here {w} {k} {p} {q} {side} {tp} {tq} pair h e =
     record {
-      rep = record { kind = pair.kind; root = sym (ref-on side tp tq); slots = rw (within_cap within) pair.slots; tied = tied };
-      only = wired-only w k side gap p q h (at (seam-in side tp tq) refl);
+      rep = record { kind = pair.kind; root = sym (ref_on side tp tq); slots = rw (within_cap within) pair.slots; tied = tied };
+      only = wired_only w k side gap p q h (at (seam_in side tp tq) refl);
     }
   where
     gap : ℕ
@@ -257,36 +257,36 @@ made-here {w} {k} {p} {q} {side} {tp} {tq} pair h e =
     w' = wired w k side gap p q h
 
     within : Within w w'
-    within = wired-within w k side gap p q h
+    within = wired_within w k side gap p q h
 
     low : 1 ≤ gap
-    low = pair.slots.low (seam-in side tp tq)
+    low = pair.slots.low (seam_in side tp tq)
 
     high : gap ≤ cap w
-    high = pair.slots.high (seam-in side tp tq)
+    high = pair.slots.high (seam_in side tp tq)
 
-    one-slot : Only k (seam side tp tq ∷ []) w w'
-    one-slot = wired-only w k side gap p q h (at (Memᴰ.head refl) refl)
+    one_slot : Only k (seam side tp tq ∷ []) w w'
+    one_slot = wired_only w k side gap p q h (at (Memᴰ.head refl) refl)
 
     tall : h ≡ suc (max (height tp) (height tq))
-    tall = omega (arith, e, rep-height (pair_one pair), rep-height (pair-other pair))
+    tall = omega (arith, e, rep_height (pair_one pair), rep_height (pair_other pair))
 
-    tied : Tied w' k (nodeOn side tp tq)
+    tied : Tied w' k (node_on side tp tq)
     tied =
-        tied_on side (tied-still pair.tied-one one-slot (λ s i j. away-one tp tq side pair.slots i (in-single j)))
-        (tied-still pair.tied-other one-slot (λ s i j. away-other tp tq side pair.slots i (in-single j)))
-        (linked (wired-one w k side gap p q h pair.kind low high) pair.one (ref-high tp (on_one tp tq side pair.slots) (cap-most w)))
-        (linked (wired-other w k side gap p q h pair.kind low high) pair.other (ref-high tq (on-other tp tq side pair.slots) (cap-most w)))
-        (linked (wired-height w k side gap p q h pair.kind low high) tall (omega (
+        tied_on side (tied_still pair.tied_one one_slot (λ s i j. away_one tp tq side pair.slots i (in_single j)))
+        (tied_still pair.tied_other one_slot (λ s i j. away_other tp tq side pair.slots i (in_single j)))
+        (linked (wired_one w k side gap p q h pair.kind low high) pair.one (ref_high tp (on_one tp tq side pair.slots) (cap_most w)))
+        (linked (wired_other w k side gap p q h pair.kind low high) pair.other (ref_high tq (on_other tp tq side pair.slots) (cap_most w)))
+        (linked (wired_height w k side gap p q h pair.kind low high) tall (omega (
           arith,
-          height-on side tp tq,
-          height-most (nodeOn side tp tq) pair.slots,
-          cap-most w,
+          height_on side tp tq,
+          height_most (node_on side tp tq) pair.slots,
+          cap_most w,
         )))
 
 -- writing a node's words makes its tree
-pub made-node : {w : Words} {k p q : ℕ} {side : Bool} {tp tq : Tree Item} → Pair w k side p q tp tq → (gap h : ℕ) → gap ≡ (seam side tp tq).slot →
-    h ≡ suc (max (heightAt w k p) (heightAt w k q))
-    → Made k w (wired w k side gap p q h) (mostSlots + gap) (nodeOn side tp tq)
-made-node {w} {k} {p} {q} {side} {tp} {tq} pair gap h d e =
-    subst (λ g. Made k w (wired w k side g p q h) (mostSlots + g) (nodeOn side tp tq)) (sym d) (made-here pair h e)
+pub made_node : {w : Words} {k p q : ℕ} {side : Bool} {tp tq : Tree Item} → Pair w k side p q tp tq → (gap h : ℕ) → gap ≡ (seam side tp tq).slot →
+    h ≡ suc (max (height_at w k p) (height_at w k q))
+    → Made k w (wired w k side gap p q h) (most_slots + gap) (node_on side tp tq)
+made_node {w} {k} {p} {q} {side} {tp} {tq} pair gap h d e =
+    subst (λ g. Made k w (wired w k side g p q h) (most_slots + g) (node_on side tp tq)) (sym d) (made_here pair h e)

@@ -18,21 +18,21 @@ pub word_out : (w : Words) (at : ℕ) → length w ≤ at → word w at ≡ pos 
 unfolding word
 word_out w at h = get_or-eq_default w (pos 0) h
 
-pub wset-length : (w : Words) (at : ℕ) (z : ℤ) → length (wset w at z) ≡ length w
+pub wset_length : (w : Words) (at : ℕ) (z : ℤ) → length (wset w at z) ≡ length w
 unfolding wset
-wset-length w at z = length-set w at z
+wset_length w at z = length-set w at z
 
-pub wset-same : (w : Words) (at : ℕ) (z : ℤ) → at < length w → word (wset w at z) at ≡ z
+pub wset_same : (w : Words) (at : ℕ) (z : ℤ) → at < length w → word (wset w at z) at ≡ z
 unfolding word wset
-wset-same w at z h = get_or-set_same w at z (pos 0) h
+wset_same w at z h = get_or-set_same w at z (pos 0) h
 
-pub wset-other : (w : Words) (at j : ℕ) (z : ℤ) → j ≢ at → word (wset w at z) j ≡ word w j
+pub wset_other : (w : Words) (at j : ℕ) (z : ℤ) → j ≢ at → word (wset w at z) j ≡ word w j
 unfolding word wset
-wset-other w at j z h = get_or-set_other w at j z (pos 0) h
+wset_other w at j z h = get_or-set_other w at j z (pos 0) h
 
-pub wset-out : (w : Words) (at : ℕ) (z : ℤ) → length w ≤ at → wset w at z ≡ w
+pub wset_out : (w : Words) (at : ℕ) (z : ℤ) → length w ≤ at → wset w at z ≡ w
 unfolding wset
-wset-out w at z h = set_out w at z h
+wset_out w at z h = set_out w at z h
 
 -- ---- a word as a natural number
 
@@ -41,23 +41,23 @@ unfoldable pub up_to : ℕ → ℤ → ℕ
 up_to most (pos n) = cond (leb n most) n 0
 up_to most (negsuc n) = 0
 
-pub upTo-in : (most n : ℕ) → n ≤ most → up_to most (pos n) ≡ n
+pub up_to_in : (most n : ℕ) → n ≤ most → up_to most (pos n) ≡ n
 unfolding up_to
-upTo-in most n h = rw (le-leb n most h)
+up_to_in most n h = rw (le-leb n most h)
 
-pub upTo-over : (most n : ℕ) → most < n → up_to most (pos n) ≡ 0
+pub up_to_over : (most n : ℕ) → most < n → up_to most (pos n) ≡ 0
 unfolding up_to
-upTo-over most n h = rw (lt-leb n most h)
+up_to_over most n h = rw (lt-leb n most h)
 
-pub upTo-below : (most n : ℕ) → up_to most (negsuc n) ≡ 0
+pub up_to_below : (most n : ℕ) → up_to most (negsuc n) ≡ 0
 unfolding up_to
-upTo-below most n = refl
+up_to_below most n = refl
 
-pub upTo-most : (most : ℕ) (z : ℤ) → up_to most z ≤ most
+pub up_to_most : (most : ℕ) (z : ℤ) → up_to most z ≤ most
 unfolding up_to
-upTo-most most (pos n) = go (leb n most) refl
+up_to_most most (pos n) = go (leb n most) refl
   where
     go : (b : Bool) → leb n most ≡ b → cond b n 0 ≤ most
     go true e = leb-true n most e
     go false e = omega arith
-upTo-most most (negsuc n) = omega arith
+up_to_most most (negsuc n) = omega arith

@@ -3,12 +3,12 @@ ghost use Rattle.std.specs.Prelude.{◌≡◌, suc, max, ◌-◌, ◌≤◌, pos
 ghost use Rattle.std.specs.Int.Signed.{le_z, lt_z};
 ghost use Rattle.integers.specs.Equal.{equal};
 ghost use Rattle.offers.specs.Bounded.{bounded};
-ghost use Rattle.table.specs.Fields.{mostSlots, mostNodes};
+ghost use Rattle.table.specs.Fields.{most_slots, most_nodes};
 ghost use Rattle.table.specs.Words.{word, wset, up_to};
 ghost use Rattle.table.specs.Layout.{cap, spot, cell, cset, link_at, place};
-ghost use Rattle.table.specs.Free.{firstFree, taken, given};
+ghost use Rattle.table.specs.Free.{first_free, taken, given};
 ghost use Rattle.table.specs.Cells.{Placed};
-ghost use Rattle.table.specs.Rep.{childField, heightField, childAt, heightAt};
+ghost use Rattle.table.specs.Rep.{child_field, height_field, child_at, height_at};
 
 // The header's words.
 pub const CAPACITY: usize = 0;
@@ -204,7 +204,7 @@ pub fn put_link(part: &mut [i64], field: usize, slot: u32, value: u32)
 
 // The field of a child in a tree. The trees are 0 the pieces, 1 the offers, 2 the numbers, 3 the order; the sides are false left, true right.
 pub fn child_field(tree: u8, side: bool) -> usize
-    ensures { result ≡ childField tree side }
+    ensures { result ≡ child_field tree side }
 {
     if side {
         return 4 + 4 * (tree as usize) + 1;
@@ -213,14 +213,14 @@ pub fn child_field(tree: u8, side: bool) -> usize
 }
 
 pub fn height_field(tree: u8) -> usize
-    ensures { result ≡ heightField tree }
+    ensures { result ≡ height_field tree }
 {
     24 + tree as usize
 }
 
 // The slot that keeps inner node `x`, and 0 where `x` is no inner node.
 pub fn inner_slot(x: u32) -> u32
-    ensures { result ≡ x - mostSlots }
+    ensures { result ≡ x - most_slots }
 {
     if x <= MOST_SLOTS {
         return 0;
@@ -230,21 +230,21 @@ pub fn inner_slot(x: u32) -> u32
 
 // A child of an inner node, and 0 where `x` is none.
 pub fn child(part: &[i64], tree: u8, side: bool, x: u32) -> u32
-    ensures { result ≡ childAt part.now tree side x }
+    ensures { result ≡ child_at part.now tree side x }
 {
     link(part, child_field(tree, side), inner_slot(x))
 }
 
 // The height of node `x`, and 0 where it is no inner node.
 pub fn height(part: &[i64], tree: u8, x: u32) -> u32
-    ensures { result ≡ heightAt part.now tree x }
+    ensures { result ≡ height_at part.now tree x }
 {
     link(part, height_field(tree), inner_slot(x))
 }
 
 // The height of a node over two trees of given heights.
 pub fn height_over(left: u32, right: u32) -> u32
-    requires { (left ≤ mostNodes) × (right ≤ mostNodes) }
+    requires { (left ≤ most_nodes) × (right ≤ most_nodes) }
     ensures { result ≡ suc (max left right) }
 {
     if left < right {
@@ -304,7 +304,7 @@ pub fn link_in(part: &[i64], c: u32, field: usize, slot: u32) -> u32
 
 pub fn child_in(part: &[i64], c: u32, tree: u8, side: bool, x: u32) -> u32
     requires { c ≡ cap part.now }
-    ensures { result ≡ childAt part.now tree side x }
+    ensures { result ≡ child_at part.now tree side x }
 {
     link_in(part, c, child_field(tree, side), inner_slot(x))
 }
@@ -318,7 +318,7 @@ pub fn at_least_in(part: &[i64], c: u32, field: usize, slot: u32, key: i64) -> b
 
 pub fn height_in(part: &[i64], c: u32, tree: u8, x: u32) -> u32
     requires { c ≡ cap part.now }
-    ensures { result ≡ heightAt part.now tree x }
+    ensures { result ≡ height_at part.now tree x }
 {
     link_in(part, c, height_field(tree), inner_slot(x))
 }
@@ -384,7 +384,7 @@ pub fn set_number(part: &mut [i64], at: usize, value: u32)
 
 // Takes the first free slot off the chain; 0 where there is none.
 pub fn take_slot(part: &mut [i64]) -> u32
-    ensures is { result ≡ firstFree part.old }
+    ensures is { result ≡ first_free part.old }
     ensures words { part.new ≡ taken part.old }
 {
     let s = number_at(part, FIRST_FREE, MOST_NODES);

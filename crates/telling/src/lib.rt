@@ -1,8 +1,8 @@
 // The answers of an opening, an update, a query, a listing, a report and a largest load for Rust and C: each is one number, a refusal its cause below 0,
 // and what goes with it is written over the first words of a lent output.
 ghost use Rattle.std.specs.Prelude.{◌≡◌, ◌≤◌, length};
-ghost use Rattle.answers.specs.Promises.{refusal, openingNumber, updateNumber, foundNumber, listedNumber, reportedNumber, fittedNumber};
-ghost use Rattle.answers.specs.Promises.{countsOf, foundOf, load_of, Tells};
+ghost use Rattle.answers.specs.Promises.{refusal, opening_number, update_number, found_number, listed_number, reported_number, fitted_number};
+ghost use Rattle.answers.specs.Promises.{counts_of, found_of, load_of, Tells};
 
 // A cause, below 0.
 pub fn below_zero(cause: i64) -> i64
@@ -16,7 +16,7 @@ pub fn below_zero(cause: i64) -> i64
 
 // An opening's answer.
 pub fn opening_number(o: promises::Opening) -> i64
-    ensures { result ≡ openingNumber o }
+    ensures { result ≡ opening_number o }
 {
     match o {
         promises::Opening::Opened => 0,
@@ -26,7 +26,7 @@ pub fn opening_number(o: promises::Opening) -> i64
 
 // A listing's answer.
 pub fn listed_number(l: promises::Listed) -> i64
-    ensures { result ≡ listedNumber l }
+    ensures { result ≡ listed_number l }
 {
     match l {
         promises::Listed::Pieces(n) => n,
@@ -36,7 +36,7 @@ pub fn listed_number(l: promises::Listed) -> i64
 
 // A report's answer.
 pub fn reported_number(m: promises::Reported) -> i64
-    ensures { result ≡ reportedNumber m }
+    ensures { result ≡ reported_number m }
 {
     match m {
         promises::Reported::Offers(n) => n,
@@ -47,7 +47,7 @@ pub fn reported_number(m: promises::Reported) -> i64
 // An update's answer; k, s and H go into `counts`.
 pub fn tell_update(u: promises::Update, counts: &mut [i64]) -> i64
     requires { 3 ≤ length counts.old }
-    ensures { Tells (updateNumber u) (countsOf u) counts.old counts.new result }
+    ensures { Tells (update_number u) (counts_of u) counts.old counts.new result }
 {
     match u {
         promises::Update::Done { live, k, s, h } => {
@@ -63,7 +63,7 @@ pub fn tell_update(u: promises::Update, counts: &mut [i64]) -> i64
 // A query's answer; the price, the second offer's number and the probes go into `found`.
 pub fn tell_found(f: promises::Found, found: &mut [i64]) -> i64
     requires { 3 ≤ length found.old }
-    ensures { Tells (foundNumber f) (foundOf f) found.old found.new result }
+    ensures { Tells (found_number f) (found_of f) found.old found.new result }
 {
     match f {
         promises::Found::Offer {
@@ -84,7 +84,7 @@ pub fn tell_found(f: promises::Found, found: &mut [i64]) -> i64
 // A largest load's answer, the offer's number; the load goes into `found`.
 pub fn tell_fitted(f: promises::Fitted, found: &mut [i64]) -> i64
     requires { 1 ≤ length found.old }
-    ensures { Tells (fittedNumber f) (load_of f) found.old found.new result }
+    ensures { Tells (fitted_number f) (load_of f) found.old found.new result }
 {
     match f {
         promises::Fitted::Load { number, load } => {

@@ -3,17 +3,17 @@ use Rattle.std.specs.Prelude.{◌≡◌, refl, not, List, [], ◌∷◌, ℕ, �
 use Rattle.std.proofs.Common.{sym, ◌∙◌, ap, subst, arith}
 use Rattle.std.proofs.Math.Option.{Option, none, some}
 use Rattle.offers.specs.Offers.{Offer as PlainOffer}
-use Rattle.plain.specs.Causes.{Cause, noLoadFits, causeNumber, declined, Clear}
-use Rattle.plain.specs.Trials.{clear, declined-first}
-use Rattle.plain.specs.Book.{State, Undo, Call, post, withdraw, query, listing, takeBack, report, largestLoad}
-use Rattle.plain.specs.Book.{Answer, refused, live, found, listed, reported, fitted, missing, largestFit, fittedAt}
+use Rattle.plain.specs.Causes.{Cause, no_load_fits, cause_number, declined, Clear}
+use Rattle.plain.specs.Trials.{clear, declined_first}
+use Rattle.plain.specs.Book.{State, Undo, Call, post, withdraw, query, listing, take_back, report, largest_load}
+use Rattle.plain.specs.Book.{Answer, refused, live, found, listed, reported, fitted, missing, largest_fit, fitted_at}
 use Rattle.plain.specs.Book.{Outcome, holding, recalling, changed, join, leave, trials, accepted, respond, step}
-use Rattle.plain.specs.MeaningLaws.{query-cheapest, listing-listing, report-report, largest-largest}
-use Rattle.plain.specs.LoadLaws.{sends-nothing, nothing-fits}
+use Rattle.plain.specs.MeaningLaws.{query_cheapest, listing_listing, report_report, largest_largest}
+use Rattle.plain.specs.LoadLaws.{sends_nothing, nothing_fits}
 use Rattle.dynamic.specs.OfferTree.{Held}
 use Rattle.table.specs.Items.{Item}
 use Rattle.form.specs.Form.{Form}
-use Rattle.form.specs.Live.{book-sound}
+use Rattle.form.specs.Live.{book_sound}
 use Rattle.promises.specs.declared.Update.{Update}
 use Rattle.promises.specs.declared.Update.TheVariants.{Done, Declined as UpdateDeclined}
 use Rattle.promises.specs.declared.Found.{Found}
@@ -24,46 +24,46 @@ use Rattle.promises.specs.declared.Reported.{Reported}
 use Rattle.promises.specs.declared.Reported.TheVariants.{Offers, Declined as ReportDeclined}
 use Rattle.promises.specs.declared.Fitted.{Fitted}
 use Rattle.promises.specs.declared.Fitted.TheVariants.{Load, Declined as FittedDeclined}
-use Rattle.promises.specs.Promises.{part_of, counted, updateAnswer, foundAnswer, listingAnswer, reportAnswer, fittedAnswer, writtenWords}
+use Rattle.promises.specs.Promises.{part_of, counted, update_answer, found_answer, listing_answer, report_answer, fitted_answer, written_words}
 use Rattle.promises.specs.Promises.{Follows, Queries, Lists, Reports, Sends}
 use Rattle.promises.specs.Numbered.{from_one, numbered}
-use Rattle.theorems.specs.AnswerCases.{refused-word, largest-declined}
+use Rattle.theorems.specs.AnswerCases.{refused_word, largest_declined}
 use Rattle.theorems.specs.Demand2.{Refuses, QueryTells, ListingTells, ReportTells, LargestTells, Unaffordable, TurnedAway, UpdateTells}
-use Rattle.theorems.specs.Demand2.{offersBack, Demand2}
+use Rattle.theorems.specs.Demand2.{offers_back, Demand2}
 
 -- ---- a refusal
 
-a-refusal : (z : ℤ) → (n : ℕ) × (counted refused z ≡ refused n)
-a-refusal (pos n) = (n, refl)
-a-refusal (negsuc n) = (0, refl)
+a_refusal : (z : ℤ) → (n : ℕ) × (counted refused z ≡ refused n)
+a_refusal (pos n) = (n, refl)
+a_refusal (negsuc n) = (0, refl)
 
 -- a call that is not refused met no cause
-answered-clear : (s : State) (k : Call) (a : Answer) → ((n : ℕ) → a ≡ refused n → ⊥) → a ≡ (step s k).answer → Clear (trials s k)
-answered-clear s k a unlike e = go (declined (trials s k)) refl e
+answered_clear : (s : State) (k : Call) (a : Answer) → ((n : ℕ) → a ≡ refused n → ⊥) → a ≡ (step s k).answer → Clear (trials s k)
+answered_clear s k a unlike e = go (declined (trials s k)) refl e
   where
     go : (d : Option Cause) → declined (trials s k) ≡ d → a ≡ (respond s k d).answer → Clear (trials s k)
-    go (some c) p q = absurd (unlike (causeNumber c) q)
+    go (some c) p q = absurd (unlike (cause_number c) q)
     go none p q = clear (trials s k) p
 
 -- a query past the trials is not refused
-query-accepted : (s : State) (q : ℤ) (n : ℕ) → Clear (trials s (query q)) → (accepted s (query q)).answer ≡ refused n → ⊥
-query-accepted s q n k e = go s.offers k e
+query_accepted : (s : State) (q : ℤ) (n : ℕ) → Clear (trials s (query q)) → (accepted s (query q)).answer ≡ refused n → ⊥
+query_accepted s q n k e = go s.offers k e
   where
     go : (os : List PlainOffer) → Clear (trials (holding s os) (query q)) → (accepted (holding s os) (query q)).answer ≡ refused n → ⊥
     go [] (load, (empty, _)) d = empty
     go (o ∷ os) k d = let z : ◌≡◌ {A = ℕ} 0 1 = cc in absurd (omega arith)
 
 -- .. nor a largest load
-largest-accepted : (s : State) (b : ℤ) (n : ℕ) → Clear (trials s (largestLoad b)) → (accepted s (largestLoad b)).answer ≡ refused n → ⊥
-largest-accepted s b n k e = go s.offers k e
+largest_accepted : (s : State) (b : ℤ) (n : ℕ) → Clear (trials s (largest_load b)) → (accepted s (largest_load b)).answer ≡ refused n → ⊥
+largest_accepted s b n k e = go s.offers k e
   where
-    with-load : (o : PlainOffer) (os : List PlainOffer) (m : Option ℤ) → T (not (missing m)) → fittedAt (o ∷ os) m ≡ refused n → ⊥
-    with-load o os none one-fits d = one-fits
-    with-load o os (some q) one-fits d = let z : ◌≡◌ {A = ℕ} 0 1 = cc in absurd (omega arith)
+    with_load : (o : PlainOffer) (os : List PlainOffer) (m : Option ℤ) → T (not (missing m)) → fitted_at (o ∷ os) m ≡ refused n → ⊥
+    with_load o os none one-fits d = one-fits
+    with_load o os (some q) one-fits d = let z : ◌≡◌ {A = ℕ} 0 1 = cc in absurd (omega arith)
 
-    go : (os : List PlainOffer) → Clear (trials (holding s os) (largestLoad b)) → (accepted (holding s os) (largestLoad b)).answer ≡ refused n → ⊥
+    go : (os : List PlainOffer) → Clear (trials (holding s os) (largest_load b)) → (accepted (holding s os) (largest_load b)).answer ≡ refused n → ⊥
     go [] (budget, (empty, _)) d = empty
-    go (o ∷ os) (budget, (empty, (one-fits, _))) d = with-load o os (largestFit b (o ∷ os)) one-fits d
+    go (o ∷ os) (budget, (empty, (one-fits, _))) d = with_load o os (largest_fit b (o ∷ os)) one-fits d
 
 -- .. and a refused one met the first that applies
 refuses :
@@ -72,8 +72,8 @@ refuses :
 refuses s k z unlike e = go (declined (trials s k)) refl e
   where
     go : (d : Option Cause) → declined (trials s k) ≡ d → counted refused z ≡ (respond s k d).answer → Refuses (trials s k) z
-    go (some c) p a = (c, declined-first (trials s k) c p, refused-word z (causeNumber c) (from_one c) a)
-    go none p a = let (n, b) = a-refusal z in absurd (unlike n (clear (trials s k) p) (sym a ∙ b))
+    go (some c) p a = (c, declined_first (trials s k) c p, refused_word z (cause_number c) (from_one c) a)
+    go none p a = let (n, b) = a_refusal z in absurd (unlike n (clear (trials s k) p) (sym a ∙ b))
 
 -- ---- an update, by what it makes of the live offers where no cause applies
 
@@ -85,64 +85,64 @@ module _ (s : State) (k : Call) (os : List PlainOffer) (us : List Undo) (a : Cle
   unsaid {n} c e = let q : refused n ≡ live (length os) = e ∙ ap (λ (o : Outcome). o.answer) (a c) in let z : ◌≡◌ {A = ℕ} 0 1 = cc in absurd (omega arith)
 
   module _ (start : ℕ) (t t' : List ℤ) where
-    update-by :
-        (d : Option Cause) → declined (trials s k) ≡ d → (u : Update) → updateAnswer u ≡ (respond s k d).answer → (after : Option (Held Item)) →
-        Form (part_of t' start) (respond s k d).state after → ((n : ℕ) → updateAnswer u ≡ refused n → t' ≡ t) → UpdateTells s k os us start t t' u
-    update-by none p (Done (pos m) x y z) e after f r =
+    update_by :
+        (d : Option Cause) → declined (trials s k) ≡ d → (u : Update) → update_answer u ≡ (respond s k d).answer → (after : Option (Held Item)) →
+        Form (part_of t' start) (respond s k d).state after → ((n : ℕ) → update_answer u ≡ refused n → t' ≡ t) → UpdateTells s k os us start t t' u
+    update_by none p (Done (pos m) x y z) e after f r =
         let c = clear (trials s k) p in (
           c,
           ap pos (said c e),
           (after, subst (λ (o : Outcome). Form (part_of t' start) o.state after) (a c) f),
         )
-    update-by none p (Done (negsuc m) x y z) e after f r = absurd (unsaid (clear (trials s k) p) e)
-    update-by none p (UpdateDeclined z) e after f r = let (n, q) = a-refusal z in absurd (unsaid (clear (trials s k) p) (sym q ∙ e))
-    update-by (some c) p (Done (pos m) x y z) e after b r = let q : ◌≡◌ {A = ℕ} 0 1 = cc in absurd (omega arith)
-    update-by (some c) p (Done (negsuc m) x y z) e after b r = let l = from_one c in let q : 0 ≡ causeNumber c = cc in absurd (omega arith)
-    update-by (some c) p (UpdateDeclined z) e after b r = (
-      (c, declined-first (trials s k) c p, refused-word z (causeNumber c) (from_one c) e),
-      r (causeNumber c) e,
+    update_by none p (Done (negsuc m) x y z) e after f r = absurd (unsaid (clear (trials s k) p) e)
+    update_by none p (UpdateDeclined z) e after f r = let (n, q) = a_refusal z in absurd (unsaid (clear (trials s k) p) (sym q ∙ e))
+    update_by (some c) p (Done (pos m) x y z) e after b r = let q : ◌≡◌ {A = ℕ} 0 1 = cc in absurd (omega arith)
+    update_by (some c) p (Done (negsuc m) x y z) e after b r = let l = from_one c in let q : 0 ≡ cause_number c = cc in absurd (omega arith)
+    update_by (some c) p (UpdateDeclined z) e after b r = (
+      (c, declined_first (trials s k) c p, refused_word z (cause_number c) (from_one c) e),
+      r (cause_number c) e,
     )
 
-    update-told : {held : Option (Held Item)} {u : Update} → Follows k s held start t t' u → UpdateTells s k os us start t t' u
-    update-told {u} f = update-by (declined (trials s k)) refl u f.answers f.after f.stands f.refusal
+    update_told_lem : {held : Option (Held Item)} {u : Update} → Follows k s held start t t' u → UpdateTells s k os us start t t' u
+    update_told_lem {u} f = update_by (declined (trials s k)) refl u f.answers f.after f.stands f.refusal
 
 -- ---- the seven calls
 
 module _ {start : ℕ} {t : List ℤ} {s : State} {held : Option (Held Item)} (f : Form (part_of t start) s held) where
-  query-told : {q : ℤ} {r : Found} → Queries q start t r → QueryTells s q r
-  query-told {q} {r} p = go r (p.answers s held f.book)
+  query_told : {q : ℤ} {r : Found} → Queries q start t r → QueryTells s q r
+  query_told {q} {r} p = go r (p.answers s held f.book)
     where
-      go : (r : Found) → foundAnswer r ≡ (step s (query q)).answer → QueryTells s q r
+      go : (r : Found) → found_answer r ≡ (step s (query q)).answer → QueryTells s q r
       go (Offer number price second probes) e = (
-        answered-clear s (query q) (found number price second) (λ n h. let z : ◌≡◌ {A = ℕ} 0 1 = cc in absurd (omega arith)) e,
-        query-cheapest s q number price second (sym e),
+        answered_clear s (query q) (found number price second) (λ n h. let z : ◌≡◌ {A = ℕ} 0 1 = cc in absurd (omega arith)) e,
+        query_cheapest s q number price second (sym e),
       )
-      go (FoundDeclined z) e = refuses s (query q) z (query-accepted s q) e
+      go (FoundDeclined z) e = refuses s (query q) z (query_accepted s q) e
 
-  listing-told : {out out' : List ℤ} {r : Listed} → Lists start t out out' r → ListingTells s (length out) r out'
-  listing-told {out} {out'} {r} p = go r (p.answers s held f.book)
+  listing_told : {out out' : List ℤ} {r : Listed} → Lists start t out out' r → ListingTells s (length out) r out'
+  listing_told {out} {out'} {r} p = go r (p.answers s held f.book)
     where
-      go : (r : Listed) → listingAnswer r out' ≡ (step s (listing (length out))).answer → ListingTells s (length out) r out'
+      go : (r : Listed) → listing_answer r out' ≡ (step s (listing (length out))).answer → ListingTells s (length out) r out'
       go (Pieces (pos n)) e = (
-        answered-clear s (listing (length out)) (listed n (take (3 * n) out')) (λ m h. let z : ◌≡◌ {A = ℕ} 0 1 = cc in absurd (omega arith)) e,
-        (n, refl, listing-listing s (length out) n (take (3 * n) out') (book-sound f.book) (sym e)),
+        answered_clear s (listing (length out)) (listed n (take (3 * n) out')) (λ m h. let z : ◌≡◌ {A = ℕ} 0 1 = cc in absurd (omega arith)) e,
+        (n, refl, listing_listing s (length out) n (take (3 * n) out') (book_sound f.book) (sym e)),
       )
       go (Pieces (negsuc n)) e = absurd (numbered s (listing (length out)) (sym e))
       go (ListingDeclined z) e = refuses s (listing (length out)) z (λ n k h. let d : ◌≡◌ {A = ℕ} 0 1 = cc in absurd (omega arith)) e
 
-  report-told : {q p : ℤ} {out out' : List ℤ} {r : Reported} → Reports q p start t out out' r → ReportTells s q p out out' r
-  report-told {q} {p} {out} {out'} {r} k = go r (k.answers s held f.book) (k.later s held f.book) k.refusal
+  report_told : {q p : ℤ} {out out' : List ℤ} {r : Reported} → Reports q p start t out out' r → ReportTells s q p out out' r
+  report_told {q} {p} {out} {out'} {r} k = go r (k.answers s held f.book) (k.later s held f.book) k.refusal
     where
       room : ℕ
       room = length out
 
       go :
-          (r : Reported) → reportAnswer r out' ≡ (step s (report q p room)).answer →
-          drop (writtenWords (reportAnswer r out')) out' ≡ drop (writtenWords (reportAnswer r out')) out → ((z : ℤ) → r ≡ ReportDeclined z → out' ≡ out) →
+          (r : Reported) → report_answer r out' ≡ (step s (report q p room)).answer →
+          drop (written_words (report_answer r out')) out' ≡ drop (written_words (report_answer r out')) out → ((z : ℤ) → r ≡ ReportDeclined z → out' ≡ out) →
           ReportTells s q p out out' r
       go (Offers (pos n)) e l same =
-          let m = report-report s q p room n (take (3 * n) out') (book-sound f.book) (sym e) in (
-            answered-clear s (report q p room) (reported n (take (3 * n) out')) (λ m h. let z : ◌≡◌ {A = ℕ} 0 1 = cc in absurd (omega arith)) e,
+          let m = report_report s q p room n (take (3 * n) out') (book_sound f.book) (sym e) in (
+            answered_clear s (report q p room) (reported n (take (3 * n) out')) (λ m h. let z : ◌≡◌ {A = ℕ} 0 1 = cc in absurd (omega arith)) e,
             (n, refl, m, subst (λ (i : ℕ). drop i out' ≡ drop i out) m.long l),
           )
       go (Offers (negsuc n)) e l same = absurd (numbered s (report q p room) (sym e))
@@ -151,42 +151,42 @@ module _ {start : ℕ} {t : List ℤ} {s : State} {held : Option (Held Item)} (f
         same z refl,
       )
 
-  largest-told : {b : ℤ} {r : Fitted} → Sends b start t r → LargestTells s b r
-  largest-told {b} {r} p = go r (p.answers s held f.book)
+  largest_told : {b : ℤ} {r : Fitted} → Sends b start t r → LargestTells s b r
+  largest_told {b} {r} p = go r (p.answers s held f.book)
     where
-      go : (r : Fitted) → fittedAnswer r ≡ (step s (largestLoad b)).answer → LargestTells s b r
+      go : (r : Fitted) → fitted_answer r ≡ (step s (largest_load b)).answer → LargestTells s b r
       go (Load number load) e = (
-        answered-clear s (largestLoad b) (fitted number load) (λ n h. let z : ◌≡◌ {A = ℕ} 0 1 = cc in absurd (omega arith)) e,
-        largest-largest s b number load (sym e),
+        answered_clear s (largest_load b) (fitted number load) (λ n h. let z : ◌≡◌ {A = ℕ} 0 1 = cc in absurd (omega arith)) e,
+        largest_largest s b number load (sym e),
       )
-      go (FittedDeclined z) e = refuses s (largestLoad b) z (largest-accepted s b) e
+      go (FittedDeclined z) e = refuses s (largest_load b) z (largest_accepted s b) e
 
-  turned-away-there : {b : ℤ} {r : Fitted} → Sends b start t r → TurnedAway s b r
-  turned-away-there {b} {r} p = (
-    λ e. let (h, some-live, d) = nothing-fits s b (sym (p.answers s held f.book) ∙ ap fittedAnswer e) in (h, omega arith, d),
-    λ h. largest-declined f p (causeNumber noLoadFits) (nothing s.offers refl h),
+  turned_away_there : {b : ℤ} {r : Fitted} → Sends b start t r → TurnedAway s b r
+  turned_away_there {b} {r} p = (
+    λ e. let (h, some_live, d) = nothing_fits s b (sym (p.answers s held f.book) ∙ ap fitted_answer e) in (h, omega arith, d),
+    λ h. largest_declined f p (cause_number no_load_fits) (nothing s.offers refl h),
   )
     where
-      nothing : (os : List PlainOffer) → s.offers ≡ os → Unaffordable s b → (step s (largestLoad b)).answer ≡ refused (causeNumber noLoadFits)
-      nothing [] e (h, some-live, d) = absurd (omega (arith, ap length e))
-      nothing (o ∷ os) e (h, some-live, d) = ap (λ (x : Outcome). x.answer) (sends-nothing s b h o os e d)
+      nothing : (os : List PlainOffer) → s.offers ≡ os → Unaffordable s b → (step s (largest_load b)).answer ≡ refused (cause_number no_load_fits)
+      nothing [] e (h, some_live, d) = absurd (omega (arith, ap length e))
+      nothing (o ∷ os) e (h, some_live, d) = ap (λ (x : Outcome). x.answer) (sends_nothing s b h o os e d)
 
-  pub demand-2 : Demand2 start t s
-  demand-2 =
+  pub demand_2 : Demand2 start t s
+  demand_2 =
       record {
-        query-tells = query-told;
-        listing-tells = listing-told;
-        report-tells = report-told;
-        largest-tells = largest-told;
-        turned-away = turned-away-there;
-        post-tells = λ {n} {r} {b = base} {t'} p. update-told s (post n r base) (join (record { number = n; rate = r; base = base }) s.offers) _
+        query_tells = query_told;
+        listing_tells = listing_told;
+        report_tells = report_told;
+        largest_tells = largest_told;
+        turned_away = turned_away_there;
+        post_tells = λ {n} {r} {b = base} {t'} p. update_told_lem s (post n r base) (join (record { number = n; rate = r; base = base }) s.offers) _
             (λ c. refl) start t t' (p.follows s held f);
-        withdraw-tells = λ {n} {t'} p. update-told s (withdraw n) (leave n s.offers) _ (λ c. refl) start t t' (p.follows s held f);
-        take-back-tells = λ {t'} p. update-told s takeBack (offersBack s.memory s.offers) (drop 1 s.memory) (undoes s.memory) start t t'
+        withdraw_tells = λ {n} {t'} p. update_told_lem s (withdraw n) (leave n s.offers) _ (λ c. refl) start t t' (p.follows s held f);
+        take_back_tells = λ {t'} p. update_told_lem s take_back (offers_back s.memory s.offers) (drop 1 s.memory) (undoes s.memory) start t t'
             (p.follows s held f);
       }
     where
-      undoes : (m : List Undo) → Clear (trials (recalling s s.offers m) takeBack) →
-          accepted (recalling s s.offers m) takeBack ≡ changed s (offersBack m s.offers) (drop 1 m)
+      undoes : (m : List Undo) → Clear (trials (recalling s s.offers m) take_back) →
+          accepted (recalling s s.offers m) take_back ≡ changed s (offers_back m s.offers) (drop 1 m)
       undoes [] (empty, _) = absurd empty
       undoes (u ∷ us) c = refl

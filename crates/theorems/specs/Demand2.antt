@@ -3,9 +3,9 @@
 -- take-back by undoing the last update remembered, and a declined call meets the first cause that applies. `AnswersExact` proves it.
 use Rattle.std.specs.Prelude.{◌≡◌, ◌↔◌, List, [], ◌∷◌, ℕ, ◌*◌, ◌≤◌, length, take, drop, T, ℤ, pos}
 use Rattle.std.proofs.Math.Option.{Option}
-use Rattle.offers.specs.Offers.{Offer as PlainOffer, priceInRange}
-use Rattle.plain.specs.Causes.{Cause, noLoadFits, Trial, causeNumber, Clear, FirstOf}
-use Rattle.plain.specs.Book.{State, Undo, Call, post, withdraw, query, listing, takeBack, report, largestLoad, recalling, join, leave, undoOf, remember}
+use Rattle.offers.specs.Offers.{Offer as PlainOffer, price_in_range}
+use Rattle.plain.specs.Causes.{Cause, no_load_fits, Trial, cause_number, Clear, FirstOf}
+use Rattle.plain.specs.Book.{State, Undo, Call, post, withdraw, query, listing, take_back, report, largest_load, recalling, join, leave, undo_of, remember}
 use Rattle.plain.specs.Book.{undone, trials}
 use Rattle.plain.specs.Meaning.{Cheapest, Listing, Report, Largest, NoneFits}
 use Rattle.dynamic.specs.OfferTree.{Held}
@@ -25,7 +25,7 @@ use Rattle.promises.specs.Promises.{part_of, Updates, Queries, Lists, Reports, S
 
 -- The number is that of the first cause that applies.
 abbrev pub Refuses : List Trial → ℤ → Type 0
-Refuses ks z = (c : Cause) × FirstOf ks c × (z ≡ pos (causeNumber c))
+Refuses ks z = (c : Cause) × FirstOf ks c × (z ≡ pos (cause_number c))
 
 -- No cause applies: the least price, and of the offers that have it one with the lowest rate and one with the highest, within a rate the first in order.
 abbrev pub QueryTells : State → ℤ → Found → Type 0
@@ -48,16 +48,16 @@ ReportTells s q p out out' (ReportDeclined z) = Refuses (trials s (report q p (l
 
 -- No cause applies: of all loads in range the largest whose least price is at most the budget, and the offer that a query names first there.
 abbrev pub LargestTells : State → ℤ → Fitted → Type 0
-LargestTells s b (Load number load) = Clear (trials s (largestLoad b)) × Largest s.offers b number load
-LargestTells s b (FittedDeclined z) = Refuses (trials s (largestLoad b)) z
+LargestTells s b (Load number load) = Clear (trials s (largest_load b)) × Largest s.offers b number load
+LargestTells s b (FittedDeclined z) = Refuses (trials s (largest_load b)) z
 
 -- A budget in range, a live offer, and no load in range that fits.
 abbrev pub Unaffordable : State → ℤ → Type 0
-Unaffordable s b = T (priceInRange b) × (1 ≤ length s.offers) × NoneFits s.offers b
+Unaffordable s b = T (price_in_range b) × (1 ≤ length s.offers) × NoneFits s.offers b
 
 -- 18 is told there, and only there.
 abbrev pub TurnedAway : State → ℤ → Fitted → Type 0
-TurnedAway s b r = r ≡ FittedDeclined (pos (causeNumber noLoadFits)) ↔ Unaffordable s b
+TurnedAway s b r = r ≡ FittedDeclined (pos (cause_number no_load_fits)) ↔ Unaffordable s b
 
 -- No cause applies: the part stands for the book with these live offers, of which it remembers so much, and their count is told; a declined call leaves
 -- every word.
@@ -67,20 +67,20 @@ UpdateTells s k os us start t t' (Done n pairs steps heights) =
 UpdateTells s k os us start t t' (UpdateDeclined z) = Refuses (trials s k) z × (t' ≡ t)
 
 -- The live offers when the last entry is undone; with no entry there is nothing to take back.
-abbrev pub offersBack : List Undo → List PlainOffer → List PlainOffer
-offersBack [] os = os
-offersBack (u ∷ us) os = undone u os
+abbrev pub offers_back : List Undo → List PlainOffer → List PlainOffer
+offers_back [] os = os
+offers_back (u ∷ us) os = undone u os
 
 -- Of a table whose part stands for the plain book s, and of every call on it.
 pub record Demand2 (start : ℕ) (t : List ℤ) (s : State) : Type 0 where
-  pub query-tells : {q : ℤ} {r : Found} → Queries q start t r → QueryTells s q r
-  pub listing-tells : {out out' : List ℤ} {r : Listed} → Lists start t out out' r → ListingTells s (length out) r out'
-  pub report-tells : {q p : ℤ} {out out' : List ℤ} {r : Reported} → Reports q p start t out out' r → ReportTells s q p out out' r
-  pub largest-tells : {b : ℤ} {r : Fitted} → Sends b start t r → LargestTells s b r
-  pub turned-away : {b : ℤ} {r : Fitted} → Sends b start t r → TurnedAway s b r
-  pub post-tells : {n r b : ℤ} {t' : List ℤ} {u : Update} → Updates (post n r b) start t t' u
-      → UpdateTells s (post n r b) (join (record { number = n; rate = r; base = b }) s.offers) (remember (undoOf s.offers (post n r b)) s.memory) start t t' u
-  pub withdraw-tells : {n : ℤ} {t' : List ℤ} {u : Update} → Updates (withdraw n) start t t' u
-      → UpdateTells s (withdraw n) (leave n s.offers) (remember (undoOf s.offers (withdraw n)) s.memory) start t t' u
-  pub take-back-tells : {t' : List ℤ} {u : Update} → Updates takeBack start t t' u
-      → UpdateTells s takeBack (offersBack s.memory s.offers) (drop 1 s.memory) start t t' u
+  pub query_tells : {q : ℤ} {r : Found} → Queries q start t r → QueryTells s q r
+  pub listing_tells : {out out' : List ℤ} {r : Listed} → Lists start t out out' r → ListingTells s (length out) r out'
+  pub report_tells : {q p : ℤ} {out out' : List ℤ} {r : Reported} → Reports q p start t out out' r → ReportTells s q p out out' r
+  pub largest_tells : {b : ℤ} {r : Fitted} → Sends b start t r → LargestTells s b r
+  pub turned_away : {b : ℤ} {r : Fitted} → Sends b start t r → TurnedAway s b r
+  pub post_tells : {n r b : ℤ} {t' : List ℤ} {u : Update} → Updates (post n r b) start t t' u
+      → UpdateTells s (post n r b) (join (record { number = n; rate = r; base = b }) s.offers) (remember (undo_of s.offers (post n r b)) s.memory) start t t' u
+  pub withdraw_tells : {n : ℤ} {t' : List ℤ} {u : Update} → Updates (withdraw n) start t t' u
+      → UpdateTells s (withdraw n) (leave n s.offers) (remember (undo_of s.offers (withdraw n)) s.memory) start t t' u
+  pub take_back_tells : {t' : List ℤ} {u : Update} → Updates take_back start t t' u
+      → UpdateTells s take_back (offers_back s.memory s.offers) (drop 1 s.memory) start t t' u

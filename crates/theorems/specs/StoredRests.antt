@@ -6,15 +6,15 @@ use Rattle.std.proofs.Math.Logic.{⊎_swap}
 use mathlib.Core.List.Memᴰ
 use mathlib.Core.List.{List, [], ◌∷◌, ◌++◌, Memᴰ, Sublistᴰ}
 use mathlib.Core.List.Sublistᴰ
-use Rattle.lists.specs.Places.{sublist-mem, prefix-sub}
+use Rattle.lists.specs.Places.{sublist_mem, prefix_sub}
 use Rattle.envelopes.specs.PseudoLines.{Figure, PseudoLines}
 use Rattle.envelopes.specs.Envelope.{Env, Ordered}
-use Rattle.envelopes.specs.EnvelopeLaws.{ordered-left, ordered-right, ordered-apart, ordered-sublist}
+use Rattle.envelopes.specs.EnvelopeLaws.{ordered_left, ordered_right, ordered_apart, ordered_sublist}
 use Rattle.trees.specs.Tree.{leaves}
-use Rattle.trees.specs.Operations.{partLeaves}
+use Rattle.trees.specs.Operations.{part_leaves}
 use Rattle.dynamic.specs.OfferTree.{OfferTree, single, fork, shape, Held}
-use Rattle.dynamic.specs.Valid.{Valid, valid-fork, Whole}
-use Rattle.dynamic.specs.Lower.{valid-env}
+use Rattle.dynamic.specs.Valid.{Valid, valid_fork, Whole}
+use Rattle.dynamic.specs.Lower.{valid_env}
 
 -- ---- the statement
 
@@ -30,7 +30,7 @@ pub record Less (S : Figure) (lines whole parent stored : List S.Line) : Type 0 
 abbrev pub EachLess : (S : Figure) → OfferTree S.Line → List S.Line → Type 0
 EachLess S (single a) es = Unit {0}
 EachLess S (fork u v l ql qr r) es =
-    (el er : List S.Line) × Less S (leaves (shape l)) el es (partLeaves ql) × Less S (leaves (shape r)) er es (partLeaves qr) × EachLess S l el ×
+    (el er : List S.Line) × Less S (leaves (shape l)) el es (part_leaves ql) × Less S (leaves (shape r)) er es (part_leaves qr) × EachLess S l el ×
     EachLess S r er
 
 -- ---- its proof
@@ -44,7 +44,7 @@ module _ (S : Figure) {lines parent whole kept rest : List S.Line} where
       record {
         envelope = E;
         in_order = sub;
-        less = λ e. (λ m. (sublist-mem sub m, off e m), λ p. ⊎_elim (λ m. m) (λ m. absurd (p.1 (on e m))) (part e p.0));
+        less = λ e. (λ m. (sublist_mem sub m, off e m), λ p. ⊎_elim (λ m. m) (λ m. absurd (p.1 (on e m))) (part e p.0));
         divided = λ e m. ⊎_elim inl (λ k. inr (on e k)) (part e m);
       }
 
@@ -55,7 +55,7 @@ behind (x ∷ xs) ys = Sublistᴰ.cons (behind xs ys)
 module _ (S : Figure) (L : PseudoLines S) where
   -- a line stands once in lines that are in order
   once : (xs ys : List S.Line) → Ordered S (xs ++ ys) → (e : S.Line) → Memᴰ e xs → Memᴰ e ys → ⊥
-  once xs ys o e m n = L.before-irrefl e (ordered-apart S xs ys o e e m n)
+  once xs ys o e m n = L.before_irrefl e (ordered_apart S xs ys o e e m n)
 
   left_less :
       (ls rs up rest back es : List S.Line) → Ordered S (ls ++ rs) → Env S ls (up ++ rest) → ((e : S.Line) → Memᴰ e back → Memᴰ e rs) →
@@ -65,33 +65,33 @@ module _ (S : Figure) (L : PseudoLines S) where
     where
       off : (e : S.Line) → Memᴰ e rest → ¬ Memᴰ e es
       off e m n =
-          ⊎_elim (λ k. once up rest (ordered-sublist S E.sub (ordered-left S ls rs o)) e k m)
-          (λ k. once ls rs o e (sublist-mem E.sub (Memᴰ.append_right up m)) (inside e k))
+          ⊎_elim (λ k. once up rest (ordered_sublist S E.sub (ordered_left S ls rs o)) e k m)
+          (λ k. once ls rs o e (sublist_mem E.sub (Memᴰ.append_right up m)) (inside e k))
           (Memᴰ.append_cases up (subst (Memᴰ e) d n))
 
-  right-less :
+  right_less :
       (ls rs front rest from es : List S.Line) → Ordered S (ls ++ rs) → Env S rs (rest ++ from) →
       ((e : S.Line) → Memᴰ e front → Memᴰ e ls) → es ≡ front ++ from → Less S rs (rest ++ from) es rest
-  right-less ls rs front rest from es o E inside d =
-      divides S (λ e m. Memᴰ.append_cases rest m) (λ e m. subst (Memᴰ e) (sym d) (Memᴰ.append_right front m)) off (prefix-sub rest from) E
+  right_less ls rs front rest from es o E inside d =
+      divides S (λ e m. Memᴰ.append_cases rest m) (λ e m. subst (Memᴰ e) (sym d) (Memᴰ.append_right front m)) off (prefix_sub rest from) E
     where
       off : (e : S.Line) → Memᴰ e rest → ¬ Memᴰ e es
       off e m n =
-          ⊎_elim (λ k. once ls rs o e (inside e k) (sublist-mem E.sub (Memᴰ.append_left from m)))
-          (λ k. once rest from (ordered-sublist S E.sub (ordered-right S ls rs o)) e m k)
+          ⊎_elim (λ k. once ls rs o e (inside e k) (sublist_mem E.sub (Memᴰ.append_left from m)))
+          (λ k. once rest from (ordered_sublist S E.sub (ordered_right S ls rs o)) e m k)
           (Memᴰ.append_cases front (subst (Memᴰ e) d n))
 
-  pub each-less : (t : OfferTree S.Line) (es : List S.Line) → Ordered S (leaves (shape t)) → Valid S t es → EachLess S t es
-  each-less (single a) es o v = tt
-  each-less (fork u v l ql qr r) es o (valid-fork up_to from d vl vr al ar E) =
+  pub each_less : (t : OfferTree S.Line) (es : List S.Line) → Ordered S (leaves (shape t)) → Valid S t es → EachLess S t es
+  each_less (single a) es o v = tt
+  each_less (fork u v l ql qr r) es o (valid_fork up_to from d vl vr al ar E) =
       let ls = leaves (shape l) in
       let rs = leaves (shape r) in
-      let El = valid-env S L vl in
-      let Er = valid-env S L vr in
-      let f = left_less ls rs (up_to ++ u ∷ []) (partLeaves ql) (v ∷ from) es o El (λ e m. sublist-mem Er.sub (Memᴰ.append_right (partLeaves qr) m)) d in
-      let b = right-less ls rs (up_to ++ u ∷ []) (partLeaves qr) (v ∷ from) es o Er (λ e m. sublist-mem El.sub (Memᴰ.append_left (partLeaves ql) m)) d in
-      (_, _, f, b, each-less l _ (ordered-left S ls rs o) vl, each-less r _ (ordered-right S ls rs o) vr)
+      let El = valid_env S L vl in
+      let Er = valid_env S L vr in
+      let f = left_less ls rs (up_to ++ u ∷ []) (part_leaves ql) (v ∷ from) es o El (λ e m. sublist_mem Er.sub (Memᴰ.append_right (part_leaves qr) m)) d in
+      let b = right_less ls rs (up_to ++ u ∷ []) (part_leaves qr) (v ∷ from) es o Er (λ e m. sublist_mem El.sub (Memᴰ.append_left (part_leaves ql) m)) d in
+      (_, _, f, b, each_less l _ (ordered_left S ls rs o) vl, each_less r _ (ordered_right S ls rs o) vr)
 
   -- of a subtree with its whole envelope in hand
-  pub whole-less : (h : Held S.Line) → Whole S h → EachLess S h.tree (partLeaves h.whole)
-  whole-less h w = each-less h.tree (partLeaves h.whole) w.ordered w.valid
+  pub whole_less : (h : Held S.Line) → Whole S h → EachLess S h.tree (part_leaves h.whole)
+  whole_less h w = each_less h.tree (part_leaves h.whole) w.ordered w.valid

@@ -6,13 +6,13 @@ use mathlib.Core.List.{List, Memᴰ}
 use Rattle.std.proofs.Math.Option.{none, some}
 use Rattle.trees.specs.Tree.{Tree, leaf, node, leaves, last}
 use Rattle.trees.specs.Leaves.{last_leaf}
-use Rattle.trees.specs.Operations.{Part, partLeaves}
-use Rattle.table.specs.Fields.{baseField, numberField, rateField}
+use Rattle.trees.specs.Operations.{Part, part_leaves}
+use Rattle.table.specs.Fields.{base_field, number_field, rate_field}
 use Rattle.table.specs.Words.{Words}
-use Rattle.table.specs.Layout.{cap, cap-most, cell, link_at}
+use Rattle.table.specs.Layout.{cap, cap_most, cell, link_at}
 use Rattle.table.specs.Items.{Item, Slots}
-use Rattle.table.specs.Rep.{childField, refOf, Tied, tied-node}
-use Rattle.table.specs.PartTrees.{partRef, TiedPart}
+use Rattle.table.specs.Rep.{child_field, ref_of, Tied, tied_node}
+use Rattle.table.specs.PartTrees.{part_ref, TiedPart}
 use Rattle.table.specs.Threads.{Held, Holds}
 
 -- an item whose slot is one of the part's and holds its offer
@@ -33,41 +33,41 @@ pub same_item : {w : Words} {a b : Item} → Held w a → Held w b → a.slot �
 same_item {w} {a} {b} h k e = λ i. record { slot = e i; offer = record { number = number i; rate = rate i; base = base i } }
   where
     number : a.offer.number ≡ b.offer.number
-    number = sym h.number ∙ ap (λ s. cell w numberField s) e ∙ k.number
+    number = sym h.number ∙ ap (λ s. cell w number_field s) e ∙ k.number
 
     rate : a.offer.rate ≡ b.offer.rate
-    rate = sym h.rate ∙ ap (λ s. cell w rateField s) e ∙ k.rate
+    rate = sym h.rate ∙ ap (λ s. cell w rate_field s) e ∙ k.rate
 
     base : a.offer.base ≡ b.offer.base
-    base = sym h.base ∙ ap (λ s. cell w baseField s) e ∙ k.base
+    base = sym h.base ∙ ap (λ s. cell w base_field s) e ∙ k.base
 
 -- a tree is told by its root's number
-pub same-tree : {w : Words} {k : ℕ} (t t' : Tree Item) → AllLie w (leaves t) → AllLie w (leaves t') → Tied w k t → Tied w k t' → refOf t ≡ refOf t' → t ≡ t'
-same-tree (leaf a) (leaf b) h h' p p' e = ap leaf (same_item (h a (Memᴰ.head refl)).held (h' b (Memᴰ.head refl)).held e)
-same-tree {w} (leaf a) (node l r) h h' p p' e =
-    absurd (omega (arith, (h a (Memᴰ.head refl)).high, cap-most w, (h' (last l) (Memᴰ.append_left (leaves r) (last_leaf l))).low, e))
-same-tree {w} (node l r) (leaf a) h h' p p' e =
-    absurd (omega (arith, (h' a (Memᴰ.head refl)).high, cap-most w, (h (last l) (Memᴰ.append_left (leaves r) (last_leaf l))).low, e))
-same-tree {w} {k} (node l r) (node l' r') h h' (tied-node pl pr el er eh) (tied-node pl' pr' el' er' eh') e =
+pub same_tree : {w : Words} {k : ℕ} (t t' : Tree Item) → AllLie w (leaves t) → AllLie w (leaves t') → Tied w k t → Tied w k t' → ref_of t ≡ ref_of t' → t ≡ t'
+same_tree (leaf a) (leaf b) h h' p p' e = ap leaf (same_item (h a (Memᴰ.head refl)).held (h' b (Memᴰ.head refl)).held e)
+same_tree {w} (leaf a) (node l r) h h' p p' e =
+    absurd (omega (arith, (h a (Memᴰ.head refl)).high, cap_most w, (h' (last l) (Memᴰ.append_left (leaves r) (last_leaf l))).low, e))
+same_tree {w} (node l r) (leaf a) h h' p p' e =
+    absurd (omega (arith, (h' a (Memᴰ.head refl)).high, cap_most w, (h (last l) (Memᴰ.append_left (leaves r) (last_leaf l))).low, e))
+same_tree {w} {k} (node l r) (node l' r') h h' (tied_node pl pr el er eh) (tied_node pl' pr' el' er' eh') e =
     let seam : (last l).slot ≡ (last l').slot = omega (arith, e) in
     let lefts : l ≡ l' =
-    same-tree l l' (λ a m. h a (Memᴰ.append_left (leaves r) m)) (λ a m. h' a (Memᴰ.append_left (leaves r') m)) pl pl'
-    (sym el ∙ ap (link_at w (childField k false)) seam ∙ el') in
+    same_tree l l' (λ a m. h a (Memᴰ.append_left (leaves r) m)) (λ a m. h' a (Memᴰ.append_left (leaves r') m)) pl pl'
+    (sym el ∙ ap (link_at w (child_field k false)) seam ∙ el') in
     let rights : r ≡ r' =
-    same-tree r r' (λ a m. h a (Memᴰ.append_right (leaves l) m)) (λ a m. h' a (Memᴰ.append_right (leaves l') m)) pr pr'
-    (sym er ∙ ap (link_at w (childField k true)) seam ∙ er') in
+    same_tree r r' (λ a m. h a (Memᴰ.append_right (leaves l) m)) (λ a m. h' a (Memᴰ.append_right (leaves l') m)) pr pr'
+    (sym er ∙ ap (link_at w (child_field k true)) seam ∙ er') in
     λ i. node (lefts i) (rights i)
 
 -- a tree has a root
-pub some-root : {w : Words} (t : Tree Item) → AllLie w (leaves t) → refOf t ≡ 0 → ⊥
-some-root (leaf a) h e = omega (arith, (h a (Memᴰ.head refl)).low, e)
-some-root (node l r) h e = omega (arith, e)
+pub some_root : {w : Words} (t : Tree Item) → AllLie w (leaves t) → ref_of t ≡ 0 → ⊥
+some_root (leaf a) h e = omega (arith, (h a (Memᴰ.head refl)).low, e)
+some_root (node l r) h e = omega (arith, e)
 
 -- also one that may be empty
-pub same-part :
-    {w : Words} (k : ℕ) (p p' : Part Item) → AllLie w (partLeaves p) → AllLie w (partLeaves p') → TiedPart w k p → TiedPart w k p' → partRef p ≡ partRef p' →
+pub same_part :
+    {w : Words} (k : ℕ) (p p' : Part Item) → AllLie w (part_leaves p) → AllLie w (part_leaves p') → TiedPart w k p → TiedPart w k p' → part_ref p ≡ part_ref p' →
     p ≡ p'
-same-part k none none h h' q q' e = refl
-same-part k none (some t) h h' q q' e = absurd (some-root t h' (sym e))
-same-part k (some t) none h h' q q' e = absurd (some-root t h e)
-same-part k (some t) (some t') h h' q q' e = ap some (same-tree t t' h h' q q' e)
+same_part k none none h h' q q' e = refl
+same_part k none (some t) h h' q q' e = absurd (some_root t h' (sym e))
+same_part k (some t) none h h' q q' e = absurd (some_root t h e)
+same_part k (some t) (some t') h h' q q' e = ap some (same_tree t t' h h' q q' e)

@@ -3,71 +3,71 @@ use Rattle.std.specs.Prelude.{◌≡◌, Bool, cond, suc, T, leb}
 use Rattle.std.proofs.Math.Path.{refl}
 use Rattle.std.proofs.Common.{sym, ap, ◌∙◌, arith, ltb→lt}
 use Rattle.std.proofs.Math.Nat.{max_comm}
-use Rattle.lists.specs.Bools.{cond_map, cond-swap}
-use Rattle.trees.specs.Tree.{Tree, leaf, node, height, mirror, Avl, avl-leaf, avl-node}
-use Rattle.trees.specs.Operations.{towers, doubleRight, doubleLeft, rotateRight, rotateLeft, balance, joinR, joinL, join}
+use Rattle.lists.specs.Bools.{cond_map, cond_swap}
+use Rattle.trees.specs.Tree.{Tree, leaf, node, height, mirror, Avl, avl_leaf, avl_node}
+use Rattle.trees.specs.Operations.{towers, double_right, double_left, rotate_right, rotate_left, balance, join_r, join_l, join}
 
 module _ {A : Type 0} where
-  pub mirror-mirror : (t : Tree A) → mirror (mirror t) ≡ t
-  mirror-mirror (leaf a) = refl
-  mirror-mirror (node l r) = simp (mirror-mirror l, mirror-mirror r)
+  pub mirror_mirror : (t : Tree A) → mirror (mirror t) ≡ t
+  mirror_mirror (leaf a) = refl
+  mirror_mirror (node l r) = simp (mirror_mirror l, mirror_mirror r)
 
-  pub mirror-injective : (s t : Tree A) → mirror s ≡ mirror t → s ≡ t
-  mirror-injective s t e = sym (mirror-mirror s) ∙ ap mirror e ∙ mirror-mirror t
+  pub mirror_injective : (s t : Tree A) → mirror s ≡ mirror t → s ≡ t
+  mirror_injective s t e = sym (mirror_mirror s) ∙ ap mirror e ∙ mirror_mirror t
 
-  pub height-mirror : (t : Tree A) → height (mirror t) ≡ height t
-  height-mirror (leaf a) = refl
-  height-mirror (node l r) = simp (height-mirror l, height-mirror r) (ap suc (max_comm (height r) (height l)))
+  pub height_mirror : (t : Tree A) → height (mirror t) ≡ height t
+  height_mirror (leaf a) = refl
+  height_mirror (node l r) = simp (height_mirror l, height_mirror r) (ap suc (max_comm (height r) (height l)))
 
-  pub avl-mirror : {t : Tree A} → Avl t → Avl (mirror t)
-  avl-mirror avl-leaf = avl-leaf
-  avl-mirror (avl-node {l} {r} pl pr hl hr) = avl-node (avl-mirror pr) (avl-mirror pl) (simp height-mirror hr) (simp height-mirror hl)
+  pub avl_mirror : {t : Tree A} → Avl t → Avl (mirror t)
+  avl_mirror avl_leaf = avl_leaf
+  avl_mirror (avl_node {l} {r} pl pr hl hr) = avl_node (avl_mirror pr) (avl_mirror pl) (simp height_mirror hr) (simp height_mirror hl)
 
-  pub avl-unmirror : (t : Tree A) → Avl (mirror t) → Avl t
-  avl-unmirror t p = rw mirror-mirror at (avl-mirror p)
+  pub avl_unmirror : (t : Tree A) → Avl (mirror t) → Avl t
+  avl_unmirror t p = rw mirror_mirror at (avl_mirror p)
 
-  pub towers-apart : (l r : Tree A) → T (towers l r) → T (towers r l) → ⊥
-  towers-apart l r p q = omega (arith, ltb→lt)
+  pub towers_apart : (l r : Tree A) → T (towers l r) → T (towers r l) → ⊥
+  towers_apart l r p q = omega (arith, ltb→lt)
 
-  mirror-cond : (b : Bool) (x y : Tree A) → mirror (cond b x y) ≡ cond b (mirror x) (mirror y)
-  mirror-cond b x y = cond_map mirror b x y
+  mirror_cond : (b : Bool) (x y : Tree A) → mirror (cond b x y) ≡ cond b (mirror x) (mirror y)
+  mirror_cond b x y = cond_map mirror b x y
 
   -- if g is the mirror image of f, then f is that of g
   turned : (f g : Tree A → Tree A → Tree A) → ((l r : Tree A) → mirror (f l r) ≡ g (mirror r) (mirror l)) → (l r : Tree A) →
       mirror (g l r) ≡ f (mirror r) (mirror l)
   turned f g e l r =
-      let back : mirror (f (mirror r) (mirror l)) ≡ g l r = simp (e, mirror-mirror) in
-      sym (ap mirror back) ∙ mirror-mirror (f (mirror r) (mirror l))
+      let back : mirror (f (mirror r) (mirror l)) ≡ g l r = simp (e, mirror_mirror) in
+      sym (ap mirror back) ∙ mirror_mirror (f (mirror r) (mirror l))
 
-  leb-mirror : (s t : Tree A) → leb (height (mirror s)) (height (mirror t)) ≡ leb (height s) (height t)
-  leb-mirror s t = simp height-mirror
+  leb_mirror : (s t : Tree A) → leb (height (mirror s)) (height (mirror t)) ≡ leb (height s) (height t)
+  leb_mirror s t = simp height_mirror
 
-  pub towers-mirror : (s t : Tree A) → towers (mirror s) (mirror t) ≡ towers s t
-  towers-mirror s t = simp height-mirror
+  pub towers_mirror : (s t : Tree A) → towers (mirror s) (mirror t) ≡ towers s t
+  towers_mirror s t = simp height_mirror
 
-  pub mirror-rotateRight : (l r : Tree A) → mirror (rotateRight l r) ≡ rotateLeft (mirror r) (mirror l)
-  unfolding rotateRight rotateLeft doubleRight doubleLeft
-  mirror-rotateRight (leaf x) r = refl
-  mirror-rotateRight (node a (leaf x)) r = simp mirror-cond (rw (leb-mirror (leaf x) a))
-  mirror-rotateRight (node a (node b c)) r = simp mirror-cond (rw (leb-mirror (node b c) a))
+  pub mirror_rotate_right : (l r : Tree A) → mirror (rotate_right l r) ≡ rotate_left (mirror r) (mirror l)
+  unfolding rotate_right rotate_left double_right double_left
+  mirror_rotate_right (leaf x) r = refl
+  mirror_rotate_right (node a (leaf x)) r = simp mirror_cond (rw (leb_mirror (leaf x) a))
+  mirror_rotate_right (node a (node b c)) r = simp mirror_cond (rw (leb_mirror (node b c) a))
 
-  pub mirror-rotateLeft : (l r : Tree A) → mirror (rotateLeft l r) ≡ rotateRight (mirror r) (mirror l)
-  mirror-rotateLeft = turned rotateRight rotateLeft mirror-rotateRight
+  pub mirror_rotate_left : (l r : Tree A) → mirror (rotate_left l r) ≡ rotate_right (mirror r) (mirror l)
+  mirror_rotate_left = turned rotate_right rotate_left mirror_rotate_right
 
-  pub mirror-balance : (l r : Tree A) → mirror (balance l r) ≡ balance (mirror r) (mirror l)
+  pub mirror_balance : (l r : Tree A) → mirror (balance l r) ≡ balance (mirror r) (mirror l)
   unfolding balance
-  mirror-balance l r =
-      simp (height-mirror, mirror-cond, mirror-rotateRight, mirror-rotateLeft) (cond-swap (towers l r) (towers r l) _ _ _ (towers-apart l r))
+  mirror_balance l r =
+      simp (height_mirror, mirror_cond, mirror_rotate_right, mirror_rotate_left) (cond_swap (towers l r) (towers r l) _ _ _ (towers_apart l r))
 
-  pub mirror-joinR : (l r : Tree A) → mirror (joinR l r) ≡ joinL (mirror r) (mirror l)
-  unfolding joinR joinL
-  mirror-joinR (leaf x) r = refl
-  mirror-joinR (node a b) r = simp (mirror-cond, mirror-balance, mirror-joinR b r) (rw (towers-mirror (node a b) r))
+  pub mirror_join_r : (l r : Tree A) → mirror (join_r l r) ≡ join_l (mirror r) (mirror l)
+  unfolding join_r join_l
+  mirror_join_r (leaf x) r = refl
+  mirror_join_r (node a b) r = simp (mirror_cond, mirror_balance, mirror_join_r b r) (rw (towers_mirror (node a b) r))
 
-  pub mirror-joinL : (l r : Tree A) → mirror (joinL l r) ≡ joinR (mirror r) (mirror l)
-  mirror-joinL = turned joinR joinL mirror-joinR
+  pub mirror_join_l : (l r : Tree A) → mirror (join_l l r) ≡ join_r (mirror r) (mirror l)
+  mirror_join_l = turned join_r join_l mirror_join_r
 
-  pub mirror-join : (l r : Tree A) → mirror (join l r) ≡ join (mirror r) (mirror l)
+  pub mirror_join : (l r : Tree A) → mirror (join l r) ≡ join (mirror r) (mirror l)
   unfolding join
-  mirror-join l r =
-      simp (height-mirror, mirror-cond, mirror-joinR, mirror-joinL) (cond-swap (towers l r) (towers r l) _ _ _ (towers-apart l r))
+  mirror_join l r =
+      simp (height_mirror, mirror_cond, mirror_join_r, mirror_join_l) (cond_swap (towers l r) (towers r l) _ _ _ (towers_apart l r))

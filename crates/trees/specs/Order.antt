@@ -9,7 +9,7 @@ use mathlib.Core.List.{mem-append_left, head-eq_of_cons-eq, tail-eq_of_cons-eq, 
 use mathlib.Core.List.{rel_of_Pairwise-cons}
 use Rattle.std.proofs.Math.Dec.{T_prop}
 use Rattle.std.specs.Int.Signed.{lt_z, le_z}
-use Rattle.lists.specs.Members.{pairs-cons, one-owner}
+use Rattle.lists.specs.Members.{pairs_cons, one_owner}
 use Rattle.integers.specs.Parts.{intRules}
 use Rattle.trees.specs.Tree.{Tree, leaf, node, leaves, last}
 use Rattle.trees.specs.Leaves.{last_leaf}
@@ -36,17 +36,17 @@ module _ {A : Type 0} where
   pub all_append : (test : A → Bool) (xs : List A) {ys : List A} → All test xs → All test ys → All test (xs ++ ys)
   all_append test xs p q a m = ⊎_elim (p a) (q a) (Memᴰ.append_cases xs m)
 
-  pub falling-turning : (key : A → ℤ) (low : ℤ) {xs : List A} → Falling key xs → Turning (λ a. le_z low (key a)) xs
-  falling-turning key low = Pairwise.imp (λ a b h t. omega (arith, intRules))
+  pub falling_turning : (key : A → ℤ) (low : ℤ) {xs : List A} → Falling key xs → Turning (λ a. le_z low (key a)) xs
+  falling_turning key low = Pairwise.imp (λ a b h t. omega (arith, intRules))
 
   -- what passes, followed by what fails
-  pub halves-turning : (test : A → Bool) (xs ys : List A) → All test xs → None test ys → Turning test (xs ++ ys)
-  halves-turning test [] [] p n = Pairwise.nil
-  halves-turning test [] (y ∷ ys) p n =
-      pairs-cons (λ a b. Π_prop (λ t. T_prop (test a))) (λ b m t. absurd (T_not (test b) (n b (Memᴰ.tail m)) t))
-      (halves-turning test [] ys p (λ a m. n a (Memᴰ.tail m)))
-  halves-turning test (x ∷ xs) ys p n =
-      Pairwise.cons (λ b m t. p x (Memᴰ.head refl)) (halves-turning test xs ys (λ a m. p a (Memᴰ.tail m)) n)
+  pub halves_turning : (test : A → Bool) (xs ys : List A) → All test xs → None test ys → Turning test (xs ++ ys)
+  halves_turning test [] [] p n = Pairwise.nil
+  halves_turning test [] (y ∷ ys) p n =
+      pairs_cons (λ a b. Π_prop (λ t. T_prop (test a))) (λ b m t. absurd (T_not (test b) (n b (Memᴰ.tail m)) t))
+      (halves_turning test [] ys p (λ a m. n a (Memᴰ.tail m)))
+  halves_turning test (x ∷ xs) ys p n =
+      Pairwise.cons (λ b m t. p x (Memᴰ.head refl)) (halves_turning test xs ys (λ a m. p a (Memᴰ.tail m)) n)
 
   -- ---- two lists one behind the other
 
@@ -67,30 +67,30 @@ module _ {A : Type 0} where
           across (Memᴰ.tail m) n = q.across m n
 
   -- every leaf is the last, or stands in front of it
-  pub up-to-last : {R : A → A → Type 0} (t : Tree A) → Pairwise R (leaves t) → {a : A} → Memᴰ a (leaves t) → (a ≡ last t) ⊎ R a (last t)
-  up-to-last (leaf x) p m = inl (Memᴰ.eq_of_singleton m)
-  up-to-last (node l r) p m =
+  pub up_to_last : {R : A → A → Type 0} (t : Tree A) → Pairwise R (leaves t) → {a : A} → Memᴰ a (leaves t) → (a ≡ last t) ⊎ R a (last t)
+  up_to_last (leaf x) p m = inl (Memᴰ.eq_of_singleton m)
+  up_to_last (node l r) p m =
       let q = parted (leaves l) p in
-      ⊎_elim (λ k. inr (q.across k (last_leaf r))) (λ k. up-to-last r q.right k) (Memᴰ.append_cases (leaves l) m)
+      ⊎_elim (λ k. inr (q.across k (last_leaf r))) (λ k. up_to_last r q.right k) (Memᴰ.append_cases (leaves l) m)
 
   -- where keys fall, no leaf's is below the last one's
-  pub last-lowest : (key : A → ℤ) (t : Tree A) → Falling key (leaves t) → {a : A} → Memᴰ a (leaves t) → T (le_z (key (last t)) (key a))
-  last-lowest key t p {a} m =
+  pub last_lowest : (key : A → ℤ) (t : Tree A) → Falling key (leaves t) → {a : A} → Memᴰ a (leaves t) → T (le_z (key (last t)) (key a))
+  last_lowest key t p {a} m =
       ⊎_elim (λ (e : a ≡ last t). let k : key a ≡ key (last t) = ap key e in omega (arith, intRules))
       (λ (h : T (lt_z (key (last t)) (key a))). omega (arith, intRules))
-      (up-to-last t p m)
+      (up_to_last t p m)
 
   -- where keys fall, a key tells its owner
-  pub falling-one : (key : A → ℤ) {xs : List A} → Falling key xs → {a b : A} → Memᴰ a xs → Memᴰ b xs → key a ≡ key b → a ≡ b
-  falling-one key p = one-owner key (Pairwise.imp (λ a b h e. omega (arith, intRules)) p)
+  pub falling_one : (key : A → ℤ) {xs : List A} → Falling key xs → {a b : A} → Memᴰ a xs → Memᴰ b xs → key a ≡ key b → a ≡ b
+  falling_one key p = one_owner key (Pairwise.imp (λ a b h e. omega (arith, intRules)) p)
 
   -- ---- a list is cut in one way only
 
-  pub one-cut : (test : A → Bool) (xs us : List A) {ys vs : List A} → xs ++ ys ≡ us ++ vs → All test xs → All test us → None test ys → None test vs →
+  pub one_cut : (test : A → Bool) (xs us : List A) {ys vs : List A} → xs ++ ys ≡ us ++ vs → All test xs → All test us → None test ys → None test vs →
       (xs ≡ us) × (ys ≡ vs)
-  one-cut test [] [] e p q n k = (refl, e)
-  one-cut test [] (u ∷ us) e p q n k = absurd (T_not (test u) (n u (rw e (Memᴰ.head refl))) (q u (Memᴰ.head refl)))
-  one-cut test (x ∷ xs) [] e p q n k = absurd (T_not (test x) (k x (rw (← e) (Memᴰ.head refl))) (p x (Memᴰ.head refl)))
-  one-cut test (x ∷ xs) (u ∷ us) e p q n k =
-      let c = one-cut test xs us (tail-eq_of_cons-eq e) (λ a m. p a (Memᴰ.tail m)) (λ a m. q a (Memᴰ.tail m)) n k in
+  one_cut test [] [] e p q n k = (refl, e)
+  one_cut test [] (u ∷ us) e p q n k = absurd (T_not (test u) (n u (rw e (Memᴰ.head refl))) (q u (Memᴰ.head refl)))
+  one_cut test (x ∷ xs) [] e p q n k = absurd (T_not (test x) (k x (rw (← e) (Memᴰ.head refl))) (p x (Memᴰ.head refl)))
+  one_cut test (x ∷ xs) (u ∷ us) e p q n k =
+      let c = one_cut test xs us (tail-eq_of_cons-eq e) (λ a m. p a (Memᴰ.tail m)) (λ a m. q a (Memᴰ.tail m)) n k in
       (ap₂ ◌∷◌ (head-eq_of_cons-eq e) c.0, c.1)

@@ -29,5 +29,5 @@ module _ {A : Type 0} where
 
   -- siblings' heights differ by at most one, everywhere
   pub data Avl : Tree A → Type 0 where
-    avl-leaf : {a : A} → Avl (leaf a)
-    avl-node : {l r : Tree A} → Avl l → Avl r → height l ≤ suc (height r) → height r ≤ suc (height l) → Avl (node l r)
+    avl_leaf : {a : A} → Avl (leaf a)
+    avl_node : {l r : Tree A} → Avl l → Avl r → height l ≤ suc (height r) → height r ≤ suc (height l) → Avl (node l r)

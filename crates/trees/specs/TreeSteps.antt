@@ -8,107 +8,107 @@ use native.Mathlib.Omega.{arith}
 use Rattle.std.proofs.Math.Arith.{le→nltb, lt→nleb}
 use Rattle.std.proofs.Math.Dec.{T, not_T, lt→ltb}
 use Rattle.std.specs.Int.Signed.{lt_z}
-use Rattle.lists.specs.Bools.{cond_yes, cond_no, cond-again}
+use Rattle.lists.specs.Bools.{cond_yes, cond_no, cond_again}
 use Rattle.integers.specs.Equal.{equal}
-use Rattle.integers.specs.Parts.{equal-eq, equal_is}
-use Rattle.trees.specs.Tree.{Tree, leaf, node, height, last, mirror, Avl, avl-node}
-use Rattle.trees.specs.Operations.{towers, doubleRight, doubleLeft, rotateRight, rotateLeft, balance, joinR, joinL, join, split, afterLeft}
-use Rattle.trees.specs.Operations.{beforeRight, allFront, allBack, add, find}
-use Rattle.trees.specs.Mirror.{mirror-injective, height-mirror, avl-mirror, mirror-balance, mirror-joinL, mirror-join}
+use Rattle.integers.specs.Parts.{equal_eq, equal_is}
+use Rattle.trees.specs.Tree.{Tree, leaf, node, height, last, mirror, Avl, avl_node}
+use Rattle.trees.specs.Operations.{towers, double_right, double_left, rotate_right, rotate_left, balance, join_r, join_l, join, split, after_left}
+use Rattle.trees.specs.Operations.{before_right, all_front, all_back, add, find}
+use Rattle.trees.specs.Mirror.{mirror_injective, height_mirror, avl_mirror, mirror_balance, mirror_join_l, mirror_join}
 
 module _ {A : Type 0} where
   -- ---- rotations
 
-  pub rotateRight-single : (a m r : Tree A) → height m ≤ height a → rotateRight (node a m) r ≡ node a (node m r)
-  unfolding rotateRight
-  rotateRight-single a m r h = cond_yes (leb (height m) (height a)) _ _ (le→leb _ _ h)
+  pub rotate_right_single : (a m r : Tree A) → height m ≤ height a → rotate_right (node a m) r ≡ node a (node m r)
+  unfolding rotate_right
+  rotate_right_single a m r h = cond_yes (leb (height m) (height a)) _ _ (le→leb _ _ h)
 
-  pub rotateRight-double : (a b c r : Tree A) → height a < height (node b c) → rotateRight (node a (node b c)) r ≡ node (node a b) (node c r)
-  unfolding rotateRight doubleRight
-  rotateRight-double a b c r h = cond_no (leb (height (node b c)) (height a)) _ _ (lt→nleb _ _ h)
+  pub rotate_right_double : (a b c r : Tree A) → height a < height (node b c) → rotate_right (node a (node b c)) r ≡ node (node a b) (node c r)
+  unfolding rotate_right double_right
+  rotate_right_double a b c r h = cond_no (leb (height (node b c)) (height a)) _ _ (lt→nleb _ _ h)
 
-  pub rotateLeft-single : (l m d : Tree A) → height m ≤ height d → rotateLeft l (node m d) ≡ node (node l m) d
-  unfolding rotateLeft
-  rotateLeft-single l m d h = cond_yes (leb (height m) (height d)) _ _ (le→leb _ _ h)
+  pub rotate_left_single : (l m d : Tree A) → height m ≤ height d → rotate_left l (node m d) ≡ node (node l m) d
+  unfolding rotate_left
+  rotate_left_single l m d h = cond_yes (leb (height m) (height d)) _ _ (le→leb _ _ h)
 
-  pub rotateLeft-double : (l b c d : Tree A) → height d < height (node b c) → rotateLeft l (node (node b c) d) ≡ node (node l b) (node c d)
-  unfolding rotateLeft doubleLeft
-  rotateLeft-double l b c d h = cond_no (leb (height (node b c)) (height d)) _ _ (lt→nleb _ _ h)
+  pub rotate_left_double : (l b c d : Tree A) → height d < height (node b c) → rotate_left l (node (node b c) d) ≡ node (node l b) (node c d)
+  unfolding rotate_left double_left
+  rotate_left_double l b c d h = cond_no (leb (height (node b c)) (height d)) _ _ (lt→nleb _ _ h)
 
   -- ---- balance
 
-  pub balance-right : (l r : Tree A) → suc (height r) < height l → balance l r ≡ rotateRight l r
+  pub balance_right : (l r : Tree A) → suc (height r) < height l → balance l r ≡ rotate_right l r
   unfolding balance
-  balance-right l r h = cond_yes (towers l r) _ _ (lt→ltb _ _ h)
+  balance_right l r h = cond_yes (towers l r) _ _ (lt→ltb _ _ h)
 
-  pub balance-left : (l r : Tree A) → suc (height l) < height r → balance l r ≡ rotateLeft l r
+  pub balance_left : (l r : Tree A) → suc (height l) < height r → balance l r ≡ rotate_left l r
   unfolding balance
-  balance-left l r h =
+  balance_left l r h =
       let low : height l ≤ suc (height r) = omega arith in
       cond_no (towers l r) _ _ (le→nltb _ _ low) ∙ cond_yes (towers r l) _ _ (lt→ltb _ _ h)
 
-  pub balance-level : (l r : Tree A) → height l ≤ suc (height r) → height r ≤ suc (height l) → balance l r ≡ node l r
+  pub balance_level : (l r : Tree A) → height l ≤ suc (height r) → height r ≤ suc (height l) → balance l r ≡ node l r
   unfolding balance
-  balance-level l r hl hr = cond_no (towers l r) _ _ (le→nltb _ _ hl) ∙ cond_no (towers r l) _ _ (le→nltb _ _ hr)
+  balance_level l r hl hr = cond_no (towers l r) _ _ (le→nltb _ _ hl) ∙ cond_no (towers r l) _ _ (le→nltb _ _ hr)
 
   -- ---- join: down the higher tree's inner spine
 
-  pub join-level : (l r : Tree A) → height l ≤ suc (height r) → height r ≤ suc (height l) → join l r ≡ node l r
+  pub join_level : (l r : Tree A) → height l ≤ suc (height r) → height r ≤ suc (height l) → join l r ≡ node l r
   unfolding join
-  join-level l r hl hr = cond_no (towers l r) _ _ (le→nltb _ _ hl) ∙ cond_no (towers r l) _ _ (le→nltb _ _ hr)
+  join_level l r hl hr = cond_no (towers l r) _ _ (le→nltb _ _ hl) ∙ cond_no (towers r l) _ _ (le→nltb _ _ hr)
 
   -- each side's function is join itself where the other tree does not tower
-  pub joinR-join : (l r : Tree A) → height r ≤ suc (height l) → joinR l r ≡ join l r
-  unfolding join joinR
-  joinR-join (leaf x) r h = sym (join-level (leaf x) r (omega arith) h)
-  joinR-join (node a b) r h =
-      sym (ap (cond (towers (node a b) r) (joinR (node a b) r)) (cond_no (towers r (node a b)) _ _ (le→nltb _ _ h)) ∙ cond-again (towers (node a b) r) _ _)
+  pub join_r_join : (l r : Tree A) → height r ≤ suc (height l) → join_r l r ≡ join l r
+  unfolding join join_r
+  join_r_join (leaf x) r h = sym (join_level (leaf x) r (omega arith) h)
+  join_r_join (node a b) r h =
+      sym (ap (cond (towers (node a b) r) (join_r (node a b) r)) (cond_no (towers r (node a b)) _ _ (le→nltb _ _ h)) ∙ cond_again (towers (node a b) r) _ _)
 
-  pub joinL-join : (l r : Tree A) → height l ≤ suc (height r) → joinL l r ≡ join l r
-  joinL-join l r h =
-      mirror-injective (joinL l r) (join l r) (mirror-joinL l r ∙ joinR-join (mirror r) (mirror l) (simp height-mirror h) ∙ sym (mirror-join l r))
+  pub join_l_join : (l r : Tree A) → height l ≤ suc (height r) → join_l l r ≡ join l r
+  join_l_join l r h =
+      mirror_injective (join_l l r) (join l r) (mirror_join_l l r ∙ join_r_join (mirror r) (mirror l) (simp height_mirror h) ∙ sym (mirror_join l r))
 
-  pub join-left : (a b r : Tree A) → Avl (node a b) → suc (height r) < height (node a b) → join (node a b) r ≡ balance a (join b r)
-  unfolding join joinR
-  join-left a b r (avl-node pa pb ha hb) h =
+  pub join_left : (a b r : Tree A) → Avl (node a b) → suc (height r) < height (node a b) → join (node a b) r ≡ balance a (join b r)
+  unfolding join join_r
+  join_left a b r (avl_node pa pb ha hb) h =
       let t : T (towers (node a b) r) = lt→ltb _ _ h in
-      cond_yes (towers (node a b) r) _ _ t ∙ cond_yes (towers (node a b) r) _ _ t ∙ ap (balance a) (joinR-join b r (omega arith))
+      cond_yes (towers (node a b) r) _ _ t ∙ cond_yes (towers (node a b) r) _ _ t ∙ ap (balance a) (join_r_join b r (omega arith))
 
-  pub join-right : (l c d : Tree A) → Avl (node c d) → suc (height l) < height (node c d) → join l (node c d) ≡ balance (join l c) d
-  join-right l c d p h =
-      mirror-injective (join l (node c d)) (balance (join l c) d)
-      (mirror-join l (node c d) ∙ join-left (mirror d) (mirror c) (mirror l) (avl-mirror p) (simp height-mirror (omega arith))
-      ∙ simp (mirror-balance, mirror-join))
+  pub join_right : (l c d : Tree A) → Avl (node c d) → suc (height l) < height (node c d) → join l (node c d) ≡ balance (join l c) d
+  join_right l c d p h =
+      mirror_injective (join l (node c d)) (balance (join l c) d)
+      (mirror_join l (node c d) ∙ join_left (mirror d) (mirror c) (mirror l) (avl_mirror p) (simp height_mirror (omega arith))
+      ∙ simp (mirror_balance, mirror_join))
 
   -- ---- split
 
   module _ (test : A → Bool) where
-    pub split-front : (x : A) → T (test x) → split test (leaf x) ≡ allFront (leaf x)
+    pub split_front : (x : A) → T (test x) → split test (leaf x) ≡ all_front (leaf x)
     unfolding split
-    split-front x t = cond_yes (test x) _ _ t
+    split_front x t = cond_yes (test x) _ _ t
 
-    pub split-back : (x : A) → T (not (test x)) → split test (leaf x) ≡ allBack (leaf x)
+    pub split_back : (x : A) → T (not (test x)) → split test (leaf x) ≡ all_back (leaf x)
     unfolding split
-    split-back x t = cond_no (test x) _ _ t
+    split_back x t = cond_no (test x) _ _ t
 
-    pub split-right : (l r : Tree A) → T (test (last l)) → split test (node l r) ≡ afterLeft l (split test r)
+    pub split_right : (l r : Tree A) → T (test (last l)) → split test (node l r) ≡ after_left l (split test r)
     unfolding split
-    split-right l r t = cond_yes (test (last l)) _ _ t
+    split_right l r t = cond_yes (test (last l)) _ _ t
 
-    pub split-left : (l r : Tree A) → T (not (test (last l))) → split test (node l r) ≡ beforeRight (split test l) r
+    pub split_left : (l r : Tree A) → T (not (test (last l))) → split test (node l r) ≡ before_right (split test l) r
     unfolding split
-    split-left l r t = cond_no (test (last l)) _ _ t
+    split_left l r t = cond_no (test (last l)) _ _ t
 
   -- ---- add
 
   module _ (test : A → Bool) (a : A) where
-    pub add-behind : (x : A) → T (test x) → add test a (leaf x) ≡ join (leaf x) (leaf a)
+    pub add_behind : (x : A) → T (test x) → add test a (leaf x) ≡ join (leaf x) (leaf a)
     unfolding add
-    add-behind x t = cond_yes (test x) _ _ t
+    add_behind x t = cond_yes (test x) _ _ t
 
-    pub add-before : (x : A) → T (not (test x)) → add test a (leaf x) ≡ join (leaf a) (leaf x)
+    pub add_before : (x : A) → T (not (test x)) → add test a (leaf x) ≡ join (leaf a) (leaf x)
     unfolding add
-    add-before x t = cond_no (test x) _ _ t
+    add_before x t = cond_no (test x) _ _ t
 
     pub add_right : (l r : Tree A) → T (test (last l)) → add test a (node l r) ≡ join l (add test a r)
     unfolding add
@@ -121,18 +121,18 @@ module _ {A : Type 0} where
   -- ---- find
 
   module _ (key : A → ℤ) (k : ℤ) where
-    pub find-right : (l r : Tree A) → T (lt_z k (key (last l))) → find key k (node l r) ≡ find key k r
+    pub find_right : (l r : Tree A) → T (lt_z k (key (last l))) → find key k (node l r) ≡ find key k r
     unfolding find
-    find-right l r t = cond_yes (lt_z k (key (last l))) _ _ t
+    find_right l r t = cond_yes (lt_z k (key (last l))) _ _ t
 
-    pub find-left : (l r : Tree A) → T (not (lt_z k (key (last l)))) → find key k (node l r) ≡ find key k l
+    pub find_left : (l r : Tree A) → T (not (lt_z k (key (last l)))) → find key k (node l r) ≡ find key k l
     unfolding find
-    find-left l r t = cond_no (lt_z k (key (last l))) _ _ t
+    find_left l r t = cond_no (lt_z k (key (last l))) _ _ t
 
-    pub find-here : (x : A) → key x ≡ k → find key k (leaf x) ≡ some x
+    pub find_here : (x : A) → key x ≡ k → find key k (leaf x) ≡ some x
     unfolding find
-    find-here x e = cond_yes (equal (key x) k) _ _ (equal_is (key x) k e)
+    find_here x e = cond_yes (equal (key x) k) _ _ (equal_is (key x) k e)
 
-    pub find-miss : (x : A) → key x ≢ k → find key k (leaf x) ≡ none
+    pub find_miss : (x : A) → key x ≢ k → find key k (leaf x) ≡ none
     unfolding find
-    find-miss x n = cond_no (equal (key x) k) _ _ (not_T (equal (key x) k) (λ t. n (equal-eq (key x) k t)))
+    find_miss x n = cond_no (equal (key x) k) _ _ (not_T (equal (key x) k) (λ t. n (equal_eq (key x) k t)))

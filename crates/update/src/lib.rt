@@ -1,9 +1,9 @@
 // The tree of offers with its envelopes, in the table: rebalanced over levels that are taken apart and put together, and on that insert and
 // remove, which go down and up. Every function takes any words. Left is false, right is true.
 ghost use Rattle.std.specs.Prelude.{◌≡◌, ℕ, ◌≤◌, int_le, int_lt};
-ghost use Rattle.table.specs.Fields.{mostSlots, rateField};
+ghost use Rattle.table.specs.Fields.{most_slots, rate_field};
 ghost use Rattle.table.specs.Layout.{cell};
-ghost use Rattle.update.specs.Steps.{RebalancedIn, aloneAt, InsertedIn, RemovedIn};
+ghost use Rattle.update.specs.Steps.{RebalancedIn, alone_at, InsertedIn, RemovedIn};
 ghost use Rattle.update.specs.Neighbours.{LoweredOn, RaisedOn};
 ghost use Rattle.update.specs.Counting.{Summed, SummedThree};
 ghost use Rattle.update.specs.Rotating.{RotatedIn};
@@ -140,21 +140,21 @@ fn rebuild(part: &mut [i64], side: bool, gap: u32, g: Made, off: Held) -> Made
 
 // The rate in slot `a` is at most the one in slot `b`.
 fn at_most(part: &[i64], a: u32, b: u32) -> bool
-    ensures { result ≡ int_le (cell part.now rateField a) (cell part.now rateField b) }
+    ensures { result ≡ int_le (cell part.now rate_field a) (cell part.now rate_field b) }
 {
     table::at_least(part, table::RATE, b, table::get(part, table::RATE, a))
 }
 
 // The rate in slot `a` is below the one in slot `b`.
 fn is_less(part: &[i64], a: u32, b: u32) -> bool
-    ensures { result ≡ int_lt (cell part.now rateField a) (cell part.now rateField b) }
+    ensures { result ≡ int_lt (cell part.now rate_field a) (cell part.now rate_field b) }
 {
     table::is_above(part, table::RATE, b, table::get(part, table::RATE, a))
 }
 
 // The line in slot `s` alone, or at 0 nothing; nothing was searched.
 pub fn alone(s: u32) -> Made
-    ensures { result ≡ aloneAt s }
+    ensures { result ≡ alone_at s }
 {
     Made {
         held: Held {
@@ -171,7 +171,7 @@ pub fn alone(s: u32) -> Made
 
 // Puts the line in `slot` beside the single line `h`.
 fn insert_beside(part: &mut [i64], h: Held, slot: u32) -> Made
-    ensures { (limit : ℕ) → h.tree ≤ mostSlots → InsertedBelow limit slot h part.old part.new result }
+    ensures { (limit : ℕ) → h.tree ≤ most_slots → InsertedBelow limit slot h part.old part.new result }
 {
     let line = Held {
         tree: slot,

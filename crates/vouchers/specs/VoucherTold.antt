@@ -1,7 +1,7 @@
 -- What a voucher call tells: the requirements' number and values (11, 16.5) for each case of its answer, and what it promises.
 use Rattle.std.specs.Prelude.{◌≡◌, List, [], ◌∷◌, not, ℤ, pos}
-use Rattle.offers.specs.Offers.{priceInRange}
-use Rattle.plain.specs.Causes.{Cause, Trial, ◌when◌, causeNumber, priceOutOfRange, FirstOf, Clear}
+use Rattle.offers.specs.Offers.{price_in_range}
+use Rattle.plain.specs.Causes.{Cause, Trial, ◌when◌, cause_number, price_out_of_range, FirstOf, Clear}
 use Rattle.vouchers.specs.Rule.{Rounded}
 use Rattle.vouchers.specs.declared.Voucher.{Voucher}
 use Rattle.vouchers.specs.declared.Voucher.TheVariants.{Units, Declined}
@@ -11,22 +11,22 @@ pub record Told : Type 0 where
   pub number : ℤ
   pub values : List ℤ
 
-abbrev pub inUnits : ℤ → Told
-inUnits u = record { number = pos 0; values = u ∷ [] }
+abbrev pub in_units : ℤ → Told
+in_units u = record { number = pos 0; values = u ∷ [] }
 
 abbrev pub refusal : Cause → Told
-refusal c = record { number = pos (causeNumber c); values = [] }
+refusal c = record { number = pos (cause_number c); values = [] }
 
 abbrev pub told : Voucher → Told
-told (Units u) = inUnits u
+told (Units u) = in_units u
 told (Declined k) = record { number = k; values = [] }
 
 -- ---- the promise
 
-abbrev pub voucherTrials : ℤ → List Trial
-voucherTrials price = priceOutOfRange when not (priceInRange price) ∷ []
+abbrev pub voucher_trials : ℤ → List Trial
+voucher_trials price = price_out_of_range when not (price_in_range price) ∷ []
 
 -- Outside the span the number 4 alone, and inside it one value, the price rounded. This leaves one answer (`only-due`).
 pub record Vouches (price : ℤ) (v : Voucher) : Type 0 where
-  pub declined : (z : Cause) → FirstOf (voucherTrials price) z → told v ≡ refusal z
-  pub accepted : Clear (voucherTrials price) → (u : ℤ) × (told v ≡ inUnits u) × Rounded price u
+  pub declined : (z : Cause) → FirstOf (voucher_trials price) z → told v ≡ refusal z
+  pub accepted : Clear (voucher_trials price) → (u : ℤ) × (told v ≡ in_units u) × Rounded price u

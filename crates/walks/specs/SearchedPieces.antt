@@ -6,25 +6,25 @@ use mathlib.Core.List.{IsChain}
 use mathlib.Mathlib.Data.List.Chain.IsChain
 use Rattle.std.specs.Int.Signed.{le_z, lt_z}
 use Rattle.lists.specs.Bools.{and_both, and_right}
-use Rattle.integers.specs.Parts.{intRules, gap-above}
-use Rattle.offers.specs.Offers.{between, crossingNumerator, crossingDenominator}
-use Rattle.offers.specs.Sizes.{rate-of, base-of, base-gap-in-range, rate-gap-in-range}
-use Rattle.offers.specs.Bounded.{bounded, bounded-in}
+use Rattle.integers.specs.Parts.{intRules, gap_above}
+use Rattle.offers.specs.Offers.{between, crossing_numerator, crossing_denominator}
+use Rattle.offers.specs.Sizes.{rate_of_lem, base_of_lem, base_gap_in_range, rate_gap_in_range}
+use Rattle.offers.specs.Bounded.{bounded, bounded_in}
 use Rattle.trees.specs.Tree.{Tree, leaf, node, leaves, first, last}
 use Rattle.trees.specs.Leaves.{first_leaf, last_leaf}
-use Rattle.meeting.specs.Machine.{Side, left, right, away, toward, localAtMost}
-use Rattle.table.specs.Fields.{mostSlots, nextPieceField, pieceTree}
+use Rattle.meeting.specs.Machine.{Side, left, right, away, toward, local_at_most}
+use Rattle.table.specs.Fields.{most_slots, next_piece_field, piece_tree}
 use Rattle.table.specs.Words.{Words}
-use Rattle.table.specs.Layout.{cap-most, link_at}
-use Rattle.table.specs.Items.{Item, slots-left, slots-right}
-use Rattle.table.specs.Rep.{childField, childAt, refOf, Tied, tied-node, Rep}
-use Rattle.table.specs.Threads.{Held, Holds, holds-left, holds-right, Next, Threaded, chain-seam}
-use Rattle.walks.specs.ItemLines.{itemFigure, rateOf, base_of, Falls, scaled, price-test}
-use Rattle.prices.specs.Prices.{rateAt, base_at, numeratorAt, denominatorAt, priceIn, atMostAt, keptIn, kept-leaf, kept-inner, aboveAt, above-one, above-two}
+use Rattle.table.specs.Layout.{cap_most, link_at}
+use Rattle.table.specs.Items.{Item, slots_left, slots_right}
+use Rattle.table.specs.Rep.{child_field, child_at, ref_of, Tied, tied_node, Rep}
+use Rattle.table.specs.Threads.{Held, Holds, holds_left, holds_right, Next, Threaded, chain_seam}
+use Rattle.walks.specs.ItemLines.{item_figure, rate_of, base_of, Falls, scaled, price_test}
+use Rattle.prices.specs.Prices.{rate_at, base_at, numerator_at, denominator_at, price_in, at_most_at, kept_in, kept_leaf, kept_inner, above_at, above_one, above_two}
 
 -- node x is the root of a tree of pieces
 pub record Pieces (w : Words) (x : ℕ) (t : Tree Item) : Type 0 where
-  pub rep : Rep w pieceTree x t
+  pub rep : Rep w piece_tree x t
   pub holds : Holds w (leaves t)
   pub threaded : Threaded w (leaves t)
   pub falling : IsChain Falls (leaves t)
@@ -36,102 +36,102 @@ side_of false = left
 side_of true = right
 
 module _ {w : Words} {x : ℕ} {l r : Tree Item} (p : Pieces w x (node l r)) where
-  pub seam-at : x - mostSlots ≡ (last l).slot
-  seam-at = omega (arith, p.rep.root)
+  pub seam_at_lem : x - most_slots ≡ (last l).slot
+  seam_at = omega (arith, p.rep.root)
 
-  pub inner-high : mostSlots < x
-  inner-high = omega (arith, p.rep.root, (slots-left (leaves r) p.rep.slots).low (last_leaf l))
+  pub inner_high : most_slots < x
+  inner_high = omega (arith, p.rep.root, (slots_left (leaves r) p.rep.slots).low (last_leaf l))
 
-  pub pieces-left : Pieces w (childAt w pieceTree false x) l
-  pieces-left =
+  pub pieces_left : Pieces w (child_at w piece_tree false x) l
+  pieces_left =
       record {
         rep = record {
           kind = p.rep.kind;
-          root = ap (link_at w (childField pieceTree false)) seam-at ∙ at_left p.rep.tied;
+          root = ap (link_at w (child_field piece_tree false)) seam_at_lem ∙ at_left p.rep.tied;
           slots =
-              slots-left (leaves r) p.rep.slots;
-          tied = tied-left p.rep.tied;
+              slots_left (leaves r) p.rep.slots;
+          tied = tied_left p.rep.tied;
         };
-        holds = holds-left (leaves r) p.holds;
+        holds = holds_left (leaves r) p.holds;
         threaded = IsChain.left_of_append (leaves r) p.threaded;
         falling = IsChain.left_of_append (leaves r) p.falling;
       }
     where
-      at_left : Tied w pieceTree (node l r) → link_at w (childField pieceTree false) (last l).slot ≡ refOf l
-      at_left (tied-node tl tr el er eh) = el
+      at_left : Tied w piece_tree (node l r) → link_at w (child_field piece_tree false) (last l).slot ≡ ref_of l
+      at_left (tied_node tl tr el er eh) = el
 
-      tied-left : Tied w pieceTree (node l r) → Tied w pieceTree l
-      tied-left (tied-node tl tr el er eh) = tl
+      tied_left : Tied w piece_tree (node l r) → Tied w piece_tree l
+      tied_left (tied_node tl tr el er eh) = tl
 
-  pub pieces-right : Pieces w (childAt w pieceTree true x) r
-  pieces-right =
+  pub pieces_right : Pieces w (child_at w piece_tree true x) r
+  pieces_right =
       record {
         rep = record {
           kind = p.rep.kind;
-          root = ap (link_at w (childField pieceTree true)) seam-at ∙ at_right p.rep.tied;
+          root = ap (link_at w (child_field piece_tree true)) seam_at_lem ∙ at_right p.rep.tied;
           slots =
-              slots-right (leaves l) p.rep.slots;
-          tied = tied-right p.rep.tied;
+              slots_right (leaves l) p.rep.slots;
+          tied = tied_right p.rep.tied;
         };
-        holds = holds-right (leaves l) p.holds;
+        holds = holds_right (leaves l) p.holds;
         threaded = IsChain.right_of_append (leaves l) p.threaded;
         falling = IsChain.right_of_append (leaves l) p.falling;
       }
     where
-      at_right : Tied w pieceTree (node l r) → link_at w (childField pieceTree true) (last l).slot ≡ refOf r
-      at_right (tied-node tl tr el er eh) = er
+      at_right : Tied w piece_tree (node l r) → link_at w (child_field piece_tree true) (last l).slot ≡ ref_of r
+      at_right (tied_node tl tr el er eh) = er
 
-      tied-right : Tied w pieceTree (node l r) → Tied w pieceTree r
-      tied-right (tied-node tl tr el er eh) = tr
+      tied_right : Tied w piece_tree (node l r) → Tied w piece_tree r
+      tied_right (tied_node tl tr el er eh) = tr
 
-pub pieces-away : {w : Words} {x : ℕ} {l r : Tree Item} (side : Bool) → Pieces w x (node l r) → Pieces w (childAt w pieceTree side x) (away (side_of side) l r)
-pieces-away false p = pieces-left p
-pieces-away true p = pieces-right p
+pub pieces_away : {w : Words} {x : ℕ} {l r : Tree Item} (side : Bool) → Pieces w x (node l r) → Pieces w (child_at w piece_tree side x) (away (side_of side) l r)
+pieces_away false p = pieces_left p
+pieces_away true p = pieces_right p
 
-pub pieces-toward : {w : Words} {x : ℕ} {l r : Tree Item} (side : Bool) → Pieces w x (node l r) →
-    Pieces w (childAt w pieceTree (not side) x) (toward (side_of side) l r)
-pieces-toward false p = pieces-right p
-pieces-toward true p = pieces-left p
+pub pieces_toward : {w : Words} {x : ℕ} {l r : Tree Item} (side : Bool) → Pieces w x (node l r) →
+    Pieces w (child_at w piece_tree (not side) x) (toward (side_of side) l r)
+pieces_toward false p = pieces_right p
+pieces_toward true p = pieces_left p
 
-pub leaf-low : {w : Words} {x : ℕ} {a : Item} → Pieces w x (leaf a) → x ≤ mostSlots
-leaf-low {w} p = omega (arith, p.rep.root, p.rep.slots.high (Memᴰ.head refl), cap-most w)
+pub leaf_low : {w : Words} {x : ℕ} {a : Item} → Pieces w x (leaf a) → x ≤ most_slots
+leaf_low {w} p = omega (arith, p.rep.root, p.rep.slots.high (Memᴰ.head refl), cap_most w)
 
 -- ---- the code's comparison
 
 -- of a slot that holds an offer, the code reads its rate and base
 module _ {w : Words} {a : Item} (h : Held w a) where
-  pub read-rate : rateAt w a.slot ≡ rateOf a
-  read-rate = ap (bounded _ _) h.rate ∙ bounded-in _ _ (rateOf a) (rate-of a.offer h.ranged)
+  pub read_rate : rate_at w a.slot ≡ rate_of a
+  read_rate = ap (bounded _ _) h.rate ∙ bounded_in _ _ (rate_of a) (rate_of_lem a.offer h.ranged)
 
-  read-base : base_at w a.slot ≡ base_of a
-  read-base = ap (bounded _ _) h.base ∙ bounded-in _ _ (base_of a) (base-of a.offer h.ranged)
+  read_base : base_at w a.slot ≡ base_of a
+  read_base = ap (bounded _ _) h.base ∙ bounded_in _ _ (base_of a) (base_of_lem a.offer h.ranged)
 
-  pub read-price : (n d : ℤ) → priceIn w a.slot n d ≡ scaled a n d
-  read-price n d = ap₂ (λ (b r : ℤ). b *ℤ d +ℤ r *ℤ n) read-base read-rate
+  pub read_price : (n d : ℤ) → price_in w a.slot n d ≡ scaled a n d
+  read_price n d = ap₂ (λ (b r : ℤ). b *ℤ d +ℤ r *ℤ n) read_base read_rate
 
 -- of a slot that leads to the next, the crossing
 module _ {w : Words} {a b : Item} (h : Held w a) (k : Held w b) (n : Next w a b) (f : Falls a b) where
-  gap-ranged : T (between (pos 0) (pos 200_000) (rateOf a -ℤ rateOf b))
-  gap-ranged =
-      let g : ℤ = rateOf a -ℤ rateOf b in
-      and_both (le_z (pos 0) g) (le_z g (pos 200_000)) (above (gap-above (rateOf a) (rateOf b) f))
-      (and_right (le_z (neg_ℤ (pos 200_000)) g) (le_z g (pos 200_000)) (rate-gap-in-range (rateOf a) (rateOf b) (rate-of a.offer h.ranged)
-      (rate-of b.offer k.ranged)))
+  gap_ranged : T (between (pos 0) (pos 200_000) (rate_of a -ℤ rate_of b))
+  gap_ranged =
+      let g : ℤ = rate_of a -ℤ rate_of b in
+      and_both (le_z (pos 0) g) (le_z g (pos 200_000)) (above (gap_above (rate_of a) (rate_of b) f))
+      (and_right (le_z (neg_ℤ (pos 200_000)) g) (le_z g (pos 200_000)) (rate_gap_in_range (rate_of a) (rate_of b) (rate_of_lem a.offer h.ranged)
+      (rate_of_lem b.offer k.ranged)))
     where
-      above : T (lt_z (pos 0) (rateOf a -ℤ rateOf b)) → T (le_z (pos 0) (rateOf a -ℤ rateOf b))
+      above : T (lt_z (pos 0) (rate_of a -ℤ rate_of b)) → T (le_z (pos 0) (rate_of a -ℤ rate_of b))
       above t = omega (arith, intRules)
 
-  pub read-numerator : numeratorAt w a.slot ≡ crossingNumerator a.offer b.offer
-  read-numerator =
+  pub read_numerator : numerator_at w a.slot ≡ crossing_numerator a.offer b.offer
+  read_numerator =
       ap (bounded _ _) n.numerator
-      ∙ bounded-in _ _ _ (base-gap-in-range (base_of a) (base_of b) (base-of a.offer h.ranged) (base-of b.offer k.ranged))
+      ∙ bounded_in _ _ _ (base_gap_in_range (base_of a) (base_of b) (base_of_lem a.offer h.ranged) (base_of_lem b.offer k.ranged))
 
-  pub read-denominator : denominatorAt w a.slot ≡ crossingDenominator a.offer b.offer
-  read-denominator = ap (bounded _ _) n.denominator ∙ bounded-in _ _ _ gap-ranged
+  pub read_denominator : denominator_at w a.slot ≡ crossing_denominator a.offer b.offer
+  read_denominator = ap (bounded _ _) n.denominator ∙ bounded_in _ _ _ gap_ranged
 
   -- the line of another item that is held, at that crossing
-  read-test : {v : Words} {e : Item} → Held v e → atMostAt w a.slot v e.slot ≡ itemFigure.at_most e a (itemFigure.cross a b)
-  read-test {v} {e} g = simp (read-numerator, read-denominator, read-price g, read-price h) (sym (price-test e a a b f))
+  read_test : {v : Words} {e : Item} → Held v e → at_most_at w a.slot v e.slot ≡ item_figure.at_most e a (item_figure.cross a b)
+  read_test {v} {e} g = simp (read_numerator, read_denominator, read_price g, read_price h) (sym (price_test e a a b f))
 
 -- what a node's slot holds
 pub record Seam (w : Words) (l r : Tree Item) : Type 0 where
@@ -141,29 +141,29 @@ pub record Seam (w : Words) (l r : Tree Item) : Type 0 where
   pub falls : Falls (last l) (first r)
   pub some : 1 ≤ (last l).slot
 
-pub seam-of : {w : Words} {x : ℕ} {l r : Tree Item} → Pieces w x (node l r) → Seam w l r
-seam-of {l} {r} p =
+pub seam_of : {w : Words} {x : ℕ} {l r : Tree Item} → Pieces w x (node l r) → Seam w l r
+seam_of {l} {r} p =
     record {
       held = p.holds.held (Memᴰ.append_left (leaves r) (last_leaf l));
       held_next = p.holds.held (Memᴰ.append_right (leaves l) (first_leaf r));
-      next = chain-seam l r p.threaded;
-      falls = chain-seam l r p.falling;
+      next = chain_seam l r p.threaded;
+      falls = chain_seam l r p.falling;
       some = p.rep.slots.low (Memᴰ.append_left (leaves r) (last_leaf l));
     }
 
 -- The code compares the crossing at a node with the local envelope of another as the machine does.
-pub seam-above : {w v : Words} {x y : ℕ} {l r t : Tree Item} → Pieces w x (node l r) → Pieces v y t →
-    aboveAt w (last l).slot v y ≡ localAtMost itemFigure t (last l) (itemFigure.cross (last l) (first r))
-seam-above {w} {v} {x} {y} {l} {r} {t = leaf e} p q =
-    let s = seam-of p in
-    above-one w (last l).slot v y s.some (leaf-low q)
-    ∙ ap (atMostAt w (last l).slot v) (kept-leaf y (leaf-low q) ∙ q.rep.root)
-    ∙ read-test s.held s.held_next s.next s.falls (q.holds.held (Memᴰ.head refl))
-seam-above {w} {v} {x} {y} {l} {r} {t = node l' r'} p q =
-    let s = seam-of p in
-    let z = seam-of q in
-    let k : keptIn y ≡ (last l').slot = kept-inner y (inner-high q) ∙ seam-at q in
-    above-two w (last l).slot v y s.some (inner-high q)
+pub seam_above : {w v : Words} {x y : ℕ} {l r t : Tree Item} → Pieces w x (node l r) → Pieces v y t →
+    above_at w (last l).slot v y ≡ local_at_most item_figure t (last l) (item_figure.cross (last l) (first r))
+seam_above {w} {v} {x} {y} {l} {r} {t = leaf e} p q =
+    let s = seam_of p in
+    above_one w (last l).slot v y s.some (leaf_low q)
+    ∙ ap (at_most_at w (last l).slot v) (kept_leaf y (leaf_low q) ∙ q.rep.root)
+    ∙ read_test s.held s.held_next s.next s.falls (q.holds.held (Memᴰ.head refl))
+seam_above {w} {v} {x} {y} {l} {r} {t = node l' r'} p q =
+    let s = seam_of p in
+    let z = seam_of q in
+    let k : kept_in y ≡ (last l').slot = kept_inner y (inner_high q) ∙ seam_at_lem q in
+    above_two w (last l).slot v y s.some (inner_high q)
     ∙ ap₂ ◌||◌
-    (ap (atMostAt w (last l).slot v) k ∙ read-test s.held s.held_next s.next s.falls z.held)
-    (ap (atMostAt w (last l).slot v) (ap (link_at v nextPieceField) k ∙ z.next.next) ∙ read-test s.held s.held_next s.next s.falls z.held_next)
+    (ap (at_most_at w (last l).slot v) k ∙ read_test s.held s.held_next s.next s.falls z.held)
+    (ap (at_most_at w (last l).slot v) (ap (link_at v next_piece_field) k ∙ z.next.next) ∙ read_test s.held s.held_next s.next s.falls z.held_next)

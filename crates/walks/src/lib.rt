@@ -2,7 +2,7 @@
 // Left is false, right is true; toward is the way to the other envelope, away the way to the outer end.
 ghost use Rattle.std.specs.Prelude.{◌≡◌};
 ghost use Rattle.table.specs.Layout.{cap};
-ghost use Rattle.walks.specs.CodeMoves.{topIn, pointWord};
+ghost use Rattle.walks.specs.CodeMoves.{top_in, point_word};
 ghost use Rattle.walks.specs.Actions.{Retreats, Advances, Pops, Acts, sided};
 
 // The most nodes on a stack: a walk pushes at most one for each level of its tree.
@@ -34,7 +34,7 @@ pub struct Stand {
 
 // The node pushed last, and 0 where there is none. Most steps go without it, so that it is read where it is asked for.
 pub fn top(stack: &[u32; STACK], depth: usize) -> u32
-    ensures { result ≡ topIn stack.now depth }
+    ensures { result ≡ top_in stack.now depth }
 {
     if depth < 1 {
         return 0;
@@ -47,7 +47,7 @@ pub fn top(stack: &[u32; STACK], depth: usize) -> u32
 
 // The slot that keeps the walk's point: an inner node's own, of a leaf that of the node pushed last.
 pub fn point(at: u32, stack: &[u32; STACK], depth: usize) -> u32
-    ensures { result ≡ pointWord at (topIn stack.now depth) }
+    ensures { result ≡ point_word at (top_in stack.now depth) }
 {
     if at <= table::MOST_SLOTS {
         return table::inner_slot(top(stack, depth));
@@ -117,7 +117,7 @@ pub fn act(
     depth: usize,
 ) -> Stand
     requires { c ≡ cap part.now }
-    ensures { Acts part.now side action at depth (topIn stack.now depth) result }
+    ensures { Acts part.now side action at depth (top_in stack.now depth) result }
 {
     match action {
         Action::Stay => Stand {

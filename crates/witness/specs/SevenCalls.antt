@@ -3,16 +3,16 @@ use Rattle.std.specs.Prelude.{◌≡◌, refl, List, [], ◌∷◌, length, ℤ,
 use Rattle.std.proofs.Common.{sym, subst}
 use Rattle.std.proofs.Math.Option.{none}
 use Rattle.plain.specs.Causes.{Clear}
-use Rattle.plain.specs.Book.{post, withdraw, takeBack, Answer, opened, openTrials}
+use Rattle.plain.specs.Book.{post, withdraw, take_back, Answer, opened, open_trials}
 use Rattle.promises.specs.declared.Opening.{Opening}
 use Rattle.promises.specs.declared.Opening.TheVariants.{Opened}
 use Rattle.promises.specs.declared.Update.{Update}
 use Rattle.promises.specs.declared.Found.{Found}
 use Rattle.promises.specs.declared.Listed.{Listed}
 use Rattle.form.specs.Local.{Alike}
-use Rattle.promises.specs.Promises.{part_of, Opens, Updates, Queries, Lists, updateAnswer, foundAnswer, listingAnswer}
-use Rattle.history.specs.History.{posting, withdrawing, taking-back, by-update, by-query, by-listing, History, finished, next}
-use Rattle.history.specs.Claim.{Claim, every-history}
+use Rattle.promises.specs.Promises.{part_of, Opens, Updates, Queries, Lists, update_answer, found_answer, listing_answer}
+use Rattle.history.specs.History.{posting, withdrawing, taking_back, by_update, by_query, by_listing, History, finished, next}
+use Rattle.history.specs.Claim.{Claim, every_history}
 use Rattle.witness.specs.Witness.{calls, told, Witness}
 
 -- nobody writes between two calls
@@ -24,7 +24,7 @@ pub made :
     length t ≡ 1_280 → length out ≡ 6 → Opens (pos 3) 0 t t₀ r → Updates (post (pos 1) (pos 3) (pos 0)) 0 t₀ t₁ u₁ →
     Updates (post (pos 2) (pos 1) (pos 10)) 0 t₁ t₂ u₂ →
     Queries (pos 5) 0 t₂ f₁ → Lists 0 t₂ out out' l → Updates (withdraw (pos 1)) 0 t₂ t₃ u₃ → Queries (pos 5) 0 t₃ f₂ →
-    Updates takeBack 0 t₃ t₄ u₄ → Witness
+    Updates take_back 0 t₃ t₄ u₄ → Witness
 made {t} {t₀} {t₁} {t₂} {t₃} {t₄} {out} {out'} {r} {u₁} {u₂} {u₃} {u₄} {f₁} {f₂} {l} e d p a b q s w z x =
     record {
       before = t;
@@ -37,20 +37,20 @@ made {t} {t₀} {t₁} {t₂} {t₃} {t₄} {out} {out'} {r} {u₁} {u₂} {u₃
       history = subst (λ (as' : List Answer). History 3 0 t₀ calls as' t₄) claim.1.told history;
     }
   where
-    free : Clear (openTrials (length t) 0 (pos 3))
+    free : Clear (open_trials (length t) 0 (pos 3))
     free = rw e (tt, (tt, tt))
 
     history :
         History 3 0 t₀ calls
-        (updateAnswer u₁ ∷ updateAnswer u₂ ∷ foundAnswer f₁ ∷ listingAnswer l out' ∷ updateAnswer u₃ ∷ foundAnswer f₂ ∷ updateAnswer u₄ ∷ []) t₄
+        (update_answer u₁ ∷ update_answer u₂ ∷ found_answer f₁ ∷ listing_answer l out' ∷ update_answer u₃ ∷ found_answer f₂ ∷ update_answer u₄ ∷ []) t₄
     history =
-        next (alike t₀) (by-update (posting (pos 1) (pos 3) (pos 0)) u₁ a refl)
-        (next (alike t₁) (by-update (posting (pos 2) (pos 1) (pos 10)) u₂ b refl)
-        (next (alike t₂) (by-query (pos 5) f₁ q refl refl)
-        (next (alike t₂) (by-listing out out' l s (sym d) refl refl)
-        (next (alike t₂) (by-update (withdrawing (pos 1)) u₃ w refl)
-        (next (alike t₃) (by-query (pos 5) f₂ z refl refl)
-        (next (alike t₃) (by-update taking-back u₄ x refl) finished))))))
+        next (alike t₀) (by_update (posting (pos 1) (pos 3) (pos 0)) u₁ a refl)
+        (next (alike t₁) (by_update (posting (pos 2) (pos 1) (pos 10)) u₂ b refl)
+        (next (alike t₂) (by_query (pos 5) f₁ q refl refl)
+        (next (alike t₂) (by_listing out out' l s (sym d) refl refl)
+        (next (alike t₂) (by_update (withdrawing (pos 1)) u₃ w refl)
+        (next (alike t₃) (by_query (pos 5) f₂ z refl refl)
+        (next (alike t₃) (by_update taking_back u₄ x refl) finished))))))
 
     claim : (r ≡ Opened) × Claim (opened (pos 3)) none history
-    claim = every-history (pos 3) r p free history
+    claim = every_history (pos 3) r p free history

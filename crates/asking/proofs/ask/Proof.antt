@@ -5,7 +5,7 @@ use lib.IntN.{pos}
 use mir.Facts.{to_z-of_z, to_z_pos}
 use mir.Syntax.{w64}
 use mir.Val.{SFits, to_z}
-use Rattle.asking.specs.Asking.{asks-empty, asks-found}
+use Rattle.asking.specs.Asking.{asks_empty, asks_found}
 use borrow.Author.Rules.{rules}
 use Rattle.asking.proofs.ask.Statement.{statement}
 use Rattle.asking.proofs.ask.Tie as tie
@@ -14,7 +14,7 @@ number-at-requires : tie.Need-number-at-requires
 number-at-requires c κs = search rules
 
 returns : tie.Need-returns
-returns c = asks-empty c.before.number_at.ensures c.if1.true
+returns c = asks_empty c.before.number_at.ensures c.if1.true
 
 envelope-root-requires : tie.Need-envelope-root-requires
 envelope-root-requires c κs = search rules
@@ -52,7 +52,7 @@ returns-2 c =
     let k : SFits w64 c.beside.result = record { sfits = c.beside.type-inv } in
     let v : to_z w64 at-descend.descend.result.probes ≡ pos at-descend.descend.result.probes = to_z_pos w64 (omega (arith, cast-t13 c)) in
     simp (to_z-of_z, g, h, k, v)
-    (asks-found at-number-at.number_at.ensures at-if1.if1.false
+    (asks_found at-number-at.number_at.ensures at-if1.if1.false
     (record {
       at-root = at-root.envelope-root.ensures;
       down = simp (to_z-of_z, f) at at-descend.descend.ensures;

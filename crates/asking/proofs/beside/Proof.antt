@@ -2,7 +2,7 @@
 use mathlib.Core.Path.{sym, ◌∙◌, ap}
 use Prim.Native.Nat.{ℕ}
 use mir.Facts.{to_z-of_z}
-use Rattle.table.specs.Fields.{numberField}
+use Rattle.table.specs.Fields.{number_field}
 use Rattle.table.specs.Layout.{cell}
 use borrow.Author.Rules.{rules}
 use Rattle.asking.proofs.beside.Statement.{statement}
@@ -11,7 +11,7 @@ use Rattle.asking.proofs.beside.Tie as tie
 returns : tie.Need-returns
 returns c =
     let entry = c.before in
-    simp (to_z-of_z, entry.ranges.number) (entry.requires ∙ ap (λ (s : ℕ). cell entry.args.part.now numberField s) (sym c.if1.true))
+    simp (to_z-of_z, entry.ranges.number) (entry.requires ∙ ap (λ (s : ℕ). cell entry.args.part.now number_field s) (sym c.if1.true))
 
 number-requires : tie.Need-number-requires
 number-requires c κs = search rules

@@ -1,7 +1,7 @@
 -- `asking::query` meets its contract: by its guards, and then the answer on the part.
 use mir.Facts.{to_z-of_z}
-use Rattle.promises.specs.LentPart.{book-start}
-use Rattle.asking.specs.Asking.{queries-none, queries-range, queries-asked}
+use Rattle.promises.specs.LentPart.{book_start}
+use Rattle.asking.specs.Asking.{queries_none, queries_range, queries_asked}
 use borrow.Author.Rules.{rules}
 use Rattle.asking.proofs.query.Statement.{statement}
 use Rattle.asking.proofs.query.Tie as tie
@@ -11,7 +11,7 @@ no-book-requires c κs = search rules
 
 returns : tie.Need-returns
 returns c =
-    queries-none c.before.before.args.load c.before.before.args.table.now c.before.before.args.start c.before.no-book.ensures
+    queries_none c.before.before.args.load c.before.before.args.table.now c.before.before.args.start c.before.no-book.ensures
     c.if1.true
 
 outside-requires : tie.Need-outside-requires
@@ -22,7 +22,7 @@ returns-2 c =
     let at-if1 = c.before.before in
     let at-no-book = at-if1.before in
     let entry = at-no-book.before in
-    queries-range entry.args.load entry.args.table.now entry.args.start at-no-book.no-book.ensures at-if1.if1.false
+    queries_range entry.args.load entry.args.table.now entry.args.start at-no-book.no-book.ensures at-if1.if1.false
     (simp (to_z-of_z, entry.ranges.load) at c.before.outside.ensures) c.if2.true
 
 mul-ask : tie.Need-overflow-mul-ask
@@ -30,21 +30,21 @@ mul-ask c =
     let at-if1 = c.before.before in
     let at-no-book = at-if1.before in
     let entry = at-no-book.before in
-    let h = book-start entry.args.table.now entry.args.start at-no-book.no-book.ensures at-if1.if1.false in search rules
+    let h = book_start entry.args.table.now entry.args.start at-no-book.no-book.ensures at-if1.if1.false in search rules
 
 sub-ask : tie.Need-overflow-sub-ask
 sub-ask c =
     let at-if1 = c.before.before in
     let at-no-book = at-if1.before in
     let entry = at-no-book.before in
-    let h = book-start entry.args.table.now entry.args.start at-no-book.no-book.ensures at-if1.if1.false in search rules
+    let h = book_start entry.args.table.now entry.args.start at-no-book.no-book.ensures at-if1.if1.false in search rules
 
 part-ask-start : tie.Need-slice-bounds-ask-start
 part-ask-start c =
     let at-if1 = c.before.before in
     let at-no-book = at-if1.before in
     let entry = at-no-book.before in
-    let h = book-start entry.args.table.now entry.args.start at-no-book.no-book.ensures at-if1.if1.false in search rules
+    let h = book_start entry.args.table.now entry.args.start at-no-book.no-book.ensures at-if1.if1.false in search rules
 
 part-ask-end : tie.Need-slice-bounds-ask-end
 part-ask-end c = search rules
@@ -59,7 +59,7 @@ returns-3 c =
     let at-if1 = at-outside.before in
     let at-no-book = at-if1.before in
     let entry = at-no-book.before in
-    queries-asked entry.args.load entry.args.table.now entry.args.start at-no-book.no-book.ensures at-if1.if1.false
+    queries_asked entry.args.load entry.args.table.now entry.args.start at-no-book.no-book.ensures at-if1.if1.false
     (simp (to_z-of_z, entry.ranges.load) at at-outside.outside.ensures) at-if2.if2.false (simp (to_z-of_z, entry.ranges.load) at c.ask.ensures)
 
 pub query-spec : {M : Type 1} → statement M

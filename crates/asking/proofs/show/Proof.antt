@@ -5,7 +5,7 @@ use lib.IntN.{pos}
 use mir.Syntax.{w64}
 use mir.Val.{to_z}
 use mir.Facts.{to_z_pos}
-use Rattle.asking.specs.Showing.{shown-short, shown-all}
+use Rattle.asking.specs.Showing.{shown_short, shown_all}
 use borrow.Author.Rules.{rules}
 use Rattle.asking.proofs.show.Statement.{statement}
 use Rattle.asking.proofs.show.Tie as tie
@@ -29,7 +29,7 @@ returns : tie.Need-returns
 returns c =
     let at-write = c.before.before in
     let at-envelope-root = at-write.before.before in
-    shown-short at-envelope-root.envelope-root.ensures at-write.write.ensures c.if1.true
+    shown_short at-envelope-root.envelope-root.ensures at-write.write.ensures c.if1.true
 
 cast-t11 : tie.Need-overflow-cast-t11
 cast-t11 c = search rules
@@ -42,7 +42,7 @@ returns-2 c =
     let at-write = c.before.before in
     let at-envelope-root = at-write.before.before in
     let n : to_z w64 at-write.write.result ≡ pos at-write.write.result = to_z_pos w64 (omega (arith, at-write.write.ensures.counted.few)) in
-    simp n (shown-all at-envelope-root.envelope-root.ensures at-write.write.ensures c.if1.false)
+    simp n (shown_all at-envelope-root.envelope-root.ensures at-write.write.ensures c.if1.false)
 
 pub show-spec : {M : Type 1} → statement M
 show-spec =

@@ -5,9 +5,9 @@ use lib.IntN.{pos}
 use mir.Facts.{to_z-of_z, to_z_pos}
 use mir.Syntax.{w64}
 use mir.Val.{to_z}
-use Rattle.recording.specs.Ranges.{range-offer}
-use Rattle.book.specs.TableUpdates.{updates-none, updates-range, post-refused, post-accepted}
-use Rattle.promises.specs.LentPart.{book-start}
+use Rattle.recording.specs.Ranges.{range_offer}
+use Rattle.book.specs.TableUpdates.{updates_none, updates_range, post_refused, post_accepted}
+use Rattle.promises.specs.LentPart.{book_start}
 use borrow.Author.Rules.{rules}
 use Rattle.book.proofs.post.Statement.{statement}
 use Rattle.book.proofs.post.Tie as tie
@@ -19,7 +19,7 @@ same_length : tie.Need-same-length
 same_length c = search rules
 
 returns : tie.Need-returns
-returns c = updates-none _ _ _ _ c.before.no-book.ensures c.if1.true refl
+returns c = updates_none _ _ _ _ c.before.no-book.ensures c.if1.true refl
 
 range-cause-requires : tie.Need-range-cause-requires
 range-cause-requires c κs = search rules
@@ -38,7 +38,7 @@ returns-2 c =
     let entry = at-no-book.before.before in
     let cause = at-range-cause.range-cause in
     let v : to_z w64 cause.result ≡ pos cause.result = to_z_pos w64 (omega (arith, cause.type-inv)) in
-    updates-range _ _ _ _ at-no-book.no-book.ensures at-if1.if1.false
+    updates_range _ _ _ _ at-no-book.no-book.ensures at-if1.if1.false
     (simp (to_z-of_z, entry.ranges.number, entry.ranges.rate, entry.ranges.base) at cause.ensures) c.if2.true (simp v refl) refl
 
 mul-post-cause : tie.Need-overflow-mul-post-cause
@@ -46,21 +46,21 @@ mul-post-cause c =
     let at-if1 = c.before.before in
     let at-no-book = at-if1.before in
     let entry = at-no-book.before.before in
-    omega (arith, book-start entry.args.table.now entry.args.start at-no-book.no-book.ensures at-if1.if1.false)
+    omega (arith, book_start entry.args.table.now entry.args.start at-no-book.no-book.ensures at-if1.if1.false)
 
 sub-post-cause : tie.Need-overflow-sub-post-cause
 sub-post-cause c =
     let at-if1 = c.before.before in
     let at-no-book = at-if1.before in
     let entry = at-no-book.before.before in
-    omega (arith, book-start entry.args.table.now entry.args.start at-no-book.no-book.ensures at-if1.if1.false)
+    omega (arith, book_start entry.args.table.now entry.args.start at-no-book.no-book.ensures at-if1.if1.false)
 
 part-post-cause-start : tie.Need-slice-bounds-post-cause-start
 part-post-cause-start c =
     let at-if1 = c.before.before.before in
     let at-no-book = at-if1.before in
     let entry = at-no-book.before.before in
-    omega (arith, book-start entry.args.table.now entry.args.start at-no-book.no-book.ensures at-if1.if1.false)
+    omega (arith, book_start entry.args.table.now entry.args.start at-no-book.no-book.ensures at-if1.if1.false)
 
 part-post-cause-end : tie.Need-slice-bounds-post-cause-end
 part-post-cause-end c = search rules
@@ -84,7 +84,7 @@ returns-3 c =
     let entry = at-no-book.before.before in
     let cause = at-post-cause.post-cause in
     let v : to_z w64 cause.result ≡ pos cause.result = to_z_pos w64 (omega (arith, cause.type-inv)) in
-    post-refused _ _ _ at-no-book.no-book.ensures at-if1.if1.false _ _ _
+    post_refused _ _ _ at-no-book.no-book.ensures at-if1.if1.false _ _ _
     (simp (to_z-of_z, entry.ranges.number, entry.ranges.rate, entry.ranges.base) at at-range-cause.range-cause.ensures) at-if2.if2.false
     (simp (to_z-of_z, entry.ranges.number) at cause.ensures) c.if3.true (simp v refl) refl
 
@@ -95,7 +95,7 @@ mul-post-kept c =
     let at-if1 = at-if2.before.before in
     let at-no-book = at-if1.before in
     let entry = at-no-book.before.before in
-    omega (arith, book-start entry.args.table.now entry.args.start at-no-book.no-book.ensures at-if1.if1.false)
+    omega (arith, book_start entry.args.table.now entry.args.start at-no-book.no-book.ensures at-if1.if1.false)
 
 sub-post-kept : tie.Need-overflow-sub-post-kept
 sub-post-kept c =
@@ -104,7 +104,7 @@ sub-post-kept c =
     let at-if1 = at-if2.before.before in
     let at-no-book = at-if1.before in
     let entry = at-no-book.before.before in
-    omega (arith, book-start entry.args.table.now entry.args.start at-no-book.no-book.ensures at-if1.if1.false)
+    omega (arith, book_start entry.args.table.now entry.args.start at-no-book.no-book.ensures at-if1.if1.false)
 
 part-post-kept-start : tie.Need-slice-bounds-post-kept-start
 part-post-kept-start c =
@@ -113,7 +113,7 @@ part-post-kept-start c =
     let at-if1 = at-if2.before.before in
     let at-no-book = at-if1.before in
     let entry = at-no-book.before.before in
-    omega (arith, book-start entry.args.table.now entry.args.start at-no-book.no-book.ensures at-if1.if1.false)
+    omega (arith, book_start entry.args.table.now entry.args.start at-no-book.no-book.ensures at-if1.if1.false)
 
 part-post-kept-end : tie.Need-slice-bounds-post-kept-end
 part-post-kept-end c = search rules
@@ -126,7 +126,7 @@ post-kept-requires c κs =
     let entry = at-range-cause.before.before.before.before in
     let f = entry.ranges in
     simp (to_z-of_z, f.number, f.rate, f.base)
-    (range-offer (simp (to_z-of_z, f.number, f.rate, f.base) at at-range-cause.range-cause.ensures) at-if2.if2.false)
+    (range_offer (simp (to_z-of_z, f.number, f.rate, f.base) at at-range-cause.range-cause.ensures) at-if2.if2.false)
 
 same-length-4 : tie.Need-same-length-4
 same-length-4 c = search rules
@@ -141,7 +141,7 @@ returns-4 c =
     let at-if1 = at-range-cause.before in
     let at-no-book = at-if1.before in
     let f = at-no-book.before.before.ranges in
-    post-accepted _ _ _ at-no-book.no-book.ensures at-if1.if1.false _ _ _
+    post_accepted _ _ _ at-no-book.no-book.ensures at-if1.if1.false _ _ _
     (simp (to_z-of_z, f.number, f.rate, f.base) at at-range-cause.range-cause.ensures) at-if2.if2.false
     (simp (to_z-of_z, f.number) at at-post-cause.post-cause.ensures) at-if3.if3.false _
     (simp (to_z-of_z, f.number, f.rate, f.base) at at-post-kept.post-kept.ensures) refl

@@ -1,8 +1,8 @@
 -- `book::take_back` meets its contract: by its guard, and then what a take-back does to the part.
 use mathlib.Core.Path.{refl}
 use native.Mathlib.Omega.{arith}
-use Rattle.book.specs.TableUpdates.{updates-none, taken_back}
-use Rattle.promises.specs.LentPart.{book-start}
+use Rattle.book.specs.TableUpdates.{updates_none, taken_back}
+use Rattle.promises.specs.LentPart.{book_start}
 use borrow.Author.Rules.{rules}
 use Rattle.book.proofs.take_back.Statement.{statement}
 use Rattle.book.proofs.take_back.Tie as tie
@@ -14,25 +14,25 @@ same_length : tie.Need-same-length
 same_length c = search rules
 
 returns : tie.Need-returns
-returns c = updates-none _ _ _ _ c.before.no-book.ensures c.if1.true refl
+returns c = updates_none _ _ _ _ c.before.no-book.ensures c.if1.true refl
 
 mul-take-back-part : tie.Need-overflow-mul-take-back-part
 mul-take-back-part c =
     let at-no-book = c.before in
     let entry = at-no-book.before.before in
-    omega (arith, book-start entry.args.table.now entry.args.start at-no-book.no-book.ensures c.if1.false)
+    omega (arith, book_start entry.args.table.now entry.args.start at-no-book.no-book.ensures c.if1.false)
 
 sub-take-back-part : tie.Need-overflow-sub-take-back-part
 sub-take-back-part c =
     let at-no-book = c.before in
     let entry = at-no-book.before.before in
-    omega (arith, book-start entry.args.table.now entry.args.start at-no-book.no-book.ensures c.if1.false)
+    omega (arith, book_start entry.args.table.now entry.args.start at-no-book.no-book.ensures c.if1.false)
 
 part-take-back-part-start : tie.Need-slice-bounds-take-back-part-start
 part-take-back-part-start c =
     let at-no-book = c.before in
     let entry = at-no-book.before.before in
-    omega (arith, book-start entry.args.table.now entry.args.start at-no-book.no-book.ensures c.if1.false)
+    omega (arith, book_start entry.args.table.now entry.args.start at-no-book.no-book.ensures c.if1.false)
 
 part-take-back-part-end : tie.Need-slice-bounds-take-back-part-end
 part-take-back-part-end c = search rules

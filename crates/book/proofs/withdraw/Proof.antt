@@ -2,9 +2,9 @@
 use mathlib.Core.Path.{refl}
 use native.Mathlib.Omega.{arith}
 use mir.Facts.{to_z-of_z}
-use Rattle.recording.specs.Ranges.{withdraw-out, withdraw-in}
-use Rattle.book.specs.TableUpdates.{updates-none, updates-range, withdraw-refused, withdraw-accepted}
-use Rattle.promises.specs.LentPart.{book-start}
+use Rattle.recording.specs.Ranges.{withdraw_out, withdraw_in}
+use Rattle.book.specs.TableUpdates.{updates_none, updates_range, withdraw_refused, withdraw_accepted}
+use Rattle.promises.specs.LentPart.{book_start}
 use borrow.Author.Rules.{rules}
 use Rattle.book.proofs.withdraw.Statement.{statement}
 use Rattle.book.proofs.withdraw.Tie as tie
@@ -16,7 +16,7 @@ same_length : tie.Need-same-length
 same_length c = search rules
 
 returns : tie.Need-returns
-returns c = updates-none _ _ _ _ c.before.no-book.ensures c.if1.true refl
+returns c = updates_none _ _ _ _ c.before.no-book.ensures c.if1.true refl
 
 outside-requires : tie.Need-outside-requires
 outside-requires c κs = search rules
@@ -29,29 +29,29 @@ returns-2 c =
     let at-if1 = c.before.before in
     let at-no-book = at-if1.before in
     let entry = at-no-book.before.before in
-    updates-range _ _ _ _ at-no-book.no-book.ensures at-if1.if1.false
-    (withdraw-out _ (simp (to_z-of_z, entry.ranges.number) at c.before.outside.ensures) c.if2.true) (omega arith) refl refl
+    updates_range _ _ _ _ at-no-book.no-book.ensures at-if1.if1.false
+    (withdraw_out _ (simp (to_z-of_z, entry.ranges.number) at c.before.outside.ensures) c.if2.true) (omega arith) refl refl
 
 mul-live-slot : tie.Need-overflow-mul-live-slot
 mul-live-slot c =
     let at-if1 = c.before.before in
     let at-no-book = at-if1.before in
     let entry = at-no-book.before.before in
-    omega (arith, book-start entry.args.table.now entry.args.start at-no-book.no-book.ensures at-if1.if1.false)
+    omega (arith, book_start entry.args.table.now entry.args.start at-no-book.no-book.ensures at-if1.if1.false)
 
 sub-live-slot : tie.Need-overflow-sub-live-slot
 sub-live-slot c =
     let at-if1 = c.before.before in
     let at-no-book = at-if1.before in
     let entry = at-no-book.before.before in
-    omega (arith, book-start entry.args.table.now entry.args.start at-no-book.no-book.ensures at-if1.if1.false)
+    omega (arith, book_start entry.args.table.now entry.args.start at-no-book.no-book.ensures at-if1.if1.false)
 
 part-live-slot-start : tie.Need-slice-bounds-live-slot-start
 part-live-slot-start c =
     let at-if1 = c.before.before.before in
     let at-no-book = at-if1.before in
     let entry = at-no-book.before.before in
-    omega (arith, book-start entry.args.table.now entry.args.start at-no-book.no-book.ensures at-if1.if1.false)
+    omega (arith, book_start entry.args.table.now entry.args.start at-no-book.no-book.ensures at-if1.if1.false)
 
 part-live-slot-end : tie.Need-slice-bounds-live-slot-end
 part-live-slot-end c = search rules
@@ -70,8 +70,8 @@ returns-3 c =
     let at-if1 = at-outside.before in
     let at-no-book = at-if1.before in
     let entry = at-no-book.before.before in
-    withdraw-refused _ _ _ at-no-book.no-book.ensures at-if1.if1.false _
-    (withdraw-in _ (simp (to_z-of_z, entry.ranges.number) at at-outside.outside.ensures) at-if2.if2.false) (omega arith)
+    withdraw_refused _ _ _ at-no-book.no-book.ensures at-if1.if1.false _
+    (withdraw_in _ (simp (to_z-of_z, entry.ranges.number) at at-outside.outside.ensures) at-if2.if2.false) (omega arith)
     (simp (to_z-of_z, entry.ranges.number) at at-live-slot.live-slot.ensures) c.if3.true refl
 
 mul-withdraw-kept : tie.Need-overflow-mul-withdraw-kept
@@ -81,7 +81,7 @@ mul-withdraw-kept c =
     let at-if1 = at-if2.before.before in
     let at-no-book = at-if1.before in
     let entry = at-no-book.before.before in
-    omega (arith, book-start entry.args.table.now entry.args.start at-no-book.no-book.ensures at-if1.if1.false)
+    omega (arith, book_start entry.args.table.now entry.args.start at-no-book.no-book.ensures at-if1.if1.false)
 
 sub-withdraw-kept : tie.Need-overflow-sub-withdraw-kept
 sub-withdraw-kept c =
@@ -90,7 +90,7 @@ sub-withdraw-kept c =
     let at-if1 = at-if2.before.before in
     let at-no-book = at-if1.before in
     let entry = at-no-book.before.before in
-    omega (arith, book-start entry.args.table.now entry.args.start at-no-book.no-book.ensures at-if1.if1.false)
+    omega (arith, book_start entry.args.table.now entry.args.start at-no-book.no-book.ensures at-if1.if1.false)
 
 part-withdraw-kept-start : tie.Need-slice-bounds-withdraw-kept-start
 part-withdraw-kept-start c =
@@ -99,7 +99,7 @@ part-withdraw-kept-start c =
     let at-if1 = at-if2.before.before in
     let at-no-book = at-if1.before in
     let entry = at-no-book.before.before in
-    omega (arith, book-start entry.args.table.now entry.args.start at-no-book.no-book.ensures at-if1.if1.false)
+    omega (arith, book_start entry.args.table.now entry.args.start at-no-book.no-book.ensures at-if1.if1.false)
 
 part-withdraw-kept-end : tie.Need-slice-bounds-withdraw-kept-end
 part-withdraw-kept-end c = search rules
@@ -120,8 +120,8 @@ returns-4 c =
     let at-if1 = at-outside.before in
     let at-no-book = at-if1.before in
     let f = at-no-book.before.before.ranges in
-    withdraw-accepted _ _ _ at-no-book.no-book.ensures at-if1.if1.false _
-    (withdraw-in _ (simp (to_z-of_z, f.number) at at-outside.outside.ensures) at-if2.if2.false) (omega arith)
+    withdraw_accepted _ _ _ at-no-book.no-book.ensures at-if1.if1.false _
+    (withdraw_in _ (simp (to_z-of_z, f.number) at at-outside.outside.ensures) at-if2.if2.false) (omega arith)
     (simp (to_z-of_z, f.number) at at-live-slot.live-slot.ensures) at-if3.if3.false _
     (simp (to_z-of_z, f.number) at at-withdraw-kept.withdraw-kept.ensures) refl
 

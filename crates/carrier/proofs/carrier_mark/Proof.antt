@@ -2,13 +2,13 @@
 use mir.Syntax.{w64}
 use mir.Val.{SFits}
 use mir.Facts.{to_z-of_z}
-use Rattle.answers.specs.Answers.{lent-short, lent-long}
+use Rattle.answers.specs.Answers.{lent_short, lent_long}
 use borrow.Author.Rules.{rules}
 use Rattle.carrier.proofs.carrier_mark.Statement.{statement}
 use Rattle.carrier.proofs.carrier_mark.Tie as tie
 
 returns : tie.Need-returns
-returns c = lent-short _ _ _ _ c.if1.true
+returns c = lent_short _ _ _ _ c.if1.true
 
 mark-requires : tie.Need-mark-requires
 mark-requires c κs = search rules
@@ -29,7 +29,7 @@ returns-2 c =
     let a = at_mark.mark in
     let t = at-tell-mark.tell-mark in
     let r : SFits w64 t.result = record { sfits = t.type-inv } in
-    simp (to_z-of_z, r) (lent-long _ _ _ _ h a.result (simp (to_z-of_z, s.ranges.index) at a.ensures) t.ensures)
+    simp (to_z-of_z, r) (lent_long _ _ _ _ h a.result (simp (to_z-of_z, s.ranges.index) at a.ensures) t.ensures)
 
 pub carrier-mark-spec : {M : Type 1} → statement M
 carrier-mark-spec =

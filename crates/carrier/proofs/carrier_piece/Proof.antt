@@ -4,13 +4,13 @@ use mir.Syntax.{w64}
 use mir.Val.{SFits}
 use mir.Facts.{to_z-of_z}
 use Rattle.answers.specs.Promises.{Step}
-use Rattle.answers.specs.Answers.{lent-short, pieced-long}
+use Rattle.answers.specs.Answers.{lent_short, pieced_long}
 use borrow.Author.Rules.{rules}
 use Rattle.carrier.proofs.carrier_piece.Statement.{statement}
 use Rattle.carrier.proofs.carrier_piece.Tie as tie
 
 returns : tie.Need-returns
-returns c = lent-short _ _ _ _ c.if1.true
+returns c = lent_short _ _ _ _ c.if1.true
 
 up-to-requires : tie.Need-up-to-requires
 up-to-requires c κs = search rules
@@ -42,7 +42,7 @@ returns-2 c =
     let r : SFits w64 t.result = record { sfits = t.type-inv } in
     let k : Step = record { handed = a.result; next = q.result } in
     simp (to_z-of_z, r)
-    (pieced-long _ _ s.args.place (simp (to_z-of_z, s.ranges.place) at e) h k (record {
+    (pieced_long _ _ s.args.place (simp (to_z-of_z, s.ranges.place) at e) h k (record {
       small = omega (arith, q.type-inv);
       hands = a.ensures;
       moves =

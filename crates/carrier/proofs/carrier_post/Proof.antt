@@ -2,13 +2,13 @@
 use mir.Syntax.{w64}
 use mir.Val.{SFits}
 use mir.Facts.{to_z-of_z}
-use Rattle.answers.specs.Answers.{updated-short, updated-long}
+use Rattle.answers.specs.Answers.{updated_short, updated_long}
 use borrow.Author.Rules.{rules}
 use Rattle.carrier.proofs.carrier_post.Statement.{statement}
 use Rattle.carrier.proofs.carrier_post.Tie as tie
 
 returns : tie.Need-returns
-returns c = updated-short _ _ _ c.if1.true
+returns c = updated_short _ _ _ c.if1.true
 
 post-requires : tie.Need-post-requires
 post-requires c κs = search rules
@@ -31,7 +31,7 @@ returns-2 c =
     let a = at-post.post.ensures in
     let t = at-tell-update.tell-update in
     let r : SFits w64 t.result = record { sfits = t.type-inv } in
-    simp (to_z-of_z, r) (updated-long _ _ _ h _ (simp (to_z-of_z, s.ranges.number, s.ranges.rate, s.ranges.base) at a) t.ensures)
+    simp (to_z-of_z, r) (updated_long _ _ _ h _ (simp (to_z-of_z, s.ranges.number, s.ranges.rate, s.ranges.base) at a) t.ensures)
 
 pub carrier-post-spec : {M : Type 1} → statement M
 carrier-post-spec =

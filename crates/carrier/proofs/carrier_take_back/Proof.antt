@@ -2,13 +2,13 @@
 use mir.Syntax.{w64}
 use mir.Val.{SFits}
 use mir.Facts.{to_z-of_z}
-use Rattle.answers.specs.Answers.{updated-short, updated-long}
+use Rattle.answers.specs.Answers.{updated_short, updated_long}
 use borrow.Author.Rules.{rules}
 use Rattle.carrier.proofs.carrier_take_back.Statement.{statement}
 use Rattle.carrier.proofs.carrier_take_back.Tie as tie
 
 returns : tie.Need-returns
-returns c = updated-short _ _ _ c.if1.true
+returns c = updated_short _ _ _ c.if1.true
 
 take-back-requires : tie.Need-take-back-requires
 take-back-requires c κs = search rules
@@ -30,7 +30,7 @@ returns-2 c =
     let a = at-take-back.take_back.ensures in
     let t = at-tell-update.tell-update in
     let r : SFits w64 t.result = record { sfits = t.type-inv } in
-    simp (to_z-of_z, r) (updated-long _ _ _ h _ a t.ensures)
+    simp (to_z-of_z, r) (updated_long _ _ _ h _ a t.ensures)
 
 pub carrier-take-back-spec : {M : Type 1} → statement M
 carrier-take-back-spec =

@@ -2,13 +2,13 @@
 use mir.Syntax.{w64}
 use mir.Val.{SFits}
 use mir.Facts.{to_z-of_z}
-use Rattle.answers.specs.Answers.{lent-short, lent-long}
+use Rattle.answers.specs.Answers.{lent_short, lent_long}
 use borrow.Author.Rules.{rules}
 use Rattle.carrier.proofs.carrier_voucher.Statement.{statement}
 use Rattle.carrier.proofs.carrier_voucher.Tie as tie
 
 returns : tie.Need-returns
-returns c = lent-short _ _ _ _ c.if1.true
+returns c = lent_short _ _ _ _ c.if1.true
 
 voucher-price-requires : tie.Need-voucher-price-requires
 voucher-price-requires c κs = search rules
@@ -28,7 +28,7 @@ returns-2 c =
     let a = at-voucher-price.voucher-price in
     let t = at-tell-voucher.tell-voucher in
     let r : SFits w64 t.result = record { sfits = t.type-inv } in
-    simp (to_z-of_z, r) (lent-long _ _ _ _ at-if1.if1.false a.result (simp (to_z-of_z, entry.ranges.price) at a.ensures) t.ensures)
+    simp (to_z-of_z, r) (lent_long _ _ _ _ at-if1.if1.false a.result (simp (to_z-of_z, entry.ranges.price) at a.ensures) t.ensures)
 
 pub carrier-voucher-spec : {M : Type 1} → statement M
 carrier-voucher-spec =

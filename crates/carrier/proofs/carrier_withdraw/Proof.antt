@@ -2,13 +2,13 @@
 use mir.Syntax.{w64}
 use mir.Val.{SFits}
 use mir.Facts.{to_z-of_z}
-use Rattle.answers.specs.Answers.{updated-short, updated-long}
+use Rattle.answers.specs.Answers.{updated_short, updated_long}
 use borrow.Author.Rules.{rules}
 use Rattle.carrier.proofs.carrier_withdraw.Statement.{statement}
 use Rattle.carrier.proofs.carrier_withdraw.Tie as tie
 
 returns : tie.Need-returns
-returns c = updated-short _ _ _ c.if1.true
+returns c = updated_short _ _ _ c.if1.true
 
 withdraw-requires : tie.Need-withdraw-requires
 withdraw-requires c κs = search rules
@@ -31,7 +31,7 @@ returns-2 c =
     let a = at-withdraw.withdraw.ensures in
     let t = at-tell-update.tell-update in
     let r : SFits w64 t.result = record { sfits = t.type-inv } in
-    simp (to_z-of_z, r) (updated-long _ _ _ h _ (simp (to_z-of_z, s.ranges.number) at a) t.ensures)
+    simp (to_z-of_z, r) (updated_long _ _ _ h _ (simp (to_z-of_z, s.ranges.number) at a) t.ensures)
 
 pub carrier-withdraw-spec : {M : Type 1} → statement M
 carrier-withdraw-spec =

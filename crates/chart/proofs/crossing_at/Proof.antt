@@ -2,7 +2,7 @@
 use mir.Facts.{to_z-of_z}
 use mir.Syntax.{w64}
 use mir.Val.{SFits}
-use Rattle.chart.specs.Marking.{crossing-read}
+use Rattle.chart.specs.Marking.{crossing_read}
 use borrow.Author.Rules.{rules}
 use Rattle.chart.proofs.crossing_at.Statement.{statement}
 use Rattle.chart.proofs.crossing_at.Tie as tie
@@ -27,7 +27,7 @@ returns c =
     let fn : SFits w64 n.result = record { sfits = n.type-inv } in
     let fd : SFits w64 d.result = record { sfits = d.type-inv } in
     let fp : SFits w64 p.result = record { sfits = p.type-inv } in
-    crossing-read _ _ n.ensures d.ensures p.ensures (simp (to_z-of_z, fn, fd, fp) at c.crossing.ensures)
+    crossing_read _ _ n.ensures d.ensures p.ensures (simp (to_z-of_z, fn, fd, fp) at c.crossing.ensures)
 
 pub crossing-at-spec : {M : Type 1} → statement M
 crossing-at-spec =

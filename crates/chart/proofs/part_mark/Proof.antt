@@ -7,9 +7,9 @@ use lib.IntN.{ℤ, pos}
 use mir.Facts.{to_z-of_z, to_z_pos}
 use mir.Syntax.{w64}
 use mir.Val.{SFits, to_z}
-use Rattle.marks.specs.MarkTold.{openEnd}
+use Rattle.marks.specs.MarkTold.{open_end}
 use Rattle.chart.specs.declared.Marked.TheVariants.{Mark}
-use Rattle.chart.specs.Marking.{PartMark, part-empty, part-outside, part-first, part-last, part-inner, index_below, index-above, index-there}
+use Rattle.chart.specs.Marking.{PartMark, part_empty, part_outside, part_first, part_last, part_inner, index_below, index_above, index_there}
 use borrow.Author.Rules.{rules}
 use Rattle.chart.proofs.part_mark.Statement.{statement}
 use Rattle.chart.proofs.part_mark.Tie as tie
@@ -27,7 +27,7 @@ count-requires : tie.Need-count-requires
 count-requires c κs = search rules
 
 returns : tie.Need-returns
-returns c = part-empty c.before.before.envelope-root.ensures c.before.count.ensures c.before.before.before.args.index c.if1.true
+returns c = part_empty c.before.before.envelope-root.ensures c.before.count.ensures c.before.before.before.args.index c.if1.true
 
 cast-if3 : tie.Need-overflow-cast-if3
 cast-if3 c = search rules
@@ -40,9 +40,9 @@ returns-2 c =
     let entry = at-envelope-root.before in
     let m = at_count.count in
     let e : to_z w64 m.result ≡ pos m.result = to_z_pos w64 (omega (arith, m.ensures.few)) in
-    part-outside at-envelope-root.envelope-root.ensures m.ensures entry.args.index at-if1.if1.false
+    part_outside at-envelope-root.envelope-root.ensures m.ensures entry.args.index at-if1.if1.false
     (⊎_elim (λ y. index_below entry.args.index _ (simp (to_z-of_z, entry.ranges.index) at y.taken))
-    (λ y. index-above entry.args.index _ (simp (to_z-of_z, entry.ranges.index, e) at y.1.taken)) c.if2.branch)
+    (λ y. index_above entry.args.index _ (simp (to_z-of_z, entry.ranges.index, e) at y.1.taken)) c.if2.branch)
 
 up-to-requires : tie.Need-up-to-requires
 up-to-requires c κs = search rules
@@ -70,13 +70,13 @@ returns-3 c =
     let m = at_count.count in
     let e : to_z w64 m.result ≡ pos m.result = to_z_pos w64 (omega (arith, m.ensures.few)) in
     let j =
-    index-there entry.args.index (simp (to_z-of_z, entry.ranges.index) at at-if2.if2.false) (simp (to_z-of_z, entry.ranges.index, e) at at-if3.if3.false)
+    index_there entry.args.index (simp (to_z-of_z, entry.ranges.index) at at-if2.if2.false) (simp (to_z-of_z, entry.ranges.index, e) at at-if3.if3.false)
     m.ensures.few (simp (to_z-of_z, entry.ranges.index) at at-up-to.up-to.ensures) in
     let f : SFits w64 c.before.rate.result = record { sfits = c.before.rate.type-inv } in
     let i : entry.args.index ≡ pos 0 = j.0 ∙ ap pos (first at-if4.if4.true) in
     subst (λ (z : ℤ). PartMark entry.args.part.now z (Mark c.open-end.result)) (sym i)
-    (part-first at-envelope-root.envelope-root.ensures m.ensures at-if1.if1.false at-slot-of.slot_of.ensures
-    ((simp (to_z-of_z, f) at c.open-end.ensures) ∙ ap openEnd c.before.rate.ensures))
+    (part_first at-envelope-root.envelope-root.ensures m.ensures at-if1.if1.false at-slot-of.slot_of.ensures
+    ((simp (to_z-of_z, f) at c.open-end.ensures) ∙ ap open_end c.before.rate.ensures))
 
 slot-of-requires-2 : tie.Need-slot-of-requires-2
 slot-of-requires-2 c κs = search rules
@@ -102,13 +102,13 @@ returns-4 c =
     let m = at_count.count in
     let e : to_z w64 m.result ≡ pos m.result = to_z_pos w64 (omega (arith, m.ensures.few)) in
     let j =
-    index-there entry.args.index (simp (to_z-of_z, entry.ranges.index) at at-if2.if2.false) (simp (to_z-of_z, entry.ranges.index, e) at at-if3.if3.false)
+    index_there entry.args.index (simp (to_z-of_z, entry.ranges.index) at at-if2.if2.false) (simp (to_z-of_z, entry.ranges.index, e) at at-if3.if3.false)
     m.ensures.few (simp (to_z-of_z, entry.ranges.index) at at-up-to.up-to.ensures) in
     let f : SFits w64 c.before.rate2.result = record { sfits = c.before.rate2.type-inv } in
     subst (λ (z : ℤ). PartMark entry.args.part.now z (Mark c.open-end2.result)) (sym j.0)
-    (part-last at-envelope-root.envelope-root.ensures m.ensures at-if1.if1.false at-up-to.up-to.result at-if4.if4.false
+    (part_last at-envelope-root.envelope-root.ensures m.ensures at-if1.if1.false at-up-to.up-to.result at-if4.if4.false
     at-slot-of2.slot-of2.ensures
-    at-if5.if5.true ((simp (to_z-of_z, f) at c.open-end2.ensures) ∙ ap openEnd c.before.rate2.ensures))
+    at-if5.if5.true ((simp (to_z-of_z, f) at c.open-end2.ensures) ∙ ap open_end c.before.rate2.ensures))
 
 crossing-at-requires : tie.Need-crossing-at-requires
 crossing-at-requires c κs = search rules
@@ -127,10 +127,10 @@ returns-5 c =
     let m = at_count.count in
     let e : to_z w64 m.result ≡ pos m.result = to_z_pos w64 (omega (arith, m.ensures.few)) in
     let j =
-    index-there entry.args.index (simp (to_z-of_z, entry.ranges.index) at at-if2.if2.false) (simp (to_z-of_z, entry.ranges.index, e) at at-if3.if3.false)
+    index_there entry.args.index (simp (to_z-of_z, entry.ranges.index) at at-if2.if2.false) (simp (to_z-of_z, entry.ranges.index, e) at at-if3.if3.false)
     m.ensures.few (simp (to_z-of_z, entry.ranges.index) at at-up-to.up-to.ensures) in
     subst (λ (z : ℤ). PartMark entry.args.part.now z (Mark c.crossing-at.result)) (sym j.0)
-    (part-inner at-envelope-root.envelope-root.ensures m.ensures at-if1.if1.false at-up-to.up-to.result at-if4.if4.false
+    (part_inner at-envelope-root.envelope-root.ensures m.ensures at-if1.if1.false at-up-to.up-to.result at-if4.if4.false
     at-slot-of2.slot-of2.ensures
     (below j.1 c.before.if5.false) c.crossing-at.ensures)
 

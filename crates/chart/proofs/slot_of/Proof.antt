@@ -1,7 +1,7 @@
 -- `chart::slot_of` meets its contract. The loop's invariant: piece k is in slot s.
 use Prim.Native.Nat.{◌-◌}
 use native.Mathlib.Omega.{arith}
-use Rattle.chart.specs.ChartWalks.{Going, going-begins, going_on, going-ends}
+use Rattle.chart.specs.ChartWalks.{Going, going_begins, going_on, going_ends}
 use borrow.Author.Rules.{rules}
 use Rattle.chart.proofs.slot_of.Statement.{statement}
 use Rattle.chart.proofs.slot_of.Tie as tie
@@ -16,7 +16,7 @@ end-requires : tie.Need-end-requires invariant-loop decreases-loop
 end-requires c κs = search rules
 
 loop-holds : tie.Need-loop-init invariant-loop decreases-loop
-loop-holds c = going-begins _ c.end.ensures
+loop-holds c = going_begins _ c.end.ensures
 
 link-requires : tie.Need-link-requires invariant-loop decreases-loop
 link-requires c κs = search rules
@@ -31,7 +31,7 @@ loop-again : tie.Need-loop-preserved invariant-loop decreases-loop
 loop-again c = going_on c.before.before.loop.invariant c.before.loop-test.true c.link.ensures
 
 returns : tie.Need-returns invariant-loop decreases-loop
-returns c = going-ends c.before.loop.invariant c.loop-test.false
+returns c = going_ends c.before.loop.invariant c.loop-test.false
 
 pub slot-of-spec : {M : Type 1} → statement M
 slot-of-spec =

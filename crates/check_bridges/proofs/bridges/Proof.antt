@@ -1,8 +1,8 @@
 -- `check_bridges::bridges` meets its contract.
 use mathlib.Core.Path.{refl}
 use mathlib.Core.Logic.{⊎_elim}
-use Rattle.check_trees.specs.Deciding.{decides-also, decides-stops}
-use Rattle.check_bridges.specs.StoredBridges.{bridges-by}
+use Rattle.check_trees.specs.Deciding.{decides_also, decides_stops}
+use Rattle.check_bridges.specs.StoredBridges.{bridges_by}
 use borrow.Author.Rules.{rules}
 use Rattle.check_bridges.proofs.bridges.Statement.{statement}
 use Rattle.check_bridges.proofs.bridges.Tie as tie
@@ -33,10 +33,10 @@ returns c =
     let at-entry2 = at-left-outer.before in
     let entry' = at-entry2.before in
     let two =
-    ⊎_elim (λ y. decides-also at-left-outer.left-outer.ensures y.0.taken y.1.ensures y.2)
-    (λ y. decides-stops at-left-outer.left-outer.ensures y.0.left y.1) at-if1.if1.branch in
-    let three = ⊎_elim (λ y. decides-also two y.0.taken y.1.ensures y.2) (λ y. decides-stops two y.0.left y.1) at-if2.if2.branch in
-    bridges-by entry'.entry.ensures at-entry2.entry2.ensures (decides-also three c.before.if3.true c.right-outer.ensures refl)
+    ⊎_elim (λ y. decides_also at-left-outer.left-outer.ensures y.0.taken y.1.ensures y.2)
+    (λ y. decides_stops at-left-outer.left-outer.ensures y.0.left y.1) at-if1.if1.branch in
+    let three = ⊎_elim (λ y. decides_also two y.0.taken y.1.ensures y.2) (λ y. decides_stops two y.0.left y.1) at-if2.if2.branch in
+    bridges_by entry'.entry.ensures at-entry2.entry2.ensures (decides_also three c.before.if3.true c.right-outer.ensures refl)
 
 returns-2 : tie.Need-returns-2
 returns-2 c =
@@ -46,10 +46,10 @@ returns-2 c =
     let at-entry2 = at-left-outer.before in
     let entry' = at-entry2.before in
     let two =
-    ⊎_elim (λ y. decides-also at-left-outer.left-outer.ensures y.0.taken y.1.ensures y.2)
-    (λ y. decides-stops at-left-outer.left-outer.ensures y.0.left y.1) at-if1.if1.branch in
-    let three = ⊎_elim (λ y. decides-also two y.0.taken y.1.ensures y.2) (λ y. decides-stops two y.0.left y.1) at-if2.if2.branch in
-    bridges-by entry'.entry.ensures at-entry2.entry2.ensures (decides-stops three c.if3.false refl)
+    ⊎_elim (λ y. decides_also at-left-outer.left-outer.ensures y.0.taken y.1.ensures y.2)
+    (λ y. decides_stops at-left-outer.left-outer.ensures y.0.left y.1) at-if1.if1.branch in
+    let three = ⊎_elim (λ y. decides_also two y.0.taken y.1.ensures y.2) (λ y. decides_stops two y.0.left y.1) at-if2.if2.branch in
+    bridges_by entry'.entry.ensures at-entry2.entry2.ensures (decides_stops three c.if3.false refl)
 
 pub bridges-spec : {M : Type 1} → statement M
 bridges-spec =

@@ -2,7 +2,7 @@
 use mir.Facts.{to_z-of_z}
 use mir.Syntax.{w64}
 use mir.Val.{SFits}
-use Rattle.check_bridges.specs.Gaps.{products-safe, cross-told}
+use Rattle.check_bridges.specs.Gaps.{products_safe, cross_told}
 use borrow.Author.Rules.{rules}
 use Rattle.check_bridges.proofs.crosses.Statement.{statement}
 use Rattle.check_bridges.proofs.crosses.Tie as tie
@@ -18,7 +18,7 @@ mul-result c =
     let x : SFits w64 c.before.base-gap.result = record { sfits = c.before.base-gap.type-inv } in
     let y : SFits w64 c.rate-gap.result = record { sfits = c.rate-gap.type-inv } in
     simp (to_z-of_z, x, y)
-    (products-safe c.before.before.args.part.now c.before.before.args.a c.before.before.args.b c.before.before.args.c
+    (products_safe c.before.before.args.part.now c.before.before.args.a c.before.before.args.b c.before.before.args.c
     c.before.before.args.d c.before.base-gap.ensures c.rate-gap.ensures)
 
 base-gap-requires-2 : tie.Need-base-gap-requires-2
@@ -34,7 +34,7 @@ mul-result-2 c =
     let x : SFits w64 at-base-gap2.base-gap2.result = record { sfits = at-base-gap2.base-gap2.type-inv } in
     let y : SFits w64 c.rate-gap2.result = record { sfits = c.rate-gap2.type-inv } in
     simp (to_z-of_z, x, y)
-    (products-safe entry.args.part.now entry.args.c entry.args.d entry.args.a entry.args.b at-base-gap2.base-gap2.ensures
+    (products_safe entry.args.part.now entry.args.c entry.args.d entry.args.a entry.args.b at-base-gap2.base-gap2.ensures
     c.rate-gap2.ensures)
 
 returns : tie.Need-returns
@@ -47,13 +47,13 @@ returns c =
     let p : SFits w64 c.before.base-gap2.result = record { sfits = c.before.base-gap2.type-inv } in
     let q : SFits w64 c.rate-gap2.result = record { sfits = c.rate-gap2.type-inv } in
     let u =
-    products-safe entry.args.part.now entry.args.a entry.args.b entry.args.c entry.args.d at-base-gap.base-gap.ensures
+    products_safe entry.args.part.now entry.args.a entry.args.b entry.args.c entry.args.d at-base-gap.base-gap.ensures
     at-rate-gap.rate-gap.ensures in
     let v =
-    products-safe entry.args.part.now entry.args.c entry.args.d entry.args.a entry.args.b c.before.base-gap2.ensures
+    products_safe entry.args.part.now entry.args.c entry.args.d entry.args.a entry.args.b c.before.base-gap2.ensures
     c.rate-gap2.ensures in
     simp (to_z-of_z, x, y, p, q, u, v)
-    (cross-told entry.args.part.now entry.args.a entry.args.b entry.args.c entry.args.d at-base-gap.base-gap.ensures
+    (cross_told entry.args.part.now entry.args.a entry.args.b entry.args.c entry.args.d at-base-gap.base-gap.ensures
     at-rate-gap.rate-gap.ensures c.before.base-gap2.ensures c.rate-gap2.ensures)
 
 pub crosses-spec : {M : Type 1} → statement M

@@ -3,8 +3,8 @@ use mathlib.Core.Path.{◌∙◌, ap}
 use Prim.Native.Nat.{ℕ}
 use native.Mathlib.Omega.{arith}
 use borrow.Author.Tests.{le-leb}
-use Rattle.check_bridges.specs.Gaps.{crossAt}
-use Rattle.check_bridges.specs.StoredBridges.{near_none, near-is}
+use Rattle.check_bridges.specs.Gaps.{cross_at}
+use Rattle.check_bridges.specs.StoredBridges.{near_none, near_is}
 use borrow.Author.Rules.{rules}
 use Rattle.check_bridges.proofs.left_inner.Statement.{statement}
 use Rattle.check_bridges.proofs.left_inner.Tie as tie
@@ -29,7 +29,7 @@ returns-2 c =
     let entry' = c.before in
     let at-if1 = entry'.before in
     let a = at-if1.before.args in
-    near-is (c.crosses.ensures ∙ ap (λ (s : ℕ). crossAt a.part.now a.u a.v a.u s) entry'.entry.ensures) at-if1.if1.false
+    near_is (c.crosses.ensures ∙ ap (λ (s : ℕ). cross_at a.part.now a.u a.v a.u s) entry'.entry.ensures) at-if1.if1.false
 
 pub left-inner-spec : {M : Type 1} → statement M
 left-inner-spec = tie.close (tie.spec add-if1 add-entry entry-requires crosses-requires returns returns-2)

@@ -3,8 +3,8 @@ use mathlib.Core.Path.{◌∙◌, ap}
 use Prim.Native.Nat.{ℕ}
 use native.Mathlib.Omega.{arith}
 use borrow.Author.Tests.{le-leb}
-use Rattle.check_bridges.specs.Gaps.{crossAt}
-use Rattle.check_bridges.specs.StoredBridges.{near_none, near-is}
+use Rattle.check_bridges.specs.Gaps.{cross_at}
+use Rattle.check_bridges.specs.StoredBridges.{near_none, near_is}
 use borrow.Author.Rules.{rules}
 use Rattle.check_bridges.proofs.right_inner.Statement.{statement}
 use Rattle.check_bridges.proofs.right_inner.Tie as tie
@@ -26,7 +26,7 @@ returns-2 c =
     let entry' = c.before in
     let at-if1 = entry'.before in
     let a = at-if1.before.args in
-    near-is (c.crosses.ensures ∙ ap (λ (s : ℕ). crossAt a.part.now s a.v a.u a.v) entry'.entry.ensures) at-if1.if1.false
+    near_is (c.crosses.ensures ∙ ap (λ (s : ℕ). cross_at a.part.now s a.v a.u a.v) entry'.entry.ensures) at-if1.if1.false
 
 pub right-inner-spec : {M : Type 1} → statement M
 right-inner-spec = tie.close (tie.spec sub-entry entry-requires crosses-requires returns returns-2)

@@ -3,8 +3,8 @@ use Prim.Native.Nat.{◌-◌, ◌≤◌}
 use native.Mathlib.Omega.{arith}
 use borrow.Author.Rules.{rules}
 use borrow.Author.Tests.{not-true, not-false}
-use Rattle.check_trees.specs.Deciding.{every_more, every-less, decides-yes}
-use Rattle.check_bridges.specs.StoredBridges.{ThreadedTo, threaded-none, next_here, not-threaded}
+use Rattle.check_trees.specs.Deciding.{every_more, every_less, decides_yes}
+use Rattle.check_bridges.specs.StoredBridges.{ThreadedTo, threaded_none, next_here, not_threaded}
 use Rattle.check_bridges.proofs.threaded.Statement.{statement}
 use Rattle.check_bridges.proofs.threaded.Tie as tie
 
@@ -15,7 +15,7 @@ abbrev decreases-loop : tie.decreases-loop
 decreases-loop part scratch from to i₀ i = to - i
 
 loop-holds : tie.Need-loop-init invariant-loop decreases-loop
-loop-holds c = (omega arith, omega arith, threaded-none)
+loop-holds c = (omega arith, omega arith, threaded_none)
 
 add-loop : tie.Need-overflow-add-loop invariant-loop decreases-loop
 add-loop c = omega arith
@@ -38,7 +38,7 @@ returns c =
     let entry' = at-entry2.before in
     let at-loop-test = entry'.before in
     let at-loop = at-loop-test.before in
-    not-threaded at-loop.loop.invariant.0 at-loop-test.loop-test.true entry'.entry.ensures at-entry2.entry2.ensures c.before.follows.ensures
+    not_threaded at-loop.loop.invariant.0 at-loop-test.loop-test.true entry'.entry.ensures at-entry2.entry2.ensures c.before.follows.ensures
     (not-true _ c.if1.true)
 
 add-i : tie.Need-overflow-add-i invariant-loop decreases-loop
@@ -62,7 +62,7 @@ loop-again c =
     )
 
 returns-2 : tie.Need-returns-2 invariant-loop decreases-loop
-returns-2 c = record { told = λ h. decides-yes (every-less (omega arith) (c.before.loop.invariant.2 h)) }
+returns-2 c = record { told = λ h. decides_yes (every_less (omega arith) (c.before.loop.invariant.2 h)) }
 
 pub threaded-spec : {M : Type 1} → statement M
 threaded-spec =

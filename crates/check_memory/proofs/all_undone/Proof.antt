@@ -3,22 +3,22 @@ use Prim.Native.Nat.{◌+◌, ◌≤◌, ◌<◌}
 use native.Mathlib.Omega.{arith}
 use borrow.Author.Rules.{rules}
 use borrow.Author.Tests.{not-true, not-false}
-use Rattle.plain.specs.Book.{mostRemembered}
-use Rattle.table.specs.Fields.{mostSlots}
-use Rattle.form.specs.Memory.{earlier-place}
-use Rattle.check_memory.specs.Walks.{Going, going-all, going_more, going-not, going_done}
+use Rattle.plain.specs.Book.{most_remembered}
+use Rattle.table.specs.Fields.{most_slots}
+use Rattle.form.specs.Memory.{earlier_place}
+use Rattle.check_memory.specs.Walks.{Going, going_all, going_more, going_not, going_done}
 use Rattle.check_memory.proofs.all_undone.Statement.{statement}
 use Rattle.check_memory.proofs.all_undone.Tie as tie
 
 abbrev invariant-loop : tie.invariant-loop
 invariant-loop part live₀ room last count left₀ i₀ k₀ live left i k =
-    (i < mostRemembered) × (left + k ≤ mostSlots + mostRemembered) × Going part live₀ room last count live left i k
+    (i < most_remembered) × (left + k ≤ most_slots + most_remembered) × Going part live₀ room last count live left i k
 
 abbrev decreases-loop : tie.decreases-loop
 decreases-loop part live₀ room last count left₀ i₀ k₀ live left i k = k
 
 loop-holds : tie.Need-loop-init invariant-loop decreases-loop
-loop-holds c = (omega arith, omega arith, going-all)
+loop-holds c = (omega arith, omega arith, going_all)
 
 undo-requires : tie.Need-undo-requires invariant-loop decreases-loop
 undo-requires c κs = (omega arith, omega arith)
@@ -27,7 +27,7 @@ returns : tie.Need-returns invariant-loop decreases-loop
 returns c =
     let at-undo = c.before.before in
     let at-loop-test = at-undo.before.before in
-    going-not at-loop-test.before.loop.invariant.2 at-loop-test.loop-test.true at-undo.undo.ensures (not-true _ c.if1.true)
+    going_not at-loop-test.before.loop.invariant.2 at-loop-test.loop-test.true at-undo.undo.ensures (not-true _ c.if1.true)
 
 before-requires : tie.Need-before-requires invariant-loop decreases-loop
 before-requires c κs = search rules
@@ -44,7 +44,7 @@ loop-again c =
     let at-undo = at-if1.before.before in
     let at-loop-test = at-undo.before.before in
     let at-loop = at-loop-test.before in (
-      omega (arith, c.before2.ensures, earlier-place at-loop.loop.i at-loop.loop.invariant.0),
+      omega (arith, c.before2.ensures, earlier_place at-loop.loop.i at-loop.loop.invariant.0),
       omega (arith, at-undo.undo.ensures.few, at-loop.loop.invariant.1, at-loop-test.loop-test.true),
       going_more at-loop.loop.invariant.2 at-loop-test.loop-test.true at-undo.undo.ensures (not-false _ at-if1.if1.false) c.before2.ensures,
     )

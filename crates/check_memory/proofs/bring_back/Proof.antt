@@ -1,6 +1,6 @@
 -- `check_memory::bring_back` meets its contract.
 use borrow.Author.Rules.{rules}
-use Rattle.check_memory.specs.Trying.{back_full, back-live, back_in}
+use Rattle.check_memory.specs.Trying.{back_full, back_live, back_in}
 use Rattle.check_memory.proofs.bring_back.Statement.{statement}
 use Rattle.check_memory.proofs.bring_back.Tie as tie
 
@@ -17,7 +17,7 @@ stuck-requires-2 : tie.Need-stuck-requires-2
 stuck-requires-2 c κs = search rules
 
 returns-2 : tie.Need-returns-2
-returns-2 c = λ o n. back-live c.before.before.before.before.requires o n c.before.if2.true c.stuck2.ensures
+returns-2 c = λ o n. back_live c.before.before.before.before.requires o n c.before.if2.true c.stuck2.ensures
 
 element-write-live : tie.Need-element-write-live
 element-write-live c = search rules

@@ -7,7 +7,7 @@ use mir.Syntax.{w64}
 use mir.Val.{SFits}
 use borrow.Author.Rules.{rules}
 use Rattle.table.specs.Words.{up_to}
-use Rattle.check_memory.specs.Flags.{Marking, mostNumber, number-below, marking-none, marking-more, marking-done}
+use Rattle.check_memory.specs.Flags.{Marking, most_number, number_below, marking_none, marking_more, marking_done}
 use Rattle.check_memory.proofs.mark.Statement.{statement}
 use Rattle.check_memory.proofs.mark.Tie as tie
 
@@ -18,7 +18,7 @@ abbrev decreases-loop : tie.decreases-loop
 decreases-loop part scratch n live₀ i₀ live i = i
 
 loop-holds : tie.Need-loop-init invariant-loop decreases-loop
-loop-holds c = (omega arith, marking-none)
+loop-holds c = (omega arith, marking_none)
 
 sub-i : tie.Need-overflow-sub-i invariant-loop decreases-loop
 sub-i c = omega arith
@@ -36,7 +36,7 @@ cast-number : tie.Need-overflow-cast-number invariant-loop decreases-loop
 cast-number c = omega arith
 
 element-write-live : tie.Need-element-write-live invariant-loop decreases-loop
-element-write-live c = number-below _ c.up-to.ensures
+element-write-live c = number_below _ c.up-to.ensures
 
 loop-less : tie.Need-loop-smaller invariant-loop decreases-loop
 loop-less c = omega arith
@@ -49,12 +49,12 @@ loop-again c =
     let at-loop = at-loop-test.before in
     let f : SFits w64 at-get.get.result = record { sfits = at-get.get.type-inv } in (
       omega arith,
-      marking-more at-loop-test.loop-test.true at-loop.loop.invariant.0 at_entry_lem.entry.ensures
-          ((simp (to_z-of_z, f) at c.up-to.ensures) ∙ ap (up_to mostNumber) at-get.get.ensures) at-loop.loop.invariant.1,
+      marking_more at-loop-test.loop-test.true at-loop.loop.invariant.0 at_entry_lem.entry.ensures
+          ((simp (to_z-of_z, f) at c.up-to.ensures) ∙ ap (up_to most_number) at-get.get.ensures) at-loop.loop.invariant.1,
     )
 
 returns : tie.Need-returns invariant-loop decreases-loop
-returns c = marking-done c.loop-test.false c.before.loop.invariant.1
+returns c = marking_done c.loop-test.false c.before.loop.invariant.1
 
 pub mark_spec : {M : Type 1} → statement M
 mark_spec =

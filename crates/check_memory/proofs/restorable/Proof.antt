@@ -2,8 +2,8 @@
 use mathlib.Core.Path.{refl}
 use mathlib.Core.Logic.{⊎_elim}
 use borrow.Author.Rules.{rules}
-use Rattle.check_trees.specs.Deciding.{decides-by, decides-also, decides-stops}
-use Rattle.check_memory.specs.Entries.{restorable-by}
+use Rattle.check_trees.specs.Deciding.{decides_by, decides_also, decides_stops}
+use Rattle.check_memory.specs.Entries.{restorable_by}
 use Rattle.check_memory.proofs.restorable.Statement.{statement}
 use Rattle.check_memory.proofs.restorable.Tie as tie
 
@@ -27,15 +27,15 @@ returns c =
     let at-if1 = c.before.before in
     let d = at-if1.before.tells.ensures in
     let two =
-    ⊎_elim (λ y. decides-also d y.0.taken (decides-by y.1.ensures) y.2) (λ y. decides-stops d y.0.left y.1) at-if1.if1.branch in
-    restorable-by (decides-also two c.before.if2.true (decides-by c.within2.ensures) refl)
+    ⊎_elim (λ y. decides_also d y.0.taken (decides_by y.1.ensures) y.2) (λ y. decides_stops d y.0.left y.1) at-if1.if1.branch in
+    restorable_by (decides_also two c.before.if2.true (decides_by c.within2.ensures) refl)
 
 returns-2 : tie.Need-returns-2
 returns-2 c =
     let d = c.before.before.tells.ensures in
     let two =
-    ⊎_elim (λ y. decides-also d y.0.taken (decides-by y.1.ensures) y.2) (λ y. decides-stops d y.0.left y.1) c.before.if1.branch in
-    restorable-by (decides-stops two c.if2.false refl)
+    ⊎_elim (λ y. decides_also d y.0.taken (decides_by y.1.ensures) y.2) (λ y. decides_stops d y.0.left y.1) c.before.if1.branch in
+    restorable_by (decides_stops two c.if2.false refl)
 
 pub restorable-spec : {M : Type 1} → statement M
 restorable-spec =

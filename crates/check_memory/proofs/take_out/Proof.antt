@@ -1,7 +1,7 @@
 -- `check_memory::take_out` meets its contract.
 use borrow.Author.Rules.{rules}
 use borrow.Author.Tests.{not-true, not-false}
-use Rattle.check_memory.specs.Trying.{out-not, out-live}
+use Rattle.check_memory.specs.Trying.{out_not, out_live}
 use Rattle.check_memory.proofs.take_out.Statement.{statement}
 use Rattle.check_memory.proofs.take_out.Tie as tie
 
@@ -12,7 +12,7 @@ stuck-requires : tie.Need-stuck-requires
 stuck-requires c κs = search rules
 
 returns : tie.Need-returns
-returns c = out-not c.before.before.before.requires (not-true _ c.before.if1.true) c.stuck.ensures
+returns c = out_not c.before.before.before.requires (not-true _ c.before.if1.true) c.stuck.ensures
 
 element-write-live : tie.Need-element-write-live
 element-write-live c = search rules
@@ -21,7 +21,7 @@ add-t11 : tie.Need-overflow-add-t11
 add-t11 c = search rules
 
 returns-2 : tie.Need-returns-2
-returns-2 c = out-live c.before.before.requires (not-false _ c.if1.false)
+returns-2 c = out_live c.before.before.requires (not-false _ c.if1.false)
 
 pub take-out-spec : {M : Type 1} → statement M
 take-out-spec =

@@ -2,9 +2,9 @@
 use native.Mathlib.Omega.{arith}
 use borrow.Author.Rules.{rules}
 use borrow.Author.Tests.{not-true, not-false}
-use Rattle.table.specs.Layout.{cap-most}
-use Rattle.check_memory.specs.Flags.{number-below}
-use Rattle.check_memory.specs.Entries.{tries-no-number, tries-out, tries-neither, tries-back}
+use Rattle.table.specs.Layout.{cap_most}
+use Rattle.check_memory.specs.Flags.{number_below}
+use Rattle.check_memory.specs.Entries.{tries_no_number, tries_out, tries_neither, tries_back}
 use Rattle.check_memory.proofs.undo.Statement.{statement}
 use Rattle.check_memory.proofs.undo.Tie as tie
 
@@ -23,7 +23,7 @@ stuck-requires c κs = search rules
 returns : tie.Need-returns
 returns c =
     let at-number-at = c.before.before in
-    tries-no-number at-number-at.before.entry_at.ensures at-number-at.number_at.ensures c.before.if1.true c.stuck.ensures
+    tries_no_number at-number-at.before.entry_at.ensures at-number-at.number_at.ensures c.before.if1.true c.stuck.ensures
 
 tells-requires : tie.Need-tells-requires
 tells-requires c κs = search rules
@@ -34,7 +34,7 @@ take-out-requires c κs =
     let at-number-at = at-if1.before in
     record {
       low = at-if1.if1.false;
-      high = number-below _ at-number-at.number_at.ensures;
+      high = number_below _ at-number-at.number_at.ensures;
       small = at-number-at.before.before.requires.1;
     }
 
@@ -43,14 +43,14 @@ returns-2 c =
     let at-tells = c.before.before.before in
     let at-if1 = at-tells.before in
     let at-number-at = at-if1.before in
-    tries-out at-number-at.before.entry_at.ensures at-number-at.number_at.ensures at-if1.if1.false at-tells.tells.ensures
+    tries_out at-number-at.before.entry_at.ensures at-number-at.number_at.ensures at-if1.if1.false at-tells.tells.ensures
     c.before.before.if2.true c.take_out.ensures
 
 restorable-requires : tie.Need-restorable-requires
 restorable-requires c κs =
     let at-entry-at = c.before.before.before.before in
     let entry = at-entry-at.before in
-    omega (arith, at-entry-at.entry_at.ensures, cap-most entry.args.part.now, entry.requires)
+    omega (arith, at-entry-at.entry_at.ensures, cap_most entry.args.part.now, entry.requires)
 
 stuck-requires-2 : tie.Need-stuck-requires-2
 stuck-requires-2 c κs = search rules
@@ -61,7 +61,7 @@ returns-3 c =
     let at-if2 = at-restorable.before in
     let at-tells = at-if2.before in
     let at-entry-at = at-tells.before.before.before in
-    tries-neither at-entry-at.entry_at.ensures at-tells.tells.ensures at-if2.if2.false at-restorable.restorable.ensures
+    tries_neither at-entry-at.entry_at.ensures at-tells.tells.ensures at-if2.if2.false at-restorable.restorable.ensures
     (not-true _ c.before.if3.true) c.stuck2.ensures
 
 bring-back-requires : tie.Need-bring-back-requires
@@ -70,7 +70,7 @@ bring-back-requires c κs =
     let at-number-at = at-if1.before in
     record {
       low = at-if1.if1.false;
-      high = number-below _ at-number-at.number_at.ensures;
+      high = number_below _ at-number-at.number_at.ensures;
       small = at-number-at.before.before.requires.1;
     }
 
@@ -80,7 +80,7 @@ returns-4 c =
     let at-restorable = at-if3.before in
     let at-if1 = at-restorable.before.before.before in
     let at-number-at = at-if1.before in
-    tries-back at-number-at.before.entry_at.ensures at-number-at.number_at.ensures at-if1.if1.false at-restorable.restorable.ensures
+    tries_back at-number-at.before.entry_at.ensures at-number-at.number_at.ensures at-if1.if1.false at-restorable.restorable.ensures
     (not-false _ at-if3.if3.false) c.bring-back.ensures
 
 pub undo-spec : {M : Type 1} → statement M

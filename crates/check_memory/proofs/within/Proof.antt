@@ -7,7 +7,7 @@ use mir.Facts.{to_z-of_z}
 use mir.Syntax.{w64}
 use mir.Val.{SFits}
 use borrow.Author.Rules.{rules}
-use Rattle.lists.specs.Bools.{first_passes, first-fails}
+use Rattle.lists.specs.Bools.{first_passes, first_fails}
 use Rattle.check_memory.proofs.within.Statement.{statement}
 use Rattle.check_memory.proofs.within.Tie as tie
 
@@ -29,7 +29,7 @@ returns-2 c =
     let entry = at-word.before in
     let f : SFits w64 at-word.word_at.result = record { sfits = at-word.word_at.type-inv } in
     let t : le_z entry.args.low at-word.word_at.result ≡ false = simp (to_z-of_z, entry.ranges.low, f) at c.if1.false in
-    simp (to_z-of_z, entry.ranges.low, f) (first-fails _ (ap (le_z entry.args.low) at-word.word_at.ensures) t)
+    simp (to_z-of_z, entry.ranges.low, f) (first_fails _ (ap (le_z entry.args.low) at-word.word_at.ensures) t)
 
 pub within-spec : {M : Type 1} → statement M
 within-spec = tie.close (tie.spec word-at-requires returns returns-2)

@@ -3,8 +3,8 @@ use mathlib.Core.Path.{◌∙◌}
 use native.Mathlib.Omega.{arith}
 use borrow.Author.Rules.{rules}
 use borrow.Author.Tests.{not-true, not-false}
-use Rattle.check_merge.specs.Merges.{left-place, right-place, middle, merge-ends, merges-no-u, merges-no-v, merges-no-bridge, rest-left}
-use Rattle.check_merge.specs.Merges.{rest-right, merges-no-left, merges-no-right, merges-all}
+use Rattle.check_merge.specs.Merges.{left_place, right_place, middle, merge_ends, merges_no_u, merges_no_v, merges_no_bridge, rest_left}
+use Rattle.check_merge.specs.Merges.{rest_right, merges_no_left, merges_no_right, merges_all}
 use Rattle.check_merge.proofs.merge.Statement.{statement}
 use Rattle.check_merge.proofs.merge.Tie as tie
 
@@ -26,8 +26,8 @@ returns c =
     let at-link = at_place.before in
     let at-inner-slot = at-link.before.before in
     let entry = at-inner-slot.before in
-    let u = left-place entry.requires.1 at-inner-slot.inner-slot.ensures at-link.link.ensures at_place.place.ensures in
-    merges-no-u u c.before.if1.true c.refused.ensures
+    let u = left_place entry.requires.1 at-inner-slot.inner-slot.ensures at-link.link.ensures at_place.place.ensures in
+    merges_no_u u c.before.if1.true c.refused.ensures
 
 link-requires-2 : tie.Need-link-requires-2
 link-requires-2 c κs = search rules
@@ -47,9 +47,9 @@ returns-2 c =
     let at-link = at_place.before in
     let at-inner-slot = at-link.before.before in
     let entry = at-inner-slot.before in
-    let u = left-place entry.requires.1 at-inner-slot.inner-slot.ensures at-link.link.ensures at_place.place.ensures in
-    let v = right-place u at-if1.if1.false at-inner-slot.inner-slot.ensures at-link2.link2.ensures at-place2.place2.ensures in
-    merges-no-v v c.before.if2.true c.refused2.ensures
+    let u = left_place entry.requires.1 at-inner-slot.inner-slot.ensures at-link.link.ensures at_place.place.ensures in
+    let v = right_place u at-if1.if1.false at-inner-slot.inner-slot.ensures at-link2.link2.ensures at-place2.place2.ensures in
+    merges_no_v v c.before.if2.true c.refused2.ensures
 
 bridges-requires : tie.Need-bridges-requires
 bridges-requires c κs =
@@ -60,9 +60,9 @@ bridges-requires c κs =
     let at-link = at_place.before in
     let at-inner-slot = at-link.before.before in
     let entry = at-inner-slot.before in
-    let u = left-place entry.requires.1 at-inner-slot.inner-slot.ensures at-link.link.ensures at_place.place.ensures in
-    let v = right-place u at-if1.if1.false at-inner-slot.inner-slot.ensures at-link2.link2.ensures at-place2.place2.ensures in
-    merge-ends v c.before.if2.false
+    let u = left_place entry.requires.1 at-inner-slot.inner-slot.ensures at-link.link.ensures at_place.place.ensures in
+    let v = right_place u at-if1.if1.false at-inner-slot.inner-slot.ensures at-link2.link2.ensures at-place2.place2.ensures in
+    merge_ends v c.before.if2.false
 
 refused-requires-3 : tie.Need-refused-requires-3
 refused-requires-3 c κs = search rules
@@ -77,9 +77,9 @@ returns-3 c =
     let at-link = at_place.before in
     let at-inner-slot = at-link.before.before in
     let entry = at-inner-slot.before in
-    let u = left-place entry.requires.1 at-inner-slot.inner-slot.ensures at-link.link.ensures at_place.place.ensures in
-    let v = right-place u at-if1.if1.false at-inner-slot.inner-slot.ensures at-link2.link2.ensures at-place2.place2.ensures in
-    merges-no-bridge v at-bridges.bridges.ensures (not-true _ c.before.if3.true) c.refused3.ensures
+    let u = left_place entry.requires.1 at-inner-slot.inner-slot.ensures at-link.link.ensures at_place.place.ensures in
+    let v = right_place u at-if1.if1.false at-inner-slot.inner-slot.ensures at-link2.link2.ensures at-place2.place2.ensures in
+    merges_no_bridge v at-bridges.bridges.ensures (not-true _ c.before.if3.true) c.refused3.ensures
 
 child-requires : tie.Need-child-requires
 child-requires c κs = search rules
@@ -107,10 +107,10 @@ returns-4 c =
     let at-link = at_place.before in
     let at-inner-slot = at-link.before.before in
     let entry = at-inner-slot.before in
-    let u = left-place entry.requires.1 at-inner-slot.inner-slot.ensures at-link.link.ensures at_place.place.ensures in
-    let v = right-place u at-if1.if1.false at-inner-slot.inner-slot.ensures at-link2.link2.ensures at-place2.place2.ensures in
+    let u = left_place entry.requires.1 at-inner-slot.inner-slot.ensures at-link.link.ensures at_place.place.ensures in
+    let v = right_place u at-if1.if1.false at-inner-slot.inner-slot.ensures at-link2.link2.ensures at-place2.place2.ensures in
     let m = middle v at-if2.if2.false at-bridges.bridges.ensures (not-false _ at-if3.if3.false) in
-    merges-no-left m (rest-left at-child.child.ensures at-stays.stays.ensures) (not-true _ c.before.if4.true) c.refused4.ensures
+    merges_no_left m (rest_left at-child.child.ensures at-stays.stays.ensures) (not-true _ c.before.if4.true) c.refused4.ensures
 
 child-requires-2 : tie.Need-child-requires-2
 child-requires-2 c κs = search rules
@@ -145,12 +145,12 @@ returns-5 c =
     let at-link = at_place.before in
     let at-inner-slot = at-link.before.before in
     let entry = at-inner-slot.before in
-    let u = left-place entry.requires.1 at-inner-slot.inner-slot.ensures at-link.link.ensures at_place.place.ensures in
-    let v = right-place u at-if1.if1.false at-inner-slot.inner-slot.ensures at-link2.link2.ensures at-place2.place2.ensures in
+    let u = left_place entry.requires.1 at-inner-slot.inner-slot.ensures at-link.link.ensures at_place.place.ensures in
+    let v = right_place u at-if1.if1.false at-inner-slot.inner-slot.ensures at-link2.link2.ensures at-place2.place2.ensures in
     let m = middle v at-if2.if2.false at-bridges.bridges.ensures (not-false _ at-if3.if3.false) in
-    let l = rest-left at-child.child.ensures at-stays.stays.ensures in
-    let r = rest-right l.upper (omega (arith, at-if2.if2.false, entry.requires.1)) at-child2.child2.ensures at-stays2.stays2.ensures in
-    merges-no-right m r (not-true _ c.before.if5.true) c.refused5.ensures
+    let l = rest_left at-child.child.ensures at-stays.stays.ensures in
+    let r = rest_right l.upper (omega (arith, at-if2.if2.false, entry.requires.1)) at-child2.child2.ensures at-stays2.stays2.ensures in
+    merges_no_right m r (not-true _ c.before.if5.true) c.refused5.ensures
 
 add-shift : tie.Need-overflow-add-shift
 add-shift c = search rules
@@ -211,12 +211,12 @@ returns-6 c =
     let at-link = at_place.before in
     let at-inner-slot = at-link.before.before in
     let entry = at-inner-slot.before in
-    let u = left-place entry.requires.1 at-inner-slot.inner-slot.ensures at-link.link.ensures at_place.place.ensures in
-    let v = right-place u at-if1.if1.false at-inner-slot.inner-slot.ensures at-link2.link2.ensures at-place2.place2.ensures in
+    let u = left_place entry.requires.1 at-inner-slot.inner-slot.ensures at-link.link.ensures at_place.place.ensures in
+    let v = right_place u at-if1.if1.false at-inner-slot.inner-slot.ensures at-link2.link2.ensures at-place2.place2.ensures in
     let m = middle v at-if2.if2.false at-bridges.bridges.ensures (not-false _ at-if3.if3.false) in
-    let l = rest-left at-child.child.ensures at-stays.stays.ensures in
-    let r = rest-right l.upper (omega (arith, at-if2.if2.false, entry.requires.1)) at-child2.child2.ensures at-stays2.stays2.ensures in
-    merges-all m l (not-false _ at-if4.if4.false) r (not-false _ at-if5.if5.false) c.shift.ensures
+    let l = rest_left at-child.child.ensures at-stays.stays.ensures in
+    let r = rest_right l.upper (omega (arith, at-if2.if2.false, entry.requires.1)) at-child2.child2.ensures at-stays2.stays2.ensures in
+    merges_all m l (not-false _ at-if4.if4.false) r (not-false _ at-if5.if5.false) c.shift.ensures
 
 pub merge-spec : {M : Type 1} → statement M
 merge-spec =

@@ -2,7 +2,7 @@
 use native.Mathlib.Omega.{arith}
 use borrow.Author.Rules.{rules}
 use borrow.Author.Tests.{not-true, not-false}
-use Rattle.check_numbers.specs.FreeChains.{Left, left-all, left-more, left_not, left_other, left-ends}
+use Rattle.check_numbers.specs.FreeChains.{Left, left_all, left_more, left_not, left_other, left_ends}
 use Rattle.check_numbers.proofs.chained.Statement.{statement}
 use Rattle.check_numbers.proofs.chained.Tie as tie
 
@@ -13,7 +13,7 @@ abbrev decreases-loop : tie.decreases-loop
 decreases-loop part first count s₀ k₀ s k = k
 
 loop-holds : tie.Need-loop-init invariant-loop decreases-loop
-loop-holds c = left-all
+loop-holds c = left_all
 
 is-free-requires : tie.Need-is-free-requires invariant-loop decreases-loop
 is-free-requires c κs = search rules
@@ -49,11 +49,11 @@ loop-again c =
     let at-is-free = at-if1.before in
     let at-loop-test = at-is-free.before in
     let at-loop = at-loop-test.before in
-    left-more at-loop.loop.invariant at-loop-test.loop-test.true at-is-free.is_free.ensures at-link.link.ensures c.before.slot-tells.ensures
+    left_more at-loop.loop.invariant at-loop-test.loop-test.true at-is-free.is_free.ensures at-link.link.ensures c.before.slot-tells.ensures
     (not-false _ at-if1.if1.false) (not-false _ c.if2.false)
 
 returns-3 : tie.Need-returns-3 invariant-loop decreases-loop
-returns-3 c = left-ends c.before.loop.invariant c.loop-test.false
+returns-3 c = left_ends c.before.loop.invariant c.loop-test.false
 
 pub chained-spec : {M : Type 1} → statement M
 chained-spec =

@@ -1,7 +1,7 @@
 -- `check_numbers::free_slots` meets its contract.
 use borrow.Author.Rules.{rules}
 use borrow.Author.Tests.{not-true, not-false}
-use Rattle.check_numbers.specs.FreeChains.{freely-over, freely-told, freely-chained}
+use Rattle.check_numbers.specs.FreeChains.{freely_over, freely_told, freely_chained}
 use Rattle.check_numbers.proofs.free_slots.Statement.{statement}
 use Rattle.check_numbers.proofs.free_slots.Tie as tie
 
@@ -9,7 +9,7 @@ capacity-requires : tie.Need-capacity-requires
 capacity-requires c κs = search rules
 
 returns : tie.Need-returns
-returns c = freely-over c.before.capacity.ensures c.if1.true
+returns c = freely_over c.before.capacity.ensures c.if1.true
 
 number-at-requires : tie.Need-number-at-requires
 number-at-requires c κs = search rules
@@ -22,7 +22,7 @@ returns-2 c =
     let at-number-at = c.before.before in
     let at-if1 = at-number-at.before in
     let at-capacity = at-if1.before in
-    freely-told at-capacity.capacity.ensures at-if1.if1.false at-number-at.number_at.ensures c.before.tells.ensures
+    freely_told at-capacity.capacity.ensures at-if1.if1.false at-number-at.number_at.ensures c.before.tells.ensures
     (not-true _ c.if2.true)
 
 chained-requires : tie.Need-chained-requires
@@ -34,7 +34,7 @@ returns-3 c =
     let at-number-at = at-tells.before in
     let at-if1 = at-number-at.before in
     let at-capacity = at-if1.before in
-    freely-chained at-capacity.capacity.ensures at-if1.if1.false at-number-at.number_at.ensures at-tells.tells.ensures
+    freely_chained at-capacity.capacity.ensures at-if1.if1.false at-number-at.number_at.ensures at-tells.tells.ensures
     (not-false _ c.before.if2.false) c.chained.ensures
 
 pub free-slots-spec : {M : Type 1} → statement M

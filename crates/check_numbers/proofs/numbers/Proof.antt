@@ -1,7 +1,7 @@
 -- `check_numbers::numbers` meets its contract.
 use borrow.Author.Rules.{rules}
 use borrow.Author.Tests.{not-true, not-false}
-use Rattle.check_numbers.specs.Numberings.{tallies-told, tallies-none, tallies-tree}
+use Rattle.check_numbers.specs.Numberings.{tallies_told, tallies_none, tallies_tree}
 use Rattle.check_numbers.proofs.numbers.Statement.{statement}
 use Rattle.check_numbers.proofs.numbers.Tie as tie
 
@@ -12,11 +12,11 @@ tells-requires : tie.Need-tells-requires
 tells-requires c κs = search rules
 
 returns : tie.Need-returns
-returns c = tallies-told c.before.before.number_at.ensures c.before.tells.ensures (not-true _ c.if1.true)
+returns c = tallies_told c.before.before.number_at.ensures c.before.tells.ensures (not-true _ c.if1.true)
 
 returns-2 : tie.Need-returns-2
 returns-2 c =
-    tallies-none c.before.before.before.number_at.ensures c.before.before.tells.ensures (not-false _ c.before.if1.false) c.if2.true
+    tallies_none c.before.before.before.number_at.ensures c.before.before.tells.ensures (not-false _ c.before.if1.false) c.if2.true
 
 number-tree-requires : tie.Need-number-tree-requires
 number-tree-requires c κs = search rules
@@ -27,7 +27,7 @@ returns-3 c =
     let at-if1 = at-if2.before in
     let at-tells = at-if1.before in
     let at-number-at = at-tells.before in
-    tallies-tree at-number-at.number_at.ensures at-tells.tells.ensures (not-false _ at-if1.if1.false) at-if2.if2.false c.number-tree.ensures
+    tallies_tree at-number-at.number_at.ensures at-tells.tells.ensures (not-false _ at-if1.if1.false) at-if2.if2.false c.number-tree.ensures
 
 pub numbers-spec : {M : Type 1} → statement M
 numbers-spec =

@@ -3,7 +3,7 @@ use borrow.Author.Rules.{rules}
 use borrow.Author.Tests.{not-true, not-false}
 use native.Mathlib.Omega.{arith}
 use mathlib.Core.Path.{◌∙◌}
-use Rattle.check_offers.specs.OfferWalks.{walks-as, walks-deep, walks-left-not, walks-right-not, walked-two, walks-node}
+use Rattle.check_offers.specs.OfferWalks.{walks_as, walks_deep, walks_left_not, walks_right_not, walked_two, walks_node}
 use Prim.Native.Nat.{ℕ, ◌<◌}
 use borrow.Fn.Kinds.{In}
 use borrow.Fn.PlainCycle.{Measures, is, falls, and}
@@ -51,7 +51,7 @@ walk-refused-requires : (t : ℕ) → walk-lts.Need-refused-requires (walk-claim
 walk-refused-requires t c κs = search rules
 
 walk-returns-2 : (t : ℕ) → walk-lts.Need-returns-2 (walk-claims t) (walk_at t) walk.Post
-walk-returns-2 t c = walks-deep c.before.before.if1.false c.before.if2.true c.refused.ensures
+walk-returns-2 t c = walks_deep c.before.before.if1.false c.before.if2.true c.refused.ensures
 
 walk-child-requires : (t : ℕ) → walk-lts.Need-child-requires (walk-claims t) (walk_at t) walk.Post
 walk-child-requires t c κs = search rules
@@ -71,7 +71,7 @@ walk-returns-3 t c =
     let at-child = at-walk.before.before in
     let at-if2 = at-child.before in
     let at-if1 = at-if2.before in
-    walks-left-not at-if1.if1.false at-if2.if2.false (walks-as at-child.child.ensures at-walk.walk.ensures) (not-true _ c.if3.true)
+    walks_left_not at-if1.if1.false at-if2.if2.false (walks_as at-child.child.ensures at-walk.walk.ensures) (not-true _ c.if3.true)
 
 walk-child-requires-2 : (t : ℕ) → walk-lts.Need-child-requires-2 (walk-claims t) (walk_at t) walk.Post
 walk-child-requires-2 t c κs = search rules
@@ -96,8 +96,8 @@ walk-returns-4 t c =
     let at-child = at-walk.before.before in
     let at-if2 = at-child.before in
     let at-if1 = at-if2.before in
-    walks-right-not at-if1.if1.false at-if2.if2.false (walks-as at-child.child.ensures at-walk.walk.ensures) (not-false _ at-if3.if3.false)
-    (walks-as at-child2.child2.ensures at-walk2.walk2.ensures) (not-true _ c.if4.true)
+    walks_right_not at-if1.if1.false at-if2.if2.false (walks_as at-child.child.ensures at-walk.walk.ensures) (not-false _ at-if3.if3.false)
+    (walks_as at-child2.child2.ensures at-walk2.walk2.ensures) (not-true _ c.if4.true)
 
 walk-merge-requires : (t : ℕ) → walk-lts.Need-merge-requires (walk-claims t) (walk_at t) walk.Post
 walk-merge-requires t c κs =
@@ -110,8 +110,8 @@ walk-merge-requires t c κs =
     let at-if1 = at-if2.before in
     let entry = at-if1.before in (
       at-walk2.walk2.ensures.long ∙ at-walk.walk.ensures.long ∙ entry.requires.1,
-      walked-two at-if1.if1.false at-if2.if2.false (walks-as at-child.child.ensures at-walk.walk.ensures) (not-false _ at-if3.if3.false)
-          (walks-as at-child2.child2.ensures at-walk2.walk2.ensures) (not-false _ c.before.if4.false),
+      walked_two at-if1.if1.false at-if2.if2.false (walks_as at-child.child.ensures at-walk.walk.ensures) (not-false _ at-if3.if3.false)
+          (walks_as at-child2.child2.ensures at-walk2.walk2.ensures) (not-false _ c.before.if4.false),
     )
 
 walk-returns-5 : (t : ℕ) → walk-lts.Need-returns-5 (walk-claims t) (walk_at t) walk.Post
@@ -124,8 +124,8 @@ walk-returns-5 t c =
     let at-child = at-walk.before.before in
     let at-if2 = at-child.before in
     let at-if1 = at-if2.before in
-    walks-node at-if1.if1.false at-if2.if2.false (walks-as at-child.child.ensures at-walk.walk.ensures) (not-false _ at-if3.if3.false)
-    (walks-as at-child2.child2.ensures at-walk2.walk2.ensures) (not-false _ at-if4.if4.false) c.merge.ensures
+    walks_node at-if1.if1.false at-if2.if2.false (walks_as at-child.child.ensures at-walk.walk.ensures) (not-false _ at-if3.if3.false)
+    (walks_as at-child2.child2.ensures at-walk2.walk2.ensures) (not-false _ at-if4.if4.false) c.merge.ensures
 
 pub +walk-spec : {M : Type 1} → statement M
 +walk-spec = close μ-walk λ t. walk-lts.spec (

@@ -2,7 +2,7 @@
 use mathlib.Core.Path.{◌∙◌}
 use native.Mathlib.Omega.{arith}
 use borrow.Author.Tests.{not-true, not-false}
-use Rattle.check_offers.specs.Envelops.{envelops-not, envelops-rest}
+use Rattle.check_offers.specs.Envelops.{envelops_not, envelops_rest}
 use borrow.Author.Rules.{rules}
 use Rattle.check_offers.proofs.enveloped.Statement.{statement}
 use Rattle.check_offers.proofs.enveloped.Tie as tie
@@ -11,7 +11,7 @@ walk-requires : tie.Need-walk-requires
 walk-requires c κs = search rules
 
 returns : tie.Need-returns
-returns c = envelops-not c.before.before.walk.ensures (not-true _ c.if1.true)
+returns c = envelops_not c.before.before.walk.ensures (not-true _ c.if1.true)
 
 matches-requires : tie.Need-matches-requires
 matches-requires c κs =
@@ -23,7 +23,7 @@ returns-2 : tie.Need-returns-2
 returns-2 c =
     let at-if1 = c.before.before in
     let at-walk = at-if1.before.before in
-    envelops-rest at-walk.walk.ensures (not-false _ at-if1.if1.false) c.matches.ensures
+    envelops_rest at-walk.walk.ensures (not-false _ at-if1.if1.false) c.matches.ensures
 
 pub enveloped-spec : {M : Type 1} → statement M
 enveloped-spec = tie.close (tie.spec walk-requires returns matches-requires returns-2)

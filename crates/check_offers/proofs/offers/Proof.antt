@@ -1,6 +1,6 @@
 -- `check_offers::offers` meets its contract.
 use borrow.Author.Tests.{not-true, not-false}
-use Rattle.check_offers.specs.OfferWays.{offers-none, offers-no-header, offers-no-order, offers-no-envelope, offers-all}
+use Rattle.check_offers.specs.OfferWays.{offers_none, offers_no_header, offers_no_order, offers_no_envelope, offers_all}
 use borrow.Author.Rules.{rules}
 use Rattle.check_offers.proofs.offers.Statement.{statement}
 use Rattle.check_offers.proofs.offers.Tie as tie
@@ -22,7 +22,7 @@ returns c =
     let at-header = c.before.before in
     let at-envelope-root = at-header.before in
     let at-offers-root = at-envelope-root.before in
-    offers-no-header at-offers-root.offers-root.ensures at-envelope-root.envelope-root.ensures at-header.header.ensures c.refused.ensures
+    offers_no_header at-offers-root.offers-root.ensures at-envelope-root.envelope-root.ensures at-header.header.ensures c.refused.ensures
     (not-true _ c.before.if1.true)
 
 returns-2 : tie.Need-returns-2
@@ -31,7 +31,7 @@ returns-2 c =
     let at-header = at-if1.before in
     let at-envelope-root = at-header.before in
     let at-offers-root = at-envelope-root.before in
-    offers-none at-offers-root.offers-root.ensures at-envelope-root.envelope-root.ensures at-header.header.ensures
+    offers_none at-offers-root.offers-root.ensures at-envelope-root.envelope-root.ensures at-header.header.ensures
     (not-false _ at-if1.if1.false) c.if2.true
 
 ordered-requires : tie.Need-ordered-requires
@@ -48,7 +48,7 @@ returns-3 c =
     let at-header = at-if1.before in
     let at-envelope-root = at-header.before in
     let at-offers-root = at-envelope-root.before in
-    offers-no-order at-offers-root.offers-root.ensures at-envelope-root.envelope-root.ensures at-header.header.ensures
+    offers_no_order at-offers-root.offers-root.ensures at-envelope-root.envelope-root.ensures at-header.header.ensures
     (not-false _ at-if1.if1.false) at-if2.if2.false at-ordered.ordered.ensures c.refused2.ensures (not-true _ c.before.if3.true)
 
 enveloped-requires : tie.Need-enveloped-requires
@@ -66,7 +66,7 @@ returns-4 c =
     let at-header = at-if1.before in
     let at-envelope-root = at-header.before in
     let at-offers-root = at-envelope-root.before in
-    offers-no-envelope at-offers-root.offers-root.ensures at-envelope-root.envelope-root.ensures at-header.header.ensures
+    offers_no_envelope at-offers-root.offers-root.ensures at-envelope-root.envelope-root.ensures at-header.header.ensures
     (not-false _ at-if1.if1.false) at-if2.if2.false at-ordered.ordered.ensures at-enveloped.enveloped.ensures c.refused3.ensures
     (not-true _ c.before.if4.true)
 
@@ -84,7 +84,7 @@ returns-5 c =
     let at-header = at-if1.before in
     let at-envelope-root = at-header.before in
     let at-offers-root = at-envelope-root.before in
-    offers-all at-offers-root.offers-root.ensures at-envelope-root.envelope-root.ensures at-header.header.ensures (not-false _ at-if1.if1.false)
+    offers_all at-offers-root.offers-root.ensures at-envelope-root.envelope-root.ensures at-header.header.ensures (not-false _ at-if1.if1.false)
     at-if2.if2.false at-ordered.ordered.ensures at-enveloped.enveloped.ensures (not-false _ at-if3.if3.false) (not-false _ at-if4.if4.false)
     c.fill.ensures
 

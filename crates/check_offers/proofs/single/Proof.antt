@@ -1,6 +1,6 @@
 -- `check_offers::single` meets its contract.
 use borrow.Author.Rules.{rules}
-use Rattle.check_offers.specs.OfferWalks.{walks-full, walks-leaf}
+use Rattle.check_offers.specs.OfferWalks.{walks_full, walks_leaf}
 use Rattle.check_offers.proofs.single.Statement.{statement}
 use Rattle.check_offers.proofs.single.Tie as tie
 
@@ -8,7 +8,7 @@ refused-requires : tie.Need-refused-requires
 refused-requires c κs = search rules
 
 returns : tie.Need-returns
-returns c = λ h. walks-full h c.before.if1.true c.refused.ensures
+returns c = λ h. walks_full h c.before.if1.true c.refused.ensures
 
 mul-scratch : tie.Need-overflow-mul-scratch
 mul-scratch c = search rules
@@ -20,7 +20,7 @@ add-t5 : tie.Need-overflow-add-t5
 add-t5 c = search rules
 
 returns-2 : tie.Need-returns-2
-returns-2 c = λ h. walks-leaf h c.before.requires c.if1.false
+returns-2 c = λ h. walks_leaf h c.before.requires c.if1.false
 
 pub single-spec : {M : Type 1} → statement M
 single-spec =

@@ -1,7 +1,7 @@
 -- `check_order::header` meets its contract.
 use mathlib.Core.Path.{refl}
-use Rattle.check_trees.specs.Deciding.{decides-also, decides-stops}
-use Rattle.check_order.specs.OrderFound.{header-by}
+use Rattle.check_trees.specs.Deciding.{decides_also, decides_stops}
+use Rattle.check_order.specs.OrderFound.{header_by}
 use borrow.Author.Rules.{rules}
 use Rattle.check_order.proofs.header.Statement.{statement}
 use Rattle.check_order.proofs.header.Tie as tie
@@ -13,10 +13,10 @@ tells-requires-2 : tie.Need-tells-requires-2
 tells-requires-2 c κs = search rules
 
 returns : tie.Need-returns
-returns c = header-by (decides-also c.before.before.tells.ensures c.before.if1.true c.tells2.ensures refl)
+returns c = header_by (decides_also c.before.before.tells.ensures c.before.if1.true c.tells2.ensures refl)
 
 returns-2 : tie.Need-returns-2
-returns-2 c = header-by (decides-stops c.before.tells.ensures c.if1.false refl)
+returns-2 c = header_by (decides_stops c.before.tells.ensures c.if1.false refl)
 
 pub header-spec : {M : Type 1} → statement M
 header-spec = tie.close (tie.spec tells-requires tells-requires-2 returns returns-2)

@@ -4,7 +4,7 @@ use Prim.Native.Nat.{◌-◌, ◌≤◌}
 use native.Mathlib.Omega.{arith}
 use borrow.Author.Rules.{rules}
 use borrow.Author.Tests.{not-true, not-false}
-use Rattle.check_order.specs.Heads.{Ongoing, begins, goes_on, goes-new, refused-room, refused-other, ends}
+use Rattle.check_order.specs.Heads.{Ongoing, begins, goes_on, goes_new, refused_room, refused_other, ends}
 use Rattle.check_order.proofs.heads.Statement.{statement}
 use Rattle.check_order.proofs.heads.Tie as tie
 
@@ -49,7 +49,7 @@ returns c =
     let entry' = at-is-new.before in
     let at-loop-test = entry'.before in
     let at-loop = at-loop-test.before in
-    refused-room at-loop.loop.invariant.2 at-loop-test.loop-test.true entry'.entry.ensures
+    refused_room at-loop.loop.invariant.2 at-loop-test.loop-test.true entry'.entry.ensures
     (sym at-is-new.is-new.ensures ∙ not-false _ c.before.if1.false) c.if2.true
 
 entry-requires-2 : tie.Need-entry-requires-2 invariant-loop decreases-loop
@@ -63,7 +63,7 @@ returns-2 c =
     let entry' = at-is-new.before in
     let at-loop-test = entry'.before in
     let at-loop = at-loop-test.before in
-    refused-other at-loop.loop.invariant.2 at-loop-test.loop-test.true entry'.entry.ensures
+    refused_other at-loop.loop.invariant.2 at-loop-test.loop-test.true entry'.entry.ensures
     (sym at-is-new.is-new.ensures ∙ not-false _ at-if1.if1.false) (omega (arith, at-if2.if2.false))
     (λ e. c.if3.true (c.before.entry2.ensures ∙ e))
 
@@ -83,7 +83,7 @@ loop-again-2 c =
     let at-loop = at-loop-test.before in (
       omega arith,
       omega arith,
-      goes-new at-loop.loop.invariant.2 at-loop-test.loop-test.true entry'.entry.ensures
+      goes_new at-loop.loop.invariant.2 at-loop-test.loop-test.true entry'.entry.ensures
           (sym at-is-new.is-new.ensures ∙ not-false _ at-if1.if1.false) (omega (arith, at-if2.if2.false))
           (sym c.before.entry2.ensures ∙ c.if3.false),
     )

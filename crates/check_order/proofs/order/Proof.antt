@@ -2,8 +2,8 @@
 use mathlib.Core.Path.{refl}
 use borrow.Author.Rules.{rules}
 use borrow.Author.Tests.{not-true, not-false, eq-eqb, ne_eqb}
-use Rattle.check_trees.specs.Deciding.{decides-equal, decides-also, decides-stops}
-use Rattle.check_order.specs.OrderWays.{order-no-header, order-none, order-no-tree, order-no-heads, order-all}
+use Rattle.check_trees.specs.Deciding.{decides_equal, decides_also, decides_stops}
+use Rattle.check_order.specs.OrderWays.{order_no_header, order_none, order_no_tree, order_no_heads, order_all}
 use Rattle.check_order.proofs.order.Statement.{statement}
 use Rattle.check_order.proofs.order.Tie as tie
 
@@ -14,23 +14,23 @@ header-requires : tie.Need-header-requires
 header-requires c κs = search rules
 
 returns : tie.Need-returns
-returns c = order-no-header c.before.before.number_at.ensures c.before.header.ensures (not-true _ c.if1.true)
+returns c = order_no_header c.before.before.number_at.ensures c.before.header.ensures (not-true _ c.if1.true)
 
 returns-2 : tie.Need-returns-2
 returns-2 c =
     let at-if2 = c.before in
     let at-if1 = at-if2.before in
     let at-header = at-if1.before in
-    order-none at-header.before.number_at.ensures at-header.header.ensures (not-false _ at-if1.if1.false) at-if2.if2.true
-    (decides-also (decides-equal _ _) (eq-eqb _ _ c.if3.true) (decides-equal _ _) refl)
+    order_none at-header.before.number_at.ensures at-header.header.ensures (not-false _ at-if1.if1.false) at-if2.if2.true
+    (decides_also (decides_equal _ _) (eq-eqb _ _ c.if3.true) (decides_equal _ _) refl)
 
 returns-3 : tie.Need-returns-3
 returns-3 c =
     let at-if2 = c.before in
     let at-if1 = at-if2.before in
     let at-header = at-if1.before in
-    order-none at-header.before.number_at.ensures at-header.header.ensures (not-false _ at-if1.if1.false) at-if2.if2.true
-    (decides-stops (decides-equal _ _) (ne_eqb _ _ c.if3.false) refl)
+    order_none at-header.before.number_at.ensures at-header.header.ensures (not-false _ at-if1.if1.false) at-if2.if2.true
+    (decides_stops (decides_equal _ _) (ne_eqb _ _ c.if3.false) refl)
 
 order-tree-requires : tie.Need-order-tree-requires
 order-tree-requires c κs = search rules
@@ -42,7 +42,7 @@ returns-4 c =
     let at-if1 = at-if2.before in
     let at-header = at-if1.before in
     let entry = at-header.before.before in
-    order-no-tree at-header.before.number_at.ensures at-header.header.ensures (not-false _ at-if1.if1.false) at-if2.if2.false entry.requires.1
+    order_no_tree at-header.before.number_at.ensures at-header.header.ensures (not-false _ at-if1.if1.false) at-if2.if2.false entry.requires.1
     at-order-tree.order-tree.ensures (not-true _ c.if4.true)
 
 heads-requires : tie.Need-heads-requires
@@ -57,7 +57,7 @@ returns-5 c =
     let at-if1 = at-if2.before in
     let at-header = at-if1.before in
     let entry = at-header.before.before in
-    order-no-heads at-header.before.number_at.ensures at-header.header.ensures (not-false _ at-if1.if1.false) at-if2.if2.false entry.requires.1
+    order_no_heads at-header.before.number_at.ensures at-header.header.ensures (not-false _ at-if1.if1.false) at-if2.if2.false entry.requires.1
     at-order-tree.order-tree.ensures (not-false _ at-if4.if4.false) at-heads.heads.ensures (not-true _ c.if5.true)
 
 shift-requires : tie.Need-shift-requires
@@ -73,7 +73,7 @@ returns-6 c =
     let at-if1 = at-if2.before in
     let at-header = at-if1.before in
     let entry = at-header.before.before in
-    order-all at-header.before.number_at.ensures at-header.header.ensures (not-false _ at-if1.if1.false) at-if2.if2.false entry.requires.1
+    order_all at-header.before.number_at.ensures at-header.header.ensures (not-false _ at-if1.if1.false) at-if2.if2.false entry.requires.1
     at-order-tree.order-tree.ensures (not-false _ at-if4.if4.false) at-heads.heads.ensures (not-false _ at-if5.if5.false) c.shift.ensures
 
 pub order-spec : {M : Type 1} → statement M

@@ -2,7 +2,7 @@
 use native.Mathlib.Omega.{arith}
 use borrow.Author.Rules.{rules}
 use borrow.Author.Tests.{not-true, not-false}
-use Rattle.check_order.specs.OrderTrees.{trees-not-filled, trees-not-long, trees-not-ranged, trees-not-ranked, trees-rest}
+use Rattle.check_order.specs.OrderTrees.{trees_not_filled, trees_not_long, trees_not_ranged, trees_not_ranked, trees_rest}
 use Rattle.check_order.proofs.order_tree.Statement.{statement}
 use Rattle.check_order.proofs.order_tree.Tie as tie
 
@@ -13,7 +13,7 @@ returns : tie.Need-returns
 returns c =
     let at_fill_lem = c.before.before in
     let entry = at_fill_lem.before.before in
-    trees-not-filled entry.requires.1 at_fill_lem.fill.ensures (not-true _ c.if1.true)
+    trees_not_filled entry.requires.1 at_fill_lem.fill.ensures (not-true _ c.if1.true)
 
 add-if2 : tie.Need-overflow-add-if2
 add-if2 c = search rules
@@ -22,7 +22,7 @@ returns-2 : tie.Need-returns-2
 returns-2 c =
     let at_fill_lem = c.before.before.before in
     let entry = at_fill_lem.before.before in
-    trees-not-long entry.requires.1 at_fill_lem.fill.ensures (not-false _ c.before.if1.false) c.if2.true
+    trees_not_long entry.requires.1 at_fill_lem.fill.ensures (not-false _ c.before.if1.false) c.if2.true
 
 all-ranged-requires : tie.Need-all-ranged-requires
 all-ranged-requires c κs = search rules
@@ -34,7 +34,7 @@ returns-3 c =
     let at-if1 = at-if2.before in
     let at_fill_lem = at-if1.before.before in
     let entry = at_fill_lem.before.before in
-    trees-not-ranged entry.requires.1 at_fill_lem.fill.ensures (not-false _ at-if1.if1.false) at-if2.if2.false at-all-ranged.all-ranged.ensures
+    trees_not_ranged entry.requires.1 at_fill_lem.fill.ensures (not-false _ at-if1.if1.false) at-if2.if2.false at-all-ranged.all-ranged.ensures
     (not-true _ c.if3.true)
 
 all-ranked-requires : tie.Need-all-ranked-requires
@@ -57,7 +57,7 @@ returns-4 c =
     let at-if1 = at-if2.before in
     let at_fill_lem = at-if1.before.before in
     let entry = at_fill_lem.before.before in
-    trees-not-ranked entry.requires.1 at_fill_lem.fill.ensures (not-false _ at-if1.if1.false) at-if2.if2.false at-all-ranged.all-ranged.ensures
+    trees_not_ranked entry.requires.1 at_fill_lem.fill.ensures (not-false _ at-if1.if1.false) at-if2.if2.false at-all-ranged.all-ranged.ensures
     (not-false _ at-if3.if3.false) at-all-ranked.all-ranked.ensures (not-true _ c.if4.true)
 
 falling-requires : tie.Need-falling-requires
@@ -73,7 +73,7 @@ returns-5 c =
     let at-if1 = at-if2.before in
     let at_fill_lem = at-if1.before.before in
     let entry = at_fill_lem.before.before in
-    trees-rest entry.requires.1 at_fill_lem.fill.ensures (not-false _ at-if1.if1.false) at-if2.if2.false at-all-ranged.all-ranged.ensures
+    trees_rest entry.requires.1 at_fill_lem.fill.ensures (not-false _ at-if1.if1.false) at-if2.if2.false at-all-ranged.all-ranged.ensures
     (not-false _ at-if3.if3.false) at-all-ranked.all-ranked.ensures (not-false _ at-if4.if4.false) c.falling.ensures
 
 pub order-tree-spec : {M : Type 1} → statement M

@@ -3,7 +3,7 @@ use mir.Facts.{to_z-of_z}
 use mir.Syntax.{w64}
 use mir.Val.{SFits}
 use borrow.Author.Rules.{rules}
-use Rattle.check_order.specs.Ranked.{ranged-read, rank-read}
+use Rattle.check_order.specs.Ranked.{ranged_read, rank_read}
 use Rattle.check_order.proofs.ranked.Statement.{statement}
 use Rattle.check_order.proofs.ranked.Tie as tie
 
@@ -25,7 +25,7 @@ rank-of-requires c κs =
     let r : SFits w64 at-rate.get2.result = record { sfits = at-rate.get2.type-inv } in
     let b : SFits w64 c.get3.result = record { sfits = c.get3.type-inv } in
     simp (to_z-of_z, n, r, b)
-    (ranged-read entry.args.part.now entry.args.slot at-number.get.ensures at-rate.get2.ensures c.get3.ensures entry.requires)
+    (ranged_read entry.args.part.now entry.args.slot at-number.get.ensures at-rate.get2.ensures c.get3.ensures entry.requires)
 
 is-equal-requires : tie.Need-is-equal-requires
 is-equal-requires c κs = search rules
@@ -41,7 +41,7 @@ returns c =
     let r : SFits w64 at-rate.get2.result = record { sfits = at-rate.get2.type-inv } in
     let b : SFits w64 at_base.get3.result = record { sfits = at_base.get3.type-inv } in
     let k : SFits w64 at-rank-of.rank-of.result = record { sfits = at-rank-of.rank-of.type-inv } in
-    rank-read entry.args.part.now entry.args.slot at-number.get.ensures at-rate.get2.ensures at_base.get3.ensures
+    rank_read entry.args.part.now entry.args.slot at-number.get.ensures at-rate.get2.ensures at_base.get3.ensures
     (simp (to_z-of_z, n, r, b) at at-rank-of.rank-of.ensures)
     (simp (to_z-of_z, k, r) at c.is-equal.ensures)
 

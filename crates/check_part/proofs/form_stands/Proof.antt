@@ -1,9 +1,9 @@
 -- `check_part::form_stands` meets its contract.
 use native.Mathlib.Omega.{arith}
 use borrow.Author.Tests.{not-true, not-false}
-use Rattle.table.specs.Fields.{liveCountWord, mostSlots}
-use Rattle.table.specs.Words.{word, upTo-most}
-use Rattle.check_part.specs.Audits.{audits-no-slot, audits-no-free, audits-no-offers, audits-no-order, audits-no-memory, audits-all}
+use Rattle.table.specs.Fields.{live_count_word, most_slots}
+use Rattle.table.specs.Words.{word, up_to_most}
+use Rattle.check_part.specs.Audits.{audits_no_slot, audits_no_free, audits_no_offers, audits_no_order, audits_no_memory, audits_all}
 use borrow.Author.Rules.{rules}
 use Rattle.check_part.proofs.form_stands.Statement.{statement}
 use Rattle.check_part.proofs.form_stands.Tie as tie
@@ -12,7 +12,7 @@ capacity-requires : tie.Need-capacity-requires
 capacity-requires c κs = search rules
 
 returns : tie.Need-returns
-returns c = audits-no-slot c.before.capacity.ensures c.if1.true
+returns c = audits_no_slot c.before.capacity.ensures c.if1.true
 
 number-at-requires : tie.Need-number-at-requires
 number-at-requires c κs = search rules
@@ -21,7 +21,7 @@ free-slots-requires : tie.Need-free-slots-requires
 free-slots-requires c κs = search rules
 
 returns-2 : tie.Need-returns-2
-returns-2 c = audits-no-free c.before.before.number_at.ensures c.before.free-slots.ensures (not-true _ c.if2.true)
+returns-2 c = audits_no_free c.before.before.number_at.ensures c.before.free-slots.ensures (not-true _ c.if2.true)
 
 offers-requires : tie.Need-offers-requires
 offers-requires c κs = search rules
@@ -31,7 +31,7 @@ returns-3 c =
     let at-offers = c.before.before in
     let at-free-slots = at-offers.before.before.before in
     let at-number-at = at-free-slots.before in
-    audits-no-offers at-number-at.number_at.ensures at-free-slots.free-slots.ensures at-offers.offers.ensures (not-true _ c.if3.true)
+    audits_no_offers at-number-at.number_at.ensures at-free-slots.free-slots.ensures at-offers.offers.ensures (not-true _ c.if3.true)
 
 order-requires : tie.Need-order-requires
 order-requires c κs =
@@ -41,7 +41,7 @@ order-requires c κs =
     let entry = at-number-at.before.before.before in (
       search rules,
       at-offers.offers.ensures.inside (not-false _ at-if3.if3.false),
-      omega (arith, at-number-at.number_at.ensures, upTo-most mostSlots (word entry.args.part.now liveCountWord)),
+      omega (arith, at-number-at.number_at.ensures, up_to_most most_slots (word entry.args.part.now live_count_word)),
     )
 
 returns-4 : tie.Need-returns-4
@@ -51,7 +51,7 @@ returns-4 c =
     let at-offers = at-if3.before.before in
     let at-free-slots = at-offers.before.before.before in
     let at-number-at = at-free-slots.before in
-    audits-no-order at-number-at.number_at.ensures at-free-slots.free-slots.ensures at-offers.offers.ensures (not-false _ at-if3.if3.false)
+    audits_no_order at-number-at.number_at.ensures at-free-slots.free-slots.ensures at-offers.offers.ensures (not-false _ at-if3.if3.false)
     at-order.order.ensures (not-true _ c.if4.true)
 
 cast-memory : tie.Need-overflow-cast-memory
@@ -63,7 +63,7 @@ memory-requires c κs =
     let at-offers = at-order.before.before.before.before in
     let at-number-at = at-offers.before.before.before.before in
     let entry = at-number-at.before.before.before in
-    omega (arith, at-number-at.number_at.ensures, upTo-most mostSlots (word entry.args.part.now liveCountWord))
+    omega (arith, at-number-at.number_at.ensures, up_to_most most_slots (word entry.args.part.now live_count_word))
 
 returns-5 : tie.Need-returns-5
 returns-5 c =
@@ -74,7 +74,7 @@ returns-5 c =
     let at-offers = at-if3.before.before in
     let at-free-slots = at-offers.before.before.before in
     let at-number-at = at-free-slots.before in
-    audits-no-memory at-number-at.number_at.ensures at-free-slots.free-slots.ensures at-offers.offers.ensures (not-false _ at-if3.if3.false)
+    audits_no_memory at-number-at.number_at.ensures at-free-slots.free-slots.ensures at-offers.offers.ensures (not-false _ at-if3.if3.false)
     at-order.order.ensures (not-false _ at-if4.if4.false) at-memory.memory.ensures (not-true _ c.if5.true)
 
 cast-numbers : tie.Need-overflow-cast-numbers
@@ -86,7 +86,7 @@ numbers-requires c κs =
     let at-offers = at-order.before.before.before.before in
     let at-number-at = at-offers.before.before.before.before in
     let entry = at-number-at.before.before.before in
-    (search rules, omega (arith, at-number-at.number_at.ensures, upTo-most mostSlots (word entry.args.part.now liveCountWord)))
+    (search rules, omega (arith, at-number-at.number_at.ensures, up_to_most most_slots (word entry.args.part.now live_count_word)))
 
 returns-6 : tie.Need-returns-6
 returns-6 c =
@@ -101,7 +101,7 @@ returns-6 c =
     let at-number-at = at-free-slots.before in
     let at-if1 = at-number-at.before in
     let at-capacity = at-if1.before in
-    audits-all at-number-at.number_at.ensures at-free-slots.free-slots.ensures at-offers.offers.ensures (not-false _ at-if3.if3.false)
+    audits_all at-number-at.number_at.ensures at-free-slots.free-slots.ensures at-offers.offers.ensures (not-false _ at-if3.if3.false)
     at-order.order.ensures (not-false _ at-if4.if4.false) at-memory.memory.ensures at-capacity.capacity.ensures
     (λ h. omega (arith, h, at-if1.if1.false)) (not-false _ at-if2.if2.false) (not-false _ at-if5.if5.false) c.numbers.ensures
 

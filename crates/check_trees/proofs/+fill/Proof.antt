@@ -3,8 +3,8 @@ use borrow.Author.Rules.{rules}
 use borrow.Author.Tests.{not-true, not-false}
 use native.Mathlib.Omega.{arith}
 use mathlib.Core.Path.{◌∙◌}
-use Rattle.check_trees.specs.Fills.{fills-as}
-use Rattle.check_trees.specs.FillWalks.{fills-deep, fills-left-not, fills-right-not, ended, fills-node}
+use Rattle.check_trees.specs.Fills.{fills_as}
+use Rattle.check_trees.specs.FillWalks.{fills_deep, fills_left_not, fills_right_not, ended, fills_node}
 use Prim.Native.Nat.{ℕ, ◌<◌}
 use borrow.Fn.Kinds.{In}
 use borrow.Fn.PlainCycle.{Measures, is, falls, and}
@@ -52,7 +52,7 @@ fill-nothing-requires : (t : ℕ) → fill-lts.Need-nothing-requires (fill-claim
 fill-nothing-requires t c κs = search rules
 
 fill-returns-2 : (t : ℕ) → fill-lts.Need-returns-2 (fill-claims t) (fill-at t) fill.Post
-fill-returns-2 t c = fills-deep c.before.before.if1.false c.before.if2.true c.nothing.ensures
+fill-returns-2 t c = fills_deep c.before.before.if1.false c.before.if2.true c.nothing.ensures
 
 fill-child-requires : (t : ℕ) → fill-lts.Need-child-requires (fill-claims t) (fill-at t) fill.Post
 fill-child-requires t c κs = search rules
@@ -72,7 +72,7 @@ fill-returns-3 t c =
     let at-child = at_fill_lem.before.before in
     let at-if2 = at-child.before in
     let at-if1 = at-if2.before in
-    fills-left-not at-if1.if1.false at-if2.if2.false (fills-as at-child.child.ensures at_fill_lem.fill.ensures) (not-true _ c.if3.true)
+    fills_left_not at-if1.if1.false at-if2.if2.false (fills_as at-child.child.ensures at_fill_lem.fill.ensures) (not-true _ c.if3.true)
 
 fill-child-requires-2 : (t : ℕ) → fill-lts.Need-child-requires-2 (fill-claims t) (fill-at t) fill.Post
 fill-child-requires-2 t c κs = search rules
@@ -97,8 +97,8 @@ fill-returns-4 t c =
     let at-child = at_fill_lem.before.before in
     let at-if2 = at-child.before in
     let at-if1 = at-if2.before in
-    fills-right-not at-if1.if1.false at-if2.if2.false (fills-as at-child.child.ensures at_fill_lem.fill.ensures) (not-false _ at-if3.if3.false)
-    (fills-as at-child2.child2.ensures at-fill2.fill2.ensures) (not-true _ c.if4.true)
+    fills_right_not at-if1.if1.false at-if2.if2.false (fills_as at-child.child.ensures at_fill_lem.fill.ensures) (not-false _ at-if3.if3.false)
+    (fills_as at-child2.child2.ensures at-fill2.fill2.ensures) (not-true _ c.if4.true)
 
 fill-cover-requires : (t : ℕ) → fill-lts.Need-cover-requires (fill-claims t) (fill-at t) fill.Post
 fill-cover-requires t c κs =
@@ -109,8 +109,8 @@ fill-cover-requires t c κs =
     let at-child = at_fill_lem.before.before in
     let at-if2 = at-child.before in
     let at-if1 = at-if2.before in
-    ended at-if1.if1.false at-if2.if2.false (fills-as at-child.child.ensures at_fill_lem.fill.ensures) (not-false _ at-if3.if3.false)
-    (fills-as at-child2.child2.ensures at-fill2.fill2.ensures) (not-false _ c.before.if4.false)
+    ended at-if1.if1.false at-if2.if2.false (fills_as at-child.child.ensures at_fill_lem.fill.ensures) (not-false _ at-if3.if3.false)
+    (fills_as at-child2.child2.ensures at-fill2.fill2.ensures) (not-false _ c.before.if4.false)
 
 fill-returns-5 : (t : ℕ) → fill-lts.Need-returns-5 (fill-claims t) (fill-at t) fill.Post
 fill-returns-5 t c =
@@ -122,8 +122,8 @@ fill-returns-5 t c =
     let at-child = at_fill_lem.before.before in
     let at-if2 = at-child.before in
     let at-if1 = at-if2.before in
-    fills-node at-if1.if1.false at-if2.if2.false (fills-as at-child.child.ensures at_fill_lem.fill.ensures) (not-false _ at-if3.if3.false)
-    (fills-as at-child2.child2.ensures at-fill2.fill2.ensures) (not-false _ at-if4.if4.false) c.cover.ensures
+    fills_node at-if1.if1.false at-if2.if2.false (fills_as at-child.child.ensures at_fill_lem.fill.ensures) (not-false _ at-if3.if3.false)
+    (fills_as at-child2.child2.ensures at-fill2.fill2.ensures) (not-false _ at-if4.if4.false) c.cover.ensures
 
 pub +fill-spec : {M : Type 1} → statement M
 +fill-spec = close μ-fill λ t. fill-lts.spec (

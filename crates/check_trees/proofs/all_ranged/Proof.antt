@@ -3,8 +3,8 @@ use Prim.Native.Nat.{◌-◌, ◌≤◌}
 use native.Mathlib.Omega.{arith}
 use borrow.Author.Rules.{rules}
 use borrow.Author.Tests.{not-true, not-false}
-use Rattle.check_trees.specs.Deciding.{Every, every-none, every_more, every-less, decides-yes, decides-no}
-use Rattle.check_trees.specs.Loops.{RangedHere, ranged-here, not-ranged-here}
+use Rattle.check_trees.specs.Deciding.{Every, every_none, every_more, every_less, decides_yes, decides_no}
+use Rattle.check_trees.specs.Loops.{RangedHere, ranged_here, not_ranged_here}
 use Rattle.check_trees.proofs.all_ranged.Statement.{statement}
 use Rattle.check_trees.proofs.all_ranged.Tie as tie
 
@@ -15,7 +15,7 @@ abbrev decreases-loop : tie.decreases-loop
 decreases-loop part scratch from to i₀ i = to - i
 
 loop-holds : tie.Need-loop-init invariant-loop decreases-loop
-loop-holds c = (omega arith, omega arith, every-none (omega arith))
+loop-holds c = (omega arith, omega arith, every_none (omega arith))
 
 entry-requires : tie.Need-entry-requires invariant-loop decreases-loop
 entry-requires c κs = omega arith
@@ -28,8 +28,8 @@ returns c =
     let entry' = c.before.before in
     let at-loop-test = entry'.before in
     let at-loop = at-loop-test.before in
-    decides-no
-    (λ p. not-ranged-here entry'.entry.ensures c.before.ranged.ensures (not-true _ c.if1.true)
+    decides_no
+    (λ p. not_ranged_here entry'.entry.ensures c.before.ranged.ensures (not-true _ c.if1.true)
     (p.at at-loop.loop.i at-loop.loop.invariant.0 at-loop-test.loop-test.true))
 
 add-i : tie.Need-overflow-add-i invariant-loop decreases-loop
@@ -44,11 +44,11 @@ loop-again c =
     let at-loop = entry'.before.before in (
       omega arith,
       omega arith,
-      every_more at-loop.loop.invariant.2 (ranged-here entry'.entry.ensures c.before.ranged.ensures (not-false _ c.if1.false)),
+      every_more at-loop.loop.invariant.2 (ranged_here entry'.entry.ensures c.before.ranged.ensures (not-false _ c.if1.false)),
     )
 
 returns-2 : tie.Need-returns-2 invariant-loop decreases-loop
-returns-2 c = decides-yes (every-less c.loop-test.false c.before.loop.invariant.2)
+returns-2 c = decides_yes (every_less c.loop-test.false c.before.loop.invariant.2)
 
 pub all-ranged-spec : {M : Type 1} → statement M
 all-ranged-spec =

@@ -3,7 +3,7 @@ use mathlib.Core.Path.{◌∙◌, sym}
 use mathlib.Core.Logic.{⊎_elim}
 use Prim.Native.Nat.{◌+◌}
 use native.Mathlib.Omega.{arith}
-use Rattle.check_trees.specs.Fills.{covers-not, covers}
+use Rattle.check_trees.specs.Fills.{covers_not, covers}
 use borrow.Author.Tests.{ltb-true, ltb-false}
 use borrow.Author.Rules.{rules}
 use Rattle.check_trees.proofs.cover.Statement.{statement}
@@ -23,7 +23,7 @@ nothing-requires c κs = search rules
 
 returns : tie.Need-returns
 returns c =
-    covers-not c.nothing.ensures
+    covers_not c.nothing.ensures
     (λ p. c.before.if1.true (c.before.before.before.entry.ensures ∙ p.seam ∙ sym c.before.before.inner-slot.ensures))
 
 add-if2 : tie.Need-overflow-add-if2
@@ -42,7 +42,7 @@ returns-2 c =
     let entry = at-if1.before.before.before in
     let args = entry.args in
     let lower = ltb-true (args.a.height + 1) args.b.height in
-    covers-not c.nothing2.ensures
+    covers_not c.nothing2.ensures
     (λ p. ⊎_elim (λ y. omega (arith, p.left)) (λ y. let h = lower y.1.taken in omega (arith, p.right)) at-if2.if2.branch)
 
 height-requires : tie.Need-height-requires
@@ -56,7 +56,7 @@ nothing-requires-3 c κs = search rules
 
 returns-3 : tie.Need-returns-3
 returns-3 c =
-    covers-not c.nothing3.ensures
+    covers_not c.nothing3.ensures
     (λ p. c.before.if4.true (c.before.before.before.height.ensures ∙ p.stored ∙ sym c.before.before.height-over.ensures))
 
 returns-4 : tie.Need-returns-4

@@ -3,8 +3,8 @@ use Prim.Native.Nat.{◌-◌, ◌≤◌}
 use native.Mathlib.Omega.{arith}
 use borrow.Author.Rules.{rules}
 use borrow.Author.Tests.{not-true, not-false}
-use Rattle.check_trees.specs.Deciding.{Every, every-none, every_more, every-less, decides-yes, decides-no}
-use Rattle.check_trees.specs.Loops.{FallsHere, falls-here, not-falls-here}
+use Rattle.check_trees.specs.Deciding.{Every, every_none, every_more, every_less, decides_yes, decides_no}
+use Rattle.check_trees.specs.Loops.{FallsHere, falls_here, not_falls_here}
 use Rattle.check_trees.proofs.falling.Statement.{statement}
 use Rattle.check_trees.proofs.falling.Tie as tie
 
@@ -15,7 +15,7 @@ abbrev decreases-loop : tie.decreases-loop
 decreases-loop part field scratch from to i₀ i = to - i
 
 loop-holds : tie.Need-loop-init invariant-loop decreases-loop
-loop-holds c = (omega arith, omega arith, every-none (omega arith))
+loop-holds c = (omega arith, omega arith, every_none (omega arith))
 
 add-loop : tie.Need-overflow-add-loop invariant-loop decreases-loop
 add-loop c = omega arith
@@ -37,8 +37,8 @@ returns c =
     let at-entry2 = c.before.before in
     let entry' = at-entry2.before in
     let at-loop = entry'.before.before in
-    decides-no
-    (λ p. not-falls-here entry'.entry.ensures at-entry2.entry2.ensures c.before.falls.ensures (not-true _ c.if1.true)
+    decides_no
+    (λ p. not_falls_here entry'.entry.ensures at-entry2.entry2.ensures c.before.falls.ensures (not-true _ c.if1.true)
     (p.at at-loop.loop.i at-loop.loop.invariant.0 (omega arith)))
 
 add-i : tie.Need-overflow-add-i invariant-loop decreases-loop
@@ -55,11 +55,11 @@ loop-again c =
       omega arith,
       omega arith,
       every_more at-loop.loop.invariant.2
-          (falls-here entry'.entry.ensures at-entry2.entry2.ensures c.before.falls.ensures (not-false _ c.if1.false)),
+          (falls_here entry'.entry.ensures at-entry2.entry2.ensures c.before.falls.ensures (not-false _ c.if1.false)),
     )
 
 returns-2 : tie.Need-returns-2 invariant-loop decreases-loop
-returns-2 c = decides-yes (every-less (omega arith) c.before.loop.invariant.2)
+returns-2 c = decides_yes (every_less (omega arith) c.before.loop.invariant.2)
 
 pub falling-spec : {M : Type 1} → statement M
 falling-spec =

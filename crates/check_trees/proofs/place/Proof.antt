@@ -4,7 +4,7 @@ use mathlib.Core.Logic.{◌≢◌}
 use Prim.Native.Nat.{◌-◌, ◌≤◌}
 use native.Mathlib.Omega.{arith}
 use lib.ListN.{get_or}
-use Rattle.check_trees.specs.Deciding.{Every, every-none, every_more}
+use Rattle.check_trees.specs.Deciding.{Every, every_none, every_more}
 use Rattle.check_trees.specs.Loops.{place_none, place_here}
 use Rattle.check_trees.proofs.place.Statement.{statement}
 use Rattle.check_trees.proofs.place.Tie as tie
@@ -16,7 +16,7 @@ abbrev decreases-loop : tie.decreases-loop
 decreases-loop scratch from to slot i₀ i = to - i
 
 loop-holds : tie.Need-loop-init invariant-loop decreases-loop
-loop-holds c = (omega arith, omega arith, every-none (omega arith))
+loop-holds c = (omega arith, omega arith, every_none (omega arith))
 
 entry-requires : tie.Need-entry-requires invariant-loop decreases-loop
 entry-requires c κs = omega arith

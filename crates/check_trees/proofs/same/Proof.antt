@@ -2,7 +2,7 @@
 use mathlib.Core.Path.{◌∙◌, sym}
 use Prim.Native.Nat.{◌-◌, ◌≤◌}
 use native.Mathlib.Omega.{arith}
-use Rattle.check_trees.specs.Deciding.{every-none, every_more, every-less, Agree, decides-yes, decides-no}
+use Rattle.check_trees.specs.Deciding.{every_none, every_more, every_less, Agree, decides_yes, decides_no}
 use Rattle.check_trees.proofs.same.Statement.{statement}
 use Rattle.check_trees.proofs.same.Tie as tie
 
@@ -13,7 +13,7 @@ abbrev decreases-loop : tie.decreases-loop
 decreases-loop scratch a b count k₀ k = count - k
 
 loop-holds : tie.Need-loop-init invariant-loop decreases-loop
-loop-holds c = (omega arith, every-none (omega arith))
+loop-holds c = (omega arith, every_none (omega arith))
 
 add-entry : tie.Need-overflow-add-entry invariant-loop decreases-loop
 add-entry c = omega arith
@@ -32,7 +32,7 @@ returns c =
     let entry' = c.before.before in
     let at-loop-test = entry'.before in
     let at-loop = at-loop-test.before in
-    decides-no
+    decides_no
     (λ p. c.if1.true (entry'.entry.ensures ∙ p.at at-loop.loop.k (omega arith) at-loop-test.loop-test.true ∙ sym c.before.entry2.ensures))
 
 add-k : tie.Need-overflow-add-k invariant-loop decreases-loop
@@ -48,7 +48,7 @@ loop-again c =
     (omega arith, every_more at-loop.loop.invariant.1 (sym entry'.entry.ensures ∙ c.if1.false ∙ c.before.entry2.ensures))
 
 returns-2 : tie.Need-returns-2 invariant-loop decreases-loop
-returns-2 c = decides-yes (every-less c.loop-test.false c.before.loop.invariant.1)
+returns-2 c = decides_yes (every_less c.loop-test.false c.before.loop.invariant.1)
 
 pub same_spec : {M : Type 1} → statement M
 same_spec =

@@ -1,7 +1,7 @@
 -- `check_trees::shift` meets its contract: so far k entries have been moved.
 use Prim.Native.Nat.{◌-◌, ◌≤◌}
 use native.Mathlib.Omega.{arith}
-use Rattle.check_trees.specs.Loops.{Moving, moving-none, moving-more, moving-done}
+use Rattle.check_trees.specs.Loops.{Moving, moving_none, moving_more, moving_done}
 use Rattle.check_trees.proofs.shift.Statement.{statement}
 use Rattle.check_trees.proofs.shift.Tie as tie
 
@@ -12,7 +12,7 @@ abbrev decreases-loop : tie.decreases-loop
 decreases-loop scratch₀ to from count k₀ scratch k = count - k
 
 loop-holds : tie.Need-loop-init invariant-loop decreases-loop
-loop-holds c = (omega arith, moving-none)
+loop-holds c = (omega arith, moving_none)
 
 add-entry : tie.Need-overflow-add-entry invariant-loop decreases-loop
 add-entry c = omega arith
@@ -39,10 +39,10 @@ loop-again : tie.Need-loop-preserved invariant-loop decreases-loop
 loop-again c =
     let at-loop = c.before.before.before in
     let entry' = at-loop.before in
-    (omega arith, moving-more entry'.requires.1 (omega (arith, entry'.requires)) at-loop.loop.invariant.1 c.entry.ensures)
+    (omega arith, moving_more entry'.requires.1 (omega (arith, entry'.requires)) at-loop.loop.invariant.1 c.entry.ensures)
 
 returns : tie.Need-returns invariant-loop decreases-loop
-returns c = moving-done c.loop-test.false c.before.loop.invariant.0 c.before.loop.invariant.1
+returns c = moving_done c.loop-test.false c.before.loop.invariant.0 c.before.loop.invariant.1
 
 pub shift-spec : {M : Type 1} → statement M
 shift-spec =

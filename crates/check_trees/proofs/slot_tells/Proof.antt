@@ -9,13 +9,13 @@ use mir.Val.{Fits, to_z}
 use mir.Syntax.{w32, w64}
 use mir.Facts.{to_z_pos}
 use borrow.Author.Rules.{rules}
-use Rattle.integers.specs.Parts.{equal-eq, equal_is}
-use Rattle.check_trees.specs.Deciding.{Decides, decides-as, decides-by}
+use Rattle.integers.specs.Parts.{equal_eq, equal_is}
+use Rattle.check_trees.specs.Deciding.{Decides, decides_as, decides_by}
 use Rattle.check_trees.proofs.slot_tells.Statement.{statement}
 use Rattle.check_trees.proofs.slot_tells.Tie as tie
 
 told : {z : ℤ} {n : ℕ} {r : Bool} → Fits w32 n → r ≡ le_z z (to_z w64 n) && le_z (to_z w64 n) z → Decides r (z ≡ pos n)
-told {z} {n} f e = decides-as (λ t. equal-eq z (to_z w64 n) t ∙ same) (λ q. equal_is z (to_z w64 n) (q ∙ sym same)) (decides-by e)
+told {z} {n} f e = decides_as (λ t. equal_eq z (to_z w64 n) t ∙ same) (λ q. equal_is z (to_z w64 n) (q ∙ sym same)) (decides_by e)
   where
     same : to_z w64 n ≡ pos n
     same = to_z_pos w64 (omega (arith, f.fits))

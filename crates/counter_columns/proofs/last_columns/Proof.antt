@@ -1,7 +1,7 @@
 -- `counter_columns::last_columns` meets its contract: by whether the columns between are blank.
 use mathlib.Core.Path.{◌∙◌, sym}
 use mathlib.Core.Bool.{true≢false}
-use Rattle.counter_columns.specs.Commands.{last-read}
+use Rattle.counter_columns.specs.Commands.{last_read}
 use borrow.Author.Rules.{rules}
 use Rattle.counter_columns.proofs.last_columns.Statement.{statement}
 use Rattle.counter_columns.proofs.last_columns.Tie as tie
@@ -39,7 +39,7 @@ returns c =
     let at_same = at-if1.before in
     let at-same-arg2 = at_same.before in
     let entry = at-same-arg2.before.before.before in
-    last-read entry.args.line.now c.read-field.result (at_same.same.ensures.0 at-if1.if1.true) c.read-field.ensures
+    last_read entry.args.line.now c.read-field.result (at_same.same.ensures.0 at-if1.if1.true) c.read-field.ensures
 
 returns-2 : tie.Need-returns-2
 returns-2 c z l = absurd (true≢false (sym (c.before.same.ensures.1 l.blank) ∙ c.if1.false))

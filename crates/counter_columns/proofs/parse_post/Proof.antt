@@ -2,7 +2,7 @@
 use mir.Facts.{to_z-of_z}
 use mir.Syntax.{w64}
 use mir.Val.{SFits}
-use Rattle.counter_columns.specs.Commands.{wrong-post, is-post, number_read, bad-read}
+use Rattle.counter_columns.specs.Commands.{wrong_post, is_post, number_read, bad_read}
 use borrow.Author.Rules.{rules}
 use Rattle.counter_columns.proofs.parse_post.Statement.{statement}
 use Rattle.counter_columns.proofs.parse_post.Tie as tie
@@ -29,7 +29,7 @@ returns : tie.Need-returns
 returns c =
     let at-read-field = c.before.before in
     let entry = at-read-field.before.before.before in
-    wrong-post _ entry.requires.1 (λ n r b p. bad-read _ _ at-read-field.read-field.ensures c.enum_told.given.1 n p.first)
+    wrong_post _ entry.requires.1 (λ n r b p. bad_read _ _ at-read-field.read-field.ensures c.enum_told.given.1 n p.first)
 
 sub-read-field-2 : tie.Need-overflow-sub-read-field-2
 sub-read-field-2 c = search rules
@@ -55,7 +55,7 @@ returns-2 c =
     let at-number = at-read-field2.before.before.before in
     let at-read-field = at-number.before.before in
     let entry = at-read-field.before.before.before in
-    wrong-post _ entry.requires.1 (λ n r b p. bad-read _ _ at-read-field2.read-field2.ensures c.enum-told2.given.1 r p.second)
+    wrong_post _ entry.requires.1 (λ n r b p. bad_read _ _ at-read-field2.read-field2.ensures c.enum-told2.given.1 r p.second)
 
 sub-read-field-3 : tie.Need-overflow-sub-read-field-3
 sub-read-field-3 c = search rules
@@ -83,7 +83,7 @@ returns-3 c =
     let at-number = at-read-field2.before.before.before in
     let at-read-field = at-number.before.before in
     let entry = at-read-field.before.before.before in
-    wrong-post _ entry.requires.1 (λ n r b p. bad-read _ _ at-read-field3.read-field3.ensures c.enum-told3.given.1 b p.third)
+    wrong_post _ entry.requires.1 (λ n r b p. bad_read _ _ at-read-field3.read-field3.ensures c.enum-told3.given.1 b p.third)
 
 returns-4 : tie.Need-returns-4
 returns-4 c =
@@ -98,7 +98,7 @@ returns-4 c =
     let g : SFits w64 at-rate.rate.given.0.0 = record { sfits = at-read-field3.before.before.known-told2.given.0.1 } in
     let h : SFits w64 at_base.base.given.0.0 = record { sfits = c.known-told3.given.0.1 } in
     simp (to_z-of_z, f, g, h)
-    (is-post _ _ _ _ entry.requires.0 entry.requires.1
+    (is_post _ _ _ _ entry.requires.0 entry.requires.1
     (record {
       first = number_read _ _ at-read-field.read-field.ensures at-number.number.given.1;
       second = number_read _ _ at-read-field2.read-field2.ensures at-rate.rate.given.1;

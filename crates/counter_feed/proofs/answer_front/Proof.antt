@@ -1,13 +1,13 @@
 -- `counter_feed::answer_front` meets its contract: the bytes up to the line's end are answered.
 use mathlib.Core.Path.{sym}
 use lib.Seq.{length-take-le}
-use Rattle.counter_feed.specs.Input.{front-none, front-all}
+use Rattle.counter_feed.specs.Input.{front_none, front_all}
 use borrow.Author.Rules.{rules}
 use Rattle.counter_feed.proofs.answer_front.Statement.{statement}
 use Rattle.counter_feed.proofs.answer_front.Tie as tie
 
 returns : tie.Need-returns
-returns c = front-none _ _ _ _ c.if1.true
+returns c = front_none _ _ _ _ c.if1.true
 
 slice-aggregate-answer : tie.Need-slice-aggregate-answer
 slice-aggregate-answer c =
@@ -25,7 +25,7 @@ same-length-2 : tie.Need-same-length-2
 same-length-2 c = search rules
 
 returns-2 : tie.Need-returns-2
-returns-2 c = front-all c.before.before.before.answer.ensures
+returns-2 c = front_all c.before.before.before.answer.ensures
 
 pub answer-front-spec : {M : Type 1} → statement M
 answer-front-spec =

@@ -1,5 +1,5 @@
 -- `counter_feed::answer_kept` meets its contract: the kept bytes tell the line's command.
-use Rattle.counter_feed.specs.Input.{counts-kept}
+use Rattle.counter_feed.specs.Input.{counts_kept}
 use borrow.Author.Rules.{rules}
 use Rattle.counter_feed.proofs.answer_kept.Statement.{statement}
 use Rattle.counter_feed.proofs.answer_kept.Tie as tie
@@ -17,7 +17,7 @@ same-length-2 : tie.Need-same-length-2
 same-length-2 c = search rules
 
 returns : tie.Need-returns
-returns c = counts-kept c.before.before.before.answer-front.ensures
+returns c = counts_kept c.before.before.before.answer-front.ensures
 
 pub answer-kept-spec : {M : Type 1} → statement M
 answer-kept-spec =

@@ -1,5 +1,5 @@
 -- `counter_feed::feed` meets its contract: the line grows, or is answered.
-use Rattle.counter_feed.specs.Input.{feeds-on, feeds-line}
+use Rattle.counter_feed.specs.Input.{feeds_on, feeds_line}
 use borrow.Author.Rules.{rules}
 use Rattle.counter_feed.proofs.feed.Statement.{statement}
 use Rattle.counter_feed.proofs.feed.Tie as tie
@@ -8,7 +8,7 @@ push-requires : tie.Need-push-requires
 push-requires c κs = search rules
 
 returns : tie.Need-returns
-returns c = feeds-on _ _ c.before.if1.true c.push.ensures
+returns c = feeds_on _ _ c.before.if1.true c.push.ensures
 
 answer-kept-requires : tie.Need-answer-kept-requires
 answer-kept-requires c κs = search rules
@@ -27,7 +27,7 @@ returns-2 c =
     let at_out = c.before.before in
     let at-answer-kept = at_out.before.before in
     let at-if1 = at-answer-kept.before.before.before in
-    feeds-line at-if1.if1.false c.no_line.ensures at-answer-kept.answer-kept.ensures
+    feeds_line at-if1.if1.false c.no_line.ensures at-answer-kept.answer-kept.ensures
 
 pub feed-spec : {M : Type 1} → statement M
 feed-spec =

@@ -7,7 +7,7 @@ use mir.Facts.{to_z-of_z, to_z_pos}
 use mir.Syntax.{w64}
 use mir.Val.{SFits, to_z}
 use borrow.Author.Rules.{rules}
-use Rattle.counter_field.specs.Values.{told-minus, told-plain}
+use Rattle.counter_field.specs.Values.{told_minus, told_plain}
 use Rattle.counter_field.proofs.number_in.Statement.{statement}
 use Rattle.counter_field.proofs.number_in.Tie as tie
 
@@ -39,13 +39,13 @@ returns : tie.Need-returns
 returns c =
     let v = c.before.before.value_in in
     simp (as-signed v.result v.ensures.1, to_z-of_z, minus-fits v.result v.ensures.1)
-    (told-minus _ v.ensures.0 (sym c.if1.true ∙ c.before.has-minus.ensures))
+    (told_minus _ v.ensures.0 (sym c.if1.true ∙ c.before.has-minus.ensures))
 
 returns-2 : tie.Need-returns-2
 returns-2 c =
     let v = c.before.before.value_in in
     rw (as-signed v.result v.ensures.1)
-    (told-plain _ v.ensures.0 (sym c.if1.false ∙ c.before.has-minus.ensures))
+    (told_plain _ v.ensures.0 (sym c.if1.false ∙ c.before.has-minus.ensures))
 
 pub number-in-spec : {M : Type 1} → statement M
 number-in-spec =

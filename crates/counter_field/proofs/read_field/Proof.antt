@@ -7,12 +7,12 @@ use mir.Facts.{to_z-of_z}
 use mir.Syntax.{w64}
 use mir.Val.{SFits}
 use borrow.Author.Rules.{rules}
-use Rattle.counter_field.specs.Reading.{holds-none, candidate, held}
+use Rattle.counter_field.specs.Reading.{holds_none, candidate, held}
 use Rattle.counter_field.proofs.read_field.Statement.{statement}
 use Rattle.counter_field.proofs.read_field.Tie as tie
 
 returns : tie.Need-returns
-returns c z h = holds-none _ z c.if1.true h
+returns c z h = holds_none _ z c.if1.true h
 
 number-in-requires : tie.Need-number-in-requires
 number-in-requires c κs = search rules

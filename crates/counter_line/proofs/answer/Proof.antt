@@ -2,13 +2,13 @@
 use mir.Facts.{to_z-of_z}
 use mir.Syntax.{w64}
 use mir.Val.{SFits}
-use Rattle.counter_line.specs.Answering.{command-is, counts-short, posted, withdrawn, asked, listed-all, unread}
+use Rattle.counter_line.specs.Answering.{command_is, counts_short, posted, withdrawn, asked, listed_all, unread}
 use borrow.Author.Rules.{rules}
 use Rattle.counter_line.proofs.answer.Statement.{statement}
 use Rattle.counter_line.proofs.answer.Tie as tie
 
 returns : tie.Need-returns
-returns c = counts-short _ _ _ c.if1.true
+returns c = counts_short _ _ _ c.if1.true
 
 parse-requires : tie.Need-parse-requires
 parse-requires c κs = search rules
@@ -39,7 +39,7 @@ returns-2 c =
     let f : SFits w64 at-command.command.given.0.0 = record { sfits = at-known-told.known-told.given.0.1 } in
     let g : SFits w64 at-command.command.given.0.1.0 = record { sfits = at-known-told.known-told.given.1.0.1 } in
     let h : SFits w64 at-command.command.given.0.1.1.0 = record { sfits = at-known-told.known-told.given.1.1.0.1 } in
-    posted at-if1.if1.false _ _ _ (command-is at-parse.parse.ensures at-command.command.given.1)
+    posted at-if1.if1.false _ _ _ (command_is at-parse.parse.ensures at-command.command.given.1)
     (simp (to_z-of_z, f, g, h) at at-post.post.ensures) (simp (to_z-of_z, f) at at-update-line.update_Line.ensures)
 
 enum-known-command-2 : tie.Need-enum-known-command-2
@@ -65,7 +65,7 @@ returns-3 c =
     let at-parse = at-command2.before.before in
     let at-if1 = at-parse.before in
     let f : SFits w64 at-command2.command2.given.0.0 = search rules in
-    withdrawn at-if1.if1.false _ (command-is at-parse.parse.ensures at-command2.command2.given.1)
+    withdrawn at-if1.if1.false _ (command_is at-parse.parse.ensures at-command2.command2.given.1)
     (simp (to_z-of_z, f) at at-withdraw.withdraw.ensures) (simp (to_z-of_z, f) at at-update-line2.update-line2.ensures)
 
 enum-known-command-3 : tie.Need-enum-known-command-3
@@ -91,7 +91,7 @@ returns-4 c =
     let at-parse = at-command3.before.before in
     let at-if1 = at-parse.before in
     let f : SFits w64 at-command3.command3.given.0.0 = search rules in
-    asked at-if1.if1.false _ (command-is at-parse.parse.ensures at-command3.command3.given.1)
+    asked at-if1.if1.false _ (command_is at-parse.parse.ensures at-command3.command3.given.1)
     (simp (to_z-of_z, f) at at-query.query.ensures) at-found-line.found-line.ensures
 
 enum_told : tie.Need-enum-told
@@ -112,7 +112,7 @@ returns-5 c =
     let at-enum-told = at-list.before.before.before in
     let at-parse = at-enum-told.before.before in
     let at-if1 = at-parse.before in
-    listed-all at-if1.if1.false (command-is at-parse.parse.ensures at-enum-told.enum_told.given.1) at-list.list.ensures
+    listed_all at-if1.if1.false (command_is at-parse.parse.ensures at-enum-told.enum_told.given.1) at-list.list.ensures
 
 enum-told-2 : tie.Need-enum-told-2
 enum-told-2 c = search rules
@@ -129,7 +129,7 @@ returns-6 c =
     let at-enum-told2 = at-answer-line.before.before in
     let at-parse = at-enum-told2.before.before in
     let at-if1 = at-parse.before in
-    unread at-if1.if1.false (command-is at-parse.parse.ensures at-enum-told2.enum-told2.given.1) at-answer-line.answer-line.ensures
+    unread at-if1.if1.false (command_is at-parse.parse.ensures at-enum-told2.enum-told2.given.1) at-answer-line.answer-line.ensures
 
 pub answer-spec : {M : Type 1} → statement M
 answer-spec =

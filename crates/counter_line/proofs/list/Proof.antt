@@ -1,6 +1,6 @@
 -- `counter_line::list` meets its contract: the listing's promise, and the lines of its answer.
 use mathlib.Core.Path.{refl}
-use Rattle.counter_line.specs.Answering.{lists-lines}
+use Rattle.counter_line.specs.Answering.{lists_lines}
 use borrow.Author.Rules.{rules}
 use Rattle.counter_line.proofs.list.Statement.{statement}
 use Rattle.counter_line.proofs.list.Tie as tie
@@ -25,7 +25,7 @@ returns c =
     let at-listed-lines = c.before.before in
     let at-pieces3 = at-listed-lines.before in
     let at-listing = at-pieces3.before.before.before in
-    lists-lines refl at-listing.listing.ensures at-listed-lines.listed-lines.ensures
+    lists_lines refl at-listing.listing.ensures at-listed-lines.listed-lines.ensures
 
 pub list-spec : {M : Type 1} → statement M
 list-spec =

@@ -4,7 +4,7 @@ use native.Mathlib.Omega.{arith}
 use lib.ListN.{length}
 use borrow.Author.Rules.{rules}
 use borrow.Author.Tests.{leb-true, leb-false}
-use Rattle.counter_print.specs.Places.{Needed, needed-one, needed-more, counts-below, counts_all}
+use Rattle.counter_print.specs.Places.{Needed, needed_one, needed_more, counts_below, counts_all}
 use Rattle.counter_print.proofs.digit_count.Statement.{statement}
 use Rattle.counter_print.proofs.digit_count.Tie as tie
 
@@ -15,7 +15,7 @@ abbrev decreases-loop : tie.decreases-loop
 decreases-loop powers number count₀ count = length powers - count
 
 loop-holds : tie.Need-loop-init invariant-loop decreases-loop
-loop-holds c = needed-one _
+loop-holds c = needed_one _
 
 mul-if1 : tie.Need-overflow-mul-if1 invariant-loop decreases-loop
 mul-if1 c = search rules
@@ -33,13 +33,13 @@ loop-again : tie.Need-loop-preserved invariant-loop decreases-loop
 loop-again c =
     let at_test = c.before.before in
     let entry = at_test.before.before in
-    needed-more entry.requires.0 at_test.before.loop.invariant at_test.loop-test.true (leb-true _ _ c.if1.true)
+    needed_more entry.requires.0 at_test.before.loop.invariant at_test.loop-test.true (leb-true _ _ c.if1.true)
 
 returns : tie.Need-returns invariant-loop decreases-loop
 returns c =
     let at_test = c.before.before in
     let entry = at_test.before.before in
-    counts-below entry.requires.0 at_test.before.loop.invariant at_test.loop-test.true (leb-false _ _ c.if1.false)
+    counts_below entry.requires.0 at_test.before.loop.invariant at_test.loop-test.true (leb-false _ _ c.if1.false)
 
 returns-2 : tie.Need-returns-2 invariant-loop decreases-loop
 returns-2 c =

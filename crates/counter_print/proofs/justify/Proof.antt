@@ -8,7 +8,7 @@ use lib.IntN.{pos}
 use lib.Signed.{lt_z}
 use mir.Facts.{to_z-of_z}
 use borrow.Author.Rules.{rules}
-use Rattle.counter_print.specs.Printing.{word-digits, count_fits, sign_fits, justifies-narrow, digits-fit, justifies-wide}
+use Rattle.counter_print.specs.Printing.{word_digits, count_fits, sign_fits, justifies_narrow, digits_fit, justifies_wide}
 use Rattle.counter_print.proofs.justify.Statement.{statement}
 use Rattle.counter_print.proofs.justify.Tie as tie
 
@@ -26,7 +26,7 @@ digit-count-requires c κs =
     let at-magnitude = c.before in
     let at-powers = at-magnitude.before in
     let f = at-powers.before.before.ranges.value in
-    (at-powers.powers-of-ten.ensures, rw (simp (to_z-of_z, f) at at-magnitude.magnitude.ensures) (word-digits _ f))
+    (at-powers.powers-of-ten.ensures, rw (simp (to_z-of_z, f) at at-magnitude.magnitude.ensures) (word_digits _ f))
 
 cast-if1 : tie.Need-overflow-cast-if1
 cast-if1 c = search rules
@@ -42,7 +42,7 @@ returns c =
     let at_count = c.before in
     let at-magnitude = at_count.before.before in
     let f = at-magnitude.before.before.before.ranges.value in
-    justifies-narrow _ _ _ _ _ (simp (to_z-of_z, f) at at-magnitude.magnitude.ensures) at_count.digit-count.ensures
+    justifies_narrow _ _ _ _ _ (simp (to_z-of_z, f) at at-magnitude.magnitude.ensures) at_count.digit-count.ensures
     (simp (to_z-of_z, f) at c.if1.true)
 
 sub-from : tie.Need-overflow-sub-from
@@ -101,7 +101,7 @@ put-digits-requires c κs =
     let at_sign = c.before.before.before.before in
     let at_count = at_sign.before.before.before in
     let at-powers = at_count.before.before.before in
-    let fit = digits-fit (from at_sign) at_sign.put-sign.new.0 (drop (from at_sign) (before at_sign)) (front_length at_sign) _ _
+    let fit = digits_fit (from at_sign) at_sign.put-sign.new.0 (drop (from at_sign) (before at_sign)) (front_length at_sign) _ _
     at_count.digit-count.ensures (rest-length at_sign) in
     (at-powers.powers-of-ten.ensures, fit.0, fit.1)
 
@@ -114,7 +114,7 @@ returns-2 c =
     let at_sign = at-digits.before.before.before.before.before in
     let at_count = at_sign.before.before.before in
     let f = (entry at_sign).ranges.value in
-    justifies-wide (from at_sign) at_sign.put-sign.new.0 (drop (from at_sign) (before at_sign)) (front_length at_sign) _ _ _ _ _
+    justifies_wide (from at_sign) at_sign.put-sign.new.0 (drop (from at_sign) (before at_sign)) (front_length at_sign) _ _ _ _ _
     (simp (to_z-of_z, f) at at_count.before.before.magnitude.ensures)
     at_count.digit-count.ensures
     (omega (arith, fits at_sign))

@@ -1,7 +1,7 @@
 -- `counter_print::lead_digit` meets its contract. The loop's invariant: the power goes in `digit` times, and no more of the multiples tried do.
 use Prim.Native.Nat.{◌-◌}
 use native.Mathlib.Omega.{arith}
-use Rattle.counter_print.specs.Places.{Tried, tried-none, tried-more, tried-done, multiple-fits}
+use Rattle.counter_print.specs.Places.{Tried, tried_none, tried_more, tried_done, multiple_fits}
 use Rattle.counter_print.proofs.lead_digit.Statement.{statement}
 use Rattle.counter_print.proofs.lead_digit.Tie as tie
 
@@ -12,25 +12,25 @@ abbrev decreases-loop : tie.decreases-loop
 decreases-loop number power digit₀ times₀ digit times = 9 - times
 
 loop-holds : tie.Need-loop-init invariant-loop decreases-loop
-loop-holds c = tried-none _ _
+loop-holds c = tried_none _ _
 
 add_times : tie.Need-overflow-add-times invariant-loop decreases-loop
 add_times c = omega (arith, c.loop-test.true)
 
 mul-digit : tie.Need-overflow-mul-digit invariant-loop decreases-loop
-mul-digit c = record { fits = multiple-fits _ _ (omega (arith, c.loop-test.true)) c.before.before.requires.1 }
+mul-digit c = record { fits = multiple_fits _ _ (omega (arith, c.loop-test.true)) c.before.before.requires.1 }
 
 cast-digit : tie.Need-overflow-cast-digit invariant-loop decreases-loop
 cast-digit c = tt
 
 add-digit : tie.Need-overflow-add-digit invariant-loop decreases-loop
-add-digit c = let g = tried-more c.before.loop.invariant (omega (arith, c.loop-test.true)) in omega (arith, g.high, g.most)
+add-digit c = let g = tried_more c.before.loop.invariant (omega (arith, c.loop-test.true)) in omega (arith, g.high, g.most)
 
 loop-less : tie.Need-loop-smaller invariant-loop decreases-loop
 loop-less c = omega (arith, c.loop-test.true)
 
 loop-again : tie.Need-loop-preserved invariant-loop decreases-loop
-loop-again c = tried-more c.before.loop.invariant (omega (arith, c.loop-test.true))
+loop-again c = tried_more c.before.loop.invariant (omega (arith, c.loop-test.true))
 
 cast-t8 : tie.Need-overflow-cast-t8 invariant-loop decreases-loop
 cast-t8 c = omega (arith, c.before.loop.invariant.high, c.before.loop.invariant.most)
@@ -42,7 +42,7 @@ sub-t10 : tie.Need-overflow-sub-t10 invariant-loop decreases-loop
 sub-t10 c = c.before.loop.invariant.low
 
 returns : tie.Need-returns invariant-loop decreases-loop
-returns c = tried-done c.before.loop.invariant c.loop-test.false c.before.before.requires.0
+returns c = tried_done c.before.loop.invariant c.loop-test.false c.before.before.requires.0
 
 pub lead-digit-spec : {M : Type 1} → statement M
 lead-digit-spec =

@@ -11,7 +11,7 @@ use lib.Signed.{lt_z, non_neg}
 use mir.Facts.{to_z-of_z}
 use mir.Syntax.{w64}
 use mir.Val.{Fits, SFits}
-use Rattle.integers.specs.Magnitude.{natAbs-fits}
+use Rattle.integers.specs.Magnitude.{nat_abs_fits}
 use Rattle.counter_print.proofs.magnitude.Statement.{statement}
 use Rattle.counter_print.proofs.magnitude.Tie as tie
 
@@ -67,7 +67,7 @@ returns c = simp (to_z-of_z, c.before.ranges.value, (flips-at c).near, (flips-at
 cast-result-2 : tie.Need-overflow-cast-result-2
 cast-result-2 c =
     simp (to_z-of_z, c.before.ranges.value)
-    (natAbs-fits _ c.before.ranges.value (simp (to_z-of_z, c.before.ranges.value) at c.if1.false))
+    (nat_abs_fits _ c.before.ranges.value (simp (to_z-of_z, c.before.ranges.value) at c.if1.false))
 
 returns-2 : tie.Need-returns-2
 returns-2 c = search rules

@@ -2,8 +2,8 @@
 use Prim.Native.Nat.{◌≤◌, ◌<◌}
 use mathlib.Core.Path.{refl}
 use native.Mathlib.Omega.{arith}
-use Rattle.counter_print.specs.Powers.{mostDigits}
-use Rattle.counter_print.specs.Places.{place-power, lead-asks, Putting, putting-more, putting-done}
+use Rattle.counter_print.specs.Powers.{most_digits}
+use Rattle.counter_print.specs.Places.{place_power, lead_asks, Putting, putting_more, putting_done}
 use Rattle.counter_print.proofs.put_digits.Statement.{statement}
 use Rattle.counter_print.proofs.put_digits.Tie as tie
 
@@ -23,7 +23,7 @@ entry c = let at-loop = c.before in at-loop.before.before.before
 some : (c : tie.In-loop invariant-loop decreases-loop) → 0 < c.before.loop.place
 some c = omega (arith, c.loop-test.true)
 
-low : (c : tie.In-loop invariant-loop decreases-loop) → c.before.loop.place ≤ mostDigits
+low : (c : tie.In-loop invariant-loop decreases-loop) → c.before.loop.place ≤ most_digits
 low c = omega (arith, c.before.loop.invariant.count, (entry c).requires.1)
 
 sub-place : tie.Need-overflow-sub-place invariant-loop decreases-loop
@@ -38,7 +38,7 @@ shared-slice-read-lead-digit c = omega (arith, some c.before, low c.before, (ent
 lead-digit-requires : tie.Need-lead-digit-requires invariant-loop decreases-loop
 lead-digit-requires c κs =
     let at_test = c.before in
-    lead-asks _ (entry at_test).requires.0 _ (some at_test) (low at_test) _ at_test.before.loop.invariant.small
+    lead_asks _ (entry at_test).requires.0 _ (some at_test) (low at_test) _ at_test.before.loop.invariant.small
 
 add-column : tie.Need-overflow-add-column invariant-loop decreases-loop
 add-column c = omega (arith, c.before.lead-digit.ensures.small)
@@ -61,14 +61,14 @@ loop-again : tie.Need-loop-preserved invariant-loop decreases-loop
 loop-again c =
     let at-lead = c.before in
     let at_test = at-lead.before.before in
-    putting-more _ at_test.before.loop.invariant (some at_test) (place-power _ (entry at_test).requires.0 _ (some at_test) (low at_test))
+    putting_more _ at_test.before.loop.invariant (some at_test) (place_power _ (entry at_test).requires.0 _ (some at_test) (low at_test))
     at-lead.lead-digit.ensures
 
 same_length : tie.Need-same-length invariant-loop decreases-loop
 same_length c = c.before.loop.invariant.size
 
 returns : tie.Need-returns invariant-loop decreases-loop
-returns c = putting-done _ c.before.loop.invariant c.loop-test.false
+returns c = putting_done _ c.before.loop.invariant c.loop-test.false
 
 pub put-digits-spec : {M : Type 1} → statement M
 put-digits-spec =

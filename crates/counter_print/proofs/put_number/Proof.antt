@@ -1,7 +1,7 @@
 -- `counter_print::put_number` meets its contract.
 use borrow.Author.Rules.{rules}
 use mir.Facts.{to_z-of_z}
-use Rattle.counter_print.specs.Printing.{puts-part}
+use Rattle.counter_print.specs.Printing.{puts_part}
 use Rattle.counter_print.proofs.put_number.Statement.{statement}
 use Rattle.counter_print.proofs.put_number.Tie as tie
 
@@ -28,7 +28,7 @@ returns c =
     let at-justify = c.before.before in
     let entry = at-justify.before.before.before in
     let f = entry.ranges.value in
-    puts-part _ _ _ _ _ entry.requires at-justify.justify.auto.0
+    puts_part _ _ _ _ _ entry.requires at-justify.justify.auto.0
     (simp (to_z-of_z, f) at at-justify.justify.ensures)
 
 pub put-number-spec : {M : Type 1} → statement M

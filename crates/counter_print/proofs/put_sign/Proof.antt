@@ -4,7 +4,7 @@ use mathlib.Core.Path.{refl}
 use native.Mathlib.Omega.{arith}
 use lib.ListN.{length, length-set}
 use borrow.Author.Rules.{rules}
-use Rattle.counter_print.specs.Printing.{Blanking, blanking-size, blanking-more, minus-room, signed-blank, signed-minus}
+use Rattle.counter_print.specs.Printing.{Blanking, blanking_size, blanking_more, minus_room, signed_blank, signed_minus}
 use Rattle.counter_print.proofs.put_sign.Statement.{statement}
 use Rattle.counter_print.proofs.put_sign.Tie as tie
 
@@ -24,37 +24,37 @@ add_at : tie.Need-overflow-add-at invariant-loop decreases-loop
 add_at c = search rules
 
 loop-less : tie.Need-loop-smaller invariant-loop decreases-loop
-loop-less c = omega (arith, c.loop-test.true, blanking-size c.before.loop.invariant)
+loop-less c = omega (arith, c.loop-test.true, blanking_size c.before.loop.invariant)
 
 loop-again : tie.Need-loop-preserved invariant-loop decreases-loop
-loop-again c = blanking-more c.before.loop.invariant c.loop-test.true
+loop-again c = blanking_more c.before.loop.invariant c.loop-test.true
 
 -- after the loop: the function's beginning, and that there is a column where there is a minus
 abbrev entry : tie.Then1 invariant-loop decreases-loop → tie.Start invariant-loop decreases-loop
 entry c = let at_test = c.before in at_test.before.before
 
 some : (c : tie.Then1 invariant-loop decreases-loop) → 0 < length (entry c).args.column.now
-some c = minus-room _ _ c.if1.true (entry c).requires
+some c = minus_room _ _ c.if1.true (entry c).requires
 
 sub-column : tie.Need-overflow-sub-column invariant-loop decreases-loop
-sub-column c = omega (arith, some c, c.before.loop-test.false, blanking-size c.before.before.loop.invariant)
+sub-column c = omega (arith, some c, c.before.loop-test.false, blanking_size c.before.before.loop.invariant)
 
 slice-write-column-2 : tie.Need-slice-write-column-2 invariant-loop decreases-loop
 slice-write-column-2 c =
     let inv = c.before.before.loop.invariant in
-    omega (arith, some c, inv.high, blanking-size inv)
+    omega (arith, some c, inv.high, blanking_size inv)
 
 same_length : tie.Need-same-length invariant-loop decreases-loop
-same_length c = simp length-set (blanking-size c.before.before.loop.invariant)
+same_length c = simp length-set (blanking_size c.before.before.loop.invariant)
 
 returns : tie.Need-returns invariant-loop decreases-loop
-returns c = rw c.if1.true (signed-minus c.before.before.loop.invariant c.before.loop-test.false (some c))
+returns c = rw c.if1.true (signed_minus c.before.before.loop.invariant c.before.loop-test.false (some c))
 
 same-length-2 : tie.Need-same-length-2 invariant-loop decreases-loop
-same-length-2 c = blanking-size c.before.before.loop.invariant
+same-length-2 c = blanking_size c.before.before.loop.invariant
 
 returns-2 : tie.Need-returns-2 invariant-loop decreases-loop
-returns-2 c = rw c.if1.false (signed-blank c.before.before.loop.invariant c.before.loop-test.false)
+returns-2 c = rw c.if1.false (signed_blank c.before.before.loop.invariant c.before.loop-test.false)
 
 pub put-sign-spec : {M : Type 1} → statement M
 put-sign-spec =

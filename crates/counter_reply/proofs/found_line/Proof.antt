@@ -2,7 +2,7 @@
 use mir.Facts.{to_z-of_z}
 use mir.Syntax.{w64}
 use mir.Val.{SFits}
-use Rattle.counter_reply.specs.Replies.{refused-line, found-line}
+use Rattle.counter_reply.specs.Replies.{refused_line, found_line}
 use borrow.Author.Rules.{rules}
 use Rattle.counter_reply.proofs.found_line.Statement.{statement}
 use Rattle.counter_reply.proofs.found_line.Tie as tie
@@ -25,7 +25,7 @@ returns c =
     let g : SFits w64 at-found.found.given.0.1.0 = search rules in
     let h : SFits w64 at-found.found.given.0.1.1.0 = search rules in
     rw at-found.found.given.1
-    (found-line entry.requires _ _ _ (simp (to_z-of_z, f, g, h) at at-answer-line.answer-line.ensures))
+    (found_line entry.requires _ _ _ (simp (to_z-of_z, f, g, h) at at-answer-line.answer-line.ensures))
 
 enum-known-found-2 : tie.Need-enum-known-found-2
 enum-known-found-2 c = search rules
@@ -43,7 +43,7 @@ returns-2 c =
     let entry = at-found2.before.before.before in
     let f : SFits w64 at-found2.found2.given.0.0 = search rules in
     rw at-found2.found2.given.1
-    (refused-line entry.requires _ (simp (to_z-of_z, f) at at-answer-line2.answer-line2.ensures))
+    (refused_line entry.requires _ (simp (to_z-of_z, f) at at-answer-line2.answer-line2.ensures))
 
 pub found-line-spec : {M : Type 1} → statement M
 found-line-spec =

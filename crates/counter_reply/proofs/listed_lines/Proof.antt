@@ -6,9 +6,9 @@ use lib.Seq.{length-take-le}
 use mir.Facts.{to_z-of_z}
 use mir.Syntax.{w64}
 use mir.Val.{SFits}
-use Rattle.table.specs.Words.{upTo-most}
-use Rattle.counter_reply.specs.Replies.{refused-line}
-use Rattle.counter_reply.specs.PieceLines.{part-long, listed-line}
+use Rattle.table.specs.Words.{up_to_most}
+use Rattle.counter_reply.specs.Replies.{refused_line}
+use Rattle.counter_reply.specs.PieceLines.{part_long, listed_line}
 use borrow.Author.Rules.{rules}
 use Rattle.counter_reply.proofs.listed_lines.Statement.{statement}
 use Rattle.counter_reply.proofs.listed_lines.Tie as tie
@@ -33,7 +33,7 @@ slice-aggregate-piece-lines c =
     let at-up-to = c.before in
     let at_Listed = at-up-to.before.before in
     let entry = at_Listed.before.before.before in
-    let n : at-up-to.up-to.result ≤ 64 = rw at-up-to.up-to.ensures (upTo-most 64 _) in
+    let n : at-up-to.up-to.result ≤ 64 = rw at-up-to.up-to.ensures (up_to_most 64 _) in
     sym (length-take-le _ entry.args.pieces.now (omega (arith, entry.requires.1)))
 
 piece-lines-requires : tie.Need-piece-lines-requires
@@ -41,7 +41,7 @@ piece-lines-requires c κs =
     let at-up-to = c.before.before in
     let at_Listed = at-up-to.before.before in
     let entry = at_Listed.before.before.before in
-    let n : at-up-to.up-to.result ≤ 64 = rw at-up-to.up-to.ensures (upTo-most 64 _) in
+    let n : at-up-to.up-to.result ≤ 64 = rw at-up-to.up-to.ensures (up_to_most 64 _) in
     (length-take-le _ entry.args.pieces.now (omega (arith, entry.requires.1)), omega (arith, entry.requires.0), n)
 
 sub-answer-line : tie.Need-overflow-sub-answer-line
@@ -50,7 +50,7 @@ sub-answer-line c =
     let at-up-to = at-piece-lines.before.before.before in
     let at_Listed = at-up-to.before.before in
     let entry = at_Listed.before.before.before in
-    let n : at-up-to.up-to.result ≤ 64 = rw at-up-to.up-to.ensures (upTo-most 64 _) in
+    let n : at-up-to.up-to.result ≤ 64 = rw at-up-to.up-to.ensures (up_to_most 64 _) in
     omega (arith, entry.requires.0, at-piece-lines.piece-lines.auto.1.1.0)
 
 part-answer-line-start : tie.Need-slice-bounds-answer-line-start
@@ -59,7 +59,7 @@ part-answer-line-start c =
     let at-up-to = at-piece-lines.before.before.before in
     let at_Listed = at-up-to.before.before in
     let entry = at_Listed.before.before.before in
-    let n : at-up-to.up-to.result ≤ 64 = rw at-up-to.up-to.ensures (upTo-most 64 _) in
+    let n : at-up-to.up-to.result ≤ 64 = rw at-up-to.up-to.ensures (up_to_most 64 _) in
     omega (arith, entry.requires.0, at-piece-lines.piece-lines.auto.1.1.0)
 
 part-answer-line-end : tie.Need-slice-bounds-answer-line-end
@@ -71,8 +71,8 @@ answer-line-requires c κs =
     let at-up-to = at-piece-lines.before.before.before in
     let at_Listed = at-up-to.before.before in
     let entry = at_Listed.before.before.before in
-    let n : at-up-to.up-to.result ≤ 64 = rw at-up-to.up-to.ensures (upTo-most 64 _) in
-    part-long at-piece-lines.piece-lines.new.1.1.0 (39 * at-up-to.up-to.result) 39
+    let n : at-up-to.up-to.result ≤ 64 = rw at-up-to.up-to.ensures (up_to_most 64 _) in
+    part_long at-piece-lines.piece-lines.new.1.1.0 (39 * at-up-to.up-to.result) 39
     (omega (arith, entry.requires.0, at-piece-lines.piece-lines.auto.1.1.0))
 
 add-result : tie.Need-overflow-add-result
@@ -91,7 +91,7 @@ returns c =
     let entry = at_Listed.before.before.before in
     let f : SFits w64 at_Listed.listed.given.0.0 = search rules in
     rw at_Listed.listed.given.1
-    (listed-line _ entry.args.pieces.now entry.requires.1 entry.requires.0 at-up-to.up-to.result (simp (to_z-of_z, f) at at-up-to.up-to.ensures)
+    (listed_line _ entry.args.pieces.now entry.requires.1 entry.requires.0 at-up-to.up-to.result (simp (to_z-of_z, f) at at-up-to.up-to.ensures)
     at-piece-lines.piece-lines.ensures (simp (to_z-of_z, f) at at-answer-line.answer-line.ensures))
 
 enum-known-listed-2 : tie.Need-enum-known-listed-2
@@ -110,7 +110,7 @@ returns-2 c =
     let entry = at-listed2.before.before.before in
     let f : SFits w64 at-listed2.listed2.given.0.0 = search rules in
     rw at-listed2.listed2.given.1
-    (refused-line (omega (arith, entry.requires.0)) _ (simp (to_z-of_z, f) at at-answer-line2.answer-line2.ensures))
+    (refused_line (omega (arith, entry.requires.0)) _ (simp (to_z-of_z, f) at at-answer-line2.answer-line2.ensures))
 
 pub listed-lines-spec : {M : Type 1} → statement M
 listed-lines-spec =

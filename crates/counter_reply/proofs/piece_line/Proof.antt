@@ -2,7 +2,7 @@
 use mir.Facts.{to_z-of_z}
 use mir.Syntax.{w64}
 use mir.Val.{SFits}
-use Rattle.counter_reply.specs.PieceLines.{piece-line}
+use Rattle.counter_reply.specs.PieceLines.{piece_line}
 use borrow.Author.Rules.{rules}
 use Rattle.counter_reply.proofs.piece_line.Statement.{statement}
 use Rattle.counter_reply.proofs.piece_line.Tie as tie
@@ -59,7 +59,7 @@ returns c =
     let a : SFits w64 at-word-at.word_at.result = record { sfits = at-word-at.word_at.type-inv } in
     let b : SFits w64 at-word-at2.word-at2.result = record { sfits = at-word-at2.word-at2.type-inv } in
     let d : SFits w64 at-word-at3.word-at3.result = record { sfits = at-word-at3.word-at3.type-inv } in
-    piece-line entry.requires.0 at-word-at.word_at.ensures at-word-at2.word-at2.ensures at-word-at3.word-at3.ensures
+    piece_line entry.requires.0 at-word-at.word_at.ensures at-word-at2.word-at2.ensures at-word-at3.word-at3.ensures
     (simp (to_z-of_z, a, b, d) at at-answer-line.answer-line.ensures)
 
 pub piece-line-spec : {M : Type 1} → statement M

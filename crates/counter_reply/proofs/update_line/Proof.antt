@@ -2,7 +2,7 @@
 use mir.Facts.{to_z-of_z}
 use mir.Syntax.{w64}
 use mir.Val.{SFits}
-use Rattle.counter_reply.specs.Replies.{refused-line, live-line}
+use Rattle.counter_reply.specs.Replies.{refused_line, live_line}
 use borrow.Author.Rules.{rules}
 use Rattle.counter_reply.proofs.update_line.Statement.{statement}
 use Rattle.counter_reply.proofs.update_line.Tie as tie
@@ -24,7 +24,7 @@ returns c =
     let f : SFits w64 at-update.update.given.0.0 = search rules in
     let g = entry.ranges.number in
     rw at-update.update.given.1
-    (live-line entry.requires _ (simp (to_z-of_z, f, g) at at-answer-line.answer-line.ensures))
+    (live_line entry.requires _ (simp (to_z-of_z, f, g) at at-answer-line.answer-line.ensures))
 
 enum-known-update-2 : tie.Need-enum-known-update-2
 enum-known-update-2 c = search rules
@@ -42,7 +42,7 @@ returns-2 c =
     let entry = at-update2.before.before.before in
     let f : SFits w64 at-update2.update2.given.0.0 = search rules in
     rw at-update2.update2.given.1
-    (refused-line entry.requires _ (simp (to_z-of_z, f) at at-answer-line2.answer-line2.ensures))
+    (refused_line entry.requires _ (simp (to_z-of_z, f) at at-answer-line2.answer-line2.ensures))
 
 pub update-line-spec : {M : Type 1} → statement M
 update-line-spec =

@@ -1,5 +1,5 @@
 -- `cuts::cut_before` meets its contract.
-use Rattle.cuts.specs.KnownEnds.{before-first, before-cut}
+use Rattle.cuts.specs.KnownEnds.{before_first, before_cut}
 use mir.Facts.{to_z-of_z}
 use mir.Syntax.{w64}
 use mir.Val.{SFits}
@@ -14,7 +14,7 @@ same_length : tie.Need-same-length
 same_length c = search rules
 
 returns : tie.Need-returns
-returns c = before-first c.before.end-in.ensures c.if1.true
+returns c = before_first c.before.end-in.ensures c.if1.true
 
 get-in-requires : tie.Need-get-in-requires
 get-in-requires c κs = search rules
@@ -29,7 +29,7 @@ returns-2 : tie.Need-returns-2
 returns-2 c =
     let rated = c.before.before.before in
     let f : SFits w64 rated.get_in.result = record { sfits = rated.get_in.type-inv } in
-    before-cut rated.get_in.ensures (simp (to_z-of_z, f) at c.before.cut_in.ensures)
+    before_cut rated.get_in.ensures (simp (to_z-of_z, f) at c.before.cut_in.ensures)
 
 pub cut-before-spec : {M : Type 1} → statement M
 cut-before-spec = tie.close (tie.spec end-in-requires same_length returns get-in-requires cut-in-requires same-length-2 returns-2)

@@ -1,5 +1,5 @@
 -- `cuts::cut_behind` meets its contract.
-use Rattle.cuts.specs.KnownEnds.{behind-last, behind-cut}
+use Rattle.cuts.specs.KnownEnds.{behind_last, behind_cut}
 use mir.Facts.{to_z-of_z}
 use mir.Syntax.{w64}
 use mir.Val.{SFits}
@@ -8,7 +8,7 @@ use Rattle.cuts.proofs.cut_behind.Statement.{statement}
 use Rattle.cuts.proofs.cut_behind.Tie as tie
 
 returns : tie.Need-returns
-returns c = behind-last c.if1.true
+returns c = behind_last c.if1.true
 
 get-in-requires : tie.Need-get-in-requires
 get-in-requires c κs = search rules
@@ -23,7 +23,7 @@ returns-2 : tie.Need-returns-2
 returns-2 c =
     let rated = c.before.before.before in
     let f : SFits w64 rated.get_in.result = record { sfits = rated.get_in.type-inv } in
-    behind-cut rated.get_in.ensures (simp (to_z-of_z, f) at c.before.cut_in.ensures)
+    behind_cut rated.get_in.ensures (simp (to_z-of_z, f) at c.before.cut_in.ensures)
 
 pub cut-behind-spec : {M : Type 1} → statement M
 cut-behind-spec = tie.close (tie.spec returns get-in-requires cut-in-requires same_length returns-2)

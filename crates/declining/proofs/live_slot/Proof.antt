@@ -1,6 +1,6 @@
 -- `declining::live_slot` meets its contract: a search from the root of the numbers.
 use mir.Facts.{to_z-of_z}
-use Rattle.index.specs.Finding.{found-key}
+use Rattle.index.specs.Finding.{found_key}
 use Rattle.declining.specs.PartCauses.{found_at}
 use borrow.Author.Rules.{rules}
 use Rattle.declining.proofs.live_slot.Statement.{statement}
@@ -13,7 +13,7 @@ find-requires : tie.Need-find-requires
 find-requires c κs = search rules
 
 returns : tie.Need-returns
-returns c = found_at c.before.number_at.ensures (found-key (simp (to_z-of_z, c.before.before.ranges.number) at c.find.ensures))
+returns c = found_at c.before.number_at.ensures (found_key (simp (to_z-of_z, c.before.before.ranges.number) at c.find.ensures))
 
 pub live-slot-spec : {M : Type 1} → statement M
 live-slot-spec = tie.close (tie.spec number-at-requires find-requires returns)

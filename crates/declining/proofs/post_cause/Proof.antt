@@ -1,6 +1,6 @@
 -- `declining::post_cause` meets its contract: by its search and the live count.
 use mir.Facts.{to_z-of_z}
-use Rattle.declining.specs.PartCauses.{cause-number, cause-full, cause-none}
+use Rattle.declining.specs.PartCauses.{cause_number_lem, cause_full, cause_none}
 use borrow.Author.Rules.{rules}
 use Rattle.declining.proofs.post_cause.Statement.{statement}
 use Rattle.declining.proofs.post_cause.Tie as tie
@@ -9,7 +9,7 @@ live-slot-requires : tie.Need-live-slot-requires
 live-slot-requires c κs = search rules
 
 returns : tie.Need-returns
-returns c = cause-number _ _ (simp (to_z-of_z, c.before.before.ranges.number) at c.before.live-slot.ensures) c.if1.true
+returns c = cause_number_lem _ _ (simp (to_z-of_z, c.before.before.ranges.number) at c.before.live-slot.ensures) c.if1.true
 
 number-at-requires : tie.Need-number-at-requires
 number-at-requires c κs = search rules
@@ -22,7 +22,7 @@ returns-2 c =
     let at-number-at = c.before.before in
     let at-if1 = at-number-at.before in
     let at-live-slot = at-if1.before in
-    cause-full _ _ (simp (to_z-of_z, at-live-slot.before.ranges.number) at at-live-slot.live-slot.ensures) at-if1.if1.false
+    cause_full _ _ (simp (to_z-of_z, at-live-slot.before.ranges.number) at at-live-slot.live-slot.ensures) at-if1.if1.false
     at-number-at.number_at.ensures c.before.capacity.ensures c.if2.true
 
 returns-3 : tie.Need-returns-3
@@ -30,7 +30,7 @@ returns-3 c =
     let at-number-at = c.before.before in
     let at-if1 = at-number-at.before in
     let at-live-slot = at-if1.before in
-    cause-none _ _ (simp (to_z-of_z, at-live-slot.before.ranges.number) at at-live-slot.live-slot.ensures) at-if1.if1.false
+    cause_none _ _ (simp (to_z-of_z, at-live-slot.before.ranges.number) at at-live-slot.live-slot.ensures) at-if1.if1.false
     at-number-at.number_at.ensures c.before.capacity.ensures c.if2.false
 
 pub post-cause-spec : {M : Type 1} → statement M

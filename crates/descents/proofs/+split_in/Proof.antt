@@ -3,7 +3,7 @@ use borrow.Author.Rules.{rules}
 use native.Mathlib.Omega.{arith}
 use mathlib.Core.Bool.{true, false}
 use mir.Facts.{to_z-of_z}
-use Rattle.descents.specs.Cuts.{still-known, halved-leaf, halved-over, whole-right, whole-left, halved-right, halved-left}
+use Rattle.descents.specs.Cuts.{still_known, halved_leaf, halved_over, whole_right, whole_left, halved_right, halved_left}
 use Prim.Native.Nat.{ℕ, ◌<◌}
 use borrow.Fn.Kinds.{In}
 use borrow.Fn.PlainCycle.{Measures, is, falls, and}
@@ -52,7 +52,7 @@ split-in-returns : (t : ℕ) → split-in-lts.Need-returns (split-in-claims t) (
 split-in-returns t c =
     let at-at-least-in = c.before in
     let entry = at-at-least-in.before.before.before in
-    halved-leaf _ true at-at-least-in.before.before.if1.true (simp (to_z-of_z, entry.ranges.least) at at-at-least-in.at-least-in.ensures)
+    halved_leaf _ true at-at-least-in.before.before.if1.true (simp (to_z-of_z, entry.ranges.least) at at-at-least-in.at-least-in.ensures)
     c.if2.true
 
 split-in-same-length-2 : (t : ℕ) → split-in-lts.Need-same-length-2 (split-in-claims t) (split-in-at t) split-in.Post
@@ -62,11 +62,11 @@ split-in-returns-2 : (t : ℕ) → split-in-lts.Need-returns-2 (split-in-claims 
 split-in-returns-2 t c =
     let at-at-least-in = c.before in
     let entry = at-at-least-in.before.before.before in
-    halved-leaf _ false at-at-least-in.before.before.if1.true (simp (to_z-of_z, entry.ranges.least) at at-at-least-in.at-least-in.ensures)
+    halved_leaf _ false at-at-least-in.before.before.if1.true (simp (to_z-of_z, entry.ranges.least) at at-at-least-in.at-least-in.ensures)
     c.if2.false
 
 split-in-returns-3 : (t : ℕ) → split-in-lts.Need-returns-3 (split-in-claims t) (split-in-at t) split-in.Post
-split-in-returns-3 t c = halved-over _ c.before.if1.false c.if3.true
+split-in-returns-3 t c = halved_over _ c.before.if1.false c.if3.true
 
 split-in-inner-slot-requires : (t : ℕ) → split-in-lts.Need-inner-slot-requires (split-in-claims t) (split-in-at t) split-in.Post
 split-in-inner-slot-requires t c κs = search rules
@@ -106,7 +106,7 @@ split-in-returns-4 t c =
     let at-inner-slot = tested.before.before in
     let inner = at-inner-slot.before.before in
     let entry = inner.before in
-    whole-right _ inner.if1.false at-inner-slot.inner-slot.ensures (simp (to_z-of_z, entry.ranges.least) at tested.at-least-in2.ensures)
+    whole_right _ inner.if1.false at-inner-slot.inner-slot.ensures (simp (to_z-of_z, entry.ranges.least) at tested.at-least-in2.ensures)
     turned.if4.true at-child-in.child-in.ensures
     (simp (to_z-of_z, entry.ranges.least) at at-split-in.split-in.ensures) c.if5.true
 
@@ -117,7 +117,7 @@ split-in-child-in-requires-2 t c κs =
     let at-if4 = at-child-in.before.before in
     let at-inner-slot = at-if4.before.before.before in
     let entry = at-inner-slot.before.before.before in
-    still-known entry.requires.1 at-split-in.split-in.ensures.within
+    still_known entry.requires.1 at-split-in.split-in.ensures.within
 
 split-in-join-in-requires : (t : ℕ) → split-in-lts.Need-join-in-requires (split-in-claims t) (split-in-at t) split-in.Post
 split-in-join-in-requires t c κs =
@@ -127,7 +127,7 @@ split-in-join-in-requires t c κs =
     let at-if4 = at-child-in.before.before in
     let at-inner-slot = at-if4.before.before.before in
     let entry = at-inner-slot.before.before.before in
-    still-known entry.requires.1 at-split-in.split-in.ensures.within
+    still_known entry.requires.1 at-split-in.split-in.ensures.within
 
 split-in-same-length-4 : (t : ℕ) → split-in-lts.Need-same-length-4 (split-in-claims t) (split-in-at t) split-in.Post
 split-in-same-length-4 t c = search rules
@@ -144,7 +144,7 @@ split-in-returns-5 t c =
     let at-inner-slot = tested.before.before in
     let inner = at-inner-slot.before.before in
     let entry = inner.before in
-    halved-right _ inner.if1.false at-inner-slot.inner-slot.ensures (simp (to_z-of_z, entry.ranges.least) at tested.at-least-in2.ensures)
+    halved_right _ inner.if1.false at-inner-slot.inner-slot.ensures (simp (to_z-of_z, entry.ranges.least) at tested.at-least-in2.ensures)
     turned.if4.true at-child-in.child-in.ensures (simp (to_z-of_z, entry.ranges.least) at below.split-in.ensures)
     at-if5.if5.false at-child-in2.child-in2.ensures at-join-in.join-in.ensures
 
@@ -186,7 +186,7 @@ split-in-returns-6 t c =
     let at-inner-slot = tested.before.before in
     let inner = at-inner-slot.before.before in
     let entry = inner.before in
-    whole-left _ inner.if1.false at-inner-slot.inner-slot.ensures (simp (to_z-of_z, entry.ranges.least) at tested.at-least-in2.ensures)
+    whole_left _ inner.if1.false at-inner-slot.inner-slot.ensures (simp (to_z-of_z, entry.ranges.least) at tested.at-least-in2.ensures)
     turned.if4.false at-child-in3.child-in3.ensures
     (simp (to_z-of_z, entry.ranges.least) at at-split-in2.split-in2.ensures) c.if6.true
 
@@ -197,7 +197,7 @@ split-in-join-in-requires-2 t c κs =
     let at-if4 = at-child-in-arg4.before.before.before in
     let at-inner-slot = at-if4.before.before.before in
     let entry = at-inner-slot.before.before.before in
-    still-known entry.requires.1 at-split-in2.split-in2.ensures.within
+    still_known entry.requires.1 at-split-in2.split-in2.ensures.within
 
 split-in-same-length-6 : (t : ℕ) → split-in-lts.Need-same-length-6 (split-in-claims t) (split-in-at t) split-in.Post
 split-in-same-length-6 t c = search rules
@@ -213,7 +213,7 @@ split-in-returns-7 t c =
     let at-inner-slot = tested.before.before in
     let inner = at-inner-slot.before.before in
     let entry = inner.before in
-    halved-left _ inner.if1.false at-inner-slot.inner-slot.ensures (simp (to_z-of_z, entry.ranges.least) at tested.at-least-in2.ensures)
+    halved_left _ inner.if1.false at-inner-slot.inner-slot.ensures (simp (to_z-of_z, entry.ranges.least) at tested.at-least-in2.ensures)
     turned.if4.false left.child-in3.ensures at-child-in4.child-in4.ensures
     (simp (to_z-of_z, entry.ranges.least) at below.split-in2.ensures)
     at-if6.if6.false c.before.join-in2.ensures

@@ -6,8 +6,8 @@ use mir.Facts.{to_z-of_z}
 use mir.Syntax.{w64}
 use mir.Val.{to_z}
 use lib.Signed.{le_z}
-use Rattle.descents.specs.Seeks.{Looking, looking-begins, looking-on, looking-over}
-use Rattle.descents.specs.Afters.{below, below-leads, below-ends}
+use Rattle.descents.specs.Seeks.{Looking, looking_begins, looking_on, looking_over}
+use Rattle.descents.specs.Afters.{below, below_leads, below_ends}
 use Rattle.descents.proofs.after.Statement.{statement}
 use Rattle.descents.proofs.after.Tie as tie
 
@@ -18,10 +18,10 @@ abbrev decreases-loop : tie.decreases-loop
 decreases-loop part tree field key x y₀ limit₀ y limit = limit
 
 loop-holds : tie.Need-loop-init invariant-loop decreases-loop
-loop-holds c = looking-begins below _ _ _ _ _
+loop-holds c = looking_begins below _ _ _ _ _
 
 returns : tie.Need-returns invariant-loop decreases-loop
-returns c = looking-over (simp (to_z-of_z, c.before.before.before.ranges.key) at c.before.before.loop.invariant) c.before.loop-test.true c.if1.true
+returns c = looking_over (simp (to_z-of_z, c.before.before.before.ranges.key) at c.before.before.loop.invariant) c.before.loop-test.true c.if1.true
 
 sub-limit : tie.Need-overflow-sub-limit invariant-loop decreases-loop
 sub-limit c = omega arith
@@ -44,7 +44,7 @@ loop-again c =
     let at-inner-slot = at-seam.before in
     let at-loop-test = at-inner-slot.before.before in
     let at-loop = at-loop-test.before in
-    looking-on le_z below-leads _ at-loop.loop.invariant at-loop-test.loop-test.true
+    looking_on le_z below_leads _ at-loop.loop.invariant at-loop-test.loop-test.true
     at-inner-slot.inner-slot.ensures at-seam.at_least.ensures c.child.ensures
 
 at-least-requires-2 : tie.Need-at-least-requires-2 invariant-loop decreases-loop
@@ -54,14 +54,14 @@ returns-2 : tie.Need-returns-2 invariant-loop decreases-loop
 returns-2 c =
     let at_leaf = c.before in
     let entry = at_leaf.before.before.before in
-    below-ends _ true (simp (to_z-of_z, entry.ranges.key) at at_leaf.before.before.loop.invariant)
+    below_ends _ true (simp (to_z-of_z, entry.ranges.key) at at_leaf.before.before.loop.invariant)
     at_leaf.before.loop-test.false (simp (to_z-of_z, entry.ranges.key) at at_leaf.at-least2.ensures) c.if2.true
 
 returns-3 : tie.Need-returns-3 invariant-loop decreases-loop
 returns-3 c =
     let at_leaf = c.before in
     let entry = at_leaf.before.before.before in
-    below-ends _ false (simp (to_z-of_z, entry.ranges.key) at at_leaf.before.before.loop.invariant)
+    below_ends _ false (simp (to_z-of_z, entry.ranges.key) at at_leaf.before.before.loop.invariant)
     at_leaf.before.loop-test.false (simp (to_z-of_z, entry.ranges.key) at at_leaf.at-least2.ensures) c.if2.false
 
 pub after-spec : {M : Type 1} → statement M

@@ -7,8 +7,8 @@ use mir.Syntax.{w64}
 use mir.Val.{to_z}
 use lib.Signed.{lt_z}
 use Rattle.trees.specs.Operations.{find}
-use Rattle.descents.specs.Seeks.{Looking, looking-begins, looking-on, looking-over}
-use Rattle.descents.specs.Finds.{find-leads, find-ends}
+use Rattle.descents.specs.Seeks.{Looking, looking_begins, looking_on, looking_over}
+use Rattle.descents.specs.Finds.{find_leads, find_ends}
 use Rattle.descents.proofs.find.Statement.{statement}
 use Rattle.descents.proofs.find.Tie as tie
 
@@ -19,10 +19,10 @@ abbrev decreases-loop : tie.decreases-loop
 decreases-loop part tree field key x y₀ limit₀ y limit = limit
 
 loop-holds : tie.Need-loop-init invariant-loop decreases-loop
-loop-holds c = looking-begins find _ _ _ _ _
+loop-holds c = looking_begins find _ _ _ _ _
 
 returns : tie.Need-returns invariant-loop decreases-loop
-returns c = looking-over (simp (to_z-of_z, c.before.before.before.ranges.key) at c.before.before.loop.invariant) c.before.loop-test.true c.if1.true
+returns c = looking_over (simp (to_z-of_z, c.before.before.before.ranges.key) at c.before.before.loop.invariant) c.before.loop-test.true c.if1.true
 
 sub-limit : tie.Need-overflow-sub-limit invariant-loop decreases-loop
 sub-limit c = omega arith
@@ -45,7 +45,7 @@ loop-again c =
     let at-inner-slot = at-is-above.before in
     let at-loop-test = at-inner-slot.before.before in
     let at-loop = at-loop-test.before in
-    looking-on lt_z find-leads _ at-loop.loop.invariant at-loop-test.loop-test.true
+    looking_on lt_z find_leads _ at-loop.loop.invariant at-loop-test.loop-test.true
     at-inner-slot.inner-slot.ensures at-is-above.is-above.ensures c.child.ensures
 
 is-equal-requires : tie.Need-is-equal-requires invariant-loop decreases-loop
@@ -55,14 +55,14 @@ returns-2 : tie.Need-returns-2 invariant-loop decreases-loop
 returns-2 c =
     let at-is-equal = c.before in
     let entry = at-is-equal.before.before.before in
-    find-ends _ true (simp (to_z-of_z, entry.ranges.key) at at-is-equal.before.before.loop.invariant)
+    find_ends _ true (simp (to_z-of_z, entry.ranges.key) at at-is-equal.before.before.loop.invariant)
     at-is-equal.before.loop-test.false (simp (to_z-of_z, entry.ranges.key) at at-is-equal.is-equal.ensures) c.if2.true
 
 returns-3 : tie.Need-returns-3 invariant-loop decreases-loop
 returns-3 c =
     let at-is-equal = c.before in
     let entry = at-is-equal.before.before.before in
-    find-ends _ false (simp (to_z-of_z, entry.ranges.key) at at-is-equal.before.before.loop.invariant)
+    find_ends _ false (simp (to_z-of_z, entry.ranges.key) at at-is-equal.before.before.loop.invariant)
     at-is-equal.before.loop-test.false (simp (to_z-of_z, entry.ranges.key) at at-is-equal.is-equal.ensures) c.if2.false
 
 pub find_spec : {M : Type 1} → statement M

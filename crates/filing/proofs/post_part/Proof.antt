@@ -1,7 +1,7 @@
 -- `filing::post_part` meets its contract: the reads and writes of a post, in the order of the code.
 use native.Mathlib.Omega.{arith}
 use mir.Facts.{to_z-of_z}
-use Rattle.filing.specs.PartUpdates.{read-most, post-short, posted-part}
+use Rattle.filing.specs.PartUpdates.{read_most, post_short, posted_part}
 use borrow.Author.Rules.{rules}
 use Rattle.filing.proofs.post_part.Statement.{statement}
 use Rattle.filing.proofs.post_part.Tie as tie
@@ -10,7 +10,7 @@ nothing-requires : tie.Need-nothing-requires
 nothing-requires c κs = search rules
 
 returns : tie.Need-returns
-returns c = post-short _ c.before.if1.true
+returns c = post_short _ c.before.if1.true
 
 roots-requires : tie.Need-roots-requires
 roots-requires c κs = search rules
@@ -44,7 +44,7 @@ add-live c =
     let at_fill_lem = at-enter.before.before.before in
     let at-find-rate = at_fill_lem.before.before in
     let at_count = at-find-rate.before.before in
-    omega (arith, read-most _ at_count.number_at.ensures)
+    omega (arith, read_most _ at_count.number_at.ensures)
 
 set-roots-requires : tie.Need-set-roots-requires
 set-roots-requires c κs = search rules
@@ -64,7 +64,7 @@ returns-2 c =
     let at_count = at-find-rate.before.before in
     let at-roots = at_count.before.before in
     let f = at-roots.before.before.before.ranges in
-    posted-part _ at-roots.roots.ensures at_count.number_at.ensures (simp (to_z-of_z, f.rate) at at-find-rate.find-rate.ensures)
+    posted_part _ at-roots.roots.ensures at_count.number_at.ensures (simp (to_z-of_z, f.rate) at at-find-rate.find-rate.ensures)
     at_fill_lem.fill.ensures.0 (simp (to_z-of_z, f.number, f.rate, f.base) at at_fill_lem.fill.ensures.1) at-enter.enter.ensures
     at-enter2.enter2.ensures at-join-offers.join-offers.ensures (omega arith) at-set-roots.set-roots.ensures
 

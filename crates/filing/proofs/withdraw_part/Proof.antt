@@ -2,7 +2,7 @@
 use mir.Facts.{to_z-of_z}
 use mir.Syntax.{w64}
 use mir.Val.{SFits}
-use Rattle.filing.specs.PartUpdates.{withdraw-short, withdrawn-part}
+use Rattle.filing.specs.PartUpdates.{withdraw_short, withdrawn_part}
 use borrow.Author.Rules.{rules}
 use Rattle.filing.proofs.withdraw_part.Statement.{statement}
 use Rattle.filing.proofs.withdraw_part.Tie as tie
@@ -11,7 +11,7 @@ nothing-requires : tie.Need-nothing-requires
 nothing-requires c κs = search rules
 
 returns : tie.Need-returns
-returns c = withdraw-short _ _ c.before.if1.true
+returns c = withdraw_short _ _ c.before.if1.true
 
 roots-requires : tie.Need-roots-requires
 roots-requires c κs = search rules
@@ -70,7 +70,7 @@ returns-2 c =
     let entry = at-roots.before.before.before in
     let r : SFits w64 at-rate.get2.result = record { sfits = at-rate.get2.type-inv } in
     let k : SFits w64 at-rank.get.result = record { sfits = at-rank.get.type-inv } in
-    withdrawn-part _ at-roots.roots.ensures at_count.number_at.ensures at-rank.get.ensures at-rate.get2.ensures
+    withdrawn_part _ at-roots.roots.ensures at_count.number_at.ensures at-rank.get.ensures at-rate.get2.ensures
     (simp (to_z-of_z, r) at at-find-rate.find-rate.ensures) at-follower.follower.ensures
     (simp (to_z-of_z, entry.ranges.number) at at-strike.strike.ensures) (simp (to_z-of_z, k) at at-strike2.strike2.ensures)
     at-leave-offers.leave-offers.ensures at-one-less.one_less.ensures at-set-roots.set-roots.ensures at-give-slot.give-slot.ensures

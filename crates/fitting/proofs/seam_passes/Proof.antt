@@ -4,7 +4,7 @@ use mir.Syntax.{w64}
 use mir.Val.{SFits}
 use mir.Facts.{to_z-of_z}
 use Rattle.query.specs.Readings.{clamped}
-use Rattle.fitting.specs.Walk.{read-ranged, read-passes}
+use Rattle.fitting.specs.Walk.{read_ranged, read_passes}
 use borrow.Author.Rules.{rules}
 use Rattle.fitting.proofs.seam_passes.Statement.{statement}
 use Rattle.fitting.proofs.seam_passes.Tie as tie
@@ -51,7 +51,7 @@ passes-requires c κs =
     let d = (simp (to_z-of_z, fq) at at-bounded2.bounded2.ensures) ∙ ap (clamped 200_000) at-get-in2.get-in2.ensures in
     let m = simp (to_z-of_z, entry.ranges.budget) at c.bounded3.ensures in
     simp (to_z-of_z, fn, fd, fb, fr, fm)
-    (read-ranged entry.args.part.now entry.args.slot entry.args.budget m n d at-base-in.base-in.ensures at-rate-in.rate-in.ensures)
+    (read_ranged entry.args.part.now entry.args.slot entry.args.budget m n d at-base-in.base-in.ensures at-rate-in.rate-in.ensures)
 
 returns : tie.Need-returns
 returns c =
@@ -74,7 +74,7 @@ returns c =
     let d = (simp (to_z-of_z, fq) at at-bounded2.bounded2.ensures) ∙ ap (clamped 200_000) at-get-in2.get-in2.ensures in
     let m = simp (to_z-of_z, entry.ranges.budget) at at-bounded3.bounded3.ensures in
     (simp (to_z-of_z, fn, fd, fb, fr, fm) at c.passes.ensures)
-    ∙ read-passes entry.args.part.now entry.args.slot entry.args.budget m n d at-base-in.base-in.ensures at-rate-in.rate-in.ensures
+    ∙ read_passes entry.args.part.now entry.args.slot entry.args.budget m n d at-base-in.base-in.ensures at-rate-in.rate-in.ensures
 
 pub seam-passes-spec : {M : Type 1} → statement M
 seam-passes-spec =

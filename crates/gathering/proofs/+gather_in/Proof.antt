@@ -4,7 +4,7 @@ use borrow.Author.Rules.{rules}
 use borrow.Author.Tests.{not-true, not-false}
 use native.Mathlib.Omega.{arith}
 use mathlib.Core.Path.{◌∙◌}
-use Rattle.gathering.specs.Gathers.{gathers-past, gathers-none, gathers-put, gathers-deep, gathers-node}
+use Rattle.gathering.specs.Gathers.{gathers_past, gathers_none, gathers_put, gathers_deep, gathers_node}
 use Prim.Native.Nat.{ℕ, ◌<◌}
 use borrow.Fn.Kinds.{In}
 use borrow.Fn.PlainCycle.{Measures, is, falls, and}
@@ -47,7 +47,7 @@ gather-in-claims t = (
 )
 
 gather-in-returns : (t : ℕ) → gather-in-lts.Need-returns (gather-in-claims t) (gather-in-at t) gather-in.Post
-gather-in-returns t c = gathers-past c.if1.true
+gather-in-returns t c = gathers_past c.if1.true
 
 gather-in-is-below-requires : (t : ℕ) → gather-in-lts.Need-is-below-requires (gather-in-claims t) (gather-in-at t) gather-in.Post
 gather-in-is-below-requires t c κs = search rules
@@ -56,7 +56,7 @@ gather-in-returns-2 : (t : ℕ) → gather-in-lts.Need-returns-2 (gather-in-clai
 gather-in-returns-2 t c =
     let room = c.before.before in
     let entry = room.before in
-    gathers-none (simp (to_z-of_z, entry.ranges.load, entry.ranges.price) at c.before.is_below.ensures) (not-true _ c.if2.true)
+    gathers_none (simp (to_z-of_z, entry.ranges.load, entry.ranges.price) at c.before.is_below.ensures) (not-true _ c.if2.true)
 
 gather-in-put-requires : (t : ℕ) → gather-in-lts.Need-put-requires (gather-in-claims t) (gather-in-at t) gather-in.Post
 gather-in-put-requires t c κs =
@@ -69,14 +69,14 @@ gather-in-returns-3 t c =
     let below = leafy.before in
     let room = below.before.before in
     let entry = room.before in
-    gathers-put room.if1.false leafy.if3.true (simp (to_z-of_z, entry.ranges.load, entry.ranges.price) at below.before.is_below.ensures)
+    gathers_put room.if1.false leafy.if3.true (simp (to_z-of_z, entry.ranges.load, entry.ranges.price) at below.before.is_below.ensures)
     (not-false _ below.if2.false) c.put.ensures
 
 gather-in-returns-4 : (t : ℕ) → gather-in-lts.Need-returns-4 (gather-in-claims t) (gather-in-at t) gather-in.Post
 gather-in-returns-4 t c =
     let inner = c.before in
     let room = inner.before.before.before in
-    gathers-deep room.if1.false inner.if3.false c.if4.true
+    gathers_deep room.if1.false inner.if3.false c.if4.true
 
 gather-in-child-in-requires : (t : ℕ) → gather-in-lts.Need-child-in-requires (gather-in-claims t) (gather-in-at t) gather-in.Post
 gather-in-child-in-requires t c κs =
@@ -132,7 +132,7 @@ gather-in-returns-5 t c =
     let inner = more.before in
     let below = inner.before in
     let entry = below.before.before.before in
-    gathers-node inner.if3.false more.if4.false (simp (to_z-of_z, entry.ranges.load, entry.ranges.price) at below.before.is_below.ensures)
+    gathers_node inner.if3.false more.if4.false (simp (to_z-of_z, entry.ranges.load, entry.ranges.price) at below.before.is_below.ensures)
     (not-false _ below.if2.false) left.before.child-in.ensures (simp (to_z-of_z, entry.ranges.load) at left.left-cheapest.ensures)
     (simp (to_z-of_z, entry.ranges.load, entry.ranges.price) at gone-left.gather-in.ensures) right.before.child-in2.ensures
     (simp (to_z-of_z, entry.ranges.load) at right.right-cheapest.ensures) (simp (to_z-of_z, entry.ranges.load, entry.ranges.price) at c.gather-in2.ensures)

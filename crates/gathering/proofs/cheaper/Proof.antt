@@ -1,13 +1,13 @@
 -- `gathering::cheaper` meets its contract.
 use mir.Facts.{to_z-of_z}
 use native.Mathlib.Omega.{arith}
-use Rattle.gathering.specs.Cheapest.{cheaper-none, cheaper-own, cheaper-found}
+use Rattle.gathering.specs.Cheapest.{cheaper_none, cheaper_own, cheaper_found}
 use borrow.Author.Rules.{rules}
 use Rattle.gathering.proofs.cheaper.Statement.{statement}
 use Rattle.gathering.proofs.cheaper.Tie as tie
 
 returns : tie.Need-returns
-returns c = cheaper-none (omega (arith, c.if1.true))
+returns c = cheaper_none (omega (arith, c.if1.true))
 
 descend-requires : tie.Need-descend-requires
 descend-requires c κs = search rules
@@ -21,7 +21,7 @@ returns-2 c =
     let found = compared.before in
     let rooted = found.before in
     let load = rooted.before.ranges.load in
-    cheaper-own (simp (to_z-of_z, load) at found.descend.ensures) (λ z. omega (arith, z, rooted.if1.false))
+    cheaper_own (simp (to_z-of_z, load) at found.descend.ensures) (λ z. omega (arith, z, rooted.if1.false))
     (simp (to_z-of_z, load) at compared.no-dearer.ensures) c.if2.true
 
 returns-3 : tie.Need-returns-3
@@ -30,7 +30,7 @@ returns-3 c =
     let found = compared.before in
     let rooted = found.before in
     let load = rooted.before.ranges.load in
-    cheaper-found (simp (to_z-of_z, load) at found.descend.ensures) (λ z. omega (arith, z, rooted.if1.false))
+    cheaper_found (simp (to_z-of_z, load) at found.descend.ensures) (λ z. omega (arith, z, rooted.if1.false))
     (simp (to_z-of_z, load) at compared.no-dearer.ensures) c.if2.false
 
 pub cheaper-spec : {M : Type 1} → statement M

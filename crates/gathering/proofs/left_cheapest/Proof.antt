@@ -1,7 +1,7 @@
 -- `gathering::left_cheapest` meets its contract.
 use mir.Facts.{to_z-of_z}
 use borrow.Author.Tests.{not-true, not-false}
-use Rattle.gathering.specs.Cheapest.{left-own, left-rest}
+use Rattle.gathering.specs.Cheapest.{left_own, left_rest}
 use borrow.Author.Rules.{rules}
 use Rattle.gathering.proofs.left_cheapest.Statement.{statement}
 use Rattle.gathering.proofs.left_cheapest.Tie as tie
@@ -15,7 +15,7 @@ is-later-requires c κs = search rules
 returns : tie.Need-returns
 returns c =
     let compared = c.before in
-    left-own compared.before.inner-slot.ensures compared.is_later.ensures (not-true _ c.if1.true)
+    left_own compared.before.inner-slot.ensures compared.is_later.ensures (not-true _ c.if1.true)
 
 child-in-requires : tie.Need-child-in-requires
 child-in-requires c κs = search rules
@@ -37,7 +37,7 @@ returns-2 c =
     let tested = at-child.before in
     let compared = tested.before in
     let at-node = compared.before in
-    left-rest at-node.inner-slot.ensures compared.is_later.ensures at_rest.rest_in.ensures
+    left_rest at-node.inner-slot.ensures compared.is_later.ensures at_rest.rest_in.ensures
     (simp (to_z-of_z, at-node.before.ranges.load) at c.cheaper.ensures) (not-false _ tested.if1.false)
     at-child.child-in.ensures at_bridge.link-in.ensures
 

@@ -1,6 +1,6 @@
 -- `gathering::right_cheapest` meets its contract.
 use mir.Facts.{to_z-of_z}
-use Rattle.gathering.specs.Cheapest.{right-own, right-rest}
+use Rattle.gathering.specs.Cheapest.{right_own, right_rest}
 use borrow.Author.Rules.{rules}
 use Rattle.gathering.proofs.right_cheapest.Statement.{statement}
 use Rattle.gathering.proofs.right_cheapest.Tie as tie
@@ -14,7 +14,7 @@ is-later-requires c κs = search rules
 returns : tie.Need-returns
 returns c =
     let compared = c.before in
-    right-own compared.before.inner-slot.ensures compared.is_later.ensures c.if1.true
+    right_own compared.before.inner-slot.ensures compared.is_later.ensures c.if1.true
 
 child-in-requires : tie.Need-child-in-requires
 child-in-requires c κs = search rules
@@ -36,7 +36,7 @@ returns-2 c =
     let tested = at-child.before in
     let compared = tested.before in
     let at-node = compared.before in
-    right-rest at-node.inner-slot.ensures compared.is_later.ensures at_rest.rest_in.ensures
+    right_rest at-node.inner-slot.ensures compared.is_later.ensures at_rest.rest_in.ensures
     (simp (to_z-of_z, at-node.before.ranges.load) at c.cheaper.ensures) tested.if1.false at-child.child-in.ensures at_bridge.link-in.ensures
 
 pub right-cheapest-spec : {M : Type 1} → statement M

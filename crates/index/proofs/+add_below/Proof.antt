@@ -2,8 +2,8 @@
 use borrow.Author.Rules.{rules}
 use native.Mathlib.Omega.{arith}
 use mir.Facts.{to_z-of_z}
-use Rattle.descents.specs.Cuts.{still-known}
-use Rattle.index.specs.Growing.{grown-behind, grown-before, grown-over, grown-right, grown-left}
+use Rattle.descents.specs.Cuts.{still_known}
+use Rattle.index.specs.Growing.{grown_behind, grown_before, grown_over, grown_right, grown_left}
 use Prim.Native.Nat.{ℕ, ◌<◌}
 use borrow.Fn.Kinds.{In}
 use borrow.Fn.PlainCycle.{Measures, is, falls, and}
@@ -64,7 +64,7 @@ add-below-returns t c =
     let tested = way.before in
     let low = tested.before.before in
     let entry = low.before in
-    grown-behind _ low.if1.true (simp (to_z-of_z, entry.ranges.key) at tested.at-least-in.ensures) way.if2.true
+    grown_behind _ low.if1.true (simp (to_z-of_z, entry.ranges.key) at tested.at-least-in.ensures) way.if2.true
     at_join.join-in.ensures
 
 add-below-join-in-requires-2 : (t : ℕ) → add-below-lts.Need-join-in-requires-2 (add-below-claims t) (add-below-at t) add-below.Post
@@ -84,11 +84,11 @@ add-below-returns-2 t c =
     let tested = way.before in
     let low = tested.before.before in
     let entry = low.before in
-    grown-before _ low.if1.true (simp (to_z-of_z, entry.ranges.key) at tested.at-least-in.ensures) way.if2.false
+    grown_before _ low.if1.true (simp (to_z-of_z, entry.ranges.key) at tested.at-least-in.ensures) way.if2.false
     at_join.join-in2.ensures
 
 add-below-returns-3 : (t : ℕ) → add-below-lts.Need-returns-3 (add-below-claims t) (add-below-at t) add-below.Post
-add-below-returns-3 t c = grown-over _ c.before.if1.false c.if3.true
+add-below-returns-3 t c = grown_over _ c.before.if1.false c.if3.true
 
 add-below-inner-slot-requires : (t : ℕ) → add-below-lts.Need-inner-slot-requires (add-below-claims t) (add-below-at t) add-below.Post
 add-below-inner-slot-requires t c κs = search rules
@@ -139,7 +139,7 @@ add-below-join-in-requires-3 t c κs =
     let at-inner-slot = left.before.before in
     let inner = at-inner-slot.before.before in
     let entry = inner.before in
-    still-known entry.requires.1 (below .add-below .ensures .within)
+    still_known entry.requires.1 (below .add-below .ensures .within)
 
 add-below-same-length-3 : (t : ℕ) → add-below-lts.Need-same-length-3 (add-below-claims t) (add-below-at t) add-below.Post
 add-below-same-length-3 t c = search rules
@@ -155,7 +155,7 @@ add-below-returns-4 t c =
     let at-inner-slot = left.before.before in
     let inner = at-inner-slot.before.before in
     let entry = inner.before in
-    grown-right _ inner.if1.false at-inner-slot.inner-slot.ensures (simp (to_z-of_z, entry.ranges.key) at tested.at-least-in2.ensures)
+    grown_right _ inner.if1.false at-inner-slot.inner-slot.ensures (simp (to_z-of_z, entry.ranges.key) at tested.at-least-in2.ensures)
     left.child-in.ensures right.child-in2.ensures way.if4.true (simp (to_z-of_z, entry.ranges.key) at (below .add-below .ensures))
     at_join.join-in3.ensures
 
@@ -181,7 +181,7 @@ add-below-join-in-requires-4 t c κs =
     let at-inner-slot = left.before.before in
     let inner = at-inner-slot.before.before in
     let entry = inner.before in
-    still-known entry.requires.1 (below .add-below2 .ensures .within)
+    still_known entry.requires.1 (below .add-below2 .ensures .within)
 
 add-below-same-length-4 : (t : ℕ) → add-below-lts.Need-same-length-4 (add-below-claims t) (add-below-at t) add-below.Post
 add-below-same-length-4 t c = search rules
@@ -197,7 +197,7 @@ add-below-returns-5 t c =
     let at-inner-slot = left.before.before in
     let inner = at-inner-slot.before.before in
     let entry = inner.before in
-    grown-left _ inner.if1.false at-inner-slot.inner-slot.ensures (simp (to_z-of_z, entry.ranges.key) at tested.at-least-in2.ensures)
+    grown_left _ inner.if1.false at-inner-slot.inner-slot.ensures (simp (to_z-of_z, entry.ranges.key) at tested.at-least-in2.ensures)
     left.child-in.ensures right.child-in2.ensures way.if4.false (simp (to_z-of_z, entry.ranges.key) at (below .add-below2 .ensures))
     at_join.join-in4.ensures
 

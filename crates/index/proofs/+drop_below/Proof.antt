@@ -2,8 +2,8 @@
 use borrow.Author.Rules.{rules}
 use native.Mathlib.Omega.{arith}
 use mir.Facts.{to_z-of_z}
-use Rattle.descents.specs.Cuts.{still-known}
-use Rattle.index.specs.Thinning.{thinned-leaf, thinned-over, thinned-right, thinned-left}
+use Rattle.descents.specs.Cuts.{still_known}
+use Rattle.index.specs.Thinning.{thinned_leaf, thinned_over, thinned_right, thinned_left}
 use Prim.Native.Nat.{ℕ, ◌<◌}
 use borrow.Fn.Kinds.{In}
 use borrow.Fn.PlainCycle.{Measures, is, falls, and}
@@ -47,10 +47,10 @@ drop-below-claims t = (
 )
 
 drop-below-returns : (t : ℕ) → drop-below-lts.Need-returns (drop-below-claims t) (drop-below-at t) drop-below.Post
-drop-below-returns t c = thinned-leaf _ c.if1.true
+drop-below-returns t c = thinned_leaf _ c.if1.true
 
 drop-below-returns-2 : (t : ℕ) → drop-below-lts.Need-returns-2 (drop-below-claims t) (drop-below-at t) drop-below.Post
-drop-below-returns-2 t c = thinned-over _ c.before.if1.false c.if2.true
+drop-below-returns-2 t c = thinned_over _ c.before.if1.false c.if2.true
 
 drop-below-inner-slot-requires : (t : ℕ) → drop-below-lts.Need-inner-slot-requires (drop-below-claims t) (drop-below-at t) drop-below.Post
 drop-below-inner-slot-requires t c κs = search rules
@@ -92,7 +92,7 @@ drop-below-join-in-requires t c κs =
     let at-child-in-arg2 = at-at-least-in.before.before.before in
     let at-inner-slot = at-child-in-arg2.before.before.before in
     let entry = at-inner-slot.before.before.before in
-    still-known entry.requires.1 at-drop-below.drop-below.ensures.within
+    still_known entry.requires.1 at-drop-below.drop-below.ensures.within
 
 drop-below-same-length : (t : ℕ) → drop-below-lts.Need-same-length (drop-below-claims t) (drop-below-at t) drop-below.Post
 drop-below-same-length t c = search rules
@@ -107,7 +107,7 @@ drop-below-returns-3 t c =
     let at-inner-slot = left.before.before in
     let inner = at-inner-slot.before.before in
     let entry = inner.before in
-    thinned-right _ inner.if1.false at-inner-slot.inner-slot.ensures (simp (to_z-of_z, entry.ranges.least) at tested.at-least-in.ensures)
+    thinned_right _ inner.if1.false at-inner-slot.inner-slot.ensures (simp (to_z-of_z, entry.ranges.least) at tested.at-least-in.ensures)
     left.child-in.ensures right.child-in2.ensures (below .before .before .if3 .true)
     (simp (to_z-of_z, entry.ranges.least) at (below .drop-below .ensures)) at-join-in.join-in.ensures
 
@@ -129,7 +129,7 @@ drop-below-end-in-requires t c κs =
     let at-child-in-arg2 = at-at-least-in.before.before.before in
     let at-inner-slot = at-child-in-arg2.before.before.before in
     let entry = at-inner-slot.before.before.before in
-    still-known entry.requires.1 at-drop-below2.drop-below2.ensures.within
+    still_known entry.requires.1 at-drop-below2.drop-below2.ensures.within
 
 drop-below-join-in-requires-2 : (t : ℕ) → drop-below-lts.Need-join-in-requires-2 (drop-below-claims t) (drop-below-at t) drop-below.Post
 drop-below-join-in-requires-2 t c κs =
@@ -139,7 +139,7 @@ drop-below-join-in-requires-2 t c κs =
     let at-child-in-arg2 = at-at-least-in.before.before.before in
     let at-inner-slot = at-child-in-arg2.before.before.before in
     let entry = at-inner-slot.before.before.before in
-    still-known entry.requires.1 at-drop-below2.drop-below2.ensures.within
+    still_known entry.requires.1 at-drop-below2.drop-below2.ensures.within
 
 drop-below-same-length-2 : (t : ℕ) → drop-below-lts.Need-same-length-2 (drop-below-claims t) (drop-below-at t) drop-below.Post
 drop-below-same-length-2 t c = search rules
@@ -154,7 +154,7 @@ drop-below-returns-4 t c =
     let at-inner-slot = left.before.before in
     let inner = at-inner-slot.before.before in
     let entry = inner.before in
-    thinned-left _ inner.if1.false at-inner-slot.inner-slot.ensures (simp (to_z-of_z, entry.ranges.least) at tested.at-least-in.ensures)
+    thinned_left _ inner.if1.false at-inner-slot.inner-slot.ensures (simp (to_z-of_z, entry.ranges.least) at tested.at-least-in.ensures)
     left.child-in.ensures right.child-in2.ensures (below .before .before .if3 .false)
     (simp (to_z-of_z, entry.ranges.least) at (below .drop-below2 .ensures)) ended.end-in.ensures c.before.join-in2.ensures
 

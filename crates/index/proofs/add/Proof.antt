@@ -3,12 +3,12 @@ use borrow.Author.Rules.{rules}
 use mir.Facts.{to_z-of_z}
 use mir.Syntax.{w64}
 use mir.Val.{SFits}
-use Rattle.index.specs.Adding.{added-first, added-below}
+use Rattle.index.specs.Adding.{added_first, added_below}
 use Rattle.index.proofs.add.Statement.{statement}
 use Rattle.index.proofs.add.Tie as tie
 
 returns : tie.Need-returns
-returns c = added-first c.if1.true
+returns c = added_first c.if1.true
 
 capacity-requires : tie.Need-capacity-requires
 capacity-requires c κs = search rules
@@ -28,7 +28,7 @@ returns-2 c =
     let read = below.before.before in
     let some-root = read.before.before.before.before in
     let f : SFits w64 read.get_in.result = record { sfits = read.get_in.type-inv } in
-    added-below some-root.if1.false read.get_in.ensures (simp (to_z-of_z, f) at below.add-below.ensures)
+    added_below some-root.if1.false read.get_in.ensures (simp (to_z-of_z, f) at below.add-below.ensures)
 
 pub add_spec : {M : Type 1} → statement M
 add_spec =

@@ -1,5 +1,5 @@
 -- `levels::lower` meets its contract.
-use Rattle.descents.specs.Cuts.{still-known}
+use Rattle.descents.specs.Cuts.{still_known}
 use Rattle.levels.specs.Lowering.{lowered}
 use mir.Facts.{to_z-of_z}
 use mir.Syntax.{w64}
@@ -32,7 +32,7 @@ rest-in-requires c κs =
     let at-get-in-arg = severed.before.before.before in
     let at-child-in-arg2 = at-get-in-arg.before.before.before in
     let known = at-child-in-arg2.before.before.before in
-    still-known known.capacity.ensures severed.cut_in.ensures.within
+    still_known known.capacity.ensures severed.cut_in.ensures.within
 
 rest-in-requires-2 : tie.Need-rest-in-requires-2
 rest-in-requires-2 c κs =
@@ -41,7 +41,7 @@ rest-in-requires-2 c κs =
     let at-get-in-arg = severed.before.before.before in
     let at-child-in-arg2 = at-get-in-arg.before.before.before in
     let known = at-child-in-arg2.before.before.before in
-    still-known known.capacity.ensures severed.cut_in.ensures.within
+    still_known known.capacity.ensures severed.cut_in.ensures.within
 
 put-behind-requires : tie.Need-put-behind-requires
 put-behind-requires c κs =
@@ -50,7 +50,7 @@ put-behind-requires c κs =
     let at-get-in-arg = severed.before.before.before in
     let at-child-in-arg2 = at-get-in-arg.before.before.before in
     let known = at-child-in-arg2.before.before.before in
-    still-known known.capacity.ensures severed.cut_in.ensures.within
+    still_known known.capacity.ensures severed.cut_in.ensures.within
 
 put-in-front-requires : tie.Need-put-in-front-requires
 put-in-front-requires c κs =
@@ -61,7 +61,7 @@ put-in-front-requires c κs =
     let at-get-in-arg = severed.before.before.before in
     let at-child-in-arg2 = at-get-in-arg.before.before.before in
     let known = at-child-in-arg2.before.before.before in
-    still-known (still-known known.capacity.ensures severed.cut_in.ensures.within) left.put-behind.ensures.within
+    still_known (still_known known.capacity.ensures severed.cut_in.ensures.within) left.put-behind.ensures.within
 
 same_length : tie.Need-same-length
 same_length c = search rules

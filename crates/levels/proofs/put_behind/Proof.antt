@@ -1,12 +1,12 @@
 -- `levels::put_behind` meets its contract.
-use Rattle.pieces.specs.Catting.{catted-left, after_any}
+use Rattle.pieces.specs.Catting.{catted_left, after_any}
 use Rattle.levels.specs.Lowering.{after_read}
 use borrow.Author.Rules.{rules}
 use Rattle.levels.proofs.put_behind.Statement.{statement}
 use Rattle.levels.proofs.put_behind.Tie as tie
 
 returns : tie.Need-returns
-returns c = after_any (catted-left c.if1.true)
+returns c = after_any (catted_left c.if1.true)
 
 link-in-requires : tie.Need-link-in-requires
 link-in-requires c κs = search rules

@@ -1,12 +1,12 @@
 -- `levels::raise` meets its contract.
 use Prim.Native.Nat.{◌+◌}
-use Rattle.table.specs.Fields.{pieceTree}
-use Rattle.table.specs.Rep.{height-read}
-use Rattle.descents.specs.Cuts.{still-known}
-use Rattle.levels.specs.CodeLevels.{still-put}
+use Rattle.table.specs.Fields.{piece_tree}
+use Rattle.table.specs.Rep.{height_read}
+use Rattle.descents.specs.Cuts.{still_known}
+use Rattle.levels.specs.CodeLevels.{still_put}
 use Rattle.levels.specs.Raising.{raised}
-use Rattle.levels.specs.RaisingRests.{rest-within}
-use Rattle.levels.specs.RaisingSearch.{met-in}
+use Rattle.levels.specs.RaisingRests.{rest_within}
+use Rattle.levels.specs.RaisingSearch.{met_in}
 use mathlib.Core.Path.{refl, ◌∙◌, ap₂}
 use native.Mathlib.Omega.{arith}
 use borrow.Author.Rules.{rules}
@@ -32,8 +32,8 @@ add-h c =
     let entry = at-meet-in-arg.before.before.before in
     omega (
       arith,
-      height-read _ pieceTree entry.args.l.envelope left.height-in.ensures,
-      height-read _ pieceTree entry.args.r.envelope c.height-in2.ensures,
+      height_read _ piece_tree entry.args.l.envelope left.height-in.ensures,
+      height_read _ piece_tree entry.args.r.envelope c.height-in2.ensures,
     )
 
 cut-behind-requires : tie.Need-cut-behind-requires
@@ -45,7 +45,7 @@ cut-before-requires c κs =
     let at-height-in2 = left_cut.before.before in
     let at-height-in-arg = at-height-in2.before.before.before in
     let known = at-height-in-arg.before.before.before in
-    still-known known.capacity.ensures left_cut.cut-behind.ensures.within
+    still_known known.capacity.ensures left_cut.cut-behind.ensures.within
 
 set-rest-requires : tie.Need-set-rest-requires
 set-rest-requires c κs =
@@ -54,7 +54,7 @@ set-rest-requires c κs =
     let at-height-in2 = left_cut.before.before in
     let at-height-in-arg = at-height-in2.before.before.before in
     let known = at-height-in-arg.before.before.before in
-    still-known (still-known known.capacity.ensures left_cut.cut-behind.ensures.within) right-cut.cut-before.ensures.within
+    still_known (still_known known.capacity.ensures left_cut.cut-behind.ensures.within) right-cut.cut-before.ensures.within
 
 set-rest-requires-2 : tie.Need-set-rest-requires-2
 set-rest-requires-2 c κs =
@@ -64,8 +64,8 @@ set-rest-requires-2 c κs =
     let at-height-in2 = left_cut.before.before in
     let at-height-in-arg = at-height-in2.before.before.before in
     let known = at-height-in-arg.before.before.before in
-    let after-cuts = still-known (still-known known.capacity.ensures left_cut.cut-behind.ensures.within) right-cut.cut-before.ensures.within in
-    still-known (after-cuts) (rest-within left-kept.set_rest.ensures)
+    let after-cuts = still_known (still_known known.capacity.ensures left_cut.cut-behind.ensures.within) right-cut.cut-before.ensures.within in
+    still_known (after-cuts) (rest_within left-kept.set_rest.ensures)
 
 make-node-in-requires : tie.Need-make-node-in-requires
 make-node-in-requires c κs =
@@ -76,8 +76,8 @@ make-node-in-requires c κs =
     let at-height-in2 = left_cut.before.before in
     let at-height-in-arg = at-height-in2.before.before.before in
     let known = at-height-in-arg.before.before.before in
-    let after-cuts = still-known (still-known known.capacity.ensures left_cut.cut-behind.ensures.within) right-cut.cut-before.ensures.within in
-    still-known (still-known (after-cuts) (rest-within left-kept.set_rest.ensures)) (rest-within right_kept.set-rest2.ensures)
+    let after-cuts = still_known (still_known known.capacity.ensures left_cut.cut-behind.ensures.within) right-cut.cut-before.ensures.within in
+    still_known (still_known (after-cuts) (rest_within left-kept.set_rest.ensures)) (rest_within right_kept.set-rest2.ensures)
 
 put-link-in-requires : tie.Need-put-link-in-requires
 put-link-in-requires c κs =
@@ -89,9 +89,9 @@ put-link-in-requires c κs =
     let at-height-in2 = left_cut.before.before in
     let at-height-in-arg = at-height-in2.before.before.before in
     let known = at-height-in-arg.before.before.before in
-    let after-cuts = still-known (still-known known.capacity.ensures left_cut.cut-behind.ensures.within) right-cut.cut-before.ensures.within in
-    let after-rests = still-known (still-known (after-cuts) (rest-within left-kept.set_rest.ensures)) (rest-within right_kept.set-rest2.ensures) in
-    still-known (after-rests) made.make-node-in.ensures.within
+    let after-cuts = still_known (still_known known.capacity.ensures left_cut.cut-behind.ensures.within) right-cut.cut-before.ensures.within in
+    let after-rests = still_known (still_known (after-cuts) (rest_within left-kept.set_rest.ensures)) (rest_within right_kept.set-rest2.ensures) in
+    still_known (after-rests) made.make-node-in.ensures.within
 
 put-link-in-requires-2 : tie.Need-put-link-in-requires-2
 put-link-in-requires-2 c κs =
@@ -104,9 +104,9 @@ put-link-in-requires-2 c κs =
     let at-height-in2 = left_cut.before.before in
     let at-height-in-arg = at-height-in2.before.before.before in
     let known = at-height-in-arg.before.before.before in
-    let after-cuts = still-known (still-known known.capacity.ensures left_cut.cut-behind.ensures.within) right-cut.cut-before.ensures.within in
-    let after-rests = still-known (still-known (after-cuts) (rest-within left-kept.set_rest.ensures)) (rest-within right_kept.set-rest2.ensures) in
-    still-put _ _ _ _ (still-known (after-rests) made.make-node-in.ensures.within) linked-u.put-link-in.ensures
+    let after-cuts = still_known (still_known known.capacity.ensures left_cut.cut-behind.ensures.within) right-cut.cut-before.ensures.within in
+    let after-rests = still_known (still_known (after-cuts) (rest_within left-kept.set_rest.ensures)) (rest_within right_kept.set-rest2.ensures) in
+    still_put _ _ _ _ (still_known (after-rests) made.make-node-in.ensures.within) linked-u.put-link-in.ensures
 
 cat-at-requires : tie.Need-cat-at-requires
 cat-at-requires c κs =
@@ -120,10 +120,10 @@ cat-at-requires c κs =
     let at-height-in2 = left_cut.before.before in
     let at-height-in-arg = at-height-in2.before.before.before in
     let known = at-height-in-arg.before.before.before in
-    let after-cuts = still-known (still-known known.capacity.ensures left_cut.cut-behind.ensures.within) right-cut.cut-before.ensures.within in
-    let after-rests = still-known (still-known (after-cuts) (rest-within left-kept.set_rest.ensures)) (rest-within right_kept.set-rest2.ensures) in
-    let after-u = still-put _ _ _ _ (still-known (after-rests) made.make-node-in.ensures.within) linked-u.put-link-in.ensures in
-    still-put _ _ _ _ after-u linked-v.put-link-in2.ensures
+    let after-cuts = still_known (still_known known.capacity.ensures left_cut.cut-behind.ensures.within) right-cut.cut-before.ensures.within in
+    let after-rests = still_known (still_known (after-cuts) (rest_within left-kept.set_rest.ensures)) (rest_within right_kept.set-rest2.ensures) in
+    let after-u = still_put _ _ _ _ (still_known (after-rests) made.make-node-in.ensures.within) linked-u.put-link-in.ensures in
+    still_put _ _ _ _ after-u linked-v.put-link-in2.ensures
 
 same_length : tie.Need-same-length
 same_length c =
@@ -148,10 +148,10 @@ returns c =
     let left-kept = right_kept.before.before.before in
     let right-cut = left-kept.before.before.before in
     let left_cut = right-cut.before.before.before in
-    let tall-right = left_cut.before.before in
-    let tall-left = tall-right.before.before in
-    let met = tall-left.before.before in
-    raised refl (met-in met.meet-in.ensures) (ap₂ ◌+◌ tall-left.height-in.ensures tall-right.height-in2.ensures)
+    let tall_right_lem = left_cut.before.before in
+    let tall_left_lem = tall_right_lem.before.before in
+    let met = tall_left_lem.before.before in
+    raised refl (met_in met.meet-in.ensures) (ap₂ ◌+◌ tall_left_lem.height-in.ensures tall_right_lem.height-in2.ensures)
     left_cut.cut-behind.ensures right-cut.cut-before.ensures left-kept.set_rest.ensures right_kept.set-rest2.ensures
     made.make-node-in.ensures linked-u.put-link-in.ensures linked-v.put-link-in2.ensures at-cat-at.cat-at.ensures
 

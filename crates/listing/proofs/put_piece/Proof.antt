@@ -2,7 +2,7 @@
 use mir.Syntax.{w64}
 use mir.Val.{SFits}
 use mir.Facts.{to_z-of_z}
-use Rattle.listing.specs.Listing.{piece-put}
+use Rattle.listing.specs.Listing.{piece_put}
 use borrow.Author.Rules.{rules}
 use Rattle.listing.proofs.put_piece.Statement.{statement}
 use Rattle.listing.proofs.put_piece.Tie as tie
@@ -45,7 +45,7 @@ returns c =
     let x : SFits w64 at-get.get.result = record { sfits = at-get.get.type-inv } in
     let y : SFits w64 at-crossing-word.crossing-word.result = record { sfits = at-crossing-word.crossing-word.type-inv } in
     let z : SFits w64 at-crossing-word2.crossing-word2.result = record { sfits = at-crossing-word2.crossing-word2.type-inv } in
-    piece-put _ _ entry.args.last _ _ at-get.get.ensures at-crossing-word.crossing-word.ensures at-crossing-word2.crossing-word2.ensures
+    piece_put _ _ entry.args.last _ _ at-get.get.ensures at-crossing-word.crossing-word.ensures at-crossing-word2.crossing-word2.ensures
     (simp (to_z-of_z, x) at at-set-word.set_word.ensures) (simp (to_z-of_z, y) at at-set-word2.set-word2.ensures)
     (simp (to_z-of_z, z) at c.before.set-word3.ensures)
 

@@ -1,7 +1,7 @@
 -- `listing::write` meets its contract. The loop's invariant: the first i pieces are written, and the output's later words are as before.
 use Prim.Native.Nat.{◌+◌, ◌-◌}
 use native.Mathlib.Omega.{arith}
-use Rattle.listing.specs.Listing.{Writing, writing_begins, writing-goes-on, writing-ends, writing-short}
+use Rattle.listing.specs.Listing.{Writing, writing_begins, writing_goes_on, writing_ends, writing_short}
 use lib.Dec.{eqb}
 use borrow.Author.Tests.{eqb-true, eqb-false}
 use borrow.Author.Rules.{rules}
@@ -24,7 +24,7 @@ mul-if1 : tie.Need-overflow-mul-if1 invariant-loop decreases-loop
 mul-if1 c = omega (arith, c.count.ensures.few)
 
 returns : tie.Need-returns invariant-loop decreases-loop
-returns c = writing-short _ c.before.count.ensures c.if1.true
+returns c = writing_short _ c.before.count.ensures c.if1.true
 
 end-requires : tie.Need-end-requires invariant-loop decreases-loop
 end-requires c κs = search rules
@@ -75,7 +75,7 @@ loop-again c =
     let at_count = at-if1.before in
     let i = at-loop.loop.i in
     let n = at_count.count.result in
-    writing-goes-on at_count.count.ensures at-if1.if1.false (eqb (i + 1) n) at-loop.loop.invariant at-loop-test.loop-test.true
+    writing_goes_on at_count.count.ensures at-if1.if1.false (eqb (i + 1) n) at-loop.loop.invariant at-loop-test.loop-test.true
     (λ q. omega (arith, eqb-true (i + 1) n q)) (λ q. omega (arith, eqb-false (i + 1) n q)) at-put-piece.put-piece.ensures c.link.ensures
 
 same_length : tie.Need-same-length invariant-loop decreases-loop
@@ -85,7 +85,7 @@ returns-2 : tie.Need-returns-2 invariant-loop decreases-loop
 returns-2 c =
     let at-if1 = c.before.before.before in
     let at_count = at-if1.before in
-    writing-ends at_count.count.ensures at-if1.if1.false c.before.loop.invariant c.loop-test.false
+    writing_ends at_count.count.ensures at-if1.if1.false c.before.loop.invariant c.loop-test.false
 
 pub write_spec : {M : Type 1} → statement M
 write_spec =

@@ -2,8 +2,8 @@
 use mathlib.Core.Logic.{inl, inr, ⊎_elim}
 use native.Mathlib.Omega.{arith}
 use Rattle.lists.specs.Bools.{said}
-use Rattle.promises.specs.LentPart.{book-start}
-use Rattle.meet_books.specs.Tables.{one-missing, both-there}
+use Rattle.promises.specs.LentPart.{book_start}
+use Rattle.meet_books.specs.Tables.{one_missing, both_there}
 use borrow.Author.Rules.{rules}
 use Rattle.meet_books.proofs.meet.Statement.{statement}
 use Rattle.meet_books.proofs.meet.Tie as tie
@@ -18,7 +18,7 @@ returns : tie.Need-returns
 returns c =
     let at-no-book = c.before in
     let entry = at-no-book.before in
-    one-missing entry.args.left.now entry.args.left-start entry.args.right.now entry.args.right-start
+    one_missing entry.args.left.now entry.args.left-start entry.args.right.now entry.args.right-start
     (⊎_elim (λ y. inl (said at-no-book.no-book.ensures y.taken)) (λ y. inr (said y.1.ensures y.2.taken)) c.if1.branch)
 
 mul-meet-parts : tie.Need-overflow-mul-meet-parts
@@ -26,21 +26,21 @@ mul-meet-parts c =
     let at-if1 = c.before.before in
     let at-no-book = at-if1.before in
     let entry = at-no-book.before in
-    omega (arith, book-start entry.args.left.now entry.args.left-start at-no-book.no-book.ensures at-if1.if1.false)
+    omega (arith, book_start entry.args.left.now entry.args.left-start at-no-book.no-book.ensures at-if1.if1.false)
 
 sub-meet-parts : tie.Need-overflow-sub-meet-parts
 sub-meet-parts c =
     let at-if1 = c.before.before in
     let at-no-book = at-if1.before in
     let entry = at-no-book.before in
-    omega (arith, book-start entry.args.left.now entry.args.left-start at-no-book.no-book.ensures at-if1.if1.false)
+    omega (arith, book_start entry.args.left.now entry.args.left-start at-no-book.no-book.ensures at-if1.if1.false)
 
 part-meet-parts-start : tie.Need-slice-bounds-meet-parts-start
 part-meet-parts-start c =
     let at-if1 = c.before.before in
     let at-no-book = at-if1.before in
     let entry = at-no-book.before in
-    omega (arith, book-start entry.args.left.now entry.args.left-start at-no-book.no-book.ensures at-if1.if1.false)
+    omega (arith, book_start entry.args.left.now entry.args.left-start at-no-book.no-book.ensures at-if1.if1.false)
 
 part-meet-parts-end : tie.Need-slice-bounds-meet-parts-end
 part-meet-parts-end c = search rules
@@ -49,19 +49,19 @@ mul-meet-parts-2 : tie.Need-overflow-mul-meet-parts-2
 mul-meet-parts-2 c =
     let at-no-book2 = c.before.before in
     let entry = at-no-book2.before.before.before in
-    omega (arith, book-start entry.args.right.now entry.args.right-start at-no-book2.no-book2.ensures c.before.if2.false)
+    omega (arith, book_start entry.args.right.now entry.args.right-start at-no-book2.no-book2.ensures c.before.if2.false)
 
 sub-meet-parts-2 : tie.Need-overflow-sub-meet-parts-2
 sub-meet-parts-2 c =
     let at-no-book2 = c.before.before in
     let entry = at-no-book2.before.before.before in
-    omega (arith, book-start entry.args.right.now entry.args.right-start at-no-book2.no-book2.ensures c.before.if2.false)
+    omega (arith, book_start entry.args.right.now entry.args.right-start at-no-book2.no-book2.ensures c.before.if2.false)
 
 part-meet-parts-start-2 : tie.Need-slice-bounds-meet-parts-start-2
 part-meet-parts-start-2 c =
     let at-no-book2 = c.before.before in
     let entry = at-no-book2.before.before.before in
-    omega (arith, book-start entry.args.right.now entry.args.right-start at-no-book2.no-book2.ensures c.before.if2.false)
+    omega (arith, book_start entry.args.right.now entry.args.right-start at-no-book2.no-book2.ensures c.before.if2.false)
 
 part-meet-parts-end-2 : tie.Need-slice-bounds-meet-parts-end-2
 part-meet-parts-end-2 c = search rules
@@ -76,7 +76,7 @@ returns-2 c =
     let at-if1 = at-no-book2.before in
     let at-no-book = at-if1.before in
     let entry = at-no-book.before in
-    both-there entry.args.left.now entry.args.left-start entry.args.right.now entry.args.right-start at-no-book.no-book.ensures
+    both_there entry.args.left.now entry.args.left-start entry.args.right.now entry.args.right-start at-no-book.no-book.ensures
     at-if1.if1.false at-no-book2.no-book2.ensures at-if2.if2.false c.meet-parts.ensures
 
 pub meet-spec : {M : Type 1} → statement M

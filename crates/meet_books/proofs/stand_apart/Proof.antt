@@ -2,7 +2,7 @@
 use mir.Facts.{to_z-of_z}
 use mir.Syntax.{w64}
 use mir.Val.{SFits}
-use Rattle.meet_books.specs.Apart.{sets-apart}
+use Rattle.meet_books.specs.Apart.{sets_apart}
 use borrow.Author.Rules.{rules}
 use Rattle.meet_books.proofs.stand_apart.Statement.{statement}
 use Rattle.meet_books.proofs.stand_apart.Tie as tie
@@ -32,7 +32,7 @@ returns c =
     let at-offers-root2 = at-end.before in
     let at-offers-root = at-offers-root2.before in
     let g : SFits w64 c.before.get.result = record { sfits = c.before.get.type-inv } in
-    sets-apart at-offers-root.offers-root.ensures at-offers-root2.offers-root2.ensures at-end.end.ensures at-end2.end2.ensures
+    sets_apart at-offers-root.offers-root.ensures at-offers-root2.offers-root2.ensures at-end.end.ensures at-end2.end2.ensures
     c.before.get.ensures (simp (to_z-of_z, g) at c.is-above.ensures)
 
 pub stand-apart-spec : {M : Type 1} → statement M

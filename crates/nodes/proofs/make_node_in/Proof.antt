@@ -1,6 +1,6 @@
 -- `nodes::make_node_in` meets its contract.
 use native.Mathlib.Omega.{arith}
-use Rattle.table.specs.Rep.{height-read}
+use Rattle.table.specs.Rep.{height_read}
 use Rattle.nodes.specs.Joining.{raised}
 use borrow.Author.Rules.{rules}
 use Rattle.nodes.proofs.make_node_in.Statement.{statement}
@@ -14,8 +14,8 @@ height-in-requires-2 c κs = search rules
 
 height-over-requires : tie.Need-height-over-requires
 height-over-requires c κs = (
-  omega (arith, height-read _ _ _ c.before.before.before.height-in.ensures),
-  omega (arith, height-read _ _ _ c.before.height-in2.ensures),
+  omega (arith, height_read _ _ _ c.before.before.before.height-in.ensures),
+  omega (arith, height_read _ _ _ c.before.height-in2.ensures),
 )
 
 set-node-requires : tie.Need-set-node-requires

@@ -5,7 +5,7 @@ use lib.IntN.{pos}
 use mir.Facts.{to_z_pos}
 use mir.Syntax.{w64}
 use mir.Val.{to_z}
-use Rattle.nodes.specs.Joining.{no_gap, joined-node}
+use Rattle.nodes.specs.Joining.{no_gap, joined_node}
 use borrow.Author.Rules.{rules}
 use Rattle.nodes.proofs.set_node.Statement.{statement}
 use Rattle.nodes.proofs.set_node.Tie as tie
@@ -53,7 +53,7 @@ returns-2 c =
     let vq : to_z w64 a.q ≡ pos a.q = to_z_pos w64 (omega (arith, f.q)) in
     let vh : to_z w64 a.h ≡ pos a.h = to_z_pos w64 (omega (arith, f.h)) in
     record {
-      joined = λ e. joined-node e at-child-field.child-field.ensures refl at-child-field2.child-field2.ensures refl
+      joined = λ e. joined_node e at-child-field.child-field.ensures refl at-child-field2.child-field2.ensures refl
           at-height-field.height-field.ensures (simp (vp, vq, vh) at at-put-three-in.put-three-in.ensures);
     }
 

@@ -4,7 +4,7 @@ use Prim.Native.Nat.{◌-◌}
 use native.Mathlib.Omega.{arith}
 use borrow.Author.Rules.{rules}
 use Rattle.opening.specs.Laying.{laid_none}
-use Rattle.opening.specs.Starting.{Laying, laying-more, laying-last}
+use Rattle.opening.specs.Starting.{Laying, laying_more, laying_last}
 use Rattle.opening.proofs.lay.Statement.{statement}
 use Rattle.opening.proofs.lay.Tie as tie
 
@@ -41,7 +41,7 @@ loop-again c =
     let at-put-link = at-put-link2.before.before.before in
     let at-loop-test = at-put-link.before.before in
     let at-loop = at-loop-test.before in
-    laying-more at-loop.loop.invariant (omega arith) (omega (arith, at-loop-test.loop-test.true)) (omega arith) at-put-link.put-link.auto.0
+    laying_more at-loop.loop.invariant (omega arith) (omega (arith, at-loop-test.loop-test.true)) (omega arith) at-put-link.put-link.auto.0
     at-put-link2.put-link2.auto.0 at-put-link.put-link.ensures at-put-link2.put-link2.ensures
 
 put-link-requires-3 : tie.Need-put-link-requires-3 invariant-loop decreases-loop
@@ -63,7 +63,7 @@ returns c =
     let at-put-link3 = at-put-link4.before.before.before in
     let at-loop-test = at-put-link3.before.before in
     let at-loop = at-loop-test.before in
-    laying-last at-loop.loop.invariant (omega (arith, at-loop-test.loop-test.false)) at-put-link3.put-link3.auto.0 at-put-link4.put-link4.auto.0
+    laying_last at-loop.loop.invariant (omega (arith, at-loop-test.loop-test.false)) at-put-link3.put-link3.auto.0 at-put-link4.put-link4.auto.0
     at-put-link3.put-link3.ensures at-put-link4.put-link4.ensures
 
 pub lay-spec : {M : Type 1} → statement M

@@ -5,7 +5,7 @@ use lib.ListN.{length, length-drop}
 use Rattle.promises.specs.LentPart.{whole_part}
 use native.Mathlib.Omega.{arith}
 use mir.Facts.{to_z-of_z}
-use Rattle.opening.specs.Opens.{opens-range, opens-beyond, opens-cut, opens-done, capacity-span}
+use Rattle.opening.specs.Opens.{opens_range, opens_beyond, opens_cut, opens_done, capacity_span}
 use borrow.Author.Rules.{rules}
 use Rattle.opening.proofs.open.Statement.{statement}
 use Rattle.opening.proofs.open.Tie as tie
@@ -14,7 +14,7 @@ outside-requires : tie.Need-outside-requires
 outside-requires c κs = search rules
 
 returns : tie.Need-returns
-returns c = opens-range _ _ _ _ (simp (to_z-of_z, c.before.before.ranges.capacity) at c.before.outside.ensures) c.if1.true refl
+returns c = opens_range _ _ _ _ (simp (to_z-of_z, c.before.before.ranges.capacity) at c.before.outside.ensures) c.if1.true refl
 
 up-to-requires : tie.Need-up-to-requires
 up-to-requires c κs = search rules
@@ -24,7 +24,7 @@ returns-2 c =
     let at-if1 = c.before.before in
     let at-outside = at-if1.before in
     let entry = at-outside.before in
-    opens-beyond _ _ _ _ (simp (to_z-of_z, entry.ranges.capacity) at at-outside.outside.ensures) at-if1.if1.false c.if2.true refl
+    opens_beyond _ _ _ _ (simp (to_z-of_z, entry.ranges.capacity) at at-outside.outside.ensures) at-if1.if1.false c.if2.true refl
 
 sub-if3 : tie.Need-overflow-sub-if3
 sub-if3 c = search rules
@@ -47,7 +47,7 @@ returns-3 c =
     let at-if1 = at-up-to.before in
     let at-outside = at-if1.before in
     let entry = at-outside.before in
-    opens-cut _ _ _ _ (simp (to_z-of_z, entry.ranges.capacity) at at-outside.outside.ensures) at-if1.if1.false
+    opens_cut _ _ _ _ (simp (to_z-of_z, entry.ranges.capacity) at at-outside.outside.ensures) at-if1.if1.false
     (simp (to_z-of_z, entry.ranges.capacity) at at-up-to.up-to.ensures) c.if3.true refl
 
 mul-start-book : tie.Need-overflow-mul-start-book
@@ -70,7 +70,7 @@ start-book-requires c κs =
     let at-outside = at-if1.before in
     let entry = at-outside.before in
     let s =
-    capacity-span entry.args.capacity 0 [] [] (simp (to_z-of_z, entry.ranges.capacity) at at-outside.outside.ensures) at-if1.if1.false
+    capacity_span entry.args.capacity 0 [] [] (simp (to_z-of_z, entry.ranges.capacity) at at-outside.outside.ensures) at-if1.if1.false
     (simp (to_z-of_z, entry.ranges.capacity) at at-up-to.up-to.ensures) in (
       s.0,
       s.1,
@@ -94,7 +94,7 @@ returns-4 c =
     let at-if1 = at-up-to.before in
     let at-outside = at-if1.before in
     let entry = at-outside.before in
-    opens-done _ _ _ _ (simp (to_z-of_z, entry.ranges.capacity) at at-outside.outside.ensures) at-if1.if1.false
+    opens_done _ _ _ _ (simp (to_z-of_z, entry.ranges.capacity) at at-outside.outside.ensures) at-if1.if1.false
     (simp (to_z-of_z, entry.ranges.capacity) at at-up-to.up-to.ensures) at-if2.if2.false at-if3.if3.false _ c.before.start-book.ensures refl
 
 pub open_spec : {M : Type 1} → statement M

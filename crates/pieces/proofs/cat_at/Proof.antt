@@ -1,6 +1,6 @@
 -- `pieces::cat_at` meets its contract.
-use Rattle.pieces.specs.Catting.{threaded-known, catted-right, catted-left, seamed-any, seamed}
-use Rattle.prices.specs.Prices.{bases-fit, rates-fit}
+use Rattle.pieces.specs.Catting.{threaded_known, catted_right, catted_left, seamed_any, seamed}
+use Rattle.prices.specs.Prices.{bases_fit, rates_fit}
 use native.Mathlib.Omega.{arith}
 use lib.IntN.{pos, ◌-ℤ◌}
 use mathlib.Core.Path.{◌≡◌, ap₂}
@@ -12,10 +12,10 @@ use Rattle.pieces.proofs.cat_at.Statement.{statement}
 use Rattle.pieces.proofs.cat_at.Tie as tie
 
 returns : tie.Need-returns
-returns c = seamed-any (catted-right c.if1.true)
+returns c = seamed_any (catted_right c.if1.true)
 
 returns-2 : tie.Need-returns-2
-returns-2 c = seamed-any (catted-left c.if2.true)
+returns-2 c = seamed_any (catted_left c.if2.true)
 
 base-in-requires : tie.Need-base-in-requires
 base-in-requires c κs = search rules
@@ -27,7 +27,7 @@ sub-numerator : tie.Need-overflow-sub-numerator
 sub-numerator c =
     let f : SFits w64 c.base-in2.result = record { sfits = c.base-in2.type-inv } in
     let g : SFits w64 c.before.before.base-in.result = record { sfits = c.before.before.base-in.type-inv } in
-    simp (to_z-of_z, f, g) (bases-fit _ _ _ c.before.before.base-in.ensures c.base-in2.ensures)
+    simp (to_z-of_z, f, g) (bases_fit _ _ _ c.before.before.base-in.ensures c.base-in2.ensures)
 
 rate-in-requires : tie.Need-rate-in-requires
 rate-in-requires c κs = search rules
@@ -39,7 +39,7 @@ sub-denominator : tie.Need-overflow-sub-denominator
 sub-denominator c =
     let f : SFits w64 c.before.before.rate-in.result = record { sfits = c.before.before.rate-in.type-inv } in
     let g : SFits w64 c.rate-in2.result = record { sfits = c.rate-in2.type-inv } in
-    simp (to_z-of_z, f, g) (rates-fit _ _ _ c.before.before.rate-in.ensures c.rate-in2.ensures)
+    simp (to_z-of_z, f, g) (rates_fit _ _ _ c.before.before.rate-in.ensures c.rate-in2.ensures)
 
 cast-put-three-in : tie.Need-overflow-cast-put-three-in
 cast-put-three-in c = search rules
@@ -54,7 +54,7 @@ join-in-requires c κs =
     let at-base-in2 = at-rate-in-arg2.before.before.before in
     let at-base-in-arg = at-base-in2.before.before.before in
     let entry = at-base-in-arg.before.before.before in
-    threaded-known _ _ _ _ _ _ _ _ entry.requires
+    threaded_known _ _ _ _ _ _ _ _ entry.requires
     at-put-three-in.put-three-in.ensures
 
 same_length : tie.Need-same-length
@@ -76,8 +76,8 @@ returns-3 c =
     let g : SFits w64 base-n.base-in.result = record { sfits = base-n.base-in.type-inv } in
     let f₂ : SFits w64 rate-s.rate-in.result = record { sfits = rate-s.rate-in.type-inv } in
     let g₂ : SFits w64 rate-n.rate-in2.result = record { sfits = rate-n.rate-in2.type-inv } in
-    let k = bases-fit w a.s a.n base-n.base-in.ensures base-s.base-in2.ensures in
-    let k₂ = rates-fit w a.s a.n rate-s.rate-in.ensures rate-n.rate-in2.ensures in
+    let k = bases_fit w a.s a.n base-n.base-in.ensures base-s.base-in2.ensures in
+    let k₂ = rates_fit w a.s a.n rate-s.rate-in.ensures rate-n.rate-in2.ensures in
     let vn : to_z w64 a.n ≡ pos a.n = to_z_pos w64 (omega (arith, entry.ranges.n)) in
     seamed both.before.if1.false both.if2.false (ap₂ ◌-ℤ◌ base-n.base-in.ensures base-s.base-in2.ensures)
     (ap₂ ◌-ℤ◌ rate-s.rate-in.ensures rate-n.rate-in2.ensures) (simp (to_z-of_z, f, g, k, f₂, g₂, k₂, vn) at written.put-three-in.ensures)

@@ -1,5 +1,5 @@
 -- `pieces::cat_before` meets its contract.
-use Rattle.pieces.specs.Catting.{catted-before}
+use Rattle.pieces.specs.Catting.{catted_before}
 use borrow.Author.Rules.{rules}
 use Rattle.pieces.proofs.cat_before.Statement.{statement}
 use Rattle.pieces.proofs.cat_before.Tie as tie
@@ -14,7 +14,7 @@ same_length : tie.Need-same-length
 same_length c = search rules
 
 returns : tie.Need-returns
-returns c = catted-before c.before.before.before.end-in.ensures c.before.cat-at.ensures
+returns c = catted_before c.before.before.before.end-in.ensures c.before.cat-at.ensures
 
 pub cat-before-spec : {M : Type 1} → statement M
 cat-before-spec = tie.close (tie.spec end-in-requires cat-at-requires same_length returns)

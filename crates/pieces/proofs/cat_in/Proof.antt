@@ -1,14 +1,14 @@
 -- `pieces::cat_in` meets its contract.
-use Rattle.pieces.specs.Catting.{catted-right, catted-left, catted}
+use Rattle.pieces.specs.Catting.{catted_right, catted_left, catted}
 use borrow.Author.Rules.{rules}
 use Rattle.pieces.proofs.cat_in.Statement.{statement}
 use Rattle.pieces.proofs.cat_in.Tie as tie
 
 returns : tie.Need-returns
-returns c = catted-right c.if1.true
+returns c = catted_right c.if1.true
 
 returns-2 : tie.Need-returns-2
-returns-2 c = catted-left c.if2.true
+returns-2 c = catted_left c.if2.true
 
 end-in-requires : tie.Need-end-in-requires
 end-in-requires c κs = search rules

@@ -3,13 +3,13 @@ use mathlib.Core.Path.{sym, ◌∙◌}
 use mir.Facts.{to_z-of_z}
 use mir.Syntax.{w64}
 use mir.Val.{SFits}
-use Rattle.prices.specs.Prices.{crossing-priced, above-missing, above-first, above-leaf, above-second}
+use Rattle.prices.specs.Prices.{crossing_priced, above_missing, above_first, above_leaf, above_second}
 use borrow.Author.Rules.{rules}
 use Rattle.prices.proofs.above.Statement.{statement}
 use Rattle.prices.proofs.above.Tie as tie
 
 returns : tie.Need-returns
-returns c = let a = c.before.args in above-missing a.ours.now a.p a.other.now a.x c.if1.true
+returns c = let a = c.before.args in above_missing a.ours.now a.p a.other.now a.x c.if1.true
 
 numerator-in-requires : tie.Need-numerator-in-requires
 numerator-in-requires c κs = c.before.requires.0
@@ -24,7 +24,7 @@ price-requires c κs =
     let d = c.denominator-in in
     let fn : SFits w64 n.result = record { sfits = n.type-inv } in
     let fd : SFits w64 d.result = record { sfits = d.type-inv } in
-    simp (to_z-of_z, fn, fd) (crossing-priced a.ours.now a.p a.ours.now c.before.before.before.requires.0 n.ensures d.ensures)
+    simp (to_z-of_z, fn, fd) (crossing_priced a.ours.now a.p a.ours.now c.before.before.before.requires.0 n.ensures d.ensures)
 
 kept-in-requires : tie.Need-kept-in-requires
 kept-in-requires c κs = search rules
@@ -39,7 +39,7 @@ price-requires-2 c κs =
     let d = at-denominator-in.denominator-in in
     let fn : SFits w64 n.result = record { sfits = n.type-inv } in
     let fd : SFits w64 d.result = record { sfits = d.type-inv } in
-    simp (to_z-of_z, fn, fd) (crossing-priced a.ours.now a.p a.other.now entry.requires.1 n.ensures d.ensures)
+    simp (to_z-of_z, fn, fd) (crossing_priced a.ours.now a.p a.other.now entry.requires.1 n.ensures d.ensures)
 
 on-or-above-requires : tie.Need-on-or-above-requires
 on-or-above-requires c κs = search rules
@@ -61,7 +61,7 @@ returns-2 c =
     let fd : SFits w64 d.result = record { sfits = d.type-inv } in
     let fy : SFits w64 at-price.price.result = record { sfits = at-price.price.type-inv } in
     let fz : SFits w64 at-price2.price2.result = record { sfits = at-price2.price2.type-inv } in
-    above-first a.ours.now a.p a.other.now a.x at-if1.if1.false n.ensures d.ensures
+    above_first a.ours.now a.p a.other.now a.x at-if1.if1.false n.ensures d.ensures
     (simp (to_z-of_z, fn, fd) at at-price.price.ensures) at-kept-in.kept_in.ensures (simp (to_z-of_z, fn, fd) at at-price2.price2.ensures)
     (sym (simp (to_z-of_z, fy, fz) at at-on-or-above.on-or-above.ensures) ∙ c.if2.true)
 
@@ -83,7 +83,7 @@ returns-3 c =
     let fd : SFits w64 d.result = record { sfits = d.type-inv } in
     let fy : SFits w64 at-price.price.result = record { sfits = at-price.price.type-inv } in
     let fz : SFits w64 at-price2.price2.result = record { sfits = at-price2.price2.type-inv } in
-    above-leaf a.ours.now a.p a.other.now a.x at-if1.if1.false n.ensures d.ensures
+    above_leaf a.ours.now a.p a.other.now a.x at-if1.if1.false n.ensures d.ensures
     (simp (to_z-of_z, fn, fd) at at-price.price.ensures) at-kept-in.kept_in.ensures (simp (to_z-of_z, fn, fd) at at-price2.price2.ensures)
     (sym (simp (to_z-of_z, fy, fz) at at-on-or-above.on-or-above.ensures) ∙ at-if2.if2.false) c.if3.true
 
@@ -105,7 +105,7 @@ price-requires-3 c κs =
     let d = at-denominator-in.denominator-in in
     let fn : SFits w64 n.result = record { sfits = n.type-inv } in
     let fd : SFits w64 d.result = record { sfits = d.type-inv } in
-    simp (to_z-of_z, fn, fd) (crossing-priced a.ours.now a.p a.other.now entry.requires.1 n.ensures d.ensures)
+    simp (to_z-of_z, fn, fd) (crossing_priced a.ours.now a.p a.other.now entry.requires.1 n.ensures d.ensures)
 
 on-or-above-requires-2 : tie.Need-on-or-above-requires-2
 on-or-above-requires-2 c κs = search rules
@@ -133,7 +133,7 @@ returns-4 c =
     let fz : SFits w64 at-price2.price2.result = record { sfits = at-price2.price2.type-inv } in
     let ft : SFits w64 at-price3.price3.result = record { sfits = at-price3.price3.type-inv } in
     (simp (to_z-of_z, fy, ft) at c.on-or-above2.ensures)
-    ∙ above-second a.ours.now a.p a.other.now a.x at-if1.if1.false n.ensures d.ensures
+    ∙ above_second a.ours.now a.p a.other.now a.x at-if1.if1.false n.ensures d.ensures
     (simp (to_z-of_z, fn, fd) at at-price.price.ensures) at-kept-in.kept_in.ensures (simp (to_z-of_z, fn, fd) at at-price2.price2.ensures)
     (sym (simp (to_z-of_z, fy, fz) at at-on-or-above.on-or-above.ensures) ∙ at-if2.if2.false) at-if3.if3.false at-link-in.link-in.ensures
     (simp (to_z-of_z, fn, fd) at at-price3.price3.ensures)

@@ -1,7 +1,7 @@
 -- `prices::apart` meets its contract: position by position.
 use mathlib.Core.Path.{sym, ◌∙◌, ap}
 use mir.Facts.{to_z-of_z}
-use Rattle.prices.specs.Positions.{isApart}
+use Rattle.prices.specs.Positions.{is_apart}
 use borrow.Author.Rules.{rules}
 use Rattle.prices.proofs.apart.Statement.{statement}
 use Rattle.prices.proofs.apart.Tie as tie
@@ -22,19 +22,19 @@ returns : tie.Need-returns
 returns c =
     let at-compare = c.before.before in
     let entry = at-compare.before in
-    ap isApart (sym c.enum_told.given.1 ∙ simp (to_z-of_z, entry.ranges.point, entry.ranges.line) at at-compare.compare.ensures)
+    ap is_apart (sym c.enum_told.given.1 ∙ simp (to_z-of_z, entry.ranges.point, entry.ranges.line) at at-compare.compare.ensures)
 
 returns-2 : tie.Need-returns-2
 returns-2 c =
     let at-compare = c.before.before in
     let entry = at-compare.before in
-    ap isApart (sym c.enum-told2.given.1 ∙ simp (to_z-of_z, entry.ranges.point, entry.ranges.line) at at-compare.compare.ensures)
+    ap is_apart (sym c.enum-told2.given.1 ∙ simp (to_z-of_z, entry.ranges.point, entry.ranges.line) at at-compare.compare.ensures)
 
 returns-3 : tie.Need-returns-3
 returns-3 c =
     let at-compare = c.before.before in
     let entry = at-compare.before in
-    ap isApart (sym c.enum-told3.given.1 ∙ simp (to_z-of_z, entry.ranges.point, entry.ranges.line) at at-compare.compare.ensures)
+    ap is_apart (sym c.enum-told3.given.1 ∙ simp (to_z-of_z, entry.ranges.point, entry.ranges.line) at at-compare.compare.ensures)
 
 pub apart-spec : {M : Type 1} → statement M
 apart-spec =

@@ -2,7 +2,7 @@
 use mir.Facts.{to_z-of_z}
 use mir.Syntax.{w64}
 use mir.Val.{SFits}
-use Rattle.prices.specs.Prices.{crossing-priced, crossing-price-is}
+use Rattle.prices.specs.Prices.{crossing_priced, crossing_price_is}
 use borrow.Author.Rules.{rules}
 use Rattle.prices.proofs.crossing_price.Statement.{statement}
 use Rattle.prices.proofs.crossing_price.Tie as tie
@@ -23,7 +23,7 @@ price-requires c κs =
     let d = c.before.denominator in
     let fn : SFits w64 n.result = record { sfits = n.type-inv } in
     let fd : SFits w64 d.result = record { sfits = d.type-inv } in
-    simp (to_z-of_z, fn, fd) (crossing-priced a.part.now a.slot a.part.now c.capacity.ensures n.ensures d.ensures)
+    simp (to_z-of_z, fn, fd) (crossing_priced a.part.now a.slot a.part.now c.capacity.ensures n.ensures d.ensures)
 
 returns : tie.Need-returns
 returns c =
@@ -36,7 +36,7 @@ returns c =
     let fd : SFits w64 d.result = record { sfits = d.type-inv } in
     let fp : SFits w64 c.price.result = record { sfits = c.price.type-inv } in
     simp (to_z-of_z, fp)
-    (crossing-price-is a.part.now a.slot n.result d.result n.ensures d.ensures (simp (to_z-of_z, fn, fd) at c.price.ensures))
+    (crossing_price_is a.part.now a.slot n.result d.result n.ensures d.ensures (simp (to_z-of_z, fn, fd) at c.price.ensures))
 
 pub crossing-price-spec : {M : Type 1} → statement M
 crossing-price-spec =

@@ -1,7 +1,7 @@
 -- `prices::on_or_above` meets its contract: position by position.
 use mathlib.Core.Path.{sym, ◌∙◌, ap}
 use mir.Facts.{to_z-of_z}
-use Rattle.prices.specs.Positions.{onOrAbove, on-or-above}
+use Rattle.prices.specs.Positions.{on_or_above, on_or_above_lem}
 use borrow.Author.Rules.{rules}
 use Rattle.prices.proofs.on_or_above.Statement.{statement}
 use Rattle.prices.proofs.on_or_above.Tie as tie
@@ -22,22 +22,22 @@ returns : tie.Need-returns
 returns c =
     let at-compare = c.before.before in
     let entry = at-compare.before in
-    ap onOrAbove (sym c.enum_told.given.1 ∙ simp (to_z-of_z, entry.ranges.point, entry.ranges.line) at at-compare.compare.ensures)
-    ∙ on-or-above entry.args.point entry.args.line
+    ap on_or_above (sym c.enum_told.given.1 ∙ simp (to_z-of_z, entry.ranges.point, entry.ranges.line) at at-compare.compare.ensures)
+    ∙ on_or_above_lem entry.args.point entry.args.line
 
 returns-2 : tie.Need-returns-2
 returns-2 c =
     let at-compare = c.before.before in
     let entry = at-compare.before in
-    ap onOrAbove (sym c.enum-told2.given.1 ∙ simp (to_z-of_z, entry.ranges.point, entry.ranges.line) at at-compare.compare.ensures)
-    ∙ on-or-above entry.args.point entry.args.line
+    ap on_or_above (sym c.enum-told2.given.1 ∙ simp (to_z-of_z, entry.ranges.point, entry.ranges.line) at at-compare.compare.ensures)
+    ∙ on_or_above_lem entry.args.point entry.args.line
 
 returns-3 : tie.Need-returns-3
 returns-3 c =
     let at-compare = c.before.before in
     let entry = at-compare.before in
-    ap onOrAbove (sym c.enum-told3.given.1 ∙ simp (to_z-of_z, entry.ranges.point, entry.ranges.line) at at-compare.compare.ensures)
-    ∙ on-or-above entry.args.point entry.args.line
+    ap on_or_above (sym c.enum-told3.given.1 ∙ simp (to_z-of_z, entry.ranges.point, entry.ranges.line) at at-compare.compare.ensures)
+    ∙ on_or_above_lem entry.args.point entry.args.line
 
 pub on-or-above-spec : {M : Type 1} → statement M
 on-or-above-spec =

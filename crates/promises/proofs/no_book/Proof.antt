@@ -1,6 +1,6 @@
 -- `promises::no_book` meets its contract: by the capacity that the words from `start` on tell.
 use borrow.Author.Rules.{rules}
-use Rattle.promises.specs.LentPart.{beyond-none, cap-tells}
+use Rattle.promises.specs.LentPart.{beyond_none, cap_tells}
 use Rattle.promises.proofs.no_book.Statement.{statement}
 use Rattle.promises.proofs.no_book.Tie as tie
 
@@ -20,10 +20,10 @@ capacity-requires : tie.Need-capacity-requires
 capacity-requires c κs = search rules
 
 returns : tie.Need-returns
-returns c = beyond-none c.before.args.table.now c.before.args.start c.if1.true
+returns c = beyond_none c.before.args.table.now c.before.args.start c.if1.true
 
 returns-2 : tie.Need-returns-2
-returns-2 c = let entry = c.before.before.before in cap-tells entry.args.table.now entry.args.start c.capacity.ensures
+returns-2 c = let entry = c.before.before.before in cap_tells entry.args.table.now entry.args.start c.capacity.ensures
 
 pub no-book-spec : {M : Type 1} → statement M
 no-book-spec =

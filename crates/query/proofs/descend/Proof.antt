@@ -4,8 +4,8 @@ use native.Mathlib.Omega.{arith}
 use mir.Syntax.{w64}
 use mir.Val.{to_z}
 use mir.Facts.{to_z-of_z}
-use Rattle.table.specs.Fields.{mostLevels}
-use Rattle.query.specs.Descent.{no-slots, Ongoing, ongoing-start, ongoing-step, ongoing-leaf, ongoing-off, ongoing-limit}
+use Rattle.table.specs.Fields.{most_levels}
+use Rattle.query.specs.Descent.{no_slots, Ongoing, ongoing_start, ongoing_step, ongoing_leaf, ongoing_off, ongoing_limit}
 use borrow.Author.Rules.{rules}
 use Rattle.query.proofs.descend.Statement.{statement}
 use Rattle.query.proofs.descend.Tie as tie
@@ -14,7 +14,7 @@ abbrev invariant-loop : tie.invariant-loop
 invariant-loop part root load c x₀ second₀ probes₀ x second probes = Ongoing part root (to_z w64 load) x second probes
 
 abbrev decreases-loop : tie.decreases-loop
-decreases-loop part root load c x₀ second₀ probes₀ x second probes = mostLevels - probes
+decreases-loop part root load c x₀ second₀ probes₀ x second probes = most_levels - probes
 
 capacity-requires : tie.Need-capacity-requires invariant-loop decreases-loop
 capacity-requires c κs = search rules
@@ -23,10 +23,10 @@ astray-requires : tie.Need-astray-requires invariant-loop decreases-loop
 astray-requires c κs = search rules
 
 returns : tie.Need-returns invariant-loop decreases-loop
-returns c = no-slots c.before.before.capacity.ensures c.before.if1.true _ _ _ _ _
+returns c = no_slots c.before.before.capacity.ensures c.before.if1.true _ _ _ _ _
 
 loop-holds : tie.Need-loop-init invariant-loop decreases-loop
-loop-holds c = ongoing-start _ _ _
+loop-holds c = ongoing_start _ _ _
 
 astray-requires-2 : tie.Need-astray-requires-2 invariant-loop decreases-loop
 astray-requires-2 c κs = search rules
@@ -38,7 +38,7 @@ returns-2 c =
     let at-loop = at-if2.before.before in
     let entry = at-loop.before.before.before in
     simp (to_z-of_z, entry.ranges.load) at
-    (ongoing-limit at-loop.loop.invariant at-if2.before.loop-test.true at-if2.if2.true r.slot r.second r.probes)
+    (ongoing_limit at-loop.loop.invariant at-if2.before.loop-test.true at-if2.if2.true r.slot r.second r.probes)
 
 toward-requires : tie.Need-toward-requires invariant-loop decreases-loop
 toward-requires c κs = c.before.before.before.before.capacity.ensures
@@ -61,7 +61,7 @@ returns-3 c =
     let at-loop = at-loop-test.before in
     let entry = at-loop.before.before.before in
     simp (to_z-of_z, entry.ranges.load) at
-    (ongoing-off at-loop.loop.invariant at-loop-test.loop-test.true (rw at_told.enum_told.given.1 at at-toward.toward.ensures) r.slot
+    (ongoing_off at-loop.loop.invariant at-loop-test.loop-test.true (rw at_told.enum_told.given.1 at at-toward.toward.ensures) r.slot
     r.second r.probes)
 
 add-probes : tie.Need-overflow-add-probes invariant-loop decreases-loop
@@ -76,7 +76,7 @@ loop-again c =
     let at-toward = at-step.before.before in
     let at-loop-test = at-toward.before.before in
     let at-loop = at-loop-test.before in
-    ongoing-step at-loop.loop.invariant at-loop-test.loop-test.true (rw at-step.step.given.1 at at-toward.toward.ensures)
+    ongoing_step at-loop.loop.invariant at-loop-test.loop-test.true (rw at-step.step.given.1 at at-toward.toward.ensures)
 
 cast-slot : tie.Need-overflow-cast-slot invariant-loop decreases-loop
 cast-slot c = omega arith
@@ -88,7 +88,7 @@ returns-4 : tie.Need-returns-4 invariant-loop decreases-loop
 returns-4 c =
     let at-loop = c.before.before in
     let entry = at-loop.before.before.before in
-    rw c.kept-else.ensures (simp (to_z-of_z, entry.ranges.load) at (ongoing-leaf at-loop.loop.invariant c.before.loop-test.false))
+    rw c.kept-else.ensures (simp (to_z-of_z, entry.ranges.load) at (ongoing_leaf at-loop.loop.invariant c.before.loop-test.false))
 
 pub descend-spec : {M : Type 1} → statement M
 descend-spec =

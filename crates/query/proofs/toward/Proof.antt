@@ -8,19 +8,19 @@ use mir.Syntax.{w64}
 use mir.Val.{SFits}
 use mir.Facts.{to_z-of_z}
 use Rattle.table.specs.Cells.{placed}
-use Rattle.query.specs.Groups.{group-small, group-in, off-slot, off-steep, off-wild, mind-there, toward-there}
+use Rattle.query.specs.Groups.{group_small, group_in, off_slot, off_steep, off_wild, mind_there, toward_there}
 use borrow.Author.Rules.{rules}
 use Rattle.query.proofs.toward.Statement.{statement}
 use Rattle.query.proofs.toward.Tie as tie
 
 returns : tie.Need-returns
-returns c = off-slot _ _ _ _ c.before.requires (λ h. omega (arith, h.0))
+returns c = off_slot _ _ _ _ c.before.requires (λ h. omega (arith, h.0))
 
 add-if2 : tie.Need-overflow-add-if2
 add-if2 c = search rules
 
 returns-2 : tie.Need-returns-2
-returns-2 c = off-slot _ _ _ _ c.before.before.requires (λ h. omega (arith, h.1))
+returns-2 c = off_slot _ _ _ _ c.before.before.requires (λ h. omega (arith, h.1))
 
 sub-slot : tie.Need-overflow-sub-slot
 sub-slot c = search rules
@@ -32,14 +32,14 @@ address-requires : tie.Need-address-requires
 address-requires c κs = placed _ _ _ _ c.before.before.requires (omega arith) (omega arith)
 
 add-d : tie.Need-overflow-add-d
-add-d c = omega (arith, group-small _ _ _ c.before.before.before.requires c.before.before.if1.false c.before.if2.false c.address.ensures)
+add-d c = omega (arith, group_small _ _ _ c.before.before.before.requires c.before.before.if1.false c.before.if2.false c.address.ensures)
 
 mul-d : tie.Need-overflow-mul-d
-mul-d c = omega (arith, group-small _ _ _ c.before.before.before.requires c.before.before.if1.false c.before.if2.false c.address.ensures)
+mul-d c = omega (arith, group_small _ _ _ c.before.before.before.requires c.before.before.if1.false c.before.if2.false c.address.ensures)
 
 shared-slice-copy-out-d : tie.Need-shared-slice-copy-out-d
 shared-slice-copy-out-d c =
-    group-in _ _ _ c.before.before.before.requires c.before.before.if1.false c.before.if2.false c.address.ensures 3 (omega arith)
+    group_in _ _ _ c.before.before.before.requires c.before.before.if1.false c.before.if2.false c.address.ensures 3 (omega arith)
 
 outside-requires : tie.Need-outside-requires
 outside-requires c κs = search rules
@@ -53,7 +53,7 @@ returns-3 c =
     let entry = at-if1.before in
     let w = entry.args.part.now in
     let d : SFits w64 (get_or w (at_address.address.result + 3) (pos 0)) = record { sfits = at-d.d.given } in
-    off-steep _ _ _ entry.requires at-if1.if1.false at-if2.if2.false at_address.address.ensures _
+    off_steep _ _ _ entry.requires at-if1.if1.false at-if2.if2.false at_address.address.ensures _
     (sym (simp (to_z-of_z, d) at c.before.outside.ensures) ∙ c.if3.true)
 
 add-turn-at : tie.Need-overflow-add-turn-at
@@ -61,21 +61,21 @@ add-turn-at c =
     let at_address = c.before.before.before in
     let at-if2 = at_address.before in
     let at-if1 = at-if2.before in
-    omega (arith, group-small _ _ _ at-if1.before.requires at-if1.if1.false at-if2.if2.false at_address.address.ensures)
+    omega (arith, group_small _ _ _ at-if1.before.requires at-if1.if1.false at-if2.if2.false at_address.address.ensures)
 
 mul-turn-at : tie.Need-overflow-mul-turn-at
 mul-turn-at c =
     let at_address = c.before.before.before in
     let at-if2 = at_address.before in
     let at-if1 = at-if2.before in
-    omega (arith, group-small _ _ _ at-if1.before.requires at-if1.if1.false at-if2.if2.false at_address.address.ensures)
+    omega (arith, group_small _ _ _ at-if1.before.requires at-if1.if1.false at-if2.if2.false at_address.address.ensures)
 
 shared-slice-copy-out-turn-at : tie.Need-shared-slice-copy-out-turn-at
 shared-slice-copy-out-turn-at c =
     let at_address = c.before.before.before in
     let at-if2 = at_address.before in
     let at-if1 = at-if2.before in
-    group-in _ _ _ at-if1.before.requires at-if1.if1.false at-if2.if2.false at_address.address.ensures 2 (omega arith)
+    group_in _ _ _ at-if1.before.requires at-if1.if1.false at-if2.if2.false at_address.address.ensures 2 (omega arith)
 
 turn-at-requires : tie.Need-turn-at-requires
 turn-at-requires c κs = search rules
@@ -87,7 +87,7 @@ add-z c =
     let at_address = at-if3.before.before.before in
     let at-if2 = at_address.before in
     let at-if1 = at-if2.before in
-    omega (arith, low, group-small _ _ _ at-if1.before.requires at-if1.if1.false at-if2.if2.false at_address.address.ensures)
+    omega (arith, low, group_small _ _ _ at-if1.before.requires at-if1.if1.false at-if2.if2.false at_address.address.ensures)
 
 mul-z : tie.Need-overflow-mul-z
 mul-z c =
@@ -96,7 +96,7 @@ mul-z c =
     let at_address = at-if3.before.before.before in
     let at-if2 = at_address.before in
     let at-if1 = at-if2.before in
-    omega (arith, low, group-small _ _ _ at-if1.before.requires at-if1.if1.false at-if2.if2.false at_address.address.ensures)
+    omega (arith, low, group_small _ _ _ at-if1.before.requires at-if1.if1.false at-if2.if2.false at_address.address.ensures)
 
 shared-slice-copy-out-z : tie.Need-shared-slice-copy-out-z
 shared-slice-copy-out-z c =
@@ -105,7 +105,7 @@ shared-slice-copy-out-z c =
     let at_address = at-if3.before.before.before in
     let at-if2 = at_address.before in
     let at-if1 = at-if2.before in
-    group-in _ _ _ at-if1.before.requires at-if1.if1.false at-if2.if2.false at_address.address.ensures _ (omega (arith, low))
+    group_in _ _ _ at-if1.before.requires at-if1.if1.false at-if2.if2.false at_address.address.ensures _ (omega (arith, low))
 
 outside-requires-2 : tie.Need-outside-requires-2
 outside-requires-2 c κs = search rules
@@ -127,7 +127,7 @@ returns-4 c =
     let d : SFits w64 (get_or w (at + 3) (pos 0)) = record { sfits = at-d.d.given } in
     let n : SFits w64 (get_or w (at + 2) (pos 0)) = record { sfits = at-turn-at-arg.turn-at-arg.given } in
     let z : SFits w64 (get_or w (at + at-turn-at.turn_at.result.side) (pos 0)) = record { sfits = at-z.z.given } in
-    off-wild _ _ _ entry.requires at-if1.if1.false at-if2.if2.false at_address.address.ensures
+    off_wild _ _ _ entry.requires at-if1.if1.false at-if2.if2.false at_address.address.ensures
     (simp (to_z-of_z, n, d, entry.ranges.load) at at-turn-at.turn_at.ensures)
     (sym (simp (to_z-of_z, d) at at-outside.outside.ensures) ∙ at-if3.if3.false)
     (sym (simp (to_z-of_z, z) at c.before.outside2.ensures) ∙ c.if4.true)
@@ -158,8 +158,8 @@ returns-5 c =
     let turns = simp (to_z-of_z, n, d, entry.ranges.load) at at-turn-at.turn_at.ensures in
     let near = sym (simp (to_z-of_z, d) at at-outside.outside.ensures) ∙ at-if3.if3.false in (
       (simp (to_z-of_z, z) at c.up-to.ensures)
-          ∙ toward-there _ _ _ entry.requires at-if1.if1.false at-if2.if2.false at_address.address.ensures turns near,
-      mind-there _ _ _ entry.requires at-if1.if1.false at-if2.if2.false at_address.address.ensures turns near,
+          ∙ toward_there _ _ _ entry.requires at-if1.if1.false at-if2.if2.false at_address.address.ensures turns near,
+      mind_there _ _ _ entry.requires at-if1.if1.false at-if2.if2.false at_address.address.ensures turns near,
     )
 
 pub toward-spec : {M : Type 1} → statement M

@@ -10,9 +10,9 @@ use mir.Facts.{to_z-of_z}
 use Rattle.integers.specs.Magnitude.{fits}
 use Rattle.table.specs.Rep.{bit}
 use Rattle.prices.specs.declared.Position.{Position}
-use Rattle.prices.specs.Positions.{position_of, onOrAbove}
+use Rattle.prices.specs.Positions.{position_of, on_or_above}
 use Rattle.query.specs.declared.Turn.{Turn}
-use Rattle.query.specs.Readings.{clamped, clamped-product, crossingAgainst, keptAt, Turns}
+use Rattle.query.specs.Readings.{clamped, clamped_product, crossing_against, kept_at, Turns}
 use borrow.Author.Rules.{rules}
 use Rattle.query.proofs.turn_at.Statement.{statement}
 use Rattle.query.proofs.turn_at.Tie as tie
@@ -22,13 +22,13 @@ bit-low true = omega arith
 bit-low false = omega arith
 
 -- clamped factors, and what was read of their position
-turns : {x y : ℤ} {t : Turn} (q n d : ℤ) (s before : ℕ) → x ≡ clamped 1_000_000 q → y ≡ clamped 200_000 d → t.side ≡ bit (onOrAbove (position_of (x *ℤ y) n)) →
-    t.kept ≡ keptAt (position_of (x *ℤ y) n) s before → Turns q n d s before t
-unfolding crossingAgainst
+turns : {x y : ℤ} {t : Turn} (q n d : ℤ) (s before : ℕ) → x ≡ clamped 1_000_000 q → y ≡ clamped 200_000 d → t.side ≡ bit (on_or_above (position_of (x *ℤ y) n)) →
+    t.kept ≡ kept_at (position_of (x *ℤ y) n) s before → Turns q n d s before t
+unfolding crossing_against
 turns {x} {y} {t} q n d s before a b side kept =
-    let p : position_of (x *ℤ y) n ≡ crossingAgainst q n d = rw (a, b) in
-    let e : t.side ≡ bit (onOrAbove (crossingAgainst q n d)) = side ∙ ap (λ (z : Position). bit (onOrAbove z)) p in
-    record { side = e; low = omega (arith, e, bit-low (onOrAbove (crossingAgainst q n d))); kept = kept ∙ ap (λ (z : Position). keptAt z s before) p }
+    let p : position_of (x *ℤ y) n ≡ crossing_against q n d = rw (a, b) in
+    let e : t.side ≡ bit (on_or_above (crossing_against q n d)) = side ∙ ap (λ (z : Position). bit (on_or_above z)) p in
+    record { side = e; low = omega (arith, e, bit-low (on_or_above (crossing_against q n d))); kept = kept ∙ ap (λ (z : Position). kept_at z s before) p }
 
 bounded-requires : tie.Need-bounded-requires
 bounded-requires c κs = search rules
@@ -40,7 +40,7 @@ mul-point : tie.Need-overflow-mul-point
 mul-point c =
     let f : SFits w64 c.before.bounded.result = record { sfits = c.before.bounded.type-inv } in
     let g : SFits w64 c.bounded2.result = record { sfits = c.bounded2.type-inv } in
-    simp (to_z-of_z, f, g) (fits _ (omega (arith, clamped-product 999_999 199_999 _ _ c.before.bounded.ensures c.bounded2.ensures)))
+    simp (to_z-of_z, f, g) (fits _ (omega (arith, clamped_product 999_999 199_999 _ _ c.before.bounded.ensures c.bounded2.ensures)))
 
 side-of-requires : tie.Need-side-of-requires
 side-of-requires c κs = search rules
@@ -57,7 +57,7 @@ returns c =
     let x : SFits w64 at-bounded.bounded.result = record { sfits = at-bounded.bounded.type-inv } in
     let y : SFits w64 at-bounded2.bounded2.result = record { sfits = at-bounded2.bounded2.type-inv } in
     let p : SFits w64 (at-bounded.bounded.result *ℤ at-bounded2.bounded2.result) =
-    fits _ (omega (arith, clamped-product 999_999 199_999 _ _ at-bounded.bounded.ensures at-bounded2.bounded2.ensures)) in
+    fits _ (omega (arith, clamped_product 999_999 199_999 _ _ at-bounded.bounded.ensures at-bounded2.bounded2.ensures)) in
     turns _ _ _ _ _ (simp (to_z-of_z, f.load) at at-bounded.bounded.ensures) (simp (to_z-of_z, f.d) at at-bounded2.bounded2.ensures)
     (simp (to_z-of_z, x, y, p, f.n) at at-side-of.side-of.ensures) (simp (to_z-of_z, x, y, p, f.n) at c.kept_at.ensures)
 

@@ -4,7 +4,7 @@ use mir.Syntax.{w64}
 use mir.Val.{SFits}
 use mir.Facts.{to_z-of_z}
 use borrow.Author.Tests.{eqb-true, eqb-false}
-use Rattle.reading.specs.PartReading.{hands_end, hands-piece}
+use Rattle.reading.specs.PartReading.{hands_end, hands_piece}
 use borrow.Author.Rules.{rules}
 use Rattle.reading.proofs.part_piece.Statement.{statement}
 use Rattle.reading.proofs.part_piece.Tie as tie
@@ -44,7 +44,7 @@ returns-2 c =
     let fu : SFits w64 u.result = record { sfits = u.type-inv } in
     let fv : SFits w64 v.result = record { sfits = v.type-inv } in
     simp (to_z-of_z, fn, fu, fv)
-    (hands-piece at-envelope-root.envelope-root.ensures at-end.end.ensures at-if1.if1.false
+    (hands_piece at-envelope-root.envelope-root.ensures at-end.end.ensures at-if1.if1.false
     (λ e. eqb-true p z e) (λ e. eqb-false p z e) n.ensures u.ensures v.ensures)
 
 pub part-piece-spec : {M : Type 1} → statement M

@@ -1,6 +1,6 @@
 -- `recording::post_kept` meets its contract: an offer posted, and an entry more.
 use mir.Facts.{to_z-of_z}
-use Rattle.recording.specs.Undoing.{post-kept}
+use Rattle.recording.specs.Undoing.{post_kept}
 use borrow.Author.Rules.{rules}
 use Rattle.recording.proofs.post_kept.Statement.{statement}
 use Rattle.recording.proofs.post_kept.Tie as tie
@@ -22,7 +22,7 @@ returns c =
     let at-remember = c.before.before in
     let at-post-part = at-remember.before.before.before in
     let f = at-post-part.before.before.ranges in
-    post-kept _ (simp (to_z-of_z, f.number, f.rate, f.base) at at-post-part.post-part.ensures)
+    post_kept _ (simp (to_z-of_z, f.number, f.rate, f.base) at at-post-part.post-part.ensures)
     (simp (to_z-of_z, f.number, f.rate, f.base) at at-remember.remember.ensures) c.done.ensures
 
 pub post-kept-spec : {M : Type 1} → statement M

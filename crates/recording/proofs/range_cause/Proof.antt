@@ -1,6 +1,6 @@
 -- `recording::range_cause` meets its contract: by the three ranges, in the order of the trials.
 use mir.Facts.{to_z-of_z}
-use Rattle.recording.specs.Ranges.{number-out, rate-out, base-out, offer-in}
+use Rattle.recording.specs.Ranges.{number_out, rate_out, base_out, offer_in}
 use borrow.Author.Rules.{rules}
 use Rattle.recording.proofs.range_cause.Statement.{statement}
 use Rattle.recording.proofs.range_cause.Tie as tie
@@ -9,7 +9,7 @@ outside-requires : tie.Need-outside-requires
 outside-requires c κs = search rules
 
 returns : tie.Need-returns
-returns c = number-out _ _ _ (simp (to_z-of_z, c.before.before.ranges.number) at c.before.outside.ensures) c.if1.true
+returns c = number_out _ _ _ (simp (to_z-of_z, c.before.before.ranges.number) at c.before.outside.ensures) c.if1.true
 
 outside-requires-2 : tie.Need-outside-requires-2
 outside-requires-2 c κs = search rules
@@ -19,7 +19,7 @@ returns-2 c =
     let at-if1 = c.before.before in
     let at-outside = at-if1.before in
     let entry = at-outside.before in
-    rate-out _ _ _ (simp (to_z-of_z, entry.ranges.number) at at-outside.outside.ensures) at-if1.if1.false
+    rate_out _ _ _ (simp (to_z-of_z, entry.ranges.number) at at-outside.outside.ensures) at-if1.if1.false
     (simp (to_z-of_z, entry.ranges.rate) at c.before.outside2.ensures) c.if2.true
 
 outside-requires-3 : tie.Need-outside-requires-3
@@ -32,7 +32,7 @@ returns-3 c =
     let at-if1 = at-outside2.before in
     let at-outside = at-if1.before in
     let entry = at-outside.before in
-    base-out _ _ _ (simp (to_z-of_z, entry.ranges.number) at at-outside.outside.ensures) at-if1.if1.false
+    base_out _ _ _ (simp (to_z-of_z, entry.ranges.number) at at-outside.outside.ensures) at-if1.if1.false
     (simp (to_z-of_z, entry.ranges.rate) at at-outside2.outside2.ensures) at-if2.if2.false
     (simp (to_z-of_z, entry.ranges.base) at c.before.outside3.ensures) c.if3.true
 
@@ -43,7 +43,7 @@ returns-4 c =
     let at-if1 = at-outside2.before in
     let at-outside = at-if1.before in
     let entry = at-outside.before in
-    offer-in _ _ _ (simp (to_z-of_z, entry.ranges.number) at at-outside.outside.ensures) at-if1.if1.false
+    offer_in _ _ _ (simp (to_z-of_z, entry.ranges.number) at at-outside.outside.ensures) at-if1.if1.false
     (simp (to_z-of_z, entry.ranges.rate) at at-outside2.outside2.ensures) at-if2.if2.false
     (simp (to_z-of_z, entry.ranges.base) at c.before.outside3.ensures) c.if3.false
 

@@ -1,7 +1,7 @@
 -- `recording::take_back_part` meets its contract: by what the last entry tells.
 use mathlib.Core.Path.{refl}
 use mir.Facts.{to_z-of_z}
-use Rattle.recording.specs.Undoing.{takes-post, takes-withdrawal, takes-nothing}
+use Rattle.recording.specs.Undoing.{takes_post, takes_withdrawal, takes_nothing}
 use borrow.Author.Rules.{rules}
 use Rattle.recording.proofs.take_back_part.Statement.{statement}
 use Rattle.recording.proofs.take_back_part.Tie as tie
@@ -20,7 +20,7 @@ returns c =
     let at-undo-post = c.before in
     let at-if1 = at-undo-post.before.before.before in
     let e = at-if1.before.before.last in
-    takes-post e.ensures at-if1.if1.true (simp (to_z-of_z, e.ensures.fits.0) at at-undo-post.undo-post.ensures)
+    takes_post e.ensures at-if1.if1.true (simp (to_z-of_z, e.ensures.fits.0) at at-undo-post.undo-post.ensures)
 
 undo-withdrawal-requires : tie.Need-undo-withdrawal-requires
 undo-withdrawal-requires c κs = search rules
@@ -34,7 +34,7 @@ returns-2 c =
     let at-if2 = at-undo.before.before.before.before.before in
     let e = at-if2.before.before.before.before.last in
     let f = e.ensures.fits in
-    takes-withdrawal e.ensures at-if2.if2.true (simp (to_z-of_z, f.0, f.1, f.2) at at-undo.undo-withdrawal.ensures)
+    takes_withdrawal e.ensures at-if2.if2.true (simp (to_z-of_z, f.0, f.1, f.2) at at-undo.undo-withdrawal.ensures)
 
 same-length-3 : tie.Need-same-length-3
 same-length-3 c = search rules
@@ -42,7 +42,7 @@ same-length-3 c = search rules
 returns-3 : tie.Need-returns-3
 returns-3 c =
     let at-if1 = c.before.before in
-    takes-nothing at-if1.before.before.last.ensures at-if1.if1.false c.if2.false refl refl
+    takes_nothing at-if1.before.before.last.ensures at-if1.if1.false c.if2.false refl refl
 
 pub take-back-part-spec : {M : Type 1} → statement M
 take-back-part-spec =

@@ -1,8 +1,8 @@
 -- `recording::undo_withdrawal` meets its contract: by the tests of a post, a post, and an entry less.
 use mathlib.Core.Path.{refl}
 use mir.Facts.{to_z-of_z}
-use Rattle.recording.specs.Ranges.{range-offer}
-use Rattle.recording.specs.Undoing.{undo-range, undo-cause, undo-withdrawal}
+use Rattle.recording.specs.Ranges.{range_offer}
+use Rattle.recording.specs.Undoing.{undo_range, undo_cause, undo_withdrawal}
 use borrow.Author.Rules.{rules}
 use Rattle.recording.proofs.undo_withdrawal.Statement.{statement}
 use Rattle.recording.proofs.undo_withdrawal.Tie as tie
@@ -13,7 +13,7 @@ range-cause-requires c κs = search rules
 returns : tie.Need-returns
 returns c =
     let f = c.before.before.ranges in
-    undo-range _ _ _ (simp (to_z-of_z, f.number, f.rate, f.base) at c.before.range-cause.ensures) c.if1.true refl
+    undo_range _ _ _ (simp (to_z-of_z, f.number, f.rate, f.base) at c.before.range-cause.ensures) c.if1.true refl
 
 post-cause-requires : tie.Need-post-cause-requires
 post-cause-requires c κs = search rules
@@ -27,7 +27,7 @@ returns-2 c =
     let at-if1 = at-post-cause.before.before in
     let at-range = at-if1.before in
     let f = at-range.before.ranges in
-    undo-cause _ _ _ (simp (to_z-of_z, f.number, f.rate, f.base) at at-range.range-cause.ensures) at-if1.if1.false
+    undo_cause _ _ _ (simp (to_z-of_z, f.number, f.rate, f.base) at at-range.range-cause.ensures) at-if1.if1.false
     (simp (to_z-of_z, f.number) at at-post-cause.post-cause.ensures) c.if2.true refl
 
 post-part-requires : tie.Need-post-part-requires
@@ -36,7 +36,7 @@ post-part-requires c κs =
     let at-range = at-if1.before in
     let f = at-range.before.ranges in
     simp (to_z-of_z, f.number, f.rate, f.base)
-    (range-offer (simp (to_z-of_z, f.number, f.rate, f.base) at at-range.range-cause.ensures) at-if1.if1.false)
+    (range_offer (simp (to_z-of_z, f.number, f.rate, f.base) at at-range.range-cause.ensures) at-if1.if1.false)
 
 forget-requires : tie.Need-forget-requires
 forget-requires c κs = search rules
@@ -56,7 +56,7 @@ returns-3 c =
     let at-if1 = at-post-cause.before.before in
     let at-range = at-if1.before in
     let f = at-range.before.ranges in
-    undo-withdrawal _ _ _ (simp (to_z-of_z, f.number, f.rate, f.base) at at-range.range-cause.ensures) at-if1.if1.false
+    undo_withdrawal _ _ _ (simp (to_z-of_z, f.number, f.rate, f.base) at at-range.range-cause.ensures) at-if1.if1.false
     (simp (to_z-of_z, f.number) at at-post-cause.post-cause.ensures) at-if2.if2.false
     (simp (to_z-of_z, f.number, f.rate, f.base) at at-post-part.post-part.ensures) at_forget.forget.ensures c.done.ensures
 

@@ -2,7 +2,7 @@
 use mir.Syntax.{w64}
 use mir.Val.{SFits}
 use mir.Facts.{to_z-of_z}
-use Rattle.recording.specs.Undoing.{withdraw-kept}
+use Rattle.recording.specs.Undoing.{withdraw_kept}
 use borrow.Author.Rules.{rules}
 use Rattle.recording.proofs.withdraw_kept.Statement.{statement}
 use Rattle.recording.proofs.withdraw_kept.Tie as tie
@@ -34,7 +34,7 @@ returns c =
     let f = at-rate.before.before.ranges in
     let r : SFits w64 at-rate.get.result = record { sfits = at-rate.get.type-inv } in
     let z : SFits w64 at_base.get2.result = record { sfits = at_base.get2.type-inv } in
-    withdraw-kept _ _ _ at-rate.get.ensures at_base.get2.ensures (simp (to_z-of_z, f.number) at at-withdraw-part.withdraw-part.ensures)
+    withdraw_kept _ _ _ at-rate.get.ensures at_base.get2.ensures (simp (to_z-of_z, f.number) at at-withdraw-part.withdraw-part.ensures)
     (simp (to_z-of_z, f.number, r, z) at at-remember.remember.ensures) c.done.ensures
 
 pub withdraw-kept-spec : {M : Type 1} → statement M

@@ -4,7 +4,7 @@ use mir.Syntax.{w64}
 use mir.Val.{SFits, to_z, of_z}
 use mir.Facts.{to_z-of_z}
 use Rattle.replay.specs.Promises.{unopened}
-use Rattle.replay.specs.Resumed.{replays-none, replays-opened}
+use Rattle.replay.specs.Resumed.{replays_none, replays_opened}
 use borrow.Author.Rules.{rules}
 use Rattle.replay.proofs.replay.Statement.{statement}
 use Rattle.replay.proofs.replay.Tie as tie
@@ -26,7 +26,7 @@ returns c =
     let f = entry.ranges in
     let z : SFits w64 at-opening.opening.given.0.0 = record { sfits = c.known-told.given.0.1 } in
     let same : to_z w64 (of_z w64 at-opening.opening.given.0.0) ≡ at-opening.opening.given.0.0 = simp (to_z-of_z, z) in
-    replays-none (simp (to_z-of_z, f.capacity) at at_table.before.«open».ensures) entry.args.calls.now entry.args.answers.now
+    replays_none (simp (to_z-of_z, f.capacity) at at_table.before.«open».ensures) entry.args.calls.now entry.args.answers.now
     at-opening.opening.given.1 (ap unopened same)
 
 enum_told : tie.Need-enum-told
@@ -47,7 +47,7 @@ returns-2 c =
     let at-enum-told = at-resume.before.before.before in
     let at_table = at-enum-told.before.before in
     let entry = at_table.before.before.before in
-    let f = entry.ranges in replays-opened (simp (to_z-of_z, f.capacity) at at_table.before.«open».ensures) at-enum-told.enum_told.given.1
+    let f = entry.ranges in replays_opened (simp (to_z-of_z, f.capacity) at at_table.before.«open».ensures) at-enum-told.enum_told.given.1
     at-resume.resume.ensures
 
 pub replay-spec : {M : Type 1} → statement M

@@ -4,7 +4,7 @@ use native.Mathlib.Omega.{arith}
 use lib.ListN.{length}
 use mathlib.Core.Path.{refl}
 use borrow.Author.Rules.{rules}
-use Rattle.replay.specs.Running.{Going, going-none, turn-ends, turn-goes}
+use Rattle.replay.specs.Running.{Going, going_none, turn_ends, turn_goes}
 use Rattle.replay.proofs.run.Statement.{statement}
 use Rattle.replay.proofs.run.Tie as tie
 
@@ -15,7 +15,7 @@ abbrev decreases-loop : tie.decreases-loop
 decreases-loop table₀ start calls answers₀ n₀ at₀ table answers n at = length calls - 4 * n
 
 loop-holds : tie.Need-loop-init invariant-loop decreases-loop
-loop-holds c = going-none _ _ _ _
+loop-holds c = going_none _ _ _ _
 
 mul-one-call : tie.Need-overflow-mul-one-call invariant-loop decreases-loop
 mul-one-call c = search rules
@@ -58,7 +58,7 @@ returns c =
     let at-one-call = c.before.before.before in
     let at-one-call-arg3 = at-one-call.before in
     let at-loop = at-one-call-arg3.before.before.before in
-    turn-ends _ _ at-loop.loop.invariant at-one-call.one-call.ensures refl c.if1.true
+    turn_ends _ _ at-loop.loop.invariant at-one-call.one-call.ensures refl c.if1.true
 
 add-n : tie.Need-overflow-add-n invariant-loop decreases-loop
 add-n c = search rules
@@ -68,21 +68,21 @@ add_at c =
     let at-one-call = c.before.before.before in
     let at-one-call-arg3 = at-one-call.before in
     let at-loop = at-one-call-arg3.before.before.before in
-    omega (arith, (turn-goes _ _ at-loop.loop.invariant at-one-call.one-call.ensures refl c.if1.false).placed)
+    omega (arith, (turn_goes _ _ at-loop.loop.invariant at-one-call.one-call.ensures refl c.if1.false).placed)
 
 loop-less : tie.Need-loop-smaller invariant-loop decreases-loop
 loop-less c =
     let at-one-call = c.before.before.before in
     let at-one-call-arg3 = at-one-call.before in
     let at-loop = at-one-call-arg3.before.before.before in
-    omega (arith, (turn-goes _ _ at-loop.loop.invariant at-one-call.one-call.ensures refl c.if1.false).words)
+    omega (arith, (turn_goes _ _ at-loop.loop.invariant at-one-call.one-call.ensures refl c.if1.false).words)
 
 loop-again : tie.Need-loop-preserved invariant-loop decreases-loop
 loop-again c =
     let at-one-call = c.before.before.before in
     let at-one-call-arg3 = at-one-call.before in
     let at-loop = at-one-call-arg3.before.before.before in
-    turn-goes _ _ at-loop.loop.invariant at-one-call.one-call.ensures refl c.if1.false
+    turn_goes _ _ at-loop.loop.invariant at-one-call.one-call.ensures refl c.if1.false
 
 pub run_spec : {M : Type 1} → statement M
 run_spec =

@@ -1,6 +1,6 @@
 -- `replay_call::do_take_back` meets its contract: what the call promises, and its answer written.
 use mathlib.Core.Path.{refl}
-use Rattle.history.specs.History.{taking-back}
+use Rattle.history.specs.History.{taking_back}
 use Rattle.replay_call.specs.Performing.{changes}
 use borrow.Author.Rules.{rules}
 use Rattle.replay_call.proofs.do_take_back.Statement.{statement}
@@ -23,7 +23,7 @@ returns c =
     let at-tell-update = c.before in
     let at-take-back = at-tell-update.before.before.before in
     let entry = at-take-back.before.before in
-    changes entry.args.out.now entry.requires taking-back refl at-take-back.take_back.ensures at-tell-update.tell-update.ensures
+    changes entry.args.out.now entry.requires taking_back refl at-take-back.take_back.ensures at-tell-update.tell-update.ensures
 
 pub do-take-back-spec : {M : Type 1} → statement M
 do-take-back-spec =

@@ -1,7 +1,7 @@
 -- `replay_call::one_call` meets its contract: by what the next call is.
 use mathlib.Core.Path.{sym, ◌∙◌}
 use Rattle.replay_words.specs.Decoding.{asked}
-use Rattle.replay_call.specs.Performing.{step-none, step-some}
+use Rattle.replay_call.specs.Performing.{step_none, step_some}
 use borrow.Author.Rules.{rules}
 use Rattle.replay_call.proofs.one_call.Statement.{statement}
 use Rattle.replay_call.proofs.one_call.Tie as tie
@@ -28,12 +28,12 @@ returns c =
     let at-fits2 = at-if1.before in
     let at-next-call = at-fits2.before in
     let entry = at-next-call.before in
-    let a = entry.args in step-some a.calls.now a.out.now _ (asked at-next-call.next-call.result) at-next-call.next-call.ensures
+    let a = entry.args in step_some a.calls.now a.out.now _ (asked at-next-call.next-call.result) at-next-call.next-call.ensures
     (sym at-fits2.fits2.ensures ∙ at-if1.if1.true) at-perform.perform.ensures
 
 returns-2 : tie.Need-returns-2
 returns-2 c = let a = c.before.before.before.args in
-    step-none a.calls.now a.out.now c.before.before.next-call.ensures (sym c.before.fits2.ensures ∙ c.if1.false)
+    step_none a.calls.now a.out.now c.before.before.next-call.ensures (sym c.before.fits2.ensures ∙ c.if1.false)
 
 pub one-call-spec : {M : Type 1} → statement M
 one-call-spec =

@@ -4,8 +4,8 @@ use mathlib.Core.Logic.{⊎_elim}
 use native.Mathlib.Omega.{arith}
 use mir.Facts.{to_z-of_z}
 use Rattle.plain.specs.Book.{listing}
-use Rattle.replay_words.specs.Decoding.{is, is-not, short_back, short-argument, short-withdraw, short-query, short_none, short-listing}
-use Rattle.replay_words.specs.Decoding.{short-largest, no_room, some-room}
+use Rattle.replay_words.specs.Decoding.{is, is_not, short_back, short_argument, short_withdraw, short_query, short_none, short_listing}
+use Rattle.replay_words.specs.Decoding.{short_largest, no_room, some_room}
 use Rattle.replay_words.proofs.read_short.Statement.{statement}
 use Rattle.replay_words.proofs.read_short.Tie as tie
 
@@ -21,14 +21,14 @@ returns-2 c =
     let at-if1 = c.before in
     let a = at-if1.before.args in
     let f = at-if1.before.ranges in
-    short-argument a.code a.a (is f.code (omega arith) at-if1.if1.true) (is-not a.a 0 c.if2.false)
+    short_argument a.code a.a (is f.code (omega arith) at-if1.if1.true) (is_not a.a 0 c.if2.false)
 
 returns-3 : tie.Need-returns-3
 returns-3 c =
     let at-if1 = c.before in
     let a = at-if1.before.args in
     let f = at-if1.before.ranges in
-    simp (to_z-of_z, f.a) (short-withdraw a.code a.a (is-not a.code 5 at-if1.if1.false) (is f.code (omega arith) c.if3.true))
+    simp (to_z-of_z, f.a) (short_withdraw a.code a.a (is_not a.code 5 at-if1.if1.false) (is f.code (omega arith) c.if3.true))
 
 returns-4 : tie.Need-returns-4
 returns-4 c =
@@ -37,7 +37,7 @@ returns-4 c =
     let a = at-if1.before.args in
     let f = at-if1.before.ranges in
     simp (to_z-of_z, f.a)
-    (short-query a.code a.a (is-not a.code 5 at-if1.if1.false) (is-not a.code 2 at-if3.if3.false)
+    (short_query a.code a.a (is_not a.code 5 at-if1.if1.false) (is_not a.code 2 at-if3.if3.false)
     (is f.code (omega arith) c.if4.true))
 
 returns-5 : tie.Need-returns-5
@@ -48,8 +48,8 @@ returns-5 c =
     let a = at-if1.before.args in
     let f = at-if1.before.ranges in
     simp (to_z-of_z, f.a)
-    (short-largest a.code a.a (is-not a.code 5 at-if1.if1.false) (is-not a.code 2 at-if3.if3.false)
-    (is-not a.code 3 at-if4.if4.false) (is f.code (omega arith) c.if5.true))
+    (short_largest a.code a.a (is_not a.code 5 at-if1.if1.false) (is_not a.code 2 at-if3.if3.false)
+    (is_not a.code 3 at-if4.if4.false) (is f.code (omega arith) c.if5.true))
 
 returns-6 : tie.Need-returns-6
 returns-6 c =
@@ -58,12 +58,12 @@ returns-6 c =
     let at-if1 = at-if3.before in
     let a = at-if1.before.args in
     let f = at-if1.before.ranges in
-    let o = is-not a.code 5 at-if1.if1.false in
-    let n = is-not a.code 2 at-if3.if3.false in
-    let m = is-not a.code 3 at-if4.if4.false in
-    let l = is-not a.code 7 c.before.if5.false in
-    ⊎_elim (λ y. short_none a.code a.a o n m l (is-not a.code 4 y.taken))
-    (λ y. no_room listing a.a (simp (to_z-of_z, f.a) at y.1.taken) ∙ short-listing a.code a.a o n m l (is f.code (omega arith) y.0.left))
+    let o = is_not a.code 5 at-if1.if1.false in
+    let n = is_not a.code 2 at-if3.if3.false in
+    let m = is_not a.code 3 at-if4.if4.false in
+    let l = is_not a.code 7 c.before.if5.false in
+    ⊎_elim (λ y. short_none a.code a.a o n m l (is_not a.code 4 y.taken))
+    (λ y. no_room listing a.a (simp (to_z-of_z, f.a) at y.1.taken) ∙ short_listing a.code a.a o n m l (is f.code (omega arith) y.0.left))
     c.if6.branch
 
 cast-t7 : tie.Need-overflow-cast-t7
@@ -73,7 +73,7 @@ cast-t7 c =
     let entry = at-if3.before.before in
     let a = entry.args in
     let f = entry.ranges in
-    simp (to_z-of_z, f.a) (some-room listing a.a f.a (simp (to_z-of_z, f.a) at c.if7.false)).0
+    simp (to_z-of_z, f.a) (some_room listing a.a f.a (simp (to_z-of_z, f.a) at c.if7.false)).0
 
 returns-7 : tie.Need-returns-7
 returns-7 c =
@@ -83,12 +83,12 @@ returns-7 c =
     let at-if1 = at-if3.before in
     let a = at-if1.before.args in
     let f = at-if1.before.ranges in
-    let o = is-not a.code 5 at-if1.if1.false in
-    let n = is-not a.code 2 at-if3.if3.false in
-    let m = is-not a.code 3 at-if4.if4.false in
-    let l = is-not a.code 7 at-if5.if5.false in
+    let o = is_not a.code 5 at-if1.if1.false in
+    let n = is_not a.code 2 at-if3.if3.false in
+    let m = is_not a.code 3 at-if4.if4.false in
+    let l = is_not a.code 7 at-if5.if5.false in
     simp (to_z-of_z, f.a)
-    ((some-room listing a.a f.a (simp (to_z-of_z, f.a) at c.if7.false)).1 ∙ short-listing a.code a.a o n m l
+    ((some_room listing a.a f.a (simp (to_z-of_z, f.a) at c.if7.false)).1 ∙ short_listing a.code a.a o n m l
     (is f.code (omega arith) c.before.if6.false))
 
 pub read-short-spec : {M : Type 1} → statement M

@@ -6,7 +6,7 @@ use mir.Syntax.{w64}
 use mir.Val.{SFits}
 use mir.Facts.{to_z-of_z}
 use Rattle.promises.specs.declared.Listed.{Listed}
-use Rattle.replay_words.specs.Encoding.{listedWords}
+use Rattle.replay_words.specs.Encoding.{listed_words}
 use borrow.Author.Rules.{rules}
 use Rattle.replay_words.proofs.tell_listed.Statement.{statement}
 use Rattle.replay_words.proofs.tell_listed.Tie as tie
@@ -35,7 +35,7 @@ returns c =
     let v = at_told.told.given.0 in
     let k = at-known-told.known-told.given in
     let f0 : SFits w64 v.0 = record { sfits = k.0.1 } in
-    simp (to_z-of_z, f0) at at-put-five.put_five.ensures ∙ ap (λ (u : Listed). listedWords u ++ drop 5 entry.args.out.now)
+    simp (to_z-of_z, f0) at at-put-five.put_five.ensures ∙ ap (λ (u : Listed). listed_words u ++ drop 5 entry.args.out.now)
     (sym at_told.told.given.1)
 
 same-length-2 : tie.Need-same-length-2
@@ -50,7 +50,7 @@ returns-2 c =
     let v = at-told2.told2.given.0 in
     let k = at-known-told2.known-told2.given in
     let f0 : SFits w64 v.0 = record { sfits = k.0.1 } in
-    simp (to_z-of_z, f0) at at-put-five2.put-five2.ensures ∙ ap (λ (u : Listed). listedWords u ++ drop 5 entry.args.out.now)
+    simp (to_z-of_z, f0) at at-put-five2.put-five2.ensures ∙ ap (λ (u : Listed). listed_words u ++ drop 5 entry.args.out.now)
     (sym at-told2.told2.given.1)
 
 pub tell-listed-spec : {M : Type 1} → statement M

@@ -1,8 +1,8 @@
 -- `reporting::report` meets its contract: by its guards, and then what the part tells.
 use native.Mathlib.Omega.{arith}
 use mir.Facts.{to_z-of_z}
-use Rattle.promises.specs.LentPart.{book-start}
-use Rattle.reporting.specs.Telling.{report-no-book, report-price, report-load, report-told}
+use Rattle.promises.specs.LentPart.{book_start}
+use Rattle.reporting.specs.Telling.{report_no_book, report_price, report_load, report_told}
 use borrow.Author.Rules.{rules}
 use Rattle.reporting.proofs.report.Statement.{statement}
 use Rattle.reporting.proofs.report.Tie as tie
@@ -13,7 +13,7 @@ no-book-requires c κs = search rules
 returns : tie.Need-returns
 returns c =
     let args = c.before.before.args in
-    report-no-book _ _ args.start args.table.now args.out.now c.before.no-book.ensures c.if1.true
+    report_no_book _ _ args.start args.table.now args.out.now c.before.no-book.ensures c.if1.true
 
 outside-requires : tie.Need-outside-requires
 outside-requires c κs = search rules
@@ -24,7 +24,7 @@ returns-2 c =
     let at-no-book = at-if1.before in
     let args = at-no-book.before.args in
     let fits = at-no-book.before.ranges in
-    report-price _ _ args.start args.table.now args.out.now at-no-book.no-book.ensures at-if1.if1.false
+    report_price _ _ args.start args.table.now args.out.now at-no-book.no-book.ensures at-if1.if1.false
     (simp (to_z-of_z, fits.price) at c.before.outside.ensures) c.if2.true
 
 outside-requires-2 : tie.Need-outside-requires-2
@@ -38,7 +38,7 @@ returns-3 c =
     let at-no-book = at-if1.before in
     let args = at-no-book.before.args in
     let fits = at-no-book.before.ranges in
-    report-load _ _ args.start args.table.now args.out.now at-no-book.no-book.ensures at-if1.if1.false
+    report_load _ _ args.start args.table.now args.out.now at-no-book.no-book.ensures at-if1.if1.false
     (simp (to_z-of_z, fits.price) at at-outside.outside.ensures) at-if2.if2.false
     (simp (to_z-of_z, fits.load) at c.before.outside2.ensures) c.if3.true
 
@@ -46,19 +46,19 @@ mul-tell : tie.Need-overflow-mul-tell
 mul-tell c =
     let at-if1 = c.before.before.before.before in
     let args = at-if1.before.before.args in
-    omega (arith, book-start args.table.now args.start at-if1.before.no-book.ensures at-if1.if1.false)
+    omega (arith, book_start args.table.now args.start at-if1.before.no-book.ensures at-if1.if1.false)
 
 sub-tell : tie.Need-overflow-sub-tell
 sub-tell c =
     let at-if1 = c.before.before.before.before in
     let args = at-if1.before.before.args in
-    omega (arith, book-start args.table.now args.start at-if1.before.no-book.ensures at-if1.if1.false)
+    omega (arith, book_start args.table.now args.start at-if1.before.no-book.ensures at-if1.if1.false)
 
 part-tell-start : tie.Need-slice-bounds-tell-start
 part-tell-start c =
     let at-if1 = c.before.before.before.before in
     let args = at-if1.before.before.args in
-    omega (arith, book-start args.table.now args.start at-if1.before.no-book.ensures at-if1.if1.false)
+    omega (arith, book_start args.table.now args.start at-if1.before.no-book.ensures at-if1.if1.false)
 
 part-tell-end : tie.Need-slice-bounds-tell-end
 part-tell-end c = search rules
@@ -80,7 +80,7 @@ returns-4 c =
     let at-no-book = at-if1.before in
     let args = at-no-book.before.args in
     let fits = at-no-book.before.ranges in
-    report-told _ _ args.start args.table.now args.out.now at-no-book.no-book.ensures at-if1.if1.false
+    report_told _ _ args.start args.table.now args.out.now at-no-book.no-book.ensures at-if1.if1.false
     (simp (to_z-of_z, fits.price) at at-outside.outside.ensures) at-if2.if2.false
     (simp (to_z-of_z, fits.load) at at-outside2.outside2.ensures) at-if3.if3.false
     (simp (to_z-of_z, fits.load, fits.price) at at-tell.tell.ensures)

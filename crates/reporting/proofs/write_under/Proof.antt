@@ -2,7 +2,7 @@
 use native.Mathlib.Omega.{arith}
 use mir.Facts.{to_z-of_z}
 use borrow.Author.Tests.{not-true}
-use Rattle.reporting.specs.Counting.{under-empty, under_none, under-lost, under-astray, under_all}
+use Rattle.reporting.specs.Counting.{under_empty, under_none, under_lost, under_astray, under_all}
 use borrow.Author.Rules.{rules}
 use Rattle.reporting.proofs.write_under.Statement.{statement}
 use Rattle.reporting.proofs.write_under.Tie as tie
@@ -11,7 +11,7 @@ offers-root-requires : tie.Need-offers-root-requires
 offers-root-requires c κs = search rules
 
 returns : tie.Need-returns
-returns c = under-empty c.before.offers-root.ensures c.if1.true
+returns c = under_empty c.before.offers-root.ensures c.if1.true
 
 envelope-root-requires : tie.Need-envelope-root-requires
 envelope-root-requires c κs = search rules
@@ -45,7 +45,7 @@ returns-3 c =
     let at-if1 = at-envelope-root.before in
     let at-offers-root = at-if1.before in
     let fits = at-offers-root.before.ranges in
-    under-lost at-offers-root.offers-root.ensures at-if1.if1.false at-envelope-root.envelope-root.ensures
+    under_lost at-offers-root.offers-root.ensures at-if1.if1.false at-envelope-root.envelope-root.ensures
     (simp (to_z-of_z, fits.load) at at-descend.descend.ensures) (simp (to_z-of_z, fits.load, fits.price) at at-gather.gather.ensures) c.if3.true
 
 spread-requires : tie.Need-spread-requires
@@ -60,7 +60,7 @@ returns-4 c =
     let at-if1 = at-envelope-root.before in
     let at-offers-root = at-if1.before in
     let fits = at-offers-root.before.ranges in
-    under-astray at-offers-root.offers-root.ensures at-if1.if1.false at-envelope-root.envelope-root.ensures
+    under_astray at-offers-root.offers-root.ensures at-if1.if1.false at-envelope-root.envelope-root.ensures
     (simp (to_z-of_z, fits.load) at at-descend.descend.ensures) (simp (to_z-of_z, fits.load, fits.price) at at-gather.gather.ensures)
     (simp (to_z-of_z, fits.load, fits.price) at at-spread.spread.ensures) c.if4.true
 

@@ -1,6 +1,6 @@
 -- `search::choose` meets its contract: each of its answers is one of the machine's cases.
 use mathlib.Core.Path.{sym, ◌∙◌}
-use Rattle.search.specs.Choices.{chooses-mine, chooses-theirs, chooses-done, chooses-on}
+use Rattle.search.specs.Choices.{chooses_mine, chooses_theirs, chooses_done, chooses_on}
 use borrow.Author.Rules.{rules}
 use Rattle.search.proofs.choose.Statement.{statement}
 use Rattle.search.proofs.choose.Tie as tie
@@ -23,7 +23,7 @@ recede-requires c κs = search rules
 returns : tie.Need-returns
 returns c =
     let compared = c.before.before.before in
-    chooses-mine compared.before.before.point.ensures compared.before.point2.ensures
+    chooses_mine compared.before.before.point.ensures compared.before.point2.ensures
     (sym compared.above.ensures ∙ c.before.before.if1.true) (rw c.before.top.ensures at c.recede.ensures)
 
 above-requires-2 : tie.Need-above-requires-2
@@ -39,7 +39,7 @@ returns-2 : tie.Need-returns-2
 returns-2 c =
     let second = c.before.before.before in
     let compared = second.before.before in
-    chooses-theirs compared.before.before.point.ensures compared.before.point2.ensures
+    chooses_theirs compared.before.before.point.ensures compared.before.point2.ensures
     (sym compared.above.ensures ∙ second.before.if1.false) (sym second.above2.ensures ∙ c.before.before.if2.true)
     (rw c.before.top2.ensures at c.recede2.ensures)
 
@@ -55,7 +55,7 @@ returns-3 c =
     let at_above = at-if1.before in
     let at-point2 = at_above.before in
     let at-point = at-point2.before in
-    chooses-done at-point.point.ensures at-point2.point2.ensures (sym at_above.above.ensures ∙ at-if1.if1.false)
+    chooses_done at-point.point.ensures at-point2.point2.ensures (sym at_above.above.ensures ∙ at-if1.if1.false)
     (sym at-above2.above2.ensures ∙ at-if2.if2.false) (sym at-both-leaves.both-leaves.ensures ∙ c.if3.true)
 
 returns-4 : tie.Need-returns-4
@@ -67,7 +67,7 @@ returns-4 c =
     let at_above = at-if1.before in
     let at-point2 = at_above.before in
     let at-point = at-point2.before in
-    chooses-on at-point.point.ensures at-point2.point2.ensures (sym at_above.above.ensures ∙ at-if1.if1.false)
+    chooses_on at-point.point.ensures at-point2.point2.ensures (sym at_above.above.ensures ∙ at-if1.if1.false)
     (sym at-above2.above2.ensures ∙ at-if2.if2.false) (sym at-both-leaves.both-leaves.ensures ∙ c.if3.false)
 
 pub choose_spec : {M : Type 1} → statement M

@@ -2,7 +2,7 @@
 use Prim.Native.Nat.{◌≤◌, ◌-◌}
 use native.Mathlib.Omega.{arith}
 use borrow.Author.Rules.{rules}
-use Rattle.search.specs.Runs.{Going, going_start, going_on, going_done, going-over}
+use Rattle.search.specs.Runs.{Going, going_start, going_on, going_done, going_over}
 use Rattle.search.proofs.meet_in.Statement.{statement}
 use Rattle.search.proofs.meet_in.Tie as tie
 
@@ -34,7 +34,7 @@ loop-again : tie.Need-loop-preserved invariant-loop decreases-loop
 loop-again c = (omega arith, going_on c.before.before.before.loop.invariant.1 c.before.step.ensures c.if1.false)
 
 returns-2 : tie.Need-returns-2 invariant-loop decreases-loop
-returns-2 c = going-over c.before.loop.invariant.1 (omega arith) (omega arith)
+returns-2 c = going_over c.before.loop.invariant.1 (omega arith) (omega arith)
 
 pub meet-in-spec : {M : Type 1} → statement M
 meet-in-spec =

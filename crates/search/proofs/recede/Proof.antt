@@ -1,6 +1,6 @@
 -- `search::recede` meets its contract: each of its answers is one line of case 1, or of its mirror image.
 use mathlib.Core.Path.{sym, ◌∙◌}
-use Rattle.search.specs.Choices.{recedes-bottom, recedes-leaf, recedes-mine, recedes-theirs, recedes-neither}
+use Rattle.search.specs.Choices.{recedes_bottom, recedes_leaf, recedes_mine, recedes_theirs, recedes_neither}
 use borrow.Author.Rules.{rules}
 use Rattle.search.proofs.recede.Statement.{statement}
 use Rattle.search.proofs.recede.Tie as tie
@@ -9,13 +9,13 @@ pair-requires : tie.Need-pair-requires
 pair-requires c κs = search rules
 
 returns : tie.Need-returns
-returns c = recedes-bottom c.pair.ensures c.before.if1.true
+returns c = recedes_bottom c.pair.ensures c.before.if1.true
 
 pair-requires-2 : tie.Need-pair-requires-2
 pair-requires-2 c κs = search rules
 
 returns-2 : tie.Need-returns-2
-returns-2 c = recedes-leaf c.before.before.if1.false c.pair2.ensures c.before.if2.true
+returns-2 c = recedes_leaf c.before.before.if1.false c.pair2.ensures c.before.if2.true
 
 inner-slot-requires : tie.Need-inner-slot-requires
 inner-slot-requires c κs = search rules
@@ -33,7 +33,7 @@ returns-3 c =
     let at-inner-slot = at_above.before in
     let at-if2 = at-inner-slot.before in
     let at-if1 = at-if2.before in
-    recedes-mine at-if1.if1.false at-if2.if2.false at-inner-slot.inner-slot.ensures c.pair3.ensures
+    recedes_mine at-if1.if1.false at-if2.if2.false at-inner-slot.inner-slot.ensures c.pair3.ensures
     (sym at_above.above.ensures ∙ at-if3.if3.true)
 
 above-requires-2 : tie.Need-above-requires-2
@@ -51,7 +51,7 @@ returns-4 c =
     let at-inner-slot = at_above.before in
     let at-if2 = at-inner-slot.before in
     let at-if1 = at-if2.before in
-    recedes-theirs at-if1.if1.false at-if2.if2.false at-inner-slot.inner-slot.ensures (sym at_above.above.ensures ∙ at-if3.if3.false)
+    recedes_theirs at-if1.if1.false at-if2.if2.false at-inner-slot.inner-slot.ensures (sym at_above.above.ensures ∙ at-if3.if3.false)
     c.pair4.ensures (sym at-above2.above2.ensures ∙ at-if4.if4.true)
 
 pair-requires-5 : tie.Need-pair-requires-5
@@ -66,7 +66,7 @@ returns-5 c =
     let at-inner-slot = at_above.before in
     let at-if2 = at-inner-slot.before in
     let at-if1 = at-if2.before in
-    recedes-neither at-if1.if1.false at-if2.if2.false at-inner-slot.inner-slot.ensures (sym at_above.above.ensures ∙ at-if3.if3.false)
+    recedes_neither at-if1.if1.false at-if2.if2.false at-inner-slot.inner-slot.ensures (sym at_above.above.ensures ∙ at-if3.if3.false)
     c.pair5.ensures (sym at-above2.above2.ensures ∙ at-if4.if4.false)
 
 pub recede-spec : {M : Type 1} → statement M

@@ -1,8 +1,8 @@
 -- `search::step` meets its contract: the action chosen for each walk is what the walk does.
 use mathlib.Core.Path.{refl, sym}
 use mathlib.Core.Logic.{⊎_elim}
-use Rattle.walks.specs.Actions.{noted-by, full_by, noted-top, stays-noted}
-use Rattle.search.specs.SearchSteps.{uOf, vOf}
+use Rattle.walks.specs.Actions.{noted_by, full_by, noted_top, stays_noted}
+use Rattle.search.specs.SearchSteps.{u_of, v_of}
 use borrow.Author.Rules.{rules}
 use Rattle.search.proofs.step.Statement.{statement}
 use Rattle.search.proofs.step.Tie as tie
@@ -28,13 +28,13 @@ returns c =
     let noted-v = chosen.before.before.before in
     let noted-u = noted-v.before in
     let s = noted-u.before.before.before.args.s in
-    let nu = ⊎_elim (λ y. noted-by {st = s.us} {d = s.ud} {x = s.u} y.0.taken y.1) (λ y. full_by y.0.left y.1) noted-u.if1.branch in
-    let nv = ⊎_elim (λ y. noted-by {st = s.vs} {d = s.vd} {x = s.v} y.0.taken y.1) (λ y. full_by y.0.left y.1) noted-v.if2.branch in
-    let tu = noted-top {h = uOf s} nu refl in
-    let tv = noted-top {h = vOf s} nv refl in
+    let nu = ⊎_elim (λ y. noted_by {st = s.us} {d = s.ud} {x = s.u} y.0.taken y.1) (λ y. full_by y.0.left y.1) noted-u.if1.branch in
+    let nv = ⊎_elim (λ y. noted_by {st = s.vs} {d = s.vd} {x = s.v} y.0.taken y.1) (λ y. full_by y.0.left y.1) noted-v.if2.branch in
+    let tu = noted_top {h = u_of s} nu refl in
+    let tv = noted_top {h = v_of s} nv refl in
     let stay = chosen.choose.ensures.stays c.if3.true in
     chosen.choose.ensures.next s.us s.ud s.vs s.vd s.done tu tv _ (sym c.if3.true)
-    (stays-noted _ _ _ stay.0 nu) (stays-noted _ _ _ stay.1 nv)
+    (stays_noted _ _ _ stay.0 nu) (stays_noted _ _ _ stay.1 nv)
 
 act-requires : tie.Need-act-requires
 act-requires c κs = search rules
@@ -50,10 +50,10 @@ returns-2 c =
     let noted-v = chosen.before.before.before in
     let noted-u = noted-v.before in
     let s = noted-u.before.before.before.args.s in
-    let nu = ⊎_elim (λ y. noted-by {st = s.us} {d = s.ud} {x = s.u} y.0.taken y.1) (λ y. full_by y.0.left y.1) noted-u.if1.branch in
-    let nv = ⊎_elim (λ y. noted-by {st = s.vs} {d = s.vd} {x = s.v} y.0.taken y.1) (λ y. full_by y.0.left y.1) noted-v.if2.branch in
-    let tu = noted-top {h = uOf s} nu refl in
-    let tv = noted-top {h = vOf s} nv refl in
+    let nu = ⊎_elim (λ y. noted_by {st = s.us} {d = s.ud} {x = s.u} y.0.taken y.1) (λ y. full_by y.0.left y.1) noted-u.if1.branch in
+    let nv = ⊎_elim (λ y. noted_by {st = s.vs} {d = s.vd} {x = s.v} y.0.taken y.1) (λ y. full_by y.0.left y.1) noted-v.if2.branch in
+    let tu = noted_top {h = u_of s} nu refl in
+    let tv = noted_top {h = v_of s} nv refl in
     chosen.choose.ensures.next s.us s.ud s.vs s.vd s.done tu tv _ (sym going.if3.false)
     (acted-u.act.ensures.moved nu tu) (c.act2.ensures.moved nv tv)
 

@@ -5,8 +5,8 @@ use mir.Val.{SFits}
 use mir.Facts.{to_z-of_z}
 use Rattle.lists.specs.Bools.{passed}
 use Rattle.integers.specs.Parts.{intRules}
-use Rattle.promises.specs.LentPart.{book-start}
-use Rattle.sending.specs.Sending.{told-no-book, told-range, budget-range, told-empty, told-greatest, told-nothing, told-load}
+use Rattle.promises.specs.LentPart.{book_start}
+use Rattle.sending.specs.Sending.{told_no_book, told_range, budget_range, told_empty, told_greatest, told_nothing, told_load}
 use borrow.Author.Rules.{rules}
 use Rattle.sending.proofs.largest_load.Statement.{statement}
 use Rattle.sending.proofs.largest_load.Tie as tie
@@ -18,7 +18,7 @@ returns : tie.Need-returns
 returns c =
     let at-no-book = c.before in
     let a = at-no-book.before.args in
-    told-no-book a.budget a.table.now a.start at-no-book.no-book.ensures c.if1.true
+    told_no_book a.budget a.table.now a.start at-no-book.no-book.ensures c.if1.true
 
 outside-requires : tie.Need-outside-requires
 outside-requires c κs = search rules
@@ -30,7 +30,7 @@ returns-2 c =
     let at-no-book = at-if1.before in
     let entry = at-no-book.before in
     let a = entry.args in
-    told-range a.budget a.table.now a.start at-no-book.no-book.ensures at-if1.if1.false
+    told_range a.budget a.table.now a.start at-no-book.no-book.ensures at-if1.if1.false
     (simp (to_z-of_z, entry.ranges.budget) at at-outside.outside.ensures) c.if2.true
 
 query-requires : tie.Need-query-requires
@@ -51,7 +51,7 @@ returns-3 c =
     let at-no-book = at-if1.before in
     let entry = at-no-book.before in
     let a = entry.args in
-    told-empty a.budget a.table.now a.start at-no-book.no-book.ensures at-if1.if1.false
+    told_empty a.budget a.table.now a.start at-no-book.no-book.ensures at-if1.if1.false
     (simp (to_z-of_z, entry.ranges.budget) at at-outside.outside.ensures) at-if2.if2.false (rw c.enum_told.given.1 at at-query.query.ensures)
 
 returns-4 : tie.Need-returns-4
@@ -70,7 +70,7 @@ returns-4 c =
     let n : SFits w64 v.0 = record { sfits = k.0.1 } in
     let p : SFits w64 v.1.0 = record { sfits = k.1.0.1 } in
     simp (to_z-of_z, n)
-    (told-greatest a.budget a.table.now a.start at-no-book.no-book.ensures at-if1.if1.false
+    (told_greatest a.budget a.table.now a.start at-no-book.no-book.ensures at-if1.if1.false
     (simp (to_z-of_z, entry.ranges.budget) at at-outside.outside.ensures) at-if2.if2.false (rw at_top.top.given.1 at at-query.query.ensures)
     (passed (simp (to_z-of_z, p, entry.ranges.budget) at c.if3.true)))
 
@@ -83,7 +83,7 @@ mul-last-load c =
     let at-no-book = at-if1.before in
     let entry = at-no-book.before in
     let a = entry.args in
-    let h = book-start a.table.now a.start at-no-book.no-book.ensures at-if1.if1.false in search rules
+    let h = book_start a.table.now a.start at-no-book.no-book.ensures at-if1.if1.false in search rules
 
 sub-last-load : tie.Need-overflow-sub-last-load
 sub-last-load c =
@@ -94,7 +94,7 @@ sub-last-load c =
     let at-no-book = at-if1.before in
     let entry = at-no-book.before in
     let a = entry.args in
-    let h = book-start a.table.now a.start at-no-book.no-book.ensures at-if1.if1.false in search rules
+    let h = book_start a.table.now a.start at-no-book.no-book.ensures at-if1.if1.false in search rules
 
 part-last-load-start : tie.Need-slice-bounds-last-load-start
 part-last-load-start c =
@@ -105,7 +105,7 @@ part-last-load-start c =
     let at-no-book = at-if1.before in
     let entry = at-no-book.before in
     let a = entry.args in
-    let h = book-start a.table.now a.start at-no-book.no-book.ensures at-if1.if1.false in search rules
+    let h = book_start a.table.now a.start at-no-book.no-book.ensures at-if1.if1.false in search rules
 
 part-last-load-end : tie.Need-slice-bounds-last-load-end
 part-last-load-end c = search rules
@@ -120,7 +120,7 @@ last-load-requires c κs =
     let entry = at-no-book.before in
     let a = entry.args in
     simp (to_z-of_z, entry.ranges.budget)
-    (budget-range a.budget a.table.now a.start at-no-book.no-book.ensures at-if1.if1.false
+    (budget_range a.budget a.table.now a.start at-no-book.no-book.ensures at-if1.if1.false
     (simp (to_z-of_z, entry.ranges.budget) at at-outside.outside.ensures) at-if2.if2.false)
 
 returns-5 : tie.Need-returns-5
@@ -142,7 +142,7 @@ returns-5 c =
     let p : SFits w64 v.1.0 = record { sfits = k.1.0.1 } in
     let l : SFits w64 at_load.last-load.result = record { sfits = at_load.last-load.type-inv } in
     let over = simp (to_z-of_z, p, f) at at-if3.if3.false in
-    told-nothing a.budget a.table.now a.start at-no-book.no-book.ensures at-if1.if1.false
+    told_nothing a.budget a.table.now a.start at-no-book.no-book.ensures at-if1.if1.false
     (simp (to_z-of_z, entry.ranges.budget) at at-outside.outside.ensures) at-if2.if2.false (rw at_top.top.given.1 at at-query.query.ensures)
     (omega (arith, intRules)) (simp (to_z-of_z, f) at at_load.last-load.ensures) (passed (simp (to_z-of_z, l) at c.if4.true))
 
@@ -170,7 +170,7 @@ returns-6 c =
     let l : SFits w64 at_load.last-load.result = record { sfits = at_load.last-load.type-inv } in
     let over = simp (to_z-of_z, p, f) at at-if3.if3.false in
     let low = simp (to_z-of_z, l) at at-if4.if4.false in
-    told-load a.budget a.table.now a.start at-no-book.no-book.ensures at-if1.if1.false
+    told_load a.budget a.table.now a.start at-no-book.no-book.ensures at-if1.if1.false
     (simp (to_z-of_z, entry.ranges.budget) at at-outside.outside.ensures) at-if2.if2.false (rw at_top.top.given.1 at at-query.query.ensures)
     (omega (arith, intRules)) (simp (to_z-of_z, f) at at_load.last-load.ensures) (omega (arith, intRules))
     (simp (to_z-of_z, l) at c.named.ensures)

@@ -8,7 +8,7 @@ use mir.Facts.{to_z-of_z}
 use Rattle.lists.specs.Bools.{passed}
 use Rattle.integers.specs.Parts.{intRules}
 use Rattle.sending.specs.OneLine.{never}
-use Rattle.sending.specs.Dividing.{above_zero, gap-fits, quot_fits, load_fits, divided}
+use Rattle.sending.specs.Dividing.{above_zero, gap_fits, quot_fits, load_fits, divided}
 use Rattle.sending.proofs.last_fit.Statement.{statement}
 use Rattle.sending.proofs.last_fit.Tie as tie
 use Rattle.sending.proofs.last_fit.Reads as reads
@@ -38,14 +38,14 @@ sub-result c =
     let entry = c.before.before in
     let a = entry.args in
     let f = entry.ranges in
-    simp (to_z-of_z, f.least, f.budget) (gap-fits a.least a.rate a.budget entry.requires.0 entry.requires.1 (at_least c) (rising c))
+    simp (to_z-of_z, f.least, f.budget) (gap_fits a.least a.rate a.budget entry.requires.0 entry.requires.1 (at_least c) (rising c))
 
 div-result : tie.Need-nonzero-div-result
 div-result c =
     let entry = c.before.before in
     let a = entry.args in
     let f = entry.ranges in
-    let gap = gap-fits a.least a.rate a.budget entry.requires.0 entry.requires.1 (at_least c) (rising c) in (
+    let gap = gap_fits a.least a.rate a.budget entry.requires.0 entry.requires.1 (at_least c) (rising c) in (
       above_zero a.rate (simp (to_z-of_z, f.rate) at c.if2.false),
       simp (to_z-of_z, f.least, f.rate, f.budget, gap)
           (quot_fits a.least a.rate a.budget entry.requires.0 entry.requires.1 (at_least c) (rising c)),
@@ -56,7 +56,7 @@ add-result c =
     let entry = c.before.before in
     let a = entry.args in
     let f = entry.ranges in
-    let gap = gap-fits a.least a.rate a.budget entry.requires.0 entry.requires.1 (at_least c) (rising c) in
+    let gap = gap_fits a.least a.rate a.budget entry.requires.0 entry.requires.1 (at_least c) (rising c) in
     let quot = quot_fits a.least a.rate a.budget entry.requires.0 entry.requires.1 (at_least c) (rising c) in
     simp (to_z-of_z, f.least, f.rate, f.budget, gap, quot)
     (load_fits a.least a.rate a.budget entry.requires.0 entry.requires.1 (at_least c) (rising c))
@@ -66,7 +66,7 @@ returns-3 c =
     let entry = c.before.before in
     let a = entry.args in
     let f = entry.ranges in
-    let gap = gap-fits a.least a.rate a.budget entry.requires.0 entry.requires.1 (at_least c) (rising c) in
+    let gap = gap_fits a.least a.rate a.budget entry.requires.0 entry.requires.1 (at_least c) (rising c) in
     let quot = quot_fits a.least a.rate a.budget entry.requires.0 entry.requires.1 (at_least c) (rising c) in
     let load = load_fits a.least a.rate a.budget entry.requires.0 entry.requires.1 (at_least c) (rising c) in
     simp (to_z-of_z, f.least, f.rate, f.budget, gap, quot, load)

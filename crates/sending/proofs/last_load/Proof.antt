@@ -2,7 +2,7 @@
 use mir.Syntax.{w64}
 use mir.Val.{SFits}
 use mir.Facts.{to_z-of_z}
-use Rattle.sending.specs.Sending.{price-in, reaches}
+use Rattle.sending.specs.Sending.{price_in_lem, reaches}
 use borrow.Author.Rules.{rules}
 use Rattle.sending.proofs.last_load.Statement.{statement}
 use Rattle.sending.proofs.last_load.Tie as tie
@@ -24,7 +24,7 @@ last-fit-requires c κs =
     let at-price = c.before in
     let entry = at-price.before.before.before in
     let p : SFits w64 at-price.price.result = record { sfits = at-price.price.type-inv } in
-    simp (to_z-of_z, p, entry.ranges.budget) (price-in _ _ _ at-price.price.ensures, entry.requires)
+    simp (to_z-of_z, p, entry.ranges.budget) (price_in_lem _ _ _ at-price.price.ensures, entry.requires)
 
 returns : tie.Need-returns
 returns c =

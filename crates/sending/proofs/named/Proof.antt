@@ -2,7 +2,7 @@
 use mir.Syntax.{w64}
 use mir.Val.{SFits}
 use mir.Facts.{to_z-of_z}
-use Rattle.sending.specs.Sending.{named-offer, named-declined}
+use Rattle.sending.specs.Sending.{named_offer, named_declined}
 use borrow.Author.Rules.{rules}
 use Rattle.sending.proofs.named.Statement.{statement}
 use Rattle.sending.proofs.named.Tie as tie
@@ -20,7 +20,7 @@ returns : tie.Need-returns
 returns c =
     let at-query = c.before.before in
     let f = at-query.before.ranges.load in
-    named-declined (rw c.enum_told.given.1 at (simp (to_z-of_z, f) at at-query.query.ensures))
+    named_declined (rw c.enum_told.given.1 at (simp (to_z-of_z, f) at at-query.query.ensures))
 
 returns-2 : tie.Need-returns-2
 returns-2 c =
@@ -28,7 +28,7 @@ returns-2 c =
     let at-query = at_there.before.before in
     let f = at-query.before.ranges.load in
     let n : SFits w64 at_there.there.given.0.0 = record { sfits = c.known-told.given.0.1 } in
-    simp (to_z-of_z, f, n) (named-offer (rw at_there.there.given.1 at (simp (to_z-of_z, f) at at-query.query.ensures)))
+    simp (to_z-of_z, f, n) (named_offer (rw at_there.there.given.1 at (simp (to_z-of_z, f) at at-query.query.ensures)))
 
 pub named-spec : {M : Type 1} → statement M
 named-spec = tie.close (tie.spec query-requires enum-known-there enum_told returns returns-2)

@@ -3,8 +3,8 @@ use mathlib.Core.Path.{refl}
 use mir.Facts.{to_z-of_z}
 use mir.Syntax.{w64}
 use mir.Val.{SFits}
-use Rattle.index.specs.Finding.{next-key}
-use Rattle.settling.specs.Following.{finds-none, finds-its-rate, finds-another, next-at}
+use Rattle.index.specs.Finding.{next_key}
+use Rattle.settling.specs.Following.{finds_none, finds_its_rate, finds_another, next_at}
 use borrow.Author.Rules.{rules}
 use Rattle.settling.proofs.follower.Statement.{statement}
 use Rattle.settling.proofs.follower.Tie as tie
@@ -23,7 +23,7 @@ returns c =
     let at_after = c.before in
     let at-get = at_after.before in
     let f : SFits w64 at-get.get.result = record { sfits = at-get.get.type-inv } in
-    finds-none (next-at _ at-get.get.ensures at-get.before.number_at.ensures (next-key (simp (to_z-of_z, f) at at_after.after.ensures))) c.if1.true refl
+    finds_none (next_at _ at-get.get.ensures at-get.before.number_at.ensures (next_key (simp (to_z-of_z, f) at at_after.after.ensures))) c.if1.true refl
 
 get-requires-2 : tie.Need-get-requires-2
 get-requires-2 c κs = search rules
@@ -40,7 +40,7 @@ returns-2 c =
     let at-get = at_after.before in
     let f : SFits w64 at-get.get.result = record { sfits = at-get.get.type-inv } in
     let g : SFits w64 at-get2.get2.result = record { sfits = at-get2.get2.type-inv } in
-    finds-its-rate (next-at _ at-get.get.ensures at-get.before.number_at.ensures (next-key (simp (to_z-of_z, f) at at_after.after.ensures))) at-if1.if1.false
+    finds_its_rate (next_at _ at-get.get.ensures at-get.before.number_at.ensures (next_key (simp (to_z-of_z, f) at at_after.after.ensures))) at-if1.if1.false
     at-get2.get2.ensures (simp (to_z-of_z, g) at at-is-equal.is-equal.ensures) c.if2.true refl
 
 returns-3 : tie.Need-returns-3
@@ -52,7 +52,7 @@ returns-3 c =
     let at-get = at_after.before in
     let f : SFits w64 at-get.get.result = record { sfits = at-get.get.type-inv } in
     let g : SFits w64 at-get2.get2.result = record { sfits = at-get2.get2.type-inv } in
-    finds-another (next-at _ at-get.get.ensures at-get.before.number_at.ensures (next-key (simp (to_z-of_z, f) at at_after.after.ensures))) at-if1.if1.false
+    finds_another (next_at _ at-get.get.ensures at-get.before.number_at.ensures (next_key (simp (to_z-of_z, f) at at_after.after.ensures))) at-if1.if1.false
     at-get2.get2.ensures (simp (to_z-of_z, g) at at-is-equal.is-equal.ensures) c.if2.false refl
 
 pub follower-spec : {M : Type 1} → statement M

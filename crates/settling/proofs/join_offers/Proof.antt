@@ -4,7 +4,7 @@ use native.Mathlib.Omega.{arith}
 use mir.Facts.{to_z-of_z}
 use mir.Syntax.{w64}
 use mir.Val.{SFits}
-use Rattle.settling.specs.Settling.{joins-alone, joins-among, joins-ahead, joins-behind, rank-said, rank-denied}
+use Rattle.settling.specs.Settling.{joins_alone, joins_among, joins_ahead, joins_behind, rank_said, rank_denied}
 use borrow.Author.Rules.{rules}
 use Rattle.settling.proofs.join_offers.Statement.{statement}
 use Rattle.settling.proofs.join_offers.Tie as tie
@@ -13,7 +13,7 @@ alone-requires : tie.Need-alone-requires
 alone-requires c κs = search rules
 
 returns : tie.Need-returns
-returns c = joins-alone (omega (arith, c.before.before.before.if1.true)) (omega (arith, c.before.if2.true)) refl c.alone.ensures
+returns c = joins_alone (omega (arith, c.before.before.before.if1.true)) (omega (arith, c.before.if2.true)) refl c.alone.ensures
 
 insert-requires : tie.Need-insert-requires
 insert-requires c κs = search rules
@@ -26,7 +26,7 @@ returns-2 c =
     let at-insert = c.before in
     let at-if2 = at-insert.before.before in
     let at-if1 = at-if2.before.before in
-    joins-among (omega (arith, at-if1.if1.true)) (λ q. omega (arith, q, at-if2.if2.false)) at-insert.insert.ensures
+    joins_among (omega (arith, at-if1.if1.true)) (λ q. omega (arith, q, at-if2.if2.false)) at-insert.insert.ensures
 
 get-requires : tie.Need-get-requires
 get-requires c κs = search rules
@@ -48,8 +48,8 @@ returns-3 c =
     let at-get = at-is-above.before in
     let at-if1 = at-get.before.before in
     let f : SFits w64 at-get.get.result = record { sfits = at-get.get.type-inv } in
-    joins-ahead (λ q. omega (arith, q, at-if1.if1.false))
-    (rank-said _ at-get.get.ensures (simp (to_z-of_z, f) at at-is-above.is-above.ensures) at-if3.if3.true) at-remove.remove.ensures
+    joins_ahead (λ q. omega (arith, q, at-if1.if1.false))
+    (rank_said _ at-get.get.ensures (simp (to_z-of_z, f) at at-is-above.is-above.ensures) at-if3.if3.true) at-remove.remove.ensures
 
 idle-requires : tie.Need-idle-requires
 idle-requires c κs = search rules
@@ -64,8 +64,8 @@ returns-4 c =
     let at-get = at-is-above.before in
     let at-if1 = at-get.before.before in
     let f : SFits w64 at-get.get.result = record { sfits = at-get.get.type-inv } in
-    joins-behind (λ q. omega (arith, q, at-if1.if1.false))
-    (rank-denied _ at-get.get.ensures (simp (to_z-of_z, f) at at-is-above.is-above.ensures) at-if3.if3.false) refl c.idle.ensures
+    joins_behind (λ q. omega (arith, q, at-if1.if1.false))
+    (rank_denied _ at-get.get.ensures (simp (to_z-of_z, f) at at-is-above.is-above.ensures) at-if3.if3.false) refl c.idle.ensures
 
 pub join-offers-spec : {M : Type 1} → statement M
 join-offers-spec =

@@ -1,5 +1,5 @@
 -- `settling::set_roots` meets its contract: three words written one after another.
-use Rattle.settling.specs.Writing.{rooted-in}
+use Rattle.settling.specs.Writing.{rooted_in}
 use borrow.Author.Rules.{rules}
 use Rattle.settling.proofs.set_roots.Statement.{statement}
 use Rattle.settling.proofs.set_roots.Tie as tie
@@ -22,7 +22,7 @@ returns c =
     let at-set-number2 = at-set-number3.before.before.before in
     let at-set-number = at-set-number2.before.before.before in
     let held = at-set-number.before.before.args.held in
-    rooted-in _ held _ at-set-number.set-number.ensures at-set-number2.set-number2.ensures at-set-number3.set-number3.ensures
+    rooted_in _ held _ at-set-number.set-number.ensures at-set-number2.set-number2.ensures at-set-number3.set-number3.ensures
 
 pub set-roots-spec : {M : Type 1} → statement M
 set-roots-spec =

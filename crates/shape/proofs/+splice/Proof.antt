@@ -2,9 +2,9 @@
 use borrow.Author.Rules.{rules}
 use native.Mathlib.Omega.{arith}
 use mathlib.Core.Path.{sym, ◌∙◌}
-use Rattle.table.specs.Rep.{height-read, within_cap}
+use Rattle.table.specs.Rep.{height_read, within_cap}
 use Rattle.nodes.specs.Joining.{raised}
-use Rattle.shape.specs.Splices.{spliced-none, spliced-low, spliced, towers-told}
+use Rattle.shape.specs.Splices.{spliced_none, spliced_low, spliced, towers_told}
 use Prim.Native.Nat.{ℕ, ◌<◌}
 use borrow.Fn.Kinds.{In}
 use borrow.Fn.PlainCycle.{Measures, is, falls, and}
@@ -61,7 +61,7 @@ splice-same-length : (t : ℕ) → splice-lts.Need-same-length (splice-claims t)
 splice-same-length t c = search rules
 
 splice-returns : (t : ℕ) → splice-lts.Need-returns (splice-claims t) (splice_at t) splice.Post
-splice-returns t c = spliced-none c.before.before.before.if1.true c.before.make-node.ensures
+splice-returns t c = spliced_none c.before.before.before.if1.true c.before.make-node.ensures
 
 splice-height-in-requires : (t : ℕ) → splice-lts.Need-height-in-requires (splice-claims t) (splice_at t) splice.Post
 splice-height-in-requires t c κs = c.before.before.requires.1
@@ -73,7 +73,7 @@ splice-height-in-requires-2 t c κs =
     entry.requires.1
 
 splice-above-requires : (t : ℕ) → splice-lts.Need-above-requires (splice-claims t) (splice_at t) splice.Post
-splice-above-requires t c κs = omega (arith, height-read _ _ _ c.height-in2.ensures)
+splice-above-requires t c κs = omega (arith, height_read _ _ _ c.height-in2.ensures)
 
 splice-child-in-requires : (t : ℕ) → splice-lts.Need-child-in-requires (splice-claims t) (splice_at t) splice.Post
 splice-child-in-requires t c κs =
@@ -129,7 +129,7 @@ splice-returns-2 t c =
     let at_above = at-if2.before in
     let at-height-in2 = at_above.before in
     let at-height-in = at-height-in2.before.before in
-    spliced (towers-told _ _ _ _ at-height-in.height-in.ensures at-height-in2.height-in2.ensures at_above.above.ensures) at-if2.if2.true
+    spliced (towers_told _ _ _ _ at-height-in.height-in.ensures at-height-in2.height-in2.ensures at_above.above.ensures) at-if2.if2.true
     at-child-in.child-in.ensures at-child-in2.child-in2.ensures at-inner-slot.inner-slot.ensures at-splice.splice.ensures
     at-balance.balance.ensures
 
@@ -137,7 +137,7 @@ splice-height-over-requires : (t : ℕ) → splice-lts.Need-height-over-requires
 splice-height-over-requires t c κs =
     let at-height-in2 = c.before.before.before in
     let at-height-in = at-height-in2.before.before in
-    (omega (arith, height-read _ _ _ at-height-in.height-in.ensures), omega (arith, height-read _ _ _ at-height-in2.height-in2.ensures))
+    (omega (arith, height_read _ _ _ at-height-in.height-in.ensures), omega (arith, height_read _ _ _ at-height-in2.height-in2.ensures))
 
 splice-set-node-requires : (t : ℕ) → splice-lts.Need-set-node-requires (splice-claims t) (splice_at t) splice.Post
 splice-set-node-requires t c κs =
@@ -157,7 +157,7 @@ splice-returns-3 t c =
     let at_above = at-if2.before in
     let at-height-in2 = at_above.before in
     let at-height-in = at-height-in2.before.before in
-    spliced-low (towers-told _ _ _ _ at-height-in.height-in.ensures at-height-in2.height-in2.ensures at_above.above.ensures) at-if2.if2.false
+    spliced_low (towers_told _ _ _ _ at-height-in.height-in.ensures at-height-in2.height-in2.ensures at_above.above.ensures) at-if2.if2.false
     (raised at-height-in.height-in.ensures at-height-in2.height-in2.ensures at-height-over.height-over.ensures at-set-node.set-node.ensures)
 
 pub +splice-spec : {M : Type 1} → statement M

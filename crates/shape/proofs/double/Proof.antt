@@ -1,5 +1,5 @@
 -- `shape::double` meets its contract.
-use Rattle.shape.specs.Rotations.{doubled-leaf, doubled-node}
+use Rattle.shape.specs.Rotations.{doubled_leaf, doubled_node}
 use borrow.Author.Rules.{rules}
 use Rattle.shape.proofs.double.Statement.{statement}
 use Rattle.shape.proofs.double.Tie as tie
@@ -11,7 +11,7 @@ same_length : tie.Need-same-length
 same_length c = search rules
 
 returns : tie.Need-returns
-returns c = doubled-leaf c.before.before.before.if1.true c.before.hang.ensures
+returns c = doubled_leaf c.before.before.before.if1.true c.before.hang.ensures
 
 child-requires : tie.Need-child-requires
 child-requires c κs = search rules
@@ -39,7 +39,7 @@ returns-2 c =
     let at-child2 = at-inner-slot.before in
     let at-child = at-child2.before.before in
     let at-if1 = at-child.before.before in
-    doubled-node at-if1.if1.false at-child.child.ensures at-child2.child2.ensures at-inner-slot.inner-slot.ensures
+    doubled_node at-if1.if1.false at-child.child.ensures at-child2.child2.ensures at-inner-slot.inner-slot.ensures
     at-make-node.make-node.ensures at-hang2.hang2.ensures
 
 pub double-spec : {M : Type 1} → statement M

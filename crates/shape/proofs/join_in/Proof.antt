@@ -1,18 +1,18 @@
 -- `shape::join_in` meets its contract.
 use native.Mathlib.Omega.{arith}
-use Rattle.table.specs.Rep.{height-read}
+use Rattle.table.specs.Rep.{height_read}
 use Rattle.nodes.specs.Joining.{raised}
-use Rattle.shape.specs.Splices.{towers-told}
-use Rattle.shape.specs.JoinSteps.{merged-right, merged-left, merged-one, merged-other, merged-level}
+use Rattle.shape.specs.Splices.{towers_told}
+use Rattle.shape.specs.JoinSteps.{merged_right, merged_left, merged_one, merged_other, merged_level}
 use borrow.Author.Rules.{rules}
 use Rattle.shape.proofs.join_in.Statement.{statement}
 use Rattle.shape.proofs.join_in.Tie as tie
 
 returns : tie.Need-returns
-returns c = merged-right c.if1.true
+returns c = merged_right c.if1.true
 
 returns-2 : tie.Need-returns-2
-returns-2 c = merged-left c.if2.true
+returns-2 c = merged_left c.if2.true
 
 height-in-requires : tie.Need-height-in-requires
 height-in-requires c κs = search rules
@@ -21,7 +21,7 @@ height-in-requires-2 : tie.Need-height-in-requires-2
 height-in-requires-2 c κs = search rules
 
 above-requires : tie.Need-above-requires
-above-requires c κs = omega (arith, height-read _ _ _ c.height-in2.ensures)
+above-requires c κs = omega (arith, height_read _ _ _ c.height-in2.ensures)
 
 splice-requires : tie.Need-splice-requires
 splice-requires c κs = search rules
@@ -35,15 +35,15 @@ returns-3 c =
     let other = left-towers.before.before in
     let one = other.before.before in
     let both = one.before.before in
-    merged-one both.before.if1.false both.if2.false (omega arith)
-    (towers-told _ _ _ _ one.height-in.ensures other.height-in2.ensures left-towers.before.above.ensures) left-towers.if3.true
+    merged_one both.before.if1.false both.if2.false (omega arith)
+    (towers_told _ _ _ _ one.height-in.ensures other.height-in2.ensures left-towers.before.above.ensures) left-towers.if3.true
     c.before.splice.ensures
 
 above-requires-2 : tie.Need-above-requires-2
 above-requires-2 c κs =
     let at_above = c.before in
     let at-height-in = at_above.before.before.before in
-    omega (arith, height-read _ _ _ at-height-in.height-in.ensures)
+    omega (arith, height_read _ _ _ at-height-in.height-in.ensures)
 
 splice-requires-2 : tie.Need-splice-requires-2
 splice-requires-2 c κs = search rules
@@ -58,16 +58,16 @@ returns-4 c =
     let other = left-low.before.before in
     let one = other.before.before in
     let both = one.before.before in
-    merged-other both.before.if1.false both.if2.false (omega arith)
-    (towers-told _ _ _ _ one.height-in.ensures other.height-in2.ensures left-low.before.above.ensures) left-low.if3.false
-    (towers-told _ _ _ _ other.height-in2.ensures one.height-in.ensures right-towers.before.above2.ensures) right-towers.if4.true
+    merged_other both.before.if1.false both.if2.false (omega arith)
+    (towers_told _ _ _ _ one.height-in.ensures other.height-in2.ensures left-low.before.above.ensures) left-low.if3.false
+    (towers_told _ _ _ _ other.height-in2.ensures one.height-in.ensures right-towers.before.above2.ensures) right-towers.if4.true
     c.before.splice2.ensures
 
 height-over-requires : tie.Need-height-over-requires
 height-over-requires c κs =
     let at-above2 = c.before.before in
     let other = at-above2.before.before.before in
-    (omega (arith, height-read _ _ _ other.before.before.height-in.ensures), omega (arith, height-read _ _ _ other.height-in2.ensures))
+    (omega (arith, height_read _ _ _ other.before.before.height-in.ensures), omega (arith, height_read _ _ _ other.height-in2.ensures))
 
 set-node-requires : tie.Need-set-node-requires
 set-node-requires c κs = search rules
@@ -83,9 +83,9 @@ returns-5 c =
     let other = left-low.before.before in
     let one = other.before.before in
     let both = one.before.before in
-    merged-level both.before.if1.false both.if2.false
-    (towers-told _ _ _ _ one.height-in.ensures other.height-in2.ensures left-low.before.above.ensures) left-low.if3.false
-    (towers-told _ _ _ _ other.height-in2.ensures one.height-in.ensures right-low.before.above2.ensures) right-low.if4.false
+    merged_level both.before.if1.false both.if2.false
+    (towers_told _ _ _ _ one.height-in.ensures other.height-in2.ensures left-low.before.above.ensures) left-low.if3.false
+    (towers_told _ _ _ _ other.height-in2.ensures one.height-in.ensures right-low.before.above2.ensures) right-low.if4.false
     (raised one.height-in.ensures other.height-in2.ensures at-set-node.before.height-over.ensures at-set-node.set-node.ensures)
 
 pub join-in-spec : {M : Type 1} → statement M

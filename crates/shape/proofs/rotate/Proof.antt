@@ -1,7 +1,7 @@
 -- `shape::rotate` meets its contract.
 use mathlib.Core.Bool.{true, false}
 use borrow.Author.Tests.{le-leb, lt-leb}
-use Rattle.shape.specs.Rotations.{rotated-leaf, rotated}
+use Rattle.shape.specs.Rotations.{rotated_leaf, rotated}
 use borrow.Author.Rules.{rules}
 use Rattle.shape.proofs.rotate.Statement.{statement}
 use Rattle.shape.proofs.rotate.Tie as tie
@@ -13,7 +13,7 @@ same_length : tie.Need-same-length
 same_length c = search rules
 
 returns : tie.Need-returns
-returns c = rotated-leaf c.before.before.before.if1.true c.before.make-node.ensures
+returns c = rotated_leaf c.before.before.before.if1.true c.before.make-node.ensures
 
 child-requires : tie.Need-child-requires
 child-requires c κs = search rules

@@ -3,7 +3,7 @@ use mathlib.Core.Path.{refl}
 use mir.Facts.{to_z-of_z}
 use mir.Syntax.{w64}
 use mir.Val.{SFits}
-use Rattle.spreading.specs.Nexts.{no-follower, lower-rate, follower-below, follower-dear}
+use Rattle.spreading.specs.Nexts.{no_follower, lower_rate, follower_below, follower_dear}
 use borrow.Author.Rules.{rules}
 use Rattle.spreading.proofs.next_below.Statement.{statement}
 use Rattle.spreading.proofs.next_below.Tie as tie
@@ -12,7 +12,7 @@ behind-requires : tie.Need-behind-requires
 behind-requires c κs = search rules
 
 returns : tie.Need-returns
-returns c = no-follower c.before.behind.ensures c.if1.true refl
+returns c = no_follower c.before.behind.ensures c.if1.true refl
 
 get-in-requires : tie.Need-get-in-requires
 get-in-requires c κs = search rules
@@ -26,7 +26,7 @@ returns-2 c =
     let at-get = at_least_lem.before in
     let at-if1 = at-get.before in
     let f : SFits w64 at-get.get_in.result = record { sfits = at-get.get_in.type-inv } in
-    lower-rate at-if1.before.behind.ensures at-if1.if1.false at-get.get_in.ensures (simp (to_z-of_z, f) at at_least_lem.at-least-in.ensures)
+    lower_rate at-if1.before.behind.ensures at-if1.if1.false at-get.get_in.ensures (simp (to_z-of_z, f) at at_least_lem.at-least-in.ensures)
     c.if2.true refl
 
 is-below-requires : tie.Need-is-below-requires
@@ -42,7 +42,7 @@ returns-3 c =
     let at-behind = at-if1.before in
     let entry = at-behind.before in
     let f : SFits w64 at-get.get_in.result = record { sfits = at-get.get_in.type-inv } in
-    follower-below at-behind.behind.ensures at-if1.if1.false at-get.get_in.ensures (simp (to_z-of_z, f) at at_least_lem.at-least-in.ensures)
+    follower_below at-behind.behind.ensures at-if1.if1.false at-get.get_in.ensures (simp (to_z-of_z, f) at at_least_lem.at-least-in.ensures)
     at-if2.if2.false (simp (to_z-of_z, entry.ranges.load, entry.ranges.price) at at-is-below.is_below.ensures) c.if3.true refl
 
 returns-4 : tie.Need-returns-4
@@ -55,7 +55,7 @@ returns-4 c =
     let at-behind = at-if1.before in
     let entry = at-behind.before in
     let f : SFits w64 at-get.get_in.result = record { sfits = at-get.get_in.type-inv } in
-    follower-dear at-behind.behind.ensures at-if1.if1.false at-get.get_in.ensures (simp (to_z-of_z, f) at at_least_lem.at-least-in.ensures)
+    follower_dear at-behind.behind.ensures at-if1.if1.false at-get.get_in.ensures (simp (to_z-of_z, f) at at_least_lem.at-least-in.ensures)
     at-if2.if2.false (simp (to_z-of_z, entry.ranges.load, entry.ranges.price) at at-is-below.is_below.ensures) c.if3.false refl
 
 pub next-below-spec : {M : Type 1} → statement M

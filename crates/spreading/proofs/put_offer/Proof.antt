@@ -2,7 +2,7 @@
 use mir.Facts.{to_z-of_z}
 use mir.Syntax.{w64}
 use mir.Val.{SFits}
-use Rattle.spreading.specs.Writes.{offer-put}
+use Rattle.spreading.specs.Writes.{offer_put}
 use borrow.Author.Rules.{rules}
 use Rattle.spreading.proofs.put_offer.Statement.{statement}
 use Rattle.spreading.proofs.put_offer.Tie as tie
@@ -45,7 +45,7 @@ returns c =
     let x : SFits w64 at-get.get.result = record { sfits = at-get.get.type-inv } in
     let y : SFits w64 at-get2.get2.result = record { sfits = at-get2.get2.type-inv } in
     let z : SFits w64 at-get3.get3.result = record { sfits = at-get3.get3.type-inv } in
-    offer-put _ _ _ _ at-get.get.ensures at-get2.get2.ensures at-get3.get3.ensures (simp (to_z-of_z, x) at at-set-word.set_word.ensures)
+    offer_put _ _ _ _ at-get.get.ensures at-get2.get2.ensures at-get3.get3.ensures (simp (to_z-of_z, x) at at-set-word.set_word.ensures)
     (simp (to_z-of_z, y) at at-set-word2.set-word2.ensures) (simp (to_z-of_z, z) at at-set-word3.set-word3.ensures)
 
 pub put-offer-spec : {M : Type 1} → statement M

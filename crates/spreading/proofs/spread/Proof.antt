@@ -4,9 +4,9 @@ use native.Mathlib.Omega.{arith}
 use mir.Facts.{to_z-of_z}
 use mir.Syntax.{w64}
 use mir.Val.{to_z}
-use Rattle.table.specs.Fields.{mostSlots}
-use Rattle.spreading.specs.Nexts.{last-read}
-use Rattle.spreading.specs.Spreads.{Spreading, spreading-begins, spreading-full, spreading-ends, spreading-goes-to, spreading-goes-past}
+use Rattle.table.specs.Fields.{most_slots}
+use Rattle.spreading.specs.Nexts.{last_read}
+use Rattle.spreading.specs.Spreads.{Spreading, spreading_begins, spreading_full, spreading_ends, spreading_goes_to, spreading_goes_past}
 use borrow.Author.Rules.{rules}
 use Rattle.spreading.proofs.spread.Statement.{statement}
 use Rattle.spreading.proofs.spread.Tie as tie
@@ -16,7 +16,7 @@ invariant-loop part firsts n load price all₀ c root last i₀ m₀ s₀ all i 
 
 -- each turn puts one slot
 abbrev decreases-loop : tie.decreases-loop
-decreases-loop part firsts n load price all₀ c root last i₀ m₀ s₀ all i m s = mostSlots - m
+decreases-loop part firsts n load price all₀ c root last i₀ m₀ s₀ all i m s = most_slots - m
 
 capacity-requires : tie.Need-capacity-requires invariant-loop decreases-loop
 capacity-requires c κs = search rules
@@ -31,13 +31,13 @@ entry-requires : tie.Need-entry-requires invariant-loop decreases-loop
 entry-requires c κs = search rules
 
 loop-holds : tie.Need-loop-init invariant-loop decreases-loop
-loop-holds c = spreading-begins _ _ _ c.before.before.before.before.requires.1 c.entry.ensures
+loop-holds c = spreading_begins _ _ _ c.before.before.before.before.requires.1 c.entry.ensures
 
 returns : tie.Need-returns invariant-loop decreases-loop
 returns c =
     let at-loop = c.before.before in
     let entry = at-loop.before.before.before.before.before in
-    spreading-full _ _ _ entry.requires.1 (simp (to_z-of_z, entry.ranges.load, entry.ranges.price) at at-loop.loop.invariant) c.before.loop-test.true
+    spreading_full _ _ _ entry.requires.1 (simp (to_z-of_z, entry.ranges.load, entry.ranges.price) at at-loop.loop.invariant) c.before.loop-test.true
     c.if1.true
 
 mul-all : tie.Need-overflow-mul-all invariant-loop decreases-loop
@@ -75,8 +75,8 @@ loop-again c =
     let at-end = at-loop.before.before in
     let at-root = at-end.before in
     let entry = at-root.before.before in
-    spreading-goes-past _ _ _ entry.requires.1 at-loop.loop.invariant entry.requires.0 at-loop-test.loop-test.true at-if1.if1.false
-    (last-read at-root.number_at.ensures at-end.end-in.ensures) at-if2.before.next-below.ensures (omega (arith, at-if2.if2.true))
+    spreading_goes_past _ _ _ entry.requires.1 at-loop.loop.invariant entry.requires.0 at-loop-test.loop-test.true at-if1.if1.false
+    (last_read at-root.number_at.ensures at-end.end-in.ensures) at-if2.before.next-below.ensures (omega (arith, at-if2.if2.true))
     c.entry2.ensures
 
 loop-less-2 : tie.Need-loop-smaller-2 invariant-loop decreases-loop
@@ -90,14 +90,14 @@ loop-again-2 c =
     let at-end = at-loop.before.before in
     let at-root = at-end.before in
     let entry = at-root.before.before in
-    spreading-goes-to _ _ _ entry.requires.1 at-loop.loop.invariant entry.requires.0 at-loop-test.loop-test.true at-if1.if1.false
-    (last-read at-root.number_at.ensures at-end.end-in.ensures) c.before.next-below.ensures (omega (arith, c.if2.false))
+    spreading_goes_to _ _ _ entry.requires.1 at-loop.loop.invariant entry.requires.0 at-loop-test.loop-test.true at-if1.if1.false
+    (last_read at-root.number_at.ensures at-end.end-in.ensures) c.before.next-below.ensures (omega (arith, c.if2.false))
 
 returns-2 : tie.Need-returns-2 invariant-loop decreases-loop
 returns-2 c =
     let at-loop = c.before in
     let entry = at-loop.before.before.before.before.before in
-    spreading-ends _ _ _ entry.requires.1 (simp (to_z-of_z, entry.ranges.load, entry.ranges.price) at at-loop.loop.invariant) c.loop-test.false
+    spreading_ends _ _ _ entry.requires.1 (simp (to_z-of_z, entry.ranges.load, entry.ranges.price) at at-loop.loop.invariant) c.loop-test.false
 
 pub spread-spec : {M : Type 1} → statement M
 spread-spec =

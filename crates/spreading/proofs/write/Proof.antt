@@ -1,7 +1,7 @@
 -- `spreading::write` meets its contract. The loop's invariant: the first i offers are written, and the output's later words are as before.
 use Prim.Native.Nat.{◌-◌}
 use native.Mathlib.Omega.{arith}
-use Rattle.spreading.specs.Writes.{Copying, copied-short, copying-begins, copying-goes-on, copying-ends}
+use Rattle.spreading.specs.Writes.{Copying, copied_short, copying_begins, copying_goes_on, copying_ends}
 use borrow.Author.Rules.{rules}
 use Rattle.spreading.proofs.write.Statement.{statement}
 use Rattle.spreading.proofs.write.Tie as tie
@@ -16,10 +16,10 @@ mul-if1 : tie.Need-overflow-mul-if1 invariant-loop decreases-loop
 mul-if1 c = omega (arith, c.requires)
 
 returns : tie.Need-returns invariant-loop decreases-loop
-returns c = copied-short (omega (arith, c.if1.true))
+returns c = copied_short (omega (arith, c.if1.true))
 
 loop-holds : tie.Need-loop-init invariant-loop decreases-loop
-loop-holds c = copying-begins _ _ _ _
+loop-holds c = copying_begins _ _ _ _
 
 entry-requires : tie.Need-entry-requires invariant-loop decreases-loop
 entry-requires c κs = search rules
@@ -52,7 +52,7 @@ loop-again c =
     let at-loop-test = at_entry_lem.before in
     let at-loop = at-loop-test.before in
     let at-if1 = at-loop.before in
-    copying-goes-on (omega (arith, at-if1.if1.false)) at-loop.loop.invariant at-if1.before.requires at-loop-test.loop-test.true at_entry_lem.entry.ensures
+    copying_goes_on (omega (arith, at-if1.if1.false)) at-loop.loop.invariant at-if1.before.requires at-loop-test.loop-test.true at_entry_lem.entry.ensures
     at-put-offer.put-offer.ensures
 
 same_length : tie.Need-same-length invariant-loop decreases-loop
@@ -61,7 +61,7 @@ same_length c = c.before.loop.invariant.long
 returns-2 : tie.Need-returns-2 invariant-loop decreases-loop
 returns-2 c =
     let at-loop = c.before in
-    copying-ends (omega (arith, at-loop.before.if1.false)) at-loop.loop.invariant c.loop-test.false
+    copying_ends (omega (arith, at-loop.before.if1.false)) at-loop.loop.invariant c.loop-test.false
 
 pub write_spec : {M : Type 1} → statement M
 write_spec =

@@ -3,16 +3,16 @@ use mathlib.Core.Path.{◌≡◌, sym, ◌∙◌, ap}
 use mathlib.Core.Bool.{Bool, true, false}
 use Prim.Native.Nat.{ℕ, ◌+◌, ◌*◌}
 use native.Mathlib.Omega.{arith}
-use Rattle.table.specs.Rep.{childField}
+use Rattle.table.specs.Rep.{child_field}
 use borrow.Author.Rules.{rules}
 use Rattle.table.proofs.child_field.Statement.{statement}
 use Rattle.table.proofs.child_field.Tie as tie
 
-on-right : (k : ℕ) (side : Bool) → side ≡ true → 4 + 4 * k + 1 ≡ childField k side
-on-right k side e = ap (childField k) (sym e)
+on-right : (k : ℕ) (side : Bool) → side ≡ true → 4 + 4 * k + 1 ≡ child_field k side
+on-right k side e = ap (child_field k) (sym e)
 
-on-left : (k : ℕ) (side : Bool) → side ≡ false → 4 + 4 * k ≡ childField k side
-on-left k side e = omega arith ∙ ap (childField k) (sym e)
+on-left : (k : ℕ) (side : Bool) → side ≡ false → 4 + 4 * k ≡ child_field k side
+on-left k side e = omega arith ∙ ap (child_field k) (sym e)
 
 mul-result : tie.Need-overflow-mul-result
 mul-result c = search rules

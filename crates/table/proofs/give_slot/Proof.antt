@@ -2,19 +2,19 @@
 use mathlib.Core.Path.{◌≡◌, ◌∙◌, ap}
 use Prim.Native.Nat.{ℕ}
 use lib.IntN.{pos}
-use Rattle.table.specs.Fields.{firstFreeWord, nextFreeField, numberField}
+use Rattle.table.specs.Fields.{first_free_word, next_free_field, number_field}
 use Rattle.table.specs.Words.{Words, wset}
 use Rattle.table.specs.Layout.{cset}
-use Rattle.table.specs.Free.{firstFree, given}
+use Rattle.table.specs.Free.{first_free, given}
 use borrow.Author.Rules.{rules}
 use Rattle.table.proofs.give_slot.Statement.{statement}
 use Rattle.table.proofs.give_slot.Tie as tie
 
-words : (w w₁ w₂ w₃ : Words) (s next : ℕ) → next ≡ firstFree w → w₁ ≡ cset w numberField s (pos 0) → w₂ ≡ cset w₁ nextFreeField s (pos next) →
-    w₃ ≡ wset w₂ firstFreeWord (pos s) → w₃ ≡ given w s
+words : (w w₁ w₂ w₃ : Words) (s next : ℕ) → next ≡ first_free w → w₁ ≡ cset w number_field s (pos 0) → w₂ ≡ cset w₁ next_free_field s (pos next) →
+    w₃ ≡ wset w₂ first_free_word (pos s) → w₃ ≡ given w s
 words w w₁ w₂ w₃ s next e a b c =
-    c ∙ ap (λ (v : Words). wset v firstFreeWord (pos s)) (b ∙ ap (λ (n : ℕ). cset w₁ nextFreeField s (pos n)) e
-    ∙ ap (λ (v : Words). cset v nextFreeField s (pos (firstFree w))) a)
+    c ∙ ap (λ (v : Words). wset v first_free_word (pos s)) (b ∙ ap (λ (n : ℕ). cset w₁ next_free_field s (pos n)) e
+    ∙ ap (λ (v : Words). cset v next_free_field s (pos (first_free w))) a)
 
 number-at-requires : tie.Need-number-at-requires
 number-at-requires c κs = search rules

@@ -1,7 +1,7 @@
 -- `table::is_equal` meets its contract.
 use mir.Facts.{to_z-of_z}
 use borrow.Author.Rules.{rules}
-use Rattle.lists.specs.Bools.{first_passes, first-fails}
+use Rattle.lists.specs.Bools.{first_passes, first_fails}
 use Rattle.table.proofs.is_equal.Statement.{statement}
 use Rattle.table.proofs.is_equal.Tie as tie
 
@@ -17,7 +17,7 @@ returns c =
     first_passes (simp (to_z-of_z, f.key) at c.before.before.at-most.ensures) c.before.if1.true (simp (to_z-of_z, f.key) at c.at_least.ensures)
 
 returns-2 : tie.Need-returns-2
-returns-2 c = first-fails _ (simp (to_z-of_z, c.before.before.ranges.key) at c.before.at-most.ensures) c.if1.false
+returns-2 c = first_fails _ (simp (to_z-of_z, c.before.before.ranges.key) at c.before.at-most.ensures) c.if1.false
 
 pub is-equal-spec : {M : Type 1} → statement M
 is-equal-spec = tie.close (tie.spec at-most-requires at-least-requires returns returns-2)

@@ -3,7 +3,7 @@ use mathlib.Core.Path.{◌∙◌, ap}
 use mir.Facts.{to_z-of_z}
 use mir.Syntax.{w64}
 use mir.Val.{SFits}
-use Rattle.table.specs.Fields.{mostNodes}
+use Rattle.table.specs.Fields.{most_nodes}
 use Rattle.table.specs.Words.{up_to}
 use borrow.Author.Rules.{rules}
 use Rattle.table.proofs.link_in.Statement.{statement}
@@ -18,7 +18,7 @@ up-to-requires c κs = search rules
 returns : tie.Need-returns
 returns c =
     let f : SFits w64 c.before.get_in.result = record { sfits = c.before.get_in.type-inv } in
-    (simp (to_z-of_z, f) at c.up-to.ensures) ∙ ap (up_to mostNodes) c.before.get_in.ensures
+    (simp (to_z-of_z, f) at c.up-to.ensures) ∙ ap (up_to most_nodes) c.before.get_in.ensures
 
 pub link-in-spec : {M : Type 1} → statement M
 link-in-spec = tie.close (tie.spec get-in-requires up-to-requires returns)

@@ -1,6 +1,6 @@
 -- `table::put_three_in` meets its contract: a write into a slot moves no place.
 use mir.Facts.{to_z-of_z}
-use Rattle.table.specs.Layout.{three-written}
+use Rattle.table.specs.Layout.{three_written}
 use borrow.Author.Rules.{rules}
 use Rattle.table.proofs.put_three_in.Statement.{statement}
 use Rattle.table.proofs.put_three_in.Tie as tie
@@ -36,7 +36,7 @@ returns c =
     let at-spot-in = at-spot-in2.before.before in
     let entry = at-spot-in.before.before in
     let f = entry.ranges in
-    three-written _ _ _ _ _ _ _ _ _ _ _ _ _ _
+    three_written _ _ _ _ _ _ _ _ _ _ _ _ _ _
     at-spot-in.spot_in.ensures
     at-spot-in2.spot-in2.ensures
     at-spot-in3.spot-in3.ensures

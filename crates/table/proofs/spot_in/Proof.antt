@@ -1,7 +1,7 @@
 -- `table::spot_in` meets its contract: by its three tests, and since the capacity is the part's.
 use mathlib.Core.Path.{sym}
 use native.Mathlib.Omega.{arith}
-use Rattle.table.specs.Cells.{placed, spot-there}
+use Rattle.table.specs.Cells.{placed, spot_there}
 use Rattle.table.specs.Layout.{spot_out}
 use Rattle.table.proofs.spot_in.Statement.{statement}
 use Rattle.table.proofs.spot_in.Tie as tie
@@ -22,7 +22,7 @@ returns-4 : tie.Need-returns-4
 returns-4 c =
     let at-if3 = c.before in
     let entry = at-if3.before.before.before in
-    spot-there _ _ _ _ entry.requires at-if3.before.if2.false at-if3.if3.false
+    spot_there _ _ _ _ entry.requires at-if3.before.if2.false at-if3.if3.false
     at-if3.before.before.if1.false c.address.ensures
 
 pub spot-in-spec : {M : Type 1} → statement M

@@ -2,16 +2,16 @@
 use mathlib.Core.Path.{◌≡◌, ◌∙◌, ap}
 use Prim.Native.Nat.{ℕ}
 use lib.IntN.{pos}
-use Rattle.table.specs.Fields.{firstFreeWord, nextFreeField}
+use Rattle.table.specs.Fields.{first_free_word, next_free_field}
 use Rattle.table.specs.Words.{Words, wset}
 use Rattle.table.specs.Layout.{link_at}
-use Rattle.table.specs.Free.{firstFree, taken}
+use Rattle.table.specs.Free.{first_free, taken}
 use borrow.Author.Rules.{rules}
 use Rattle.table.proofs.take_slot.Statement.{statement}
 use Rattle.table.proofs.take_slot.Tie as tie
 
-words : (w w' : Words) (s next : ℕ) → s ≡ firstFree w → next ≡ link_at w nextFreeField s → w' ≡ wset w firstFreeWord (pos next) → w' ≡ taken w
-words w w' s next e d h = h ∙ ap (λ (n : ℕ). wset w firstFreeWord (pos n)) (d ∙ ap (link_at w nextFreeField) e)
+words : (w w' : Words) (s next : ℕ) → s ≡ first_free w → next ≡ link_at w next_free_field s → w' ≡ wset w first_free_word (pos next) → w' ≡ taken w
+words w w' s next e d h = h ∙ ap (λ (n : ℕ). wset w first_free_word (pos n)) (d ∙ ap (link_at w next_free_field) e)
 
 number-at-requires : tie.Need-number-at-requires
 number-at-requires c κs = search rules

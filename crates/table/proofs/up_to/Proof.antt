@@ -8,21 +8,21 @@ use borrow.Author.Tests.{ltb-true}
 use lib.IntN.{ℤ, pos, negsuc, nat_abs}
 use lib.Signed.{lt_z}
 use mir.Facts.{to_z-of_z}
-use Rattle.integers.specs.Magnitude.{natAbs-fits}
-use Rattle.table.specs.Words.{up_to, upTo-in, upTo-over, upTo-below}
+use Rattle.integers.specs.Magnitude.{nat_abs_fits}
+use Rattle.table.specs.Words.{up_to, up_to_in, up_to_over, up_to_below}
 use Rattle.table.proofs.up_to.Statement.{statement}
 use Rattle.table.proofs.up_to.Tie as tie
 
 below : (most : ℕ) (z : ℤ) → lt_z z (pos 0) ≡ true → 0 ≡ up_to most z
 below most (pos n) e = absurd (omega (arith, ltb-true n 0 e))
-below most (negsuc n) e = sym (upTo-below most n)
+below most (negsuc n) e = sym (up_to_below most n)
 
 over : (most : ℕ) (z : ℤ) → lt_z z (pos 0) ≡ false → most < nat_abs z → 0 ≡ up_to most z
-over most (pos n) e h = sym (upTo-over most n h)
+over most (pos n) e h = sym (up_to_over most n h)
 over most (negsuc n) e h = absurd (true≢false e)
 
 inside : (most : ℕ) (z : ℤ) → lt_z z (pos 0) ≡ false → nat_abs z ≤ most → nat_abs z ≡ up_to most z
-inside most (pos n) e h = sym (upTo-in most n h)
+inside most (pos n) e h = sym (up_to_in most n h)
 inside most (negsuc n) e h = absurd (true≢false e)
 
 returns : tie.Need-returns
@@ -31,7 +31,7 @@ returns c = below _ _ (simp (to_z-of_z, c.before.ranges.value) at c.if1.true)
 cast-number : tie.Need-overflow-cast-number
 cast-number c =
     simp (to_z-of_z, c.before.ranges.value)
-    (natAbs-fits _ c.before.ranges.value (simp (to_z-of_z, c.before.ranges.value) at c.if1.false))
+    (nat_abs_fits _ c.before.ranges.value (simp (to_z-of_z, c.before.ranges.value) at c.if1.false))
 
 returns-2 : tie.Need-returns-2
 returns-2 c = let f = c.before.before.ranges.value in over _ _ (simp (to_z-of_z, f) at c.before.if1.false) (simp (to_z-of_z, f) at c.if2.true)

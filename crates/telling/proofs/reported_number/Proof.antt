@@ -3,7 +3,7 @@ use mathlib.Core.Path.{sym, ap, ◌∙◌}
 use mir.Syntax.{w64}
 use mir.Val.{SFits}
 use mir.Facts.{to_z-of_z}
-use Rattle.answers.specs.Promises.{reportedNumber}
+use Rattle.answers.specs.Promises.{reported_number}
 use borrow.Author.Rules.{rules}
 use Rattle.telling.proofs.reported_number.Statement.{statement}
 use Rattle.telling.proofs.reported_number.Tie as tie
@@ -20,13 +20,13 @@ below-zero-requires c κs = search rules
 returns : tie.Need-returns
 returns c =
     let z : SFits w64 c.before.m.given.0.0 = record { sfits = c.known-told.given.0.1 } in
-    simp (to_z-of_z, z) (sym (ap reportedNumber c.before.m.given.1))
+    simp (to_z-of_z, z) (sym (ap reported_number c.before.m.given.1))
 
 returns-2 : tie.Need-returns-2
 returns-2 c =
     let r : SFits w64 c.below-zero.result = record { sfits = c.below-zero.type-inv } in
     let z : SFits w64 c.before.before.m2.given.0.0 = record { sfits = c.before.known-told2.given.0.1 } in
-    simp (to_z-of_z, r) (simp (to_z-of_z, z) at c.below-zero.ensures ∙ sym (ap reportedNumber c.before.before.m2.given.1))
+    simp (to_z-of_z, r) (simp (to_z-of_z, z) at c.below-zero.ensures ∙ sym (ap reported_number c.before.before.m2.given.1))
 
 pub reported-number-spec : {M : Type 1} → statement M
 reported-number-spec =

@@ -5,7 +5,7 @@ use mir.Val.{SFits}
 use mir.Facts.{to_z-of_z}
 use native.Mathlib.Omega.{arith}
 use lib.ListN.{length-set}
-use Rattle.answers.specs.Promises.{foundNumber, foundOf}
+use Rattle.answers.specs.Promises.{found_number, found_of}
 use Rattle.answers.specs.Answers.{tells, three}
 use borrow.Author.Rules.{rules}
 use Rattle.telling.proofs.tell_found.Statement.{statement}
@@ -39,13 +39,13 @@ returns c =
     let m : SFits w64 c.before.f.given.0.1.1.0 = record { sfits = c.known-told.given.1.1.0.1 } in
     let d : SFits w64 c.before.f.given.0.1.1.1.0 = record { sfits = c.known-told.given.1.1.1.0.1 } in
     simp (to_z-of_z, n, p, m, d)
-    (tells foundNumber foundOf c.before.f.given.1 refl (three c.before.before.before.args.found.now _ _ _ c.before.before.before.requires))
+    (tells found_number found_of c.before.f.given.1 refl (three c.before.before.before.args.found.now _ _ _ c.before.before.before.requires))
 
 returns-2 : tie.Need-returns-2
 returns-2 c =
     let r : SFits w64 c.below-zero.result = record { sfits = c.below-zero.type-inv } in
     let z : SFits w64 c.before.before.f2.given.0.0 = record { sfits = c.before.known-told2.given.0.1 } in
-    simp (to_z-of_z, r) (tells foundNumber foundOf c.before.before.f2.given.1 (simp (to_z-of_z, z) at c.below-zero.ensures) refl)
+    simp (to_z-of_z, r) (tells found_number found_of c.before.before.f2.given.1 (simp (to_z-of_z, z) at c.below-zero.ensures) refl)
 
 pub tell-found-spec : {M : Type 1} → statement M
 tell-found-spec =

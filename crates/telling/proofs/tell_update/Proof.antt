@@ -5,7 +5,7 @@ use mir.Val.{SFits}
 use mir.Facts.{to_z-of_z}
 use native.Mathlib.Omega.{arith}
 use lib.ListN.{length-set}
-use Rattle.answers.specs.Promises.{updateNumber, countsOf}
+use Rattle.answers.specs.Promises.{update_number, counts_of}
 use Rattle.answers.specs.Answers.{tells, three}
 use borrow.Author.Rules.{rules}
 use Rattle.telling.proofs.tell_update.Statement.{statement}
@@ -39,14 +39,14 @@ returns c =
     let s : SFits w64 c.before.u.given.0.1.1.0 = record { sfits = c.known-told.given.1.1.0.1 } in
     let h : SFits w64 c.before.u.given.0.1.1.1.0 = record { sfits = c.known-told.given.1.1.1.0.1 } in
     simp (to_z-of_z, n, k, s, h)
-    (tells updateNumber countsOf
+    (tells update_number counts_of
     c.before.u.given.1 refl (three c.before.before.before.args.counts.now _ _ _ c.before.before.before.requires))
 
 returns-2 : tie.Need-returns-2
 returns-2 c =
     let r : SFits w64 c.below-zero.result = record { sfits = c.below-zero.type-inv } in
     let z : SFits w64 c.before.before.u2.given.0.0 = record { sfits = c.before.known-told2.given.0.1 } in
-    simp (to_z-of_z, r) (tells updateNumber countsOf c.before.before.u2.given.1 (simp (to_z-of_z, z) at c.below-zero.ensures) refl)
+    simp (to_z-of_z, r) (tells update_number counts_of c.before.before.u2.given.1 (simp (to_z-of_z, z) at c.below-zero.ensures) refl)
 
 pub tell-update-spec : {M : Type 1} → statement M
 tell-update-spec =

@@ -5,7 +5,7 @@ use mir.Val.{SFits}
 use mir.Facts.{to_z-of_z}
 use Rattle.chart.specs.declared.Marked.TheVariants.{Mark}
 use Rattle.chart.specs.Promises.{told}
-use Rattle.answers.specs.Promises.{markNumber}
+use Rattle.answers.specs.Promises.{mark_number}
 use Rattle.answers.specs.Answers.{tells, one, two, longer}
 use borrow.Author.Rules.{rules}
 use Rattle.telling_more.proofs.tell_mark.Statement.{statement}
@@ -44,7 +44,7 @@ returns c =
     let at-m = at-shown.before.before.before in
     let s = at-m.before.before.before in
     let l = s.args.mark.now in
-    tells (λ m. markNumber (told m).number (told m).values) (λ m. (told m).values)
+    tells (λ m. mark_number (told m).number (told m).values) (λ m. (told m).values)
     (at-m.m.given.1 ∙ ap Mark at-shown.shown.given.1) refl (one l _ (longer l s.requires))
 
 same-length-2 : tie.Need-same-length-2
@@ -56,7 +56,7 @@ returns-2 c =
     let at-m = at-shown2.before.before.before in
     let s = at-m.before.before.before in
     let l = s.args.mark.now in
-    tells (λ m. markNumber (told m).number (told m).values) (λ m. (told m).values)
+    tells (λ m. mark_number (told m).number (told m).values) (λ m. (told m).values)
     (at-m.m.given.1 ∙ ap Mark at-shown2.shown2.given.1) refl (two l _ _ s.requires)
 
 returns-3 : tie.Need-returns-3
@@ -64,7 +64,7 @@ returns-3 c =
     let r : SFits w64 c.below-zero.result = record { sfits = c.below-zero.type-inv } in
     let z : SFits w64 c.before.before.m2.given.0.0 = record { sfits = c.before.known-told4.given.0.1 } in
     simp (to_z-of_z, r)
-    (tells (λ m. markNumber (told m).number (told m).values) (λ m. (told m).values)
+    (tells (λ m. mark_number (told m).number (told m).values) (λ m. (told m).values)
     c.before.before.m2.given.1 (simp (to_z-of_z, z) at c.below-zero.ensures) refl)
 
 pub tell-mark-spec : {M : Type 1} → statement M

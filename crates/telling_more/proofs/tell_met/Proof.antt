@@ -5,8 +5,8 @@ use mir.Val.{SFits}
 use mir.Facts.{to_z-of_z}
 use native.Mathlib.Omega.{arith}
 use lib.ListN.{length-set}
-use Rattle.meet_books.specs.Promises.{meetAnswer}
-use Rattle.answers.specs.Promises.{meetNumber, metOf}
+use Rattle.meet_books.specs.Promises.{meet_answer}
+use Rattle.answers.specs.Promises.{meet_number, met_of}
 use Rattle.answers.specs.Answers.{tells, four}
 use borrow.Author.Rules.{rules}
 use Rattle.telling_more.proofs.tell_met.Statement.{statement}
@@ -44,7 +44,7 @@ returns c =
     let x : SFits w64 c.before.m.given.0.1.1.1.0 = record { sfits = c.known-told.given.1.1.1.0.1 } in
     let y : SFits w64 c.before.m.given.0.1.1.1.1.0 = record { sfits = c.known-told.given.1.1.1.1.0.1 } in
     simp (to_z-of_z, u, v, s, x, y)
-    (tells (λ m. meetNumber (meetAnswer m)) (λ m. metOf (meetAnswer m))
+    (tells (λ m. meet_number (meet_answer m)) (λ m. met_of (meet_answer m))
     c.before.m.given.1 refl (four c.before.before.before.args.met.now _ _ _ _ c.before.before.before.requires))
 
 returns-2 : tie.Need-returns-2
@@ -52,7 +52,7 @@ returns-2 c =
     let r : SFits w64 c.below-zero.result = record { sfits = c.below-zero.type-inv } in
     let z : SFits w64 c.before.before.m2.given.0.0 = record { sfits = c.before.known-told2.given.0.1 } in
     simp (to_z-of_z, r)
-    (tells (λ m. meetNumber (meetAnswer m)) (λ m. metOf (meetAnswer m))
+    (tells (λ m. meet_number (meet_answer m)) (λ m. met_of (meet_answer m))
     c.before.before.m2.given.1 (simp (to_z-of_z, z) at c.below-zero.ensures) refl)
 
 pub tell-met-spec : {M : Type 1} → statement M

@@ -6,7 +6,7 @@ use mir.Facts.{to_z-of_z, to_z_pos}
 use Rattle.reading.specs.Promises.{told}
 use mathlib.Core.Path.{refl}
 use lib.ListN.{length-set}
-use Rattle.answers.specs.Promises.{placeNumber, piece_of}
+use Rattle.answers.specs.Promises.{place_number, piece_of}
 use Rattle.answers.specs.Answers.{tells, three}
 use borrow.Author.Rules.{rules}
 use Rattle.telling_more.proofs.tell_piece.Statement.{statement}
@@ -49,13 +49,13 @@ returns c =
     let u : SFits w64 c.before.h.given.0.1.0 = record { sfits = c.known-told.given.1.0.1 } in
     let d : SFits w64 c.before.h.given.0.1.1.0 = record { sfits = c.known-told.given.1.1.0.1 } in
     simp (to_z-of_z, n, u, d)
-    (tells (λ h. placeNumber s.args.next (told h)) (λ h. piece_of (told h))
+    (tells (λ h. place_number s.args.next (told h)) (λ h. piece_of (told h))
     c.before.h.given.1 (to_z_pos w64 (omega (arith, s.ranges.next))) (three s.args.piece.now _ _ _ s.requires))
 
 returns-2 : tie.Need-returns-2
 returns-2 c =
     let s = c.before.before in
-    tells (λ h. placeNumber s.args.next (told h)) (λ h. piece_of (told h)) c.enum_told.given.1 (to_z_pos w64 (omega (arith, s.ranges.next))) refl
+    tells (λ h. place_number s.args.next (told h)) (λ h. piece_of (told h)) c.enum_told.given.1 (to_z_pos w64 (omega (arith, s.ranges.next))) refl
 
 returns-3 : tie.Need-returns-3
 returns-3 c =
@@ -64,7 +64,7 @@ returns-3 c =
     let r : SFits w64 c.below-zero.result = record { sfits = c.below-zero.type-inv } in
     let z : SFits w64 at-declined.h2.given.0.0 = record { sfits = c.before.known-told2.given.0.1 } in
     simp (to_z-of_z, r)
-    (tells (λ h. placeNumber entry.args.next (told h)) (λ h. piece_of (told h))
+    (tells (λ h. place_number entry.args.next (told h)) (λ h. piece_of (told h))
     at-declined.h2.given.1 (simp (to_z-of_z, z) at c.below-zero.ensures) refl)
 
 pub tell-piece-spec : {M : Type 1} → statement M

@@ -1,5 +1,5 @@
 -- `update::insert_below` meets its contract, by recursion on the limit.
-use Rattle.update.specs.CodeUpdates.{inserted-none, inserted-step}
+use Rattle.update.specs.CodeUpdates.{inserted_none, inserted_step}
 use Rattle.std.proofs.Common.{ℕ, ◌<◌, arith, rules}
 use borrow.Fn.Kinds.{In}
 use borrow.Fn.PlainCycle.{Measures, is, falls, and}
@@ -62,7 +62,7 @@ insert-below-alone-requires : (t : ℕ) → insert-below-lts.Need-alone-requires
 insert-below-alone-requires t c κs = search rules
 
 insert-below-returns-2 : (t : ℕ) → insert-below-lts.Need-returns-2 (claims t) (insert-below-at t) insert-below.Post
-insert-below-returns-2 t c = inserted-none c.before.before.if1.false c.before.if2.true
+insert-below-returns-2 t c = inserted_none c.before.before.if1.false c.before.if2.true
 
 insert-below-inner-slot-requires : (t : ℕ) → insert-below-lts.Need-inner-slot-requires (claims t) (insert-below-at t) insert-below.Post
 insert-below-inner-slot-requires t c κs = search rules
@@ -99,7 +99,7 @@ insert-below-returns-3 t c =
     let opened = at_off.before.before.before in
     let tested = opened.before.before in
     let slot = tested.before.before in
-    inserted-step slot.before.before.if1.false slot.inner-slot.ensures tested.at-most.ensures opened.lower-on.ensures
+    inserted_step slot.before.before.if1.false slot.inner-slot.ensures tested.at-most.ensures opened.lower-on.ensures
     (below .insert-below .ensures) at-rebuild.rebuild.ensures
 
 pub +insert-below-spec : {M : Type 1} → statement M

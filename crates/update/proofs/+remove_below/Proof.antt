@@ -1,5 +1,5 @@
 -- `update::remove_below` meets its contract, by recursion on the limit.
-use Rattle.update.specs.CodeUpdates.{removed-none, removed-single, removed-emptied, removed-step}
+use Rattle.update.specs.CodeUpdates.{removed_none, removed_single, removed_emptied, removed_step}
 use Rattle.std.proofs.Common.{ℕ, ◌<◌, arith, rules}
 use borrow.Fn.Kinds.{In}
 use borrow.Fn.PlainCycle.{Measures, is, falls, and}
@@ -53,13 +53,13 @@ remove-below-alone-requires : (t : ℕ) → remove-below-lts.Need-alone-requires
 remove-below-alone-requires t c κs = search rules
 
 remove-below-returns : (t : ℕ) → remove-below-lts.Need-returns (claims t) (remove-below-at t) remove-below.Post
-remove-below-returns t c = removed-single c.before.if1.true c.alone.ensures
+remove-below-returns t c = removed_single c.before.if1.true c.alone.ensures
 
 remove-below-alone-requires-2 : (t : ℕ) → remove-below-lts.Need-alone-requires-2 (claims t) (remove-below-at t) remove-below.Post
 remove-below-alone-requires-2 t c κs = search rules
 
 remove-below-returns-2 : (t : ℕ) → remove-below-lts.Need-returns-2 (claims t) (remove-below-at t) remove-below.Post
-remove-below-returns-2 t c = removed-none c.before.before.if1.false c.before.if2.true
+remove-below-returns-2 t c = removed_none c.before.before.if1.false c.before.if2.true
 
 remove-below-inner-slot-requires : (t : ℕ) → remove-below-lts.Need-inner-slot-requires (claims t) (remove-below-at t) remove-below.Post
 remove-below-inner-slot-requires t c κs = search rules
@@ -93,7 +93,7 @@ remove-below-returns-3 t c =
     let opened = at_off.before.before.before in
     let tested = opened.before.before in
     let slot = tested.before.before in
-    removed-emptied slot.before.before.if1.false slot.inner-slot.ensures tested.is-less.ensures opened.lower-on.ensures
+    removed_emptied slot.before.before.if1.false slot.inner-slot.ensures tested.is-less.ensures opened.lower-on.ensures
     (below .remove-below .ensures) at-if3.if3.true
 
 remove-below-seam-after-requires : (t : ℕ) → remove-below-lts.Need-seam-after-requires (claims t) (remove-below-at t) remove-below.Post
@@ -114,7 +114,7 @@ remove-below-returns-4 t c =
     let opened = at_off.before.before.before in
     let tested = opened.before.before in
     let slot = tested.before.before in
-    removed-step slot.before.before.if1.false slot.inner-slot.ensures tested.is-less.ensures opened.lower-on.ensures
+    removed_step slot.before.before.if1.false slot.inner-slot.ensures tested.is-less.ensures opened.lower-on.ensures
     (below .remove-below .ensures) left.if3.false sought.seam-after.ensures c.before.rebuild.ensures
 
 pub +remove-below-spec : {M : Type 1} → statement M

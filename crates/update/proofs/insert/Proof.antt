@@ -1,5 +1,5 @@
 -- `update::insert` meets its contract.
-use Rattle.table.specs.Fields.{mostLevels}
+use Rattle.table.specs.Fields.{most_levels}
 use Rattle.update.specs.Inserting.{inserted}
 use Rattle.std.proofs.Common.{arith, rules}
 use Rattle.update.proofs.insert.Statement.{statement}
@@ -12,7 +12,7 @@ same_length : tie.Need-same-length
 same_length c = search rules
 
 returns : tie.Need-returns
-returns c = inserted {limit = mostLevels} (omega arith) c.before.insert-below.ensures
+returns c = inserted {limit = most_levels} (omega arith) c.before.insert-below.ensures
 
 pub insert-spec : {M : Type 1} → statement M
 insert-spec = tie.close (tie.spec insert-below-requires same_length returns)

@@ -1,5 +1,5 @@
 -- `update::insert_beside` meets its contract.
-use Rattle.update.specs.CodeUpdates.{inserted-front, inserted-back}
+use Rattle.update.specs.CodeUpdates.{inserted_front, inserted_back}
 use Rattle.std.proofs.Common.{rules}
 use Rattle.update.proofs.insert_beside.Statement.{statement}
 use Rattle.update.proofs.insert_beside.Tie as tie
@@ -17,7 +17,7 @@ returns : tie.Need-returns
 returns c =
     let at-raise = c.before in
     let at-at-most = at-raise.before.before.before in
-    λ limit single. inserted-back at-at-most.at-most.ensures at-raise.before.before.if1.true single
+    λ limit single. inserted_back at-at-most.at-most.ensures at-raise.before.before.if1.true single
     at-raise.raise.ensures
 
 raise-requires-2 : tie.Need-raise-requires-2
@@ -30,7 +30,7 @@ returns-2 : tie.Need-returns-2
 returns-2 c =
     let at-raise2 = c.before in
     let at-at-most = at-raise2.before.before.before in
-    λ limit single. inserted-front at-at-most.at-most.ensures at-raise2.before.before.if1.false single
+    λ limit single. inserted_front at-at-most.at-most.ensures at-raise2.before.before.if1.false single
     at-raise2.raise2.ensures
 
 pub insert-beside-spec : {M : Type 1} → statement M

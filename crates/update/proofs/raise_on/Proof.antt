@@ -1,5 +1,5 @@
 -- `update::raise_on` meets its contract.
-use Rattle.update.specs.CodeSteps.{raised-one, raised-other}
+use Rattle.update.specs.CodeSteps.{raised_one, raised_other}
 use Rattle.std.proofs.Common.{rules}
 use Rattle.update.proofs.raise_on.Statement.{statement}
 use Rattle.update.proofs.raise_on.Tie as tie
@@ -11,7 +11,7 @@ same_length : tie.Need-same-length
 same_length c = search rules
 
 returns : tie.Need-returns
-returns c = raised-other c.before.before.before.if1.true c.before.raise.ensures
+returns c = raised_other c.before.before.before.if1.true c.before.raise.ensures
 
 raise-requires-2 : tie.Need-raise-requires-2
 raise-requires-2 c κs = search rules
@@ -20,7 +20,7 @@ same-length-2 : tie.Need-same-length-2
 same-length-2 c = search rules
 
 returns-2 : tie.Need-returns-2
-returns-2 c = raised-one c.before.before.before.if1.false c.before.raise2.ensures
+returns-2 c = raised_one c.before.before.before.if1.false c.before.raise2.ensures
 
 pub raise-on-spec : {M : Type 1} → statement M
 raise-on-spec =

@@ -1,9 +1,9 @@
 -- `update::rebalance` meets its contract.
 use Rattle.std.proofs.Common.{arith, rules}
-use Rattle.table.specs.Fields.{offerTree}
-use Rattle.table.specs.Rep.{height-read}
-use Rattle.shape.specs.Splices.{towers-told}
-use Rattle.update.specs.CodeSteps.{tall-left, tall-right, none-tall}
+use Rattle.table.specs.Fields.{offer_tree}
+use Rattle.table.specs.Rep.{height_read}
+use Rattle.shape.specs.Splices.{towers_told}
+use Rattle.update.specs.CodeSteps.{tall_left_lem, tall_right_lem, none_tall}
 use Rattle.update.proofs.rebalance.Statement.{statement}
 use Rattle.update.proofs.rebalance.Tie as tie
 
@@ -20,7 +20,7 @@ above-requires : tie.Need-above-requires
 above-requires c κs =
     let at-height-in-arg = c.before.before.before in
     let entry = at-height-in-arg.before.before.before in
-    omega (arith, height-read _ offerTree entry.args.r.tree c.height-in2.ensures)
+    omega (arith, height_read _ offer_tree entry.args.r.tree c.height-in2.ensures)
 
 rotate-requires : tie.Need-rotate-requires
 rotate-requires c κs = search rules
@@ -39,7 +39,7 @@ returns c =
     let a = entry.args in
     let l = a.l.tree in
     let r = a.r.tree in
-    tall-left (towers-told _ offerTree l r left.height-in.ensures right.height-in2.ensures at_above.above.ensures)
+    tall_left_lem (towers_told _ offer_tree l r left.height-in.ensures right.height-in2.ensures at_above.above.ensures)
     at-rotate.before.before.if1.true at-rotate.rotate.ensures
 
 above-requires-2 : tie.Need-above-requires-2
@@ -48,7 +48,7 @@ above-requires-2 c κs =
     let left = at_above.before.before.before in
     let at-capacity = left.before.before in
     let entry = at-capacity.before.before in
-    omega (arith, height-read _ offerTree entry.args.l.tree left.height-in.ensures)
+    omega (arith, height_read _ offer_tree entry.args.l.tree left.height-in.ensures)
 
 rotate-requires-2 : tie.Need-rotate-requires-2
 rotate-requires-2 c κs = search rules
@@ -68,7 +68,7 @@ returns-2 c =
     let a = entry.args in
     let l = a.l.tree in
     let r = a.r.tree in
-    tall-right (towers-told _ offerTree r l right.height-in2.ensures left.height-in.ensures at-above2.above2.ensures)
+    tall_right_lem (towers_told _ offer_tree r l right.height-in2.ensures left.height-in.ensures at-above2.above2.ensures)
     at-if2.if2.true at-rotate2.rotate2.ensures
 
 raise-requires : tie.Need-raise-requires
@@ -88,8 +88,8 @@ returns-3 c =
     let a = entry.args in
     let l = a.l.tree in
     let r = a.r.tree in
-    none-tall (towers-told _ offerTree l r left.height-in.ensures right.height-in2.ensures left-low.before.above.ensures) left-low.if1.false
-    (towers-told _ offerTree r l right.height-in2.ensures left.height-in.ensures right-low.before.above2.ensures) right-low.if2.false
+    none_tall (towers_told _ offer_tree l r left.height-in.ensures right.height-in2.ensures left-low.before.above.ensures) left-low.if1.false
+    (towers_told _ offer_tree r l right.height-in2.ensures left.height-in.ensures right-low.before.above2.ensures) right-low.if2.false
     c.before.raise.ensures
 
 pub rebalance-spec : {M : Type 1} → statement M

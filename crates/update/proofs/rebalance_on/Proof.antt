@@ -1,5 +1,5 @@
 -- `update::rebalance_on` meets its contract.
-use Rattle.update.specs.CodeSteps.{rebalanced-one, rebalanced-other}
+use Rattle.update.specs.CodeSteps.{rebalanced_one, rebalanced_other}
 use Rattle.std.proofs.Common.{rules}
 use Rattle.update.proofs.rebalance_on.Statement.{statement}
 use Rattle.update.proofs.rebalance_on.Tie as tie
@@ -11,7 +11,7 @@ same_length : tie.Need-same-length
 same_length c = search rules
 
 returns : tie.Need-returns
-returns c = rebalanced-other c.before.before.before.if1.true c.before.rebalance.ensures
+returns c = rebalanced_other c.before.before.before.if1.true c.before.rebalance.ensures
 
 rebalance-requires-2 : tie.Need-rebalance-requires-2
 rebalance-requires-2 c κs = search rules
@@ -20,7 +20,7 @@ same-length-2 : tie.Need-same-length-2
 same-length-2 c = search rules
 
 returns-2 : tie.Need-returns-2
-returns-2 c = rebalanced-one c.before.before.before.if1.false c.before.rebalance2.ensures
+returns-2 c = rebalanced_one c.before.before.before.if1.false c.before.rebalance2.ensures
 
 pub rebalance-on-spec : {M : Type 1} → statement M
 rebalance-on-spec =

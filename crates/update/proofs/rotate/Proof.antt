@@ -1,6 +1,6 @@
 -- `update::rotate` meets its contract.
-use Rattle.update.specs.CodeSteps.{read-le, read-lt}
-use Rattle.update.specs.Rotating.{rotated-once, rotated-twice}
+use Rattle.update.specs.CodeSteps.{read_le, read_lt}
+use Rattle.update.specs.Rotating.{rotated_once, rotated_twice}
 use Rattle.std.proofs.Common.{◌∙◌, rules}
 use Rattle.update.proofs.rotate.Statement.{statement}
 use Rattle.update.proofs.rotate.Tie as tie
@@ -49,8 +49,8 @@ returns c =
     let slot = tall-off.before.before in
     let at_off = slot.before in
     let at-lower-on = at_off.before.before.before in
-    rotated-once at-lower-on.lower-on.ensures
-    (read-le tall-off.height.ensures tall-on.height2.ensures tested.if1.true)
+    rotated_once at-lower-on.lower-on.ensures
+    (read_le tall-off.height.ensures tall-on.height2.ensures tested.if1.true)
     near.raise-on.ensures slot.inner-slot.ensures far.raise-on2.ensures c.sum.ensures
 
 lower-on-requires-2 : tie.Need-lower-on-requires-2
@@ -101,8 +101,8 @@ returns-2 c =
     let slot = tall-off.before.before in
     let at_off = slot.before in
     let at-lower-on = at_off.before.before.before in
-    rotated-twice at-lower-on.lower-on.ensures
-    (read-lt tall-on.height2.ensures tall-off.height.ensures tested.if1.false)
+    rotated_twice at-lower-on.lower-on.ensures
+    (read_lt tall-on.height2.ensures tall-off.height.ensures tested.if1.false)
     inner.lower-on2.ensures slot.inner-slot.ensures first.raise-on3.ensures second.raise-on4.ensures far.before.inner-slot2.ensures
     far.raise-on5.ensures c.sum-three.ensures
 

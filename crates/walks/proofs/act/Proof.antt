@@ -1,5 +1,5 @@
 -- `walks::act` meets its contract: action by action.
-use Rattle.walks.specs.Actions.{acts-stay, acts-retreat, acts-advance, acts-pop}
+use Rattle.walks.specs.Actions.{acts_stay, acts_retreat, acts_advance, acts_pop}
 use borrow.Author.Rules.{rules}
 use Rattle.walks.proofs.act.Statement.{statement}
 use Rattle.walks.proofs.act.Tie as tie
@@ -29,16 +29,16 @@ pop-requires : tie.Need-pop-requires
 pop-requires c κs = search rules
 
 returns : tie.Need-returns
-returns c = acts-stay c.enum_told.given.1
+returns c = acts_stay c.enum_told.given.1
 
 returns-2 : tie.Need-returns-2
-returns-2 c = acts-retreat c.before.enum-told2.given.1 c.retreat.ensures
+returns-2 c = acts_retreat c.before.enum-told2.given.1 c.retreat.ensures
 
 returns-3 : tie.Need-returns-3
-returns-3 c = acts-advance c.before.enum-told3.given.1 c.advance.ensures
+returns-3 c = acts_advance c.before.enum-told3.given.1 c.advance.ensures
 
 returns-4 : tie.Need-returns-4
-returns-4 c = acts-pop c.before.before.enum-told4.given.1 (rw c.before.top.ensures at c.pop.ensures)
+returns-4 c = acts_pop c.before.before.enum-told4.given.1 (rw c.before.top.ensures at c.pop.ensures)
 
 pub act-spec : {M : Type 1} → statement M
 act-spec =

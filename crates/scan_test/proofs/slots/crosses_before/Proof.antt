@@ -1,6 +1,6 @@
 -- `scan_test::slots::crosses_before` is safe: both products fit.
 use Rattle.std.proofs.Common.{arith, to_z-of_z, w64, SFits, rules}
-use Rattle.scan_test.specs.Clamps.{product-fits}
+use Rattle.scan_test.specs.Clamps.{product_fits}
 use Rattle.scan_test.proofs.slots.crosses_before.Statement.{statement}
 use Rattle.scan_test.proofs.slots.crosses_before.Tie as tie
 
@@ -29,7 +29,7 @@ mul-result c =
     let at-bounded = at-bounded2.before.before in
     let f : SFits w64 at-bounded.bounded.result = record { sfits = at-bounded.bounded.type-inv } in
     let g : SFits w64 c.bounded4.result = record { sfits = c.bounded4.type-inv } in
-    simp (to_z-of_z, f, g) (product-fits 1_999_999_999 199_999 _ _ at-bounded.bounded.ensures c.bounded4.ensures (omega arith))
+    simp (to_z-of_z, f, g) (product_fits 1_999_999_999 199_999 _ _ at-bounded.bounded.ensures c.bounded4.ensures (omega arith))
 
 mul-result-2 : tie.Need-overflow-mul-result-2
 mul-result-2 c =
@@ -37,7 +37,7 @@ mul-result-2 c =
     let at-bounded2 = at-bounded3.before.before in
     let f : SFits w64 at-bounded2.bounded2.result = record { sfits = at-bounded2.bounded2.type-inv } in
     let g : SFits w64 at-bounded3.bounded3.result = record { sfits = at-bounded3.bounded3.type-inv } in
-    simp (to_z-of_z, f, g) (product-fits 1_999_999_999 199_999 _ _ at-bounded2.bounded2.ensures at-bounded3.bounded3.ensures (omega arith))
+    simp (to_z-of_z, f, g) (product_fits 1_999_999_999 199_999 _ _ at-bounded2.bounded2.ensures at-bounded3.bounded3.ensures (omega arith))
 
 returns : tie.Need-returns
 returns c = search rules

@@ -1,6 +1,6 @@
 -- `scan_test::slots::crossing` is safe: both differences fit.
 use Rattle.std.proofs.Common.{arith, to_z-of_z, w64, SFits, rules}
-use Rattle.scan_test.specs.Clamps.{gap-fits}
+use Rattle.scan_test.specs.Clamps.{gap_fits}
 use Rattle.scan_test.proofs.slots.crossing.Statement.{statement}
 use Rattle.scan_test.proofs.slots.crossing.Tie as tie
 
@@ -35,14 +35,14 @@ sub-t8 c =
     let at-bounded = at-bounded2.before.before in
     let f : SFits w64 at-bounded2.bounded2.result = record { sfits = at-bounded2.bounded2.type-inv } in
     let g : SFits w64 at-bounded.bounded.result = record { sfits = at-bounded.bounded.type-inv } in
-    simp (to_z-of_z, f, g) (gap-fits 999_999_999 999_999_999 _ _ at-bounded2.bounded2.ensures at-bounded.bounded.ensures (omega arith))
+    simp (to_z-of_z, f, g) (gap_fits 999_999_999 999_999_999 _ _ at-bounded2.bounded2.ensures at-bounded.bounded.ensures (omega arith))
 
 sub-t9 : tie.Need-overflow-sub-t9
 sub-t9 c =
     let at-bounded3 = c.before.before in
     let f : SFits w64 at-bounded3.bounded3.result = record { sfits = at-bounded3.bounded3.type-inv } in
     let g : SFits w64 c.bounded4.result = record { sfits = c.bounded4.type-inv } in
-    simp (to_z-of_z, f, g) (gap-fits 99_999 99_999 _ _ at-bounded3.bounded3.ensures c.bounded4.ensures (omega arith))
+    simp (to_z-of_z, f, g) (gap_fits 99_999 99_999 _ _ at-bounded3.bounded3.ensures c.bounded4.ensures (omega arith))
 
 returns : tie.Need-returns
 returns c = search rules
