@@ -14,7 +14,6 @@ int main(void) {
     int64_t found[CARRIER_FOUND_WORDS];
     int64_t piece[CARRIER_PIECE_WORDS];
     int64_t offers[2 * CARRIER_OFFER_WORDS];
-    int64_t load[CARRIER_LOAD_WORDS];
     int64_t met[CARRIER_MET_WORDS];
     int64_t units[CARRIER_UNITS_WORDS];
     double mark[CARRIER_MARK_WORDS];
@@ -26,8 +25,6 @@ int main(void) {
     printf("the rate is %s\n", answer == CARRIER_RATE_RANGE ? "out of range" : "in range");
     answer = carrier_query(table, WORDS, 0, 5, found, CARRIER_FOUND_WORDS);
     printf("offer %d at %d cents, and offer %d\n", (int)answer, (int)found[0], (int)found[1]);
-    answer = carrier_largest_load(table, WORDS, 0, 18, load, CARRIER_LOAD_WORDS);
-    printf("18 cents send up to %d kilograms, by offer %d\n", (int)load[0], (int)answer);
     answer = carrier_report(table, WORDS, 0, 4, 14, offers, 2 * CARRIER_OFFER_WORDS);
     for (index = 0; index < answer; index++) {
         printf("offer %d costs less than 14 cents at load 4\n", (int)offers[CARRIER_OFFER_WORDS * index]);

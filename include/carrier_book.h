@@ -34,13 +34,12 @@ extern "C" {
 #define CARRIER_WORDS(capacity) (64 * ((size_t)(capacity) + 1) + 1024)
 
 /* How many words an array has to have: `counts` of a post, a withdrawal or a take-back, `found` of a query, `out` of a listing a piece
- * and of a report an offer, `found` of a largest load, `met` of a meeting, `mark` of a chart mark, `units` of a voucher, `piece` of a
- * reading. Longer ones keep their later words. */
+ * and of a report an offer, `met` of a meeting, `mark` of a chart mark, `units` of a voucher, `piece` of a reading. Longer ones keep
+ * their later words. */
 #define CARRIER_COUNTS_WORDS 3
 #define CARRIER_FOUND_WORDS 3
 #define CARRIER_PIECE_WORDS 3
 #define CARRIER_OFFER_WORDS 3
-#define CARRIER_LOAD_WORDS 1
 #define CARRIER_MET_WORDS 4
 #define CARRIER_MARK_WORDS 2
 #define CARRIER_UNITS_WORDS 1
@@ -49,7 +48,7 @@ extern "C" {
 #define CARRIER_CAPACITY (-1)         /* open: the capacity is not in 1 to 4,096 */
 #define CARRIER_NO_ROOM (-2)          /* open: fewer words than the book takes from `start` on */
 #define CARRIER_NO_BOOK (-3)          /* each on a table but open and check: no book at `start`, or its part is cut short */
-#define CARRIER_OUT_OF_RANGE (-4)     /* post, withdraw: the number is out of range; report, voucher: the price is; largest_load: the budget */
+#define CARRIER_OUT_OF_RANGE (-4)     /* post, withdraw: the number is out of range; report, voucher: the price is */
 #define CARRIER_RATE_RANGE (-14)      /* post: the rate is out of range */
 #define CARRIER_BASE_RANGE (-15)      /* post: the base is out of range */
 #define CARRIER_LOAD_RANGE (-16)      /* query, report: the load is out of range */
@@ -57,8 +56,7 @@ extern "C" {
 #define CARRIER_FULL (-7)             /* post: as many offers are live as the capacity tells */
 #define CARRIER_NOT_LIVE (-8)         /* withdraw: no live offer has that number */
 #define CARRIER_NOTHING_TO_TAKE_BACK (-17) /* take_back: no update is remembered */
-#define CARRIER_EMPTY (-9)            /* query, largest_load, mark, meet: no offer is live */
-#define CARRIER_NO_LOAD_FITS (-18)    /* largest_load: at every load in range the least price is above the budget */
+#define CARRIER_EMPTY (-9)            /* query, mark, meet: no offer is live */
 #define CARRIER_OUTPUT_TOO_SHORT (-10) /* listing, report: `out` is shorter than three words a piece or an offer */
 #define CARRIER_RATES_NOT_APART (-12)  /* meet: some rate of the first book is not above some rate of the second */
 #define CARRIER_NO_SUCH_MARK (-13)     /* mark: the index is not in 0 to m, for m pieces */
@@ -99,13 +97,6 @@ int64_t carrier_listing(const int64_t *table, size_t words, size_t start, int64_
  * The table is only read. The work goes with log n + m * (log n)^2, for m offers reported of n that are live; where there are
  * any, 32 KB of the stack are cleared besides. */
 int64_t carrier_report(const int64_t *table, size_t words, size_t start, int64_t load, int64_t price, int64_t *out, size_t out_words);
-
-/* How much can be sent for a budget (-101,000,000,000 to 101,000,000,000 cents): the largest whole load in range whose least price is at
- * most the budget. The least price may rise and then fall with the load, so that loads that fit may lie on both sides of a gap; the
- * largest of all is told. Returns the number of the offer that carrier_query returns at that load, and writes the load to found[0]. The
- * causes, in order: CARRIER_NO_BOOK, CARRIER_OUT_OF_RANGE for the budget, CARRIER_EMPTY, and CARRIER_NO_LOAD_FITS where no load in range
- * fits, and only there. The table is only read. */
-int64_t carrier_largest_load(const int64_t *table, size_t words, size_t start, int64_t budget, int64_t *found, size_t found_words);
 
 /* Returns 1 where the words from `start` on are a book in every particular, with every envelope right and a memory that can be undone, and 0 where
  * they are not.

@@ -4,8 +4,7 @@ use Rattle.std.proofs.Common.{ap, sym, ◌∙◌, subst, add-one, arith, length-
 use Rattle.std.proofs.Math.Option.{Option}
 use Rattle.std.proofs.lemmas.List.{length-map}
 use Rattle.plain.specs.Causes.{Cause, cause_number, FirstOf, Clear}
-use Rattle.plain.specs.Book.{State, Call, query, listing, report, largest_load, Answer, refused, live, found, listed, reported, fitted}
-use Rattle.plain.specs.Book.{step, envelope, piece_words}
+use Rattle.plain.specs.Book.{State, Call, query, listing, report, Answer, refused, live, found, listed, reported, step, envelope, piece_words}
 use Rattle.trees.specs.Tree.{height}
 use Rattle.meeting.specs.Machine.{meet}
 use Rattle.dynamic.specs.OfferTree.{Held}
@@ -22,9 +21,7 @@ use Rattle.promises.specs.declared.Listed.{Listed}
 use Rattle.promises.specs.declared.Listed.TheVariants.{Pieces, Declined as ListingDeclined}
 use Rattle.promises.specs.declared.Reported.{Reported}
 use Rattle.promises.specs.declared.Reported.TheVariants.{Offers, Declined as ReportDeclined}
-use Rattle.promises.specs.declared.Fitted.{Fitted}
-use Rattle.promises.specs.declared.Fitted.TheVariants.{Load, Declined as FittedDeclined}
-use Rattle.promises.specs.Promises.{part_of, update_answer, found_answer, listing_answer, report_answer, fitted_answer}
+use Rattle.promises.specs.Promises.{part_of, update_answer, found_answer, listing_answer, report_answer}
 use Rattle.promises.specs.Numbered.{numbered}
 use Rattle.meet_books.specs.declared.Met.{Met}
 use Rattle.meet_books.specs.Promises.{meet_trials, Found as MeetsAt}
@@ -32,9 +29,9 @@ use Rattle.chart.specs.Promises.{plain_mark}
 use Rattle.vouchers.specs.Span.{due, only_due}
 use Rattle.reading.specs.Promises.{piece_of as handed_of, listed_at, root_pieces, PlaceOf, at_piece, past_last, Before}
 use Rattle.reading.specs.PartReading.{none_past, listed_is}
-use Rattle.answers.specs.Promises.{refusal, update_number, found_number, listed_number, reported_number, fitted_number, meet_number, mark_number}
-use Rattle.answers.specs.Promises.{place_number, found_of, load_of, met_of, piece_of, over}
-use Rattle.answers.specs.Promises.{Updated, Queried, Listing, Report, LargestAsked, MetBooks, MarkAsked, Vouchered, Begun, Steps, Pieced, place_of}
+use Rattle.answers.specs.Promises.{refusal, update_number, found_number, listed_number, reported_number, meet_number, mark_number, place_number}
+use Rattle.answers.specs.Promises.{found_of, met_of, piece_of, over}
+use Rattle.answers.specs.Promises.{Updated, Queried, Listing, Report, MetBooks, MarkAsked, Vouchered, Begun, Steps, Pieced, place_of}
 
 -- an answer of the plain book as one number
 abbrev pub answer_number : Answer → ℤ
@@ -43,7 +40,6 @@ answer_number (live n) = pos n
 answer_number (found number price second) = number
 answer_number (listed n ws) = pos n
 answer_number (reported n ws) = pos n
-answer_number (fitted number load) = number
 
 update_number_lem : (u : Update) (a : Answer) → a ≢ refused 0 → update_answer u ≡ a → update_number u ≡ answer_number a
 update_number_lem (Done (pos n) k s h) a d e = ap answer_number e
@@ -77,16 +73,6 @@ reported_number_lem (Offers (negsuc n)) out a d e = absurd (d (sym e))
 reported_number_lem (ReportDeclined (pos n)) out a d e = ap answer_number e
 reported_number_lem (ReportDeclined (negsuc n)) out a d e = absurd (d (sym e))
 
-fitted_number_lem : (f : Fitted) (a : Answer) → a ≢ refused 0 → fitted_answer f ≡ a → fitted_number f ≡ answer_number a
-fitted_number_lem (Load number load) a d e = ap answer_number e
-fitted_number_lem (FittedDeclined (pos n)) a d e = ap answer_number e
-fitted_number_lem (FittedDeclined (negsuc n)) a d e = absurd (d (sym e))
-
-fitted_word : (f : Fitted) (number load : ℤ) → fitted_answer f ≡ fitted number load → load_of f ≡ load ∷ []
-fitted_word (Load m q) number load e = let w : q ≡ load = cc in ap (λ x. x ∷ []) w
-fitted_word (FittedDeclined (pos m)) number load e = let z : ◌≡◌ {A = ℕ} 0 1 = cc in absurd (omega arith)
-fitted_word (FittedDeclined (negsuc m)) number load e = let z : ◌≡◌ {A = ℕ} 0 1 = cc in absurd (omega arith)
-
 pub updated_plainly :
     {start : ℕ} {t : List ℤ} (plain : State) (held : Option (Held Item)) → Form (part_of t start) plain held → {k : Call} {t' counts counts' : List ℤ} {r : ℤ} →
     Updated k start t t' counts counts' r → 3 ≤ length counts → r ≡ answer_number (step plain k).answer
@@ -119,21 +105,6 @@ module _ {start : ℕ} {t : List ℤ} (plain : State) (held : Option (Held Item)
       r ≡ answer_number (step plain (report load price (length out))).answer
   report_plainly {load} {price} {out} {out'} p =
       p.number ∙ reported_number_lem p.reported out' _ (numbered plain (report load price (length out))) (p.reports.answers plain held book)
-
-  pub largest_plainly :
-      {budget : ℤ} {found found' : List ℤ} {r : ℤ} → LargestAsked budget start t found found' r → 1 ≤ length found →
-      r ≡ answer_number (step plain (largest_load budget)).answer
-  largest_plainly {budget} p h =
-      let q = p.long h in
-      q.2.number ∙ fitted_number_lem q.0 _ (numbered plain (largest_load budget)) (q.1.answers plain held book)
-
-  -- .. and the load, over the first word
-  pub largest_word :
-      {budget number load : ℤ} {out out' : List ℤ} {r : ℤ} → LargestAsked budget start t out out' r → 1 ≤ length out →
-      (step plain (largest_load budget)).answer ≡ fitted number load → out' ≡ load ∷ drop 1 out
-  largest_word {number = n} {load} {out} p h e =
-      let q = p.long h in
-      q.2.words ∙ ap (λ (vs : List ℤ). over vs out) (fitted_word q.0 n load (q.1.answers plain held book ∙ e))
 
   pub marked_plainly : {index : ℤ} {mark mark' : List Float} {r : ℤ} → MarkAsked start t index mark mark' r → 2 ≤ length mark
       → (r ≡ mark_number (plain_mark plain.offers index).number (plain_mark plain.offers index).values)

@@ -9,9 +9,7 @@ use Rattle.promises.specs.declared.Update.{Update}
 use Rattle.promises.specs.declared.Found.{Found}
 use Rattle.promises.specs.declared.Listed.{Listed}
 use Rattle.promises.specs.declared.Reported.{Reported}
-use Rattle.promises.specs.declared.Fitted.{Fitted}
-use Rattle.promises.specs.Promises.{opening_answer, update_told, found_told, listed_told, reported_told, fitted_told}
-use Rattle.promises.specs.Promises.{Opens, Updates, Queries, Lists, Reports, Sends, Checks}
+use Rattle.promises.specs.Promises.{opening_answer, update_told, found_told, listed_told, reported_told, Opens, Updates, Queries, Lists, Reports, Checks}
 use Rattle.meet_books.specs.Promises.{MeetAnswer, refused, met, meet_answer, MeetsBooks}
 use Rattle.chart.specs.Promises.{told as mark_told, Marks}
 use Rattle.vouchers.specs.VoucherTold.{told as voucher_told, Vouches}
@@ -48,9 +46,6 @@ listed_number r = first_or (listed_told r).number (listed_told r).values
 abbrev pub reported_number : Reported → ℤ
 reported_number r = first_or (reported_told r).number (reported_told r).values
 
-abbrev pub fitted_number : Fitted → ℤ
-fitted_number r = first_or (fitted_told r).number (fitted_told r).values
-
 abbrev pub meet_number : MeetAnswer → ℤ
 meet_number (refused cause) = refusal cause
 meet_number (met u v steps hl hr) = u
@@ -79,9 +74,6 @@ counts_of r = later_of (update_told r).values
 
 abbrev pub found_of : Found → List ℤ
 found_of r = later_of (found_told r).values
-
-abbrev pub load_of : Fitted → List ℤ
-load_of r = later_of (fitted_told r).values
 
 abbrev pub met_of : MeetAnswer → List ℤ
 met_of (refused cause) = []
@@ -142,10 +134,6 @@ pub record Report (load price : ℤ) (start : ℕ) (t out out' : List ℤ) (r : 
   pub reported : Reported
   pub reports : Reports load price start t out out' reported
   pub number : r ≡ reported_number reported
-
--- the load goes with the offer's number
-abbrev pub LargestAsked : (budget : ℤ) (start : ℕ) (t found found' : List ℤ) (r : ℤ) → Type 0
-LargestAsked budget start t found found' r = Lent 1 (Sends budget start t) fitted_number load_of found found' r
 
 pub record Checked (start : ℕ) (t : List ℤ) (r : ℤ) : Type 0 where
   pub passes : Bool

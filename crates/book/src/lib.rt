@@ -1,13 +1,12 @@
-// The carrier book in a lent table: open, post, withdraw, take_back, query, listing, report, largest_load, check.
+// The carrier book in a lent table: open, post, withdraw, take_back, query, listing, report, check.
 ghost use Rattle.plain.specs.Book.{post, withdraw, take_back};
 ghost use Rattle.promises.specs.Promises.{Updates};
 
 pub use asking::{listing, query};
 pub use check_part::check;
 pub use opening::open;
-pub use promises::{Fitted, Found, Listed, Opening, Reported, Update, no_book};
+pub use promises::{Found, Listed, Opening, Reported, Update, no_book};
 pub use reporting::report;
-pub use sending::largest_load;
 
 // Posts an offer to the book at `start`.
 pub fn post(table: &mut [i64], start: usize, number: i64, rate: i64, base: i64) -> Update

@@ -1,7 +1,7 @@
 // The carrier book for Rust and C: a slice is a pointer and a length there. Every answer is one number, a refusal its cause below 0.
 // Rust's rules hold of what is lent: a pointer is aligned and not null, and what is written overlaps nothing else that is lent.
-ghost use Rattle.answers.specs.Promises.{Opened, Posted, Withdrawn, TakenBack, Queried, Listing, Report, LargestAsked, Checked, MetBooks};
-ghost use Rattle.answers.specs.Promises.{MarkAsked, Vouchered, Begun, Pieced};
+ghost use Rattle.answers.specs.Promises.{Opened, Posted, Withdrawn, TakenBack, Queried, Listing, Report, Checked, MetBooks, MarkAsked};
+ghost use Rattle.answers.specs.Promises.{Vouchered, Begun, Pieced};
 
 // Opens an empty book at `start`: 0.
 #[unsafe(no_mangle)]
@@ -88,22 +88,6 @@ pub extern "C" fn carrier_report(
     ensures { Report load price start table.now out.old out.new result }
 {
     telling::reported_number(book::report(table, start, load, price, out))
-}
-
-// The largest load in range whose least price is at most the budget: the number of the offer that carrier_query returns there; and in `found` the load.
-#[unsafe(no_mangle)]
-pub extern "C" fn carrier_largest_load(
-    table: &[i64],
-    start: usize,
-    budget: i64,
-    found: &mut [i64],
-) -> i64
-    ensures { LargestAsked budget start table.now found.old found.new result }
-{
-    if found.len() < 1 {
-        return -100;
-    }
-    telling::tell_fitted(book::largest_load(table, start, budget), found)
 }
 
 // Whether the words from `start` on pass the check: 1 or 0.

@@ -1,7 +1,7 @@
 -- A call's line, taken apart: it is 27 bytes long, and its letter and its columns tell the call.
 use Rattle.std.specs.Prelude.{ℕ, ◌+◌, ◌≤◌, ◌≡◌, refl, List, [], ◌∷◌, ◌++◌, length, get_or, take, drop, replicate, ℤ, pos}
 use Rattle.std.proofs.Common.{ap, sym, ◌∙◌, subst, append_assoc, arith, length-append, length-drop, take_at, drop_at, take_all, length-take-le}
-use Rattle.plain.specs.Book.{Call, post, withdraw, query, listing, take_back, report, largest_load}
+use Rattle.plain.specs.Book.{Call, post, withdraw, query, listing, take_back, report}
 use Rattle.counter_print.specs.Texts.{space, decimal, justified, FitsIn}
 use Rattle.counter_columns.specs.Columns.{last_columns, line_of, HasLine, IsLineOf}
 use Rattle.counter_print.specs.Decimals.{fits_unsigned}
@@ -32,7 +32,6 @@ Shape (query load) line = (letter line ≡ 81) × LastColumns line load
 Shape (listing room) line = (letter line ≡ 76) × LastColumns line (pos 0)
 Shape take_back line = ⊥
 Shape (report load price room) line = ⊥
-Shape (largest_load budget) line = ⊥
 
 -- ---- columns of a known width
 
@@ -99,7 +98,6 @@ shape_of (query load) f = (refl, last_columns_lem 81 load f)
 shape_of (listing room) f = (refl, last_columns_lem 76 (pos 0) zero_fits)
 shape_of take_back f = f
 shape_of (report load price room) f = f
-shape_of (largest_load budget) f = f
 
 pub line_shape : {k : Call} {line : List ℕ} → IsLineOf k line → Shape k line
 line_shape {k} i = subst (Shape k) (sym i.text) (shape_of k i.fits)
@@ -153,7 +151,6 @@ line_of_lem (listing room) b₀ t e s =
     record { fits = tt; text = q.1 ∙ ap (λ (b : ℕ). b ∷ last_columns (pos 0)) s.0 }
 line_of_lem take_back b₀ t e s = absurd s
 line_of_lem (report load price room) b₀ t e s = absurd s
-line_of_lem (largest_load budget) b₀ t e s = absurd s
 
 pub shape_line : (k : Call) (line : List ℕ) → length line ≡ 27 → Shape k line → IsLineOf k line
 shape_line k [] e s = absurd (omega arith)
@@ -171,7 +168,6 @@ line_length_of (query load) f = omega (arith, justified_width 12 (decimal load) 
 line_length_of (listing room) f = omega (arith, justified_width 12 (decimal (pos 0)) zero_fits)
 line_length_of take_back f = absurd f
 line_length_of (report load price room) f = absurd f
-line_length_of (largest_load budget) f = absurd f
 
 pub line_length : {k : Call} {line : List ℕ} → IsLineOf k line → length line ≡ 27
 line_length {k} i = ap length i.text ∙ line_length_of k i.fits

@@ -4,7 +4,7 @@ use Rattle.std.proofs.Common.{sym, ◌∙◌, subst, arith}
 use mathlib.Core.List.{List, List-discrete}
 use Rattle.std.proofs.Math.Option.{Option, some, none as no-command}
 use Rattle.std.proofs.Math.Decide.{dec_le, ℕ_discrete}
-use Rattle.plain.specs.Book.{Call, post, withdraw, query, listing, take_back, report, largest_load}
+use Rattle.plain.specs.Book.{Call, post, withdraw, query, listing, take_back, report}
 use Rattle.counter_columns.specs.declared.Command.{Command}
 use Rattle.counter_columns.specs.declared.Command.TheVariants.{Post, Withdraw, Query, List as Listing, Unreadable}
 use Rattle.counter_field.specs.declared.Field.{Field}
@@ -24,7 +24,6 @@ as_command (query load) = some (Query load)
 as_command (listing room) = some Listing
 as_command take_back = no-command
 as_command (report load price room) = no-command
-as_command (largest_load budget) = no-command
 
 -- The command is a call's exactly where the line is that call's.
 abbrev pub Parsed : List ℕ → Command → Type 0
@@ -56,7 +55,6 @@ shape_tells (query q) line s = rw (s.0, holds_told (between 15 27 line) q s.1.la
 shape_tells (listing room) line s = rw s.0
 shape_tells take_back line s = absurd s
 shape_tells (report load price room) line s = absurd s
-shape_tells (largest_load budget) line s = absurd s
 
 -- ---- a line that is some call's
 
@@ -85,7 +83,6 @@ some_line (listing room) line e =
     (λ i. record { fits = tt; text = i.text }, λ i. record { fits = tt; text = i.text })
 some_line take_back line e = let z : ◌≡◌ {A = ℕ} 0 1 = cc in absurd (omega arith)
 some_line (report load price room) line e = let z : ◌≡◌ {A = ℕ} 0 1 = cc in absurd (omega arith)
-some_line (largest_load budget) line e = let z : ◌≡◌ {A = ℕ} 0 1 = cc in absurd (omega arith)
 
 pub parsed : (k : Call) {m : Command} (line : List ℕ) → some m ≡ as_command k → IsLineOf k line → Parsed line m
 unfolding SameLine
@@ -101,7 +98,6 @@ readable (query q) e = let z : ◌≡◌ {A = ℕ} 0 1 = cc in omega arith
 readable (listing room) e = let z : ◌≡◌ {A = ℕ} 0 1 = cc in omega arith
 readable take_back e = let z : ◌≡◌ {A = ℕ} 0 1 = cc in omega arith
 readable (report load price room) e = let z : ◌≡◌ {A = ℕ} 0 1 = cc in omega arith
-readable (largest_load budget) e = let z : ◌≡◌ {A = ℕ} 0 1 = cc in omega arith
 
 pub unreadable : (line : List ℕ) → ((k : Call) → IsLineOf k line → ⊥) → Parsed line Unreadable
 unreadable line none k = (λ e. absurd (readable k e), λ i. absurd (none k i))
@@ -137,7 +133,6 @@ has_line_known (query q) = fits_known 12 q
 has_line_known (listing room) = yes tt
 has_line_known take_back = no (λ f. f)
 has_line_known (report load price room) = no (λ f. f)
-has_line_known (largest_load budget) = no (λ f. f)
 
 line_known : (k : Call) (line : List ℕ) → Dec (IsLineOf k line)
 line_known k line = go (has_line_known k) (List-discrete ℕ_discrete line (line_of k))
@@ -179,7 +174,6 @@ wrong_letter line p w q l = unreadable line (λ k i. go k (line_shape i))
     go (listing room) s = l s.0
     go take_back s = s
     go (report load price room) s = s
-    go (largest_load budget) s = s
 
 -- The letter P, and columns that hold no three numbers.
 pub wrong_post : (line : List ℕ) → letter line ≡ 80 → ((n r b : ℤ) → PostColumns line n r b → ⊥) → Parsed line Unreadable
@@ -192,7 +186,6 @@ wrong_post line e none = unreadable line (λ k i. go k (line_shape i))
     go (listing room) s = omega (arith, s.0)
     go take_back s = s
     go (report load price room) s = s
-    go (largest_load budget) s = s
 
 -- Another letter, and last columns that hold no number.
 pub wrong_last : (line : List ℕ) → letter line ≢ 80 → ((z : ℤ) → LastColumns line z → ⊥) → Parsed line Unreadable
@@ -205,7 +198,6 @@ wrong_last line e none = unreadable line (λ k i. go k (line_shape i))
     go (listing room) s = none (pos 0) s.1
     go take_back s = s
     go (report load price room) s = s
-    go (largest_load budget) s = s
 
 -- The letter L, and last columns that hold another number than 0.
 pub wrong_list : (line : List ℕ) (z : ℤ) → letter line ≡ 76 → LastColumns line z → z ≢ pos 0 → Parsed line Unreadable
@@ -218,7 +210,6 @@ wrong_list line z e held other = unreadable line (λ k i. go k (line_shape i))
     go (listing room) s = other (sym (holds_told (between 15 27 line) z held.last) ∙ holds_told (between 15 27 line) (pos 0) s.1.last)
     go take_back s = s
     go (report load price room) s = s
-    go (largest_load budget) s = s
 
 -- ---- a line that is some call's, by its parts
 

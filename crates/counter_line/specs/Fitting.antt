@@ -9,9 +9,9 @@ use Rattle.offers.specs.Offers.{Offer, number_in_range, load_in_range, offer_in_
 use Rattle.offers.specs.Sizes.{number_of_lem, rate_of_lem, base_of_lem, number_size, number_is, price_at_size, base_gap_size, rate_gap_size}
 use Rattle.plain.specs.Causes.{Cause, declined, cause_number, capacity_out_of_range, table_too_short, no_book, number_out_of_range, rate_out_of_range}
 use Rattle.plain.specs.Causes.{base_out_of_range, load_out_of_range, price_out_of_range, number_live, book_full, number_not_live, book_empty}
-use Rattle.plain.specs.Causes.{output_too_short, unreadable_line, rates_not_apart, no_such_mark, nothing_to_take_back, no_load_fits}
-use Rattle.plain.specs.Book.{State, Undo, Call, post, withdraw, query, listing, take_back, report, largest_load, refused, live, trials, Recallable, respond}
-use Rattle.plain.specs.Book.{accepted, step, lower, higher, cheapest, envelope, piece_words}
+use Rattle.plain.specs.Causes.{output_too_short, unreadable_line, rates_not_apart, no_such_mark, nothing_to_take_back}
+use Rattle.plain.specs.Book.{State, Undo, Call, post, withdraw, query, listing, take_back, report, refused, live, trials, Recallable, respond, accepted}
+use Rattle.plain.specs.Book.{step, lower, higher, cheapest, envelope, piece_words}
 use Rattle.plain.specs.Trials.{clear}
 use Rattle.plain.specs.Sound.{Sound, step_sound}
 use Rattle.plain.specs.QueryLaws.{lower_tie, higher_tie, cheapest_names}
@@ -24,7 +24,7 @@ use Rattle.table.specs.Fields.{most_slots}
 
 -- ---- refusals
 
-few_causes : (c : Cause) → cause_number c ≤ 18
+few_causes : (c : Cause) → cause_number c ≤ 17
 few_causes capacity_out_of_range = omega arith
 few_causes table_too_short = omega arith
 few_causes no_book = omega arith
@@ -42,7 +42,6 @@ few_causes unreadable_line = omega arith
 few_causes rates_not_apart = omega arith
 few_causes no_such_mark = omega arith
 few_causes nothing_to_take_back = omega arith
-few_causes no_load_fits = omega arith
 
 pub refusal_fits : (number : ℤ) (c : Cause) → Fits number (refused (cause_number c))
 refusal_fits number c = (from_one c, fits_unsigned 3 (cause_number c) (omega arith) (omega (arith, few_causes c)))
@@ -81,9 +80,8 @@ shown (query q) = pos 0
 shown (listing room) = pos 0
 shown take_back = pos 0
 shown (report q p room) = pos 0
-shown (largest_load b) = pos 0
 
--- the room that the counter gives: it asks for no report and no largest load
+-- the room that the counter gives: it asks for no report
 abbrev pub Roomy : Call → Type 0
 Roomy (post n r b) = Unit {0}
 Roomy (withdraw n) = Unit {0}
@@ -91,7 +89,6 @@ Roomy (query q) = Unit {0}
 Roomy (listing room) = room ≡ 192
 Roomy take_back = Unit {0}
 Roomy (report q p room) = ⊥
-Roomy (largest_load b) = ⊥
 
 module _ (c : ℕ) (os : List Offer) (us : List Undo) (small : c ≤ most_slots) (sound : Sound (record { capacity = c; offers = os; memory = us }))
     (kept : Recallable (record { capacity = c; offers = os; memory = us })) where
@@ -127,7 +124,6 @@ module _ (c : ℕ) (os : List Offer) (us : List Undo) (small : c ≤ most_slots)
       go none (query q) e roomy after = found_fits q (not_not (load_in_range q) (clear (trials s (query q)) e).0) os sound.ranged
       go none take_back e roomy after = back_fits us after
       go none (report q p room) e roomy after = absurd roomy
-      go none (largest_load b) e roomy after = absurd roomy
       go none (listing room) e roomy after =
           let m = nltb→le room (3 * length (envelope os)) (clear (trials s (listing room)) e).0 in
           let n : length (envelope os) ≤ 64 = omega arith in

@@ -1,7 +1,7 @@
 -- What an answer's lines are written as, where each number fits its column.
 use Rattle.std.specs.Prelude.{◌≡◌, List, [], ◌∷◌, ◌++◌, ℕ, ◌≤◌, length, drop, ℤ, pos, negsuc}
 use Rattle.std.proofs.Common.{sym, ◌∙◌, ap, arith, length-append, take-append-drop}
-use Rattle.plain.specs.Book.{Answer, refused, live, found, listed, reported, fitted}
+use Rattle.plain.specs.Book.{Answer, refused, live, found, listed, reported}
 use Rattle.counter_print.specs.Texts.{decimal, numeral, digits, digits_within, FitsIn, answer_line}
 use Rattle.counter_print.specs.Justified.{justified_width}
 use Rattle.counter_print.specs.Printed.{Answers}
@@ -17,14 +17,13 @@ PiecesFit (number ∷ numerator ∷ []) = Unit {0}
 PiecesFit (number ∷ []) = Unit {0}
 PiecesFit [] = Unit {0}
 
--- `refused 0` is no answer of the plain book, and no line asks for a report or a largest load: nothing is printed for them
+-- `refused 0` is no answer of the plain book, and no line asks for a report: nothing is printed for them
 abbrev pub Fits : ℤ → Answer → Type 0
 Fits number (refused n) = (1 ≤ n) × FitsIn 3 (pos n)
 Fits number (live n) = FitsIn 6 number × FitsIn 14 (pos n)
 Fits number (found offer price second) = FitsIn 6 offer × FitsIn 14 price × FitsIn 14 second
 Fits number (listed m words) = PiecesFit words × FitsIn 14 (pos m) × (m ≤ 64)
 Fits number (reported m words) = ⊥
-Fits number (fitted offer load) = ⊥
 
 pub zero_fits : (k : ℕ) → 1 ≤ k → FitsIn k (pos 0)
 unfolding decimal numeral digits digits_within

@@ -1,10 +1,10 @@
 -- The proof of the claim about a history (`Claim`, in History): from an accepted opening, whatever the capacity, the start and the words were, and
--- after any list of posts, withdrawals, take-backs, queries, listings, reports and largest loads, refused ones among them.
+-- after any list of posts, withdrawals, take-backs, queries, listings and reports, refused ones among them.
 use Rattle.std.specs.Prelude.{◌≡◌, refl, List, [], ◌∷◌, ℕ, length, ℤ, nat_abs}
 use Rattle.std.proofs.Common.{sym, ◌∙◌, ap, subst}
 use Rattle.std.proofs.Math.Option.{Option, none, some}
 use Rattle.plain.specs.Causes.{Cause, declined, Clear}
-use Rattle.plain.specs.Book.{State, Undo, Call, post, withdraw, query, listing, take_back, report, largest_load, Answer, opened, open_trials, trials}
+use Rattle.plain.specs.Book.{State, Undo, Call, post, withdraw, query, listing, take_back, report, Answer, opened, open_trials, trials}
 use Rattle.plain.specs.Book.{recalling, accepted, respond, step, after, answers}
 use Rattle.trees.specs.Height.{log_height, log_height_p}
 use Rattle.dynamic.specs.OfferTree.{Held, Pair}
@@ -17,7 +17,7 @@ use Rattle.promises.specs.declared.Opening.TheVariants.{Opened}
 use Rattle.form.specs.Form.{Form, OffersIn}
 use Rattle.form.specs.Local.{Alike, form_alike}
 use Rattle.promises.specs.Promises.{part_of, Opens, Passes}
-use Rattle.history.specs.History.{Happens, by_update, by_query, by_listing, by_report, by_largest, History, finished, next, LowPairs, Kept}
+use Rattle.history.specs.History.{Happens, by_update, by_query, by_listing, by_report, History, finished, next, LowPairs, Kept}
 pub use Rattle.history.specs.History.{Low, Claim}
 
 -- ---- heights
@@ -43,14 +43,13 @@ step_capacity s k = go (declined (trials s k)) k
     go none (query q) = refl
     go none (listing room) = refl
     go none (report q p room) = refl
-    go none (largest_load b) = refl
     go none take_back = taken s.memory
       where
         taken : (m : List Undo) → (accepted (recalling s s.offers m) take_back).state.capacity ≡ s.capacity
         taken [] = refl
         taken (u ∷ us) = refl
 
--- a query, a listing, a report and a largest load leave the plain book as it was
+-- a query, a listing and a report leave the plain book as it was
 pub read_state : (s : State) (k : Call) → (accepted s k).state ≡ s → (step s k).state ≡ s
 read_state s k e = go (declined (trials s k))
   where
@@ -96,13 +95,6 @@ one_call {start} s held (by_report {room} q p out out' r k m d e) form =
       mid = held;
       stands = unmoved start d (read_state s (report q p room) refl) form;
       told = e ∙ k.answers s held form.book ∙ ap (λ (n : ℕ). (step s (report q p n)).answer) (sym m);
-      kept = refl;
-    }
-one_call {start} s held (by_largest b r p d e) form =
-    record {
-      mid = held;
-      stands = unmoved start d (read_state s (largest_load b) refl) form;
-      told = e ∙ p.answers s held form.book;
       kept = refl;
     }
 

@@ -4,7 +4,7 @@ use Rattle.std.specs.Prelude.{◌≡◌, ℕ, ◌*◌, ◌≤◌, length, ℤ}
 use mathlib.Core.List.{List, [], ◌∷◌, Memᴰ}
 use Rattle.std.proofs.Math.Option.{Option, none, some}
 use Rattle.integers.specs.Log.{log_up}
-use Rattle.plain.specs.Book.{State, Call, post, withdraw, query, listing, take_back, report, largest_load, Answer, step, after, answers}
+use Rattle.plain.specs.Book.{State, Call, post, withdraw, query, listing, take_back, report, Answer, step, after, answers}
 use Rattle.trees.specs.Operations.{Part, part_leaves, part_height}
 use Rattle.dynamic.specs.OfferTree.{Held, held_shape, Pair}
 use Rattle.dynamic.specs.Rearranged.{piece_trees}
@@ -13,11 +13,10 @@ use Rattle.promises.specs.declared.Update.{Update}
 use Rattle.promises.specs.declared.Found.{Found}
 use Rattle.promises.specs.declared.Listed.{Listed}
 use Rattle.promises.specs.declared.Reported.{Reported}
-use Rattle.promises.specs.declared.Fitted.{Fitted}
 use Rattle.form.specs.Form.{Form}
 use Rattle.form.specs.Local.{Alike}
-use Rattle.promises.specs.Promises.{part_of, Updates, Follows, Queries, Probes, Lists, Reports, Sends, found_told, update_answer, found_answer, listing_answer}
-use Rattle.promises.specs.Promises.{report_answer, fitted_answer}
+use Rattle.promises.specs.Promises.{part_of, Updates, Follows, Queries, Probes, Lists, Reports, found_told, update_answer, found_answer, listing_answer}
+use Rattle.promises.specs.Promises.{report_answer}
 
 -- The calls that change a book: each is an update.
 pub data Changes : Call → Type 0 where
@@ -33,7 +32,6 @@ pub data Happens (start : ℕ) (t : List ℤ) : Call → List ℤ → Answer →
       a ≡ listing_answer l out' → Happens start t (listing room) t' a
   by_report : {t' : List ℤ} {a : Answer} {room : ℕ} (q p : ℤ) (out out' : List ℤ) (r : Reported) → Reports q p start t out out' r → room ≡ length out →
       t' ≡ t → a ≡ report_answer r out' → Happens start t (report q p room) t' a
-  by_largest : {t' : List ℤ} {a : Answer} (b : ℤ) (r : Fitted) → Sends b start t r → t' ≡ t → a ≡ fitted_answer r → Happens start t (largest_load b) t' a
 
 -- A list of calls with their answers, from the words `t` to the words `t'`.
 pub data History (c start : ℕ) : List ℤ → List Call → List Answer → List ℤ → Type 0 where
@@ -61,7 +59,6 @@ Kept s start {t} {k} {t'} (by_update c u p e) held held' = (f : Follows k s held
 Kept s start (by_query q f p d e) held held' = Probes held (found_told f).values × (held ≡ held')
 Kept s start (by_listing out out' l p m d e) held held' = held ≡ held'
 Kept s start (by_report q p out out' r k m d e) held held' = held ≡ held'
-Kept s start (by_largest b r p d e) held held' = held ≡ held'
 
 -- each on the plain book that the calls before it left
 abbrev pub EachCall : {c start : ℕ} {t : List ℤ} {ks : List Call} {as' : List Answer} {t' : List ℤ} (s : State) → History c start t ks as' t' →

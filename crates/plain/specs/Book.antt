@@ -1,8 +1,8 @@
 -- The plain book (docs/REQUIREMENTS.md, 3): a capacity, a list of live offers in order and a memory of what to take back, fed the calls' arguments,
 -- an output's length with them, and no word of any table. Each call is first tried against the table of declined calls.
-use Rattle.std.specs.Prelude.{ℕ, zero, suc, ◌+◌, ◌*◌, ◌-◌, List, [], ◌∷◌, ◌++◌, map, Bool, true, false, not, ◌&&◌, ◌||◌, cond, length, take, leb, ltb, ℤ, pos, nat_abs, ◌-ℤ◌, ◌*ℤ◌}
+use Rattle.std.specs.Prelude.{ℕ, ◌+◌, ◌*◌, ◌-◌, List, [], ◌∷◌, ◌++◌, map, Bool, not, ◌&&◌, ◌||◌, cond, length, take, leb, ltb, ℤ, pos, nat_abs, ◌*ℤ◌}
 use Rattle.std.proofs.Math.Option.{Option, none, some}
-use Rattle.std.specs.Int.Signed.{le_z, lt_z}
+use Rattle.std.specs.Int.Signed.{lt_z}
 use Rattle.lists.specs.Filter.{every, keep}
 use Rattle.lists.specs.Firsts.{firsts}
 use Rattle.lists.specs.Tests.{any}
@@ -11,7 +11,7 @@ use Rattle.offers.specs.Offers.{Offer, between, number_in_range, rate_in_range, 
 use Rattle.offers.specs.Offers.{crossing_numerator, crossing_denominator}
 use Rattle.plain.specs.Causes.{Cause, Trial, ◌when◌, declined, Clear, cause_number, capacity_out_of_range, table_too_short, number_out_of_range}
 use Rattle.plain.specs.Causes.{rate_out_of_range, base_out_of_range, load_out_of_range, number_live, book_full, number_not_live, book_empty, output_too_short}
-use Rattle.plain.specs.Causes.{price_out_of_range, nothing_to_take_back, no_load_fits}
+use Rattle.plain.specs.Causes.{price_out_of_range, nothing_to_take_back}
 
 -- What undoes an accepted update: a posted offer goes out again, a withdrawn one comes back.
 pub data Undo : Type 0 where
@@ -36,7 +36,6 @@ pub data Call : Type 0 where
   take_back : Call
   -- with the length of the lent output, in words
   report : (load price : ℤ) (room : ℕ) → Call
-  largest_load : (budget : ℤ) → Call
 
 pub data Answer : Type 0 where
   -- a declined call's number
@@ -49,8 +48,6 @@ pub data Answer : Type 0 where
   listed : ℕ → List ℤ → Answer
   -- the count of the offers reported, and the words written
   reported : ℕ → List ℤ → Answer
-  -- the number of the offer that a query names first at the load, and the load
-  fitted : (number load : ℤ) → Answer
 
 pub record Outcome : Type 0 where
   pub state : State
@@ -78,7 +75,6 @@ undo_of os (query q) = []
 undo_of os (listing room) = []
 undo_of os take_back = []
 undo_of os (report q p room) = []
-undo_of os (largest_load b) = []
 
 abbrev pub most_remembered : ℕ
 most_remembered = 256
@@ -145,32 +141,6 @@ abbrev pub offer_words : List Offer → List ℤ
 offer_words [] = []
 offer_words (o ∷ os) = o.number ∷ o.rate ∷ o.base ∷ offer_words os
 
--- The least price at the load is at most the budget. No offers, no price.
-abbrev pub fits : ℤ → List Offer → ℤ → Bool
-fits b [] q = false
-fits b (o ∷ os) q = le_z (price_at (cheapest lower q o os) q) b
-
--- The loads in range by a place: −1,000,000 at place 0, 1,000,000 at place 2,000,000.
-abbrev pub load_at : ℕ → ℤ
-load_at i = pos i -ℤ pos 1_000_000
-
--- how many they are
-abbrev pub loads : ℕ
-loads = 2_000_001
-
-abbrev pub missing : Option ℤ → Bool
-missing none = true
-missing (some q) = false
-
--- Of the first n loads the last that passes a test, if one does.
-unfoldable pub last_that : (ℤ → Bool) → ℕ → Option ℤ
-last_that test zero = none
-last_that test (suc i) = cond (test (load_at i)) (some (load_at i)) (last_that test i)
-
--- Of all loads in range the last that fits: the largest.
-abbrev pub largest_fit : ℤ → List Offer → Option ℤ
-largest_fit b os = last_that (fits b os) loads
-
 -- ---- which calls are declined
 
 -- A part of capacity c has 64 × (c + 1) + 1,024 words.
@@ -200,7 +170,6 @@ range_trials (query q) = load_out_of_range when not (load_in_range q) ∷ []
 range_trials (listing room) = []
 range_trials take_back = []
 range_trials (report q p room) = price_out_of_range when not (price_in_range p) ∷ load_out_of_range when not (load_in_range q) ∷ []
-range_trials (largest_load b) = price_out_of_range when not (price_in_range b) ∷ []
 
 abbrev pub book_trials : State → Call → List Trial
 book_trials s (post n r b) =
@@ -212,10 +181,6 @@ book_trials s (query q) = book_empty when leb (length s.offers) 0 ∷ []
 book_trials s (listing room) = output_too_short when ltb room (3 * length (envelope s.offers)) ∷ []
 book_trials s take_back = nothing_to_take_back when leb (length s.memory) 0 ∷ []
 book_trials s (report q p room) = output_too_short when ltb room (3 * length (under q p s.offers)) ∷ []
-book_trials s (largest_load b) =
-    book_empty when leb (length s.offers) 0
-    ∷ no_load_fits when missing (largest_fit b s.offers)
-    ∷ []
 
 abbrev pub trials : State → Call → List Trial
 trials s k = range_trials k ++ book_trials s k
@@ -246,12 +211,6 @@ recalling s os us = record { capacity = s.capacity; offers = os; memory = us }
 abbrev pub changed : State → List Offer → List Undo → Outcome
 changed s os us = record { state = recalling s os us; answer = live (length os) }
 
--- The load, with the offer that a query names first there.
-abbrev pub fitted_at : List Offer → Option ℤ → Answer
-fitted_at [] q = refused (cause_number book_empty)  -- idle: an empty book declines the call
-fitted_at (o ∷ os) none = refused (cause_number no_load_fits)  -- idle: it is declined then
-fitted_at (o ∷ os) (some q) = fitted (cheapest lower q o os).number q
-
 -- What an accepted call does.
 abbrev pub accepted : State → Call → Outcome
 accepted s (post n r b) =
@@ -269,7 +228,6 @@ accepted s (query q) = record { state = s; answer = answer_of s.offers }
     answer_of (o ∷ os) = let best = cheapest lower q o os in found best.number (price_at best q) (cheapest higher q o os).number
 accepted s (listing room) = record { state = s; answer = listed (length (envelope s.offers)) (piece_words (envelope s.offers)) }
 accepted s (report q p room) = record { state = s; answer = reported (length (under q p s.offers)) (offer_words (under q p s.offers)) }
-accepted s (largest_load b) = record { state = s; answer = fitted_at s.offers (largest_fit b s.offers) }
 
 abbrev pub respond : State → Call → Option Cause → Outcome
 respond s k none = accepted s k

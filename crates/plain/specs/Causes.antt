@@ -14,7 +14,7 @@ pub data Cause : Type 0 where
   number_live book_full : Cause
   -- withdraw
   number_not_live : Cause
-  -- query, largest load, mark, meet
+  -- query, mark, meet
   book_empty : Cause
   -- listing, report
   output_too_short : Cause
@@ -26,8 +26,6 @@ pub data Cause : Type 0 where
   no_such_mark : Cause
   -- take-back: no update is remembered
   nothing_to_take_back : Cause
-  -- largest load: at every load in range the least price is above the budget
-  no_load_fits : Cause
 
 -- Number 6 told of a rate that was live; no cause has it any more.
 abbrev pub cause_number : Cause → ℕ
@@ -48,7 +46,6 @@ cause_number unreadable_line = 11
 cause_number rates_not_apart = 12
 cause_number no_such_mark = 13
 cause_number nothing_to_take_back = 17
-cause_number no_load_fits = 18
 
 -- A cause, and whether it applies.
 pub record Trial : Type 0 where

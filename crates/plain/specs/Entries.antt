@@ -1,5 +1,5 @@
 -- Which entry of a call is out of range (docs/REQUIREMENTS.md, 13): the number that names it, and that a call is refused with such a number exactly
--- then. Every other refusal has a number from 5 to 10, and not 6, or is 17 or 18: by what the book holds or remembers, or by the output's length.
+-- then. Every other refusal has a number from 5 to 10, and not 6, or 17: by what the book holds or remembers, or by the output's length.
 use Rattle.std.specs.Prelude.{◌≡◌, refl, ◌⊎◌, ◌≢◌, not, List, [], ◌∷◌, ℕ, ◌≤◌, ℤ, T}
 use Rattle.std.proofs.Common.{◌∙◌, ap, subst, inl, inr, ⊎_elim, arith}
 use Rattle.std.proofs.Math.Option.{Option, none, some}
@@ -7,14 +7,13 @@ use Rattle.lists.specs.Bools.{twice, not_not}
 use Rattle.offers.specs.Offers.{Offer, number_in_range, rate_in_range, base_in_range, load_in_range, price_in_range}
 use Rattle.plain.specs.Causes.{Cause, capacity_out_of_range, table_too_short, no_book, number_out_of_range, rate_out_of_range, base_out_of_range, load_out_of_range}
 use Rattle.plain.specs.Causes.{price_out_of_range, number_live, book_full, number_not_live, book_empty, output_too_short, unreadable_line, rates_not_apart}
-use Rattle.plain.specs.Causes.{no_such_mark, nothing_to_take_back, no_load_fits, cause_number, declined, FirstOf, at_once, further}
-use Rattle.plain.specs.Book.{State, Undo, Call, post, withdraw, query, listing, take_back, report, largest_load}
-use Rattle.plain.specs.Book.{Answer, refused, live, found, listed, reported, fitted, largest_fit, fitted_at}
+use Rattle.plain.specs.Causes.{no_such_mark, nothing_to_take_back, cause_number, declined, FirstOf, at_once, further}
+use Rattle.plain.specs.Book.{State, Undo, Call, post, withdraw, query, listing, take_back, report, Answer, refused, live, found, listed, reported}
 use Rattle.plain.specs.Book.{range_trials, book_trials, trials, recalling, respond, accepted, step}
 use Rattle.plain.specs.Trials.{declined_first, first_append}
 use Rattle.plain.specs.Rules.{refusing, step_declined}
 
--- The number names the call's first entry that is out of range: 4 the offer's number, the price or the budget, 14 the rate, 15 the base, 16 the load.
+-- The number names the call's first entry that is out of range: 4 the offer's number or the price, 14 the rate, 15 the base, 16 the load.
 pub data Names : ℕ → Call → Type 0 where
   posted_number : {n r b : ℤ} → T (not (number_in_range n)) → Names 4 (post n r b)
   posted_rate : {n r b : ℤ} → T (number_in_range n) → T (not (rate_in_range r)) → Names 14 (post n r b)
@@ -23,7 +22,6 @@ pub data Names : ℕ → Call → Type 0 where
   asked_load : {q : ℤ} → T (not (load_in_range q)) → Names 16 (query q)
   reported_price : {q p : ℤ} {room : ℕ} → T (not (price_in_range p)) → Names 4 (report q p room)
   reported_load : {q p : ℤ} {room : ℕ} → T (price_in_range p) → T (not (load_in_range q)) → Names 16 (report q p room)
-  asked_budget : {b : ℤ} → T (not (price_in_range b)) → Names 4 (largest_load b)
 
 -- it is that of the first trial of the ranges that applies
 pub names_first : {m : ℕ} {k : Call} → Names m k → (z : Cause) × FirstOf (range_trials k) z × (cause_number z ≡ m)
@@ -34,7 +32,6 @@ names_first (withdrawn_number x) = (number_out_of_range, at_once x, refl)
 names_first (asked_load x) = (load_out_of_range, at_once x, refl)
 names_first (reported_price x) = (price_out_of_range, at_once x, refl)
 names_first (reported_load {q} {p} i x) = (load_out_of_range, further (twice (price_in_range p) i) (at_once x), refl)
-names_first (asked_budget x) = (price_out_of_range, at_once x, refl)
 
 -- ---- a call with an entry out of range is refused with its number
 
@@ -44,7 +41,7 @@ named_refused s {m} {k} n = let (z, f, e) = names_first n in step_declined s k z
 -- ---- and a refusal tells no such number otherwise
 
 abbrev pub Otherwise : ℕ → Type 0
-Otherwise m = (5 ≤ m) × (m ≢ 6) × ((m ≤ 10) ⊎ ((m ≡ 17) ⊎ (m ≡ 18)))
+Otherwise m = (5 ≤ m) × (m ≢ 6) × ((m ≤ 10) ⊎ (m ≡ 17))
 
 by_cause : (s : State) (k : Call) (z : Cause) → FirstOf (trials s k) z → Otherwise (cause_number z) ⊎ Names (cause_number z) k
 by_cause s (post n r b) z (at_once x) = inr (posted_number x)
@@ -57,13 +54,10 @@ by_cause s (withdraw n) z (further i (at_once x)) = inl (omega arith, omega arit
 by_cause s (query q) z (at_once x) = inr (asked_load x)
 by_cause s (query q) z (further i (at_once x)) = inl (omega arith, omega arith, inl (omega arith))
 by_cause s (listing room) z (at_once x) = inl (omega arith, omega arith, inl (omega arith))
-by_cause s take_back z (at_once x) = inl (omega arith, omega arith, inr (inl refl))
+by_cause s take_back z (at_once x) = inl (omega arith, omega arith, inr refl)
 by_cause s (report q p room) z (at_once x) = inr (reported_price x)
 by_cause s (report q p room) z (further i (at_once x)) = inr (reported_load (not_not (price_in_range p) i) x)
 by_cause s (report q p room) z (further i (further j (at_once x))) = inl (omega arith, omega arith, inl (omega arith))
-by_cause s (largest_load b) z (at_once x) = inr (asked_budget x)
-by_cause s (largest_load b) z (further i (at_once x)) = inl (omega arith, omega arith, inl (omega arith))
-by_cause s (largest_load b) z (further i (further j (at_once x))) = inl (omega arith, omega arith, inr (inr refl))
 
 -- the number of a refusal; 5 for an accepted call
 number_in : Answer → ℕ
@@ -72,7 +66,6 @@ number_in (live n) = 5
 number_in (found n p m) = 5
 number_in (listed n ws) = 5
 number_in (reported n ws) = 5
-number_in (fitted n q) = 5
 
 pub refused_names : (s : State) (k : Call) (m : ℕ) → (step s k).answer ≡ refused m → Otherwise m ⊎ Names m k
 unfolding number_in
@@ -84,17 +77,8 @@ refused_names s k m e = subst (λ (i : ℕ). Otherwise i ⊎ Names i k) (ap numb
     asked c (o ∷ os) us q = (omega arith, omega arith, inl (omega arith))
 
     taken_back : (os : List Offer) (us : List Undo) → Otherwise (number_in (accepted (recalling s os us) take_back).answer)
-    taken_back os [] = (omega arith, omega arith, inr (inl refl))
+    taken_back os [] = (omega arith, omega arith, inr refl)
     taken_back os (u ∷ us) = (omega arith, omega arith, inl (omega arith))
-
-    fit : (c : ℕ) (os : List Offer) (us : List Undo) (b : ℤ) →
-        Otherwise (number_in (accepted (record { capacity = c; offers = os; memory = us }) (largest_load b)).answer)
-    fit c [] us b = (omega arith, omega arith, inl (omega arith))
-    fit c (o ∷ os) us b = go (largest_fit b (o ∷ os))
-      where
-        go : (q : Option ℤ) → Otherwise (number_in (fitted_at (o ∷ os) q))
-        go none = (omega arith, omega arith, inr (inr refl))
-        go (some q) = (omega arith, omega arith, inl (omega arith))
 
     taken : (k : Call) → Otherwise (number_in (accepted s k).answer)
     taken (post n r b) = (omega arith, omega arith, inl (omega arith))
@@ -103,7 +87,6 @@ refused_names s k m e = subst (λ (i : ℕ). Otherwise i ⊎ Names i k) (ap numb
     taken take_back = taken_back s.offers s.memory
     taken (listing room) = (omega arith, omega arith, inl (omega arith))
     taken (report q p room) = (omega arith, omega arith, inl (omega arith))
-    taken (largest_load b) = fit s.capacity s.offers s.memory b
 
     go : (d : Option Cause) → declined (trials s k) ≡ d → Otherwise (number_in (respond s k d).answer) ⊎ Names (number_in (respond s k d).answer) k
     go none p = inl (taken k)
@@ -130,7 +113,6 @@ never_six unreadable_line e = omega arith
 never_six rates_not_apart e = omega arith
 never_six no_such_mark e = omega arith
 never_six nothing_to_take_back e = omega arith
-never_six no_load_fits e = omega arith
 
 names_other : {m : ℕ} {k : Call} → Names m k → m ≢ 6
 names_other (posted_number x) e = omega arith
@@ -140,7 +122,6 @@ names_other (withdrawn_number x) e = omega arith
 names_other (asked_load x) e = omega arith
 names_other (reported_price x) e = omega arith
 names_other (reported_load i x) e = omega arith
-names_other (asked_budget x) e = omega arith
 
 pub not_six : (s : State) (k : Call) → (step s k).answer ≢ refused 6
 not_six s k e = ⊎_elim (λ o. o.1 refl) (λ n. names_other n refl) (refused_names s k 6 e)

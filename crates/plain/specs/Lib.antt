@@ -5,13 +5,10 @@ pub mod Causes
 pub mod Trials
 -- statement: the plain book: a capacity, a list of live offers in order and a memory, fed the calls' arguments, an output's length with them
 pub mod Book
--- statement: what a query, a listing, a report and a largest load tell of a list of live offers, in the words of docs/REQUIREMENTS.md (3) and with no way
--- of computing it
+-- statement: what a query, a listing and a report tell of a list of live offers, in the words of docs/REQUIREMENTS.md (3) and with no way of computing it
 pub mod Meaning
 -- lemmas: prices to prove, and other cases: each through the calls of a freshly opened book, the ten as one table that the checker computes
 pub mod Cases
--- lemmas: how much can be sent: both sides of a gap, ties, the ends of the range, and what is refused
-pub mod LoadCases
 -- lemmas: what holds of the plain book after every list of calls
 pub mod Sound
 -- lemmas: who is live after a post and after a withdrawal
@@ -28,9 +25,7 @@ pub mod Entries
 pub mod QueryLaws
 -- lemmas: the listing names the first of a rate exactly when at some rational load, of any size, it is strictly cheaper than every other rate's offers
 pub mod ListingLaws
--- lemmas: the last load that passes a test is the last of all loads in range, and a load fits where some price is at most the budget
-pub mod LoadLaws
--- lemmas: the plain book's query, listing, report and largest load tell what `Meaning` says, whatever calls made its offers
+-- lemmas: the plain book's query, listing and report tell what `Meaning` says, whatever calls made its offers
 pub mod MeaningLaws
 -- statement and theorem: after calls with take-backs among them the book holds the offers that the remaining accepted calls leave
 pub mod Remaining

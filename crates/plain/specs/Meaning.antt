@@ -1,9 +1,9 @@
--- What a query, a listing, a report and a largest load tell of a list of live offers, in the words of docs/REQUIREMENTS.md (3) and with no way of computing it.
+-- What a query, a listing and a report tell of a list of live offers, in the words of docs/REQUIREMENTS.md (3) and with no way of computing it.
 -- `MeaningLaws` proves them of the plain book; `demand-2` (theorems) of the calls on a table.
 use Rattle.std.specs.Prelude.{◌≡◌, ◌≢◌, ◌↔◌, not, ℕ, suc, ◌+◌, ◌*◌, ◌<◌, length, get_or, T, ℤ, pos}
 use mathlib.Core.List.{List, ◌∷◌, Memᴰ, Pairwise}
 use Rattle.std.specs.Int.Signed.{le_z, lt_z}
-use Rattle.offers.specs.Offers.{Offer, RationalLoad, load_in_range, price_at, price_times_d, precedes, ahead, crossing_numerator, crossing_denominator}
+use Rattle.offers.specs.Offers.{Offer, RationalLoad, price_at, price_times_d, precedes, ahead, crossing_numerator, crossing_denominator}
 
 -- ---- a query
 
@@ -71,23 +71,3 @@ pub record Report (os : List Offer) (q p : ℤ) (m : ℕ) (ws : List ℤ) : Type
   pub in_order : Pairwise (λ a b. T (ahead a b)) offers
   pub exact : (o : Offer) → Memᴰ o offers ↔ (Memᴰ o os × T (lt_z (price_at o q) p))
   pub told : (i : ℕ) (d : Offer) → i < m → PieceAt ws i (get_or offers i d).number (get_or offers i d).rate (get_or offers i d).base
-
--- ---- a largest load
-
--- At the load every live offer's price is above the budget.
-abbrev pub TooDear : List Offer → ℤ → ℤ → Type 0
-TooDear os b q = (x : Offer) → Memᴰ x os → T (lt_z b (price_at x q))
-
--- The largest whole load in range whose least price is at most the budget, and the number of the offer that a query names first there. Loads that fit
--- may lie on both sides of a gap: of all those in range it is the largest.
-pub record Largest (os : List Offer) (b number load : ℤ) : Type 0 where
-  pub in_range : T (load_in_range load)
-  pub price : ℤ
-  pub second : ℤ
-  pub named : Cheapest os load number price second
-  pub affordable : T (le_z price b)
-  pub last : (q : ℤ) → T (load_in_range q) → T (lt_z load q) → TooDear os b q
-
--- No load in range fits.
-abbrev pub NoneFits : List Offer → ℤ → Type 0
-NoneFits os b = (q : ℤ) → T (load_in_range q) → TooDear os b q

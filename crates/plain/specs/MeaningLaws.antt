@@ -1,23 +1,22 @@
--- The plain book's query, listing, report and largest load tell what `Meaning` says, whatever calls made its offers.
+-- The plain book's query, listing and report tell what `Meaning` says, whatever calls made its offers.
 use Rattle.std.specs.Prelude.{◌≡◌, refl, Bool, ℕ, length, T, ℤ}
 use Rattle.std.proofs.Common.{sym, ◌∙◌, ap, arith}
 use mathlib.Core.List.Pairwise
 use mathlib.Core.List.{List, [], ◌∷◌, Memᴰ, Pairwise}
 use Rattle.std.proofs.Math.Option.{Option, none, some}
-use Rattle.std.specs.Int.Signed.{le_z, lt_z}
+use Rattle.std.specs.Int.Signed.{lt_z}
 use Rattle.lists.specs.Filter.{keep_sublist, keep_passes, keep_in}
 use Rattle.lists.specs.Places.{sublist_mem}
 use Rattle.integers.specs.Parts.{intRules}
 use Rattle.offers.specs.Offers.{Offer, price_at, ahead}
 use Rattle.plain.specs.Causes.{Cause, declined}
 use Rattle.plain.specs.Book.{State, query, listing, report, found, listed, reported, lower, higher, cheapest, holding, envelope, piece_words}
-use Rattle.plain.specs.Book.{under, offer_words, largest_load, fitted, fits, largest_fit, fitted_at, respond, trials, step}
+use Rattle.plain.specs.Book.{under, offer_words, respond, trials, step}
 use Rattle.plain.specs.Sound.{Sound}
-use Rattle.plain.specs.Meaning.{Cheapest, Listing, Report, Largest}
-use Rattle.plain.specs.Rules.{asked, words_length, words_inner, words_last, offers_length, offers_at_lem}
+use Rattle.plain.specs.Meaning.{Cheapest, Listing, Report}
+use Rattle.plain.specs.Rules.{words_length, words_inner, words_last, offers_length, offers_at_lem}
 use Rattle.plain.specs.QueryLaws.{lower_tie, higher_tie, Names, cheapest_names, earliest_live, earliest_once, cheapest_earliest}
 use Rattle.plain.specs.ListingLaws.{envelope_falls, listing_exact}
-use Rattle.plain.specs.LoadLaws.{last_told, fits_not, same_fitted, not_fitted}
 
 -- ---- a query
 
@@ -117,48 +116,3 @@ report_report s q p room m ws h e = go (declined (trials s (report q p room))) e
         let many : length (under q p s.offers) ≡ m = cc in
         let words : offer_words (under q p s.offers) ≡ ws = cc in
         rw (← many, ← words) (under_report s.offers q p h.ordered)
-
--- ---- a largest load
-
-pub largest_largest : (s : State) (b number load : ℤ) → (step s (largest_load b)).answer ≡ fitted number load → Largest s.offers b number load
-largest_largest s b number load e = go (declined (trials s (largest_load b))) e
-  where
-    told : (os : List Offer) (m : Option ℤ) → largest_fit b os ≡ m → fitted_at os m ≡ fitted number load → Largest os b number load
-    told [] m d a = not_fitted a
-    told (o ∷ os) none d a = not_fitted a
-    told (o ∷ os) (some q) d a =
-        let (n, w) = same_fitted a in
-        let l = last_told (fits b (o ∷ os)) d in
-        rw (← n, ← w)
-        (record {
-          in_range = l.in_range;
-          price = price_at (cheapest lower q o os) q;
-          second = (cheapest higher q o os).number;
-          named = cheapest_told q o os;
-          affordable = l.passes;
-          last = λ p r k. fits_not b (o ∷ os) p (l.none_larger p r k);
-        })
-
-    go : (d : Option Cause) → (respond s (largest_load b) d).answer ≡ fitted number load → Largest s.offers b number load
-    go (some c) a = not_fitted a
-    go none a = told s.offers (largest_fit b s.offers) refl a
-
--- .. and a query at that load names the same offer, at a price that the budget allows
-pub largest_queried : (s : State) (b number load : ℤ) → (step s (largest_load b)).answer ≡ fitted number load →
-    (price second : ℤ) × ((step s (query load)).answer ≡ found number price second) × T (le_z price b)
-largest_queried s b number load e = go (declined (trials s (largest_load b))) e
-  where
-    Queried : Type 0
-    Queried = (price second : ℤ) × ((step s (query load)).answer ≡ found number price second) × T (le_z price b)
-
-    told : (os : List Offer) → s.offers ≡ os → (m : Option ℤ) → largest_fit b os ≡ m → fitted_at os m ≡ fitted number load → Queried
-    told [] same m d a = not_fitted a
-    told (o ∷ os) same none d a = not_fitted a
-    told (o ∷ os) same (some q) d a =
-        let (n, w) = same_fitted a in
-        let l = last_told (fits b (o ∷ os)) d in
-        rw (← n, ← w) (price_at (cheapest lower q o os) q, (cheapest higher q o os).number, asked s q l.in_range o os same, l.passes)
-
-    go : (d : Option Cause) → (respond s (largest_load b) d).answer ≡ fitted number load → Queried
-    go (some c) a = not_fitted a
-    go none a = told s.offers refl (largest_fit b s.offers) refl a

@@ -1,14 +1,14 @@
 -- After any list of calls with take-backs in it the book stands for the offers that the remaining accepted calls leave. Which calls remain is read off
 -- the calls and their answers, and so is how many of them can be taken back; neither is read off what the book remembers.
-use Rattle.std.specs.Prelude.{◌≡◌, refl, ℕ, zero, suc, ◌-◌, min, length, take, drop}
+use Rattle.std.specs.Prelude.{◌≡◌, refl, ℕ, zero, suc, ◌-◌, min, length, take, drop, ℤ}
 use Rattle.std.proofs.Common.{sym, subst, ap, ap₂, ◌∙◌, arith, take-append-drop, length-take}
 use mathlib.Core.List.{List, [], ◌∷◌, ◌++◌, tail, reverse, reverse_aux, append-nil, append_assoc, nil≢cons, head-eq_of_cons-eq, tail-eq_of_cons-eq}
 use Rattle.std.proofs.Math.Option.{Option, none, some}
 use Rattle.plain.specs.Causes.{Cause, declined, Clear}
 use Rattle.plain.specs.Trials.{clear}
-use Rattle.plain.specs.Book.{State, Undo, Call, post, withdraw, query, listing, take_back, report, largest_load}
-use Rattle.plain.specs.Book.{Answer, refused, live, found, listed, reported, fitted}
-use Rattle.plain.specs.Book.{undo_of, most_remembered, remember, undone, trials, recalling, accepted, respond, step, after, answers, Recallable}
+use Rattle.plain.specs.Book.{State, Undo, Call, post, withdraw, query, listing, take_back, report, Answer, refused, live, found, listed, reported}
+use Rattle.plain.specs.Book.{undo_of, most_remembered, remember, undone, trials, holding, recalling, accepted, respond, step, after, answers, Recallable}
+use Rattle.offers.specs.Offers.{Offer}
 use Rattle.plain.specs.Sound.{Sound, step_sound}
 use Rattle.plain.specs.Rules.{step_accepted}
 use Rattle.plain.specs.Undoing.{Updating, posting, withdrawing, Undoes, undoes, step_recallable, after_sound}
@@ -16,7 +16,7 @@ use Rattle.plain.specs.Undoing.{Updating, posting, withdrawing, Undoes, undoes, 
 -- ---- which calls remain
 
 -- The calls that remain, the last one first, when a call is accepted: a post or a withdrawal is one more, a take-back takes the last one off. Queries,
--- listings, reports and largest loads change no offer, and are not among them.
+-- listings and reports change no offer, and are not among them.
 abbrev pub going : List Call → Call → List Call
 going done (post n r b) = post n r b ∷ done
 going done (withdraw n) = withdraw n ∷ done
@@ -24,7 +24,6 @@ going done take_back = tail done
 going done (query q) = done
 going done (listing room) = done
 going done (report q p room) = done
-going done (largest_load b) = done
 
 -- .. and when it was so answered: a refused one changes nothing.
 abbrev pub remains : List Call → Call → Answer → List Call
@@ -33,7 +32,6 @@ remains done k (live n) = going done k
 remains done k (found n p m) = going done k
 remains done k (listed n ws) = going done k
 remains done k (reported n ws) = going done k
-remains done k (fitted n q) = going done k
 
 -- .. and after a list of calls, with its answers.
 abbrev pub remainder : List Call → List Call → List Answer → List Call
@@ -66,7 +64,6 @@ count_back n take_back = n - 1
 count_back n (query q) = n
 count_back n (listing room) = n
 count_back n (report q p room) = n
-count_back n (largest_load b) = n
 
 abbrev pub can_take : ℕ → Call → Answer → ℕ
 can_take n k (refused m) = n
@@ -74,7 +71,6 @@ can_take n k (live m) = count_back n k
 can_take n k (found m p q) = count_back n k
 can_take n k (listed m ws) = count_back n k
 can_take n k (reported m ws) = count_back n k
-can_take n k (fitted m q) = count_back n k
 
 abbrev pub can_take_all : ℕ → List Call → List Answer → ℕ
 can_take_all n (k ∷ ks) (a ∷ told) = can_take_all (can_take n k a) ks told
@@ -162,14 +158,13 @@ record Standing (s : State) (done : List Call) (t : State) : Type 0 where
   older : List Undo
   same : ran s done ≡ more t older
 
--- a call that changes no offer is not among them, whatever it is told
-not_among : (k : Call) (done : List Call) (a : Answer) → going done k ≡ done → remains done k a ≡ done
-not_among k done (refused n) e = refl
-not_among k done (live n) e = e
-not_among k done (found n p m) e = e
-not_among k done (listed n ws) e = e
-not_among k done (reported n ws) e = e
-not_among k done (fitted n q) e = e
+-- a query changes nothing, whatever it is told
+asked : (q : ℤ) (done : List Call) (a : Answer) → remains done (query q) a ≡ done
+asked q done (refused n) = refl
+asked q done (live n) = refl
+asked q done (found n p m) = refl
+asked q done (listed n ws) = refl
+asked q done (reported n ws) = refl
 
 module _ (s : State) (h : Sound s) (fresh : s.memory ≡ []) where
   sound : (done : List Call) → Sound (ran s done)
@@ -202,10 +197,9 @@ module _ (s : State) (h : Sound s) (fresh : s.memory ≡ []) where
       go (some c) k p = w
       go none (post n r b) p = one_more posting done t w (p refl)
       go none (withdraw n) p = one_more withdrawing done t w (p refl)
-      go none (query q) p = rw (not_among (query q) done (accepted t (query q)).answer refl) w
+      go none (query q) p = rw (asked q done (accepted t (query q)).answer) w
       go none (listing room) p = w
       go none (report q l room) p = w
-      go none (largest_load b) p = rw (not_among (largest_load b) done (accepted t (largest_load b)).answer refl) w
       go none take_back p = one_back done t t.memory w
 
   all_calls : (ks done : List Call) (t : State) → Standing s done t → Standing s (remainder done ks (answers t ks)) (after t ks)
@@ -227,14 +221,6 @@ remaining_leaves s h fresh ks =
 
 -- ---- as many as can be taken back are remembered
 
-not_counted : (n : ℕ) (k : Call) (a : Answer) → n ≡ count_back n k → n ≡ can_take n k a
-not_counted n k (refused m) e = refl
-not_counted n k (live m) e = e
-not_counted n k (found m p q) e = e
-not_counted n k (listed m ws) e = e
-not_counted n k (reported m ws) e = e
-not_counted n k (fitted m q) e = e
-
 step_count : (s : State) (k : Call) → Sound s → length (step s k).state.memory ≡ can_take (length s.memory) k (step s k).answer
 step_count s k h = go (declined (trials s k)) k refl
   where
@@ -248,15 +234,18 @@ step_count s k h = go (declined (trials s k)) k refl
     back [] = refl
     back (u ∷ us) = omega arith
 
+    asked : (os : List Offer) (q : ℤ) → length s.memory ≡ can_take (length s.memory) (query q) (accepted (holding s os) (query q)).answer
+    asked [] q = refl
+    asked (o ∷ os) q = refl
+
     go : (d : Option Cause) (k : Call) → declined (trials s k) ≡ d →
         length (respond s k d).state.memory ≡ can_take (length s.memory) k (respond s k d).answer
     go (some c) k e = refl
     go none (post n r b) e = one (post n r b) posting (clear (trials s (post n r b)) e)
     go none (withdraw n) e = one (withdraw n) withdrawing (clear (trials s (withdraw n)) e)
-    go none (query q) e = not_counted (length s.memory) (query q) (accepted s (query q)).answer refl
+    go none (query q) e = asked s.offers q
     go none (listing room) e = refl
     go none (report q p room) e = refl
-    go none (largest_load b) e = not_counted (length s.memory) (largest_load b) (accepted s (largest_load b)).answer refl
     go none take_back e = back s.memory
 
 -- So a take-back is declined with 17 exactly where that number is 0.

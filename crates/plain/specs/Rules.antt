@@ -12,7 +12,7 @@ use Rattle.offers.specs.Offers.{Offer, number_in_range, rate_in_range, base_in_r
 use Rattle.plain.specs.Causes.{Cause, cause_number, Clear}
 use Rattle.plain.specs.Book.{has_number, State, Outcome, Call, post, withdraw, query, listing, take_back, report, refused, live, found, listed, reported}
 use Rattle.plain.specs.Book.{join, leave, lower, higher, cheapest, envelope, piece_words, under, offer_words, trials, step, respond, accepted}
-use Rattle.plain.specs.Book.{Undo, undo_of, remember, undone, holding, recalling, changed}
+use Rattle.plain.specs.Book.{Undo, undo_of, remember, undone, recalling, changed}
 use Rattle.plain.specs.Causes.{FirstOf, at_once, further, output_too_short, nothing_to_take_back}
 use Rattle.plain.specs.Trials.{declined_by, not_declined}
 use Rattle.plain.specs.Sound.{length_join}
@@ -134,14 +134,6 @@ pub finds : (c : ℕ) (o : Offer) (os : List Offer) (us : List Undo) (q : ℤ) �
     }
 finds c o os us q t =
     step_accepted (record { capacity = c; offers = o ∷ os; memory = us }) (query q) (twice (load_in_range q) t, (lt→nleb (suc (length os)) 0 (omega arith), tt))
-
-pub asked : (s : State) (q : ℤ) → T (load_in_range q) → (o : Offer) (os : List Offer) → s.offers ≡ o ∷ os →
-    (step s (query q)).answer ≡ found (cheapest lower q o os).number (price_at (cheapest lower q o os) q) (cheapest higher q o os).number
-asked s q h o os e = go s.offers e
-  where
-    go : (xs : List Offer) → xs ≡ o ∷ os →
-        (step (holding s xs) (query q)).answer ≡ found (cheapest lower q o os).number (price_at (cheapest lower q o os) q) (cheapest higher q o os).number
-    go xs d = rw d (ap (λ (z : Outcome). z.answer) (finds s.capacity o os s.memory q h))
 
 -- ---- a listing's words
 

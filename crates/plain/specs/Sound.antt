@@ -20,8 +20,7 @@ use Rattle.offers.specs.Order.{Ahead, ahead_said, ahead_meant, ahead_trans, comp
 use Rattle.plain.specs.Causes.{Cause, declined}
 use Rattle.plain.specs.Causes.{Clear}
 use Rattle.plain.specs.Trials.{clear}
-use Rattle.plain.specs.Book.{State, Undo, unpost, restore, Call, post, withdraw, query, listing, take_back, report, largest_load, refused, has_number}
-use Rattle.plain.specs.Book.{join, leave}
+use Rattle.plain.specs.Book.{State, Undo, unpost, restore, Call, post, withdraw, query, listing, take_back, report, refused, has_number, join, leave}
 use Rattle.plain.specs.Book.{trials, opened, open_trials, accepted, respond, step, undone, undoing, Undoable, Recallable, recalling}
 
 pub record Sound (s : State) : Type 0 where
@@ -152,7 +151,6 @@ accepted_sound s (withdraw n) h d c = withdraw_sound s n h
 accepted_sound s (query q) h d c = h
 accepted_sound s (listing room) h d c = h
 accepted_sound s (report q p room) h d c = h
-accepted_sound s (largest_load b) h d c = h
 accepted_sound s take_back h d c = go s.memory d h
   where
     go : (m : List Undo) → Undoable s.capacity s.offers m → Sound (recalling s s.offers m) →
@@ -194,7 +192,6 @@ refused_keeps s k n e = go (declined (trials s k)) k e
     go none (query q) e = refl
     go none (listing room) e = refl
     go none (report q p room) e = refl
-    go none (largest_load b) e = refl
     go none take_back e = taken s.memory e
       where
         taken : (m : List Undo) → (accepted (recalling s s.offers m) take_back).answer ≡ refused n → (accepted (recalling s s.offers m) take_back).state ≡

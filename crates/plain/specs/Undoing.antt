@@ -15,8 +15,7 @@ use Rattle.offers.specs.Offers.{Offer, number_in_range, rate_in_range, base_in_r
 use Rattle.offers.specs.Order.{ahead_said, ahead_asym}
 use Rattle.plain.specs.Causes.{Cause, declined, Clear}
 use Rattle.plain.specs.Trials.{clear}
-use Rattle.plain.specs.Book.{State, Undo, unpost, restore, Call, post, withdraw, query, listing, take_back, report, largest_load, has_number, join, leave}
-use Rattle.plain.specs.Book.{undo_of}
+use Rattle.plain.specs.Book.{State, Undo, unpost, restore, Call, post, withdraw, query, listing, take_back, report, has_number, join, leave, undo_of}
 use Rattle.plain.specs.Book.{most_remembered, remember, undone, trials, opened, recalling, accepted, respond, step, after, undoing, Undoable, Recallable}
 use Rattle.plain.specs.Sound.{Sound, length_join, tried_recalling, step_sound}
 use Rattle.plain.specs.LiveAfter.{post_adds}
@@ -195,7 +194,6 @@ accepted_recallable s (withdraw n) h d c = update_recallable s (withdraw n) (und
 accepted_recallable s (query q) h d c = d
 accepted_recallable s (listing room) h d c = d
 accepted_recallable s (report q p room) h d c = d
-accepted_recallable s (largest_load b) h d c = d
 accepted_recallable s take_back h d c = go s.memory d
   where
     go : (us : List Undo) → Undoable s.capacity s.offers us → Recallable (accepted (recalling s s.offers us) take_back).state
@@ -238,7 +236,6 @@ remembered_few s k h = go (declined (trials s k)) k
     go none (query q) = h
     go none (listing room) = h
     go none (report q p room) = h
-    go none (largest_load b) = h
     go none take_back = taken s.memory h
 
 -- ---- after every list of calls

@@ -3,7 +3,7 @@ use Rattle.std.specs.Prelude.{◌≡◌, refl, not, List, [], ◌∷◌, map, �
 use Rattle.std.proofs.Common.{◌∙◌, ap, arith}
 use Rattle.std.proofs.Math.Option.{Option}
 use Rattle.plain.specs.Causes.{declined, further}
-use Rattle.plain.specs.Book.{State, Call, post, withdraw, query, report, largest_load, refused, no_book_at, opening_by as number_by}
+use Rattle.plain.specs.Book.{State, Call, post, withdraw, query, report, refused, no_book_at, opening_by as number_by}
 use Rattle.plain.specs.Entries.{Names, names_first}
 use Rattle.trees.specs.Operations.{part_leaves}
 use Rattle.dynamic.specs.OfferTree.{Held}
@@ -15,9 +15,8 @@ use Rattle.form.specs.Form.{Book, head0}
 use Rattle.promises.specs.declared.Update.{Update}
 use Rattle.promises.specs.declared.Found.{Found}
 use Rattle.promises.specs.declared.Reported.{Reported}
-use Rattle.promises.specs.declared.Fitted.{Fitted}
 use Rattle.promises.specs.LentPart.{book_cap}
-use Rattle.promises.specs.Promises.{part_of, table_trials, update_answer, found_answer, report_answer, fitted_answer, Updates, Queries, Reports, Sends}
+use Rattle.promises.specs.Promises.{part_of, table_trials, update_answer, found_answer, report_answer, Updates, Queries, Reports}
 
 -- ---- on a table of any content
 
@@ -32,9 +31,6 @@ module _ (t : List ℤ) (start : ℕ) (there : T (not (no_book_at (length t) sta
   pub report_names : {q p : ℤ} {out out' : List ℤ} {r : Reported} → Names m (report q p (length out)) → Reports q p start t out out' r →
       (report_answer r out' ≡ refused m) × (out' ≡ out)
   report_names n k = let (z, f, e) = names_first n in let (told, kept) = k.declined z (further there f) in (told ∙ ap refused e, kept)
-
-  pub load_names : {b : ℤ} {r : Fitted} → Names m (largest_load b) → Sends b start t r → fitted_answer r ≡ refused m
-  load_names n p = let (z, f, e) = names_first n in p.declined z (further there f) ∙ ap refused e
 
 -- ---- a part that no opening made
 
@@ -61,19 +57,19 @@ abbrev pub told_there : ℕ → Call → ℕ
 told_there start k = number_by (declined (table_trials ones start k))
 
 -- A post with all three entries out of range, and with rate and base; the same with a number that is live there, and the base with such a number and
--- rate; a withdrawal, a query, a budget, and a post in range.
+-- rate; a withdrawal, a query, and a post in range.
 pub entries_there :
     map (told_there 0) (post (pos 10_000) (pos 100_001) (pos 1_000_000_001) ∷ post (pos 2) (pos 100_001) (pos 1_000_000_001) ∷
     post (pos 1) (pos 100_001) (pos 1_000_000_001) ∷ post (pos 1) (pos 1) (pos 1_000_000_001) ∷ withdraw (pos 0) ∷ query (pos 1_000_001) ∷
-    largest_load (pos 101_000_000_001) ∷ post (pos 1) (pos 1) (pos 1) ∷ []) ≡
-    4 ∷ 14 ∷ 14 ∷ 15 ∷ 4 ∷ 16 ∷ 4 ∷ 0 ∷ []
+    post (pos 1) (pos 1) (pos 1) ∷ []) ≡
+    4 ∷ 14 ∷ 14 ∷ 15 ∷ 4 ∷ 16 ∷ 0 ∷ []
 unfolding word
 entries_there = refl
 
 -- from word 1 on the part is cut short: 3 comes before them all
 pub entries_nowhere :
     map (told_there 1) (post (pos 0) (pos 1) (pos 1) ∷ post (pos 1) (pos 100_001) (pos 1) ∷ post (pos 1) (pos 1) (pos 1_000_000_001) ∷ withdraw (pos 0) ∷
-    query (pos 1_000_001) ∷ largest_load (pos 101_000_000_001) ∷ []) ≡
-    3 ∷ 3 ∷ 3 ∷ 3 ∷ 3 ∷ 3 ∷ []
+    query (pos 1_000_001) ∷ []) ≡
+    3 ∷ 3 ∷ 3 ∷ 3 ∷ 3 ∷ []
 unfolding word
 entries_nowhere = refl

@@ -3,7 +3,7 @@ use Rattle.std.specs.Prelude.{◌≢◌, ◌≤◌}
 use Rattle.std.proofs.Common.{⊎_elim, arith}
 use Rattle.plain.specs.Causes.{Cause, cause_number, capacity_out_of_range, table_too_short, no_book, number_out_of_range, rate_out_of_range}
 use Rattle.plain.specs.Causes.{base_out_of_range, load_out_of_range, price_out_of_range, number_live, book_full, number_not_live, book_empty}
-use Rattle.plain.specs.Causes.{output_too_short, unreadable_line, rates_not_apart, no_such_mark, nothing_to_take_back, no_load_fits}
+use Rattle.plain.specs.Causes.{output_too_short, unreadable_line, rates_not_apart, no_such_mark, nothing_to_take_back}
 use Rattle.plain.specs.Book.{State, Call, refused, step}
 use Rattle.plain.specs.Entries.{names_first, refused_names}
 
@@ -25,7 +25,6 @@ from_one unreadable_line = omega arith
 from_one rates_not_apart = omega arith
 from_one no_such_mark = omega arith
 from_one nothing_to_take_back = omega arith
-from_one no_load_fits = omega arith
 
 pub numbered : (s : State) (k : Call) → (step s k).answer ≢ refused 0
 numbered s k e =

@@ -2,10 +2,10 @@
 -- On words of any content causes 1 to 4 and 14 to 16 hold as tabled, and no word outside the part changes. Where the part passes the check
 -- (`Form`), the answer is the plain book's, and the part stands for the plain book afterwards, its offers and its memory. A call that only reads
 -- asks for less: that the part stands for the offers (`Book`). 17 is promised where the part passes.
-use Rattle.std.specs.Prelude.{◌≡◌, ◌⊎◌, Bool, true, List, [], ◌∷◌, ℕ, ◌+◌, ◌*◌, length, take, drop, ℤ, pos, negsuc, nat_abs}
+use Rattle.std.specs.Prelude.{◌≡◌, Bool, true, List, [], ◌∷◌, ℕ, ◌+◌, ◌*◌, length, take, drop, ℤ, pos, negsuc, nat_abs}
 use Rattle.std.proofs.Math.Option.{Option, none, some}
 use Rattle.plain.specs.Causes.{Cause, no_book, Trial, ◌when◌, cause_number, FirstOf, Clear}
-use Rattle.plain.specs.Book.{State, Call, query, listing, report, largest_load, Answer, refused, live, found, listed, reported, fitted}
+use Rattle.plain.specs.Book.{State, Call, query, listing, report, Answer, refused, live, found, listed, reported}
 use Rattle.plain.specs.Book.{first_of_each, opening, opened, open_trials, range_trials, no_book_at, part_length, step}
 use Rattle.trees.specs.Tree.{Tree}
 use Rattle.trees.specs.Operations.{Part}
@@ -27,8 +27,6 @@ use Rattle.promises.specs.declared.Listed.{Listed}
 use Rattle.promises.specs.declared.Listed.TheVariants.{Pieces, Declined as ListingDeclined}
 use Rattle.promises.specs.declared.Reported.{Reported}
 use Rattle.promises.specs.declared.Reported.TheVariants.{Offers, Declined as ReportDeclined}
-use Rattle.promises.specs.declared.Fitted.{Fitted}
-use Rattle.promises.specs.declared.Fitted.TheVariants.{Load, Declined as FittedDeclined}
 
 -- ---- the part of a table
 
@@ -87,11 +85,6 @@ abbrev pub reported_told : Reported → Told
 reported_told (Offers m) = record { number = pos 0; values = m ∷ [] }
 reported_told (ReportDeclined c) = record { number = c; values = [] }
 
--- the offer named first at the load, and the load
-abbrev pub fitted_told : Fitted → Told
-fitted_told (Load number load) = record { number = pos 0; values = number ∷ load ∷ [] }
-fitted_told (FittedDeclined c) = record { number = c; values = [] }
-
 -- an opening's: 0 alone, or a refusal's number
 abbrev pub opening_answer : Opening → ℤ
 opening_answer Opened = pos 0
@@ -109,20 +102,11 @@ priced_by c (number ∷ []) = counted refused c
 priced_by c (number ∷ price ∷ []) = counted refused c
 priced_by c (number ∷ price ∷ second ∷ more) = found number price second
 
--- an offer and a load
-abbrev pub load_by : ℤ → List ℤ → Answer
-load_by c [] = counted refused c
-load_by c (number ∷ []) = counted refused c
-load_by c (number ∷ load ∷ more) = fitted number load
-
 abbrev pub update_answer : Update → Answer
 update_answer r = counted_by live (update_told r).number (update_told r).values
 
 abbrev pub found_answer : Found → Answer
 found_answer r = priced_by (found_told r).number (found_told r).values
-
-abbrev pub fitted_answer : Fitted → Answer
-fitted_answer r = load_by (fitted_told r).number (fitted_told r).values
 
 -- with the words that the output then begins with
 abbrev pub listing_answer : Listed → List ℤ → Answer
@@ -188,14 +172,6 @@ pub record Queries (q : ℤ) (start : ℕ) (t : List ℤ) (r : Found) : Type 0 w
   pub answers : (s : State) (held : Option (Held Item)) → Book (part_of t start) s held → found_answer r ≡ (step s (query q)).answer
   pub probes : (s : State) (held : Option (Held Item)) → Book (part_of t start) s held → Probes held (found_told r).values
 
--- ---- largest load
-
-pub record Sends (b : ℤ) (start : ℕ) (t : List ℤ) (r : Fitted) : Type 0 where
-  pub declined : (z : Cause) → FirstOf (table_trials t start (largest_load b)) z → fitted_answer r ≡ refused (cause_number z)
-  -- nor is any other cause told where none of those applies, but 9 and 18, whatever the words are
-  pub others : Clear (table_trials t start (largest_load b)) → (n : ℕ) → fitted_answer r ≡ refused n → (n ≡ 9) ⊎ (n ≡ 18)
-  pub answers : (s : State) (held : Option (Held Item)) → Book (part_of t start) s held → fitted_answer r ≡ (step s (largest_load b)).answer
-
 -- ---- listing and report, into an output lent with them
 
 abbrev pub written_words : Answer → ℕ
@@ -204,7 +180,6 @@ written_words (live n) = 0
 written_words (found n p m) = 0
 written_words (listed m ws) = length ws
 written_words (reported m ws) = length ws
-written_words (fitted n q) = 0
 
 pub record Lists (start : ℕ) (t out out' : List ℤ) (r : Listed) : Type 0 where
   pub declined : (z : Cause) → FirstOf (table_trials t start (listing (length out))) z → (listing_answer r out' ≡ refused (cause_number z)) × (out' ≡ out)

@@ -46,13 +46,6 @@ pub enum Reported {
     Declined(i64),
 }
 
-// What a largest load answers: the number of the offer that a query names first at that load, and the load.
-#[derive(Drop)]
-pub enum Fitted {
-    Load { number: i64, load: i64 },
-    Declined(i64),
-}
-
 // There is no book at `start`: it lies beyond the table, or the words there tell no capacity that they have room for.
 pub fn no_book(table: &[i64], start: usize) -> bool
     ensures { result ≡ no_book_at (length table.now) start (word (part_of table.now start) capacity_word) }

@@ -28,7 +28,7 @@ pub record Pieces (w : Words) (x : ℕ) (t : Tree Item) : Type 0 where
 -- ---- an inner node
 
 -- a child's pieces
-pub pieces_left : {w : Words} {x y : ℕ} {l r : Tree Item} → Pieces w x (node l r) → Tied w piece_tree l → y ≡ ref_of l → Pieces w y l
+pieces_left : {w : Words} {x y : ℕ} {l r : Tree Item} → Pieces w x (node l r) → Tied w piece_tree l → y ≡ ref_of l → Pieces w y l
 pieces_left {w} {l} {r} p t e =
     record {
       rep = record { kind = p.rep.kind; root = e; slots = slots_left (leaves r) p.rep.slots; tied = t };
@@ -36,7 +36,7 @@ pieces_left {w} {l} {r} p t e =
       holds = holds_left (leaves r) p.holds;
     }
 
-pub pieces_right : {w : Words} {x y : ℕ} {l r : Tree Item} → Pieces w x (node l r) → Tied w piece_tree r → y ≡ ref_of r → Pieces w y r
+pieces_right : {w : Words} {x y : ℕ} {l r : Tree Item} → Pieces w x (node l r) → Tied w piece_tree r → y ≡ ref_of r → Pieces w y r
 pieces_right {w} {l} {r} p t e =
     record {
       rep = record { kind = p.rep.kind; root = e; slots = slots_right (leaves l) p.rep.slots; tied = t };

@@ -3,7 +3,7 @@ use Rattle.std.specs.Prelude.{◌≡◌, refl, ◌≢◌, Bool, true, false, con
 use Rattle.std.proofs.Common.{sym, ◌∙◌, ap, subst, arith, get_or-take}
 use Rattle.std.proofs.Math.Option.{Option}
 use Rattle.integers.specs.Equal.{equal}
-use Rattle.plain.specs.Book.{State, Call, post, withdraw, query, listing, take_back, report, largest_load, Answer, refused, step, answers}
+use Rattle.plain.specs.Book.{State, Call, post, withdraw, query, listing, take_back, report, Answer, refused, step, answers}
 use Rattle.promises.specs.declared.Update.{Update}
 use Rattle.promises.specs.declared.Update.TheVariants.{Done, Declined as UpdateDeclined}
 use Rattle.promises.specs.declared.Found.{Found}
@@ -12,18 +12,15 @@ use Rattle.promises.specs.declared.Listed.{Listed}
 use Rattle.promises.specs.declared.Listed.TheVariants.{Pieces, Declined as ListingDeclined}
 use Rattle.promises.specs.declared.Reported.{Reported}
 use Rattle.promises.specs.declared.Reported.TheVariants.{Offers, Declined as ReportDeclined}
-use Rattle.promises.specs.declared.Fitted.{Fitted}
-use Rattle.promises.specs.declared.Fitted.TheVariants.{Load, Declined as FittedDeclined}
 use Rattle.dynamic.specs.OfferTree.{Held}
 use Rattle.table.specs.Items.{Item}
 use Rattle.form.specs.Form.{Form}
 use Rattle.form.specs.Local.{Alike, form_alike}
-use Rattle.promises.specs.Promises.{part_of, written_words, counted, update_answer, found_answer, listing_answer, report_answer, fitted_answer}
+use Rattle.promises.specs.Promises.{part_of, written_words, counted, update_answer, found_answer, listing_answer, report_answer}
 use Rattle.promises.specs.Numbered.{numbered}
-use Rattle.history.specs.History.{Happens, posting, withdrawing, taking_back, by_update, by_query, by_listing, by_report, by_largest, History, finished, next}
+use Rattle.history.specs.History.{Happens, posting, withdrawing, taking_back, by_update, by_query, by_listing, by_report, History, finished, next}
 use Rattle.history.specs.Claim.{step_capacity, one_call}
-use Rattle.replay_words.specs.Encoding.{stretch, update_words, found_words, listed_words, reported_words, fitted_words, accepted_answer, answer_of, told, spared}
-use Rattle.replay_words.specs.Encoding.{Spares}
+use Rattle.replay_words.specs.Encoding.{stretch, update_words, found_words, listed_words, reported_words, accepted_answer, answer_of, told, spared, Spares}
 use Rattle.replay_words.specs.Decoding.{same_is}
 use Rattle.replay_call.specs.Telling.{TellsOne, Tells}
 
@@ -76,10 +73,6 @@ report_told : (q p : ℤ) (room : ℕ) (r : Reported) (out : List ℤ) → repor
 report_told q p room (Offers m) out f = refl
 report_told q p room (ReportDeclined z) out f = refusal_told (report q p room) z (pos 0) (pos 0) (pos 0) out f
 
-largest_told : (b : ℤ) (r : Fitted) (out : List ℤ) → fitted_answer r ≢ refused 0 → by_words (largest_load b) (fitted_words r) out ≡ fitted_answer r
-largest_told b (Load n q) out f = refl
-largest_told b (FittedDeclined z) out f = refusal_told (largest_load b) z (pos 0) (pos 0) (pos 0) out f
-
 one_told : {start : ℕ} {t : List ℤ} {k : Call} {t' : List ℤ} {a : Answer} (p : Happens start t k t' a) (ws ws' : List ℤ) → TellsOne p ws ws' →
     a ≢ refused 0 → by_words k ws' (drop 5 ws') ≡ a
 one_told (by_update (posting n r b) u p e) ws ws' h f = first_words (post n r b) ws' (drop 5 ws') h ∙ post_told n r b u (drop 5 ws') (λ q. f (e ∙ q)) ∙ sym e
@@ -92,7 +85,6 @@ one_told (by_listing {room} out out' l p m d e) ws ws' (h, b, o) f =
 one_told (by_report {room} q p out out' r k m d e) ws ws' (h, b, o) f =
     let u = e ∙ ap (report_answer r) (sym o) in
     first_words (report q p room) ws' (drop 5 ws') h ∙ report_told q p room r (drop 5 ws') (λ z. f (u ∙ z)) ∙ sym u
-one_told (by_largest b r p d e) ws ws' h f = first_words (largest_load b) ws' (drop 5 ws') h ∙ largest_told b r (drop 5 ws') (λ z. f (e ∙ z)) ∙ sym e
 
 pub told_right : {c start : ℕ} {t : List ℤ} {ks : List Call} {as' : List Answer} {t' : List ℤ} (h : History c start t ks as' t') (ws ws' : List ℤ) →
     Tells h ws ws' → (s : State) → as' ≡ answers s ks → told ks ws' ≡ as'
@@ -120,7 +112,6 @@ one_spares (by_update (posting n r b) u p e) ws ws' w s held form = refl
 one_spares (by_update (withdrawing n) u p e) ws ws' w s held form = refl
 one_spares (by_update taking_back u p e) ws ws' w s held form = refl
 one_spares (by_query q f p d e) ws ws' w s held form = refl
-one_spares (by_largest b r p d e) ws ws' w s held form = refl
 one_spares (by_listing out out' l p m d e) ws ws' (x, y, z) s held form = behind_stays e y z (p.later s held form.book)
 one_spares (by_report q p out out' r k m d e) ws ws' (x, y, z) s held form = behind_stays e y z (k.later s held form.book)
 

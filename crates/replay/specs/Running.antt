@@ -11,7 +11,7 @@ use Rattle.plain.specs.Book.{Call, Answer}
 use Rattle.promises.specs.Promises.{part_of, capacity_at, OnlyPart}
 use Rattle.promises.specs.LentPart.{whole_part, lent_back, only_same}
 use Rattle.form.specs.Local.{Alike}
-use Rattle.history.specs.History.{Happens, posting, withdrawing, taking_back, by_update, by_query, by_listing, by_report, by_largest, finished, next}
+use Rattle.history.specs.History.{Happens, posting, withdrawing, taking_back, by_update, by_query, by_listing, by_report, finished, next}
 use Rattle.replay_words.specs.Encoding.{next_call, stretch, fitting, runnable}
 use Rattle.replay_words.specs.Decoding.{runnable_none, runnable_next, next_words}
 use Rattle.replay_call.specs.Telling.{TellsOne, Tells}
@@ -37,7 +37,6 @@ happens_inside (by_update c u p e) = record { outside = p.outside; same_part = a
 happens_inside (by_query q f p d e) = inside_same d
 happens_inside (by_listing out out' l p m d e) = inside_same d
 happens_inside (by_report q p out out' r k m d e) = inside_same d
-happens_inside (by_largest b r p d e) = inside_same d
 
 -- ---- its words, with others behind them
 
@@ -61,7 +60,6 @@ tells_front (by_query q f p d e) ws ws' r h w = front_take 5 5 ws' r (omega arit
 tells_front (by_listing {room} out out' l p m d e) ws ws' r h (x, y, z) = (front_take 5 (5 + room) ws' r (omega arith) h ∙ x, y, front_middle room ws' r h ∙ z)
 tells_front (by_report {room} q p out out' u k m d e) ws ws' r h (x, y, z) =
     (front_take 5 (5 + room) ws' r (omega arith) h ∙ x, y, front_middle room ws' r h ∙ z)
-tells_front (by_largest b u p d e) ws ws' r h w = front_take 5 5 ws' r (omega arith) h ∙ w
 
 alike_itself : (c : ℕ) (w : List ℤ) → Alike c w w
 alike_itself c w = record { long = refl; words = λ i h. refl }

@@ -2,7 +2,7 @@
 use Rattle.std.specs.Prelude.{◌≡◌, refl, true, false, List, ◌++◌, ℕ, ◌+◌, ◌-◌, ◌≤◌, length, take, drop, ℤ}
 use Rattle.std.proofs.Common.{sym, ◌∙◌, ap, subst, true≢false, arith, length-append, length-drop, take_at, drop_at, drop-drop, length-take-le, leb-true}
 use Rattle.std.proofs.Math.Option.{Option, none, some}
-use Rattle.plain.specs.Book.{Call, post, withdraw, query, listing, take_back, report, largest_load}
+use Rattle.plain.specs.Book.{Call, post, withdraw, query, listing, take_back, report}
 use Rattle.promises.specs.declared.Update.{Update}
 use Rattle.promises.specs.declared.Update.TheVariants.{Done, Declined as UpdateDeclined}
 use Rattle.promises.specs.declared.Found.{Found}
@@ -11,11 +11,9 @@ use Rattle.promises.specs.declared.Listed.{Listed}
 use Rattle.promises.specs.declared.Listed.TheVariants.{Pieces, Declined as ListingDeclined}
 use Rattle.promises.specs.declared.Reported.{Reported}
 use Rattle.promises.specs.declared.Reported.TheVariants.{Offers, Declined as ReportDeclined}
-use Rattle.promises.specs.declared.Fitted.{Fitted}
-use Rattle.promises.specs.declared.Fitted.TheVariants.{Load, Declined as FittedDeclined}
-use Rattle.promises.specs.Promises.{Updates, Queries, Lists, Reports, Sends, update_answer, found_answer, listing_answer, report_answer, fitted_answer}
-use Rattle.history.specs.History.{Changes, by_update, by_query, by_listing, by_report, by_largest}
-use Rattle.replay_words.specs.Encoding.{next_call, stretch, fitting, update_words, found_words, listed_words, reported_words, fitted_words}
+use Rattle.promises.specs.Promises.{Updates, Queries, Lists, Reports, update_answer, found_answer, listing_answer, report_answer}
+use Rattle.history.specs.History.{Changes, by_update, by_query, by_listing, by_report}
+use Rattle.replay_words.specs.Encoding.{next_call, stretch, fitting, update_words, found_words, listed_words, reported_words}
 use Rattle.replay_call.specs.OneCall.{Performed, Performs, Step}
 
 -- ---- the kinds of calls
@@ -35,10 +33,6 @@ listed_five (ListingDeclined c) = refl
 reported_five : (r : Reported) → length (reported_words r) ≡ 5
 reported_five (Offers m) = refl
 reported_five (ReportDeclined c) = refl
-
-fitted_five : (r : Fitted) → length (fitted_words r) ≡ 5
-fitted_five (Load n q) = refl
-fitted_five (FittedDeclined c) = refl
 
 module _ (ws : List ℤ) {ws' : List ℤ} (five : List ℤ) (n : length five ≡ 5) (h : 5 ≤ length ws) (e : ws' ≡ five ++ drop 5 ws) where
   five_take : take 5 ws' ≡ five
@@ -71,16 +65,6 @@ module _ {start : ℕ} {t : List ℤ} (ws : List ℤ) {ws' : List ℤ} (h : 5 �
         tells = five_take ws (found_words f) (found_five f) h e;
         long = five_long ws (found_words f) (found_five f) h e;
         later = five_drop ws (found_words f) (found_five f) h e;
-      }
-
-  pub sends : {r : Fitted} (b : ℤ) → Sends b start t r → ws' ≡ fitted_words r ++ drop 5 ws → Performed (largest_load b) start t t ws ws'
-  sends {r} b p e =
-      record {
-        answer = fitted_answer r;
-        happens = by_largest b r p refl refl;
-        tells = five_take ws (fitted_words r) (fitted_five r) h e;
-        long = five_long ws (fitted_words r) (fitted_five r) h e;
-        later = five_drop ws (fitted_words r) (fitted_five r) h e;
       }
 
 -- The output lent to a listing or a report, with the words behind it, and all words with what comes back. Its end is told as five and the room.
@@ -172,7 +156,6 @@ some_words (query q) = omega arith
 some_words (listing room) = omega arith
 some_words take_back = omega arith
 some_words (report q p room) = omega arith
-some_words (largest_load b) = omega arith
 
 pub step_none : {start : ℕ} {t : List ℤ} (cs ws : List ℤ) {asked : Option Call} → asked ≡ next_call cs → fitting asked (length ws) ≡ false →
     Step start t t cs ws ws 0

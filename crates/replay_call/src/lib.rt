@@ -1,6 +1,6 @@
 // One encoded call on a book: made, and its answer written.
 ghost use Rattle.std.specs.Prelude.{◌≡◌, true, ◌+◌, ◌≤◌, length};
-ghost use Rattle.plain.specs.Book.{post, withdraw, query, listing, take_back, report, largest_load};
+ghost use Rattle.plain.specs.Book.{post, withdraw, query, listing, take_back, report};
 ghost use Rattle.replay_words.specs.Encoding.{fitting};
 ghost use Rattle.replay_words.specs.Decoding.{asked};
 ghost use Rattle.replay_call.specs.OneCall.{Performed, Performs, Step};
@@ -59,14 +59,6 @@ fn do_take_back(table: &mut [i64], start: usize, out: &mut [i64])
     replay_words::tell_update(out, told);
 }
 
-fn do_largest_load(table: &[i64], start: usize, budget: i64, out: &mut [i64])
-    requires { 5 ≤ length out.old }
-    ensures { Performed (largest_load budget) start table.now table.now out.old out.new }
-{
-    let told = book::largest_load(table, start, budget);
-    replay_words::tell_fitted(out, told);
-}
-
 // Makes a call whose answer fits. Returns how many words that takes.
 fn perform(table: &mut [i64], start: usize, next: Next, out: &mut [i64]) -> usize
     requires { fitting (asked next) (length out.old) ≡ true }
@@ -100,10 +92,6 @@ fn perform(table: &mut [i64], start: usize, next: Next, out: &mut [i64]) -> usiz
         } => {
             do_report(table, start, load, price, words, out);
             5 + words
-        }
-        Next::LargestLoad(budget) => {
-            do_largest_load(table, start, budget, out);
-            5
         }
         Next::Nothing => 0,
     }

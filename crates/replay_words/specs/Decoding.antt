@@ -6,9 +6,9 @@ use Rattle.std.specs.Int.Signed.{lt_z, non_neg}
 use Rattle.std.specs.Int.{w64}
 use Rattle.std.proofs.Math.Facts.{to_z_pos}
 use Rattle.integers.specs.Parts.{equal_is, equal_eq}
-use Rattle.plain.specs.Book.{Call, post, withdraw, query, listing, take_back, report, largest_load}
+use Rattle.plain.specs.Book.{Call, post, withdraw, query, listing, take_back, report}
 use Rattle.replay_words.specs.declared.Next.{Next}
-use Rattle.replay_words.specs.declared.Next.TheVariants.{Post, Withdraw, Query, Listing, TakeBack, Report, LargestLoad, Nothing}
+use Rattle.replay_words.specs.declared.Next.TheVariants.{Post, Withdraw, Query, Listing, TakeBack, Report, Nothing}
 use Rattle.replay_words.specs.Encoding.{with_room, listing_of, report_of, short_call, call_of, next_call, stretch, fitting, first_run, runnable}
 use Rattle.lists.specs.Bools.{passed, is_true}
 use Rattle.integers.specs.Magnitude.{nat_abs_fits}
@@ -22,7 +22,6 @@ asked (Query q) = some (query q)
 asked (Listing room) = some (listing room)
 asked TakeBack = some take_back
 asked (Report q p room) = some (report q p room)
-asked (LargestLoad b) = some (largest_load b)
 asked Nothing = none
 
 -- ---- a word beside a number
@@ -61,15 +60,11 @@ module _ (code a : ℤ) where
       short_query e = rw (no5, no2, e)
 
       module _ (no3 : equal code (pos 3) ≡ false) where
-        pub short_largest : equal code (pos 7) ≡ true → some (largest_load a) ≡ short_call code a
-        short_largest e = rw (no5, no2, no3, e)
+        pub short_none : equal code (pos 4) ≡ false → none ≡ short_call code a
+        short_none e = rw (no5, no2, no3, e)
 
-        module _ (no7 : equal code (pos 7) ≡ false) where
-          pub short_none : equal code (pos 4) ≡ false → none ≡ short_call code a
-          short_none e = rw (no5, no2, no3, no7, e)
-
-          pub short_listing : equal code (pos 4) ≡ true → listing_of a ≡ short_call code a
-          short_listing e = rw (no5, no2, no3, no7, e)
+        pub short_listing : equal code (pos 4) ≡ true → listing_of a ≡ short_call code a
+        short_listing e = rw (no5, no2, no3, e)
 
 -- a call with a room
 module _ (call : ℕ → Call) where

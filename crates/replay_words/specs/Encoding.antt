@@ -2,17 +2,15 @@
 --     1 number rate base   post           4 room 0 0          listing
 --     2 number 0 0         withdraw       5 0 0 0             take back
 --     3 load 0 0           query          6 load price room   report
---     7 budget 0 0         largest load
 use Rattle.std.specs.Prelude.{◌≡◌, List, [], ◌∷◌, ◌++◌, Bool, false, ◌&&◌, cond, ℕ, zero, suc, ◌+◌, ◌*◌, ◌-◌, ◌≤◌, length, take, drop, get_or, ℤ, pos, negsuc, leb}
 use Rattle.std.proofs.Math.Option.{Option, none, some}
 use Rattle.integers.specs.Equal.{equal}
-use Rattle.plain.specs.Book.{Call, post, withdraw, query, listing, take_back, report, largest_load, Answer, refused, live, found, listed, reported, fitted}
+use Rattle.plain.specs.Book.{Call, post, withdraw, query, listing, take_back, report, Answer, refused, live, found, listed, reported}
 use Rattle.promises.specs.declared.Update.{Update}
 use Rattle.promises.specs.declared.Found.{Found}
 use Rattle.promises.specs.declared.Listed.{Listed}
 use Rattle.promises.specs.declared.Reported.{Reported}
-use Rattle.promises.specs.declared.Fitted.{Fitted}
-use Rattle.promises.specs.Promises.{counted, update_told, found_told, listed_told, reported_told, fitted_told, written_words}
+use Rattle.promises.specs.Promises.{counted, update_told, found_told, listed_told, reported_told, written_words}
 
 -- ---- calls
 
@@ -23,7 +21,6 @@ encode (query q) = pos 3 ∷ q ∷ pos 0 ∷ pos 0 ∷ []
 encode (listing room) = pos 4 ∷ pos room ∷ pos 0 ∷ pos 0 ∷ []
 encode take_back = pos 5 ∷ pos 0 ∷ pos 0 ∷ pos 0 ∷ []
 encode (report q p room) = pos 6 ∷ q ∷ p ∷ pos room ∷ []
-encode (largest_load b) = pos 7 ∷ b ∷ pos 0 ∷ pos 0 ∷ []
 
 abbrev pub encoded : List Call → List ℤ
 encoded [] = []
@@ -46,8 +43,7 @@ short_call code a =
     cond (equal code (pos 5)) (cond (equal a (pos 0)) (some take_back) none)
     (cond (equal code (pos 2)) (some (withdraw a))
     (cond (equal code (pos 3)) (some (query a))
-    (cond (equal code (pos 7)) (some (largest_load a))
-    (cond (equal code (pos 4)) (listing_of a) none))))
+    (cond (equal code (pos 4)) (listing_of a) none)))
 
 -- the call that four words encode
 abbrev pub call_of : (code a b c : ℤ) → Option Call
@@ -73,7 +69,6 @@ stretch (query q) = 5
 stretch (listing room) = 5 + room
 stretch take_back = 5
 stretch (report q p room) = 5 + room
-stretch (largest_load b) = 5
 
 abbrev pub stretches : List Call → ℕ
 stretches [] = 0
@@ -124,9 +119,6 @@ listed_words r = (listed_told r).number ∷ padded 4 (listed_told r).values
 abbrev pub reported_words : Reported → List ℤ
 reported_words r = (reported_told r).number ∷ padded 4 (reported_told r).values
 
-abbrev pub fitted_words : Fitted → List ℤ
-fitted_words r = (fitted_told r).number ∷ padded 4 (fitted_told r).values
-
 -- ---- and read off again
 
 -- an accepted call's answer, by its first three values and the words behind the five
@@ -137,7 +129,6 @@ accepted_answer (query q) x y z out = found x y z
 accepted_answer take_back x y z out = counted live x
 accepted_answer (listing room) x y z out = counted (λ m. listed m (take (3 * m) (take room out))) x
 accepted_answer (report q p room) x y z out = counted (λ m. reported m (take (3 * m) (take room out))) x
-accepted_answer (largest_load b) x y z out = fitted x y
 
 abbrev pub answer_of : Call → ℤ → ℤ → ℤ → ℤ → List ℤ → Answer
 answer_of k refusal x y z out = cond (equal refusal (pos 0)) (accepted_answer k x y z out) (counted refused refusal)
@@ -155,7 +146,6 @@ abbrev pub spared : Call → Answer → List ℤ → List ℤ
 spared (post n r b) a ws = []
 spared (withdraw n) a ws = []
 spared (query q) a ws = []
-spared (largest_load b) a ws = []
 spared take_back a ws = []
 spared (listing room) a ws = drop (written_words a) (take room (drop 5 ws))
 spared (report q p room) a ws = drop (written_words a) (take room (drop 5 ws))

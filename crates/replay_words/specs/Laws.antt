@@ -3,7 +3,7 @@
 use Rattle.std.specs.Prelude.{◌≡◌, refl, Bool, true, false, ◌&&◌, cond, List, [], ◌∷◌, ◌++◌, ℕ, ◌+◌, ◌*◌, ◌-◌, ◌≤◌, length, take, drop, ℤ, pos, negsuc, leb}
 use Rattle.std.proofs.Common.{sym, ◌∙◌, ap, arith, take-add, drop-drop, le-leb, leb-true}
 use Rattle.std.proofs.Math.Option.{Option, none, some}
-use Rattle.plain.specs.Book.{Call, post, withdraw, query, listing, take_back, report, largest_load}
+use Rattle.plain.specs.Book.{Call, post, withdraw, query, listing, take_back, report}
 use Rattle.replay_words.specs.Encoding.{encode, encoded, listing_of, report_of, short_call, call_of, next_call, stretch, stretches, fitting, first_run}
 use Rattle.replay_words.specs.Encoding.{runnable, Run}
 use Rattle.replay_words.specs.Decoding.{same_is}
@@ -18,7 +18,6 @@ read_again (query q) ws = refl
 read_again (listing room) ws = refl
 read_again take_back ws = refl
 read_again (report q p room) ws = refl
-read_again (largest_load b) ws = refl
 
 -- calls whose answers fit are all run
 pub run_again : (ks : List Call) (room : ℕ) → stretches ks ≤ room → runnable (encoded ks) room ≡ ks
@@ -27,7 +26,6 @@ run_again [] room h = refl
 run_again (post n r b ∷ ks) room h = rw (le-leb 5 room (omega arith), run_again ks (room - 5) (omega arith))
 run_again (withdraw n ∷ ks) room h = rw (le-leb 5 room (omega arith), run_again ks (room - 5) (omega arith))
 run_again (query q ∷ ks) room h = rw (le-leb 5 room (omega arith), run_again ks (room - 5) (omega arith))
-run_again (largest_load b ∷ ks) room h = rw (le-leb 5 room (omega arith), run_again ks (room - 5) (omega arith))
 run_again (take_back ∷ ks) room h = rw (le-leb 5 room (omega arith), run_again ks (room - 5) (omega arith))
 run_again (listing n ∷ ks) room h = rw (le-leb (5 + n) room (omega arith), run_again ks (room - (5 + n)) (omega arith))
 run_again (report q p n ∷ ks) room h = rw (le-leb (5 + n) room (omega arith), run_again ks (room - (5 + n)) (omega arith))
@@ -48,29 +46,18 @@ short_words a b {k} e = back (equal a (pos 5)) (equal b (pos 0)) refl refl e
     fourth true f q = words 4 f ∙ listed b q
     fourth false f q = let z : ◌≡◌ {A = ℕ} 0 1 = cc in absurd (omega arith)
 
-    from4 : Option Call
-    from4 = cond (equal a (pos 4)) (listing_of b) none
-
-    seventh : (x : Bool) → equal a (pos 7) ≡ x → cond x (some (largest_load b)) from4 ≡ some k → a ∷ b ∷ pos 0 ∷ pos 0 ∷ [] ≡ encode k
-    seventh true f q = let r : largest_load b ≡ k = cc in words 7 f ∙ ap encode r
-    seventh false f q = fourth (equal a (pos 4)) refl q
-
-    from7 : Option Call
-    from7 = cond (equal a (pos 7)) (some (largest_load b)) from4
-
-    third : (x : Bool) → equal a (pos 3) ≡ x → cond x (some (query b)) from7 ≡ some k → a ∷ b ∷ pos 0 ∷ pos 0 ∷ [] ≡ encode k
+    third : (x : Bool) → equal a (pos 3) ≡ x → cond x (some (query b)) (cond (equal a (pos 4)) (listing_of b) none) ≡ some k →
+        a ∷ b ∷ pos 0 ∷ pos 0 ∷ [] ≡ encode k
     third true f q = let r : query b ≡ k = cc in words 3 f ∙ ap encode r
-    third false f q = seventh (equal a (pos 7)) refl q
+    third false f q = fourth (equal a (pos 4)) refl q
 
-    from3 : Option Call
-    from3 = cond (equal a (pos 3)) (some (query b)) from7
-
-    second : (x : Bool) → equal a (pos 2) ≡ x → cond x (some (withdraw b)) from3 ≡ some k → a ∷ b ∷ pos 0 ∷ pos 0 ∷ [] ≡ encode k
+    second : (x : Bool) → equal a (pos 2) ≡ x → cond x (some (withdraw b))
+        (cond (equal a (pos 3)) (some (query b)) (cond (equal a (pos 4)) (listing_of b) none)) ≡ some k → a ∷ b ∷ pos 0 ∷ pos 0 ∷ [] ≡ encode k
     second true f q = let r : withdraw b ≡ k = cc in words 2 f ∙ ap encode r
     second false f q = third (equal a (pos 3)) refl q
 
     others : Option Call
-    others = cond (equal a (pos 2)) (some (withdraw b)) from3
+    others = cond (equal a (pos 2)) (some (withdraw b)) (cond (equal a (pos 3)) (some (query b)) (cond (equal a (pos 4)) (listing_of b) none))
 
     back : (x y : Bool) → equal a (pos 5) ≡ x → equal b (pos 0) ≡ y → cond x (cond y (some take_back) none) others ≡ some k →
         a ∷ b ∷ pos 0 ∷ pos 0 ∷ [] ≡ encode k

@@ -1,7 +1,6 @@
 // Calls and answers as words: a call is read from four words, and an answer is written over five.
 ghost use Rattle.std.specs.Prelude.{◌≡◌, ◌++◌, ◌∷◌, ◌+◌, ◌≤◌, length, drop, leb};
 ghost use Rattle.replay_words.specs.Encoding.{short_call, call_of, next_call, fitting, update_words, found_words, listed_words, reported_words};
-ghost use Rattle.replay_words.specs.Encoding.{fitted_words};
 ghost use Rattle.replay_words.specs.Decoding.{asked};
 
 // The call that the next words encode.
@@ -13,7 +12,6 @@ pub enum Next {
     Listing(usize),
     TakeBack,
     Report { load: i64, price: i64, room: usize },
-    LargestLoad(i64),
     Nothing,
 }
 
@@ -34,9 +32,6 @@ fn read_short(code: i64, a: i64) -> Next
     }
     if code == 3 {
         return Next::Query(a);
-    }
-    if code == 7 {
-        return Next::LargestLoad(a);
     }
     if code != 4 || a < 0 {
         return Next::Nothing;
@@ -107,7 +102,6 @@ pub fn fits(next: Next, room: usize) -> bool
             price: _,
             room: n,
         } => five_and(n, room),
-        Next::LargestLoad(_) => 5 <= room,
         Next::Nothing => false,
     }
 }
@@ -172,16 +166,5 @@ pub fn tell_reported(out: &mut [i64], told: promises::Reported)
     match told {
         promises::Reported::Offers(count) => put_five(out, 0, count, 0, 0, 0),
         promises::Reported::Declined(cause) => put_five(out, cause, 0, 0, 0, 0),
-    }
-}
-
-// A largest load's answer: 0, the offer's number and the load; or the refusal's number.
-pub fn tell_fitted(out: &mut [i64], told: promises::Fitted)
-    requires { 5 ≤ length out.old }
-    ensures { out.new ≡ fitted_words told ++ drop 5 out.old }
-{
-    match told {
-        promises::Fitted::Load { number, load } => put_five(out, 0, number, load, 0, 0),
-        promises::Fitted::Declined(cause) => put_five(out, cause, 0, 0, 0, 0),
     }
 }

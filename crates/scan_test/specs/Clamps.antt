@@ -1,5 +1,5 @@
 -- What the scan computes from values in range fits an i64.
-use Rattle.std.specs.Prelude.{◌≡◌, ℕ, suc, ◌+◌, ◌*◌, ◌<◌, ◌≤◌, ℤ, pos, ◌-ℤ◌, ◌*ℤ◌, FitsSigned, unsigned_abs}
+use Rattle.std.specs.Prelude.{◌≡◌, ℕ, suc, ◌+◌, ◌*◌, ◌<◌, ◌≤◌, ℤ, ◌-ℤ◌, ◌*ℤ◌, FitsSigned, unsigned_abs}
 use Rattle.std.proofs.Common.{arith}
 use Rattle.std.specs.Int.{w64}
 use Rattle.integers.specs.Magnitude.{fits, nat_abs_sub}
@@ -7,9 +7,6 @@ use Rattle.query.specs.Readings.{clamped, clamped_size, clamped_product}
 
 size : {x : ℤ} (m : ℕ) (a : ℤ) → x ≡ clamped (suc m) a → unsigned_abs x ≤ suc m
 size m a e = rw e (clamped_size m a)
-
-pub one_less_fits : {x : ℤ} (m : ℕ) (a : ℤ) → x ≡ clamped (suc m) a → suc m < 1_000_000_000_000_000 → FitsSigned w64 (x -ℤ pos 1)
-one_less_fits {x} m a e h = fits _ (omega (arith, nat_abs_sub x (pos 1), size m a e))
 
 module _ {x y : ℤ} (m n : ℕ) (a b : ℤ) (ex : x ≡ clamped (suc m) a) (ey : y ≡ clamped (suc n) b) where
   pub product_fits : suc m * suc n < 1_000_000_000_000_000 → FitsSigned w64 (x *ℤ y)

@@ -46,18 +46,6 @@ pub(crate) fn report_cause(is_open: bool, load: i64, limit: i64, fits: bool) -> 
     cause(!is_open, 3, price_outside)
 }
 
-// `some_fits` says whether some load in range does.
-pub(crate) fn largest_cause(is_open: bool, os: &[i64; 192], budget: i64, some_fits: bool) -> i64 {
-    let none_fits = cause(!some_fits, 18, 0);
-    let empty = cause(slots::count(os) < 1, 9, none_fits);
-    let outside = cause(
-        is_outside(-101_000_000_000, 101_000_000_000, budget),
-        4,
-        empty,
-    );
-    cause(!is_open, 3, outside)
-}
-
 // ---- the pieces, and the offers under a price
 
 // How many pieces or offers there are, and their words with 7 behind them.

@@ -3,7 +3,6 @@
 // each.
 mod calls;
 mod expected;
-mod largest;
 mod makers;
 mod meetings;
 mod reports;
@@ -31,19 +30,13 @@ fn listings(table: &[i64], start: usize, os: &[i64; 192], t: Tally) -> Tally {
     calls::listing(table, start, os, &mut short, a)
 }
 
-// The queries, the listings, the reports and the largest loads of a book.
-fn asked(table: &[i64], p: Place, os: &[i64; 192], t: Tally) -> Tally {
-    let a = queries(table, p, os, t);
-    let b = listings(table, p.start, os, a);
-    let c = reports::all(table, p, os, b);
-    largest::all(table, p, os, c)
-}
-
-// They are asked after each update.
+// The queries, the listings and the reports after each update.
 fn sweep(w: World, p: Place) -> World {
     let words = w.words;
     let os = w.os;
-    world::with_tally(w, asked(&words, p, &os, w.told))
+    let a = queries(&words, p, &os, w.told);
+    let b = listings(&words, p.start, &os, a);
+    world::with_tally(w, reports::all(&words, p, &os, b))
 }
 
 // Posts 30 offers, with a sweep after each.
@@ -182,7 +175,7 @@ fn summary(t: Tally) {
     say_byte(b'\n');
 }
 
-// A query, a report and a largest load where there is no book.
+// A query and a report where there is no book.
 fn ask_nothing(w: World, start: usize, load: i64) -> World {
     let words = w.words;
     let os = w.os;
@@ -193,14 +186,10 @@ fn ask_nothing(w: World, start: usize, load: i64) -> World {
         load: load,
         limit: 101_000_000_001,
     };
-    let b = reports::both(&words, asked, &os, a);
-    world::with_tally(
-        w,
-        largest::load(&words, start, false, &os, 101_000_000_001, b),
-    )
+    world::with_tally(w, reports::both(&words, asked, &os, a))
 }
 
-// Openings that are declined, one that just fits, and calls that read where there is no book.
+// Openings that are declined, one that just fits, and queries and reports where there is no book.
 fn run_openings(w: World) -> World {
     let a = calls::open(w, 17, 0, 1);
     let b = calls::open(a, 8000, 4_097, 1);

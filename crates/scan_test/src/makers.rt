@@ -25,7 +25,7 @@ pub(crate) fn next(m: Maker) -> Maker {
     }
 }
 
-pub(crate) fn less(a: u32, b: u32) -> i64 {
+fn less(a: u32, b: u32) -> i64 {
     a as i64 - b as i64
 }
 

@@ -3,8 +3,6 @@
 ghost use Rattle.std.specs.Prelude.{◌≡◌};
 ghost use Rattle.offers.specs.Bounded.{bounded};
 
-use crate::makers;
-
 pub(crate) fn number(os: &[i64; 192], i: usize) -> i64 {
     if i < 64 {
         return os[i];
@@ -181,67 +179,6 @@ pub(crate) fn next_under(os: &[i64; 192], load: i64, limit: i64, last: usize) ->
     let mut best: usize = 64;
     for i in 0..64 {
         best = sooner(os, load, limit, last, best, i);
-    }
-    best
-}
-
-// ---- the largest load that a budget allows
-
-// A cent less than a price.
-pub(crate) fn a_cent_less(price: i64) -> i64 {
-    bounded(-101_000_000_000, 101_000_000_000, price) - 1
-}
-
-// The loads in range, counted from 1 to 2,000,001; 0 is no load.
-const LOADS: u32 = 2_000_001;
-
-pub(crate) fn load_at(k: u32) -> i64 {
-    makers::less(k, 1_000_001)
-}
-
-// At load k the offer of slot i costs at most the budget.
-fn is_affordable(os: &[i64; 192], i: usize, budget: i64, k: u32) -> bool {
-    (k <= LOADS) & (price(os, i, load_at(k)) <= budget)
-}
-
-// So much further where the offer is affordable there too.
-fn further(os: &[i64; 192], i: usize, budget: i64, k: u32, step: u32) -> u32 {
-    let next = std::num::wrapping_add_u32(k, step);
-    if is_affordable(os, i, budget, next) {
-        next
-    } else {
-        k
-    }
-}
-
-// The last load at which the offer of slot i alone is affordable. Where that is not the last of all, its price rises: by halved steps to the last that is.
-fn largest_alone(os: &[i64; 192], i: usize, budget: i64) -> u32 {
-    if is_affordable(os, i, budget, LOADS) {
-        return LOADS;
-    }
-    let mut k: u32 = 0;
-    let mut step: u32 = 1_048_576;
-    for j in 0..21u32 {
-        k = further(os, i, budget, k, step);
-        step = step / 2;
-    }
-    k
-}
-
-// Of two loads the larger, that of slot i only where it has an offer.
-fn larger(os: &[i64; 192], budget: i64, best: u32, i: usize) -> u32 {
-    if number(os, i) == 0 {
-        return best;
-    }
-    let k = largest_alone(os, i, budget);
-    if best < k { k } else { best }
-}
-
-// The last load at which some offer is affordable; 0 where there is none.
-pub(crate) fn largest_load(os: &[i64; 192], budget: i64) -> u32 {
-    let mut best: u32 = 0;
-    for i in 0..64 {
-        best = larger(os, budget, best, i);
     }
     best
 }

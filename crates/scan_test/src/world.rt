@@ -1,6 +1,6 @@
 // What goes from call to call, by value: a reference that is lent for change costs the checker far more than a struct that is passed on.
 
-// The calls made, all but the reports and the largest loads, and those of all that differ from the scan.
+// The calls made, all but the reports, and those of all that differ from the scan.
 #[derive(Drop)]
 pub struct Tally {
     pub calls: u32,
@@ -59,7 +59,7 @@ pub(crate) fn with_tally(w: World, t: Tally) -> World {
     v
 }
 
-// A report or a largest load: its difference is counted, and the call is none of those of the printed line.
+// A report: its difference is counted, and the call is none of those of the printed line.
 pub(crate) fn compared(t: Tally, same: bool) -> Tally {
     let mut told = t;
     told.differences = std::num::wrapping_add_u32(t.differences, !same as u32);

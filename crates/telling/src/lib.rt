@@ -1,8 +1,7 @@
-// The answers of an opening, an update, a query, a listing, a report and a largest load for Rust and C: each is one number, a refusal its cause below 0,
-// and what goes with it is written over the first words of a lent output.
+// The answers of an opening, an update, a query, a listing and a report for Rust and C: each is one number, a refusal its cause below 0, and what goes with
+// it is written over the first words of a lent output.
 ghost use Rattle.std.specs.Prelude.{◌≡◌, ◌≤◌, length};
-ghost use Rattle.answers.specs.Promises.{refusal, opening_number, update_number, found_number, listed_number, reported_number, fitted_number};
-ghost use Rattle.answers.specs.Promises.{counts_of, found_of, load_of, Tells};
+ghost use Rattle.answers.specs.Promises.{refusal, opening_number, update_number, found_number, listed_number, reported_number, counts_of, found_of, Tells};
 
 // A cause, below 0.
 pub fn below_zero(cause: i64) -> i64
@@ -78,19 +77,5 @@ pub fn tell_found(f: promises::Found, found: &mut [i64]) -> i64
             number
         }
         promises::Found::Declined(cause) => below_zero(cause),
-    }
-}
-
-// A largest load's answer, the offer's number; the load goes into `found`.
-pub fn tell_fitted(f: promises::Fitted, found: &mut [i64]) -> i64
-    requires { 1 ≤ length found.old }
-    ensures { Tells (fitted_number f) (load_of f) found.old found.new result }
-{
-    match f {
-        promises::Fitted::Load { number, load } => {
-            found[0] = load;
-            number
-        }
-        promises::Fitted::Declined(cause) => below_zero(cause),
     }
 }

@@ -3,7 +3,7 @@
 use Rattle.std.specs.Prelude.{◌≡◌, List, [], ◌∷◌, ℕ, zero, suc, ◌*◌, ◌≤◌, length, take, ℤ, pos, negsuc}
 use Rattle.std.proofs.Common.{sym, ◌∙◌, ap, arith}
 use Rattle.std.proofs.Math.Option.{Option}
-use Rattle.plain.specs.Book.{State, Call, query, listing, report, largest_load, refused, live, found, listed, reported, fitted, step}
+use Rattle.plain.specs.Book.{State, Call, query, listing, report, refused, live, found, listed, reported, step}
 use Rattle.dynamic.specs.OfferTree.{Held}
 use Rattle.table.specs.Items.{Item}
 use Rattle.form.specs.Form.{Form}
@@ -15,10 +15,8 @@ use Rattle.promises.specs.declared.Listed.{Listed}
 use Rattle.promises.specs.declared.Listed.TheVariants.{Pieces, Declined as ListingDeclined}
 use Rattle.promises.specs.declared.Reported.{Reported}
 use Rattle.promises.specs.declared.Reported.TheVariants.{Offers, Declined as ReportDeclined}
-use Rattle.promises.specs.declared.Fitted.{Fitted}
-use Rattle.promises.specs.declared.Fitted.TheVariants.{Load, Declined as FittedDeclined}
-use Rattle.promises.specs.Promises.{part_of, counted, update_told, found_told, update_answer, found_answer, listing_answer, report_answer, fitted_answer}
-use Rattle.promises.specs.Promises.{Updates, Queries, Lists, Reports, Sends}
+use Rattle.promises.specs.Promises.{part_of, counted, update_told, found_told, update_answer, found_answer, listing_answer, report_answer, Updates, Queries}
+use Rattle.promises.specs.Promises.{Lists, Reports}
 use Rattle.promises.specs.Numbered.{numbered}
 
 -- a refusal told by a word is told by its number
@@ -107,20 +105,6 @@ report_reported (Offers (negsuc m)) out n ws e = let z : ◌≡◌ {A = ℕ} 0 1
 report_reported (ReportDeclined (pos m)) out n ws e = let z : ◌≡◌ {A = ℕ} 0 1 = cc in absurd (omega arith)
 report_reported (ReportDeclined (negsuc m)) out n ws e = let z : ◌≡◌ {A = ℕ} 0 1 = cc in absurd (omega arith)
 
--- ---- largest load
-
-pub largest_refused : (r : Fitted) (n : ℕ) → 1 ≤ n → fitted_answer r ≡ refused n → r ≡ FittedDeclined (pos n)
-largest_refused (Load number load) n l e = let z : ◌≡◌ {A = ℕ} 0 1 = cc in absurd (omega arith)
-largest_refused (FittedDeclined c) n l e = ap FittedDeclined (refused_word c n l e)
-
-pub largest_fitted : (r : Fitted) (number load : ℤ) → fitted_answer r ≡ fitted number load → r ≡ Load number load
-largest_fitted (Load m q) number load e =
-    let a : m ≡ number = cc in
-    let b : q ≡ load = cc in
-    λ i. Load (a i) (b i)
-largest_fitted (FittedDeclined (pos m)) number load e = let z : ◌≡◌ {A = ℕ} 0 1 = cc in absurd (omega arith)
-largest_fitted (FittedDeclined (negsuc m)) number load e = let z : ◌≡◌ {A = ℕ} 0 1 = cc in absurd (omega arith)
-
 -- ---- on a book: where the plain book refuses, the call is declined with that number
 
 plain_number : (s : State) (k : Call) (n : ℕ) → (step s k).answer ≡ refused n → 1 ≤ n
@@ -146,6 +130,3 @@ module _ {start : ℕ} {t : List ℤ} {s : State} {held : Option (Held Item)} (f
       r ≡ ReportDeclined (pos n)
   report_declined {q} {p} {out} {out'} {r} k n e =
       report_refused r out' n (plain_number s (report q p (length out)) n e) (k.answers s held f.book ∙ e)
-
-  pub largest_declined : {b : ℤ} {r : Fitted} → Sends b start t r → (n : ℕ) → (step s (largest_load b)).answer ≡ refused n → r ≡ FittedDeclined (pos n)
-  largest_declined {b} {r} p n e = largest_refused r n (plain_number s (largest_load b) n e) (p.answers s held f.book ∙ e)

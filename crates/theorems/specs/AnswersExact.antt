@@ -1,15 +1,13 @@
 -- Demand 2 holds of every call: the promises give it on a table that stands for a book.
-use Rattle.std.specs.Prelude.{◌≡◌, refl, not, List, [], ◌∷◌, ℕ, ◌*◌, length, take, drop, T, ℤ, pos, negsuc}
+use Rattle.std.specs.Prelude.{◌≡◌, refl, List, [], ◌∷◌, ℕ, ◌*◌, length, take, drop, ℤ, pos, negsuc}
 use Rattle.std.proofs.Common.{sym, ◌∙◌, ap, subst, arith}
 use Rattle.std.proofs.Math.Option.{Option, none, some}
 use Rattle.offers.specs.Offers.{Offer as PlainOffer}
-use Rattle.plain.specs.Causes.{Cause, no_load_fits, cause_number, declined, Clear}
+use Rattle.plain.specs.Causes.{Cause, cause_number, declined, Clear}
 use Rattle.plain.specs.Trials.{clear, declined_first}
-use Rattle.plain.specs.Book.{State, Undo, Call, post, withdraw, query, listing, take_back, report, largest_load}
-use Rattle.plain.specs.Book.{Answer, refused, live, found, listed, reported, fitted, missing, largest_fit, fitted_at}
+use Rattle.plain.specs.Book.{State, Undo, Call, post, withdraw, query, listing, take_back, report, Answer, refused, live, found, listed, reported}
 use Rattle.plain.specs.Book.{Outcome, holding, recalling, changed, join, leave, trials, accepted, respond, step}
-use Rattle.plain.specs.MeaningLaws.{query_cheapest, listing_listing, report_report, largest_largest}
-use Rattle.plain.specs.LoadLaws.{sends_nothing, nothing_fits}
+use Rattle.plain.specs.MeaningLaws.{query_cheapest, listing_listing, report_report}
 use Rattle.dynamic.specs.OfferTree.{Held}
 use Rattle.table.specs.Items.{Item}
 use Rattle.form.specs.Form.{Form}
@@ -22,14 +20,10 @@ use Rattle.promises.specs.declared.Listed.{Listed}
 use Rattle.promises.specs.declared.Listed.TheVariants.{Pieces, Declined as ListingDeclined}
 use Rattle.promises.specs.declared.Reported.{Reported}
 use Rattle.promises.specs.declared.Reported.TheVariants.{Offers, Declined as ReportDeclined}
-use Rattle.promises.specs.declared.Fitted.{Fitted}
-use Rattle.promises.specs.declared.Fitted.TheVariants.{Load, Declined as FittedDeclined}
-use Rattle.promises.specs.Promises.{part_of, counted, update_answer, found_answer, listing_answer, report_answer, fitted_answer, written_words}
-use Rattle.promises.specs.Promises.{Follows, Queries, Lists, Reports, Sends}
+use Rattle.promises.specs.Promises.{part_of, counted, update_answer, found_answer, listing_answer, report_answer, written_words, Follows, Queries, Lists, Reports}
 use Rattle.promises.specs.Numbered.{from_one, numbered}
-use Rattle.theorems.specs.AnswerCases.{refused_word, largest_declined}
-use Rattle.theorems.specs.Demand2.{Refuses, QueryTells, ListingTells, ReportTells, LargestTells, Unaffordable, TurnedAway, UpdateTells}
-use Rattle.theorems.specs.Demand2.{offers_back, Demand2}
+use Rattle.theorems.specs.AnswerCases.{refused_word}
+use Rattle.theorems.specs.Demand2.{Refuses, QueryTells, ListingTells, ReportTells, UpdateTells, offers_back, Demand2}
 
 -- ---- a refusal
 
@@ -52,18 +46,6 @@ query_accepted s q n k e = go s.offers k e
     go : (os : List PlainOffer) → Clear (trials (holding s os) (query q)) → (accepted (holding s os) (query q)).answer ≡ refused n → ⊥
     go [] (load, (empty, _)) d = empty
     go (o ∷ os) k d = let z : ◌≡◌ {A = ℕ} 0 1 = cc in absurd (omega arith)
-
--- .. nor a largest load
-largest_accepted : (s : State) (b : ℤ) (n : ℕ) → Clear (trials s (largest_load b)) → (accepted s (largest_load b)).answer ≡ refused n → ⊥
-largest_accepted s b n k e = go s.offers k e
-  where
-    with_load : (o : PlainOffer) (os : List PlainOffer) (m : Option ℤ) → T (not (missing m)) → fitted_at (o ∷ os) m ≡ refused n → ⊥
-    with_load o os none one-fits d = one-fits
-    with_load o os (some q) one-fits d = let z : ◌≡◌ {A = ℕ} 0 1 = cc in absurd (omega arith)
-
-    go : (os : List PlainOffer) → Clear (trials (holding s os) (largest_load b)) → (accepted (holding s os) (largest_load b)).answer ≡ refused n → ⊥
-    go [] (budget, (empty, _)) d = empty
-    go (o ∷ os) (budget, (empty, (one-fits, _))) d = with_load o os (largest_fit b (o ∷ os)) one-fits d
 
 -- .. and a refused one met the first that applies
 refuses :
@@ -106,7 +88,7 @@ module _ (s : State) (k : Call) (os : List PlainOffer) (us : List Undo) (a : Cle
     update_told_lem : {held : Option (Held Item)} {u : Update} → Follows k s held start t t' u → UpdateTells s k os us start t t' u
     update_told_lem {u} f = update_by (declined (trials s k)) refl u f.answers f.after f.stands f.refusal
 
--- ---- the seven calls
+-- ---- the six calls
 
 module _ {start : ℕ} {t : List ℤ} {s : State} {held : Option (Held Item)} (f : Form (part_of t start) s held) where
   query_told : {q : ℤ} {r : Found} → Queries q start t r → QueryTells s q r
@@ -151,34 +133,12 @@ module _ {start : ℕ} {t : List ℤ} {s : State} {held : Option (Held Item)} (f
         same z refl,
       )
 
-  largest_told : {b : ℤ} {r : Fitted} → Sends b start t r → LargestTells s b r
-  largest_told {b} {r} p = go r (p.answers s held f.book)
-    where
-      go : (r : Fitted) → fitted_answer r ≡ (step s (largest_load b)).answer → LargestTells s b r
-      go (Load number load) e = (
-        answered_clear s (largest_load b) (fitted number load) (λ n h. let z : ◌≡◌ {A = ℕ} 0 1 = cc in absurd (omega arith)) e,
-        largest_largest s b number load (sym e),
-      )
-      go (FittedDeclined z) e = refuses s (largest_load b) z (largest_accepted s b) e
-
-  turned_away_there : {b : ℤ} {r : Fitted} → Sends b start t r → TurnedAway s b r
-  turned_away_there {b} {r} p = (
-    λ e. let (h, some_live, d) = nothing_fits s b (sym (p.answers s held f.book) ∙ ap fitted_answer e) in (h, omega arith, d),
-    λ h. largest_declined f p (cause_number no_load_fits) (nothing s.offers refl h),
-  )
-    where
-      nothing : (os : List PlainOffer) → s.offers ≡ os → Unaffordable s b → (step s (largest_load b)).answer ≡ refused (cause_number no_load_fits)
-      nothing [] e (h, some_live, d) = absurd (omega (arith, ap length e))
-      nothing (o ∷ os) e (h, some_live, d) = ap (λ (x : Outcome). x.answer) (sends_nothing s b h o os e d)
-
   pub demand_2 : Demand2 start t s
   demand_2 =
       record {
         query_tells = query_told;
         listing_tells = listing_told;
         report_tells = report_told;
-        largest_tells = largest_told;
-        turned_away = turned_away_there;
         post_tells = λ {n} {r} {b = base} {t'} p. update_told_lem s (post n r base) (join (record { number = n; rate = r; base = base }) s.offers) _
             (λ c. refl) start t t' (p.follows s held f);
         withdraw_tells = λ {n} {t'} p. update_told_lem s (withdraw n) (leave n s.offers) _ (λ c. refl) start t t' (p.follows s held f);

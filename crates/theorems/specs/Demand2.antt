@@ -1,13 +1,13 @@
--- Demand 2 (docs/REQUIREMENTS.md, 1.3), about the calls on a table that stands for a plain book: a query's answer, the words of a listing and of a
--- report and a largest load tell what section 3 says of the live offers (`Meaning`), a post or a withdrawal changes the live offers by that one offer, a
--- take-back by undoing the last update remembered, and a declined call meets the first cause that applies. `AnswersExact` proves it.
-use Rattle.std.specs.Prelude.{◌≡◌, ◌↔◌, List, [], ◌∷◌, ℕ, ◌*◌, ◌≤◌, length, take, drop, T, ℤ, pos}
+-- Demand 2 (docs/REQUIREMENTS.md, 1.3), about the calls on a table that stands for a plain book: a query's answer and the words of a listing and of a
+-- report tell what section 3 says of the live offers (`Meaning`), a post or a withdrawal changes the live offers by that one offer, a take-back by undoing
+-- the last update remembered, and a declined call meets the first cause that applies. `AnswersExact` proves it.
+use Rattle.std.specs.Prelude.{◌≡◌, List, [], ◌∷◌, ℕ, ◌*◌, length, take, drop, ℤ, pos}
 use Rattle.std.proofs.Math.Option.{Option}
-use Rattle.offers.specs.Offers.{Offer as PlainOffer, price_in_range}
-use Rattle.plain.specs.Causes.{Cause, no_load_fits, Trial, cause_number, Clear, FirstOf}
-use Rattle.plain.specs.Book.{State, Undo, Call, post, withdraw, query, listing, take_back, report, largest_load, recalling, join, leave, undo_of, remember}
+use Rattle.offers.specs.Offers.{Offer as PlainOffer}
+use Rattle.plain.specs.Causes.{Cause, Trial, cause_number, Clear, FirstOf}
+use Rattle.plain.specs.Book.{State, Undo, Call, post, withdraw, query, listing, take_back, report, recalling, join, leave, undo_of, remember}
 use Rattle.plain.specs.Book.{undone, trials}
-use Rattle.plain.specs.Meaning.{Cheapest, Listing, Report, Largest, NoneFits}
+use Rattle.plain.specs.Meaning.{Cheapest, Listing, Report}
 use Rattle.dynamic.specs.OfferTree.{Held}
 use Rattle.table.specs.Items.{Item}
 use Rattle.form.specs.Form.{Form}
@@ -19,9 +19,7 @@ use Rattle.promises.specs.declared.Listed.{Listed}
 use Rattle.promises.specs.declared.Listed.TheVariants.{Pieces, Declined as ListingDeclined}
 use Rattle.promises.specs.declared.Reported.{Reported}
 use Rattle.promises.specs.declared.Reported.TheVariants.{Offers, Declined as ReportDeclined}
-use Rattle.promises.specs.declared.Fitted.{Fitted}
-use Rattle.promises.specs.declared.Fitted.TheVariants.{Load, Declined as FittedDeclined}
-use Rattle.promises.specs.Promises.{part_of, Updates, Queries, Lists, Reports, Sends}
+use Rattle.promises.specs.Promises.{part_of, Updates, Queries, Lists, Reports}
 
 -- The number is that of the first cause that applies.
 abbrev pub Refuses : List Trial → ℤ → Type 0
@@ -46,19 +44,6 @@ ReportTells s q p out out' (Offers m) =
     × ((n : ℕ) × (m ≡ pos n) × Report s.offers q p n (take (3 * n) out') × (drop (3 * n) out' ≡ drop (3 * n) out))
 ReportTells s q p out out' (ReportDeclined z) = Refuses (trials s (report q p (length out))) z × (out' ≡ out)
 
--- No cause applies: of all loads in range the largest whose least price is at most the budget, and the offer that a query names first there.
-abbrev pub LargestTells : State → ℤ → Fitted → Type 0
-LargestTells s b (Load number load) = Clear (trials s (largest_load b)) × Largest s.offers b number load
-LargestTells s b (FittedDeclined z) = Refuses (trials s (largest_load b)) z
-
--- A budget in range, a live offer, and no load in range that fits.
-abbrev pub Unaffordable : State → ℤ → Type 0
-Unaffordable s b = T (price_in_range b) × (1 ≤ length s.offers) × NoneFits s.offers b
-
--- 18 is told there, and only there.
-abbrev pub TurnedAway : State → ℤ → Fitted → Type 0
-TurnedAway s b r = r ≡ FittedDeclined (pos (cause_number no_load_fits)) ↔ Unaffordable s b
-
 -- No cause applies: the part stands for the book with these live offers, of which it remembers so much, and their count is told; a declined call leaves
 -- every word.
 abbrev pub UpdateTells : State → Call → List PlainOffer → List Undo → ℕ → (t t' : List ℤ) → Update → Type 0
@@ -76,8 +61,6 @@ pub record Demand2 (start : ℕ) (t : List ℤ) (s : State) : Type 0 where
   pub query_tells : {q : ℤ} {r : Found} → Queries q start t r → QueryTells s q r
   pub listing_tells : {out out' : List ℤ} {r : Listed} → Lists start t out out' r → ListingTells s (length out) r out'
   pub report_tells : {q p : ℤ} {out out' : List ℤ} {r : Reported} → Reports q p start t out out' r → ReportTells s q p out out' r
-  pub largest_tells : {b : ℤ} {r : Fitted} → Sends b start t r → LargestTells s b r
-  pub turned_away : {b : ℤ} {r : Fitted} → Sends b start t r → TurnedAway s b r
   pub post_tells : {n r b : ℤ} {t' : List ℤ} {u : Update} → Updates (post n r b) start t t' u
       → UpdateTells s (post n r b) (join (record { number = n; rate = r; base = b }) s.offers) (remember (undo_of s.offers (post n r b)) s.memory) start t t' u
   pub withdraw_tells : {n : ℤ} {t' : List ℤ} {u : Update} → Updates (withdraw n) start t t' u

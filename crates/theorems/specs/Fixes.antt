@@ -1,6 +1,6 @@
--- The sentences of demand 2 fix the answers: of a list of offers, one price and two numbers at a load, one listing, one report of a load and a price,
--- word for word, and one largest load of a budget with its offer. A query's probes are free with the arrangement, and one number in each.
-use Rattle.std.specs.Prelude.{◌≡◌, refl, not, ℕ, zero, suc, ◌+◌, ◌*◌, ◌/◌, ◌%◌, ◌<◌, length, get_or, T, ℤ, pos}
+-- The sentences of demand 2 fix the answers: of a list of offers, one price and two numbers at a load, one listing, and one report of a load and a price,
+-- word for word. A query's probes are free with the arrangement, and one number in each.
+use Rattle.std.specs.Prelude.{◌≡◌, refl, ℕ, zero, suc, ◌+◌, ◌*◌, ◌/◌, ◌%◌, ◌<◌, length, get_or, T, ℤ, pos}
 use Rattle.std.proofs.Common.{sym, ◌∙◌, ap, ap₂, subst, ⊎_elim, arith, ext_get_or}
 use mathlib.Core.List.Memᴰ
 use mathlib.Core.List.{List, [], ◌∷◌, Memᴰ}
@@ -8,8 +8,6 @@ use mathlib.Core.List.Pairwise
 use mathlib.Core.List.{Pairwise, rel_of_Pairwise-cons}
 use Rattle.std.proofs.Math.Option.{Option, none, some}
 use Rattle.std.proofs.Math.Decide.{dec_lt}
-use Rattle.std.specs.Int.Signed.{le_z}
-use Rattle.lists.specs.Bools.{not_failed}
 use Rattle.lists.specs.Places.{sublist_mem}
 use Rattle.lists.specs.Members.{Among}
 use Rattle.integers.specs.Parts.{intRules}
@@ -19,7 +17,7 @@ use Rattle.envelopes.specs.Envelope.{Env}
 use Rattle.envelopes.specs.EnvelopeLaws.{same_members}
 use Rattle.lines.specs.OfferLines.{offer_figure, offer_laws}
 use Rattle.plain.specs.Book.{State}
-use Rattle.plain.specs.Meaning.{Priced, Cheapest, PieceAt, Listing, Report, Largest}
+use Rattle.plain.specs.Meaning.{Priced, Cheapest, PieceAt, Listing, Report}
 use Rattle.plain.specs.QueryLaws.{earliest_live, earliest_once}
 use Rattle.plain.specs.ListingLaws.{in_order}
 use Rattle.trees.specs.Tree.{leaves}
@@ -185,24 +183,3 @@ report_once {m} {m'} {ws} {ws'} a b = (many, same_words many a.long b.long offer
 
     offer_at_lem : (i : ℕ) → i < m → (n u v : ℤ) × PieceAt ws i n u v × PieceAt ws' i n u v
     offer_at_lem i h = (_, _, _, a.told i any_offer h, subst (Told i) (sym same) (b.told i any_offer (omega (arith, many))))
-
--- ---- a largest load
-
--- the one load is not above the other: above that one every offer is too dear, and the offer named at the one is not
-not_above : {os : List Offer} {b n n' q q' : ℤ} → Largest os b n q → Largest os b n' q' → T (le_z q q')
-not_above {q} {q'} l m = not_failed (le_z q q') dear_and_affordable
-  where
-    dear_and_affordable : T (not (le_z q q')) → ⊥
-    dear_and_affordable above =
-        let one = l.named.one in
-        let dear = m.last q l.in_range (omega (arith, intRules)) one.offer (earliest_live one.earliest) in
-        omega (arith, intRules, one.priced, l.affordable)
-
-pub largest_once : {os : List Offer} {b n n' q q' : ℤ} → Largest os b n q → Largest os b n' q' → (n ≡ n') × (q ≡ q')
-largest_once {os} {n'} {q} {q'} l m = ((cheapest_once l.named there).0, load)
-  where
-    load : q ≡ q'
-    load = let i = not_above l m in let j = not_above m l in omega (arith, intRules)
-
-    there : Cheapest os q n' m.price m.second
-    there = rw load m.named

@@ -1,9 +1,9 @@
 //! Times of the proved book against a scan, sorted arrays and plain Rust in the same layout; medians of five runs. It prints
 //! the tables; with the word `record` it also puts them into docs/BENCHMARKS.md, between its two marks, and draws docs/benchmarks.svg.
 //! With the word `instructions` it counts an update's and a take-back's instructions instead, with the word `check` it times the check of
-//! a full book, with the word `reports` reports, for which it draws docs/reports.svg, with the word `loads` largest loads; with two
-//! libraries and the word `asking` a query, with the word `printing` a number's printing (rust/bench/asking.sh and printing.sh make them).
-//! Their tables go between marks of their own. Run it in release.
+//! a full book, with the word `reports` reports, for which it draws docs/reports.svg; with two libraries and the word `asking` a query, with
+//! the word `printing` a number's printing (rust/bench/asking.sh and printing.sh make them). Their tables go between marks of their own.
+//! Run it in release.
 mod arrays;
 mod asking;
 mod checks;
@@ -13,7 +13,6 @@ mod plot;
 mod printing;
 mod reporting;
 mod same_layout;
-mod sending;
 mod taking_back;
 
 use arrays::Offer;
@@ -325,34 +324,43 @@ fn times(recorded: bool) {
     }
 }
 
-/// Prints a table and puts it into the page.
-fn tell(name: &str, table: &str) {
-    print!("{table}");
-    record(name, table);
-}
-
 fn main() {
     let words: Vec<String> = std::env::args().skip(1).collect();
     let words: Vec<&str> = words.iter().map(String::as_str).collect();
     match words[..] {
         [] => times(false),
         ["record"] => times(true),
-        ["instructions"] => tell("instructions", &counted::tables()),
-        ["check"] => tell("check", &checks::table()),
+        ["instructions"] => {
+            let tables = counted::tables();
+            print!("{tables}");
+            record("instructions", &tables);
+        }
+        ["check"] => {
+            let table = checks::table();
+            print!("{table}");
+            record("check", &table);
+        }
         ["reports"] => {
             let rows = reporting::rows();
-            tell("reports", &format!("\n{}\n", reporting::table(&rows)));
+            let table = format!("\n{}\n", reporting::table(&rows));
+            print!("{table}");
+            record("reports", &table);
             std::fs::write(format!("{DOCS}reports.svg"), reporting::drawing(&rows)).unwrap();
         }
-        ["loads"] => tell("loads", &sending::table()),
-        ["asking", before, after] => tell("asking", &asking::table(before, after)),
-        ["printing", before, after] => tell("printing", &printing::table(before, after)),
+        ["asking", before, after] => {
+            let table = asking::table(before, after);
+            print!("{table}");
+            record("asking", &table);
+        }
+        ["printing", before, after] => {
+            let table = printing::table(before, after);
+            print!("{table}");
+            record("printing", &table);
+        }
         ["count", n, kind] => {
             let listed = Listed::KINDS.into_iter().find(|k| k.name() == kind).expect("a kind of books");
             counted::run(n.parse().expect("a number of offers"), listed);
         }
-        _ => {
-            panic!("no word, `record`, `instructions`, `check`, `reports`, `loads`, or `asking` or `printing` with two libraries")
-        }
+        _ => panic!("no word, `record`, `instructions`, `check`, `reports`, or `asking` or `printing` with two libraries"),
     }
 }

@@ -7,8 +7,6 @@ fn main() -> Result<(), Declined> {
     println!("{}", book.post(3, 100_001, 0).unwrap_err());
     let found = book.query(5)?;
     println!("offer {} at {} cents, and offer {}", found.number, found.price, found.second);
-    let largest = book.largest_load(18)?;
-    println!("18 cents send up to {} kilograms, by offer {}", largest.load, largest.number);
     for offer in book.report(4, 14)? {
         println!("offer {} costs less than 14 cents at load 4", offer.number);
     }

@@ -48,26 +48,6 @@ pub struct Found {
     pub probes: i64,
 }
 
-/// The largest load that a budget allows, and the offer that a query names first there.
-///
-/// ```
-/// use carrier_book::Largest;
-/// let mut book = carrier_book::Book::new(64)?;
-/// book.post(1, 3, 0)?;
-/// book.post(2, 1, 10)?;
-/// assert_eq!(book.largest_load(14)?, Largest { load: 4, number: 1 });
-/// // 3 × 5 + 0 = 1 × 5 + 10
-/// assert_eq!(book.largest_load(15)?, Largest { load: 5, number: 2 });
-/// # Ok::<(), carrier_book::Declined>(())
-/// ```
-#[derive(Clone, Copy, Debug, PartialEq, Eq)]
-pub struct Largest {
-    /// the load, in kilograms
-    pub load: i64,
-    /// the offer's number
-    pub number: i64,
-}
-
 /// An offer, as a report tells it.
 ///
 /// ```

@@ -1,5 +1,5 @@
 //! A book that owns its words.
-use crate::{lent, words, Declined, Found, Largest, Mark, Marks, Meeting, Offer, Piece, Pieces, Update, MOST_OFFERS};
+use crate::{lent, words, Declined, Found, Mark, Marks, Meeting, Offer, Piece, Pieces, Update, MOST_OFFERS};
 use std::convert::TryFrom;
 use std::fmt;
 
@@ -105,7 +105,7 @@ impl Book {
     }
 
     /// Takes back the last accepted post or withdrawal that has not been taken back. Up to 256 are remembered, and with
-    /// one more the oldest is forgotten for good; what only asks or is declined is not among them, nor is a take-back itself.
+    /// one more the oldest is forgotten for good; queries, listings, reports and declined calls are not among them, nor is a take-back itself.
     ///
     /// ```
     /// use carrier_book::{Book, Declined};
@@ -137,28 +137,6 @@ impl Book {
     #[inline]
     pub fn query(&self, load: i64) -> Result<Found, Declined> {
         lent::query(&self.table, 0, load)
-    }
-
-    /// How much can be sent: the largest load in range whose least price is at most the budget, with the offer that a query names first
-    /// there. The least price may rise and then fall with the load, so a load between may cost more. The budget is in −101,000,000,000 to
-    /// 101,000,000,000.
-    ///
-    /// ```
-    /// use carrier_book::{Book, Declined, Largest};
-    /// let mut book = Book::new(64)?;
-    /// assert_eq!(book.largest_load(10), Err(Declined::Empty));
-    /// book.post(1, 1, 0)?;
-    /// book.post(2, -1, 1_000_010)?;
-    /// // offer 1 carries loads up to 9 for 9 cents; at 1,000,000, far behind dearer loads, offer 2 costs 10
-    /// assert_eq!(book.largest_load(9)?, Largest { load: 9, number: 1 });
-    /// assert_eq!(book.largest_load(10)?, Largest { load: 1_000_000, number: 2 });
-    /// assert_eq!(book.largest_load(-1_000_001), Err(Declined::NoLoadFits));
-    /// assert_eq!(book.largest_load(101_000_000_001), Err(Declined::OutOfRange));
-    /// # Ok::<(), Declined>(())
-    /// ```
-    #[inline]
-    pub fn largest_load(&self, budget: i64) -> Result<Largest, Declined> {
-        lent::largest_load(&self.table, 0, budget)
     }
 
     /// The live offers whose price at the load is strictly below `price`, all of a rate among them: by falling rate, then rising base, then

@@ -22,8 +22,8 @@ pub enum Declined {
     NoRoom,
     /// 3, each call on a table but open and check: there is no book at `start`, or its part is cut short.
     NoBook,
-    /// 4, post, withdraw: the number is not in 1 to 9,999; report, voucher: the price is not in −101,000,000,000 to 101,000,000,000;
-    /// largest_load: the budget is not. A rate, a base and a load have causes of their own.
+    /// 4, post, withdraw: the number is not in 1 to 9,999; report, voucher: the price is not in −101,000,000,000 to 101,000,000,000. A
+    /// rate, a base and a load have causes of their own.
     OutOfRange,
     /// 14, post: the rate is not in −100,000 to 100,000.
     RateOutOfRange,
@@ -39,10 +39,8 @@ pub enum Declined {
     NotLive,
     /// 17, take_back: no update is remembered.
     NothingToTakeBack,
-    /// 9, query, largest_load, mark and meet: no offer is live.
+    /// 9, query, mark and meet: no offer is live.
     Empty,
-    /// 18, largest_load: at every load in range the least price is above the budget.
-    NoLoadFits,
     /// 10, listing, report: the output is shorter than three words a piece or an offer reported.
     OutputTooShort,
     /// 12, meet: some rate of the first book is not above some rate of the second.
@@ -56,11 +54,11 @@ pub enum Declined {
 use Declined::*;
 
 /// Each cause with its number and what it says, in the order in which they are tried.
-const CAUSES: [(Declined, i64, &str); 16] = [
+const CAUSES: [(Declined, i64, &str); 15] = [
     (Capacity, 1, "the capacity is not in 1 to 4,096"),
     (NoRoom, 2, "the table has too few words"),
     (NoBook, 3, "there is no book there"),
-    (OutOfRange, 4, "the offer's number, the price or the budget is out of range"),
+    (OutOfRange, 4, "the offer's number or the price is out of range"),
     (RateOutOfRange, 14, "the rate is out of range"),
     (BaseOutOfRange, 15, "the base is out of range"),
     (LoadOutOfRange, 16, "the load is out of range"),
@@ -69,7 +67,6 @@ const CAUSES: [(Declined, i64, &str); 16] = [
     (NotLive, 8, "no live offer has that number"),
     (NothingToTakeBack, 17, "there is nothing to take back"),
     (Empty, 9, "the book is empty"),
-    (NoLoadFits, 18, "no load fits the budget"),
     (OutputTooShort, 10, "the output is too short"),
     (RatesNotApart, 12, "the first book's rates are not all above the second's"),
     (NoSuchMark, 13, "there is no mark of that index"),

@@ -15,7 +15,7 @@
 //! assert_eq!(table[..10], [-1; 10]);
 //! # Ok::<(), carrier_book::Declined>(())
 //! ```
-use crate::{raw, Declined, Found, Largest, Mark, Marks, Meeting, Pieces, Point, Update};
+use crate::{raw, Declined, Found, Mark, Marks, Meeting, Pieces, Point, Update};
 
 pub(crate) fn told(answer: i64) -> Result<i64, Declined> {
     if answer < 0 {
@@ -113,28 +113,6 @@ pub fn query(table: &[i64], start: usize, load: i64) -> Result<Found, Declined> 
     let number = told(answer)?;
     let [price, second, probes] = found;
     Ok(Found { number, price, second, probes })
-}
-
-/// The largest load whose least price is at most the budget, with the offer that a query names first there.
-///
-/// ```
-/// use carrier_book::{lent, words, Declined};
-/// let mut table = vec![0; words(2)];
-/// lent::open(&mut table, 0, 2)?;
-/// lent::post(&mut table, 0, 1, 3, 0)?;
-/// assert_eq!(lent::largest_load(&table, 0, 16)?.load, 5);
-/// assert_eq!(lent::largest_load(&table, 0, -3_000_001), Err(Declined::NoLoadFits));
-/// # Ok::<(), Declined>(())
-/// ```
-#[inline]
-pub fn largest_load(table: &[i64], start: usize, budget: i64) -> Result<Largest, Declined> {
-    let mut found = [0i64; 1];
-    let (words, length) = (table.as_ptr(), table.len());
-    // SAFETY: as in `query`.
-    let answer = unsafe { raw::carrier_largest_load(words, length, start, budget, found.as_mut_ptr(), found.len()) };
-    let number = told(answer)?;
-    let [load] = found;
-    Ok(Largest { load, number })
 }
 
 /// Writes the pieces into `out`, three words each as in [`Piece`](crate::Piece), and returns their count. Later words stay.

@@ -1,14 +1,14 @@
-//! A book of carriers' offers: post and withdraw offers, take the last of these calls back, ask which offer is the cheapest for a load
-//! or how much a budget can send, list the stretches of loads on which each is the cheapest, or report every offer under a price.
+//! A book of carriers' offers: post and withdraw offers, take the last of these calls back, ask which offer is the cheapest for a load,
+//! list the stretches of loads on which each is the cheapest, or report every offer under a price.
 //!
 //! An offer has a number (1 to 9,999), a rate in cents per kilogram (−100,000 to 100,000) and a base in cents
 //! (−1,000,000,000 to 1,000,000,000). Its price at a load of `q` kilograms (−1,000,000 to 1,000,000) is `base + rate × q`. No two
 //! live offers have equal numbers. Several may have one rate: offers are ordered by falling rate, then rising base, then rising number,
 //! and of one rate only the first in that order is listed or named; a report has every one under its price.
 //!
-//! Inside is a dynamic lower envelope of lines. With n live offers a post, a withdrawal or a take-back takes O(log² n), a query or a
-//! largest load O(log n), a report of m offers O(log n + m log² n). That every call answers right, after every history of calls, is
-//! proved in Rattle of the very code in the archive; this crate only hands slices over, and reads no word of a book itself.
+//! Inside is a dynamic lower envelope of lines. With n live offers a post, a withdrawal or a take-back takes O(log² n), a query
+//! O(log n), a report of m offers O(log n + m log² n). That every call answers right, after every history of calls, is proved in Rattle of the very code in the archive; this
+//! crate only hands slices over, and reads no word of a book itself.
 //!
 //! ```
 //! use carrier_book::{Book, Declined};
@@ -18,9 +18,6 @@
 //! // 3 × 5 + 0 = 1 × 5 + 10: the one with the lower rate is named first, and the other as the second
 //! let found = book.query(5)?;
 //! assert_eq!((found.number, found.price, found.second), (2, 15, 1));
-//! // 8 kilograms can be sent for 18 cents, by offer 2
-//! let largest = book.largest_load(18)?;
-//! assert_eq!((largest.load, largest.number), (8, 2));
 //! // offer 1 is the cheapest up to the load 10 / 2
 //! let pieces = book.listing();
 //! assert_eq!((pieces[0].number, pieces[0].numerator, pieces[0].denominator), (1, 10, 2));
@@ -43,7 +40,7 @@ pub mod lent;
 pub mod raw;
 mod readings;
 
-pub use answers::{Found, Largest, Mark, Meeting, Offer, Piece, Point, Update};
+pub use answers::{Found, Mark, Meeting, Offer, Piece, Point, Update};
 pub use book::Book;
 pub use declined::Declined;
 pub use readings::{Marks, Pieces};

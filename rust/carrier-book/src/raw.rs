@@ -9,7 +9,7 @@
 //! use carrier_book::raw::*;
 //! let mut table = [0i64; carrier_book::words(2)];
 //! let (mut counts, mut found, mut met, mut mark, mut units) = ([0; 3], [0; 3], [0; 4], [0.0; 2], [0]);
-//! let (mut out, mut piece, mut load) = ([0; 6], [0; 3], [0]);
+//! let (mut out, mut piece) = ([0; 6], [0; 3]);
 //! let (words, start) = (table.len(), 0);
 //! // SAFETY: each pointer and its length are those of one array, and no two arrays of a call overlap but two that are only read.
 //! unsafe {
@@ -24,9 +24,6 @@
 //!     // at load 6 they cost 18 and 16
 //!     assert_eq!(carrier_report(table.as_ptr(), words, start, 6, 18, out.as_mut_ptr(), 6), 1);
 //!     assert_eq!(out[..3], [2, 1, 10]);
-//!     // for 18 cents offer 2 carries 8
-//!     assert_eq!(carrier_largest_load(table.as_ptr(), words, start, 18, load.as_mut_ptr(), 1), 2);
-//!     assert_eq!(load, [8]);
 //!     assert_eq!(carrier_mark(table.as_ptr(), words, start, 1, mark.as_mut_ptr(), 2), 1);
 //!     assert_eq!(mark, [5.0, 15.0]);
 //!     let first = carrier_begin(table.as_ptr(), words, start);
@@ -80,15 +77,6 @@ extern "C" {
         price: i64,
         out: *mut i64,
         out_words: usize,
-    ) -> i64;
-    /// The largest load that a budget allows: see [`lent::largest_load`](crate::lent::largest_load).
-    pub fn carrier_largest_load(
-        table: *const i64,
-        words: usize,
-        start: usize,
-        budget: i64,
-        found: *mut i64,
-        found_words: usize,
     ) -> i64;
     /// Whether the words are a book: see [`lent::check`](crate::lent::check).
     pub fn carrier_check(table: *const i64, words: usize, start: usize) -> i64;

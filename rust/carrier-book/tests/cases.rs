@@ -1,5 +1,5 @@
 //! The requirements' worked cases, the order of causes, and the archive's own numbers.
-use carrier_book::{lent, raw, words, Book, Declined, Largest, Offer, Piece, Update};
+use carrier_book::{lent, raw, words, Book, Declined, Offer, Piece, Update};
 
 fn book(offers: &[(i64, i64)]) -> Book {
     let mut book = Book::new(64).unwrap();
@@ -54,65 +54,10 @@ fn causes_in_order() {
     assert_eq!(lent::listing(b.as_words(), 0, &mut [0; 5]), Err(Declined::OutputTooShort));
     assert_eq!(Book::new(0).unwrap_err(), Declined::Capacity);
     assert_eq!(Book::new(4_097).unwrap_err(), Declined::Capacity);
-    for number in 1..=19 {
+    for number in 1..=18 {
         assert_eq!(Declined::from_number(number).number(), number);
-        assert_eq!(Declined::from_number(number) == Declined::Other(number), [6, 11, 19].contains(&number));
+        assert_eq!(Declined::from_number(number) == Declined::Other(number), [6, 11, 18].contains(&number));
     }
-}
-
-/// the load, and the offer's number
-fn sent(book: &Book, budget: i64) -> (i64, i64) {
-    let Largest { load, number } = book.largest_load(budget).unwrap();
-    (load, number)
-}
-
-#[test]
-fn largest_loads() {
-    // 9 and 1,000,001 at 9, and 1,000,000 and 10 at 1,000,000: for 10 cents the far side of the gap fits, for a cent less the near side
-    let b = book(&[(1, 0), (-1, 1_000_010)]);
-    assert_eq!(sent(&b, 10), (1_000_000, 2));
-    assert_eq!(sent(&b, 9), (9, 1));
-    // both cost 500,005 at the crossing: for a cent less there are loads on both sides of it that fit
-    assert_eq!(sent(&b, 500_004), (1_000_000, 2));
-    assert_eq!(sent(&b, -1_000_000), (-1_000_000, 1));
-    assert_eq!(b.largest_load(-1_000_001), Err(Declined::NoLoadFits));
-    // both cost 10 at 5: there the lower rate is named, as by a query
-    let mut b = book(&[(2, 0), (1, 5)]);
-    assert_eq!([9, 10, 11].map(|budget| sent(&b, budget)), [(4, 1), (5, 2), (6, 2)]);
-    // of one rate and base the lower number, also where it was posted last
-    b.withdraw(2).unwrap();
-    b.post(9, 1, 5).unwrap();
-    b.post(8, 1, 5).unwrap();
-    assert_eq!(sent(&b, 10), (5, 8));
-    // the least load alone, and none
-    let b = book(&[(1, 1_000_000)]);
-    assert_eq!(sent(&b, 0), (-1_000_000, 1));
-    assert_eq!(b.largest_load(-1), Err(Declined::NoLoadFits));
-    // a quotient below 0 is rounded down
-    let b = book(&[(3, 0)]);
-    assert_eq!([-4, -3, -2, 2, 3].map(|budget| sent(&b, budget).0), [-2, -1, -1, 0, 1]);
-}
-
-#[test]
-fn largest_loads_declined_in_order() {
-    let (least, most) = (-101_000_000_000, 101_000_000_000);
-    let mut table = vec![0; words(4)];
-    assert_eq!(lent::largest_load(&table, 0, most + 1), Err(Declined::NoBook));
-    lent::open(&mut table, 0, 4).unwrap();
-    for budget in [least - 1, most + 1, i64::MIN, i64::MAX] {
-        assert_eq!(lent::largest_load(&table, 0, budget), Err(Declined::OutOfRange));
-    }
-    assert_eq!([least, 0, most].map(|budget| lent::largest_load(&table, 0, budget)), [Err(Declined::Empty); 3]);
-    lent::post(&mut table, 0, 1, 100_000, -999_999_999).unwrap();
-    assert_eq!(lent::largest_load(&table, 0, least), Err(Declined::NoLoadFits));
-    assert_eq!(lent::largest_load(&table, 0, least - 1), Err(Declined::OutOfRange));
-    assert_eq!(lent::largest_load(&table, 0, least + 1), Ok(Largest { load: -1_000_000, number: 1 }));
-    lent::post(&mut table, 0, 2, -100_000, -1_000_000_000).unwrap();
-    assert_eq!(lent::largest_load(&table, 0, least), Ok(Largest { load: 1_000_000, number: 2 }));
-    // a lone offer at its dearest
-    let mut b = Book::new(4).unwrap();
-    b.post(3, 100_000, 1_000_000_000).unwrap();
-    assert_eq!([most, most - 1].map(|budget| sent(&b, budget)), [(1_000_000, 3), (999_999, 3)]);
 }
 
 /// the numbers that a report has
@@ -296,13 +241,12 @@ fn ties_within_a_rate() {
 fn causes_in_words() {
     let said = |declined: Declined| declined.to_string();
     assert_eq!(said(Declined::Capacity), "the capacity is not in 1 to 4,096");
-    assert_eq!(said(Declined::OutOfRange), "the offer's number, the price or the budget is out of range");
+    assert_eq!(said(Declined::OutOfRange), "the offer's number or the price is out of range");
     assert_eq!(said(Declined::RateOutOfRange), "the rate is out of range");
     assert_eq!(said(Declined::BaseOutOfRange), "the base is out of range");
     assert_eq!(said(Declined::LoadOutOfRange), "the load is out of range");
     assert_eq!(said(Declined::NothingToTakeBack), "there is nothing to take back");
-    assert_eq!(said(Declined::NoLoadFits), "no load fits the budget");
-    assert_eq!(said(Declined::from_number(19)), "declined for cause 19");
+    assert_eq!(said(Declined::from_number(18)), "declined for cause 18");
 }
 
 #[test]
@@ -343,12 +287,6 @@ fn arrays_too_short() {
             assert_eq!(raw::carrier_query(t, n, n + 1, i64::MAX, f, length), -100);
         }
     }
-    // SAFETY: as above.
-    unsafe {
-        let (t, n, f) = (table.as_ptr(), table.len(), few.as_mut_ptr());
-        assert_eq!(raw::carrier_largest_load(t, n, 0, 0, f, 0), -100);
-        assert_eq!(raw::carrier_largest_load(t, n, n + 1, i64::MAX, f, 0), -100);
-    }
     assert!(table == before && few == [7; 3]);
 }
 
@@ -363,7 +301,6 @@ fn refusals_leave_counts_and_later_words_stay() {
         assert_eq!(raw::carrier_withdraw(t, n, 0, 1, f, 5), -8);
         assert_eq!(raw::carrier_query(t, n, 0, 1, f, 5), -9);
         assert_eq!(raw::carrier_take_back(t, n, 0, f, 5), -17);
-        assert_eq!([i64::MAX, 0].map(|budget| raw::carrier_largest_load(t, n, 0, budget, f, 5)), [-4, -9]);
         assert_eq!(room, [7; 5]);
         assert_eq!(raw::carrier_post(t, n, 0, 1, 3, 0, f, 5), 1);
         assert_eq!(room, [0, 0, 0, 7, 7]);
@@ -372,10 +309,6 @@ fn refusals_leave_counts_and_later_words_stay() {
         assert_eq!(room, [1, 1, 0, 7, 7]);
         assert_eq!(raw::carrier_query(t, n, 0, 6, f, 5), 2);
         assert_eq!(room, [16, 2, 1, 7, 7]);
-        assert_eq!(raw::carrier_largest_load(t, n, 0, -3_000_001, f, 5), -18);
-        assert_eq!(room, [16, 2, 1, 7, 7]);
-        assert_eq!(raw::carrier_largest_load(t, n, 0, 18, f, 5), 2);
-        assert_eq!(room, [8, 2, 1, 7, 7]);
         assert_eq!(raw::carrier_take_back(t, n, 0, f, 5), 1);
         assert_eq!(room, [0, 0, 0, 7, 7]);
     }

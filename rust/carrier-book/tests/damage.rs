@@ -11,7 +11,7 @@ use std::collections::BTreeMap;
 const EDGE: usize = 40;
 const MARK: i64 = 0x7a7a_7a7a;
 
-/// the greatest price of a report, and the greatest budget
+/// the greatest price of a report
 const MOST: i64 = 101_000_000_000;
 
 /// A part between marked words.
@@ -63,14 +63,6 @@ fn report(r: &mut Random, table: &[i64], capacity: usize) {
     }
 }
 
-/// Whatever is told, a load is in range.
-fn largest_loads(r: &mut Random, table: &[i64]) {
-    for budget in [MOST, -MOST, r.within(-MOST, MOST), r.within(-1_000, 1_000)] {
-        let told = lent::largest_load(table, EDGE, budget);
-        assert!(told.map_or(true, |l| (-1_000_000..=1_000_000).contains(&l.load)));
-    }
-}
-
 /// All calls on a part, with what must hold on any words.
 fn calls(r: &mut Random, table: &mut [i64], capacity: usize, rounds: usize) {
     let end = EDGE + words(capacity);
@@ -88,7 +80,6 @@ fn calls(r: &mut Random, table: &mut [i64], capacity: usize, rounds: usize) {
         assert!(out[..EDGE].iter().chain(&out[room..]).all(|w| *w == MARK));
         report(r, table, capacity);
         lent::query(table, EDGE, r.within(-1_000_000, 1_000_000)).ok();
-        largest_loads(r, table);
         lent::check(table, EDGE);
         lent::mark(table, EDGE, r.within(0, capacity as i64)).ok();
         assert!(lent::pieces(table, EDGE).unwrap().count() <= 4_096);
@@ -106,7 +97,6 @@ fn calls(r: &mut Random, table: &mut [i64], capacity: usize, rounds: usize) {
         assert_eq!(lent::query(table, EDGE, -1_000_001), Err(Declined::LoadOutOfRange));
         assert_eq!(lent::report(table, EDGE, 1_000_001, MOST + 1, &mut []), Err(Declined::OutOfRange));
         assert_eq!(lent::report(table, EDGE, 1_000_001, -MOST, &mut []), Err(Declined::LoadOutOfRange));
-        assert_eq!(lent::largest_load(table, EDGE, r.pick(&[-MOST - 1, MOST + 1])), Err(Declined::OutOfRange));
         assert!(table == before);
         assert!(table[..EDGE].iter().chain(&table[end..]).all(|w| *w == MARK));
     }
@@ -297,7 +287,6 @@ fn no_book() {
         for (load, price) in [(i64::MAX, i64::MIN), (i64::MAX, 0), (0, 0)] {
             assert_eq!(lent::report(&table, start, load, price, &mut []), Err(Declined::NoBook));
         }
-        assert_eq!([i64::MAX, MOST, 0].map(|budget| lent::largest_load(&table, start, budget)), [Err(Declined::NoBook); 3]);
         assert_eq!(lent::mark(&table, start, -1), Err(Declined::NoBook));
         assert_eq!(lent::pieces(&table, start).unwrap_err(), Declined::NoBook);
         assert_eq!(lent::marks(&table, start).next(), None);
@@ -328,7 +317,6 @@ fn opening_on_any_words() {
         assert_eq!(lent::query(&table, EDGE, 0), Err(Declined::Empty));
         assert_eq!(lent::listing(&table, EDGE, &mut []), Ok(0));
         assert_eq!(lent::report(&table, EDGE, 0, MOST, &mut []), Ok(0));
-        assert_eq!(lent::largest_load(&table, EDGE, MOST), Err(Declined::Empty));
         assert_eq!(lent::take_back(&mut table, EDGE), Err(Declined::NothingToTakeBack));
         assert_eq!(lent::post(&mut table, EDGE, 5, 1, 2).map(|u| u.live), Ok(1));
         assert_eq!(lent::take_back(&mut table, EDGE).map(|u| u.live), Ok(0));

@@ -2,7 +2,6 @@
 mod common;
 
 use carrier_book::{lent, words, Declined, Found, Update};
-use common::loads::{hold_largest, hold_largest_loads};
 use common::reports::{hold_report, hold_reports};
 use common::{log2_up, offer, Done, Lie, Offer, Random, Scan, FEW_RATES, LIES};
 use std::collections::BTreeMap;
@@ -179,7 +178,7 @@ impl Pair {
         hold_report(&self.table, self.start, &self.scan, load, price).unwrap_or_default()
     }
 
-    /// a listing, queries, reports, largest loads and the check; no probe goes deeper than so many pieces ask for
+    /// a listing, queries, reports and the check; no probe goes deeper than so many pieces ask for
     fn sweep(&self, r: &mut Random) {
         let deepest = 2 * log2_up(self.listing());
         let mut loads = vec![-1_000_000, 1_000_000, 1_000_001, -1_000_001, i64::MIN, 13];
@@ -190,7 +189,6 @@ impl Pair {
         }
         for load in [r.pick(&[-1_000_000, 1_000_000, 1_000_001, i64::MIN]), r.within(-40, 40), self.near_crossing(r)] {
             hold_reports(r, &self.table, self.start, &self.scan, load);
-            hold_largest_loads(&self.table, self.start, &self.scan, load);
         }
         self.check();
     }
@@ -301,7 +299,6 @@ fn history(seed: u64, lie: Lie, kind: &Kind) -> Pair {
         if r.one_in(8) {
             let load = pair.near_crossing(r);
             pair.reported += pair.report(r, load);
-            hold_largest_loads(&pair.table, pair.start, &pair.scan, load);
         } else if r.within(1, 100) <= take_backs {
             pair.take_back(whole).ok();
         } else if r.within(1, 100) <= posts {
@@ -491,7 +488,6 @@ fn short_histories_of_all_calls() {
             for load in [-12, 2, 5, 10] {
                 pair.query(load);
                 hold_report(&pair.table, pair.start, &pair.scan, load, 10).unwrap();
-                hold_largest(&pair.table, pair.start, &pair.scan, load).ok();
             }
             pair.listing();
             pair.check();

@@ -71,7 +71,7 @@ returns-3 c =
     let e : to_z w64 m.result ≡ pos m.result = to_z_pos w64 (omega (arith, m.ensures.few)) in
     let j =
     index_there entry.args.index (simp (to_z-of_z, entry.ranges.index) at at-if2.if2.false) (simp (to_z-of_z, entry.ranges.index, e) at at-if3.if3.false)
-    m.ensures.few (simp (to_z-of_z, entry.ranges.index) at at-up-to.up-to.ensures) in
+    m.ensures.few (simp (to_z-of_z, entry.ranges.index) at at-up-to.up_to_lem.ensures) in
     let f : SFits w64 c.before.rate.result = record { sfits = c.before.rate.type-inv } in
     let i : entry.args.index ≡ pos 0 = j.0 ∙ ap pos (first at-if4.if4.true) in
     subst (λ (z : ℤ). PartMark entry.args.part.now z (Mark c.open-end.result)) (sym i)
@@ -103,10 +103,10 @@ returns-4 c =
     let e : to_z w64 m.result ≡ pos m.result = to_z_pos w64 (omega (arith, m.ensures.few)) in
     let j =
     index_there entry.args.index (simp (to_z-of_z, entry.ranges.index) at at-if2.if2.false) (simp (to_z-of_z, entry.ranges.index, e) at at-if3.if3.false)
-    m.ensures.few (simp (to_z-of_z, entry.ranges.index) at at-up-to.up-to.ensures) in
+    m.ensures.few (simp (to_z-of_z, entry.ranges.index) at at-up-to.up_to_lem.ensures) in
     let f : SFits w64 c.before.rate2.result = record { sfits = c.before.rate2.type-inv } in
     subst (λ (z : ℤ). PartMark entry.args.part.now z (Mark c.open-end2.result)) (sym j.0)
-    (part_last at-envelope-root.envelope-root.ensures m.ensures at-if1.if1.false at-up-to.up-to.result at-if4.if4.false
+    (part_last at-envelope-root.envelope-root.ensures m.ensures at-if1.if1.false at-up-to.up_to_lem.result at-if4.if4.false
     at-slot-of2.slot-of2.ensures
     at-if5.if5.true ((simp (to_z-of_z, f) at c.open-end2.ensures) ∙ ap open_end c.before.rate2.ensures))
 
@@ -128,9 +128,9 @@ returns-5 c =
     let e : to_z w64 m.result ≡ pos m.result = to_z_pos w64 (omega (arith, m.ensures.few)) in
     let j =
     index_there entry.args.index (simp (to_z-of_z, entry.ranges.index) at at-if2.if2.false) (simp (to_z-of_z, entry.ranges.index, e) at at-if3.if3.false)
-    m.ensures.few (simp (to_z-of_z, entry.ranges.index) at at-up-to.up-to.ensures) in
+    m.ensures.few (simp (to_z-of_z, entry.ranges.index) at at-up-to.up_to_lem.ensures) in
     subst (λ (z : ℤ). PartMark entry.args.part.now z (Mark c.crossing-at.result)) (sym j.0)
-    (part_inner at-envelope-root.envelope-root.ensures m.ensures at-if1.if1.false at-up-to.up-to.result at-if4.if4.false
+    (part_inner at-envelope-root.envelope-root.ensures m.ensures at-if1.if1.false at-up-to.up_to_lem.result at-if4.if4.false
     at-slot-of2.slot-of2.ensures
     (below j.1 c.before.if5.false) c.crossing-at.ensures)
 

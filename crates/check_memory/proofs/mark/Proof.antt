@@ -36,7 +36,7 @@ cast-number : tie.Need-overflow-cast-number invariant-loop decreases-loop
 cast-number c = omega arith
 
 element-write-live : tie.Need-element-write-live invariant-loop decreases-loop
-element-write-live c = number_below _ c.up-to.ensures
+element-write-live c = number_below _ c.up_to_lem.ensures
 
 loop-less : tie.Need-loop-smaller invariant-loop decreases-loop
 loop-less c = omega arith
@@ -50,7 +50,7 @@ loop-again c =
     let f : SFits w64 at-get.get.result = record { sfits = at-get.get.type-inv } in (
       omega arith,
       marking_more at-loop-test.loop-test.true at-loop.loop.invariant.0 at_entry_lem.entry.ensures
-          ((simp (to_z-of_z, f) at c.up-to.ensures) ∙ ap (up_to most_number) at-get.get.ensures) at-loop.loop.invariant.1,
+          ((simp (to_z-of_z, f) at c.up_to_lem.ensures) ∙ ap (up_to most_number) at-get.get.ensures) at-loop.loop.invariant.1,
     )
 
 returns : tie.Need-returns invariant-loop decreases-loop

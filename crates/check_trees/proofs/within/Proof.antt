@@ -14,10 +14,10 @@ at-most-requires c κs = search rules
 returns : tie.Need-returns
 returns c =
     let f = c.before.before.before.ranges in
-    first_passes (simp (to_z-of_z, f.low) at c.before.before.at_least.ensures) c.before.if1.true (simp (to_z-of_z, f.high) at c.at-most.ensures)
+    first_passes (simp (to_z-of_z, f.low) at c.before.before.at_least_lem.ensures) c.before.if1.true (simp (to_z-of_z, f.high) at c.at-most.ensures)
 
 returns-2 : tie.Need-returns-2
-returns-2 c = first_fails _ (simp (to_z-of_z, c.before.before.ranges.low) at c.before.at_least.ensures) c.if1.false
+returns-2 c = first_fails _ (simp (to_z-of_z, c.before.before.ranges.low) at c.before.at_least_lem.ensures) c.if1.false
 
 pub within-spec : {M : Type 1} → statement M
 within-spec = tie.close (tie.spec at-least-requires at-most-requires returns returns-2)

@@ -33,7 +33,7 @@ slice-aggregate-piece-lines c =
     let at-up-to = c.before in
     let at_Listed = at-up-to.before.before in
     let entry = at_Listed.before.before.before in
-    let n : at-up-to.up-to.result ≤ 64 = rw at-up-to.up-to.ensures (up_to_most 64 _) in
+    let n : at-up-to.up_to_lem.result ≤ 64 = rw at-up-to.up_to_lem.ensures (up_to_most 64 _) in
     sym (length-take-le _ entry.args.pieces.now (omega (arith, entry.requires.1)))
 
 piece-lines-requires : tie.Need-piece-lines-requires
@@ -41,7 +41,7 @@ piece-lines-requires c κs =
     let at-up-to = c.before.before in
     let at_Listed = at-up-to.before.before in
     let entry = at_Listed.before.before.before in
-    let n : at-up-to.up-to.result ≤ 64 = rw at-up-to.up-to.ensures (up_to_most 64 _) in
+    let n : at-up-to.up_to_lem.result ≤ 64 = rw at-up-to.up_to_lem.ensures (up_to_most 64 _) in
     (length-take-le _ entry.args.pieces.now (omega (arith, entry.requires.1)), omega (arith, entry.requires.0), n)
 
 sub-answer-line : tie.Need-overflow-sub-answer-line
@@ -50,7 +50,7 @@ sub-answer-line c =
     let at-up-to = at-piece-lines.before.before.before in
     let at_Listed = at-up-to.before.before in
     let entry = at_Listed.before.before.before in
-    let n : at-up-to.up-to.result ≤ 64 = rw at-up-to.up-to.ensures (up_to_most 64 _) in
+    let n : at-up-to.up_to_lem.result ≤ 64 = rw at-up-to.up_to_lem.ensures (up_to_most 64 _) in
     omega (arith, entry.requires.0, at-piece-lines.piece-lines.auto.1.1.0)
 
 part-answer-line-start : tie.Need-slice-bounds-answer-line-start
@@ -59,7 +59,7 @@ part-answer-line-start c =
     let at-up-to = at-piece-lines.before.before.before in
     let at_Listed = at-up-to.before.before in
     let entry = at_Listed.before.before.before in
-    let n : at-up-to.up-to.result ≤ 64 = rw at-up-to.up-to.ensures (up_to_most 64 _) in
+    let n : at-up-to.up_to_lem.result ≤ 64 = rw at-up-to.up_to_lem.ensures (up_to_most 64 _) in
     omega (arith, entry.requires.0, at-piece-lines.piece-lines.auto.1.1.0)
 
 part-answer-line-end : tie.Need-slice-bounds-answer-line-end
@@ -71,8 +71,8 @@ answer-line-requires c κs =
     let at-up-to = at-piece-lines.before.before.before in
     let at_Listed = at-up-to.before.before in
     let entry = at_Listed.before.before.before in
-    let n : at-up-to.up-to.result ≤ 64 = rw at-up-to.up-to.ensures (up_to_most 64 _) in
-    part_long at-piece-lines.piece-lines.new.1.1.0 (39 * at-up-to.up-to.result) 39
+    let n : at-up-to.up_to_lem.result ≤ 64 = rw at-up-to.up_to_lem.ensures (up_to_most 64 _) in
+    part_long at-piece-lines.piece-lines.new.1.1.0 (39 * at-up-to.up_to_lem.result) 39
     (omega (arith, entry.requires.0, at-piece-lines.piece-lines.auto.1.1.0))
 
 add-result : tie.Need-overflow-add-result
@@ -91,7 +91,7 @@ returns c =
     let entry = at_Listed.before.before.before in
     let f : SFits w64 at_Listed.listed.given.0.0 = search rules in
     rw at_Listed.listed.given.1
-    (listed_line _ entry.args.pieces.now entry.requires.1 entry.requires.0 at-up-to.up-to.result (simp (to_z-of_z, f) at at-up-to.up-to.ensures)
+    (listed_line _ entry.args.pieces.now entry.requires.1 entry.requires.0 at-up-to.up_to_lem.result (simp (to_z-of_z, f) at at-up-to.up_to_lem.ensures)
     at-piece-lines.piece-lines.ensures (simp (to_z-of_z, f) at at-answer-line.answer-line.ensures))
 
 enum-known-listed-2 : tie.Need-enum-known-listed-2

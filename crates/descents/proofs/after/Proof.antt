@@ -45,7 +45,7 @@ loop-again c =
     let at-loop-test = at-inner-slot.before.before in
     let at-loop = at-loop-test.before in
     looking_on le_z below_leads _ at-loop.loop.invariant at-loop-test.loop-test.true
-    at-inner-slot.inner-slot.ensures at-seam.at_least.ensures c.child.ensures
+    at-inner-slot.inner-slot.ensures at-seam.at_least_lem.ensures c.child.ensures
 
 at-least-requires-2 : tie.Need-at-least-requires-2 invariant-loop decreases-loop
 at-least-requires-2 c κs = search rules

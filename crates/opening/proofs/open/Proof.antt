@@ -48,7 +48,7 @@ returns-3 c =
     let at-outside = at-if1.before in
     let entry = at-outside.before in
     opens_cut _ _ _ _ (simp (to_z-of_z, entry.ranges.capacity) at at-outside.outside.ensures) at-if1.if1.false
-    (simp (to_z-of_z, entry.ranges.capacity) at at-up-to.up-to.ensures) c.if3.true refl
+    (simp (to_z-of_z, entry.ranges.capacity) at at-up-to.up_to_lem.ensures) c.if3.true refl
 
 mul-start-book : tie.Need-overflow-mul-start-book
 mul-start-book c = search rules
@@ -71,7 +71,7 @@ start-book-requires c κs =
     let entry = at-outside.before in
     let s =
     capacity_span entry.args.capacity 0 [] [] (simp (to_z-of_z, entry.ranges.capacity) at at-outside.outside.ensures) at-if1.if1.false
-    (simp (to_z-of_z, entry.ranges.capacity) at at-up-to.up-to.ensures) in (
+    (simp (to_z-of_z, entry.ranges.capacity) at at-up-to.up_to_lem.ensures) in (
       s.0,
       s.1,
       omega (
@@ -95,7 +95,7 @@ returns-4 c =
     let at-outside = at-if1.before in
     let entry = at-outside.before in
     opens_done _ _ _ _ (simp (to_z-of_z, entry.ranges.capacity) at at-outside.outside.ensures) at-if1.if1.false
-    (simp (to_z-of_z, entry.ranges.capacity) at at-up-to.up-to.ensures) at-if2.if2.false at-if3.if3.false _ c.before.start-book.ensures refl
+    (simp (to_z-of_z, entry.ranges.capacity) at at-up-to.up_to_lem.ensures) at-if2.if2.false at-if3.if3.false _ c.before.start-book.ensures refl
 
 pub open_spec : {M : Type 1} → statement M
 open_spec =

@@ -157,7 +157,7 @@ returns-5 c =
     let z : SFits w64 (get_or w (at + at-turn-at.turn_at.result.side) (pos 0)) = record { sfits = at-z.z.given } in
     let turns = simp (to_z-of_z, n, d, entry.ranges.load) at at-turn-at.turn_at.ensures in
     let near = sym (simp (to_z-of_z, d) at at-outside.outside.ensures) ∙ at-if3.if3.false in (
-      (simp (to_z-of_z, z) at c.up-to.ensures)
+      (simp (to_z-of_z, z) at c.up_to_lem.ensures)
           ∙ toward_there _ _ _ entry.requires at-if1.if1.false at-if2.if2.false at_address.address.ensures turns near,
       mind_there _ _ _ entry.requires at-if1.if1.false at-if2.if2.false at_address.address.ensures turns near,
     )

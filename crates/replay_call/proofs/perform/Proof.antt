@@ -79,15 +79,6 @@ add-result-2 c =
     let entry = at-next5.before.before in
     omega (arith, call_fits (ap asked at-next5.next5.given.1) (length entry.args.out.now) entry.requires)
 
-enum-known-next-6 : tie.Need-enum-known-next-6
-enum-known-next-6 c = search rules
-
-do-largest-load-requires : tie.Need-do-largest-load-requires
-do-largest-load-requires c κs =
-    let at-next6 = c.before.before.before in
-    let entry = at-next6.before.before in
-    call_fits (ap asked at-next6.next6.given.1) (length entry.args.out.now) entry.requires
-
 enum-told-2 : tie.Need-enum-told-2
 enum-told-2 c = search rules
 
@@ -182,24 +173,8 @@ returns-6 c =
     let f1 : SFits w64 v.1.0 = record { sfits = k.1.0.1 } in
     performs (ap asked at-next5.next5.given.1) (simp (to_z-of_z, f0, f1) at at-do-report.do-report.ensures) refl
 
-same-length-13 : tie.Need-same-length-13
-same-length-13 c = search rules
-
-same-length-14 : tie.Need-same-length-14
-same-length-14 c = search rules
-
 returns-7 : tie.Need-returns-7
-returns-7 c =
-    let at-do-largest-load = c.before in
-    let at-known-told6 = at-do-largest-load.before.before.before in
-    let at-next6 = at-known-told6.before in
-    let v = at-next6.next6.given.0 in
-    let k = at-known-told6.known-told6.given in
-    let f0 : SFits w64 v.0 = record { sfits = k.0.1 } in
-    performs (ap asked at-next6.next6.given.1) (simp (to_z-of_z, f0) at at-do-largest-load.do-largest-load.ensures) refl
-
-returns-8 : tie.Need-returns-8
-returns-8 c = absurd (never (ap asked c.enum-told2.given.1) c.before.before.args.out.now c.before.before.requires)
+returns-7 c = absurd (never (ap asked c.enum-told2.given.1) c.before.before.args.out.now c.before.before.requires)
 
 pub perform-spec : {M : Type 1} → statement M
 perform-spec =
@@ -219,8 +194,6 @@ perform-spec =
     enum-known-next-5
     do-report-requires
     add-result-2
-    enum-known-next-6
-    do-largest-load-requires
     enum-told-2
     same_length
     same-length-2
@@ -240,7 +213,4 @@ perform-spec =
     same-length-11
     same-length-12
     returns-6
-    same-length-13
-    same-length-14
-    returns-7
-    returns-8)
+    returns-7)

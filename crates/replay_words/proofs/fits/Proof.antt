@@ -34,9 +34,6 @@ five-and-requires-2 c κs = search rules
 enum-told-5 : tie.Need-enum-told-5
 enum-told-5 c = search rules
 
-enum-told-6 : tie.Need-enum-told-6
-enum-told-6 c = search rules
-
 returns : tie.Need-returns
 returns c = ap (λ (n : Next). fitting (asked n) c.before.before.args.room) (sym c.enum_told.given.1)
 
@@ -64,10 +61,7 @@ returns-6 c =
     (sym at-next2.next2.given.1)
 
 returns-7 : tie.Need-returns-7
-returns-7 c = ap (λ (n : Next). fitting (asked n) c.before.before.args.room) (sym c.enum-told5.given.1)
-
-returns-8 : tie.Need-returns-8
-returns-8 c = search rules
+returns-7 c = search rules
 
 pub fits-spec : {M : Type 1} → statement M
 fits-spec =
@@ -82,12 +76,10 @@ fits-spec =
     enum-known-next-2
     five-and-requires-2
     enum-told-5
-    enum-told-6
     returns
     returns-2
     returns-3
     returns-4
     returns-5
     returns-6
-    returns-7
-    returns-8)
+    returns-7)

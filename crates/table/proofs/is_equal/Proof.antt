@@ -14,7 +14,7 @@ at-least-requires c κs = search rules
 returns : tie.Need-returns
 returns c =
     let f = c.before.before.before.ranges in
-    first_passes (simp (to_z-of_z, f.key) at c.before.before.at-most.ensures) c.before.if1.true (simp (to_z-of_z, f.key) at c.at_least.ensures)
+    first_passes (simp (to_z-of_z, f.key) at c.before.before.at-most.ensures) c.before.if1.true (simp (to_z-of_z, f.key) at c.at_least_lem.ensures)
 
 returns-2 : tie.Need-returns-2
 returns-2 c = first_fails _ (simp (to_z-of_z, c.before.before.ranges.key) at c.before.at-most.ensures) c.if1.false

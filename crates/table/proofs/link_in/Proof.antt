@@ -18,7 +18,7 @@ up-to-requires c κs = search rules
 returns : tie.Need-returns
 returns c =
     let f : SFits w64 c.before.get_in.result = record { sfits = c.before.get_in.type-inv } in
-    (simp (to_z-of_z, f) at c.up-to.ensures) ∙ ap (up_to most_nodes) c.before.get_in.ensures
+    (simp (to_z-of_z, f) at c.up_to_lem.ensures) ∙ ap (up_to most_nodes) c.before.get_in.ensures
 
 pub link-in-spec : {M : Type 1} → statement M
 link-in-spec = tie.close (tie.spec get-in-requires up-to-requires returns)

@@ -16,7 +16,7 @@ up-to-requires c κs = search rules
 
 returns : tie.Need-returns
 returns c = let f : SFits w64 c.before.word_at.result = record { sfits = c.before.word_at.type-inv } in
-    (simp (to_z-of_z, f) at c.up-to.ensures) ∙ ap (up_to _) c.before.word_at.ensures
+    (simp (to_z-of_z, f) at c.up_to_lem.ensures) ∙ ap (up_to _) c.before.word_at.ensures
 
 pub number-at-spec : {M : Type 1} → statement M
 number-at-spec = tie.close (tie.spec word-at-requires up-to-requires returns)

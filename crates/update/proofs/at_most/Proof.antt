@@ -13,7 +13,7 @@ at-least-requires c κs = search rules
 returns : tie.Need-returns
 returns c =
     let f : SFits w64 c.before.get.result = record { sfits = c.before.get.type-inv } in
-    (simp (to_z-of_z, f) at c.at_least.ensures) ∙ ap₂ le_z c.before.get.ensures refl
+    (simp (to_z-of_z, f) at c.at_least_lem.ensures) ∙ ap₂ le_z c.before.get.ensures refl
 
 pub at-most-spec : {M : Type 1} → statement M
 at-most-spec = tie.close (tie.spec get-requires at-least-requires returns)

@@ -81,23 +81,6 @@ static void reports(void) {
     EXPECT(memcmp(out, offers, sizeof offers) == 0 && out[9] == -7);
 }
 
-/* of the offers (3, 0), (1, 10) and (0, 40): for 39 cents offer 2 carries 29, and for 40 offer 3 anything */
-static void largest_loads(void) {
-    int64_t found[CARRIER_LOAD_WORDS + 1] = {-7, -7};
-    const int64_t most = INT64_C(101000000000);
-    EXPECT(carrier_largest_load(table, WORDS, START, 39, found, 0) == CARRIER_ARRAY_TOO_SHORT);
-    EXPECT(carrier_largest_load(table, WORDS, WORDS + 1, most + 1, found, 2) == CARRIER_NO_BOOK);
-    EXPECT(carrier_largest_load(table, WORDS, START, most + 1, found, 2) == CARRIER_OUT_OF_RANGE);
-    EXPECT(carrier_largest_load(table, WORDS, START, -most - 1, found, 2) == CARRIER_OUT_OF_RANGE);
-    EXPECT(carrier_largest_load(table, WORDS, START, -3000001, found, 2) == CARRIER_NO_LOAD_FITS);
-    EXPECT(found[0] == -7 && found[1] == -7);
-    EXPECT(carrier_largest_load(table, WORDS, START, -3000000, found, 2) == 1 && found[0] == -1000000);
-    EXPECT(carrier_largest_load(table, WORDS, START, 15, found, 2) == 2 && found[0] == 5);
-    EXPECT(carrier_largest_load(table, WORDS, START, 39, found, CARRIER_LOAD_WORDS) == 2 && found[0] == 29);
-    EXPECT(carrier_largest_load(table, WORDS, START, 40, found, CARRIER_LOAD_WORDS) == 3 && found[0] == 1000000);
-    EXPECT(found[1] == -7);
-}
-
 /* of the pieces (3, 0), (1, 10) and (0, 40) */
 static void marks(void) {
     double mark[CARRIER_MARK_WORDS] = {7, 7};
@@ -213,7 +196,6 @@ int main(void) {
     EXPECT(carrier_open(table, WORDS, START, CAPACITY) == 0);
     EXPECT(query(5, &price, &other) == CARRIER_EMPTY);
     EXPECT(carrier_report(table, WORDS, START, 5, 100, out, 0) == 0);
-    EXPECT(carrier_largest_load(table, WORDS, START, 100, out, CARRIER_LOAD_WORDS) == CARRIER_EMPTY);
     EXPECT(post(1, 3, 0) == 1);
     EXPECT(post(2, 1, 10) == 2);
     EXPECT(post(3, 0, 40) == 3);
@@ -223,7 +205,6 @@ int main(void) {
     EXPECT(memcmp(out, pieces, sizeof pieces) == 0);
     reading(pieces, 3);
     reports();
-    largest_loads();
     marks();
     meeting();
     vouchers();

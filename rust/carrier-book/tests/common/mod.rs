@@ -1,7 +1,6 @@
 //! A scan of all offers, written from the requirements alone, and numbers that are the same in every run.
 #![allow(dead_code)]
 pub mod exact;
-pub mod loads;
 pub mod memory;
 pub mod reports;
 
