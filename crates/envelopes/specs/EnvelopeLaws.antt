@@ -88,6 +88,7 @@ module _ (S : Figure) (L : PseudoLines S) where
   -- two lines of an ordered list are one, or one of them is before the other
   pub compare_lines : {ls : List S.Line} → Ordered S ls → {a b : S.Line} → Memᴰ a ls → Memᴰ b ls →
       (a ≡ b) ⊎ (T (S.before a b) ⊎ T (S.before b a))
+  compare_lines ordered_nil {a = a} {b = b} m n = elim m [ ]
   compare_lines (ordered_cons {a = l} {ls = ls} h o) {a} {b} m n = step (Memᴰ.cases_cons m) (Memᴰ.cases_cons n) (λ m' n'. compare_lines o m' n')
     where
       step : (a ≡ l) ⊎ Memᴰ a ls → (b ≡ l) ⊎ Memᴰ b ls → (Memᴰ a ls → Memᴰ b ls → (a ≡ b) ⊎ (T (S.before a b) ⊎ T (S.before b a))) →

@@ -45,9 +45,11 @@ either true = inl tt
 either false = inr tt
 
 pub not_not : (b : Bool) → T (not (not b)) → T b
+not_not false t = elim t [ ]
 not_not true t = tt
 
 pub twice : (b : Bool) → T b → T (not (not b))
+twice false t = elim t [ ]
 twice true t = tt
 
 -- a test that is not refused passes
@@ -69,12 +71,15 @@ same_test false false f g = refl
 -- ---- two tests
 
 pub and_both : (a b : Bool) → T a → T b → T (a && b)
+and_both false b p q = elim p [ ]
 and_both true b p q = q
 
 pub and_left : (a b : Bool) → T (a && b) → T a
+and_left false b t = elim t [ ]
 and_left true b t = tt
 
 pub and_right : (a b : Bool) → T (a && b) → T b
+and_right false b t = elim t [ ]
 and_right true b t = t
 
 pub and_is : (a b : Bool) → a ≡ true → b ≡ true → (a && b) ≡ true
@@ -95,6 +100,7 @@ pub first_fails : {a b : Bool} (c : Bool) → a ≡ b → a ≡ false → a ≡ 
 first_fails c p f = rw (sym p ∙ f) f
 
 pub or_left : (a b : Bool) → T a → T (a || b)
+or_left false b t = elim t [ ]
 or_left true b t = tt
 
 pub or_right : (a b : Bool) → T b → T (a || b)
@@ -113,9 +119,11 @@ or_no true b p q t = p t
 or_no false b p q t = q t
 
 pub neither : (a b : Bool) → T (not (a || b)) → T (not a) × T (not b)
+neither true b t = elim t [ ]
 neither false b t = (tt, t)
 
 pub not_either : (a b : Bool) → T (not a) → T (not b) → T (not (a || b))
+not_either true b s t = elim s [ ]
 not_either false b s t = t
 
 -- ---- three tests

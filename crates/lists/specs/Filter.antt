@@ -16,6 +16,7 @@ module _ {A : Type 0} where
   keep p (x ∷ xs) = cond (p x) (x ∷ keep p xs) (keep p xs)
 
   pub every_at : (p : A → Bool) (l : List A) → T (every p l) → (a : A) → Memᴰ a l → T (p a)
+  every_at p [] t a m = elim m [ ]
   every_at p (x ∷ xs) t a m =
       ⊎_elim (λ (e : a ≡ x). subst (λ (y : A). T (p y)) (sym e) (and_left (p x) (every p xs) t)) (λ m'. every_at p xs (and_right (p x) (every p xs) t) a m')
       (Memᴰ.cases_cons m)
@@ -33,6 +34,7 @@ module _ {A : Type 0} where
       step false s = Sublistᴰ.cons s
 
   pub keep_passes : (p : A → Bool) (l : List A) (a : A) → Memᴰ a (keep p l) → T (p a)
+  keep_passes p [] a m = elim m [ ]
   keep_passes p (x ∷ xs) a m = step (p x) refl m (keep_passes p xs a)
     where
       step : (b : Bool) → p x ≡ b → Memᴰ a (cond b (x ∷ keep p xs) (keep p xs)) → (Memᴰ a (keep p xs) → T (p a)) → T (p a)
@@ -40,6 +42,7 @@ module _ {A : Type 0} where
       step false e m ih = ih m
 
   pub keep_in : (p : A → Bool) (l : List A) (a : A) → Memᴰ a l → T (p a) → Memᴰ a (keep p l)
+  keep_in p [] a m t = elim m [ ]
   keep_in p (x ∷ xs) a m t = step (p x) refl (Memᴰ.cases_cons m) (λ m'. keep_in p xs a m' t)
     where
       step : (b : Bool) → p x ≡ b → (a ≡ x) ⊎ Memᴰ a xs → (Memᴰ a xs → Memᴰ a (keep p xs)) → Memᴰ a (cond b (x ∷ keep p xs) (keep p xs))

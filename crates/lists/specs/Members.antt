@@ -27,7 +27,7 @@ module _ {A : Type 0} where
   Among xs ys = (a : A) → Memᴰ a xs → Memᴰ a ys
 
 -- where no two have one key, a key tells its owner
-pub one_owner : {A B : Type 0} (key : A → B) {xs : List A} → Pairwise (λ a b. key a ≢ key b) xs → {a b : A} → Memᴰ a xs → Memᴰ b xs →
+pub one_owner : {A B : Type 0} (key : A → B) {a b : A} {xs : List A} → Pairwise (λ a b. key a ≢ key b) xs → Memᴰ a xs → Memᴰ b xs →
     key a ≡ key b → a ≡ b
 one_owner key p (Memᴰ.head d) (Memᴰ.head f) e = d ∙ sym f
 one_owner key p (Memᴰ.head d) (Memᴰ.tail n) e = absurd (rel_of_Pairwise-cons p ∣ n ∣₁ (sym (ap key d) ∙ e))

@@ -14,14 +14,18 @@ pub data Ahead (a b : Offer) : Type 0 where
 -- ---- the test says so
 
 lexical : (p q r s t : Bool) → T (p || q && (r || s && t)) → T p ⊎ (T q × (T r ⊎ (T s × T t)))
+lexical false false r s t h = elim h [ ]
+lexical false true false false t h = elim h [ ]
 lexical true q r s t h = inl tt
 lexical false true true s t h = inr (tt, inl tt)
 lexical false true false true t h = inr (tt, inr (tt, h))
 
 lexical_rate : (p q : Bool) → T p → T (p || q)
+lexical_rate false q h = elim h [ ]
 lexical_rate true q h = tt
 
 lexical_later : (p q r : Bool) → T q → T r → T (p || q && r)
+lexical_later false false r h k = elim h [ ]
 lexical_later true q r h k = tt
 lexical_later false true r h k = k
 

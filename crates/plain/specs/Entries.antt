@@ -44,6 +44,12 @@ abbrev pub Otherwise : ℕ → Type 0
 Otherwise m = (5 ≤ m) × (m ≢ 6) × ((m ≤ 10) ⊎ (m ≡ 17))
 
 by_cause : (s : State) (k : Call) (z : Cause) → FirstOf (trials s k) z → Otherwise (cause_number z) ⊎ Names (cause_number z) k
+by_cause s (post n r b) z (further i (further j (further l (further p (further _ x25))))) = elim x25 [ ]
+by_cause s (withdraw n) z (further i (further j x13)) = elim x13 [ ]
+by_cause s (query q) z (further i (further j x14)) = elim x14 [ ]
+by_cause s (listing room) z (further i x11) = elim x11 [ ]
+by_cause s take_back z (further i x12) = elim x12 [ ]
+by_cause s (report q p room) z (further i (further j (further l x21))) = elim x21 [ ]
 by_cause s (post n r b) z (at_once x) = inr (posted_number x)
 by_cause s (post n r b) z (further i (at_once x)) = inr (posted_rate (not_not (number_in_range n) i) x)
 by_cause s (post n r b) z (further i (further j (at_once x))) = inr (posted_base (not_not (number_in_range n) i) (not_not (rate_in_range r) j) x)

@@ -25,6 +25,7 @@ not_declined (k ∷ ks) (t, c) = go k.applies t (not_declined ks c)
 -- ---- the first that applies
 
 pub declined_by : (ks : List Trial) (c : Cause) → FirstOf ks c → declined ks ≡ some c
+declined_by [] c x' = elim x' [ ]
 declined_by (k ∷ ks) c (at_once t) = go k.applies t
   where
     go : (b : Bool) → T b → cond b (some k.cause) (declined ks) ≡ some k.cause

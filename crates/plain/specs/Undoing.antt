@@ -88,6 +88,7 @@ joins_later o p ps t = cond_no (ahead o p) (o ∷ p ∷ ps) (p ∷ join o ps) (n
 
 pub leave_join : (o : Offer) (os : List Offer) → Pairwise (λ a b. T (ahead a b)) os → Pairwise (λ a b. a.number ≢ b.number) os → Memᴰ o os →
     join o (leave o.number os) ≡ os
+leave_join o [] p q x3 = elim x3 [ ]
 leave_join o (x ∷ xs) p q (Memᴰ.head e) =
     ap (join o) (leaves_first o.number x xs (ap (λ (y : Offer). y.number) (sym e)) ∙ none_leaves o.number xs other)
     ∙ joins_first o xs (λ y m. subst (λ (z : Offer). T (ahead z y)) (sym e) (rel_of_Pairwise-cons p ∣ m ∣₁))
@@ -102,6 +103,7 @@ leave_join o (x ∷ xs) p q (Memᴰ.tail m) =
 
 -- it alone has its number
 pub kept_one : (o : Offer) (os : List Offer) → Pairwise (λ a b. a.number ≢ b.number) os → Memᴰ o os → keep (has_number o.number) os ≡ o ∷ []
+kept_one o [] q x'' = elim x'' [ ]
 kept_one o (x ∷ xs) q (Memᴰ.head e) =
     cond_yes (has_number n x) (x ∷ keep (has_number n) xs) (keep (has_number n) xs) (has x n (sym same))
     ∙ ap {B = List Offer} (λ (r : List Offer). x ∷ r) (none_kept n xs (λ y m d. rel_of_Pairwise-cons q ∣ m ∣₁ (sym same ∙ sym d)))

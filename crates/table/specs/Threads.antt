@@ -81,6 +81,7 @@ leads_in (leads_here e h) = at (Memᴰ.head refl) e
 leads_in (leads_later k) = later (leads_in k)
 
 leads_front : {s : ℕ} (xs : List Item) (z : Item) → Leads s (xs ++ z ∷ []) → In s xs
+leads_front {s = s} [] z (leads_later k) = elim k [ ]
 leads_front [] z (leads_here e h) = absurd (omega arith)
 leads_front (a ∷ xs) z (leads_here e h) = at (Memᴰ.head refl) e
 leads_front (a ∷ xs) z (leads_later k) = later (leads_front xs z k)
