@@ -1,4 +1,6 @@
 // What is asked of a book in a lent table: a query and a listing.
+#![tactic(auto)]
+
 ghost use Rattle.std.specs.Prelude.{◌≡◌};
 ghost use Rattle.table.specs.Fields.{number_field};
 ghost use Rattle.table.specs.Layout.{cell};

@@ -1,4 +1,6 @@
 // The carrier book in a lent table: open, post, withdraw, take_back, query, listing, report, check.
+#![tactic(auto)]
+
 ghost use Rattle.plain.specs.Book.{post, withdraw, take_back};
 ghost use Rattle.promises.specs.Promises.{Updates};
 

@@ -1,5 +1,7 @@
 // The carrier book for Rust and C: a slice is a pointer and a length there. Every answer is one number, a refusal its cause below 0.
 // Rust's rules hold of what is lent: a pointer is aligned and not null, and what is written overlaps nothing else that is lent.
+#![tactic(auto)]
+
 ghost use Rattle.answers.specs.Promises.{Opened, Posted, Withdrawn, TakenBack, Queried, Listing, Report, Checked, MetBooks, MarkAsked};
 ghost use Rattle.answers.specs.Promises.{Vouchered, Begun, Pieced};
 

@@ -1,4 +1,6 @@
 // Chart marks of a book: open ends at both sides of its listing, and between them the crossings of neighbouring pieces.
+#![tactic(auto)]
+
 ghost use Rattle.std.specs.Prelude.{◌≡◌};
 ghost use Rattle.marks.specs.MarkTold.{told};
 ghost use Rattle.chart.specs.Promises.{Marks};

@@ -1,4 +1,6 @@
 // Crossings of the lines that slots hold: threads from slot to slot, and bridges between two stretches. Any words are safe.
+#![tactic(auto)]
+
 ghost use Rattle.std.specs.Prelude.{◌≡◌, true, false, ◌+◌, ◌-◌, ◌≤◌, ◌<◌, get_or};
 ghost use Rattle.check_trees.specs.Scratch.{scratch_length};
 ghost use Rattle.check_trees.specs.Deciding.{Decides};

@@ -1,4 +1,6 @@
 // Whether what a part remembers can be undone, as a part of the check. Any words are safe: the ring is gone through at most once.
+#![tactic(auto)]
+
 ghost use Rattle.std.specs.Prelude.{◌≡◌, ◌≤◌, ◌<◌, pos};
 ghost use Rattle.offers.specs.Offers.{Offer, between};
 ghost use Rattle.plain.specs.Book.{unpost, restore, most_remembered};

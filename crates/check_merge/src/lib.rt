@@ -1,4 +1,6 @@
 // Two envelopes merged at a stored bridge, as part of the check of a book's part. Any words are safe.
+#![tactic(auto)]
+
 ghost use Rattle.std.specs.Prelude.{◌≡◌, ◌≤◌, length, pos};
 ghost use Rattle.form.specs.RestWords.{rest_word};
 ghost use Rattle.check_trees.specs.Scratch.{scratch_length, second_half};

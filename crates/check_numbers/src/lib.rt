@@ -1,4 +1,6 @@
 // The free slots and the tree of numbers, as parts of the check of a book's part. Any words are safe: every loop is bounded.
+#![tactic(auto)]
+
 ghost use Rattle.std.specs.Prelude.{◌≡◌, ◌≤◌, length};
 ghost use Rattle.form.specs.Form.{Freely};
 ghost use Rattle.check_numbers.specs.Tallies.{Tallies};

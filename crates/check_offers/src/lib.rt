@@ -1,4 +1,6 @@
 // The offers of a part with their envelopes, as parts of the check of a book's part. Any words are safe.
+#![tactic(auto)]
+
 ghost use Rattle.std.specs.Prelude.{◌≡◌, ℕ, ◌≤◌, length};
 ghost use Rattle.table.specs.Fields.{most_slots};
 ghost use Rattle.table.specs.Words.{Words};

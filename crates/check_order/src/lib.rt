@@ -1,5 +1,7 @@
 // The order of a part, its tree of all live offers by rank, and the tree of offers as the first of each rate: parts of the check of a book's
 // part. Any words are safe: every loop is bounded.
+#![tactic(auto)]
+
 ghost use Rattle.std.specs.Prelude.{◌≡◌, T, ◌≤◌, length};
 ghost use Rattle.offers.specs.Offers.{offer_in_range};
 ghost use Rattle.check_trees.specs.Scratch.{scratch_length, second_half};

@@ -1,4 +1,6 @@
 // Whether a part has the form of a book, and whether there is one in a lent table: yes exactly where it has. Any words are safe.
+#![tactic(auto)]
+
 ghost use Rattle.form.specs.Form.{FormStands};
 ghost use Rattle.check_trees.specs.Deciding.{Decides};
 ghost use Rattle.promises.specs.Promises.{Checks};

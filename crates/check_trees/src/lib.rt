@@ -1,4 +1,6 @@
 // Trees of a part, read into a scratch array and compared with what stands there. Any words are safe: every walk has a limit.
+#![tactic(auto)]
+
 ghost use Rattle.std.specs.Prelude.{◌≡◌, true, false, ℕ, ◌+◌, ◌-◌, ◌≤◌, ◌<◌, length, get_or, pos};
 ghost use Rattle.std.specs.Int.Signed.{lt_z};
 ghost use Rattle.offers.specs.Offers.{between, offer_in_range};

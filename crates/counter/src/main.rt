@@ -1,4 +1,6 @@
 // The counter: reads calls from standard input, a line each, and prints the book's answers. The book has room for 64 offers.
+#![tactic(auto)]
+
 use counter_keep::Line;
 use libc::{STDIN_FILENO, STDOUT_FILENO};
 

@@ -1,4 +1,6 @@
 // The columns of the counter program: a call's line is read.
+#![tactic(auto)]
+
 ghost use Rattle.std.specs.Prelude.{◌≡◌, length};
 ghost use Rattle.counter_columns.specs.CallLines.{letter};
 ghost use Rattle.counter_columns.specs.Commands.{LastRead, Parsed};

@@ -1,4 +1,6 @@
 // The counter's input, byte by byte: a line is kept up to its newline, and then answered.
+#![tactic(auto)]
+
 ghost use Rattle.counter_feed.specs.Input.{CountsFront, CountsKept, Feeds, Finishes};
 
 use counter_keep::Line;

@@ -1,4 +1,6 @@
 // A number in some columns of a line.
+#![tactic(auto)]
+
 ghost use Rattle.std.specs.Prelude.{◌≡◌, ◌^◌, ◌≤◌, ◌<◌, length};
 ghost use Rattle.counter_field.specs.Values.{taken, value_from, has_minus, told};
 ghost use Rattle.counter_field.specs.Reading.{FieldRead};

@@ -1,4 +1,6 @@
 // A line of the counter's input, kept byte by byte.
+#![tactic(auto)]
+
 ghost use Rattle.std.specs.Prelude.{[]};
 ghost use Rattle.counter_keep.specs.KeptBytes.{Keeps, Pushes};
 

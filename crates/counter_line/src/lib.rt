@@ -1,4 +1,6 @@
 // The counter: a line of text is answered on the book that stands at the table's beginning, as lines of text.
+#![tactic(auto)]
+
 ghost use Rattle.std.specs.Prelude.{◌≤◌, length};
 ghost use Rattle.counter_line.specs.Answering.{ListsLines};
 ghost use Rattle.counter_line.specs.Promises.{Counts};

@@ -1,4 +1,6 @@
 // Printing: numbers right-justified in columns, and the lines of the counter's answers.
+#![tactic(auto)]
+
 ghost use Rattle.std.specs.Prelude.{◌≡◌, ◌+◌, ◌*◌, ◌^◌, ◌≤◌, ◌<◌, length, nat_abs};
 ghost use Rattle.counter_print.specs.Texts.{justified};
 ghost use Rattle.counter_print.specs.Decimals.{sign};

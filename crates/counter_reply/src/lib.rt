@@ -1,4 +1,6 @@
 // The lines of the book's answers, as the counter prints them.
+#![tactic(auto)]
+
 ghost use Rattle.std.specs.Prelude.{◌≡◌, ◌+◌, ◌*◌, ◌≤◌, length, pos};
 ghost use Rattle.promises.specs.Promises.{update_answer, found_answer, listing_answer};
 ghost use Rattle.counter_reply.specs.Replies.{Replies};

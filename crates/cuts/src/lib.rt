@@ -1,4 +1,6 @@
 // Piece trees in the table, cut by rate.
+#![tactic(auto)]
+
 ghost use Rattle.std.specs.Prelude.{◌≡◌};
 ghost use Rattle.table.specs.Layout.{cap};
 ghost use Rattle.cuts.specs.PieceCuts.{CutAt, CutBehind, CutBefore};

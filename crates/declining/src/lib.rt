@@ -1,4 +1,6 @@
 // What declines a post or a withdrawal whose values are in range: a search for the number, and the live count. Nothing is written.
+#![tactic(auto)]
+
 ghost use Rattle.table.specs.Fields.{most_nodes, number_field, number_tree, numbers_root_word};
 ghost use Rattle.table.specs.Words.{word, up_to};
 ghost use Rattle.index.specs.Index.{FoundKey};

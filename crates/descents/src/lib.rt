@@ -1,4 +1,6 @@
 // Ways down the trees of a table. Each goes at most `limit` levels, so that it ends on any words.
+#![tactic(auto)]
+
 ghost use Rattle.std.specs.Prelude.{◌≡◌};
 ghost use Rattle.table.specs.Layout.{cap};
 ghost use Rattle.descents.specs.Cuts.{Halving};

@@ -28,8 +28,8 @@ module _ {A : Type 0} where
   exchange : {a b : A} {xs ys zs : List A} → Added a xs ys → Added b ys zs → (ws : List A) × Added b xs ws × Added a ws zs
   exchange {xs} p (added_here {x} e) = (x ∷ xs, added_here e, added_there p)
   exchange (added_here d) (added_there {ys = zs} q) = (zs, q, added_here d)
-  exchange (added_there {x = x} p) (added_there q) =
-      let (ws, s, t) = exchange p q in
+  exchange (added_there {x = x} {xs = xs} p) (added_there q) =
+      let (ws, s, t) = exchange {xs = xs} p q in
       (x ∷ ws, added_there s, added_there t)
 
   -- the place of an added element

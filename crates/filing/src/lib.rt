@@ -1,5 +1,7 @@
 // A book's part as its calls change it: an offer posted, an offer withdrawn. What declines them is tried before, by declining; the calls
 // themselves, with their guards, are book's.
+#![tactic(auto)]
+
 ghost use Rattle.std.specs.Prelude.{◌≡◌, ◌-◌, T};
 ghost use Rattle.offers.specs.Offers.{offer_in_range};
 ghost use Rattle.filing.specs.PartUpdates.{PostDone, WithdrawDone};

@@ -1,5 +1,7 @@
 // What a part's words tell of its trees: their roots, and what stays with a node of the tree of offers. All else in this crate is what a
 // book's words mean (specs).
+#![tactic(auto)]
+
 ghost use Rattle.std.specs.Prelude.{◌≡◌, T};
 ghost use Rattle.offers.specs.Offers.{offer_in_range};
 ghost use Rattle.offers.specs.Ranks.{rank};

@@ -1,5 +1,7 @@
 // The leaves of the tree of offers, the first of each rate, whose price at a load is below a price: their slots, in order. The part is only read, and any
 // words are safe.
+#![tactic(auto)]
+
 ghost use Rattle.std.specs.Prelude.{◌≡◌, length};
 ghost use Rattle.std.specs.Int.Signed.{le_z, lt_z};
 ghost use Rattle.table.specs.Fields.{most_levels, most_slots, rate_field};

@@ -1,5 +1,7 @@
 // An index: a tree of the live items by a key, which a field of their slots holds. An item is added, and one is dropped by its key. Keys fall from left
 // to right.
+#![tactic(auto)]
+
 ghost use Rattle.std.specs.Prelude.{◌≡◌};
 ghost use Rattle.table.specs.Layout.{cap};
 ghost use Rattle.index.specs.Index.{Added, Dropped};

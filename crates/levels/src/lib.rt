@@ -1,5 +1,7 @@
 // One level of the tree of offers with its envelopes, in the table: taken apart, and put together by one search. Every function takes any words.
 // Left is false, right is true.
+#![tactic(auto)]
+
 ghost use Rattle.std.specs.Prelude.{◌≡◌};
 ghost use Rattle.table.specs.Fields.{bridge_left_field, bridge_right_field};
 ghost use Rattle.table.specs.Layout.{cap, link_at};

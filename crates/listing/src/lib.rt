@@ -1,4 +1,6 @@
 // Listings of a part: its pieces along the thread, counted and written. Any words are safe: every walk has a limit.
+#![tactic(auto)]
+
 ghost use Rattle.std.specs.Prelude.{◌≡◌, ◌≤◌};
 ghost use Rattle.listing.specs.PieceCounts.{Counted};
 ghost use Rattle.listing.specs.Listing.{crossing_word, piece_at, Written};

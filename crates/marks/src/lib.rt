@@ -1,4 +1,6 @@
 // Chart marks: the doubles of open ends and crossings.
+#![tactic(auto)]
+
 ghost use Rattle.std.specs.Prelude.{◌≡◌};
 ghost use Rattle.marks.specs.Quotient.{Doubled};
 ghost use Rattle.marks.specs.MarkTold.{told, at_point, open_end, crossing, PointOf};

@@ -1,5 +1,7 @@
 // The meeting of two books: where the envelope of both goes over from the first book's offers to the second's. Both tables are only read,
 // and they may be one table.
+#![tactic(auto)]
+
 ghost use Rattle.std.specs.Prelude.{◌≡◌, ltb};
 ghost use Rattle.table.specs.Fields.{live_count_word, most_nodes};
 ghost use Rattle.table.specs.Words.{word, up_to};

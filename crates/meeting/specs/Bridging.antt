@@ -99,16 +99,16 @@ module _ {S : Figure} (M : Meeting S) where
       rw (p.ranked, p.is_inner) at (verdict M side p.place (located i.them) (omega (arith, p.ranked, spans_some i.us.spans, i.us.bounded))
       (omega (arith, rank_before i.them.spans, i.them.bounded)))
 
-  recede_by : (side : Side) (t : Tree S.Line) (e : Option S.Line) (stack : List (Place S.Line)) (other : Half S.Line)
+  recede_by_lem : (side : Side) (t : Tree S.Line) (e : Option S.Line) (stack : List (Place S.Line)) (other : Half S.Line)
       (i : Sound M side (half t e stack) other) → (aim M side).star < rank i.us.spans → Better (potential i) (recede_by S side stack t (half t e stack) other)
-  recede_by side t e [] other i below = only side i (retreat_moved (aim M side) i.us below) (omega (arith, bottom_lo i.us.stacked))
-  recede_by side (leaf x) e (top ∷ rest) other i below = popped side i (omega (arith, leaf_rank i.us.spans))
-  recede_by side (node l r) e (top ∷ rest) other i below = second_better side i below (compare S side top other.at) (top_verdict side i)
+  recede_by_lem side t e [] other i below = only side i (retreat_moved (aim M side) i.us below) (omega (arith, bottom_lo i.us.stacked))
+  recede_by_lem side (leaf x) e (top ∷ rest) other i below = popped side i (omega (arith, leaf_rank i.us.spans))
+  recede_by_lem side (node l r) e (top ∷ rest) other i below = second_better side i below (compare S side top other.at) (top_verdict side i)
 
   recede_better : (side : Side) {ours other : Half S.Line} (i : Sound M side ours other) → (aim M side).star < rank i.us.spans →
       Better (potential i) (recede S side ours other)
   unfolding recede
-  recede_better side {ours} {other} i below = recede_by side ours.at.tree ours.at.edge ours.stack other i below
+  recede_better side {ours} {other} i below = recede_by_lem side ours.at.tree ours.at.edge ours.stack other i below
 
   -- ---- case 3, and the step
 

@@ -1,7 +1,7 @@
 -- The search's comparison of two places is the comparison of their ranks that the five facts speak of.
 use Rattle.std.specs.Prelude.{ℕ, zero, suc, ◌≡◌, refl, ◌↔◌, ◌⊎◌, T}
 use Rattle.std.proofs.Common.{sym, ◌∙◌, ap, subst, inl, inr, ⊎_elim}
-use Rattle.std.proofs.Math.Logic.{Iff·trans, ⊎_swap}
+use Rattle.std.proofs.Math.Logic.{Iff.trans as iff_trans, ⊎_swap}
 use Rattle.std.proofs.Math.Option.{some}
 use Rattle.lists.specs.Bools.{or_exactly}
 use Rattle.envelopes.specs.PseudoLines.{Figure, mirror}
@@ -49,7 +49,7 @@ module _ (S : Figure) where
   local_test (one {x = y} p) b x = ((λ w. (y, p, w)), λ w. rw (p ∙ sym w.1) w.2)
   local_test {side} {c} (two {l = l} {r = r} s t) b x =
       let (k, e, p) = nearest_at s in
-      rw e (Iff·trans (local_node side l r b x) (low_inner c k _ _ b x p (farthest_at t ∙ ap c e)))
+      rw e (iff_trans (local_node side l r b x) (low_inner c k _ _ b x p (farthest_at t ∙ ap c e)))
 
   -- a point given by its two lines
   point_test : (side : Side) {other : Side} {c : ℕ → S.Line} {from to : ℕ} {q : Tree S.Line} (t : Spans other c from q to) (a : ℕ →

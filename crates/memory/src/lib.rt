@@ -1,4 +1,6 @@
 // The memory of a part: a ring of 256 entries behind the slots, each of them four words that tell how to take one update back.
+#![tactic(auto)]
+
 ghost use Rattle.std.specs.Prelude.{◌≡◌, ◌+◌, ◌-◌, ◌≤◌, min};
 ghost use Rattle.plain.specs.Book.{most_remembered};
 ghost use Rattle.form.specs.Memory.{entry_at, earlier};

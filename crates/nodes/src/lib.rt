@@ -1,4 +1,6 @@
 // One node over two trees of the table.
+#![tactic(auto)]
+
 ghost use Rattle.std.specs.Prelude.{◌≡◌};
 ghost use Rattle.table.specs.Layout.{cap};
 ghost use Rattle.table.specs.Rep.{node_on};

@@ -1,4 +1,6 @@
 // A book opened in a lent table: its part laid out empty.
+#![tactic(auto)]
+
 ghost use Rattle.std.specs.Prelude.{◌≤◌, length};
 ghost use Rattle.plain.specs.Book.{part_length};
 ghost use Rattle.table.specs.Fields.{most_slots};

@@ -1,4 +1,6 @@
 // Piece trees in the table: an envelope's pieces with their crossings, put together.
+#![tactic(auto)]
+
 ghost use Rattle.std.specs.Prelude.{◌≡◌};
 ghost use Rattle.table.specs.Layout.{cap};
 ghost use Rattle.pieces.specs.Pieces.{Catted, Seamed, CattedAfter, CattedBefore};

@@ -1,5 +1,7 @@
 // Builds piece trees of some hundred pieces, finds in them, cuts them, puts them together and searches their meeting, and prints beside each
 // result what a plain scan of all lines gives. Line s of the left 120 crosses the next one at 2 (s + 1), and so do the right 120.
+#![tactic(auto)]
+
 ghost use Rattle.std.specs.Prelude.{◌<◌};
 
 use libc::STDOUT_FILENO;

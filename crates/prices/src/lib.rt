@@ -1,5 +1,7 @@
 // What a comparison of two envelopes reads and computes, safe whatever the words are; and where a point lies against a line, for it and for a query.
 // `c` is a part's capacity, which is read once for a whole search.
+#![tactic(auto)]
+
 ghost use Rattle.std.specs.Prelude.{◌≡◌};
 ghost use Rattle.std.specs.Int.Signed.{le_z};
 ghost use Rattle.table.specs.Layout.{cap};

@@ -1,4 +1,6 @@
 // Prints numbers in columns of 20, a line each: the ends of a signed word, and of every count of digits the least number below 0 and the least above it.
+#![tactic(auto)]
+
 use libc::STDOUT_FILENO;
 
 fn show(value: i64) {

@@ -1,4 +1,6 @@
 // What the calls on a lent table answer, and whether there is a book at a start.
+#![tactic(auto)]
+
 ghost use Rattle.std.specs.Prelude.{◌≡◌, length};
 ghost use Rattle.plain.specs.Book.{no_book_at};
 ghost use Rattle.table.specs.Fields.{capacity_word};

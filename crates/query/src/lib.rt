@@ -1,4 +1,6 @@
 // Queries on a part. Any words are safe: what a word tells is brought into its range, and every walk has a limit.
+#![tactic(auto)]
+
 ghost use Rattle.std.specs.Prelude.{◌≡◌, not};
 ghost use Rattle.offers.specs.Offers.{between};
 ghost use Rattle.table.specs.Fields.{number_field};

@@ -1,4 +1,6 @@
 // The places of a reading of a book's pieces, and what stands at each: functions over a table, a start and a place.
+#![tactic(auto)]
+
 ghost use Rattle.reading.specs.Promises.{Before, Starts, Hands, Moves};
 ghost use Rattle.reading.specs.PartReading.{PartMoves, PartHands};
 

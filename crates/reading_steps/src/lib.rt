@@ -1,5 +1,7 @@
 // A reading of a book's pieces: it carries the lent table along and hands out one piece at a time, as listed, then the end.
 // The functions over `Reading` are thin. The work is in crate reading, in functions over a table, a start and a place.
+#![tactic(auto)]
+
 ghost use Rattle.std.specs.Prelude.{◌+◌};
 ghost use Rattle.reading.specs.Promises.{Before, Hands};
 ghost use Rattle.reading_steps.specs.ReadingSteps.{Begins, Advances, HandsAt};

@@ -1,4 +1,6 @@
 // The updates of a part with its memory: a post and a withdrawal are remembered, and the last of them is taken back.
+#![tactic(auto)]
+
 ghost use Rattle.std.specs.Prelude.{◌≡◌, T};
 ghost use Rattle.offers.specs.Offers.{offer_in_range};
 ghost use Rattle.plain.specs.Book.{post, unpost, restore};

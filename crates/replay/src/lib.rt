@@ -1,4 +1,6 @@
 // Encoded calls on a book, run one after the other.
+#![tactic(auto)]
+
 ghost use Rattle.replay.specs.Promises.{Resumes, Replays};
 ghost use Rattle.replay.specs.Running.{Ended};
 

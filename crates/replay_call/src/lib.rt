@@ -1,4 +1,6 @@
 // One encoded call on a book: made, and its answer written.
+#![tactic(auto)]
+
 ghost use Rattle.std.specs.Prelude.{◌≡◌, true, ◌+◌, ◌≤◌, length};
 ghost use Rattle.plain.specs.Book.{post, withdraw, query, listing, take_back, report};
 ghost use Rattle.replay_words.specs.Encoding.{fitting};

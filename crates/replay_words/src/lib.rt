@@ -1,4 +1,6 @@
 // Calls and answers as words: a call is read from four words, and an answer is written over five.
+#![tactic(auto)]
+
 ghost use Rattle.std.specs.Prelude.{◌≡◌, ◌++◌, ◌∷◌, ◌+◌, ◌≤◌, length, drop, leb};
 ghost use Rattle.replay_words.specs.Encoding.{short_call, call_of, next_call, fitting, update_words, found_words, listed_words, reported_words};
 ghost use Rattle.replay_words.specs.Decoding.{asked};

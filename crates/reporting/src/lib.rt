@@ -1,4 +1,6 @@
 // The call `report`: every live offer under a price, into a lent output. The table is only read, and any words are safe.
+#![tactic(auto)]
+
 ghost use Rattle.promises.specs.Promises.{Reports};
 ghost use Rattle.reporting.specs.Counting.{Under};
 ghost use Rattle.reporting.specs.Telling.{Tells};

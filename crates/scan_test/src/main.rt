@@ -1,6 +1,8 @@
 // Books of many kinds, each call compared with a scan of all offers: ties, offers that only touch, hidden ones that withdrawals uncover, all
 // through one point, the ends of the ranges, capacity 1, a full book, many offers at few rates, and pairs of books that meet. Prints a line for
 // each.
+#![tactic(auto)]
+
 mod calls;
 mod expected;
 mod makers;

@@ -1,5 +1,7 @@
 // The meeting of two envelopes that are kept in tables: the search of docs/REQUIREMENTS.md, 6 (its source [1], section 4), by two walks that carry a
 // stack each. Every function takes any words. Left is false, right is true; toward is the way to the other envelope, away the way to the outer end.
+#![tactic(auto)]
+
 ghost use Rattle.std.specs.Prelude.{◌≡◌, ◌&&◌, leb};
 ghost use Rattle.table.specs.Fields.{most_slots};
 ghost use Rattle.table.specs.Layout.{cap};

@@ -1,5 +1,7 @@
 // The steps by which an offer comes into a book's part or leaves it: a slot filled, both indexes, the tree of offers with a leaf per rate. Filing makes
 // an update of them.
+#![tactic(auto)]
+
 ghost use Rattle.std.specs.Prelude.{◌≡◌, T};
 ghost use Rattle.offers.specs.Offers.{offer_in_range};
 ghost use Rattle.table.specs.Fields.{offer_tree, rate_field};

@@ -1,4 +1,6 @@
 // Balanced trees in the table. One set of functions serves the four trees and both sides.
+#![tactic(auto)]
+
 ghost use Rattle.std.specs.Prelude.{◌≡◌, suc, ◌≤◌, ltb};
 ghost use Rattle.table.specs.Fields.{most_nodes};
 ghost use Rattle.table.specs.Layout.{cap};

@@ -1,4 +1,6 @@
 // The offers of a part that are below a price, from the first of each rate on, and their words. The part is only read; any words are safe.
+#![tactic(auto)]
+
 ghost use Rattle.std.specs.Prelude.{◌≡◌, ◌≤◌, ◌<◌, length, get_or};
 ghost use Rattle.table.specs.Fields.{most_slots};
 ghost use Rattle.table.specs.Layout.{cap};

@@ -1,4 +1,6 @@
 // The words of a book's part, by total accessors: whatever the words are, a read gives a value and a write stays inside the part.
+#![tactic(auto)]
+
 ghost use Rattle.std.specs.Prelude.{◌≡◌, suc, max, ◌-◌, ◌≤◌, pos};
 ghost use Rattle.std.specs.Int.Signed.{le_z, lt_z};
 ghost use Rattle.integers.specs.Equal.{equal};

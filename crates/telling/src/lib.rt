@@ -1,5 +1,7 @@
 // The answers of an opening, an update, a query, a listing and a report for Rust and C: each is one number, a refusal its cause below 0, and what goes with
 // it is written over the first words of a lent output.
+#![tactic(auto)]
+
 ghost use Rattle.std.specs.Prelude.{◌≡◌, ◌≤◌, length};
 ghost use Rattle.answers.specs.Promises.{refusal, opening_number, update_number, found_number, listed_number, reported_number, counts_of, found_of, Tells};
 

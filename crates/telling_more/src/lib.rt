@@ -1,4 +1,6 @@
 // The answers of a meeting, a mark, a voucher and a reading for Rust and C, told as telling does.
+#![tactic(auto)]
+
 ghost use Rattle.std.specs.Prelude.{◌≡◌, ◌≤◌, length};
 ghost use Rattle.answers.specs.Promises.{refusal, meet_number, mark_number, place_number, met_of, piece_of, Tells};
 ghost use Rattle.meet_books.specs.Promises.{meet_answer};

@@ -1,5 +1,7 @@
 // The tree of offers with its envelopes, in the table: rebalanced over levels that are taken apart and put together, and on that insert and
 // remove, which go down and up. Every function takes any words. Left is false, right is true.
+#![tactic(auto)]
+
 ghost use Rattle.std.specs.Prelude.{◌≡◌, ℕ, ◌≤◌, int_le, int_lt};
 ghost use Rattle.table.specs.Fields.{most_slots, rate_field};
 ghost use Rattle.table.specs.Layout.{cell};

@@ -1,4 +1,6 @@
 // Voucher prices: a price in whole units of 100 cents.
+#![tactic(auto)]
+
 ghost use Rattle.vouchers.specs.Rule.{Rounded};
 ghost use Rattle.vouchers.specs.VoucherTold.{Vouches};
 

@@ -1,5 +1,7 @@
 // One walk of a search: its node, a stack of those pushed, and what a step does with them. Every function takes any words.
 // Left is false, right is true; toward is the way to the other envelope, away the way to the outer end.
+#![tactic(auto)]
+
 ghost use Rattle.std.specs.Prelude.{◌≡◌};
 ghost use Rattle.table.specs.Layout.{cap};
 ghost use Rattle.walks.specs.CodeMoves.{top_in, point_word};

@@ -1,5 +1,7 @@
 // A witness that histories exist: an opening and seven calls on a table of this function's own. Nothing is asked of a caller, and the contract
 // speaks of no argument: that there is such a history is thereby a theorem.
+#![tactic(auto)]
+
 ghost use Rattle.witness.specs.Witness.{Witness};
 
 pub fn seven_calls()

@@ -10,9 +10,9 @@ use lib.Signed.{lt_z}
 use mir.Facts.{to_z-of_z}
 use Rattle.integers.specs.Magnitude.{nat_abs_fits}
 use Rattle.table.specs.Words.{up_to, up_to_in, up_to_over, up_to_below}
-use Rattle.table.proofs.up_to.Statement.{statement}
-use Rattle.table.proofs.up_to.Tie as tie
+use Rattle.table.proofs.up_to.Goals as goal
 
+-- `table::up_to` meets its contract: by cases on the sign, and on the tests.
 below : (most : ℕ) (z : ℤ) → lt_z z (pos 0) ≡ true → 0 ≡ up_to most z
 below most (pos n) e = absurd (omega (arith, ltb-true n 0 e))
 below most (negsuc n) e = sym (up_to_below most n)
@@ -25,25 +25,13 @@ inside : (most : ℕ) (z : ℤ) → lt_z z (pos 0) ≡ false → nat_abs z ≤ m
 inside most (pos n) e h = sym (up_to_in most n h)
 inside most (negsuc n) e h = absurd (true≢false e)
 
-returns : tie.Need-returns
-returns c = below _ _ (simp (to_z-of_z, c.before.ranges.value) at c.if1.true)
+pub returns-then-value-lt0 : goal.returns-then-value-lt0
+returns-then-value-lt0 c = below _ _ (simp (to_z-of_z, c.ranges.value) at c.if-value-lt0.true)
 
-cast-number : tie.Need-overflow-cast-number
-cast-number c =
-    simp (to_z-of_z, c.before.ranges.value)
-    (nat_abs_fits _ c.before.ranges.value (simp (to_z-of_z, c.before.ranges.value) at c.if1.false))
+pub returns-then-number-most : goal.returns-then-number-most
+returns-then-number-most c = let f = c.ranges.value in over _ _ (simp (to_z-of_z, f) at c.if-value-lt0.false) (simp (to_z-of_z, f) at c.if-number-most.true)
 
-returns-2 : tie.Need-returns-2
-returns-2 c = let f = c.before.before.ranges.value in over _ _ (simp (to_z-of_z, f) at c.before.if1.false) (simp (to_z-of_z, f) at c.if2.true)
-
-cast-result : tie.Need-overflow-cast-result
-cast-result c = search rules
-
-returns-3 : tie.Need-returns-3
-returns-3 c =
-    let f = c.before.before.ranges.value in
+pub returns : goal.returns
+returns c = let f = c.ranges.value in
     simp (to_z-of_z, f)
-    (inside _ _ (simp (to_z-of_z, f) at c.before.if1.false) (simp (to_z-of_z, f) at c.if2.false))
-
-pub up-to-spec : {M : Type 1} → statement M
-up-to-spec = tie.close (tie.spec returns cast-number returns-2 cast-result returns-3)
+    (inside _ _ (simp (to_z-of_z, f) at c.if-value-lt0.false) (simp (to_z-of_z, f) at c.if-number-most.false))
