@@ -162,7 +162,7 @@ module _
           }
 
       seam_at_lem : (last (shape DL.offers)).slot ≡ x - most_slots
-      seam_at = ap (λ (t : Tree Item). (last t).slot) DL.shape_is ∙ sym kids.seam
+      seam_at_lem = ap (λ (t : Tree Item). (last t).slot) DL.shape_is ∙ sym kids.seam
 
       joint : OfferTree Item
       joint = fork u v DL.offers J.left_rest.tree.whole J.right_rest.tree.whole DR.offers

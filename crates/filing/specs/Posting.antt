@@ -36,7 +36,7 @@ use Rattle.declining.specs.PartCauses.{Postable}
 use Rattle.index.specs.Index.{Comes}
 use Rattle.settling.specs.Agree.{Agree, IndexHere, FreeHere, agree_trans, agree_less, numbers_envelope, order_envelope, numbers_order, order_numbers}
 use Rattle.settling.specs.Agree.{rank_apart, tree_index, free_index, free_envelope, offers_agree, free_agree}
-use Rattle.settling.specs.Writing.{roots_of, Filled, Headed, FirstFree, first_free}
+use Rattle.settling.specs.Writing.{roots_of, Filled, Headed, FirstFree, first_free_lem}
 use Rattle.settling.specs.Indexes.{Stands, stands_agree, stands_among, stands_leaves, numbers_stand, order_stand, OffTree, Entered, entered}
 use Rattle.settling.specs.Indexes.{entered_agree, entered_header}
 use Rattle.settling.specs.Settling.{Joined, Settled, Before}
@@ -264,7 +264,7 @@ module _
         free =
             record {
               free = others;
-              first_free = first_free';
+              first_free_lem = first_free';
               free_chain = free_agree free_kept free.chain;
               free_apart = free.apart;
               slots_used = omega (arith, free.count, more, free_kept.room);

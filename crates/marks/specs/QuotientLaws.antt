@@ -16,7 +16,7 @@ use Rattle.lists.specs.Bools.{and_left, and_right}
 use Rattle.integers.specs.Parts.{pos_part, neg_part, range_parts}
 use Rattle.integers.specs.Ring.{var, nat, ◌:-◌, ◌:*◌, parts}
 use Rattle.integers.specs.Magnitude.{nat_abs_gap, within_nat_abs, nat_abs_within}
-use Rattle.integers.specs.Ranges.{too_low, too_high, in_range}
+use Rattle.integers.specs.Ranges.{too_low, too_high, in_range_lem}
 use Rattle.offers.specs.Offers.{between}
 use Rattle.marks.specs.Rounding.{Within, Near, round_near, kept_most}
 use Rattle.marks.specs.Quotient.{exact, plus_zero, double, negative, quotient, divisible, Doubled, HalfUnit, Quotient}

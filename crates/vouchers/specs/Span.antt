@@ -3,7 +3,7 @@ use Rattle.std.specs.Prelude.{◌≡◌, refl, Bool, true, false, not, cond, [],
 use Rattle.std.proofs.Common.{ap, ◌∙◌}
 use Rattle.std.proofs.Math.Option.{Option, none, some}
 use Rattle.std.specs.Int.Signed.{lt_z}
-use Rattle.integers.specs.Ranges.{too_low, too_high, in_range}
+use Rattle.integers.specs.Ranges.{too_low, too_high, in_range_lem}
 use Rattle.offers.specs.Offers.{price_in_range}
 use Rattle.plain.specs.Causes.{Cause, declined, price_out_of_range, FirstOf, Clear}
 use Rattle.plain.specs.Trials.{clear, not_declined, declined_by, declined_first}

@@ -16,7 +16,7 @@ use Rattle.table.specs.Fields.{most_levels, most_slots, piece_tree}
 use Rattle.table.specs.Words.{Words}
 use Rattle.table.specs.Items.{Item}
 use Rattle.table.specs.Rep.{child_at, ref_of}
-use Rattle.walks.specs.SearchedPieces.{Pieces, side_of, pieces_away, pieces_toward, leaf_low, inner_high, seam_at}
+use Rattle.walks.specs.SearchedPieces.{Pieces, side_of, pieces_away, pieces_toward, leaf_low, inner_high, seam_at_lem}
 use Rattle.walks.specs.Walks.{Walk, Stacks, empty, pushed, Stood, stacks_depth, stacks_push, top_ref, point_slot}
 
 -- ---- the promises

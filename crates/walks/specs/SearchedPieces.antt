@@ -37,7 +37,7 @@ side_of true = right
 
 module _ {w : Words} {x : ℕ} {l r : Tree Item} (p : Pieces w x (node l r)) where
   pub seam_at_lem : x - most_slots ≡ (last l).slot
-  seam_at = omega (arith, p.rep.root)
+  seam_at_lem = omega (arith, p.rep.root)
 
   pub inner_high : most_slots < x
   inner_high = omega (arith, p.rep.root, (slots_left (leaves r) p.rep.slots).low (last_leaf l))

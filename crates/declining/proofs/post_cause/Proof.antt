@@ -1,6 +1,6 @@
 -- `declining::post_cause` meets its contract: by its search and the live count.
 use mir.Facts.{to_z-of_z}
-use Rattle.declining.specs.PartCauses.{cause_number_lem, cause_full, cause_none}
+use Rattle.declining.specs.PartCauses.{cause_number, cause_full, cause_none}
 use borrow.Author.Rules.{rules}
 use Rattle.declining.proofs.post_cause.Statement.{statement}
 use Rattle.declining.proofs.post_cause.Tie as tie
@@ -9,7 +9,7 @@ live-slot-requires : tie.Need-live-slot-requires
 live-slot-requires c κs = search rules
 
 returns : tie.Need-returns
-returns c = cause_number_lem _ _ (simp (to_z-of_z, c.before.before.ranges.number) at c.before.live-slot.ensures) c.if1.true
+returns c = cause_number _ _ (simp (to_z-of_z, c.before.before.ranges.number) at c.before.live-slot.ensures) c.if1.true
 
 number-at-requires : tie.Need-number-at-requires
 number-at-requires c κs = search rules

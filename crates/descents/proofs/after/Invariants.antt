@@ -1,0 +1,14 @@
+-- `descents::after` meets its contract. The invariant: the node that is reached has what is sought if the tree has it, and is at most `limit` high.
+use mathlib.Core.Bool.{true, false}
+use mir.Syntax.{w64}
+use mir.Val.{to_z}
+use lib.Signed.{le_z}
+use Rattle.descents.specs.Seeks.{Looking, looking_begins, looking_on, looking_over}
+use Rattle.descents.specs.Afters.{below, below_leads, below_ends}
+use Rattle.descents.proofs.after.Given as goal
+
+abbrev pub invariant-loop-y : goal.invariant-loop-y
+invariant-loop-y l = Looking below l.part l.tree l.field l.key l.x l.y l.limit
+
+abbrev pub decreases-loop-y : goal.decreases-loop-y
+decreases-loop-y l = l.limit
