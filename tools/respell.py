@@ -110,6 +110,7 @@ for p, t in text.items():
                     terms[w].add(p)
             if not d.group(1):
                 inside = None
+declared["intRules"] = set()  # a ruleset
 names = {w: snake(w) for w in list(declared) + sorted(aliases)}
 names = {w: n for w, n in names.items() if n != w}
 # A lemma that would fall together with the definition that it is about ends in `_lem`.

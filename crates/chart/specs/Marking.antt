@@ -12,7 +12,7 @@ use Rattle.std.proofs.Math.Dec.{T, T_not, not_T}
 use Rattle.std.proofs.Math.Arith.{lt→nleb}
 use Rattle.std.specs.Int.Signed.{le_z, lt_z}
 use Rattle.lists.specs.Bools.{and_both, denied}
-use Rattle.integers.specs.Parts.{intRules, range_parts}
+use Rattle.integers.specs.Parts.{int_rules, range_parts}
 use Rattle.offers.specs.Offers.{Offer, between, crossing_numerator, crossing_denominator}
 use Rattle.envelopes.specs.Envelope.{Ordered}
 use Rattle.envelopes.specs.EnvelopeLaws.{ordered_sublist, ordered_right, ordered_head}
@@ -227,8 +227,8 @@ module _ {w : Words} {root m : ℕ} (er : root ≡ up_to most_nodes (word w enve
       )))
     where
       inside : T (between (pos 0) (pos (length (envelope os))) (pos n))
-      inside = and_both (le_z (pos 0) (pos n)) (le_z (pos n) (pos (length (envelope os)))) (omega (arith, intRules))
-          (omega (arith, intRules, q.many))
+      inside = and_both (le_z (pos 0) (pos n)) (le_z (pos n) (pos (length (envelope os)))) (omega (arith, int_rules))
+          (omega (arith, int_rules, q.many))
 
   module _ {s : ℕ} (f : 1 ≤ m) where
     -- mark 0
@@ -263,18 +263,18 @@ module _ {w : Words} {root m : ℕ} (er : root ≡ up_to most_nodes (word w enve
 
 -- outside, by the code's two tests
 pub index_below : (index : ℤ) (m : ℕ) → lt_z index (pos 0) ≡ true → T (not (between (pos 0) (pos m) index))
-index_below index m h = not_T (between (pos 0) (pos m) index) (λ t. omega (arith, intRules, range_parts (pos 0) index (pos m) t))
+index_below index m h = not_T (between (pos 0) (pos m) index) (λ t. omega (arith, int_rules, range_parts (pos 0) index (pos m) t))
 
 pub index_above : (index : ℤ) (m : ℕ) → lt_z (pos m) index ≡ true → T (not (between (pos 0) (pos m) index))
-index_above index m h = not_T (between (pos 0) (pos m) index) (λ t. omega (arith, intRules, range_parts (pos 0) index (pos m) t))
+index_above index m h = not_T (between (pos 0) (pos m) index) (λ t. omega (arith, int_rules, range_parts (pos 0) index (pos m) t))
 
 pub index_there : (index : ℤ) {i m : ℕ} → lt_z index (pos 0) ≡ false → lt_z (pos m) index ≡ false → m ≤ most_slots → i ≡ up_to most_slots index →
     (index ≡ pos i) × (i ≤ m)
 index_there (pos n) {i} {m} a b h e =
-    let l : n ≤ m = omega (arith, intRules) in
+    let l : n ≤ m = omega (arith, int_rules) in
     let u : i ≡ n = e ∙ up_to_in most_slots n (omega arith) in
     (ap pos (sym u), omega arith)
-index_there (negsuc n) a b h e = absurd (omega (arith, intRules))
+index_there (negsuc n) a b h e = absurd (omega (arith, int_rules))
 
 -- ---- on a table
 

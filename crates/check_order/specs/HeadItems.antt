@@ -8,7 +8,7 @@ use Rattle.std.specs.Int.Signed.{lt_z}
 use Rattle.lists.specs.Bools.{passed, failed, is_true, to_false}
 use Rattle.lists.specs.Filter.{keep}
 use Rattle.lists.specs.Firsts.{firsts}
-use Rattle.integers.specs.Parts.{intRules}
+use Rattle.integers.specs.Parts.{int_rules}
 use Rattle.table.specs.Words.{Words}
 use Rattle.table.specs.Items.{Item}
 use Rattle.pieces.specs.Pieces.{items, rate_of}
@@ -41,10 +41,10 @@ abbrev below : Item → Item → Bool
 below a = items.before a
 
 lower : (a b c : ℤ) → T (lt_z b a) → T (lt_z c b) → T (lt_z c a)
-lower a b c t u = omega (arith, intRules)
+lower a b c t u = omega (arith, int_rules)
 
 lower_still : (a b c : ℤ) → T (not (lt_z b a)) → T (lt_z c a) → T (lt_z c b)
-lower_still a b c t u = omega (arith, intRules)
+lower_still a b c t u = omega (arith, int_rules)
 
 module _ (w : Words) where
   -- behind slot p: the firsts of a lower rate

@@ -11,7 +11,7 @@ use Prim.Native.Nat.{ℕ, zero, suc, ◌+◌, ◌-◌, ◌≤◌, ◌<◌}
 use Rattle.std.proofs.Math.Dec.{T_prop}
 use Rattle.std.specs.Int.Signed.{lt_z}
 use Rattle.lists.specs.Members.{pairs_cons}
-use Rattle.integers.specs.Parts.{intRules}
+use Rattle.integers.specs.Parts.{int_rules}
 use Rattle.offers.specs.Offers.{offer_in_range}
 use Rattle.trees.specs.Order.{Falling}
 use Rattle.table.specs.Words.{Words}
@@ -85,7 +85,7 @@ chain_falling key (IsChain.singleton a) = pairs_cons (λ x y. T_prop (lt_z (key 
 chain_falling {A} key (IsChain.cons-cons {a} {b} {l} h c) = go (chain_falling key c)
   where
     below : (k l m : ℤ) → T (lt_z l k) → T (lt_z m l) → T (lt_z m k)
-    below k l m s t = omega (arith, intRules)
+    below k l m s t = omega (arith, int_rules)
 
     go : Falling key (b ∷ l) → Falling key (a ∷ b ∷ l)
     go f =
@@ -115,7 +115,7 @@ module _ (key : Item → ℤ) {w : Words} {f : ℕ} (xs : List ℕ) (a b : ℕ) 
 
 -- no two of them are the same
 pub falling_differ : {A : Type 0} (key : A → ℤ) {a b : A} → T (lt_z (key b) (key a)) → a ≢ b
-falling_differ key {a} {b} t e = let q : key a ≡ key b = ap key e in omega (arith, intRules)
+falling_differ key {a} {b} t e = let q : key a ≡ key b = ap key e in omega (arith, int_rules)
 
 -- two items that are in one slot are one
 pub placed_one : {w : Words} {a b : Item} → Placed w a → Placed w b → a.slot ≡ b.slot → a ≡ b

@@ -7,7 +7,7 @@ use mathlib.Core.List.{◌++◌, Memᴰ}
 use Rattle.std.proofs.Math.Option.{none, some}
 use Rattle.std.specs.Int.Signed.{le_z, lt_z}
 use Rattle.lists.specs.Bools.{same_test}
-use Rattle.integers.specs.Parts.{intRules, add_parts}
+use Rattle.integers.specs.Parts.{int_rules, add_parts}
 use Rattle.offers.specs.Offers.{offer_in_range}
 use Rattle.offers.specs.Sizes.{rate_of_lem}
 use Rattle.trees.specs.Tree.{Tree, leaf, node, leaves, last}
@@ -57,12 +57,12 @@ same_cut true rate a h = go (lt_z rate (pos 1_000_000)) (λ t. t) (λ t. t)
 
     go : (b : Bool) → (T b → T (lt_z rate (pos 1_000_000))) → (T (not b) → T (not (lt_z rate (pos 1_000_000)))) →
         le_z (cond b (rate +ℤ pos 1) (pos 1_000_000)) r ≡ lt_z rate r
-    go true f g = same_test (le_z (rate +ℤ pos 1) r) (lt_z rate r) (λ t. omega (arith, intRules, add_parts rate (pos 1)))
-        (λ t. omega (arith, intRules, add_parts rate (pos 1)))
+    go true f g = same_test (le_z (rate +ℤ pos 1) r) (lt_z rate r) (λ t. omega (arith, int_rules, add_parts rate (pos 1)))
+        (λ t. omega (arith, int_rules, add_parts rate (pos 1)))
     go false f g =
         let over = g tt in
         let k = rate_of_lem a.offer h in
-        same_test (le_z (pos 1_000_000) r) (lt_z rate r) (λ t. let z : ⊥ = omega (arith, intRules) in absurd z) (λ t. let z : ⊥ = omega (arith, intRules) in
+        same_test (le_z (pos 1_000_000) r) (lt_z rate r) (λ t. let z : ⊥ = omega (arith, int_rules) in absurd z) (λ t. let z : ⊥ = omega (arith, int_rules) in
         absurd z)
 
 -- ---- the parts of a cut stand

@@ -4,7 +4,7 @@ use Rattle.std.proofs.Common.{sym, ◌∙◌, ap, subst, arith}
 use mathlib.Core.List.{Memᴰ}
 use Rattle.std.proofs.Math.Option.{none, some}
 use Rattle.std.specs.Int.Signed.{le_z, lt_z}
-use Rattle.integers.specs.Parts.{intRules}
+use Rattle.integers.specs.Parts.{int_rules}
 use Rattle.trees.specs.Tree.{Tree, first}
 use Rattle.trees.specs.Leaves.{first_leaf}
 use Rattle.trees.specs.Operations.{Part, part_leaves, split, split_p}
@@ -90,7 +90,7 @@ module _ {v x : ℕ} where
       behind none st high a m = elim m [ ]
       behind (some t) st high a m =
           let k : T (le_z (rate_of a) (cell w rate_field v)) = rw (at_first t st) (high t refl a m) in
-          omega (arith, intRules)
+          omega (arith, int_rules)
 
   pub before_cut : {rate : ℤ} {w w' : Words} {front back : ℕ} → rate ≡ cell w rate_field v → CutAt true rate x w w' front back → CutBefore v x w w' front back
   before_cut {w} {w'} {front} {back} e cut =

@@ -8,7 +8,7 @@ use mathlib.Core.List.{List, ◌++◌, Memᴰ}
 use Rattle.std.proofs.Math.Dec.{T}
 use Rattle.std.specs.Int.Signed.{le_z, lt_z}
 use Rattle.lists.specs.Bools.{cond_both}
-use Rattle.integers.specs.Parts.{intRules}
+use Rattle.integers.specs.Parts.{int_rules}
 use Rattle.trees.specs.Tree.{Tree, leaf, node, leaves, last}
 use Rattle.trees.specs.Leaves.{last_leaf}
 use Rattle.trees.specs.Order.{Falling, parted, last_lowest}
@@ -40,14 +40,14 @@ module _ {A : Type 0} (key : A → ℤ) (k : ℤ) where
   Following xs (some b) = Follows xs b
 
   not_both : (z : ℤ) → T (le_z k z) → T (lt_z z k) → ⊥
-  not_both z t u = omega (arith, intRules)
+  not_both z t u = omega (arith, int_rules)
 
   one_below : (x : A) → T (not (le_z k (key x))) → Follows (leaves (leaf x)) x
   one_below x t =
       record {
         inside = Memᴰ.head refl;
-        less = omega (arith, intRules);
-        greatest = λ a m u. subst (λ (y : A). T (le_z (key y) (key x))) (sym (Memᴰ.eq_of_singleton m)) (omega (arith, intRules));
+        less = omega (arith, int_rules);
+        greatest = λ a m u. subst (λ (y : A). T (le_z (key y) (key x))) (sym (Memᴰ.eq_of_singleton m)) (omega (arith, int_rules));
       }
 
   pub below_follows : (t : Tree A) → Falling key (leaves t) → Following (leaves t) (below key k t)
@@ -59,7 +59,7 @@ module _ {A : Type 0} (key : A → ℤ) (k : ℤ) where
       (λ t. on_left t (below key k l) (below_follows l (parted (leaves l) p).left))
     where
       high : T (le_z k (key (last l))) → (a : A) → Memᴰ a (leaves l) → T (le_z k (key a))
-      high t a m = let u = last_lowest key l (parted (leaves l) p).left m in omega (arith, intRules)
+      high t a m = let u = last_lowest key l (parted (leaves l) p).left m in omega (arith, int_rules)
 
       on_right : T (le_z k (key (last l))) → (o : Option A) → Following (leaves r) o → Following (leaves l ++ leaves r) o
       on_right t none g = λ a m. ⊎_elim (high t a) (g a) (Memᴰ.append_cases (leaves l) m)
@@ -74,7 +74,7 @@ module _ {A : Type 0} (key : A → ℤ) (k : ℤ) where
       on_left t none g = absurd (off (g (last l) (last_leaf l)))
         where
           off : T (le_z k (key (last l))) → ⊥
-          off u = omega (arith, intRules)
+          off u = omega (arith, int_rules)
       on_left t (some b) g =
           record {
             inside = Memᴰ.append_left (leaves r) g.inside;
@@ -85,8 +85,8 @@ module _ {A : Type 0} (key : A → ℤ) (k : ℤ) where
           lower : (a : A) → Memᴰ a (leaves r) → T (le_z (key a) (key b))
           lower a j =
               let x = (parted (leaves l) p).across (last_leaf l) j in
-              let y = g.greatest (last l) (last_leaf l) (omega (arith, intRules)) in
-              omega (arith, intRules)
+              let y = g.greatest (last l) (last_leaf l) (omega (arith, int_rules)) in
+              omega (arith, int_rules)
 
 -- ---- the words
 

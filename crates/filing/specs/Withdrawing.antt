@@ -14,7 +14,7 @@ use Rattle.lists.specs.Firsts.{firsts_sub}
 use Rattle.lists.specs.Members.{decide_true, pairs_cons}
 use Rattle.lists.specs.Places.{sublist_mem}
 use Rattle.integers.specs.Equal.{equal}
-use Rattle.integers.specs.Parts.{intRules, equal_eq, unequal}
+use Rattle.integers.specs.Parts.{int_rules, equal_eq, unequal}
 use Rattle.offers.specs.Offers.{Offer}
 use Rattle.offers.specs.Order.{Ahead, compare_offers}
 use Rattle.trees.specs.Operations.{Part, part_leaves}
@@ -240,7 +240,7 @@ module _
           ]
         where
           number_of_it : z ≡ a → T (equal (number_of z) number)
-          number_of_it e = let q : number_of z ≡ number = ap number_of e ∙ live.number_is in omega (arith, intRules)
+          number_of_it e = let q : number_of z ≡ number = ap number_of e ∙ live.number_is in omega (arith, int_rules)
 
       apart : (x : Offer) → Memᴰ x (map offer_of rest) → Ahead a.offer x ⊎ Ahead x a.offer
       apart x i =

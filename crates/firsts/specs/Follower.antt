@@ -3,7 +3,7 @@ use Rattle.std.proofs.Common.{arith, sym, ◌∙◌, ap, ⊎_elim}
 use Rattle.std.specs.Prelude.{◌≡◌, ◌⊎◌, ◌≢◌, T, ℤ}
 use mathlib.Core.List.{List, Memᴰ}
 use Rattle.std.specs.Int.Signed.{le_z}
-use Rattle.integers.specs.Parts.{intRules}
+use Rattle.integers.specs.Parts.{int_rules}
 use Rattle.offers.specs.Offers.{Offer}
 use Rattle.offers.specs.Order.{Ahead, rate_falls}
 use Rattle.plain.specs.FirstLaws.{FirstOf}
@@ -30,10 +30,10 @@ module _ (A : Type 0) (of : A → Offer) where
         d (between (rate_falls n.behind) (⊎_elim (λ (e : x ≡ b). same_rate e) (λ k. rate_falls k) (n.next x m (of_its_rate x m (sym r)))) r)
       where
         same_rate : x ≡ b → T (le_z (of x).rate (of b).rate)
-        same_rate e = let q : (of x).rate ≡ (of b).rate = ap (λ y. (of y).rate) e in omega (arith, intRules)
+        same_rate e = let q : (of x).rate ≡ (of b).rate = ap (λ y. (of y).rate) e in omega (arith, int_rules)
 
         between : {p q s : ℤ} → T (le_z q p) → T (le_z s q) → p ≡ s → p ≡ q
-        between t u e = omega (arith, intRules)
+        between t u e = omega (arith, int_rules)
 
     pub follower_none : ((x : A) → Memᴰ x os' → ¬ Ahead (of a) (of x)) → (x : A) → Memᴰ x os' → (of a).rate ≢ (of x).rate
     follower_none n x m r = n x m (of_its_rate x m (sym r))

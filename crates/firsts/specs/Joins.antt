@@ -5,7 +5,7 @@ use mathlib.Core.List.Memᴰ
 use mathlib.Core.List.{List, Memᴰ}
 use Rattle.std.proofs.Math.Option.{some}
 use Rattle.lists.specs.Firsts.{firsts}
-use Rattle.integers.specs.Parts.{intRules}
+use Rattle.integers.specs.Parts.{int_rules}
 use Rattle.offers.specs.Offers.{Offer}
 use Rattle.offers.specs.Order.{Ahead, ahead_asym, ahead_trans}
 use Rattle.plain.specs.FirstLaws.{by_rate, laws, Standing, other, standing_decide, FirstOf, firsts_ordered, one_of_rate}
@@ -21,7 +21,7 @@ module _ (A : Type 0) (of : A → Offer) where
   -- ---- lines of one rate have one place
 
   pub same_place : (a b : A) → (of a).rate ≡ (of b).rate → SamePlace (by_rate A of) a b
-  same_place a b e = record { ahead = λ x t. omega (arith, intRules); behind = λ x t. omega (arith, intRules) }
+  same_place a b e = record { ahead = λ x t. omega (arith, int_rules); behind = λ x t. omega (arith, int_rules) }
 
   -- b is first where f was, and the others stay
   first_instead : (os : List A) {os' : List A} {f b : A} → Standing A of os' → Memᴰ f (firsts_of os) → (of f).rate ≡ (of b).rate → FirstOf A of os' b →

@@ -2,7 +2,7 @@
 use Rattle.std.proofs.Common.{subst, arith}
 use Rattle.std.specs.Prelude.{Bool, List, T, ℤ}
 use Rattle.std.specs.Int.Signed.{le_z, lt_z}
-use Rattle.integers.specs.Parts.{intRules}
+use Rattle.integers.specs.Parts.{int_rules}
 use Rattle.offers.specs.Offers.{price_at}
 use Rattle.lines.specs.Lines.{whole, whole_price}
 use Rattle.trees.specs.Tree.{Tree}
@@ -31,4 +31,4 @@ seeks_at q t E = let f = lookup_last t E q in record { one_of = f.one_of; least 
 pub limit_at : (q p : ℤ) → Limit items (whole q) (cheap_at q p)
 limit_at q p a b t s =
     let h : T (le_z (price_at a.offer q) (price_at b.offer q)) = subst T (whole_price Item rate_of base_of a b q) t in
-    omega (arith, intRules)
+    omega (arith, int_rules)

@@ -9,7 +9,7 @@ use Rattle.std.proofs.Math.Option.{none, some}
 use Rattle.std.proofs.Math.Dec.{T, T_prop}
 use Rattle.std.specs.Int.Signed.{le_z, lt_z}
 use Rattle.lists.specs.Members.{pairs_cons, Among}
-use Rattle.integers.specs.Parts.{intRules, ne_parts}
+use Rattle.integers.specs.Parts.{int_rules, ne_parts}
 use Rattle.trees.specs.Tree.{Avl}
 use Rattle.trees.specs.Operations.{Part, part_leaves, split_p, add_p}
 use Rattle.trees.specs.Order.{Falling, falling_turning}
@@ -83,13 +83,13 @@ module _ {tree field s root : ℕ} {w : Words} {key : Item → ℤ} {a : Item} {
   unfolding front
   above c m =
       let t : T (le_z (key a) (key c)) = clean.passing c m in
-      omega (arith, intRules, ne_parts (key c) (key a) (h.new c (live_parts c (Memᴰ.append_left back m))))
+      omega (arith, int_rules, ne_parts (key c) (key a) (h.new c (live_parts c (Memᴰ.append_left back m))))
 
   below : (c : Item) → Memᴰ c back → T (lt_z (key c) (key a))
   unfolding back
   below c m =
       let t = clean.failing c m in
-      omega (arith, intRules)
+      omega (arith, int_rules)
 
   falls : Falling key (front ++ (a ∷ back))
   falls = falling_between key a front back (rw order n.index_in.falling) above below

@@ -4,7 +4,7 @@ use Rattle.std.specs.Prelude.{◌≡◌, ◌≢◌, ◌⊎◌, ℕ, ◌≤◌, T
 use mathlib.Core.List.{List, ◌∷◌, Memᴰ}
 use Rattle.std.proofs.Common.{arith}
 use Rattle.std.specs.Int.Signed.{lt_z}
-use Rattle.integers.specs.Parts.{intRules, range_parts}
+use Rattle.integers.specs.Parts.{int_rules, range_parts}
 use Rattle.offers.specs.Sizes.{number_of_lem}
 use Rattle.offers.specs.Ranks.{most_rank, rank_small}
 use Rattle.trees.specs.Operations.{Part}
@@ -32,7 +32,7 @@ by_number =
     record {
       kind = omega arith;
       low = omega arith;
-      small = λ {w} {a} h. let k = range_parts (pos 1) (number_of a) (pos 9_999) (number_of_lem a.offer h.ranged) in omega (arith, intRules);
+      small = λ {w} {a} h. let k = range_parts (pos 1) (number_of a) (pos 9_999) (number_of_lem a.offer h.ranged) in omega (arith, int_rules);
     }
 
 pub by_rank : Index order_tree rank_field rank_of

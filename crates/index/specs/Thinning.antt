@@ -8,7 +8,7 @@ use mathlib.Core.List.{Sublistᴰ}
 use Rattle.std.proofs.Math.Option.{none, some}
 use Rattle.std.specs.Int.Signed.{le_z}
 use Rattle.lists.specs.Places.{sublist_mem}
-use Rattle.integers.specs.Parts.{intRules, add_parts}
+use Rattle.integers.specs.Parts.{int_rules, add_parts}
 use Rattle.trees.specs.Tree.{Tree, leaf, node, height, leaves, last, Avl, avl_node}
 use Rattle.trees.specs.Leaves.{leaves_join_p, last_leaf}
 use Rattle.trees.specs.Operations.{Part, part_leaves, part_height, join_p}
@@ -143,7 +143,7 @@ module _ {tree field x limit g l r y z : ℕ} {b : Bool} {w w₁ w₂ : Words} (
           behind f a d i =
               let low = last_lowest key s (parted (leaves s) f).left i in
               let z = passes in
-              omega (arith, intRules, add_parts (key a) (pos 1))
+              omega (arith, int_rules, add_parts (key a) (pos 1))
 
           there : Falling key (leaves s ++ leaves t) → (a : Item) → key a +ℤ pos 1 ≡ least → Memᴰ a (leaves s ++ leaves t) →
               Memᴰ a (leaves t)
@@ -209,7 +209,7 @@ module _ {tree field x limit g l r y z : ℕ} {b : Bool} {w w₁ w₂ : Words} (
           before f a d i =
               let low = (parted (leaves s) f).across (last_leaf s) i in
               let z = fails in
-              omega (arith, intRules, add_parts (key a) (pos 1))
+              omega (arith, int_rules, add_parts (key a) (pos 1))
 
           there : Falling key (leaves s ++ leaves t) → (a : Item) → key a +ℤ pos 1 ≡ least → Memᴰ a (leaves s ++ leaves t) →
               Memᴰ a (leaves s)

@@ -7,7 +7,7 @@ use mathlib.Core.List.{List, ◌++◌, Memᴰ}
 use Rattle.std.proofs.Math.Option.{none, some}
 use Rattle.std.specs.Int.Signed.{lt_z}
 use Rattle.lists.specs.Members.{Among}
-use Rattle.integers.specs.Parts.{intRules}
+use Rattle.integers.specs.Parts.{int_rules}
 use Rattle.trees.specs.Operations.{Part, part_leaves, part_height, join_p}
 use Rattle.trees.specs.Balanced.{AvlP}
 use Rattle.trees.specs.Order.{Falling}
@@ -46,7 +46,7 @@ falling_slots {w} {c} {field} {key} {xs} f s h p =
     record { low = λ {a} m. s.low (f a m); high = λ {a} m. s.high (f a m); apart = Pairwise.imp_of_mem apart p }
   where
     differ : {k l : ℤ} → T (lt_z l k) → k ≡ l → ⊥
-    differ t e = omega (arith, intRules)
+    differ t e = omega (arith, int_rules)
 
     apart : (a b : Item) → ∥ Memᴰ a xs ∥₁ → ∥ Memᴰ b xs ∥₁ → T (lt_z (key b) (key a)) → Apart a b
     apart a b m n t e = ∥∥₁_elim m (λ p q. absurd p) (λ i. ∥∥₁_elim n (λ p q. absurd p)

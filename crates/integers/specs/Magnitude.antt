@@ -5,7 +5,7 @@ use Rattle.std.proofs.Common.{true≢false, mul-le-mul, arith, Fits, SFits}
 use Rattle.std.specs.Int.Signed.{le_z, lt_z, non_neg}
 use Rattle.std.specs.Int.{w64}
 use Rattle.lists.specs.Bools.{and_both}
-use Rattle.integers.specs.Parts.{pos_part, neg_part, intRules, nat_abs_parts, mag_nat_abs, add_parts, sub_parts, within_parts}
+use Rattle.integers.specs.Parts.{pos_part, neg_part, int_rules, nat_abs_parts, mag_nat_abs, add_parts, sub_parts, within_parts}
 use Rattle.integers.specs.Ring.{Ex, var, nat, neg, ◌:+◌, ◌:-◌, ◌:*◌, ⟦◌⟧}
 
 abbrev pub size_of : Ex → ℕ
@@ -65,7 +65,7 @@ pub within_nat_abs : (m : ℕ) (z : ℤ) → T (le_z (negsuc m) z && le_z z (pos
 within_nat_abs m z t = omega (arith, within_parts m z t, nat_abs_parts z)
 
 pub nat_abs_within : (m : ℕ) (z : ℤ) → nat_abs z ≤ suc m → T (le_z (negsuc m) z && le_z z (pos (suc m)))
-nat_abs_within m z h = and_both (le_z (negsuc m) z) (le_z z (pos (suc m))) (omega (arith, intRules, nat_abs_parts z)) (omega (arith, intRules, nat_abs_parts z))
+nat_abs_within m z h = and_both (le_z (negsuc m) z) (le_z z (pos (suc m))) (omega (arith, int_rules, nat_abs_parts z)) (omega (arith, int_rules, nat_abs_parts z))
 
 -- where it is not negative, a number is its magnitude
 pub nat_abs_is : (z : ℤ) → T (le_z (pos 0) z) → pos (nat_abs z) ≡ z
@@ -80,7 +80,7 @@ nat_abs_fits (negsuc n) f e = absurd (true≢false e)
 -- ---- one more than what is below some most
 
 one_more : {most : ℕ} (z : ℤ) → SFits w64 z → lt_z z (pos most) ≡ true → most < 2 ^ 63 → nat_abs (z +ℤ pos 1) < 2 ^ 63
-one_more (pos n) f t h = omega (arith, intRules, nat_abs_gap (pos n +ℤ pos 1) (n + 1) 0 (omega (arith, add_parts (pos n) (pos 1))))
+one_more (pos n) f t h = omega (arith, int_rules, nat_abs_gap (pos n +ℤ pos 1) (n + 1) 0 (omega (arith, add_parts (pos n) (pos 1))))
 one_more (negsuc n) f t h = omega (arith, f.sfits, nat_abs_gap (negsuc n +ℤ pos 1) 1 (suc n) (omega (arith, add_parts (negsuc n) (pos 1))))
 
 pub more_fits : {most : ℕ} (z : ℤ) → SFits w64 z → lt_z z (pos most) ≡ true → most < 2 ^ 63 → SFits w64 (z +ℤ pos 1)

@@ -1,5 +1,5 @@
 -- Linear reasoning on ℤ. Each integer has a positive and a negative part in ℕ, one of them 0, and every order or equation of integers is
--- one of their parts. `omega (arith, intRules)` so proves linear facts with integers as its unknowns, from and to `T (le_z a b)`,
+-- one of their parts. `omega (arith, int_rules)` so proves linear facts with integers as its unknowns, from and to `T (le_z a b)`,
 -- `T (not (le_z a b))`, `le_z a b ≡ true`, `le_z a b ≡ false`, the same of `lt_z`, `a ≤ℤ b`, `a <ℤ b`, `a ≡ b` and
 -- `T (le_z a b && le_z b a)`, and to `¬ T (le_z a b)` and `a ≢ b`.
 -- By hand go into its list: `no-le-parts a b h` for `h : ¬ T (le_z a b)`, `ne-parts a b h` for `h : a ≢ b`, `range-parts l z h t` for a range, and
@@ -229,7 +229,7 @@ unequal_parts a b t e = T_not (le_z a b && le_z b a) t (parts_equal a b e)
 pub parts_unequal : (a b : ℤ) → pos_part a + neg_part b ≢ pos_part b + neg_part a → T (not (le_z a b && le_z b a))
 parts_unequal a b f = not_T (le_z a b && le_z b a) (λ t. f (equal_parts a b t))
 
-pub ruleset intRules = (
+pub ruleset int_rules = (
   le_parts,
   parts_le,
   lt_parts,
@@ -276,24 +276,24 @@ le_or_lt a b = go (either (le_z a b))
   where
     go : T (le_z a b) ⊎ T (not (le_z a b)) → T (le_z a b) ⊎ T (lt_z b a)
     go (inl t) = inl t
-    go (inr t) = inr (omega (arith, intRules))
+    go (inr t) = inr (omega (arith, int_rules))
 
 -- a difference is above 0
 pub gap_above : (a b : ℤ) → T (lt_z b a) → T (lt_z (pos 0) (a -ℤ b))
-gap_above a b h = omega (arith, intRules, sub_parts a b)
+gap_above a b h = omega (arith, int_rules, sub_parts a b)
 
 pub le_total : (a b : ℤ) → T (le_z a b) ⊎ T (le_z b a)
 le_total a b = go (le_or_lt a b)
   where
     go : T (le_z a b) ⊎ T (lt_z b a) → T (le_z a b) ⊎ T (le_z b a)
     go (inl t) = inl t
-    go (inr t) = inr (omega (arith, intRules))
+    go (inr t) = inr (omega (arith, int_rules))
 
 pub trichotomy : (a b : ℤ) → T (lt_z a b) ⊎ ((a ≡ b) ⊎ T (lt_z b a))
 trichotomy a b = go (le_or_lt a b) (le_or_lt b a)
   where
     go : T (le_z a b) ⊎ T (lt_z b a) → T (le_z b a) ⊎ T (lt_z a b) → T (lt_z a b) ⊎ ((a ≡ b) ⊎ T (lt_z b a))
-    go (inl s) (inl t) = inr (inl (omega (arith, intRules)))
+    go (inl s) (inl t) = inr (inl (omega (arith, int_rules)))
     go (inl s) (inr t) = inl t
     go (inr s) t = inr (inr s)
 
@@ -303,34 +303,34 @@ not_le_is_lt a b = (λ f. parts_lt b a (no_le_parts a b f), λ t. parts_no_le a 
 -- ---- one line each
 
 trans_example : (a b c : ℤ) → T (le_z a b) → T (le_z b c) → T (le_z a c)
-trans_example a b c h k = omega (arith, intRules)
+trans_example a b c h k = omega (arith, int_rules)
 
 mixed_example : (a b c d : ℤ) → lt_z a b ≡ true → a ≡ c → T (not (lt_z d b)) → ¬ T (le_z d c)
-mixed_example a b c d h e k = omega (arith, intRules)
+mixed_example a b c d h e k = omega (arith, int_rules)
 
 antisym_example : (a b : ℤ) → a ≤ℤ b → ¬ T (lt_z a b) → a ≡ b
-antisym_example a b h k = omega (arith, intRules, no_lt_parts a b k)
+antisym_example a b h k = omega (arith, int_rules, no_lt_parts a b k)
 
 sum_example : (a b c : ℤ) → T (le_z a b) → T (lt_z (a +ℤ c) (pos 3)) → c ≡ b → lt_z (a +ℤ a) (pos 3) ≡ true
-sum_example a b c h k e = omega (arith, intRules, add_parts a c, add_parts a a)
+sum_example a b c h k e = omega (arith, int_rules, add_parts a c, add_parts a a)
 
 within_example : (z : ℤ) → T (le_z (negsuc 4) z && le_z z (pos 5)) → T (le_z z (pos 7)) × T (not (lt_z z (negsuc 4)))
-within_example z r = omega (arith, intRules)
+within_example z r = omega (arith, int_rules)
 
 range_example : (z : ℤ) → T (le_z (pos 1) z && le_z z (pos 9)) → T (le_z z (pos 9)) × T (not (lt_z z (pos 0)))
-range_example z r = omega (arith, intRules, range_parts (pos 1) z (pos 9) r)
+range_example z r = omega (arith, int_rules, range_parts (pos 1) z (pos 9) r)
 
 closed_example : (m n : ℕ) → T (le_z (pos m) (neg_ℤ (pos 4))) → m ≡ n
-closed_example m n h = omega (arith, intRules)
+closed_example m n h = omega (arith, int_rules)
 
 ne_example : (a b : ℤ) → T (lt_z a b) → a ≢ b
-ne_example a b h = omega (arith, intRules)
+ne_example a b h = omega (arith, int_rules)
 
 ne2_example : (a b : ℤ) → T (le_z a b) → a ≢ b → T (lt_z a b)
-ne2_example a b h n = omega (arith, intRules, ne_parts _ _ n)
+ne2_example a b h n = omega (arith, int_rules, ne_parts _ _ n)
 
 equal_example : (a b c : ℤ) → T (le_z a b && le_z b a) → T (not (le_z b c && le_z c b)) → a ≢ c
-equal_example a b c h k = omega (arith, intRules)
+equal_example a b c h k = omega (arith, int_rules)
 
 unequal_example : (a b c : ℤ) → T (lt_z a b) → le_z c a ≡ true → T (not (le_z b c && le_z c b))
-unequal_example a b c h k = omega (arith, intRules)
+unequal_example a b c h k = omega (arith, int_rules)

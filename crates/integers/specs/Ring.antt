@@ -2,13 +2,13 @@
 -- omega multiplies those parts out by itself. So
 --   a ring identity is                  `by-eq e f (omega arith)`,
 --   an order of expressions             `by_le e f (omega (arith, from_le c d h, mul-le-mul ..))`, with h : T (le_z ⟦ c ⟧ ⟦ d ⟧),
---   and in a longer linear argument     `omega (arith, intRules, parts e, parts f)` with each compound expression named once.
+--   and in a longer linear argument     `omega (arith, int_rules, parts e, parts f)` with each compound expression named once.
 -- omega takes at most 64 monomials: state a fact with products for few unknowns, `pos n` for what is not negative.
 use Rattle.std.specs.Prelude.{◌≡◌, true, ℕ, suc, ◌+◌, ◌*◌, ◌≤◌, ◌<◌, T, ℤ, pos, neg_ℤ, ◌+ℤ◌, ◌-ℤ◌, ◌*ℤ◌}
 use Rattle.std.proofs.Common.{ap, mul-le-mul_left, mul-le-mul_right, le_of_mul-le-mul_right, lt_of_mul-lt-mul_right, arith}
 use Rattle.std.specs.Int.Signed.{le_z, lt_z}
 use Rattle.lists.specs.Bools.{same_test}
-use Rattle.integers.specs.Parts.{pos_part, neg_part, intRules, neg_p, neg_n, add_parts, sub_parts, mul_p, mul_n, le_parts, lt_parts, parts_le, parts_lt}
+use Rattle.integers.specs.Parts.{pos_part, neg_part, int_rules, neg_p, neg_n, add_parts, sub_parts, mul_p, mul_n, le_parts, lt_parts, parts_le, parts_lt}
 use Rattle.integers.specs.Parts.{eq_parts, parts_eq}
 
 infixl 6 ◌:+◌ ◌:-◌
@@ -96,7 +96,7 @@ pub *ℤ_distrib : (a b c : ℤ) → (a +ℤ b) *ℤ c ≡ a *ℤ c +ℤ b *ℤ 
 
 -- comparisons of equal differences are one test
 pub same_le : (a b c d : ℤ) → b -ℤ a ≡ d -ℤ c → le_z a b ≡ le_z c d
-same_le a b c d e = same_test (le_z a b) (le_z c d) (λ h. omega (arith, intRules, k)) (λ h. omega (arith, intRules, k))
+same_le a b c d e = same_test (le_z a b) (le_z c d) (λ h. omega (arith, int_rules, k)) (λ h. omega (arith, int_rules, k))
   where
     k : (pos_part b + neg_part a) + (neg_part d + pos_part c) ≡ (neg_part b + pos_part a) + (pos_part d + neg_part c)
     k = omega (arith, from_eq (var b :- var a) (var d :- var c) e)
@@ -122,11 +122,11 @@ square_example a b = by_eq ((var a :+ var b) :* (var a :- var b)) (var a :* var 
 
 -- the products are unknowns here
 linear_example : (a b c d : ℤ) → T (le_z (a *ℤ b +ℤ c) d) → T (lt_z (pos 0) c) → T (lt_z (b *ℤ a) d)
-linear_example a b c d h k = by_lt (var b :* var a) (var d) (omega (arith, intRules, from_le (var a :* var b :+ var c) (var d) h))
+linear_example a b c d h k = by_lt (var b :* var a) (var d) (omega (arith, int_rules, from_le (var a :* var b :+ var c) (var d) h))
 
 -- the same with the compound expressions named
 named_example : (a b c d : ℤ) → T (le_z (a *ℤ b +ℤ c) d) → T (lt_z (pos 0) c) → lt_z (b *ℤ a) d ≡ true
-named_example a b c d h k = omega (arith, intRules, parts (var a :* var b :+ var c), parts (var b :* var a))
+named_example a b c d h k = omega (arith, int_rules, parts (var a :* var b :+ var c), parts (var b :* var a))
 
 -- a hypothesis times a factor
 factor_example : (a b : ℤ) (n : ℕ) → T (le_z a b) → T (le_z (a *ℤ pos n -ℤ pos 5) (b *ℤ pos n))

@@ -10,7 +10,7 @@ use Rattle.std.proofs.Math.Dec.{T}
 use Rattle.std.specs.Int.Signed.{le_z, lt_z}
 use Rattle.lists.specs.Bools.{same_test}
 use Rattle.lists.specs.Places.{sublist_mem}
-use Rattle.integers.specs.Parts.{intRules}
+use Rattle.integers.specs.Parts.{int_rules}
 use Rattle.envelopes.specs.Envelope.{Ordered, Env}
 use Rattle.envelopes.specs.EnvelopeLaws.{ordered_sublist, ordered_left, ordered_right, ordered_apart}
 use Rattle.trees.specs.Tree.{Tree, leaf, node, leaves, first, last, mirror, Avl}
@@ -34,7 +34,7 @@ use Rattle.cuts.specs.PieceCuts.{in_front, NoneAbove}
 -- up to u
 pub up_to_test : (u : Item) → (λ (x : Item). not (items.before u x)) ≡ in_front false (rate_of u)
 up_to_test u =
-    fun_ext (λ x. same_test (not (lt_z (rate_of x) (rate_of u))) (le_z (rate_of u) (rate_of x)) (λ t. omega (arith, intRules)) (λ t. omega (arith, intRules)))
+    fun_ext (λ x. same_test (not (lt_z (rate_of x) (rate_of u))) (le_z (rate_of u) (rate_of x)) (λ t. omega (arith, int_rules)) (λ t. omega (arith, int_rules)))
 
 -- in front of v
 pub before_test : (v : Item) → (λ (x : Item). items.before x v) ≡ in_front true (rate_of v)
@@ -97,22 +97,22 @@ module _ (a : Tree Item) (xs : List Item) (u : Item) (ys : List Item) (o : Order
 
 -- the last line of a tree has the lowest rate, the first one the highest
 lowest : (t : Tree Item) → Ordered items (leaves t) → (a : Item) → Memᴰ a (leaves t) → T (le_z (rate_of (last t)) (rate_of a))
-lowest (leaf x) o a m = let e : a ≡ x = Memᴰ.eq_of_singleton m in rw e (omega (arith, intRules))
+lowest (leaf x) o a m = let e : a ≡ x = Memᴰ.eq_of_singleton m in rw e (omega (arith, int_rules))
 lowest (node l r) o a m = ⊎_elim below (lowest r (ordered_right items (leaves l) (leaves r) o) a) (Memᴰ.append_cases (leaves l) m)
   where
     below : Memᴰ a (leaves l) → T (le_z (rate_of (last r)) (rate_of a))
     below k =
         let b : T (lt_z (rate_of (last r)) (rate_of a)) = ordered_apart items (leaves l) (leaves r) o a (last r) k (last_leaf r) in
-        omega (arith, intRules)
+        omega (arith, int_rules)
 
 highest : (t : Tree Item) → Ordered items (leaves t) → (a : Item) → Memᴰ a (leaves t) → T (le_z (rate_of a) (rate_of (first t)))
-highest (leaf x) o a m = let e : a ≡ x = Memᴰ.eq_of_singleton m in rw e (omega (arith, intRules))
+highest (leaf x) o a m = let e : a ≡ x = Memᴰ.eq_of_singleton m in rw e (omega (arith, int_rules))
 highest (node l r) o a m = ⊎_elim (highest l (ordered_left items (leaves l) (leaves r) o) a) above (Memᴰ.append_cases (leaves l) m)
   where
     above : Memᴰ a (leaves r) → T (le_z (rate_of a) (rate_of (first l)))
     above k =
         let b : T (lt_z (rate_of a) (rate_of (first l))) = ordered_apart items (leaves l) (leaves r) o (first l) a (first_leaf l) k in
-        omega (arith, intRules)
+        omega (arith, int_rules)
 
 module _ (l r : OfferTree Item) where
   parts : (p q : Part Item) → Whole items (hold l p) → Whole items (hold r q) → Ordered items (leaves (shape l) ++ leaves (shape r)) →

@@ -6,7 +6,7 @@ use Rattle.std.specs.Prelude.{◌≡◌, pred, ℤ, neg_ℤ, nat_abs, ◌+ℤ◌
 use Rattle.std.proofs.Common.{arith}
 use Rattle.std.specs.Int.Signed.{le_z, lt_z}
 use Rattle.lists.specs.Bools.{same_test}
-use Rattle.integers.specs.Parts.{intRules, neg_parts}
+use Rattle.integers.specs.Parts.{int_rules, neg_parts}
 use Rattle.integers.specs.Ring.{Ex, var, neg, ◌:+◌, ◌:-◌, ◌:*◌, by_eq, same_le}
 use Rattle.offers.specs.Offers.{RationalLoad, denominator}
 use Rattle.envelopes.specs.PseudoLines.{Figure, PseudoLines}
@@ -61,8 +61,8 @@ negated_price b r b' r' d n =
 
 negated_lt : (a b : ℤ) → lt_z (neg_ℤ b) (neg_ℤ a) ≡ lt_z a b
 negated_lt a b =
-    same_test (lt_z (neg_ℤ b) (neg_ℤ a)) (lt_z a b) (λ h. omega (arith, intRules, neg_parts a, neg_parts b))
-    (λ h. omega (arith, intRules, neg_parts a, neg_parts b))
+    same_test (lt_z (neg_ℤ b) (neg_ℤ a)) (lt_z a b) (λ h. omega (arith, int_rules, neg_parts a, neg_parts b))
+    (λ h. omega (arith, int_rules, neg_parts a, neg_parts b))
 
 abbrev pub bid_figure : (A : Type 0) (rate base : A → ℤ) → Figure
 bid_figure A rate base = line_figure A (λ a. neg_ℤ (rate a)) (λ a. neg_ℤ (base a))

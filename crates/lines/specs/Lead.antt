@@ -3,7 +3,7 @@
 use Rattle.std.specs.Prelude.{◌≡◌, ℕ, suc, ◌+◌, ◌*◌, ◌≤◌, ◌<◌, Bool, ◌⊎◌, T, ℤ, pos, negsuc, neg_ℤ, ◌+ℤ◌, ◌-ℤ◌, ◌*ℤ◌}
 use Rattle.std.proofs.Common.{sym, subst, mul-le-mul_left, mul-le-mul_right, le_of_mul-le-mul_right, lt_of_mul-lt-mul_right, arith}
 use Rattle.std.specs.Int.Signed.{le_z, lt_z}
-use Rattle.integers.specs.Parts.{pos_part, neg_part, intRules, parts_lt, no_le_parts, le_total}
+use Rattle.integers.specs.Parts.{pos_part, neg_part, int_rules, parts_lt, no_le_parts, le_total}
 use Rattle.integers.specs.Ring.{Ex, var, nat, neg, ◌:+◌, ◌:-◌, ◌:*◌, by_eq, by_le, by_lt, from_le, from_lt, same_le}
 use Rattle.offers.specs.Offers.{RationalLoad, denominator}
 
@@ -80,7 +80,7 @@ pub rises_strictly : (B R : ℤ) (x y : RationalLoad) → T (lt_z (pos 0) R) →
 rises_strictly B (negsuc r) x y a h k = absurd a
 rises_strictly B (pos r) x y a h k =
     to_strict B r y (core_strict (pos_part B) (neg_part B) r (pos_part x.numerator) (neg_part x.numerator) (pos_part y.numerator) (neg_part y.numerator) (suc x.above) (suc y.above)
-    (omega (arith, intRules)) (order_strict x y h) (from_above B r x k))
+    (omega (arith, int_rules)) (order_strict x y h) (from_above B r x k))
 
 -- the same from right to left: the core with positive and negative parts, and the points, exchanged
 pub falls : (B R : ℤ) (x y : RationalLoad) → T (lt_z (pos 0) R) → T (at_or_left x y) → T (le_z (lead B R y) (pos 0)) → T (le_z (lead B R x) (pos 0))

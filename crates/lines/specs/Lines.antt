@@ -2,7 +2,7 @@
 use Rattle.std.specs.Prelude.{◌≡◌, refl, ◌⊎◌, ◌≢◌, zero, suc, pred, T, ℤ, pos, negsuc, nat_abs, ◌+ℤ◌, ◌-ℤ◌, ◌*ℤ◌}
 use Rattle.std.proofs.Common.{sym, ap, ap₂, subst, inl, inr, arith}
 use Rattle.std.specs.Int.Signed.{le_z, lt_z}
-use Rattle.integers.specs.Parts.{intRules, le_total, trichotomy, gap_above}
+use Rattle.integers.specs.Parts.{int_rules, le_total, trichotomy, gap_above}
 use Rattle.integers.specs.Ring.{Ex, var, nat, ◌:+◌, ◌:-◌, ◌:*◌, by_eq, same_le}
 use Rattle.offers.specs.Offers.{RationalLoad, denominator}
 use Rattle.envelopes.specs.PseudoLines.{Figure, PseudoLines}
@@ -81,15 +81,15 @@ module _ (A : Type 0) (rate base : A → ℤ) where
   line_laws =
       record {
         price_total = λ a b x. le_total (base a *ℤ denominator x +ℤ rate a *ℤ x.numerator) (base b *ℤ denominator x +ℤ rate b *ℤ x.numerator);
-        price_trans = λ a b c x h k. omega (arith, intRules);
+        price_trans = λ a b c x h k. omega (arith, int_rules);
         point_total = order_total;
         point_trans = order_trans;
         somewhere = over (pos 0) 0;
         left_of = λ x. (over (x.numerator -ℤ pos 1) x.above, less_one x);
         right_of = λ x. (over (x.numerator +ℤ pos 1) x.above, plus_one x);
         between = λ x z h. (mediant x z, mediant_right x z h, mediant_left x z h);
-        before_irrefl = λ a h. omega (arith, intRules);
-        before_trans = λ a b c h k. omega (arith, intRules);
+        before_irrefl = λ a h. omega (arith, int_rules);
+        before_trans = λ a b c h k. omega (arith, int_rules);
         rise =
             λ a b x y p h u.
             subst T (sym (leads (base a) (rate a) (base b) (rate b) y))
@@ -99,13 +99,13 @@ module _ (A : Type 0) (rate base : A → ℤ) where
             let s = rises_strictly (base a -ℤ base b) (rate a -ℤ rate b) x y (gap_above (rate a) (rate b) p) l
             (subst T (leads (base a) (rate a) (base b) (rate b) x) h) in
             let t = subst T (trails (base a) (rate a) (base b) (rate b) y) k in
-            omega (arith, intRules);
+            omega (arith, int_rules);
         fall =
             λ a b x y p h u.
             subst T (sym (trails (base a) (rate a) (base b) (rate b) x))
             (falls (base a -ℤ base b) (rate a -ℤ rate b) x y (gap_above (rate a) (rate b) p) u (subst T (trails (base a) (rate a) (base b) (rate b) y) h));
-        cross_le = λ a b p. let e = cross_price a b p in omega (arith, intRules);
-        cross_ge = λ a b p. let e = cross_price a b p in omega (arith, intRules);
+        cross_le = λ a b p. let e = cross_price a b p in omega (arith, int_rules);
+        cross_ge = λ a b p. let e = cross_price a b p in omega (arith, int_rules);
       }
 
   -- lines of different rates are in order

@@ -5,7 +5,7 @@ use Rattle.std.specs.Int.Signed.{le_z}
 use Rattle.std.specs.Float.{fin}
 use Rattle.std.specs.Float.Ieee.{div, of_int}
 use Rattle.lists.specs.Bools.{and_both}
-use Rattle.integers.specs.Parts.{intRules, nat_abs_parts, gap_above}
+use Rattle.integers.specs.Parts.{int_rules, nat_abs_parts, gap_above}
 use Rattle.integers.specs.Magnitude.{nat_abs_within}
 use Rattle.offers.specs.Offers.{Offer, offer_in_range, precedes, between, crossing_numerator, crossing_denominator}
 use Rattle.offers.specs.Sizes.{rate_of_lem, base_of_lem, numerator_in_range, denominator_in_range, numerator_size, denominator_size, base_gap_in_range}
@@ -31,7 +31,7 @@ module _ (own next : Offer) (ho : T (offer_in_range own)) (hn : T (offer_in_rang
       let b = denominator_size d denominator_range in
       let k = nat_abs_parts d in
       and_both (exact n) (between (pos 1) (pos (2 ^ 53)) d) (nat_abs_within 9_007_199_254_740_991 n h)
-      (and_both (le_z (pos 1) d) (le_z d (pos (2 ^ 53))) (omega (arith, intRules)) (omega (arith, intRules)))
+      (and_both (le_z (pos 1) d) (le_z d (pos (2 ^ 53))) (omega (arith, int_rules)) (omega (arith, int_rules)))
 
   pub load_divisible : T (divisible (crossing_numerator own next) (crossing_denominator own next))
   load_divisible = over_denominator (crossing_numerator own next) (omega (arith, numerator_size (crossing_numerator own next) numerator_range))

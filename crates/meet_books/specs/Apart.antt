@@ -11,7 +11,7 @@ use Rattle.lists.specs.Firsts.{firsts_sub}
 use Rattle.lists.specs.Places.{sublist_mem}
 use Rattle.lists.specs.Tests.{any, not_any, none_at}
 use Rattle.lists.specs.Bools.{not_failed, twice}
-use Rattle.integers.specs.Parts.{intRules}
+use Rattle.integers.specs.Parts.{int_rules}
 use Rattle.offers.specs.Offers.{Offer, precedes}
 use Rattle.envelopes.specs.Envelope.{Ordered}
 use Rattle.envelopes.specs.EnvelopeLaws.{ordered_left, ordered_apart, ordered_pairs}
@@ -56,9 +56,9 @@ ends_decide s t o p h a b m n = go (up_to_last s (ordered_pairs o) m) (from_firs
   where
     go : (a ≡ last s) ⊎ T (items.before a (last s)) → (b ≡ first t) ⊎ T (items.before (first t) b) → T (items.before a b)
     go (inl d) (inl e) = subst (λ (x : Item). T (items.before x b)) (sym d) (subst (λ (x : Item). T (items.before (last s) x)) (sym e) h)
-    go (inl d) (inr q) = subst (λ (x : Item). T (items.before x b)) (sym d) (omega (arith, intRules))
-    go (inr k) (inl e) = subst (λ (x : Item). T (items.before a x)) (sym e) (omega (arith, intRules))
-    go (inr k) (inr q) = omega (arith, intRules)
+    go (inl d) (inr q) = subst (λ (x : Item). T (items.before x b)) (sym d) (omega (arith, int_rules))
+    go (inr k) (inl e) = subst (λ (x : Item). T (items.before a x)) (sym e) (omega (arith, int_rules))
+    go (inr k) (inr q) = omega (arith, int_rules)
 
 -- ---- the live offers
 
@@ -90,7 +90,7 @@ offers_above b b' h o p m n =
     let (x, i, d) = line_of_rate b m in
     let (y, j, e) = line_of_rate b' n in
     let k = h x y i j in
-    omega (arith, intRules)
+    omega (arith, int_rules)
 
 -- ---- the first offers of both books
 

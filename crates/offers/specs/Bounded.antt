@@ -2,7 +2,7 @@
 use Rattle.std.proofs.Common.{arith}
 use Rattle.std.specs.Prelude.{◌≡◌, refl, Bool, true, false, cond, T, ℤ, pos}
 use Rattle.std.specs.Int.Signed.{le_z, lt_z}
-use Rattle.integers.specs.Parts.{intRules}
+use Rattle.integers.specs.Parts.{int_rules}
 use Rattle.offers.specs.Offers.{between}
 
 unfoldable pub bounded : ℤ → ℤ → ℤ → ℤ
@@ -27,18 +27,18 @@ bounded_ranged low high z t = go (between low high z) (λ h. h)
 -- by the code's two tests
 pub bounded_below : (low high z : ℤ) → lt_z z low ≡ true → pos 0 ≡ bounded low high z
 unfolding bounded
-bounded_below low high z t = let e : le_z low z ≡ false = omega (arith, intRules) in rw e
+bounded_below low high z t = let e : le_z low z ≡ false = omega (arith, int_rules) in rw e
 
 pub bounded_over : (low high z : ℤ) → lt_z z low ≡ false → lt_z high z ≡ true → pos 0 ≡ bounded low high z
 unfolding bounded
 bounded_over low high z f t =
-    let d : le_z low z ≡ true = omega (arith, intRules) in
-    let e : le_z z high ≡ false = omega (arith, intRules) in
+    let d : le_z low z ≡ true = omega (arith, int_rules) in
+    let e : le_z z high ≡ false = omega (arith, int_rules) in
     rw (d, e)
 
 pub bounded_inside : (low high z : ℤ) → lt_z z low ≡ false → lt_z high z ≡ false → z ≡ bounded low high z
 unfolding bounded
 bounded_inside low high z f g =
-    let d : le_z low z ≡ true = omega (arith, intRules) in
-    let e : le_z z high ≡ true = omega (arith, intRules) in
+    let d : le_z low z ≡ true = omega (arith, int_rules) in
+    let e : le_z z high ≡ true = omega (arith, int_rules) in
     rw (d, e)

@@ -3,7 +3,7 @@ use Rattle.std.proofs.Common.{arith, sym, ◌∙◌, ap, subst, inl, inr, ⊎_el
 use Rattle.std.specs.Prelude.{◌≡◌, refl, ◌⊎◌, ◌≢◌, Bool, true, false, not, ◌&&◌, ◌||◌, T, ℤ}
 use Rattle.std.specs.Int.Signed.{le_z, lt_z}
 use Rattle.integers.specs.Equal.{equal}
-use Rattle.integers.specs.Parts.{intRules, trichotomy, equal_eq}
+use Rattle.integers.specs.Parts.{int_rules, trichotomy, equal_eq}
 use Rattle.offers.specs.Offers.{Offer, ahead, precedes}
 
 pub data Ahead (a b : Offer) : Type 0 where
@@ -42,38 +42,38 @@ ahead_meant a b (by_rate_lem t) =
     (equal a.rate b.rate && (lt_z a.base b.base || equal a.base b.base && lt_z a.number b.number)) t
 ahead_meant a b (by_base e t) =
     lexical_later (precedes a b) (equal a.rate b.rate) (lt_z a.base b.base || equal a.base b.base && lt_z a.number b.number)
-    (omega (arith, intRules)) (lexical_rate (lt_z a.base b.base) (equal a.base b.base && lt_z a.number b.number) t)
+    (omega (arith, int_rules)) (lexical_rate (lt_z a.base b.base) (equal a.base b.base && lt_z a.number b.number) t)
 ahead_meant a b (by_number e d t) =
     lexical_later (precedes a b) (equal a.rate b.rate) (lt_z a.base b.base || equal a.base b.base && lt_z a.number b.number)
-    (omega (arith, intRules)) (lexical_later (lt_z a.base b.base) (equal a.base b.base) (lt_z a.number b.number) (omega (arith, intRules)) t)
+    (omega (arith, int_rules)) (lexical_later (lt_z a.base b.base) (equal a.base b.base) (lt_z a.number b.number) (omega (arith, int_rules)) t)
 
 -- ---- an order
 
 pub ahead_asym : {a b : Offer} → Ahead a b → Ahead b a → ⊥
-ahead_asym (by_rate_lem t) (by_rate_lem u) = omega (arith, intRules)
-ahead_asym (by_rate_lem t) (by_base e u) = omega (arith, intRules)
-ahead_asym (by_rate_lem t) (by_number e d u) = omega (arith, intRules)
-ahead_asym (by_base e t) (by_rate_lem u) = omega (arith, intRules)
-ahead_asym (by_base e t) (by_base f u) = omega (arith, intRules)
-ahead_asym (by_base e t) (by_number f d u) = omega (arith, intRules)
-ahead_asym (by_number e d t) (by_rate_lem u) = omega (arith, intRules)
-ahead_asym (by_number e d t) (by_base f u) = omega (arith, intRules)
-ahead_asym (by_number e d t) (by_number f g u) = omega (arith, intRules)
+ahead_asym (by_rate_lem t) (by_rate_lem u) = omega (arith, int_rules)
+ahead_asym (by_rate_lem t) (by_base e u) = omega (arith, int_rules)
+ahead_asym (by_rate_lem t) (by_number e d u) = omega (arith, int_rules)
+ahead_asym (by_base e t) (by_rate_lem u) = omega (arith, int_rules)
+ahead_asym (by_base e t) (by_base f u) = omega (arith, int_rules)
+ahead_asym (by_base e t) (by_number f d u) = omega (arith, int_rules)
+ahead_asym (by_number e d t) (by_rate_lem u) = omega (arith, int_rules)
+ahead_asym (by_number e d t) (by_base f u) = omega (arith, int_rules)
+ahead_asym (by_number e d t) (by_number f g u) = omega (arith, int_rules)
 
 -- no offer stands ahead of itself
 pub ahead_other : {a b : Offer} → Ahead a b → a ≢ b
 ahead_other {a} {b} k e = ahead_asym k (subst (λ y. Ahead y a) e (subst (λ y. Ahead a y) (sym e) k))
 
 pub ahead_trans : {a b c : Offer} → Ahead a b → Ahead b c → Ahead a c
-ahead_trans (by_rate_lem t) (by_rate_lem u) = by_rate_lem (omega (arith, intRules))
-ahead_trans (by_rate_lem t) (by_base e u) = by_rate_lem (omega (arith, intRules))
-ahead_trans (by_rate_lem t) (by_number e d u) = by_rate_lem (omega (arith, intRules))
-ahead_trans (by_base e t) (by_rate_lem u) = by_rate_lem (omega (arith, intRules))
-ahead_trans (by_base e t) (by_base f u) = by_base (e ∙ f) (omega (arith, intRules))
-ahead_trans (by_base e t) (by_number f d u) = by_base (e ∙ f) (omega (arith, intRules))
-ahead_trans (by_number e d t) (by_rate_lem u) = by_rate_lem (omega (arith, intRules))
-ahead_trans (by_number e d t) (by_base f u) = by_base (e ∙ f) (omega (arith, intRules))
-ahead_trans (by_number e d t) (by_number f g u) = by_number (e ∙ f) (d ∙ g) (omega (arith, intRules))
+ahead_trans (by_rate_lem t) (by_rate_lem u) = by_rate_lem (omega (arith, int_rules))
+ahead_trans (by_rate_lem t) (by_base e u) = by_rate_lem (omega (arith, int_rules))
+ahead_trans (by_rate_lem t) (by_number e d u) = by_rate_lem (omega (arith, int_rules))
+ahead_trans (by_base e t) (by_rate_lem u) = by_rate_lem (omega (arith, int_rules))
+ahead_trans (by_base e t) (by_base f u) = by_base (e ∙ f) (omega (arith, int_rules))
+ahead_trans (by_base e t) (by_number f d u) = by_base (e ∙ f) (omega (arith, int_rules))
+ahead_trans (by_number e d t) (by_rate_lem u) = by_rate_lem (omega (arith, int_rules))
+ahead_trans (by_number e d t) (by_base f u) = by_base (e ∙ f) (omega (arith, int_rules))
+ahead_trans (by_number e d t) (by_number f g u) = by_number (e ∙ f) (d ∙ g) (omega (arith, int_rules))
 
 -- two offers are one, or one stands ahead of the other
 pub compare_offers : (a b : Offer) → (a ≡ b) ⊎ (Ahead a b ⊎ Ahead b a)
@@ -93,13 +93,13 @@ compare_offers a b = go (trichotomy a.rate b.rate) (trichotomy a.base b.base) (t
 -- ---- what it says of rates and bases
 
 pub rate_falls : {a b : Offer} → Ahead a b → T (le_z b.rate a.rate)
-rate_falls (by_rate_lem t) = omega (arith, intRules)
-rate_falls (by_base e t) = omega (arith, intRules)
-rate_falls (by_number e d t) = omega (arith, intRules)
+rate_falls (by_rate_lem t) = omega (arith, int_rules)
+rate_falls (by_base e t) = omega (arith, int_rules)
+rate_falls (by_number e d t) = omega (arith, int_rules)
 
 -- within a rate the base rises
 pub base_rises : {a b : Offer} → (a ≡ b) ⊎ Ahead a b → a.rate ≡ b.rate → T (le_z a.base b.base)
-base_rises {a} {b} (inl e) r = let d : a.base ≡ b.base = ap (λ o. o.base) e in omega (arith, intRules)
-base_rises (inr (by_rate_lem t)) r = omega (arith, intRules)
-base_rises (inr (by_base e t)) r = omega (arith, intRules)
-base_rises (inr (by_number e d t)) r = omega (arith, intRules)
+base_rises {a} {b} (inl e) r = let d : a.base ≡ b.base = ap (λ o. o.base) e in omega (arith, int_rules)
+base_rises (inr (by_rate_lem t)) r = omega (arith, int_rules)
+base_rises (inr (by_base e t)) r = omega (arith, int_rules)
+base_rises (inr (by_number e d t)) r = omega (arith, int_rules)

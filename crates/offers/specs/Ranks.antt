@@ -3,7 +3,7 @@ use Rattle.std.specs.Prelude.{ℕ, ◌+◌, ◌*◌, ◌≡◌, T, ℤ, pos, ◌
 use Rattle.std.proofs.Common.{arith, sym, ap, ⊎_elim, SFits}
 use Rattle.std.specs.Int.Signed.{lt_z}
 use Rattle.std.specs.Int.{w64}
-use Rattle.integers.specs.Parts.{pos_part, neg_part, intRules, add_parts, sub_parts, mul_p, mul_n, range_parts}
+use Rattle.integers.specs.Parts.{pos_part, neg_part, int_rules, add_parts, sub_parts, mul_p, mul_n, range_parts}
 use Rattle.integers.specs.Magnitude.{nat_abs_add, nat_abs_sub, nat_abs_mul, fits}
 use Rattle.offers.specs.Offers.{Offer, offer_in_range}
 use Rattle.offers.specs.Sizes.{number_of_lem, rate_of_lem, base_of_lem, number_size, rate_size, base_size}
@@ -44,15 +44,15 @@ module _ (a b : Offer) (ha : T (offer_in_range a)) (hb : T (offer_in_range b)) w
   ahead_rank (by_rate_lem t) =
       let (l, h) = range_parts (pos 1) a.number (pos 9_999) (number_of_lem a ha) in
       let (l', h') = range_parts (pos 1) b.number (pos 9_999) (number_of_lem b hb) in
-      omega (arith, intRules, rank_parts a.rate a.base a.number, rank_parts b.rate b.base b.number, base_of_lem a ha, base_of_lem b hb)
+      omega (arith, int_rules, rank_parts a.rate a.base a.number, rank_parts b.rate b.base b.number, base_of_lem a ha, base_of_lem b hb)
   ahead_rank (by_base e t) =
       let (l, h) = range_parts (pos 1) a.number (pos 9_999) (number_of_lem a ha) in
       let (l', h') = range_parts (pos 1) b.number (pos 9_999) (number_of_lem b hb) in
-      omega (arith, intRules, rank_parts a.rate a.base a.number, rank_parts b.rate b.base b.number)
-  ahead_rank (by_number e d t) = omega (arith, intRules, rank_parts a.rate a.base a.number, rank_parts b.rate b.base b.number)
+      omega (arith, int_rules, rank_parts a.rate a.base a.number, rank_parts b.rate b.base b.number)
+  ahead_rank (by_number e d t) = omega (arith, int_rules, rank_parts a.rate a.base a.number, rank_parts b.rate b.base b.number)
 
 irrefl : {z y : ℤ} → z ≡ y → T (lt_z y z) → ⊥
-irrefl e t = omega (arith, intRules)
+irrefl e t = omega (arith, int_rules)
 
 module _ (a b : Offer) (ha : T (offer_in_range a)) (hb : T (offer_in_range b)) where
   -- a rank tells its offer
@@ -64,14 +64,14 @@ module _ (a b : Offer) (ha : T (offer_in_range a)) (hb : T (offer_in_range b)) w
   rank_ahead t = ⊎_elim (λ e. absurd (irrefl (ap rank e) t)) (⊎_elim (λ k. k) (λ k. absurd (apart t (ahead_rank b a hb ha k)))) (compare_offers a b)
     where
       apart : T (lt_z (rank b) (rank a)) → T (lt_z (rank a) (rank b)) → ⊥
-      apart t u = omega (arith, intRules)
+      apart t u = omega (arith, int_rules)
 
 -- ---- sizes: the rank, and what the code computes on the way to it
 
 pub rank_small : (o : Offer) → T (offer_in_range o) → T (lt_z (rank o) (pos most_rank))
 rank_small o t =
     let (l, h) = range_parts (pos 1) o.number (pos 9_999) (number_of_lem o t) in
-    omega (arith, intRules, rank_parts o.rate o.base o.number, base_of_lem o t, rate_of_lem o t)
+    omega (arith, int_rules, rank_parts o.rate o.base o.number, base_of_lem o t, rate_of_lem o t)
 
 module _ (o : Offer) (t : T (offer_in_range o)) where
   pub scaled_base_fits : SFits w64 (o.base *ℤ pos base_weight)

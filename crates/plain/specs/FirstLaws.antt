@@ -11,7 +11,7 @@ use Rattle.lists.specs.Filter.{keep_in}
 use Rattle.lists.specs.Firsts.{firsts, firsts_sub, firsts_pairs}
 use Rattle.lists.specs.Members.{decide_true, pairs_cons}
 use Rattle.lists.specs.Places.{sublist_mem}
-use Rattle.integers.specs.Parts.{intRules}
+use Rattle.integers.specs.Parts.{int_rules}
 use Rattle.offers.specs.Offers.{Offer, ahead}
 use Rattle.offers.specs.Order.{Ahead, ahead_said, ahead_meant, ahead_asym, ahead_other, compare_offers, rate_falls}
 use Rattle.envelopes.specs.PseudoLines.{Figure, PseudoLines}
@@ -111,7 +111,7 @@ module _ (A : Type 0) (of : A → Offer) where
       ⊎_elim (λ d. d) (⊎_elim (λ t. absurd (no_rate e t)) (λ t. absurd (no_rate (sym e) t))) (compare_lines by_rate laws (firsts_ordered os) m n)
     where
       no_rate : {p q : ℤ} → p ≡ q → T (lt_z q p) → ⊥
-      no_rate d t = omega (arith, intRules)
+      no_rate d t = omega (arith, int_rules)
 
   -- ---- and of a list in order
 
@@ -130,7 +130,7 @@ module _ (A : Type 0) (of : A → Offer) where
       (λ n. go n (cover s x n)) (Memᴰ.cases_cons m)
     where
       same : {p q : Offer} {r : ℤ} → Ahead p q → r ≡ q.rate → T (not (lt_z r p.rate)) → p.rate ≡ q.rate
-      same k e t = let l = rate_falls k in omega (arith, intRules)
+      same k e t = let l = rate_falls k in omega (arith, int_rules)
 
       go : Memᴰ x ls → Covered ls x → Covered (a ∷ ls) x
       go n c =

@@ -11,7 +11,7 @@ use Rattle.lists.specs.Filter.{every, keep, keep_sublist}
 use Rattle.lists.specs.Firsts.{firsts_sub, firsts_pairs}
 use Rattle.lists.specs.Places.{sublist_mem}
 use Rattle.lists.specs.Bools.{as_one_test, same_test}
-use Rattle.integers.specs.Parts.{intRules, add_parts}
+use Rattle.integers.specs.Parts.{int_rules, add_parts}
 use Rattle.integers.specs.Ring.{mul_le}
 use Rattle.offers.specs.Offers.{Offer, RationalLoad, denominator, price_times_d, precedes, ahead, crossing_numerator, crossing_denominator}
 use Rattle.offers.specs.Order.{by_rate_lem, ahead_meant, base_rises}
@@ -26,7 +26,7 @@ use Rattle.plain.specs.FirstLaws.{first_said, first_meant, first_of_rate}
 -- ---- the plain listing is the listing of the offers' lines
 
 lt_as_le : (a b : ℤ) → lt_z a b ≡ not (le_z b a)
-lt_as_le a b = same_test (lt_z a b) (not (le_z b a)) (λ t. omega (arith, intRules)) (λ t. omega (arith, intRules))
+lt_as_le a b = same_test (lt_z a b) (not (le_z b a)) (λ t. omega (arith, int_rules)) (λ t. omega (arith, int_rules))
 
 lower_listed : (os : List Offer) → lower_envelope os ≡ listed offer_figure os
 unfolding listed
@@ -75,7 +75,7 @@ no_dearer : (a b : Offer) (x : RationalLoad) → a.rate ≡ b.rate → T (le_z a
 no_dearer a b x r h =
     let k : T (le_z (a.base *ℤ denominator x) (b.base *ℤ denominator x)) = mul_le (suc x.above) a.base b.base h in
     let e : a.rate *ℤ x.numerator ≡ b.rate *ℤ x.numerator = ap (λ (z : ℤ). z *ℤ x.numerator) r in
-    omega (arith, intRules, add_parts (a.base *ℤ denominator x) (a.rate *ℤ x.numerator), add_parts (b.base *ℤ denominator x) (b.rate *ℤ x.numerator))
+    omega (arith, int_rules, add_parts (a.base *ℤ denominator x) (a.rate *ℤ x.numerator), add_parts (b.base *ℤ denominator x) (b.rate *ℤ x.numerator))
 
 pub listing_exact :
     (os : List Offer) → Pairwise (λ a b. T (ahead a b)) os → (e : Offer) → Memᴰ e (envelope os) ↔ ((x : RationalLoad) × CheaperThanOthers os e x)
@@ -88,7 +88,7 @@ listing_exact os h e = rw (envelope_listed os) (λ m. said (exact.0 m), λ w. ex
     exact = listed_exact offer_figure offer_laws (first_of_each os) (firsts_in_order os) e
 
     less : (p q r : ℤ) → T (lt_z p q) → T (le_z q r) → T (lt_z p r)
-    less p q r t u = omega (arith, intRules)
+    less p q r t u = omega (arith, int_rules)
 
     -- an offer of another rate costs no less than the first of that rate
     said : ((x : RationalLoad) × Cheapest offer_figure (first_of_each os) e x) → (x : RationalLoad) × CheaperThanOthers os e x

@@ -7,7 +7,7 @@ use Rattle.std.proofs.Math.Option.{Option, none, some}
 use Rattle.std.specs.Int.Signed.{lt_z}
 use Rattle.lists.specs.Filter.{keep_sublist, keep_passes, keep_in}
 use Rattle.lists.specs.Places.{sublist_mem}
-use Rattle.integers.specs.Parts.{intRules}
+use Rattle.integers.specs.Parts.{int_rules}
 use Rattle.offers.specs.Offers.{Offer, price_at, ahead}
 use Rattle.plain.specs.Causes.{Cause, declined}
 use Rattle.plain.specs.Book.{State, query, listing, report, found, listed, reported, lower, higher, cheapest, holding, envelope, piece_words}
@@ -26,9 +26,9 @@ cheapest_told q o os =
     record {
       least = λ x m. (one.none_first x m).least;
       one = record { offer = cheapest lower q o os; earliest = cheapest_earliest lower_tie q o os; named = refl; priced = refl };
-      lowest = λ x m e. let h = (one.none_first x m).best e in omega (arith, intRules);
+      lowest = λ x m e. let h = (one.none_first x m).best e in omega (arith, int_rules);
       other = record { offer = cheapest higher q o os; earliest = cheapest_earliest higher_tie q o os; named = refl; priced = same };
-      highest = λ x m e. let h = (other.none_first x m).best (e ∙ same) in omega (arith, intRules);
+      highest = λ x m e. let h = (other.none_first x m).best (e ∙ same) in omega (arith, int_rules);
     }
   where
     one : Names lower q (o ∷ os) (cheapest lower q o os)
@@ -39,7 +39,7 @@ cheapest_told q o os =
 
     -- each of the two is at most the other
     same : price_at (cheapest lower q o os) q ≡ price_at (cheapest higher q o os) q
-    same = let h = (one.none_first _ other.live).least in let k = (other.none_first _ one.live).least in omega (arith, intRules)
+    same = let h = (one.none_first _ other.live).least in let k = (other.none_first _ one.live).least in omega (arith, int_rules)
 
 pub query_cheapest : (s : State) (q number price second : ℤ) → (step s (query q)).answer ≡ found number price second →
     Cheapest s.offers q number price second

@@ -11,7 +11,7 @@ use Rattle.lists.specs.Filter.{keep}
 use Rattle.lists.specs.Firsts.{firsts_sub}
 use Rattle.lists.specs.Places.{all_cons, sublist_mem}
 use Rattle.lists.specs.Bools.{and_both, and_left, and_right, or_cases, neither, cond_both}
-use Rattle.integers.specs.Parts.{intRules, add_parts}
+use Rattle.integers.specs.Parts.{int_rules, add_parts}
 use Rattle.integers.specs.Equal.{equal}
 use Rattle.offers.specs.Offers.{Offer, price_at, precedes, ahead}
 use Rattle.offers.specs.Order.{Ahead, ahead_asym, ahead_other, base_rises}
@@ -31,19 +31,19 @@ pub record RateOrder (tie : ℤ → ℤ → Bool) : Type 0 where
 pub lower_tie : RateOrder lower
 lower_tie =
     record {
-      itself = λ r. omega (arith, intRules);
-      turned = λ r s h. omega (arith, intRules);
-      passed = λ r s t h k. omega (arith, intRules);
-      same = λ r s h k. omega (arith, intRules);
+      itself = λ r. omega (arith, int_rules);
+      turned = λ r s h. omega (arith, int_rules);
+      passed = λ r s t h k. omega (arith, int_rules);
+      same = λ r s h k. omega (arith, int_rules);
     }
 
 pub higher_tie : RateOrder higher
 higher_tie =
     record {
-      itself = λ r. omega (arith, intRules);
-      turned = λ r s h. omega (arith, intRules);
-      passed = λ r s t h k. omega (arith, intRules);
-      same = λ r s h k. omega (arith, intRules);
+      itself = λ r. omega (arith, int_rules);
+      turned = λ r s h. omega (arith, int_rules);
+      passed = λ r s t h k. omega (arith, int_rules);
+      same = λ r s h k. omega (arith, int_rules);
     }
 
 -- ---- two offers
@@ -55,15 +55,15 @@ pub record NotFirst (tie : ℤ → ℤ → Bool) (q : ℤ) (x o : Offer) : Type 
 
 module _ {tie : ℤ → ℤ → Bool} (t : RateOrder tie) (q : ℤ) where
   itself : (o : Offer) → NotFirst tie q o o
-  itself o = record { least = omega (arith, intRules); best = λ e. t.itself o.rate }
+  itself o = record { least = omega (arith, int_rules); best = λ e. t.itself o.rate }
 
   onward : {x y z : Offer} → NotFirst tie q x y → NotFirst tie q y z → NotFirst tie q x z
   onward {x} {y} {z} h k =
       let a = h.least in
       let b = k.least in
       record {
-        least = omega (arith, intRules);
-        best = λ e. t.passed x.rate y.rate z.rate (h.best (omega (arith, intRules))) (k.best (omega (arith, intRules)));
+        least = omega (arith, int_rules);
+        best = λ e. t.passed x.rate y.rate z.rate (h.best (omega (arith, int_rules))) (k.best (omega (arith, int_rules)));
       }
 
   -- by the test
@@ -71,21 +71,21 @@ module _ {tie : ℤ → ℤ → Bool} (t : RateOrder tie) (q : ℤ) where
   gone o p h = ⊎_elim cheaper tied (or_cases (lt_z (price_at o q) (price_at p q)) (equal (price_at o q) (price_at p q) && tie o.rate p.rate) h)
     where
       cheaper : T (lt_z (price_at o q) (price_at p q)) → NotFirst tie q p o
-      cheaper k = record { least = omega (arith, intRules); best = λ e. absurd (omega (arith, intRules)) }
+      cheaper k = record { least = omega (arith, int_rules); best = λ e. absurd (omega (arith, int_rules)) }
 
       tied : T (equal (price_at o q) (price_at p q) && tie o.rate p.rate) → NotFirst tie q p o
       tied k =
           let e = and_left (equal (price_at o q) (price_at p q)) _ k in
-          record { least = omega (arith, intRules); best = λ d. t.turned o.rate p.rate (and_right (equal (price_at o q) (price_at p q)) _ k) }
+          record { least = omega (arith, int_rules); best = λ d. t.turned o.rate p.rate (and_right (equal (price_at o q) (price_at p q)) _ k) }
 
   stays : (o p : Offer) → T (not (goes_first tie q o p)) → NotFirst tie q o p
   stays o p h =
       let tied = equal (price_at o q) (price_at p q) in
       let (a, b) = neither (lt_z (price_at o q) (price_at p q)) (tied && tie o.rate p.rate) h in
       record {
-        least = omega (arith, intRules);
+        least = omega (arith, int_rules);
         best = λ e. not_T (tie o.rate p.rate)
-            (λ u. T_not (tied && tie o.rate p.rate) b (and_both tied (tie o.rate p.rate) (omega (arith, intRules)) u));
+            (λ u. T_not (tied && tie o.rate p.rate) b (and_both tied (tie o.rate p.rate) (omega (arith, int_rules)) u));
       }
 
 -- ---- all of them
@@ -135,10 +135,10 @@ data Leads (tie : ℤ → ℤ → Bool) (q : ℤ) (o : Offer) : List Offer → T
 module _ {tie : ℤ → ℤ → Bool} (t : RateOrder tie) (q : ℤ) where
   not_both : (o p : Offer) → T (goes_first tie q o p) → ¬ NotFirst tie q o p
   not_both o p h k =
-      ⊎_elim (λ c. let l = k.least in absurd (omega (arith, intRules)))
+      ⊎_elim (λ c. let l = k.least in absurd (omega (arith, int_rules)))
       (λ c.
       let e = and_left (equal (price_at o q) (price_at p q)) _ c in
-      T_not (tie o.rate p.rate) (k.best (omega (arith, intRules))) (and_right (equal (price_at o q) (price_at p q)) _ c))
+      T_not (tie o.rate p.rate) (k.best (omega (arith, int_rules))) (and_right (equal (price_at o q) (price_at p q)) _ c))
       (or_cases (lt_z (price_at o q) (price_at p q)) (equal (price_at o q) (price_at p q) && tie o.rate p.rate) h)
 
   -- b is one of two offers, and neither goes before it
@@ -161,7 +161,7 @@ module _ {tie : ℤ → ℤ → Bool} (t : RateOrder tie) (q : ℤ) where
     where
       as_good : price_at x q ≡ price_at o q → x.rate ≡ o.rate → NotFirst tie q o x
       as_good e d =
-          record { least = omega (arith, intRules); best = λ u. subst (λ (r : ℤ). T (not (tie o.rate r))) (sym d) (t.itself o.rate) }
+          record { least = omega (arith, int_rules); best = λ u. subst (λ (r : ℤ). T (not (tie o.rate r))) (sym d) (t.itself o.rate) }
 
   pub cheapest_earliest : (o : Offer) (os : List Offer) → Earliest q (cheapest tie q o os) (o ∷ os)
   cheapest_earliest o os = earliest (leads o os)
@@ -172,7 +172,7 @@ module _ {tie : ℤ → ℤ → Bool} (t : RateOrder tie) (q : ℤ) where
 no_dearer : (a b : Offer) (q : ℤ) → a.rate ≡ b.rate → T (le_z a.base b.base) → T (le_z (price_at a q) (price_at b q))
 no_dearer a b q r h =
     let e : a.rate *ℤ q ≡ b.rate *ℤ q = ap (λ (z : ℤ). z *ℤ q) r in
-    omega (arith, intRules, add_parts a.base (a.rate *ℤ q), add_parts b.base (b.rate *ℤ q))
+    omega (arith, int_rules, add_parts a.base (a.rate *ℤ q), add_parts b.base (b.rate *ℤ q))
 
 -- none ahead has the price and the rate
 not_ahead : {q : ℤ} {d f : Offer} {os : List Offer} → Earliest q d os → Standing Offer self os → Memᴰ f os → Ahead f d → price_at f q ≡ price_at d q →
@@ -203,15 +203,15 @@ module _ {tie : ℤ → ℤ → Bool} (t : RateOrder tie) (q : ℤ) where
       cheap = no_dearer f.by d q f.rate (base_rises f.no_later f.rate)
 
       price : price_at f.by q ≡ price_at d q
-      price = let i = below.least in let j = above.least in let k = cheap in omega (arith, intRules)
+      price = let i = below.least in let j = above.least in let k = cheap in omega (arith, int_rules)
 
       rates : c.rate ≡ f.by.rate
       rates =
           let i = below.least in
           let j = above.least in
           let k = cheap in
-          t.same c.rate f.by.rate (subst (λ (r : ℤ). T (not (tie c.rate r))) (sym f.rate) (below.best (omega (arith, intRules))))
-          (above.best (omega (arith, intRules)))
+          t.same c.rate f.by.rate (subst (λ (r : ℤ). T (not (tie c.rate r))) (sym f.rate) (below.best (omega (arith, int_rules))))
+          (above.best (omega (arith, int_rules)))
 
       same : c ≡ f.by
       same = one_of_rate Offer self os n.live f.one_of rates

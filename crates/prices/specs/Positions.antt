@@ -2,7 +2,7 @@
 use Rattle.std.specs.Prelude.{◌≡◌, refl, Bool, true, false, cond, T, ℤ}
 use Rattle.std.proofs.Common.{sym, arith}
 use Rattle.std.specs.Int.Signed.{le_z, lt_z}
-use Rattle.integers.specs.Parts.{intRules}
+use Rattle.integers.specs.Parts.{int_rules}
 use Rattle.prices.specs.declared.Position.{Position}
 use Rattle.prices.specs.declared.Position.TheVariants.{Below, On, Above}
 
@@ -20,9 +20,9 @@ pub lies : (point line : ℤ) → Lies point line (position_of point line)
 lies y z = go (lt_z y z) (lt_z z y) refl refl
   where
     go : (b c : Bool) → lt_z y z ≡ b → lt_z z y ≡ c → Lies y z (cond b Below (cond c Above On))
-    go true c d e = below (omega (arith, intRules))
-    go false true d e = above (omega (arith, intRules))
-    go false false d e = on (omega (arith, intRules))
+    go true c d e = below (omega (arith, int_rules))
+    go false true d e = above (omega (arith, int_rules))
+    go false false d e = on (omega (arith, int_rules))
 
 -- not on it: a query has a tie where this fails
 abbrev pub is_apart : Position → Bool
@@ -40,6 +40,6 @@ pub on_or_above_lem : (y z : ℤ) → on_or_above (position_of y z) ≡ le_z z y
 on_or_above_lem y z = sym (go (position_of y z) (lies y z))
   where
     go : (p : Position) → Lies y z p → le_z z y ≡ on_or_above p
-    go Below (below h) = omega (arith, intRules)
-    go On (on h) = omega (arith, intRules)
-    go Above (above h) = omega (arith, intRules)
+    go Below (below h) = omega (arith, int_rules)
+    go On (on h) = omega (arith, int_rules)
+    go Above (above h) = omega (arith, int_rules)

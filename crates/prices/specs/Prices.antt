@@ -4,7 +4,7 @@ use Rattle.std.proofs.Common.{arith, sym, SFits}
 use Rattle.std.specs.Int.Signed.{le_z}
 use borrow.Author.Tests.{le-leb, lt-leb, lt-ltb, le-ltb}
 use Rattle.lists.specs.Bools.{and_left, and_right, and_both, cond_itself, cond_or}
-use Rattle.integers.specs.Parts.{intRules}
+use Rattle.integers.specs.Parts.{int_rules}
 use Rattle.offers.specs.Offers.{between, rate_in_range, base_in_range}
 use Rattle.offers.specs.Bounded.{bounded, bounded_ranged}
 use Rattle.std.specs.Int.{w64}
@@ -41,7 +41,7 @@ positive_ranged z t =
     (and_right (le_z (pos 0) z) (le_z z (pos 200_000)) t)
   where
     low : T (le_z (pos 0) z) → T (le_z (negsuc 199_999) z)
-    low h = omega (arith, intRules)
+    low h = omega (arith, int_rules)
 
 pub denominator_ranged : (w : Words) (s : ℕ) → T (denominator_in_range (denominator_at w s))
 denominator_ranged w s = positive_ranged (denominator_at w s) (bounded_ranged (pos 0) (pos 200_000) (cell w denominator_field s) tt)

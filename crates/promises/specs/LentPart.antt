@@ -4,7 +4,7 @@ use Rattle.std.proofs.Common.{sym, ◌∙◌, ap, arith, length-drop, length-app
 use Rattle.std.proofs.Math.Option.{Option}
 use Rattle.std.specs.Int.Signed.{le_z}
 use Rattle.lists.specs.Bools.{and_left, and_right, not_not, neither, not_failed, same_test, denied, said}
-use Rattle.integers.specs.Parts.{intRules}
+use Rattle.integers.specs.Parts.{int_rules}
 use Rattle.offers.specs.Offers.{between}
 use Rattle.plain.specs.Causes.{Cause, cause_number, FirstOf, at_once, further}
 use Rattle.plain.specs.Book.{State, no_book_at, part_length}
@@ -33,7 +33,7 @@ pub told_is : (z : ℤ) → T (between (pos 1) (pos most_slots) z) → (up_to mo
 told_is (pos n) t =
     let low = and_left (le_z (pos 1) (pos n)) (le_z (pos n) (pos most_slots)) t in
     let high = and_right (le_z (pos 1) (pos n)) (le_z (pos n) (pos most_slots)) t in
-    (up_to_in most_slots n (omega (arith, intRules, high)), omega (arith, intRules, low), omega (arith, intRules, high))
+    (up_to_in most_slots n (omega (arith, int_rules, high)), omega (arith, int_rules, low), omega (arith, int_rules, high))
 told_is (negsuc n) t = absurd (and_left (le_z (pos 1) (negsuc n)) (le_z (negsuc n) (pos most_slots)) t)
 
 -- where there is a book, its part begins within the table

@@ -5,7 +5,7 @@ use Rattle.std.proofs.Math.Option.{Option}
 use Rattle.std.proofs.Math.Dec.{not_T}
 use Rattle.std.specs.Int.Signed.{le_z}
 use Rattle.lists.specs.Bools.{and_both, or_no}
-use Rattle.integers.specs.Parts.{intRules}
+use Rattle.integers.specs.Parts.{int_rules}
 use Rattle.offers.specs.Offers.{between}
 use Rattle.plain.specs.Causes.{Cause, cause_number, FirstOf, at_once, further}
 use Rattle.plain.specs.Book.{State, Call, book_trials, no_book_at, part_length, step}
@@ -42,8 +42,8 @@ cap_book start t {c} e low = subst (λ (z : ℤ). T (not (no_book_at (length t) 
         (or_no (ltb (length t) start || ltb (length t - start) 1_152) _
         (or_no (ltb (length t) start) _ (λ q. omega (arith, long, ltb→lt (length t) start q))
         (λ q. omega (arith, low, long, ltb→lt (length t - start) 1_152 q)))
-        (λ q. T_not (between (pos 1) (pos most_slots) (pos c)) q (and_both (le_z (pos 1) (pos c)) (le_z (pos c) (pos most_slots)) (omega (arith, intRules, low))
-        (omega (arith, intRules, high)))))
+        (λ q. T_not (between (pos 1) (pos most_slots) (pos c)) q (and_both (le_z (pos 1) (pos c)) (le_z (pos c) (pos most_slots)) (omega (arith, int_rules, low))
+        (omega (arith, int_rules, high)))))
         (λ q. omega (arith, long, ltb→lt (length t - start) (part_length c) q))
 
 pub book_there : (start : ℕ) (t : List ℤ) {plain : State} {held : Option (Held Item)} → Book (part_of t start) plain held →

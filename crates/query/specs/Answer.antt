@@ -5,7 +5,7 @@ use mathlib.Core.List.{List, Memᴰ}
 use Rattle.std.proofs.Math.Option.{Option, none, some}
 use Rattle.std.specs.Int.Signed.{le_z, lt_z}
 use Rattle.lists.specs.Places.{mem_at}
-use Rattle.integers.specs.Parts.{intRules}
+use Rattle.integers.specs.Parts.{int_rules}
 use Rattle.offers.specs.Offers.{crossing_numerator, crossing_denominator}
 use Rattle.envelopes.specs.PseudoLines.{LeftOf, mirror}
 use Rattle.envelopes.specs.Crossing.{price_refl, left_upto, left_upto_trans, upto_left_trans, cross_upto}
@@ -127,17 +127,17 @@ module _ (a : ℕ → Item) (n : ℕ) (K : Chain items a n) (q : ℤ) where
     seam_right = rw (own, next) (whole_right Item rate_of base_of (a k) (a (suc k)) q (K.ordered k in_chain))
 
     before_seam : T (lt_z (q *ℤ d) c) → Inside mid
-    before_seam g = subst Inside (sym here) (λ m u. let v = subst T seam_right u in omega (arith, intRules))
+    before_seam g = subst Inside (sym here) (λ m u. let v = subst T seam_right u in omega (arith, int_rules))
 
     at_seam : q *ℤ d ≡ c → Kept (some (last l)) mid
     at_seam e =
         subst (Kept (some (last l))) (sym here)
-        (own, subst T (sym seam_left) (omega (arith, intRules)), subst T (sym seam_right) (omega (arith, intRules)))
+        (own, subst T (sym seam_left) (omega (arith, int_rules)), subst T (sym seam_right) (omega (arith, int_rules)))
 
     past_seam : (kept : Option Item) → Kept kept lo → T (lt_z c (q *ℤ d)) → Kept kept mid
     past_seam kept o g =
         subst (Kept kept) (sym here)
-        (not_past kept lo (omega (arith, here, spans_some s)) in_chain o (λ u. let v = subst T seam_left u in omega (arith, intRules)))
+        (not_past kept lo (omega (arith, here, spans_some s)) in_chain o (λ u. let v = subst T seam_left u in omega (arith, int_rules)))
 
   reached : (kept : Option Item) {lo hi : ℕ} (t : Tree Item) → Spans left a lo t hi → hi ≤ n → Kept kept lo → Inside hi → EndsAt (walk q kept t)
   unfolding walk

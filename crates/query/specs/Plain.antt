@@ -7,7 +7,7 @@ use Rattle.std.proofs.Math.Dec.{not_T}
 use Rattle.std.proofs.lemmas.Bool.{lt-leb}
 use Rattle.std.proofs.lemmas.List.{length-map}
 use Rattle.lists.specs.Bools.{is_true}
-use Rattle.integers.specs.Parts.{intRules}
+use Rattle.integers.specs.Parts.{int_rules}
 use Rattle.offers.specs.Offers.{Offer, price_at, ahead, load_in_range}
 use Rattle.envelopes.specs.Envelope.{Ordered, Env, listed as lines_listed}
 use Rattle.envelopes.specs.Query.{env_listed}
@@ -38,7 +38,7 @@ module _ {tie : ℤ → ℤ → Bool} {ls : List Item} {z : Item} {q : ℤ} (one
       record {
         least = subst T (whole_price Item rate_of base_of z c q) (least c i);
         best = λ e. not_T (tie c.offer.rate z.offer.rate)
-            (λ t. best c i t (subst T (sym (whole_price Item rate_of base_of c z q)) (omega (arith, intRules))));
+            (λ t. best c i t (subst T (sym (whole_price Item rate_of base_of c z q)) (omega (arith, int_rules))));
       }
 
   names_it : Names tie q (map offer_of ls) z.offer

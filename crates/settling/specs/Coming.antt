@@ -7,7 +7,7 @@ use mathlib.Core.List.{List, [], ◌∷◌, Memᴰ, Sublistᴰ}
 use Rattle.std.proofs.Math.Option.{Option, none, some}
 use Rattle.std.specs.Int.Signed.{lt_z}
 use Rattle.lists.specs.Firsts.{firsts_sub}
-use Rattle.integers.specs.Parts.{intRules, ne_parts}
+use Rattle.integers.specs.Parts.{int_rules, ne_parts}
 use Rattle.offers.specs.Order.{Ahead}
 use Rattle.offers.specs.Ranks.{rank_ahead}
 use Rattle.dynamic.specs.OfferTree.{Held, held_shape, alone}
@@ -121,7 +121,7 @@ module _
         (above (rank_of f) (rank_of a) (new f (line_live b i)) t)
       where
         above : (p q : ℤ) → p ≢ q → T (not (lt_z p q)) → T (lt_z q p)
-        above p q d t = omega (arith, intRules, ne_parts p q d)
+        above p q d t = omega (arith, int_rules, ne_parts p q d)
 
     rank_of_first : {s : ℕ} → s ≡ f.slot → cell w rank_field s ≡ rank_of f
     rank_of_first e = ap (cell w rank_field) e ∙ b.ranked.read (line_live b i)
@@ -133,7 +133,7 @@ module _
         (filed_ahead Item offer_of held b.whole b.lines j f i r (in_range_lem (words c (rank_of_first et) (ap (cell w rank_field) es ∙ rank-word))))
       where
         words : {p q p' q' : ℤ} → T (lt_z p q) → p ≡ p' → q ≡ q' → T (lt_z p' q')
-        words t e d = omega (arith, intRules)
+        words t e d = omega (arith, int_rules)
 
     joins_later : {w' : Words} {m : Outcome} {s t : ℕ} → s ≡ a.slot → t ≡ f.slot → T (not (lt_z (cell w rank_field t) (cell w rank_field s))) → w' ≡ w →
         m ≡ idle x → Settled held live' w w' m
@@ -142,7 +142,7 @@ module _
         (filed_behind Item offer_of held b.whole b.lines j f i r (out_of_range (words c (rank_of_first et) (ap (cell w rank_field) es ∙ rank-word))))
       where
         words : {p q p' q' : ℤ} → T (not (lt_z p q)) → p ≡ p' → q ≡ q' → T (not (lt_z p' q'))
-        words t e d = omega (arith, intRules)
+        words t e d = omega (arith, int_rules)
 
   pub joins : {w' : Words} {m : Outcome} {s f : ℕ} → s ≡ a.slot → Sought rate_of (rate_of a) (book_lines held) f → Joined s f x w w' m →
       Settled held live' w w' m

@@ -6,7 +6,7 @@ use Rattle.std.proofs.Math.Option.{Option}
 use Rattle.std.specs.Int.Signed.{le_z, lt_z}
 use Rattle.lists.specs.Bools.{said, denied}
 use Rattle.integers.specs.Equal.{equal}
-use Rattle.integers.specs.Parts.{intRules, equal_eq, unequal, le_or_lt}
+use Rattle.integers.specs.Parts.{int_rules, equal_eq, unequal, le_or_lt}
 use Rattle.offers.specs.Order.{Ahead}
 use Rattle.offers.specs.Ranks.{ahead_rank, rank_ahead}
 use Rattle.plain.specs.Book.{State}
@@ -70,17 +70,17 @@ module _
       }
     where
       below_itself : {p q : ℤ} → p ≡ q → T (lt_z p q) → ⊥
-      below_itself e t = omega (arith, intRules)
+      below_itself e t = omega (arith, int_rules)
 
       split_le : (p q : ℤ) → T (le_z p q) → (p ≡ q) ⊎ T (lt_z p q)
-      split_le p q t = ⊎_elim (λ h. inl (omega (arith, intRules))) inr (le_or_lt q p)
+      split_le p q t = ⊎_elim (λ h. inl (omega (arith, int_rules))) inr (le_or_lt q p)
 
   -- no live item's rank is below
   nobody : NoneBelow rank_of (rank_of a) live → (c : Item) → Memᴰ c rest → ¬ Ahead a.offer c.offer
   nobody n c m k = let i = (l.there c m).0 in not_both (rank_of a) (rank_of c) (n c i) (down l.live i k)
     where
       not_both : (p q : ℤ) → T (le_z p q) → T (lt_z q p) → ⊥
-      not_both p q t u = omega (arith, intRules)
+      not_both p q t u = omega (arith, int_rules)
 
   rate_in : {c : Item} {d : ℕ} → d ≡ c.slot → Memᴰ c live → cell w rate_field d ≡ rate_of c
   rate_in e m = ap (cell w rate_field) e ∙ (b.in_order.holds.held m).rate

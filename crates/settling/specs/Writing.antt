@@ -5,7 +5,7 @@ use mathlib.Core.List.Pairwise
 use mathlib.Core.List.{List, [], ◌∷◌, Memᴰ, Pairwise, rel_of_Pairwise-cons}
 use Rattle.std.proofs.Math.Option.{Option}
 use Rattle.lists.specs.Bools.{and_left}
-use Rattle.integers.specs.Parts.{intRules, range_low}
+use Rattle.integers.specs.Parts.{int_rules, range_low}
 use Rattle.offers.specs.Offers.{Offer, number_in_range, rate_in_range, base_in_range}
 use Rattle.offers.specs.Ranks.{rank}
 use Rattle.trees.specs.Operations.{part_leaves}
@@ -223,7 +223,7 @@ free_not_live {w} {live} {s} chain holds m (at {a} i e) = go chain m
         (and_left (number_in_range a.offer.number && rate_in_range a.offer.rate) (base_in_range a.offer.base) (holds.held i).ranged))
       where
         zero : {z n : ℤ} → z ≡ n → z ≡ pos 0 → T (number_in_range n) → ⊥
-        zero {n} p q t = omega (arith, intRules, range_low (pos 1) n (pos 9_999) t)
+        zero {n} p q t = omega (arith, int_rules, range_low (pos 1) n (pos 9_999) t)
 
     go : {ss : List ℕ} → FreeChain w ss → Memᴰ s ss → ⊥
     go (free_more low high zero next more) (Memᴰ.head d) = never (ap (cell w number_field) (sym e ∙ d) ∙ zero)

@@ -7,7 +7,7 @@ use mathlib.Core.List.{List, [], ◌∷◌, ◌++◌, Memᴰ, Pairwise}
 use Rattle.std.proofs.Math.Option.{Option}
 use Rattle.std.specs.Int.Signed.{le_z, lt_z}
 use Rattle.lists.specs.Bools.{said, denied, not_not}
-use Rattle.integers.specs.Parts.{intRules, add_parts}
+use Rattle.integers.specs.Parts.{int_rules, add_parts}
 use Rattle.offers.specs.Offers.{load_in_range, price_at, ahead}
 use Rattle.offers.specs.Order.{Ahead, ahead_said, rate_falls, base_rises}
 use Rattle.plain.specs.Book.{State}
@@ -55,14 +55,14 @@ ahead_stands q p x y k =
     record { earlier = λ c t. falls (rate_of c) (rate_of x) (rate_of y) (rate_falls k) t; settled = λ n t. same_rate n (rate_falls k) t }
   where
     falls : (r s t : ℤ) → T (le_z t s) → T (lt_z r t) → T (lt_z r s)
-    falls r s t h u = omega (arith, intRules)
+    falls r s t h u = omega (arith, int_rules)
 
     same_rate : T (not (lt_z (rate_of y) (rate_of x))) → T (le_z (rate_of y) (rate_of x)) → T (lt_z (price_at y.offer q) p) → T (lt_z (price_at x.offer q) p)
     same_rate n h t =
-        let e : x.offer.rate ≡ y.offer.rate = omega (arith, intRules) in
+        let e : x.offer.rate ≡ y.offer.rate = omega (arith, int_rules) in
         let b = base_rises (inr k) e in
         let d : x.offer.rate *ℤ q ≡ y.offer.rate *ℤ q = ap (λ r. r *ℤ q) e in
-        omega (arith, intRules, add_parts x.offer.base (x.offer.rate *ℤ q), add_parts y.offer.base (y.offer.rate *ℤ q))
+        omega (arith, int_rules, add_parts x.offer.base (x.offer.rate *ℤ q), add_parts y.offer.base (y.offer.rate *ℤ q))
 
 module _ {w : Words} {plain : State} {held : Option (Held Item)} (b : Book w plain held) where
   in_order : Pairwise (λ x y. T (ahead (offer_of x) (offer_of y))) (part_leaves b.order)
@@ -116,12 +116,12 @@ module _
       goes_off {post = c ∷ rest} e (λ n. absurd (lower (rate_of a) (rate_of c) (said (ap not (rates_are c rest cut (found (c ∷ rest) cut f) er k)) u) n))
     where
       lower : (x y : ℤ) → T (not (le_z x y)) → T (not (lt_z y x)) → ⊥
-      lower x y t n = omega (arith, intRules)
+      lower x y t n = omega (arith, int_rules)
   turns (c ∷ rest) cut (follower_below f h er k u t v e) =
       goes_on c rest (e ∙ found (c ∷ rest) cut f) (level (rate_of a) (rate_of c) (denied (ap not (rates_are c rest cut (found (c ∷ rest) cut f) er k)) u))
       (said (cheap_is (found (c ∷ rest) cut f) (second c rest cut) t) v)
     where
       level : (x y : ℤ) → T (not (not (le_z x y))) → T (not (lt_z y x))
-      level x y t = let u = not_not (le_z x y) t in omega (arith, intRules)
+      level x y t = let u = not_not (le_z x y) t in omega (arith, int_rules)
   turns (c ∷ rest) cut (follower_dear f h er k u t v e) =
       goes_off {post = c ∷ rest} e (λ n. denied (cheap_is (found (c ∷ rest) cut f) (second c rest cut) t) v)

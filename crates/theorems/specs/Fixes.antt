@@ -10,7 +10,7 @@ use Rattle.std.proofs.Math.Option.{Option, none, some}
 use Rattle.std.proofs.Math.Decide.{dec_lt}
 use Rattle.lists.specs.Places.{sublist_mem}
 use Rattle.lists.specs.Members.{Among}
-use Rattle.integers.specs.Parts.{intRules}
+use Rattle.integers.specs.Parts.{int_rules}
 use Rattle.offers.specs.Offers.{Offer, ahead, crossing_numerator, crossing_denominator}
 use Rattle.offers.specs.Order.{Ahead, ahead_said, ahead_asym, ahead_other}
 use Rattle.envelopes.specs.Envelope.{Env}
@@ -50,19 +50,19 @@ cheapest_once {os} {q} {n} {p} {m} {n'} {p'} {m'} a b =
         let j = b.least a.one.offer (live a.one) in
         let e = a.one.priced in
         let f = b.one.priced in
-        omega (arith, intRules)
+        omega (arith, int_rules)
 
     firsts : a.one.offer.rate ≡ b.one.offer.rate
     firsts =
         let i = a.lowest b.one.offer (live b.one) (sym b.one.priced ∙ sym price) in
         let j = b.lowest a.one.offer (live a.one) (sym a.one.priced ∙ price) in
-        omega (arith, intRules)
+        omega (arith, int_rules)
 
     seconds : a.other.offer.rate ≡ b.other.offer.rate
     seconds =
         let i = a.highest b.other.offer (live b.other) (sym b.other.priced ∙ sym price) in
         let j = b.highest a.other.offer (live a.other) (sym a.other.priced ∙ price) in
-        omega (arith, intRules)
+        omega (arith, int_rules)
 
     one_offer : {x x' : ℤ} (c : Priced os q x p) (d : Priced os q x' p') → c.offer.rate ≡ d.offer.rate → x ≡ x'
     one_offer c d e =

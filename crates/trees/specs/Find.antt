@@ -8,7 +8,7 @@ use mathlib.Core.List.{List, [], ◌∷◌, ◌++◌, Memᴰ}
 use Rattle.std.proofs.Math.Dec.{T}
 use Rattle.std.specs.Int.Signed.{lt_z, le_z}
 use Rattle.lists.specs.Bools.{cond_both}
-use Rattle.integers.specs.Parts.{intRules, equal_eq}
+use Rattle.integers.specs.Parts.{int_rules, equal_eq}
 use Rattle.integers.specs.Equal.{equal}
 use Rattle.trees.specs.Tree.{Tree, leaf, node, leaves, last}
 use Rattle.trees.specs.Operations.{find}
@@ -47,10 +47,10 @@ module _ {A : Type 0} (key : A → ℤ) (k : ℤ) where
       (mathlib.Core.List.Memᴰ.append_cases (leaves l) f.inside))
     where
       off : key a ≡ k → T (lt_z k (key (last l))) → T (le_z (key (last l)) (key a)) → ⊥
-      off e s t = omega (arith, intRules)
+      off e s t = omega (arith, int_rules)
 
       off' : key a ≡ k → T (not (lt_z k (key (last l)))) → T (lt_z (key a) (key (last l))) → ⊥
-      off' e s t = omega (arith, intRules)
+      off' e s t = omega (arith, int_rules)
 
   -- nothing is found exactly where no leaf has the key
   pub find_none : (t : Tree A) → Falling key (leaves t) → find key k t ≡ none → {a : A} → ¬ Keyed (leaves t) a

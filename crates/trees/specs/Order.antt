@@ -10,7 +10,7 @@ use mathlib.Core.List.{rel_of_Pairwise-cons}
 use Rattle.std.proofs.Math.Dec.{T_prop}
 use Rattle.std.specs.Int.Signed.{lt_z, le_z}
 use Rattle.lists.specs.Members.{pairs_cons, one_owner}
-use Rattle.integers.specs.Parts.{intRules}
+use Rattle.integers.specs.Parts.{int_rules}
 use Rattle.trees.specs.Tree.{Tree, leaf, node, leaves, last}
 use Rattle.trees.specs.Leaves.{last_leaf}
 
@@ -37,7 +37,7 @@ module _ {A : Type 0} where
   all_append test xs p q a m = ⊎_elim (p a) (q a) (Memᴰ.append_cases xs m)
 
   pub falling_turning : (key : A → ℤ) (low : ℤ) {xs : List A} → Falling key xs → Turning (λ a. le_z low (key a)) xs
-  falling_turning key low = Pairwise.imp (λ a b h t. omega (arith, intRules))
+  falling_turning key low = Pairwise.imp (λ a b h t. omega (arith, int_rules))
 
   -- what passes, followed by what fails
   pub halves_turning : (test : A → Bool) (xs ys : List A) → All test xs → None test ys → Turning test (xs ++ ys)
@@ -76,13 +76,13 @@ module _ {A : Type 0} where
   -- where keys fall, no leaf's is below the last one's
   pub last_lowest : (key : A → ℤ) (t : Tree A) → Falling key (leaves t) → {a : A} → Memᴰ a (leaves t) → T (le_z (key (last t)) (key a))
   last_lowest key t p {a} m =
-      ⊎_elim (λ (e : a ≡ last t). let k : key a ≡ key (last t) = ap key e in omega (arith, intRules))
-      (λ (h : T (lt_z (key (last t)) (key a))). omega (arith, intRules))
+      ⊎_elim (λ (e : a ≡ last t). let k : key a ≡ key (last t) = ap key e in omega (arith, int_rules))
+      (λ (h : T (lt_z (key (last t)) (key a))). omega (arith, int_rules))
       (up_to_last t p m)
 
   -- where keys fall, a key tells its owner
   pub falling_one : (key : A → ℤ) {xs : List A} → Falling key xs → {a b : A} → Memᴰ a xs → Memᴰ b xs → key a ≡ key b → a ≡ b
-  falling_one key p = one_owner key (Pairwise.imp (λ a b h e. omega (arith, intRules)) p)
+  falling_one key p = one_owner key (Pairwise.imp (λ a b h e. omega (arith, int_rules)) p)
 
   -- ---- a list is cut in one way only
 

@@ -5,7 +5,7 @@ use mathlib.Core.List.Memᴰ
 use mathlib.Core.List.IsChain
 use mathlib.Core.List.{Memᴰ}
 use Rattle.lists.specs.Bools.{same_test}
-use Rattle.integers.specs.Parts.{intRules}
+use Rattle.integers.specs.Parts.{int_rules}
 use Rattle.envelopes.specs.Envelope.{Ordered, ordered_nil, ordered_cons}
 use Rattle.trees.specs.Tree.{Tree, leaf, leaves}
 use Rattle.trees.specs.Leaves.{last_leaf}
@@ -85,7 +85,7 @@ module _ {w : Words} {slot : ℕ} {x : InHand} {a : Item} {t : Held Item} (f : N
 
 -- the code asks whether the newcomer's rate is at most another's, the model whether the newcomer stands in front
 in_front_lem : (side : Bool) (a b : ℤ) → side ≡ int_le a b → int_lt b a ≡ not side
-in_front_lem side a b d = same_test (int_lt b a) (not (int_le a b)) (λ t. omega (arith, intRules)) (λ t. omega (arith, intRules)) ∙ ap not (sym d)
+in_front_lem side a b d = same_test (int_lt b a) (not (int_le a b)) (λ t. omega (arith, int_rules)) (λ t. omega (arith, int_rules)) ∙ ap not (sym d)
 
 -- ---- a line alone
 

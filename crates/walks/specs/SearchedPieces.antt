@@ -6,7 +6,7 @@ use mathlib.Core.List.{IsChain}
 use mathlib.Mathlib.Data.List.Chain.IsChain
 use Rattle.std.specs.Int.Signed.{le_z, lt_z}
 use Rattle.lists.specs.Bools.{and_both, and_right}
-use Rattle.integers.specs.Parts.{intRules, gap_above}
+use Rattle.integers.specs.Parts.{int_rules, gap_above}
 use Rattle.offers.specs.Offers.{between, crossing_numerator, crossing_denominator}
 use Rattle.offers.specs.Sizes.{rate_of_lem, base_of_lem, base_gap_in_range, rate_gap_in_range}
 use Rattle.offers.specs.Bounded.{bounded, bounded_in}
@@ -119,7 +119,7 @@ module _ {w : Words} {a b : Item} (h : Held w a) (k : Held w b) (n : Next w a b)
       (rate_of_lem b.offer k.ranged)))
     where
       above : T (lt_z (pos 0) (rate_of a -ℤ rate_of b)) → T (le_z (pos 0) (rate_of a -ℤ rate_of b))
-      above t = omega (arith, intRules)
+      above t = omega (arith, int_rules)
 
   pub read_numerator : numerator_at w a.slot ≡ crossing_numerator a.offer b.offer
   read_numerator =

@@ -6,18 +6,18 @@ use lib.IntN.{ℤ}
 use lib.Signed.{le_z, lt_z}
 use mir.Facts.{to_z-of_z}
 use Rattle.lists.specs.Bools.{same_test}
-use Rattle.integers.specs.Parts.{intRules}
+use Rattle.integers.specs.Parts.{int_rules}
 use Rattle.offers.specs.Offers.{between}
 use Rattle.query.proofs.outside.Statement.{statement}
 use Rattle.query.proofs.outside.Tie as tie
 
 below : (low high z : ℤ) → lt_z z low ≡ true → true ≡ not (between low high z)
-below low high z e = let p : le_z low z ≡ false = omega (arith, intRules) in rw p
+below low high z e = let p : le_z low z ≡ false = omega (arith, int_rules) in rw p
 
 above : (low high z : ℤ) → lt_z z low ≡ false → lt_z high z ≡ not (between low high z)
 above low high z e =
-    let p : le_z low z ≡ true = omega (arith, intRules) in
-    rw p (same_test (lt_z high z) (not (le_z z high)) (λ t. omega (arith, intRules)) (λ t. omega (arith, intRules)))
+    let p : le_z low z ≡ true = omega (arith, int_rules) in
+    rw p (same_test (lt_z high z) (not (le_z z high)) (λ t. omega (arith, int_rules)) (λ t. omega (arith, int_rules)))
 
 returns : tie.Need-returns
 returns c =

@@ -9,7 +9,7 @@ use lib.Signed.{quot_z}
 use mir.Syntax.{w64}
 use mir.Val.{to_z}
 use mir.Facts.{to_z-of_z}
-use Rattle.integers.specs.Parts.{intRules, nat_abs_parts, sub_parts}
+use Rattle.integers.specs.Parts.{int_rules, nat_abs_parts, sub_parts}
 use Rattle.integers.specs.Magnitude.{fits, nat_abs_sub}
 use Rattle.vouchers.specs.VoucherSteps.{units_fit, pairs_fit, above_fits, below_fits, rest_fits}
 use Rattle.vouchers.specs.VoucherSteps.{cut, even, odd, Enough, further_up, further_down, no_further}
@@ -57,7 +57,7 @@ returns c =
     let rest = rest_fits p in
     let above = above_fits p f in
     let t = simp (to_z-of_z, f, rest) at c.if2.true in
-    simp (to_z-of_z, f, units, above) (further_up (cut p) (enough-is c.before) (omega (arith, intRules, t)))
+    simp (to_z-of_z, f, units, above) (further_up (cut p) (enough-is c.before) (omega (arith, int_rules, t)))
 
 -- −enough fits
 minus-small : (c : lts.Joined1 reads.Pre reads.Post) → nat_abs (pos 0 -ℤ to_z w64 c.if1.enough) < 2 ^ 63
@@ -88,7 +88,7 @@ returns-2 c =
     let enough = enough-is j in
     let minus = fits (pos 0 -ℤ e) (minus-small j) in
     let t = simp (to_z-of_z, f, rest, minus) at c.if3.true in
-    simp (to_z-of_z, f, units, below) (further_down (cut p) enough (omega (arith, intRules, t, sub_parts (pos 0) e)))
+    simp (to_z-of_z, f, units, below) (further_down (cut p) enough (omega (arith, int_rules, t, sub_parts (pos 0) e)))
 
 returns-3 : tie.Need-returns-3
 returns-3 c =
@@ -103,7 +103,7 @@ returns-3 c =
     let t = simp (to_z-of_z, f, rest) at c.before.if2.false in
     let z = simp (to_z-of_z, f, rest, minus) at c.if3.false in
     simp (to_z-of_z, f, units)
-    (no_further (cut p) enough (omega (arith, intRules, t)) (omega (arith, intRules, z, sub_parts (pos 0) e)))
+    (no_further (cut p) enough (omega (arith, int_rules, t)) (omega (arith, int_rules, z, sub_parts (pos 0) e)))
 
 pub whole-units-spec : {M : Type 1} → statement M
 whole-units-spec = tie.close (tie.spec div-units rem-rest rem-if1 add-result returns sub-if3 sub-result returns-2 returns-3)
