@@ -11,9 +11,9 @@ use Rattle.lists.specs.Places.{place_of, mem_reverse, reverse_about}
 use Rattle.envelopes.specs.PseudoLines.{Figure, PseudoLines, mirror, mirror_laws}
 use Rattle.envelopes.specs.Crossing.{price_refl}
 use Rattle.envelopes.specs.Bridge.{Chain}
-use Rattle.envelopes.specs.Chains.{outer_above, inner_above, turns_upto}
+use Rattle.envelopes.proofs.Chains.{outer_above, inner_above, turns_upto}
 use Rattle.envelopes.specs.Envelope.{Ordered, Env}
-use Rattle.envelopes.specs.Query.{env_mirror}
+use Rattle.envelopes.proofs.Query.{env_mirror}
 
 -- One of the lines, at the point at or below every other. Of several, any: a tie is no matter here.
 pub record Least (S : Figure) (es : List S.Line) (e : S.Line) (x : S.Point) : Type 0 where

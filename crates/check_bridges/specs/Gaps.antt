@@ -8,7 +8,7 @@ use Rattle.offers.specs.Offers.{offer_in_range}
 use Rattle.offers.specs.Sizes.{rate_of_lem, base_of_lem, base_gap_in_range}
 use Rattle.offers.specs.Sizes.{rate_gap_in_range, cross_product_fits}
 use Rattle.offers.specs.Bounded.{bounded_in}
-use Rattle.lines.specs.Lines.{cross_left}
+use Rattle.lines.proofs.Lines.{cross_left}
 use Rattle.table.specs.Fields.{base_field, rate_field}
 use Rattle.table.specs.Words.{Words}
 use Rattle.table.specs.Layout.{cell}

@@ -11,7 +11,7 @@ use Rattle.envelopes.specs.PseudoLines.{Figure, LeftOf, mirror}
 use Rattle.envelopes.specs.Bridge.{InPiece, Bridge, Facing}
 use Rattle.envelopes.specs.SameLines.{bridge_same}
 use Rattle.envelopes.specs.Envelope.{Ordered, Env}
-use Rattle.envelopes.specs.Merge.{env_facing, merge_split}
+use Rattle.envelopes.proofs.Merge.{env_facing, merge_split}
 use Rattle.table.specs.Words.{Words}
 use Rattle.table.specs.Items.{Item}
 use Rattle.pieces.specs.Pieces.{items, item_laws_lem}

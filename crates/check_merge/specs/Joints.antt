@@ -10,7 +10,7 @@ use Rattle.std.proofs.Math.Seq.{append_snoc}
 use Rattle.lists.specs.Places.{sublist_mem}
 use Rattle.envelopes.specs.Envelope.{Ordered, Env}
 use Rattle.envelopes.specs.EnvelopeLaws.{ordered_sublist, ordered_at}
-use Rattle.envelopes.specs.Query.{env_unique}
+use Rattle.envelopes.proofs.Query.{env_unique}
 use Rattle.trees.specs.Tree.{Tree, leaf, node, leaves, last}
 use Rattle.trees.specs.Operations.{Part, part_leaves}
 use Rattle.trees.specs.Balanced.{AvlP}

@@ -3,7 +3,7 @@ use Rattle.std.specs.Prelude.{◌≡◌, Bool, true, false, List, ℕ, length}
 use Rattle.std.proofs.Common.{sym, ◌∙◌, subst, arith}
 use Rattle.lists.specs.Places.{sublist_mem}
 use Rattle.lists.specs.Bools.{never}
-use Rattle.envelopes.specs.Query.{env_unique}
+use Rattle.envelopes.proofs.Query.{env_unique}
 use Rattle.trees.specs.Tree.{Tree, leaves}
 use Rattle.trees.specs.Operations.{Part, part_leaves}
 use Rattle.trees.specs.Balanced.{AvlP}

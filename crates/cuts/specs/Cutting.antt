@@ -13,7 +13,7 @@ use Rattle.offers.specs.Sizes.{rate_of_lem}
 use Rattle.trees.specs.Tree.{Tree, leaf, node, leaves, last}
 use Rattle.trees.specs.Leaves.{last_leaf}
 use Rattle.trees.specs.Operations.{Part, Cut, part_leaves, part_height, split, split_p, after_left, before_right, all_front, all_back}
-use Rattle.trees.specs.Split.{split_p_leaves, split_p_low}
+use Rattle.trees.proofs.Split.{split_p_leaves, split_p_low}
 use Rattle.table.specs.Fields.{most_levels, piece_tree, rate_field}
 use Rattle.table.specs.Words.{Words}
 use Rattle.table.specs.Items.{Item}

@@ -8,9 +8,10 @@ use mathlib.Core.List.Memᴰ
 use Rattle.std.specs.Int.Signed.{le_z}
 use Rattle.trees.specs.Tree.{Tree, leaf, node, height, leaves, last, Avl, avl_node}
 use Rattle.trees.specs.Operations.{Part, Cut, part_leaves, part_height, join_p, split, split_p, all_front, all_back, after_left, before_right}
-use Rattle.trees.specs.Leaves.{leaves_join_p, last_leaf, same_last}
+use Rattle.trees.specs.Leaves.{last_leaf, same_last}
+use Rattle.trees.proofs.Leaves.{leaves_join_p}
 use Rattle.trees.specs.Balanced.{AvlP}
-use Rattle.trees.specs.Split.{split_leaves, split_low}
+use Rattle.trees.proofs.Split.{split_leaves, split_low}
 use Rattle.trees.specs.TreeSteps.{split_right, split_left}
 use Rattle.table.specs.Fields.{most_nodes, most_slots}
 use Rattle.table.specs.Words.{Words, up_to}

@@ -6,12 +6,12 @@ use Rattle.std.proofs.Math.Seq.{split_at}
 use Rattle.lists.specs.Places.{mem_at, sublist_mem, get_d_reverse}
 use Rattle.envelopes.specs.PseudoLines.{Figure, PseudoLines}
 use Rattle.envelopes.specs.Bridge.{Facing}
-use Rattle.envelopes.specs.Chains.{reversed}
+use Rattle.envelopes.proofs.Chains.{reversed}
 use Rattle.envelopes.specs.SameLines.{bridge_same}
 use Rattle.envelopes.specs.Envelope.{Ordered, Env}
 use Rattle.envelopes.specs.EnvelopeLaws.{ordered_apart}
-use Rattle.envelopes.specs.Exists.{bridge}
-use Rattle.envelopes.specs.Merge.{merge_split}
+use Rattle.envelopes.proofs.Exists.{bridge}
+use Rattle.envelopes.proofs.Merge.{merge_split}
 use Rattle.trees.specs.Tree.{Tree, leaves, first}
 use Rattle.trees.specs.Leaves.{some_leaf}
 use Rattle.meeting.specs.Machine.{left, right}

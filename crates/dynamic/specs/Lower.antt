@@ -12,9 +12,12 @@ use Rattle.envelopes.specs.EnvelopeLaws.{ordered_left, ordered_right, ordered_ap
 use Rattle.envelopes.specs.Small.{env_one}
 use Rattle.trees.specs.Tree.{Tree, node, leaves, last, Avl, avl_node}
 use Rattle.trees.specs.Operations.{Part, Cut, part_leaves}
-use Rattle.trees.specs.Leaves.{leaves_join_p, last_leaf}
-use Rattle.trees.specs.Balanced.{AvlP, near_join_p}
-use Rattle.trees.specs.Split.{Halves, split_p_halves, split_p_low}
+use Rattle.trees.specs.Leaves.{last_leaf}
+use Rattle.trees.proofs.Leaves.{leaves_join_p}
+use Rattle.trees.specs.Balanced.{AvlP}
+use Rattle.trees.proofs.Balanced.{near_join_p}
+use Rattle.trees.specs.Split.{Halves}
+use Rattle.trees.proofs.Split.{split_p_halves, split_p_low}
 use Rattle.trees.specs.Order.{up_to_last}
 use Rattle.dynamic.specs.OfferTree.{OfferTree, fork, shape, Held, hold, Lowered, cut_behind, lower_tree, lower}
 use Rattle.dynamic.specs.Valid.{Valid, valid_single, valid_fork, Whole}

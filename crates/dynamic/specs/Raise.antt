@@ -14,9 +14,11 @@ use Rattle.envelopes.specs.Envelope.{Ordered, Env}
 use Rattle.envelopes.specs.EnvelopeLaws.{ordered_head, ordered_right, ordered_apart, ordered_sublist}
 use Rattle.trees.specs.Tree.{Tree, node, height, leaves, first, Avl}
 use Rattle.trees.specs.Operations.{Part, Cut, part_leaves, join_p, split}
-use Rattle.trees.specs.Leaves.{leaves_join_p, first_leaf}
-use Rattle.trees.specs.Balanced.{near_join_p}
-use Rattle.trees.specs.Split.{Halves, split_halves, split_low}
+use Rattle.trees.specs.Leaves.{first_leaf}
+use Rattle.trees.proofs.Leaves.{leaves_join_p}
+use Rattle.trees.proofs.Balanced.{near_join_p}
+use Rattle.trees.specs.Split.{Halves}
+use Rattle.trees.proofs.Split.{split_halves, split_low}
 use Rattle.meeting.specs.Machine.{meet}
 use Rattle.meeting.specs.Meets.{Met, limit}
 use Rattle.dynamic.specs.OfferTree.{OfferTree, fork, shape, Held, hold, held_shape, Pair, Made, bridged, raise_by, raise}

@@ -8,7 +8,7 @@ use Rattle.std.proofs.Math.Option.{Option, none, some}
 use Rattle.integers.specs.Log.{log_up, log_up_mono}
 use Rattle.envelopes.specs.PseudoLines.{Figure, PseudoLines}
 use Rattle.envelopes.specs.Envelope.{listed}
-use Rattle.envelopes.specs.Query.{env_listed}
+use Rattle.envelopes.proofs.Query.{env_listed}
 use Rattle.trees.specs.Tree.{leaves}
 use Rattle.trees.specs.Height.{log_height}
 use Rattle.dynamic.specs.OfferTree.{Held, held_shape, Pair}

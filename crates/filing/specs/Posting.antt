@@ -9,7 +9,7 @@ use Rattle.std.proofs.lemmas.List.{length-map}
 use Rattle.lists.specs.Members.{pairs_cons}
 use Rattle.offers.specs.Offers.{Offer}
 use Rattle.offers.specs.Order.{Ahead, compare_offers}
-use Rattle.offers.specs.Ranks.{rank_tells}
+use Rattle.offers.proofs.Ranks.{rank_tells}
 use Rattle.trees.specs.Operations.{Part, part_leaves}
 use Rattle.plain.specs.Book.{State, join, holding}
 use Rattle.plain.specs.Sound.{length_join}

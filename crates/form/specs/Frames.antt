@@ -14,7 +14,8 @@ use Rattle.dynamic.specs.Rearranged.{stored, rearranged, rearranged_mem}
 use Rattle.table.specs.Fields.{base_field, bridge_left_field, bridge_right_field, denominator_field, inner_rest_field, leaf_rest_field, most_nodes}
 use Rattle.table.specs.Fields.{next_piece_field, number_field, numerator_field, offer_tree, piece_tree, rate_field}
 use Rattle.table.specs.Words.{Words, up_to}
-use Rattle.table.specs.Layout.{cap, cell, cset, link_at, cset_other}
+use Rattle.table.specs.Layout.{cap, cell, cset, link_at}
+use Rattle.table.proofs.LayoutLaws.{cset_other}
 use Rattle.table.specs.Items.{Item, In, at, in_left, in_right, Slots, slots_left, slots_across}
 use Rattle.table.specs.Rep.{child_field, height_field, Field, a_child, a_height, Tied, tied_leaf, tied_node, Within, within_cap, Only}
 use Rattle.table.specs.Threads.{Holds, Threaded, holds_left, holds_still, threaded_still, leads_in}

@@ -14,7 +14,7 @@ use Rattle.lists.specs.Places.{sublist_mem}
 use Rattle.lists.specs.Firsts.{firsts, firsts_sub, firsts_map}
 use Rattle.offers.specs.Offers.{Offer, offer_in_range, precedes, ahead}
 use Rattle.offers.specs.Order.{ahead_meant}
-use Rattle.offers.specs.Ranks.{rank_ahead}
+use Rattle.offers.proofs.Ranks.{rank_ahead}
 use Rattle.envelopes.specs.Envelope.{Ordered, ordered_nil}
 use Rattle.plain.specs.Book.{State, first_of_each}
 use Rattle.plain.specs.FirstLaws.{self, pairs_standing, cover}

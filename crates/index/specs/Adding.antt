@@ -13,8 +13,9 @@ use Rattle.integers.specs.Parts.{int_rules, ne_parts}
 use Rattle.trees.specs.Tree.{Avl}
 use Rattle.trees.specs.Operations.{Part, part_leaves, split_p, add_p}
 use Rattle.trees.specs.Order.{Falling, falling_turning}
-use Rattle.trees.specs.Split.{split_p_leaves, Clean, split_p_clean}
-use Rattle.trees.specs.Add.{add_p_leaves, add_p_avl}
+use Rattle.trees.specs.Split.{Clean}
+use Rattle.trees.proofs.Split.{split_p_leaves, split_p_clean}
+use Rattle.trees.proofs.Add.{add_p_leaves, add_p_avl}
 use Rattle.table.specs.Fields.{most_levels}
 use Rattle.table.specs.Words.{Words}
 use Rattle.table.specs.Layout.{cap, cell}

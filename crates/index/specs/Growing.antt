@@ -6,8 +6,8 @@ use Rattle.std.specs.Int.Signed.{le_z}
 use Rattle.trees.specs.Tree.{Tree, leaf, node, height, leaves, last, Avl, avl_leaf, avl_node}
 use Rattle.trees.specs.Operations.{join, add}
 use Rattle.trees.specs.TreeSteps.{add_behind, add_before, add_right, add_left}
-use Rattle.trees.specs.Leaves.{leaves_join}
-use Rattle.trees.specs.Add.{add_avl, add_last}
+use Rattle.trees.proofs.Leaves.{leaves_join}
+use Rattle.trees.proofs.Add.{add_avl, add_last}
 use Rattle.table.specs.Fields.{most_slots}
 use Rattle.table.specs.Words.{Words}
 use Rattle.table.specs.Layout.{cap, cell}

@@ -10,9 +10,11 @@ use Rattle.std.specs.Int.Signed.{le_z}
 use Rattle.lists.specs.Places.{sublist_mem}
 use Rattle.integers.specs.Parts.{int_rules, add_parts}
 use Rattle.trees.specs.Tree.{Tree, leaf, node, height, leaves, last, Avl, avl_node}
-use Rattle.trees.specs.Leaves.{leaves_join_p, last_leaf}
+use Rattle.trees.specs.Leaves.{last_leaf}
+use Rattle.trees.proofs.Leaves.{leaves_join_p}
 use Rattle.trees.specs.Operations.{Part, part_leaves, part_height, join_p}
-use Rattle.trees.specs.Balanced.{AvlP, near_join_p}
+use Rattle.trees.specs.Balanced.{AvlP}
+use Rattle.trees.proofs.Balanced.{near_join_p}
 use Rattle.trees.specs.Order.{Falling, parted, last_lowest}
 use Rattle.table.specs.Fields.{most_slots}
 use Rattle.table.specs.Words.{Words}

@@ -4,7 +4,8 @@ use Rattle.std.proofs.Common.{sym, ◌∙◌, ap, subst, arith}
 use Rattle.std.proofs.Math.Option.{some}
 use mathlib.Core.List.Memᴰ
 use Rattle.trees.specs.Tree.{Tree, leaves, first, last}
-use Rattle.trees.specs.Leaves.{last_leaf, leaves_join_p}
+use Rattle.trees.specs.Leaves.{last_leaf}
+use Rattle.trees.proofs.Leaves.{leaves_join_p}
 use Rattle.trees.specs.Operations.{Part, Cut, part_leaves, join_p, split_p}
 use Rattle.trees.specs.Balanced.{AvlP}
 use Rattle.trees.specs.Split.{Halves}

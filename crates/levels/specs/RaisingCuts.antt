@@ -3,7 +3,8 @@ use Rattle.std.specs.Prelude.{◌≡◌, Bool, ◌++◌, ℕ}
 use Rattle.std.proofs.Common.{sym, subst}
 use Rattle.trees.specs.Tree.{leaves}
 use Rattle.trees.specs.Operations.{Part, Cut, part_leaves, split_p}
-use Rattle.trees.specs.Split.{cut_leaves, split_p_leaves}
+use Rattle.trees.specs.Split.{cut_leaves}
+use Rattle.trees.proofs.Split.{split_p_leaves}
 use Rattle.dynamic.specs.OfferTree.{Held, held_shape}
 use Rattle.table.specs.Words.{Words}
 use Rattle.table.specs.Layout.{cap}

@@ -7,7 +7,8 @@ use Rattle.trees.specs.Leaves.{last_leaf}
 use Rattle.dynamic.specs.OfferTree.{OfferTree, single, fork, shape}
 use Rattle.table.specs.Fields.{bridge_left_field, bridge_right_field, inner_rest_field, leaf_rest_field, most_nodes, offer_tree}
 use Rattle.table.specs.Words.{Words, up_to, up_to_in}
-use Rattle.table.specs.Layout.{cap, cell, cset, link_at, Valid, cset_same, cset_other}
+use Rattle.table.specs.Layout.{cap, cell, cset, link_at, Valid, cset_same}
+use Rattle.table.proofs.LayoutLaws.{cset_other}
 use Rattle.table.specs.Items.{Item, In, at, in_left, in_right, Slots, slots_left, slots_right, slots_across}
 use Rattle.table.specs.Rep.{child_field, height_field, Field, a_child, a_height, ref_of, node_on, Tied, Within, within_cap, within_trans, within_cset, Only}
 use Rattle.table.specs.Nodes.{Made}

@@ -7,7 +7,7 @@ use Rattle.std.proofs.Math.Option.{none}
 use Rattle.std.proofs.Math.ListN.{get_or-append}
 use Rattle.envelopes.specs.PseudoLines.{Figure, PseudoLines}
 use Rattle.envelopes.specs.Bridge.{Facing, Bridge}
-use Rattle.envelopes.specs.Search.{facts}
+use Rattle.envelopes.proofs.Search.{facts}
 use Rattle.trees.specs.Tree.{Tree, leaf, node, height, leaves}
 use Rattle.meeting.specs.Machine.{Side, left, right, away, toward, start, meet, Result}
 use Rattle.meeting.specs.Located.{Spans, one, two, bottom, Aim, Stands}

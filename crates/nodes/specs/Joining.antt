@@ -8,7 +8,8 @@ use Rattle.table.specs.Words.{Words}
 use Rattle.table.specs.Layout.{cap_most, cset}
 use Rattle.table.specs.Items.{Item}
 use Rattle.table.specs.Rep.{child_field, height_field, height_at, node_on, seam, Within, within_refl}
-use Rattle.table.specs.Nodes.{Pair, Made, wired, wired_within, made_node, seam_in}
+use Rattle.table.specs.Nodes.{Pair, Made, wired, wired_within, seam_in}
+use Rattle.table.proofs.Nodes.{made_node}
 
 pub record Joined (shape : Tree Item → Tree Item → Tree Item) (k : ℕ) (side : Bool) (gap p q : ℕ) (w w' : Words) (x : ℕ) : Type 0 where
   pub within : Within w w'

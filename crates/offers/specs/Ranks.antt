@@ -51,20 +51,8 @@ module _ (a b : Offer) (ha : T (offer_in_range a)) (hb : T (offer_in_range b)) w
       omega (arith, int_rules, rank_parts a.rate a.base a.number, rank_parts b.rate b.base b.number)
   ahead_rank (by_number e d t) = omega (arith, int_rules, rank_parts a.rate a.base a.number, rank_parts b.rate b.base b.number)
 
-irrefl : {z y : ℤ} → z ≡ y → T (lt_z y z) → ⊥
+pub irrefl : {z y : ℤ} → z ≡ y → T (lt_z y z) → ⊥
 irrefl e t = omega (arith, int_rules)
-
-module _ (a b : Offer) (ha : T (offer_in_range a)) (hb : T (offer_in_range b)) where
-  -- a rank tells its offer
-  pub rank_tells : rank a ≡ rank b → a ≡ b
-  rank_tells e = ⊎_elim (λ d. d) (⊎_elim (λ k. absurd (irrefl e (ahead_rank a b ha hb k))) (λ k. absurd (irrefl (sym e) (ahead_rank b a hb ha k))))
-      (compare_offers a b)
-
-  pub rank_ahead : T (lt_z (rank b) (rank a)) → Ahead a b
-  rank_ahead t = ⊎_elim (λ e. absurd (irrefl (ap rank e) t)) (⊎_elim (λ k. k) (λ k. absurd (apart t (ahead_rank b a hb ha k)))) (compare_offers a b)
-    where
-      apart : T (lt_z (rank b) (rank a)) → T (lt_z (rank a) (rank b)) → ⊥
-      apart t u = omega (arith, int_rules)
 
 -- ---- sizes: the rank, and what the code computes on the way to it
 

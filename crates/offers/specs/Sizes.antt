@@ -62,13 +62,6 @@ product_fits r q hr hq = fits (r *ℤ q) (omega (arith, product_size r q hr hq))
 pub price_at_size : (b r q : ℤ) → T (base_in_range b) → T (rate_in_range r) → T (load_in_range q) → nat_abs (b +ℤ r *ℤ q) ≤ 101_000_000_000
 price_at_size b r q hb hr hq = omega (arith, nat_abs_add b (r *ℤ q), base_size b hb, product_size r q hr hq)
 
-pub price_at_fits : (b r q : ℤ) → T (base_in_range b) → T (rate_in_range r) → T (load_in_range q) → SFits w64 (b +ℤ r *ℤ q)
-price_at_fits b r q hb hr hq = fits (b +ℤ r *ℤ q) (omega (arith, price_at_size b r q hb hr hq))
-
--- so an answered price is one that a voucher takes
-pub price_at_in_range : (b r q : ℤ) → T (base_in_range b) → T (rate_in_range r) → T (load_in_range q) → T (price_in_range (b +ℤ r *ℤ q))
-price_at_in_range b r q hb hr hq = nat_abs_within 100_999_999_999 (b +ℤ r *ℤ q) (price_at_size b r q hb hr hq)
-
 -- ---- crossings: the numerator next base − own base, the denominator own rate − next rate
 
 abbrev pub numerator_in_range : ℤ → Bool

@@ -10,7 +10,8 @@ use Rattle.plain.specs.Book.{opened, part_length}
 use Rattle.table.specs.Fields.{capacity_word, envelope_root_word, first_free_word, live_count_word, most_slots, next_free_field, number_field, numbers_root_word}
 use Rattle.table.specs.Fields.{offers_root_word, order_root_word}
 use Rattle.table.specs.Words.{Words, word, wset, wset_length, wset_same, wset_other, up_to, up_to_in}
-use Rattle.table.specs.Layout.{cap, fitting, cell, cset, Valid, cset_same, cset_other}
+use Rattle.table.specs.Layout.{cap, fitting, cell, cset, Valid, cset_same}
+use Rattle.table.proofs.LayoutLaws.{cset_other}
 use Rattle.table.specs.Rep.{Within, within_cap, within_refl, within_trans, within_cset, header_kept}
 use Rattle.table.specs.Items.{Item, slots_none}
 use Rattle.form.specs.Form.{Book, IndexIn, FreeChain, free_none, free_more, head0}

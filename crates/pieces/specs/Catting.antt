@@ -7,19 +7,22 @@ use Rattle.offers.specs.Offers.{crossing_numerator, crossing_denominator}
 use Rattle.offers.specs.Sizes.{rate_of_lem, base_of_lem}
 use Rattle.offers.specs.Bounded.{bounded_in}
 use Rattle.trees.specs.Tree.{Tree, leaves, first, last}
-use Rattle.trees.specs.Leaves.{leaves_join, first_leaf, last_leaf}
+use Rattle.trees.specs.Leaves.{first_leaf, last_leaf}
+use Rattle.trees.proofs.Leaves.{leaves_join}
 use Rattle.trees.specs.Operations.{Part, part_leaves, join, join_p}
-use Rattle.trees.specs.Balanced.{near_join}
+use Rattle.trees.proofs.Balanced.{near_join}
 use Rattle.table.specs.Fields.{denominator_field, most_nodes, next_piece_field, numerator_field, piece_tree}
 use Rattle.table.specs.Words.{Words, up_to}
-use Rattle.table.specs.Layout.{cap, cap_most, cell, cset, link_at, cset_cap, cset_other}
+use Rattle.table.specs.Layout.{cap, cap_most, cell, cset, link_at, cset_cap}
+use Rattle.table.proofs.LayoutLaws.{cset_other}
 use Rattle.table.specs.Items.{Item, In, at, in_left, slots_across}
 use Rattle.table.specs.Rep.{Field, a_child, a_height, child_field, height_field, Tied, tied_leaf, tied_node, Rep, Within, within_cap}
 use Rattle.table.specs.Rep.{within_refl, within_trans, within_cset}
 use Rattle.table.specs.Nodes.{ref_low}
 use Rattle.table.specs.PartTrees.{MadeP, PairP}
 use Rattle.table.specs.Threads.{Held, Threaded, SameOffer, SameThread, leads_in, leads_last, chain_join, holds_still, holds_join}
-use Rattle.table.specs.Threads.{threaded_still, only_offer, only_thread, cset_offer, cset_thread, threading, threading_next}
+use Rattle.table.specs.Threads.{threaded_still, only_offer, only_thread, threading}
+use Rattle.table.proofs.Threads.{cset_offer, cset_thread, threading_next}
 use Rattle.shape.specs.JoinSteps.{Merged}
 use Rattle.descents.specs.Ends.{Ended}
 use Rattle.prices.specs.Prices.{rate_at, base_at}

@@ -17,7 +17,8 @@ use Rattle.offers.specs.Order.{Ahead, ahead_said, ahead_meant, ahead_asym, ahead
 use Rattle.envelopes.specs.PseudoLines.{Figure, PseudoLines}
 use Rattle.envelopes.specs.Envelope.{Ordered, ordered_nil, ordered_cons}
 use Rattle.envelopes.specs.EnvelopeLaws.{compare_lines, same_members}
-use Rattle.lines.specs.Lines.{line_figure, line_laws}
+use Rattle.lines.specs.Lines.{line_figure}
+use Rattle.lines.proofs.Lines.{line_laws}
 use Rattle.plain.specs.Book.{join}
 use Rattle.plain.specs.Meaning.{FirstOfRate}
 use Rattle.plain.specs.Sound.{join_ordered}

@@ -16,8 +16,9 @@ use Rattle.integers.specs.Ring.{mul_le}
 use Rattle.offers.specs.Offers.{Offer, RationalLoad, denominator, price_times_d, precedes, ahead, crossing_numerator, crossing_denominator}
 use Rattle.offers.specs.Order.{by_rate_lem, ahead_meant, base_rises}
 use Rattle.envelopes.specs.Envelope.{Ordered, Cheapest, Env, listed}
-use Rattle.envelopes.specs.Listed.{listed_exact, listed_env}
-use Rattle.lines.specs.OfferLines.{offer_figure, offer_laws, crossing_test, strictly_cheaper}
+use Rattle.envelopes.proofs.Listed.{listed_exact, listed_env}
+use Rattle.lines.specs.OfferLines.{offer_figure, strictly_cheaper}
+use Rattle.lines.proofs.OfferLines.{offer_laws, crossing_test}
 use Rattle.plain.specs.Book.{envelope, lower_envelope, first_of_each, turns}
 use Rattle.plain.specs.Meaning.{CheaperThanOthers}
 use Rattle.plain.specs.FirstLaws.{self, Standing, pairs_standing, pairs_ordered, firsts_ordered, one_of_rate, cover}

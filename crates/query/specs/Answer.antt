@@ -10,10 +10,11 @@ use Rattle.offers.specs.Offers.{crossing_numerator, crossing_denominator}
 use Rattle.envelopes.specs.PseudoLines.{LeftOf, mirror}
 use Rattle.envelopes.specs.Crossing.{price_refl, left_upto, left_upto_trans, upto_left_trans, cross_upto}
 use Rattle.envelopes.specs.Bridge.{Chain, PastOuter, InPiece}
-use Rattle.envelopes.specs.Chains.{turns_increase}
+use Rattle.envelopes.proofs.Chains.{turns_increase}
 use Rattle.envelopes.specs.Envelope.{Env, First}
-use Rattle.envelopes.specs.Query.{query, query_last}
-use Rattle.lines.specs.Lines.{whole, whole_left, whole_right}
+use Rattle.envelopes.proofs.Query.{query, query_last}
+use Rattle.lines.specs.Lines.{whole}
+use Rattle.lines.proofs.Lines.{whole_left, whole_right}
 use Rattle.trees.specs.Tree.{Tree, leaf, node, leaves, first, last}
 use Rattle.meeting.specs.Machine.{left}
 use Rattle.meeting.specs.Located.{Spans, one, two, spans_some, farthest_at, nearest_at}

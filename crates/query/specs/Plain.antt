@@ -10,8 +10,8 @@ use Rattle.lists.specs.Bools.{is_true}
 use Rattle.integers.specs.Parts.{int_rules}
 use Rattle.offers.specs.Offers.{Offer, price_at, ahead, load_in_range}
 use Rattle.envelopes.specs.Envelope.{Ordered, Env, listed as lines_listed}
-use Rattle.envelopes.specs.Query.{env_listed}
-use Rattle.envelopes.specs.Carried.{listed_map}
+use Rattle.envelopes.proofs.Query.{env_listed}
+use Rattle.envelopes.proofs.Carried.{listed_map}
 use Rattle.lines.specs.Lines.{whole, whole_price}
 use Rattle.lines.specs.OfferLines.{offer_figure}
 use Rattle.plain.specs.Causes.{cause_number, output_too_short}

@@ -8,8 +8,8 @@ use Rattle.std.proofs.Math.Logic.{inl, inr}
 use mathlib.Core.List.{List, [], ◌∷◌, IsChain}
 use Rattle.std.proofs.Math.Option.{Option, none, some}
 use Rattle.envelopes.specs.Bridge.{Facing}
-use Rattle.envelopes.specs.Search.{facts}
-use Rattle.envelopes.specs.Exists.{bridge}
+use Rattle.envelopes.proofs.Search.{facts}
+use Rattle.envelopes.proofs.Exists.{bridge}
 use Rattle.trees.specs.Tree.{Tree, leaf, height, leaves, first}
 use Rattle.trees.specs.Leaves.{some_leaf}
 use Rattle.meeting.specs.Machine.{left, right, State, step, Result, ended, counted, start, run, meet}

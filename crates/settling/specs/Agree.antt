@@ -9,7 +9,8 @@ use Rattle.dynamic.specs.OfferTree.{Held, held_shape}
 use Rattle.dynamic.specs.Valid.{book_lines}
 use Rattle.table.specs.Fields.{next_free_field, number_field, number_tree, order_tree, rank_field}
 use Rattle.table.specs.Words.{Words, word, wset, wset_same}
-use Rattle.table.specs.Layout.{cap, cell, cset, cset_cap, cset_other, header_cap, header_cell}
+use Rattle.table.specs.Layout.{cap, cell, cset, cset_cap, header_cap, header_cell}
+use Rattle.table.proofs.LayoutLaws.{cset_other}
 use Rattle.table.specs.Items.{Item, In, at}
 use Rattle.table.specs.Rep.{child_field, height_field, Field, a_child, a_height, Within, within_cap, Only}
 use Rattle.table.specs.PartTrees.{TiedPart}

@@ -9,7 +9,7 @@ use Rattle.std.specs.Int.Signed.{lt_z}
 use Rattle.lists.specs.Firsts.{firsts_sub}
 use Rattle.integers.specs.Parts.{int_rules, ne_parts}
 use Rattle.offers.specs.Order.{Ahead}
-use Rattle.offers.specs.Ranks.{rank_ahead}
+use Rattle.offers.proofs.Ranks.{rank_ahead}
 use Rattle.dynamic.specs.OfferTree.{Held, held_shape, alone}
 use Rattle.dynamic.specs.Updates.{posted}
 use Rattle.dynamic.specs.Valid.{book_lines}

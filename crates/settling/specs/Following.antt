@@ -8,7 +8,8 @@ use Rattle.lists.specs.Bools.{said, denied}
 use Rattle.integers.specs.Equal.{equal}
 use Rattle.integers.specs.Parts.{int_rules, equal_eq, unequal, le_or_lt}
 use Rattle.offers.specs.Order.{Ahead}
-use Rattle.offers.specs.Ranks.{ahead_rank, rank_ahead}
+use Rattle.offers.specs.Ranks.{ahead_rank}
+use Rattle.offers.proofs.Ranks.{rank_ahead}
 use Rattle.plain.specs.Book.{State}
 use Rattle.trees.specs.Operations.{part_leaves}
 use Rattle.trees.specs.Order.{falling_one}

@@ -14,7 +14,8 @@ use Rattle.plain.specs.Book.{State}
 use Rattle.table.specs.Fields.{base_field, envelope_root_word, first_free_word, live_count_word, most_nodes, next_free_field, number_field, offers_root_word}
 use Rattle.table.specs.Fields.{rank_field, rate_field}
 use Rattle.table.specs.Words.{Words, word, wset, wset_other, up_to, up_to_in}
-use Rattle.table.specs.Layout.{cap, cap_most, cell, cset, link_at, Valid, cset_same, cset_other, cset_rest, header_outside}
+use Rattle.table.specs.Layout.{cap, cap_most, cell, cset, link_at, Valid, cset_same, cset_rest, header_outside}
+use Rattle.table.proofs.LayoutLaws.{cset_other}
 use Rattle.table.specs.Free.{first_free, taken, given, free_link}
 use Rattle.table.specs.Items.{Item, In, at}
 use Rattle.table.specs.Threads.{Holds}

@@ -5,7 +5,8 @@ use Rattle.std.proofs.Common.{sym, ◌∙◌, ap, append_assoc}
 use Rattle.lists.specs.Bools.{cond_swap}
 use Rattle.trees.specs.Tree.{Tree, leaf, node, height, leaves}
 use Rattle.trees.specs.Operations.{towers, double_right, double_left, rotate_right, rotate_left, balance, join_r, join_l}
-use Rattle.trees.specs.Leaves.{leaves_balance, leaves_join_r, leaves_join_l, same_last}
+use Rattle.trees.specs.Leaves.{same_last}
+use Rattle.trees.proofs.Leaves.{leaves_balance, leaves_join_r, leaves_join_l}
 use Rattle.trees.specs.Mirror.{towers_apart}
 use Rattle.table.specs.Items.{Item}
 use Rattle.table.specs.Rep.{node_on, seam}

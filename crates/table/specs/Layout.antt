@@ -235,23 +235,6 @@ cset_same {w} {f} {s} z v =
     ap (word (cset w f s z)) (cset_spot w f s z f s)
     ∙ wset_same w (spot w f s) z (omega (arith, spot_in v, place_in v))
 
--- two fields that a part has are kept in two places
-spot_apart : {w : Words} {f s : ℕ} (f' s' : ℕ) → Valid w f s → ¬ ((f' ≡ f) × (s' ≡ s)) → spot w f' s' ≢ spot w f s
-spot_apart {w} {f} {s} f' s' v d e = go (decide_valid w f' s')
-  where
-    go : Dec (Valid w f' s') → ⊥
-    go (yes u) = d (place_apart u v (sym (spot_in u) ∙ e ∙ spot_in v))
-    go (no u) = omega (arith, spot_out u, spot_in v, place_in v)
-
-pub cset_other : (w : Words) (f s : ℕ) (z : ℤ) {f' s' : ℕ} → ¬ ((f' ≡ f) × (s' ≡ s)) → cell (cset w f s z) f' s' ≡ cell w f' s'
-unfolding cell cset
-cset_other w f s z {f'} {s'} d = go (decide_valid w f s)
-  where
-    go : Dec (Valid w f s) → word (cset w f s z) (spot (cset w f s z) f' s') ≡ word w (spot w f' s')
-    go (yes v) =
-        ap (word (cset w f s z)) (cset_spot w f s z f' s') ∙ wset_other w (spot w f s) (spot w f' s') z (spot_apart f' s' v d)
-    go (no v) = ap (λ (u : Words). word u (spot u f' s')) (cset_out z v)
-
 pub link_of : {f f' s s' r : ℕ} (w : Words) → f ≡ f' → s ≡ s' → r ≡ link_at w f s → r ≡ link_at w f' s'
 link_of w d e h = rw (← d, ← e) h
 

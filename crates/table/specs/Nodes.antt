@@ -7,10 +7,10 @@ use Rattle.trees.specs.Tree.{Tree, leaf, node, height, leaves, last}
 use Rattle.trees.specs.Leaves.{last_leaf}
 use Rattle.table.specs.Fields.{most_nodes, most_slots, order_tree}
 use Rattle.table.specs.Words.{Words, word, word_out, up_to, up_to_in}
-use Rattle.table.specs.Layout.{cap, cap_most, cell, cset, link_at, spot_out, Valid, cset_same, cset_other}
+use Rattle.table.specs.Layout.{cap, cap_most, cell, cset, link_at, spot_out, Valid, cset_same}
 use Rattle.table.specs.Items.{Item, In, at, in_left, in_right, Slots, slots_left, slots_right, slots_across, height_most}
 use Rattle.table.specs.Rep.{child_field, height_field, a_child, a_height, child_at, height_at, ref_of, node_on, seam, Tied, tied_node, tied_still}
-use Rattle.table.specs.Rep.{Rep, Within, within_cap, within_refl, within_trans, within_cset, Only, only_trans, only_cset, Inner, inner_in}
+use Rattle.table.specs.Rep.{Rep, Within, within_cap, within_refl, within_trans, within_cset, Only, only_trans, Inner, inner_in}
 use Rattle.table.specs.Rep.{inner_last}
 
 -- ---- the root's number
@@ -185,15 +185,15 @@ abbrev pub wired : Words → ℕ → Bool → ℕ → ℕ → ℕ → ℕ → Wo
 wired w k side gap p q h =
     cset (cset (cset w (child_field k side) gap (pos p)) (child_field k (not side)) gap (pos q)) (height_field k) gap (pos h)
 
-two_children : (k : ℕ) (side : Bool) → child_field k side ≢ child_field k (not side)
+pub two_children : (k : ℕ) (side : Bool) → child_field k side ≢ child_field k (not side)
 two_children k false e = omega arith
 two_children k true e = omega arith
 
-no_height : {k : ℕ} (side : Bool) → k ≤ order_tree → child_field k side ≢ height_field k
+pub no_height : {k : ℕ} (side : Bool) → k ≤ order_tree → child_field k side ≢ height_field k
 no_height {k} false h e = omega arith
 no_height {k} true h e = omega arith
 
-child_field_lem : {k : ℕ} (side : Bool) → k ≤ order_tree → child_field k side < 32
+pub child_field_lem : {k : ℕ} (side : Bool) → k ≤ order_tree → child_field k side < 32
 child_field_lem {k} false h = omega arith
 child_field_lem {k} true h = omega arith
 
@@ -201,92 +201,26 @@ module _ (w : Words) (k : ℕ) (side : Bool) (gap p q h : ℕ) where
   pub wired_within : Within w (wired w k side gap p q h)
   wired_within = within_trans (within_cset w _ gap (pos p)) (within_trans (within_cset _ _ gap (pos q)) (within_cset _ _ gap (pos h)))
 
-  -- the node's slot is the only one written
-  wired_only : {xs : List Item} → In gap xs → Only k xs w (wired w k side gap p q h)
-  wired_only i =
-      only_trans (only_cset w (pos p) (a_child side refl) i)
-      (only_trans (only_cset _ (pos q) (a_child (not side) refl) i) (only_cset _ (pos h) (a_height refl) i))
-
   module _ (kind : k ≤ order_tree) (low : 1 ≤ gap) (high : gap ≤ cap w) where
-    here : (f : ℕ) {w' : Words} → f < 32 → Within w w' → Valid w' f gap
+    pub here : (f : ℕ) {w' : Words} → f < 32 → Within w w' → Valid w' f gap
     here f b g = record { low = low; high = omega (arith, within_cap g); field = b }
 
-    wired_one : cell (wired w k side gap p q h) (child_field k side) gap ≡ pos p
-    wired_one =
-        cset_other _ (height_field k) gap (pos h) (λ e. no_height side kind e.0)
-        ∙ cset_other _ (child_field k (not side)) gap (pos q) (λ e. two_children k side e.0)
-        ∙ cset_same (pos p) (here _ (child_field_lem side kind) (within_refl w))
-
-    wired_other : cell (wired w k side gap p q h) (child_field k (not side)) gap ≡ pos q
-    wired_other =
-        cset_other _ (height_field k) gap (pos h) (λ e. no_height (not side) kind e.0)
-        ∙ cset_same (pos q) (here _ (child_field_lem (not side) kind) (within_cset w _ gap (pos p)))
-
-    wired_height : cell (wired w k side gap p q h) (height_field k) gap ≡ pos h
+    pub wired_height : cell (wired w k side gap p q h) (height_field k) gap ≡ pos h
     wired_height = cset_same (pos h) (here _ (omega arith) (within_trans (within_cset w _ gap (pos p)) (within_cset _ _ gap (pos q))))
 
 -- no inner node of either tree is kept in the new node's slot
 module _ {c s : ℕ} (tp tq : Tree Item) where
-  away_one : (side : Bool) → Slots c (leaves (node_on side tp tq)) → Inner s tp → s ≢ (seam side tp tq).slot
+  pub away_one : (side : Bool) → Slots c (leaves (node_on side tp tq)) → Inner s tp → s ≢ (seam side tp tq).slot
   away_one false h i e = inner_last (slots_left (leaves tq) h) i e
   away_one true h i e = slots_across (leaves tq) h (at (last_leaf tq) e) (inner_in i)
 
-  away_other : (side : Bool) → Slots c (leaves (node_on side tp tq)) → Inner s tq → s ≢ (seam side tp tq).slot
+  pub away_other : (side : Bool) → Slots c (leaves (node_on side tp tq)) → Inner s tq → s ≢ (seam side tp tq).slot
   away_other false h i e = slots_across (leaves tp) h (at (last_leaf tp) e) (inner_in i)
   away_other true h i e = inner_last (slots_left (leaves tp) h) i e
 
-in_single : {s : ℕ} {a : Item} → In s (a ∷ []) → s ≡ a.slot
+pub in_single : {s : ℕ} {a : Item} → In s (a ∷ []) → s ≡ a.slot
 in_single (at {a = b} m e) = e ∙ ap (λ (i : Item). i.slot) (Memᴰ.eq_of_singleton m)
 
 -- a field that holds the number n
-linked : {z : ℤ} {n m : ℕ} → z ≡ pos n → n ≡ m → m ≤ most_nodes → up_to most_nodes z ≡ m
+pub linked : {z : ℤ} {n m : ℕ} → z ≡ pos n → n ≡ m → m ≤ most_nodes → up_to most_nodes z ≡ m
 linked {z} {n} {m} e d h = ap (up_to most_nodes) e ∙ ap (λ j. up_to most_nodes (pos j)) d ∙ up_to_in most_nodes m h
-
-made_here : {w : Words} {k p q : ℕ} {side : Bool} {tp tq : Tree Item} → Pair w k side p q tp tq → (h : ℕ) → h ≡ suc (max (height_at w k p) (height_at w k q))
-    → Made k w (wired w k side (seam side tp tq).slot p q h) (most_slots + (seam side tp tq).slot) (node_on side tp tq)
-made_here {w} {k} {p} {q} {side} {tp} {tq} pair h e =
-    record {
-      rep = record { kind = pair.kind; root = sym (ref_on side tp tq); slots = rw (within_cap within) pair.slots; tied = tied };
-      only = wired_only w k side gap p q h (at (seam_in side tp tq) refl);
-    }
-  where
-    gap : ℕ
-    gap = (seam side tp tq).slot
-
-    w' : Words
-    w' = wired w k side gap p q h
-
-    within : Within w w'
-    within = wired_within w k side gap p q h
-
-    low : 1 ≤ gap
-    low = pair.slots.low (seam_in side tp tq)
-
-    high : gap ≤ cap w
-    high = pair.slots.high (seam_in side tp tq)
-
-    one_slot : Only k (seam side tp tq ∷ []) w w'
-    one_slot = wired_only w k side gap p q h (at (Memᴰ.head refl) refl)
-
-    tall : h ≡ suc (max (height tp) (height tq))
-    tall = omega (arith, e, rep_height (pair_one pair), rep_height (pair_other pair))
-
-    tied : Tied w' k (node_on side tp tq)
-    tied =
-        tied_on side (tied_still pair.tied_one one_slot (λ s i j. away_one tp tq side pair.slots i (in_single j)))
-        (tied_still pair.tied_other one_slot (λ s i j. away_other tp tq side pair.slots i (in_single j)))
-        (linked (wired_one w k side gap p q h pair.kind low high) pair.one (ref_high tp (on_one tp tq side pair.slots) (cap_most w)))
-        (linked (wired_other w k side gap p q h pair.kind low high) pair.other (ref_high tq (on_other tp tq side pair.slots) (cap_most w)))
-        (linked (wired_height w k side gap p q h pair.kind low high) tall (omega (
-          arith,
-          height_on side tp tq,
-          height_most (node_on side tp tq) pair.slots,
-          cap_most w,
-        )))
-
--- writing a node's words makes its tree
-pub made_node : {w : Words} {k p q : ℕ} {side : Bool} {tp tq : Tree Item} → Pair w k side p q tp tq → (gap h : ℕ) → gap ≡ (seam side tp tq).slot →
-    h ≡ suc (max (height_at w k p) (height_at w k q))
-    → Made k w (wired w k side gap p q h) (most_slots + gap) (node_on side tp tq)
-made_node {w} {k} {p} {q} {side} {tp} {tq} pair gap h d e =
-    subst (λ g. Made k w (wired w k side g p q h) (most_slots + g) (node_on side tp tq)) (sym d) (made_here pair h e)

@@ -7,7 +7,7 @@ use Rattle.trees.specs.Tree.{Tree, leaf, node, height, leaves, last}
 use Rattle.trees.specs.Leaves.{last_leaf}
 use Rattle.table.specs.Fields.{capacity_word, most_nodes, most_slots, order_tree}
 use Rattle.table.specs.Words.{Words, word, up_to}
-use Rattle.table.specs.Layout.{cap, cap_of, cell, cset, link_at, link_most, outside_of, Outside, header_outside, cset_length, cset_rest, cset_other}
+use Rattle.table.specs.Layout.{cap, cap_of, cell, cset, link_at, link_most, outside_of, Outside, header_outside, cset_length, cset_rest}
 use Rattle.table.specs.Items.{Item, In, at, in_left, in_right, Slots, slots_right, slots_across}
 
 -- ---- nodes
@@ -104,10 +104,6 @@ only_trans g h = record { cells = λ f s d. h.cells f s d ∙ g.cells f s d }
 
 pub only_more : {k : ℕ} {xs ys : List Item} {w w' : Words} → ((s : ℕ) → In s xs → In s ys) → Only k xs w w' → Only k ys w w'
 only_more sub g = record { cells = λ f s d. g.cells f s (λ h. d (h.0, sub s h.1)) }
-
-pub only_cset : {k f s : ℕ} {xs : List Item} (w : Words) (z : ℤ) → Field k f → In s xs → Only k xs w (cset w f s z)
-only_cset {k} {f} {s} {xs} w z i h =
-    record { cells = λ f' s' d. cset_other w f s z (λ e. d (subst (Field k) (sym e.0) i, subst (λ n. In n xs) (sym e.1) h)) }
 
 -- ---- the words of a tree whose nodes were not touched
 

@@ -15,7 +15,8 @@ use Rattle.offers.specs.Offers.{Offer, ahead, crossing_numerator, crossing_denom
 use Rattle.offers.specs.Order.{Ahead, ahead_said, ahead_asym, ahead_other}
 use Rattle.envelopes.specs.Envelope.{Env}
 use Rattle.envelopes.specs.EnvelopeLaws.{same_members}
-use Rattle.lines.specs.OfferLines.{offer_figure, offer_laws}
+use Rattle.lines.specs.OfferLines.{offer_figure}
+use Rattle.lines.proofs.OfferLines.{offer_laws}
 use Rattle.plain.specs.Book.{State}
 use Rattle.plain.specs.Meaning.{Priced, Cheapest, PieceAt, Listing, Report}
 use Rattle.plain.specs.QueryLaws.{earliest_live, earliest_once}

@@ -11,7 +11,7 @@ use Rattle.trees.specs.Operations.{Part, towers, double_right, double_left, rota
 use Rattle.trees.specs.ByHeights.{by_heights}
 
 module _ {A : Type 0} where
-  leaves_double_right : (a m r : Tree A) → leaves (double_right a m r) ≡ leaves a ++ (leaves m ++ leaves r)
+  pub leaves_double_right : (a m r : Tree A) → leaves (double_right a m r) ≡ leaves a ++ (leaves m ++ leaves r)
   unfolding double_right
   leaves_double_right a (leaf x) r = refl
   leaves_double_right a (node b c) r = simp append_assoc
@@ -21,46 +21,11 @@ module _ {A : Type 0} where
   leaves_double_left l (leaf x) d = append_assoc (leaves l) _ _
   leaves_double_left l (node b c) d = simp append_assoc
 
-  leaves_rotate_right : (l r : Tree A) → leaves (rotate_right l r) ≡ leaves l ++ leaves r
-  unfolding rotate_right
-  leaves_rotate_right (leaf x) r = refl
-  leaves_rotate_right (node a m) r =
-      cond_both (λ t. leaves t ≡ (leaves a ++ leaves m) ++ leaves r) (leb (height m) (height a)) (λ t. simp append_assoc)
-      (λ t. simp (append_assoc, leaves_double_right))
-
-  leaves_rotate_left : (l r : Tree A) → leaves (rotate_left l r) ≡ leaves l ++ leaves r
+  pub leaves_rotate_left : (l r : Tree A) → leaves (rotate_left l r) ≡ leaves l ++ leaves r
   unfolding rotate_left
   leaves_rotate_left l (leaf x) = refl
   leaves_rotate_left l (node m d) =
       cond_both (λ t. leaves t ≡ leaves l ++ (leaves m ++ leaves d)) (leb (height m) (height d)) (λ t. simp append_assoc) (λ t. leaves_double_left l m d)
-
-  pub leaves_balance : (l r : Tree A) → leaves (balance l r) ≡ leaves l ++ leaves r
-  unfolding balance
-  leaves_balance l r =
-      by_heights (λ t. leaves t ≡ leaves l ++ leaves r) l r (λ t. leaves_rotate_right l r) (λ t. leaves_rotate_left l r) (λ s t. refl)
-
-  pub leaves_join_r : (l r : Tree A) → leaves (join_r l r) ≡ leaves l ++ leaves r
-  unfolding join_r
-  leaves_join_r (leaf x) r = refl
-  leaves_join_r (node a b) r =
-      let ih = leaves_join_r b r in
-      cond_both (λ t. leaves t ≡ (leaves a ++ leaves b) ++ leaves r) (towers (node a b) r) (λ t. simp (leaves_balance, ih, append_assoc)) (λ t. refl)
-
-  pub leaves_join_l : (l r : Tree A) → leaves (join_l l r) ≡ leaves l ++ leaves r
-  unfolding join_l
-  leaves_join_l l (leaf x) = refl
-  leaves_join_l l (node c d) =
-      let ih = leaves_join_l l c in
-      cond_both (λ t. leaves t ≡ leaves l ++ (leaves c ++ leaves d)) (towers (node c d) l) (λ t. simp (leaves_balance, ih, append_assoc)) (λ t. refl)
-
-  pub leaves_join : (l r : Tree A) → leaves (join l r) ≡ leaves l ++ leaves r
-  unfolding join
-  leaves_join l r = by_heights (λ t. leaves t ≡ leaves l ++ leaves r) l r (λ t. leaves_join_r l r) (λ t. leaves_join_l l r) (λ s t. refl)
-
-  pub leaves_join_p : (p q : Part A) → part_leaves (join_p p q) ≡ part_leaves p ++ part_leaves q
-  leaves_join_p none q = refl
-  leaves_join_p (some l) none = sym (append-nil (leaves l))
-  leaves_join_p (some l) (some r) = leaves_join l r
 
   -- ---- the two ends
 
@@ -112,15 +77,3 @@ module _ {A : Type 0} where
   pub same_last : (s t : Tree A) → leaves s ≡ leaves t → last s ≡ last t
   same_last s t e =
       sym (first_mirror s) ∙ same_first (mirror s) (mirror t) (leaves_mirror s ∙ ap reverse e ∙ sym (leaves_mirror t)) ∙ first_mirror t
-
-  pub first_balance : (l r : Tree A) → first (balance l r) ≡ first l
-  first_balance l r = same_first (balance l r) (node l r) (leaves_balance l r)
-
-  pub last_balance : (l r : Tree A) → last (balance l r) ≡ last r
-  last_balance l r = same_last (balance l r) (node l r) (leaves_balance l r)
-
-  pub first_join : (l r : Tree A) → first (join l r) ≡ first l
-  first_join l r = same_first (join l r) (node l r) (leaves_join l r)
-
-  pub last_join : (l r : Tree A) → last (join l r) ≡ last r
-  last_join l r = same_last (join l r) (node l r) (leaves_join l r)

@@ -17,8 +17,6 @@ pub mod Balanced
 pub mod Order
 -- lemmas: a cut where the test turns: the leaves in front of it and behind it, and the height and balance of both parts
 pub mod Split
--- lemmas: a leaf added where the test turns: the leaves, the balance, and the last leaf, which stays where it fails the test
-pub mod Add
 -- lemmas: find by key: what is found is a leaf with that key, and where keys fall strictly every leaf is found by its own
 pub mod Find
 -- lemmas: every second level of a balanced tree doubles its leaves, so a tree of n leaves is at most 2 × B(n) high

@@ -29,11 +29,11 @@ module _ {A : Type 0} where
   pub towers_apart : (l r : Tree A) → T (towers l r) → T (towers r l) → ⊥
   towers_apart l r p q = omega (arith, ltb→lt)
 
-  mirror_cond : (b : Bool) (x y : Tree A) → mirror (cond b x y) ≡ cond b (mirror x) (mirror y)
+  pub mirror_cond : (b : Bool) (x y : Tree A) → mirror (cond b x y) ≡ cond b (mirror x) (mirror y)
   mirror_cond b x y = cond_map mirror b x y
 
   -- if g is the mirror image of f, then f is that of g
-  turned : (f g : Tree A → Tree A → Tree A) → ((l r : Tree A) → mirror (f l r) ≡ g (mirror r) (mirror l)) → (l r : Tree A) →
+  pub turned : (f g : Tree A → Tree A → Tree A) → ((l r : Tree A) → mirror (f l r) ≡ g (mirror r) (mirror l)) → (l r : Tree A) →
       mirror (g l r) ≡ f (mirror r) (mirror l)
   turned f g e l r =
       let back : mirror (f (mirror r) (mirror l)) ≡ g l r = simp (e, mirror_mirror) in
@@ -50,24 +50,3 @@ module _ {A : Type 0} where
   mirror_rotate_right (leaf x) r = refl
   mirror_rotate_right (node a (leaf x)) r = simp mirror_cond (rw (leb_mirror (leaf x) a))
   mirror_rotate_right (node a (node b c)) r = simp mirror_cond (rw (leb_mirror (node b c) a))
-
-  pub mirror_rotate_left : (l r : Tree A) → mirror (rotate_left l r) ≡ rotate_right (mirror r) (mirror l)
-  mirror_rotate_left = turned rotate_right rotate_left mirror_rotate_right
-
-  pub mirror_balance : (l r : Tree A) → mirror (balance l r) ≡ balance (mirror r) (mirror l)
-  unfolding balance
-  mirror_balance l r =
-      simp (height_mirror, mirror_cond, mirror_rotate_right, mirror_rotate_left) (cond_swap (towers l r) (towers r l) _ _ _ (towers_apart l r))
-
-  pub mirror_join_r : (l r : Tree A) → mirror (join_r l r) ≡ join_l (mirror r) (mirror l)
-  unfolding join_r join_l
-  mirror_join_r (leaf x) r = refl
-  mirror_join_r (node a b) r = simp (mirror_cond, mirror_balance, mirror_join_r b r) (rw (towers_mirror (node a b) r))
-
-  pub mirror_join_l : (l r : Tree A) → mirror (join_l l r) ≡ join_r (mirror r) (mirror l)
-  mirror_join_l = turned join_r join_l mirror_join_r
-
-  pub mirror_join : (l r : Tree A) → mirror (join l r) ≡ join (mirror r) (mirror l)
-  unfolding join
-  mirror_join l r =
-      simp (height_mirror, mirror_cond, mirror_join_r, mirror_join_l) (cond_swap (towers l r) (towers r l) _ _ _ (towers_apart l r))

@@ -14,7 +14,7 @@ use Rattle.integers.specs.Parts.{equal_eq, equal_is}
 use Rattle.trees.specs.Tree.{Tree, leaf, node, height, last, mirror, Avl, avl_node}
 use Rattle.trees.specs.Operations.{towers, double_right, double_left, rotate_right, rotate_left, balance, join_r, join_l, join, split, after_left}
 use Rattle.trees.specs.Operations.{before_right, all_front, all_back, add, find}
-use Rattle.trees.specs.Mirror.{mirror_injective, height_mirror, avl_mirror, mirror_balance, mirror_join_l, mirror_join}
+use Rattle.trees.specs.Mirror.{mirror_injective, height_mirror, avl_mirror}
 
 module _ {A : Type 0} where
   -- ---- rotations
@@ -64,21 +64,11 @@ module _ {A : Type 0} where
   join_r_join (node a b) r h =
       sym (ap (cond (towers (node a b) r) (join_r (node a b) r)) (cond_no (towers r (node a b)) _ _ (le→nltb _ _ h)) ∙ cond_again (towers (node a b) r) _ _)
 
-  pub join_l_join : (l r : Tree A) → height l ≤ suc (height r) → join_l l r ≡ join l r
-  join_l_join l r h =
-      mirror_injective (join_l l r) (join l r) (mirror_join_l l r ∙ join_r_join (mirror r) (mirror l) (simp height_mirror h) ∙ sym (mirror_join l r))
-
   pub join_left : (a b r : Tree A) → Avl (node a b) → suc (height r) < height (node a b) → join (node a b) r ≡ balance a (join b r)
   unfolding join join_r
   join_left a b r (avl_node pa pb ha hb) h =
       let t : T (towers (node a b) r) = lt→ltb _ _ h in
       cond_yes (towers (node a b) r) _ _ t ∙ cond_yes (towers (node a b) r) _ _ t ∙ ap (balance a) (join_r_join b r (omega arith))
-
-  pub join_right : (l c d : Tree A) → Avl (node c d) → suc (height l) < height (node c d) → join l (node c d) ≡ balance (join l c) d
-  join_right l c d p h =
-      mirror_injective (join l (node c d)) (balance (join l c) d)
-      (mirror_join l (node c d) ∙ join_left (mirror d) (mirror c) (mirror l) (avl_mirror p) (simp height_mirror (omega arith))
-      ∙ simp (mirror_balance, mirror_join))
 
   -- ---- split
 

@@ -5,7 +5,8 @@ use Rattle.std.proofs.Math.Option.{Option}
 use Rattle.std.specs.Int.Signed.{le_z}
 use Rattle.offers.specs.Offers.{denominator, crossing_numerator, crossing_denominator}
 use Rattle.envelopes.specs.PseudoLines.{Figure, PseudoLines}
-use Rattle.lines.specs.Lines.{line_figure, line_laws, cross_price, price_at_cross}
+use Rattle.lines.specs.Lines.{line_figure}
+use Rattle.lines.proofs.Lines.{line_laws, cross_price, price_at_cross}
 use Rattle.trees.specs.Tree.{Tree, leaf, node, first, last}
 use Rattle.meeting.specs.Machine.{Side, left, right, point_at, local_at_most, crossing_on_or_above}
 use Rattle.table.specs.Items.{Item}

@@ -9,8 +9,9 @@ use Rattle.lists.specs.Bools.{cond_both}
 use Rattle.trees.specs.Tree.{Tree, leaf, node, leaves, last, Avl, avl_leaf, avl_node}
 use Rattle.trees.specs.Operations.{Part, Cut, part_leaves, join, after_left, before_right, all_front, all_back, split, split_p, add, add_p}
 use Rattle.trees.specs.TreeSteps.{add_before}
-use Rattle.trees.specs.Leaves.{leaves_join, leaves_join_p, last_join}
-use Rattle.trees.specs.Balanced.{near_join, AvlP}
+use Rattle.trees.proofs.Leaves.{leaves_join, leaves_join_p, last_join}
+use Rattle.trees.specs.Balanced.{AvlP}
+use Rattle.trees.proofs.Balanced.{near_join}
 
 module _ {A : Type 0} (test : A → Bool) (a : A) where
   -- the leaves of a cut's parts with the new one between

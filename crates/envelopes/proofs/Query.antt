@@ -7,10 +7,10 @@ use Rattle.lists.specs.Places.{mem_at, place_of, sublist_mem, mem_reverse, mem_u
 use Rattle.envelopes.specs.PseudoLines.{Figure, LeftOf, PseudoLines, mirror, mirror_laws}
 use Rattle.envelopes.specs.Crossing.{left_upto, upto_left_trans, fall_strict, le_upto_cross, ge_cross_upto, below_right_of_cross}
 use Rattle.envelopes.specs.Bridge.{Chain, PastOuter, InPiece}
-use Rattle.envelopes.specs.Chains.{piece, piece_lowest, strictly_lowest}
+use Rattle.envelopes.proofs.Chains.{piece, piece_lowest, strictly_lowest}
 use Rattle.envelopes.specs.Envelope.{Ordered, Env, First, listed}
 use Rattle.envelopes.specs.EnvelopeLaws.{ordered_sublist, ordered_reverse, either_other, compare_lines, same_members}
-use Rattle.envelopes.specs.Listed.{stays_among, stays_mirror, listed_sub, listed_one, listed_stays, stays_listed, listed_exact, first_listed, listed_env}
+use Rattle.envelopes.proofs.Listed.{stays_among, stays_mirror, listed_sub, listed_one, listed_stays, stays_listed, listed_exact, first_listed, listed_env}
 
 module _ (S : Figure) (L : PseudoLines S) where
   -- a piece reaches further left from each of its points

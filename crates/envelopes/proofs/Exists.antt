@@ -7,8 +7,8 @@ use Rattle.lists.specs.Bools.{not_refused}
 use Rattle.envelopes.specs.PseudoLines.{Figure, Below, PseudoLines, mirror, mirror_laws}
 use Rattle.envelopes.specs.Crossing.{below_le, upto_left_trans, below_left_of_cross, ge_cross_upto}
 use Rattle.envelopes.specs.Bridge.{PastOuter, Facing, Bridge}
-use Rattle.envelopes.specs.Chains.{turn_lowest_suc, piece_lowest}
-use Rattle.envelopes.specs.Bridges.{facing_mirror, bridge_mirror, bridge_lowest_right, ends_left, ends_right}
+use Rattle.envelopes.proofs.Chains.{turn_lowest_suc, piece_lowest}
+use Rattle.envelopes.proofs.Bridges.{facing_mirror, bridge_mirror, bridge_lowest_right, ends_left, ends_right}
 
 -- A test passes at some place below n, or at none.
 scan : (f : ℕ → Bool) (n : ℕ) → ((k : ℕ) × (k < n) × T (f k)) ⊎ ((k : ℕ) → k < n → ¬ T (f k))

@@ -6,8 +6,8 @@ use mathlib.Core.List.Memᴰ
 use Rattle.lists.specs.Filter.{every_map, keep_map, keep_same}
 use Rattle.envelopes.specs.PseudoLines.{Figure, PseudoLines}
 use Rattle.envelopes.specs.Envelope.{Ordered, ordered_nil, ordered_cons, Env, stays, listed}
-use Rattle.envelopes.specs.Listed.{listed_env}
-use Rattle.envelopes.specs.Query.{env_listed}
+use Rattle.envelopes.proofs.Listed.{listed_env}
+use Rattle.envelopes.proofs.Query.{env_listed}
 
 -- The figure of things that have a line.
 abbrev pub carried : (S : Figure) {A : Type 0} → (A → S.Line) → Figure

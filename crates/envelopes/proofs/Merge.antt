@@ -10,12 +10,12 @@ use Rattle.lists.specs.Places.{mem_at, sublist_mem, mem_reverse, mem_unreverse, 
 use Rattle.envelopes.specs.PseudoLines.{Figure, LeftOf, PseudoLines, mirror, mirror_laws}
 use Rattle.envelopes.specs.Crossing.{left_upto, left_upto_trans, le_upto_cross, ge_cross_upto, below_right_of_cross, left_of_cross}
 use Rattle.envelopes.specs.Bridge.{InPiece, Facing, Bridge}
-use Rattle.envelopes.specs.Chains.{turn_in_piece}
+use Rattle.envelopes.proofs.Chains.{turn_in_piece}
 use Rattle.envelopes.specs.Envelope.{Ordered, Env, First, listed}
 use Rattle.envelopes.specs.EnvelopeLaws.{ordered_head, ordered_left, ordered_right, ordered_apart, ordered_sublist, not_both, same_members}
-use Rattle.envelopes.specs.Listed.{Stays, first_among_fewer, stays_among, stays_mirror, listed_sub, listed_one, listed_stays, stays_listed}
-use Rattle.envelopes.specs.Listed.{first_stays, listed_env}
-use Rattle.envelopes.specs.Query.{query, first_in_piece, env_listed, env_mirror}
+use Rattle.envelopes.proofs.Listed.{Stays, first_among_fewer, stays_among, stays_mirror, listed_sub, listed_one, listed_stays, stays_listed}
+use Rattle.envelopes.proofs.Listed.{first_stays, listed_env}
+use Rattle.envelopes.proofs.Query.{query, first_in_piece, env_listed, env_mirror}
 
 -- ms are the lines of ls and rs, the first all before the second.
 record Both (S : Figure) (ls rs ms : List S.Line) : Type 0 where

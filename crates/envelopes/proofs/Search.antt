@@ -5,8 +5,8 @@ use Rattle.std.proofs.Math.Decide.{dec_lt, dec_le}
 use Rattle.envelopes.specs.PseudoLines.{Figure, PseudoLines, mirror, mirror_laws}
 use Rattle.envelopes.specs.Crossing.{le_below_trans, fall_strict, below_le}
 use Rattle.envelopes.specs.Bridge.{Facing, Bridge, Kind, leafy, inner, Local, One, Two, Facts}
-use Rattle.envelopes.specs.Chains.{turn_lowest}
-use Rattle.envelopes.specs.Bridges.{facing_mirror, bridge_mirror, bridge_lowest_right, ends_left, ends_right}
+use Rattle.envelopes.proofs.Chains.{turn_lowest}
+use Rattle.envelopes.proofs.Bridges.{facing_mirror, bridge_mirror, bridge_lowest_right, ends_left, ends_right}
 
 -- A local line is one of the chain's; the line just inside the node's point is a local line.
 local_place : {A : Type 0} (c : ℕ → A) (n j : ℕ) (h : Kind) (l : A) → j < n → Local c j h l → (k : ℕ) × (k < n) × (l ≡ c k)

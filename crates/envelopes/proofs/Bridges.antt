@@ -4,7 +4,7 @@ use Rattle.std.proofs.Common.{arith}
 use Rattle.envelopes.specs.PseudoLines.{Figure, LeftOf, PseudoLines, mirror, mirror_laws}
 use Rattle.envelopes.specs.Crossing.{upto_left_trans}
 use Rattle.envelopes.specs.Bridge.{PastOuter, Facing, Bridge}
-use Rattle.envelopes.specs.Chains.{turns_upto, piece_lowest}
+use Rattle.envelopes.proofs.Chains.{turns_upto, piece_lowest}
 
 pub facing_mirror : (S : Figure) (a : ℕ → S.Line) (m : ℕ) (c : ℕ → S.Line) (n : ℕ) → Facing S a m c n → Facing (mirror S) c n a m
 facing_mirror S a m c n F = record { left = F.right; right = F.left; apart = λ j i h g. F.apart i j g h }

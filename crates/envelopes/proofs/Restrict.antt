@@ -5,8 +5,8 @@ use Rattle.lists.specs.Places.{sublist_mem}
 use Rattle.envelopes.specs.PseudoLines.{Figure, PseudoLines}
 use Rattle.envelopes.specs.Envelope.{Ordered, Env, listed}
 use Rattle.envelopes.specs.EnvelopeLaws.{ordered_sublist}
-use Rattle.envelopes.specs.Listed.{stays_among, listed_stays, stays_listed}
-use Rattle.envelopes.specs.Query.{env_unique}
+use Rattle.envelopes.proofs.Listed.{stays_among, listed_stays, stays_listed}
+use Rattle.envelopes.proofs.Query.{env_unique}
 
 module _ (S : Figure) (L : PseudoLines S) (ls remaining : List S.Line) (s : Sublistᴰ remaining ls) where
   -- what a removal uncovers is decided by the lines that remain
