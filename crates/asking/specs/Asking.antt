@@ -6,7 +6,7 @@ use Rattle.lists.specs.Bools.{not_not, twice, said, denied}
 use Rattle.offers.specs.Offers.{load_in_range, price_at}
 use Rattle.plain.specs.Causes.{Cause, book_empty, cause_number, at_once, further, FirstOf}
 use Rattle.plain.specs.Book.{State, query, found, refused, Outcome, step}
-use Rattle.plain.specs.Rules.{step_declined}
+use Rattle.plain.proofs.Rules.{step_declined}
 use Rattle.trees.specs.Tree.{Tree, leaves, first}
 use Rattle.trees.specs.Leaves.{first_leaf}
 use Rattle.trees.specs.Operations.{Part, part_leaves}

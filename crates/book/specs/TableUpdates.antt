@@ -16,7 +16,8 @@ use Rattle.promises.specs.declared.Update.{Update}
 use Rattle.promises.specs.declared.Update.TheVariants.{Done, Declined}
 use Rattle.promises.specs.Promises.{part_of, capacity_at, table_trials, update_answer, Updates, Follows}
 use Rattle.declining.specs.Sought.{number_sought}
-use Rattle.plain.specs.Rules.{refusing, step_accepted, posted, withdrawn, takes_back, nothing_taken}
+use Rattle.plain.specs.Rules.{refusing, step_accepted, posted, withdrawn, takes_back}
+use Rattle.plain.proofs.Rules.{nothing_taken}
 use Rattle.plain.specs.Entries.{names_first}
 use Rattle.declining.specs.Declining.{withdraw_missing, withdraw_clear}
 use Rattle.form.specs.There.{cap_there}

@@ -9,7 +9,7 @@ use Rattle.offers.specs.Offers.{Offer, offer_in_range, precedes, crossing_numera
 use Rattle.offers.specs.Sizes.{rate_of_lem, rate_size}
 use Rattle.plain.specs.Book.{State, envelope}
 use Rattle.plain.specs.Sound.{Sound}
-use Rattle.plain.specs.ListingLaws.{envelope_sub, envelope_falls}
+use Rattle.plain.proofs.ListingLaws.{envelope_sub, envelope_falls}
 use Rattle.marks.specs.QuotientLaws.{doubled, quotient_is}
 use Rattle.marks.specs.Crossings.{scaled_price, load_divisible, price_divisible}
 use Rattle.chart.specs.Promises.{ExactEnd, ExactCrossing, Exact}

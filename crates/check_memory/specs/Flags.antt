@@ -15,7 +15,7 @@ use Rattle.integers.specs.Parts.{equal_eq, equal_is, unequal}
 use Rattle.offers.specs.Offers.{Offer, ahead}
 use Rattle.plain.specs.Book.{has_number, join, leave}
 use Rattle.plain.specs.Sound.{mem_join, length_join}
-use Rattle.plain.specs.LiveAfter.{post_adds, withdraw_drops}
+use Rattle.plain.proofs.LiveAfter.{post_adds, withdraw_drops}
 use Rattle.table.specs.Fields.{number_field}
 use Rattle.table.specs.Words.{Words, up_to, up_to_in, up_to_over, up_to_below, up_to_most}
 use Rattle.table.specs.Layout.{cell}

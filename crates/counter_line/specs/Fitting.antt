@@ -13,9 +13,10 @@ use Rattle.plain.specs.Causes.{output_too_short, unreadable_line, rates_not_apar
 use Rattle.plain.specs.Book.{State, Undo, Call, post, withdraw, query, listing, take_back, report, refused, live, trials, Recallable, respond, accepted}
 use Rattle.plain.specs.Book.{step, lower, higher, cheapest, envelope, piece_words}
 use Rattle.plain.specs.Trials.{clear}
-use Rattle.plain.specs.Sound.{Sound, step_sound}
+use Rattle.plain.specs.Sound.{Sound}
+use Rattle.plain.proofs.Sound.{step_sound}
 use Rattle.plain.specs.QueryLaws.{lower_tie, higher_tie, cheapest_names}
-use Rattle.plain.specs.ListingLaws.{envelope_sub}
+use Rattle.plain.proofs.ListingLaws.{envelope_sub}
 use Rattle.promises.specs.Numbered.{from_one}
 use Rattle.counter_print.specs.Texts.{FitsIn}
 use Rattle.counter_print.specs.Decimals.{fits_column, fits_unsigned}

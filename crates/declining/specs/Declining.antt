@@ -10,7 +10,8 @@ use Rattle.offers.specs.Offers.{Offer, offer_in_range, number_in_range, rate_in_
 use Rattle.plain.specs.Causes.{number_live, book_full, number_not_live, Clear, at_once, further}
 use Rattle.plain.specs.Book.{State, post, withdraw, has_number, range_trials, book_trials, trials, step}
 use Rattle.plain.specs.Trials.{first_behind, clear_append}
-use Rattle.plain.specs.Rules.{step_declined, refusing}
+use Rattle.plain.specs.Rules.{refusing}
+use Rattle.plain.proofs.Rules.{step_declined}
 use Rattle.trees.specs.Operations.{part_leaves}
 use Rattle.dynamic.specs.OfferTree.{Held}
 use Rattle.table.specs.Words.{Words}

@@ -13,8 +13,9 @@ use Rattle.offers.proofs.Ranks.{rank_tells}
 use Rattle.trees.specs.Operations.{Part, part_leaves}
 use Rattle.plain.specs.Book.{State, join, holding}
 use Rattle.plain.specs.Sound.{length_join}
-use Rattle.plain.specs.LiveAfter.{post_adds}
-use Rattle.plain.specs.FirstLaws.{self, Standing, pairs_standing, standing_map, standing_same, join_standing}
+use Rattle.plain.proofs.LiveAfter.{post_adds}
+use Rattle.plain.specs.FirstLaws.{self, Standing, pairs_standing, standing_map, standing_same}
+use Rattle.plain.proofs.FirstLaws.{join_standing}
 use Rattle.dynamic.specs.OfferTree.{Held}
 use Rattle.firsts.specs.Joins.{Joins}
 use Rattle.table.specs.Fields.{first_free_word, live_count_word, most_nodes, number_field, number_tree, numbers_root_word, offer_tree, order_root_word, order_tree}

@@ -20,8 +20,9 @@ use Rattle.offers.specs.Order.{Ahead, compare_offers}
 use Rattle.trees.specs.Operations.{Part, part_leaves}
 use Rattle.plain.specs.Book.{State, join, leave, has_number, holding}
 use Rattle.plain.specs.Sound.{length_join}
-use Rattle.plain.specs.LiveAfter.{post_adds}
-use Rattle.plain.specs.FirstLaws.{self, pairs_standing, standing_map, standing_sub, standing_same, join_standing}
+use Rattle.plain.proofs.LiveAfter.{post_adds}
+use Rattle.plain.specs.FirstLaws.{self, pairs_standing, standing_map, standing_sub, standing_same}
+use Rattle.plain.proofs.FirstLaws.{join_standing}
 use Rattle.dynamic.specs.OfferTree.{Held}
 use Rattle.dynamic.specs.Valid.{book_lines}
 use Rattle.firsts.specs.Joins.{Leaves}

@@ -6,7 +6,8 @@ use Rattle.std.proofs.Math.Option.{Option, none}
 use Rattle.plain.specs.Causes.{Clear}
 use Rattle.plain.specs.Book.{State, Call, Answer, opened, open_trials, after}
 use Rattle.plain.specs.Sound.{Sound, opened_sound}
-use Rattle.plain.specs.Remaining.{remaining, AllAccepted, remaining_leaves}
+use Rattle.plain.specs.Remaining.{remaining, AllAccepted}
+use Rattle.plain.proofs.Remaining.{remaining_leaves}
 use Rattle.dynamic.specs.OfferTree.{Held}
 use Rattle.table.specs.Items.{Item}
 use Rattle.form.specs.Form.{plain_offers}

@@ -11,7 +11,7 @@ use Rattle.plain.specs.Causes.{no_such_mark, nothing_to_take_back, cause_number,
 use Rattle.plain.specs.Book.{State, Undo, Call, post, withdraw, query, listing, take_back, report, Answer, refused, live, found, listed, reported}
 use Rattle.plain.specs.Book.{range_trials, book_trials, trials, recalling, respond, accepted, step}
 use Rattle.plain.specs.Trials.{declined_first, first_append}
-use Rattle.plain.specs.Rules.{refusing, step_declined}
+use Rattle.plain.specs.Rules.{refusing}
 
 -- The number names the call's first entry that is out of range: 4 the offer's number or the price, 14 the rate, 15 the base, 16 the load.
 pub data Names : ℕ → Call → Type 0 where
@@ -35,15 +35,12 @@ names_first (reported_load {q} {p} i x) = (load_out_of_range, further (twice (pr
 
 -- ---- a call with an entry out of range is refused with its number
 
-pub named_refused : (s : State) {m : ℕ} {k : Call} → Names m k → step s k ≡ refusing s m
-named_refused s {m} {k} n = let (z, f, e) = names_first n in step_declined s k z (first_append (book_trials s k) f) ∙ ap (refusing s) e
-
 -- ---- and a refusal tells no such number otherwise
 
 abbrev pub Otherwise : ℕ → Type 0
 Otherwise m = (5 ≤ m) × (m ≢ 6) × ((m ≤ 10) ⊎ (m ≡ 17))
 
-by_cause : (s : State) (k : Call) (z : Cause) → FirstOf (trials s k) z → Otherwise (cause_number z) ⊎ Names (cause_number z) k
+pub by_cause : (s : State) (k : Call) (z : Cause) → FirstOf (trials s k) z → Otherwise (cause_number z) ⊎ Names (cause_number z) k
 by_cause s (post n r b) z (further i (further j (further l (further p (further _ x25))))) = elim x25 [ ]
 by_cause s (withdraw n) z (further i (further j x13)) = elim x13 [ ]
 by_cause s (query q) z (further i (further j x14)) = elim x14 [ ]
@@ -66,37 +63,12 @@ by_cause s (report q p room) z (further i (at_once x)) = inr (reported_load (not
 by_cause s (report q p room) z (further i (further j (at_once x))) = inl (omega arith, omega arith, inl (omega arith))
 
 -- the number of a refusal; 5 for an accepted call
-number_in : Answer → ℕ
+unfoldable pub number_in : Answer → ℕ
 number_in (refused n) = n
 number_in (live n) = 5
 number_in (found n p m) = 5
 number_in (listed n ws) = 5
 number_in (reported n ws) = 5
-
-pub refused_names : (s : State) (k : Call) (m : ℕ) → (step s k).answer ≡ refused m → Otherwise m ⊎ Names m k
-unfolding number_in
-refused_names s k m e = subst (λ (i : ℕ). Otherwise i ⊎ Names i k) (ap number_in e) (go (declined (trials s k)) refl)
-  where
-    asked : (c : ℕ) (os : List Offer) (us : List Undo) (q : ℤ) →
-        Otherwise (number_in (accepted (record { capacity = c; offers = os; memory = us }) (query q)).answer)
-    asked c [] us q = (omega arith, omega arith, inl (omega arith))
-    asked c (o ∷ os) us q = (omega arith, omega arith, inl (omega arith))
-
-    taken_back : (os : List Offer) (us : List Undo) → Otherwise (number_in (accepted (recalling s os us) take_back).answer)
-    taken_back os [] = (omega arith, omega arith, inr refl)
-    taken_back os (u ∷ us) = (omega arith, omega arith, inl (omega arith))
-
-    taken : (k : Call) → Otherwise (number_in (accepted s k).answer)
-    taken (post n r b) = (omega arith, omega arith, inl (omega arith))
-    taken (withdraw n) = (omega arith, omega arith, inl (omega arith))
-    taken (query q) = asked s.capacity s.offers s.memory q
-    taken take_back = taken_back s.offers s.memory
-    taken (listing room) = (omega arith, omega arith, inl (omega arith))
-    taken (report q p room) = (omega arith, omega arith, inl (omega arith))
-
-    go : (d : Option Cause) → declined (trials s k) ≡ d → Otherwise (number_in (respond s k d).answer) ⊎ Names (number_in (respond s k d).answer) k
-    go none p = inl (taken k)
-    go (some z) p = by_cause s k z (declined_first (trials s k) z p)
 
 -- ---- 6 is told no more
 
@@ -120,7 +92,7 @@ never_six rates_not_apart e = omega arith
 never_six no_such_mark e = omega arith
 never_six nothing_to_take_back e = omega arith
 
-names_other : {m : ℕ} {k : Call} → Names m k → m ≢ 6
+pub names_other : {m : ℕ} {k : Call} → Names m k → m ≢ 6
 names_other (posted_number x) e = omega arith
 names_other (posted_rate i x) e = omega arith
 names_other (posted_base i j x) e = omega arith
@@ -128,6 +100,3 @@ names_other (withdrawn_number x) e = omega arith
 names_other (asked_load x) e = omega arith
 names_other (reported_price x) e = omega arith
 names_other (reported_load i x) e = omega arith
-
-pub not_six : (s : State) (k : Call) → (step s k).answer ≢ refused 6
-not_six s k e = ⊎_elim (λ o. o.1 refl) (λ n. names_other n refl) (refused_names s k 6 e)

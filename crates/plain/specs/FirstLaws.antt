@@ -21,7 +21,6 @@ use Rattle.lines.specs.Lines.{line_figure}
 use Rattle.lines.proofs.Lines.{line_laws}
 use Rattle.plain.specs.Book.{join}
 use Rattle.plain.specs.Meaning.{FirstOfRate}
-use Rattle.plain.specs.Sound.{join_ordered}
 
 -- lines in order, said of all pairs
 pub pairs_ordered : {S : Figure} {ls : List S.Line} → Pairwise (λ a b. T (S.before a b)) ls → Ordered S ls
@@ -195,11 +194,6 @@ standing_map {A} of = (
 )
 
 -- ---- offers
-
--- a posted offer joins in order
-pub join_standing : (o : Offer) {os : List Offer} → Standing Offer self os → ((x : Offer) → Memᴰ x os → Ahead o x ⊎ Ahead x o) →
-    Standing Offer self (join o os)
-join_standing o {os} s new = pairs_standing Offer self (join_ordered o os (standing_pairs Offer self s) new)
 
 -- The first of a rate in the words of `Meaning`.
 pub first_of_rate : (os : List Offer) (e : Offer) → FirstOf Offer self os e ↔ FirstOfRate os e

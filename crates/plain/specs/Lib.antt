@@ -11,8 +11,6 @@ pub mod Meaning
 pub mod Cases
 -- lemmas: what holds of the plain book after every list of calls
 pub mod Sound
--- lemmas: who is live after a post and after a withdrawal
-pub mod LiveAfter
 -- lemmas: what undoes an update gives back the offers that it found, and all that a book remembers can be undone, after every list of calls
 pub mod Undoing
 -- lemmas: the first of each rate of a list in order, of offers or of what holds an offer: which they are
@@ -23,9 +21,5 @@ pub mod Rules
 pub mod Entries
 -- lemmas: a query's price is the least over all live offers; of those at that price it names the lowest rate first and the highest second
 pub mod QueryLaws
--- lemmas: the listing names the first of a rate exactly when at some rational load, of any size, it is strictly cheaper than every other rate's offers
-pub mod ListingLaws
--- lemmas: the plain book's query, listing and report tell what `Meaning` says, whatever calls made its offers
-pub mod MeaningLaws
 -- statement and theorem: after calls with take-backs among them the book holds the offers that the remaining accepted calls leave
 pub mod Remaining

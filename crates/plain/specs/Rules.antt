@@ -25,9 +25,6 @@ refusing s n = record { state = s; answer = refused n }
 -- ---- what each call does
 
 module _ (s : State) where
-  pub step_declined : (k : Call) (c : Cause) → FirstOf (trials s k) c → step s k ≡ record { state = s; answer = refused (cause_number c) }
-  step_declined k c f = ap (respond s k) (declined_by (trials s k) c f)
-
   pub step_accepted : (k : Call) → Clear (trials s k) → step s k ≡ accepted s k
   step_accepted k c = ap (respond s k) (not_declined (trials s k) c)
 
@@ -38,13 +35,6 @@ module _ (s : State) where
   -- one offer more, and the count says so
   abbrev pub posted : (n r b : ℤ) → State
   posted n r b = recalling s (join (record { number = n; rate = r; base = b }) s.offers) (remembering (post n r b))
-
-  pub posts : (n r b : ℤ) → Clear (trials s (post n r b)) → step s (post n r b) ≡ record { state = posted n r b; answer = live (suc (length s.offers)) }
-  posts n r b c = step_accepted (post n r b) c ∙ ap (λ m. record { state = posted n r b; answer = live m }) (length_join (record {
-    number = n;
-    rate = r;
-    base = b;
-  }) s.offers)
 
   abbrev pub withdrawn : (n : ℤ) → State
   withdrawn n = recalling s (leave n s.offers) (remembering (withdraw n))
@@ -63,31 +53,9 @@ module _ (s : State) where
       go : (m : List Undo) → m ≡ u ∷ us → accepted (recalling s s.offers m) take_back ≡ changed s (undone u s.offers) us
       go m d = rw d refl
 
-  pub nothing_taken : s.memory ≡ [] → step s take_back ≡ refusing s 17
-  nothing_taken e = step_declined take_back nothing_to_take_back (at_once (le→leb (length s.memory) 0 (omega (arith, ap length e))))
-
   pub lists : (room : ℕ) → Clear (trials s (listing room)) →
       step s (listing room) ≡ record { state = s; answer = listed (length (envelope s.offers)) (piece_words (envelope s.offers)) }
   lists room c = step_accepted (listing room) c
-
--- A post in range of a number that no live offer has joins a book that is not full, whatever the rates that are live.
-pub joins : (s : State) (n r b : ℤ) → T (number_in_range n) → T (rate_in_range r) → T (base_in_range b) →
-    ((o : Offer) → Memᴰ o s.offers → o.number ≢ n) → length s.offers < s.capacity →
-    step s (post n r b) ≡ record { state = posted s n r b; answer = live (suc (length s.offers)) }
-joins s n r b i j l other room =
-    posts s n r b (
-      twice (number_in_range n) i,
-      (
-        twice (rate_in_range r) j,
-        (
-          twice (base_in_range b) l,
-          (
-            not_any (has_number n) s.offers (λ o m. not_T (equal o.number n) (λ t. other o m (equal_eq o.number n t))),
-            (lt→nleb s.capacity (length s.offers) room, tt),
-          ),
-        ),
-      ),
-    )
 
 -- A withdrawal of a live offer takes it out, the first of its rate or not.
 pub goes : (s : State) (o : Offer) → Memᴰ o s.offers → T (number_in_range o.number) → step s (withdraw o.number) ≡ record {
@@ -118,13 +86,6 @@ reports s q p room i j h =
       twice (price_in_range p) i,
       (twice (load_in_range q) j, (failed (le-ltb room (3 * length (under q p s.offers)) h), tt)),
     )
-
--- .. and a shorter one gets 10
-pub report_short : (s : State) (q p : ℤ) (room : ℕ) → T (price_in_range p) → T (load_in_range q) → room < 3 * length (under q p s.offers) →
-    step s (report q p room) ≡ refusing s 10
-report_short s q p room i j h =
-    step_declined s (report q p room) output_too_short
-    (further (twice (price_in_range p) i) (further (twice (load_in_range q) j) (at_once (passed (lt-ltb room (3 * length (under q p s.offers)) h)))))
 
 -- a book with an offer answers a load in range
 pub finds : (c : ℕ) (o : Offer) (os : List Offer) (us : List Undo) (q : ℤ) → T (load_in_range q) →

@@ -5,7 +5,8 @@ use Rattle.plain.specs.Causes.{Cause, cause_number, capacity_out_of_range, table
 use Rattle.plain.specs.Causes.{base_out_of_range, load_out_of_range, price_out_of_range, number_live, book_full, number_not_live, book_empty}
 use Rattle.plain.specs.Causes.{output_too_short, unreadable_line, rates_not_apart, no_such_mark, nothing_to_take_back}
 use Rattle.plain.specs.Book.{State, Call, refused, step}
-use Rattle.plain.specs.Entries.{names_first, refused_names}
+use Rattle.plain.specs.Entries.{names_first}
+use Rattle.plain.proofs.Entries.{refused_names}
 
 pub from_one : (c : Cause) → 1 ≤ cause_number c
 from_one capacity_out_of_range = omega arith

@@ -9,7 +9,7 @@ use Rattle.integers.specs.Parts.{int_rules}
 use Rattle.offers.specs.Offers.{between}
 use Rattle.plain.specs.Causes.{Cause, cause_number, FirstOf, at_once, further}
 use Rattle.plain.specs.Book.{State, Call, book_trials, no_book_at, part_length, step}
-use Rattle.plain.specs.Rules.{step_declined}
+use Rattle.plain.proofs.Rules.{step_declined}
 use Rattle.dynamic.specs.OfferTree.{Held}
 use Rattle.table.specs.Fields.{capacity_word, most_slots}
 use Rattle.table.specs.Words.{word}

@@ -19,7 +19,7 @@ use Rattle.plain.specs.Book.{State, holding, query, listing, found, listed, refu
 use Rattle.plain.specs.Sound.{Sound}
 use Rattle.plain.specs.FirstLaws.{self, pairs_standing}
 use Rattle.plain.specs.QueryLaws.{RateOrder, lower_tie, higher_tie, NotFirst, Names, cheapest_names, cheapest_earliest, named_first}
-use Rattle.plain.specs.ListingLaws.{envelope_listed}
+use Rattle.plain.proofs.ListingLaws.{envelope_listed}
 use Rattle.trees.specs.Tree.{Tree, leaves}
 use Rattle.table.specs.Items.{Item}
 pub use Rattle.table.specs.Items.{offer_of}

@@ -6,10 +6,11 @@ use Rattle.offers.specs.Offers.{Offer}
 use Rattle.plain.specs.Causes.{Clear}
 use Rattle.plain.specs.Book.{State, Undo, unpost, restore, Outcome, Call, post, withdraw, live, refused, join, leave, undone, undoing, Undoable, trials}
 use Rattle.plain.specs.Book.{book_trials, range_trials, recalling, remember, accepted, step}
-use Rattle.plain.specs.Rules.{refusing, step_accepted, posts, withdraws}
+use Rattle.plain.specs.Rules.{refusing, step_accepted, withdraws}
+use Rattle.plain.proofs.Rules.{posts}
 use Rattle.plain.specs.Sound.{length_join, tried_recalling}
 use Rattle.plain.specs.Trials.{first_append}
-use Rattle.plain.specs.Undoing.{accepted_recallable}
+use Rattle.plain.proofs.Undoing.{accepted_recallable}
 use Rattle.plain.specs.Entries.{names_first}
 use Rattle.trees.specs.Operations.{part_leaves}
 use Rattle.dynamic.specs.OfferTree.{Held}

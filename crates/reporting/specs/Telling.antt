@@ -6,7 +6,8 @@ use Rattle.lists.specs.Bools.{not_not, said, denied}
 use Rattle.offers.specs.Offers.{Offer, load_in_range, price_in_range}
 use Rattle.plain.specs.Causes.{Cause, cause_number, FirstOf, at_once, further}
 use Rattle.plain.specs.Book.{State, report, Outcome, reported, refused, under, offer_words, no_book_at, step}
-use Rattle.plain.specs.Rules.{reports, report_short, offers_length}
+use Rattle.plain.specs.Rules.{reports, offers_length}
+use Rattle.plain.proofs.Rules.{report_short}
 use Rattle.dynamic.specs.OfferTree.{Held}
 use Rattle.table.specs.Fields.{capacity_word}
 use Rattle.table.specs.Words.{Words, word}

@@ -7,7 +7,7 @@ use Rattle.plain.specs.Causes.{Cause, cause_number, declined, Clear}
 use Rattle.plain.specs.Trials.{clear, declined_first}
 use Rattle.plain.specs.Book.{State, Undo, Call, post, withdraw, query, listing, take_back, report, Answer, refused, live, found, listed, reported}
 use Rattle.plain.specs.Book.{Outcome, holding, recalling, changed, join, leave, trials, accepted, respond, step}
-use Rattle.plain.specs.MeaningLaws.{query_cheapest, listing_listing, report_report}
+use Rattle.plain.proofs.MeaningLaws.{query_cheapest, listing_listing, report_report}
 use Rattle.dynamic.specs.OfferTree.{Held}
 use Rattle.table.specs.Items.{Item}
 use Rattle.form.specs.Form.{Form}

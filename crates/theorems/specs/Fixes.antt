@@ -20,7 +20,7 @@ use Rattle.lines.proofs.OfferLines.{offer_laws}
 use Rattle.plain.specs.Book.{State}
 use Rattle.plain.specs.Meaning.{Priced, Cheapest, PieceAt, Listing, Report}
 use Rattle.plain.specs.QueryLaws.{earliest_live, earliest_once}
-use Rattle.plain.specs.ListingLaws.{in_order}
+use Rattle.plain.proofs.ListingLaws.{in_order}
 use Rattle.trees.specs.Tree.{leaves}
 use Rattle.trees.specs.Operations.{Part, part_leaves}
 use Rattle.dynamic.specs.OfferTree.{Held}

@@ -14,7 +14,7 @@ use Rattle.envelopes.specs.Envelope.{Env, Ordered}
 use Rattle.envelopes.specs.EnvelopeLaws.{ordered_left, ordered_pairs, ordered_right, ordered_sublist}
 use Rattle.plain.specs.Book.{State, Call, step}
 use Rattle.plain.specs.Meaning.{CheaperThanOthers}
-use Rattle.plain.specs.ListingLaws.{listing_exact, falling_ahead}
+use Rattle.plain.proofs.ListingLaws.{listing_exact, falling_ahead}
 use Rattle.trees.specs.Tree.{Tree, leaves}
 use Rattle.dynamic.specs.OfferTree.{Held, Pair}
 use Rattle.dynamic.specs.Valid.{book_lines}

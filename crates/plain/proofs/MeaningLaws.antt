@@ -16,7 +16,7 @@ use Rattle.plain.specs.Sound.{Sound}
 use Rattle.plain.specs.Meaning.{Cheapest, Listing, Report}
 use Rattle.plain.specs.Rules.{words_length, words_inner, words_last, offers_length, offers_at_lem}
 use Rattle.plain.specs.QueryLaws.{lower_tie, higher_tie, Names, cheapest_names, earliest_live, earliest_once, cheapest_earliest}
-use Rattle.plain.specs.ListingLaws.{envelope_falls, listing_exact}
+use Rattle.plain.proofs.ListingLaws.{envelope_falls, listing_exact}
 
 -- ---- a query
 
