@@ -17,10 +17,10 @@ pub(crate) fn first() -> Maker {
 }
 
 pub(crate) fn next(m: Maker) -> Maker {
-    let odd = std::num::wrapping_add_u32(m.i, std::num::wrapping_add_u32(m.i, 1));
+    let odd = m.i.wrapping_add(m.i.wrapping_add(1));
     Maker {
-        i: std::num::wrapping_add_u32(m.i, 1),
-        square: std::num::wrapping_add_u32(m.square, odd),
+        i: m.i.wrapping_add(1),
+        square: m.square.wrapping_add(odd),
         x: (m.x % 20_011 * 106 + 7) % 20_011,
     }
 }

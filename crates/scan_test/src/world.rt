@@ -62,17 +62,17 @@ pub(crate) fn with_tally(w: World, t: Tally) -> World {
 // A report: its difference is counted, and the call is none of those of the printed line.
 pub(crate) fn compared(t: Tally, same: bool) -> Tally {
     let mut told = t;
-    told.differences = std::num::wrapping_add_u32(t.differences, !same as u32);
+    told.differences = t.differences.wrapping_add(!same as u32);
     told
 }
 
 // One call more, of which so many queries, listings and meetings.
 pub(crate) fn counted(t: Tally, queries: u32, listings: u32, meetings: u32, same: bool) -> Tally {
     Tally {
-        calls: std::num::wrapping_add_u32(t.calls, 1),
-        queries: std::num::wrapping_add_u32(t.queries, queries),
-        listings: std::num::wrapping_add_u32(t.listings, listings),
-        meetings: std::num::wrapping_add_u32(t.meetings, meetings),
-        differences: std::num::wrapping_add_u32(t.differences, !same as u32),
+        calls: t.calls.wrapping_add(1),
+        queries: t.queries.wrapping_add(queries),
+        listings: t.listings.wrapping_add(listings),
+        meetings: t.meetings.wrapping_add(meetings),
+        differences: t.differences.wrapping_add(!same as u32),
     }
 }
