@@ -114,14 +114,16 @@ fn meet_all(w: World) -> World {
     let words = w.words;
     let l = w.os;
     let r = w.other;
-    world::with_tally(w, meet_ways(&words, &l, &r, w.told))
+    let told = meet_ways(&words, &l, &r, w.told);
+    world::with_tally(w, told)
 }
 
 fn meet(w: World) -> World {
     let words = w.words;
     let l = w.os;
     let r = w.other;
-    world::with_tally(w, meetings::meeting(&words, 17, &l, 3200, &r, true, w.told))
+    let told = meetings::meeting(&words, 17, &l, 3200, &r, true, w.told);
+    world::with_tally(w, told)
 }
 
 // Withdraws an offer from each book, and lets them meet after each.

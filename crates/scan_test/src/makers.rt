@@ -1,7 +1,7 @@
 // Offers made one after the other, by a rule for each kind of book.
 
 // The count of offers so far, its square, and a number that goes its own way.
-#[derive(Drop)]
+#[derive(Clone, Copy)]
 pub struct Maker {
     pub i: u32,
     pub square: u32,

@@ -1,7 +1,7 @@
 // What goes from call to call, by value: a reference that is lent for change costs the checker far more than a struct that is passed on.
 
 // The calls made, all but the reports, and those of all that differ from the scan.
-#[derive(Drop)]
+#[derive(Clone, Copy)]
 pub struct Tally {
     pub calls: u32,
     pub queries: u32,
@@ -20,7 +20,7 @@ pub struct World {
 }
 
 // Where a book starts, how many offers it has room for, and the rule by which its offers are made.
-#[derive(Drop)]
+#[derive(Clone, Copy)]
 pub struct Place {
     pub start: usize,
     pub room: u32,
@@ -45,9 +45,9 @@ pub(crate) fn begin(words: [i64; 7000]) -> World {
 
 // The other book at hand.
 pub(crate) fn swapped(w: World) -> World {
-    let mut v = w;
     let os = w.other;
     let other = w.os;
+    let mut v = w;
     v.os = os;
     v.other = other;
     v
