@@ -35,7 +35,7 @@ module _ (S : Figure) (L : PseudoLines S) (x : S.Point) (test : S.Line → Bool)
     pub below_exact : {t : OfferTree S.Line} {es : List S.Line} {e : S.Line} → Valid S t es → Ordered S (leaves (shape t)) → Least S es e x →
         below S x seek test t e ≡ keep test (leaves (shape t))
     unfolding below
-    below_exact {e} (valid_single {a}) o M = ap (λ z. cond (test z) (a ∷ []) []) (Memᴰ.eq_of_singleton M.one_of_lem)
+    below_exact {e} (valid_single {a}) o M = ap (λ z. cond (test z) (a ∷ []) []) (Memᴰ.eq_of_singleton M.one_of)
     below_exact {e} (valid_fork {u} {v} {l} {r} {ql} {qr} {es} up_to from d vl vr al ar E) o M =
         go (test e) refl (below_exact vl (ordered_left S (leaves (shape l)) (leaves (shape r)) o) C.left)
         (below_exact vr (ordered_right S (leaves (shape l)) (leaves (shape r)) o) C.right)

@@ -35,7 +35,7 @@ two_bounds m n hl hr a b s p q = omega (arith, front, back)
 module _ (S : Figure) (L : PseudoLines S) (x : S.Point) (seek : Tree S.Line → S.Line) (seeks : Seeks S x seek) (test : S.Line → Bool) where
   -- a cheapest line that passes is reported
   some_kept : {ls es : List S.Line} {e : S.Line} → Env S ls es → Least S es e x → test e ≡ true → 1 ≤ length (keep test ls)
-  some_kept {ls} {e = e} E M q = let (i, h, p) = place_of e (keep_in test ls e (sublist_mem E.sub M.one_of_lem) (subst T (sym q) tt)) in omega arith
+  some_kept {ls} {e = e} E M q = let (i, h, p) = place_of e (keep_in test ls e (sublist_mem E.sub M.one_of) (subst T (sym q) tt)) in omega arith
 
   pub few_visits : {t : OfferTree S.Line} {es : List S.Line} {e : S.Line} → Valid S t es → Ordered S (leaves (shape t)) → Least S es e x
       → visits S x seek test t e ≤ length (keep test (leaves (shape t))) * (2 * suc (height (shape t))) + 1

@@ -15,6 +15,7 @@ module _ {A : Type 0} where
   keep_twice p q h (x ∷ xs) = go (q x) (h x) (keep_twice p q h xs)
     where
       first : (b : Bool) → T b → keep p (keep q xs) ≡ keep q xs → cond b (x ∷ keep p (keep q xs)) (keep p (keep q xs)) ≡ x ∷ keep q xs
+      first false t e = elim t [ ]
       first true t e = ap {B = List A} (λ (r : List A). x ∷ r) e
 
       go : (b : Bool) → (T b → T (p x)) → keep p (keep q xs) ≡ keep q xs → keep p (cond b (x ∷ keep q xs) (keep q xs)) ≡ cond b (x ∷ keep q xs) (keep q xs)
@@ -64,6 +65,7 @@ module _ {A : Type 0} (before : A → A → Bool) (cheap : A → Bool) where
   stops {a} (b ∷ xs) p t = λ n. go (cheap a) (cheap b) t ((rel_of_Pairwise-cons p ∣ Memᴰ.head refl ∣₁).settled n)
     where
       go : (c d : Bool) → T (not c) → (T d → T c) → T (not d)
+      go true d u f = elim u [ ]
       go false false u f = tt
       go false true u f = f tt
 

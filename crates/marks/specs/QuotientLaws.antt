@@ -69,6 +69,10 @@ above_zero y c v e C D = omega (arith, mul-pos C D)
 
 div_whole : (f : Format) (x y : Float) (s t : Bool) (a c : ℕ) → 0 < c → HasValue x s a 1 → HasValue y t c 1 → div f x y ≡ round f (unlike s t) a c
 unfolding div
+div_whole f nan y s t a c C v w = elim v [ ]
+div_whole f (inf _) y s t a c C v w = elim v [ ]
+div_whole f (fin s' m e) nan s t a c C v w = elim w [ ]
+div_whole f (fin s' m e) (inf _) s t a c C v w = elim w [ ]
 div_whole f (fin s' m e) (fin t' n d) s t a c C v w = go (eqb n 0) (eqb→eq n 0)
   where
     Y : 0 < n * up d

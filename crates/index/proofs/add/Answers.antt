@@ -1,5 +1,4 @@
 -- `index::add` meets its contract: the first item's leaf, or one added on the way to its key.
-use borrow.Author.Rules.{rules}
 use mir.Facts.{to_z-of_z}
 use mir.Syntax.{w64}
 use Rattle.std.proofs.Common.{FitsSigned}

@@ -1,5 +1,4 @@
 -- `index::drop_key` meets its contract.
-use borrow.Author.Rules.{rules}
 use mir.Facts.{to_z-of_z}
 use mir.Syntax.{w64}
 use Rattle.std.proofs.Common.{FitsSigned}
