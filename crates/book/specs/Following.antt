@@ -4,7 +4,7 @@ use Rattle.std.proofs.Common.{sym, ◌∙◌, ap, subst, arith}
 use Rattle.std.proofs.Math.Option.{Option}
 use Rattle.plain.specs.Book.{State, Outcome, Call, refused, live, first_of_each, step}
 use Rattle.dynamic.specs.OfferTree.{Held}
-use Rattle.dynamic.specs.Updated.{idle_work}
+use Rattle.dynamic.proofs.Updated.{idle_work}
 use Rattle.table.specs.Items.{Item}
 use Rattle.pieces.specs.Pieces.{items}
 use Rattle.table.specs.Words.{Words}

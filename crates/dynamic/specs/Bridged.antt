@@ -15,7 +15,8 @@ use Rattle.envelopes.proofs.Merge.{merge_split}
 use Rattle.trees.specs.Tree.{Tree, leaves, first}
 use Rattle.trees.specs.Leaves.{some_leaf}
 use Rattle.meeting.specs.Machine.{left, right}
-use Rattle.meeting.specs.Meets.{size, line_from, meets}
+use Rattle.meeting.specs.Meets.{size, line_from}
+use Rattle.meeting.proofs.Meets.{meets}
 use Rattle.dynamic.specs.SearchEnd.{Bridged}
 
 module _ (S : Figure) (L : PseudoLines S) (ls rs : List S.Line) (o : Ordered S (ls ++ rs)) (tl tr : Tree S.Line) (E : Env S ls (leaves tl))

@@ -11,8 +11,6 @@ use Rattle.meeting.specs.Machine.{Side, left, right, meet}
 use Rattle.dynamic.specs.OfferTree.{OfferTree, single, fork, shape, Held, held_shape, Pair, Made, Lowered, outer, inner, lower, raise, raise_on}
 use Rattle.dynamic.specs.Valid.{Whole}
 use Rattle.dynamic.specs.Work.{Inner, inners, Searched, Floor, steps_of, heights_of}
-use Rattle.dynamic.specs.Lower.{whole_lower}
-use Rattle.dynamic.specs.Raise.{raised_shape, raised_steps, whole_raise}
 use Rattle.dynamic.specs.Floors.{Added, added_between, added_last, floor_drop, floor_add}
 use Rattle.dynamic.specs.Forests.{lines_of, inners_of, single_inners, added_all, added_in, Merged, MergedOn, left_in, right_in, whole_in}
 use Rattle.dynamic.specs.Forests.{merge_all, part_all, merged_sub, merged_lines, merged_inners}
@@ -49,14 +47,14 @@ pub heights_append : {A : Type 0} (xs ys : List (Pair A)) → heights_of (xs ++ 
 heights_append [] ys = omega arith
 heights_append (x ∷ xs) ys = omega (arith, heights_append xs ys)
 
-few_more :
+pub few_more :
     (S : Figure) (log : List (Pair S.Line)) (p : Pair S.Line) →
     steps_of S log ≤ 3 * heights_of log + length log →
     (meet S p.front p.back).steps ≤ 3 * (height p.front + height p.back) + 1 →
     steps_of S (log ++ p ∷ []) ≤ 3 * heights_of (log ++ p ∷ []) + length (log ++ p ∷ [])
 few_more S log p h k = rw (steps_append S log (p ∷ []), heights_append log (p ∷ []), length-append log (p ∷ [])) (omega arith)
 
-searched_more :
+pub searched_more :
     (S : Figure) {live : List S.Line} (log : List (Pair S.Line)) {p : Pair S.Line} →
     ((q : Pair S.Line) → Memᴰ q log → Searched S live q) →
     Searched S live p →
@@ -113,22 +111,12 @@ pub record Raises (S : Figure) (before : List (Inner S.Line)) (live : List S.Lin
   pub level : Above l r m.held
   pub one : length m.log ≡ 1
 
-above_node : {A : Type 0} {l r h : Held A} → held_shape h ≡ node (held_shape l) (held_shape r) → Avl (node (held_shape l) (held_shape r)) → Above l r h
+pub above_node : {A : Type 0} {l r h : Held A} → held_shape h ≡ node (held_shape l) (held_shape r) → Avl (node (held_shape l) (held_shape r)) → Above l r h
 above_node e (avl_node pl pr hl hr) = record { higher = ap height e; left_level = hl; right_level = hr }
 
 module _ (S : Figure) (L : PseudoLines S) where
-  pub part : (h : Held S.Line) → Whole S h → 1 ≤ held_height h → Parted S h (lower S h)
-  part h w high = go h.tree refl
-    where
-      go : (t : OfferTree S.Line) → h.tree ≡ t → Parted S h (lower S h)
-      go (single a) e = absurd (omega (arith, ap (λ t. height (shape t)) e))
-      go (fork u v l ql qr r) e =
-          let p = whole_lower S L w e in
-          let forked : held_shape h ≡ node (held_shape (lower S h).front) (held_shape (lower S h).back) = rw (p.front_tree, p.back_tree) (ap shape e) in
-          record { front = p.front; back = p.back; forked = forked; level = above_node forked (subst Avl forked w.balanced) }
-
   module _ {before : List (Inner S.Line)} {live : List S.Line} where
-    lowered :
+    pub lowered :
         {h : Held S.Line} {row rest : List (Held S.Line)} {log : List (Pair S.Line)} →
         Kept S before live row log →
         Parted S h (lower S h) →
@@ -143,51 +131,4 @@ module _ (S : Figure) (L : PseudoLines S) where
           few_steps = k.few_steps;
           floor = floor_drop S before (merged_inners p.forked m) k.floor;
         }
-
-    raised :
-        {l r : Held S.Line} {row rest : List (Held S.Line)} {log : List (Pair S.Line)} →
-        Kept S before live row log →
-        Merged l r (raise S l r).held row rest →
-        held_height l ≤ suc (held_height r) →
-        held_height r ≤ suc (held_height l) →
-        Raises S before live rest log l r (raise S l r)
-    raised {l} {r} {row} {rest} {log} k m hl hr =
-        let wl = k.whole l (left_in m) in
-        let wr = k.whole r (right_in m) in
-        let avl = avl_node wl.balanced wr.balanced hl hr in
-        let R = whole_raise S L wl wr (ordered_sublist S (merged_sub m) (rw k.lines k.ordered)) avl in
-        let forked = raised_shape S R in
-        record {
-          kept =
-              record {
-                ordered = k.ordered;
-                lines = merged_lines forked m ∙ k.lines;
-                whole = merge_all m R.whole k.whole;
-                searched = rw R.logged (searched_more S log k.searched (R.searched live (rw (← k.lines) (merged_sub m))));
-                few_steps = rw R.logged (few_more S log R.pair k.few_steps (raised_steps S R));
-                floor = rw R.logged (floor_add S before (merged_inners forked m) (added_last log) R.holds k.floor);
-              };
-          level = above_node forked avl;
-          one = ap length R.logged;
-        }
-
     -- ---- on either side
-
-    pub lowered_on :
-        (side : Side) (h : Held S.Line) {row rest : List (Held S.Line)} {log : List (Pair S.Line)} →
-        Kept S before live row log →
-        1 ≤ held_height h →
-        MergedOn side (outer side (lower S h)) (inner side (lower S h)) h rest row →
-        Kept S before live rest log × Above (outer side (lower S h)) (inner side (lower S h)) h
-    lowered_on left h k high m = let p = part h (k.whole h (whole_in m)) high in (lowered k p m, p.level)
-    lowered_on right h k high m = let p = part h (k.whole h (whole_in m)) high in (lowered k p m, above_turned p.level)
-
-    pub raised_on :
-        (side : Side) {o i : Held S.Line} {row rest : List (Held S.Line)} {log : List (Pair S.Line)} →
-        Kept S before live row log →
-        MergedOn side o i (raise_on S side o i).held row rest →
-        held_height o ≤ suc (held_height i) →
-        held_height i ≤ suc (held_height o) →
-        Raises S before live rest log o i (raise_on S side o i)
-    raised_on left k m ho hi = raised k m ho hi
-    raised_on right k m ho hi = let R = raised k m hi ho in record { kept = R.kept; level = above_turned R.level; one = R.one }

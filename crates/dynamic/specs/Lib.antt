@@ -5,8 +5,6 @@ pub mod SearchEnd
 pub mod Bridged
 -- lemmas: a valid tree's envelope is its lines' lower envelope, and the children of a whole subtree are whole again once it is lowered
 pub mod Lower
--- lemmas: two whole subtrees, raised to one, are whole
-pub mod Raise
 -- statement and lemmas: the whole envelope in hand and the parts stored below it hold each line once: together they are a rearrangement of the tree's leaves
 pub mod Rearranged
 -- lemmas: every tree of a whole subtree is balanced, so at most 2 × B(n) high over its n leaves, and over all the subtree's lines
@@ -33,9 +31,5 @@ pub mod Placed
 pub mod Inserted
 -- lemmas: a line removed, with or without a stand-in: row and log stay right, the subtree gets at most one lower, and each level costs at most three searches
 pub mod Removed
--- lemmas: post, withdraw and replace keep the book right: its lines, its envelopes, its balance, and what is promised of the searches
-pub mod Updated
--- lemmas: a history that went wrong once, computed
-pub mod Story
 -- lemmas: the steps of an update each by itself, with no row around them: what rebalance, insert and remove make of whole subtrees
 pub mod UpdateSteps

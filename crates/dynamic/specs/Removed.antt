@@ -22,20 +22,20 @@ use Rattle.dynamic.specs.Valid.{stand_in, instead}
 use Rattle.dynamic.specs.Work.{Inner}
 use Rattle.dynamic.specs.Floors.{added_between}
 use Rattle.dynamic.specs.Forests.{row_of, lines_of, lines_append, lines_left, lines_right, merged_here, merged_behind}
-use Rattle.dynamic.specs.Kept.{Kept, held_height, Above, above_turned, lowered_on, line_leaves, line_changes}
-use Rattle.dynamic.specs.Rebalanced.{Balances, balances_turned, rebalanced}
+use Rattle.dynamic.specs.Kept.{Kept, held_height, Above, above_turned, line_leaves, line_changes}
+use Rattle.dynamic.specs.Rebalanced.{Balances, balances_turned}
 use Rattle.dynamic.specs.Inserted.{alone_whole}
 use Rattle.dynamic.specs.Placed.{instead_append, instead_all, instead_one, all_before}
 
 -- ---- heights: below h stand f and g, and f falls to k
 
-record Falls (h f g k : ℕ) : Type 0 where
-  near : k ≤ suc (suc g)
-  far : g ≤ suc (suc k)
-  fits : (n : ℕ) → Balances k g n → (n ≤ h) × (h ≤ suc n)
-  few : (m n : ℕ) → m ≤ 3 * f → n ≤ 3 → m + n ≤ 3 * h
+pub record Falls (h f g k : ℕ) : Type 0 where
+  pub near : k ≤ suc (suc g)
+  pub far : g ≤ suc (suc k)
+  pub fits : (n : ℕ) → Balances k g n → (n ≤ h) × (h ≤ suc n)
+  pub few : (m n : ℕ) → m ≤ 3 * f → n ≤ 3 → m + n ≤ 3 * h
 
-falls : {h f g k : ℕ} → h ≡ suc (max f g) → f ≤ suc g → g ≤ suc f → k ≤ f → f ≤ suc k → Falls h f g k
+pub falls : {h f g k : ℕ} → h ≡ suc (max f g) → f ≤ suc g → g ≤ suc f → k ≤ f → f ≤ suc k → Falls h f g k
 falls {h} {f} {g} {k} e p q low high = record { near = omega arith; far = omega arith; fits = λ n b. go n b (dec_le g (suc k)); few = omega arith }
   where
     go : (n : ℕ) → Balances k g n → Dec (g ≤ suc k) → (n ≤ h) × (h ≤ suc n)
@@ -57,7 +57,7 @@ pub record Shrunk (S : Figure) (before : List (Inner S.Line)) (live : List S.Lin
 
 module _ (S : Figure) (L : PseudoLines S) {before : List (Inner S.Line)} {live : List S.Line} where
   -- f shrank, and was rebalanced beside its sibling g
-  reshrunk :
+  pub reshrunk :
       {h f g : ℕ} (l : Held S.Line) (log : List (Pair S.Line)) (n : Made S.Line) {more : List (Held S.Line)} →
       Falls h f g (held_height l) →
       length log ≤ 3 * f →
@@ -67,31 +67,6 @@ module _ (S : Figure) (L : PseudoLines S) {before : List (Inner S.Line)} {live :
       Shrunk S before live more h (record { rest = some n.held; log = log ++ n.log })
   reshrunk l log n C few k b more =
       record { kept = k; heights = C.fits _ b; few = rw length-append (C.few (length log) (length n.log) few more) }
-
-  shrunk_left :
-      {h f g : Held S.Line} (xs ys : List (Held S.Line)) (rest : Option (Held S.Line)) (log : List (Pair S.Line)) →
-      Above f g h →
-      Shrunk S before live (xs ++ (row_of rest ++ g ∷ ys)) (held_height f) (record { rest = rest; log = log }) →
-      Shrunk S before live (xs ++ (row_of (beside_right S (record { rest = rest; log = log }) g).rest ++ ys)) (held_height h)
-      (beside_right S (record { rest = rest; log = log }) g)
-  shrunk_left xs ys none log a G = record { kept = G.kept; heights = omega arith; few = omega arith }
-  shrunk_left {g = g} xs ys (some l) log a G =
-      let C = falls a.higher a.left_level a.right_level G.heights.0 G.heights.1 in
-      let J = rebalanced S L before live xs ys l g G.kept C.near C.far in
-      reshrunk l log (rebalance S l g) C G.few J.kept J.heights J.few
-
-  shrunk_right :
-      {h f g : Held S.Line} (xs ys : List (Held S.Line)) (rest : Option (Held S.Line)) (log : List (Pair S.Line)) →
-      Above g f h →
-      Shrunk S before live (xs ++ g ∷ (row_of rest ++ ys)) (held_height f) (record { rest = rest; log = log }) →
-      Shrunk S before live (xs ++ (row_of (beside_left S g (record { rest = rest; log = log })).rest ++ ys)) (held_height h)
-      (beside_left S g (record { rest = rest; log = log }))
-  shrunk_right xs ys none log a G = record { kept = G.kept; heights = omega arith; few = omega arith }
-  shrunk_right {g = g} xs ys (some r) log b G =
-      let a = above_turned b in
-      let C = falls a.higher a.left_level a.right_level G.heights.0 G.heights.1 in
-      let J = rebalanced S L before live xs ys g r G.kept C.far C.near in
-      reshrunk r log (rebalance S g r) C G.few J.kept (balances_turned J.heights) J.few
 
 -- ---- the removal
 
@@ -106,7 +81,7 @@ module _ (S : Figure) (L : PseudoLines S) (before : List (Inner S.Line)) (live :
       lines_of xs ++ (instead S s by (leaves (shape t)) ++ lines_of ys) ≡ live →
       Shrunk S before live (xs ++ (row_of (remove S s by t e).rest ++ ys)) (height (shape t)) (remove S s by t e)
 
-  removed_single : (a : S.Line) → Removes (single a)
+  pub removed_single : (a : S.Line) → Removes (single a)
   unfolding remove
   removed_single a e xs ys old k m d = go by (sym (instead_one S L s by (Memᴰ.eq_of_singleton m)))
     where
@@ -126,14 +101,14 @@ module _ (S : Figure) (L : PseudoLines S) (before : List (Inner S.Line)) (live :
 
   module _ (l r : OfferTree S.Line) (ord : Ordered S (leaves (shape l) ++ leaves (shape r))) (m : Memᴰ s (leaves (shape l) ++ leaves (shape r))) where
     -- the side where s stands, and that the other side stays
-    in_right : T (S.before (last (shape l)) s) → Memᴰ s (leaves (shape r))
+    pub in_right : T (S.before (last (shape l)) s) → Memᴰ s (leaves (shape r))
     in_right t =
         ⊎_elim
         (λ i. absurd (L.before_irrefl s (all_before S L s (shape l) (ordered_left S (leaves (shape l)) (leaves (shape r)) ord) t s i)))
         (λ i. i)
         (Memᴰ.append_cases (leaves (shape l)) m)
 
-    left_stays :
+    pub left_stays :
         T (S.before (last (shape l)) s) →
         instead S s by (leaves (shape l) ++ leaves (shape r)) ≡ leaves (shape l) ++ instead S s by (leaves (shape r))
     left_stays t =
@@ -142,7 +117,7 @@ module _ (S : Figure) (L : PseudoLines S) (before : List (Inner S.Line)) (live :
         (instead_all S s by (leaves (shape l))
         (λ x i. or_right (S.before s x) (S.before x s) (all_before S L s (shape l) (ordered_left S (leaves (shape l)) (leaves (shape r)) ord) t x i)))
 
-    in_left : T (not (S.before (last (shape l)) s)) → Memᴰ s (leaves (shape l))
+    pub in_left : T (not (S.before (last (shape l)) s)) → Memᴰ s (leaves (shape l))
     in_left t =
         ⊎_elim
         (λ i. i)
@@ -150,7 +125,7 @@ module _ (S : Figure) (L : PseudoLines S) (before : List (Inner S.Line)) (live :
         (last_leaf (shape l)) i)))
         (Memᴰ.append_cases (leaves (shape l)) m)
 
-    right_stays :
+    pub right_stays :
         T (not (S.before (last (shape l)) s)) →
         instead S s by (leaves (shape l) ++ leaves (shape r)) ≡ instead S s by (leaves (shape l)) ++ leaves (shape r)
     right_stays t =
@@ -158,26 +133,3 @@ module _ (S : Figure) (L : PseudoLines S) (before : List (Inner S.Line)) (live :
         ∙ ap (λ ls. instead S s by (leaves (shape l)) ++ ls)
         (instead_all S s by (leaves (shape r))
         (λ x i. or_left (S.before s x) (S.before x s) (ordered_apart S (leaves (shape l)) (leaves (shape r)) ord s x (in_left t) i)))
-
-  removed_fork : (u v : S.Line) (l r : OfferTree S.Line) (ql qr : Part S.Line) → Removes l → Removes r → Removes (fork u v l ql qr r)
-  unfolding remove lower_tree
-  removed_fork u v l r ql qr on_left on_right e xs ys old k m d =
-      let h = hold (fork u v l ql qr r) e in
-      let c = lower S h in
-      let w = k.whole h (Memᴰ.append_right xs (Memᴰ.head refl)) in
-      let (k₁, a) = lowered_on S L left h k (omega arith) (merged_behind xs merged_here) in
-      let k₂ : Kept S before old ((xs ++ c.front ∷ []) ++ c.back ∷ ys) [] = rw append_snoc k₁ in
-      let ml = remove S s by l c.front.whole in
-      let mr = remove S s by r c.back.whole in
-      cond_both (λ n. Shrunk S before live (xs ++ (row_of n.rest ++ ys)) (held_height h) n) (S.before (last (shape l)) s)
-      (λ t. shrunk_right S L xs ys mr.rest mr.log a
-      (rw append_snoc at
-      (on_right c.back.whole (xs ++ c.front ∷ []) ys old k₂ (in_right l r w.ordered m t)
-      (lines_right xs c.front (instead S s by (leaves (shape r))) (lines_of ys) d (left_stays l r w.ordered m t)))))
-      (λ t. shrunk_left S L xs ys ml.rest ml.log a
-      (on_left c.front.whole xs (c.back ∷ ys) old k₁ (in_left l r w.ordered m t)
-      (lines_left (lines_of xs) (instead S s by (leaves (shape l))) (leaves (shape r)) (lines_of ys) d (right_stays l r w.ordered m t))))
-
-  pub removed : (t : OfferTree S.Line) → Removes t
-  removed (single a) = removed_single a
-  removed (fork u v l ql qr r) = removed_fork u v l r ql qr (removed l) (removed r)

@@ -15,8 +15,8 @@ use Rattle.dynamic.specs.OfferTree.{Held, Pair}
 use Rattle.dynamic.specs.Updates.{posted, vacated}
 use Rattle.dynamic.specs.Valid.{WholeBook, book_lines, placed, instead, without}
 use Rattle.dynamic.specs.Placed.{New, in_placed, in_instead}
-use Rattle.dynamic.specs.Updated.{idle_work, posted_whole, posted_lines, posted_work, withdrawn_whole, withdrawn_lines, withdrawn_work}
-use Rattle.dynamic.specs.Updated.{replaced_whole, replaced_lines, replaced_work}
+use Rattle.dynamic.proofs.Updated.{idle_work, posted_whole, posted_lines, posted_work, withdrawn_whole, withdrawn_lines, withdrawn_work}
+use Rattle.dynamic.proofs.Updated.{replaced_whole, replaced_lines, replaced_work}
 use Rattle.dynamic.specs.Work.{Work}
 use Rattle.firsts.specs.Joins.{firsts_of, same_place, Joins, joins_new, joins_ahead, joins_behind, Leaves, leaves_behind, leaves_to, leaves_alone}
 

@@ -14,7 +14,7 @@ use Rattle.trees.specs.Operations.{Part, part_leaves}
 use Rattle.dynamic.specs.OfferTree.{Held, held_shape}
 use Rattle.dynamic.specs.Valid.{Valid}
 use Rattle.dynamic.specs.Lower.{valid_env}
-use Rattle.dynamic.specs.Raise.{some_piece}
+use Rattle.dynamic.proofs.Raise.{some_piece}
 use Rattle.below.specs.Least.{Least}
 use Rattle.below.specs.Children.{own_env}
 use Rattle.below.specs.Below.{below_exact}

@@ -11,7 +11,8 @@ use Rattle.trees.specs.Balanced.{AvlP}
 use Rattle.trees.specs.Split.{Halves}
 use Rattle.dynamic.specs.OfferTree.{OfferTree, single, fork, shape, Held, hold, held_shape, cut_behind, lower_tree, lower}
 use Rattle.dynamic.specs.Valid.{Valid, valid_fork, Whole}
-use Rattle.dynamic.specs.Lower.{LowersTo, fork_halves, whole_lower}
+use Rattle.dynamic.specs.Lower.{LowersTo}
+use Rattle.dynamic.proofs.Lower.{fork_halves, whole_lower}
 use Rattle.dynamic.specs.Rearranged.{stored, rests}
 use Rattle.dynamic.specs.Heights.{trees_balanced}
 use Rattle.table.specs.Fields.{bridge_left_field, bridge_right_field, most_nodes, most_slots, offer_tree, rate_field}

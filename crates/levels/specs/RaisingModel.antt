@@ -24,7 +24,7 @@ use Rattle.dynamic.specs.Valid.{Whole}
 use Rattle.dynamic.specs.Lower.{valid_env}
 use Rattle.dynamic.specs.SearchEnd.{Bridged}
 use Rattle.dynamic.specs.Bridged.{faces, search_bridges}
-use Rattle.dynamic.specs.Raise.{some_piece, whole_raise, split_behind, split_front}
+use Rattle.dynamic.proofs.Raise.{some_piece, whole_raise, split_behind, split_front}
 use Rattle.table.specs.Items.{Item}
 use Rattle.pieces.specs.Pieces.{items, item_laws_lem, rate_of}
 use Rattle.cuts.specs.PieceCuts.{is_in_front, NoneAbove}

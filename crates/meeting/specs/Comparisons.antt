@@ -26,17 +26,17 @@ module _ (S : Figure) where
   above_right a (suc i) local = refl
 
   -- some line of the local envelope is at most the line there
-  abbrev Low : (ℕ → S.Line) → ℕ → Kind → S.Line → S.Point → Type 0
+  abbrev pub Low : (ℕ → S.Line) → ℕ → Kind → S.Line → S.Point → Type 0
   Low c j h b x = (l : S.Line) × Local c j h l × T (S.at_most l b x)
 
-  local_node : (side : Side) (l r : Tree S.Line) (b : S.Line) (x : S.Point) →
+  pub local_node : (side : Side) (l r : Tree S.Line) (b : S.Line) (x : S.Point) →
       T (local_at_most S (node l r) b x) ↔ (T (S.at_most (nearest side (away side l r)) b x) ⊎ T (S.at_most (farthest side (toward side l r)) b x))
   local_node left l r b x = or_exactly (S.at_most (last l) b x) (S.at_most (first r) b x)
   local_node right l r b x =
       let e = or_exactly (S.at_most (last l) b x) (S.at_most (first r) b x) in
       ((λ w. ⊎_swap (e.0 w)), λ w. e.1 (⊎_swap w))
 
-  low_inner : (c : ℕ → S.Line) (k : ℕ) (y z b : S.Line) (x : S.Point) → y ≡ c k → z ≡ c (suc k) →
+  pub low_inner : (c : ℕ → S.Line) (k : ℕ) (y z b : S.Line) (x : S.Point) → y ≡ c k → z ≡ c (suc k) →
       (T (S.at_most y b x) ⊎ T (S.at_most z b x)) ↔ Low c (suc k) inner b x
   low_inner c k y z b x p q = (
     ⊎_elim (λ w. (y, inl p, w)) (λ w. (z, inr q, w)),
@@ -44,7 +44,7 @@ module _ (S : Figure) where
         (λ (e : w.0 ≡ c (suc k)). inr (subst (λ (v : S.Line). T (S.at_most v b x)) (e ∙ sym q) w.2)) w.1,
   )
 
-  local_test : {side : Side} {c : ℕ → S.Line} {lo hi : ℕ} {t : Tree S.Line} (s : Spans side c lo t hi) (b : S.Line) (x : S.Point) →
+  pub local_test : {side : Side} {c : ℕ → S.Line} {lo hi : ℕ} {t : Tree S.Line} (s : Spans side c lo t hi) (b : S.Line) (x : S.Point) →
       T (local_at_most S t b x) ↔ Low c (rank s) (kind t) b x
   local_test (one {x = y} p) b x = ((λ w. (y, p, w)), λ w. rw (p ∙ sym w.1) w.2)
   local_test {side} {c} (two {l = l} {r = r} s t) b x =
@@ -52,7 +52,7 @@ module _ (S : Figure) where
       rw e (iff_trans (local_node side l r b x) (low_inner c k _ _ b x p (farthest_at t ∙ ap c e)))
 
   -- a point given by its two lines
-  point_test : (side : Side) {other : Side} {c : ℕ → S.Line} {from to : ℕ} {q : Tree S.Line} (t : Spans other c from q to) (a : ℕ →
+  pub point_test : (side : Side) {other : Side} {c : ℕ → S.Line} {from to : ℕ} {q : Tree S.Line} (t : Spans other c from q to) (a : ℕ →
       S.Line) (k : ℕ) (y z : S.Line) → y ≡ a k → z ≡ a (suc k) →
       T (crossing_on_or_above S side (some (record { outer = y; inner = z })) q) ↔ Above side a (suc k) (Local c (rank t) (kind q))
   point_test side t a k y z p e = rw (p, e) (local_test t (a k) _)
@@ -64,9 +64,3 @@ module _ (S : Figure) where
   test_spans side {a = a} (two {mid = mid} s s') t =
       let (k, e, p) = nearest_at s in
       rw e (point_test side t a k _ _ p (farthest_at s' ∙ ap a e))
-
-  -- the test of two located places
-  pub test : (side : Side) {other : Side} {a c : ℕ → S.Line} {p q : Place S.Line} (s : Located side a p) (t : Located other c q) →
-      T (on_or_above S side p q) ↔ Above side a (rank s.spans) (Local c (rank t.spans) (kind q.tree))
-  unfolding on_or_above
-  test side s t = rw s.edged (test_spans side s.spans t.spans)

@@ -13,7 +13,7 @@ use Rattle.meeting.specs.Machine.{Side, left, right, away, toward, start, meet, 
 use Rattle.meeting.specs.Located.{Spans, one, two, bottom, Aim, Stands}
 use Rattle.meeting.specs.Moves.{half, owes_root}
 use Rattle.meeting.specs.Verdicts.{Meeting, FactsOf}
-use Rattle.meeting.specs.Bridging.{Sound, potential, run_finds}
+use Rattle.meeting.specs.Bridging.{Sound, potential}
 
 -- ---- a tree's lines, counted from the outer end
 
@@ -30,22 +30,22 @@ module _ {A : Type 0} where
 
 module _ {A : Type 0} (a : ℕ → A) (d : A) where
   -- from lo on, a counts the tree's lines
-  abbrev Counts : Side → ℕ → Tree A → Type 0
+  abbrev pub Counts : Side → ℕ → Tree A → Type 0
   Counts side lo t = (i : ℕ) → i < size t → a (lo + i) ≡ line_from side t d i
 
-  front : (l r : Tree A) (k i : ℕ) → k ≡ i → i < size l → get_or (leaves (node l r)) k d ≡ get_or (leaves l) i d
+  pub front : (l r : Tree A) (k i : ℕ) → k ≡ i → i < size l → get_or (leaves (node l r)) k d ≡ get_or (leaves l) i d
   front l r k i e h = ap (λ (z : ℕ). get_or (leaves (node l r)) z d) e ∙ get_or-append (leaves l) (leaves r) d i h
 
-  back : (l r : Tree A) (k i : ℕ) → k ≡ size l + i → get_or (leaves (node l r)) k d ≡ get_or (leaves r) i d
+  pub back : (l r : Tree A) (k i : ℕ) → k ≡ size l + i → get_or (leaves (node l r)) k d ≡ get_or (leaves r) i d
   back l r k i e = ap (λ (z : ℕ). get_or (leaves (node l r)) z d) e ∙ get_or-append-add (leaves l) (leaves r) i d
 
-  counts_away : (side : Side) (lo : ℕ) (l r : Tree A) → Counts side lo (node l r) → Counts side lo (away side l r)
+  pub counts_away : (side : Side) (lo : ℕ) (l r : Tree A) → Counts side lo (node l r) → Counts side lo (away side l r)
   counts_away left lo l r c i h = c i (omega (arith, length-append (leaves l) (leaves r))) ∙ front l r i i refl h
   counts_away right lo l r c i h =
       let e : size (node l r) ≡ size l + size r = length-append (leaves l) (leaves r) in
       c i (omega arith) ∙ back l r _ (size r - suc i) (omega arith)
 
-  counts_toward : (side : Side) (lo : ℕ) (l r : Tree A) → Counts side lo (node l r) → Counts side (lo + size (away side l r)) (toward side l r)
+  pub counts_toward : (side : Side) (lo : ℕ) (l r : Tree A) → Counts side lo (node l r) → Counts side (lo + size (away side l r)) (toward side l r)
   counts_toward left lo l r c i h =
       let e : size (node l r) ≡ size l + size r = length-append (leaves l) (leaves r) in
       ap a (omega arith) ∙ c (size l + i) (omega arith) ∙ back l r _ i refl
@@ -53,29 +53,29 @@ module _ {A : Type 0} (a : ℕ → A) (d : A) where
       let e : size (node l r) ≡ size l + size r = length-append (leaves l) (leaves r) in
       ap a (omega arith) ∙ c (size r + i) (omega arith) ∙ front l r _ (size l - suc i) (omega arith) (omega arith)
 
-  size_node : (side : Side) (l r : Tree A) → size (node l r) ≡ size (away side l r) + size (toward side l r)
+  pub size_node : (side : Side) (l r : Tree A) → size (node l r) ≡ size (away side l r) + size (toward side l r)
   size_node left l r = length-append (leaves l) (leaves r)
   size_node right l r = omega (arith, length-append (leaves l) (leaves r))
 
-  abbrev Spanned : Side → Tree A → Type 0
+  abbrev pub Spanned : Side → Tree A → Type 0
   Spanned side t = (lo hi : ℕ) → hi ≡ lo + size t → Counts side lo t → Spans side a lo t hi
 
-  spans_node : (side : Side) (l r : Tree A) → Spanned side (away side l r) → Spanned side (toward side l r) → Spanned side (node l r)
+  pub spans_node : (side : Side) (l r : Tree A) → Spanned side (away side l r) → Spanned side (toward side l r) → Spanned side (node l r)
   spans_node side l r f g lo hi e c =
       two (f lo (lo + size (away side l r)) refl (counts_away side lo l r c)) (g (lo + size (away side l r)) hi (omega (arith, size_node side l r))
       (counts_toward side lo l r c))
 
-  leaf_line : (side : Side) (x : A) → line_from side (leaf x) d 0 ≡ x
+  pub leaf_line : (side : Side) (x : A) → line_from side (leaf x) d 0 ≡ x
   leaf_line left x = refl
   leaf_line right x = refl
 
-  spans_leaf : (side : Side) (x : A) → Spanned side (leaf x)
+  pub spans_leaf : (side : Side) (x : A) → Spanned side (leaf x)
   spans_leaf side x lo hi e c =
       let q : hi ≡ suc lo = omega arith in
       let p : a lo ≡ x = ap a (omega arith) ∙ c 0 (omega arith) ∙ leaf_line side x in
       rw q (one (sym p))
 
-  spans_of : (side : Side) (t : Tree A) → Spanned side t
+  pub spans_of : (side : Side) (t : Tree A) → Spanned side t
   spans_of side (leaf x) = spans_leaf side x
   spans_of left (node l r) = spans_node left l r (spans_of left l) (spans_of left r)
   spans_of right (node l r) = spans_node right l r (spans_of right r) (spans_of right l)
@@ -136,13 +136,6 @@ module _ (S : Figure) (l r : Tree S.Line) (a : ℕ → S.Line) (m : ℕ) (c : �
       let s : Sound M left (half l none []) (half r none []) = record { us = us; them = them; held = inl (omega arith) } in
       record { sound = s; afford = omega (arith, owes_root us, owes_root them); tall_left = refl; tall_right = refl }
 
-  pub meets_by : Spans left a 0 l m → Spans right c 0 r n → i < m → j < n → FactsOf S a m c n i j → Met (limit l r) (a i) (c j) (meet S l r)
-  unfolding meet
-  meets_by p q h k f =
-      let g = ready_by p q h k f in
-      let z = run_finds (sides S l r a m c n i j f) (limit l r) (start l r) g.sound g.afford in
-      record { finished = z.finished; at_left = z.found_left.line; at_right = z.found_right.line; steps = omega (arith, z.steps, g.afford) }
-
 -- Two trees whose leaves are envelopes that face each other, each counted from its outer end.
 abbrev pub FacingTrees : (S : Figure) (l r : Tree S.Line) (d : S.Line) → Type 0
 FacingTrees S l r d = Facing S (line_from left l d) (size l) (line_from right r d) (size r)
@@ -152,11 +145,8 @@ BridgeOf S l r d i j = Bridge S (line_from left l d) (size l) (line_from right r
 
 -- The search finds their bridge.
 module _ (S : Figure) (L : PseudoLines S) (l r : Tree S.Line) (d : S.Line) (i j : ℕ) (F : FacingTrees S l r d) (B : BridgeOf S l r d i j) where
-  five : FactsOf S (line_from left l d) (size l) (line_from right r d) (size r) i j
+  pub five : FactsOf S (line_from left l d) (size l) (line_from right r d) (size r) i j
   five = facts S L (line_from left l d) (size l) (line_from right r d) (size r) F i j B
 
   pub meeting_of : (M : Meeting S) × Ready M l r
   meeting_of = (_, ready_by S l r _ _ _ _ i j (spans_tree left l d) (spans_tree right r d) B.on_left.inside B.on_right.inside five)
-
-  pub meets : Met (limit l r) (line_from left l d i) (line_from right r d j) (meet S l r)
-  meets = meets_by S l r _ _ _ _ i j (spans_tree left l d) (spans_tree right r d) B.on_left.inside B.on_right.inside five

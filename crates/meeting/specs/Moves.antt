@@ -32,21 +32,21 @@ pub record Moved {A : Type 0} {side : Side} {g : Aim A} {h : Half A} (s : Stands
   pub depth : length h'.stack + pops ≤ length h.stack + pushes
 
 -- a choice between numbers is monotone, and strictly so where it is made
-ite_le : {P : Type 0} (d : Dec P) (m n m' n' : ℕ) → m ≤ m' → n ≤ n' → ite d m n ≤ ite d m' n'
+pub ite_le : {P : Type 0} (d : Dec P) (m n m' n' : ℕ) → m ≤ m' → n ≤ n' → ite d m n ≤ ite d m' n'
 ite_le (yes p) m n m' n' h k = h
 ite_le (no p) m n m' n' h k = k
 
-ite_lt : {P : Type 0} (d : Dec P) (m n m' n' : ℕ) → P → m < m' → ite d m n < ite d m' n'
+pub ite_lt : {P : Type 0} (d : Dec P) (m n m' n' : ℕ) → P → m < m' → ite d m n < ite d m' n'
 ite_lt (yes p) m n m' n' q h = h
 ite_lt (no p) m n m' n' q h = absurd (p q)
 
 -- what a push does to a choice between the three subtrees that may hold the line
-deeper : {P Q : Type 0} (d : Dec P) (f : Dec Q) → (P → Q) → (ht ha hn o : ℕ) → ht < hn → ha < hn → ite d ht (ite f (suc ha) o) ≤ ite f hn o
+pub deeper : {P Q : Type 0} (d : Dec P) (f : Dec Q) → (P → Q) → (ht ha hn o : ℕ) → ht < hn → ha < hn → ite d ht (ite f (suc ha) o) ≤ ite f hn o
 deeper (yes p) (yes q) i ht ha hn o h k = omega arith
 deeper (yes p) (no q) i ht ha hn o h k = absurd (q (i p))
 deeper (no p) f i ht ha hn o h k = ite_le f _ _ _ _ k (omega arith)
 
-deeper_won : {P Q : Type 0} (d : Dec P) (f : Dec Q) → (P → Q) → (ht ha hn o : ℕ) → ht < hn → P → ite d ht (ite f (suc ha) o) < ite f hn o
+pub deeper_won : {P Q : Type 0} (d : Dec P) (f : Dec Q) → (P → Q) → (ht ha hn o : ℕ) → ht < hn → P → ite d ht (ite f (suc ha) o) < ite f hn o
 deeper_won (yes p) (yes q) i ht ha hn o h w = h
 deeper_won (yes p) (no q) i ht ha hn o h w = absurd (q (i p))
 deeper_won (no p) f i ht ha hn o h w = absurd (p w)
@@ -55,7 +55,7 @@ module _ {A : Type 0} where
   abbrev pub half : Tree A → Option A → List (Place A) → Half A
   half t e stack = record { at = record { tree = t; edge = e }; stack = stack }
 
-  abbrev standing : {side : Side} (g : Aim A) (t : Tree A) (e : Option A) (stack : List (Place A)) {lo hi : ℕ} → Stacked side g.line g.tall stack lo →
+  abbrev pub standing : {side : Side} (g : Aim A) (t : Tree A) (e : Option A) (stack : List (Place A)) {lo hi : ℕ} → Stacked side g.line g.tall stack lo →
       Spans side g.line lo t hi → e ≡ edge_of g.line lo → length stack + height t ≤ g.tall → hi ≤ g.count → g.star < hi → Stands side g (half t e stack)
   standing g t e stack {lo} {hi} st p q b c d =
       record {
@@ -70,7 +70,7 @@ module _ {A : Type 0} where
       }
 
 module _ {A : Type 0} {side : Side} (g : Aim A) where
-  retreat_by : (t : Tree A) (e : Option A) (stack : List (Place A)) {lo hi : ℕ} (st : Stacked side g.line g.tall stack lo)
+  pub retreat_by : (t : Tree A) (e : Option A) (stack : List (Place A)) {lo hi : ℕ} (st : Stacked side g.line g.tall stack lo)
       (p : Spans side g.line lo t hi) (q : e ≡ edge_of g.line lo) (b : length stack + height t ≤ g.tall) (c : hi ≤ g.count) (d : g.star < hi) →
       g.star < rank p → Moved (standing g t e stack st p q b c d) 0 0 (lo ≤ g.star) (retreat side (half t e stack))
   unfolding retreat owes
@@ -93,7 +93,7 @@ module _ {A : Type 0} {side : Side} (g : Aim A) where
         depth = omega arith;
       }
 
-  advance_by : (t : Tree A) (e : Option A) (stack : List (Place A)) {lo hi : ℕ} (st : Stacked side g.line g.tall stack lo)
+  pub advance_by : (t : Tree A) (e : Option A) (stack : List (Place A)) {lo hi : ℕ} (st : Stacked side g.line g.tall stack lo)
       (p : Spans side g.line lo t hi) (q : e ≡ edge_of g.line lo) (b : length stack + height t ≤ g.tall) (c : hi ≤ g.count) (d : g.star < hi) →
       Moved (standing g t e stack st p q b c d) 0 1 (Inner t × (rank p ≤ g.star)) (advance side (half t e stack))
   unfolding advance owes
@@ -120,7 +120,7 @@ module _ {A : Type 0} {side : Side} (g : Aim A) where
       }
 
   -- the popped node's away child owes one edge less than the stack did for it
-  pop_by : (t : Tree A) (e : Option A) (top : Place A) (rest : List (Place A)) {lo hi : ℕ} (st : Stacked side g.line g.tall (top ∷ rest) lo)
+  pub pop_by : (t : Tree A) (e : Option A) (top : Place A) (rest : List (Place A)) {lo hi : ℕ} (st : Stacked side g.line g.tall (top ∷ rest) lo)
       (p : Spans side g.line lo t hi) (q : e ≡ edge_of g.line lo) (b : length (top ∷ rest) + height t ≤ g.tall) (c : hi ≤ g.count) (d : g.star < hi)
       → g.star < lo → Moved (standing g t e (top ∷ rest) st p q b c d) 1 0 ⊥ (pop side top rest)
   unfolding pop owes
@@ -135,13 +135,6 @@ module _ {A : Type 0} {side : Side} (g : Aim A) where
 
   pub retreat_moved : {h : Half A} (s : Stands side g h) → g.star < rank s.spans → Moved s 0 0 (s.lo ≤ g.star) (retreat side h)
   retreat_moved {h} s below = retreat_by h.at.tree h.at.edge h.stack s.stacked s.spans s.edged s.shallow s.bounded s.covers below
-
-  pub advance_moved : {h : Half A} (s : Stands side g h) → Moved s 0 1 (Inner h.at.tree × (rank s.spans ≤ g.star)) (advance side h)
-  advance_moved {h} s = advance_by h.at.tree h.at.edge h.stack s.stacked s.spans s.edged s.shallow s.bounded s.covers
-
-  pub pop_moved : {t : Tree A} {e : Option A} {top : Place A} {rest : List (Place A)} (s : Stands side g (half t e (top ∷ rest))) → g.star < s.lo →
-      Moved s 1 0 ⊥ (pop side top rest)
-  pop_moved {t} {e} {top} {rest} s below = pop_by t e top rest s.stacked s.spans s.edged s.shallow s.bounded s.covers below
 
 -- At the root all that is owed is the tree's height.
 pub owes_root : {A : Type 0} {side : Side} {g : Aim A} {t : Tree A} (s : Stands side g (half t none [])) → owes s ≤ height t

@@ -10,7 +10,7 @@ use Rattle.trees.specs.Tree.{Tree, leaf, node, height}
 use Rattle.meeting.specs.Machine.{Side, left, right, Place, Half, point_at, State, step, start, Result, ended, counted, run, meet}
 use Rattle.meeting.specs.Located.{Stacked, on, Aim, Stands, stack_depth, stack_room, top_edge, edge_of_top, top_point, leaf_point}
 use Rattle.meeting.specs.Verdicts.{Meeting}
-use Rattle.meeting.specs.Bridging.{Sound, potential, Stepped, step_sound}
+use Rattle.meeting.specs.Bridging.{Sound, potential, Stepped}
 use Rattle.meeting.specs.Meets.{limit, Ready}
 
 -- after k steps
@@ -23,47 +23,30 @@ module _ {A : Type 0} where
   abbrev pub later : ℕ → Result A → Result A
   later k r = record { finished = r.finished; u = r.u; v = r.v; steps = k + r.steps }
 
-  later_none : (r : Result A) → r ≡ later 0 r
+  pub later_none : (r : Result A) → r ≡ later 0 r
   later_none r = ap (λ (n : ℕ). record { finished = r.finished; u = r.u; v = r.v; steps = n }) (omega arith)
 
-  later_counted : (k : ℕ) (r : Result A) → later k (counted r) ≡ later (suc k) r
+  pub later_counted : (k : ℕ) (r : Result A) → later k (counted r) ≡ later (suc k) r
   unfolding counted
   later_counted k r = ap (λ (n : ℕ). record { finished = r.finished; u = r.u; v = r.v; steps = n }) (omega arith)
 
-  later_ended : (k : ℕ) (s : State A) → later k (ended true s 1) ≡ ended true s (suc k)
+  pub later_ended : (k : ℕ) (s : State A) → later k (ended true s 1) ≡ ended true s (suc k)
   unfolding ended
   later_ended k s = ap (ended true s) (omega arith)
 
 module _ (S : Figure) where
-  run_some : (n : ℕ) (s s' : State S.Line) → step S s ≡ some s' → run S (suc n) s ≡ counted (run S n s')
+  pub run_some : (n : ℕ) (s s' : State S.Line) → step S s ≡ some s' → run S (suc n) s ≡ counted (run S n s')
   unfolding run
   run_some n s s' e = rw (e, run)
 
-  run_none : (n : ℕ) (s : State S.Line) → step S s ≡ none → run S (suc n) s ≡ ended true s 1
+  pub run_none : (n : ℕ) (s : State S.Line) → step S s ≡ none → run S (suc n) s ≡ ended true s 1
   unfolding run
   run_none n s e = rw (e, run)
 
-  run_reaches : {s s' : State S.Line} {k : ℕ} → Reaches S s k s' → (n m : ℕ) → m ≡ k + n → run S m s ≡ later k (run S n s')
+  pub run_reaches : {s s' : State S.Line} {k : ℕ} → Reaches S s k s' → (n m : ℕ) → m ≡ k + n → run S m s ≡ later k (run S n s')
   run_reaches {s} here n m e = let p : m ≡ n = omega arith in rw p (later_none (run S n s))
   run_reaches {s} (further {k = k} {s' = t} {s'' = t'} w q) n m e = run_reaches w (suc n) m (omega arith) ∙ ap (later k) (run_some n t t' q)
       ∙ later_counted k (run S n t')
-
-  -- where the steps end, `meet` has counted them and one more
-  pub reaches_end : {l r : Tree S.Line} {k : ℕ} {s : State S.Line} → Reaches S (start l r) k s → k < limit l r → step S s ≡ none →
-      meet S l r ≡ ended true s (suc k)
-  unfolding meet
-  reaches_end {l} {r} {k} {s} w h e =
-      let n : ℕ = 3 * (height l + height r) - k in
-      run_reaches w (suc n) (limit l r) (omega arith) ∙ ap (later k) (run_none n s e) ∙ later_ended k s
-
-  -- what is reached is sound, and each step was paid for
-  pub reaches_sound : {M : Meeting S} {s s' : State S.Line} {k : ℕ} (i : Sound M left s.u s.v) → Reaches S s k s' →
-      (j : Sound M left s'.u s'.v) × (potential j + k ≤ potential i)
-  reaches_sound i here = (i, omega arith)
-  reaches_sound {M = M} i (further {k = k} {s' = t} {s'' = t'} w q) =
-      let (j, h) = reaches_sound i w in
-      let b : Stepped M j (some t') = rw q at (step_sound M t j) in
-      (b.0, omega (arith, b.1))
 
 -- What a half of a search that goes on in the tree t shows of its stack: no deeper than the tree is high, with room for an inner node; a top is an
 -- inner node, the edge is the nearest line of its away child, and a leaf's p is its p.
@@ -74,7 +57,7 @@ pub record Kept {A : Type 0} (side : Side) (t : Tree A) (h : Half A) : Type 0 wh
   pub edge : h.at.edge ≡ top_edge side h.stack
   pub leaf_end : (x : A) → h.at.tree ≡ leaf x → point_at side (leaf x) h.at.edge ≡ top_point side h.stack
 
-kept : {A : Type 0} {side : Side} {g : Aim A} {h : Half A} (t : Tree A) → Stands side g h → g.tall ≡ height t → Kept side t h
+pub kept : {A : Type 0} {side : Side} {g : Aim A} {h : Half A} (t : Tree A) → Stands side g h → g.tall ≡ height t → Kept side t h
 kept {A = A} {side = side} {g = g} t s e =
     record {
       depth = omega (arith, stack_depth s);
@@ -93,12 +76,3 @@ pub record Underway {A : Type 0} (l r : Tree A) (k : ℕ) (s : State A) : Type 0
   pub within : k < limit l r
   pub kept_left : Kept left l s.u
   pub kept_right : Kept right r s.v
-
-pub underway : (S : Figure) {M : Meeting S} {l r : Tree S.Line} {k : ℕ} {s : State S.Line} → Ready M l r → Reaches S (start l r) k s → Underway l r k s
-underway S {l = l} {r = r} g w =
-    let (j, h) = reaches_sound S g.sound w in
-    record {
-      within = omega (arith, g.afford);
-      kept_left = kept l j.us g.tall_left;
-      kept_right = kept r j.them g.tall_right;
-    }

@@ -5,7 +5,7 @@ use Rattle.envelopes.specs.PseudoLines.{Figure}
 use Rattle.envelopes.specs.Bridge.{Kind, leafy, Local, One, Two, Facts}
 use Rattle.meeting.specs.Machine.{Side, left, right, opposite, Place, on_or_above, Case, mine, theirs, neither, case_of, compare}
 use Rattle.meeting.specs.Located.{kind, rank, Located, Aim}
-use Rattle.meeting.specs.Comparisons.{Above, above_left, above_right, test}
+use Rattle.meeting.specs.Comparisons.{Above, above_left, above_right}
 
 -- The five facts, of the left lines a and the right lines c, each from its outer end, and their bridge (i, j).
 abbrev pub FactsOf : (S : Figure) (a : ℕ → S.Line) (m : ℕ) (c : ℕ → S.Line) (n i j : ℕ) → Type 0
@@ -23,31 +23,31 @@ module _ {S : Figure} (M : Meeting S) where
   aim right = M.right_aim
 
   -- our point, with i lines outside of it, is on or above the other's local envelope
-  abbrev Ours : Side → ℕ → ℕ → Kind → Type 0
+  abbrev pub Ours : Side → ℕ → ℕ → Kind → Type 0
   Ours side i j h = Above S side (aim side).line i (Local (aim (opposite side)).line j h)
 
-  abbrev Other : Side → ℕ → Kind → ℕ → Type 0
+  abbrev pub Other : Side → ℕ → Kind → ℕ → Type 0
   Other side i k j = Above S (opposite side) (aim (opposite side)).line j (Local (aim side).line i k)
 
-  ours_above : (side : Side) (i j : ℕ) (k h : Kind) → i < (aim side).count → j < (aim (opposite side)).count → Ours side i j h → (aim side).star < i
+  pub ours_above : (side : Side) (i j : ℕ) (k h : Kind) → i < (aim side).count → j < (aim (opposite side)).count → Ours side i j h → (aim side).star < i
   ours_above left i j k h p q w = M.facts.f1 i j k h p q (rw above_left at w)
   ours_above right i j k h p q w = M.facts.f2 j i h k q p (rw above_right at w)
 
-  other_above : (side : Side) (i j : ℕ) (k h : Kind) → i < (aim side).count → j < (aim (opposite side)).count → Other side i k j → (aim (opposite side)).star < j
+  pub other_above : (side : Side) (i j : ℕ) (k h : Kind) → i < (aim side).count → j < (aim (opposite side)).count → Other side i k j → (aim (opposite side)).star < j
   other_above left i j k h p q w = ours_above right j i h k q p w
   other_above right i j k h p q w = ours_above left j i h k q p w
 
-  neither_above : (side : Side) (i j : ℕ) (k h : Kind) → i < (aim side).count → j < (aim (opposite side)).count → ¬ Ours side i j h → ¬ Other side i k j →
+  pub neither_above : (side : Side) (i j : ℕ) (k h : Kind) → i < (aim side).count → j < (aim (opposite side)).count → ¬ Ours side i j h → ¬ Other side i k j →
       (i ≤ (aim side).star) ⊎ (j ≤ (aim (opposite side)).star)
   neither_above left i j k h p q w z = M.facts.f3 i j k h p q (rw above_left at w) (rw above_right at z)
   neither_above right i j k h p q w z = ⊎_swap (M.facts.f3 j i h k q p (rw above_left at z) (rw above_right at w))
 
-  ours_found : (side : Side) (i j : ℕ) (h : Kind) → i < (aim side).count → j < (aim (opposite side)).count → ¬ Ours side i j h → ¬ Other side i leafy j →
+  pub ours_found : (side : Side) (i j : ℕ) (h : Kind) → i < (aim side).count → j < (aim (opposite side)).count → ¬ Ours side i j h → ¬ Other side i leafy j →
       i ≡ (aim side).star → j ≤ (aim (opposite side)).star
   ours_found left i j h p q w z e = M.facts.f4 i j h p q (rw above_left at w) (rw above_right at z) e
   ours_found right i j h p q w z e = M.facts.f5 j i h q p (rw above_left at z) (rw above_right at w) e
 
-  other_found : (side : Side) (i j : ℕ) (k : Kind) → i < (aim side).count → j < (aim (opposite side)).count → ¬ Ours side i j leafy → ¬ Other side i k j →
+  pub other_found : (side : Side) (i j : ℕ) (k : Kind) → i < (aim side).count → j < (aim (opposite side)).count → ¬ Ours side i j leafy → ¬ Other side i k j →
       j ≡ (aim (opposite side)).star → i ≤ (aim side).star
   other_found left i j k p q w z e = ours_found right j i k q p z w e
   other_found right i j k p q w z e = ours_found left j i k q p z w e
@@ -64,7 +64,7 @@ module _ {S : Figure} (M : Meeting S) where
   Verdict side i k j h theirs = (aim (opposite side)).star < j
   Verdict side i k j h neither = Apart side i k j h
 
-  verdict_by : (side : Side) (i : ℕ) (k : Kind) (j : ℕ) (h : Kind) → i < (aim side).count → j < (aim (opposite side)).count → (b c : Bool) →
+  pub verdict_by : (side : Side) (i : ℕ) (k : Kind) (j : ℕ) (h : Kind) → i < (aim side).count → j < (aim (opposite side)).count → (b c : Bool) →
       T b ↔ Ours side i j h → T c ↔ Other side i k j → Verdict side i k j h (case_of b c)
   verdict_by side i k j h p q true c w z = ours_above side i j k h p q (w.0 tt)
   verdict_by side i k j h p q false true w z = other_above side i j k h p q (z.0 tt)
@@ -74,10 +74,3 @@ module _ {S : Figure} (M : Meeting S) where
         found = λ e. ours_found side i j h p q w.1 (rw e at z.1);
         other = λ e. other_found side i j k p q (rw e at w.1) z.1;
       }
-
-  pub verdict : (side : Side) {p q : Place S.Line} (s : Located side (aim side).line p) (t : Located (opposite side) (aim (opposite side)).line q) →
-      rank s.spans < (aim side).count → rank t.spans < (aim (opposite side)).count →
-      Verdict side (rank s.spans) (kind p.tree) (rank t.spans) (kind q.tree) (compare S side p q)
-  unfolding compare
-  verdict side {p} {q} s t b c = verdict_by side _ (kind p.tree) _ (kind q.tree) b c (on_or_above S side p q) (on_or_above S (opposite side) q p)
-      (test S side s t) (test S (opposite side) t s)

@@ -9,7 +9,7 @@ use Rattle.trees.specs.Operations.{Part, part_leaves}
 use Rattle.dynamic.specs.OfferTree.{Held, held_shape}
 use Rattle.dynamic.specs.Valid.{Valid}
 use Rattle.dynamic.specs.Lower.{valid_env}
-use Rattle.dynamic.specs.Raise.{some_piece}
+use Rattle.dynamic.proofs.Raise.{some_piece}
 use Rattle.table.specs.Fields.{envelope_root_word, most_nodes}
 use Rattle.table.specs.Words.{Words, word, up_to}
 use Rattle.table.specs.Items.{Item}

@@ -15,7 +15,8 @@ use Rattle.trees.specs.Leaves.{some_leaf}
 use Rattle.meeting.specs.Machine.{left, right, State, step, Result, ended, counted, start, run, meet}
 use Rattle.meeting.specs.Moves.{half, owes_root}
 use Rattle.meeting.specs.Verdicts.{Meeting, aim}
-use Rattle.meeting.specs.Bridging.{Sound, potential, Stepped as Progress, step_sound}
+use Rattle.meeting.specs.Bridging.{Sound, potential, Stepped as Progress}
+use Rattle.meeting.proofs.Bridging.{step_sound}
 use Rattle.meeting.specs.Meets.{size, line_from, limit, spans_tree, root_stands}
 use Rattle.meeting.specs.Reach.{later}
 use Rattle.table.specs.Fields.{most_levels, piece_tree}

@@ -16,7 +16,8 @@ use Rattle.dynamic.specs.Valid.{placed}
 use Rattle.dynamic.specs.Kept.{held_height}
 use Rattle.dynamic.specs.Placed.{New, placed_ordered}
 use Rattle.dynamic.specs.Inserted.{alone_whole}
-use Rattle.dynamic.specs.UpdateSteps.{Gains, insert_whole}
+use Rattle.dynamic.specs.UpdateSteps.{Gains}
+use Rattle.dynamic.proofs.UpdateSteps.{insert_whole}
 use Rattle.table.specs.Fields.{most_levels, most_slots, rate_field}
 use Rattle.table.specs.Words.{Words}
 use Rattle.table.specs.Layout.{cap, cell}

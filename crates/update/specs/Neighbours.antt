@@ -10,8 +10,9 @@ use Rattle.trees.specs.Leaves.{last_leaf}
 use Rattle.meeting.specs.Machine.{Side, left, right}
 use Rattle.dynamic.specs.OfferTree.{Held, held_shape, outer, inner, lower, raise_on}
 use Rattle.dynamic.specs.Valid.{Whole}
-use Rattle.dynamic.specs.Raise.{raised_shape, whole_raise}
-use Rattle.dynamic.specs.Kept.{held_height, Above, above_turned, Parted, part}
+use Rattle.dynamic.proofs.Raise.{raised_shape, whole_raise}
+use Rattle.dynamic.specs.Kept.{held_height, Above, above_turned, Parted}
+use Rattle.dynamic.proofs.Kept.{part}
 use Rattle.table.specs.Fields.{most_slots, offer_tree, rate_field}
 use Rattle.table.specs.Words.{Words}
 use Rattle.table.specs.Layout.{cap, cap_most, cell}

@@ -14,7 +14,8 @@ use Rattle.dynamic.specs.Updates.{Removed, standing, remove}
 use Rattle.dynamic.specs.Valid.{stand_in, instead, Fits}
 use Rattle.dynamic.specs.Placed.{instead_ordered}
 use Rattle.dynamic.specs.Kept.{held_height}
-use Rattle.dynamic.specs.UpdateSteps.{Loses, remove_whole}
+use Rattle.dynamic.specs.UpdateSteps.{Loses}
+use Rattle.dynamic.proofs.UpdateSteps.{remove_whole}
 use Rattle.table.specs.Fields.{most_levels, most_slots, offer_tree, rate_field}
 use Rattle.table.specs.Words.{Words}
 use Rattle.table.specs.Layout.{cap, cell}

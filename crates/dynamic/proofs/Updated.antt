@@ -20,8 +20,9 @@ use Rattle.dynamic.specs.Floors.{floor_old}
 use Rattle.dynamic.specs.Forests.{row_of, lines_row, inners_row}
 use Rattle.dynamic.specs.Kept.{Kept, started}
 use Rattle.dynamic.specs.Placed.{New, placed_ordered, without_ordered, instead_none, instead_ordered}
-use Rattle.dynamic.specs.Inserted.{alone_whole, inserted}
-use Rattle.dynamic.specs.Removed.{removed}
+use Rattle.dynamic.specs.Inserted.{alone_whole}
+use Rattle.dynamic.proofs.Inserted.{inserted}
+use Rattle.dynamic.proofs.Removed.{removed}
 
 -- An update as a whole: the book after it as a row of at most one tree, and a log of few searches.
 pub record Updates (S : Figure) (before after : Option (Held S.Line)) (live : List S.Line) (log : List (Pair S.Line)) : Type 0 where
