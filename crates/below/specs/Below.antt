@@ -14,7 +14,7 @@ use Rattle.dynamic.specs.OfferTree.{OfferTree, single, fork, shape}
 use Rattle.dynamic.specs.Valid.{Valid, valid_single, valid_fork}
 use Rattle.dynamic.specs.Lower.{valid_env}
 use Rattle.below.specs.Least.{Least}
-use Rattle.below.specs.Children.{Seeks, left_of, right_of, Lesser, least_all, children}
+use Rattle.below.specs.Children.{Seeks, left_of, right_of, Lesser, least_all}
 
 module _ (S : Figure) (x : S.Point) (seek : Tree S.Line → S.Line) where
   -- the lines below the limit, where e is the cheapest of the tree's envelope
@@ -30,20 +30,3 @@ module _ (S : Figure) (L : PseudoLines S) (x : S.Point) (test : S.Line → Bool)
   -- where the cheapest does not pass, none does
   pub none_below : {ls es : List S.Line} {e : S.Line} → Env S ls es → Least S es e x → test e ≡ false → keep test ls ≡ []
   none_below {ls} {e = e} E M q = keep_none test ls (λ a m t. subst T q (limit e a (least_all S L x E M a m) t))
-
-  module _ (seek : Tree S.Line → S.Line) (seeks : Seeks S x seek) where
-    pub below_exact : {t : OfferTree S.Line} {es : List S.Line} {e : S.Line} → Valid S t es → Ordered S (leaves (shape t)) → Least S es e x →
-        below S x seek test t e ≡ keep test (leaves (shape t))
-    unfolding below
-    below_exact {e} (valid_single {a}) o M = ap (λ z. cond (test z) (a ∷ []) []) (Memᴰ.eq_of_singleton M.one_of)
-    below_exact {e} (valid_fork {u} {v} {l} {r} {ql} {qr} {es} up_to from d vl vr al ar E) o M =
-        go (test e) refl (below_exact vl (ordered_left S (leaves (shape l)) (leaves (shape r)) o) C.left)
-        (below_exact vr (ordered_right S (leaves (shape l)) (leaves (shape r)) o) C.right)
-      where
-        C : Lesser S x ((up_to ++ u ∷ []) ++ part_leaves ql) (part_leaves qr ++ v ∷ from) (left_of S x seek u l ql e) (right_of S x seek v l qr e)
-        C = children S L x seek seeks u v l r ql qr up_to from o d E (valid_env S L vl) (valid_env S L vr) M
-
-        go : {fs gs : List S.Line} (b : Bool) → test e ≡ b → fs ≡ keep test (leaves (shape l)) → gs ≡ keep test (leaves (shape r)) →
-            cond b (fs ++ gs) [] ≡ keep test (leaves (shape l) ++ leaves (shape r))
-        go true q f g = ap₂ (λ a b. a ++ b) f g ∙ sym (keep_append test (leaves (shape l)) (leaves (shape r)))
-        go false q f g = sym (none_below E M q)

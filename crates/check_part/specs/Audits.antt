@@ -18,7 +18,7 @@ use Rattle.table.specs.Layout.{cap, cap_most}
 use Rattle.table.specs.Items.{Item, Apart, offer_of}
 use Rattle.form.specs.Form.{Numbered, Freely, Book, Form, FormStands, plain_offers}
 use Rattle.form.specs.Memory.{Ring}
-use Rattle.form.specs.Local.{book_recalling}
+use Rattle.form.proofs.Local.{book_recalling}
 use Rattle.form.specs.Live.{book_sound}
 use Rattle.check_trees.specs.Stretches.{span}
 use Rattle.check_trees.specs.Deciding.{Decides, decides_no}

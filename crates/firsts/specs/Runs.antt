@@ -10,7 +10,7 @@ use Rattle.lists.specs.Firsts.{firsts}
 
 module _ {A : Type 0} where
   -- a test that follows from a second one drops nothing that passed the second
-  keep_twice : (p q : A → Bool) → ((a : A) → T (q a) → T (p a)) → (xs : List A) → keep p (keep q xs) ≡ keep q xs
+  pub keep_twice : (p q : A → Bool) → ((a : A) → T (q a) → T (p a)) → (xs : List A) → keep p (keep q xs) ≡ keep q xs
   keep_twice p q h [] = refl
   keep_twice p q h (x ∷ xs) = go (q x) (h x) (keep_twice p q h xs)
     where
@@ -43,24 +43,16 @@ module _ {A : Type 0} (before : A → A → Bool) (cheap : A → Bool) where
     resumes_at : (skipped : List A) (a : A) (xs : List A) → keep cheap skipped ≡ [] → T (cheap a) →
         Resumes (skipped ++ a ∷ xs) (a ∷ keep cheap (behind a xs))
 
-  behind_cons : {a b : A} (xs : List A) → Stands a b → behind a (b ∷ xs) ≡ cond (before a b) (b ∷ behind b xs) (behind b xs)
-  behind_cons {a} {b} xs s =
-      ap (λ (l : List A). cond (before a b) (b ∷ l) l) (keep_twice (before a) (before b) s.earlier (firsts before xs))
-
-  -- the next of its class leads to the same firsts
-  pub behind_next : {a b : A} (xs : List A) → Stands a b → T (not (before a b)) → behind a (b ∷ xs) ≡ behind b xs
-  behind_next {a} {b} xs s t = behind_cons xs s ∙ ap (λ (c : Bool). cond c (b ∷ behind b xs) (behind b xs)) (is_false (before a b) t)
-
-  dropped : (a : A) (xs : List A) → T (not (cheap a)) → keep cheap xs ≡ [] → keep cheap (a ∷ xs) ≡ []
+  pub dropped : (a : A) (xs : List A) → T (not (cheap a)) → keep cheap xs ≡ [] → keep cheap (a ∷ xs) ≡ []
   dropped a xs t e = ap (λ (c : Bool). cond c (a ∷ keep cheap xs) (keep cheap xs)) (is_false (cheap a) t) ∙ e
 
   -- one more that does not pass
-  past : {a : A} {xs gs : List A} → T (not (cheap a)) → Resumes xs gs → Resumes (a ∷ xs) gs
+  pub past : {a : A} {xs gs : List A} → T (not (cheap a)) → Resumes xs gs → Resumes (a ∷ xs) gs
   past {a} t (resumes_nowhere {xs} e) = resumes_nowhere (dropped a xs t e)
   past {a} t (resumes_at skipped b xs e u) = resumes_at (a ∷ skipped) b xs (dropped a skipped t e) u
 
   -- behind one that does not pass the next stops
-  stops : {a : A} (xs : List A) → Pairwise Stands (a ∷ xs) → T (not (cheap a)) → Stops a xs
+  pub stops : {a : A} (xs : List A) → Pairwise Stands (a ∷ xs) → T (not (cheap a)) → Stops a xs
   stops [] p t = tt
   stops {a} (b ∷ xs) p t = λ n. go (cheap a) (cheap b) t ((rel_of_Pairwise-cons p ∣ Memᴰ.head refl ∣₁).settled n)
     where
@@ -70,27 +62,10 @@ module _ {A : Type 0} (before : A → A → Bool) (cheap : A → Bool) where
       go false true u f = f tt
 
   -- the first of a class passes, or is passed over
-  at_first : (b : A) (xs : List A) → (T (not (cheap b)) → Resumes (b ∷ xs) (keep cheap (behind b xs))) →
+  pub at_first : (b : A) (xs : List A) → (T (not (cheap b)) → Resumes (b ∷ xs) (keep cheap (behind b xs))) →
       Resumes (b ∷ xs) (keep cheap (b ∷ behind b xs))
   at_first b xs k = go (cheap b) refl
     where
       go : (d : Bool) → cheap b ≡ d → Resumes (b ∷ xs) (cond d (b ∷ keep cheap (behind b xs)) (keep cheap (behind b xs)))
       go true e = resumes_at [] b xs refl (passed e)
       go false e = k (failed e)
-
-  -- Where the walk stops behind a, it goes on at the next first that passes: what lies between does not pass.
-  pub skipping : (a : A) (xs : List A) → Pairwise Stands (a ∷ xs) → Stops a xs → Resumes xs (keep cheap (behind a xs))
-  skipping a [] p h = resumes_nowhere refl
-  skipping a (b ∷ xs) p h =
-      subst (λ (l : List A). Resumes (b ∷ xs) (keep cheap l)) (sym (behind_cons xs (rel_of_Pairwise-cons p ∣ Memᴰ.head refl ∣₁)))
-      (go (before a b) h (λ t. past t (skipping b xs (Pairwise.of_cons p) (stops xs (Pairwise.of_cons p) t))))
-    where
-      go : (c : Bool) → (T (not c) → T (not (cheap b))) → (T (not (cheap b)) → Resumes (b ∷ xs) (keep cheap (behind b xs))) →
-          Resumes (b ∷ xs) (keep cheap (cond c (b ∷ behind b xs) (behind b xs)))
-      go true f k = at_first b xs k
-      go false f k = k (f tt)
-
-  -- from the front
-  pub starting : (xs : List A) → Pairwise Stands xs → Resumes xs (keep cheap (firsts before xs))
-  starting [] p = resumes_nowhere refl
-  starting (b ∷ xs) p = at_first b xs (λ t. past t (skipping b xs p (stops xs p t)))

@@ -37,17 +37,17 @@ pub data RestField (f : ℕ) : Type 0 where
   leaf_rest : f ≡ leaf_rest_field → RestField f
 
 -- where fields of pieces are not
-record OfPieces (f : ℕ) : Type 0 where
-  no_offer : base_field < f
-  no_left : f ≢ child_field offer_tree false
-  no_right : f ≢ child_field offer_tree true
-  no_height : f ≢ height_field offer_tree
-  no_bridge_u : f ≢ bridge_left_field
-  no_bridge_v : f ≢ bridge_right_field
-  no_inner_rest : f ≢ inner_rest_field
-  no_leaf_rest : f ≢ leaf_rest_field
+pub record OfPieces (f : ℕ) : Type 0 where
+  pub no_offer : base_field < f
+  pub no_left : f ≢ child_field offer_tree false
+  pub no_right : f ≢ child_field offer_tree true
+  pub no_height : f ≢ height_field offer_tree
+  pub no_bridge_u : f ≢ bridge_left_field
+  pub no_bridge_v : f ≢ bridge_right_field
+  pub no_inner_rest : f ≢ inner_rest_field
+  pub no_leaf_rest : f ≢ leaf_rest_field
 
-of_pieces_field : {f : ℕ} → PieceField f → OfPieces f
+pub of_pieces_field : {f : ℕ} → PieceField f → OfPieces f
 of_pieces_field {f} (of_node (a_child side e)) = child side e
   where
     child : (side : Bool) → f ≡ child_field piece_tree side → OfPieces f
@@ -72,7 +72,7 @@ rests_apart p (bridge_v e) = (of_pieces_field p).no_bridge_v e
 rests_apart p (inner_rest e) = (of_pieces_field p).no_inner_rest e
 rests_apart p (leaf_rest e) = (of_pieces_field p).no_leaf_rest e
 
-envelope_high : {f : ℕ} → EnvelopeField f → base_field < f
+pub envelope_high : {f : ℕ} → EnvelopeField f → base_field < f
 envelope_high (of_pieces p) = (of_pieces_field p).no_offer
 envelope_high {f} (of_offers (a_child side e)) = child side e
   where
@@ -111,10 +111,10 @@ module _ {F : ℕ → Type 0} {w w' : Words} where
   pub same_link : {xs : List Item} {s : ℕ} (f : ℕ) → Same F xs w w' → F f → In s xs → link_at w' f s ≡ link_at w f s
   same_link {s} f q p i = ap (up_to most_nodes) (q.cells f s p i)
 
-  same_left : {xs : List Item} (ys : List Item) → Same F (xs ++ ys) w w' → Same F xs w w'
+  pub same_left : {xs : List Item} (ys : List Item) → Same F (xs ++ ys) w w' → Same F xs w w'
   same_left ys q = same_inside (λ s i. in_left ys i) q
 
-  same_right : (xs : List Item) {ys : List Item} → Same F (xs ++ ys) w w' → Same F ys w w'
+  pub same_right : (xs : List Item) {ys : List Item} → Same F (xs ++ ys) w w' → Same F ys w w'
   same_right xs q = same_inside (λ s i. in_right xs i) q
 
 -- ---- what such words keep
@@ -131,7 +131,7 @@ module _ {w w' : Words} where
       here : In (last l).slot (leaves l ++ leaves r)
       here = in_left (leaves r) (at (last_leaf l) refl)
 
-  threaded_same : {xs : List Item} → Threaded w xs → Same PieceField xs w w' → Threaded w' xs
+  pub threaded_same : {xs : List Item} → Threaded w xs → Same PieceField xs w w' → Threaded w' xs
   threaded_same h q =
       threaded_still h
       (λ s k. record {
@@ -279,19 +279,6 @@ module _ {w w' : Words} (within : Within w w') where
 
   pub standing_still : {x : ℕ} {p : Part Item} {ys : List Item} → Standing w x p → Touched ys w w' → Disjoint (part_leaves p) ys → Standing w' x p
   standing_still {p} st g d = standing_same st (touched_offers g (part_leaves p)) (touched_else g PieceField d)
-
-  pub held_still : {x e : ℕ} {h : Held Item} {ys : List Item} → HeldIn w x e h → Touched ys w w' → Disjoint (leaves (held_shape h)) ys → HeldIn w' x e h
-  held_still {h} {ys} held g d =
-      record {
-        root = held.root;
-        envelope = held.envelope;
-        slots = slots_within held.slots;
-        kept = holds_same held.kept (touched_offers g (leaves (held_shape h)));
-        tied = tied_same held.tied (touched_else g (Field offer_tree) d);
-        stored = stored_same held.stored (touched_else g RestField d) (touched_else g PieceField (disjoint_inside (stored_inside held) d));
-        pieces = part_same h.whole held.pieces (touched_else g PieceField (disjoint_inside (whole_inside held) d));
-        right = held.right;
-      }
 
 -- ---- one change after another, and among more slots
 

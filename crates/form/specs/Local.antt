@@ -35,7 +35,7 @@ pub record AlikeOffers (c : ℕ) (w w' : Words) : Type 0 where
   pub header : (i : ℕ) → i ≤ order_root_word → word w' i ≡ word w i
   pub slots : (i : ℕ) → 64 ≤ i → i < slots_end c → word w' i ≡ word w i
 
-alike_offers : {c : ℕ} {w w' : Words} → Alike c w w' → AlikeOffers c w w'
+pub alike_offers : {c : ℕ} {w w' : Words} → Alike c w w' → AlikeOffers c w w'
 alike_offers a = record { long = a.long; header = λ i h. a.words i (omega arith); slots = λ i l h. a.words i (omega arith) }
 
 module _ {w w' : Words} {c : ℕ} (fits : cap w ≡ c) (a : AlikeOffers c w w') where
@@ -50,30 +50,13 @@ module _ {w w' : Words} {c : ℕ} (fits : cap w ≡ c) (a : AlikeOffers c w w') 
       go (yes v) = a.slots (spot w f s) (omega (arith, spot_in v, place_low (cap w) f s)) (omega (arith, spot_in v, place_high v))
       go (no v) = word_out w' (spot w f s) (omega (arith, spot_out v, a.long)) ∙ sym (word_out w (spot w f s) (omega (arith, spot_out v)))
 
-  alike_same : (F : ℕ → Type 0) (xs : List Item) → Same F xs w w'
+  pub alike_same : (F : ℕ → Type 0) (xs : List Item) → Same F xs w w'
   alike_same F xs = record { cells = λ f s p i. alike_cell f s }
 
-  alike_slots : {xs : List Item} → Slots (cap w) xs → Slots (cap w') xs
+  pub alike_slots : {xs : List Item} → Slots (cap w) xs → Slots (cap w') xs
   alike_slots {xs} s = rw alike_cap s
 
-  alike_held : {x e : ℕ} (h : Held Item) → HeldIn w x e h → HeldIn w' x e h
-  alike_held h i =
-      record {
-        root = i.root;
-        envelope = i.envelope;
-        slots = alike_slots i.slots;
-        kept = holds_same i.kept (alike_same _ _);
-        tied = tied_same i.tied (alike_same _ _);
-        stored = stored_same i.stored (alike_same _ _) (alike_same _ _);
-        pieces = part_same h.whole i.pieces (alike_same _ _);
-        right = i.right;
-      }
-
-  alike_tree : (held : Option (Held Item)) → OffersIn w held → OffersIn w' held
-  alike_tree none o = tt
-  alike_tree (some h) o = alike_held h o
-
-  alike_index : {k : ℕ} {key : Item → ℤ} {live : List Item} (p : Part Item) → IndexIn w k key live p → IndexIn w' k key live p
+  pub alike_index : {k : ℕ} {key : Item → ℤ} {live : List Item} (p : Part Item) → IndexIn w k key live p → IndexIn w' k key live p
   alike_index {k} p n =
       record { tied = tied p n.tied; balanced = n.balanced; falling = n.falling; all_live = n.all_live; all_there = n.all_there }
     where
@@ -81,63 +64,10 @@ module _ {w w' : Words} {c : ℕ} (fits : cap w ≡ c) (a : AlikeOffers c w w') 
       tied none t = tt
       tied (some u) t = tied_same t (alike_same _ _)
 
-  alike_free : {ss : List ℕ} → FreeChain w ss → FreeChain w' ss
+  pub alike_free : {ss : List ℕ} → FreeChain w ss → FreeChain w' ss
   alike_free free_none = free_none
   alike_free (free_more {s} {ss} low high zero next rest) =
       free_more low (rw alike_cap high) (alike_cell number_field s ∙ zero) (alike_cell next_free_field s ∙ next) (alike_free rest)
-
--- whatever is remembered then
-pub book_alike : {w w' : Words} {s : State} {held : Option (Held Item)} (us : List Undo) → Book w s held → AlikeOffers s.capacity w w' →
-    Book w' (recalling s s.offers us) held
-book_alike {w} {w'} {s} {held} us b a =
-    record {
-      capacity = alike_cap b.capacity a ∙ b.capacity;
-      some_slot = b.some_slot;
-      offers =
-          record {
-            offers_root = header offers_root_word (omega arith) ∙ b.offers.offers_root;
-            envelope_root = header envelope_root_word (omega arith) ∙ b.offers.envelope_root;
-            offers_in = alike_tree b.capacity a held b.offers.offers_in;
-          };
-      order = b.order;
-      in_order =
-          record {
-            order_root = header order_root_word (omega arith) ∙ o.order_root;
-            live_count = header live_count_word (omega arith) ∙ o.live_count;
-            order_in = alike_index b.capacity a b.order o.order_in;
-            slots = alike_slots b.capacity a o.slots;
-            holds = holds_same o.holds (alike_same b.capacity a _ _);
-            ranked = record { read = λ {a = x} m. alike_cell b.capacity a rank_field x.slot ∙ o.ranked.read m };
-          };
-      leaf_per_rate = b.leaf_per_rate;
-      numbers =
-          record {
-            numbers = b.numbers.numbers;
-            numbers_root = header numbers_root_word (omega arith) ∙ b.numbers.numbers_root;
-            numbers_in = alike_index b.capacity a b.numbers.numbers b.numbers.numbers_in;
-          };
-      free =
-          record {
-            free = f.free;
-            first_free = header first_free_word (omega arith) ∙ f.first_free;
-            free_chain = alike_free b.capacity a f.free_chain;
-            free_apart = f.free_apart;
-            slots_used = f.slots_used ∙ sym (alike_cap b.capacity a);
-          };
-      stands_for = b.stands_for;
-    }
-  where
-    header : (i : ℕ) → i ≤ order_root_word → word w' i ≡ word w i
-    header i h = a.header i h
-
-    o : InOrder w b.order
-    o = b.in_order
-
-    f : Freely w (length (part_leaves b.order))
-    f = b.free
-
-pub book_recalling : {w : Words} {s : State} {held : Option (Held Item)} (us : List Undo) → Book w s held → Book w (recalling s s.offers us) held
-book_recalling us b = book_alike us b (record { long = refl; header = λ i h. refl; slots = λ i l h. refl })
 
 -- ---- the memory
 
@@ -149,16 +79,16 @@ pub record AlikeMemory (w w' : Words) : Type 0 where
   pub ring : (i : ℕ) → slots_end (cap w) ≤ i → i < part_end (cap w) → word w' i ≡ word w i
 
 module _ {w w' : Words} (a : AlikeMemory w w') where
-  alike_word : {i : ℕ} → i < most_remembered → (k : ℕ) → k < 4 → word w' (entry_at w' i + k) ≡ word w (entry_at w i + k)
+  pub alike_word : {i : ℕ} → i < most_remembered → (k : ℕ) → k < 4 → word w' (entry_at w' i + k) ≡ word w (entry_at w i + k)
   alike_word {i} h k l = ap (λ (c : ℕ). word w' (slots_end c + 4 * i + k)) a.room ∙ a.ring (entry_at w i + k) (omega arith) (omega arith)
 
-  alike_entry : {i : ℕ} {u : Undo} → i < most_remembered → EntryIn w (entry_at w i) u → EntryIn w' (entry_at w' i) u
+  pub alike_entry : {i : ℕ} {u : Undo} → i < most_remembered → EntryIn w (entry_at w i) u → EntryIn w' (entry_at w' i) u
   alike_entry h (posting d n) = posting (alike_word h done_word (omega arith) ∙ d) (alike_word h entry_number_word (omega arith) ∙ n)
   alike_entry h (withdrawing d n r b) =
       withdrawing (alike_word h done_word (omega arith) ∙ d) (alike_word h entry_number_word (omega arith) ∙ n)
       (alike_word h entry_rate_word (omega arith) ∙ r) (alike_word h entry_base_word (omega arith) ∙ b)
 
-  alike_entries : {i : ℕ} (us : List Undo) → i < most_remembered → EntriesIn w i us → EntriesIn w' i us
+  pub alike_entries : {i : ℕ} (us : List Undo) → i < most_remembered → EntriesIn w i us → EntriesIn w' i us
   alike_entries [] h e = tt
   alike_entries {i} (u ∷ us) h (e, es) = (alike_entry h e, alike_entries us (earlier_place i h) es)
 
@@ -174,21 +104,3 @@ module _ {w w' : Words} (a : AlikeMemory w w') where
       }
 
 -- ---- both
-
-pub form_alike : {w w' : Words} {s : State} {held : Option (Held Item)} → Form w s held → Alike s.capacity w w' → Form w' s held
-form_alike {w} {w'} {s} f a =
-    let room = alike_cap f.book.capacity (alike_offers a) in
-    let c = f.book.capacity in
-    record {
-      book = book_alike s.memory f.book (alike_offers a);
-      memory =
-          record {
-            ring = ring_alike (record {
-              room = room;
-              last = a.words last_entry_word (omega arith);
-              count = a.words remembered_word (omega arith);
-              ring = λ i l h. a.words i (omega (arith, h, c));
-            }) f.memory.ring;
-            undoable = f.memory.undoable;
-          };
-    }

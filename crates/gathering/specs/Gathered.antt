@@ -17,7 +17,7 @@ use Rattle.dynamic.specs.Lower.{valid_env}
 use Rattle.dynamic.proofs.Raise.{some_piece}
 use Rattle.below.specs.Least.{Least}
 use Rattle.below.specs.Children.{own_env}
-use Rattle.below.specs.Below.{below_exact}
+use Rattle.below.proofs.Below.{below_exact}
 use Rattle.below.specs.Below.{none_below as nothing_below}
 use Rattle.table.specs.Fields.{most_levels, most_slots}
 use Rattle.table.specs.Words.{Words}

@@ -20,8 +20,10 @@ use Rattle.trees.specs.Operations.{part_leaves}
 use Rattle.dynamic.specs.OfferTree.{OfferTree, single, fork, shape}
 use Rattle.dynamic.specs.Lower.{valid_env}
 use Rattle.below.specs.Least.{Least}
-use Rattle.below.specs.Children.{left_of, right_of, Lesser, children}
-use Rattle.below.specs.Below.{below, below_exact}
+use Rattle.below.specs.Children.{left_of, right_of, Lesser}
+use Rattle.below.proofs.Children.{children}
+use Rattle.below.specs.Below.{below}
+use Rattle.below.proofs.Below.{below_exact}
 use Rattle.table.specs.Fields.{most_slots, offer_tree}
 use Rattle.table.specs.Words.{Words}
 use Rattle.table.specs.Layout.{cap_most}

@@ -15,7 +15,8 @@ use Rattle.pieces.specs.Pieces.{items}
 use Rattle.promises.specs.declared.Opening.{Opening}
 use Rattle.promises.specs.declared.Opening.TheVariants.{Opened}
 use Rattle.form.specs.Form.{Form, OffersIn}
-use Rattle.form.specs.Local.{Alike, form_alike}
+use Rattle.form.specs.Local.{Alike}
+use Rattle.form.proofs.Local.{form_alike}
 use Rattle.promises.specs.Promises.{part_of, Opens, Passes}
 use Rattle.history.specs.History.{Happens, by_update, by_query, by_listing, by_report, History, finished, next, LowPairs, Kept}
 pub use Rattle.history.specs.History.{Low, Claim}

@@ -8,7 +8,8 @@ use Rattle.table.specs.Fields.{offers_root_word, order_root_word}
 use Rattle.table.specs.Words.{Words, word, wset, wset_length, wset_other}
 use Rattle.table.specs.Layout.{cap, cset, beyond_outside}
 use Rattle.form.specs.Form.{Book, Form}
-use Rattle.form.specs.Local.{Beyond, AlikeOffers, book_alike}
+use Rattle.form.specs.Local.{Beyond, AlikeOffers}
+use Rattle.form.proofs.Local.{book_alike}
 use Rattle.memory.specs.Ring.{Emptying}
 use Rattle.opening.specs.Laying.{Begun, begun, begun_cap, Laid, laid_more, opened_book}
 

@@ -16,7 +16,8 @@ use Rattle.table.specs.Layout.{cap, cell}
 use Rattle.table.specs.Items.{Item, offer_of}
 use Rattle.form.specs.Form.{Book, Form}
 use Rattle.form.specs.Memory.{Ring}
-use Rattle.form.specs.Local.{Beyond, AlikeOffers, alike_cap, book_alike, AlikeMemory, ring_alike}
+use Rattle.form.specs.Local.{Beyond, AlikeOffers, alike_cap, AlikeMemory, ring_alike}
+use Rattle.form.proofs.Local.{book_alike}
 use Rattle.form.specs.Live.{book_sound}
 use Rattle.memory.specs.Ring.{OnlyMemory}
 use Rattle.filing.specs.Updating.{Updated}

@@ -15,7 +15,8 @@ use Rattle.promises.specs.declared.Reported.TheVariants.{Offers, Declined as Rep
 use Rattle.dynamic.specs.OfferTree.{Held}
 use Rattle.table.specs.Items.{Item}
 use Rattle.form.specs.Form.{Form}
-use Rattle.form.specs.Local.{Alike, form_alike}
+use Rattle.form.specs.Local.{Alike}
+use Rattle.form.proofs.Local.{form_alike}
 use Rattle.promises.specs.Promises.{part_of, written_words, counted, update_answer, found_answer, listing_answer, report_answer}
 use Rattle.promises.specs.Numbered.{numbered}
 use Rattle.history.specs.History.{Happens, posting, withdrawing, taking_back, by_update, by_query, by_listing, by_report, History, finished, next}

@@ -15,7 +15,8 @@ use Rattle.plain.specs.Book.{State, offer_words, under}
 use Rattle.trees.specs.Operations.{part_leaves}
 use Rattle.dynamic.specs.OfferTree.{Held}
 use Rattle.dynamic.specs.Valid.{book_lines}
-use Rattle.firsts.specs.Runs.{Resumes, resumes_nowhere, resumes_at, starting}
+use Rattle.firsts.specs.Runs.{Resumes, resumes_nowhere, resumes_at}
+use Rattle.firsts.proofs.Runs.{starting}
 use Rattle.table.specs.Fields.{most_slots}
 use Rattle.table.specs.Words.{Words}
 use Rattle.table.specs.Layout.{cap, cap_most}

@@ -15,7 +15,8 @@ use Rattle.trees.specs.Operations.{part_leaves}
 use Rattle.trees.specs.Order.{parted}
 use Rattle.dynamic.specs.OfferTree.{Held}
 use Rattle.dynamic.specs.Valid.{book_lines}
-use Rattle.firsts.specs.Runs.{Stands, behind, behind_next, Resumes, resumes_nowhere, resumes_at, skipping, starting}
+use Rattle.firsts.specs.Runs.{Stands, behind, Resumes, resumes_nowhere, resumes_at}
+use Rattle.firsts.proofs.Runs.{behind_next, skipping, starting}
 use Rattle.table.specs.Fields.{most_slots}
 use Rattle.table.specs.Words.{Words}
 use Rattle.table.specs.Layout.{cap, cap_most}

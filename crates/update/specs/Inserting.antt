@@ -35,7 +35,8 @@ use Rattle.levels.specs.declared.Counts.{Counts}
 use Rattle.levels.specs.declared.Made.{Made as Outcome}
 use Rattle.update.specs.declared.Opened.{Opened}
 use Rattle.form.specs.Frames.{Inside, Disjoint, disjoint_across, holds_same, slots_rearranged, inside_rearranged, slots_within, touched_offers}
-use Rattle.form.specs.Frames.{held_still, touched_trans, touched_more}
+use Rattle.form.specs.Frames.{touched_trans, touched_more}
+use Rattle.form.proofs.Frames.{held_still}
 use Rattle.form.specs.Disjoint.{in_cases, inside_refl, inside_left, inside_right, inside_join, disjoint_both, disjoint_turned, slots_join}
 use Rattle.update.specs.Neighbours.{side_of, inner_high, seam_rate, Neighbours, LoweredOn, RaisedOn, Opens, opens, Raises, raises}
 use Rattle.update.specs.Counting.{Summed, counted_two}

@@ -33,7 +33,8 @@ use Rattle.levels.specs.declared.Held.{Held as InHand}
 use Rattle.levels.specs.declared.Counts.{Counts}
 use Rattle.levels.specs.declared.Made.{Made as Outcome}
 use Rattle.update.specs.declared.Opened.{Opened}
-use Rattle.form.specs.Frames.{Inside, Disjoint, disjoint_across, holds_same, slots_within, touched_offers, held_still, touched_refl, touched_trans}
+use Rattle.form.specs.Frames.{Inside, Disjoint, disjoint_across, holds_same, slots_within, touched_offers, touched_refl, touched_trans}
+use Rattle.form.proofs.Frames.{held_still}
 use Rattle.form.specs.Frames.{touched_more}
 use Rattle.form.specs.Disjoint.{in_cases, inside_refl, inside_left, inside_right, inside_join, disjoint_both, slots_join}
 use Rattle.update.specs.Neighbours.{side_of, held_rep, inner_high, seam_rate, Neighbours, LoweredOn, Opens, opens}

@@ -22,7 +22,8 @@ use Rattle.levels.specs.declared.Held.{Held as InHand}
 use Rattle.levels.specs.declared.Counts.{Counts}
 use Rattle.levels.specs.declared.Made.{Made as Outcome}
 use Rattle.update.specs.declared.Opened.{Opened}
-use Rattle.form.specs.Frames.{slots_within, held_still, touched_trans, touched_more}
+use Rattle.form.specs.Frames.{slots_within, touched_trans, touched_more}
+use Rattle.form.proofs.Frames.{held_still}
 use Rattle.update.specs.Neighbours.{side_of, ordered_one, ordered_other, held_height_lem, Neighbours, LoweredOn, RaisedOn, Opens, opens, Raises, raises}
 use Rattle.update.specs.Counting.{Summed, SummedThree, counted_two, counted_three}
 

@@ -14,7 +14,8 @@ use Rattle.dynamic.specs.OfferTree.{OfferTree, single, fork, shape}
 use Rattle.dynamic.specs.Valid.{Valid, valid_single, valid_fork}
 use Rattle.dynamic.specs.Lower.{valid_env}
 use Rattle.below.specs.Least.{Least}
-use Rattle.below.specs.Children.{Seeks, left_of, right_of, Lesser, children}
+use Rattle.below.specs.Children.{Seeks, left_of, right_of, Lesser}
+use Rattle.below.proofs.Children.{children}
 
 module _ (S : Figure) (x : S.Point) (seek : Tree S.Line → S.Line) where
   -- the nodes at which `below` looks, the root among them
