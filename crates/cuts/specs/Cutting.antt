@@ -22,7 +22,7 @@ use Rattle.table.specs.Threads.{Holds, Threaded, holds_left, holds_right, holds_
 use Rattle.table.specs.Threads.{only_offer, only_thread}
 use Rattle.descents.specs.Cuts.{from, Halving, Halved}
 use Rattle.pieces.specs.Pieces.{rate_of, PartIn, of_node, Standing}
-use Rattle.cuts.specs.PieceCuts.{in_front, CutAt}
+use Rattle.cuts.specs.PieceCuts.{is_in_front, CutAt}
 
 -- ---- a cut goes by what the test says of the leaves
 
@@ -47,7 +47,7 @@ unfoldable pub least_rate : Bool → ℤ → ℤ
 least_rate false rate = rate
 least_rate true rate = cond (lt_z rate (pos 1_000_000)) (rate +ℤ pos 1) (pos 1_000_000)
 
-same_cut : (strict : Bool) (rate : ℤ) (a : Item) → T (offer_in_range a.offer) → from rate_of (least_rate strict rate) a ≡ in_front strict rate a
+same_cut : (strict : Bool) (rate : ℤ) (a : Item) → T (offer_in_range a.offer) → from rate_of (least_rate strict rate) a ≡ is_in_front strict rate a
 unfolding least_rate
 same_cut false rate a h = refl
 same_cut true rate a h = go (lt_z rate (pos 1_000_000)) (λ t. t) (λ t. t)
@@ -85,40 +85,40 @@ height_low {w} (some t) h = low w h.slots h.balanced
 
 module _ (strict : Bool) (rate : ℤ) {x front back : ℕ} {w w' : Words} (c : Halving piece_tree rate_field (least_rate strict rate) x most_levels w w' front back)
     (p : Part Item) (h : Standing w x p) where
-  halves : Halved piece_tree w w' front back (part_leaves p) (split_p (in_front strict rate) p)
+  halves : Halved piece_tree w w' front back (part_leaves p) (split_p (is_in_front strict rate) p)
   halves =
-      subst (Halved piece_tree w w' front back (part_leaves p)) (split_p_same (from rate_of (least_rate strict rate)) (in_front strict rate) p
+      subst (Halved piece_tree w w' front back (part_leaves p)) (split_p_same (from rate_of (least_rate strict rate)) (is_in_front strict rate) p
       (λ a m. same_cut strict rate a (h.holds.held m).ranged))
       (c.made p rate_of (standing_rep_p p h) h.balanced (height_low p h) (record { read = λ m. (h.holds.held m).rate }))
 
-  holds_after : Holds w' (part_leaves (split_p (in_front strict rate) p).front ++ part_leaves (split_p (in_front strict rate) p).back)
-  holds_after = rw (split_p_leaves (in_front strict rate) p) (holds_still h.holds (λ s i. only_offer halves.only s))
+  holds_after : Holds w' (part_leaves (split_p (is_in_front strict rate) p).front ++ part_leaves (split_p (is_in_front strict rate) p).back)
+  holds_after = rw (split_p_leaves (is_in_front strict rate) p) (holds_still h.holds (λ s i. only_offer halves.only s))
 
-  threads_after : Threaded w' (part_leaves (split_p (in_front strict rate) p).front ++ part_leaves (split_p (in_front strict rate) p).back)
-  threads_after = rw (split_p_leaves (in_front strict rate) p) (threaded_still (threaded_of w p h.pieces) (λ s k. only_thread halves.only (omega arith) s))
+  threads_after : Threaded w' (part_leaves (split_p (is_in_front strict rate) p).front ++ part_leaves (split_p (is_in_front strict rate) p).back)
+  threads_after = rw (split_p_leaves (is_in_front strict rate) p) (threaded_still (threaded_of w p h.pieces) (λ s k. only_thread halves.only (omega arith) s))
 
-  front_stands : Standing w' front (split_p (in_front strict rate) p).front
+  front_stands : Standing w' front (split_p (is_in_front strict rate) p).front
   front_stands =
-      let o = (split_p (in_front strict rate) p).front in
+      let o = (split_p (is_in_front strict rate) p).front in
       record {
         root = halves.front.root;
         slots = halves.front.slots;
-        holds = holds_left (part_leaves (split_p (in_front strict rate) p).back) holds_after;
-        balanced = (split_p_low (in_front strict rate) p h.balanced).front_avl;
+        holds = holds_left (part_leaves (split_p (is_in_front strict rate) p).back) holds_after;
+        balanced = (split_p_low (is_in_front strict rate) p h.balanced).front_avl;
         pieces =
-            part_in o halves.front.tied (threaded_left (part_leaves (split_p (in_front strict rate) p).back) threads_after);
+            part_in o halves.front.tied (threaded_left (part_leaves (split_p (is_in_front strict rate) p).back) threads_after);
       }
 
-  back_stands : Standing w' back (split_p (in_front strict rate) p).back
+  back_stands : Standing w' back (split_p (is_in_front strict rate) p).back
   back_stands =
-      let o = (split_p (in_front strict rate) p).back in
+      let o = (split_p (is_in_front strict rate) p).back in
       record {
         root = halves.back.root;
         slots = halves.back.slots;
-        holds = holds_right (part_leaves (split_p (in_front strict rate) p).front) holds_after;
-        balanced = (split_p_low (in_front strict rate) p h.balanced).back_avl;
+        holds = holds_right (part_leaves (split_p (is_in_front strict rate) p).front) holds_after;
+        balanced = (split_p_low (is_in_front strict rate) p h.balanced).back_avl;
         pieces =
-            part_in o halves.back.tied (threaded_right (part_leaves (split_p (in_front strict rate) p).front) threads_after);
+            part_in o halves.back.tied (threaded_right (part_leaves (split_p (is_in_front strict rate) p).front) threads_after);
       }
 
 pub cut_at : (strict : Bool) (rate : ℤ) {x front back : ℕ} {w w' : Words} → Halving piece_tree rate_field (least_rate strict rate) x most_levels w w' front back

@@ -16,7 +16,7 @@ use Rattle.table.specs.Rep.{within_refl}
 use Rattle.descents.specs.Whole.{split_whole, none_behind, none_in_front}
 use Rattle.descents.specs.Ends.{Ended}
 use Rattle.pieces.specs.Pieces.{rate_of, PiecesOnly, Standing}
-use Rattle.cuts.specs.PieceCuts.{in_front, CutAt, Parted, NoneAbove, CutBehind, CutBefore}
+use Rattle.cuts.specs.PieceCuts.{is_in_front, CutAt, Parted, NoneAbove, CutBehind, CutBefore}
 
 nothing : (w : Words) → Standing w 0 none
 nothing w =
@@ -59,7 +59,7 @@ all_back {w} {x} test (some t) st f =
 
 -- any other cut
 pub parted_by : {strict : Bool} {rate : ℤ} {x front back : ℕ} {w w' : Words} {p : Part Item} → CutAt strict rate x w w' front back → Standing w x p
-    → Parted (in_front strict rate) p w w' front back
+    → Parted (is_in_front strict rate) p w w' front back
 parted_by {p} cut st = record { in_front = cut.in_front p st; behind = cut.behind p st; only = cut.only p st }
 
 -- ---- each answer of the code
@@ -70,16 +70,16 @@ module _ {u s x : ℕ} where
       record {
         within = within_refl w;
         parted = λ p st low.
-            all_front_lem (in_front false (cell w rate_field u)) p st (λ a m. subst (λ i. T (le_z (cell w rate_field i) (rate_of a))) (sym e) (low a m));
+            all_front_lem (is_in_front false (cell w rate_field u)) p st (λ a m. subst (λ i. T (le_z (cell w rate_field i) (rate_of a))) (sym e) (low a m));
       }
 
   pub behind_cut : {rate : ℤ} {w w' : Words} {front back : ℕ} → rate ≡ cell w rate_field u → CutAt false rate x w w' front back → CutBehind u s x w w' front back
   behind_cut {w} {w'} {front} {back} e cut =
-      record { within = cut.within; parted = λ p st low. subst (λ z. Parted (in_front false z) p w w' front back) e (parted_by cut st) }
+      record { within = cut.within; parted = λ p st low. subst (λ z. Parted (is_in_front false z) p w w' front back) e (parted_by cut st) }
 
 module _ {v x : ℕ} where
   pub before_first : {w : Words} {n : ℕ} → Ended w piece_tree false x n → v ≡ n → CutBefore v x w w 0 x
-  before_first {w} {n} end e = record { within = within_refl w; parted = λ p st high. all_back (in_front true (cell w rate_field v)) p st (behind p st high) }
+  before_first {w} {n} end e = record { within = within_refl w; parted = λ p st high. all_back (is_in_front true (cell w rate_field v)) p st (behind p st high) }
     where
       at_first : (t : Tree Item) → Standing w x (some t) → cell w rate_field v ≡ rate_of (first t)
       at_first t st =
@@ -94,4 +94,4 @@ module _ {v x : ℕ} where
 
   pub before_cut : {rate : ℤ} {w w' : Words} {front back : ℕ} → rate ≡ cell w rate_field v → CutAt true rate x w w' front back → CutBefore v x w w' front back
   before_cut {w} {w'} {front} {back} e cut =
-      record { within = cut.within; parted = λ p st high. subst (λ z. Parted (in_front true z) p w w' front back) e (parted_by cut st) }
+      record { within = cut.within; parted = λ p st high. subst (λ z. Parted (is_in_front true z) p w w' front back) e (parted_by cut st) }

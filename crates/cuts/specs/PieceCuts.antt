@@ -13,14 +13,14 @@ use Rattle.table.specs.Rep.{Within}
 use Rattle.pieces.specs.Pieces.{rate_of, PiecesOnly, Standing}
 
 -- cut by rate: in front the pieces whose rate is at least that, or above it where the cut is strict
-abbrev pub in_front : Bool → ℤ → Item → Bool
-in_front false rate a = le_z rate (rate_of a)
-in_front true rate a = lt_z rate (rate_of a)
+abbrev pub is_in_front : Bool → ℤ → Item → Bool
+is_in_front false rate a = le_z rate (rate_of a)
+is_in_front true rate a = lt_z rate (rate_of a)
 
 pub record CutAt (strict : Bool) (rate : ℤ) (x : ℕ) (w w' : Words) (front back : ℕ) : Type 0 where
   pub within : Within w w'
-  pub in_front : (p : Part Item) → Standing w x p → Standing w' front (split_p (in_front strict rate) p).front
-  pub behind : (p : Part Item) → Standing w x p → Standing w' back (split_p (in_front strict rate) p).back
+  pub in_front : (p : Part Item) → Standing w x p → Standing w' front (split_p (is_in_front strict rate) p).front
+  pub behind : (p : Part Item) → Standing w x p → Standing w' back (split_p (is_in_front strict rate) p).back
   pub only : (p : Part Item) → Standing w x p → PiecesOnly (part_leaves p) w w'
 
 -- ---- the same, by one who knows an end of the tree
@@ -42,9 +42,9 @@ NoneAbove p = (t : Tree Item) → p ≡ some t → (a : Item) → Memᴰ a (leav
 -- cut behind the rate in slot u; no rate is below that in slot s
 pub record CutBehind (u s x : ℕ) (w w' : Words) (front back : ℕ) : Type 0 where
   pub within : Within w w'
-  pub parted : (p : Part Item) → Standing w x p → NoneBelow w s p → Parted (in_front false (cell w rate_field u)) p w w' front back
+  pub parted : (p : Part Item) → Standing w x p → NoneBelow w s p → Parted (is_in_front false (cell w rate_field u)) p w w' front back
 
 -- cut before the rate in slot v
 pub record CutBefore (v x : ℕ) (w w' : Words) (front back : ℕ) : Type 0 where
   pub within : Within w w'
-  pub parted : (p : Part Item) → Standing w x p → NoneAbove p → Parted (in_front true (cell w rate_field v)) p w w' front back
+  pub parted : (p : Part Item) → Standing w x p → NoneAbove p → Parted (is_in_front true (cell w rate_field v)) p w w' front back

@@ -20,7 +20,7 @@ use Rattle.table.specs.Items.{Item, Slots, slots_left, slots_right}
 use Rattle.table.specs.Rep.{child_at, ref_of, Tied, tied_node, Within, within_trans}
 use Rattle.table.specs.Threads.{Holds, holds_left, holds_right}
 use Rattle.pieces.specs.Pieces.{items, item_laws_lem, rate_of, PieceField, PiecesOnly, Standing, Beside, EndsAt, BeginsAt, CattedAfter, CattedBefore}
-use Rattle.cuts.specs.PieceCuts.{in_front, CutAt}
+use Rattle.cuts.specs.PieceCuts.{is_in_front, CutAt}
 use Rattle.form.specs.Stored.{RestIn, Stored, stored_fork, HeldIn, Touched}
 use Rattle.levels.specs.Levels.{HandIn, LoweredIn}
 use Rattle.levels.specs.declared.Held.{Held as InHand}
@@ -79,7 +79,7 @@ forked {w} {x} {u} {v} {l} {r} {ql} {qr} held = go held.tied held.stored
 cut_behind_lem : {θ : ℤ} {e a b : ℕ} {w w₁ : Words} {p : Part Item} (s : Item) → θ ≡ rate_of s → CutAt false θ e w w₁ a b → Standing w e p →
     Halved w₁ a b p (cut_behind items s p)
 cut_behind_lem {a} {b} {w₁} {p} s d cut st =
-    subst (λ test. Halved w₁ a b p (split_p test p)) (ap (in_front false) d ∙ sym (up_to_test s)) (halved (parted_by cut st) st)
+    subst (λ test. Halved w₁ a b p (split_p test p)) (ap (is_in_front false) d ∙ sym (up_to_test s)) (halved (parted_by cut st) st)
 
 -- it is parted at the bridge: the front part ends at u, the back part begins with v
 record Parted (u v : Item) (c : Cut Item) : Type 0 where

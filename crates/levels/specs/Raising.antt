@@ -17,7 +17,7 @@ use Rattle.table.specs.Rep.{height_at, ref_of, node_on, Within, within_trans, wi
 use Rattle.table.specs.Nodes.{rep_height}
 use Rattle.nodes.specs.Joining.{Joined}
 use Rattle.pieces.specs.Pieces.{items, rate_of, Standing, SeamAt, Seamed}
-use Rattle.cuts.specs.PieceCuts.{in_front, Parted, CutBehind, CutBefore}
+use Rattle.cuts.specs.PieceCuts.{is_in_front, Parted, CutBehind, CutBefore}
 use Rattle.form.specs.Stored.{Touched}
 use Rattle.levels.specs.Levels.{Counted, HandIn, MadeIn, Siblings, RaisedIn}
 use Rattle.levels.specs.declared.Held.{Held as InHand}
@@ -142,9 +142,9 @@ module _
       by_gap : cell w rate_field gap ≡ rate_of (last (held_shape l))
       by_gap = ap (cell w rate_field) sib.seam ∙ (sib.left.kept.held (last_leaf (held_shape l))).rate
 
-      left_parted : Parted (in_front false (rate_of R.u)) l.whole w calls.w₁ calls.lf calls.lb
+      left_parted : Parted (is_in_front false (rate_of R.u)) l.whole w calls.w₁ calls.lf calls.lb
       left_parted =
-          subst (λ z. Parted (in_front false z) l.whole w calls.w₁ calls.lf calls.lb) by_u
+          subst (λ z. Parted (is_in_front false z) l.whole w calls.w₁ calls.lf calls.lb) by_u
           (calls.cut_left.parted l.whole (whole_standing sib.left) (λ a m. rw by_gap (R.low a m)))
 
       by_v : cell calls.w₁ rate_field calls.v ≡ rate_of R.v
@@ -154,9 +154,9 @@ module _
           ∙ (back.holds.held R.v_piece).rate
 
       right_parted : Standing calls.w₁ y.envelope r.whole →
-          Parted (in_front true (rate_of R.v)) r.whole calls.w₁ calls.w₂ calls.rf calls.rb
+          Parted (is_in_front true (rate_of R.v)) r.whole calls.w₁ calls.w₂ calls.rf calls.rb
       right_parted st =
-          subst (λ z. Parted (in_front true z) r.whole calls.w₁ calls.w₂ calls.rf calls.rb) by_v
+          subst (λ z. Parted (is_in_front true z) r.whole calls.w₁ calls.w₂ calls.rf calls.rb) by_v
           (calls.cut_right.parted r.whole st R.high)
 
       cuts : AfterCuts w calls.w₂ l r (left_cut R.u l) (right_cut R.v r) calls.lf calls.lb calls.rf calls.rb

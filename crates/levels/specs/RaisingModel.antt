@@ -27,27 +27,27 @@ use Rattle.dynamic.specs.Bridged.{faces, search_bridges}
 use Rattle.dynamic.specs.Raise.{some_piece, whole_raise, split_behind, split_front}
 use Rattle.table.specs.Items.{Item}
 use Rattle.pieces.specs.Pieces.{items, item_laws_lem, rate_of}
-use Rattle.cuts.specs.PieceCuts.{in_front, NoneAbove}
+use Rattle.cuts.specs.PieceCuts.{is_in_front, NoneAbove}
 
 -- ---- the tests
 
 -- up to u
-pub up_to_test : (u : Item) → (λ (x : Item). not (items.before u x)) ≡ in_front false (rate_of u)
+pub up_to_test : (u : Item) → (λ (x : Item). not (items.before u x)) ≡ is_in_front false (rate_of u)
 up_to_test u =
     fun_ext (λ x. same_test (not (lt_z (rate_of x) (rate_of u))) (le_z (rate_of u) (rate_of x)) (λ t. omega (arith, int_rules)) (λ t. omega (arith, int_rules)))
 
 -- in front of v
-pub before_test : (v : Item) → (λ (x : Item). items.before x v) ≡ in_front true (rate_of v)
+pub before_test : (v : Item) → (λ (x : Item). items.before x v) ≡ is_in_front true (rate_of v)
 before_test v = fun_ext (λ x. refl)
 
 -- ---- the two cuts and the bridge
 
 -- the left envelope up to u and what is behind; the right one up to v, v not with it, and from v on
 abbrev pub left_cut : Item → Held Item → Cut Item
-left_cut u l = split_p (in_front false (rate_of u)) l.whole
+left_cut u l = split_p (is_in_front false (rate_of u)) l.whole
 
 abbrev pub right_cut : Item → Held Item → Cut Item
-right_cut v r = split_p (in_front true (rate_of v)) r.whole
+right_cut v r = split_p (is_in_front true (rate_of v)) r.whole
 
 pub record Raising (l r : Held Item) (m : Made Item) : Type 0 where
   pub front : Tree Item
@@ -83,15 +83,15 @@ module _ (a : Tree Item) (xs : List Item) (u : Item) (ys : List Item) (o : Order
   about : Ordered items (xs ++ u ∷ ys)
   about = subst (Ordered items) e o
 
-  kept_last : (t : Tree Item) → (split (in_front false (rate_of u)) a).front ≡ some t → last t ≡ u
+  kept_last : (t : Tree Item) → (split (is_in_front false (rate_of u)) a).front ≡ some t → last t ≡ u
   kept_last t d =
-      let h : Halves (split (in_front false (rate_of u)) a) (xs ++ u ∷ []) ys =
+      let h : Halves (split (is_in_front false (rate_of u)) a) (xs ++ u ∷ []) ys =
       subst (λ (f : Item → Bool). Halves (split f a) (xs ++ u ∷ []) ys) (up_to_test u) (split_behind items item_laws_lem xs u ys about a e) in
       last_of t xs u (sym (ap part_leaves d) ∙ h.before)
 
-  kept_first : (t : Tree Item) → (split (in_front true (rate_of u)) a).back ≡ some t → first t ≡ u
+  kept_first : (t : Tree Item) → (split (is_in_front true (rate_of u)) a).back ≡ some t → first t ≡ u
   kept_first t d =
-      let h : Halves (split (in_front true (rate_of u)) a) xs (u ∷ ys) =
+      let h : Halves (split (is_in_front true (rate_of u)) a) xs (u ∷ ys) =
       subst (λ (f : Item → Bool). Halves (split f a) xs (u ∷ ys)) (before_test u) (split_front items item_laws_lem xs u ys about a e) in
       first_of t u ys (sym (ap part_leaves d) ∙ h.after)
 

@@ -4,4 +4,4 @@ use borrow.Author.Rules.{rules}
 use Rattle.walks.proofs.act.Goals as goal
 
 pub returns-in-Stay : goal.returns-in-Stay
-returns-in-Stay c = acts_stay c.enum_told-1.given.1
+returns-in-Stay c = acts_stay c.in-Stay.is

@@ -1,0 +1,8 @@
+-- `levels::put_behind` meets its contract.
+use Rattle.pieces.specs.Catting.{catted_left, after_any}
+use Rattle.levels.specs.Lowering.{after_read}
+use borrow.Author.Rules.{rules}
+use Rattle.levels.proofs.put_behind.Goals as goal
+
+pub returns-then-q-eq0 : goal.returns-then-q-eq0
+returns-then-q-eq0 c = after_any (catted_left c.if-q-eq0.true)
