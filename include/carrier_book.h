@@ -1,7 +1,7 @@
 /* The carrier book: a dynamic lower envelope of carriers' offers, kept in a table of signed 64-bit words that the caller lends.
  *
- * Link with libcarrier.a, which `rt staticlib carrier` writes to target/staticlib (x86-64 Linux). `bash include/install PREFIX` puts this
- * header, the archive and a file for pkg-config under a prefix.
+ * Link with libcarrier.a, which `rt lib` in crates/carrier writes to out/ there (Linux on x86-64-v2). `bash include/install PREFIX` puts
+ * this header, the archive and a file for pkg-config under a prefix.
  *
  * An offer has a number (1 to 9,999), a rate in cents per kilogram (-100,000 to 100,000) and a base in cents (-1,000,000,000 to
  * 1,000,000,000). Its price at a load of q kilograms (-1,000,000 to 1,000,000) is base + rate * q. No two live offers have equal

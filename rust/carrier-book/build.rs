@@ -1,16 +1,20 @@
 //! Links the proved archive. It is looked for in the folder that CARRIER_LIB names, or else in the repository's target/staticlib;
-//! where it is missing there, `rt staticlib carrier` proves and writes it.
+//! where it is missing there, `rt lib` in crates/carrier proves and writes it, and it is copied there.
 use std::env;
+use std::fs;
 use std::path::{Path, PathBuf};
 use std::process::Command;
 
-fn make_archive(root: &Path) {
-    let status = Command::new("rt").args(["staticlib", "carrier"]).current_dir(root).status();
+fn make_archive(root: &Path, folder: &Path) {
+    let carrier = root.join("crates/carrier");
+    let status = Command::new("rt").arg("lib").current_dir(&carrier).status();
     match status {
         Ok(s) if s.success() => {}
-        Ok(s) => panic!("`rt staticlib carrier` failed: {s}"),
+        Ok(s) => panic!("`rt lib` in crates/carrier failed: {s}"),
         Err(e) => panic!("libcarrier.a is missing and `rt` cannot be run ({e}); set CARRIER_LIB to the archive's folder"),
     }
+    fs::create_dir_all(folder).unwrap();
+    fs::copy(carrier.join("out/libcarrier.a"), folder.join("libcarrier.a")).unwrap();
 }
 
 fn main() {
@@ -22,7 +26,7 @@ fn main() {
             let root = PathBuf::from(env::var("CARGO_MANIFEST_DIR").unwrap()).join("../..");
             let folder = root.join("target/staticlib");
             if !folder.join("libcarrier.a").exists() {
-                make_archive(&root);
+                make_archive(&root, &folder);
             }
             folder
         }

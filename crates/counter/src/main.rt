@@ -2,30 +2,41 @@
 #![tactic(auto)]
 
 use counter_keep::Line;
-use libc::{STDIN_FILENO, STDOUT_FILENO};
+use std::io;
+use std::io::Read;
 
 // One byte of the input. What it prints goes through `out`.
-fn take_byte(table: &mut [i64], line: Line, byte: u8, out: &mut [u8]) -> Line {
+fn take_byte(
+    rt: &impl Print,
+    table: &mut [i64],
+    line: Line,
+    byte: u8,
+    out: &mut [u8],
+) -> io::Result<Line> {
     let fed = counter_feed::feed(table, line, byte, out);
     let printed = fed.printed;
-    io::write_all(STDOUT_FILENO, &out[..printed]);
-    fed.line
+    rt.write_all(&out[..printed])?;
+    Ok(fed.line)
 }
 
-fn take_block(table: &mut [i64], line: Line, block: &[u8], out: &mut [u8]) -> Line {
+fn take_block(
+    rt: &impl Print,
+    table: &mut [i64],
+    line: Line,
+    block: &[u8],
+    out: &mut [u8],
+) -> io::Result<Line> {
     let mut now = line;
-    let mut i = 0;
-    while i < block.len() {
-        now = take_byte(table, now, block[i], out);
-        i += 1;
+    for byte in block {
+        now = take_byte(rt, table, now, *byte, out)?;
     }
-    now
+    Ok(now)
 }
 
 // At the end of the input: the last line may lack its newline.
-fn take_last(table: &mut [i64], line: Line, out: &mut [u8]) {
+fn take_last(rt: &impl Print, table: &mut [i64], line: Line, out: &mut [u8]) -> io::Result<()> {
     let printed = counter_feed::finish(table, line, out);
-    io::write_all(STDOUT_FILENO, &out[..printed]);
+    rt.write_all(&out[..printed])
 }
 
 // The line after another block of the input, and whether there was one.
@@ -35,42 +46,51 @@ struct Block {
     more: bool,
 }
 
-fn read_block(table: &mut [i64], line: Line, out: &mut [u8]) -> Block {
-    let mut buffer = io::buffer();
-    let got = libc::read(STDIN_FILENO, &mut buffer);
-    if got <= 0 {
-        return Block {
+fn read_block(
+    rt: &impl Print,
+    input: &mut impl Read,
+    table: &mut [i64],
+    line: Line,
+    out: &mut [u8],
+) -> io::Result<Block> {
+    let mut buffer = [0u8; 4096];
+    let n = input.read(&mut buffer)?;
+    if n == 0 {
+        return Ok(Block {
             line: line,
             more: false,
-        };
+        });
     }
-    let n = io::count(got, &buffer);
-    let next = take_block(table, line, &buffer[..n], out);
-    Block {
+    let next = take_block(rt, table, line, &buffer[..n], out)?;
+    Ok(Block {
         line: next,
         more: true,
-    }
+    })
 }
 
-// A proved loop has to end, and nothing says that an input does: it counts down from a number that no run uses up.
-fn read_all(table: &mut [i64], out: &mut [u8]) -> Line {
+// A proved loop has to end, and nothing says that an input does: it counts up to a number that no run reaches.
+fn read_all(
+    rt: &impl Print,
+    input: &mut impl Read,
+    table: &mut [i64],
+    out: &mut [u8],
+) -> io::Result<Line> {
     let mut now = counter_keep::no_line();
-    let mut turns = u64::MAX;
-    while turns > 0 {
-        let block = read_block(table, now, out);
+    for _ in 0..u64::MAX {
+        let block = read_block(rt, input, table, now, out)?;
         now = block.line;
         if !block.more {
-            return now;
+            return Ok(now);
         }
-        turns -= 1;
     }
-    now
+    Ok(now)
 }
 
-fn main() {
+fn main(rt: HostRuntime) -> io::Result<()> {
     let mut table = [0i64; 5184];
     let mut out = [0u8; 2535];
     book::open(&mut table, 0, 64);
-    let line = read_all(&mut table, &mut out);
-    take_last(&mut table, line, &mut out);
+    let mut input = rt.stdin();
+    let line = read_all(&rt, &mut input, &mut table, &mut out)?;
+    take_last(&rt, &mut table, line, &mut out)
 }

@@ -4,7 +4,7 @@
 
 ghost use Rattle.std.specs.Prelude.{◌<◌};
 
-use libc::STDOUT_FILENO;
+use std::io;
 
 // The rates fall from slot to slot.
 fn rate_of(s: usize) -> u32 {
@@ -21,8 +21,8 @@ fn bases() -> [u32; 241] {
     let mut right: u32 = 20000;
     for s in 1..121 {
         let step = 2 * s as u32;
-        left = std::num::wrapping_add_u32(left, step);
-        right = std::num::wrapping_add_u32(right, step);
+        left = left.wrapping_add(step);
+        right = right.wrapping_add(step);
         all[s] = left;
         all[s + 120] = right;
     }
@@ -44,7 +44,7 @@ fn fill(part: &mut [i64], all: [u32; 241]) {
 fn build(part: &mut [i64], before: u32) -> u32 {
     let mut x: u32 = 0;
     for s in 1..121 {
-        x = pieces::cat(part, x, std::num::wrapping_add_u32(before, s));
+        x = pieces::cat(part, x, before.wrapping_add(s));
     }
     x
 }
@@ -54,7 +54,7 @@ fn at_150(all: [u32; 241]) -> [u32; 241] {
     let mut prices = all;
     for s in 1..241 {
         let so_far = 150 * (1000 - s as u32);
-        prices[s] = std::num::wrapping_add_u32(prices[s], so_far);
+        prices[s] = prices[s].wrapping_add(so_far);
     }
     prices
 }
@@ -62,7 +62,7 @@ fn at_150(all: [u32; 241]) -> [u32; 241] {
 fn at_next(before: [u32; 241]) -> [u32; 241] {
     let mut prices = before;
     for s in 1..241 {
-        prices[s] = std::num::wrapping_add_u32(prices[s], rate_of(s));
+        prices[s] = prices[s].wrapping_add(rate_of(s));
     }
     prices
 }
@@ -89,71 +89,75 @@ fn cheapest(prices: [u32; 241], right: bool) -> usize
     best
 }
 
-fn say(label: &[u8], told: u32, expected: u32) {
-    io::write_all(STDOUT_FILENO, label);
-    io::print_decimal(STDOUT_FILENO, told as u64);
-    io::write_all(STDOUT_FILENO, b", by a scan ");
-    io::print_decimal(STDOUT_FILENO, expected as u64);
-    io::write_all(STDOUT_FILENO, b"\n");
+fn say(rt: &impl Print, label: &[u8], told: u32, expected: u32) -> io::Result<()> {
+    rt.write_all(label)?;
+    rt.print(told)?;
+    rt.write_all(b", by a scan ")?;
+    rt.print(expected)?;
+    rt.write_all(b"\n")
 }
 
 // The ends of a tree of the left 120, and a piece found in it.
-fn ends(part: &[i64], l: u32) {
+fn ends(rt: &impl Print, part: &[i64], l: u32) -> io::Result<()> {
     say(
+        rt,
         b"first piece: ",
         descents::end(part, table::PIECES, false, l),
         1,
-    );
+    )?;
     say(
+        rt,
         b"last piece: ",
         descents::end(part, table::PIECES, true, l),
         120,
-    );
+    )?;
     say(
+        rt,
         b"found by rate: ",
         descents::find(part, table::PIECES, table::RATE, 950, l),
         50,
-    );
+    )
 }
 
 // The tree cut in two, and the two put together again.
-fn halves(part: &mut [i64], l: u32) -> u32 {
+fn halves(rt: &impl Print, part: &mut [i64], l: u32) -> io::Result<u32> {
     let c = cuts::cut(part, false, 950, l);
     let last = descents::end(part, table::PIECES, true, c.front);
     let first = descents::end(part, table::PIECES, false, c.back);
-    say(b"last in front of the cut: ", last, 50);
-    say(b"first behind it: ", first, 51);
-    pieces::cat(part, c.front, c.back)
+    say(rt, b"last in front of the cut: ", last, 50)?;
+    say(rt, b"first behind it: ", first, 51)?;
+    Ok(pieces::cat(part, c.front, c.back))
 }
 
 // The meeting of the two trees: the first load from 150 on at which the right is not the dearer.
-fn meeting(met: search::Met, all: [u32; 241]) {
+fn meeting(rt: &impl Print, met: search::Met, all: [u32; 241]) -> io::Result<()> {
     let mut prices = at_150(all);
     let loads: u32 = 100;
     for load in 0..loads {
         let u = cheapest(prices, false);
         let v = cheapest(prices, true);
         if prices[u] >= prices[v] {
-            say(b"u of the meeting: ", met.u, u as u32);
-            say(b"v of the meeting: ", met.v, v as u32);
-            return;
+            say(rt, b"u of the meeting: ", met.u, u as u32)?;
+            return say(rt, b"v of the meeting: ", met.v, v as u32);
         }
         prices = at_next(prices);
     }
+    Ok(())
 }
 
-fn main() {
+fn main(rt: HostRuntime) -> io::Result<()> {
     let mut words = [0i64; 16448];
     let all = bases();
     fill(&mut words, all);
     let l = build(&mut words, 0);
     let r = build(&mut words, 120);
-    ends(&words, l);
-    let y = halves(&mut words, l);
+    ends(&rt, &words, l)?;
+    let y = halves(&rt, &mut words, l)?;
     say(
+        &rt,
         b"last of both together: ",
         descents::end(&words, 0, true, y),
         120,
-    );
-    meeting(search::meet(&words, &words, y, r), all);
+    )?;
+    meeting(&rt, search::meet(&words, &words, y, r), all)
 }

@@ -1,61 +1,61 @@
 // Prints numbers in columns of 20, a line each: the ends of a signed word, and of every count of digits the least number below 0 and the least above it.
 #![tactic(auto)]
 
-use libc::STDOUT_FILENO;
+use std::io;
 
-fn show(value: i64) {
+fn show(rt: &impl Print, value: i64) -> io::Result<()> {
     let mut line = [b'\n'; 21];
     counter_print::justify(&mut line[..20], value);
-    io::write_all(STDOUT_FILENO, &line);
+    rt.write_all(&line)
 }
 
-fn show_nines() {
-    show(-9);
-    show(-99);
-    show(-999);
-    show(-9999);
-    show(-99999);
-    show(-999999);
-    show(-9999999);
-    show(-99999999);
-    show(-999999999);
-    show(-9999999999);
-    show(-99999999999);
-    show(-999999999999);
-    show(-9999999999999);
-    show(-99999999999999);
-    show(-999999999999999);
-    show(-9999999999999999);
-    show(-99999999999999999);
-    show(-999999999999999999);
+fn show_nines(rt: &impl Print) -> io::Result<()> {
+    show(rt, -9)?;
+    show(rt, -99)?;
+    show(rt, -999)?;
+    show(rt, -9999)?;
+    show(rt, -99999)?;
+    show(rt, -999999)?;
+    show(rt, -9999999)?;
+    show(rt, -99999999)?;
+    show(rt, -999999999)?;
+    show(rt, -9999999999)?;
+    show(rt, -99999999999)?;
+    show(rt, -999999999999)?;
+    show(rt, -9999999999999)?;
+    show(rt, -99999999999999)?;
+    show(rt, -999999999999999)?;
+    show(rt, -9999999999999999)?;
+    show(rt, -99999999999999999)?;
+    show(rt, -999999999999999999)
 }
 
-fn show_powers() {
-    show(1);
-    show(10);
-    show(100);
-    show(1000);
-    show(10000);
-    show(100000);
-    show(1000000);
-    show(10000000);
-    show(100000000);
-    show(1000000000);
-    show(10000000000);
-    show(100000000000);
-    show(1000000000000);
-    show(10000000000000);
-    show(100000000000000);
-    show(1000000000000000);
-    show(10000000000000000);
-    show(100000000000000000);
-    show(1000000000000000000);
+fn show_powers(rt: &impl Print) -> io::Result<()> {
+    show(rt, 1)?;
+    show(rt, 10)?;
+    show(rt, 100)?;
+    show(rt, 1000)?;
+    show(rt, 10000)?;
+    show(rt, 100000)?;
+    show(rt, 1000000)?;
+    show(rt, 10000000)?;
+    show(rt, 100000000)?;
+    show(rt, 1000000000)?;
+    show(rt, 10000000000)?;
+    show(rt, 100000000000)?;
+    show(rt, 1000000000000)?;
+    show(rt, 10000000000000)?;
+    show(rt, 100000000000000)?;
+    show(rt, 1000000000000000)?;
+    show(rt, 10000000000000000)?;
+    show(rt, 100000000000000000)?;
+    show(rt, 1000000000000000000)
 }
 
-fn main() {
-    show(-9223372036854775808);
-    show_nines();
-    show(0);
-    show_powers();
-    show(9223372036854775807);
+fn main(rt: HostRuntime) -> io::Result<()> {
+    show(&rt, -9223372036854775808)?;
+    show_nines(&rt)?;
+    show(&rt, 0)?;
+    show_powers(&rt)?;
+    show(&rt, 9223372036854775807)
 }

@@ -6,13 +6,13 @@ use crate::{expected, slots, world};
 
 // An opening that is to be declined for that cause; 0 for none.
 pub(crate) fn open(w: World, start: usize, room: i64, cause: i64) -> World {
-    let mut v = w;
     let mut words = w.words;
     let same = match book::open(&mut words, start, room) {
         book::Opening::Opened => cause == 0,
         book::Opening::Declined(c) => (cause != 0) & (c == cause),
     };
     let told = world::counted(w.told, 0, 0, 0, same);
+    let mut v = w;
     v.words = words;
     v.told = told;
     v
@@ -114,7 +114,7 @@ pub(crate) fn listing(
 ) -> Tally {
     let p = expected::all_pieces(os);
     let fits = p.count as usize <= out.len() / 3;
-    let words = expected::words_listed(p, fits);
+    let words = expected::words_listed(&p, fits);
     let same = match book::listing(table, start, out) {
         book::Listed::Pieces(n) => fits & (n == p.count as i64),
         book::Listed::Declined(c) => !fits & (c == 10),

@@ -121,7 +121,7 @@ pub(crate) fn all_under(os: &[i64; 192], load: i64, limit: i64) -> Pieces {
 }
 
 // What an output that is all 7 has after a listing or a report.
-pub(crate) fn words_listed(p: Pieces, fits: bool) -> [i64; 192] {
+pub(crate) fn words_listed(p: &Pieces, fits: bool) -> [i64; 192] {
     if fits {
         return p.words;
     }

@@ -11,7 +11,7 @@ mod reports;
 mod slots;
 mod world;
 
-use libc::STDOUT_FILENO;
+use std::io;
 use world::{Place, Tally, World};
 
 // ---- parts of a run
@@ -114,14 +114,16 @@ fn meet_all(w: World) -> World {
     let words = w.words;
     let l = w.os;
     let r = w.other;
-    world::with_tally(w, meet_ways(&words, &l, &r, w.told))
+    let told = meet_ways(&words, &l, &r, w.told);
+    world::with_tally(w, told)
 }
 
 fn meet(w: World) -> World {
     let words = w.words;
     let l = w.os;
     let r = w.other;
-    world::with_tally(w, meetings::meeting(&words, 17, &l, 3200, &r, true, w.told))
+    let told = meetings::meeting(&words, 17, &l, 3200, &r, true, w.told);
+    world::with_tally(w, told)
 }
 
 // Withdraws an offer from each book, and lets them meet after each.
@@ -142,13 +144,13 @@ fn shrink(w: World, left: u32, right: u32) -> World {
 
 // ---- the runs
 
-fn say_byte(c: u8) {
+fn say_byte(rt: &impl Print, c: u8) -> io::Result<()> {
     let byte = [c];
-    io::write_all(STDOUT_FILENO, &byte);
+    rt.write_all(&byte)
 }
 
 // The name of a run, with its colon.
-fn say_name(n: u32) {
+fn say_name(rt: &impl Print, n: u32) -> io::Result<()> {
     let names =
         b"openings:offers that touch:one point:hidden offers:ends of the ranges:no rule:ties:capacity 1:full at 20:\
         one rate:three rates:eight rates:touching offers meet:hidden offers meet:ties meet:mixed rates:three rates meet:\
@@ -157,24 +159,25 @@ fn say_name(n: u32) {
     for i in 0..234 {
         let c = names[i];
         if k == n {
-            say_byte(c);
+            say_byte(rt, c)?;
         }
-        k = std::num::wrapping_add_u32(k, (c == b':') as u32);
+        k = k.wrapping_add((c == b':') as u32);
     }
+    Ok(())
 }
 
-fn say(label: &[u8], n: u32) {
-    io::write_all(STDOUT_FILENO, label);
-    io::print_decimal(STDOUT_FILENO, n as u64);
+fn say(rt: &impl Print, label: &[u8], n: u32) -> io::Result<()> {
+    rt.write_all(label)?;
+    rt.print(n)
 }
 
-fn summary(t: Tally) {
-    say(b" calls ", t.calls);
-    say(b", queries ", t.queries);
-    say(b", listings ", t.listings);
-    say(b", meetings ", t.meetings);
-    say(b", differences ", t.differences);
-    say_byte(b'\n');
+fn summary(rt: &impl Print, t: Tally) -> io::Result<()> {
+    say(rt, b" calls ", t.calls)?;
+    say(rt, b", queries ", t.queries)?;
+    say(rt, b", listings ", t.listings)?;
+    say(rt, b", meetings ", t.meetings)?;
+    say(rt, b", differences ", t.differences)?;
+    say_byte(rt, b'\n')
 }
 
 // A query and a report where there is no book.
@@ -249,13 +252,14 @@ fn run_nth(w: World, n: u32) -> World {
     run_pair(w, kind)
 }
 
-fn main() {
+fn main(rt: HostRuntime) -> io::Result<()> {
     let mut words = [5i64; 7000];
     for n in 0..18u32 {
         let w = run_nth(world::begin(words), n);
-        say_name(n);
-        summary(w.told);
+        say_name(&rt, n)?;
+        summary(&rt, w.told)?;
         let after = w.words;
         words = after;
     }
+    Ok(())
 }

@@ -1,7 +1,7 @@
 // Offers made one after the other, by a rule for each kind of book.
 
 // The count of offers so far, its square, and a number that goes its own way.
-#[derive(Drop)]
+#[derive(Clone, Copy)]
 pub struct Maker {
     pub i: u32,
     pub square: u32,
@@ -17,10 +17,10 @@ pub(crate) fn first() -> Maker {
 }
 
 pub(crate) fn next(m: Maker) -> Maker {
-    let odd = std::num::wrapping_add_u32(m.i, std::num::wrapping_add_u32(m.i, 1));
+    let odd = m.i.wrapping_add(m.i.wrapping_add(1));
     Maker {
-        i: std::num::wrapping_add_u32(m.i, 1),
-        square: std::num::wrapping_add_u32(m.square, odd),
+        i: m.i.wrapping_add(1),
+        square: m.square.wrapping_add(odd),
         x: (m.x % 20_011 * 106 + 7) % 20_011,
     }
 }

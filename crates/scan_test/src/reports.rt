@@ -3,7 +3,7 @@ use crate::world::{Place, Tally};
 use crate::{expected, makers, slots, world};
 
 // What is asked: where, and of which load and price; `is_open` says whether there is a book at `start`.
-#[derive(Drop)]
+#[derive(Clone, Copy)]
 pub struct Asked {
     pub start: usize,
     pub is_open: bool,
@@ -12,7 +12,7 @@ pub struct Asked {
 }
 
 // Of an output that is all 7: with room for the offers it has their words and still 7 behind them, declined it is all 7.
-fn report(table: &[i64], a: Asked, p: expected::Pieces, out: &mut [i64], t: Tally) -> Tally {
+fn report(table: &[i64], a: Asked, p: &expected::Pieces, out: &mut [i64], t: Tally) -> Tally {
     let fits = p.count as usize <= out.len() / 3;
     let cause = expected::report_cause(a.is_open, a.load, a.limit, fits);
     let words = expected::words_listed(p, cause == 0);
@@ -28,8 +28,8 @@ pub(crate) fn both(table: &[i64], a: Asked, os: &[i64; 192], t: Tally) -> Tally 
     let mut out = [7i64; 192];
     let mut short = [7i64; 5];
     let p = expected::all_under(os, a.load, a.limit);
-    let told = report(table, a, p, &mut out, t);
-    report(table, a, p, &mut short, told)
+    let told = report(table, a, &p, &mut out, t);
+    report(table, a, &p, &mut short, told)
 }
 
 // The price of some slot, which is not below itself; the ends of the range, and one beyond each.

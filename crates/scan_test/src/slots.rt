@@ -77,7 +77,7 @@ pub(crate) fn has_rate(os: &[i64; 192], low: i64, high: i64) -> bool {
 pub(crate) fn count(os: &[i64; 192]) -> u32 {
     let mut n: u32 = 0;
     for i in 0..64 {
-        n = std::num::wrapping_add_u32(n, (number(os, i) != 0) as u32);
+        n = n.wrapping_add((number(os, i) != 0) as u32);
     }
     n
 }

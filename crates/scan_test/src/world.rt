@@ -1,7 +1,7 @@
 // What goes from call to call, by value: a reference that is lent for change costs the checker far more than a struct that is passed on.
 
 // The calls made, all but the reports, and those of all that differ from the scan.
-#[derive(Drop)]
+#[derive(Clone, Copy)]
 pub struct Tally {
     pub calls: u32,
     pub queries: u32,
@@ -20,7 +20,7 @@ pub struct World {
 }
 
 // Where a book starts, how many offers it has room for, and the rule by which its offers are made.
-#[derive(Drop)]
+#[derive(Clone, Copy)]
 pub struct Place {
     pub start: usize,
     pub room: u32,
@@ -45,9 +45,9 @@ pub(crate) fn begin(words: [i64; 7000]) -> World {
 
 // The other book at hand.
 pub(crate) fn swapped(w: World) -> World {
-    let mut v = w;
     let os = w.other;
     let other = w.os;
+    let mut v = w;
     v.os = os;
     v.other = other;
     v
@@ -62,17 +62,17 @@ pub(crate) fn with_tally(w: World, t: Tally) -> World {
 // A report: its difference is counted, and the call is none of those of the printed line.
 pub(crate) fn compared(t: Tally, same: bool) -> Tally {
     let mut told = t;
-    told.differences = std::num::wrapping_add_u32(t.differences, !same as u32);
+    told.differences = t.differences.wrapping_add(!same as u32);
     told
 }
 
 // One call more, of which so many queries, listings and meetings.
 pub(crate) fn counted(t: Tally, queries: u32, listings: u32, meetings: u32, same: bool) -> Tally {
     Tally {
-        calls: std::num::wrapping_add_u32(t.calls, 1),
-        queries: std::num::wrapping_add_u32(t.queries, queries),
-        listings: std::num::wrapping_add_u32(t.listings, listings),
-        meetings: std::num::wrapping_add_u32(t.meetings, meetings),
-        differences: std::num::wrapping_add_u32(t.differences, !same as u32),
+        calls: t.calls.wrapping_add(1),
+        queries: t.queries.wrapping_add(queries),
+        listings: t.listings.wrapping_add(listings),
+        meetings: t.meetings.wrapping_add(meetings),
+        differences: t.differences.wrapping_add(!same as u32),
     }
 }

@@ -1,0 +1,12 @@
+-- `counter_print::put_sign` meets its contract. The loop's invariant: spaces stand in all columns before `at`.
+use Prim.Native.Nat.{◌-◌, ◌<◌}
+use mathlib.Core.Path.{refl}
+use lib.ListN.{length, length-set}
+use Rattle.counter_print.specs.Printing.{Blanking, blanking_size, blanking_more, minus_room, signed_blank, signed_minus}
+use Rattle.counter_print.proofs.put_sign.Given as goal
+
+abbrev pub invariant-loop-at : goal.invariant-loop-at
+invariant-loop-at l = Blanking l.initial.column l.column l.at
+
+abbrev pub decreases-loop-at : goal.decreases-loop-at
+decreases-loop-at l = length l.initial.column - l.at
