@@ -128,10 +128,10 @@ laid_unique {w} (leaf a) (leaf b) p q =
     ap leaf ((p.placed a (Memᴰ.head refl)).is ∙ ap (item_at w) e ∙ sym (q.placed b (Memᴰ.head refl)).is)
 laid_unique (leaf a) (node l r) p q = absurd (omega (arith, laid_leaf_low p, laid_node_high q))
 laid_unique (node l r) (leaf a) p q = absurd (omega (arith, laid_leaf_low q, laid_node_high p))
-laid_unique (node l r) (node l' r') p q =
+laid_unique {w = w} {k = k} {x = x} (node l r) (node l' r') p q =
     let a = laid_children p in
     let b = laid_children q in
-    ap₂ node (laid_unique l l' a.left b.left) (laid_unique r r' a.right b.right)
+    ap₂ node (laid_unique {x = child_at w k false x} l l' a.left b.left) (laid_unique {x = child_at w k true x} r r' a.right b.right)
 
 -- ---- the number of a root
 

@@ -10,14 +10,14 @@ ghost use Rattle.levels.specs.Levels.{LoweredIn, RaisedIn};
 ghost use Rattle.levels.specs.RaisingRests.{RestSet};
 
 // A subtree in hand: its root in the tree of offers, and the root of its envelope.
-#[derive(Drop)]
+#[derive(Clone, Copy)]
 pub struct Held {
     pub tree: u32,
     pub envelope: u32,
 }
 
 // Searches, their steps in all, and the sum of their trees' heights.
-#[derive(Drop)]
+#[derive(Clone, Copy)]
 pub struct Counts {
     pub searches: u32,
     pub steps: u32,
@@ -25,14 +25,14 @@ pub struct Counts {
 }
 
 // A subtree that was made, and what its making took.
-#[derive(Drop)]
+#[derive(Clone, Copy)]
 pub struct Made {
     pub held: Held,
     pub counts: Counts,
 }
 
 // The two children of a subtree.
-#[derive(Drop)]
+#[derive(Clone, Copy)]
 pub struct Lowered {
     pub left: Held,
     pub right: Held,

@@ -1,6 +1,5 @@
 -- `counter_keep::push` meets its contract: the byte goes behind those that are kept, or is passed over.
 use Rattle.counter_keep.specs.KeptBytes.{pushes_full, pushes_one}
-use borrow.Author.Rules.{rules}
 use Rattle.counter_keep.proofs.push.Goals as goal
 
 pub returns-then-at-ge28 : goal.returns-then-at-ge28

@@ -1,7 +1,6 @@
 -- `counter_print::answer_line` meets its contract: each call writes its columns and leaves the others.
-use Rattle.std.proofs.Common.{◌≡◌, ◌∙◌, length, arith}
+use Rattle.std.proofs.Common.{◌≡◌, ◌∙◌, length, arith, to_z-of_z}
 use Rattle.std.proofs.Math.ListN.{length-set}
-use mir.Facts.{to_z-of_z}
 use Rattle.counter_print.specs.Printing.{answers}
 use Rattle.counter_print.proofs.answer_line.Goals as goal
 

@@ -1,7 +1,6 @@
 -- `counter_print::digit_count` meets its contract. The loop's invariant: fewer digits than `count` are too few.
-use Prim.Native.Nat.{◌-◌}
-use lib.ListN.{length}
-use Rattle.counter_print.specs.Places.{Needed, needed_one, needed_more, counts_below, counts_all}
+use Rattle.std.proofs.Common.{◌-◌, length}
+use Rattle.counter_print.specs.Places.{Needed}
 use Rattle.counter_print.proofs.digit_count.Given as goal
 
 abbrev pub invariant-loop-count : goal.invariant-loop-count

@@ -1,6 +1,5 @@
 -- `counter_print::justify` meets its contract: the sign in the columns before the digits, and the digits in the rest.
-use Rattle.std.proofs.Common.{◌≡◌, ℕ, ◌-◌, ◌≤◌, List, length, drop, arith, length-take, length-drop}
-use mir.Facts.{to_z-of_z}
+use Rattle.std.proofs.Common.{◌≡◌, ℕ, ◌-◌, ◌≤◌, List, length, drop, arith, length-take, length-drop, to_z-of_z}
 use Rattle.counter_print.specs.Printing.{justifies_narrow, justifies_wide}
 use Rattle.counter_print.proofs.justify.Goals as goal
 

@@ -1,6 +1,6 @@
 -- `counter_print::lead_digit` meets its contract. The loop's invariant: the power goes in `digit` times, and no more of the multiples tried do.
-use Prim.Native.Nat.{◌-◌}
-use Rattle.counter_print.specs.Places.{Tried, tried_none, tried_more, tried_done, multiple_fits}
+use Rattle.std.proofs.Common.{◌-◌}
+use Rattle.counter_print.specs.Places.{Tried}
 use Rattle.counter_print.proofs.lead_digit.Given as goal
 
 abbrev pub invariant-loop-times : goal.invariant-loop-times

@@ -1,8 +1,5 @@
 -- `counter_print::put_digits` meets its contract. The loop's invariant: the digits written, and those of what is left, are the number's.
-use Prim.Native.Nat.{◌≤◌, ◌<◌}
-use mathlib.Core.Path.{refl}
-use Rattle.counter_print.specs.Powers.{most_digits}
-use Rattle.counter_print.specs.Places.{place_power, lead_asks, Putting, putting_more, putting_done}
+use Rattle.counter_print.specs.Places.{Putting}
 use Rattle.counter_print.proofs.put_digits.Given as goal
 
 abbrev pub invariant-loop-place : goal.invariant-loop-place

@@ -1,5 +1,5 @@
 -- `counter_print::put_number` meets its contract: the column's text stands between the bytes that stay.
-use mir.Facts.{to_z-of_z}
+use Rattle.std.proofs.Common.{to_z-of_z}
 use Rattle.counter_print.specs.Printing.{puts_part}
 use Rattle.counter_print.proofs.put_number.Goals as goal
 

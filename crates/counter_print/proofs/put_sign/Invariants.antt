@@ -1,8 +1,6 @@
 -- `counter_print::put_sign` meets its contract. The loop's invariant: spaces stand in all columns before `at`.
-use Prim.Native.Nat.{◌-◌, ◌<◌}
-use mathlib.Core.Path.{refl}
-use lib.ListN.{length, length-set}
-use Rattle.counter_print.specs.Printing.{Blanking, blanking_size, blanking_more, minus_room, signed_blank, signed_minus}
+use Rattle.std.proofs.Common.{◌-◌, length}
+use Rattle.counter_print.specs.Printing.{Blanking}
 use Rattle.counter_print.proofs.put_sign.Given as goal
 
 abbrev pub invariant-loop-at : goal.invariant-loop-at

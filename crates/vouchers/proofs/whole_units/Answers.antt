@@ -1,0 +1,60 @@
+-- `vouchers::whole_units` meets its contract: a rest that is enough leads one unit further out, and with any other the units stay.
+use mathlib.Core.Path.{sym, subst}
+use mathlib.Core.Logic.{⊎_elim}
+use Prim.Native.Nat.{◌^◌, ◌<◌}
+use native.Mathlib.Omega.{arith}
+use lib.Dec.{lit<}
+use lib.IntN.{pos, nat_abs, ◌-ℤ◌}
+use lib.Signed.{quot_z}
+use mir.Syntax.{w64}
+use mir.Val.{to_z}
+use mir.Facts.{to_z-of_z}
+use Rattle.integers.specs.Parts.{int_rules, nat_abs_parts, sub_parts}
+use Rattle.integers.specs.Magnitude.{fits, nat_abs_sub}
+use Rattle.vouchers.specs.VoucherSteps.{units_fit, pairs_fit, above_fits, below_fits, rest_fits}
+use Rattle.vouchers.specs.VoucherSteps.{cut, even, odd, Enough, further_up, further_down, no_further}
+use Rattle.vouchers.proofs.whole_units.Goals as goal
+
+-- `enough`, by either branch
+enough-is : (c : lts.Joined1 reads.Pre reads.Post) → Enough (quot_z c.before.args.price (pos 100)) (to_z w64 c.if1.enough)
+enough-is c =
+    let p = c.before.args.price in
+    let f = c.before.ranges.price in
+    let q = quot_z p (pos 100) in
+    let units = units_fit p f in
+    ⊎_elim
+    (λ y. subst (λ w. Enough q (to_z w64 w)) (sym y.1) (omega (arith, even q (simp (to_z-of_z, f, units) at y.0.taken))))
+    (λ y. subst (λ w. Enough q (to_z w64 w)) (sym y.1) (omega (arith, odd q (simp (to_z-of_z, f, units) at y.0.left))))
+    c.if1.branch
+
+-- −enough fits
+minus-small : (c : lts.Joined1 reads.Pre reads.Post) → nat_abs (pos 0 -ℤ to_z w64 c.if1.enough) < 2 ^ 63
+minus-small c =
+    let e = to_z w64 c.if1.enough in
+    let enough = enough-is c in
+    omega (arith, nat_abs_sub (pos 0) e, nat_abs_parts e)
+
+pub returns-then-rest-enough : goal.returns-then-rest-enough
+returns-then-rest-enough c = let p = c.args.price in
+    let f = c.ranges.price in
+    let units = units_fit p f in
+    let rest = rest_fits p in
+    let below = below_fits p f in
+    let e = to_z w64 c.if-units-eq0.enough-bits in
+    let enough = enough-is c in
+    let minus = fits (pos 0 -ℤ e) (minus-small c) in
+    let t = simp (to_z-of_z, f, rest, minus) at c.if-rest-enough.true in
+    simp (to_z-of_z, f, units, below) (further_down (cut p) enough (omega (arith, int_rules, t, sub_parts (pos 0) e)))
+
+pub returns : goal.returns
+returns c = let p = c.args.price in
+    let f = c.ranges.price in
+    let units = units_fit p f in
+    let rest = rest_fits p in
+    let e = to_z w64 c.if-units-eq0.enough-bits in
+    let enough = enough-is c in
+    let minus = fits (pos 0 -ℤ e) (minus-small c) in
+    let t = simp (to_z-of_z, f, rest) at c.if-enough-rest.false in
+    let z = simp (to_z-of_z, f, rest, minus) at c.if-rest-enough.false in
+    simp (to_z-of_z, f, units)
+    (no_further (cut p) enough (omega (arith, int_rules, t)) (omega (arith, int_rules, z, sub_parts (pos 0) e)))
