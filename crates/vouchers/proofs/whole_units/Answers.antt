@@ -14,46 +14,36 @@ use Rattle.integers.specs.Magnitude.{fits, nat_abs_sub}
 use Rattle.vouchers.specs.VoucherSteps.{units_fit, pairs_fit, above_fits, below_fits, rest_fits}
 use Rattle.vouchers.specs.VoucherSteps.{cut, even, odd, Enough, further_up, further_down, no_further}
 use Rattle.vouchers.proofs.whole_units.Goals as goal
-
--- `enough`, by either branch
-enough-is : (c : lts.Joined1 reads.Pre reads.Post) → Enough (quot_z c.before.args.price (pos 100)) (to_z w64 c.if1.enough)
-enough-is c =
-    let p = c.before.args.price in
-    let f = c.before.ranges.price in
-    let q = quot_z p (pos 100) in
-    let units = units_fit p f in
-    ⊎_elim
-    (λ y. subst (λ w. Enough q (to_z w64 w)) (sym y.1) (omega (arith, even q (simp (to_z-of_z, f, units) at y.0.taken))))
-    (λ y. subst (λ w. Enough q (to_z w64 w)) (sym y.1) (omega (arith, odd q (simp (to_z-of_z, f, units) at y.0.left))))
-    c.if1.branch
-
--- −enough fits
-minus-small : (c : lts.Joined1 reads.Pre reads.Post) → nat_abs (pos 0 -ℤ to_z w64 c.if1.enough) < 2 ^ 63
-minus-small c =
-    let e = to_z w64 c.if1.enough in
-    let enough = enough-is c in
-    omega (arith, nat_abs_sub (pos 0) e, nat_abs_parts e)
+use Rattle.vouchers.proofs.whole_units.Goals.{then-units-eq0, else-units-eq0}
 
 pub returns-then-rest-enough : goal.returns-then-rest-enough
-returns-then-rest-enough c = let p = c.args.price in
+returns-then-rest-enough c =
+    let p = c.args.price in
     let f = c.ranges.price in
+    let q = quot_z p (pos 100) in
     let units = units_fit p f in
     let rest = rest_fits p in
     let below = below_fits p f in
     let e = to_z w64 c.if-units-eq0.enough-bits in
-    let enough = enough-is c in
-    let minus = fits (pos 0 -ℤ e) (minus-small c) in
+    let enough : Enough q e = elim c.if-units-eq0.branch [
+      then-units-eq0 w ↦ subst (λ z. Enough q z) (sym w.enough-is) (omega (arith, even q (simp (to_z-of_z, f, units) at w.if-units-eq0.true)))
+      | else-units-eq0 w ↦ subst (λ z. Enough q z) (sym w.enough-is) (omega (arith, odd q (simp (to_z-of_z, f, units) at w.if-units-eq0.false))) ] in
+    let minus = fits (pos 0 -ℤ e) (omega (arith, nat_abs_sub (pos 0) e, nat_abs_parts e)) in
     let t = simp (to_z-of_z, f, rest, minus) at c.if-rest-enough.true in
     simp (to_z-of_z, f, units, below) (further_down (cut p) enough (omega (arith, int_rules, t, sub_parts (pos 0) e)))
 
 pub returns : goal.returns
-returns c = let p = c.args.price in
+returns c =
+    let p = c.args.price in
     let f = c.ranges.price in
+    let q = quot_z p (pos 100) in
     let units = units_fit p f in
     let rest = rest_fits p in
     let e = to_z w64 c.if-units-eq0.enough-bits in
-    let enough = enough-is c in
-    let minus = fits (pos 0 -ℤ e) (minus-small c) in
+    let enough : Enough q e = elim c.if-units-eq0.branch [
+      then-units-eq0 w ↦ subst (λ z. Enough q z) (sym w.enough-is) (omega (arith, even q (simp (to_z-of_z, f, units) at w.if-units-eq0.true)))
+      | else-units-eq0 w ↦ subst (λ z. Enough q z) (sym w.enough-is) (omega (arith, odd q (simp (to_z-of_z, f, units) at w.if-units-eq0.false))) ] in
+    let minus = fits (pos 0 -ℤ e) (omega (arith, nat_abs_sub (pos 0) e, nat_abs_parts e)) in
     let t = simp (to_z-of_z, f, rest) at c.if-enough-rest.false in
     let z = simp (to_z-of_z, f, rest, minus) at c.if-rest-enough.false in
     simp (to_z-of_z, f, units)
