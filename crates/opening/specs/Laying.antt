@@ -149,6 +149,7 @@ upward_length zero k = refl
 upward_length (suc n) k = ap suc (upward_length n (suc k))
 
 upward_low : (n k : ℕ) {t : ℕ} → Memᴰ t (upward n k) → k ≤ t
+upward_low zero k {t = t} x' = elim x' [ ]
 upward_low (suc n) k (Memᴰ.head e) = omega arith
 upward_low (suc n) k (Memᴰ.tail m) = omega (arith, upward_low n (suc k) m)
 
