@@ -41,7 +41,7 @@ listed {w} {os} (onward u h p) =
 
 pub walks : {w : Words} {i : ℕ} {os : List Offer} (us : List Undo) → EntriesIn w i us → Undoable (cap w) os us → Walks w i (length us) os
 walks [] e d = ended
-walks {w} {os} (u ∷ us) (e, es) (d, ds) = onward u (record { entry = e; clear = tried_recalling (bare (cap w) os) us [] u d }) (walks us es ds)
+walks {w = w} {i = i} {os = os} (u ∷ us) (e, es) (d, ds) = onward u (record { entry = e; clear = tried_recalling (bare (cap w) os) us [] u d }) (walks {i = earlier i} us es ds)
 
 -- ---- the loop
 

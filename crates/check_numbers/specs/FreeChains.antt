@@ -124,7 +124,7 @@ record Onward (w : Words) (s k : ℕ) : Type 0 where
   chain : FreeChain w slots
   short : length slots ≤ k
 
-onward : {w : Words} {ss : List ℕ} {s : ℕ} → FreeChain w ss → Memᴰ s ss → Onward w s (length ss)
+onward : {w : Words} {s : ℕ} {ss : List ℕ} → FreeChain w ss → Memᴰ s ss → Onward w s (length ss)
 onward {ss} f (Memᴰ.head e) = record { slots = ss; first = e; chain = f; short = omega arith }
 onward (free_more l h z n f) (Memᴰ.tail m) = let o = onward f m in record {
   slots = o.slots;
