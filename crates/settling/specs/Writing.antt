@@ -227,6 +227,7 @@ free_not_live {w} {live} {s} chain holds m (at {a} i e) = go chain m
         zero {n} p q t = omega (arith, int_rules, range_low (pos 1) n (pos 9_999) t)
 
     go : {ss : List ℕ} → FreeChain w ss → Memᴰ s ss → ⊥
+    go Rattle.form.specs.Form.free_none x4 = elim x4 [ ]
     go (free_more low high zero next more) (Memᴰ.head d) = never (ap (cell w number_field) (sym e ∙ d) ∙ zero)
     go (free_more low high zero next more) (Memᴰ.tail n) = go more n
 
