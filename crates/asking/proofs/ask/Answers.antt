@@ -1,0 +1,30 @@
+-- `asking::ask` meets its contract: the count, the root's piece tree, the descent, and the offer that it ends at.
+use mathlib.Core.Path.{◌≡◌}
+use native.Mathlib.Omega.{arith}
+use lib.IntN.{pos}
+use mir.Facts.{to_z-of_z, to_z_pos}
+use mir.Syntax.{w64}
+use mir.Val.{SFits, to_z}
+use Rattle.asking.specs.Asking.{asks_empty, asks_found}
+use borrow.Author.Rules.{rules}
+use Rattle.std.proofs.Common.{FitsSigned}
+use Rattle.asking.proofs.ask.Goals as goal
+
+pub returns-then-number_at-lt1 : goal.returns-then-number_at-lt1
+returns-then-number_at-lt1 c = asks_empty c.number_at.ensures c.if-number_at-lt1.true
+
+pub returns : goal.returns
+returns c = let f = c.ranges.load in
+    let g : FitsSigned w64 c.number-number.result = record { sfits = c.number-number.type_inv } in
+    let h : FitsSigned w64 c.price-price.result = record { sfits = c.price-price.type_inv } in
+    let k : FitsSigned w64 c.beside-second.result = record { sfits = c.beside-second.type_inv } in
+    let v : to_z w64 c.descend-p.result.probes ≡ pos c.descend-p.result.probes = to_z_pos w64 (omega (arith, cast-t13 c)) in
+    simp (to_z-of_z, g, h, k, v)
+    (asks_found c.number_at.ensures c.if-number_at-lt1.false
+    (record {
+      c = c.envelope_root-root.ensures;
+      down = simp (to_z-of_z, f) at c.descend-p.ensures;
+      named = c.number-number.ensures;
+      priced = simp (to_z-of_z, f) at c.price-price.ensures;
+      beside = c.beside-second.ensures;
+    }))

@@ -1,0 +1,32 @@
+-- `counter_field::read_field` meets its contract: the columns hold a number exactly where they are the one candidate's text.
+use mathlib.Core.Path.{◌∙◌, sym}
+use mathlib.Core.Bool.{true≢false}
+use native.Mathlib.Omega.{arith}
+use lib.ListN.{length-append, length-take}
+use mir.Facts.{to_z-of_z}
+use mir.Syntax.{w64}
+use Rattle.std.proofs.Common.{FitsSigned}
+use borrow.Author.Rules.{rules}
+use Rattle.counter_field.specs.Reading.{holds_none, candidate, held}
+use Rattle.counter_field.proofs.read_field.Goals as goal
+
+pub returns-then-width-eq0 : goal.returns-then-width-eq0
+returns-then-width-eq0 c z h = holds_none _ z c.if-width-eq0.true h
+
+pub returns-then-same : goal.returns-then-same
+returns-then-same c = let f : FitsSigned w64 c.number_in-number.result = record { sfits = c.number_in-number.type_inv } in
+    simp (to_z-of_z, f)
+    (c.same.ensures.0 c.if-same.true
+    ∙ candidate _ _ _ _ c.if-width-eq0.false (omega (arith, c.requires)) c.number_in-number.ensures c.justify.auto.0
+    (simp (to_z-of_z, f) at c.justify.ensures))
+
+pub returns : goal.returns
+returns c z h = let f : FitsSigned w64 c.number_in-number.result =
+    record { sfits = c.number_in-number.type_inv } in
+    absurd (true≢false (sym (c.same.ensures.1
+    (held _ _ _ _ c.if-width-eq0.false (omega (
+      arith,
+      c.requires,
+    ))
+    c.number_in-number.ensures c.justify.auto.0
+    (simp (to_z-of_z, f) at c.justify.ensures) z h)) ∙ c.if-same.false))

@@ -1,0 +1,15 @@
+-- `counter_field::value_in` meets its contract. The loop's invariant: the bytes passed say the value, which has no more digits than those.
+use Prim.Native.Nat.{◌-◌}
+use native.Mathlib.Omega.{arith}
+use lib.ListN.{length}
+use Rattle.counter_field.specs.Values.{ReadTo, read_none, read_more, read_all, read_small}
+use Rattle.counter_field.proofs.value_in.Goals as goal
+
+pub with_byte-value-requires : goal.with_byte-value-requires
+with_byte-value-requires c = read_small c.loop-at.invariant c.requires
+
+pub loop-at-preserved : goal.loop-at-preserved
+loop-at-preserved c = read_more c.loop-at.invariant c.loop-at-test.true c.with_byte-value.ensures
+
+pub returns : goal.returns
+returns c = (read_all c.loop-at.invariant c.loop-at-test.false, read_small c.loop-at.invariant c.requires)
