@@ -1,7 +1,7 @@
 -- A listing's answer on a part, and on a table, by what the code counts and writes.
 use Rattle.std.specs.Prelude.{◌≡◌, refl, Bool, true, false, List, [], ◌++◌, map, ℕ, ◌*◌, ◌-◌, ◌≤◌, ◌<◌, length, take, drop, ℤ, pos}
 use Rattle.std.proofs.Common.{sym, ◌∙◌, ap, subst, arith, take_at, drop_at}
-use Rattle.std.proofs.Math.Option.{Option, none}
+use Rattle.std.proofs.Math.Option.{Option}
 use Rattle.std.proofs.lemmas.List.{length-map}
 use Rattle.lists.specs.Bools.{said, denied}
 use Rattle.envelopes.specs.Envelope.{ordered_nil}

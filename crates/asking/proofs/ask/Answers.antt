@@ -4,9 +4,8 @@ use native.Mathlib.Omega.{arith}
 use lib.IntN.{pos}
 use mir.Facts.{to_z-of_z, to_z_pos}
 use mir.Syntax.{w64}
-use mir.Val.{SFits, to_z}
+use mir.Val.{to_z}
 use Rattle.asking.specs.Asking.{asks_empty, asks_found}
-use borrow.Author.Rules.{rules}
 use Rattle.std.proofs.Common.{FitsSigned}
 use Rattle.asking.proofs.ask.Goals as goal
 
@@ -18,11 +17,11 @@ returns c = let f = c.ranges.load in
     let g : FitsSigned w64 c.number-number.result = record { sfits = c.number-number.type_inv } in
     let h : FitsSigned w64 c.price-price.result = record { sfits = c.price-price.type_inv } in
     let k : FitsSigned w64 c.beside-second.result = record { sfits = c.beside-second.type_inv } in
-    let v : to_z w64 c.descend-p.result.probes ≡ pos c.descend-p.result.probes = to_z_pos w64 (omega (arith, cast-t13 c)) in
+    let v : to_z w64 c.descend-p.result.probes ≡ pos c.descend-p.result.probes = to_z_pos w64 (omega arith) in
     simp (to_z-of_z, g, h, k, v)
     (asks_found c.number_at.ensures c.if-number_at-lt1.false
     (record {
-      c = c.envelope_root-root.ensures;
+      at_root = c.envelope_root-root.ensures;
       down = simp (to_z-of_z, f) at c.descend-p.ensures;
       named = c.number-number.ensures;
       priced = simp (to_z-of_z, f) at c.price-price.ensures;

@@ -1,8 +1,5 @@
 -- `asking::listing` meets its contract: by its guard, and then what the part shows.
-use native.Mathlib.Omega.{arith}
-use Rattle.promises.specs.LentPart.{book_start}
 use Rattle.asking.specs.Showing.{listing_no_book, listing_done}
-use borrow.Author.Rules.{rules}
 use Rattle.asking.proofs.listing.Goals as goal
 
 pub returns-then-no_book : goal.returns-then-no_book

@@ -1,8 +1,6 @@
 -- `asking::query` meets its contract: by its guards, and then the answer on the part.
 use mir.Facts.{to_z-of_z}
-use Rattle.promises.specs.LentPart.{book_start}
 use Rattle.asking.specs.Asking.{queries_none, queries_range, queries_asked}
-use borrow.Author.Rules.{rules}
 use Rattle.asking.proofs.query.Goals as goal
 
 pub returns-then-no_book : goal.returns-then-no_book

@@ -6,7 +6,6 @@ use mir.Syntax.{w64}
 use mir.Val.{to_z}
 use mir.Facts.{to_z_pos}
 use Rattle.asking.specs.Showing.{shown_short, shown_all}
-use borrow.Author.Rules.{rules}
 use Rattle.asking.proofs.show.Goals as goal
 
 pub returns-then-room-n : goal.returns-then-room-n
