@@ -1,5 +1,5 @@
 -- A part put together again: its offers as an update left them, and its memory as an entry more or less left it.
-use Rattle.std.specs.Prelude.{◌≡◌, refl, ℕ, ◌≤◌, ◌<◌, length, ℤ}
+use Rattle.std.specs.Prelude.{◌≡◌, refl, ℕ, ◌≤◌, length, ℤ}
 use Rattle.std.proofs.Common.{sym, ◌∙◌, ap, subst, arith}
 use mathlib.Core.List.Memᴰ
 use mathlib.Core.List.{List, [], ◌∷◌, map, Memᴰ}
@@ -16,7 +16,7 @@ use Rattle.table.specs.Layout.{cap, cell}
 use Rattle.table.specs.Items.{Item, offer_of}
 use Rattle.form.specs.Form.{Book, Form}
 use Rattle.form.specs.Memory.{Ring}
-use Rattle.form.specs.Local.{Beyond, AlikeOffers, alike_cap, AlikeMemory, ring_alike}
+use Rattle.form.specs.Local.{AlikeOffers, alike_cap, AlikeMemory, ring_alike}
 use Rattle.form.proofs.Local.{book_alike}
 use Rattle.form.specs.Live.{book_sound}
 use Rattle.memory.specs.Ring.{OnlyMemory}

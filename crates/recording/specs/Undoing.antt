@@ -1,18 +1,17 @@
 -- An update remembered, and the last one undone: what the code's parts promise, put together.
-use Rattle.std.specs.Prelude.{◌≡◌, refl, List, [], ◌∷◌, ℕ, ◌≤◌, ◌<◌, length, ℤ, pos}
+use Rattle.std.specs.Prelude.{◌≡◌, refl, List, [], ◌∷◌, ℕ, ◌≤◌, ◌<◌, ℤ, pos}
 use Rattle.std.proofs.Common.{sym, ◌∙◌, ap, subst, arith}
 use Rattle.std.proofs.Math.Option.{Option}
 use Rattle.offers.specs.Offers.{Offer}
 use Rattle.plain.specs.Causes.{Clear}
 use Rattle.plain.specs.Book.{State, Undo, unpost, restore, Outcome, Call, post, withdraw, live, refused, join, leave, undone, undoing, Undoable, trials}
-use Rattle.plain.specs.Book.{book_trials, range_trials, recalling, remember, accepted, step}
-use Rattle.plain.specs.Rules.{refusing, step_accepted, withdraws}
+use Rattle.plain.specs.Book.{book_trials, recalling, remember, step}
+use Rattle.plain.specs.Rules.{refusing, withdraws}
 use Rattle.plain.proofs.Rules.{posts}
 use Rattle.plain.specs.Sound.{length_join, tried_recalling}
 use Rattle.plain.specs.Trials.{first_append}
 use Rattle.plain.proofs.Undoing.{accepted_recallable}
 use Rattle.plain.specs.Entries.{names_first}
-use Rattle.trees.specs.Operations.{part_leaves}
 use Rattle.dynamic.specs.OfferTree.{Held}
 use Rattle.table.specs.Fields.{base_field, most_nodes, number_field, number_tree, numbers_root_word, rate_field}
 use Rattle.table.specs.Words.{Words, word, up_to}
@@ -31,7 +30,7 @@ use Rattle.filing.specs.Withdrawing.{live_at}
 use Rattle.filing.specs.PartUpdates.{PostDone, WithdrawDone}
 use Rattle.filing.specs.declared.Told.{Told}
 use Rattle.promises.specs.declared.Update.{Update}
-use Rattle.promises.specs.declared.Update.TheVariants.{Done, Declined}
+use Rattle.promises.specs.declared.Update.TheVariants.{Declined}
 use Rattle.promises.specs.OneCause.{not_clear}
 use Rattle.recording.specs.Ranges.{RangeCause}
 use Rattle.recording.specs.Recording.{update_of, Recorded, PostKept, WithdrawKept, Undoes, TakesBack}
