@@ -1,7 +1,6 @@
 -- `check_order::heads` meets its contract: what is left to compare decides the whole.
 use mathlib.Core.Path.{◌∙◌, sym}
 use native.Mathlib.Omega.{arith}
-use borrow.Author.Tests.{not-true, not-false}
 use Rattle.check_order.specs.Heads.{goes_on, goes_new, refused_room, refused_other, ends}
 use Rattle.check_order.proofs.heads.Goals as goal
 
@@ -10,16 +9,16 @@ loop-i-preserved-then-not-is_new c = (
   omega arith,
   omega arith,
   goes_on c.loop-i.invariant.2 c.loop-i-test.true c.entry-s.ensures
-      (sym c.is_new.ensures ∙ not-true _ c.if-not-is_new.true-raw),
+      (sym c.is_new.ensures ∙ c.if-not-is_new.true),
 )
 
 pub returns-then-m-j : goal.returns-then-m-j
 returns-then-m-j c = refused_room c.loop-i.invariant.2 c.loop-i-test.true c.entry-s.ensures
-    (sym c.is_new.ensures ∙ not-false _ c.if-not-is_new.false-raw) c.if-m-j.true
+    (sym c.is_new.ensures ∙ c.if-not-is_new.false) c.if-m-j.true
 
 pub returns-then-entry-s : goal.returns-then-entry-s
 returns-then-entry-s c = refused_other c.loop-i.invariant.2 c.loop-i-test.true c.entry-s.ensures
-    (sym c.is_new.ensures ∙ not-false _ c.if-not-is_new.false-raw) (omega (arith, c.if-m-j.false))
+    (sym c.is_new.ensures ∙ c.if-not-is_new.false) (omega (arith, c.if-m-j.false))
     (λ e. c.if-entry-s.true (c.entry.ensures ∙ e))
 
 pub loop-i-preserved : goal.loop-i-preserved
@@ -27,7 +26,7 @@ loop-i-preserved c = (
   omega arith,
   omega arith,
   goes_new c.loop-i.invariant.2 c.loop-i-test.true c.entry-s.ensures
-      (sym c.is_new.ensures ∙ not-false _ c.if-not-is_new.false-raw) (omega (arith, c.if-m-j.false))
+      (sym c.is_new.ensures ∙ c.if-not-is_new.false) (omega (arith, c.if-m-j.false))
       (sym c.entry.ensures ∙ c.if-entry-s.false),
 )
 
