@@ -26,7 +26,8 @@ use Rattle.promises.specs.Numbered.{numbered}
 use Rattle.meet_books.specs.declared.Met.{Met}
 use Rattle.meet_books.specs.Promises.{meet_trials, Found as MeetsAt}
 use Rattle.chart.specs.Promises.{plain_mark}
-use Rattle.vouchers.specs.Span.{due, only_due}
+use Rattle.vouchers.specs.Span.{due}
+use Rattle.vouchers.proofs.Span.{only_due}
 use Rattle.reading.specs.Promises.{piece_of as handed_of, listed_at, root_pieces, PlaceOf, at_piece, past_last, Before}
 use Rattle.reading.specs.PartReading.{none_past, listed_is}
 use Rattle.answers.specs.Promises.{refusal, update_number, found_number, listed_number, reported_number, meet_number, mark_number, place_number}

@@ -24,11 +24,11 @@ use Rattle.form.specs.Form.{Book}
 use Rattle.form.specs.Frames.{whole_standing}
 use Rattle.table.specs.PartTrees.{low, part_ref}
 use Rattle.query.specs.Lookup.{lookup, walk_leaf, LeafAt, leaf_mem}
-use Rattle.query.specs.Answer.{second_leaf}
+use Rattle.query.proofs.Answer.{second_leaf}
 use Rattle.query.specs.QueriedPieces.{Pieces, price_kept}
 use Rattle.query.specs.Readings.{price_in}
 use Rattle.query.specs.Descent.{Descended, Finds}
-use Rattle.query.specs.Plain.{lookup_plain}
+use Rattle.query.proofs.Plain.{lookup_plain}
 use Rattle.promises.specs.declared.Found.{Found}
 use Rattle.promises.specs.declared.Found.TheVariants.{Offer, Declined}
 use Rattle.plain.specs.Book.{no_book_at}

@@ -10,7 +10,7 @@ use Rattle.offers.specs.Sizes.{rate_of_lem, rate_size}
 use Rattle.plain.specs.Book.{State, envelope}
 use Rattle.plain.specs.Sound.{Sound}
 use Rattle.plain.proofs.ListingLaws.{envelope_sub, envelope_falls}
-use Rattle.marks.specs.QuotientLaws.{doubled, quotient_is}
+use Rattle.marks.proofs.QuotientLaws.{doubled, quotient_is}
 use Rattle.marks.specs.Crossings.{scaled_price, load_divisible, price_divisible}
 use Rattle.chart.specs.Promises.{ExactEnd, ExactCrossing, Exact}
 

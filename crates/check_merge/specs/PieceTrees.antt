@@ -38,6 +38,7 @@ abbrev pub AllKnown : Words → List ℕ → Type 0
 AllKnown w ss = (s : ℕ) → Memᴰ s ss → Known w s
 
 pub known_placed : {w : Words} (ss : List ℕ) → AllKnown w ss → AllPlaced w (items_at w ss)
+known_placed {w = w} mathlib.Core.List.[] h a x'' = elim x'' [ ]
 known_placed (s ∷ ss) h a (Memᴰ.head e) = subst (Placed _) (sym e) (placed_at (h s (Memᴰ.head refl)).low (h s (Memᴰ.head refl)).high)
 known_placed (s ∷ ss) h a (Memᴰ.tail m) = known_placed ss (λ t i. h t (Memᴰ.tail i)) a m
 

@@ -69,6 +69,7 @@ module _ {w : Words} {x : ℕ} {t : Tree Item} (s : Stands w x t) where
 
   -- slots whose items are among the leaves
   pub stands_known : (ss : List ℕ) → ((a : Item) → Memᴰ a (items_at w ss) → Memᴰ a (leaves t)) → AllKnown w ss
+  stands_known mathlib.Core.List.[] f m x3 = elim x3 [ ]
   stands_known (n ∷ ss) f m (mathlib.Core.List.Memᴰ.head e) =
       let i : Memᴰ (item_at w n) (leaves t) = f (item_at w n) (mathlib.Core.List.Memᴰ.head refl) in
       rw e (record {

@@ -265,7 +265,7 @@ module _
         free =
             record {
               free = others;
-              first_free_lem = first_free';
+              first_free = first_free';
               free_chain = free_agree free_kept free.chain;
               free_apart = free.apart;
               slots_used = omega (arith, free.count, more, free_kept.room);

@@ -12,7 +12,7 @@ use Rattle.below.specs.Below.{below, Limit}
 use Rattle.table.specs.Items.{Item}
 use Rattle.pieces.specs.Pieces.{rate_of, base_of, items}
 use Rattle.query.specs.Lookup.{lookup}
-use Rattle.query.specs.Answer.{lookup_last}
+use Rattle.query.proofs.Answer.{lookup_last}
 
 abbrev pub seek_at : ℤ → Tree Item → Item
 seek_at q t = (lookup q t).item

@@ -3,8 +3,6 @@
 pub mod Rounding
 -- statement: a mark's numbers: integers as doubles, exactly, and quotients of them, each rounded once
 pub mod Quotient
--- ways through the code: quotients of integers that are exact as doubles are at most half a unit off, and zero gives +0
-pub mod QuotientLaws
 -- statement: what a chart mark tells: the number and the values of each case
 pub mod MarkTold
 -- statement and lemmas: the numbers of a crossing are exact as doubles: so each of its quotients is at most half a unit off

@@ -71,7 +71,7 @@ ongoing_start w root q =
     }
 
 -- to a child
-step_to : {w : Words} {q : ℤ} {t : Tree Item} {x y second second' probes : ℕ} (s : Tree Item) (kept : Option Item) (b : Below w q t x second probes) →
+pub step_to : {w : Words} {q : ℤ} {t : Tree Item} {x y second second' probes : ℕ} (s : Tree Item) (kept : Option Item) (b : Below w q t x second probes) →
     walk q b.kept b.tree ≡ deeper (walk q kept s) → height s < height b.tree → Pieces w y s → Mind kept second' →
     Below w q t y second' (probes + 1)
 step_to s kept b k h p m =
@@ -116,11 +116,11 @@ ongoing_step {w} {root} {x} {y} {kept} {second} {probes} {q} g d (e, k) = record
 -- ---- at a leaf
 
 -- its slot is told where nothing is kept in mind
-kept_else_lem : {kept : Option Item} {second : ℕ} (a : Item) → Mind kept second → kept_else second a.slot ≡ (kept_or kept a).slot
+pub kept_else_lem : {kept : Option Item} {second : ℕ} (a : Item) → Mind kept second → kept_else second a.slot ≡ (kept_or kept a).slot
 kept_else_lem a nothing = refl
 kept_else_lem a (item {n = n} e h) = rw (le-ltb n 1 h) e
 
-at_end : {w : Words} {q : ℤ} {t : Tree Item} {x second probes : ℕ} (a : Item) (b : Below w q t x second probes) → b.tree ≡ leaf a → x ≡ a.slot →
+pub at_end : {w : Words} {q : ℤ} {t : Tree Item} {x second probes : ℕ} (a : Item) (b : Below w q t x second probes) → b.tree ≡ leaf a → x ≡ a.slot →
     Finds q t x (kept_else second x) probes
 unfolding walk
 at_end {q} {second = second} a b s e =
@@ -134,15 +134,6 @@ pub ongoing_leaf : {w : Words} {root x second probes : ℕ} {q : ℤ} → Ongoin
     Descended w root q x (kept_else second x) probes
 ongoing_leaf {q} g d =
     record { finds = λ t p k h. let b = g.below t p h in let (a, s, e) = at_leaf b.pieces d in at_end a b s e }
-
--- no node of a tree of pieces is without a child on the load's side
-pub ongoing_off : {w : Words} {root x second probes : ℕ} {q : ℤ} → Ongoing w root q x second probes → most_slots < x → 0 ≡ toward_at w x q →
-    (slot other found : ℕ) → Descended w root q slot other found
-ongoing_off g d e slot other found =
-    record {
-      finds = λ t p k h. let b = (ongoing_step g d (e, refl)).below t p h in
-          absurd (omega (arith, b.pieces.rep.root, ref_low b.tree b.pieces.rep.slots));
-    }
 
 -- a tree at most most_levels high has a leaf after most_levels probes
 pub ongoing_limit : {w : Words} {root x second probes : ℕ} {q : ℤ} → Ongoing w root q x second probes → most_slots < x → most_levels ≤ probes →

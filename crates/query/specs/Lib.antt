@@ -1,8 +1,6 @@
 -- Queries: what a walk down the pieces' tree finds, and that it is the plain book's.
 -- statement and lemmas: a query on a tree of pieces: from the root to a leaf, to the load's side of each crossing; at one to the right, the piece before it kept in mind
 pub mod Lookup
--- lemmas: of the cheapest of all lines the item named first is the last in order, and the second one the first
-pub mod Answer
 -- lemmas: what a tree of pieces tells is what the plain book answers
 pub mod Plain
 -- ways through the code: what the code reads of a part, whatever its words are: numbers are brought into the ranges that pieces keep, so that no product wraps

@@ -25,7 +25,6 @@ use Rattle.table.specs.Items.{Item}
 pub use Rattle.table.specs.Items.{offer_of}
 use Rattle.pieces.specs.Pieces.{rate_of, base_of, items, item_laws_lem}
 use Rattle.query.specs.Lookup.{lookup}
-use Rattle.query.specs.Answer.{lookup_first, lookup_last}
 
 -- ---- a query
 
@@ -33,7 +32,7 @@ use Rattle.query.specs.Answer.{lookup_first, lookup_last}
 module _ {tie : ℤ → ℤ → Bool} {ls : List Item} {z : Item} {q : ℤ} (one_of : Memᴰ z ls)
     (least : (c : Item) → Memᴰ c ls → T (items.at_most z c (whole q)))
     (best : (c : Item) → Memᴰ c ls → T (tie c.offer.rate z.offer.rate) → ¬ T (items.at_most c z (whole q))) where
-  not_first : (c : Item) → Memᴰ c ls → NotFirst tie q c.offer z.offer
+  pub not_first : (c : Item) → Memᴰ c ls → NotFirst tie q c.offer z.offer
   not_first c i =
       record {
         least = subst T (whole_price Item rate_of base_of z c q) (least c i);
@@ -41,43 +40,12 @@ module _ {tie : ℤ → ℤ → Bool} {ls : List Item} {z : Item} {q : ℤ} (one
             (λ t. best c i t (subst T (sym (whole_price Item rate_of base_of c z q)) (omega (arith, int_rules))));
       }
 
-  names_it : Names tie q (map offer_of ls) z.offer
+  pub names_it : Names tie q (map offer_of ls) z.offer
   names_it =
       record {
         live = Memᴰ.map offer_of one_of;
         none_first = λ x m. let (c, i, e) = Memᴰ.of_map offer_of ls m in subst (λ (o : Offer). NotFirst tie q o z.offer) e (not_first c i);
       }
-
--- The lines hold the first offer of each rate; who is named among those is named among all.
-pub lookup_plain : {ls : List Item} (t : Tree Item) (s : State) (q : ℤ) → Sound s → map offer_of ls ≡ first_of_each s.offers → Env items ls (leaves t) →
-    T (load_in_range q) → (step s (query q)).answer ≡
-    found (lookup q t).item.offer.number (price_at (lookup q t).item.offer q) (lookup q t).second.offer.number
-lookup_plain {ls} t s q h e E r = go s.offers e h.ordered
-  where
-    z : Offer
-    z = (lookup q t).item.offer
-
-    y : Offer
-    y = (lookup q t).second.offer
-
-    names : Names lower q (map offer_of ls) z
-    names = let f = lookup_last t E q in names_it f.one_of f.least f.earlier
-
-    seconds : Names higher q (map offer_of ls) y
-    seconds = let f = lookup_first t E q in names_it f.one_of f.least f.earlier
-
-    same : {tie : ℤ → ℤ → Bool} {a o : Offer} {os : List Offer} → RateOrder tie → Names tie q (map offer_of ls) a → map offer_of ls ≡ first_of_each (o ∷ os) →
-        Pairwise (λ a b. T (ahead a b)) (o ∷ os) → cheapest tie q o os ≡ a
-    same {tie} {a} {o} {os} k n d p =
-        sym (named_first k q (pairs_standing Offer self p) (subst (λ xs. Names tie q xs a) d n) (cheapest_names k q o os) (cheapest_earliest k q o os))
-
-    go : (os : List Offer) → map offer_of ls ≡ first_of_each os → Pairwise (λ a b. T (ahead a b)) os →
-        (step (holding s os) (query q)).answer ≡ found z.number (price_at z q) y.number
-    go [] d p = absurd (Memᴰ.not-nil (subst (Memᴰ z) d names.live))
-    go (o ∷ os) d p =
-        rw (is_true (load_in_range q) r, lt-leb (length (o ∷ os)) 0 (omega arith))
-        (ap (λ (x : Offer). found x.number (price_at x q) (cheapest higher q o os).number) (same lower_tie names d p)
-        ∙ ap (λ (x : Offer). found z.number (price_at z q) x.number) (same higher_tie seconds d p))
 
 -- ---- a listing
 
@@ -88,10 +56,10 @@ pieces_plain ls es os same o E =
     ∙ sym (envelope_listed os)
 
 module _ {ls es : List Item} (s : State) (same : map offer_of ls ≡ first_of_each s.offers) (o : Ordered items ls) (E : Env items ls es) where
-  shown : envelope s.offers ≡ map offer_of es
+  pub shown : envelope s.offers ≡ map offer_of es
   shown = sym (pieces_plain ls es s.offers same o E)
 
-  count_is : length (envelope s.offers) ≡ length es
+  pub count_is : length (envelope s.offers) ≡ length es
   count_is = ap length shown ∙ length-map es offer_of
 
   pub listing_plain : (room : ℕ) → 3 * length es ≤ room → (step s (listing room)).answer ≡ listed (length es) (piece_words (map offer_of es))

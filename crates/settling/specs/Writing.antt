@@ -19,7 +19,7 @@ use Rattle.table.proofs.LayoutLaws.{cset_other}
 use Rattle.table.specs.Free.{first_free, taken, given, free_link}
 use Rattle.table.specs.Items.{Item, In, at}
 use Rattle.table.specs.Threads.{Holds}
-use Rattle.form.specs.Form.{Book, FreeChain, free_more, head0}
+use Rattle.form.specs.Form.{Book, FreeChain, free_none, free_more, head0}
 use Rattle.form.specs.Roots.{envelope_root, offers_root}
 use Rattle.settling.specs.Agree.{Agree, Everywhere, Elsewhere, agree_trans, agree_less, agree_header, agree_cset, header_set}
 use Rattle.levels.specs.declared.Held.{Held as InHand}
@@ -227,7 +227,7 @@ free_not_live {w} {live} {s} chain holds m (at {a} i e) = go chain m
         zero {n} p q t = omega (arith, int_rules, range_low (pos 1) n (pos 9_999) t)
 
     go : {ss : List ℕ} → FreeChain w ss → Memᴰ s ss → ⊥
-    go Rattle.form.specs.Form.free_none x4 = elim x4 [ ]
+    go free_none m = elim m [ ]
     go (free_more low high zero next more) (Memᴰ.head d) = never (ap (cell w number_field) (sym e ∙ d) ∙ zero)
     go (free_more low high zero next more) (Memᴰ.tail n) = go more n
 

@@ -26,10 +26,10 @@ voucher_units (pos n) = pos (nearest_unit n)
 voucher_units (negsuc n) = neg_ℤ (pos (nearest_unit (suc n)))
 
 -- at most 50 off, and where odd at most 49
-abbrev Near : ℕ → ℕ → Type 0
+abbrev pub Near : ℕ → ℕ → Type 0
 Near n m = (100 * m - n) + (n - 100 * m) + m % 2 ≤ 50
 
-near : (n : ℕ) → Near n (nearest_unit n)
+pub near : (n : ℕ) → Near n (nearest_unit n)
 near n = go (ℕ_discrete (nearest_unit n) (n / 100))
   where
     next : (q m : ℕ) → m ≡ q + 1 → m % 2 + q % 2 ≡ 1
@@ -48,7 +48,7 @@ rounded (negsuc n) =
 -- ---- no other units are so
 
 -- of two that differ both are 50 off, and one is odd
-apart : (p u v : ℤ) → Rounded p u → Rounded p v → pos_part u + neg_part v < pos_part v + neg_part u → ⊥
+pub apart : (p u v : ℤ) → Rounded p u → Rounded p v → pos_part u + neg_part v < pos_part v + neg_part u → ⊥
 apart p u v r s l =
     let x = off_is p u in
     let y = off_is p v in
@@ -56,9 +56,6 @@ apart p u v r s l =
     let a : nat_abs u % 2 ≡ 0 = r.half (omega arith) in
     let b : nat_abs v % 2 ≡ 0 = s.half (omega arith) in
     omega (arith, nat_abs_parts u, nat_abs_parts v)
-
-pub only_rounded : (p u v : ℤ) → Rounded p u → Rounded p v → u ≡ v
-only_rounded p u v r s = parts_eq u v (omega (arith, lt_of_not-le (apart p u v r s), lt_of_not-le (apart p v u s r)))
 
 -- any others are 50 cents off or more, so none are nearer
 pub others_off : (p u v : ℤ) → Rounded p u → u ≢ v → 50 ≤ off p v

@@ -8,7 +8,7 @@ use Rattle.offers.specs.Offers.{price_in_range}
 use Rattle.plain.specs.Causes.{Cause, declined, price_out_of_range, FirstOf, Clear}
 use Rattle.plain.specs.Trials.{clear, not_declined, declined_by, declined_first}
 use Rattle.vouchers.specs.Rule.{Rounded}
-use Rattle.vouchers.specs.RuleLaws.{voucher_units, rounded, only_rounded}
+use Rattle.vouchers.specs.RuleLaws.{voucher_units, rounded}
 use Rattle.vouchers.specs.declared.Voucher.{Voucher}
 use Rattle.vouchers.specs.VoucherTold.{Told, in_units, refusal, told, voucher_trials, Vouches}
 
@@ -21,13 +21,6 @@ respond price (some c) = refusal c
 abbrev pub due : ℤ → Told
 due price = respond price (declined (voucher_trials price))
 
-pub only_due : (p : ℤ) (v : Voucher) → Vouches p v → told v ≡ due p
-only_due p v w = go (declined (voucher_trials p)) (clear (voucher_trials p)) (declined_first (voucher_trials p))
-  where
-    go : (d : Option Cause) → (d ≡ none → Clear (voucher_trials p)) → ((z : Cause) → d ≡ some z → FirstOf (voucher_trials p) z) → told v ≡ respond p d
-    go none c f = let a = w.accepted (c refl) in a.1 ∙ ap in_units (only_rounded p a.0 (voucher_units p) a.2 (rounded p))
-    go (some z) c f = w.declined z (f z refl)
-
 pub vouches_due : (p : ℤ) (v : Voucher) → told v ≡ due p → Vouches p v
 vouches_due p v e = record {
   declined = λ z f. e ∙ ap (respond p) (declined_by (voucher_trials p) z f);
@@ -36,18 +29,15 @@ vouches_due p v e = record {
 
 -- ---- the ends of the span, as the code has them
 
-abbrev least : ℤ
+abbrev pub least : ℤ
 least = negsuc 100_999_999_999
 
-abbrev most : ℤ
+abbrev pub most : ℤ
 most = pos 101_000_000_000
 
 module _ (p : ℤ) where
-  decided : {b : Bool} → price_in_range p ≡ b → due p ≡ respond p (cond (not b) (some price_out_of_range) none)
+  pub decided : {b : Bool} → price_in_range p ≡ b → due p ≡ respond p (cond (not b) (some price_out_of_range) none)
   decided e = ap (λ (b : Bool). respond p (cond (not b) (some price_out_of_range) none)) e
-
-  pub due_inside : {u : ℤ} → Rounded p u → lt_z p least ≡ false → lt_z most p ≡ false → due p ≡ in_units u
-  due_inside {u} r h k = decided (in_range_lem least most p h k) ∙ ap in_units (only_rounded p (voucher_units p) u (rounded p) r)
 
   pub due_below : lt_z p least ≡ true → due p ≡ record { number = pos 4; values = [] }
   due_below h = decided (too_low least most p h)
@@ -57,7 +47,7 @@ module _ (p : ℤ) where
 
 -- ---- the requirements' examples (11)
 
-abbrev minus : ℕ → ℤ
+abbrev pub minus : ℕ → ℤ
 minus n = neg_ℤ (pos n)
 
 pub halves : map due (pos 50 ∷ pos 150 ∷ pos 250 ∷ minus 50 ∷ minus 150 ∷ minus 250 ∷ [])

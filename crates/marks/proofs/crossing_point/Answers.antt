@@ -7,7 +7,7 @@ use mir.Val.{SFits, to_z, of_z}
 use mir.ValLaws.{to_z-of_z}
 use borrow.Author.Rules.{rules}
 use Rattle.marks.specs.Quotient.{double, Doubled, Quotient}
-use Rattle.marks.specs.QuotientLaws.{quotient_is}
+use Rattle.marks.proofs.QuotientLaws.{quotient_is}
 use Rattle.marks.proofs.crossing_point.Goals as goal
 
 -- `marks::crossing_point` meets its contract: each double is divided as `quotient` has it.

@@ -6,7 +6,7 @@ use lib.Ieee.{Float, binary64, of_bits, of_int}
 use mir.Syntax.{w64}
 use mir.ValLaws.{to_z-of_z}
 use Rattle.marks.specs.Quotient.{plus_zero, double, Doubled}
-use Rattle.marks.specs.QuotientLaws.{doubled, double_is, cast_asks, is_exact, zero_below, zero_above}
+use Rattle.marks.proofs.QuotientLaws.{doubled, double_is, cast_asks, is_exact, zero_below, zero_above}
 use Rattle.marks.proofs.to_double.Goals as goal
 
 -- `marks::to_double` meets its contract: between the two tests the cast loses nothing, and outside them 0 is written.

@@ -1,6 +1,7 @@
 -- `query::descend` meets its contract. The loop's invariant: from x on, the walk goes on as from the root.
 use mir.Facts.{to_z-of_z}
-use Rattle.query.specs.Descent.{no_slots, ongoing_start, ongoing_step, ongoing_leaf, ongoing_off, ongoing_limit}
+use Rattle.query.specs.Descent.{no_slots, ongoing_start, ongoing_step, ongoing_leaf, ongoing_limit}
+use Rattle.query.proofs.Descent.{ongoing_off}
 use Rattle.query.proofs.descend.Goals as goal
 
 pub returns-then-c-lt1 : goal.returns-then-c-lt1

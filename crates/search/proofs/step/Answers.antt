@@ -9,9 +9,13 @@ pub returns-then-m : goal.returns-then-m
 returns-then-m c =
     let s = c.args.s in
     let nu : Noted s.us s.ud s.u c.if-ud-lt-STACK.us = elim c.if-ud-lt-STACK.branch [
-      then-ud-lt-STACK w ↦ noted_by w.if-ud-lt-STACK.true w.us-is | else-ud-lt-STACK w ↦ full_by w.if-ud-lt-STACK.false w.us-is ] in
+      | then-ud-lt-STACK w ↦ noted_by w.if-ud-lt-STACK.true w.us-is
+      | else-ud-lt-STACK w ↦ full_by w.if-ud-lt-STACK.false w.us-is
+    ] in
     let nv : Noted s.vs s.vd s.v c.if-vd-lt-STACK.vs = elim c.if-vd-lt-STACK.branch [
-      then-vd-lt-STACK w ↦ noted_by w.if-vd-lt-STACK.true w.vs-is | else-vd-lt-STACK w ↦ full_by w.if-vd-lt-STACK.false w.vs-is ] in
+      | then-vd-lt-STACK w ↦ noted_by w.if-vd-lt-STACK.true w.vs-is
+      | else-vd-lt-STACK w ↦ full_by w.if-vd-lt-STACK.false w.vs-is
+    ] in
     let tu = noted_top {h = u_of s} nu refl in
     let tv = noted_top {h = v_of s} nv refl in
     let stay = c.choose-m.ensures.stays c.if-m.true in
@@ -22,9 +26,13 @@ pub returns : goal.returns
 returns c =
     let s = c.args.s in
     let nu : Noted s.us s.ud s.u c.if-ud-lt-STACK.us = elim c.if-ud-lt-STACK.branch [
-      then-ud-lt-STACK w ↦ noted_by w.if-ud-lt-STACK.true w.us-is | else-ud-lt-STACK w ↦ full_by w.if-ud-lt-STACK.false w.us-is ] in
+      | then-ud-lt-STACK w ↦ noted_by w.if-ud-lt-STACK.true w.us-is
+      | else-ud-lt-STACK w ↦ full_by w.if-ud-lt-STACK.false w.us-is
+    ] in
     let nv : Noted s.vs s.vd s.v c.if-vd-lt-STACK.vs = elim c.if-vd-lt-STACK.branch [
-      then-vd-lt-STACK w ↦ noted_by w.if-vd-lt-STACK.true w.vs-is | else-vd-lt-STACK w ↦ full_by w.if-vd-lt-STACK.false w.vs-is ] in
+      | then-vd-lt-STACK w ↦ noted_by w.if-vd-lt-STACK.true w.vs-is
+      | else-vd-lt-STACK w ↦ full_by w.if-vd-lt-STACK.false w.vs-is
+    ] in
     let tu = noted_top {h = u_of s} nu refl in
     let tv = noted_top {h = v_of s} nv refl in
     c.choose-m.ensures.next s.us s.ud s.vs s.vd s.done tu tv _ (sym c.if-m.false)

@@ -26,8 +26,9 @@ returns-then-rest-enough c =
     let below = below_fits p f in
     let e = to_z w64 c.if-units-eq0.enough-bits in
     let enough : Enough q e = elim c.if-units-eq0.branch [
-      then-units-eq0 w ↦ subst (λ z. Enough q z) (sym w.enough-is) (omega (arith, even q (simp (to_z-of_z, f, units) at w.if-units-eq0.true)))
-      | else-units-eq0 w ↦ subst (λ z. Enough q z) (sym w.enough-is) (omega (arith, odd q (simp (to_z-of_z, f, units) at w.if-units-eq0.false))) ] in
+      | then-units-eq0 w ↦ subst (λ z. Enough q z) (sym w.enough-is) (omega (arith, even q (simp (to_z-of_z, f, units) at w.if-units-eq0.true)))
+      | else-units-eq0 w ↦ subst (λ z. Enough q z) (sym w.enough-is) (omega (arith, odd q (simp (to_z-of_z, f, units) at w.if-units-eq0.false)))
+    ] in
     let minus = fits (pos 0 -ℤ e) (omega (arith, nat_abs_sub (pos 0) e, nat_abs_parts e)) in
     let t = simp (to_z-of_z, f, rest, minus) at c.if-rest-enough.true in
     simp (to_z-of_z, f, units, below) (further_down (cut p) enough (omega (arith, int_rules, t, sub_parts (pos 0) e)))
@@ -41,8 +42,9 @@ returns c =
     let rest = rest_fits p in
     let e = to_z w64 c.if-units-eq0.enough-bits in
     let enough : Enough q e = elim c.if-units-eq0.branch [
-      then-units-eq0 w ↦ subst (λ z. Enough q z) (sym w.enough-is) (omega (arith, even q (simp (to_z-of_z, f, units) at w.if-units-eq0.true)))
-      | else-units-eq0 w ↦ subst (λ z. Enough q z) (sym w.enough-is) (omega (arith, odd q (simp (to_z-of_z, f, units) at w.if-units-eq0.false))) ] in
+      | then-units-eq0 w ↦ subst (λ z. Enough q z) (sym w.enough-is) (omega (arith, even q (simp (to_z-of_z, f, units) at w.if-units-eq0.true)))
+      | else-units-eq0 w ↦ subst (λ z. Enough q z) (sym w.enough-is) (omega (arith, odd q (simp (to_z-of_z, f, units) at w.if-units-eq0.false)))
+    ] in
     let minus = fits (pos 0 -ℤ e) (omega (arith, nat_abs_sub (pos 0) e, nat_abs_parts e)) in
     let t = simp (to_z-of_z, f, rest) at c.if-enough-rest.false in
     let z = simp (to_z-of_z, f, rest, minus) at c.if-rest-enough.false in
