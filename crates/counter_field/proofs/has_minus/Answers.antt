@@ -1,9 +1,5 @@
 -- `counter_field::has_minus` meets its contract. The loop's invariant: no minus was passed.
-use mathlib.Core.Path.{refl}
-use Prim.Native.Nat.{◌-◌}
-use native.Mathlib.Omega.{arith}
-use lib.ListN.{length}
-use Rattle.counter_field.specs.Values.{NoMinusTo, minus_found, minus_more, minus_never}
+use Rattle.counter_field.specs.Values.{minus_found, minus_more, minus_never}
 use Rattle.counter_field.proofs.has_minus.Goals as goal
 
 pub returns-then-text-at-eq45 : goal.returns-then-text-at-eq45

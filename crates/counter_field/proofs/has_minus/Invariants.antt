@@ -1,8 +1,7 @@
 -- `counter_field::has_minus` meets its contract. The loop's invariant: no minus was passed.
-use mathlib.Core.Path.{refl}
 use Prim.Native.Nat.{◌-◌}
 use lib.ListN.{length}
-use Rattle.counter_field.specs.Values.{NoMinusTo, minus_found, minus_more, minus_never}
+use Rattle.counter_field.specs.Values.{NoMinusTo}
 use Rattle.counter_field.proofs.has_minus.Given as goal
 
 abbrev pub invariant-loop-at : goal.invariant-loop-at

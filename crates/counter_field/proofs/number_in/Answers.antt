@@ -6,7 +6,6 @@ use lib.IntN.{pos, neg_ℤ, ◌-ℤ◌, +ℤ_idl}
 use mir.Facts.{to_z-of_z, to_z_pos}
 use mir.Syntax.{w64}
 use mir.Val.{SFits, to_z}
-use borrow.Author.Rules.{rules}
 use Rattle.counter_field.specs.Values.{told_minus, told_plain}
 use Rattle.counter_field.proofs.number_in.Goals as goal
 

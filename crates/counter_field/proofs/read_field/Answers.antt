@@ -2,11 +2,9 @@
 use mathlib.Core.Path.{◌∙◌, sym}
 use mathlib.Core.Bool.{true≢false}
 use native.Mathlib.Omega.{arith}
-use lib.ListN.{length-append, length-take}
 use mir.Facts.{to_z-of_z}
 use mir.Syntax.{w64}
 use Rattle.std.proofs.Common.{FitsSigned}
-use borrow.Author.Rules.{rules}
 use Rattle.counter_field.specs.Reading.{holds_none, candidate, held}
 use Rattle.counter_field.proofs.read_field.Goals as goal
 
@@ -17,7 +15,7 @@ pub returns-then-same : goal.returns-then-same
 returns-then-same c = let f : FitsSigned w64 c.number_in-number.result = record { sfits = c.number_in-number.type_inv } in
     simp (to_z-of_z, f)
     (c.same.ensures.0 c.if-same.true
-    ∙ candidate _ _ _ _ c.if-width-eq0.false (omega (arith, c.requires)) c.number_in-number.ensures c.justify.auto.0
+    ∙ candidate _ _ _ _ c.if-width-eq0.false (omega (arith, c.requires)) c.number_in-number.ensures c.justify.auto.column
     (simp (to_z-of_z, f) at c.justify.ensures))
 
 pub returns : goal.returns
@@ -28,5 +26,5 @@ returns c z h = let f : FitsSigned w64 c.number_in-number.result =
       arith,
       c.requires,
     ))
-    c.number_in-number.ensures c.justify.auto.0
+    c.number_in-number.ensures c.justify.auto.column
     (simp (to_z-of_z, f) at c.justify.ensures) z h)) ∙ c.if-same.false))

@@ -1,8 +1,5 @@
 -- `counter_field::value_in` meets its contract. The loop's invariant: the bytes passed say the value, which has no more digits than those.
-use Prim.Native.Nat.{◌-◌}
-use native.Mathlib.Omega.{arith}
-use lib.ListN.{length}
-use Rattle.counter_field.specs.Values.{ReadTo, read_none, read_more, read_all, read_small}
+use Rattle.counter_field.specs.Values.{read_more, read_all, read_small}
 use Rattle.counter_field.proofs.value_in.Goals as goal
 
 pub with_byte-value-requires : goal.with_byte-value-requires

@@ -1,7 +1,7 @@
 -- `counter_field::value_in` meets its contract. The loop's invariant: the bytes passed say the value, which has no more digits than those.
 use Prim.Native.Nat.{◌-◌}
 use lib.ListN.{length}
-use Rattle.counter_field.specs.Values.{ReadTo, read_none, read_more, read_all, read_small}
+use Rattle.counter_field.specs.Values.{ReadTo}
 use Rattle.counter_field.proofs.value_in.Given as goal
 
 abbrev pub invariant-loop-at : goal.invariant-loop-at
