@@ -10,7 +10,7 @@ use Rattle.table.specs.Fields.{order_tree}
 use Rattle.table.specs.Words.{Words}
 use Rattle.table.specs.Layout.{link_at}
 use Rattle.table.specs.Items.{Item, slot_of}
-use Rattle.table.specs.Rep.{child_field, Rep, Inner, of_root, of_left, of_right, inner_last}
+use Rattle.table.specs.Rep.{child_field, child_at, Rep, Inner, of_root, of_left, of_right, inner_last}
 use Rattle.table.specs.Nodes.{parents}
 use Rattle.table.specs.PartTrees.{RepP, rep_some}
 use Rattle.descents.specs.Ends.{Ended, down}
@@ -53,7 +53,8 @@ pub neighbour :
     Neighbour w k t a b
 neighbour (leaf c) h v front a b post e = absurd (omega (arith, ap length e, length-append front (a ∷ b ∷ post)))
 neighbour {w} {k} {x} (node l r) h (avl_node vl vr g d) front a b post e =
-    go (between (leaves l) (leaves r) front a b post e) (neighbour l (down false h refl) vl front a b) (λ f. neighbour r (down true h refl) vr f a b post)
+    go (between (leaves l) (leaves r) front a b post e) (neighbour {x = child_at w k false x} l (down false h refl) vl front a b)
+    (λ f. neighbour {x = child_at w k true x} r (down true h refl) vr f a b post)
   where
     on_left : Neighbour w k l a b → Neighbour w k (node l r) a b
     on_left n = record { right = n.right; rep = n.rep; balanced = n.balanced; begins = n.begins; kept = of_left n.kept }
