@@ -11,7 +11,7 @@ use Rattle.offers.specs.Offers.{Offer, crossing_numerator}
 use Rattle.plain.specs.Book.{State, envelope, piece_words, no_book_at}
 use Rattle.plain.specs.Causes.{Cause, FirstOf}
 use Rattle.plain.specs.Rules.{words_length}
-use Rattle.trees.specs.Tree.{Tree, leaves, first, last}
+use Rattle.trees.specs.Tree.{Tree, leaves, first}
 use Rattle.trees.specs.Leaves.{rest, leaves_first}
 use Rattle.trees.specs.Operations.{Part, part_leaves}
 use Rattle.dynamic.specs.OfferTree.{Held}
