@@ -22,12 +22,17 @@ piece_lines-requires c = let n : c.up_to-n.result ≤ 64 = rw c.up_to-n.ensures 
 
 pub slice_bounds-answer_line-count : goal.slice_bounds-answer_line-count
 slice_bounds-answer_line-count c = let n : c.up_to-n.result ≤ 64 = rw c.up_to-n.ensures (up_to_most 64 _) in
-    omega (arith, c.requires.0, c.piece_lines.auto.1.1.0)
+    omega (arith, c.requires.0, c.piece_lines.auto.out)
+
+pub slice_bounds-answer_line-start : goal.slice_bounds-answer_line-start
+slice_bounds-answer_line-start c =
+    let n : c.up_to-n.result ≤ 64 = rw c.up_to-n.ensures (up_to_most 64 _) in
+    omega (arith, c.requires.0, c.piece_lines.auto.out)
 
 pub answer_line-requires : goal.answer_line-requires
 answer_line-requires c = let n : c.up_to-n.result ≤ 64 = rw c.up_to-n.ensures (up_to_most 64 _) in
-    part_long c.piece_lines.new.1.1.0 (39 * c.up_to-n.result) 39
-    (omega (arith, c.requires.0, c.piece_lines.auto.1.1.0))
+    part_long c.piece_lines.new.out (39 * c.up_to-n.result) 39
+    (omega (arith, c.requires.0, c.piece_lines.auto.out))
 
 pub returns-in-Pieces : goal.returns-in-Pieces
 returns-in-Pieces c = let f : FitsSigned w64 c.in-Pieces.m = search rules in

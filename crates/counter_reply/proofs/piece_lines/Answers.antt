@@ -8,6 +8,6 @@ use Rattle.counter_reply.proofs.piece_lines.Goals as goal
 pub loop-i-preserved : goal.loop-i-preserved
 loop-i-preserved c = (
   pieces_more (omega (arith, c.requires.0, c.loop-i-test.true)) c.loop-i.invariant.0 c.piece_line.ensures
-      c.piece_line.auto.1.1.0,
+      c.piece_line.auto.out,
   omega (arith, c.loop-i-test.true),
 )
