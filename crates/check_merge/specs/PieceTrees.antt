@@ -1,7 +1,7 @@
 -- A piece tree over a stretch of slots: the ways through the code that looks for one.
 use Rattle.std.specs.Prelude.{◌≡◌, refl, Bool, true, false, ℕ, ◌+◌, ◌-◌, ◌≤◌, ◌<◌, eqb, length, get_or}
 use Rattle.std.proofs.Common.{sym, ◌∙◌, ap, subst, arith, eqb-true, eq-eqb}
-use mathlib.Core.List.{List, ◌∷◌, Memᴰ}
+use mathlib.Core.List.{List, [], ◌∷◌, Memᴰ}
 use Rattle.std.proofs.Math.Option.{none, some}
 use Rattle.lists.specs.Bools.{never}
 use Rattle.trees.specs.Tree.{Tree, leaf, node, leaves}
@@ -38,7 +38,7 @@ abbrev pub AllKnown : Words → List ℕ → Type 0
 AllKnown w ss = (s : ℕ) → Memᴰ s ss → Known w s
 
 pub known_placed : {w : Words} (ss : List ℕ) → AllKnown w ss → AllPlaced w (items_at w ss)
-known_placed {w = w} mathlib.Core.List.[] h a x'' = elim x'' [ ]
+known_placed [] h a m = elim m [ ]
 known_placed (s ∷ ss) h a (Memᴰ.head e) = subst (Placed _) (sym e) (placed_at (h s (Memᴰ.head refl)).low (h s (Memᴰ.head refl)).high)
 known_placed (s ∷ ss) h a (Memᴰ.tail m) = known_placed ss (λ t i. h t (Memᴰ.tail i)) a m
 

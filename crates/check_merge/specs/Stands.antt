@@ -2,7 +2,7 @@
 use Rattle.std.specs.Prelude.{◌≡◌, refl, true, false, ◌≢◌, ℕ, ◌-◌, T}
 use Rattle.std.proofs.Common.{sym, ◌∙◌, ap, subst, arith, le-ltb, lt-ltb}
 use mathlib.Core.HLevel.{¬_prop}
-use mathlib.Core.List.{List, ◌∷◌, Memᴰ, Pairwise}
+use mathlib.Core.List.{List, [], ◌∷◌, Memᴰ, Pairwise}
 use Rattle.lists.specs.Members.{pairs_cons}
 use Rattle.envelopes.specs.Envelope.{Ordered, ordered_nil, ordered_cons, Env}
 use Rattle.envelopes.specs.EnvelopeLaws.{ordered_left, ordered_right}
@@ -69,7 +69,7 @@ module _ {w : Words} {x : ℕ} {t : Tree Item} (s : Stands w x t) where
 
   -- slots whose items are among the leaves
   pub stands_known : (ss : List ℕ) → ((a : Item) → Memᴰ a (items_at w ss) → Memᴰ a (leaves t)) → AllKnown w ss
-  stands_known mathlib.Core.List.[] f m x3 = elim x3 [ ]
+  stands_known [] f n m = elim m [ ]
   stands_known (n ∷ ss) f m (mathlib.Core.List.Memᴰ.head e) =
       let i : Memᴰ (item_at w n) (leaves t) = f (item_at w n) (mathlib.Core.List.Memᴰ.head refl) in
       rw e (record {
