@@ -14,7 +14,6 @@ use Rattle.std.proofs.Common.{FitsSigned}
 use Rattle.chart.proofs.part_mark.Goals as goal
 use Rattle.chart.proofs.part_mark.Goals.{then-index-lt0-via-then-index-lt0, then-index-lt0-via-else-index-lt0+then-m-index}
 
--- `chart::part_mark` meets its contract: one lemma for each way out.
 first : {i : ℕ} → i < 1 → i ≡ 0
 first h = omega arith
 

@@ -9,7 +9,6 @@ use mir.Val.{SFits, to_z}
 use Rattle.counter_field.specs.Values.{told_minus, told_plain}
 use Rattle.counter_field.proofs.number_in.Goals as goal
 
--- `counter_field::number_in` meets its contract: by the sign.
 opposite : (v : ℕ) → v < 10 ^ 18 → SFits w64 (neg_ℤ (pos v))
 opposite zero h = omega arith
 opposite (suc v) h = omega arith

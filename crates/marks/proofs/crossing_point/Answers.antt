@@ -10,7 +10,6 @@ use Rattle.marks.specs.Quotient.{double, Doubled, Quotient}
 use Rattle.marks.proofs.QuotientLaws.{quotient_is}
 use Rattle.marks.proofs.crossing_point.Goals as goal
 
--- `marks::crossing_point` meets its contract: each double is divided as `quotient` has it.
 -- the machine reads an argument back from its bits, which changes nothing
 passed : (z : ℤ) (x : Float) → SFits w64 z → Doubled (to_z w64 (of_z w64 z)) x → x ≡ double z
 passed z x f h = h.is ∙ ap double (to_z-of_z w64 z f)

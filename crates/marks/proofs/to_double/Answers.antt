@@ -9,7 +9,6 @@ use Rattle.marks.specs.Quotient.{plus_zero, double, Doubled}
 use Rattle.marks.proofs.QuotientLaws.{doubled, double_is, cast_asks, is_exact, zero_below, zero_above}
 use Rattle.marks.proofs.to_double.Goals as goal
 
--- `marks::to_double` meets its contract: between the two tests the cast loses nothing, and outside them 0 is written.
 -- the literal 0.0
 written : of_bits binary64 0 ≡ plus_zero
 unfolding of_bits
