@@ -4,9 +4,8 @@ use native.Mathlib.Omega.{arith}
 use lib.IntN.{pos}
 use mir.Facts.{to_z-of_z, to_z_pos}
 use mir.Syntax.{w64}
-use mir.Val.{SFits, to_z}
+use mir.Val.{to_z}
 use Rattle.meet_books.specs.Searching.{searches}
-use borrow.Author.Rules.{rules}
 use Rattle.std.proofs.Common.{FitsSigned}
 use Rattle.meet_books.proofs.search_roots.Goals as goal
 

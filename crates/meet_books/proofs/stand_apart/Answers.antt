@@ -3,7 +3,6 @@ use mir.Facts.{to_z-of_z}
 use mir.Syntax.{w64}
 use Rattle.std.proofs.Common.{FitsSigned}
 use Rattle.meet_books.specs.Apart.{sets_apart}
-use borrow.Author.Rules.{rules}
 use Rattle.meet_books.proofs.stand_apart.Goals as goal
 
 pub returns : goal.returns
