@@ -15,13 +15,8 @@ use Rattle.dynamic.specs.Valid.{Valid, valid_single, valid_fork}
 use Rattle.dynamic.specs.Lower.{valid_env}
 use Rattle.below.specs.Least.{Least}
 use Rattle.below.specs.Children.{Seeks, left_of, right_of, Lesser}
+use Rattle.below.specs.Visits.{visits}
 use Rattle.below.proofs.Children.{children}
-
-module _ (S : Figure) (x : S.Point) (seek : Tree S.Line → S.Line) where
-  -- the nodes at which `below` looks, the root among them
-  unfoldable pub visits : (S.Line → Bool) → OfferTree S.Line → S.Line → ℕ
-  visits test (single a) e = 1
-  visits test (fork u v l ql qr r) e = cond (test e) (suc (visits test l (left_of S x seek u l ql e) + visits test r (right_of S x seek v l qr e))) 1
 
 -- two subtrees' bounds under one node, of which at least one line is reported
 two_bounds : (m n hl hr a b : ℕ) → 1 ≤ m + n → a ≤ m * (2 * suc hl) + 1 → b ≤ n * (2 * suc hr) + 1 → suc (a + b) ≤ (m + n) * (2 * suc (suc (max hl hr))) + 1

@@ -5,3 +5,5 @@ pub mod Least
 pub mod Children
 -- statement and lemmas: every line that passes a test on prices; a node whose cheapest line does not pass is left alone
 pub mod Below
+-- statement and lemmas: how many nodes are visited for that
+pub mod Visits
