@@ -1,7 +1,5 @@
 -- The answers of the calls for Rust and C.
 -- statement: what each function for Rust and C promises
 pub mod Promises
--- ways through the code: what the answers' functions do, case by case
-pub mod Answers
 -- lemmas: on tables that pass the check each number, and what goes with it, is the plain book's
 pub mod PlainNumbers

@@ -42,18 +42,18 @@ answer_number (found number price second) = number
 answer_number (listed n ws) = pos n
 answer_number (reported n ws) = pos n
 
-update_number_lem : (u : Update) (a : Answer) → a ≢ refused 0 → update_answer u ≡ a → update_number u ≡ answer_number a
+pub update_number_lem : (u : Update) (a : Answer) → a ≢ refused 0 → update_answer u ≡ a → update_number u ≡ answer_number a
 update_number_lem (Done (pos n) k s h) a d e = ap answer_number e
 update_number_lem (Done (negsuc n) k s h) a d e = absurd (d (sym e))
 update_number_lem (UpdateDeclined (pos n)) a d e = ap answer_number e
 update_number_lem (UpdateDeclined (negsuc n)) a d e = absurd (d (sym e))
 
-found_number_lem : (f : Found) (a : Answer) → a ≢ refused 0 → found_answer f ≡ a → found_number f ≡ answer_number a
+pub found_number_lem : (f : Found) (a : Answer) → a ≢ refused 0 → found_answer f ≡ a → found_number f ≡ answer_number a
 found_number_lem (Offer number price second probes) a d e = ap answer_number e
 found_number_lem (FoundDeclined (pos n)) a d e = ap answer_number e
 found_number_lem (FoundDeclined (negsuc n)) a d e = absurd (d (sym e))
 
-found_words_lem : (f : Found) (number price second : ℤ) → found_answer f ≡ found number price second →
+pub found_words_lem : (f : Found) (number price second : ℤ) → found_answer f ≡ found number price second →
     (probes : ℤ) × (found_of f ≡ price ∷ second ∷ probes ∷ [])
 found_words_lem (Offer m p o probes) number price second e =
     let a : p ≡ price = cc in
@@ -62,32 +62,19 @@ found_words_lem (Offer m p o probes) number price second e =
 found_words_lem (FoundDeclined (pos m)) number price second e = let z : ◌≡◌ {A = ℕ} 0 1 = cc in absurd (omega arith)
 found_words_lem (FoundDeclined (negsuc m)) number price second e = let z : ◌≡◌ {A = ℕ} 0 1 = cc in absurd (omega arith)
 
-listed_number_lem : (l : Listed) (out : List ℤ) (a : Answer) → a ≢ refused 0 → listing_answer l out ≡ a → listed_number l ≡ answer_number a
+pub listed_number_lem : (l : Listed) (out : List ℤ) (a : Answer) → a ≢ refused 0 → listing_answer l out ≡ a → listed_number l ≡ answer_number a
 listed_number_lem (Pieces (pos n)) out a d e = ap answer_number e
 listed_number_lem (Pieces (negsuc n)) out a d e = absurd (d (sym e))
 listed_number_lem (ListingDeclined (pos n)) out a d e = ap answer_number e
 listed_number_lem (ListingDeclined (negsuc n)) out a d e = absurd (d (sym e))
 
-reported_number_lem : (m : Reported) (out : List ℤ) (a : Answer) → a ≢ refused 0 → report_answer m out ≡ a → reported_number m ≡ answer_number a
+pub reported_number_lem : (m : Reported) (out : List ℤ) (a : Answer) → a ≢ refused 0 → report_answer m out ≡ a → reported_number m ≡ answer_number a
 reported_number_lem (Offers (pos n)) out a d e = ap answer_number e
 reported_number_lem (Offers (negsuc n)) out a d e = absurd (d (sym e))
 reported_number_lem (ReportDeclined (pos n)) out a d e = ap answer_number e
 reported_number_lem (ReportDeclined (negsuc n)) out a d e = absurd (d (sym e))
 
-pub updated_plainly :
-    {start : ℕ} {t : List ℤ} (plain : State) (held : Option (Held Item)) → Form (part_of t start) plain held → {k : Call} {t' counts counts' : List ℤ} {r : ℤ} →
-    Updated k start t t' counts counts' r → 3 ≤ length counts → r ≡ answer_number (step plain k).answer
-updated_plainly plain held form {k} p h =
-    let q = p.lent.long h in
-    q.2.number ∙ update_number_lem q.0 _ (numbered plain k) (q.1.follows plain held form).answers
-
 module _ {start : ℕ} {t : List ℤ} (plain : State) (held : Option (Held Item)) (book : Book (part_of t start) plain held) where
-  pub queried_plainly :
-      {load : ℤ} {found found' : List ℤ} {r : ℤ} → Queried load start t found found' r → 3 ≤ length found → r ≡ answer_number (step plain (query load)).answer
-  queried_plainly {load} p h =
-      let q = p.long h in
-      q.2.number ∙ found_number_lem q.0 _ (numbered plain (query load)) (q.1.answers plain held book)
-
   -- .. and the words: the price, the second offer's number and the probes, over the first three
   pub queried_words :
       {load number price second : ℤ} {out out' : List ℤ} {r : ℤ} → Queried load start t out out' r → 3 ≤ length out →
@@ -96,16 +83,6 @@ module _ {start : ℕ} {t : List ℤ} (plain : State) (held : Option (Held Item)
       let q = p.long h in
       let w = found_words_lem q.0 n price second (q.1.answers plain held book ∙ e) in
       (w.0, q.2.words ∙ ap (λ (vs : List ℤ). over vs out) w.1)
-
-  pub listing_plainly : {out out' : List ℤ} {r : ℤ} → Listing start t out out' r → r ≡ answer_number (step plain (listing (length out))).answer
-  listing_plainly {out} {out'} p =
-      p.number ∙ listed_number_lem p.listed out' _ (numbered plain (listing (length out))) (p.lists.answers plain held book)
-
-  pub report_plainly :
-      {load price : ℤ} {out out' : List ℤ} {r : ℤ} → Report load price start t out out' r →
-      r ≡ answer_number (step plain (report load price (length out))).answer
-  report_plainly {load} {price} {out} {out'} p =
-      p.number ∙ reported_number_lem p.reported out' _ (numbered plain (report load price (length out))) (p.reports.answers plain held book)
 
   pub marked_plainly : {index : ℤ} {mark mark' : List Float} {r : ℤ} → MarkAsked start t index mark mark' r → 2 ≤ length mark
       → (r ≡ mark_number (plain_mark plain.offers index).number (plain_mark plain.offers index).values)
@@ -157,63 +134,19 @@ pub data ReadTo (start : ℕ) (t : List ℤ) : ℕ → ℤ → Type 0 where
   onward : {n : ℕ} {r r' : ℤ} {out out' : List ℤ} → ReadTo start t n r → Pieced start t r out out' r' → 3 ≤ length out → ReadTo start t (suc n) r'
 
 -- no listing hands out a refusal
-place_is : (p : ℕ) (ws : List ℤ) → place_number p (handed_of ws) ≡ pos p
+pub place_is : (p : ℕ) (ws : List ℤ) → place_number p (handed_of ws) ≡ pos p
 place_is p [] = refl
 place_is p (a ∷ []) = refl
 place_is p (a ∷ b ∷ []) = refl
 place_is p (a ∷ b ∷ d ∷ ws) = refl
 
 -- as many pieces as are listed
-many : {w : Words} {plain : State} {held : Option (Held Item)} → Book w plain held → length (envelope plain.offers) ≡ length (root_pieces held)
+pub many : {w : Words} {plain : State} {held : Option (Held Item)} → Book w plain held → length (envelope plain.offers) ≡ length (root_pieces held)
 many {held} book = ap length (listed_is book) ∙ length-map (root_pieces held) offer_of
 
 -- so it stands at a place before piece n
-record Stands (start : ℕ) (t : List ℤ) (n : ℕ) (r : ℤ) : Type 0 where
-  place : ℕ
-  number : r ≡ pos place
-  back : place_of r ≡ place
-  before : Before (part_of t start) n place
-
-module _ {start : ℕ} {t : List ℤ} (plain : State) (held : Option (Held Item)) (book : Book (part_of t start) plain held) where
-  stood : (n m place : ℕ) {r : ℤ} → place ≤ 4_294_967_295 → r ≡ place_number place (listed_at plain.offers m) → Before (part_of t start) n place →
-      Stands start t n r
-  stood n m place h e b =
-      let k = e ∙ place_is place (take 3 (drop (3 * m) (piece_words (envelope plain.offers)))) in
-      record { place = place; number = k; back = ap place_of k ∙ up_to_in 4_294_967_295 place h; before = b }
-
-  stands : {n : ℕ} {r : ℤ} → ReadTo start t n r → Stands start t n r
-  stands (begun {r} b) =
-      stood 0 0 b.place (omega (arith, b.small))
-      (b.number ∙ ap (place_number b.place) (b.hands.answers 0 b.starts.before plain held book)) b.starts.before
-  stands (onward {n} {r} {r'} m p h) =
-      let k = stands m in
-      let q = p.long h in
-      let s = q.0 in
-      let j : Steps start t k.place s = subst (λ (i : ℕ). Steps start t i s) k.back q.1 in
-      stood (suc n) n s.next (omega (arith, j.small))
-      (q.2.number ∙ ap (place_number s.next) (j.hands.answers n k.before plain held book))
-      (subst (λ (i : ℕ). Before (part_of t start) i s.next) (add-one n) (j.moves.on n k.before))
-
-  -- after n steps the next writes the n-th three words of the plain listing, and none past the last
-  pub piece_plainly : {n : ℕ} {r r' : ℤ} {out out' : List ℤ} → ReadTo start t n r → Pieced start t r out out' r' → 3 ≤ length out
-      → out' ≡ over (piece_of (listed_at plain.offers n)) out
-  piece_plainly {n} {out} m p h =
-      let k = stands m in
-      let q = p.long h in
-      let j : Steps start t k.place q.0 = subst (λ (i : ℕ). Steps start t i q.0) k.back q.1 in
-      q.2.words ∙ ap (λ x. over (piece_of x) out) (j.hands.answers n k.before plain held book)
-
-  -- the place is 0 past the last piece, and there alone
-  pub place_ends : {n : ℕ} {r : ℤ} → ReadTo start t n r → length (envelope plain.offers) ≤ n → r ≡ pos 0
-  place_ends {n} m h = let k = stands m in go k.number (k.before.stands plain held book)
-    where
-      go : {p : ℕ} {r : ℤ} → r ≡ pos p → PlaceOf (root_pieces held) n p → r ≡ pos 0
-      go e (at_piece k) = absurd (omega (arith, h, many book, ap length k.split, length-append k.seen (k.here ∷ k.ahead), k.count))
-      go e (past_last l d) = e ∙ ap pos d
-
-  pub place_goes_on : {n : ℕ} {r : ℤ} → ReadTo start t n r → r ≡ pos 0 → length (envelope plain.offers) ≤ n
-  place_goes_on {n} m e =
-      let k = stands m in
-      let z : k.place ≡ 0 = sym k.back ∙ ap place_of e ∙ up_to_in 4_294_967_295 0 (omega arith) in
-      let w : Words = part_of t start in
-      omega (arith, many book, none_past {w = w} {root = up_to most_nodes (word w envelope_root_word)} refl book (omega arith) k.before)
+pub record Stands (start : ℕ) (t : List ℤ) (n : ℕ) (r : ℤ) : Type 0 where
+  pub place : ℕ
+  pub number : r ≡ pos place
+  pub back : place_of r ≡ place
+  pub before : Before (part_of t start) n place

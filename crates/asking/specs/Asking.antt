@@ -68,10 +68,10 @@ Answered q number price second plain probes held = (found number price second �
 module _ (plain : State) {q : ℤ} {w : Words} {root slot other probes : ℕ} {number price second : ℤ}
     (f : Reads q w root slot other probes number price second) (range : T (load_in_range q)) where
   module _ (h : Held Item) (b : Book w plain (some h)) where
-    env : (t : Tree Item) → h.whole ≡ some t → Env items (book_lines (some h)) (leaves t)
+    pub env : (t : Tree Item) → h.whole ≡ some t → Env items (book_lines (some h)) (leaves t)
     env t e = subst (λ (p : Part Item). Env items (book_lines (some h)) (part_leaves p)) e (valid_env items item_laws_lem b.offers.offers_in.right.valid)
 
-    reached : (t : Tree Item) → h.whole ≡ some t → Answered q number price second plain probes (some h)
+    pub reached : (t : Tree Item) → h.whole ≡ some t → Answered q number price second plain probes (some h)
     reached t e = (
       ap (λ (z : ℤ). found z price second) number_is ∙ ap (λ (z : ℤ). found a.offer.number z second) price_is
           ∙ ap (found a.offer.number (price_at a.offer q)) second_is
@@ -110,25 +110,10 @@ module _ (plain : State) {q : ℤ} {w : Words} {root slot other probes : ℕ} {n
         second_is : second ≡ (lookup q t).second.offer.number
         second_is = f.beside ∙ ap (cell w number_field) got.other ∙ (stand.holds.held (second_leaf t (env t e) q)).number
 
-    some_piece : (p : Part Item) → h.whole ≡ p → Answered q number price second plain probes (some h)
-    some_piece none e = let k = env_some items item_laws_lem (subst (λ (p : Part Item). Env items (book_lines (some h)) (part_leaves p)) e
-        (valid_env items item_laws_lem b.offers.offers_in.right.valid)) (first (held_shape h)) (first_leaf (held_shape h)) in absurd (omega (arith, k))
-    some_piece (some t) e = reached t e
-
-  pub answered : {n : ℕ} → n ≡ up_to most_nodes (word w live_count_word) → 1 ≤ n → (held : Option (Held Item)) → Book w plain held →
-      Answered q number price second plain probes held
-  answered e h none b = absurd (omega (arith, e, h, count_read b, live_length b, ap length (no_offers b refl)))
-  answered e h (some g) b = some_piece g b g.whole refl
-
-pub asks_found : {q : ℤ} {w : Words} {n root slot other probes : ℕ} {number price second : ℤ} → n ≡ up_to most_nodes (word w live_count_word) → 1 ≤ n →
-    Reads q w root slot other probes number price second → Asks q w (Offer number price second (pos probes))
-asks_found e h f =
-    record { answers = λ plain held b t. (answered plain f t e h held b).0; probes = λ plain held b t. (_, _, _, refl, (answered plain f t e h held b).1) }
-
 -- ---- on the table
 
 module _ (q : ℤ) (t : List ℤ) (start : ℕ) where
-  queries_declined : {k : Cause} → FirstOf (table_trials t start (query q)) k → Queries q start t (Declined (pos (cause_number k)))
+  pub queries_declined : {k : Cause} → FirstOf (table_trials t start (query q)) k → Queries q start t (Declined (pos (cause_number k)))
   queries_declined f =
       record {
         declined = λ z g. ap refused (sym (one_cause f g));

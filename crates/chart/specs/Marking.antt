@@ -45,7 +45,6 @@ use Rattle.promises.specs.Rooted.{Root, bare, topped, Top, root_of}
 use Rattle.chart.specs.declared.Marked.{Marked}
 use Rattle.chart.specs.declared.Marked.TheVariants.{Declined}
 use Rattle.chart.specs.Promises.{marks_behind, marks, refusal, mark_trials, mark_of, plain_mark, told, Marks}
-use Rattle.chart.specs.Rounded.{sound_exact}
 use Rattle.chart.specs.ChartWalks.{SlotOf}
 
 pub record PartMark (w : Words) (index : ℤ) (r : Marked) : Type 0 where
@@ -62,30 +61,30 @@ crossing_read w s {n} {d} {p} a b c e =
 
 -- ---- the marks of a listing, by the pieces beside them
 
-abbrev between_them : Offer → Offer → Told
+abbrev pub between_them : Offer → Offer → Told
 between_them a b = crossing (crossing_numerator a b) (crossing_denominator a b) (scaled_price a b)
 
-behind_inner : (o : Offer) (xs : List Offer) (a b : Offer) (ys : List Offer) (d : Told) →
+pub behind_inner : (o : Offer) (xs : List Offer) (a b : Offer) (ys : List Offer) (d : Told) →
     get_or (marks_behind o (xs ++ a ∷ b ∷ ys)) (suc (length xs)) d ≡ between_them a b
 behind_inner o [] a b ys d = refl
 behind_inner o (x ∷ xs) a b ys d = behind_inner x xs a b ys d
 
-marks_inner : (xs : List Offer) (a b : Offer) (ys : List Offer) (d : Told) → get_or (marks (xs ++ a ∷ b ∷ ys)) (suc (length xs)) d ≡ between_them a b
+pub marks_inner : (xs : List Offer) (a b : Offer) (ys : List Offer) (d : Told) → get_or (marks (xs ++ a ∷ b ∷ ys)) (suc (length xs)) d ≡ between_them a b
 marks_inner [] a b ys d = refl
 marks_inner (x ∷ xs) a b ys d = behind_inner x xs a b ys d
 
-behind_last : (o : Offer) (xs : List Offer) (a : Offer) (d : Told) → get_or (marks_behind o (xs ++ a ∷ [])) (suc (length xs)) d ≡ open_end a.rate
+pub behind_last : (o : Offer) (xs : List Offer) (a : Offer) (d : Told) → get_or (marks_behind o (xs ++ a ∷ [])) (suc (length xs)) d ≡ open_end a.rate
 behind_last o [] a d = refl
 behind_last o (x ∷ xs) a d = behind_last x xs a d
 
-marks_last : (xs : List Offer) (a : Offer) (d : Told) → get_or (marks (xs ++ a ∷ [])) (suc (length xs)) d ≡ open_end a.rate
+pub marks_last : (xs : List Offer) (a : Offer) (d : Told) → get_or (marks (xs ++ a ∷ [])) (suc (length xs)) d ≡ open_end a.rate
 marks_last [] a d = refl
 marks_last (x ∷ xs) a d = behind_last x xs a d
 
 -- ---- at a piece of the root's envelope
 
 -- it is the last of them
-seen_last : {s n : ℕ} {xs : List Item} (k : Passed s n xs) → n ≡ length xs → xs ≡ k.seen ++ k.here ∷ []
+pub seen_last : {s n : ℕ} {xs : List Item} (k : Passed s n xs) → n ≡ length xs → xs ≡ k.seen ++ k.here ∷ []
 seen_last {s} {n} {xs} k e = go k.ahead k.split
   where
     go : (ys : List Item) → xs ≡ k.seen ++ k.here ∷ ys → xs ≡ k.seen ++ k.here ∷ []
@@ -93,23 +92,23 @@ seen_last {s} {n} {xs} k e = go k.ahead k.split
     go (y ∷ ys) d = absurd (omega (arith, ap length d, length-append k.seen (k.here ∷ y ∷ ys), k.count))
 
 -- another follows
-record Followed (xs seen : List Item) (here : Item) : Type 0 where
-  next : Item
-  later : List Item
-  split : xs ≡ seen ++ here ∷ next ∷ later
+pub record Followed (xs seen : List Item) (here : Item) : Type 0 where
+  pub next : Item
+  pub later : List Item
+  pub split : xs ≡ seen ++ here ∷ next ∷ later
 
-seen_inner : {s n : ℕ} {xs : List Item} (k : Passed s n xs) → n < length xs → Followed xs k.seen k.here
+pub seen_inner : {s n : ℕ} {xs : List Item} (k : Passed s n xs) → n < length xs → Followed xs k.seen k.here
 seen_inner {s} {n} {xs} k h = go k.ahead k.split
   where
     go : (ys : List Item) → xs ≡ k.seen ++ k.here ∷ ys → Followed xs k.seen k.here
     go [] d = absurd (omega (arith, ap length d, length-append k.seen (k.here ∷ []), k.count))
     go (y ∷ ys) d = record { next = y; later = ys; split = d }
 
-offers_of : List Item → List Offer
+pub offers_of : List Item → List Offer
 offers_of xs = map offer_of xs
 
 -- mark n, where the n-th piece is the last, and where it is not
-mark_last : {s n : ℕ} {xs : List Item} (k : Passed s n xs) → n ≡ length xs → (d : Told) → get_or (marks (offers_of xs)) n d ≡ open_end k.here.offer.rate
+pub mark_last : {s n : ℕ} {xs : List Item} (k : Passed s n xs) → n ≡ length xs → (d : Told) → get_or (marks (offers_of xs)) n d ≡ open_end k.here.offer.rate
 unfolding offers_of
 mark_last {s} {n} {xs} k e d =
     ap (λ (l : List Item). get_or (marks (map offer_of l)) n d) (seen_last k e)
@@ -117,7 +116,7 @@ mark_last {s} {n} {xs} k e d =
     ∙ ap (λ (i : ℕ). get_or (marks (map offer_of k.seen ++ offer_of k.here ∷ [])) i d) (k.count ∙ ap suc (sym (length-map k.seen offer_of)))
     ∙ marks_last (map offer_of k.seen) k.here.offer d
 
-mark_inner : {s n : ℕ} {xs : List Item} (k : Passed s n xs) (f : Followed xs k.seen k.here) (d : Told) →
+pub mark_inner : {s n : ℕ} {xs : List Item} (k : Passed s n xs) (f : Followed xs k.seen k.here) (d : Told) →
     get_or (marks (offers_of xs)) n d ≡ between_them k.here.offer f.next.offer
 unfolding offers_of
 mark_inner {s} {n} {xs} k f d =
@@ -128,7 +127,7 @@ mark_inner {s} {n} {xs} k f d =
     ∙ marks_inner (map offer_of k.seen) k.here.offer f.next.offer (map offer_of f.later) d
 
 -- mark 0
-mark_first : {s n : ℕ} {xs : List Item} (k : Passed s n xs) → n ≡ 1 → (d : Told) → get_or (marks (offers_of xs)) 0 d ≡ open_end k.here.offer.rate
+pub mark_first : {s n : ℕ} {xs : List Item} (k : Passed s n xs) → n ≡ 1 → (d : Told) → get_or (marks (offers_of xs)) 0 d ≡ open_end k.here.offer.rate
 unfolding offers_of
 mark_first {s} {n} {xs} k e d = go k.seen k.split k.count
   where
@@ -139,13 +138,13 @@ mark_first {s} {n} {xs} k e d = go k.seen k.split k.count
 -- ---- what the words say of it
 
 module _ {w : Words} {root s n : ℕ} {t : Tree Item} (p : Pieces w root t) (k : Passed s n (leaves t)) where
-  held_here : InSlot w k.here
+  pub held_here : InSlot w k.here
   held_here = p.holds.held (subst (Memᴰ k.here) (sym k.split) (Memᴰ.append_right k.seen (Memᴰ.head refl)))
 
-  rate_here : rate_at w s ≡ k.here.offer.rate
+  pub rate_here : rate_at w s ≡ k.here.offer.rate
   rate_here = ap (rate_at w) k.slot ∙ read_rate held_here
 
-  crossing_here : Ordered items (leaves t) → (f : Followed (leaves t) k.seen k.here) → crossing_at w s ≡ between_them k.here.offer f.next.offer
+  pub crossing_here : Ordered items (leaves t) → (f : Followed (leaves t) k.seen k.here) → crossing_at w s ≡ between_them k.here.offer f.next.offer
   crossing_here o f =
       ap (crossing_at w) k.slot
       ∙ rw (read_numerator held_here held_next next falls, read_denominator held_here held_next next falls, read_price held_here)
@@ -172,15 +171,15 @@ module _ {w : Words} {root m : ℕ} (er : root ≡ up_to most_nodes (word w enve
       go b (topped t f p) = absurd (omega (arith, h, k.is t p.pieces p.balanced, some_leaf t))
 
   -- what the code knows of a book that has a piece
-  record Topped (os : List Offer) (h : Held Item) : Type 0 where
-    tree : Tree Item
-    top : Top w root (leaves (held_shape h)) tree
-    shown : envelope os ≡ map offer_of (leaves tree)
-    many : length (envelope os) ≡ m
-    ordered : Ordered items (leaves tree)
-    live : T (not (leb (length os) 0))
+  pub record Topped (os : List Offer) (h : Held Item) : Type 0 where
+    pub tree : Tree Item
+    pub top : Top w root (leaves (held_shape h)) tree
+    pub shown : envelope os ≡ map offer_of (leaves tree)
+    pub many : length (envelope os) ≡ m
+    pub ordered : Ordered items (leaves tree)
+    pub live : T (not (leb (length os) 0))
 
-  top_of : {s : State} {h : Held Item} → Book w s (some h) → (t : Tree Item) → Top w root (leaves (held_shape h)) t → Topped s.offers h
+  pub top_of : {s : State} {h : Held Item} → Book w s (some h) → (t : Tree Item) → Top w root (leaves (held_shape h)) t → Topped s.offers h
   top_of {s} {h} b t p =
       record {
         tree = t;
@@ -194,11 +193,11 @@ module _ {w : Words} {root m : ℕ} (er : root ≡ up_to most_nodes (word w enve
       shown : envelope s.offers ≡ map offer_of (leaves t)
       shown = sym (pieces_plain (book_lines (some h)) (leaves t) s.offers (first_offers b) (lines_ordered b) p.env)
 
-  at_tree : {os : List Offer} {h : Held Item} (q : Topped os h) → m ≡ length (leaves q.tree)
+  pub at_tree : {os : List Offer} {h : Held Item} (q : Topped os h) → m ≡ length (leaves q.tree)
   at_tree q = k.is q.tree q.top.pieces q.top.balanced
 
   -- an answer about a book with a piece
-  by_top : {index : ℤ} {r : Marked} → 1 ≤ m → ((os : List Offer) (h : Held Item) → Topped os h → told r ≡ plain_mark os index) → PartMark w index r
+  pub by_top : {index : ℤ} {r : Marked} → 1 ≤ m → ((os : List Offer) (h : Held Item) → Topped os h → told r ≡ plain_mark os index) → PartMark w index r
   by_top {index} {r} some-of-it f = record { answers = λ s held b. go b (root_of b er) }
     where
       go : {s : State} {held : Option (Held Item)} → Book w s held → Root w root held → told r ≡ plain_mark s.offers index
@@ -212,7 +211,7 @@ module _ {w : Words} {root m : ℕ} (er : root ≡ up_to most_nodes (word w enve
       (further q.live (at_once (subst (λ (n : ℕ). T (not (between (pos 0) (pos n) index))) (sym q.many) o))))))
 
   -- a mark that is there
-  accepted : (n : ℕ) → n ≤ m → {os : List Offer} {h : Held Item} (q : Topped os h) →
+  pub accepted : (n : ℕ) → n ≤ m → {os : List Offer} {h : Held Item} (q : Topped os h) →
       get_or (marks (offers_of (leaves q.tree))) n (refusal no_such_mark) ≡ plain_mark os (pos n)
   unfolding offers_of
   accepted n l {os} q =
@@ -239,7 +238,7 @@ module _ {w : Words} {root m : ℕ} (er : root ≡ up_to most_nodes (word w enve
         e ∙ ap open_end (rate_here q.top.pieces a) ∙ sym (mark_first a refl (refusal no_such_mark)) ∙ accepted 0 (omega arith) q)
 
     module _ (i : ℕ) (low : 1 ≤ i) (h : SlotOf w root (i - 1) s) where
-      here_of : i ≤ m → {os : List Offer} {g : Held Item} (q : Topped os g) → Passed s i (leaves q.tree)
+      pub here_of : i ≤ m → {os : List Offer} {g : Held Item} (q : Topped os g) → Passed s i (leaves q.tree)
       here_of l q =
           let e : i - 1 + 1 ≡ i = omega arith in
           subst (λ (n : ℕ). Passed s n (leaves q.tree)) e (h.is q.tree q.top.pieces q.top.balanced (omega (arith, low, l, at_tree q)))
@@ -278,7 +277,7 @@ index_there (negsuc n) a b h e = absurd (omega (arith, int_rules))
 
 -- ---- on a table
 
-abbrev refused : ℕ → Told
+abbrev pub refused : ℕ → Told
 refused n = record { number = pos n; values = [] }
 
 module _ (start : ℕ) (t : List ℤ) (index : ℤ) {no : Bool} (e : no ≡ no_book_at (length t) start (word (part_of t start) capacity_word)) where
@@ -288,13 +287,4 @@ module _ (start : ℕ) (t : List ℤ) (index : ℤ) {no : Bool} (e : no ≡ no_b
         declined = λ z g. ap refused (sym (no_book_cause t start g));
         answers = λ s held b. absurd (no_form t start e d b);
         rounded = λ s held b. absurd (no_form t start e d b);
-      }
-
-  pub mark_there : {r : Marked} → no ≡ false → PartMark (take (length t - start) (drop start t)) index r → Marks start t index r
-  mark_there {r} d k =
-      let here : PartMark (part_of t start) index r = subst (λ (w : Words). PartMark w index r) (whole_part t start) k in
-      record {
-        declined = λ z f. absurd (not_clear f (denied e d, tt));
-        answers = here.answers;
-        rounded = λ s held b. sound_exact s (book_sound b);
       }

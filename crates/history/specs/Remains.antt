@@ -14,7 +14,6 @@ use Rattle.form.specs.Form.{plain_offers}
 use Rattle.promises.specs.declared.Opening.{Opening}
 use Rattle.promises.specs.Promises.{Opens}
 use Rattle.history.specs.History.{History, Claim}
-use Rattle.history.specs.Claim.{every_history}
 
 -- What remains of the calls, told by their answers, is accepted call for call when it alone is made, and leaves what the order's leaves hold.
 pub record Stays {c start : ℕ} {t : List ℤ} {ks : List Call} {as' : List Answer} {t' : List ℤ} {s : State} {before : Option (Held Item)}
@@ -31,9 +30,3 @@ remaining_stands {ks = ks} {s = s} sound empty q =
       accepted = subst (λ (told : List Answer). AllAccepted s (remaining ks told)) (sym q.told) r.accepted;
       stands_for = q.stands.book.stands_for ∙ sym r.offers ∙ ap (λ (told : List Answer). (after s (remaining ks told)).offers) (sym q.told);
     }
-
--- from an opening on
-pub every_remainder :
-    {start : ℕ} {t t₀ : List ℤ} {ks : List Call} {as' : List Answer} {t' : List ℤ} (c : ℤ) (r : Opening) (p : Opens c start t t₀ r)
-    (clear : Clear (open_trials (length t) start c)) (h : History (nat_abs c) start t₀ ks as' t') → Stays (every_history c r p clear h).1
-every_remainder {start} {t} c r p clear h = remaining_stands (opened_sound (length t) start c clear) refl (every_history c r p clear h).1

@@ -1,5 +1,3 @@
 -- Piece trees in words: envelopes with their crossings, put together.
 -- statement and lemmas: a piece tree in words: the nodes of a tree, and along its leaves the thread with the crossings
 pub mod Pieces
--- ways through the code: two piece trees put together, as steps on words: the seam is threaded, then the trees are joined
-pub mod Catting

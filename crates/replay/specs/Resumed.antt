@@ -12,7 +12,7 @@ use Rattle.promises.specs.declared.Opening.{Opening}
 use Rattle.promises.specs.declared.Opening.TheVariants.{Opened, Declined as OpeningDeclined}
 use Rattle.promises.specs.Promises.{part_of, capacity_at, Opens}
 use Rattle.form.specs.There.{cap_there}
-use Rattle.history.specs.Claim.{from_book}
+use Rattle.history.proofs.Claim.{from_book}
 use Rattle.replay.specs.declared.Replayed.{Replayed}
 use Rattle.replay.specs.declared.Replayed.TheVariants.{Ran, Stopped}
 use Rattle.replay_words.specs.Encoding.{runnable, Spares}

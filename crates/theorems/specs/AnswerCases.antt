@@ -107,16 +107,11 @@ report_reported (ReportDeclined (negsuc m)) out n ws e = let z : ◌≡◌ {A = 
 
 -- ---- on a book: where the plain book refuses, the call is declined with that number
 
-plain_number : (s : State) (k : Call) (n : ℕ) → (step s k).answer ≡ refused n → 1 ≤ n
+pub plain_number : (s : State) (k : Call) (n : ℕ) → (step s k).answer ≡ refused n → 1 ≤ n
 plain_number s k zero e = absurd (numbered s k e)
 plain_number s k (suc n) e = omega arith
 
 module _ {start : ℕ} {t : List ℤ} {s : State} {held : Option (Held Item)} (f : Form (part_of t start) s held) where
-  pub update_declined :
-      {k : Call} {t' : List ℤ} {r : Update} → Updates k start t t' r → (n : ℕ) → (step s k).answer ≡ refused n →
-      r ≡ UpdateDeclined (pos n)
-  update_declined {k} {r = r} p n e = update_refused r n (plain_number s k n e) ((p.follows s held f).answers ∙ e)
-
   pub query_declined : {q : ℤ} {r : Found} → Queries q start t r → (n : ℕ) → (step s (query q)).answer ≡ refused n → r ≡ FoundDeclined (pos n)
   query_declined {q} {r} p n e = query_refused r n (plain_number s (query q) n e) (p.answers s held f.book ∙ e)
 

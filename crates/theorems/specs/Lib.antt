@@ -7,8 +7,6 @@ pub mod OneReading
 pub mod AnswerCases
 -- statement: demand 2, about the calls
 pub mod Demand2
--- theorem: demand 2 holds of every call
-pub mod AnswersExact
 -- lemmas: the sentences of demand 2 fix the answers: one price and two numbers at a load, one listing and one report, word for word; one number of probes
 pub mod Fixes
 -- lemmas: from a searched pair's envelopes to the listing's sentence about offers, which are live ones; k is capped by the live offers

@@ -27,23 +27,23 @@ use Rattle.form.specs.Rings.{ring_once}
 use Rattle.promises.specs.Promises.{Passes}
 use Rattle.theorems.specs.Unique.{AllLie, all_lie, same_item, same_part, some_root}
 
-number_of_lem : {m n : ℕ} {z z' : ℤ} → z ≡ pos m → z' ≡ pos n → z ≡ z' → m ≡ n
+pub number_of_lem : {m n : ℕ} {z z' : ℤ} → z ≡ pos m → z' ≡ pos n → z ≡ z' → m ≡ n
 number_of_lem {m} {n} p q e = same (sym p ∙ e ∙ q)
   where
     same : pos m ≡ pos n → m ≡ n
     same d = cc
 
 module _ (w : Words) where
-  pieces_tied : (q : Part Item) → PartIn w q → TiedPart w piece_tree q
+  pub pieces_tied : (q : Part Item) → PartIn w q → TiedPart w piece_tree q
   pieces_tied none p = tt
   pieces_tied (some t) p = p.0
 
   -- some of the lines below
-  some_lie : {ls es : List Item} → AllLie w ls → Env items ls es → AllLie w es
+  pub some_lie : {ls es : List Item} → AllLie w ls → Env items ls es → AllLie w es
   some_lie h E a m = h a (sublist_mem E.sub m)
 
   -- a part that is told by a word
-  same_rest :
+  pub same_rest :
       (q q' : Part Item) {z z' : ℤ} → AllLie w (part_leaves q) → AllLie w (part_leaves q') → PartIn w q → PartIn w q' → z ≡ pos (part_ref q) →
       z' ≡ pos (part_ref q') → z ≡ z' → q ≡ q'
   same_rest q q' h h' p p' e e' d = same_part 0 q q' h h' (pieces_tied q p) (pieces_tied q' p') (number_of_lem e e' d)
@@ -164,7 +164,3 @@ one_reading {w} {s} {s'} {held} {held'} f f' = (
 
     lists : s.offers ≡ s'.offers
     lists = sym b.stands_for ∙ ap plain_offers orders ∙ b'.stands_for
-
--- so every promise that speaks of all plain books a table may stand for speaks of one
-pub passes_once : (start : ℕ) (t : List ℤ) (p q : Passes start t) → p.0 ≡ q.0
-passes_once start t (s, held, b) (s', held', b') = (one_reading b b').0

@@ -43,7 +43,7 @@ pub record PairLists (lines : List Item) (p : Pair Item) : Type 0 where
 
 -- ---- its proof
 
-env_lists : (set : List Item) (t : Tree Item) → Ordered items set → Env items set (leaves t) → Lists set t
+pub env_lists : (set : List Item) (t : Tree Item) → Ordered items set → Env items set (leaves t) → Lists set t
 env_lists set t o E e =
     subst (λ (es : List Offer). Memᴰ e es ↔ ((x : RationalLoad) × CheaperThanOthers (map offer_of set) e x))
     (sym (pieces_plain set (leaves t) (map offer_of set) (sym (firsts_all precedes falls)) o E)) (listing_exact (map offer_of set) (falling_ahead falls) e)
@@ -65,10 +65,6 @@ searched_lists {lines} {p} o s =
     both = ordered_sublist items s.sets o
 
 module _ {k : Call} {s : State} {held : Option (Held Item)} {start : ℕ} {t t' : List ℤ} {r : Update} (f : Follows k s held start t t' r) where
-  -- every pair of an update's log
-  pub follows_lists : (p : Pair Item) → Memᴰ p f.log → PairLists (book_lines f.after) p
-  follows_lists p m = searched_lists (lines_ordered f.stands.book) (f.work.searched p m)
-
   -- its sets hold offers that are live after the update
   pub sets_live : {p : Pair Item} (l : PairLists (book_lines f.after) p) {a : Item} → Memᴰ a (l.left_set ++ l.right_set) →
       Memᴰ a.offer (step s k).state.offers

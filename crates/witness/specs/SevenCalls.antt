@@ -12,7 +12,8 @@ use Rattle.promises.specs.declared.Listed.{Listed}
 use Rattle.form.specs.Local.{Alike}
 use Rattle.promises.specs.Promises.{part_of, Opens, Updates, Queries, Lists, update_answer, found_answer, listing_answer}
 use Rattle.history.specs.History.{posting, withdrawing, taking_back, by_update, by_query, by_listing, History, finished, next}
-use Rattle.history.specs.Claim.{Claim, every_history}
+use Rattle.history.specs.Claim.{Claim}
+use Rattle.history.proofs.Claim.{every_history}
 use Rattle.witness.specs.Witness.{calls, told, Witness}
 
 -- nobody writes between two calls

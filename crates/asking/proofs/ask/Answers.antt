@@ -5,7 +5,8 @@ use lib.IntN.{pos}
 use mir.Facts.{to_z-of_z, to_z_pos}
 use mir.Syntax.{w64}
 use mir.Val.{to_z}
-use Rattle.asking.specs.Asking.{asks_empty, asks_found}
+use Rattle.asking.specs.Asking.{asks_empty}
+use Rattle.asking.proofs.Asking.{asks_found}
 use Rattle.std.proofs.Common.{FitsSigned}
 use Rattle.asking.proofs.ask.Goals as goal
 

@@ -1,5 +1,5 @@
 -- `carrier::carrier_check` meets its contract: yes is 1 and no is 0.
-use Rattle.answers.specs.Answers.{checked_yes, checked_no}
+use Rattle.answers.proofs.Answers.{checked_yes, checked_no}
 use borrow.Author.Rules.{rules}
 use Rattle.carrier.proofs.carrier_check.Statement.{statement}
 use Rattle.carrier.proofs.carrier_check.Tie as tie

@@ -4,7 +4,7 @@ use mir.Syntax.{w64}
 use mir.Val.{SFits}
 use mir.Facts.{to_z-of_z}
 use Rattle.answers.specs.Promises.{Step}
-use Rattle.answers.specs.Answers.{lent_short, pieced_long}
+use Rattle.answers.proofs.Answers.{lent_short, pieced_long}
 use borrow.Author.Rules.{rules}
 use Rattle.carrier.proofs.carrier_piece.Statement.{statement}
 use Rattle.carrier.proofs.carrier_piece.Tie as tie

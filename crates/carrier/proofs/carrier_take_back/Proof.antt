@@ -2,7 +2,7 @@
 use mir.Syntax.{w64}
 use mir.Val.{SFits}
 use mir.Facts.{to_z-of_z}
-use Rattle.answers.specs.Answers.{updated_short, updated_long}
+use Rattle.answers.proofs.Answers.{updated_short, updated_long}
 use borrow.Author.Rules.{rules}
 use Rattle.carrier.proofs.carrier_take_back.Statement.{statement}
 use Rattle.carrier.proofs.carrier_take_back.Tie as tie

@@ -1,6 +1,7 @@
 -- `chart::mark` meets its contract: by its guard, and then the part's mark.
 use mir.Facts.{to_z-of_z}
-use Rattle.chart.specs.Marking.{mark_no_book, mark_there}
+use Rattle.chart.specs.Marking.{mark_no_book}
+use Rattle.chart.proofs.Marking.{mark_there}
 use Rattle.chart.proofs.mark.Goals as goal
 
 pub returns-then-no_book : goal.returns-then-no_book

@@ -1,5 +1,5 @@
 -- `pieces::cat_at` meets its contract.
-use Rattle.pieces.specs.Catting.{threaded_known, catted_right, catted_left, seamed_any, seamed}
+use Rattle.pieces.proofs.Catting.{threaded_known, catted_right, catted_left, seamed_any, seamed}
 use Rattle.prices.specs.Prices.{bases_fit, rates_fit}
 use native.Mathlib.Omega.{arith}
 use lib.IntN.{pos, ◌-ℤ◌}

@@ -1,5 +1,5 @@
 -- `pieces::cat_in` meets its contract.
-use Rattle.pieces.specs.Catting.{catted_right, catted_left, catted}
+use Rattle.pieces.proofs.Catting.{catted_right, catted_left, catted}
 use borrow.Author.Rules.{rules}
 use Rattle.pieces.proofs.cat_in.Goals as goal
 

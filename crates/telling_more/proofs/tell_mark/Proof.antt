@@ -6,7 +6,7 @@ use mir.Facts.{to_z-of_z}
 use Rattle.chart.specs.declared.Marked.TheVariants.{Mark}
 use Rattle.chart.specs.Promises.{told}
 use Rattle.answers.specs.Promises.{mark_number}
-use Rattle.answers.specs.Answers.{tells, one, two, longer}
+use Rattle.answers.proofs.Answers.{tells, one, two, longer}
 use borrow.Author.Rules.{rules}
 use Rattle.telling_more.proofs.tell_mark.Statement.{statement}
 use Rattle.telling_more.proofs.tell_mark.Tie as tie

@@ -7,7 +7,7 @@ use native.Mathlib.Omega.{arith}
 use lib.ListN.{length-set}
 use Rattle.meet_books.specs.Promises.{meet_answer}
 use Rattle.answers.specs.Promises.{meet_number, met_of}
-use Rattle.answers.specs.Answers.{tells, four}
+use Rattle.answers.proofs.Answers.{tells, four}
 use borrow.Author.Rules.{rules}
 use Rattle.telling_more.proofs.tell_met.Statement.{statement}
 use Rattle.telling_more.proofs.tell_met.Tie as tie

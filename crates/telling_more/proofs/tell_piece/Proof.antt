@@ -7,7 +7,7 @@ use Rattle.reading.specs.Promises.{told}
 use mathlib.Core.Path.{refl}
 use lib.ListN.{length-set}
 use Rattle.answers.specs.Promises.{place_number, piece_of}
-use Rattle.answers.specs.Answers.{tells, three}
+use Rattle.answers.proofs.Answers.{tells, three}
 use borrow.Author.Rules.{rules}
 use Rattle.telling_more.proofs.tell_piece.Statement.{statement}
 use Rattle.telling_more.proofs.tell_piece.Tie as tie

@@ -5,7 +5,7 @@ use mir.Val.{SFits}
 use mir.Facts.{to_z-of_z}
 use Rattle.vouchers.specs.VoucherTold.{told}
 use Rattle.answers.specs.Promises.{refusal}
-use Rattle.answers.specs.Answers.{tells, one}
+use Rattle.answers.proofs.Answers.{tells, one}
 use borrow.Author.Rules.{rules}
 use Rattle.telling_more.proofs.tell_voucher.Statement.{statement}
 use Rattle.telling_more.proofs.tell_voucher.Tie as tie
