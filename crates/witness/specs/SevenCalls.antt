@@ -13,7 +13,7 @@ use Rattle.form.specs.Local.{Alike}
 use Rattle.promises.specs.Promises.{part_of, Opens, Updates, Queries, Lists, update_answer, found_answer, listing_answer}
 use Rattle.history.specs.History.{posting, withdrawing, taking_back, by_update, by_query, by_listing, History, finished, next}
 use Rattle.history.specs.Claim.{Claim, every_history}
-use Rattle.witness.specs.Witness.{calls, told, Witness}
+use Rattle.witness.specs.Witness.{calls, Witness}
 
 -- nobody writes between two calls
 alike : (t : List ℤ) → Alike 3 (part_of t 0) (part_of t 0)
