@@ -6,7 +6,7 @@ ghost use Rattle.replay_words.specs.Encoding.{short_call, call_of, next_call, fi
 ghost use Rattle.replay_words.specs.Decoding.{asked};
 
 // The call that the next words encode.
-#[derive(Drop)]
+#[derive(Clone, Copy)]
 pub enum Next {
     Post { number: i64, rate: i64, base: i64 },
     Withdraw(i64),
