@@ -12,15 +12,9 @@ use Rattle.promises.specs.declared.Listed.{Listed}
 use Rattle.form.specs.Local.{Alike}
 use Rattle.promises.specs.Promises.{part_of, Opens, Updates, Queries, Lists, update_answer, found_answer, listing_answer}
 use Rattle.history.specs.History.{posting, withdrawing, taking_back, by_update, by_query, by_listing, History, finished, next}
-<<<<<<< HEAD
-use Rattle.history.specs.Claim.{Claim}
-use Rattle.history.proofs.Claim.{every_history}
-use Rattle.witness.specs.Witness.{calls, told, Witness}
-=======
 use Rattle.history.specs.Claim.{Claim}
 use Rattle.history.proofs.Claim.{every_history}
 use Rattle.witness.specs.Witness.{calls, Witness}
->>>>>>> cc41f9a837ddadb5d8f3b39f7cc79b28acddb1ac
 
 -- nobody writes between two calls
 alike : (t : List ℤ) → Alike 3 (part_of t 0) (part_of t 0)
