@@ -1,5 +1,7 @@
 -- `counter_columns::parse` meets its contract: by the length, the letter, and what the columns hold.
-use mathlib.Core.Path.{◌∙◌, sym, ap}
+use mathlib.Core.Logic.{⊎_elim}
+use mathlib.Core.Path.{◌≡◌, ◌∙◌, sym, ap}
+use lib.IntN.{pos}
 use mir.Facts.{to_z-of_z}
 use mir.Syntax.{w64}
 use mir.Val.{of_z, to_z}
@@ -7,7 +9,6 @@ use Rattle.counter_columns.specs.Commands.{wrong_length, wrong_letter, wrong_las
 use borrow.Author.Rules.{rules}
 use Rattle.std.proofs.Common.{FitsSigned}
 use Rattle.counter_columns.proofs.parse.Goals as goal
-use Rattle.counter_columns.proofs.parse.Goals.{then-letter-ne76-via-then-letter-ne76, then-letter-ne76-via-else-letter-ne76+then-value-ne0}
 
 pub returns-then-line-ne27 : goal.returns-then-line-ne27
 returns-then-line-ne27 c = wrong_length _ c.if-line-ne27.true
@@ -26,15 +27,14 @@ returns-then-letter-eq81 c = let f : FitsSigned w64 c.in-Number.value = search r
     (is_query _ _ c.if-line-ne27.false c.if-letter-eq81.true (last_number _ _ c.last_columns.ensures c.in-Number.is))
 
 pub returns-then-letter-ne76 : goal.returns-then-letter-ne76
-returns-then-letter-ne76 c = elim c.then-letter-ne76.branch [
-  | then-letter-ne76-via-then-letter-ne76 w ↦ wrong_letter _ c.if-letter-eq80.false c.if-letter-eq87.false c.if-letter-eq81.false w.if-letter-ne76.true
-  | then-letter-ne76-via-else-letter-ne76+then-value-ne0 w ↦ wrong_list _ _ w.if-letter-ne76.false (last_number _ _ c.last_columns.ensures c.in-Number.is)
-      (λ e. w.if-value-ne0.true (ap (of_z w64) e))
-]
+returns-then-letter-ne76 c =
+    ⊎_elim (λ h. wrong_letter _ c.if-letter-eq80.false c.if-letter-eq87.false c.if-letter-eq81.false h)
+    (λ h. wrong_list _ _ h.0 (last_number _ _ c.last_columns.ensures c.in-Number.is) (λ e. h.1 (ap (of_z w64) e))) c.then-letter-ne76.either
 
 pub returns : goal.returns
 returns c = let v = c.in-Number.value in
     let f : FitsSigned w64 v = search rules in
+    let none : of_z w64 v ≡ of_z w64 (pos 0) = search rules in
     is_list _ _ c.if-line-ne27.false c.if-letter-ne76.false
     (last_number _ _ c.last_columns.ensures c.in-Number.is)
-    (sym (to_z-of_z f) ∙ ap (to_z w64) c.if-value-ne0.false)
+    (sym (to_z-of_z f) ∙ ap (to_z w64) none)

@@ -1,10 +1,15 @@
 -- `replay_words::read_call` meets its contract: by its tests.
+use mathlib.Core.Logic.{⊎_elim}
+use mathlib.Core.Path.{◌≡◌}
 use native.Mathlib.Omega.{arith}
+use borrow.Author.Rules.{rules}
+use lib.IntN.{pos}
+use mir.Syntax.{w64}
+use mir.Val.{of_z}
 use mir.Facts.{to_z-of_z}
 use Rattle.plain.specs.Book.{report}
 use Rattle.replay_words.specs.Decoding.{is, is_not, some_room, reads_post, reads_report, reads_none, reads_none_2, reads_short}
 use Rattle.replay_words.proofs.read_call.Goals as goal
-use Rattle.replay_words.proofs.read_call.Goals.{then-b-ne0-via-then-b-ne0, then-b-ne0-via-else-b-ne0+then-c-ne0}
 
 pub returns-then-code-eq1 : goal.returns-then-code-eq1
 returns-then-code-eq1 c = let a = c.args in let f = c.ranges in
@@ -22,14 +27,13 @@ returns-then-b-ne0 c = let a = c.args in
     let f = c.ranges in
     let n = is_not a.code 1 c.if-code-eq1.false in
     let m = is_not a.code 6 c.if-code-eq6.false in
-    elim c.then-b-ne0.branch [
-      | then-b-ne0-via-then-b-ne0 w ↦ reads_none a.code a.a a.b a.c n m (is_not a.b 0 w.if-b-ne0.true)
-      | then-b-ne0-via-else-b-ne0+then-c-ne0 w ↦ reads_none_2 a.code a.a a.b a.c n m (is f.b (omega arith) w.if-b-ne0.false) (is_not a.c 0 w.if-c-ne0.true)
-    ]
+    ⊎_elim (λ h. reads_none a.code a.a a.b a.c n m (is_not a.b 0 h))
+    (λ h. reads_none_2 a.code a.a a.b a.c n m (is f.b (omega arith) h.0) (is_not a.c 0 h.1)) c.then-b-ne0.either
 
 pub returns : goal.returns
 returns c = let a = c.args in
     let f = c.ranges in
+    let none : of_z w64 a.c ≡ of_z w64 (pos 0) = search rules in
     reads_short a.code a.a a.b a.c (is_not a.code 1 c.if-code-eq1.false) (is_not a.code 6 c.if-code-eq6.false)
-    (is f.b (omega arith) c.if-b-ne0.false) (is f.c (omega arith) c.if-c-ne0.false)
+    (is f.b (omega arith) c.if-b-ne0.false) (is f.c (omega arith) none)
     (simp (to_z-of_z, f.code, f.a) at c.read_short.ensures)
