@@ -1,0 +1,3 @@
+-- Why a call is declined.
+-- statement: the causes' numbers
+pub mod Numbers
