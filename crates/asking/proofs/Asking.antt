@@ -1,5 +1,5 @@
 -- Theorems on specs/Asking.
-use Rattle.std.specs.Prelude.{◌≡◌, refl, Bool, true, false, not, List, ℕ, ◌-◌, ◌≤◌, ◌<◌, length, take, drop, T, ℤ, pos}
+use Rattle.std.specs.Prelude.{◌≡◌, refl, Bool, true, false, not, List, ℕ, ◌-◌, ◌≤◌, ◌<◌, length, take, drop, T, ℤ, pos, Ok}
 use Rattle.std.proofs.Common.{sym, ◌∙◌, ap, subst, arith, le→leb}
 use Rattle.std.proofs.Math.Option.{Option, none, some}
 use Rattle.lists.specs.Bools.{not_not, twice, said, denied}
@@ -30,7 +30,6 @@ use Rattle.query.specs.Readings.{price_in}
 use Rattle.query.specs.Descent.{Descended, Finds}
 use Rattle.query.proofs.Plain.{lookup_plain}
 use Rattle.promises.specs.declared.Found.{Found}
-use Rattle.promises.specs.declared.Found.TheVariants.{Offer, Declined}
 use Rattle.plain.specs.Book.{no_book_at}
 use Rattle.promises.specs.Promises.{part_of, table_trials, found_told, found_answer, Probes, ProbesIn, Queries}
 use Rattle.promises.specs.Plainly.{table_declined}
@@ -54,6 +53,6 @@ module _ (plain : State) {q : ℤ} {w : Words} {root slot other probes : ℕ} {n
   answered e h (some g) b = some_piece g b g.whole refl
 
 pub asks_found : {q : ℤ} {w : Words} {n root slot other probes : ℕ} {number price second : ℤ} → n ≡ up_to most_nodes (word w live_count_word) → 1 ≤ n →
-    Reads q w root slot other probes number price second → Asks q w (Offer number price second (pos probes))
+    Reads q w root slot other probes number price second → Asks q w (Ok (record { number = number; price = price; second = second; probes = pos probes }))
 asks_found e h f =
     record { answers = λ plain held b t. (answered plain f t e h held b).0; probes = λ plain held b t. (_, _, _, refl, (answered plain f t e h held b).1) }
