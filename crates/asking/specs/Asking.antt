@@ -1,5 +1,5 @@
 -- A query, step by step: what the code's parts promise, and put together.
-use Rattle.std.specs.Prelude.{◌≡◌, refl, Bool, true, false, not, List, ℕ, ◌-◌, ◌≤◌, ◌<◌, length, take, drop, T, ℤ, pos, Result, Err}
+use Rattle.std.specs.Prelude.{◌≡◌, refl, Bool, true, false, not, List, ℕ, ◌-◌, ◌<◌, length, take, drop, T, ℤ, pos, Result, Err}
 use Rattle.std.proofs.Common.{sym, ◌∙◌, ap, subst, arith, le→leb}
 use Rattle.std.proofs.Math.Option.{Option, none, some}
 use Rattle.lists.specs.Bools.{not_not, twice, said, denied}
@@ -7,14 +7,12 @@ use Rattle.offers.specs.Offers.{load_in_range, price_at}
 use Rattle.plain.specs.Causes.{Cause, book_empty, cause_number, at_once, further, FirstOf}
 use Rattle.plain.specs.Book.{State, query, found, refused, Outcome, step}
 use Rattle.plain.proofs.Rules.{step_declined}
-use Rattle.trees.specs.Tree.{Tree, leaves, first}
-use Rattle.trees.specs.Leaves.{first_leaf}
+use Rattle.trees.specs.Tree.{Tree, leaves}
 use Rattle.trees.specs.Operations.{Part, part_leaves}
-use Rattle.dynamic.specs.OfferTree.{Held, held_shape}
+use Rattle.dynamic.specs.OfferTree.{Held}
 use Rattle.dynamic.specs.Valid.{book_lines}
 use Rattle.dynamic.specs.Lower.{valid_env}
 use Rattle.envelopes.specs.Envelope.{Env}
-use Rattle.envelopes.specs.Small.{env_some}
 use Rattle.table.specs.Fields.{capacity_word, envelope_root_word, live_count_word, most_nodes, number_field}
 use Rattle.table.specs.Words.{Words, word, up_to}
 use Rattle.table.specs.Layout.{cell}
@@ -38,7 +36,7 @@ use Rattle.promises.specs.Promises.{part_of, table_trials, counted, found_told, 
 use Rattle.promises.specs.Plainly.{table_declined}
 use Rattle.promises.specs.LentPart.{whole_part}
 use Rattle.promises.specs.OneCause.{one_cause, not_clear}
-use Rattle.form.specs.Live.{live_length, book_sound, first_offers, no_offers}
+use Rattle.form.specs.Live.{live_length, book_sound, first_offers}
 use Rattle.form.specs.HeaderWords.{count_read, envelope_read}
 
 -- a load in range, on words that stand for a plain book

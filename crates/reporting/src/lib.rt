@@ -49,7 +49,13 @@ fn tell(part: &[i64], load: i64, price: i64, out: &mut [i64]) -> Result<i64, Dec
 }
 
 // Number, rate, base of every live offer whose price at the load is strictly below `price`, in order, from the first word of the output on.
-pub fn report(table: &[i64], start: usize, load: i64, price: i64, out: &mut [i64]) -> Result<i64, Declined>
+pub fn report(
+    table: &[i64],
+    start: usize,
+    load: i64,
+    price: i64,
+    out: &mut [i64],
+) -> Result<i64, Declined>
     ensures { Reports load price start table.now out.old out.new result }
 {
     if promises::no_book(table, start) {
