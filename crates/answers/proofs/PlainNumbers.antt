@@ -1,38 +1,20 @@
 -- Theorems on specs/PlainNumbers.
-use Rattle.std.specs.Prelude.{◌≡◌, refl, ◌≢◌, List, [], ◌∷◌, ℕ, suc, ◌*◌, ◌≤◌, length, take, drop, ℤ, pos, negsuc, neg_ℤ, Float}
+use Rattle.std.specs.Prelude.{◌≡◌, refl, List, ◌∷◌, ℕ, suc, ◌*◌, ◌≤◌, length, take, drop, ℤ, pos}
 use Rattle.std.proofs.Common.{ap, sym, ◌∙◌, subst, add-one, arith, length-append}
 use Rattle.std.proofs.Math.Option.{Option}
-use Rattle.std.proofs.lemmas.List.{length-map}
-use Rattle.plain.specs.Causes.{Cause, cause_number, FirstOf, Clear}
-use Rattle.plain.specs.Book.{State, Call, query, listing, report, Answer, refused, live, found, listed, reported, step, envelope, piece_words}
-use Rattle.trees.specs.Tree.{height}
-use Rattle.meeting.specs.Machine.{meet}
+use Rattle.plain.specs.Book.{State, Call, query, listing, report, step, envelope, piece_words}
 use Rattle.dynamic.specs.OfferTree.{Held}
 use Rattle.table.specs.Fields.{envelope_root_word, most_nodes}
 use Rattle.table.specs.Words.{Words, word, up_to, up_to_in}
-use Rattle.table.specs.Items.{Item, offer_of}
-use Rattle.pieces.specs.Pieces.{items}
-use Rattle.form.specs.Form.{Book, Form, number_of}
-use Rattle.promises.specs.declared.Update.{Update}
-use Rattle.promises.specs.declared.Update.TheVariants.{Done, Declined as UpdateDeclined}
-use Rattle.promises.specs.declared.Found.{Found}
-use Rattle.promises.specs.declared.Found.TheVariants.{Offer, Declined as FoundDeclined}
-use Rattle.promises.specs.declared.Listed.{Listed}
-use Rattle.promises.specs.declared.Listed.TheVariants.{Pieces, Declined as ListingDeclined}
-use Rattle.promises.specs.declared.Reported.{Reported}
-use Rattle.promises.specs.declared.Reported.TheVariants.{Offers, Declined as ReportDeclined}
-use Rattle.promises.specs.Promises.{part_of, update_answer, found_answer, listing_answer, report_answer}
+use Rattle.table.specs.Items.{Item}
+use Rattle.form.specs.Form.{Book, Form}
+use Rattle.promises.specs.Promises.{part_of}
 use Rattle.promises.specs.Numbered.{numbered}
-use Rattle.meet_books.specs.declared.Met.{Met}
-use Rattle.meet_books.specs.Promises.{meet_trials, Found as MeetsAt}
-use Rattle.chart.specs.Promises.{plain_mark}
-use Rattle.vouchers.specs.Span.{due}
-use Rattle.vouchers.proofs.Span.{only_due}
-use Rattle.reading.specs.Promises.{piece_of as handed_of, listed_at, root_pieces, PlaceOf, at_piece, past_last, Before}
-use Rattle.reading.specs.PartReading.{none_past, listed_is}
-use Rattle.answers.specs.Promises.{refusal, update_number, found_number, listed_number, reported_number, meet_number, mark_number, place_number}
-use Rattle.answers.specs.Promises.{found_of, met_of, piece_of, over}
-use Rattle.answers.specs.Promises.{Updated, Queried, Listing, Report, MetBooks, MarkAsked, Vouchered, Begun, Steps, Pieced, place_of}
+use Rattle.reading.specs.Promises.{listed_at, root_pieces, PlaceOf, at_piece, past_last, Before}
+use Rattle.reading.specs.PartReading.{none_past}
+use Rattle.answers.specs.Promises.{place_number}
+use Rattle.answers.specs.Promises.{piece_of, over}
+use Rattle.answers.specs.Promises.{Updated, Queried, Listing, Report, Steps, Pieced, place_of}
 use Rattle.answers.specs.PlainNumbers.{ReadTo, Stands, answer_number, begun, found_number_lem, listed_number_lem, many, onward, place_is, reported_number_lem, update_number_lem}
 
 pub updated_plainly :

@@ -7,7 +7,8 @@ ghost use Rattle.reading.specs.Promises.{Before, Hands};
 ghost use Rattle.reading_steps.specs.ReadingSteps.{Begins, Advances, HandsAt};
 ghost use Rattle.promises.specs.Promises.{part_of};
 
-use reading::Handed;
+use causes::Declined;
+use reading::Piece;
 
 #[derive(Drop)]
 pub struct Reading<'a> {
@@ -46,7 +47,7 @@ pub fn begin<'a>(table: &'a [i64], start: usize) -> Reading<'a>
 }
 
 // The piece to hand out next.
-pub fn piece<'a>(r: Reading<'a>) -> Handed
+pub fn piece<'a>(r: Reading<'a>) -> Result<Option<Piece>, Declined>
     ensures { Hands r.entry.start r.entry.table.now r.entry.place result }
 {
     reading::piece_at(r.table, r.start, r.place)
@@ -65,7 +66,7 @@ pub fn advance<'a>(r: Reading<'a>) -> Reading<'a>
 }
 
 // What a reading of the book at `start` hands out after `n` pieces. It has plain parameters, so any caller can use it.
-pub fn nth_piece(table: &[i64], start: usize, n: u32) -> Handed
+pub fn nth_piece(table: &[i64], start: usize, n: u32) -> Result<Option<Piece>, Declined>
     ensures { HandsAt start table.now n result }
 {
     let place = nth_place(table, start, n);
