@@ -7,6 +7,8 @@ ghost use Rattle.chart.specs.Promises.{Marks};
 ghost use Rattle.chart.specs.ChartWalks.{SlotOf};
 ghost use Rattle.chart.specs.Marking.{crossing_at, PartMark};
 
+use table::Part;
+
 // What asking for a mark answers: the mark, or the number of the cause for which it was declined.
 #[derive(Drop)]
 pub enum Marked {
@@ -31,9 +33,10 @@ fn slot_of(part: &[i64], root: u32, i: u32) -> u32
 fn crossing_at(part: &[i64], slot: u32) -> marks::Mark
     ensures { told result ≡ crossing_at part.now slot }
 {
-    let n = prices::numerator(part, slot);
-    let d = prices::denominator(part, slot);
-    let p = prices::crossing_price(part, slot);
+    let read = Part::of(part);
+    let n = prices::numerator(&read, slot);
+    let d = prices::denominator(&read, slot);
+    let p = prices::crossing_price(&read, slot);
     marks::crossing(n, d, p)
 }
 
@@ -51,11 +54,11 @@ fn part_mark(part: &[i64], index: i64) -> Marked
     }
     let i = table::up_to(table::MOST_SLOTS, index);
     if i < 1 {
-        return Marked::Mark(marks::open_end(prices::rate(part, slot_of(part, root, 0))));
+        return Marked::Mark(marks::open_end(prices::rate(&Part::of(part), slot_of(part, root, 0))));
     }
     let s = slot_of(part, root, i - 1);
     if i == m {
-        return Marked::Mark(marks::open_end(prices::rate(part, s)));
+        return Marked::Mark(marks::open_end(prices::rate(&Part::of(part), s)));
     }
     Marked::Mark(crossing_at(part, s))
 }

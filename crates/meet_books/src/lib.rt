@@ -9,6 +9,8 @@ ghost use Rattle.meet_books.specs.Promises.{MeetsBooks};
 ghost use Rattle.meet_books.specs.Apart.{SetsApart};
 ghost use Rattle.meet_books.specs.Searching.{Searches, MeetsParts};
 
+use table::Part;
+
 // What a meeting answers: the numbers of u's and v's offers, the steps of the search and the heights of the two trees, or the number of the
 // cause for which it was declined.
 #[derive(Drop)]
@@ -48,7 +50,7 @@ fn search_roots(left: &[i64], right: &[i64]) -> Met
 {
     let l = form::envelope_root(left);
     let r = form::envelope_root(right);
-    let m = search::meet(left, right, l, r);
+    let m = search::meet(&Part::of(left), &Part::of(right), l, r);
     let u = table::get(left, table::NUMBER, m.u);
     let v = table::get(right, table::NUMBER, m.v);
     let hl = table::height(left, table::PIECES, l);

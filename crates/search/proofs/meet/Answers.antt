@@ -1,9 +1,9 @@
--- `search::meet_in` meets its contract. The loop's invariant: the state stands for the machine's after as many steps.
+-- `search::meet` meets its contract. The loop's invariant: the state stands for the machine's after as many steps.
 use Prim.Native.Nat.{◌≤◌, ◌-◌}
 use native.Mathlib.Omega.{arith}
 use borrow.Author.Rules.{rules}
 use Rattle.search.specs.Runs.{Going, going_start, going_on, going_done, going_over}
-use Rattle.search.proofs.meet_in.Goals as goal
+use Rattle.search.proofs.meet.Goals as goal
 
 pub loop-steps-init : goal.loop-steps-init
 loop-steps-init c = (omega arith, going_start c.start-s.ensures)
