@@ -6,6 +6,7 @@ ghost use Rattle.std.specs.Int.Signed.{le_z};
 ghost use Rattle.prices.specs.Positions.{position_of, is_apart};
 ghost use Rattle.prices.specs.Prices.{rate_at, base_at, numerator_at, denominator_at, crossing_price_at, Priced, price_in, kept_in, above_at};
 
+use std::cmp::Ordering;
 use table::Part;
 
 pub fn rate(part: &Part<'_>, slot: u32) -> i64
@@ -61,25 +62,11 @@ pub fn crossing_price(part: &Part<'_>, slot: u32) -> i64
     )
 }
 
-// Where a point lies against a line.
-#[derive(Drop)]
-pub enum Position {
-    Below,
-    On,
-    Above,
-}
-
-// The one comparison of a point with a line: by the point's price, and the line's at the point's load.
-pub fn compare(point: i64, line: i64) -> Position
+// The one comparison of a point with a line, less where the point lies below it: by the point's price, and the line's at the point's load.
+pub fn compare(point: i64, line: i64) -> Ordering
     ensures { result ≡ position_of point line }
 {
-    if point < line {
-        return Position::Below;
-    }
-    if line < point {
-        return Position::Above;
-    }
-    Position::On
+    point.cmp(&line)
 }
 
 // Not on it: on it a query has its tie. This reading and the next give a test, and not three ways: where the outcome only selects a value, no branch comes
@@ -87,22 +74,14 @@ pub fn compare(point: i64, line: i64) -> Position
 pub fn apart(point: i64, line: i64) -> bool
     ensures { result ≡ is_apart (position_of point line) }
 {
-    match compare(point, line) {
-        Position::Below => true,
-        Position::On => false,
-        Position::Above => true,
-    }
+    compare(point, line).is_ne()
 }
 
 // On it or above: what the three cases of a meeting ask, and where a query goes on to the right.
 pub fn on_or_above(point: i64, line: i64) -> bool
     ensures { result ≡ le_z line point }
 {
-    match compare(point, line) {
-        Position::Below => false,
-        Position::On => true,
-        Position::Above => true,
-    }
+    compare(point, line).is_ge()
 }
 
 // The slot in which a node is kept.
