@@ -150,20 +150,21 @@ fn start(l: u32, r: u32) -> Search
     }
 }
 
-// The search from the roots `l` and `r`. At most 3 × (24 + 24) + 1 steps: on two trees of envelopes that face each other they suffice.
+// Three for each level of the two trees and one: on two trees of envelopes that face each other they suffice.
+const MOST_STEPS: u32 = 3 * (24 + 24) + 1;
+
+// The search from the roots `l` and `r`.
 pub fn meet(left: &Part<'_>, right: &Part<'_>, l: u32, r: u32) -> Met
     ensures { Meets left.now right.now l r result }
 {
     let mut s = start(l, r);
-    let mut steps: u32 = 0;
-    while steps < 145 {
+    for before in 0..MOST_STEPS {
         s = step(left, right, s);
-        steps += 1;
         if s.done {
             return Met {
                 u: s.u,
                 v: s.v,
-                steps,
+                steps: before + 1,
                 done: true,
             };
         }
@@ -171,7 +172,7 @@ pub fn meet(left: &Part<'_>, right: &Part<'_>, l: u32, r: u32) -> Met
     Met {
         u: s.u,
         v: s.v,
-        steps,
+        steps: MOST_STEPS,
         done: false,
     }
 }
