@@ -59,7 +59,7 @@ fn both_leaves(u: u32, v: u32) -> bool
     u <= table::MOST_SLOTS && v <= table::MOST_SLOTS
 }
 
-// What a step does at u and v, each with its stack.
+// What a step does at u and v, each with its stack; nothing at the end of the search.
 fn choose(
     left: &Part<'_>,
     right: &Part<'_>,
@@ -69,29 +69,24 @@ fn choose(
     v: u32,
     vs: &[u32; STACK],
     vd: usize,
-) -> Move
+) -> Option<Move>
     ensures { Chooses left.now right.now u (top_in us.now ud) v (top_in vs.now vd) result }
 {
     let p = point(u, us, ud);
     let q = point(v, vs, vd);
     if prices::above(left, p, right, v) {
-        return recede(left, right, false, u, top(us, ud), v, q);
+        return Some(recede(left, right, false, u, top(us, ud), v, q));
     }
     if prices::above(right, q, left, u) {
-        return recede(right, left, true, v, top(vs, vd), u, p);
+        return Some(recede(right, left, true, v, top(vs, vd), u, p));
     }
     if both_leaves(u, v) {
-        return Move {
-            u: Action::Stay,
-            v: Action::Stay,
-            done: true,
-        };
+        return None;
     }
-    Move {
+    Some(Move {
         u: Action::Advance,
         v: Action::Advance,
-        done: false,
-    }
+    })
 }
 
 // One step of the search. Whatever the walks do, u and v are noted above their stacks' tops, where an advance finds them pushed:
@@ -109,22 +104,16 @@ fn step(left: &Part<'_>, right: &Part<'_>, s: Search) -> Search
     if vd < STACK {
         vs[vd] = s.v;
     }
-    let m = choose(left, right, s.u, &us, ud, s.v, &vs, vd);
-    if m.done {
+    let Some(m) = choose(left, right, s.u, &us, ud, s.v, &vs, vd) else {
         return Search {
-            u: s.u,
-            v: s.v,
             us,
-            ud,
             vs,
-            vd,
             done: true,
+            ..s
         };
-    }
-    let by_u = m.u;
-    let by_v = m.v;
-    let a = act(left, false, by_u, s.u, &us, ud);
-    let b = act(right, true, by_v, s.v, &vs, vd);
+    };
+    let a = act(left, false, m.u, s.u, &us, ud);
+    let b = act(right, true, m.v, s.v, &vs, vd);
     Search {
         u: a.at,
         v: b.at,

@@ -20,12 +20,11 @@ pub enum Action {
     Pop,
 }
 
-// What u and v do in a step, and whether it is the last.
+// What u and v do in a step.
 #[derive(Drop)]
 pub struct Move {
     pub u: Action,
     pub v: Action,
-    pub done: bool,
 }
 
 // Where a walk stands: its node, and how many nodes it pushed.
@@ -119,20 +118,12 @@ pub fn act(
     }
 }
 
-// Two actions that do not end the search, the first of the given side.
+// Two actions, the first of the given side.
 pub fn pair(side: bool, a: Action, b: Action) -> Move
     ensures { result ≡ sided side a b }
 {
     if side {
-        return Move {
-            u: b,
-            v: a,
-            done: false,
-        };
+        return Move { u: b, v: a };
     }
-    Move {
-        u: a,
-        v: b,
-        done: false,
-    }
+    Move { u: a, v: b }
 }
