@@ -8,6 +8,7 @@ ghost use Rattle.chart.specs.ChartWalks.{SlotOf};
 ghost use Rattle.chart.specs.Marking.{crossing_at, PartMark};
 
 use causes::Declined;
+use table::Part;
 
 // The slot of piece `i`, counted from 0: along the thread from the first.
 fn slot_of(part: &[i64], root: u32, i: u32) -> u32
@@ -26,9 +27,10 @@ fn slot_of(part: &[i64], root: u32, i: u32) -> u32
 fn crossing_at(part: &[i64], slot: u32) -> marks::Mark
     ensures { told result ≡ crossing_at part.now slot }
 {
-    let n = prices::numerator(part, slot);
-    let d = prices::denominator(part, slot);
-    let p = prices::crossing_price(part, slot);
+    let read = Part::of(part);
+    let n = prices::numerator(&read, slot);
+    let d = prices::denominator(&read, slot);
+    let p = prices::crossing_price(&read, slot);
     marks::crossing(n, d, p)
 }
 
@@ -46,11 +48,11 @@ fn part_mark(part: &[i64], index: i64) -> Result<marks::Mark, Declined>
     }
     let i = table::up_to(table::MOST_SLOTS, index);
     if i < 1 {
-        return Ok(marks::open_end(prices::rate(part, slot_of(part, root, 0))));
+        return Ok(marks::open_end(prices::rate(&Part::of(part), slot_of(part, root, 0))));
     }
     let s = slot_of(part, root, i - 1);
     if i == m {
-        return Ok(marks::open_end(prices::rate(part, s)));
+        return Ok(marks::open_end(prices::rate(&Part::of(part), s)));
     }
     Ok(crossing_at(part, s))
 }

@@ -7,18 +7,22 @@ ghost use Rattle.check_trees.specs.Deciding.{Decides};
 ghost use Rattle.check_bridges.specs.Gaps.{base_gap, rate_gap, cross_at};
 ghost use Rattle.check_bridges.specs.StoredBridges.{Bridges, Ends, Follows, Threads};
 
+use table::Part;
+
 // The numerator of the crossing of the lines in two slots.
 fn base_gap(part: &[i64], a: u32, b: u32) -> i64
     ensures { result ≡ base_gap part.now a b }
 {
-    prices::base(part, b) - prices::base(part, a)
+    let read = Part::of(part);
+    prices::base(&read, b) - prices::base(&read, a)
 }
 
 // The denominator.
 fn rate_gap(part: &[i64], a: u32, b: u32) -> i64
     ensures { result ≡ rate_gap part.now a b }
 {
-    prices::rate(part, a) - prices::rate(part, b)
+    let read = Part::of(part);
+    prices::rate(&read, a) - prices::rate(&read, b)
 }
 
 // Slot `a` leads to slot `b` and keeps the crossing with its line.

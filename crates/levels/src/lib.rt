@@ -9,6 +9,8 @@ ghost use Rattle.pieces.specs.Pieces.{CattedAfter, CattedBefore};
 ghost use Rattle.levels.specs.Levels.{LoweredIn, RaisedIn};
 ghost use Rattle.levels.specs.RaisingRests.{RestSet};
 
+use table::Part;
+
 // A subtree in hand: its root in the tree of offers, and the root of its envelope.
 #[derive(Clone, Copy)]
 pub struct Held {
@@ -108,7 +110,8 @@ pub fn raise(part: &mut [i64], gap: u32, l: Held, r: Held) -> Made
     ensures { RaisedIn gap l r part.old part.new result }
 {
     let k = table::capacity(part);
-    let m = search::meet_in(part, k, part, k, l.envelope, r.envelope);
+    let read = Part::with_capacity(part, k);
+    let m = search::meet(&read, &read, l.envelope, r.envelope);
     let h = table::height_in(part, k, table::PIECES, l.envelope)
         + table::height_in(part, k, table::PIECES, r.envelope);
     let c = cuts::cut_behind(part, k, m.u, gap, l.envelope);

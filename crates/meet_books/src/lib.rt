@@ -10,6 +10,7 @@ ghost use Rattle.meet_books.specs.Apart.{SetsApart};
 ghost use Rattle.meet_books.specs.Searching.{Searches, MeetsParts};
 
 use causes::Declined;
+use table::Part;
 
 // What a meeting answers: the numbers of u's and v's offers, the steps of the search and the heights of the two trees.
 #[derive(Clone, Copy)]
@@ -46,7 +47,7 @@ fn search_roots(left: &[i64], right: &[i64]) -> Meeting
 {
     let l = form::envelope_root(left);
     let r = form::envelope_root(right);
-    let m = search::meet(left, right, l, r);
+    let m = search::meet(&Part::of(left), &Part::of(right), l, r);
     let u = table::get(left, table::NUMBER, m.u);
     let v = table::get(right, table::NUMBER, m.v);
     let hl = table::height(left, table::PIECES, l);

@@ -5,6 +5,7 @@
 ghost use Rattle.std.specs.Prelude.{◌<◌};
 
 use std::io;
+use table::Part;
 
 // The rates fall from slot to slot.
 fn rate_of(s: usize) -> u32 {
@@ -159,5 +160,6 @@ fn main(rt: HostRuntime) -> io::Result<()> {
         descents::end(&words, 0, true, y),
         120,
     )?;
-    meeting(&rt, search::meet(&words, &words, y, r), all)
+    let read = Part::of(&words);
+    meeting(&rt, search::meet(&read, &read, y, r), all)
 }

@@ -10,9 +10,7 @@ use Rattle.table.specs.Words.{Words}
 use Rattle.table.specs.Layout.{cap}
 use Rattle.table.specs.Items.{Item}
 use Rattle.table.specs.Nodes.{ref_low}
-use Rattle.prices.specs.declared.Position.{Position}
-use Rattle.prices.specs.declared.Position.TheVariants.{Below as LiesBelow, On, Above}
-use Rattle.prices.specs.Positions.{on_or_above}
+use Rattle.prices.specs.Positions.{Position, Below as LiesBelow, On, Above, on_or_above}
 use Rattle.query.specs.Lookup.{Reached, against, deeper, kept_or, walk, lookup, walk_turned}
 use Rattle.query.specs.Readings.{kept_at, toward_at, mind_at, kept_else}
 use Rattle.query.specs.QueriedPieces.{Pieces, Opened, opened, at_leaf}

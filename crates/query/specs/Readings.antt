@@ -9,8 +9,7 @@ use Rattle.table.specs.Fields.{base_field, denominator_field, most_slots, numera
 use Rattle.table.specs.Words.{Words}
 use Rattle.table.specs.Layout.{cell, link_at}
 use Rattle.table.specs.Rep.{bit, child_field}
-use Rattle.prices.specs.declared.Position.{Position}
-use Rattle.prices.specs.Positions.{position_of, is_apart, on_or_above}
+use Rattle.prices.specs.Positions.{Position, position_of, is_apart, on_or_above}
 use Rattle.query.specs.declared.Turn.{Turn}
 use Rattle.query.specs.declared.Step.{Step}
 use Rattle.query.specs.declared.Step.TheVariants.{To, Off}

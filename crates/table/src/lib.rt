@@ -12,6 +12,10 @@ ghost use Rattle.table.specs.Free.{first_free, taken, given};
 ghost use Rattle.table.specs.Cells.{Placed};
 ghost use Rattle.table.specs.Rep.{child_field, height_field, child_at, height_at};
 
+mod part;
+
+pub use part::Part;
+
 // The header's words.
 pub const CAPACITY: usize = 0;
 

@@ -42,7 +42,7 @@ returns-then-i-lt1 c = let m = c.count-m in
     let i : c.args.index ≡ pos 0 = j.0 ∙ ap pos (first c.if-i-lt1.true) in
     subst (λ (z : ℤ). PartMark c.args.part.now z (Ok c.open_end.result)) (sym i)
     (part_first c.envelope_root-root.ensures m.ensures c.if-m-lt1.false c.slot_of.ensures
-    ((simp (to_z-of_z, f) at c.open_end.ensures) ∙ ap open_end c.rate.ensures))
+    ((simp (to_z-of_z, f) at c.open_end.ensures) ∙ ap open_end (rw c.of.ensures at c.rate.ensures)))
 
 pub returns-then-i-m : goal.returns-then-i-m
 returns-then-i-m c = let m = c.count-m in
@@ -54,7 +54,7 @@ returns-then-i-m c = let m = c.count-m in
     subst (λ (z : ℤ). PartMark c.args.part.now z (Ok c.open_end-then-i-m.result)) (sym j.0)
     (part_last c.envelope_root-root.ensures m.ensures c.if-m-lt1.false c.up_to-i.result c.if-i-lt1.false
     c.slot_of-s.ensures
-    c.if-i-m.true ((simp (to_z-of_z, f) at c.open_end-then-i-m.ensures) ∙ ap open_end c.rate-then-i-m.ensures))
+    c.if-i-m.true ((simp (to_z-of_z, f) at c.open_end-then-i-m.ensures) ∙ ap open_end (rw c.of-then-i-m.ensures at c.rate-then-i-m.ensures)))
 
 pub returns : goal.returns
 returns c = let m = c.count-m in

@@ -50,6 +50,6 @@ cat_at-e-requires c = let after-cuts = still_known (still_known c.capacity-k.ens
     still_put _ _ _ _ after-u c.put_link_in-2.ensures
 
 pub returns : goal.returns
-returns c = raised refl (met_in c.meet_in-m.ensures) (ap₂ ◌+◌ c.height_in.ensures c.height_in-2.ensures)
+returns c = raised refl (met_in (rw c.with_capacity-read.ensures at c.meet-m.ensures)) (ap₂ ◌+◌ c.height_in.ensures c.height_in-2.ensures)
     c.cut_behind-c.ensures c.cut_before-d.ensures c.set_rest.ensures c.set_rest-2.ensures
     c.make_node_in-x.ensures c.put_link_in.ensures c.put_link_in-2.ensures c.cat_at-e.ensures
