@@ -9,7 +9,6 @@ use Rattle.table.specs.Fields.{most_levels, most_slots}
 use Rattle.table.specs.Words.{Words}
 use Rattle.table.specs.Layout.{cap}
 use Rattle.table.specs.Items.{Item}
-use Rattle.table.specs.Nodes.{ref_low}
 use Rattle.prices.specs.declared.Position.{Position}
 use Rattle.prices.specs.declared.Position.TheVariants.{Below as LiesBelow, On, Above}
 use Rattle.prices.specs.Positions.{on_or_above}

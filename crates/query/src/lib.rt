@@ -32,19 +32,17 @@ struct Turn {
 fn side_of(point: i64, line: i64) -> usize
     ensures { result ≡ bit (on_or_above (position_of point line)) }
 {
-    if prices::on_or_above(point, line) {
-        return 1;
-    }
-    0
+    prices::on_or_above(point, line) as usize
 }
 
 fn kept_at(point: i64, line: i64, slot: u32, before: u32) -> u32
     ensures { result ≡ kept_at (position_of point line) slot before }
 {
     if prices::apart(point, line) {
-        return before;
+        before
+    } else {
+        slot
     }
-    slot
 }
 
 // The way on from the crossing n / d that `slot` keeps: where the piece on its left, at the load, lies against the next one. Both prices are taken less
@@ -123,10 +121,7 @@ fn astray(probes: u32) -> Probe
 fn kept_else(kept: u32, slot: u32) -> u32
     ensures { result ≡ kept_else kept slot }
 {
-    if kept < 1 {
-        return slot;
-    }
-    kept
+    if kept < 1 { slot } else { kept }
 }
 
 // From the root to the piece with the lowest rate of those that are the cheapest at the load. There are two where the load is at a crossing: the inner
@@ -164,10 +159,7 @@ pub fn number(part: &[i64], slot: u32) -> i64
     ensures { result ≡ cell part.now number_field slot }
 {
     let c = table::capacity(part);
-    if slot < 1 {
-        return 0;
-    }
-    if c < slot {
+    if slot < 1 || c < slot {
         return 0;
     }
     part[table::address(c, table::NUMBER, slot)]
@@ -178,10 +170,7 @@ pub fn price(part: &[i64], slot: u32, load: i64) -> i64
     ensures { result ≡ price_in part.now slot load }
 {
     let c = table::capacity(part);
-    if slot < 1 {
-        return 0;
-    }
-    if c < slot {
+    if slot < 1 || c < slot {
         return 0;
     }
     let at = table::address(c, table::NUMBER, slot);
