@@ -37,16 +37,11 @@ pub fn cat_at(part: &mut [i64], c: u32, l: u32, r: u32, s: u32, n: u32) -> u32
 }
 
 // The same, where the two pieces are not known.
+// Three functions, by which of the two are known: each asks and promises less or more than the others.
 fn cat_in(part: &mut [i64], c: u32, l: u32, r: u32) -> u32
     requires { c ≡ cap part.old }
     ensures { Catted l r part.old part.new result }
 {
-    if l == 0 {
-        return r;
-    }
-    if r == 0 {
-        return l;
-    }
     let s = descents::end_in(part, c, table::PIECES, true, l);
     let n = descents::end_in(part, c, table::PIECES, false, r);
     cat_at(part, c, l, r, s, n)
