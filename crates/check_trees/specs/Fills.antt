@@ -1,8 +1,7 @@
 -- A tree's leaves written into a scratch array, in order: what the walk promises, and the ways through its code.
-use Rattle.std.specs.Prelude.{◌≡◌, refl, true, false, Option, None, Some, IfSome, IsSome, List, ℕ, suc, ◌+◌, ◌-◌, ◌≤◌, ◌<◌, max, length, get_or, set}
+use Rattle.std.specs.Prelude.{◌≡◌, refl, Option, None, Some, IfSome, IsSome, List, ℕ, suc, ◌+◌, ◌-◌, ◌≤◌, ◌<◌, max, length, get_or, set}
 use Rattle.std.proofs.Common.{sym, ◌∙◌, subst, arith, length-set, get_or-set_same, get_or-set_other}
 use mathlib.Core.List.Memᴰ
-use Rattle.lists.specs.Bools.{never}
 use Rattle.trees.specs.Tree.{Tree, leaf, node, height, leaves, avl_leaf}
 use Rattle.trees.specs.Leaves.{some_leaf}
 use Rattle.table.specs.Fields.{most_nodes, most_slots}
@@ -124,10 +123,6 @@ pub record Covered (w : Words) (k x : ℕ) (xs : List ℕ) (a b f : Filled) : Ty
 pub record Covers (w : Words) (k x : ℕ) (xs : List ℕ) (a b : Filled) (r : Option Filled) : Type 0 where
   pub sound : IfSome r (Covered w k x xs a b)
   pub complete : Levelled w k x (get_or xs (a.next - 1) 0) a.height b.height → IsSome r
-
-pub covers_not : {w : Words} {k x : ℕ} {xs : List ℕ} {a b : Filled} → (Levelled w k x (get_or xs (a.next - 1) 0) a.height b.height → ⊥) →
-    Covers w k x xs a b None
-covers_not f = record { sound = tt; complete = λ p. absurd (f p) }
 
 pub covers : {w : Words} {k x s h n : ℕ} {xs : List ℕ} {a b : Filled} → s ≡ x - most_slots → get_or xs (a.next - 1) 0 ≡ s → a.height ≤ b.height + 1 →
     b.height ≤ a.height + 1 → h ≡ height_at w k x → n ≡ suc (max a.height b.height) → h ≡ n →

@@ -126,42 +126,24 @@ pub fn same(scratch: &[u32; SCRATCH], a: usize, b: usize, count: usize) -> bool
     requires { (a + count ≤ scratch_length) × (b + count ≤ scratch_length) }
     ensures { Decides result (Agree scratch.now a b count) }
 {
-    let mut k = 0;
-    while k < count {
-        if entry(scratch, a + k) != entry(scratch, b + k) {
-            return false;
-        }
-        k += 1;
-    }
-    true
+    scratch[a..a + count] == scratch[b..b + count]
 }
 
-// The first place of `slot` from `from` up to `to`, and `to` where it has none.
-pub fn place(scratch: &[u32; SCRATCH], from: usize, to: usize, slot: u32) -> usize
+// The first place of `slot` from `from` up to `to`, if it has one.
+pub fn place(scratch: &[u32; SCRATCH], from: usize, to: usize, slot: u32) -> Option<usize>
     requires { (from ≤ to) × (to ≤ scratch_length) }
     ensures { PlaceOf scratch.now from to slot result }
 {
-    let mut i = from;
-    while i < to {
-        if entry(scratch, i) == slot {
-            return i;
-        }
-        i += 1;
-    }
-    i
+    let k = scratch[from..to].iter().position(|s| *s == slot)?;
+    Some(from + k)
 }
 
 // Moves the `count` entries from `from` on down to `to`.
 pub fn shift(scratch: &mut [u32; SCRATCH], to: usize, from: usize, count: usize)
-    requires { (length scratch.old ≡ scratch_length) × (to ≤ from) × (from + count ≤ scratch_length) }
+    requires { (to ≤ from) × (from + count ≤ scratch_length) }
     ensures { Moved scratch.old scratch.new to from count }
 {
-    let mut k = 0;
-    while k < count {
-        let value = entry(scratch, from + k);
-        scratch[to + k] = value;
-        k += 1;
-    }
+    scratch.copy_within(from..from + count, to);
 }
 
 // A field falls from one slot to another.
@@ -176,14 +158,7 @@ pub fn falling(part: &[i64], field: usize, scratch: &[u32; SCRATCH], from: usize
     requires { (from ≤ to) × (to ≤ scratch_length) }
     ensures { Decides result (Every (FallsHere part.now field scratch.now) from (to - 1)) }
 {
-    let mut i = from;
-    while i + 1 < to {
-        if !falls(part, field, entry(scratch, i), entry(scratch, i + 1)) {
-            return false;
-        }
-        i += 1;
-    }
-    true
+    scratch[from..to].is_sorted_by(|a, b| falls(part, field, *a, *b))
 }
 
 // A slot's field is from `low` to `high`.
@@ -207,12 +182,5 @@ pub fn all_ranged(part: &[i64], scratch: &[u32; SCRATCH], from: usize, to: usize
     requires { (from ≤ to) × (to ≤ scratch_length) }
     ensures { Decides result (Every (RangedHere part.now scratch.now) from to) }
 {
-    let mut i = from;
-    while i < to {
-        if !ranged(part, entry(scratch, i)) {
-            return false;
-        }
-        i += 1;
-    }
-    true
+    scratch[from..to].iter().all(|slot| ranged(part, *slot))
 }

@@ -1,6 +1,6 @@
 -- `check_trees::fill` meets its contract, by recursion on the limit.
 use Rattle.check_trees.specs.Fills.{fills_as}
-use Rattle.check_trees.specs.FillWalks.{fills_deep, fills_left_not, fills_right_not, ended, fills_node}
+use Rattle.check_trees.specs.FillWalks.{fills_deep, fills_left_not, fills_right_not, fills_node}
 use Rattle.check_trees.proofs.+fill.Goals as goal
 
 pub returns-then-x-le-MOST_SLOTS : goal.returns-then-x-le-MOST_SLOTS
