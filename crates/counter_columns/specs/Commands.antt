@@ -19,8 +19,12 @@ use Rattle.counter_field.specs.Reading.{FieldRead, holds_told}
 use Rattle.counter_print.specs.Sections.{between}
 use Rattle.counter_columns.specs.CallLines.{letter, Shape, PostColumns, LastColumns, line_shape, shape_line, line_length}
 
+-- What a line tells: a command, where it is a call's.
+abbrev pub LineCommand : Type 0
+LineCommand = Option Command
+
 -- The command of a call, where it has one. A listing's room is no part of it.
-abbrev pub as_command : Call → Option Command
+abbrev pub as_command : Call → LineCommand
 as_command (post number rate base) = Some (Post number rate base)
 as_command (withdraw number) = Some (Withdraw number)
 as_command (query load) = Some (Query load)
@@ -29,7 +33,7 @@ as_command take_back = None
 as_command (report load price room) = None
 
 -- The command is a call's exactly where the line is that call's, and there is none where the line is no call's.
-abbrev pub Parsed : List ℕ → Option Command → Type 0
+abbrev pub Parsed : List ℕ → LineCommand → Type 0
 Parsed line (Some m) = ((k : Call) → (Some m ≡ as_command k) ↔ IsLineOf k line)
 Parsed line None = ((k : Call) → IsLineOf k line → ⊥)
 
@@ -101,7 +105,7 @@ told_line {m = Listing} p = (p (listing 0)).0 refl
 
 -- ---- one line has one answer
 
-pub parsed_unique : (line : List ℕ) (r s : Option Command) → Parsed line r → Parsed line s → r ≡ s
+pub parsed_unique : (line : List ℕ) (r s : LineCommand) → Parsed line r → Parsed line s → r ≡ s
 parsed_unique line (Some (Post n r b)) (Some s) p q = sym ((q (post n r b)).1 ((p (post n r b)).0 refl))
 parsed_unique line (Some (Withdraw n)) (Some s) p q = sym ((q (withdraw n)).1 ((p (withdraw n)).0 refl))
 parsed_unique line (Some (Query x)) (Some s) p q = sym ((q (query x)).1 ((p (query x)).0 refl))
@@ -137,12 +141,12 @@ line_known k line = go (has_line_known k) (List-discrete ℕ_discrete line (line
     go (yes f) (no e) = no (λ i. e i.text)
     go (no f) d = no (λ i. f i.fits)
 
-command_if : (m : Command) {line : List ℕ} → Dec (IsLineOf (some_call m) line) → Option Command
+command_if : (m : Command) {line : List ℕ} → Dec (IsLineOf (some_call m) line) → LineCommand
 command_if m (yes i) = Some m
 command_if m (no n) = None
 
 -- `Parsed` fixes it.
-pub command_of : List ℕ → Option Command
+pub command_of : List ℕ → LineCommand
 command_of line = command_if (decode line) (line_known (some_call (decode line)) line)
 
 pub command_parsed : (line : List ℕ) → Parsed line (command_of line)
