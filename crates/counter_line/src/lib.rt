@@ -24,7 +24,10 @@ pub fn answer(table: &mut [i64], line: &[u8], out: &mut [u8]) -> usize
     if out.len() < 2535 {
         return 0;
     }
-    let command = counter_columns::parse(line);
+    let Some(command) = counter_columns::parse(line) else {
+        counter_print::answer_line(out, b'?', 11, 0, 0, 0);
+        return 39;
+    };
     match command {
         Command::Post(number, rate, base) => {
             let update = book::post(table, 0, number, rate, base);
@@ -40,10 +43,6 @@ pub fn answer(table: &mut [i64], line: &[u8], out: &mut [u8]) -> usize
         }
         Command::List => {
             return list(table, out);
-        }
-        Command::Unreadable => {
-            counter_print::answer_line(out, b'?', 11, 0, 0, 0);
-            return 39;
         }
     }
 }
