@@ -15,10 +15,8 @@ fn slot_of(part: &[i64], root: u32, i: u32) -> u32
     ensures { SlotOf part.now root i result }
 {
     let mut s = descents::end(part, table::PIECES, false, root);
-    let mut k: u32 = 0;
-    while k < i {
+    for _ in 0..i {
         s = table::link(part, table::NEXT_PIECE, s);
-        k += 1;
     }
     s
 }

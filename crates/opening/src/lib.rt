@@ -29,9 +29,7 @@ fn lay(part: &mut [i64], capacity: u32)
     requires { (1 ≤ capacity) × (capacity ≤ most_slots) }
     ensures { Lays capacity part.old part.new }
 {
-    let mut n: u32 = 0;
-    while n + 1 < capacity {
-        n += 1;
+    for n in 1..capacity {
         table::put_link(part, table::NUMBER, n, 0);
         table::put_link(part, table::NEXT_FREE, n, n + 1);
     }

@@ -23,13 +23,11 @@ fn nth_place(table: &[i64], start: usize, n: u32) -> u32
     ensures { Before (part_of table.now start) n result }
 {
     let mut place = reading::first_place(table, start);
-    let mut i: u32 = 0;
-    while i < n {
+    for _ in 0..n {
         if place < 1 {
             return 0;
         }
         place = reading::place_after(table, start, place);
-        i += 1;
     }
     place
 }
@@ -57,11 +55,9 @@ pub fn piece<'a>(r: Reading<'a>) -> Result<Option<Piece>, Declined>
 pub fn advance<'a>(r: Reading<'a>) -> Reading<'a>
     ensures { Advances r.entry result }
 {
-    let place = reading::place_after(r.table, r.start, r.place);
     Reading {
-        table: r.table,
-        start: r.start,
-        place,
+        place: reading::place_after(r.table, r.start, r.place),
+        ..r
     }
 }
 
