@@ -4,7 +4,6 @@ use Rattle.levels.specs.Lowering.{lowered}
 use mir.Facts.{to_z-of_z}
 use mir.Syntax.{w64}
 use Rattle.std.proofs.Common.{FitsSigned}
-use borrow.Author.Rules.{rules}
 use Rattle.levels.proofs.lower.Goals as goal
 
 pub rest_in-ql-requires : goal.rest_in-ql-requires

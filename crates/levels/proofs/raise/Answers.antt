@@ -7,9 +7,8 @@ use Rattle.levels.specs.CodeLevels.{still_put}
 use Rattle.levels.specs.Raising.{raised}
 use Rattle.levels.specs.RaisingRests.{rest_within}
 use Rattle.levels.specs.RaisingSearch.{met_in}
-use mathlib.Core.Path.{refl, ◌∙◌, ap₂}
+use mathlib.Core.Path.{refl, ap₂}
 use native.Mathlib.Omega.{arith}
-use borrow.Author.Rules.{rules}
 use Rattle.levels.proofs.raise.Goals as goal
 
 pub overflow_add-heights : goal.overflow_add-heights

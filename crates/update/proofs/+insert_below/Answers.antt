@@ -1,6 +1,5 @@
 -- `update::insert_below` meets its contract, by recursion on the limit.
 use Rattle.update.specs.CodeUpdates.{inserted_none, inserted_step}
-use Rattle.std.proofs.Common.{ℕ, ◌<◌, arith, rules}
 use Rattle.update.proofs.+insert_below.Goals as goal
 
 pub returns-then-limit-eq0 : goal.returns-then-limit-eq0

@@ -1,6 +1,5 @@
 -- `update::remove_below` meets its contract, by recursion on the limit.
 use Rattle.update.specs.CodeUpdates.{removed_none, removed_single, removed_emptied, removed_step}
-use Rattle.std.proofs.Common.{ℕ, ◌<◌, arith, rules}
 use Rattle.update.proofs.+remove_below.Goals as goal
 
 pub returns-then-h-le-MOST_SLOTS : goal.returns-then-h-le-MOST_SLOTS
