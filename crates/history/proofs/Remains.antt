@@ -1,18 +1,11 @@
 -- Theorems on specs/Remains.
-use Rattle.std.specs.Prelude.{◌≡◌, refl, List, [], ℕ, length, ℤ, nat_abs, Result}
-use Rattle.std.proofs.Common.{sym, ◌∙◌, ap, subst}
-use Rattle.std.proofs.Math.Option.{Option, none}
+use Rattle.std.specs.Prelude.{refl, List, ℕ, length, ℤ, nat_abs, Result}
 use Rattle.plain.specs.Causes.{Clear}
-use Rattle.plain.specs.Book.{State, Call, Answer, opened, open_trials, after}
-use Rattle.plain.specs.Sound.{Sound, opened_sound}
-use Rattle.plain.specs.Remaining.{remaining, AllAccepted}
-use Rattle.plain.proofs.Remaining.{remaining_leaves}
-use Rattle.dynamic.specs.OfferTree.{Held}
-use Rattle.table.specs.Items.{Item}
-use Rattle.form.specs.Form.{plain_offers}
+use Rattle.plain.specs.Book.{Call, Answer, open_trials}
+use Rattle.plain.specs.Sound.{opened_sound}
 use Rattle.causes.specs.declared.Declined.{Declined}
 use Rattle.promises.specs.Promises.{Opens}
-use Rattle.history.specs.History.{History, Claim}
+use Rattle.history.specs.History.{History}
 use Rattle.history.proofs.Claim.{every_history}
 use Rattle.history.specs.Remains.{Stays, remaining_stands}
 

@@ -1,18 +1,14 @@
 -- Theorems on specs/AnswerCases.
-use Rattle.std.specs.Prelude.{◌≡◌, List, [], ◌∷◌, ℕ, zero, suc, ◌*◌, ◌≤◌, length, take, ℤ, pos, negsuc, Result}
-use Rattle.std.proofs.Common.{sym, ◌∙◌, ap, arith}
+use Rattle.std.specs.Prelude.{◌≡◌, List, ℕ, ℤ, pos, Result}
+use Rattle.std.proofs.Common.{◌∙◌}
 use Rattle.std.proofs.Math.Option.{Option}
-use Rattle.plain.specs.Book.{State, Call, query, listing, report, refused, live, found, listed, reported, step}
+use Rattle.plain.specs.Book.{State, Call, refused, step}
 use Rattle.dynamic.specs.OfferTree.{Held}
 use Rattle.table.specs.Items.{Item}
 use Rattle.form.specs.Form.{Form}
 use Rattle.causes.specs.declared.Declined.{Declined}
-use Rattle.causes.specs.Numbers.{number_of}
 use Rattle.promises.specs.declared.Update.{Update}
-use Rattle.promises.specs.declared.Found.{Found}
-use Rattle.promises.specs.Promises.{part_of, IsRefusal, counted, update_told, found_told, update_answer, found_answer, listing_answer, report_answer, Updates, Queries}
-use Rattle.promises.specs.Promises.{Lists, Reports}
-use Rattle.promises.specs.Numbered.{numbered}
+use Rattle.promises.specs.Promises.{part_of, IsRefusal, Updates}
 use Rattle.theorems.specs.AnswerCases.{plain_number, update_refused}
 
 module _ {start : ℕ} {t : List ℤ} {s : State} {held : Option (Held Item)} (f : Form (part_of t start) s held) where

@@ -1,6 +1,6 @@
 -- Demand 2 holds of every call: the promises give it on a table that stands for a book.
 use Rattle.std.specs.Prelude.{◌≡◌, refl, List, [], ◌∷◌, ℕ, ◌*◌, length, take, drop, ℤ, pos, negsuc, Result, Ok, Err}
-use Rattle.std.proofs.Common.{sym, ◌∙◌, ap, subst, arith}
+use Rattle.std.proofs.Common.{sym, ◌∙◌, ap, subst}
 use Rattle.std.proofs.Math.Option.{Option, none, some}
 use Rattle.offers.specs.Offers.{Offer}
 use Rattle.plain.specs.Causes.{Cause, cause_number, declined, Clear}

@@ -11,7 +11,7 @@ use Rattle.causes.specs.declared.Declined.{Declined}
 use Rattle.causes.specs.Numbers.{number_of}
 use Rattle.promises.specs.declared.Update.{Update}
 use Rattle.promises.specs.declared.Found.{Found}
-use Rattle.promises.specs.Promises.{part_of, IsRefusal, counted, update_told, found_told, update_answer, found_answer, listing_answer, report_answer, Updates, Queries}
+use Rattle.promises.specs.Promises.{part_of, IsRefusal, counted, update_told, found_told, update_answer, found_answer, listing_answer, report_answer, Queries}
 use Rattle.promises.specs.Promises.{Lists, Reports}
 use Rattle.promises.specs.Numbered.{numbered}
 

@@ -26,7 +26,7 @@ use Rattle.causes.specs.declared.Declined.{Declined}
 use Rattle.promises.specs.declared.Update.{Update}
 use Rattle.promises.specs.Promises.{part_of, Follows}
 use Rattle.form.specs.Form.{Book}
-use Rattle.form.specs.Live.{lines_ordered, lines_few, line_offer}
+use Rattle.form.specs.Live.{lines_few, line_offer}
 
 -- ---- the statement
 
