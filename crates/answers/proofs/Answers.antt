@@ -5,8 +5,8 @@ use Rattle.std.proofs.Math.IntN.{+ℤ_idl}
 use Rattle.std.specs.Int.Signed.{lt_z}
 use Rattle.std.specs.Int.{w64}
 use Rattle.plain.specs.Book.{Call}
-use Rattle.promises.specs.Promises.{Updates, Checks}
 use Rattle.causes.specs.declared.Declined.{Declined}
+use Rattle.promises.specs.Promises.{Updates, Checks}
 use Rattle.promises.specs.declared.Update.{Update}
 use Rattle.reading.specs.Promises.{told}
 use Rattle.answers.specs.Promises.{refusal, too_short, over, Tells, Lent, update_number, counts_of, Updated, Checked}

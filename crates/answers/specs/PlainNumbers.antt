@@ -1,6 +1,6 @@
 -- On tables that pass the check each number, and what goes with it, is the plain book's.
-use Rattle.std.specs.Prelude.{◌≡◌, refl, ◌≢◌, List, [], ◌∷◌, ℕ, suc, ◌*◌, ◌≤◌, length, take, drop, ℤ, pos, negsuc, neg_ℤ, Float, Result, Ok, Err}
-use Rattle.std.proofs.Common.{ap, sym, ◌∙◌, arith}
+use Rattle.std.specs.Prelude.{◌≡◌, refl, List, [], ◌∷◌, ℕ, suc, ◌≤◌, length, drop, ℤ, pos, negsuc, neg_ℤ, Float, Result, Ok, Err}
+use Rattle.std.proofs.Common.{ap, ◌∙◌, arith}
 use Rattle.std.proofs.Math.Option.{Option}
 use Rattle.std.proofs.lemmas.List.{length-map}
 use Rattle.plain.specs.Causes.{Cause, cause_number, FirstOf, Clear}
@@ -14,9 +14,8 @@ use Rattle.pieces.specs.Pieces.{items}
 use Rattle.form.specs.Form.{Book, number_of}
 use Rattle.causes.specs.declared.Declined.{Declined}
 use Rattle.causes.specs.Numbers.{number_of as cause_told}
-use Rattle.promises.specs.declared.Update.{Update}
 use Rattle.promises.specs.declared.Found.{Found}
-use Rattle.promises.specs.Promises.{part_of, counted, counted_by, update_told, count_told, update_answer, found_answer, listing_answer, report_answer}
+use Rattle.promises.specs.Promises.{part_of, counted, found_answer}
 use Rattle.meet_books.specs.declared.Meeting.{Meeting}
 use Rattle.meet_books.specs.Promises.{meet_trials, Found as MeetsAt}
 use Rattle.chart.specs.Promises.{plain_mark}
@@ -24,7 +23,7 @@ use Rattle.vouchers.specs.Span.{due}
 use Rattle.vouchers.proofs.Span.{only_due}
 use Rattle.reading.specs.Promises.{piece_of as handed_of, root_pieces, Before}
 use Rattle.reading.specs.PartReading.{listed_is}
-use Rattle.answers.specs.Promises.{refusal, first_or, update_number, found_number, count_number, meet_number, mark_number, place_number}
+use Rattle.answers.specs.Promises.{refusal, meet_number, mark_number, place_number}
 use Rattle.answers.specs.Promises.{found_of, met_of, over}
 use Rattle.answers.specs.Promises.{Queried, MetBooks, MarkAsked, Vouchered, Begun, Pieced, place_of}
 
@@ -35,21 +34,6 @@ answer_number (live n) = pos n
 answer_number (found number price second) = number
 answer_number (listed n ws) = pos n
 answer_number (reported n ws) = pos n
-
--- a count, or a refusal's number below 0
-counted_number : (f : ℕ → Answer) → ((n : ℕ) → answer_number (f n) ≡ pos n) → (c : ℤ) (values : List ℤ) (a : Answer) → a ≢ refused 0 →
-    counted_by f c values ≡ a → first_or c values ≡ answer_number a
-counted_number f g (pos n) [] a d e = ap answer_number e
-counted_number f g (negsuc n) [] a d e = absurd (d (sym e))
-counted_number f g c (pos n ∷ more) a d e = sym (g n) ∙ ap answer_number e
-counted_number f g c (negsuc n ∷ more) a d e = absurd (d (sym e))
-
-pub update_number_lem : (u : Result Update Declined) (a : Answer) → a ≢ refused 0 → update_answer u ≡ a → update_number u ≡ answer_number a
-update_number_lem u = counted_number live (λ n. refl) (update_told u).number (update_told u).values
-
-pub found_number_lem : (f : Result Found Declined) (a : Answer) → a ≢ refused 0 → found_answer f ≡ a → found_number f ≡ answer_number a
-found_number_lem (Ok f) a d e = ap answer_number e
-found_number_lem (Err c) a d e = counted_number live (λ n. refl) (cause_told c) [] a d e
 
 pub found_words_lem : (f : Result Found Declined) (number price second : ℤ) → found_answer f ≡ found number price second →
     (probes : ℤ) × (found_of f ≡ price ∷ second ∷ probes ∷ [])
@@ -62,12 +46,6 @@ found_words_lem (Err c) number price second e = absurd (not_found (cause_told c)
     not_found : (z : ℤ) → counted refused z ≡ found number price second → ⊥
     not_found (pos m) d = let z : ◌≡◌ {A = ℕ} 0 1 = cc in omega arith
     not_found (negsuc m) d = let z : ◌≡◌ {A = ℕ} 0 1 = cc in omega arith
-
-pub listed_number_lem : (l : Result ℤ Declined) (out : List ℤ) (a : Answer) → a ≢ refused 0 → listing_answer l out ≡ a → count_number l ≡ answer_number a
-listed_number_lem l out = counted_number (λ n. listed n (take (3 * n) out)) (λ n. refl) (count_told l).number (count_told l).values
-
-pub reported_number_lem : (m : Result ℤ Declined) (out : List ℤ) (a : Answer) → a ≢ refused 0 → report_answer m out ≡ a → count_number m ≡ answer_number a
-reported_number_lem m out = counted_number (λ n. reported n (take (3 * n) out)) (λ n. refl) (count_told m).number (count_told m).values
 
 module _ {start : ℕ} {t : List ℤ} (plain : State) (held : Option (Held Item)) (book : Book (part_of t start) plain held) where
   -- .. and the words: the price, the second offer's number and the probes, over the first three
