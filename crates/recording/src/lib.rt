@@ -89,11 +89,9 @@ pub fn take_back_part(part: &mut [i64]) -> Result<Update, Declined>
     ensures { TakesBack part.old part.new result }
 {
     let last = memory::last(part);
-    if last.done == memory::POSTED {
-        return undo_post(part, last.number);
+    match last.done {
+        memory::POSTED => undo_post(part, last.number),
+        memory::WITHDRAWN => undo_withdrawal(part, last.number, last.rate, last.base),
+        _ => Err(Declined::NothingToTakeBack),
     }
-    if last.done == memory::WITHDRAWN {
-        return undo_withdrawal(part, last.number, last.rate, last.base);
-    }
-    Err(Declined::NothingToTakeBack)
 }

@@ -1,4 +1,4 @@
--- From an answer back to the `Result`: a refusal's number tells an `Err` with that number, and an accepted answer an `Ok` with all its values.
+-- From an answer back to the `Result`: a refusal's number tells an `Err` of that number, and an accepted answer an `Ok` with all its values.
 -- (`refused 0` is no answer of the plain book, so a refusal is asked to be above 0.)
 use Rattle.std.specs.Prelude.{◌≡◌, refl, List, [], ◌∷◌, ℕ, zero, suc, ◌*◌, ◌≤◌, length, take, ℤ, pos, negsuc, Result, Ok, Err}
 use Rattle.std.proofs.Common.{sym, ◌∙◌, ap, arith}
