@@ -3,7 +3,6 @@ use mir.Facts.{to_z-of_z}
 use mir.Syntax.{w64}
 use Rattle.std.proofs.Common.{FitsSigned}
 use Rattle.counter_reply.specs.PieceLines.{piece_line}
-use borrow.Author.Rules.{rules}
 use Rattle.counter_reply.proofs.piece_line.Goals as goal
 
 pub returns : goal.returns
