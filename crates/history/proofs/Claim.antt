@@ -1,5 +1,5 @@
 -- Theorems on specs/Claim.
-use Rattle.std.specs.Prelude.{◌≡◌, refl, List, [], ◌∷◌, ℕ, length, ℤ, nat_abs}
+use Rattle.std.specs.Prelude.{◌≡◌, refl, List, [], ◌∷◌, ℕ, length, ℤ, nat_abs, Result, Ok}
 use Rattle.std.proofs.Common.{sym, ◌∙◌, ap, subst}
 use Rattle.std.proofs.Math.Option.{Option, none, some}
 use Rattle.plain.specs.Causes.{Cause, declined, Clear}
@@ -11,8 +11,7 @@ use Rattle.dynamic.specs.Heights.{offers_height, piece_height}
 use Rattle.dynamic.specs.Work.{Work}
 use Rattle.table.specs.Items.{Item}
 use Rattle.pieces.specs.Pieces.{items}
-use Rattle.promises.specs.declared.Opening.{Opening}
-use Rattle.promises.specs.declared.Opening.TheVariants.{Opened}
+use Rattle.causes.specs.declared.Declined.{Declined}
 use Rattle.form.specs.Form.{Form, OffersIn}
 use Rattle.form.specs.Local.{Alike}
 use Rattle.form.proofs.Local.{form_alike}
@@ -54,9 +53,9 @@ from_book {c} {start} (next {t} {t₁} {k = k} alike p rest) s held same form =
 
 -- Every history: the list begins at an opening that meets neither cause 1 nor cause 2. That opening is accepted.
 pub every_history :
-    {start : ℕ} {t t₀ : List ℤ} {ks : List Call} {as' : List Answer} {t' : List ℤ} (c : ℤ) (r : Opening) →
+    {start : ℕ} {t t₀ : List ℤ} {ks : List Call} {as' : List Answer} {t' : List ℤ} (c : ℤ) (r : Result (Unit {0}) Declined) →
     Opens c start t t₀ r →
     Clear (open_trials (length t) start c) →
     (h : History (nat_abs c) start t₀ ks as' t') →
-    (r ≡ Opened) × Claim (opened c) none h
+    (r ≡ Ok tt) × Claim (opened c) none h
 every_history c r p clear h = ((p.accepted clear).0, from_book h (opened c) none refl (p.accepted clear).1)

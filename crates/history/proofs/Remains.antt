@@ -1,5 +1,5 @@
 -- Theorems on specs/Remains.
-use Rattle.std.specs.Prelude.{◌≡◌, refl, List, [], ℕ, length, ℤ, nat_abs}
+use Rattle.std.specs.Prelude.{◌≡◌, refl, List, [], ℕ, length, ℤ, nat_abs, Result}
 use Rattle.std.proofs.Common.{sym, ◌∙◌, ap, subst}
 use Rattle.std.proofs.Math.Option.{Option, none}
 use Rattle.plain.specs.Causes.{Clear}
@@ -10,7 +10,7 @@ use Rattle.plain.proofs.Remaining.{remaining_leaves}
 use Rattle.dynamic.specs.OfferTree.{Held}
 use Rattle.table.specs.Items.{Item}
 use Rattle.form.specs.Form.{plain_offers}
-use Rattle.promises.specs.declared.Opening.{Opening}
+use Rattle.causes.specs.declared.Declined.{Declined}
 use Rattle.promises.specs.Promises.{Opens}
 use Rattle.history.specs.History.{History, Claim}
 use Rattle.history.proofs.Claim.{every_history}
@@ -18,6 +18,7 @@ use Rattle.history.specs.Remains.{Stays, remaining_stands}
 
 -- from an opening on
 pub every_remainder :
-    {start : ℕ} {t t₀ : List ℤ} {ks : List Call} {as' : List Answer} {t' : List ℤ} (c : ℤ) (r : Opening) (p : Opens c start t t₀ r)
-    (clear : Clear (open_trials (length t) start c)) (h : History (nat_abs c) start t₀ ks as' t') → Stays (every_history c r p clear h).1
+    {start : ℕ} {t t₀ : List ℤ} {ks : List Call} {as' : List Answer} {t' : List ℤ} (c : ℤ) (r : Result (Unit {0}) Declined)
+    (p : Opens c start t t₀ r) (clear : Clear (open_trials (length t) start c)) (h : History (nat_abs c) start t₀ ks as' t') →
+    Stays (every_history c r p clear h).1
 every_remainder {start} {t} c r p clear h = remaining_stands (opened_sound (length t) start c clear) refl (every_history c r p clear h).1

@@ -12,8 +12,6 @@ use Rattle.dynamic.specs.Heights.{offers_height, piece_height}
 use Rattle.dynamic.specs.Work.{Work}
 use Rattle.table.specs.Items.{Item}
 use Rattle.pieces.specs.Pieces.{items}
-use Rattle.promises.specs.declared.Opening.{Opening}
-use Rattle.promises.specs.declared.Opening.TheVariants.{Opened}
 use Rattle.form.specs.Form.{Form, OffersIn}
 use Rattle.form.specs.Local.{Alike}
 use Rattle.form.proofs.Local.{form_alike}

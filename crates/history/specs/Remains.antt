@@ -11,7 +11,6 @@ use Rattle.plain.proofs.Remaining.{remaining_leaves}
 use Rattle.dynamic.specs.OfferTree.{Held}
 use Rattle.table.specs.Items.{Item}
 use Rattle.form.specs.Form.{plain_offers}
-use Rattle.promises.specs.declared.Opening.{Opening}
 use Rattle.promises.specs.Promises.{Opens}
 use Rattle.history.specs.History.{History, Claim}
 
