@@ -31,7 +31,11 @@ pub fn answer(table: &mut [i64], line: &[u8], out: &mut [u8]) -> usize
     if out.len() < MOST {
         return 0;
     }
-    match counter_columns::parse(line) {
+    let Some(command) = counter_columns::parse(line) else {
+        counter_print::answer_line(out, b'?', UNREADABLE, 0, 0, 0);
+        return LINE;
+    };
+    match command {
         Command::Post(number, rate, base) => {
             let told = book::post(table, 0, number, rate, base);
             counter_reply::update_line(out, b'P', number, told)
@@ -45,9 +49,5 @@ pub fn answer(table: &mut [i64], line: &[u8], out: &mut [u8]) -> usize
             counter_reply::found_line(out, told)
         }
         Command::List => list(table, out),
-        Command::Unreadable => {
-            counter_print::answer_line(out, b'?', UNREADABLE, 0, 0, 0);
-            LINE
-        }
     }
 }
