@@ -1,5 +1,5 @@
 -- What a line's answer does, command by command: the call's promise, and the lines of its answer.
-use Rattle.std.specs.Prelude.{Some, None, ◌≡◌, refl, List, ℕ, ◌≤◌, ◌<◌, length, ℤ, pos}
+use Rattle.std.specs.Prelude.{Some, None, ◌≡◌, refl, List, ℕ, ◌≤◌, ◌<◌, length, ℤ, pos, Result}
 use Rattle.std.proofs.Common.{sym, ◌∙◌, subst, ap, arith}
 use Rattle.std.proofs.Math.Option.{Option}
 use Rattle.plain.specs.Causes.{Cause, cause_number, unreadable_line, FirstOf}
@@ -14,9 +14,9 @@ use Rattle.table.specs.Words.{word}
 use Rattle.table.specs.Layout.{cap_most}
 use Rattle.table.specs.Items.{Item}
 use Rattle.form.specs.Form.{Form}
+use Rattle.causes.specs.declared.Declined.{Declined}
 use Rattle.promises.specs.declared.Update.{Update}
 use Rattle.promises.specs.declared.Found.{Found}
-use Rattle.promises.specs.declared.Listed.{Listed}
 use Rattle.promises.specs.Promises.{part_of, capacity_at, table_trials, OnlyPart, Updates, Queries, Lists, update_answer, found_answer, listing_answer}
 use Rattle.form.specs.Live.{book_sound}
 use Rattle.history.specs.Claim.{read_state}
@@ -51,7 +51,7 @@ pub record ListsLines (t : List ℤ) (before after : List ℕ) (n : ℕ) : Type 
   pub declined : (z : Cause) → FirstOf (table_trials t 0 (listing room)) z → Prints (answered 76 (pos 0) (refused (cause_number z))) before after n
   pub prints : (s : State) (held : Option (Held Item)) → Form (part_of t 0) s held → Prints (answered 76 (pos 0) (step s (listing room)).answer) before after n
 
-pub lists_lines : {t pieces pieces' : List ℤ} {before after : List ℕ} {n : ℕ} {l : Listed} → length pieces ≡ 192 → Lists 0 t pieces pieces' l
+pub lists_lines : {t pieces pieces' : List ℤ} {before after : List ℕ} {n : ℕ} {l : Result ℤ Declined} → length pieces ≡ 192 → Lists 0 t pieces pieces' l
     → Replies 76 (pos 0) (listing_answer l pieces') before after n → ListsLines t before after n
 lists_lines {pieces = pieces} {pieces'} {before} {after} {n} e l r =
     record {
@@ -95,16 +95,16 @@ counts_alike {t = t} {t'} {out} {out'} {n} e c =
     }
 
 -- a post or a withdrawal
-updated : {t t' : List ℤ} {out out' : List ℕ} {n letter : ℕ} (k : Call) {u : Update} (s : State) (held : Option (Held Item)) → Form (part_of t 0) s held →
-    Roomy k → Updates k 0 t t' u
+updated : {t t' : List ℤ} {out out' : List ℕ} {n letter : ℕ} (k : Call) {u : Result Update Declined} (s : State) (held : Option (Held Item)) →
+    Form (part_of t 0) s held → Roomy k → Updates k 0 t t' u
     → Replies letter (shown k) (update_answer u) out out' n
     → Stands (record { state = (step s k).state; bytes = answered letter (shown k) (step s k).answer }) t' out out' n
 updated k s held form roomy u r =
     let f = u.follows s held form in
     record { after = f.after; stands = f.stands; prints = plainly k s held form roomy f.answers r }
 
-left : {t t' : List ℤ} {k : Call} {u : Update} → Updates k 0 t t' u → (s : State) (held : Option (Held Item)) → Form (part_of t 0) s held → (j : ℕ) →
-    (step s k).answer ≡ refused j → t' ≡ t
+left : {t t' : List ℤ} {k : Call} {u : Result Update Declined} → Updates k 0 t t' u → (s : State) (held : Option (Held Item)) →
+    Form (part_of t 0) s held → (j : ℕ) → (step s k).answer ≡ refused j → t' ≡ t
 left u s held form j e = let f = u.follows s held form in f.refusal j (f.answers ∙ e)
 
 module _ {line : List ℕ} {t : List ℤ} {out out' : List ℕ} {n : ℕ} (long : most ≤ length out) where
@@ -119,8 +119,8 @@ module _ {line : List ℕ} {t : List ℤ} {out out' : List ℕ} {n : ℕ} (long 
         obeys = λ _. subst (λ (m : LineCommand). Obeys m t t' out out' n) (parsed_unique line m (command_of line) p (command_parsed line)) o;
       }
 
-  pub posted : {t' : List ℤ} (number rate base : ℤ) {u : Update} → Parsed line (Some (Post number rate base)) → Updates (post number rate base) 0 t t' u
-      → Replies 80 number (update_answer u) out out' n → Counts line t t' out out' n
+  pub posted : {t' : List ℤ} (number rate base : ℤ) {u : Result Update Declined} → Parsed line (Some (Post number rate base))
+      → Updates (post number rate base) 0 t t' u → Replies 80 number (update_answer u) out out' n → Counts line t t' out out' n
   posted number rate base p u r =
       by_command (Some (Post number rate base)) p r.within u.outside u.same_part
       (record {
@@ -130,7 +130,7 @@ module _ {line : List ℕ} {t : List ℤ} {out out' : List ℕ} {n : ℕ} (long 
         follows = λ s held form. updated (post number rate base) s held form tt u r;
       })
 
-  pub withdrawn : {t' : List ℤ} (number : ℤ) {u : Update} → Parsed line (Some (Withdraw number)) → Updates (withdraw number) 0 t t' u
+  pub withdrawn : {t' : List ℤ} (number : ℤ) {u : Result Update Declined} → Parsed line (Some (Withdraw number)) → Updates (withdraw number) 0 t t' u
       → Replies 87 number (update_answer u) out out' n → Counts line t t' out out' n
   withdrawn number p u r =
       by_command (Some (Withdraw number)) p r.within u.outside u.same_part
@@ -161,7 +161,7 @@ module _ {line : List ℕ} {t : List ℤ} {out out' : List ℕ} {n : ℕ} (long 
         };
       })
 
-  pub asked : (load : ℤ) {f : Found} → Parsed line (Some (Query load)) → Queries load 0 t f → Replies 81 (pos 0) (found_answer f) out out' n →
+  pub asked : (load : ℤ) {f : Result Found Declined} → Parsed line (Some (Query load)) → Queries load 0 t f → Replies 81 (pos 0) (found_answer f) out out' n →
       Counts line t t out out' n
   asked load p f r =
       asking (Some (Query load)) p r.within (λ z d. refusing z (f.declined z d) r) (λ s. read_state s (query load) refl)

@@ -4,4 +4,4 @@ use Rattle.counter_line.specs.Answering.{lists_lines}
 use Rattle.counter_line.proofs.list.Goals as goal
 
 pub returns : goal.returns
-returns c = lists_lines refl c.listing-listed.ensures c.listed_lines.ensures
+returns c = lists_lines refl c.listing-told.ensures c.listed_lines.ensures
