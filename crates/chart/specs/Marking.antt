@@ -1,5 +1,5 @@
 -- A part's mark, by what the code reads: the count of its pieces, and the slot of one of them.
-use Rattle.std.specs.Prelude.{◌≡◌, refl, Bool, true, false, not, ℕ, suc, ◌+◌, ◌-◌, ◌≤◌, ◌<◌, length, take, drop, leb, ℤ, pos, negsuc}
+use Rattle.std.specs.Prelude.{◌≡◌, refl, Bool, true, false, not, ℕ, suc, ◌+◌, ◌-◌, ◌≤◌, ◌<◌, length, leb, ℤ, pos, negsuc}
 use Rattle.std.proofs.Math.Path.{sym, ap}
 use Rattle.std.proofs.Common.{◌∙◌, subst, arith, length-append}
 use mathlib.Core.List.Memᴰ
@@ -11,7 +11,7 @@ use Rattle.std.proofs.lemmas.List.{length-map}
 use Rattle.std.proofs.Math.Dec.{T, T_not, not_T}
 use Rattle.std.proofs.Math.Arith.{lt→nleb}
 use Rattle.std.specs.Int.Signed.{le_z, lt_z}
-use Rattle.lists.specs.Bools.{and_both, denied}
+use Rattle.lists.specs.Bools.{and_both}
 use Rattle.integers.specs.Parts.{int_rules, range_parts}
 use Rattle.offers.specs.Offers.{Offer, between, crossing_numerator, crossing_denominator}
 use Rattle.envelopes.specs.Envelope.{Ordered}
@@ -37,10 +37,9 @@ use Rattle.form.specs.Form.{Book}
 use Rattle.query.specs.QueriedPieces.{Pieces}
 use Rattle.query.specs.Plain.{offer_of, pieces_plain}
 use Rattle.listing.specs.PieceCounts.{Counted, Passed}
-use Rattle.form.specs.Live.{book_sound, first_offers, lines_ordered, lines_few, no_offers}
+use Rattle.form.specs.Live.{first_offers, lines_ordered, lines_few, no_offers}
 use Rattle.promises.specs.Promises.{part_of}
-use Rattle.promises.specs.LentPart.{whole_part, no_form, no_book_cause}
-use Rattle.promises.specs.OneCause.{not_clear}
+use Rattle.promises.specs.LentPart.{no_form, no_book_cause}
 use Rattle.promises.specs.Rooted.{Root, bare, topped, Top, root_of}
 use Rattle.chart.specs.declared.Marked.{Marked}
 use Rattle.chart.specs.declared.Marked.TheVariants.{Declined}
