@@ -20,11 +20,11 @@ returns-then-m-ge-SLOTS c = spreading_full _ _ _ c.requires.1 (simp (to_z-of_z, 
 
 pub loop-m-preserved : goal.loop-m-preserved
 loop-m-preserved c = spreading_goes_to _ _ _ c.requires.1 c.loop-m.invariant c.requires.0 (omega arith) c.if-m-ge-SLOTS.false
-    (last_read c.number_at-root.ensures c.end_in-last.ensures) c.next_below-s.ensures (omega (arith, c.if-s-lt1.false))
+    (last_read c.number_at-root.ensures c.end_in-last.ensures) c.next_below-s.ensures (omega arith)
 
 pub loop-first-preserved : goal.loop-first-preserved
 loop-first-preserved c = spreading_goes_past _ _ _ c.requires.1 c.loop-m.invariant c.requires.0 (omega arith) c.if-m-ge-SLOTS.false
-    (last_read c.number_at-root.ensures c.end_in-last.ensures) c.next_below-s.ensures (omega (arith, c.if-s-lt1.true)) (λ h. refl)
+    (last_read c.number_at-root.ensures c.end_in-last.ensures) c.next_below-s.ensures (omega arith) (λ h. refl)
 
 pub returns : goal.returns
 returns c = spreading_ends _ _ _ c.requires.1 (simp (to_z-of_z, c.ranges.load, c.ranges.price) at c.loop-first.invariant) (omega arith)
