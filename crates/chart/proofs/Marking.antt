@@ -1,9 +1,5 @@
 -- Theorems on specs/Marking.
-<<<<<<< HEAD
 use Rattle.std.specs.Prelude.{◌≡◌, Bool, false, ℕ, ◌-◌, length, take, drop, ℤ, Result}
-=======
-use Rattle.std.specs.Prelude.{◌≡◌, Bool, false, ℕ, ◌-◌, length, take, drop, ℤ}
->>>>>>> 60afad49fb0679c38d8b04dee8765eb0755f5757
 use Rattle.std.proofs.Common.{subst}
 use mathlib.Core.List.{List}
 use Rattle.lists.specs.Bools.{denied}
@@ -14,12 +10,8 @@ use Rattle.form.specs.Live.{book_sound}
 use Rattle.promises.specs.Promises.{part_of}
 use Rattle.promises.specs.LentPart.{whole_part}
 use Rattle.promises.specs.OneCause.{not_clear}
-<<<<<<< HEAD
 use Rattle.causes.specs.declared.Declined.{Declined}
 use Rattle.marks.specs.declared.Mark.{Mark}
-=======
-use Rattle.chart.specs.declared.Marked.{Marked}
->>>>>>> 60afad49fb0679c38d8b04dee8765eb0755f5757
 use Rattle.chart.specs.Promises.{Marks}
 use Rattle.chart.proofs.Rounded.{sound_exact}
 use Rattle.chart.specs.Marking.{PartMark}

@@ -1,9 +1,5 @@
 -- A part's mark, by what the code reads: the count of its pieces, and the slot of one of them.
-<<<<<<< HEAD
 use Rattle.std.specs.Prelude.{◌≡◌, refl, Bool, true, false, not, ℕ, suc, ◌+◌, ◌-◌, ◌≤◌, ◌<◌, length, leb, ℤ, pos, negsuc, Result, Err}
-=======
-use Rattle.std.specs.Prelude.{◌≡◌, refl, Bool, true, false, not, ℕ, suc, ◌+◌, ◌-◌, ◌≤◌, ◌<◌, length, leb, ℤ, pos, negsuc}
->>>>>>> 60afad49fb0679c38d8b04dee8765eb0755f5757
 use Rattle.std.proofs.Math.Path.{sym, ap}
 use Rattle.std.proofs.Common.{◌∙◌, subst, arith, length-append}
 use mathlib.Core.List.Memᴰ
