@@ -1,6 +1,7 @@
 // The counter: reads calls from standard input, a line each, and prints the book's answers. The book has room for 64 offers.
 #![tactic(auto)]
 
+use counter_feed::Fed;
 use counter_keep::Line;
 use std::io;
 use std::io::Read;
@@ -12,12 +13,16 @@ const MOST_PRINTED: usize = 2535;
 fn take_byte(
     rt: &impl Print,
     table: &mut [i64],
-    line: &mut Line,
+    line: Line,
     byte: u8,
     out: &mut [u8],
-) -> io::Result<()> {
-    let printed = counter_feed::feed(table, line, byte, out);
-    rt.write_all(&out[..printed])
+) -> io::Result<Line> {
+    let Fed {
+        line: next,
+        printed,
+    } = counter_feed::feed(table, line, byte, out);
+    rt.write_all(&out[..printed])?;
+    Ok(next)
 }
 
 // The whole input, block by block. A proved loop has to end, and nothing says that an input does: it counts up to a number that no run reaches.
@@ -27,7 +32,7 @@ fn answer_all(
     table: &mut [i64],
     out: &mut [u8],
 ) -> io::Result<()> {
-    let mut line = Line::new();
+    let mut line = counter_keep::no_line();
     let mut block = [0u8; 4096];
     for _ in 0..u64::MAX {
         let n = input.read(&mut block)?;
@@ -35,10 +40,10 @@ fn answer_all(
             break;
         }
         for &byte in &block[..n] {
-            take_byte(rt, table, &mut line, byte, out)?;
+            line = take_byte(rt, table, line, byte, out)?;
         }
     }
-    let printed = counter_feed::finish(table, &line, out);
+    let printed = counter_feed::finish(table, line, out);
     rt.write_all(&out[..printed])
 }
 
