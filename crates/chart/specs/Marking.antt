@@ -197,7 +197,8 @@ module _ {w : Words} {root m : ℕ} (er : root ≡ up_to most_nodes (word w enve
   at_tree q = k.is q.tree q.top.pieces q.top.balanced
 
   -- an answer about a book with a piece
-  pub by_top : {index : ℤ} {r : Result Mark Declined} → 1 ≤ m → ((os : List Offer) (h : Held Item) → Topped os h → told r ≡ plain_mark os index) → PartMark w index r
+  pub by_top : {index : ℤ} {r : Result Mark Declined} → 1 ≤ m → ((os : List Offer) (h : Held Item) → Topped os h → told r ≡ plain_mark os index) →
+      PartMark w index r
   by_top {index} {r} some-of-it f = record { answers = λ s held b. go b (root_of b er) }
     where
       go : {s : State} {held : Option (Held Item)} → Book w s held → Root w root held → told r ≡ plain_mark s.offers index
