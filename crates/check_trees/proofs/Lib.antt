@@ -1,0 +1,2 @@
+-- Lemmas on the scratch array that several proofs share.
+pub mod Scans
