@@ -1,6 +1,6 @@
 -- What library calls over a range of the scratch array say of its entries.
-use Rattle.std.specs.Prelude.{◌≡◌, ◌≢◌, Bool, true, false, List, ℕ, ◌+◌, ◌-◌, ◌≤◌, ◌<◌, T, None, length, get_or}
-use Rattle.std.proofs.Common.{sym, ◌∙◌, ap, ap₂, arith}
+use Rattle.std.specs.Prelude.{◌≡◌, ◌≢◌, Bool, true, false, List, ℕ, ◌+◌, ◌-◌, ◌≤◌, ◌<◌, T, None, MatchBool, length, get_or}
+use Rattle.std.proofs.Common.{sym, ◌∙◌, ap, ap₂, subst, arith}
 use Rattle.std.specs.List.{between, list_all, AllWithin, HoldsAt, IsAllAdjacentAnswer}
 use Rattle.std.proofs.lemmas.Grind.{get_or_default_zero}
 use Rattle.std.proofs.lemmas.List.Edits.{length-between, get_or-between}
@@ -11,14 +11,14 @@ use Rattle.check_trees.specs.Deciding.{Decides, Every, Agree, decides_yes, decid
 use Rattle.check_trees.specs.Loops.{FirstOf, PlaceOf}
 
 module _ (xs : List ℕ) (from to : ℕ) (high : to ≤ length xs) where
-  abbrev range : List ℕ
+  abbrev pub range : List ℕ
   range = between from to xs
 
-  long : length range ≡ to - from
-  long = length-between xs from to high
+  pub range_long : length range ≡ to - from
+  range_long = length-between xs from to high
 
   -- an entry of the range is one of the array
-  range_at : (k d : ℕ) → from + k < to → get_or range k d ≡ get_or xs (from + k) 0
+  pub range_at : (k d : ℕ) → from + k < to → get_or range k d ≡ get_or xs (from + k) 0
   range_at k d h = get_or-between xs from to k d h ∙ get_or_default_zero xs (from + k) d (omega arith)
 
   array_at : (k d : ℕ) → from ≤ k → k < to → get_or range (k - from) d ≡ get_or xs k 0
@@ -30,10 +30,20 @@ module _ (xs : List ℕ) (from to : ℕ) (high : to ≤ length xs) where
   all_scan p {P} {b} pass back e = record { sound = found; complete = λ f. e ∙ list_all-from_AllPass p range (all f) }
     where
       found : b ≡ true → Every P from to
-      found t = record { at = λ k l h. pass k (passed (ap p (sym (array_at k 0 l h)) ∙ AllPass-from_list_all p range (sym e ∙ t) (k - from) 0 (omega (arith, long)))) }
+      found t = record {
+        at = λ k l h. pass k
+            (passed (ap p (sym (array_at k 0 l h)) ∙ AllPass-from_list_all p range (sym e ∙ t) (k - from) 0 (omega (arith, range_long))));
+      }
 
       all : Every P from to → (k : ℕ) (d : ℕ) → k < length range → p (get_or range k d) ≡ true
-      all f k d h = ap p (range_at k d (omega (arith, long))) ∙ is_true _ (back (from + k) (f.at (from + k) (omega arith) (omega (arith, long))))
+      all f k d h = ap p (range_at k d (omega (arith, range_long))) ∙ is_true _ (back (from + k) (f.at (from + k) (omega arith) (omega (arith, range_long))))
+
+  -- every entry was answered yes, or one was answered no
+  pub each_scan : (Yes No : ℕ → Type 0) (b : Bool) → MatchBool b (AllWithin Yes range 0 (length range)) ((k : ℕ) × (k < length range) × HoldsAt No range k) →
+      MatchBool b (Every (λ k. Yes (get_or xs k 0)) from to) ((k : ℕ) × (from ≤ k) × (k < to) × No (get_or xs k 0))
+  each_scan Yes No true f = record { at = λ k l h. subst Yes (array_at k 0 l h) (f (k - from) 0 (omega arith) (omega (arith, range_long))) }
+  each_scan Yes No false (k, h, f) =
+      (from + k, omega arith, omega (arith, range_long), subst No (range_at k 0 (omega (arith, range_long))) (f 0))
 
   -- each entry and the next pass one
   pub adjacent_scan : (p : ℕ → ℕ → Bool) {P : ℕ → Type 0} {b : Bool} → ((k : ℕ) → T (p (get_or xs k 0) (get_or xs (k + 1) 0)) → P k) →
@@ -44,26 +54,26 @@ module _ (xs : List ℕ) (from to : ℕ) (high : to ≤ length xs) where
       found k l h =
           let e : get_or range (k - from + 1) 0 ≡ get_or xs (k + 1) 0 =
           (let q : k - from + 1 ≡ k + 1 - from = omega arith in ap (λ (i : ℕ). get_or range i 0) q ∙ array_at (k + 1) 0 (omega arith) (omega arith)) in
-          pass k (passed (sym (f (k - from) 0 (omega (arith, long)) ∙ ap₂ p (array_at k 0 l (omega arith)) e)))
+          pass k (passed (sym (f (k - from) 0 (omega (arith, range_long)) ∙ ap₂ p (array_at k 0 l (omega arith)) e)))
   adjacent_scan p {P} {b = false} pass back (k, h, f) = decides_no other
     where
       other : Every P from (to - 1) → ⊥
       other g =
           let e : get_or range (k + 1) 0 ≡ get_or xs (from + k + 1) 0 =
-          (let q : from + (k + 1) ≡ from + k + 1 = omega arith in range_at (k + 1) 0 (omega (arith, long)) ∙ ap (λ (i : ℕ). get_or xs i 0) q) in
-          never (is_true _ (back (from + k) (g.at (from + k) (omega arith) (omega (arith, long)))))
-          (sym (f 0 ∙ ap₂ p (range_at k 0 (omega (arith, long))) e))
+          (let q : from + (k + 1) ≡ from + k + 1 = omega arith in range_at (k + 1) 0 (omega (arith, range_long)) ∙ ap (λ (i : ℕ). get_or xs i 0) q) in
+          never (is_true _ (back (from + k) (g.at (from + k) (omega arith) (omega (arith, range_long)))))
+          (sym (f 0 ∙ ap₂ p (range_at k 0 (omega (arith, range_long))) e))
 
   -- no entry is s, or one is the first that is
   pub place_none : {s : ℕ} → AllWithin (λ y. y ≢ s) range 0 (length range) → PlaceOf xs from to s None
-  place_none f = record { at = λ k l h e. f (k - from) 0 (omega arith) (omega (arith, long)) (array_at k 0 l h ∙ e) }
+  place_none f = record { at = λ k l h e. f (k - from) 0 (omega arith) (omega (arith, range_long)) (array_at k 0 l h ∙ e) }
 
   pub place_some : {s i : ℕ} → (i < length range) × HoldsAt (λ y. y ≡ s) range i × AllWithin (λ y. y ≢ s) range 0 i → FirstOf xs from to s (from + i)
   place_some {s} {i} (h, e, f) = record {
     low = omega arith;
-    high = omega (arith, long);
-    found = sym (range_at i 0 (omega (arith, long))) ∙ e 0;
-    first = record { at = λ k l j q. f (k - from) 0 (omega arith) (omega arith) (array_at k 0 l (omega (arith, long)) ∙ q) };
+    high = omega (arith, range_long);
+    found = sym (range_at i 0 (omega (arith, range_long))) ∙ e 0;
+    first = record { at = λ k l j q. f (k - from) 0 (omega arith) (omega arith) (array_at k 0 l (omega (arith, range_long)) ∙ q) };
   }
 
 -- two ranges of n entries are the same
