@@ -114,8 +114,8 @@ module _ {w : Words} {i a room : ℕ} {flags : List Bool} (ea : a ≡ entry_at w
         none (restore o) (withdrawing d n s b) k = below o.number n (not_not (number_in_range o.number) k.0)
 
     module _ (low : 1 ≤ m) where
-      pub tries_out : {b : Bool} {flags' : List Bool} {r : Option ℕ} → Decides b (word w a ≡ pos posted) → b ≡ true → Undoing flags flags' room (unpost (pos m)) r →
-          Tries w i flags flags' room r
+      pub tries_out : {b : Bool} {flags' : List Bool} {r : Option ℕ} → Decides b (word w a ≡ pos posted) → b ≡ true →
+          Undoing flags flags' room (unpost (pos m)) r → Tries w i flags flags' room r
       tries_out d t U =
           tries_by (unpost (pos m)) (posting (first_word w a ∙ d.sound t) (number_is _ em low)) (number_clear _ em low, tt) U
 

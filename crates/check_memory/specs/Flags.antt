@@ -207,7 +207,8 @@ module _ {w : Words} {xs : List ℕ} {flags : List Bool} where
       snoc =
           let p : i + 1 ≡ suc i = omega arith in
           ap (λ (ss : List ℕ). map offer_of (items_at w ss))
-          (rw p (span_cut xs 0 i (suc i) (omega arith) (omega arith)) ∙ ap (λ (zs : List ℕ). span xs 0 i ++ zs) (span_one xs i ∙ ap (λ (a : ℕ). a ∷ []) (sym es)))
+          (rw p (span_cut xs 0 i (suc i) (omega arith) (omega arith))
+          ∙ ap (λ (zs : List ℕ). span xs 0 i ++ zs) (span_one xs i ∙ ap (λ (a : ℕ). a ∷ []) (sym es)))
           ∙ ap (map offer_of) (map-append (item_at w) (span xs 0 i) (s ∷ []))
           ∙ map-append offer_of (items_at w (span xs 0 i)) (item_at w s ∷ [])
 

@@ -84,7 +84,8 @@ module _ {w : Words} {x at mid to g s : ℕ} {xs : List ℕ} (two : Two at mid t
 
   -- u is not there
   pub merges_no_u : Every (λ k. get_or xs k 0 ≢ s) at mid → Merges w x xs xs at mid to None
-  merges_no_u f = merges_not upper_refl (omega (arith, two)) (λ known a b j. f.at a j.left_low j.left_high (sym (es ∙ ap (link_at w bridge_left_field) eg ∙ j.u_at)))
+  merges_no_u f = merges_not upper_refl (omega (arith, two))
+      (λ known a b j. f.at a j.left_low j.left_high (sym (es ∙ ap (link_at w bridge_left_field) eg ∙ j.u_at)))
 
 module _ {w : Words} {x at mid to i g t : ℕ} {xs : List ℕ} (L : Left w x xs at mid to i) (eg : g ≡ x - most_slots)
     (et : t ≡ link_at w bridge_right_field g) where
@@ -93,7 +94,8 @@ module _ {w : Words} {x at mid to i g t : ℕ} {xs : List ℕ} (L : Left w x xs 
 
   -- v is not there
   pub merges_no_v : Every (λ k. get_or xs k 0 ≢ t) mid to → Merges w x xs xs at mid to None
-  merges_no_v f = merges_not upper_refl (omega (arith, L.two)) (λ known a b j. f.at b j.right_low j.right_high (sym (et ∙ ap (link_at w bridge_right_field) eg ∙ j.v_at)))
+  merges_no_v f = merges_not upper_refl (omega (arith, L.two))
+      (λ known a b j. f.at b j.right_low j.right_high (sym (et ∙ ap (link_at w bridge_right_field) eg ∙ j.v_at)))
 
 module _ {w : Words} {x at mid to i j : ℕ} {xs : List ℕ} (R : Right w x xs at mid to i j) where
   joins_here : (a b : ℕ) → Joins w x xs at mid to a b → Joins w x xs at mid to i j

@@ -88,5 +88,6 @@ module _ (xs : List ℕ) (a b n : ℕ) (h : a + n ≤ length xs) (l : b + n ≤ 
       same : Agree xs a b n → between a (a + n) xs ≡ between b (b + n) xs
       same e =
           same_lists _ _ (omega (arith, length-between xs a (a + n) h, length-between xs b (b + n) l))
-          (λ k d j. range_at xs a (a + n) h k d (omega (arith, length-between xs a (a + n) h)) ∙ e.at k (omega arith) (omega (arith, length-between xs a (a + n) h))
+          (λ k d j. range_at xs a (a + n) h k d (omega (arith, length-between xs a (a + n) h))
+          ∙ e.at k (omega arith) (omega (arith, length-between xs a (a + n) h))
           ∙ sym (range_at xs b (b + n) l k d (omega (arith, length-between xs a (a + n) h))))

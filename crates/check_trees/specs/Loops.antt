@@ -1,4 +1,4 @@
--- What the loops over a stretch of the scratch array look for, and a stretch moved down.
+-- What is looked for along a stretch of the scratch array, and a stretch moved down.
 use Rattle.std.specs.Prelude.{◌≡◌, ◌≢◌, Option, MatchOption, List, ℕ, ◌+◌, ◌≤◌, ◌<◌, T, length, get_or}
 use Rattle.std.specs.Int.Signed.{lt_z}
 use Rattle.offers.specs.Offers.{offer_in_range}

@@ -10,10 +10,12 @@ pub returns-then-limit-eq0 : goal.returns-then-limit-eq0
 returns-then-limit-eq0 t c = fills_deep c.if-x-le-MOST_SLOTS.false c.if-limit-eq0.true
 
 pub returns-in_err-a : goal.returns-in_err-a
-returns-in_err-a t c = rw c.from_residual.ensures (fills_left_not c.if-x-le-MOST_SLOTS.false c.if-limit-eq0.false (fills_as c.child-left.ensures c.in_err-a.ensures))
+returns-in_err-a t c =
+    rw c.from_residual.ensures (fills_left_not c.if-x-le-MOST_SLOTS.false c.if-limit-eq0.false (fills_as c.child-left.ensures c.in_err-a.ensures))
 
 pub returns-in_err-b : goal.returns-in_err-b
-returns-in_err-b t c = rw c.from_residual-in_err-b.ensures (fills_right_not c.if-x-le-MOST_SLOTS.false c.if-limit-eq0.false (fills_as c.child-left.ensures c.in_ok-a.ensures)
+returns-in_err-b t c =
+    rw c.from_residual-in_err-b.ensures (fills_right_not c.if-x-le-MOST_SLOTS.false c.if-limit-eq0.false (fills_as c.child-left.ensures c.in_ok-a.ensures)
     (fills_as c.child-right.ensures c.in_err-b.ensures))
 
 pub returns : goal.returns
