@@ -19,6 +19,7 @@ fn run(table: &mut [i64], start: usize, calls: &[i64], answers: &mut [i64]) -> u
 {
     let mut n: usize = 0;
     let mut at: usize = 0;
+    // No `for` over the calls: what ends the run is an answer of `one_call`, and a `for` would have a second way out, which returns the same count.
     loop {
         let used = replay_call::one_call(table, start, &calls[4 * n..], &mut answers[at..]);
         if used < 1 {
@@ -50,8 +51,7 @@ pub fn replay(
 ) -> Replayed
     ensures { Replays capacity start table.old table.new calls.now answers.old answers.new result }
 {
-    let opening = book::open(table, start, capacity);
-    if let book::Opening::Declined(cause) = opening {
+    if let book::Opening::Declined(cause) = book::open(table, start, capacity) {
         return Replayed::Declined(cause);
     }
     resume(table, start, calls, answers)
