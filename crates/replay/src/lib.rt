@@ -19,6 +19,7 @@ fn run(table: &mut [i64], start: usize, calls: &[i64], answers: &mut [i64]) -> u
 {
     let mut n: usize = 0;
     let mut at: usize = 0;
+    // No `for` over the calls: what ends the run is an answer of `one_call`, and a `for` would have a second way out, which returns the same count.
     loop {
         let used = replay_call::one_call(table, start, &calls[4 * n..], &mut answers[at..]);
         if used < 1 {
