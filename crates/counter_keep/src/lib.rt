@@ -1,40 +1,53 @@
 // A line of the counter's input, kept byte by byte.
 #![tactic(auto)]
 
-ghost use Rattle.std.specs.Prelude.{[]};
+ghost use Rattle.std.specs.Prelude.{◌≡◌, ◌≤◌, List, [], ℕ, length, take};
 ghost use Rattle.counter_keep.specs.KeptBytes.{Keeps, Pushes};
 
-// A line so far: its first 28 bytes, and how many those are. No line of more than 27 bytes can be read, so the later ones do not matter.
-#[derive(Clone, Copy)]
+use std::marker::Model;
+
+// No line of more than 27 bytes can be read, so the bytes after the 28th do not matter.
+const KEPT: usize = 28;
+
+// A line so far: its first 28 bytes.
+#[derive(Drop)]
 pub struct Line {
-    pub bytes: [u8; 28],
-    pub length: usize,
+    bytes: [u8; KEPT],
+    length: usize,
 }
 
-pub fn no_line() -> Line
-    ensures { Keeps result [] }
-{
-    Line {
-        bytes: [0u8; 28],
-        length: 0,
-    }
+impl Model for Line {
+    ghost Value = { List ℕ };
+
+    ghost view = { λ l. take l.length l.bytes };
+
+    ghost invariant = { λ l. l.length ≤ 28 };
 }
 
-// One more byte of the line.
-pub fn push(line: Line, byte: u8) -> Line
-    ensures { Pushes line byte result }
-{
-    let at = line.length;
-    let mut bytes = line.bytes;
-    if 28 <= at {
-        return Line {
-            bytes: bytes,
-            length: at,
-        };
+impl Line {
+    pub fn new() -> Line
+        ensures { Keeps result [] }
+    {
+        Line {
+            bytes: [0; KEPT],
+            length: 0,
+        }
     }
-    bytes[at] = byte;
-    Line {
-        bytes: bytes,
-        length: at + 1,
+
+    // One more byte of the line.
+    pub fn push(&mut self, byte: u8)
+        ensures { Pushes self.old byte self.new }
+    {
+        if self.length < KEPT {
+            self.bytes[self.length] = byte;
+            self.length += 1;
+        }
+    }
+
+    // The bytes that are kept.
+    pub fn as_slice(&self) -> &[u8]
+        ensures { result.now ≡ self.now }
+    {
+        &self.bytes[..self.length]
     }
 }

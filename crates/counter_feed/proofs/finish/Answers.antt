@@ -1,7 +1,9 @@
 -- `counter_feed::finish` meets its contract: a last line is answered where there is one.
-use Rattle.counter_feed.specs.Input.{finishes_none, finishes_line}
-use borrow.Author.Rules.{rules}
+use Rattle.std.proofs.Common.{◌≢◌, [], length, arith, rules, ap}
+use Rattle.counter_feed.specs.Input.{finishes_line}
 use Rattle.counter_feed.proofs.finish.Goals as goal
 
 pub returns : goal.returns
-returns c = finishes_line c.if-line-eq0.false c.answer_kept.ensures
+returns c =
+    let some : c.args.line.now ≢ [] = search rules in
+    finishes_line some c.answer_kept.ensures
