@@ -96,7 +96,8 @@ fn pop(part: &Part<'_>, side: bool, depth: usize, top: u32) -> Stand
     }
 }
 
-// Where an action leads a walk.
+// Where an action leads a walk. Inlined, so that a step makes no call for it.
+#[inline(always)]
 pub fn act(
     part: &Part<'_>,
     side: bool,
