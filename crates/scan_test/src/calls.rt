@@ -39,10 +39,10 @@ fn updated(
     let same = is_same(r, cause, slots::count(&os));
     let told = world::counted(w.told, 0, 0, 0, same);
     World {
-        words: words,
-        os: os,
-        other: other,
-        told: told,
+        words,
+        os,
+        other,
+        told,
     }
 }
 

@@ -49,7 +49,7 @@ fn nth(table: &[i64], p: Place, os: &[i64; 192], j: u32, t: Tally) -> Tally {
     let asked = Asked {
         start: p.start,
         is_open: true,
-        load: load,
+        load,
         limit: limit(os, load, j),
     };
     both(table, asked, os, t)
