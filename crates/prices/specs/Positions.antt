@@ -3,7 +3,6 @@ use Rattle.std.specs.Prelude.{◌≡◌, refl, Bool, true, false, cond, T, ℤ}
 use Rattle.std.proofs.Common.{sym, arith}
 use Rattle.std.specs.Int.Signed.{le_z, lt_z}
 use Rattle.integers.specs.Parts.{int_rules}
-
 -- std's order of the point's price by the line's
 pub use Rattle.std.specs.declared.cmp.Ordering.{Ordering as Position}
 pub use Rattle.std.specs.declared.cmp.Ordering.TheVariants.{Less as Below, Equal as On, Greater as Above}

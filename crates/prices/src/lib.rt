@@ -18,11 +18,7 @@ pub fn rate(part: &Part<'_>, slot: u32) -> i64
 pub fn base(part: &Part<'_>, slot: u32) -> i64
     ensures { result ≡ base_at part.now slot }
 {
-    table::bounded(
-        -1_000_000_000,
-        1_000_000_000,
-        part.get(table::BASE, slot),
-    )
+    table::bounded(-1_000_000_000, 1_000_000_000, part.get(table::BASE, slot))
 }
 
 // The crossing with the next piece: where the words hold one, its numerator and its denominator.
@@ -54,12 +50,7 @@ fn price(part: &Part<'_>, slot: u32, n: i64, d: i64) -> i64
 pub fn crossing_price(part: &Part<'_>, slot: u32) -> i64
     ensures { result ≡ crossing_price_at part.now slot }
 {
-    price(
-        part,
-        slot,
-        numerator(part, slot),
-        denominator(part, slot),
-    )
+    price(part, slot, numerator(part, slot), denominator(part, slot))
 }
 
 // The one comparison of a point with a line, less where the point lies below it: by the point's price, and the line's at the point's load.
