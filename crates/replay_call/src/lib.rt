@@ -103,8 +103,9 @@ fn perform(table: &mut [i64], start: usize, call: Call, out: &mut [i64]) -> usiz
 pub fn one_call(table: &mut [i64], start: usize, calls: &[i64], out: &mut [i64]) -> usize
     ensures { Step start table.old table.new calls.now out.old out.new result }
 {
-    match replay_words::next_call(calls) {
-        Some(call) if replay_words::fits(call, out.len()) => perform(table, start, call, out),
+    let next = replay_words::next_call(calls);
+    match next {
+        Some(call) if replay_words::fits(next, out.len()) => perform(table, start, call, out),
         _ => 0,
     }
 }

@@ -1,9 +1,9 @@
 // Calls and answers as words: a call is read from four words, and an answer is written over five.
 #![tactic(auto)]
 
-ghost use Rattle.std.specs.Prelude.{◌≡◌, ◌++◌, ◌∷◌, ◌≤◌, length, drop, leb};
-ghost use Rattle.replay_words.specs.Encoding.{short_call, call_of, next_call, stretch, refusal_words, update_words, found_words, count_words};
-ghost use Rattle.replay_words.specs.Decoding.{meant, asked};
+ghost use Rattle.std.specs.Prelude.{◌≡◌, ◌++◌, ◌∷◌, ◌≤◌, length, drop};
+ghost use Rattle.replay_words.specs.Encoding.{short_call, call_of, next_call, fitting, refusal_words, update_words, found_words, count_words};
+ghost use Rattle.replay_words.specs.Decoding.{asked};
 
 use promises::{Declined, Found, Update};
 
@@ -63,13 +63,14 @@ pub fn next_call(calls: &[i64]) -> Option<Call>
     }
 }
 
-// `room` words are enough for the call's answer: tested without the sum of five and the call's own room, which might not fit.
-pub fn fits(call: Call, room: usize) -> bool
-    ensures { result ≡ leb (stretch (meant call)) room }
+// There is a call, and `room` words are enough for its answer: tested without the sum of five and the call's own room, which might not fit.
+pub fn fits(next: Option<Call>, room: usize) -> bool
+    ensures { result ≡ fitting (asked next) room }
 {
-    let words = match call {
-        Call::Listing(words) | Call::Report { room: words, .. } => words,
-        _ => 0,
+    let words = match next {
+        Some(Call::Listing(words)) | Some(Call::Report { room: words, .. }) => words,
+        Some(_) => 0,
+        None => return false,
     };
     5 <= room && words <= room - 5
 }
