@@ -79,7 +79,7 @@ pub fn last(part: &[i64]) -> Entry
     }
 }
 
-// One entry more; where there are 256 already, it takes the place of the oldest.
+// One entry more; where there are 256 already, it takes the place of the oldest. `done` is a number: `Remembering` is said of every one.
 pub fn remember(part: &mut [i64], done: u32, number: i64, rate: i64, base: i64)
     ensures { Remembering done number rate base part.old part.new }
 {

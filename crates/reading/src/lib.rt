@@ -55,7 +55,7 @@ fn part_piece(part: &[i64], place: u32) -> Option<Piece>
     })
 }
 
-// The place of the first piece of the book at `start`, and 0 where there is none.
+// The place of the first piece of the book at `start`, and 0 where there is none. A place is a number, since C keeps it between two calls.
 pub fn first_place(table: &[i64], start: usize) -> u32
     ensures { Starts start table.now result }
 {

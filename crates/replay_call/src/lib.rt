@@ -99,7 +99,8 @@ fn perform(table: &mut [i64], start: usize, call: Call, out: &mut [i64]) -> usiz
     }
 }
 
-// Makes the first call, where it can be read and its answer fits. Returns how many words the answer takes, and 0 where there is no such call.
+// Makes the first call, where it can be read and its answer fits. Returns how many words the answer takes, and 0 where there is no such call:
+// `Step` says it of that number, and no answer takes 0.
 pub fn one_call(table: &mut [i64], start: usize, calls: &[i64], out: &mut [i64]) -> usize
     ensures { Step start table.old table.new calls.now out.old out.new result }
 {

@@ -12,7 +12,8 @@ ghost use Rattle.search.specs.Runs.{started, Meets};
 use table::Part;
 use walks::{Action, Move, STACK, act, pair, point, top};
 
-// The state of a search: u and v with their stacks, and whether it is finished.
+// The state of a search: u and v with their stacks, and whether it is finished. docs/REQUIREMENTS.md, 17, names this form. `done` is a flag beside them,
+// since u and v stand when it is set as well: `Stepped` and `Meets` speak of both.
 #[derive(Drop)]
 struct Search {
     u: u32,
