@@ -49,6 +49,8 @@ impl Declined {
             Declined::OutputTooShort => 10,
             Declined::RatesNotApart => 12,
             Declined::NoSuchMark => 13,
+            // a number of those above is none of its own, so that each tells its cause
+            Declined::Other(1..=5 | 7..=10 | 12..=17) => 0,
             Declined::Other(number) => number,
         }
     }
