@@ -67,7 +67,7 @@ fn lead_digit(number: u64, power: u64) -> Lead
     ensures { LeadDigit number power result }
 {
     let mut digit = 0;
-    for times in 1..=9 {
+    for times in 1..10 {
         digit += (times * power <= number) as u8;
     }
     Lead {

@@ -69,7 +69,7 @@ fn leaf_below<F: Fn(u32) -> u32>(x: u32, child: F) -> u32
     ensures { Down (F.post child) most_levels x result }
 {
     let mut y = x;
-    for _ in 0..=table::MOST_LEVELS {
+    for _ in 0..table::MOST_LEVELS + 1 {
         if y <= table::MOST_SLOTS {
             return y;
         }

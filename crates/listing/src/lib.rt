@@ -14,7 +14,7 @@ pub fn count(part: &[i64], root: u32) -> u32
     if s == 0 {
         return 0;
     }
-    for n in 1..=table::MOST_SLOTS {
+    for n in 1..table::MOST_SLOTS + 1 {
         if s == last {
             return n;
         }

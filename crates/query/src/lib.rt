@@ -136,7 +136,7 @@ pub fn descend(part: &[i64], root: u32, load: i64) -> Probe
     }
     let mut x = root as usize;
     let mut second: u32 = 0;
-    for probes in 0..=table::MOST_LEVELS {
+    for probes in 0..table::MOST_LEVELS + 1 {
         if x <= LEAVES {
             let slot = x as u32;
             return Probe {
