@@ -1,10 +1,11 @@
 -- What the answers' functions do, case by case.
-use Rattle.std.specs.Prelude.{◌≡◌, refl, Bool, true, false, List, [], ◌∷◌, ℕ, zero, suc, ◌≤◌, ◌<◌, length, set, drop, ℤ, pos, negsuc, neg_ℤ, ◌-ℤ◌}
+use Rattle.std.specs.Prelude.{◌≡◌, refl, Bool, true, false, List, [], ◌∷◌, ℕ, zero, suc, ◌≤◌, ◌<◌, length, set, drop, ℤ, pos, negsuc, neg_ℤ, ◌-ℤ◌, Result}
 use Rattle.std.proofs.Common.{sym, subst, true≢false, arith, ltb-false, SFits}
 use Rattle.std.proofs.Math.IntN.{+ℤ_idl}
 use Rattle.std.specs.Int.Signed.{lt_z}
 use Rattle.std.specs.Int.{w64}
 use Rattle.plain.specs.Book.{Call}
+use Rattle.causes.specs.declared.Declined.{Declined}
 use Rattle.promises.specs.Promises.{Updates, Checks}
 use Rattle.promises.specs.declared.Update.{Update}
 use Rattle.reading.specs.Promises.{told}
@@ -77,7 +78,7 @@ module _ (k : Call) (start : ℕ) (t : List ℤ) where
   pub updated_short : {counts : List ℤ} → length counts < 3 → Updated k start t t counts counts too_short
   updated_short h = record { lent = lent_short 3 (Updates k start t t) update_number counts_of h; still = λ _. refl }
 
-  pub updated_long : {t' counts counts' : List ℤ} {r : ℤ} → 3 ≤ length counts → (u : Update) → Updates k start t t' u
+  pub updated_long : {t' counts counts' : List ℤ} {r : ℤ} → 3 ≤ length counts → (u : Result Update Declined) → Updates k start t t' u
       → Tells (update_number u) (counts_of u) counts counts' r → Updated k start t t' counts counts' r
   updated_long {t'} h u p q = record { lent = lent_long 3 (Updates k start t t') update_number counts_of h u p q; still = λ g. absurd (omega arith) }
 

@@ -1,39 +1,45 @@
 -- Theorems on specs/PlainNumbers.
-use Rattle.std.specs.Prelude.{◌≡◌, refl, ◌≢◌, List, [], ◌∷◌, ℕ, suc, ◌*◌, ◌≤◌, length, take, drop, ℤ, pos, negsuc, neg_ℤ, Float}
+use Rattle.std.specs.Prelude.{◌≡◌, refl, ◌≢◌, List, [], ◌∷◌, ℕ, suc, ◌*◌, ◌≤◌, length, take, drop, ℤ, pos, negsuc, Result, Ok, Err}
 use Rattle.std.proofs.Common.{ap, sym, ◌∙◌, subst, add-one, arith, length-append}
 use Rattle.std.proofs.Math.Option.{Option}
-use Rattle.std.proofs.lemmas.List.{length-map}
-use Rattle.plain.specs.Causes.{Cause, cause_number, FirstOf, Clear}
-use Rattle.plain.specs.Book.{State, Call, query, listing, report, Answer, refused, live, found, listed, reported, step, envelope, piece_words}
-use Rattle.trees.specs.Tree.{height}
-use Rattle.meeting.specs.Machine.{meet}
+use Rattle.plain.specs.Book.{State, Call, query, listing, report, Answer, refused, live, listed, reported, step, envelope, piece_words}
 use Rattle.dynamic.specs.OfferTree.{Held}
 use Rattle.table.specs.Fields.{envelope_root_word, most_nodes}
 use Rattle.table.specs.Words.{Words, word, up_to, up_to_in}
-use Rattle.table.specs.Items.{Item, offer_of}
-use Rattle.pieces.specs.Pieces.{items}
-use Rattle.form.specs.Form.{Book, Form, number_of}
+use Rattle.table.specs.Items.{Item}
+use Rattle.form.specs.Form.{Book, Form}
+use Rattle.causes.specs.declared.Declined.{Declined}
+use Rattle.causes.specs.Numbers.{number_of as cause_told}
 use Rattle.promises.specs.declared.Update.{Update}
-use Rattle.promises.specs.declared.Update.TheVariants.{Done, Declined as UpdateDeclined}
 use Rattle.promises.specs.declared.Found.{Found}
-use Rattle.promises.specs.declared.Found.TheVariants.{Offer, Declined as FoundDeclined}
-use Rattle.promises.specs.declared.Listed.{Listed}
-use Rattle.promises.specs.declared.Listed.TheVariants.{Pieces, Declined as ListingDeclined}
-use Rattle.promises.specs.declared.Reported.{Reported}
-use Rattle.promises.specs.declared.Reported.TheVariants.{Offers, Declined as ReportDeclined}
-use Rattle.promises.specs.Promises.{part_of, update_answer, found_answer, listing_answer, report_answer}
+use Rattle.promises.specs.Promises.{part_of, counted_by, update_told, count_told, update_answer, found_answer, listing_answer, report_answer}
 use Rattle.promises.specs.Numbered.{numbered}
-use Rattle.meet_books.specs.declared.Met.{Met}
-use Rattle.meet_books.specs.Promises.{meet_trials, Found as MeetsAt}
-use Rattle.chart.specs.Promises.{plain_mark}
-use Rattle.vouchers.specs.Span.{due}
-use Rattle.vouchers.proofs.Span.{only_due}
-use Rattle.reading.specs.Promises.{piece_of as handed_of, listed_at, root_pieces, PlaceOf, at_piece, past_last, Before}
-use Rattle.reading.specs.PartReading.{none_past, listed_is}
-use Rattle.answers.specs.Promises.{refusal, update_number, found_number, listed_number, reported_number, meet_number, mark_number, place_number}
-use Rattle.answers.specs.Promises.{found_of, met_of, piece_of, over}
-use Rattle.answers.specs.Promises.{Updated, Queried, Listing, Report, MetBooks, MarkAsked, Vouchered, Begun, Steps, Pieced, place_of}
-use Rattle.answers.specs.PlainNumbers.{ReadTo, Stands, answer_number, begun, found_number_lem, listed_number_lem, many, onward, place_is, reported_number_lem, update_number_lem}
+use Rattle.reading.specs.Promises.{listed_at, root_pieces, PlaceOf, at_piece, past_last, Before}
+use Rattle.reading.specs.PartReading.{none_past}
+use Rattle.answers.specs.Promises.{first_or, update_number, found_number, count_number, place_number, piece_of, over}
+use Rattle.answers.specs.Promises.{Updated, Queried, Listing, Report, Steps, Pieced, place_of}
+use Rattle.answers.specs.PlainNumbers.{ReadTo, Stands, answer_number, begun, many, onward, place_is}
+
+-- a count, or a refusal's number below 0
+counted_number : (f : ℕ → Answer) → ((n : ℕ) → answer_number (f n) ≡ pos n) → (c : ℤ) (values : List ℤ) (a : Answer) → a ≢ refused 0 →
+    counted_by f c values ≡ a → first_or c values ≡ answer_number a
+counted_number f g (pos n) [] a d e = ap answer_number e
+counted_number f g (negsuc n) [] a d e = absurd (d (sym e))
+counted_number f g c (pos n ∷ more) a d e = sym (g n) ∙ ap answer_number e
+counted_number f g c (negsuc n ∷ more) a d e = absurd (d (sym e))
+
+pub update_number_lem : (u : Result Update Declined) (a : Answer) → a ≢ refused 0 → update_answer u ≡ a → update_number u ≡ answer_number a
+update_number_lem u = counted_number live (λ n. refl) (update_told u).number (update_told u).values
+
+pub found_number_lem : (f : Result Found Declined) (a : Answer) → a ≢ refused 0 → found_answer f ≡ a → found_number f ≡ answer_number a
+found_number_lem (Ok f) a d e = ap answer_number e
+found_number_lem (Err c) a d e = counted_number live (λ n. refl) (cause_told c) [] a d e
+
+pub listed_number_lem : (l : Result ℤ Declined) (out : List ℤ) (a : Answer) → a ≢ refused 0 → listing_answer l out ≡ a → count_number l ≡ answer_number a
+listed_number_lem l out = counted_number (λ n. listed n (take (3 * n) out)) (λ n. refl) (count_told l).number (count_told l).values
+
+pub reported_number_lem : (m : Result ℤ Declined) (out : List ℤ) (a : Answer) → a ≢ refused 0 → report_answer m out ≡ a → count_number m ≡ answer_number a
+reported_number_lem m out = counted_number (λ n. reported n (take (3 * n) out)) (λ n. refl) (count_told m).number (count_told m).values
 
 pub updated_plainly :
     {start : ℕ} {t : List ℤ} (plain : State) (held : Option (Held Item)) → Form (part_of t start) plain held → {k : Call} {t' counts counts' : List ℤ} {r : ℤ} →

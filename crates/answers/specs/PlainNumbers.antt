@@ -1,38 +1,31 @@
 -- On tables that pass the check each number, and what goes with it, is the plain book's.
-use Rattle.std.specs.Prelude.{◌≡◌, refl, ◌≢◌, List, [], ◌∷◌, ℕ, suc, ◌*◌, ◌≤◌, length, take, drop, ℤ, pos, negsuc, neg_ℤ, Float}
-use Rattle.std.proofs.Common.{ap, sym, ◌∙◌, subst, add-one, arith, length-append}
+use Rattle.std.specs.Prelude.{◌≡◌, refl, List, [], ◌∷◌, ℕ, suc, ◌≤◌, length, drop, ℤ, pos, negsuc, neg_ℤ, Float, Result, Ok, Err}
+use Rattle.std.proofs.Common.{ap, ◌∙◌, arith}
 use Rattle.std.proofs.Math.Option.{Option}
 use Rattle.std.proofs.lemmas.List.{length-map}
 use Rattle.plain.specs.Causes.{Cause, cause_number, FirstOf, Clear}
-use Rattle.plain.specs.Book.{State, Call, query, listing, report, Answer, refused, live, found, listed, reported, step, envelope, piece_words}
+use Rattle.plain.specs.Book.{State, query, Answer, refused, live, found, listed, reported, step, envelope}
 use Rattle.trees.specs.Tree.{height}
 use Rattle.meeting.specs.Machine.{meet}
 use Rattle.dynamic.specs.OfferTree.{Held}
-use Rattle.table.specs.Fields.{envelope_root_word, most_nodes}
-use Rattle.table.specs.Words.{Words, word, up_to, up_to_in}
+use Rattle.table.specs.Words.{Words}
 use Rattle.table.specs.Items.{Item, offer_of}
 use Rattle.pieces.specs.Pieces.{items}
-use Rattle.form.specs.Form.{Book, Form, number_of}
-use Rattle.promises.specs.declared.Update.{Update}
-use Rattle.promises.specs.declared.Update.TheVariants.{Done, Declined as UpdateDeclined}
+use Rattle.form.specs.Form.{Book, number_of}
+use Rattle.causes.specs.declared.Declined.{Declined}
+use Rattle.causes.specs.Numbers.{number_of as cause_told}
 use Rattle.promises.specs.declared.Found.{Found}
-use Rattle.promises.specs.declared.Found.TheVariants.{Offer, Declined as FoundDeclined}
-use Rattle.promises.specs.declared.Listed.{Listed}
-use Rattle.promises.specs.declared.Listed.TheVariants.{Pieces, Declined as ListingDeclined}
-use Rattle.promises.specs.declared.Reported.{Reported}
-use Rattle.promises.specs.declared.Reported.TheVariants.{Offers, Declined as ReportDeclined}
-use Rattle.promises.specs.Promises.{part_of, update_answer, found_answer, listing_answer, report_answer}
-use Rattle.promises.specs.Numbered.{numbered}
-use Rattle.meet_books.specs.declared.Met.{Met}
+use Rattle.promises.specs.Promises.{part_of, counted, found_answer}
+use Rattle.meet_books.specs.declared.Meeting.{Meeting}
 use Rattle.meet_books.specs.Promises.{meet_trials, Found as MeetsAt}
 use Rattle.chart.specs.Promises.{plain_mark}
 use Rattle.vouchers.specs.Span.{due}
 use Rattle.vouchers.proofs.Span.{only_due}
-use Rattle.reading.specs.Promises.{piece_of as handed_of, listed_at, root_pieces, PlaceOf, at_piece, past_last, Before}
-use Rattle.reading.specs.PartReading.{none_past, listed_is}
-use Rattle.answers.specs.Promises.{refusal, update_number, found_number, listed_number, reported_number, meet_number, mark_number, place_number}
-use Rattle.answers.specs.Promises.{found_of, met_of, piece_of, over}
-use Rattle.answers.specs.Promises.{Updated, Queried, Listing, Report, MetBooks, MarkAsked, Vouchered, Begun, Steps, Pieced, place_of}
+use Rattle.reading.specs.Promises.{piece_of as handed_of, root_pieces, Before}
+use Rattle.reading.specs.PartReading.{listed_is}
+use Rattle.answers.specs.Promises.{refusal, meet_number, mark_number, place_number}
+use Rattle.answers.specs.Promises.{found_of, met_of, over}
+use Rattle.answers.specs.Promises.{Queried, MetBooks, MarkAsked, Vouchered, Begun, Pieced, place_of}
 
 -- an answer of the plain book as one number
 abbrev pub answer_number : Answer → ℤ
@@ -42,37 +35,17 @@ answer_number (found number price second) = number
 answer_number (listed n ws) = pos n
 answer_number (reported n ws) = pos n
 
-pub update_number_lem : (u : Update) (a : Answer) → a ≢ refused 0 → update_answer u ≡ a → update_number u ≡ answer_number a
-update_number_lem (Done (pos n) k s h) a d e = ap answer_number e
-update_number_lem (Done (negsuc n) k s h) a d e = absurd (d (sym e))
-update_number_lem (UpdateDeclined (pos n)) a d e = ap answer_number e
-update_number_lem (UpdateDeclined (negsuc n)) a d e = absurd (d (sym e))
-
-pub found_number_lem : (f : Found) (a : Answer) → a ≢ refused 0 → found_answer f ≡ a → found_number f ≡ answer_number a
-found_number_lem (Offer number price second probes) a d e = ap answer_number e
-found_number_lem (FoundDeclined (pos n)) a d e = ap answer_number e
-found_number_lem (FoundDeclined (negsuc n)) a d e = absurd (d (sym e))
-
-pub found_words_lem : (f : Found) (number price second : ℤ) → found_answer f ≡ found number price second →
+pub found_words_lem : (f : Result Found Declined) (number price second : ℤ) → found_answer f ≡ found number price second →
     (probes : ℤ) × (found_of f ≡ price ∷ second ∷ probes ∷ [])
-found_words_lem (Offer m p o probes) number price second e =
-    let a : p ≡ price = cc in
-    let b : o ≡ second = cc in
-    (probes, λ i. a i ∷ b i ∷ probes ∷ [])
-found_words_lem (FoundDeclined (pos m)) number price second e = let z : ◌≡◌ {A = ℕ} 0 1 = cc in absurd (omega arith)
-found_words_lem (FoundDeclined (negsuc m)) number price second e = let z : ◌≡◌ {A = ℕ} 0 1 = cc in absurd (omega arith)
-
-pub listed_number_lem : (l : Listed) (out : List ℤ) (a : Answer) → a ≢ refused 0 → listing_answer l out ≡ a → listed_number l ≡ answer_number a
-listed_number_lem (Pieces (pos n)) out a d e = ap answer_number e
-listed_number_lem (Pieces (negsuc n)) out a d e = absurd (d (sym e))
-listed_number_lem (ListingDeclined (pos n)) out a d e = ap answer_number e
-listed_number_lem (ListingDeclined (negsuc n)) out a d e = absurd (d (sym e))
-
-pub reported_number_lem : (m : Reported) (out : List ℤ) (a : Answer) → a ≢ refused 0 → report_answer m out ≡ a → reported_number m ≡ answer_number a
-reported_number_lem (Offers (pos n)) out a d e = ap answer_number e
-reported_number_lem (Offers (negsuc n)) out a d e = absurd (d (sym e))
-reported_number_lem (ReportDeclined (pos n)) out a d e = ap answer_number e
-reported_number_lem (ReportDeclined (negsuc n)) out a d e = absurd (d (sym e))
+found_words_lem (Ok f) number price second e =
+    let a : f.price ≡ price = cc in
+    let b : f.second ≡ second = cc in
+    (f.probes, λ i. a i ∷ b i ∷ f.probes ∷ [])
+found_words_lem (Err c) number price second e = absurd (not_found (cause_told c) e)
+  where
+    not_found : (z : ℤ) → counted refused z ≡ found number price second → ⊥
+    not_found (pos m) d = let z : ◌≡◌ {A = ℕ} 0 1 = cc in omega arith
+    not_found (negsuc m) d = let z : ◌≡◌ {A = ℕ} 0 1 = cc in omega arith
 
 module _ {start : ℕ} {t : List ℤ} (plain : State) (held : Option (Held Item)) (book : Book (part_of t start) plain held) where
   -- .. and the words: the price, the second offer's number and the probes, over the first three
@@ -104,7 +77,7 @@ vouchered_plainly price {units} p h =
 
 -- u's offer, and behind it v's, the steps and the heights, of the meeting that is there
 pub record MetAt (plain plain' : State) (held held' : Option (Held Item)) (out out' : List ℤ) (r : ℤ) : Type 0 where
-  pub m : Met
+  pub m : Result Meeting Declined
   pub found : MeetsAt plain plain' held held' m
   pub number : r ≡ number_of found.bridged.u
   pub words :

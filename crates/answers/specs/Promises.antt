@@ -1,20 +1,17 @@
 -- What each function for Rust and C promises: the promise of the call behind it (the Promises of promises, meet_books, chart and reading, `Vouches` of
 -- vouchers), with the answer told as one number and as values over the first words of a lent output. `t` are the table's words before the
 -- call and `t'` those after it; so for the words of an output.
-use Rattle.std.specs.Prelude.{◌≡◌, Bool, cond, List, [], ◌∷◌, ◌++◌, ℕ, ◌≤◌, ◌<◌, ◌^◌, length, drop, ℤ, pos, neg_ℤ, nat_abs, Float}
+use Rattle.std.specs.Prelude.{◌≡◌, Bool, cond, List, [], ◌∷◌, ◌++◌, ℕ, ◌≤◌, ◌<◌, ◌^◌, length, drop, ℤ, pos, neg_ℤ, nat_abs, Float, Result}
 use Rattle.plain.specs.Book.{Call, post, withdraw, take_back}
 use Rattle.table.specs.Words.{up_to}
-use Rattle.promises.specs.declared.Opening.{Opening}
+use Rattle.causes.specs.declared.Declined.{Declined}
 use Rattle.promises.specs.declared.Update.{Update}
 use Rattle.promises.specs.declared.Found.{Found}
-use Rattle.promises.specs.declared.Listed.{Listed}
-use Rattle.promises.specs.declared.Reported.{Reported}
-use Rattle.promises.specs.Promises.{opening_answer, update_told, found_told, listed_told, reported_told, Opens, Updates, Queries, Lists, Reports, Checks}
+use Rattle.promises.specs.Promises.{opening_answer, update_told, found_told, count_told, Opens, Updates, Queries, Lists, Reports, Checks}
 use Rattle.meet_books.specs.Promises.{MeetAnswer, refused, met, meet_answer, MeetsBooks}
 use Rattle.chart.specs.Promises.{told as mark_told, Marks}
 use Rattle.vouchers.specs.VoucherTold.{told as voucher_told, Vouches}
-use Rattle.reading.specs.declared.Handed.{Handed}
-use Rattle.reading.specs.Promises.{Told as PieceTold, piece, ended, refused as piece_refused, told as piece_told, Starts, Moves, Hands}
+use Rattle.reading.specs.Promises.{Handed, Told as PieceTold, piece, ended, refused as piece_refused, told as piece_told, Starts, Moves, Hands}
 
 -- ---- an answer as one number
 
@@ -31,20 +28,18 @@ abbrev pub first_or : ℤ → List ℤ → ℤ
 first_or cause [] = refusal cause
 first_or cause (first ∷ more) = first
 
-abbrev pub opening_number : Opening → ℤ
+abbrev pub opening_number : Result (Unit {0}) Declined → ℤ
 opening_number r = refusal (opening_answer r)
 
-abbrev pub update_number : Update → ℤ
+abbrev pub update_number : Result Update Declined → ℤ
 update_number r = first_or (update_told r).number (update_told r).values
 
-abbrev pub found_number : Found → ℤ
+abbrev pub found_number : Result Found Declined → ℤ
 found_number r = first_or (found_told r).number (found_told r).values
 
-abbrev pub listed_number : Listed → ℤ
-listed_number r = first_or (listed_told r).number (listed_told r).values
-
-abbrev pub reported_number : Reported → ℤ
-reported_number r = first_or (reported_told r).number (reported_told r).values
+-- a listing's, or a report's
+abbrev pub count_number : Result ℤ Declined → ℤ
+count_number r = first_or (count_told r).number (count_told r).values
 
 abbrev pub meet_number : MeetAnswer → ℤ
 meet_number (refused cause) = refusal cause
@@ -69,10 +64,10 @@ abbrev pub later_of : List ℤ → List ℤ
 later_of [] = []
 later_of (first ∷ more) = more
 
-abbrev pub counts_of : Update → List ℤ
+abbrev pub counts_of : Result Update Declined → List ℤ
 counts_of r = later_of (update_told r).values
 
-abbrev pub found_of : Found → List ℤ
+abbrev pub found_of : Result Found Declined → List ℤ
 found_of r = later_of (found_told r).values
 
 abbrev pub met_of : MeetAnswer → List ℤ
@@ -103,7 +98,7 @@ pub record Lent {A B : Type 0} (room : ℕ) (Keeps : B → Type 0) (number_of : 
 -- ---- the functions
 
 pub record Opened (c : ℤ) (start : ℕ) (t t' : List ℤ) (r : ℤ) : Type 0 where
-  pub opening : Opening
+  pub opening : Result (Unit {0}) Declined
   pub opens : Opens c start t t' opening
   pub number : r ≡ opening_number opening
 
@@ -126,14 +121,14 @@ abbrev pub Queried : (load : ℤ) (start : ℕ) (t found found' : List ℤ) (r :
 Queried load start t found found' r = Lent 3 (Queries load start t) found_number found_of found found' r
 
 pub record Listing (start : ℕ) (t out out' : List ℤ) (r : ℤ) : Type 0 where
-  pub listed : Listed
+  pub listed : Result ℤ Declined
   pub lists : Lists start t out out' listed
-  pub number : r ≡ listed_number listed
+  pub number : r ≡ count_number listed
 
 pub record Report (load price : ℤ) (start : ℕ) (t out out' : List ℤ) (r : ℤ) : Type 0 where
-  pub reported : Reported
+  pub reported : Result ℤ Declined
   pub reports : Reports load price start t out out' reported
-  pub number : r ≡ reported_number reported
+  pub number : r ≡ count_number reported
 
 pub record Checked (start : ℕ) (t : List ℤ) (r : ℤ) : Type 0 where
   pub passes : Bool

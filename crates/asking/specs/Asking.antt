@@ -1,5 +1,5 @@
 -- A query, step by step: what the code's parts promise, and put together.
-use Rattle.std.specs.Prelude.{◌≡◌, refl, Bool, true, false, not, List, ℕ, ◌-◌, ◌≤◌, ◌<◌, length, take, drop, T, ℤ, pos}
+use Rattle.std.specs.Prelude.{◌≡◌, refl, Bool, true, false, not, List, ℕ, ◌-◌, ◌<◌, length, take, drop, T, ℤ, pos, Result, Err}
 use Rattle.std.proofs.Common.{sym, ◌∙◌, ap, subst, arith, le→leb}
 use Rattle.std.proofs.Math.Option.{Option, none, some}
 use Rattle.lists.specs.Bools.{not_not, twice, said, denied}
@@ -7,14 +7,12 @@ use Rattle.offers.specs.Offers.{load_in_range, price_at}
 use Rattle.plain.specs.Causes.{Cause, book_empty, cause_number, at_once, further, FirstOf}
 use Rattle.plain.specs.Book.{State, query, found, refused, Outcome, step}
 use Rattle.plain.proofs.Rules.{step_declined}
-use Rattle.trees.specs.Tree.{Tree, leaves, first}
-use Rattle.trees.specs.Leaves.{first_leaf}
+use Rattle.trees.specs.Tree.{Tree, leaves}
 use Rattle.trees.specs.Operations.{Part, part_leaves}
-use Rattle.dynamic.specs.OfferTree.{Held, held_shape}
+use Rattle.dynamic.specs.OfferTree.{Held}
 use Rattle.dynamic.specs.Valid.{book_lines}
 use Rattle.dynamic.specs.Lower.{valid_env}
 use Rattle.envelopes.specs.Envelope.{Env}
-use Rattle.envelopes.specs.Small.{env_some}
 use Rattle.table.specs.Fields.{capacity_word, envelope_root_word, live_count_word, most_nodes, number_field}
 use Rattle.table.specs.Words.{Words, word, up_to}
 use Rattle.table.specs.Layout.{cell}
@@ -30,22 +28,24 @@ use Rattle.query.specs.Readings.{price_in}
 use Rattle.query.specs.Descent.{Descended, Finds}
 use Rattle.query.proofs.Plain.{lookup_plain}
 use Rattle.promises.specs.declared.Found.{Found}
-use Rattle.promises.specs.declared.Found.TheVariants.{Offer, Declined}
+use Rattle.causes.specs.declared.Declined.{Declined}
+use Rattle.causes.specs.declared.Declined.TheVariants.{NoBook, LoadOutOfRange, Empty}
+use Rattle.causes.specs.Numbers.{number_of}
 use Rattle.plain.specs.Book.{no_book_at}
-use Rattle.promises.specs.Promises.{part_of, table_trials, found_told, found_answer, Probes, ProbesIn, Queries}
+use Rattle.promises.specs.Promises.{part_of, table_trials, counted, found_told, found_answer, Probes, ProbesIn, Queries}
 use Rattle.promises.specs.Plainly.{table_declined}
 use Rattle.promises.specs.LentPart.{whole_part}
 use Rattle.promises.specs.OneCause.{one_cause, not_clear}
-use Rattle.form.specs.Live.{live_length, book_sound, first_offers, no_offers}
+use Rattle.form.specs.Live.{live_length, book_sound, first_offers}
 use Rattle.form.specs.HeaderWords.{count_read, envelope_read}
 
 -- a load in range, on words that stand for a plain book
-pub record Asks (q : ℤ) (w : Words) (r : Found) : Type 0 where
+pub record Asks (q : ℤ) (w : Words) (r : Result Found Declined) : Type 0 where
   pub answers : (plain : State) (held : Option (Held Item)) → Book w plain held → T (load_in_range q) → found_answer r ≡ (step plain (query q)).answer
   pub probes : (plain : State) (held : Option (Held Item)) → Book w plain held → T (load_in_range q) →
       Probes held (found_told r).values
 
-pub asks_empty : {q : ℤ} {w : Words} {n : ℕ} → n ≡ up_to most_nodes (word w live_count_word) → n < 1 → Asks q w (Declined (pos 9))
+pub asks_empty : {q : ℤ} {w : Words} {n : ℕ} → n ≡ up_to most_nodes (word w live_count_word) → n < 1 → Asks q w (Err Empty)
 asks_empty {q} {w} {n} e h =
     record {
       answers = λ plain held b t. sym (ap (λ (o : Outcome). o.answer)
@@ -113,22 +113,23 @@ module _ (plain : State) {q : ℤ} {w : Words} {root slot other probes : ℕ} {n
 -- ---- on the table
 
 module _ (q : ℤ) (t : List ℤ) (start : ℕ) where
-  pub queries_declined : {k : Cause} → FirstOf (table_trials t start (query q)) k → Queries q start t (Declined (pos (cause_number k)))
-  queries_declined f =
+  pub queries_declined : {c : Declined} {k : Cause} → FirstOf (table_trials t start (query q)) k → number_of c ≡ pos (cause_number k) →
+      Queries q start t (Err c)
+  queries_declined f e =
       record {
-        declined = λ z g. ap refused (sym (one_cause f g));
-        answers = λ plain held b. sym (ap (λ (o : Outcome). o.answer) (table_declined start t (query q) b f));
+        declined = λ z g. ap (counted refused) e ∙ ap refused (sym (one_cause f g));
+        answers = λ plain held b. ap (counted refused) e ∙ sym (ap (λ (o : Outcome). o.answer) (table_declined start t (query q) b f));
         probes = λ plain held b. tt;
       }
 
-  pub queries_none : {b : Bool} → b ≡ no_book_at (length t) start (word (part_of t start) capacity_word) → b ≡ true → Queries q start t (Declined (pos 3))
-  queries_none e h = queries_declined (at_once (said e h))
+  pub queries_none : {b : Bool} → b ≡ no_book_at (length t) start (word (part_of t start) capacity_word) → b ≡ true → Queries q start t (Err NoBook)
+  queries_none e h = queries_declined (at_once (said e h)) refl
 
   module _ {b d : Bool} (e : b ≡ no_book_at (length t) start (word (part_of t start) capacity_word)) (h : b ≡ false) (e' : d ≡ not (load_in_range q)) where
-    pub queries_range : d ≡ true → Queries q start t (Declined (pos 16))
-    queries_range h' = queries_declined (further (denied e h) (at_once (said e' h')))
+    pub queries_range : d ≡ true → Queries q start t (Err LoadOutOfRange)
+    queries_range h' = queries_declined (further (denied e h) (at_once (said e' h'))) refl
 
-    pub queries_asked : d ≡ false → {r : Found} → Asks q (take (length t - start) (drop start t)) r → Queries q start t r
+    pub queries_asked : d ≡ false → {r : Result Found Declined} → Asks q (take (length t - start) (drop start t)) r → Queries q start t r
     queries_asked h' {r} a =
         record {
           declined = λ z g. absurd (not_clear g (denied e h, (denied e' h', tt)));

@@ -1,5 +1,5 @@
 -- A listing's answer on a part, and on a table, by what the code counts and writes.
-use Rattle.std.specs.Prelude.{◌≡◌, refl, Bool, true, false, List, [], ◌++◌, map, ℕ, ◌*◌, ◌-◌, ◌≤◌, ◌<◌, length, take, drop, ℤ, pos}
+use Rattle.std.specs.Prelude.{◌≡◌, refl, Bool, true, false, List, [], ◌++◌, map, ℕ, ◌*◌, ◌-◌, ◌≤◌, ◌<◌, length, take, drop, ℤ, pos, Result, Ok, Err}
 use Rattle.std.proofs.Common.{sym, ◌∙◌, ap, subst, arith, take_at, drop_at}
 use Rattle.std.proofs.Math.Option.{Option}
 use Rattle.std.proofs.lemmas.List.{length-map}
@@ -24,13 +24,13 @@ use Rattle.promises.specs.Plainly.{table_declined}
 use Rattle.promises.specs.LentPart.{whole_part}
 use Rattle.promises.specs.Rooted.{Root, bare, topped, root_of}
 use Rattle.promises.specs.OneCause.{one_cause, not_clear}
-use Rattle.promises.specs.declared.Listed.{Listed}
-use Rattle.promises.specs.declared.Listed.TheVariants.{Pieces, Declined}
+use Rattle.causes.specs.declared.Declined.{Declined}
+use Rattle.causes.specs.declared.Declined.TheVariants.{NoBook, OutputTooShort}
 
 -- ---- on a part
 
-pub record Shown (w : Words) (out out' : List ℤ) (r : Listed) : Type 0 where
-  pub refusal : (z : ℤ) → r ≡ Declined z → out' ≡ out
+pub record Shown (w : Words) (out out' : List ℤ) (r : Result ℤ Declined) : Type 0 where
+  pub refusal : (c : Declined) → r ≡ Err c → out' ≡ out
   pub long : length out' ≡ length out
   pub answers : (plain : State) (held : Option (Held Item)) → Book w plain held → listing_answer r out' ≡ (step plain (listing (length out))).answer
   pub later : (plain : State) (held : Option (Held Item)) → Book w plain held →
@@ -56,14 +56,11 @@ module _ {n : ℕ} {out out' : List ℤ} {es : List Item} (l : Laid n out out' e
       subst (λ (k : ℕ). drop k out' ≡ drop k out) (sym (ap length begins ∙ size))
       (ap (drop (3 * n)) l.words ∙ drop_at (piece_words (map offer_of es)) (drop (3 * n) out) (3 * n) size)
 
-pieces_declined : {m z : ℤ} → Pieces m ≡ Declined z → ⊥
-pieces_declined e = let x : ◌≡◌ {A = ℕ} 0 1 = cc in omega arith
-
 module _ {w : Words} {root n : ℕ} {out out' : List ℤ} (e : root ≡ up_to most_nodes (word w envelope_root_word)) (k : Written w root out out' n) where
   -- too short an output
-  pub shown_short : length out < 3 * n → Shown w out out' (Declined (pos 10))
+  pub shown_short : length out < 3 * n → Shown w out out' (Err OutputTooShort)
   shown_short h = record {
-    refusal = λ z d. k.short h;
+    refusal = λ c d. k.short h;
     long = k.long;
     answers = λ plain held b. go plain b (root_of b e);
     later =
@@ -76,9 +73,9 @@ module _ {w : Words} {root n : ℕ} {out out' : List ℤ} (e : root ≡ up_to mo
           (omega (arith, k.counted.is t p.pieces p.balanced)))
 
   -- every piece
-  pub shown_all : 3 * n ≤ length out → Shown w out out' (Pieces (pos n))
+  pub shown_all : 3 * n ≤ length out → Shown w out out' (Ok (pos n))
   shown_all h = record {
-    refusal = λ z d. absurd (pieces_declined d);
+    refusal = λ c d. cc;
     long = k.long;
     answers = λ plain held b. go plain b (root_of b e);
     later =
@@ -107,11 +104,11 @@ module _ {w : Words} {root n : ℕ} {out out' : List ℤ} (e : root ≡ up_to mo
 -- ---- on a table
 
 module _ (start : ℕ) (t out : List ℤ) {no : Bool} (e : no ≡ no_book_at (length t) start (word (part_of t start) capacity_word)) where
-  pub listing_no_book : no ≡ true → Lists start t out out (Declined (pos 3))
+  pub listing_no_book : no ≡ true → Lists start t out out (Err NoBook)
   listing_no_book d =
       record {
         declined = λ z g. (ap refused (sym (one_cause none_there g)), refl);
-        refusal = λ z d. refl;
+        refusal = λ c d. refl;
         long = refl;
         answers = λ plain held b. sym (ap (λ (o : Outcome). o.answer) (table_declined start t (listing (length out)) b none_there));
         later = λ plain held b. refl;
@@ -120,7 +117,7 @@ module _ (start : ℕ) (t out : List ℤ) {no : Bool} (e : no ≡ no_book_at (le
       none_there : FirstOf (table_trials t start (listing (length out))) no_book
       none_there = at_once (said e d)
 
-  pub listing_done : {out' : List ℤ} {r : Listed} → no ≡ false → Shown (take (length t - start) (drop start t)) out out' r → Lists start t out out' r
+  pub listing_done : {out' : List ℤ} {r : Result ℤ Declined} → no ≡ false → Shown (take (length t - start) (drop start t)) out out' r → Lists start t out out' r
   listing_done {out'} {r} d k =
       let s : Shown (part_of t start) out out' r = subst (λ (w : Words). Shown w out out' r) (whole_part t start) k in
       record {

@@ -1,5 +1,5 @@
 -- A post, a withdrawal and a take-back on a lent table: what the code's guards and its work on the part promise, put together.
-use Rattle.std.specs.Prelude.{◌≡◌, refl, Bool, true, false, not, List, [], ◌∷◌, ◌++◌, ℕ, ◌-◌, ◌≤◌, ◌<◌, length, take, drop, T, ℤ, pos}
+use Rattle.std.specs.Prelude.{◌≡◌, refl, Bool, true, false, List, [], ◌∷◌, ◌++◌, ℕ, ◌-◌, ◌≤◌, ◌<◌, length, take, drop, ℤ, pos, Result, Ok, Err}
 use Rattle.std.proofs.Common.{sym, ◌∙◌, ap, subst, arith, take-append-drop}
 use Rattle.std.proofs.Math.Option.{Option}
 use Rattle.lists.specs.Bools.{said, denied}
@@ -13,8 +13,10 @@ use Rattle.table.specs.Items.{Item}
 use Rattle.form.specs.Form.{Book, Form}
 use Rattle.index.specs.Index.{FoundKey}
 use Rattle.promises.specs.declared.Update.{Update}
-use Rattle.promises.specs.declared.Update.TheVariants.{Done, Declined}
-use Rattle.promises.specs.Promises.{part_of, capacity_at, table_trials, update_answer, Updates, Follows}
+use Rattle.causes.specs.declared.Declined.{Declined}
+use Rattle.causes.specs.declared.Declined.TheVariants.{NoBook, NotLive, NothingToTakeBack}
+use Rattle.causes.specs.Numbers.{number_of}
+use Rattle.promises.specs.Promises.{part_of, capacity_at, table_trials, counted, update_answer, Updates, Follows}
 use Rattle.declining.specs.Sought.{number_sought}
 use Rattle.plain.specs.Rules.{refusing, step_accepted, posted, withdrawn, takes_back}
 use Rattle.plain.proofs.Rules.{nothing_taken}
@@ -36,49 +38,49 @@ use Rattle.declining.specs.PartCauses.{PostCause}
 abbrev lent : List ℤ → ℕ → Words
 lent t start = take (length t - start) (drop start t)
 
-done_declined : {live searches steps heights z : ℤ} → Done live searches steps heights ≡ Declined z → ⊥
-done_declined e = let x : ◌≡◌ {A = ℕ} 0 1 = cc in omega arith
-
 module _ (k : Call) (start : ℕ) (t t' : List ℤ) where
-  updates_declined : {z : Cause} {r : Update} → FirstOf (table_trials t start k) z → r ≡ Declined (pos (cause_number z)) → t' ≡ t → Updates k start t t' r
-  updates_declined f er et =
+  updates_declined : {z : Cause} {r : Result Update Declined} {c : Declined} → FirstOf (table_trials t start k) z → r ≡ Err c →
+      number_of c ≡ pos (cause_number z) → t' ≡ t → Updates k start t t' r
+  updates_declined f er ec et =
       record {
-        declined = λ z g. (ap update_answer er ∙ ap refused (sym (one_cause f g)), et);
-        refusal = λ z d. et;
+        declined = λ z g. (ap update_answer er ∙ ap (counted refused) ec ∙ ap refused (sym (one_cause f g)), et);
+        refusal = λ c d. et;
         outside = only_same et;
         same_part = ap (λ (u : List ℤ). word (part_of u start) capacity_word) et;
-        follows = λ plain held b. follows_declined start t k b (table_declined start t k b.book f) er et;
+        follows = λ plain held b. follows_declined start t k b (table_declined start t k b.book f) er ec et;
       }
 
   module _ {b : Bool} (e : b ≡ no_book_at (length t) start (word (part_of t start) capacity_word)) where
-    pub updates_none : b ≡ true → t' ≡ t → Updates k start t t' (Declined (pos 3))
-    updates_none h et = updates_declined (at_once (said e h)) refl et
+    pub updates_none : b ≡ true → t' ≡ t → Updates k start t t' (Err NoBook)
+    updates_none h et = updates_declined (at_once (said e h)) refl refl et
 
-    module _ {i : ℕ} (h : b ≡ false) (o : RangeCause k i) where
-      pub updates_range : {r : Update} → 0 < i → r ≡ Declined (pos i) → t' ≡ t → Updates k start t t' r
-      updates_range q er et =
-          let (z, f, n) = names_first (o.names q) in updates_declined (further (denied e h) f) (er ∙ ap (λ (j : ℕ). Declined (pos j)) (sym n)) et
+    module _ {i : Result (Unit {0}) Declined} (h : b ≡ false) (o : RangeCause k i) where
+      pub updates_range : {c : Declined} {r : Result Update Declined} → i ≡ Err c → r ≡ Err c → t' ≡ t → Updates k start t t' r
+      updates_range {c} q er et =
+          let (m, ec, names) = o.names c q in
+          let (z, f, n) = names_first names in updates_declined (further (denied e h) f) er (ec ∙ ap pos (sym n)) et
 
-      module _ (q : i ≤ 0) where
+      module _ (q : i ≡ Ok tt) where
         clear : Clear (table_trials t start k)
         clear = (denied e h, o.clears q)
 
         pub updates_refused :
-            {m : ℕ} {r : Update} → ((plain : State) (held : Option (Held Item)) → Book (lent t start) plain held → step plain k ≡ refusing plain m) →
-            r ≡ Declined (pos m) → t' ≡ t → Updates k start t t' r
-        updates_refused f er et =
+            {m : ℕ} {r : Result Update Declined} {c : Declined} →
+            ((plain : State) (held : Option (Held Item)) → Book (lent t start) plain held → step plain k ≡ refusing plain m) →
+            r ≡ Err c → number_of c ≡ pos m → t' ≡ t → Updates k start t t' r
+        updates_refused f er ec et =
             record {
               declined = λ z g. absurd (not_clear g clear);
-              refusal = λ z d. et;
+              refusal = λ c d. et;
               outside = only_same et;
               same_part = ap (λ (u : List ℤ). word (part_of u start) capacity_word) et;
               follows = λ plain held b. follows_declined start t k b
                   (f plain held (subst (λ (u : Words). Book u plain held) (sym (whole_part t start)) b.book))
-                  er et;
+                  er ec et;
             }
 
         pub updates_by :
-            {r : Update} → ((z : ℤ) → r ≡ Declined z → t' ≡ t) → (w' : Words) →
+            {r : Result Update Declined} → ((c : Declined) → r ≡ Err c → t' ≡ t) → (w' : Words) →
             t' ≡ take start t ++ (w' ++ drop (length t - start) (drop start t)) → Inside (lent t start) w' →
             ((plain : State) (held : Option (Held Item)) → Form (lent t start) plain held → part_of t' start ≡ w' → Follows k plain held start t t' r) →
             Updates k start t t' r
@@ -111,64 +113,68 @@ module _ (k : Call) (start : ℕ) (t t' : List ℤ) where
 
 module _ (start : ℕ) (t t' : List ℤ) {b : Bool} (e : b ≡ no_book_at (length t) start (word (part_of t start) capacity_word)) (h : b ≡ false) where
   -- the part as an accepted update leaves it
-  module _ (k : Call) {i : ℕ} (o : RangeCause k i) (q : i ≤ 0) {told : Told} {u : Update} (eu : u ≡ update_of told) (w' : Words)
+  module _ (k : Call) {i : Result (Unit {0}) Declined} (o : RangeCause k i) (q : i ≡ Ok tt) {told : Told} {u : Update} (eu : u ≡ update_of told)
+      (w' : Words)
       (et : t' ≡ take start t ++ (w' ++ drop (length t - start) (drop start t))) (inside : Inside (lent t start) w')
       (next : State → State) where
     accepted : ((plain : State) (held : Option (Held Item)) → Form (lent t start) plain held →
         Recorded w' (next plain) held told × (step plain k ≡ record { state = next plain; answer = live (length (next plain).offers) })) →
-        Updates k start t t' u
+        Updates k start t t' (Ok u)
     accepted f =
-        updates_by k start t t' e h o q (λ z d. absurd (done_declined (sym eu ∙ d))) w' et inside
+        updates_by k start t t' e h o q (λ c d. cc) w' et inside
         (λ plain held b p.
         let (g, s) = f plain held b in
-        done_follows start t k b.book (subst (λ (v : Words). Recorded v (next plain) held told) (sym p) g) s eu)
+        done_follows start t k b.book (subst (λ (v : Words). Recorded v (next plain) held told) (sym p) g) s (ap Ok eu))
 
-  module _ (n r z : ℤ) {i : ℕ} (o : RangeCause (post n r z) i) (q : i ≤ 0) {m : ℕ} (cause : PostCause n (lent t start) m) where
-    pub post_refused : {u : Update} → 0 < m → u ≡ Declined (pos m) → t' ≡ t → Updates (post n r z) start t t' u
-    post_refused l eu et = updates_refused (post n r z) start t t' e h o q (λ plain held b. cause.declines r z plain held b (o.clears q) l) eu et
+  module _ (n r z : ℤ) {i : Result (Unit {0}) Declined} (o : RangeCause (post n r z) i) (q : i ≡ Ok tt) {m : Result (Unit {0}) Declined}
+      (cause : PostCause n (lent t start) m) where
+    pub post_refused : {c : Declined} {u : Result Update Declined} → m ≡ Err c → u ≡ Err c → t' ≡ t → Updates (post n r z) start t t' u
+    post_refused {c} l eu et =
+        let (number, ec, declines) = cause.declines c l in
+        updates_refused (post n r z) start t t' e h o q (λ plain held b. declines r z plain held b (o.clears q)) eu ec et
 
     pub post_accepted :
-        {u : Update} → m ≤ 0 → (w' : Words) → PostKept (record { number = n; rate = r; base = z }) (lent t start) w' u →
+        {u : Update} → m ≡ Ok tt → (w' : Words) → PostKept (record { number = n; rate = r; base = z }) (lent t start) w' u →
         t' ≡ take start t ++ (w' ++ drop (length t - start) (drop start t)) →
-        Updates (post n r z) start t t' u
+        Updates (post n r z) start t t' (Ok u)
     post_accepted l w' g et =
         accepted (post n r z) o q g.answer w' et g.inside (λ plain. posted plain n r z)
         (λ plain held f.
-        let (clear, new) = cause.clears r z plain held f.book (o.clears q) l in (g.done plain held f clear new, step_accepted plain (post n r z) clear))
+        let (clear, new) = cause.clears l r z plain held f.book (o.clears q) in (g.done plain held f clear new, step_accepted plain (post n r z) clear))
 
-  module _ (n : ℤ) {i : ℕ} (o : RangeCause (withdraw n) i) (q : i ≤ 0) {s : ℕ}
+  module _ (n : ℤ) {i : Result (Unit {0}) Declined} (o : RangeCause (withdraw n) i) (q : i ≡ Ok tt) {s : ℕ}
       (f : FoundKey number_tree number_field n (up_to most_nodes (word (lent t start) numbers_root_word)) (lent t start) s) where
-    pub withdraw_refused : s < 1 → t' ≡ t → Updates (withdraw n) start t t' (Declined (pos 8))
+    pub withdraw_refused : s < 1 → t' ≡ t → Updates (withdraw n) start t t' (Err NotLive)
     withdraw_refused l et = updates_refused (withdraw n) start t t' e h o q (λ plain held b. withdraw_missing b n (o.clears q) (number_sought b f refl)
-        (omega (arith, l))) refl et
+        (omega (arith, l))) refl refl et
 
     pub withdraw_accepted :
         {u : Update} → 1 ≤ s → (w' : Words) → WithdrawKept n s (lent t start) w' u →
         t' ≡ take start t ++ (w' ++ drop (length t - start) (drop start t)) →
-        Updates (withdraw n) start t t' u
+        Updates (withdraw n) start t t' (Ok u)
     withdraw_accepted l w' g et =
         accepted (withdraw n) o q g.answer w' et g.inside (λ plain. withdrawn plain n)
         (λ plain held b.
         let clear = withdraw_clear b.book n (o.clears q) (number_sought b.book f refl) (λ x. omega (arith, x, l)) in
         (g.done plain held b clear f l, step_accepted plain (withdraw n) clear))
 
-  pub taken_back : {u : Update} (w' : Words) → TakesBack (lent t start) w' u → t' ≡ take start t ++ (w' ++ drop (length t - start) (drop start t)) →
-      Updates take_back start t t' u
+  pub taken_back : {u : Result Update Declined} (w' : Words) → TakesBack (lent t start) w' u →
+      t' ≡ take start t ++ (w' ++ drop (length t - start) (drop start t)) → Updates take_back start t t' u
   taken_back {u} w' g et =
-      updates_by take_back start t t' e h back_in (omega arith) unchanged w' et g.inside
+      updates_by take_back start t t' e h back_in refl unchanged w' et g.inside
       (λ plain held f p. by plain held f p plain.memory refl)
     where
-      unchanged : (z : ℤ) → u ≡ Declined z → t' ≡ t
-      unchanged z d =
-          et ∙ ap (λ (v : Words). take start t ++ (v ++ drop (length t - start) (drop start t))) (g.refusal z d)
+      unchanged : (c : Declined) → u ≡ Err c → t' ≡ t
+      unchanged c d =
+          et ∙ ap (λ (v : Words). take start t ++ (v ++ drop (length t - start) (drop start t))) (g.refusal c d)
           ∙ ap (λ (v : Words). take start t ++ v) (take-append-drop (length t - start) (drop start t)) ∙ take-append-drop start t
 
       by : (plain : State) (held : Option (Held Item)) → Form (lent t start) plain held → part_of t' start ≡ w' → (m : List Undo) → plain.memory ≡ m →
           Follows take_back plain held start t t' u
       by plain held f p [] em =
           let eu = g.nothing plain held f em in
-          follows_declined start t take_back (subst (λ (v : Words). Form v plain held) (whole_part t start) f) (nothing_taken plain em) eu
-          (unchanged (pos 17) eu)
+          follows_declined start t take_back (subst (λ (v : Words). Form v plain held) (whole_part t start) f) (nothing_taken plain em) eu refl
+          (unchanged NothingToTakeBack eu)
       by plain held f p (v ∷ us) em =
           let (told, eu, r) = g.done plain held v us f em in
           done_follows start t take_back f.book

@@ -7,50 +7,50 @@ ghost use Rattle.promises.specs.Promises.{Updates};
 pub use asking::{listing, query};
 pub use check_part::check;
 pub use opening::open;
-pub use promises::{Found, Listed, Opening, Reported, Update, no_book};
+pub use promises::{Declined, Found, Update, no_book};
 pub use reporting::report;
 
 // Posts an offer to the book at `start`.
-pub fn post(table: &mut [i64], start: usize, number: i64, rate: i64, base: i64) -> Update
+pub fn post(
+    table: &mut [i64],
+    start: usize,
+    number: i64,
+    rate: i64,
+    base: i64,
+) -> Result<Update, Declined>
     ensures { Updates (post number rate base) start table.old table.new result }
 {
     if no_book(table, start) {
-        return Update::Declined(3);
+        return Err(Declined::NoBook);
     }
-    let range = recording::range_cause(number, rate, base);
-    if 0 < range {
-        return Update::Declined(range as i64);
-    }
-    let cause = declining::post_cause(&table[start..], number);
-    if 0 < cause {
-        return Update::Declined(cause as i64);
-    }
-    recording::post_kept(&mut table[start..], number, rate, base)
+    recording::range_cause(number, rate, base)?;
+    declining::post_cause(&table[start..], number)?;
+    Ok(recording::post_kept(&mut table[start..], number, rate, base))
 }
 
 // Withdraws an offer from the book at `start`.
-pub fn withdraw(table: &mut [i64], start: usize, number: i64) -> Update
+pub fn withdraw(table: &mut [i64], start: usize, number: i64) -> Result<Update, Declined>
     ensures { Updates (withdraw number) start table.old table.new result }
 {
     if no_book(table, start) {
-        return Update::Declined(3);
+        return Err(Declined::NoBook);
     }
     if query::outside(1, 9_999, number) {
-        return Update::Declined(4);
+        return Err(Declined::OutOfRange);
     }
     let s = declining::live_slot(&table[start..], number);
     if s < 1 {
-        return Update::Declined(8);
+        return Err(Declined::NotLive);
     }
-    recording::withdraw_kept(&mut table[start..], number, s)
+    Ok(recording::withdraw_kept(&mut table[start..], number, s))
 }
 
 // Undoes the last accepted post or withdrawal that has not itself been undone, of the book at `start`.
-pub fn take_back(table: &mut [i64], start: usize) -> Update
+pub fn take_back(table: &mut [i64], start: usize) -> Result<Update, Declined>
     ensures { Updates take_back start table.old table.new result }
 {
     if no_book(table, start) {
-        return Update::Declined(3);
+        return Err(Declined::NoBook);
     }
     recording::take_back_part(&mut table[start..])
 }

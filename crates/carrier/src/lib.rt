@@ -75,7 +75,7 @@ pub extern "C" fn carrier_query(table: &[i64], start: usize, load: i64, found: &
 pub extern "C" fn carrier_listing(table: &[i64], start: usize, out: &mut [i64]) -> i64
     ensures { Listing start table.now out.old out.new result }
 {
-    telling::listed_number(book::listing(table, start, out))
+    telling::count_number(book::listing(table, start, out))
 }
 
 // Writes the offers whose price at the load is strictly below `price`, three words each: how many.
@@ -89,7 +89,7 @@ pub extern "C" fn carrier_report(
 ) -> i64
     ensures { Report load price start table.now out.old out.new result }
 {
-    telling::reported_number(book::report(table, start, load, price, out))
+    telling::count_number(book::report(table, start, load, price, out))
 }
 
 // Whether the words from `start` on pass the check: 1 or 0.

@@ -1,5 +1,5 @@
 -- A part's mark, by what the code reads: the count of its pieces, and the slot of one of them.
-use Rattle.std.specs.Prelude.{◌≡◌, refl, Bool, true, false, not, ℕ, suc, ◌+◌, ◌-◌, ◌≤◌, ◌<◌, length, take, drop, leb, ℤ, pos, negsuc}
+use Rattle.std.specs.Prelude.{◌≡◌, refl, Bool, true, false, not, ℕ, suc, ◌+◌, ◌-◌, ◌≤◌, ◌<◌, length, leb, ℤ, pos, negsuc, Result, Err}
 use Rattle.std.proofs.Math.Path.{sym, ap}
 use Rattle.std.proofs.Common.{◌∙◌, subst, arith, length-append}
 use mathlib.Core.List.Memᴰ
@@ -11,7 +11,7 @@ use Rattle.std.proofs.lemmas.List.{length-map}
 use Rattle.std.proofs.Math.Dec.{T, T_not, not_T}
 use Rattle.std.proofs.Math.Arith.{lt→nleb}
 use Rattle.std.specs.Int.Signed.{le_z, lt_z}
-use Rattle.lists.specs.Bools.{and_both, denied}
+use Rattle.lists.specs.Bools.{and_both}
 use Rattle.integers.specs.Parts.{int_rules, range_parts}
 use Rattle.offers.specs.Offers.{Offer, between, crossing_numerator, crossing_denominator}
 use Rattle.envelopes.specs.Envelope.{Ordered}
@@ -37,17 +37,17 @@ use Rattle.form.specs.Form.{Book}
 use Rattle.query.specs.QueriedPieces.{Pieces}
 use Rattle.query.specs.Plain.{offer_of, pieces_plain}
 use Rattle.listing.specs.PieceCounts.{Counted, Passed}
-use Rattle.form.specs.Live.{book_sound, first_offers, lines_ordered, lines_few, no_offers}
+use Rattle.form.specs.Live.{first_offers, lines_ordered, lines_few, no_offers}
 use Rattle.promises.specs.Promises.{part_of}
-use Rattle.promises.specs.LentPart.{whole_part, no_form, no_book_cause}
-use Rattle.promises.specs.OneCause.{not_clear}
+use Rattle.promises.specs.LentPart.{no_form, no_book_cause}
 use Rattle.promises.specs.Rooted.{Root, bare, topped, Top, root_of}
-use Rattle.chart.specs.declared.Marked.{Marked}
-use Rattle.chart.specs.declared.Marked.TheVariants.{Declined}
+use Rattle.causes.specs.declared.Declined.{Declined}
+use Rattle.causes.specs.declared.Declined.TheVariants.{NoBook, Empty, NoSuchMark}
+use Rattle.marks.specs.declared.Mark.{Mark}
 use Rattle.chart.specs.Promises.{marks_behind, marks, refusal, mark_trials, mark_of, plain_mark, told, Marks}
 use Rattle.chart.specs.ChartWalks.{SlotOf}
 
-pub record PartMark (w : Words) (index : ℤ) (r : Marked) : Type 0 where
+pub record PartMark (w : Words) (index : ℤ) (r : Result Mark Declined) : Type 0 where
   pub answers : (s : State) (held : Option (Held Item)) → Book w s held → told r ≡ plain_mark s.offers index
 
 -- the crossing that a slot keeps
@@ -163,7 +163,7 @@ module _ {w : Words} {root s n : ℕ} {t : Tree Item} (p : Pieces w root t) (k :
 
 module _ {w : Words} {root m : ℕ} (er : root ≡ up_to most_nodes (word w envelope_root_word)) (k : Counted w root m) where
   -- cause 9
-  pub part_empty : (index : ℤ) → m < 1 → PartMark w index (Declined (pos 9))
+  pub part_empty : (index : ℤ) → m < 1 → PartMark w index (Err Empty)
   part_empty index h = record { answers = λ s held b. go b (root_of b er) }
     where
       go : {s : State} {held : Option (Held Item)} → Book w s held → Root w root held → refusal book_empty ≡ plain_mark s.offers index
@@ -197,7 +197,8 @@ module _ {w : Words} {root m : ℕ} (er : root ≡ up_to most_nodes (word w enve
   at_tree q = k.is q.tree q.top.pieces q.top.balanced
 
   -- an answer about a book with a piece
-  pub by_top : {index : ℤ} {r : Marked} → 1 ≤ m → ((os : List Offer) (h : Held Item) → Topped os h → told r ≡ plain_mark os index) → PartMark w index r
+  pub by_top : {index : ℤ} {r : Result Mark Declined} → 1 ≤ m → ((os : List Offer) (h : Held Item) → Topped os h → told r ≡ plain_mark os index) →
+      PartMark w index r
   by_top {index} {r} some-of-it f = record { answers = λ s held b. go b (root_of b er) }
     where
       go : {s : State} {held : Option (Held Item)} → Book w s held → Root w root held → told r ≡ plain_mark s.offers index
@@ -205,7 +206,7 @@ module _ {w : Words} {root m : ℕ} (er : root ≡ up_to most_nodes (word w enve
       go {s} b (topped {h} t e p) = f s.offers h (top_of b t p)
 
   -- cause 13
-  pub part_outside : (index : ℤ) → 1 ≤ m → T (not (between (pos 0) (pos m) index)) → PartMark w index (Declined (pos 13))
+  pub part_outside : (index : ℤ) → 1 ≤ m → T (not (between (pos 0) (pos m) index)) → PartMark w index (Err NoSuchMark)
   part_outside index h o =
       by_top h (λ os g q. sym (ap (mark_of os index) (declined_by (mark_trials os index) no_such_mark
       (further q.live (at_once (subst (λ (n : ℕ). T (not (between (pos 0) (pos n) index))) (sym q.many) o))))))
@@ -231,7 +232,7 @@ module _ {w : Words} {root m : ℕ} (er : root ≡ up_to most_nodes (word w enve
 
   module _ {s : ℕ} (f : 1 ≤ m) where
     -- mark 0
-    pub part_first : {r : Marked} → SlotOf w root 0 s → told r ≡ open_end (rate_at w s) → PartMark w (pos 0) r
+    pub part_first : {r : Result Mark Declined} → SlotOf w root 0 s → told r ≡ open_end (rate_at w s) → PartMark w (pos 0) r
     part_first h e =
         by_top f (λ os g q.
         let a = h.is q.tree q.top.pieces q.top.balanced (omega (arith, f, at_tree q)) in
@@ -244,14 +245,14 @@ module _ {w : Words} {root m : ℕ} (er : root ≡ up_to most_nodes (word w enve
           subst (λ (n : ℕ). Passed s n (leaves q.tree)) e (h.is q.tree q.top.pieces q.top.balanced (omega (arith, low, l, at_tree q)))
 
       -- mark m
-      pub part_last : {r : Marked} → i ≡ m → told r ≡ open_end (rate_at w s) → PartMark w (pos i) r
+      pub part_last : {r : Result Mark Declined} → i ≡ m → told r ≡ open_end (rate_at w s) → PartMark w (pos i) r
       part_last d e =
           by_top f (λ os g q.
           let a = here_of (omega arith) q in
           e ∙ ap open_end (rate_here q.top.pieces a) ∙ sym (mark_last a (d ∙ at_tree q) (refusal no_such_mark)) ∙ accepted i (omega arith) q)
 
       -- a mark between
-      pub part_inner : {r : Marked} → i < m → told r ≡ crossing_at w s → PartMark w (pos i) r
+      pub part_inner : {r : Result Mark Declined} → i < m → told r ≡ crossing_at w s → PartMark w (pos i) r
       part_inner d e =
           by_top f (λ os g q.
           let a = here_of (omega arith) q in
@@ -281,7 +282,7 @@ abbrev pub refused : ℕ → Told
 refused n = record { number = pos n; values = [] }
 
 module _ (start : ℕ) (t : List ℤ) (index : ℤ) {no : Bool} (e : no ≡ no_book_at (length t) start (word (part_of t start) capacity_word)) where
-  pub mark_no_book : no ≡ true → Marks start t index (Declined (pos 3))
+  pub mark_no_book : no ≡ true → Marks start t index (Err NoBook)
   mark_no_book d =
       record {
         declined = λ z g. ap refused (sym (no_book_cause t start g));

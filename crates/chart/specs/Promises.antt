@@ -1,5 +1,5 @@
 -- A book's chart marks (docs/REQUIREMENTS.md, 10.1), and what asking for one promises.
-use Rattle.std.specs.Prelude.{ℕ, ◌≡◌, List, [], ◌∷◌, not, length, get_or, T, leb, ℤ, pos, nat_abs}
+use Rattle.std.specs.Prelude.{ℕ, ◌≡◌, List, [], ◌∷◌, not, length, get_or, T, leb, ℤ, pos, nat_abs, Result, Ok, Err}
 use Rattle.std.proofs.Math.Option.{Option, none, some}
 use Rattle.offers.specs.Offers.{Offer, between, crossing_numerator, crossing_denominator}
 use Rattle.plain.specs.Causes.{Cause, book_empty, no_such_mark, Trial, ◌when◌, declined, cause_number, FirstOf}
@@ -11,8 +11,9 @@ use Rattle.dynamic.specs.OfferTree.{Held}
 use Rattle.table.specs.Items.{Item}
 use Rattle.form.specs.Form.{Book}
 use Rattle.promises.specs.Promises.{part_of, no_book_trial}
-use Rattle.chart.specs.declared.Marked.{Marked}
-use Rattle.chart.specs.declared.Marked.TheVariants.{Mark, Declined}
+use Rattle.causes.specs.declared.Declined.{Declined}
+use Rattle.causes.specs.Numbers.{number_of}
+use Rattle.marks.specs.declared.Mark.{Mark}
 
 -- ---- the marks of a listing
 
@@ -63,11 +64,11 @@ Exact (own ∷ next ∷ es) = ExactEnd own × ExactCrossing own next × Exact (n
 -- ---- on a lent table
 
 -- an answer in the requirements' number and values (16.5): a mark's own, or the number of the cause alone
-abbrev pub told : Marked → Told
-told (Mark m) = mark_told m
-told (Declined k) = record { number = k; values = [] }
+abbrev pub told : Result Mark Declined → Told
+told (Ok m) = mark_told m
+told (Err c) = record { number = number_of c; values = [] }
 
-pub record Marks (start : ℕ) (t : List ℤ) (index : ℤ) (r : Marked) : Type 0 where
+pub record Marks (start : ℕ) (t : List ℤ) (index : ℤ) (r : Result Mark Declined) : Type 0 where
   pub declined : (z : Cause) → FirstOf (no_book_trial t start ∷ []) z → told r ≡ refusal z
   pub answers : (s : State) (held : Option (Held Item)) → Book (part_of t start) s held → told r ≡ plain_mark s.offers index
   pub rounded : (s : State) (held : Option (Held Item)) → Book (part_of t start) s held → Exact (envelope s.offers)

@@ -1,9 +1,9 @@
 -- The tests of a bridge between two stretches of slots, by the neighbours of its two ends.
-use Rattle.std.specs.Prelude.{◌≡◌, Bool, true, false, not, List, ℕ, ◌+◌, ◌-◌, ◌≤◌, ◌<◌, eqb, get_or, ℤ, ◌-ℤ◌}
-use Rattle.std.proofs.Common.{sym, ◌∙◌, ap₂, arith, eqb-true, eq-eqb, to_z-of_z, SFits, to_z, of_z}
+use Rattle.std.specs.Prelude.{◌≡◌, Bool, true, false, not, List, ℕ, ◌+◌, ◌-◌, ◌≤◌, ◌<◌, eqb, get_or, T, ℤ, ◌-ℤ◌, ◌&&◌}
+use Rattle.std.proofs.Common.{sym, ◌∙◌, ap, ap₂, arith, eqb-true, eq-eqb, to_z-of_z, SFits, to_z, of_z}
 use Rattle.std.proofs.lemmas.Bool.{not-true}
 use Rattle.std.specs.Int.{w64}
-use Rattle.lists.specs.Bools.{never}
+use Rattle.lists.specs.Bools.{is_true, passed, and_left, and_right, and_both, first_passes, first_fails}
 use Rattle.integers.specs.Equal.{equal}
 use Rattle.integers.specs.Parts.{equal_eq, equal_is}
 use Rattle.offers.specs.Offers.{crossing_numerator, crossing_denominator}
@@ -13,7 +13,7 @@ use Rattle.table.specs.Layout.{cell, link_at}
 use Rattle.table.specs.Threads.{Next}
 use Rattle.check_trees.specs.Scratch.{scratch_length}
 use Rattle.check_trees.specs.Laid.{item_at}
-use Rattle.check_trees.specs.Deciding.{Decides, decides_as, decides_by, decides_no, Every, every_none}
+use Rattle.check_trees.specs.Deciding.{Decides, decides_as, Every}
 use Rattle.check_trees.specs.Loops.{RangedHere, NextHere}
 use Rattle.check_bridges.specs.Gaps.{InRange, base_gap, rate_gap, base_is, rate_is, cross_at}
 
@@ -33,9 +33,10 @@ pub record Ends (from mid to i j : ℕ) : Type 0 where
   pub right_high : j < to
   pub room : to ≤ scratch_length
 
--- a slot threaded to another
-pub record Follows (w : Words) (a b : ℕ) (r : Bool) : Type 0 where
-  pub told : InRange w a → InRange w b → Decides r (Next w (item_at w a) (item_at w b))
+-- slot a leads to slot b and keeps the crossing with its line, as the words tell it
+unfoldable pub linked : Words → ℕ → ℕ → Bool
+linked w a b =
+    eqb (link_at w next_piece_field a) b && equal (cell w numerator_field a) (base_gap w a b) && equal (cell w denominator_field a) (rate_gap w a b)
 
 -- a stretch threaded from slot to slot
 pub record Threads (w : Words) (xs : List ℕ) (from to : ℕ) (r : Bool) : Type 0 where
@@ -43,12 +44,28 @@ pub record Threads (w : Words) (xs : List ℕ) (from to : ℕ) (r : Bool) : Type
 
 -- ---- a thread, by its three tests
 
-pub leads : {s l : ℕ} (b : ℕ) → s ≡ l → Decides (eqb s b) (l ≡ b)
-leads {s} b e = record { sound = λ t. sym e ∙ eqb-true s b t; complete = λ q. eq-eqb s b (e ∙ q) }
+-- a comparison with a difference that fits is one with what it is
+pub told : {q : Bool} {n m : ℤ} (z : ℤ) → n ≡ m → SFits w64 n → q ≡ equal z (to_z w64 (of_z w64 n)) → q ≡ equal z m
+told z e f p = simp (to_z-of_z, f) at p ∙ ap (equal z) e
 
-pub keeps : {q : Bool} {n m z : ℤ} → n ≡ m → SFits w64 n → q ≡ equal z (to_z w64 (of_z w64 n)) → Decides q (z ≡ m)
-keeps {q} {n} {m} {z} e f p =
-    decides_as (λ t. equal_eq z n t ∙ e) (λ g. equal_is z n (g ∙ sym e)) (decides_by (simp (to_z-of_z, f) at p))
+module _ (w : Words) (a b : ℕ) where
+  abbrev pub leads : Bool
+  leads = eqb (link_at w next_piece_field a) b
+
+  abbrev pub over : Bool
+  over = equal (cell w numerator_field a) (base_gap w a b)
+
+  abbrev pub under : Bool
+  under = equal (cell w denominator_field a) (rate_gap w a b)
+
+  -- a test at a time, as code makes it
+  pub linked_not : {v : Bool} → v ≡ leads && over → v ≡ false → v ≡ linked w a b
+  unfolding linked
+  linked_not e f = first_fails under e f
+
+  pub linked_rest : {v r : Bool} → v ≡ leads && over → v ≡ true → r ≡ under → r ≡ linked w a b
+  unfolding linked
+  linked_rest e t p = first_passes e t p
 
 module _ {w : Words} {a b : ℕ} where
   numerator_is : InRange w a → InRange w b → base_gap w a b ≡ crossing_numerator (item_at w a).offer (item_at w b).offer
@@ -57,38 +74,38 @@ module _ {w : Words} {a b : ℕ} where
   denominator_is : InRange w a → InRange w b → rate_gap w a b ≡ crossing_denominator (item_at w a).offer (item_at w b).offer
   denominator_is ha hb = ap₂ ◌-ℤ◌ (rate_is ha) (rate_is hb)
 
-  pub follows_by :
-      {r : Bool} →
-      Decides r ((link_at w next_piece_field a ≡ b × cell w numerator_field a ≡ base_gap w a b) × cell w denominator_field a ≡ rate_gap w a b) →
-      Follows w a b r
-  follows_by d =
+  linked_next : InRange w a → InRange w b → T (linked w a b) → Next w (item_at w a) (item_at w b)
+  unfolding linked
+  linked_next ha hb t =
+      let p : T (leads w a b && over w a b) = and_left (leads w a b && over w a b) (under w a b) t in
       record {
-        told = λ ha hb. decides_as
-            (λ p. record { next = p.0.0; numerator = p.0.1 ∙ numerator_is ha hb; denominator = p.1 ∙ denominator_is ha hb })
-            (λ n. ((n.next, n.numerator ∙ sym (numerator_is ha hb)), n.denominator ∙ sym (denominator_is ha hb)))
-            d;
+        next = eqb-true _ b (is_true _ (and_left (leads w a b) (over w a b) p));
+        numerator = equal_eq _ _ (and_right (leads w a b) (over w a b) p) ∙ numerator_is ha hb;
+        denominator = equal_eq _ _ (and_right (leads w a b && over w a b) (under w a b) t) ∙ denominator_is ha hb;
       }
+
+  next_linked : InRange w a → InRange w b → Next w (item_at w a) (item_at w b) → T (linked w a b)
+  unfolding linked
+  next_linked ha hb n =
+      and_both (leads w a b && over w a b) (under w a b)
+      (and_both (leads w a b) (over w a b) (passed (eq-eqb _ b n.next)) (equal_is _ _ (n.numerator ∙ sym (numerator_is ha hb))))
+      (equal_is _ _ (n.denominator ∙ sym (denominator_is ha hb)))
 
 -- ---- a thread along a stretch
 
-abbrev pub ThreadedTo : Words → List ℕ → ℕ → ℕ → ℕ → Type 0
-ThreadedTo w xs from to i = Every (RangedHere w xs) from to → Every (NextHere w xs) from i
+pub threads_by : {w : Words} {xs : List ℕ} {from to : ℕ} {r : Bool} →
+    Decides r (Every (λ k. T (linked w (get_or xs k 0) (get_or xs (k + 1) 0))) from (to - 1)) → Threads w xs from to r
+threads_by {w} {xs} {from} {to} {r} d = record { told = told }
+  where
+    told : Every (RangedHere w xs) from to → Decides r (Every (NextHere w xs) from (to - 1))
+    told h = decides_as (λ e. record { at = λ k l m. record { next = linked_next (here k l m) (next k l m) (e.at k l m) } })
+        (λ e. record { at = λ k l m. next_linked (here k l m) (next k l m) (e.at k l m).next }) d
+      where
+        here : (k : ℕ) → from ≤ k → k < to - 1 → InRange w (get_or xs k 0)
+        here k l m = record { ranged = (h.at k l (omega arith)).ranged }
 
-module _ {w : Words} {xs : List ℕ} {from to i s t : ℕ} {r : Bool} (low : from ≤ i) (high : i + 1 < to) (es : s ≡ get_or xs i 0) (et : t ≡ get_or xs (i + 1) 0)
-    (f : Follows w s t r) where
-  told_here : Every (RangedHere w xs) from to → Decides r (Next w (item_at w (get_or xs i 0)) (item_at w (get_or xs (i + 1) 0)))
-  told_here h =
-      rw (← es, ← et)
-      (f.told (record { ranged = rw es (h.at i low (omega arith)).ranged }) (record { ranged = rw et (h.at (i + 1) (omega arith) high).ranged }))
-
-  pub next_here : r ≡ true → Every (RangedHere w xs) from to → NextHere w xs i
-  next_here e h = record { next = (told_here h).sound e }
-
-  pub not_threaded : r ≡ false → Threads w xs from to false
-  not_threaded e = record { told = λ h. decides_no (λ p. never ((told_here h).complete (p.at i low (omega arith)).next) e) }
-
-pub threaded_none : {w : Words} {xs : List ℕ} {from to : ℕ} → ThreadedTo w xs from to from
-threaded_none h = every_none (omega arith)
+        next : (k : ℕ) → from ≤ k → k < to - 1 → InRange w (get_or xs (k + 1) 0)
+        next k l m = record { ranged = (h.at (k + 1) (omega arith) (omega arith)).ranged }
 
 -- ---- the tests of the neighbours
 

@@ -5,25 +5,29 @@ ghost use Rattle.std.specs.Prelude.{◌≡◌, true, false, ◌+◌, ◌-◌, �
 ghost use Rattle.check_trees.specs.Scratch.{scratch_length};
 ghost use Rattle.check_trees.specs.Deciding.{Decides};
 ghost use Rattle.check_bridges.specs.Gaps.{base_gap, rate_gap, cross_at};
-ghost use Rattle.check_bridges.specs.StoredBridges.{Bridges, Ends, Follows, Threads};
+ghost use Rattle.check_bridges.specs.StoredBridges.{Bridges, Ends, linked, Threads};
+
+use table::Part;
 
 // The numerator of the crossing of the lines in two slots.
 fn base_gap(part: &[i64], a: u32, b: u32) -> i64
     ensures { result ≡ base_gap part.now a b }
 {
-    prices::base(part, b) - prices::base(part, a)
+    let read = Part::of(part);
+    prices::base(&read, b) - prices::base(&read, a)
 }
 
 // The denominator.
 fn rate_gap(part: &[i64], a: u32, b: u32) -> i64
     ensures { result ≡ rate_gap part.now a b }
 {
-    prices::rate(part, a) - prices::rate(part, b)
+    let read = Part::of(part);
+    prices::rate(&read, a) - prices::rate(&read, b)
 }
 
 // Slot `a` leads to slot `b` and keeps the crossing with its line.
 fn follows(part: &[i64], a: u32, b: u32) -> bool
-    ensures { Follows part.now a b result }
+    ensures { result ≡ linked part.now a b }
 {
     table::link(part, table::NEXT_PIECE, a) == b
         && table::is_equal(part, table::NUMERATOR, a, base_gap(part, a, b))
@@ -35,18 +39,7 @@ pub fn threaded(part: &[i64], scratch: &[u32; check_trees::SCRATCH], from: usize
     requires { (from ≤ to) × (to ≤ scratch_length) }
     ensures { Threads part.now scratch.now from to result }
 {
-    let mut i = from;
-    while i + 1 < to {
-        if !follows(
-            part,
-            check_trees::entry(scratch, i),
-            check_trees::entry(scratch, i + 1),
-        ) {
-            return false;
-        }
-        i += 1;
-    }
-    true
+    scratch[from..to].is_sorted_by(|a, b| follows(part, *a, *b))
 }
 
 // The crossing of `a` and `b` is at that of `c` and `d` or left of it.

@@ -1,9 +1,10 @@
 -- A flag for each number: it is raised exactly where an offer with that number is live.
 use Rattle.std.specs.Prelude.{◌≡◌, refl, ◌≢◌, ◌⊎◌, Bool, true, false, not, cond, ◌&&◌, ℕ, suc, ◌+◌, ◌-◌, ◌≤◌, ◌<◌, T, ℤ, pos, negsuc, length, get_or, set, replicate}
-use Rattle.std.proofs.Common.{sym, ◌∙◌, ap, ap₂, inl, inr, ⊎_elim, arith, T_not, length-set, get_or-set_same, get_or-set_other}
+use Rattle.std.proofs.Common.{sym, ◌∙◌, ap, inl, inr, ⊎_elim, arith, T_not, length-set, get_or-set_same, get_or-set_other}
 use mathlib.Core.HLevel.{¬_prop}
+use mathlib.Core.List.Memᴰ
 use mathlib.Core.List.Pairwise
-use mathlib.Core.List.{List, [], ◌∷◌, map, Memᴰ, Pairwise, rel_of_Pairwise-cons}
+use mathlib.Core.List.{List, [], ◌∷◌, ◌++◌, map, map-append, Memᴰ, Pairwise, rel_of_Pairwise-cons}
 use Rattle.std.proofs.Math.Decide.{dec_le, ℕ_discrete}
 use Rattle.std.proofs.Math.Dec.{not_T}
 use Rattle.std.proofs.lemmas.List.{length-replicate, get_or-replicate}
@@ -20,7 +21,7 @@ use Rattle.table.specs.Fields.{number_field}
 use Rattle.table.specs.Words.{Words, up_to, up_to_in, up_to_over, up_to_below, up_to_most}
 use Rattle.table.specs.Layout.{cell}
 use Rattle.table.specs.Items.{offer_of}
-use Rattle.check_trees.specs.Stretches.{span, span_none, span_cons}
+use Rattle.check_trees.specs.Stretches.{span, span_none, span_cut, span_one}
 use Rattle.check_trees.specs.Laid.{item_at, items_at}
 
 abbrev pub most_number : ℕ
@@ -38,15 +39,20 @@ pub record Marked (flags : List Bool) (os : List Offer) : Type 0 where
 any_at : (n : ℤ) (os : List Offer) (o : Offer) → Memᴰ o os → o.number ≡ n → T (any (has_number n) os)
 any_at n os o m e = not_failed (any (has_number n) os) (λ t. T_not (has_number n o) (none_at (has_number n) os t o m) (equal_is o.number n e))
 
-any_first : (n : ℤ) (o : Offer) (os : List Offer) → o.number ≡ n → any (has_number n) (o ∷ os) ≡ true
-any_first n o os e = is_true _ (any_at n (o ∷ os) o (Memᴰ.head refl) e)
+any_last : (n : ℤ) (o : Offer) (os : List Offer) → o.number ≡ n → any (has_number n) (os ++ o ∷ []) ≡ true
+any_last n o os e = is_true _ (any_at n (os ++ o ∷ []) o (Memᴰ.append_right os (Memᴰ.head refl)) e)
 
-any_later : (n : ℤ) (o : Offer) (os : List Offer) → o.number ≢ n → any (has_number n) os ≡ any (has_number n) (o ∷ os)
-any_later n o os d = go (has_number n o) (λ t. d (equal_eq o.number n t))
+any_before : (n : ℤ) (o : Offer) (os : List Offer) → o.number ≢ n → any (has_number n) os ≡ any (has_number n) (os ++ o ∷ [])
+any_before n o os d = same_test _ _ there back
   where
-    go : (b : Bool) → ¬ T b → any (has_number n) os ≡ not (not b && every (λ q. not (has_number n q)) os)
-    go true f = absurd (f tt)
-    go false f = refl
+    there : T (any (has_number n) os) → T (any (has_number n) (os ++ o ∷ []))
+    there t = let (q, i, e) = any_some (has_number n) os t in any_at n (os ++ o ∷ []) q (Memᴰ.append_left (o ∷ []) i) (equal_eq q.number n e)
+
+    back : T (any (has_number n) (os ++ o ∷ [])) → T (any (has_number n) os)
+    back t =
+        let (q, i, e) = any_some (has_number n) (os ++ o ∷ []) t in
+        ⊎_elim (λ m. any_at n os q m (equal_eq q.number n e))
+        (λ m. absurd (d (ap (λ (a : Offer). a.number) (sym (Memᴰ.eq_of_singleton m)) ∙ equal_eq q.number n e))) (Memᴰ.append_cases os i)
 
 leave_same : (n : ℤ) (os : List Offer) → any (has_number n) (leave n os) ≡ false
 leave_same n os = is_false _ (not_any (has_number n) (leave n os) (keep_passes (λ o. not (has_number n o)) os))
@@ -160,9 +166,9 @@ offers_at w xs a b = map offer_of (items_at w (span xs a b))
 pub record Marks (w : Words) (xs : List ℕ) (n : ℕ) (flags flags' : List Bool) : Type 0 where
   pub told : Marked flags [] → Marked flags' (offers_at w xs 0 n)
 
--- .. from place i on
-pub record Marking (w : Words) (xs : List ℕ) (n i : ℕ) (flags flags' : List Bool) : Type 0 where
-  pub so_far : Marked flags [] → Marked flags' (offers_at w xs i n)
+-- .. so far those up to place i
+pub record Marking (w : Words) (xs : List ℕ) (i : ℕ) (flags flags' : List Bool) : Type 0 where
+  pub so_far : Marked flags [] → Marked flags' (offers_at w xs 0 i)
 
 pub all_down : Marked (replicate flag_count false) []
 all_down = record { long = length-replicate flag_count false; told = λ m l h. get_or-replicate flag_count m false false h }
@@ -179,28 +185,32 @@ read_as most (negsuc n) h = absurd (omega (arith, up_to_below most n))
 pub number_below : {m : ℕ} (z : ℤ) → m ≡ up_to most_number z → m < flag_count
 number_below z e = omega (arith, up_to_most most_number z)
 
-module _ {w : Words} {xs : List ℕ} {n : ℕ} {flags : List Bool} where
-  pub marking_none : Marking w xs n n flags flags
-  marking_none = record { so_far = λ M. rw (span_none xs n n (omega arith)) M }
+module _ {w : Words} {xs : List ℕ} {flags : List Bool} where
+  pub marking_none : Marking w xs 0 flags flags
+  marking_none = record { so_far = λ M. rw (span_none xs 0 0 (omega arith)) M }
 
-  pub marking_more : {flags' : List Bool} {i s m : ℕ} → 1 ≤ i → i ≤ n → s ≡ get_or xs (i - 1) 0 → m ≡ up_to most_number (cell w number_field s) →
-      Marking w xs n i flags flags' → Marking w xs n (i - 1) flags (set flags' m true)
-  marking_more {flags'} {i} {s} {m} l h es em g =
+  pub marking_more : {flags' : List Bool} {i s m : ℕ} → s ≡ get_or xs i 0 → m ≡ up_to most_number (cell w number_field s) → Marking w xs i flags flags' →
+      Marking w xs (i + 1) flags (set flags' m true)
+  marking_more {flags'} {i} {s} {m} es em g =
       record {
-        so_far = λ M. rw cons (set_marked m true (number_below _ em) (g.so_far M) (λ k. sym (any_first (pos m) o rest (here k)))
-            (λ k d a b. any_later (pos k) o rest (other k d a b)));
+        so_far = λ M. rw snoc (set_marked m true (number_below _ em) (g.so_far M) (λ k. sym (any_last (pos m) o front (here k)))
+            (λ k d a b. any_before (pos k) o front (other k d a b)));
       }
     where
       o : Offer
       o = (item_at w s).offer
 
-      rest : List Offer
-      rest = offers_at w xs i n
+      front : List Offer
+      front = offers_at w xs 0 i
 
-      cons : offers_at w xs (i - 1) n ≡ o ∷ rest
-      cons =
+      snoc : offers_at w xs 0 (i + 1) ≡ front ++ o ∷ []
+      snoc =
+          let p : i + 1 ≡ suc i = omega arith in
           ap (λ (ss : List ℕ). map offer_of (items_at w ss))
-          (span_cons xs (i - 1) n (omega arith) ∙ ap₂ (λ (a b : ℕ). a ∷ span xs b n) (sym es) (omega arith))
+          (rw p (span_cut xs 0 i (suc i) (omega arith) (omega arith))
+          ∙ ap (λ (zs : List ℕ). span xs 0 i ++ zs) (span_one xs i ∙ ap (λ (a : ℕ). a ∷ []) (sym es)))
+          ∙ ap (map offer_of) (map-append (item_at w) (span xs 0 i) (s ∷ []))
+          ∙ map-append offer_of (items_at w (span xs 0 i)) (item_at w s ∷ [])
 
       here : 1 ≤ m → cell w number_field s ≡ pos m
       here k = read_as most_number (cell w number_field s) (omega arith) ∙ ap pos (sym em)
@@ -208,5 +218,5 @@ module _ {w : Words} {xs : List ℕ} {n : ℕ} {flags : List Bool} where
       other : (k : ℕ) → k ≢ m → 1 ≤ k → k < flag_count → cell w number_field s ≢ pos k
       other k d a b e = d (sym (em ∙ ap (up_to most_number) e ∙ up_to_in most_number k (omega arith)))
 
-  pub marking_done : {flags' : List Bool} {i : ℕ} → i ≤ 0 → Marking w xs n i flags flags' → Marks w xs n flags flags'
-  marking_done {i} h g = let e : i ≡ 0 = omega arith in record { told = λ M. rw e at (g.so_far M) }
+  pub marking_done : {flags' : List Bool} {n i : ℕ} → i ≡ n → Marking w xs i flags flags' → Marks w xs n flags flags'
+  marking_done e g = record { told = λ M. rw (← e) (g.so_far M) }

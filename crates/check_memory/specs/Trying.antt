@@ -1,5 +1,5 @@
 -- An offer taken out and an offer brought back, on the flags: exactly where the book's own trials pass.
-use Rattle.std.specs.Prelude.{◌≡◌, refl, Bool, true, false, List, [], ℕ, ◌+◌, ◌-◌, ◌≤◌, ◌<◌, pos, length, get_or, set}
+use Rattle.std.specs.Prelude.{◌≡◌, Bool, true, false, Option, None, Some, is_some, IfSome, List, [], ℕ, ◌+◌, ◌-◌, ◌≤◌, ◌<◌, pos, length, get_or, set}
 use Rattle.std.proofs.Common.{sym, ◌∙◌, arith}
 use Rattle.std.proofs.Math.Dec.{nleb→lt}
 use Rattle.std.proofs.Math.Arith.{lt→nleb}
@@ -9,8 +9,7 @@ use Rattle.offers.specs.Offers.{Offer}
 use Rattle.plain.specs.Causes.{Clear}
 use Rattle.plain.specs.Book.{State, Undo, unpost, restore, has_number, book_trials, undone, undoing}
 use Rattle.table.specs.Fields.{most_nodes}
-use Rattle.check_trees.specs.Deciding.{Decides}
-use Rattle.check_memory.specs.declared.Tried.{Tried}
+use Rattle.check_trees.specs.Deciding.{Decides, decides_no, decides_yes}
 use Rattle.check_memory.specs.Flags.{flag_count, Tracks, tracks_leave, tracks_join}
 
 -- an offer's number, and a room that can grow
@@ -19,43 +18,32 @@ pub record Ready (m room : ℕ) : Type 0 where
   pub high : m < flag_count
   pub small : room ≤ most_nodes
 
-pub record Fails (r : Tried) : Type 0 where
-  pub not : r.ok ≡ false
-  pub flat : r.room ≡ 0
-
 -- what is remembered does not count
 abbrev pub bare : ℕ → List Offer → State
 bare c os = record { capacity = c; offers = os; memory = [] }
 
--- the entry's values are in range: whether it can be undone then, and the flags after it
-pub record Undoing (flags flags' : List Bool) (room : ℕ) (u : Undo) (r : Tried) : Type 0 where
-  pub told : (c : ℕ) (os : List Offer) → Tracks c flags room os → Decides r.ok (Clear (book_trials (bare c os) (undoing u)))
-  pub after : (c : ℕ) (os : List Offer) → Tracks c flags room os → r.ok ≡ true → Tracks c flags' r.room (undone u os)
-  pub few : r.room ≤ room + 1
+-- the entry's values are in range: whether it can be undone then, the flags after it, and how many more offers there is room for
+pub record Undoing (flags flags' : List Bool) (room : ℕ) (u : Undo) (r : Option ℕ) : Type 0 where
+  pub told : (c : ℕ) (os : List Offer) → Tracks c flags room os → Decides (is_some r) (Clear (book_trials (bare c os) (undoing u)))
+  pub after : (c : ℕ) (os : List Offer) → Tracks c flags room os → IfSome r (λ n. Tracks c flags' n (undone u os))
+  pub few : IfSome r (λ n. n ≤ room + 1)
 
-pub decides_failed : {b : Bool} {P : Type 0} → b ≡ false → ¬ P → Decides b P
-decides_failed e f = record { sound = λ t. absurd (never t e); complete = λ p. absurd (f p) }
-
-undoing_not : {flags : List Bool} {room : ℕ} {u : Undo} {r : Tried} → Fails r →
-    ((c : ℕ) (os : List Offer) → Tracks c flags room os → ¬ Clear (book_trials (bare c os) (undoing u))) → Undoing flags flags room u r
-undoing_not f none = record {
-  told = λ c os G. decides_failed f.not (none c os G);
-  after = λ c os G t. absurd (never t f.not);
-  few = omega (arith, f.flat);
-}
+undoing_not : {flags : List Bool} {room : ℕ} {u : Undo} →
+    ((c : ℕ) (os : List Offer) → Tracks c flags room os → ¬ Clear (book_trials (bare c os) (undoing u))) → Undoing flags flags room u None
+undoing_not none = record { told = λ c os G. decides_no (none c os G); after = λ c os G. tt; few = tt }
 
 module _ {flags : List Bool} {m room : ℕ} (p : Ready m room) where
   flag_is : {c : ℕ} {os : List Offer} {b : Bool} → Tracks c flags room os → get_or flags m false ≡ b → any (has_number (pos m)) os ≡ b
   flag_is G e = sym (G.marked.told m p.low p.high) ∙ e
 
-  pub out_not : {r : Tried} → get_or flags m false ≡ false → Fails r → Undoing flags flags room (unpost (pos m)) r
-  out_not e f = undoing_not f (λ c os G k. never (is_true _ (not_not (any (has_number (pos m)) os) k.0)) (flag_is G e))
+  pub out_not : get_or flags m false ≡ false → Undoing flags flags room (unpost (pos m)) None
+  out_not e = undoing_not (λ c os G k. never (is_true _ (not_not (any (has_number (pos m)) os) k.0)) (flag_is G e))
 
-  pub out_live : get_or flags m false ≡ true → Undoing flags (set flags m false) room (unpost (pos m)) (record { ok = true; room = room + 1 })
+  pub out_live : get_or flags m false ≡ true → Undoing flags (set flags m false) room (unpost (pos m)) (Some (room + 1))
   out_live e =
       record {
-        told = λ c os G. record { sound = λ t. (twice (any (has_number (pos m)) os) (passed (flag_is G e)), tt); complete = λ k. refl };
-        after = λ c os G t. tracks_leave G p.low p.high e;
+        told = λ c os G. decides_yes (twice (any (has_number (pos m)) os) (passed (flag_is G e)), tt);
+        after = λ c os G. tracks_leave G p.low p.high e;
         few = omega arith;
       }
 
@@ -63,19 +51,16 @@ module _ {flags : List Bool} {m room : ℕ} (p : Ready m room) where
     live_is : {c : ℕ} {os : List Offer} {b : Bool} → Tracks c flags room os → get_or flags m false ≡ b → any (has_number o.number) os ≡ b
     live_is G e = rw n (flag_is G e)
 
-    pub back_full : {r : Tried} → room < 1 → Fails r → Undoing flags flags room (restore o) r
-    back_full h f = undoing_not f (λ c os G k. omega (arith, G.full, nleb→lt c (length os) k.1.0))
+    pub back_full : room < 1 → Undoing flags flags room (restore o) None
+    back_full h = undoing_not (λ c os G k. omega (arith, G.full, nleb→lt c (length os) k.1.0))
 
-    pub back_live : {r : Tried} → get_or flags m false ≡ true → Fails r → Undoing flags flags room (restore o) r
-    back_live e f = undoing_not f (λ c os G k. never (live_is G e) (is_false _ k.0))
+    pub back_live : get_or flags m false ≡ true → Undoing flags flags room (restore o) None
+    back_live e = undoing_not (λ c os G k. never (live_is G e) (is_false _ k.0))
 
-    pub back_in : get_or flags m false ≡ false → 1 ≤ room → Undoing flags (set flags m true) room (restore o) (record { ok = true; room = room - 1 })
+    pub back_in : get_or flags m false ≡ false → 1 ≤ room → Undoing flags (set flags m true) room (restore o) (Some (room - 1))
     back_in e h =
         record {
-          told = λ c os G. record {
-            sound = λ t. (failed (live_is G e), (lt→nleb c (length os) (omega (arith, G.full)), tt));
-            complete = λ k. refl;
-          };
-          after = λ c os G t. tracks_join G p.low p.high o n e h;
+          told = λ c os G. decides_yes (failed (live_is G e), (lt→nleb c (length os) (omega (arith, G.full)), tt));
+          after = λ c os G. tracks_join G p.low p.high o n e h;
           few = omega arith;
         }

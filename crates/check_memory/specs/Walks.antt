@@ -1,5 +1,5 @@
 -- The entries from one place of the ring back, undone one after the other.
-use Rattle.std.specs.Prelude.{◌≡◌, refl, Bool, true, false, List, [], ◌∷◌, ℕ, zero, suc, ◌-◌, ◌≤◌, ◌<◌, length}
+use Rattle.std.specs.Prelude.{◌≡◌, refl, Bool, true, false, None, Some, List, [], ◌∷◌, ℕ, zero, suc, ◌-◌, ◌≤◌, ◌<◌, length}
 use Rattle.std.proofs.Common.{ap, subst, arith}
 use Rattle.lists.specs.Bools.{never}
 use Rattle.offers.specs.Offers.{Offer}
@@ -10,7 +10,6 @@ use Rattle.table.specs.Layout.{cap}
 use Rattle.form.specs.Memory.{earlier, EntriesIn}
 use Rattle.check_trees.specs.Deciding.{Decides, decides_no}
 use Rattle.form.specs.Rings.{entry_once}
-use Rattle.check_memory.specs.declared.Tried.{Tried}
 use Rattle.check_memory.specs.Flags.{Tracks}
 use Rattle.check_memory.specs.Trying.{bare}
 use Rattle.check_memory.specs.Entries.{Undoes, Tries}
@@ -66,27 +65,26 @@ first : {w : Words} {i k : ℕ} {os : List Offer} → 0 < k → Walks w i k os �
 first h ended = absurd (omega arith)
 first {w} {i} h (onward {k} {os} u d p) = let e : k ≡ suc k - 1 = omega arith in (u, d, subst (λ (n : ℕ). Walks w (earlier i) n (undone u os)) e p)
 
-module _ {w : Words} {flags₀ flags flags' : List Bool} {room₀ last count room i k : ℕ} {r : Tried} (g : Going w flags₀ room₀ last count flags room i k)
-    (more : 0 < k) (S : Tries w i flags flags' room r) where
-  pub going_not : r.ok ≡ false → Walked w flags₀ room₀ last count false
-  going_not e = record {
+module _ {w : Words} {flags₀ flags flags' : List Bool} {room₀ last count room i k : ℕ} (g : Going w flags₀ room₀ last count flags room i k) (more : 0 < k) where
+  pub going_not : Tries w i flags flags' room None → Walked w flags₀ room₀ last count false
+  going_not S = record {
     told = λ os₀ G. let N = g.so_far os₀ G in decides_no (λ p. let (u, d, q) = first more (N.there p) in
-        never ((S.told N.os N.tracks).complete (u, d)) e);
+        never ((S.told N.os N.tracks).complete (u, d)) refl);
   }
 
-  pub going_more : {i' : ℕ} → r.ok ≡ true → i' ≡ earlier i → Going w flags₀ room₀ last count flags' r.room i' (k - 1)
-  going_more {i'} t ei = record { so_far = λ os₀ G. step (g.so_far os₀ G) }
+  pub going_more : {n i' : ℕ} → Tries w i flags flags' room (Some n) → i' ≡ earlier i → Going w flags₀ room₀ last count flags' n i' (k - 1)
+  going_more {n} {i'} S ei = record { so_far = λ os₀ G. step (g.so_far os₀ G) }
     where
-      step : {P : Type 0} → Now w flags room i k P → Now w flags' r.room i' (k - 1) P
-      step {P} N = go ((S.told N.os N.tracks).sound t)
+      step : {P : Type 0} → Now w flags room i k P → Now w flags' n i' (k - 1) P
+      step {P} N = go ((S.told N.os N.tracks).sound refl)
         where
-          go : (u : Undo) × Undoes w i N.os u → Now w flags' r.room i' (k - 1) P
+          go : (u : Undo) × Undoes w i N.os u → Now w flags' n i' (k - 1) P
           go (u, d) =
               record {
                 os = undone u N.os;
-                tracks = S.after N.os N.tracks t u d.entry;
+                tracks = S.after N.os N.tracks u d.entry;
                 there = λ p. onto (first more (N.there p));
-                back = λ p. N.back (subst (λ (n : ℕ). Walks w i n N.os) (omega arith) (onward u d (rw ei at p)));
+                back = λ p. N.back (subst (λ (j : ℕ). Walks w i j N.os) (omega arith) (onward u d (rw ei at p)));
               }
             where
               onto : (v : Undo) × Undoes w i N.os v × Walks w (earlier i) (k - 1) (undone v N.os) → Walks w i' (k - 1) (undone u N.os)

@@ -10,7 +10,7 @@ ghost use Rattle.table.specs.Layout.{part_end};
 ghost use Rattle.check_trees.specs.Scratch.{second_half};
 ghost use Rattle.check_trees.specs.Deciding.{Decides};
 ghost use Rattle.check_memory.specs.Flags.{Marks};
-ghost use Rattle.check_memory.specs.Trying.{Ready, Fails, Undoing};
+ghost use Rattle.check_memory.specs.Trying.{Ready, Undoing};
 ghost use Rattle.check_memory.specs.Entries.{Restorable, Tries};
 ghost use Rattle.check_memory.specs.Walks.{Walked};
 ghost use Rattle.check_memory.specs.Recalls.{Recalls};
@@ -20,66 +20,44 @@ const FLAGS: usize = 10_000;
 
 const MOST_NUMBER: u32 = 9_999;
 
-// What trying to undo an entry tells: whether it can be undone, and how many more offers there is room for after it.
-#[derive(Drop)]
-struct Tried {
-    ok: bool,
-    room: u32,
-}
-
-fn stuck() -> Tried
-    ensures { Fails result }
-{
-    Tried { ok: false, room: 0 }
-}
-
 // Raises the flags of the offers in the slots at places 0 up to `n`. A number out of range raises flag 0, which nobody reads.
 fn mark(part: &[i64], scratch: &[u32; check_trees::SCRATCH], n: usize, live: &mut [bool; FLAGS])
     requires { n ≤ second_half }
     ensures { Marks part.now scratch.now n live.old live.new }
 {
-    let mut i = n;
-    while 0 < i {
-        i -= 1;
-        let slot = check_trees::entry(scratch, i);
-        let number = table::up_to(MOST_NUMBER, table::get(part, table::NUMBER, slot)) as usize;
+    for slot in &scratch[..n] {
+        let number = table::up_to(MOST_NUMBER, table::get(part, table::NUMBER, *slot)) as usize;
         live[number] = true;
     }
 }
 
-// A posted offer goes out again, where one with its number is live.
-fn take_out(live: &mut [bool; FLAGS], room: u32, number: u32) -> Tried
+// A posted offer goes out again, where one with its number is live. It hands back how many more offers there is room for then.
+fn take_out(live: &mut [bool; FLAGS], room: u32, number: u32) -> Option<u32>
     requires { Ready number room }
     ensures { Undoing live.old live.new room (unpost (pos number)) result }
 {
     let k = number as usize;
     if !live[k] {
-        return stuck();
+        return None;
     }
     live[k] = false;
-    Tried {
-        ok: true,
-        room: room + 1,
-    }
+    Some(room + 1)
 }
 
 // A withdrawn offer comes back, where none with its number is live and there is room.
-fn bring_back(live: &mut [bool; FLAGS], room: u32, number: u32) -> Tried
+fn bring_back(live: &mut [bool; FLAGS], room: u32, number: u32) -> Option<u32>
     requires { Ready number room }
     ensures { (o : Offer) → o.number ≡ pos number → Undoing live.old live.new room (restore o) result }
 {
     if room < 1 {
-        return stuck();
+        return None;
     }
     let k = number as usize;
     if live[k] {
-        return stuck();
+        return None;
     }
     live[k] = true;
-    Tried {
-        ok: true,
-        room: room - 1,
-    }
+    Some(room - 1)
 }
 
 // Word `at` is from `low` to `high`.
@@ -100,21 +78,22 @@ fn restorable(part: &[i64], at: usize) -> bool
         && within(part, at + memory::ENTRY_BASE, -1_000_000_000, 1_000_000_000)
 }
 
-// Undoes the entry at place `i`, on the flags alone: neither rates nor bases matter once they are in range.
-fn undo(part: &[i64], live: &mut [bool; FLAGS], room: u32, i: u32) -> Tried
+// Undoes the entry at place `i`, on the flags alone: neither rates nor bases matter once they are in range. It hands back how many more
+// offers there is room for then, if the entry can be undone.
+fn undo(part: &[i64], live: &mut [bool; FLAGS], room: u32, i: u32) -> Option<u32>
     requires { (i < most_remembered) × (room ≤ most_nodes) }
     ensures { Tries part.now i live.old live.new room result }
 {
     let at = memory::entry_at(part, i);
     let number = table::number_at(part, at + memory::ENTRY_NUMBER, MOST_NUMBER);
     if number < 1 {
-        return stuck();
+        return None;
     }
     if check_trees::tells(part, at, memory::POSTED) {
         return take_out(live, room, number);
     }
     if !restorable(part, at) {
-        return stuck();
+        return None;
     }
     bring_back(live, room, number)
 }
@@ -126,15 +105,12 @@ fn all_undone(part: &[i64], live: &mut [bool; FLAGS], room: u32, last: u32, coun
 {
     let mut left = room;
     let mut i = last;
-    let mut k = count;
-    while 0 < k {
-        let tried = undo(part, live, left, i);
-        if !tried.ok {
+    for _ in 0..count {
+        let Some(more) = undo(part, live, left, i) else {
             return false;
-        }
-        left = tried.room;
+        };
+        left = more;
         i = memory::before(i);
-        k -= 1;
     }
     true
 }

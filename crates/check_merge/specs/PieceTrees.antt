@@ -1,5 +1,5 @@
 -- A piece tree over a stretch of slots: the ways through the code that looks for one.
-use Rattle.std.specs.Prelude.{◌≡◌, refl, Bool, true, false, ℕ, ◌+◌, ◌-◌, ◌≤◌, ◌<◌, eqb, length, get_or}
+use Rattle.std.specs.Prelude.{◌≡◌, refl, Bool, true, false, Option, None, Some, IsSome, ℕ, ◌+◌, ◌-◌, ◌≤◌, ◌<◌, eqb, length, get_or}
 use Rattle.std.proofs.Common.{sym, ◌∙◌, ap, subst, arith, eqb-true, eq-eqb}
 use mathlib.Core.List.{List, [], ◌∷◌, Memᴰ}
 use Rattle.std.proofs.Math.Option.{none, some}
@@ -18,7 +18,7 @@ use Rattle.pieces.specs.Pieces.{PartIn}
 use Rattle.check_trees.specs.Scratch.{second_half}
 use Rattle.check_trees.specs.declared.Filled.{Filled}
 use Rattle.check_trees.specs.Stretches.{stretch, span, span_mem, chain_span, span_chain, stretch_same, stretch_agrees, span_same, span_length, span_none}
-use Rattle.check_trees.specs.Deciding.{Decides, Every, Agree}
+use Rattle.check_trees.specs.Deciding.{Decides, decides_no, Every, Agree}
 use Rattle.check_trees.specs.Loops.{RangedHere, NextHere}
 use Rattle.check_trees.specs.Laid.{item_at, items_at, items_length, slots_of, items_back, slots_back, Placed, placed_at, AllPlaced, Laid, laid_unique}
 use Rattle.check_trees.specs.Fills.{Fills}
@@ -120,57 +120,52 @@ module _ {w : Words} {q from to : ℕ} {xs : List ℕ} (e : q ≡ 0) where
       go known (some (leaf a)) r o = absurd (omega (arith, (known_placed (span xs from to) known a (subst (Memᴰ a) o (Memᴰ.head refl))).low))
       go known (some (node t u)) r o = absurd (omega arith)
 
-module _ {w : Words} {q from to : ℕ} {xs xs' : List ℕ} {f : Filled} (d : q ≡ 0 → ⊥) (l : from ≤ to) (h : to ≤ second_half)
-    (F : Fills w piece_tree q most_levels xs xs' second_half f) where
-  -- the stretch is as it was
-  stretch_still : span xs' from to ≡ span xs from to
-  stretch_still = span_same xs' xs from to (λ i a b. F.same i (omega arith))
+module _ {w : Words} {q from to : ℕ} {xs xs' : List ℕ} (d : q ≡ 0 → ⊥) (l : from ≤ to) (h : to ≤ second_half) where
+  module _ {r : Option Filled} (F : Fills w piece_tree q most_levels xs xs' second_half r) where
+    -- the stretch is as it was
+    stretch_still : span xs' from to ≡ span xs from to
+    stretch_still = span_same xs' xs from to (λ i a b. F.same i (omega arith))
 
-  filled : OverSlots w q (span xs from to) → f.ok ≡ true
-  filled t =
-      F.complete t.tree t.laid (height_full t.laid.balanced (omega (arith, over_length t, span_length xs from to)))
-      (omega (arith, over_length t, span_length xs from to))
+    filled : OverSlots w q (span xs from to) → IsSome r
+    filled t =
+        F.complete t.tree t.laid (height_full t.laid.balanced (omega (arith, over_length t, span_length xs from to)))
+        (omega (arith, over_length t, span_length xs from to))
 
-  matches_no : {r : Bool} → r ≡ false → (OverSlots w q (span xs from to) → ⊥) → Matches w q xs xs' from to r
-  matches_no e n =
-      record {
-        long = F.long;
-        same = λ i a. F.same i a;
-        told = λ known. record { sound = λ t. absurd (never t e); complete = λ p. absurd (n (over_tree known d p)) };
-      }
+    matches_no : (OverSlots w q (span xs from to) → ⊥) → Matches w q xs xs' from to false
+    matches_no n = record { long = F.long; same = λ i a. F.same i a; told = λ known. decides_no (λ p. n (over_tree known d p)) }
 
-  pub matches_not_filled : f.ok ≡ false → Matches w q xs xs' from to false
-  matches_not_filled e = matches_no refl (λ t. never (filled t) e)
+  pub matches_not_filled : Fills w piece_tree q most_levels xs xs' second_half None → Matches w q xs xs' from to false
+  matches_not_filled F = matches_no F (λ t. never (filled F t) refl)
 
-  module _ (ok : f.ok ≡ true) where
+  module _ {f : Filled} (F : Fills w piece_tree q most_levels xs xs' second_half (Some f)) where
     -- it is the tree that was written
-    written_is : (t : OverSlots w q (span xs from to)) → (F.sound ok).tree ≡ t.tree
-    written_is t = laid_unique (F.sound ok).tree t.tree (F.sound ok).laid t.laid
+    written_is : (t : OverSlots w q (span xs from to)) → F.sound.written.tree ≡ t.tree
+    written_is t = laid_unique F.sound.written.tree t.tree F.sound.written.laid t.laid
 
     next_is : (t : OverSlots w q (span xs from to)) → f.next ≡ second_half + (to - from)
     next_is t = omega (
       arith,
-      F.inside ok,
-      written_length (F.sound ok),
+      F.sound.inside,
+      written_length F.sound.written,
       ap (λ (s : Tree Item). length (leaves s)) (written_is t),
       over_length t,
       span_length xs from to,
     )
 
     pub matches_not_long : (f.next ≡ second_half + (to - from) → ⊥) → Matches w q xs xs' from to false
-    matches_not_long n = matches_no refl (λ t. n (next_is t))
+    matches_not_long n = matches_no F (λ t. n (next_is t))
 
     module _ (e : f.next ≡ second_half + (to - from)) where
       gap : f.next - second_half ≡ to - from
       gap = omega arith
 
       pub matches_differ : {r : Bool} → Decides r (Agree xs' from second_half (to - from)) → r ≡ false → Matches w q xs xs' from to false
-      matches_differ D n = matches_no refl
+      matches_differ D n = matches_no F
           (λ t. never (D.complete (record { at = λ k a b. stretch_agrees xs' xs' from second_half (to - from) (both t) k b })) n)
         where
           both : OverSlots w q (span xs from to) → stretch xs' from (to - from) ≡ stretch xs' second_half (to - from)
           both t =
-              stretch_still ∙ sym (over_slots t) ∙ ap (λ (s : Tree Item). slots_of (leaves s)) (sym (written_is t)) ∙ sym (F.sound ok).slots
+              stretch_still F ∙ sym (over_slots t) ∙ ap (λ (s : Tree Item). slots_of (leaves s)) (sym (written_is t)) ∙ sym F.sound.written.slots
               ∙ ap (stretch xs' second_half) gap
 
       pub matches_rest : {r t : Bool} → Decides r (Agree xs' from second_half (to - from)) → r ≡ true → Threads w xs' from to t → Matches w q xs xs' from to t
@@ -183,23 +178,23 @@ module _ {w : Words} {q from to : ℕ} {xs xs' : List ℕ} {f : Filled} (d : q �
           }
         where
           threads : AllKnown w (span xs from to) → Decides t (Every (NextHere w xs') from (to - 1))
-          threads known = T.told (known_ranged (subst (AllKnown w) (sym stretch_still) known))
+          threads known = T.told (known_ranged (subst (AllKnown w) (sym (stretch_still F)) known))
 
-          over : leaves (F.sound ok).tree ≡ items_at w (span xs from to)
+          over : leaves F.sound.written.tree ≡ items_at w (span xs from to)
           over =
-              sym (items_back (leaves (F.sound ok).tree) (F.sound ok).laid.placed)
-              ∙ ap (items_at w) (sym (F.sound ok).slots ∙ ap (stretch xs' second_half) gap ∙ sym
-              (stretch_same xs' xs' from second_half (to - from) (λ k b. (D.sound n).at k (omega arith) b)) ∙ stretch_still)
+              sym (items_back (leaves F.sound.written.tree) F.sound.written.laid.placed)
+              ∙ ap (items_at w) (sym F.sound.written.slots ∙ ap (stretch xs' second_half) gap ∙ sym
+              (stretch_same xs' xs' from second_half (to - from) (λ k b. (D.sound n).at k (omega arith) b)) ∙ stretch_still F)
 
           found : AllKnown w (span xs from to) → t ≡ true → PieceTree w q (span xs from to)
           found known u =
               tree_over
               (record {
-                tree = (F.sound ok).tree;
-                laid = (F.sound ok).laid;
+                tree = F.sound.written.tree;
+                laid = F.sound.written.laid;
                 over = over;
-                threaded = subst (Threaded w) (ap (items_at w) stretch_still ∙ sym over) (threaded_span from to ((threads known).sound u));
+                threaded = subst (Threaded w) (ap (items_at w) (stretch_still F) ∙ sym over) (threaded_span from to ((threads known).sound u));
               })
 
           links : AllKnown w (span xs from to) → OverSlots w q (span xs from to) → Every (NextHere w xs') from (to - 1)
-          links known o = span_threaded from to (subst (Threaded w) (o.over ∙ ap (items_at w) (sym stretch_still)) o.threaded)
+          links known o = span_threaded from to (subst (Threaded w) (o.over ∙ ap (items_at w) (sym (stretch_still F))) o.threaded)

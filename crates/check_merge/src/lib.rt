@@ -1,20 +1,13 @@
 // Two envelopes merged at a stored bridge, as part of the check of a book's part. Any words are safe.
 #![tactic(auto)]
 
-ghost use Rattle.std.specs.Prelude.{◌≡◌, ◌≤◌, length, pos};
+ghost use Rattle.std.specs.Prelude.{◌≡◌, ◌≤◌, pos};
 ghost use Rattle.form.specs.RestWords.{rest_word};
-ghost use Rattle.check_trees.specs.Scratch.{scratch_length, second_half};
+ghost use Rattle.check_trees.specs.Scratch.{second_half};
 ghost use Rattle.check_trees.specs.Deciding.{Decides};
 ghost use Rattle.check_merge.specs.PieceTrees.{Matches};
 ghost use Rattle.check_merge.specs.Rests.{Stays};
-ghost use Rattle.check_merge.specs.Merges.{Two, Refuses, Merges};
-
-// What a walk over the offers answers: whether it went through, and the place behind the last slot that it left.
-#[derive(Drop)]
-pub struct Walked {
-    pub ok: bool,
-    pub next: usize,
-}
+ghost use Rattle.check_merge.specs.Merges.{Two, Merges};
 
 // Node `q` of the pieces is the root of a threaded, balanced tree over the slots from place `from` up to `to`, or 0 where there are none.
 // Entries from 4,096 on are written.
@@ -25,25 +18,23 @@ pub fn matches(
     from: usize,
     to: usize,
 ) -> bool
-    requires { (length scratch.old ≡ scratch_length) × (from ≤ to) × (to ≤ second_half) }
+    requires { (from ≤ to) × (to ≤ second_half) }
     ensures { Matches part.now q scratch.old scratch.new from to result }
 {
     if q == 0 {
         return from == to;
     }
-    let f = check_trees::fill(
+    let Some(f) = check_trees::fill(
         part,
         table::PIECES,
         q,
         scratch,
         check_trees::SECOND_HALF,
         table::MOST_LEVELS,
-    );
-    if !f.ok {
+    ) else {
         return false;
-    }
-    let next = f.next;
-    if next != check_trees::SECOND_HALF + (to - from) {
+    };
+    if f.next != check_trees::SECOND_HALF + (to - from) {
         return false;
     }
     if !check_trees::same(scratch, from, check_trees::SECOND_HALF, to - from) {
@@ -70,7 +61,7 @@ fn stays(
     from: usize,
     to: usize,
 ) -> bool
-    requires { (length scratch.old ≡ scratch_length) × (from ≤ to) × (to ≤ second_half) }
+    requires { (from ≤ to) × (to ≤ second_half) }
     ensures { Stays part.now n scratch.old scratch.new from to result }
 {
     let q = form::rest(part, n);
@@ -80,14 +71,8 @@ fn stays(
     matches(part, q, scratch, from, to)
 }
 
-pub fn refused() -> Walked
-    ensures { Refuses result }
-{
-    Walked { ok: false, next: 0 }
-}
-
 // Merges the pieces of the children of node `x`, from `at` up to `mid` and from there up to `to`, at its bridge. What is left of both
-// is compared with what stays with the children.
+// is compared with what stays with the children. It hands back the place behind the last slot that it leaves.
 pub fn merge(
     part: &[i64],
     x: u32,
@@ -95,48 +80,26 @@ pub fn merge(
     at: usize,
     mid: usize,
     to: usize,
-) -> Walked
-    requires { (length scratch.old ≡ scratch_length) × Two at mid to }
+) -> Option<usize>
+    requires { Two at mid to }
     ensures { Merges part.now x scratch.old scratch.new at mid to result }
 {
     let gap = table::inner_slot(x);
-    let i = check_trees::place(scratch, at, mid, table::link(part, table::BRIDGE_LEFT, gap));
-    if mid <= i {
-        return refused();
-    }
-    let j = check_trees::place(
-        scratch,
-        mid,
-        to,
-        table::link(part, table::BRIDGE_RIGHT, gap),
-    );
-    if to <= j {
-        return refused();
-    }
+    let u = table::link(part, table::BRIDGE_LEFT, gap);
+    let i = check_trees::place(scratch, at, mid, u)?;
+    let v = table::link(part, table::BRIDGE_RIGHT, gap);
+    let j = check_trees::place(scratch, mid, to, v)?;
     if !check_bridges::bridges(part, scratch, at, mid, to, i, j) {
-        return refused();
+        return None;
     }
-    if !stays(
-        part,
-        table::child(part, table::OFFERS, false, x),
-        scratch,
-        i + 1,
-        mid,
-    ) {
-        return refused();
+    let left = table::child(part, table::OFFERS, false, x);
+    if !stays(part, left, scratch, i + 1, mid) {
+        return None;
     }
-    if !stays(
-        part,
-        table::child(part, table::OFFERS, true, x),
-        scratch,
-        mid,
-        j,
-    ) {
-        return refused();
+    let right = table::child(part, table::OFFERS, true, x);
+    if !stays(part, right, scratch, mid, j) {
+        return None;
     }
     check_trees::shift(scratch, i + 1, j, to - j);
-    Walked {
-        ok: true,
-        next: i + 1 + (to - j),
-    }
+    Some(i + 1 + (to - j))
 }

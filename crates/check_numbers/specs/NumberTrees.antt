@@ -1,5 +1,5 @@
 -- The tree of numbers over the live items in the slots at places 0 up to n: the ways through the code that looks for one.
-use Rattle.std.specs.Prelude.{◌≡◌, Bool, true, false, ℕ, ◌+◌, ◌-◌, ◌≤◌, ◌<◌, length, get_or}
+use Rattle.std.specs.Prelude.{◌≡◌, refl, Bool, true, false, Option, None, Some, IsSome, ℕ, ◌+◌, ◌-◌, ◌≤◌, ◌<◌, length, get_or}
 use Rattle.std.proofs.Common.{sym, ◌∙◌, ap, subst, arith}
 use mathlib.Core.List.Pairwise
 use mathlib.Core.List.{List, Memᴰ, Pairwise}
@@ -66,46 +66,47 @@ pub record Trees (w : Words) (root : ℕ) (xs xs' : List ℕ) (n : ℕ) (r : Boo
 
 -- ---- the ways through the code
 
-module _ {w : Words} {root n : ℕ} {xs xs' : List ℕ} {f : Filled} (h : n ≤ second_half) (F : Fills w number_tree root most_levels xs xs' second_half f) where
-  none_such : (Pairwise Apart (live_at w xs n) → NumberTree w root (live_at w xs n) → ⊥) → Trees w root xs xs' n false
-  none_such d = record { long = F.long; told = λ p q. decides_no (d q) }
+module _ {w : Words} {root n : ℕ} {xs xs' : List ℕ} (h : n ≤ second_half) where
+  none_such : {r : Option Filled} → Fills w number_tree root most_levels xs xs' second_half r →
+      (Pairwise Apart (live_at w xs n) → NumberTree w root (live_at w xs n) → ⊥) → Trees w root xs xs' n false
+  none_such F d = record { long = F.long; told = λ p q. decides_no (d q) }
 
-  pub trees_not_filled : f.ok ≡ false → Trees w root xs xs' n false
-  trees_not_filled e = none_such (λ q t. never (filled q t) e)
+  pub trees_not_filled : Fills w number_tree root most_levels xs xs' second_half None → Trees w root xs xs' n false
+  trees_not_filled F = none_such F (λ q t. never (filled q t) refl)
     where
-      filled : Pairwise Apart (live_at w xs n) → NumberTree w root (live_at w xs n) → f.ok ≡ true
+      filled : Pairwise Apart (live_at w xs n) → NumberTree w root (live_at w xs n) → IsSome {T = Filled} None
       filled q t =
           let m : length (leaves t.tree) ≡ n = tree_length q t ∙ live_length w xs n in
           F.complete t.tree t.laid (height_full t.laid.balanced (omega arith)) (omega arith)
 
-  module _ (ok : f.ok ≡ true) where
+  module _ {f : Filled} (F : Fills w number_tree root most_levels xs xs' second_half (Some f)) where
     abbrev U : Tree Item
-    U = (F.sound ok).tree
+    U = F.sound.written.tree
 
     -- it is the tree that was written
     written_is : (t : NumberTree w root (live_at w xs n)) → U ≡ t.tree
-    written_is t = laid_unique U t.tree (F.sound ok).laid t.laid
+    written_is t = laid_unique U t.tree F.sound.written.laid t.laid
 
     pub trees_not_long : (f.next ≡ second_half + n → ⊥) → Trees w root xs xs' n false
-    trees_not_long d = none_such (λ q t. d (omega (
+    trees_not_long d = none_such F (λ q t. d (omega (
       arith,
-      F.inside ok,
-      written_length (F.sound ok),
+      F.sound.inside,
+      written_length F.sound.written,
       ap (λ (s : Tree Item). length (leaves s)) (written_is t),
       tree_length q t,
       live_length w xs n,
     )))
 
     leaves_at : leaves U ≡ items_at w (span xs' second_half f.next)
-    leaves_at = sym (items_back (leaves U) (F.sound ok).laid.placed) ∙ ap (items_at w) (sym (F.sound ok).slots)
+    leaves_at = sym (items_back (leaves U) F.sound.written.laid.placed) ∙ ap (items_at w) (sym F.sound.written.slots)
 
     keyed : Keyed w number_field number_of (items_at w (span xs' second_half f.next))
-    keyed = subst (Keyed w number_field number_of) leaves_at (placed_numbers (F.sound ok).laid.placed)
+    keyed = subst (Keyed w number_field number_of) leaves_at (placed_numbers F.sound.written.laid.placed)
 
     module _ {b : Bool} (D : Decides b (Every (FallsHere w number_field xs') second_half (f.next - 1))) where
       pub trees_not_falling : b ≡ false → Trees w root xs xs' n false
       trees_not_falling e =
-          none_such (λ q t. never
+          none_such F (λ q t. never
           (D.complete (span_falling number_of xs' second_half f.next keyed
           (subst (Falling number_of) (sym (ap leaves (written_is t)) ∙ leaves_at) t.falling))) e)
 
@@ -127,11 +128,11 @@ module _ {w : Words} {root n : ℕ} {xs xs' : List ℕ} {f : Filled} (h : n ≤ 
         one_item p a b i j = go (ℕ_discrete b.slot a.slot)
           where
             go : Dec (b.slot ≡ a.slot) → Dec (b ≡ a)
-            go (yes s) = yes (placed_one ((F.sound ok).laid.placed b j) (p a i) s)
+            go (yes s) = yes (placed_one (F.sound.written.laid.placed b j) (p a i) s)
             go (no d) = no (λ s. d (ap (λ (c : Item). c.slot) s))
 
         many : length (leaves U) ≤ length (live_at w xs n)
-        many = omega (arith, written_length (F.sound ok), live_length w xs n)
+        many = omega (arith, written_length F.sound.written, live_length w xs n)
 
         pub trees_rest : {r : Bool} → SeeksAll w root xs' n r → Trees w root xs xs' n r
         trees_rest {r} S = record {
@@ -144,13 +145,13 @@ module _ {w : Words} {root n : ℕ} {xs xs' : List ℕ} {f : Filled} (h : n ≤ 
         }
           where
             seen : AllPlaced w (live_at w xs n) → Decides r (Every (HasHere w U xs') 0 n)
-            seen p = S.told U (F.sound ok).laid falls (lows p)
+            seen p = S.told U F.sound.written.laid falls (lows p)
 
             found : AllPlaced w (live_at w xs n) → Pairwise Apart (live_at w xs n) → Every (HasHere w U xs') 0 n → NumberTree w root (live_at w xs n)
             found p q g =
                 record {
                   tree = U;
-                  laid = (F.sound ok).laid;
+                  laid = F.sound.written.laid;
                   falling = falls;
                   all_live = among_all (live_at w xs n) (leaves U) (apart_distinct q) (there g) many (one_item p);
                   all_there = there g;

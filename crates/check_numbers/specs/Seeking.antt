@@ -1,5 +1,5 @@
 -- A slot sought by its number in a tree of numbers: it is found exactly where the tree has its item.
-use Rattle.std.specs.Prelude.{◌≡◌, refl, Bool, true, false, ℕ, ◌+◌, ◌≤◌, ◌<◌, eqb, ℤ, get_or}
+use Rattle.std.specs.Prelude.{◌≡◌, refl, Bool, true, false, ℕ, ◌≤◌, ◌<◌, eqb, ℤ, MatchBool, get_or}
 use Rattle.std.proofs.Common.{sym, ◌∙◌, ap, subst, arith, eqb-true, eq-eqb}
 use mathlib.Core.List.{List, Memᴰ}
 use Rattle.std.proofs.Math.Option.{Option, none, some}
@@ -16,7 +16,7 @@ use Rattle.table.specs.Keys.{Keyed}
 use Rattle.table.specs.Rep.{Rep}
 use Rattle.descents.specs.Finds.{Found, found_at}
 use Rattle.form.specs.Form.{number_of}
-use Rattle.check_trees.specs.Deciding.{Decides, decides_no, decides_yes, Every, every_none, every_more, every_less}
+use Rattle.check_trees.specs.Deciding.{Decides, decides_no, decides_yes, Every}
 use Rattle.check_trees.specs.Laid.{item_at, AllPlaced, Laid}
 use Rattle.check_trees.specs.Along.{falling_apart}
 
@@ -70,23 +70,12 @@ pub record SeeksAll (w : Words) (root : ℕ) (xs : List ℕ) (n : ℕ) (r : Bool
   pub told : (t : Tree Item) → Laid w number_tree root t → Falling number_of (leaves t) → Every (λ k. 1 ≤ get_or xs k 0) 0 n →
       Decides r (Every (HasHere w t xs) 0 n)
 
--- all up to place i were found
-pub record Sought (w : Words) (root : ℕ) (xs : List ℕ) (n i : ℕ) : Type 0 where
-  pub so_far : (t : Tree Item) → Laid w number_tree root t → Falling number_of (leaves t) → Every (λ k. 1 ≤ get_or xs k 0) 0 n → Every (HasHere w t xs) 0 i
-
-pub sought_none : {w : Words} {root n : ℕ} {xs : List ℕ} → Sought w root xs n 0
-sought_none = record { so_far = λ t L F l. every_none (omega arith) }
-
-module _ {w : Words} {root n i s : ℕ} {b : Bool} (xs : List ℕ) (h : i < n) (es : s ≡ get_or xs i 0) (S : Seeks w root s b) where
-  here : (t : Tree Item) → Laid w number_tree root t → Falling number_of (leaves t) → Every (λ k. 1 ≤ get_or xs k 0) 0 n →
-      Decides b (Memᴰ (item_at w s) (leaves t))
-  here t L F l = S.told t L F (omega (arith, l.at i (omega arith) h))
-
-  pub sought_more : Sought w root xs n i → b ≡ true → Sought w root xs n (i + 1)
-  sought_more g e = record { so_far = λ t L F l. every_more (g.so_far t L F l) (record { has = rw (← es) ((here t L F l).sound e) }) }
-
-  pub sought_not : b ≡ false → SeeksAll w root xs n false
-  sought_not e = record { told = λ t L F l. decides_no (λ p. never ((here t L F l).complete (rw es (p.at i (omega arith) h).has)) e) }
-
-pub sought_all : {w : Words} {root n i : ℕ} {xs : List ℕ} → n ≤ i → Sought w root xs n i → SeeksAll w root xs n true
-sought_all h g = record { told = λ t L F l. decides_yes (every_less h (g.so_far t L F l)) }
+-- every slot was found where it is there, or one was not
+module _ {w : Words} {root n : ℕ} {xs : List ℕ} where
+  pub seeks_all : (r : Bool) →
+      MatchBool r (Every (λ k. Seeks w root (get_or xs k 0) true) 0 n) ((k : ℕ) × (0 ≤ k) × (k < n) × Seeks w root (get_or xs k 0) false) →
+      SeeksAll w root xs n r
+  seeks_all true f =
+      record { told = λ t L F l. decides_yes (record { at = λ k a b. record { has = ((f.at k a b).told t L F (l.at k a b)).sound refl } }) }
+  seeks_all false (k, a, b, f) =
+      record { told = λ t L F l. decides_no (λ p. never ((f.told t L F (l.at k a b)).complete (p.at k a b).has) refl) }

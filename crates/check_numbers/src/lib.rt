@@ -1,7 +1,7 @@
 // The free slots and the tree of numbers, as parts of the check of a book's part. Any words are safe: every loop is bounded.
 #![tactic(auto)]
 
-ghost use Rattle.std.specs.Prelude.{◌≡◌, ◌≤◌, length};
+ghost use Rattle.std.specs.Prelude.{◌≡◌, ◌≤◌};
 ghost use Rattle.form.specs.Form.{Freely};
 ghost use Rattle.check_numbers.specs.Tallies.{Tallies};
 ghost use Rattle.check_trees.specs.Scratch.{scratch_length, second_half};
@@ -23,8 +23,7 @@ fn chained(part: &[i64], first: u32, count: u32) -> bool
     ensures { Decides result (Chained part.now first count) }
 {
     let mut s = first;
-    let mut k = count;
-    while 0 < k {
+    for _ in 0..count {
         if !is_free(part, s) {
             return false;
         }
@@ -33,7 +32,6 @@ fn chained(part: &[i64], first: u32, count: u32) -> bool
             return false;
         }
         s = next;
-        k -= 1;
     }
     s == 0
 }
@@ -71,33 +69,25 @@ fn all_sought(part: &[i64], root: u32, scratch: &[u32; check_trees::SCRATCH], n:
     requires { n ≤ scratch_length }
     ensures { SeeksAll part.now root scratch.now n result }
 {
-    let mut i = 0;
-    while i < n {
-        if !sought(part, root, check_trees::entry(scratch, i)) {
-            return false;
-        }
-        i += 1;
-    }
-    true
+    scratch[..n].iter().all(|slot| sought(part, root, *slot))
 }
 
 // Node `root` of the numbers is the root of a balanced tree, by falling number, of the items in the slots at places 0 up to `n`. As many
 // leaves as items, and every item among them, leave no room for another leaf. Entries from 4,096 on are written.
 fn number_tree(part: &[i64], root: u32, scratch: &mut [u32; check_trees::SCRATCH], n: usize) -> bool
-    requires { (length scratch.old ≡ scratch_length) × (n ≤ second_half) }
+    requires { n ≤ second_half }
     ensures { Trees part.now root scratch.old scratch.new n result }
 {
-    let f = check_trees::fill(
+    let Some(f) = check_trees::fill(
         part,
         table::NUMBERS,
         root,
         scratch,
         check_trees::SECOND_HALF,
         table::MOST_LEVELS,
-    );
-    if !f.ok {
+    ) else {
         return false;
-    }
+    };
     let next = f.next;
     if next != check_trees::SECOND_HALF + n {
         return false;
@@ -110,7 +100,7 @@ fn number_tree(part: &[i64], root: u32, scratch: &mut [u32; check_trees::SCRATCH
 
 // The live items stand in the slots at places 0 up to `n`, and the tree of their numbers hangs from word 4.
 pub fn numbers(part: &[i64], scratch: &mut [u32; check_trees::SCRATCH], n: usize) -> bool
-    requires { (length scratch.old ≡ scratch_length) × (n ≤ second_half) }
+    requires { n ≤ second_half }
     ensures { Tallies part.now scratch.old scratch.new n result }
 {
     let root = table::number_at(part, table::NUMBERS_ROOT, table::MOST_NODES);

@@ -1,5 +1,5 @@
 -- The walk over the tree of offers, by a function that calls itself on both children: what it promises, and the ways through its code.
-use Rattle.std.specs.Prelude.{◌≡◌, refl, true, false, List, [], ◌∷◌, ℕ, suc, ◌+◌, ◌-◌, ◌≤◌, ◌<◌, length, get_or, set}
+use Rattle.std.specs.Prelude.{◌≡◌, refl, true, false, Option, None, Some, IfSome, IsSome, List, [], ◌∷◌, ℕ, suc, ◌+◌, ◌-◌, ◌≤◌, ◌<◌, length, get_or, set}
 use Rattle.std.proofs.Common.{sym, ◌∙◌, ap, subst, arith, length-set, length-append, get_or-set_same, get_or-set_other}
 use mathlib.Core.List.Memᴰ
 use Rattle.lists.specs.Members.{sub_length}
@@ -17,52 +17,45 @@ use Rattle.form.specs.Stored.{Stored, stored_single, stored_fork}
 use Rattle.check_trees.specs.Scratch.{scratch_length, second_half}
 use Rattle.check_trees.specs.Stretches.{span, span_one, span_same, span_length}
 use Rattle.check_trees.specs.Laid.{item_at, items_at, items_length, laid_leaf_low, laid_node_high}
-use Rattle.check_merge.specs.declared.Walked.{Walked}
 use Rattle.check_merge.specs.Stands.{Stands, stands_left, stands_right, Decorated, decorated_env}
 use Rattle.check_merge.specs.Joints.{half_left, half_right, no_leaf, joint_known, joins_fork, decorated_joins}
-use Rattle.check_merge.specs.Merges.{Refuses, Two, Merges}
+use Rattle.check_merge.specs.Merges.{Two, Merged, Merges}
 
--- Where the shape, the offers and the order of a subtree are known, the walk goes through exactly where envelopes are stored with it, and then
--- its whole envelope stands from place `at` on.
-pub record Walks (w : Words) (x limit : ℕ) (xs xs' : List ℕ) (at : ℕ) (r : Walked) : Type 0 where
+-- the walk went through: where the shape, the offers and the order of the subtree are known, its whole envelope stands from place `at` up to n
+pub record Walked (w : Words) (x : ℕ) (xs : List ℕ) (at n : ℕ) : Type 0 where
+  pub inside : (at < n) × (n ≤ second_half)
+  pub decorated : (t : Tree Item) → Stands w x t → Decorated w t (items_at w (span xs at n))
+
+-- Where they are known, the walk goes through exactly where envelopes are stored with the subtree.
+pub record Walks (w : Words) (x limit : ℕ) (xs xs' : List ℕ) (at : ℕ) (r : Option ℕ) : Type 0 where
   pub long : length xs' ≡ length xs
   pub same : (i : ℕ) → i < at → get_or xs' i 0 ≡ get_or xs i 0
-  pub inside : r.ok ≡ true → (at < r.next) × (r.next ≤ second_half)
-  pub sound : (t : Tree Item) → Stands w x t → r.ok ≡ true → Decorated w t (items_at w (span xs' at r.next))
-  pub complete : (t : Tree Item) → Stands w x t → height t ≤ limit → at + length (leaves t) ≤ second_half → (es : List Item) → Decorated w t es → r.ok ≡ true
+  pub sound : IfSome r (Walked w x xs' at)
+  pub complete : (t : Tree Item) → Stands w x t → height t ≤ limit → at + length (leaves t) ≤ second_half → (es : List Item) → Decorated w t es → IsSome r
 
-pub walks_as : {w : Words} {x y limit at : ℕ} {xs xs' : List ℕ} {r : Walked} → y ≡ x → Walks w y limit xs xs' at r → Walks w x limit xs xs' at r
+pub walks_as : {w : Words} {x y limit at : ℕ} {xs xs' : List ℕ} {r : Option ℕ} → y ≡ x → Walks w y limit xs xs' at r → Walks w x limit xs xs' at r
 walks_as {w} {x} {y} {limit} {at} {xs} {xs'} {r} e f = subst (λ (z : ℕ). Walks w z limit xs xs' at r) e f
 
 -- there is none that fits in
 pub record NoEnvelope (w : Words) (x limit at : ℕ) : Type 0 where
   pub refuted : (t : Tree Item) → Stands w x t → height t ≤ limit → at + length (leaves t) ≤ second_half → (es : List Item) → Decorated w t es → ⊥
 
-pub walks_not : {w : Words} {x limit at : ℕ} {xs xs' : List ℕ} {r : Walked} → length xs' ≡ length xs → ((i : ℕ) → i < at → get_or xs' i 0 ≡ get_or xs i 0) →
-    r.ok ≡ false → NoEnvelope w x limit at → Walks w x limit xs xs' at r
-walks_not n s e f =
-    record {
-      long = n;
-      same = s;
-      inside = λ t. absurd (never t e);
-      sound = λ t p o. absurd (never o e);
-      complete = λ t p h m es d. absurd (f.refuted t p h m es d);
-    }
+pub walks_not : {w : Words} {x limit at : ℕ} {xs xs' : List ℕ} → length xs' ≡ length xs → ((i : ℕ) → i < at → get_or xs' i 0 ≡ get_or xs i 0) →
+    NoEnvelope w x limit at → Walks w x limit xs xs' at None
+walks_not n s f = record { long = n; same = s; sound = tt; complete = λ t p h m es d. absurd (f.refuted t p h m es d) }
 
 -- ---- a leaf
 
 module _ {x at : ℕ} {xs : List ℕ} (leafy : x ≤ most_slots) where
-  pub walks_full : {r : Walked} → second_half ≤ at → Refuses r → (w : Words) (limit : ℕ) → Walks w x limit xs xs at r
-  walks_full h f w limit = walks_not refl (λ i k. refl) f.not (record { refuted = λ t p q m es d. omega (arith, some_leaf t) })
+  pub walks_full : second_half ≤ at → (w : Words) (limit : ℕ) → Walks w x limit xs xs at None
+  walks_full h w limit = walks_not refl (λ i k. refl) (record { refuted = λ t p q m es d. omega (arith, some_leaf t) })
 
-  pub walks_leaf : length xs ≡ scratch_length → at < second_half → (w : Words) (limit : ℕ) →
-      Walks w x limit xs (set xs at x) at (record { ok = true; next = at + 1 })
+  pub walks_leaf : length xs ≡ scratch_length → at < second_half → (w : Words) (limit : ℕ) → Walks w x limit xs (set xs at x) at (Some (at + 1))
   walks_leaf n h w limit =
       record {
         long = length-set xs at x;
         same = λ i k. get_or-set_other xs at i x 0 (omega arith);
-        inside = λ t. omega arith;
-        sound = λ t p o. go t p;
+        sound = record { inside = omega arith; decorated = go };
         complete = λ t p q m es d. refl;
       }
     where
@@ -82,8 +75,8 @@ module _ {x at : ℕ} {xs : List ℕ} (leafy : x ≤ most_slots) where
 
 -- ---- the limit is used up
 
-pub walks_deep : {w : Words} {x limit at : ℕ} {xs : List ℕ} {r : Walked} → most_slots < x → limit ≡ 0 → Refuses r → Walks w x limit xs xs at r
-walks_deep {w} {x} {limit} {at} d e f = walks_not refl (λ i k. refl) f.not (record { refuted = go })
+pub walks_deep : {w : Words} {x limit at : ℕ} {xs : List ℕ} → most_slots < x → limit ≡ 0 → Walks w x limit xs xs at None
+walks_deep {w} {x} {limit} {at} d e = walks_not refl (λ i k. refl) (record { refuted = go })
   where
     go : (t : Tree Item) → Stands w x t → height t ≤ limit → at + length (leaves t) ≤ second_half → (es : List Item) → Decorated w t es → ⊥
     go (leaf a) p q m es c = omega (arith, laid_leaf_low p.laid)
@@ -116,22 +109,22 @@ parted {w} {l} {r} {es} d = go d.offers d.shape_is d.stored d.valid
 pieces_most : {w : Words} {t : Tree Item} (ss : List ℕ) → Decorated w t (items_at w ss) → length ss ≤ length (leaves t)
 pieces_most {w} ss d = omega (arith, sub_length (decorated_env d).sub, items_length w ss)
 
-module _ {w : Words} {x limit at : ℕ} {xs xs₁ : List ℕ} {a : Walked} (d : most_slots < x) (more : limit ≡ 0 →
-    ⊥) (A : Walks w (child_at w offer_tree false x) (limit - 1) xs xs₁ at a) where
-  pub walks_left_not : a.ok ≡ false → Walks w x limit xs xs₁ at a
-  walks_left_not e = walks_not A.long A.same e (record { refuted = go })
+module _ {w : Words} {x limit at : ℕ} {xs xs₁ : List ℕ} (d : most_slots < x) (more : limit ≡ 0 → ⊥) where
+  pub walks_left_not : Walks w (child_at w offer_tree false x) (limit - 1) xs xs₁ at None → Walks w x limit xs xs₁ at None
+  walks_left_not A = walks_not A.long A.same (record { refuted = go })
     where
       go : (t : Tree Item) → Stands w x t → height t ≤ limit → at + length (leaves t) ≤ second_half → (es : List Item) → Decorated w t es → ⊥
       go (leaf b) p q m es c = omega (arith, laid_leaf_low p.laid)
       go (node l r) p q m es c =
-          never (A.complete l (stands_left p) (omega arith) (omega (arith, length-append (leaves l) (leaves r))) (parted c).left_pieces (parted c).left) e
+          never
+          (A.complete l (stands_left p) (omega arith) (omega (arith, length-append (leaves l) (leaves r))) (parted c).left_pieces (parted c).left) refl
 
-  module _ {xs₂ : List ℕ} {b : Walked} (oa : a.ok ≡ true) (B : Walks w (child_at w offer_tree true x) (limit - 1) xs₁ xs₂ a.next b) where
-    same_both : (i : ℕ) → i < at → get_or xs₂ i 0 ≡ get_or xs i 0
-    same_both i h = B.same i (omega (arith, A.inside oa)) ∙ A.same i h
+  module _ {mid : ℕ} (A : Walks w (child_at w offer_tree false x) (limit - 1) xs xs₁ at (Some mid)) where
+    same_both : (xs₂ : List ℕ) → ((i : ℕ) → i < mid → get_or xs₂ i 0 ≡ get_or xs₁ i 0) → (i : ℕ) → i < at → get_or xs₂ i 0 ≡ get_or xs i 0
+    same_both xs₂ f i h = f i (omega (arith, A.sound.inside)) ∙ A.same i h
 
-    pub walks_right_not : b.ok ≡ false → Walks w x limit xs xs₂ at b
-    walks_right_not e = walks_not (B.long ∙ A.long) same_both e (record { refuted = go })
+    pub walks_right_not : {xs₂ : List ℕ} → Walks w (child_at w offer_tree true x) (limit - 1) xs₁ xs₂ mid None → Walks w x limit xs xs₂ at None
+    walks_right_not B = walks_not (B.long ∙ A.long) (same_both _ B.same) (record { refuted = go })
       where
         go : (t : Tree Item) → Stands w x t → height t ≤ limit → at + length (leaves t) ≤ second_half → (es : List Item) → Decorated w t es → ⊥
         go (leaf c) p q m es c' = omega (arith, laid_leaf_low p.laid)
@@ -141,44 +134,41 @@ module _ {w : Words} {x limit at : ℕ} {xs xs₁ : List ℕ} {a : Walked} (d : 
             (omega (
               arith,
               length-append (leaves l) (leaves r),
-              A.inside oa,
-              pieces_most (span xs₁ at a.next) (A.sound l (stands_left p) oa),
-              span_length xs₁ at a.next,
+              A.sound.inside,
+              pieces_most (span xs₁ at mid) (A.sound.decorated l (stands_left p)),
+              span_length xs₁ at mid,
             ))
             (parted c).right_pieces (parted c).right)
-            e
+            refl
 
-    module _ (ob : b.ok ≡ true) where
-      pub walked_two : Two at a.next b.next
-      walked_two = record { upper = omega (arith, A.inside oa); lower = omega (arith, B.inside ob); room = (B.inside ob).1 }
+    module _ {xs₂ : List ℕ} {to : ℕ} (B : Walks w (child_at w offer_tree true x) (limit - 1) xs₁ xs₂ mid (Some to)) where
+      pub walked_two : Two at mid to
+      walked_two = record { upper = omega (arith, A.sound.inside); lower = omega (arith, B.sound.inside); room = B.sound.inside.1 }
 
-      left_now : (l r : Tree Item) → Stands w x (node l r) → Decorated w l (items_at w (span xs₂ at a.next))
-      left_now l r p = subst (λ (zs : List ℕ). Decorated w l (items_at w zs)) (sym (span_same xs₂ xs₁ at a.next (λ i h k. B.same i k)))
-          (A.sound l (stands_left p) oa)
+      left_now : (l r : Tree Item) → Stands w x (node l r) → Decorated w l (items_at w (span xs₂ at mid))
+      left_now l r p = subst (λ (zs : List ℕ). Decorated w l (items_at w zs)) (sym (span_same xs₂ xs₁ at mid (λ i h k. B.same i k)))
+          (A.sound.decorated l (stands_left p))
 
-      pub walks_node : {xs₃ : List ℕ} {r : Walked} → Merges w x xs₂ xs₃ at a.next b.next r → Walks w x limit xs xs₃ at r
+      pub walks_node : {xs₃ : List ℕ} {r : Option ℕ} → Merges w x xs₂ xs₃ at mid to r → Walks w x limit xs xs₃ at r
       walks_node {xs₃} {r} M =
-          record {
-            long = M.long ∙ B.long ∙ A.long;
-            same = λ i h. M.same i h ∙ same_both i h;
-            inside = M.inside;
-            sound = found;
-            complete = passes;
-          }
+          record { long = M.long ∙ B.long ∙ A.long; same = λ i h. M.same i h ∙ same_both _ B.same i h; sound = through r M.sound; complete = passes }
         where
-          found : (t : Tree Item) → Stands w x t → r.ok ≡ true → Decorated w t (items_at w (span xs₃ at r.next))
-          found (leaf c) p o = absurd (omega (arith, laid_leaf_low p.laid))
-          found (node l s) p o =
+          found : {n : ℕ} → Merged w x xs₂ xs₃ at mid to n → (t : Tree Item) → Stands w x t → Decorated w t (items_at w (span xs₃ at n))
+          found N (leaf c) p = absurd (omega (arith, laid_leaf_low p.laid))
+          found N (node l s) p =
               let DL = left_now l s p in
-              let DR = B.sound s (stands_right p) ob in
-              let m = M.sound (joint_known xs₂ p DL DR walked_two.upper walked_two.lower) o in
-              subst (λ (zs : List ℕ). Decorated w (node l s) (items_at w zs)) (sym m.3) (joins_fork xs₂ p DL DR walked_two.upper walked_two.lower
-              m.2)
+              let DR = B.sound.decorated s (stands_right p) in
+              let m = N.joined (joint_known xs₂ p DL DR walked_two.upper walked_two.lower) in
+              subst (λ (zs : List ℕ). Decorated w (node l s) (items_at w zs)) (sym m.3) (joins_fork xs₂ p DL DR walked_two.upper walked_two.lower m.2)
 
-          passes : (t : Tree Item) → Stands w x t → height t ≤ limit → at + length (leaves t) ≤ second_half → (es : List Item) → Decorated w t es → r.ok ≡ true
+          through : (r : Option ℕ) → IfSome r (Merged w x xs₂ xs₃ at mid to) → IfSome r (Walked w x xs₃ at)
+          through None m = tt
+          through (Some n) m = record { inside = m.inside; decorated = found m }
+
+          passes : (t : Tree Item) → Stands w x t → height t ≤ limit → at + length (leaves t) ≤ second_half → (es : List Item) → Decorated w t es → IsSome r
           passes (leaf c) p q m es c' = absurd (omega (arith, laid_leaf_low p.laid))
           passes (node l s) p q m es c =
               let DL = left_now l s p in
-              let DR = B.sound s (stands_right p) ob in
+              let DR = B.sound.decorated s (stands_right p) in
               let k = decorated_joins xs₂ p DL DR walked_two.upper walked_two.lower c in
               M.complete (joint_known xs₂ p DL DR walked_two.upper walked_two.lower) k.i k.j k.joins

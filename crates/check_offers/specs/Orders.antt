@@ -1,5 +1,5 @@
 -- A tree of offers whose shape, offers and order are right: how the code finds one.
-use Rattle.std.specs.Prelude.{◌≡◌, Bool, true, false, length, get_or}
+use Rattle.std.specs.Prelude.{◌≡◌, refl, Bool, true, false, Option, None, Some, IsSome, length, get_or}
 use Rattle.std.proofs.Common.{sym, ◌∙◌, ap, subst, subst₂, arith}
 use mathlib.Core.List.{List, ◌∷◌, Memᴰ}
 use Prim.Native.Nat.{ℕ, zero, suc, ◌+◌, ◌-◌, ◌≤◌, ◌<◌}
@@ -87,52 +87,53 @@ module _ {w : Words} {x : ℕ} {t : Tree Item} (s : Stands w x t) where
   pub stands_low : height t ≤ most_levels
   stands_low = low w (stands_slots s) s.laid.balanced
 
-module _ {w : Words} {x : ℕ} {xs xs' : List ℕ} {f : Filled} (F : Fills w offer_tree x most_levels xs xs' 0 f) where
-  pub stands_filled : {t : Tree Item} → Stands w x t → f.ok ≡ true
-  stands_filled {t} s = F.complete t s.laid (stands_low s) (omega (arith, stands_most s))
+module _ {w : Words} {x : ℕ} {xs xs' : List ℕ} where
+  module _ {r : Option Filled} (F : Fills w offer_tree x most_levels xs xs' 0 r) where
+    pub stands_filled : {t : Tree Item} → Stands w x t → IsSome r
+    stands_filled {t} s = F.complete t s.laid (stands_low s) (omega (arith, stands_most s))
 
-  module _ (ok : f.ok ≡ true) where
+    orders_no : (StandsAt w x → ⊥) → Orders w x xs xs' false
+    orders_no g = record { long = F.long; told = decides_no g }
+
+  pub orders_not_filled : Fills w offer_tree x most_levels xs xs' 0 None → Orders w x xs xs' false
+  orders_not_filled F = orders_no F (λ s. never (stands_filled F s.stands) refl)
+
+  module _ {f : Filled} (F : Fills w offer_tree x most_levels xs xs' 0 (Some f)) where
     -- it is the tree that was written
-    pub filled_tree : {t : Tree Item} → Laid w offer_tree x t → (F.sound ok).tree ≡ t
-    filled_tree {t} p = laid_unique (F.sound ok).tree t (F.sound ok).laid p
+    pub filled_tree : {t : Tree Item} → Laid w offer_tree x t → F.sound.written.tree ≡ t
+    filled_tree {t} p = laid_unique F.sound.written.tree t F.sound.written.laid p
 
-    pub filled_next : f.next ≡ length (leaves (F.sound ok).tree)
-    filled_next = omega (arith, written_length (F.sound ok))
+    pub filled_next : f.next ≡ length (leaves F.sound.written.tree)
+    filled_next = omega (arith, written_length F.sound.written)
 
-    pub filled_items : items_at w (span xs' 0 f.next) ≡ leaves (F.sound ok).tree
-    filled_items = ap (items_at w) (F.sound ok).slots ∙ items_back (leaves (F.sound ok).tree) (F.sound ok).laid.placed
+    pub filled_items : items_at w (span xs' 0 f.next) ≡ leaves F.sound.written.tree
+    filled_items = ap (items_at w) F.sound.written.slots ∙ items_back (leaves F.sound.written.tree) F.sound.written.laid.placed
 
-  orders_no : (StandsAt w x → ⊥) → Orders w x xs xs' false
-  orders_no g = record { long = F.long; told = decides_no g }
+    module _ {b : Bool} (R : Decides b (Every (RangedHere w xs') 0 f.next)) where
+      items_are : (s : StandsAt w x) → leaves s.tree ≡ items_at w (span xs' 0 f.next)
+      items_are s = ap leaves (sym (filled_tree s.stands.laid)) ∙ sym filled_items
 
-  pub orders_not_filled : f.ok ≡ false → Orders w x xs xs' false
-  orders_not_filled e = orders_no (λ s. never (stands_filled s.stands) e)
+      pub orders_not_ranged : b ≡ false → Orders w x xs xs' false
+      orders_not_ranged g = orders_no F (λ s. never (R.complete (span_ranged 0 f.next (subst AllRanged (items_are s) s.stands.ranged))) g)
 
-  module _ (ok : f.ok ≡ true) {b : Bool} (R : Decides b (Every (RangedHere w xs') 0 f.next)) where
-    items_are : (s : StandsAt w x) → leaves s.tree ≡ items_at w (span xs' 0 f.next)
-    items_are s = ap leaves (sym (filled_tree ok s.stands.laid)) ∙ sym (filled_items ok)
-
-    pub orders_not_ranged : b ≡ false → Orders w x xs xs' false
-    orders_not_ranged g = orders_no (λ s. never (R.complete (span_ranged 0 f.next (subst AllRanged (items_are s) s.stands.ranged))) g)
-
-    pub orders_rest : {r : Bool} → b ≡ true → Decides r (Every (FallsHere w rate_field xs') 0 (f.next - 1)) → Orders w x xs xs' r
-    orders_rest {r} g D = record {
-      long = F.long;
-      told = record {
-        sound = found;
-        complete =
-            λ s. D.complete (span_ordered 0 f.next (subst (Ordered items) (items_are s) s.stands.ordered));
-      };
-    }
-      where
-        found : r ≡ true → StandsAt w x
-        found o =
-            record {
-              tree = (F.sound ok).tree;
-              stands =
-                  record {
-                    laid = (F.sound ok).laid;
-                    ranged = subst AllRanged (filled_items ok) (ranged_span 0 f.next (R.sound g));
-                    ordered = subst (Ordered items) (filled_items ok) (ordered_span 0 f.next (D.sound o));
-                  };
-            }
+      pub orders_rest : {r : Bool} → b ≡ true → Decides r (Every (FallsHere w rate_field xs') 0 (f.next - 1)) → Orders w x xs xs' r
+      orders_rest {r} g D = record {
+        long = F.long;
+        told = record {
+          sound = found;
+          complete =
+              λ s. D.complete (span_ordered 0 f.next (subst (Ordered items) (items_are s) s.stands.ordered));
+        };
+      }
+        where
+          found : r ≡ true → StandsAt w x
+          found o =
+              record {
+                tree = F.sound.written.tree;
+                stands =
+                    record {
+                      laid = F.sound.written.laid;
+                      ranged = subst AllRanged filled_items (ranged_span 0 f.next (R.sound g));
+                      ordered = subst (Ordered items) filled_items (ordered_span 0 f.next (D.sound o));
+                    };
+              }

@@ -1,5 +1,5 @@
 -- The tree of the order from its root on: the ways through the code that looks for one.
-use Rattle.std.specs.Prelude.{◌≡◌, Bool, true, false, List, ℕ, ◌+◌, ◌-◌, ◌≤◌, ◌<◌, length, get_or}
+use Rattle.std.specs.Prelude.{◌≡◌, refl, Bool, true, false, Option, None, Some, List, ℕ, ◌+◌, ◌-◌, ◌≤◌, ◌<◌, length, get_or}
 use Rattle.std.proofs.Common.{sym, ◌∙◌, ap, subst, arith}
 use Rattle.lists.specs.Bools.{never}
 use Rattle.trees.specs.Tree.{Tree, leaves}
@@ -40,48 +40,48 @@ pub record Trees (w : Words) (root : ℕ) (xs xs' : List ℕ) (n : ℕ) (r : Boo
 
 -- ---- the ways through the code
 
-module _ {w : Words} {root n : ℕ} {xs xs' : List ℕ} {f : Filled} (h : n ≤ second_half) (F : Fills w order_tree root most_levels xs xs' second_half f) where
-  none_such : (OrderTree w root n → ⊥) → Trees w root xs xs' n false
-  none_such d = record { long = F.long; same = F.same; told = decides_no d; listed = λ e t. absurd (d t) }
+module _ {w : Words} {root n : ℕ} {xs xs' : List ℕ} (h : n ≤ second_half) where
+  none_such : {r : Option Filled} → Fills w order_tree root most_levels xs xs' second_half r → (OrderTree w root n → ⊥) → Trees w root xs xs' n false
+  none_such F d = record { long = F.long; same = F.same; told = decides_no d; listed = λ e t. absurd (d t) }
 
-  pub trees_not_filled : f.ok ≡ false → Trees w root xs xs' n false
-  trees_not_filled e =
-      none_such
-      (λ t. never (F.complete t.tree t.laid (height_full t.laid.balanced (omega (arith, t.count))) (omega (arith, t.count))) e)
+  pub trees_not_filled : Fills w order_tree root most_levels xs xs' second_half None → Trees w root xs xs' n false
+  trees_not_filled F =
+      none_such F
+      (λ t. never (F.complete t.tree t.laid (height_full t.laid.balanced (omega (arith, t.count))) (omega (arith, t.count))) refl)
 
-  module _ (ok : f.ok ≡ true) where
+  module _ {f : Filled} (F : Fills w order_tree root most_levels xs xs' second_half (Some f)) where
     abbrev U : Tree Item
-    U = (F.sound ok).tree
+    U = F.sound.written.tree
 
     -- it is the tree that was written
     written_is : (t : OrderTree w root n) → U ≡ t.tree
-    written_is t = laid_unique U t.tree (F.sound ok).laid t.laid
+    written_is t = laid_unique U t.tree F.sound.written.laid t.laid
 
     leaves_at : leaves U ≡ items_at w (span xs' second_half f.next)
-    leaves_at = sym (items_back (leaves U) (F.sound ok).laid.placed) ∙ ap (items_at w) (sym (F.sound ok).slots)
+    leaves_at = sym (items_back (leaves U) F.sound.written.laid.placed) ∙ ap (items_at w) (sym F.sound.written.slots)
 
     tree_at : (t : OrderTree w root n) → leaves t.tree ≡ items_at w (span xs' second_half f.next)
     tree_at t = sym (ap leaves (written_is t)) ∙ leaves_at
 
     pub trees_not_long : (f.next ≡ second_half + n → ⊥) → Trees w root xs xs' n false
-    trees_not_long d = none_such (λ t. d (omega (
+    trees_not_long d = none_such F (λ t. d (omega (
       arith,
-      F.inside ok,
-      written_length (F.sound ok),
+      F.sound.inside,
+      written_length F.sound.written,
       ap (λ (s : Tree Item). length (leaves s)) (written_is t),
       t.count,
     )))
 
     module _ (l : f.next ≡ second_half + n) {b : Bool} (R : Decides b (Every (RangedHere w xs') second_half f.next)) where
       pub trees_not_ranged : b ≡ false → Trees w root xs xs' n false
-      trees_not_ranged e = none_such (λ t. never (R.complete (span_ranged second_half f.next (subst AllRanged (tree_at t) t.ranged))) e)
+      trees_not_ranged e = none_such F (λ t. never (R.complete (span_ranged second_half f.next (subst AllRanged (tree_at t) t.ranged))) e)
 
       module _ (eb : b ≡ true) {k : Bool} (K : Decides k (Every (RankedHere w xs') second_half f.next)) where
         tree_keyed : (t : OrderTree w root n) → Keyed w rank_field rank_of (items_at w (span xs' second_half f.next))
         tree_keyed t = subst (Keyed w rank_field rank_of) (tree_at t) t.ranked
 
         pub trees_not_ranked : k ≡ false → Trees w root xs xs' n false
-        trees_not_ranked e = none_such (λ t. never (K.complete (span_keyed second_half f.next (tree_keyed t))) e)
+        trees_not_ranked e = none_such F (λ t. never (K.complete (span_keyed second_half f.next (tree_keyed t))) e)
 
         pub trees_rest : {r : Bool} → k ≡ true → Decides r (Every (FallsHere w rank_field xs') second_half (f.next - 1)) → Trees w root xs xs' n r
         trees_rest {r} ek D =
@@ -104,9 +104,9 @@ module _ {w : Words} {root n : ℕ} {xs xs' : List ℕ} {f : Filled} (h : n ≤ 
             found e =
                 record {
                   tree = U;
-                  laid = (F.sound ok).laid;
+                  laid = F.sound.written.laid;
                   ranged = subst AllRanged (sym leaves_at) (ranged_span second_half f.next (R.sound eb));
                   ranked = subst (Keyed w rank_field rank_of) (sym leaves_at) keyed;
                   falling = subst (Falling rank_of) (sym leaves_at) (falling_span rank_of xs' second_half f.next keyed (D.sound e));
-                  count = omega (arith, written_length (F.sound ok));
+                  count = omega (arith, written_length F.sound.written);
                 }

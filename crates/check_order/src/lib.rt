@@ -2,7 +2,7 @@
 // part. Any words are safe: every loop is bounded.
 #![tactic(auto)]
 
-ghost use Rattle.std.specs.Prelude.{◌≡◌, T, ◌≤◌, length};
+ghost use Rattle.std.specs.Prelude.{◌≡◌, T, ◌≤◌};
 ghost use Rattle.offers.specs.Offers.{offer_in_range};
 ghost use Rattle.check_trees.specs.Scratch.{scratch_length, second_half};
 ghost use Rattle.check_trees.specs.Deciding.{Decides, Every};
@@ -30,12 +30,10 @@ fn all_ranked(part: &[i64], scratch: &[u32; check_trees::SCRATCH], from: usize, 
     requires { (from ≤ to) × (to ≤ scratch_length) × Every (RangedHere part.now scratch.now) from to }
     ensures { Decides result (Every (RankedHere part.now scratch.now) from to) }
 {
-    let mut i = from;
-    while i < to {
-        if !ranked(part, check_trees::entry(scratch, i)) {
+    for slot in &scratch[from..to] {
+        if !ranked(part, *slot) {
             return false;
         }
-        i += 1;
     }
     true
 }
@@ -43,20 +41,19 @@ fn all_ranked(part: &[i64], scratch: &[u32; check_trees::SCRATCH], from: usize, 
 // Node `root` of the order is the root of a balanced tree of `n` offers in range, each with its rank, by falling rank. Their slots are left
 // from place 4,096 on.
 fn order_tree(part: &[i64], root: u32, scratch: &mut [u32; check_trees::SCRATCH], n: usize) -> bool
-    requires { (length scratch.old ≡ scratch_length) × (n ≤ second_half) }
+    requires { (n ≤ second_half) }
     ensures { Trees part.now root scratch.old scratch.new n result }
 {
-    let f = check_trees::fill(
+    let Some(f) = check_trees::fill(
         part,
         table::ORDER,
         root,
         scratch,
         check_trees::SECOND_HALF,
         table::MOST_LEVELS,
-    );
-    if !f.ok {
+    ) else {
         return false;
-    }
+    };
     let next = f.next;
     if next != check_trees::SECOND_HALF + n {
         return false;
@@ -85,22 +82,19 @@ fn heads(part: &[i64], scratch: &[u32; check_trees::SCRATCH], m: usize, n: usize
     requires { (m ≤ second_half) × (n ≤ second_half) }
     ensures { Decides result (Heads part.now scratch.now m n) }
 {
-    let mut i = 0;
     let mut j = 0;
     let mut last: u32 = 0;
-    while i < n {
-        let s = check_trees::entry(scratch, check_trees::SECOND_HALF + i);
-        i += 1;
-        if !is_new(part, last, s) {
+    for s in &scratch[check_trees::SECOND_HALF..check_trees::SECOND_HALF + n] {
+        if !is_new(part, last, *s) {
             continue;
         }
         if m <= j {
             return false;
         }
-        if check_trees::entry(scratch, j) != s {
+        if check_trees::entry(scratch, j) != *s {
             return false;
         }
-        last = s;
+        last = *s;
         j += 1;
     }
     j == m
@@ -117,7 +111,7 @@ fn header(part: &[i64], root: u32, n: u32) -> bool
 // The order of a part, of `n` offers, and the slots at places 0 up to `m` are the first of each rate. The slots of the order are left from
 // place 0 on.
 pub fn order(part: &[i64], scratch: &mut [u32; check_trees::SCRATCH], m: usize, n: u32) -> bool
-    requires { (length scratch.old ≡ scratch_length) × (m ≤ second_half) × (n ≤ second_half) }
+    requires { (m ≤ second_half) × (n ≤ second_half) }
     ensures { Order part.now scratch.old scratch.new m n result }
 {
     let root = table::number_at(part, table::ORDER_ROOT, table::MOST_NODES);

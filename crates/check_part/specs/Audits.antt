@@ -1,6 +1,6 @@
 -- The form of a book, put together from its tree of offers, its order, its numbers, its free slots and its memory: the ways through the code that looks
 -- for it.
-use Rattle.std.specs.Prelude.{◌≡◌, refl, Bool, true, false, ℕ, ◌≤◌, ◌<◌, length}
+use Rattle.std.specs.Prelude.{◌≡◌, refl, Bool, true, false, None, Some, ℕ, ◌≤◌, ◌<◌, length}
 use Rattle.std.proofs.Math.Path.{sym, ap, subst}
 use Rattle.std.proofs.Common.{◌∙◌, arith}
 use mathlib.Core.List.{List, [], map, Pairwise}
@@ -24,7 +24,6 @@ use Rattle.check_trees.specs.Stretches.{span}
 use Rattle.check_trees.specs.Deciding.{Decides, decides_no}
 use Rattle.check_trees.specs.Laid.{items_at, AllPlaced}
 use Rattle.check_trees.specs.Along.{holds_placed}
-use Rattle.check_merge.specs.declared.Walked.{Walked}
 use Rattle.check_offers.specs.OffersFound.{OffersFound, Offers}
 use Rattle.check_order.specs.OrderFound.{OrderFound, Order}
 use Rattle.check_numbers.specs.Tallies.{Tallies}
@@ -90,18 +89,18 @@ module _ {w : Words} {n : ℕ} (e : n ≡ up_to most_slots (word w live_count_wo
   pub audits_no_free : f ≡ false → Decides false (FormStands w)
   audits_no_free k = decides_no (λ b. never (F.complete (book_free b.2.book e)) k)
 
-  module _ {xs xs₁ : List ℕ} {o : Walked} (O : Offers w xs xs₁ o) where
-    pub audits_no_offers : o.ok ≡ false → Decides false (FormStands w)
-    audits_no_offers k = decides_no (λ b. never (O.told.complete (book_offers b.2.book)) k)
+  module _ {xs xs₁ : List ℕ} where
+    pub audits_no_offers : Offers w xs xs₁ None → Decides false (FormStands w)
+    audits_no_offers O = decides_no (λ b. never (O.told.complete (book_offers b.2.book)) refl)
 
-    module _ (ko : o.ok ≡ true) {xs₂ : List ℕ} {d : Bool} (R : Order w xs₁ xs₂ o.next n d) where
+    module _ {m : ℕ} (O : Offers w xs xs₁ (Some m)) {xs₂ : List ℕ} {d : Bool} (R : Order w xs₁ xs₂ m n d) where
       -- the order, over the leaves of the tree of offers
       abbrev Found : Type 0
-      Found = OrderFound w (items_at w (span xs₁ 0 o.next)) n
+      Found = OrderFound w (items_at w (span xs₁ 0 m)) n
 
       found_order : FormStands w → Found
       unfolding book_offers
-      found_order b = book_order b.2.book e (O.listed ko (book_offers b.2.book))
+      found_order b = book_order b.2.book e (O.listed (book_offers b.2.book))
 
       pub audits_no_order : d ≡ false → Decides false (FormStands w)
       audits_no_order k = decides_no (λ b. never (R.told.complete (found_order b)) k)
@@ -121,10 +120,10 @@ module _ {w : Words} {n : ℕ} (e : n ≡ up_to most_slots (word w live_count_wo
         pub audits_no_memory : q ≡ false → Decides false (FormStands w)
         audits_no_memory k = decides_no (λ b. never (remembers b) k)
 
-        pub audits_all : {m : ℕ} {xs₃ : List ℕ} {r : Bool} → m ≡ cap w → (m < 1 → ⊥) → f ≡ true → q ≡ true → Tallies w xs₂ xs₃ n r →
+        pub audits_all : {c : ℕ} {xs₃ : List ℕ} {r : Bool} → c ≡ cap w → (c < 1 → ⊥) → f ≡ true → q ≡ true → Tallies w xs₂ xs₃ n r →
             Decides r (FormStands w)
         unfolding book_offers book_order found_order
-        audits_all {m} {xs₃} {r} em some_slot kf kq N = record { sound = found; complete = λ b. passes b }
+        audits_all {c} {xs₃} {r} em some_slot kf kq N = record { sound = found; complete = λ b. passes b }
           where
             placed : Found → AllPlaced w (items_at w (span xs₂ 0 n))
             placed s = subst (AllPlaced w) (live s) (holds_placed s.in_order.slots s.in_order.holds)
@@ -134,11 +133,11 @@ module _ {w : Words} {n : ℕ} (e : n ≡ up_to most_slots (word w live_count_wo
 
             found : r ≡ true → FormStands w
             found k =
-                let offers = O.told.sound ko in
+                let offers = O.told.sound refl in
                 let s = R.told.sound kd in
                 let slot : 1 ≤ cap w = omega arith in
                 let numbers = subst (Numbered w) (sym (live s)) (N.sound (placed s) (apart s) k) in
-                let book = book_of slot (F.sound kf) offers (O.listed ko offers) s numbers in
+                let book = book_of slot (F.sound kf) offers (O.listed offers) s numbers in
                 let (us, ring, undoable) = (M.told (plain_offers s.order) (ap (map offer_of) (live s)) (book_sound (book []))).sound kq in
                 (bare w (plain_offers s.order) us, offers.held, record { book = book us; memory = record { ring = ring; undoable = undoable } })
 

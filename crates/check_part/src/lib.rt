@@ -18,11 +18,10 @@ fn form_stands(part: &[i64]) -> bool
         return false;
     }
     let mut scratch = [0; check_trees::SCRATCH];
-    let offers = check_offers::offers(part, &mut scratch);
-    if !offers.ok {
+    let Some(leaves) = check_offers::offers(part, &mut scratch) else {
         return false;
-    }
-    if !check_order::order(part, &mut scratch, offers.next, n) {
+    };
+    if !check_order::order(part, &mut scratch, leaves, n) {
         return false;
     }
     if !check_memory::memory(part, &scratch, n as usize) {

@@ -42,9 +42,6 @@ pub record Every (P : ℕ → Type 0) (a b : ℕ) : Type 0 where
   pub at : (k : ℕ) → a ≤ k → k < b → P k
 
 module _ {P : ℕ → Type 0} where
-  pub every_none : {a b : ℕ} → b ≤ a → Every P a b
-  every_none h = record { at = λ k l m. absurd (omega arith) }
-
   pub every_more : {a i : ℕ} → Every P a i → P i → Every P a (i + 1)
   every_more {a} {i} e p = record { at = λ k l m. go k l (dec_lt k i) m }
     where
@@ -52,11 +49,8 @@ module _ {P : ℕ → Type 0} where
       go k l (yes h) m = e.at k l h
       go k l (no h) m = let q : k ≡ i = omega arith in rw q p
 
-  pub every_less : {a b c : ℕ} → c ≤ b → Every P a b → Every P a c
-  every_less h e = record { at = λ k l m. e.at k l (omega arith) }
+-- ---- two stretches
 
--- ---- what the loops look for
-
--- neighbours fall in a field
+-- their entries are the same
 abbrev pub Agree : List ℕ → ℕ → ℕ → ℕ → Type 0
 Agree xs a b n = Every (λ k. get_or xs (a + k) 0 ≡ get_or xs (b + k) 0) 0 n

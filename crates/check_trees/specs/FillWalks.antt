@@ -1,5 +1,5 @@
 -- The walk over a tree that writes its leaves' slots into a scratch array: the ways through its code.
-use Rattle.std.specs.Prelude.{◌≡◌, true, false, List, [], ◌∷◌, ◌++◌, ℕ, suc, ◌+◌, ◌-◌, ◌≤◌, ◌<◌, max, length, get_or}
+use Rattle.std.specs.Prelude.{◌≡◌, refl, true, false, Option, None, Some, IfSome, IsSome, List, [], ◌∷◌, ◌++◌, ℕ, suc, ◌+◌, ◌-◌, ◌≤◌, ◌<◌, max, length, get_or}
 use Rattle.std.proofs.Common.{sym, ◌∙◌, ap, ap₂, arith, length-append}
 use Rattle.std.proofs.lemmas.List.{get_or_at}
 use Rattle.lists.specs.Bools.{never}
@@ -13,7 +13,7 @@ use Rattle.check_trees.specs.Scratch.{scratch_length}
 use Rattle.check_trees.specs.declared.Filled.{Filled}
 use Rattle.check_trees.specs.Stretches.{span_cut, span_same, span_length, span_at}
 use Rattle.check_trees.specs.Laid.{slots_of, slots_append, slots_length, Laid, laid_leaf_low, laid_children, laid_node, laid_unique}
-use Rattle.check_trees.specs.Fills.{Written, Fills, Fails, fills_not, fills_none, Levelled, Ended, Covers}
+use Rattle.check_trees.specs.Fills.{Written, Wrote, Fills, fills_not, fills_none, Levelled, Ended, Covered, Covers}
 
 -- ---- what was written
 
@@ -36,8 +36,8 @@ module _ {w : Words} {k x a b h : ℕ} {xs : List ℕ} (g : Written w k x xs a b
 
 -- ---- limit used up
 
-pub fills_deep : {w : Words} {k x limit at : ℕ} {xs : List ℕ} {r : Filled} → most_slots < x → limit ≡ 0 → Fails r → Fills w k x limit xs xs at r
-fills_deep {w} {k} {x} {limit} {at} d e f = fills_none f (record { refuted = go })
+pub fills_deep : {w : Words} {k x limit at : ℕ} {xs : List ℕ} → most_slots < x → limit ≡ 0 → Fills w k x limit xs xs at None
+fills_deep {w} {k} {x} {limit} {at} d e = fills_none (record { refuted = go })
   where
     go : (t : Tree Item) → Laid w k x t → height t ≤ limit → at + length (leaves t) ≤ scratch_length → ⊥
     go (leaf a) p q m = omega (arith, laid_leaf_low p)
@@ -45,77 +45,76 @@ fills_deep {w} {k} {x} {limit} {at} d e f = fills_none f (record { refuted = go 
 
 -- ---- the two children
 
-module _ {w : Words} {k x limit at : ℕ} {xs xs₁ : List ℕ} {a : Filled} (d : most_slots < x) (more : limit ≡ 0 →
-    ⊥) (A : Fills w k (child_at w k false x) (limit - 1) xs xs₁ at a) where
-  pub fills_left_not : a.ok ≡ false → Fills w k x limit xs xs₁ at a
-  fills_left_not e = fills_not A.long A.same (record { not = e; flat = A.low }) (record { refuted = go })
+module _ {w : Words} {k x limit at : ℕ} {xs xs₁ : List ℕ} (d : most_slots < x) (more : limit ≡ 0 → ⊥) where
+  pub fills_left_not : Fills w k (child_at w k false x) (limit - 1) xs xs₁ at None → Fills w k x limit xs xs₁ at None
+  fills_left_not A = fills_not A.long A.same (record { refuted = go })
     where
       go : (t : Tree Item) → Laid w k x t → height t ≤ limit → at + length (leaves t) ≤ scratch_length → ⊥
       go (leaf b) p q m = omega (arith, laid_leaf_low p)
-      go (node l r) p q m = never (A.complete l (laid_children p).left (omega arith) (omega (arith, length-append (leaves l) (leaves r)))) e
+      go (node l r) p q m = never (A.complete l (laid_children p).left (omega arith) (omega (arith, length-append (leaves l) (leaves r)))) refl
 
-  module _ {xs₂ : List ℕ} {b : Filled} (t : a.ok ≡ true) (B : Fills w k (child_at w k true x) (limit - 1) xs₁ xs₂ a.next b) where
-    long_both : length xs₂ ≡ length xs
-    long_both = B.long ∙ A.long
-
-    same_both : (i : ℕ) → i < at → get_or xs₂ i 0 ≡ get_or xs i 0
-    same_both i h = B.same i (omega (arith, A.inside t)) ∙ A.same i h
-
+  module _ {a : Filled} (A : Fills w k (child_at w k false x) (limit - 1) xs xs₁ at (Some a)) where
     -- the left tree is the one that was written
-    left_is : (l : Tree Item) → Laid w k (child_at w k false x) l → (A.sound t).tree ≡ l
-    left_is l p = laid_unique (A.sound t).tree l (A.sound t).laid p
+    left_is : (l : Tree Item) → Laid w k (child_at w k false x) l → A.sound.written.tree ≡ l
+    left_is l p = laid_unique A.sound.written.tree l A.sound.written.laid p
 
     left_room : (l : Tree Item) → Laid w k (child_at w k false x) l → a.next ≡ at + length (leaves l)
-    left_room l p = omega (arith, A.inside t, written_length (A.sound t), ap (λ (s : Tree Item). length (leaves s)) (left_is l p))
+    left_room l p = omega (arith, A.sound.inside, written_length A.sound.written, ap (λ (s : Tree Item). length (leaves s)) (left_is l p))
 
-    right_ok : (l r : Tree Item) → Laid w k x (node l r) → height (node l r) ≤ limit → at + length (leaves l ++ leaves r) ≤ most_nodes → b.ok ≡ true
-    right_ok l r p q m =
-        B.complete r (laid_children p).right (omega arith) (omega (arith, length-append (leaves l) (leaves r), left_room l (laid_children p).left))
+    module _ {xs₂ : List ℕ} {b : Option Filled} (B : Fills w k (child_at w k true x) (limit - 1) xs₁ xs₂ a.next b) where
+      long_both : length xs₂ ≡ length xs
+      long_both = B.long ∙ A.long
 
-    pub fills_right_not : b.ok ≡ false → Fills w k x limit xs xs₂ at b
-    fills_right_not e = fills_not long_both same_both (record { not = e; flat = B.low }) (record { refuted = go })
+      same_both : (i : ℕ) → i < at → get_or xs₂ i 0 ≡ get_or xs i 0
+      same_both i h = B.same i (omega (arith, A.sound.inside)) ∙ A.same i h
+
+      right_ok : (l r : Tree Item) → Laid w k x (node l r) → height (node l r) ≤ limit → at + length (leaves l ++ leaves r) ≤ most_nodes → IsSome b
+      right_ok l r p q m =
+          B.complete r (laid_children p).right (omega arith) (omega (arith, length-append (leaves l) (leaves r), left_room l (laid_children p).left))
+
+    pub fills_right_not : {xs₂ : List ℕ} → Fills w k (child_at w k true x) (limit - 1) xs₁ xs₂ a.next None → Fills w k x limit xs xs₂ at None
+    fills_right_not B = fills_not (long_both B) (same_both B) (record { refuted = go })
       where
         go : (t : Tree Item) → Laid w k x t → height t ≤ limit → at + length (leaves t) ≤ scratch_length → ⊥
         go (leaf c) p q m = omega (arith, laid_leaf_low p)
-        go (node l r) p q m = never (right_ok l r p q m) e
+        go (node l r) p q m = never (right_ok B l r p q m) refl
 
-    pub ended : b.ok ≡ true → Ended a b
-    ended u = record { some = omega (arith, A.inside t); most = (A.inside t).1; left = A.low; right = B.low }
+    module _ {xs₂ : List ℕ} {b : Filled} (B : Fills w k (child_at w k true x) (limit - 1) xs₁ xs₂ a.next (Some b)) where
+      pub ended : Ended a b
+      ended = record { some = omega (arith, A.sound.inside); most = A.sound.inside.1; left = A.sound.low; right = B.sound.low }
 
-    module _ (u : b.ok ≡ true) where
       abbrev L : Tree Item
-      L = (A.sound t).tree
+      L = A.sound.written.tree
 
       abbrev R : Tree Item
-      R = (B.sound u).tree
+      R = B.sound.written.tree
 
       last_at : get_or xs₂ (a.next - 1) 0 ≡ (last L).slot
-      last_at = B.same (a.next - 1) (omega (arith, A.inside t)) ∙ written_last (A.sound t)
+      last_at = B.same (a.next - 1) (omega (arith, A.sound.inside)) ∙ written_last A.sound.written
 
-      written_both : {r : Filled} → Covers w k x xs₂ a b r → r.ok ≡ true → Written w k x xs₂ at r.next r.height
-      written_both {r} C o =
-          let s = C.sound o in
+      written_both : {f : Filled} → Covered w k x xs₂ a b f → Written w k x xs₂ at f.next f.height
+      written_both {f} C =
           record {
             tree = node L R;
             laid =
-                laid_node (A.sound t).laid (B.sound u).laid (sym s.seam ∙ last_at) d
-                (s.stored ∙ ap₂ (λ (m n : ℕ). suc (max m n)) (sym (A.sound t).tall) (sym (B.sound u).tall))
-                (omega (arith, s.left, (A.sound t).tall, (B.sound u).tall))
-                (omega (arith, s.right, (A.sound t).tall, (B.sound u).tall));
+                laid_node A.sound.written.laid B.sound.written.laid (sym C.level.seam ∙ last_at) d
+                (C.level.stored ∙ ap₂ (λ (m n : ℕ). suc (max m n)) (sym A.sound.written.tall) (sym B.sound.written.tall))
+                (omega (arith, C.level.left, A.sound.written.tall, B.sound.written.tall))
+                (omega (arith, C.level.right, A.sound.written.tall, B.sound.written.tall));
             slots =
-                rw (C.next o) (span_cut xs₂ at a.next b.next (omega (arith, A.inside t)) (omega (arith, B.inside u)))
-                ∙ ap₂ ◌++◌ (span_same xs₂ xs₁ at a.next (λ i h j. B.same i j) ∙ (A.sound t).slots) (B.sound u).slots
+                rw C.next (span_cut xs₂ at a.next b.next (omega (arith, A.sound.inside)) (omega (arith, B.sound.inside)))
+                ∙ ap₂ ◌++◌ (span_same xs₂ xs₁ at a.next (λ i h j. B.same i j) ∙ A.sound.written.slots) B.sound.written.slots
                 ∙ sym (slots_append (leaves L) (leaves R));
-            tall = ap₂ (λ (m n : ℕ). suc (max m n)) (A.sound t).tall (B.sound u).tall ∙ sym (C.tall o);
+            tall = ap₂ (λ (m n : ℕ). suc (max m n)) A.sound.written.tall B.sound.written.tall ∙ sym C.tall;
           }
 
       levelled : (l r : Tree Item) → Laid w k x (node l r) → Levelled w k x (get_or xs₂ (a.next - 1) 0) a.height b.height
       levelled l r p =
           let c = laid_children p in
           let el : L ≡ l = left_is l c.left in
-          let er : R ≡ r = laid_unique R r (B.sound u).laid c.right in
-          let hl : height l ≡ a.height = sym (ap height el) ∙ (A.sound t).tall in
-          let hr : height r ≡ b.height = sym (ap height er) ∙ (B.sound u).tall in
+          let er : R ≡ r = laid_unique R r B.sound.written.laid c.right in
+          let hl : height l ≡ a.height = sym (ap height el) ∙ A.sound.written.tall in
+          let hr : height r ≡ b.height = sym (ap height er) ∙ B.sound.written.tall in
           record {
             seam = last_at ∙ ap (λ (s : Tree Item). (last s).slot) el ∙ sym c.seam;
             left = omega (arith, c.level);
@@ -123,17 +122,14 @@ module _ {w : Words} {k x limit at : ℕ} {xs xs₁ : List ℕ} {a : Filled} (d 
             stored = c.stored ∙ ap₂ (λ (m n : ℕ). suc (max m n)) hl hr;
           }
 
-      pub fills_node : {r : Filled} → Covers w k x xs₂ a b r → Fills w k x limit xs xs₂ at r
-      fills_node {r} C =
-          record {
-            long = long_both;
-            same = same_both;
-            low = C.low;
-            inside = λ o. omega (arith, A.inside t, B.inside u, C.next o);
-            sound = written_both C;
-            complete = go;
-          }
+      wrote_both : (r : Option Filled) → IfSome r (Covered w k x xs₂ a b) → IfSome r (Wrote w k x xs₂ at)
+      wrote_both None c = tt
+      wrote_both (Some f) c =
+          record { low = c.low; inside = omega (arith, A.sound.inside, B.sound.inside, c.next); written = written_both c }
+
+      pub fills_node : {r : Option Filled} → Covers w k x xs₂ a b r → Fills w k x limit xs xs₂ at r
+      fills_node {r} C = record { long = long_both B; same = same_both B; sound = wrote_both r C.sound; complete = go }
         where
-          go : (s : Tree Item) → Laid w k x s → height s ≤ limit → at + length (leaves s) ≤ most_nodes → r.ok ≡ true
+          go : (s : Tree Item) → Laid w k x s → height s ≤ limit → at + length (leaves s) ≤ most_nodes → IsSome r
           go (leaf c) p q m = absurd (omega (arith, laid_leaf_low p))
           go (node l s) p q m = C.complete (levelled l s p)

@@ -7,7 +7,7 @@ pub mod Deciding
 pub mod Stretches
 -- lemmas: a balanced tree laid out in words: each leaf is the item that its slot holds
 pub mod Laid
--- ways through the code: what the loops over a stretch of the scratch array look for, and a stretch moved down
+-- ways through the code: what is looked for along a stretch of the scratch array, and a stretch moved down
 pub mod Loops
 -- lemmas: what holds at each place of a stretch holds of each item that stands there, and back: offers in range, and keys that fall
 pub mod Along

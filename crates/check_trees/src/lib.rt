@@ -11,7 +11,7 @@ ghost use Rattle.check_trees.specs.Scratch.{scratch_length};
 ghost use Rattle.check_trees.specs.Deciding.{Decides, Every, Agree};
 ghost use Rattle.check_trees.specs.Laid.{item_at};
 ghost use Rattle.check_trees.specs.Loops.{FallsHere, RangedHere, PlaceOf, Moved};
-ghost use Rattle.check_trees.specs.Fills.{Fails, Fills, Ended, Covers};
+ghost use Rattle.check_trees.specs.Fills.{Fills, Ended, Covers};
 
 // A scratch array has two halves, with an entry for each slot in either: what is read first, and what is compared with it.
 pub const SECOND_HALF: usize = table::MOST_SLOTS as usize;
@@ -32,10 +32,9 @@ pub fn slot_tells(part: &[i64], field: usize, slot: u32, number: u32) -> bool
     table::is_equal(part, field, slot, number as i64)
 }
 
-// What a walk over a tree answers: whether it went through, the place behind the last leaf, and the tree's height.
+// What a walk over a tree that went through tells: the place behind the last leaf, and the tree's height.
 #[derive(Drop)]
 pub struct Filled {
-    pub ok: bool,
     pub next: usize,
     pub height: u32,
 }
@@ -48,37 +47,32 @@ pub fn entry(scratch: &[u32; SCRATCH], i: usize) -> u32
     scratch[i]
 }
 
-fn nothing() -> Filled
-    ensures { Fails result }
-{
-    Filled {
-        ok: false,
-        next: 0,
-        height: 0,
-    }
-}
-
 // Writes leaf `x` at place `at`.
-fn fill_leaf(part: &[i64], x: u32, scratch: &mut [u32; SCRATCH], at: usize) -> Filled
-    requires { length scratch.old ≡ scratch_length }
+fn fill_leaf(part: &[i64], x: u32, scratch: &mut [u32; SCRATCH], at: usize) -> Option<Filled>
     ensures { x ≤ most_slots → (k limit : ℕ) → Fills part.now k x limit scratch.old scratch.new at result }
 {
     if x < 1 || table::capacity(part) < x {
-        return nothing();
+        return None;
     }
     if SCRATCH <= at {
-        return nothing();
+        return None;
     }
     scratch[at] = x;
-    Filled {
-        ok: true,
+    Some(Filled {
         next: at + 1,
         height: 0,
-    }
+    })
 }
 
 // Node `x` over the trees of the two walks, the first of which ended with the leaf in the slot where `x` is kept.
-fn cover(part: &[i64], tree: u8, x: u32, scratch: &[u32; SCRATCH], a: Filled, b: Filled) -> Filled
+fn cover(
+    part: &[i64],
+    tree: u8,
+    x: u32,
+    scratch: &[u32; SCRATCH],
+    a: Filled,
+    b: Filled,
+) -> Option<Filled>
     requires { Ended a b }
     ensures { Covers part.now tree x scratch.now a b result }
 {
@@ -87,20 +81,19 @@ fn cover(part: &[i64], tree: u8, x: u32, scratch: &[u32; SCRATCH], a: Filled, b:
     let right = b.height;
     let last = entry(scratch, next - 1);
     if last != table::inner_slot(x) {
-        return nothing();
+        return None;
     }
-    if right + 1 < left || left + 1 < right {
-        return nothing();
+    if 1 < left.abs_diff(right) {
+        return None;
     }
     let height = table::height(part, tree, x);
     if height != table::height_over(left, right) {
-        return nothing();
+        return None;
     }
-    Filled {
-        ok: true,
+    Some(Filled {
         next: b.next,
         height,
-    }
+    })
 }
 
 // Walks the tree whose root is node `x` and writes its leaves' slots from place `at` on. `tree` is one of
@@ -112,38 +105,19 @@ pub fn fill(
     scratch: &mut [u32; SCRATCH],
     at: usize,
     limit: u32,
-) -> Filled
-    requires { length scratch.old ≡ scratch_length }
+) -> Option<Filled>
     ensures { Fills part.now tree x limit scratch.old scratch.new at result }
 {
     if x <= table::MOST_SLOTS {
         return fill_leaf(part, x, scratch, at);
     }
     if limit == 0 {
-        return nothing();
+        return None;
     }
-    let a = fill(
-        part,
-        tree,
-        table::child(part, tree, false, x),
-        scratch,
-        at,
-        limit - 1,
-    );
-    if !a.ok {
-        return a;
-    }
-    let b = fill(
-        part,
-        tree,
-        table::child(part, tree, true, x),
-        scratch,
-        a.next,
-        limit - 1,
-    );
-    if !b.ok {
-        return b;
-    }
+    let left = table::child(part, tree, false, x);
+    let a = fill(part, tree, left, scratch, at, limit - 1)?;
+    let right = table::child(part, tree, true, x);
+    let b = fill(part, tree, right, scratch, a.next, limit - 1)?;
     cover(part, tree, x, scratch, a, b)
 }
 
@@ -152,42 +126,24 @@ pub fn same(scratch: &[u32; SCRATCH], a: usize, b: usize, count: usize) -> bool
     requires { (a + count ≤ scratch_length) × (b + count ≤ scratch_length) }
     ensures { Decides result (Agree scratch.now a b count) }
 {
-    let mut k = 0;
-    while k < count {
-        if entry(scratch, a + k) != entry(scratch, b + k) {
-            return false;
-        }
-        k += 1;
-    }
-    true
+    scratch[a..a + count] == scratch[b..b + count]
 }
 
-// The first place of `slot` from `from` up to `to`, and `to` where it has none.
-pub fn place(scratch: &[u32; SCRATCH], from: usize, to: usize, slot: u32) -> usize
+// The first place of `slot` from `from` up to `to`, if it has one.
+pub fn place(scratch: &[u32; SCRATCH], from: usize, to: usize, slot: u32) -> Option<usize>
     requires { (from ≤ to) × (to ≤ scratch_length) }
     ensures { PlaceOf scratch.now from to slot result }
 {
-    let mut i = from;
-    while i < to {
-        if entry(scratch, i) == slot {
-            return i;
-        }
-        i += 1;
-    }
-    i
+    let k = scratch[from..to].iter().position(|s| *s == slot)?;
+    Some(from + k)
 }
 
 // Moves the `count` entries from `from` on down to `to`.
 pub fn shift(scratch: &mut [u32; SCRATCH], to: usize, from: usize, count: usize)
-    requires { (length scratch.old ≡ scratch_length) × (to ≤ from) × (from + count ≤ scratch_length) }
+    requires { (to ≤ from) × (from + count ≤ scratch_length) }
     ensures { Moved scratch.old scratch.new to from count }
 {
-    let mut k = 0;
-    while k < count {
-        let value = entry(scratch, from + k);
-        scratch[to + k] = value;
-        k += 1;
-    }
+    scratch.copy_within(from..from + count, to);
 }
 
 // A field falls from one slot to another.
@@ -202,14 +158,7 @@ pub fn falling(part: &[i64], field: usize, scratch: &[u32; SCRATCH], from: usize
     requires { (from ≤ to) × (to ≤ scratch_length) }
     ensures { Decides result (Every (FallsHere part.now field scratch.now) from (to - 1)) }
 {
-    let mut i = from;
-    while i + 1 < to {
-        if !falls(part, field, entry(scratch, i), entry(scratch, i + 1)) {
-            return false;
-        }
-        i += 1;
-    }
-    true
+    scratch[from..to].is_sorted_by(|a, b| falls(part, field, *a, *b))
 }
 
 // A slot's field is from `low` to `high`.
@@ -233,12 +182,5 @@ pub fn all_ranged(part: &[i64], scratch: &[u32; SCRATCH], from: usize, to: usize
     requires { (from ≤ to) × (to ≤ scratch_length) }
     ensures { Decides result (Every (RangedHere part.now scratch.now) from to) }
 {
-    let mut i = from;
-    while i < to {
-        if !ranged(part, entry(scratch, i)) {
-            return false;
-        }
-        i += 1;
-    }
-    true
+    scratch[from..to].iter().all(|slot| ranged(part, *slot))
 }

@@ -1,38 +1,46 @@
--- What `parse` answers: the command of the call whose line it was given, and `Unreadable` where it was given no call's.
-use Rattle.std.specs.Prelude.{ℕ, ◌≡◌, refl, ◌≢◌, ◌↔◌, cond, length, replicate, ℤ, pos, eqb}
-use Rattle.std.proofs.Common.{sym, ◌∙◌, subst, arith}
+-- What `parse` answers: the command of the call whose line it was given, and none where it was given no call's.
+use Rattle.std.specs.Prelude.{ℕ, ◌≡◌, refl, ◌≢◌, ◌↔◌, Bool, ◌&&◌, [], ◌∷◌, suc, drop, true, false, cond, length, replicate, ℤ, pos, negsuc, eqb, Option, Some, None}
+use Rattle.std.proofs.Common.{ap, sym, ◌∙◌, subst, arith, rules, length-take-le, length-drop, eqb-true}
+use Rattle.std.specs.Option.{option_map}
+use Rattle.std.specs.List.{list_all}
+use Rattle.std.specs.Bool.{then_some, Decides}
+use mir.Syntax.{w64}
+use mir.Val.{of_z, SFits}
 use mathlib.Core.List.{List, List-discrete}
-use Rattle.std.proofs.Math.Option.{Option, some, none as no-command}
+use mathlib.Core.Bool.{true≢false}
 use Rattle.std.proofs.Math.Decide.{dec_le, ℕ_discrete}
 use Rattle.plain.specs.Book.{Call, post, withdraw, query, listing, take_back, report}
 use Rattle.counter_columns.specs.declared.Command.{Command}
-use Rattle.counter_columns.specs.declared.Command.TheVariants.{Post, Withdraw, Query, List as Listing, Unreadable}
-use Rattle.counter_field.specs.declared.Field.{Field}
-use Rattle.counter_field.specs.declared.Field.TheVariants.{Number, Bad}
+use Rattle.counter_columns.specs.declared.Command.TheVariants.{Post, Withdraw, Query, List as Listing}
 use Rattle.counter_print.specs.Texts.{space, decimal, FitsIn}
 use Rattle.counter_columns.specs.Columns.{line_of, HasLine, IsLineOf}
 use Rattle.counter_field.specs.Values.{told}
-use Rattle.counter_field.specs.Reading.{Holds, FieldRead, holds_told}
+use Rattle.counter_field.specs.Reading.{FieldRead, holds_told}
 use Rattle.counter_print.specs.Sections.{between}
 use Rattle.counter_columns.specs.CallLines.{letter, Shape, PostColumns, LastColumns, line_shape, shape_line, line_length}
 
--- The command of a call, where it has one. A listing's room is no part of it.
-abbrev pub as_command : Call → Option Command
-as_command (post number rate base) = some (Post number rate base)
-as_command (withdraw number) = some (Withdraw number)
-as_command (query load) = some (Query load)
-as_command (listing room) = some Listing
-as_command take_back = no-command
-as_command (report load price room) = no-command
+-- What a line tells: a command, where it is a call's.
+abbrev pub LineCommand : Type 0
+LineCommand = Option Command
 
--- The command is a call's exactly where the line is that call's.
-abbrev pub Parsed : List ℕ → Command → Type 0
-Parsed line r = ((k : Call) → (some r ≡ as_command k) ↔ IsLineOf k line)
+-- The command of a call, where it has one. A listing's room is no part of it.
+abbrev pub as_command : Call → LineCommand
+as_command (post number rate base) = Some (Post number rate base)
+as_command (withdraw number) = Some (Withdraw number)
+as_command (query load) = Some (Query load)
+as_command (listing room) = Some Listing
+as_command take_back = None
+as_command (report load price room) = None
+
+-- The command is a call's exactly where the line is that call's, and there is none where the line is no call's.
+abbrev pub Parsed : List ℕ → LineCommand → Type 0
+Parsed line (Some m) = ((k : Call) → (Some m ≡ as_command k) ↔ IsLineOf k line)
+Parsed line None = ((k : Call) → IsLineOf k line → ⊥)
 
 -- What stands in the last columns, the ones before them blank.
-abbrev pub LastRead : List ℕ → Field → Type 0
-LastRead line (Number z) = LastColumns line z
-LastRead line Bad = ((z : ℤ) → LastColumns line z → ⊥)
+abbrev pub LastRead : List ℕ → Option ℤ → Type 0
+LastRead line (Some z) = LastColumns line z
+LastRead line None = ((z : ℤ) → LastColumns line z → ⊥)
 
 -- ---- the command that a line's parts tell
 
@@ -42,7 +50,7 @@ decode line =
     (cond (eqb (letter line) 87) (Withdraw (told (between 15 27 line)))
     (cond (eqb (letter line) 81) (Query (told (between 15 27 line))) Listing))
 
-shape_tells : (k : Call) (line : List ℕ) → Shape k line → some (decode line) ≡ as_command k
+shape_tells : (k : Call) (line : List ℕ) → Shape k line → Some (decode line) ≡ as_command k
 unfolding decode
 shape_tells (post n r b) line s = rw (
   s.0,
@@ -64,16 +72,15 @@ some_call (Post n r b) = post n r b
 some_call (Withdraw n) = withdraw n
 some_call (Query q) = query q
 some_call Listing = listing 0
-some_call Unreadable = listing 0
 
-one_command : {a b : Command} → some a ≡ some b → a ≡ b
+one_command : {a b : Command} → Some a ≡ Some b → a ≡ b
 one_command e = cc
 
 -- the line of a call is that of its command
 SameLine : Command → Call → List ℕ → Type 0
 SameLine m k line = IsLineOf k line ↔ IsLineOf (some_call m) line
 
-some_line : (k : Call) {m : Command} (line : List ℕ) → some m ≡ as_command k → SameLine m k line
+some_line : (k : Call) {m : Command} (line : List ℕ) → Some m ≡ as_command k → SameLine m k line
 unfolding SameLine some_call line_of
 some_line (post n r b) line e = subst (λ (m : Command). SameLine m (post n r b) line) (sym (one_command e)) (λ i. i, λ i. i)
 some_line (withdraw n) line e = subst (λ (m : Command). SameLine m (withdraw n) line) (sym (one_command e)) (λ i. i, λ i. i)
@@ -84,36 +91,28 @@ some_line (listing room) line e =
 some_line take_back line e = let z : ◌≡◌ {A = ℕ} 0 1 = cc in absurd (omega arith)
 some_line (report load price room) line e = let z : ◌≡◌ {A = ℕ} 0 1 = cc in absurd (omega arith)
 
-pub parsed : (k : Call) {m : Command} (line : List ℕ) → some m ≡ as_command k → IsLineOf k line → Parsed line m
+pub parsed : (k : Call) {m : Command} (line : List ℕ) → Some m ≡ as_command k → IsLineOf k line → Parsed line (Some m)
 unfolding SameLine
 parsed k line e i j =
     (λ d. (some_line j line d).1 ((some_line k line e).0 i), λ i'. e ∙ sym (shape_tells k line (line_shape i)) ∙ shape_tells j line (line_shape i'))
 
--- ---- a line that is no call's
-
-readable : (k : Call) → some Unreadable ≡ as_command k → ⊥
-readable (post n r b) e = let z : ◌≡◌ {A = ℕ} 0 1 = cc in omega arith
-readable (withdraw n) e = let z : ◌≡◌ {A = ℕ} 0 1 = cc in omega arith
-readable (query q) e = let z : ◌≡◌ {A = ℕ} 0 1 = cc in omega arith
-readable (listing room) e = let z : ◌≡◌ {A = ℕ} 0 1 = cc in omega arith
-readable take_back e = let z : ◌≡◌ {A = ℕ} 0 1 = cc in omega arith
-readable (report load price room) e = let z : ◌≡◌ {A = ℕ} 0 1 = cc in omega arith
-
-pub unreadable : (line : List ℕ) → ((k : Call) → IsLineOf k line → ⊥) → Parsed line Unreadable
-unreadable line none k = (λ e. absurd (readable k e), λ i. absurd (none k i))
+told_line : {line : List ℕ} {m : Command} → Parsed line (Some m) → IsLineOf (some_call m) line
+unfolding some_call
+told_line {m = Post n r b} p = (p (post n r b)).0 refl
+told_line {m = Withdraw n} p = (p (withdraw n)).0 refl
+told_line {m = Query x} p = (p (query x)).0 refl
+told_line {m = Listing} p = (p (listing 0)).0 refl
 
 -- ---- one line has one answer
 
-pub parsed_unique : (line : List ℕ) (r s : Command) → Parsed line r → Parsed line s → r ≡ s
-parsed_unique line (Post n r b) s p q = sym (one_command ((q (post n r b)).1 ((p (post n r b)).0 refl)))
-parsed_unique line (Withdraw n) s p q = sym (one_command ((q (withdraw n)).1 ((p (withdraw n)).0 refl)))
-parsed_unique line (Query x) s p q = sym (one_command ((q (query x)).1 ((p (query x)).0 refl)))
-parsed_unique line Listing s p q = sym (one_command ((q (listing 0)).1 ((p (listing 0)).0 refl)))
-parsed_unique line Unreadable (Post n r b) p q = one_command ((p (post n r b)).1 ((q (post n r b)).0 refl))
-parsed_unique line Unreadable (Withdraw n) p q = one_command ((p (withdraw n)).1 ((q (withdraw n)).0 refl))
-parsed_unique line Unreadable (Query x) p q = one_command ((p (query x)).1 ((q (query x)).0 refl))
-parsed_unique line Unreadable Listing p q = one_command ((p (listing 0)).1 ((q (listing 0)).0 refl))
-parsed_unique line Unreadable Unreadable p q = refl
+pub parsed_unique : (line : List ℕ) (r s : LineCommand) → Parsed line r → Parsed line s → r ≡ s
+parsed_unique line (Some (Post n r b)) (Some s) p q = sym ((q (post n r b)).1 ((p (post n r b)).0 refl))
+parsed_unique line (Some (Withdraw n)) (Some s) p q = sym ((q (withdraw n)).1 ((p (withdraw n)).0 refl))
+parsed_unique line (Some (Query x)) (Some s) p q = sym ((q (query x)).1 ((p (query x)).0 refl))
+parsed_unique line (Some Listing) (Some s) p q = sym ((q (listing 0)).1 ((p (listing 0)).0 refl))
+parsed_unique line (Some m) None p q = absurd (q (some_call m) (told_line p))
+parsed_unique line None (Some m) p q = absurd (p (some_call m) (told_line q))
+parsed_unique line None None p q = refl
 
 -- ---- and every line has one: the command as a function of the line
 
@@ -142,12 +141,12 @@ line_known k line = go (has_line_known k) (List-discrete ℕ_discrete line (line
     go (yes f) (no e) = no (λ i. e i.text)
     go (no f) d = no (λ i. f i.fits)
 
-command_if : (m : Command) {line : List ℕ} → Dec (IsLineOf (some_call m) line) → Command
-command_if m (yes i) = m
-command_if m (no n) = Unreadable
+command_if : (m : Command) {line : List ℕ} → Dec (IsLineOf (some_call m) line) → LineCommand
+command_if m (yes i) = Some m
+command_if m (no n) = None
 
 -- `Parsed` fixes it.
-pub command_of : List ℕ → Command
+pub command_of : List ℕ → LineCommand
 command_of line = command_if (decode line) (line_known (some_call (decode line)) line)
 
 pub command_parsed : (line : List ℕ) → Parsed line (command_of line)
@@ -156,16 +155,16 @@ command_parsed line = go (line_known (some_call (decode line)) line)
   where
     go : (d : Dec (IsLineOf (some_call (decode line)) line)) → Parsed line (command_if (decode line) d)
     go (yes i) = parsed (some_call (decode line)) line (shape_tells (some_call (decode line)) line (line_shape i)) i
-    go (no n) = unreadable line (λ k i. n ((some_line k line (shape_tells k line (line_shape i))).0 i))
+    go (no n) = (λ k i. n ((some_line k line (shape_tells k line (line_shape i))).0 i))
 
 -- ---- no call's line, and a call's line, by the parts
 
 -- Where each test of the program sends a line.
-pub wrong_length : (line : List ℕ) → length line ≢ 27 → Parsed line Unreadable
-wrong_length line h = unreadable line (λ k i. h (line_length i))
+pub wrong_length : (line : List ℕ) → length line ≢ 27 → Parsed line None
+wrong_length line h = (λ k i. h (line_length i))
 
-pub wrong_letter : (line : List ℕ) → letter line ≢ 80 → letter line ≢ 87 → letter line ≢ 81 → letter line ≢ 76 → Parsed line Unreadable
-wrong_letter line p w q l = unreadable line (λ k i. go k (line_shape i))
+pub wrong_letter : (line : List ℕ) → letter line ≢ 80 → letter line ≢ 87 → letter line ≢ 81 → letter line ≢ 76 → Parsed line None
+wrong_letter line p w q l = (λ k i. go k (line_shape i))
   where
     go : (k : Call) → Shape k line → ⊥
     go (post n r b) s = p s.0
@@ -176,8 +175,8 @@ wrong_letter line p w q l = unreadable line (λ k i. go k (line_shape i))
     go (report load price room) s = s
 
 -- The letter P, and columns that hold no three numbers.
-pub wrong_post : (line : List ℕ) → letter line ≡ 80 → ((n r b : ℤ) → PostColumns line n r b → ⊥) → Parsed line Unreadable
-wrong_post line e none = unreadable line (λ k i. go k (line_shape i))
+pub wrong_post : (line : List ℕ) → letter line ≡ 80 → ((n r b : ℤ) → PostColumns line n r b → ⊥) → Parsed line None
+wrong_post line e none = (λ k i. go k (line_shape i))
   where
     go : (k : Call) → Shape k line → ⊥
     go (post n r b) s = none n r b s.1
@@ -188,8 +187,8 @@ wrong_post line e none = unreadable line (λ k i. go k (line_shape i))
     go (report load price room) s = s
 
 -- Another letter, and last columns that hold no number.
-pub wrong_last : (line : List ℕ) → letter line ≢ 80 → ((z : ℤ) → LastColumns line z → ⊥) → Parsed line Unreadable
-wrong_last line e none = unreadable line (λ k i. go k (line_shape i))
+pub wrong_last : (line : List ℕ) → letter line ≢ 80 → ((z : ℤ) → LastColumns line z → ⊥) → Parsed line None
+wrong_last line e none = (λ k i. go k (line_shape i))
   where
     go : (k : Call) → Shape k line → ⊥
     go (post n r b) s = e s.0
@@ -200,8 +199,8 @@ wrong_last line e none = unreadable line (λ k i. go k (line_shape i))
     go (report load price room) s = s
 
 -- The letter L, and last columns that hold another number than 0.
-pub wrong_list : (line : List ℕ) (z : ℤ) → letter line ≡ 76 → LastColumns line z → z ≢ pos 0 → Parsed line Unreadable
-wrong_list line z e held other = unreadable line (λ k i. go k (line_shape i))
+wrong_list : (line : List ℕ) (z : ℤ) → letter line ≡ 76 → LastColumns line z → z ≢ pos 0 → Parsed line None
+wrong_list line z e held other = (λ k i. go k (line_shape i))
   where
     go : (k : Call) → Shape k line → ⊥
     go (post n r b) s = omega (arith, s.0)
@@ -213,32 +212,53 @@ wrong_list line z e held other = unreadable line (λ k i. go k (line_shape i))
 
 -- ---- a line that is some call's, by its parts
 
-pub is_post : (line : List ℕ) (n r b : ℤ) → length line ≡ 27 → letter line ≡ 80 → PostColumns line n r b → Parsed line (Post n r b)
+pub is_post : (line : List ℕ) (n r b : ℤ) → length line ≡ 27 → letter line ≡ 80 → PostColumns line n r b → Parsed line (Some (Post n r b))
 is_post line n r b e l p = parsed (post n r b) line refl (shape_line (post n r b) line e (l, p))
 
-pub is_withdraw : (line : List ℕ) (n : ℤ) → length line ≡ 27 → letter line ≡ 87 → LastColumns line n → Parsed line (Withdraw n)
-is_withdraw line n e l p = parsed (withdraw n) line refl (shape_line (withdraw n) line e (l, p))
+-- A withdrawal and a query are told by their last columns, where those hold a number.
+pub reads_withdraw : (line : List ℕ) (f : Option ℤ) → length line ≡ 27 → letter line ≡ 87 → LastRead line f → Parsed line (option_map Withdraw f)
+reads_withdraw line (Some n) e l p = parsed (withdraw n) line refl (shape_line (withdraw n) line e (l, p))
+reads_withdraw line None e l p = wrong_last line (λ h. omega arith) p
 
-pub is_query : (line : List ℕ) (q : ℤ) → length line ≡ 27 → letter line ≡ 81 → LastColumns line q → Parsed line (Query q)
-is_query line q e l p = parsed (query q) line refl (shape_line (query q) line e (l, p))
+pub reads_query : (line : List ℕ) (f : Option ℤ) → length line ≡ 27 → letter line ≡ 81 → LastRead line f → Parsed line (option_map Query f)
+reads_query line (Some q) e l p = parsed (query q) line refl (shape_line (query q) line e (l, p))
+reads_query line None e l p = wrong_last line (λ h. omega arith) p
 
-pub is_list : (line : List ℕ) (z : ℤ) → length line ≡ 27 → letter line ≡ 76 → LastColumns line z → z ≡ pos 0 → Parsed line Listing
-is_list line z e l p zero = parsed (listing 0) line refl (shape_line (listing 0) line e (l, rw zero at p))
+-- A listing by the letter and a 0, which is told by its bits.
+zero_bits : (z : ℤ) → SFits w64 z → Decides (eqb (of_z w64 z) 0) (z ≡ pos 0)
+zero_bits (pos n) f = (λ h. ap pos (eqb-true n 0 h), λ e. search rules)
+zero_bits (negsuc n) f = (λ h. let none : of_z w64 (negsuc n) ≡ 0 = eqb-true _ _ h in absurd (omega arith), λ e. absurd (let none : ◌≡◌ {A = ℕ} 0 1 = cc in omega arith))
+
+pub reads_list : (line : List ℕ) (z : ℤ) → SFits w64 z → length line ≡ 27 → letter line ≡ 76 → LastColumns line z
+    → Parsed line (then_some (eqb (of_z w64 z) 0) Listing)
+reads_list line z f e l held = go (eqb (of_z w64 z) 0) (zero_bits z f)
+  where
+    go : (b : Bool) → Decides b (z ≡ pos 0) → Parsed line (then_some b Listing)
+    go true d =
+        let zero : LastColumns line (pos 0) = rw (d.0 refl) at held in
+        parsed (listing 0) line refl (shape_line (listing 0) line e (l, zero))
+    go false d = wrong_list line z l held (λ zero. true≢false (sym (d.1 zero)))
 
 -- ---- a field that was read
 
-pub number_read : (columns : List ℕ) (f : Field) {z : ℤ} → FieldRead columns f → f ≡ Number z → Holds columns z
-number_read columns f r e = rw e at r
+last_read : (line : List ℕ) (f : Option ℤ) → between 1 15 line ≡ replicate 14 space → FieldRead (between 15 27 line) f → LastRead line f
+last_read line (Some z) e r = record { blank = e; last = r }
+last_read line None e r = λ z l. r z l.last
 
-pub bad_read : (columns : List ℕ) (f : Field) → FieldRead columns f → f ≡ Bad → (z : ℤ) → Holds columns z → ⊥
-bad_read columns f r e = rw e at r
+-- A byte that is no space is found where the columns before them are not blank.
+all_spaces : (t : List ℕ) → list_all (λ b. eqb b space) t ≡ true → t ≡ replicate (length t) space
+all_spaces [] h = refl
+all_spaces (b ∷ t) h = go (eqb b space) refl h (all_spaces t)
+  where
+    go : (x : Bool) → eqb b space ≡ x → (x && list_all (λ b. eqb b space) t) ≡ true
+        → (list_all (λ b. eqb b space) t ≡ true → t ≡ replicate (length t) space) → b ∷ t ≡ replicate (suc (length t)) space
+    go true e h rest =
+        let first : b ≡ space = eqb-true b space e in
+        rw first (ap (λ (l : List ℕ). space ∷ l) (rest h))
+    go false e h rest = absurd (true≢false (sym h))
 
-pub last_read : (line : List ℕ) (f : Field) → between 1 15 line ≡ replicate 14 space → FieldRead (between 15 27 line) f → LastRead line f
-last_read line (Number z) e r = record { blank = e; last = r }
-last_read line Bad e r = λ z l. r z l.last
-
-pub last_number : (line : List ℕ) (f : Field) {z : ℤ} → LastRead line f → f ≡ Number z → LastColumns line z
-last_number line f r e = rw e at r
-
-pub last_bad : (line : List ℕ) (f : Field) → LastRead line f → f ≡ Bad → (z : ℤ) → LastColumns line z → ⊥
-last_bad line f r e = rw e at r
+pub blank_read : (line : List ℕ) (f : Option ℤ) → length line ≡ 27 → list_all (λ b. eqb b space) (between 1 15 line) ≡ true
+    → FieldRead (between 15 27 line) f → LastRead line f
+blank_read line f e h =
+    let long : length (between 1 15 line) ≡ 14 = length-take-le 14 (drop 1 line) (omega (arith, length-drop 1 line)) in
+    last_read line f (all_spaces (between 1 15 line) h ∙ ap (λ (n : ℕ). replicate n space) long)

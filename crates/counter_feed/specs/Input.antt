@@ -1,5 +1,5 @@
 -- The input, byte by byte: at its newline a line is answered.
-use Rattle.std.specs.Prelude.{◌≡◌, refl, ◌≢◌, List, [], ◌∷◌, ℕ, ◌≤◌, ◌<◌, length, take, ℤ}
+use Rattle.std.specs.Prelude.{None, ◌≡◌, refl, ◌≢◌, List, [], ◌∷◌, ℕ, ◌≤◌, ◌<◌, length, take, ℤ}
 use Rattle.std.proofs.Common.{◌∙◌, ap, arith, take_all, length-take-le}
 use Rattle.std.proofs.Math.Decide.{dec_le}
 use Rattle.counter_print.specs.Texts.{newline}
@@ -21,9 +21,9 @@ kept_command text = go (dec_le (length text) 28)
     go : Dec (length text ≤ 28) → command_of (take 28 text) ≡ command_of text
     go (yes h) = ap command_of (take_all 28 text h)
     go (no h) =
-        parsed_unique (take 28 text) _ _ (command_parsed (take 28 text))
+        parsed_unique (take 28 text) _ None (command_parsed (take 28 text))
         (wrong_length (take 28 text) (λ e. omega (arith, length-take-le 28 text (omega arith))))
-        ∙ parsed_unique text _ _ (wrong_length text (λ e. omega arith)) (command_parsed text)
+        ∙ parsed_unique text None _ (wrong_length text (λ e. omega arith)) (command_parsed text)
 
 -- the line in the first `kept` of some bytes
 pub record CountsFront (bytes : List ℕ) (kept : ℕ) (t t' : List ℤ) (out out' : List ℕ) (n : ℕ) : Type 0 where

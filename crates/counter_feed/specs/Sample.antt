@@ -1,7 +1,6 @@
 -- The sample (docs/REQUIREMENTS.md, 14.4), whole: six calls, and the bytes that the counter prints for them. Then entries out of range, and theirs.
-use Rattle.std.specs.Prelude.{◌≡◌, refl, List, [], ◌∷◌, ◌++◌, map, ℕ, pos, negsuc}
+use Rattle.std.specs.Prelude.{Some, ◌≡◌, refl, List, [], ◌∷◌, ◌++◌, map, ℕ, pos, negsuc}
 use Rattle.std.proofs.Common.{◌∙◌, ap, arith}
-use Rattle.std.proofs.Math.Option.{some}
 use Rattle.plain.specs.Book.{State, Call, post, withdraw, query, listing, opened}
 use Rattle.counter_print.specs.Texts.{digits_within, digits, numeral, decimal, justified, answer_line}
 use Rattle.counter_columns.specs.Columns.{last_columns, line_of, HasLine}
@@ -14,18 +13,18 @@ use Rattle.counter_reply.specs.Answered.{piece_lines}
 
 -- ---- calls' lines are answered as their calls
 
-command_of_lem : (k : Call) {m : Command} → some m ≡ as_command k → HasLine k → command_of (line_of k) ≡ m
+command_of_lem : (k : Call) {m : Command} → Some m ≡ as_command k → HasLine k → command_of (line_of k) ≡ Some m
 command_of_lem k e h = parsed_unique (line_of k) _ _ (command_parsed (line_of k)) (parsed k (line_of k) e (record { fits = h; text = refl }))
 
 abbrev HaveLines : List Call → List Command → Type 0
 HaveLines [] [] = Unit {0}
 HaveLines [] (m ∷ ms) = ⊥
 HaveLines (k ∷ ks) [] = ⊥
-HaveLines (k ∷ ks) (m ∷ ms) = (some m ≡ as_command k) × HasLine k × HaveLines ks ms
+HaveLines (k ∷ ks) (m ∷ ms) = (Some m ≡ as_command k) × HasLine k × HaveLines ks ms
 
 abbrev called_all : State → List Command → List ℕ
 called_all s [] = []
-called_all s (m ∷ ms) = (commanded s m).bytes ++ called_all (commanded s m).state ms
+called_all s (m ∷ ms) = (commanded s (Some m)).bytes ++ called_all (commanded s (Some m)).state ms
 
 called : (ks : List Call) (ms : List Command) → HaveLines ks ms → (s : State) → told_all s (map line_of ks) ≡ called_all s ms
 called [] [] h s = refl
@@ -33,7 +32,7 @@ called [] (m ∷ ms) h s = absurd h
 called (k ∷ ks) [] h s = absurd h
 called (k ∷ ks) (m ∷ ms) h s =
     (λ i. (commanded s (command_of_lem k h.0 h.1 i)).bytes ++ told_all (commanded s (command_of_lem k h.0 h.1 i)).state (map line_of ks))
-    ∙ ap (λ (t : List ℕ). (commanded s m).bytes ++ t) (called ks ms h.2 (commanded s m).state)
+    ∙ ap (λ (t : List ℕ). (commanded s (Some m)).bytes ++ t) (called ks ms h.2 (commanded s (Some m)).state)
 
 printed : (text : List ℕ) {answer : List ℕ} (ks : List Call) (ms : List Command) → lines_from [] text ≡ map line_of ks → HaveLines ks ms →
     called_all (opened (pos capacity)) ms ≡ answer → output text ≡ answer

@@ -1,5 +1,5 @@
 -- Whole inputs: whatever is read from the opening on, what is printed in all is the plain counter's output.
-use Rattle.std.specs.Prelude.{◌≡◌, refl, List, [], ◌∷◌, ◌++◌, ℕ, ◌≤◌, length, take, drop, ℤ, pos}
+use Rattle.std.specs.Prelude.{◌≡◌, refl, List, [], ◌∷◌, ◌++◌, ℕ, ◌≤◌, length, take, drop, ℤ, pos, Result}
 use Rattle.std.proofs.Common.{sym, ◌∙◌, ap, subst, append-nil, take_at, eq-eqb, ne_eqb}
 use Rattle.std.proofs.Math.Option.{Option, none}
 use Rattle.std.proofs.Math.Decide.{ℕ_discrete}
@@ -9,7 +9,7 @@ use Rattle.counter_print.specs.Texts.{newline}
 use Rattle.dynamic.specs.OfferTree.{Held}
 use Rattle.table.specs.Items.{Item}
 use Rattle.form.specs.Form.{Form}
-use Rattle.promises.specs.declared.Opening.{Opening}
+use Rattle.causes.specs.declared.Declined.{Declined}
 use Rattle.promises.specs.Promises.{part_of, Opens}
 use Rattle.counter_keep.specs.declared.Line.{Line}
 use Rattle.counter_keep.specs.KeptBytes.{Keeps}
@@ -45,7 +45,7 @@ lines_told (line_more {line = line} {lines} h counts rest) s held book =
     let p = (counts.obeys h).follows s held book in
     line_told line lines s p (lines_told rest (told s line).state p.after p.stands)
 
-pub every_line : {t t₀ : List ℤ} {lines : List (List ℕ)} {bytes : List ℕ} (r : Opening) → Opens (pos capacity) 0 t t₀ r →
+pub every_line : {t t₀ : List ℤ} {lines : List (List ℕ)} {bytes : List ℕ} (r : Result (Unit {0}) Declined) → Opens (pos capacity) 0 t t₀ r →
     Clear (open_trials (length t) 0 (pos capacity))
     → Lines t₀ lines bytes → bytes ≡ told_all (opened (pos capacity)) lines
 every_line r o clear l = lines_told l (opened (pos capacity)) none (o.accepted clear).1
@@ -89,7 +89,7 @@ input_told (byte_more {t} {t'} {line} {line'} {byte = b} {input} {out} {out'} {b
         rw (ne_eqb b newline e, q.3) (more (text ++ b ∷ []) (q.0.keeps text k) s held (subst (λ (w : List ℤ). Form (part_of w 0) s held) (sym q.1) book))
 
 -- From an accepted opening and no line yet.
-pub every_input : {t t₀ : List ℤ} {line : Line} {input bytes : List ℕ} (r : Opening) → Opens (pos capacity) 0 t t₀ r →
+pub every_input : {t t₀ : List ℤ} {line : Line} {input bytes : List ℕ} (r : Result (Unit {0}) Declined) → Opens (pos capacity) 0 t t₀ r →
     Clear (open_trials (length t) 0 (pos capacity))
     → Keeps line [] → Input t₀ line input bytes → bytes ≡ output input
 every_input r o clear k i = input_told i [] k (opened (pos capacity)) none (o.accepted clear).1

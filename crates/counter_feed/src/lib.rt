@@ -45,7 +45,7 @@ pub fn feed(table: &mut [i64], line: Line, byte: u8, out: &mut [u8]) -> Fed
     let next = counter_keep::no_line();
     Fed {
         line: next,
-        printed: printed,
+        printed,
     }
 }
 

@@ -1,8 +1,6 @@
 -- What the reading functions answer.
-use Rattle.std.specs.Prelude.{ℕ, ◌≤◌, ◌≡◌, refl, ◌≢◌, List, ◌++◌, length, take, drop, ℤ}
+use Rattle.std.specs.Prelude.{ℕ, ◌≤◌, ◌≡◌, refl, ◌≢◌, List, ◌++◌, length, take, drop, ℤ, Option, Some, None}
 use Rattle.std.proofs.Common.{ap, sym, ◌∙◌, arith, length-take-le, take_at}
-use Rattle.counter_field.specs.declared.Field.{Field}
-use Rattle.counter_field.specs.declared.Field.TheVariants.{Number, Bad}
 use Rattle.counter_print.specs.Texts.{decimal, justified, FitsIn}
 use Rattle.counter_field.specs.Values.{told, told_justified, told_fits}
 use Rattle.counter_print.specs.Justified.{justified_length}
@@ -13,20 +11,20 @@ use Rattle.counter_print.specs.Decimals.{decimal_some}
 abbrev pub Holds : List ℕ → ℤ → Type 0
 Holds columns z = columns ≡ justified (length columns) (decimal z)
 
--- A field's number is the one that the columns hold, and it is bad where they hold none.
-abbrev pub FieldRead : List ℕ → Field → Type 0
-FieldRead columns (Number z) = Holds columns z
-FieldRead columns Bad = ((z : ℤ) → Holds columns z → ⊥)
+-- A field's number is the one that the columns hold, and there is none where they hold none.
+abbrev pub FieldRead : List ℕ → Option ℤ → Type 0
+FieldRead columns (Some z) = Holds columns z
+FieldRead columns None = ((z : ℤ) → Holds columns z → ⊥)
 
 -- They hold no other number than the one that they tell.
 pub holds_told : (columns : List ℕ) (z : ℤ) → Holds columns z → told columns ≡ z
 holds_told columns z e = ap told e ∙ told_justified (length columns) z
 
-pub field_unique : (columns : List ℕ) (f g : Field) → FieldRead columns f → FieldRead columns g → f ≡ g
-field_unique columns (Number y) (Number z) p q = ap Number (sym (holds_told columns y p) ∙ holds_told columns z q)
-field_unique columns (Number y) Bad p q = absurd (q y p)
-field_unique columns Bad (Number z) p q = absurd (p z q)
-field_unique columns Bad Bad p q = refl
+pub field_unique : (columns : List ℕ) (f g : Option ℤ) → FieldRead columns f → FieldRead columns g → f ≡ g
+field_unique columns (Some y) (Some z) p q = ap Some (sym (holds_told columns y p) ∙ holds_told columns z q)
+field_unique columns (Some y) None p q = absurd (q y p)
+field_unique columns None (Some z) p q = absurd (p z q)
+field_unique columns None None p q = refl
 
 -- ---- the one candidate, printed into as many bytes
 

@@ -1,10 +1,10 @@
 -- The number that a text tells: what its digits say, and negative where it has a minus. Whatever else stands in the text is passed over,
 -- so that only a text that is justified decimal is told apart by what it tells.
 use Rattle.std.specs.Prelude.{ℕ, zero, suc, ◌+◌, ◌-◌, ◌*◌, ◌/◌, ◌%◌, ◌^◌, ◌≤◌, ◌<◌, ◌≡◌, refl, Bool, true, false, ◌&&◌, ◌||◌, cond, List, [], ◌∷◌, ◌++◌, length, replicate, get_or, drop, ℤ, pos, negsuc, neg_ℤ, ◌-ℤ◌, T, leb, eqb}
-use Rattle.std.proofs.Common.{ap, sym, ◌∙◌, pow-suc, arith, drop_of_length-le, drop-cons, add-one, leb→le, leb-true, eqb-true, ne_eqb, le-leb}
+use Rattle.std.proofs.Common.{ap, sym, ◌∙◌, pow-suc, arith, drop_of_length-le, drop-cons, add-one, leb→le, leb-true, eqb-true, ne_eqb}
 use Rattle.std.proofs.Math.Nat.{pow-zero, pow-le-pow_right}
 use Rattle.std.proofs.Math.IntN.{+ℤ_idl}
-use Rattle.std.proofs.lemmas.Bool.{lt-leb}
+use Rattle.std.specs.List.{list_any}
 use Rattle.lists.specs.Filter.{every}
 use Rattle.counter_print.specs.Texts.{space, minus, digit, digits, numeral, decimal, justified, FitsIn}
 use Rattle.counter_print.specs.Decimals.{is_digit, digit_is, along, numeral_length, numeral_characters}
@@ -139,18 +139,6 @@ told_fits t h = go (has_minus t) (value_from 0 t) (value_small t 0 0 (omega (ari
 
 -- ---- as a loop reads it, from the front
 
-pub taken_below : (v b : ℕ) → b < 48 → v ≡ taken v b
-unfolding taken
-taken_below v b h = rw (lt-leb 48 b h)
-
-pub taken_above : (v b : ℕ) → 48 ≤ b → 57 < b → v ≡ taken v b
-unfolding taken
-taken_above v b l h = rw (le-leb 48 b l, lt-leb b 57 h)
-
-pub taken_inside : (v b : ℕ) → 48 ≤ b → b ≤ 57 → 10 * v + (b - 48) ≡ taken v b
-unfolding taken
-taken_inside v b l h = rw (le-leb 48 b l, le-leb b 57 h)
-
 -- The bytes before `at` say the value.
 pub record ReadTo (text : List ℕ) (value at : ℕ) : Type 0 where
   pub high : at ≤ length text
@@ -177,22 +165,11 @@ read_all {text} {value} {at} r h = sym (r.same ∙ rw (drop_of_length-le text {i
 pub read_small : {text : List ℕ} {value at : ℕ} → ReadTo text value at → length text ≤ 18 → value < 10 ^ 18
 read_small {at = at} r h = omega (arith, r.small, ten {i = at} {j = 18} (omega (arith, r.high)))
 
--- No minus stands before `at`.
-pub record NoMinusTo (text : List ℕ) (at : ℕ) : Type 0 where
-  pub high : at ≤ length text
-  pub same : has_minus text ≡ has_minus (drop at text)
-
-pub minus_found : {text : List ℕ} {at : ℕ} → NoMinusTo text at → at < length text → get_or text at 0 ≡ minus → true ≡ has_minus text
+-- As a search of the whole text tells.
+pub has_minus_any : (text : List ℕ) → has_minus text ≡ list_any (λ b. eqb b minus) text
 unfolding has_minus
-minus_found {text} {at} r h e = sym (r.same ∙ rw (drop-cons text at 0 h, e))
-
-pub minus_more : {text : List ℕ} {at : ℕ} → NoMinusTo text at → at < length text → (get_or text at 0 ≡ minus → ⊥) → NoMinusTo text (at + 1)
-unfolding has_minus
-minus_more {text} {at} r h e = record { high = omega arith; same = r.same ∙ rw (drop-cons text at 0 h, ne_eqb (get_or text at 0) minus e, add-one at) }
-
-pub minus_never : {text : List ℕ} {at : ℕ} → NoMinusTo text at → length text ≤ at → false ≡ has_minus text
-unfolding has_minus
-minus_never {text} {at} r h = sym (r.same ∙ rw (drop_of_length-le text {i = at} h))
+has_minus_any [] = refl
+has_minus_any (b ∷ t) = ap (λ (m : Bool). eqb b minus || m) (has_minus_any t)
 
 -- ---- its sign
 

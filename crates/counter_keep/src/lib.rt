@@ -5,6 +5,7 @@ ghost use Rattle.std.specs.Prelude.{[]};
 ghost use Rattle.counter_keep.specs.KeptBytes.{Keeps, Pushes};
 
 // A line so far: its first 28 bytes, and how many those are. No line of more than 27 bytes can be read, so the later ones do not matter.
+// A buffer with its length, and no invariant: `Feeds` and `Finishes` promise `within` and `outside` of every such line, a longer count too.
 #[derive(Clone, Copy)]
 pub struct Line {
     pub bytes: [u8; 28],
@@ -27,14 +28,11 @@ pub fn push(line: Line, byte: u8) -> Line
     let at = line.length;
     let mut bytes = line.bytes;
     if 28 <= at {
-        return Line {
-            bytes: bytes,
-            length: at,
-        };
+        return Line { bytes, length: at };
     }
     bytes[at] = byte;
     Line {
-        bytes: bytes,
+        bytes,
         length: at + 1,
     }
 }

@@ -1,12 +1,12 @@
 -- What a line's answer does, command by command: the call's promise, and the lines of its answer.
-use Rattle.std.specs.Prelude.{◌≡◌, refl, List, ℕ, ◌≤◌, ◌<◌, length, ℤ, pos}
+use Rattle.std.specs.Prelude.{Some, None, ◌≡◌, refl, List, ℕ, ◌≤◌, ◌<◌, length, ℤ, pos, Result}
 use Rattle.std.proofs.Common.{sym, ◌∙◌, subst, ap, arith}
 use Rattle.std.proofs.Math.Option.{Option}
 use Rattle.plain.specs.Causes.{Cause, cause_number, unreadable_line, FirstOf}
 use Rattle.plain.specs.Book.{State, Call, post, withdraw, query, listing, Answer, refused, step}
 use Rattle.counter_columns.specs.declared.Command.{Command}
-use Rattle.counter_columns.specs.declared.Command.TheVariants.{Post, Withdraw, Query, List as Listing, Unreadable}
-use Rattle.counter_columns.specs.Commands.{Parsed, parsed_unique, command_of, command_parsed}
+use Rattle.counter_columns.specs.declared.Command.TheVariants.{Post, Withdraw, Query, List as Listing}
+use Rattle.counter_columns.specs.Commands.{LineCommand, Parsed, parsed_unique, command_of, command_parsed}
 use Rattle.counter_print.specs.Printed.{Answers}
 use Rattle.dynamic.specs.OfferTree.{Held}
 use Rattle.table.specs.Fields.{capacity_word}
@@ -14,9 +14,9 @@ use Rattle.table.specs.Words.{word}
 use Rattle.table.specs.Layout.{cap_most}
 use Rattle.table.specs.Items.{Item}
 use Rattle.form.specs.Form.{Form}
+use Rattle.causes.specs.declared.Declined.{Declined}
 use Rattle.promises.specs.declared.Update.{Update}
 use Rattle.promises.specs.declared.Found.{Found}
-use Rattle.promises.specs.declared.Listed.{Listed}
 use Rattle.promises.specs.Promises.{part_of, capacity_at, table_trials, OnlyPart, Updates, Queries, Lists, update_answer, found_answer, listing_answer}
 use Rattle.form.specs.Live.{book_sound}
 use Rattle.history.specs.Claim.{read_state}
@@ -51,7 +51,7 @@ pub record ListsLines (t : List ℤ) (before after : List ℕ) (n : ℕ) : Type 
   pub declined : (z : Cause) → FirstOf (table_trials t 0 (listing room)) z → Prints (answered 76 (pos 0) (refused (cause_number z))) before after n
   pub prints : (s : State) (held : Option (Held Item)) → Form (part_of t 0) s held → Prints (answered 76 (pos 0) (step s (listing room)).answer) before after n
 
-pub lists_lines : {t pieces pieces' : List ℤ} {before after : List ℕ} {n : ℕ} {l : Listed} → length pieces ≡ 192 → Lists 0 t pieces pieces' l
+pub lists_lines : {t pieces pieces' : List ℤ} {before after : List ℕ} {n : ℕ} {l : Result ℤ Declined} → length pieces ≡ 192 → Lists 0 t pieces pieces' l
     → Replies 76 (pos 0) (listing_answer l pieces') before after n → ListsLines t before after n
 lists_lines {pieces = pieces} {pieces'} {before} {after} {n} e l r =
     record {
@@ -67,8 +67,8 @@ lists_lines {pieces = pieces} {pieces'} {before} {after} {n} e l r =
 pub untouched : (c start : ℕ) (t : List ℤ) → OnlyPart c start t t
 untouched c start t = record { long = refl; front = refl; back = refl }
 
-pub command_is : {line : List ℕ} {r m : Command} → Parsed line r → r ≡ m → Parsed line m
-command_is {line} p e = subst (Parsed line) e p
+pub command_is : {line : List ℕ} {r m : Command} → Parsed line (Some r) → r ≡ m → Parsed line (Some m)
+command_is {line} p e = subst (λ (m : Command). Parsed line (Some m)) e p
 
 pub counts_short : (line : List ℕ) (t : List ℤ) (out : List ℕ) → length out < most → Counts line t t out out 0
 counts_short line t out h =
@@ -91,24 +91,24 @@ counts_alike {t = t} {t'} {out} {out'} {n} e c =
       outside = c.outside;
       same_part = c.same_part;
       obeys =
-          λ h. subst (λ (m : Command). Obeys m t t' out out' n) e (c.obeys h);
+          λ h. subst (λ (m : LineCommand). Obeys m t t' out out' n) e (c.obeys h);
     }
 
 -- a post or a withdrawal
-updated : {t t' : List ℤ} {out out' : List ℕ} {n letter : ℕ} (k : Call) {u : Update} (s : State) (held : Option (Held Item)) → Form (part_of t 0) s held →
-    Roomy k → Updates k 0 t t' u
+updated : {t t' : List ℤ} {out out' : List ℕ} {n letter : ℕ} (k : Call) {u : Result Update Declined} (s : State) (held : Option (Held Item)) →
+    Form (part_of t 0) s held → Roomy k → Updates k 0 t t' u
     → Replies letter (shown k) (update_answer u) out out' n
     → Stands (record { state = (step s k).state; bytes = answered letter (shown k) (step s k).answer }) t' out out' n
 updated k s held form roomy u r =
     let f = u.follows s held form in
     record { after = f.after; stands = f.stands; prints = plainly k s held form roomy f.answers r }
 
-left : {t t' : List ℤ} {k : Call} {u : Update} → Updates k 0 t t' u → (s : State) (held : Option (Held Item)) → Form (part_of t 0) s held → (j : ℕ) →
-    (step s k).answer ≡ refused j → t' ≡ t
+left : {t t' : List ℤ} {k : Call} {u : Result Update Declined} → Updates k 0 t t' u → (s : State) (held : Option (Held Item)) →
+    Form (part_of t 0) s held → (j : ℕ) → (step s k).answer ≡ refused j → t' ≡ t
 left u s held form j e = let f = u.follows s held form in f.refusal j (f.answers ∙ e)
 
 module _ {line : List ℕ} {t : List ℤ} {out out' : List ℕ} {n : ℕ} (long : most ≤ length out) where
-  by_command : {t' : List ℤ} (m : Command) → Parsed line m → n ≤ length out → OnlyPart (capacity_at t 0) 0 t t' →
+  by_command : {t' : List ℤ} (m : LineCommand) → Parsed line m → n ≤ length out → OnlyPart (capacity_at t 0) 0 t t' →
       word (part_of t' 0) capacity_word ≡ word (part_of t 0) capacity_word → Obeys m t t' out out' n → Counts line t t' out out' n
   by_command {t'} m p within outside same o =
       record {
@@ -116,13 +116,13 @@ module _ {line : List ℕ} {t : List ℤ} {out out' : List ℕ} {n : ℕ} (long 
         within = within;
         outside = outside;
         same_part = same;
-        obeys = λ _. subst (λ (m : Command). Obeys m t t' out out' n) (parsed_unique line m (command_of line) p (command_parsed line)) o;
+        obeys = λ _. subst (λ (m : LineCommand). Obeys m t t' out out' n) (parsed_unique line m (command_of line) p (command_parsed line)) o;
       }
 
-  pub posted : {t' : List ℤ} (number rate base : ℤ) {u : Update} → Parsed line (Post number rate base) → Updates (post number rate base) 0 t t' u
-      → Replies 80 number (update_answer u) out out' n → Counts line t t' out out' n
+  pub posted : {t' : List ℤ} (number rate base : ℤ) {u : Result Update Declined} → Parsed line (Some (Post number rate base))
+      → Updates (post number rate base) 0 t t' u → Replies 80 number (update_answer u) out out' n → Counts line t t' out out' n
   posted number rate base p u r =
-      by_command (Post number rate base) p r.within u.outside u.same_part
+      by_command (Some (Post number rate base)) p r.within u.outside u.same_part
       (record {
         asks = λ no. absurd no;
         declined = λ z f. let d = u.declined z f in (d.1, refusing z d.0 r);
@@ -130,10 +130,10 @@ module _ {line : List ℕ} {t : List ℤ} {out out' : List ℕ} {n : ℕ} (long 
         follows = λ s held form. updated (post number rate base) s held form tt u r;
       })
 
-  pub withdrawn : {t' : List ℤ} (number : ℤ) {u : Update} → Parsed line (Withdraw number) → Updates (withdraw number) 0 t t' u
+  pub withdrawn : {t' : List ℤ} (number : ℤ) {u : Result Update Declined} → Parsed line (Some (Withdraw number)) → Updates (withdraw number) 0 t t' u
       → Replies 87 number (update_answer u) out out' n → Counts line t t' out out' n
   withdrawn number p u r =
-      by_command (Withdraw number) p r.within u.outside u.same_part
+      by_command (Some (Withdraw number)) p r.within u.outside u.same_part
       (record {
         asks = λ no. absurd no;
         declined = λ z f. let d = u.declined z f in (d.1, refusing z d.0 r);
@@ -142,7 +142,7 @@ module _ {line : List ℕ} {t : List ℤ} {out out' : List ℕ} {n : ℕ} (long 
       })
 
   -- a line that only asks
-  asking : (m : Command) → Parsed line m → n ≤ length out →
+  asking : (m : LineCommand) → Parsed line m → n ≤ length out →
       ((z : Cause) → Declines t m z → Prints (answered (letter_of m) (named m) (refused (cause_number z))) out out' n)
       → ((s : State) → (outcome s m).state ≡ s)
       → ((s : State) (held : Option (Held Item)) → Form (part_of t 0) s held → Prints (answered (letter_of m) (named m) (outcome s m).answer) out out' n)
@@ -161,18 +161,18 @@ module _ {line : List ℕ} {t : List ℤ} {out out' : List ℕ} {n : ℕ} (long 
         };
       })
 
-  pub asked : (load : ℤ) {f : Found} → Parsed line (Query load) → Queries load 0 t f → Replies 81 (pos 0) (found_answer f) out out' n →
+  pub asked : (load : ℤ) {f : Result Found Declined} → Parsed line (Some (Query load)) → Queries load 0 t f → Replies 81 (pos 0) (found_answer f) out out' n →
       Counts line t t out out' n
   asked load p f r =
-      asking (Query load) p r.within (λ z d. refusing z (f.declined z d) r) (λ s. read_state s (query load) refl)
+      asking (Some (Query load)) p r.within (λ z d. refusing z (f.declined z d) r) (λ s. read_state s (query load) refl)
       (λ s held form. plainly (query load) s held form tt (f.answers s held form.book) r)
 
-  pub listed_all : Parsed line Listing → ListsLines t out out' n → Counts line t t out out' n
-  listed_all p l = asking Listing p l.within l.declined (λ s. read_state s (listing room) refl) l.prints
+  pub listed_all : Parsed line (Some Listing) → ListsLines t out out' n → Counts line t t out out' n
+  listed_all p l = asking (Some Listing) p l.within l.declined (λ s. read_state s (listing room) refl) l.prints
 
-pub unread : {line : List ℕ} {t : List ℤ} {out out' : List ℕ} → most ≤ length out → Parsed line Unreadable
+pub unread : {line : List ℕ} {t : List ℤ} {out out' : List ℕ} → most ≤ length out → Parsed line None
     → Answers 63 (pos 11) (pos 0) (pos 0) (pos 0) out out' → Counts line t t out out' 39
 unread {out = out} {out'} long p a =
     let r : Replies 63 (pos 0) (refused 11) out out' 39 = refused_line (omega arith) (pos 11) a in
-    asking long Unreadable p r.within (λ z e. refusing z (ap (λ (c : Cause). refused (cause_number c)) (sym e)) r) (λ s. refl)
+    asking long None p r.within (λ z e. refusing z (ap (λ (c : Cause). refused (cause_number c)) (sym e)) r) (λ s. refl)
     (λ s held form. r.prints (refusal_fits (pos 0) unreadable_line))

@@ -10,7 +10,7 @@ use Rattle.offers.specs.Sizes.{number_of_lem, rate_of_lem, base_of_lem, number_s
 use Rattle.plain.specs.Causes.{Cause, declined, cause_number, capacity_out_of_range, table_too_short, no_book, number_out_of_range, rate_out_of_range}
 use Rattle.plain.specs.Causes.{base_out_of_range, load_out_of_range, price_out_of_range, number_live, book_full, number_not_live, book_empty}
 use Rattle.plain.specs.Causes.{output_too_short, unreadable_line, rates_not_apart, no_such_mark, nothing_to_take_back}
-use Rattle.plain.specs.Book.{State, Undo, Call, post, withdraw, query, listing, take_back, report, refused, live, trials, Recallable, respond, accepted}
+use Rattle.plain.specs.Book.{State, Undo, Call, post, withdraw, query, listing, take_back, report, refused, trials, Recallable, respond, accepted}
 use Rattle.plain.specs.Book.{step, lower, higher, cheapest, envelope, piece_words}
 use Rattle.plain.specs.Trials.{clear}
 use Rattle.plain.specs.Sound.{Sound}

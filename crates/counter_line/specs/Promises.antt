@@ -1,14 +1,13 @@
 -- The counter (docs/REQUIREMENTS.md, 14): what a line prints, and what it does to the plain book. The book stands at the table's
 -- beginning, and a listing has room for 192 words. The program opens a book of capacity 64; a line is answered on one of any capacity.
-use Rattle.std.specs.Prelude.{◌≡◌, List, [], ◌∷◌, ◌++◌, cond, ℕ, ◌≤◌, ◌<◌, length, eqb, ℤ, pos}
+use Rattle.std.specs.Prelude.{Some, None, ◌≡◌, List, [], ◌∷◌, ◌++◌, cond, ℕ, ◌≤◌, ◌<◌, length, eqb, ℤ, pos}
 use Rattle.std.proofs.Math.Option.{Option}
 use Rattle.plain.specs.Causes.{Cause, cause_number, unreadable_line, FirstOf}
 use Rattle.plain.specs.Book.{State, post, withdraw, query, listing, refused, Outcome, opened, step}
-use Rattle.counter_columns.specs.declared.Command.{Command}
-use Rattle.counter_columns.specs.declared.Command.TheVariants.{Post, Withdraw, Query, List as Listing, Unreadable}
+use Rattle.counter_columns.specs.declared.Command.TheVariants.{Post, Withdraw, Query, List as Listing}
 use Rattle.counter_print.specs.Texts.{newline}
 use Rattle.counter_reply.specs.Answered.{answered, Prints}
-use Rattle.counter_columns.specs.Commands.{command_of}
+use Rattle.counter_columns.specs.Commands.{LineCommand, command_of}
 use Rattle.dynamic.specs.OfferTree.{Held}
 use Rattle.table.specs.Fields.{capacity_word}
 use Rattle.table.specs.Words.{word}
@@ -29,28 +28,28 @@ pub record Told : Type 0 where
   pub state : State
   pub bytes : List ℕ
 
-abbrev pub letter_of : Command → ℕ
-letter_of (Post number rate base) = 80
-letter_of (Withdraw number) = 87
-letter_of (Query load) = 81
-letter_of Listing = 76
-letter_of Unreadable = 63
+abbrev pub letter_of : LineCommand → ℕ
+letter_of (Some (Post number rate base)) = 80
+letter_of (Some (Withdraw number)) = 87
+letter_of (Some (Query load)) = 81
+letter_of (Some Listing) = 76
+letter_of None = 63
 
-abbrev pub named : Command → ℤ
-named (Post number rate base) = number
-named (Withdraw number) = number
-named (Query load) = pos 0
-named Listing = pos 0
-named Unreadable = pos 0
+abbrev pub named : LineCommand → ℤ
+named (Some (Post number rate base)) = number
+named (Some (Withdraw number)) = number
+named (Some (Query load)) = pos 0
+named (Some Listing) = pos 0
+named None = pos 0
 
-abbrev pub outcome : State → Command → Outcome
-outcome s (Post number rate base) = step s (post number rate base)
-outcome s (Withdraw number) = step s (withdraw number)
-outcome s (Query load) = step s (query load)
-outcome s Listing = step s (listing room)
-outcome s Unreadable = record { state = s; answer = refused (cause_number unreadable_line) }
+abbrev pub outcome : State → LineCommand → Outcome
+outcome s (Some (Post number rate base)) = step s (post number rate base)
+outcome s (Some (Withdraw number)) = step s (withdraw number)
+outcome s (Some (Query load)) = step s (query load)
+outcome s (Some Listing) = step s (listing room)
+outcome s None = record { state = s; answer = refused (cause_number unreadable_line) }
 
-abbrev pub commanded : State → Command → Told
+abbrev pub commanded : State → LineCommand → Told
 commanded s m = record { state = (outcome s m).state; bytes = answered (letter_of m) (named m) (outcome s m).answer }
 
 -- A line, without its newline.
@@ -85,22 +84,22 @@ pub record Stands (o : Told) (t' : List ℤ) (out out' : List ℕ) (n : ℕ) : T
   pub prints : Prints o.bytes out out' n
 
 -- On words of any content: the causes that do not depend on the offers.
-abbrev pub Declines : List ℤ → Command → Cause → Type 0
-Declines t (Post number rate base) z = FirstOf (table_trials t 0 (post number rate base)) z
-Declines t (Withdraw number) z = FirstOf (table_trials t 0 (withdraw number)) z
-Declines t (Query load) z = FirstOf (table_trials t 0 (query load)) z
-Declines t Listing z = FirstOf (table_trials t 0 (listing room)) z
-Declines t Unreadable z = z ≡ unreadable_line
+abbrev pub Declines : List ℤ → LineCommand → Cause → Type 0
+Declines t (Some (Post number rate base)) z = FirstOf (table_trials t 0 (post number rate base)) z
+Declines t (Some (Withdraw number)) z = FirstOf (table_trials t 0 (withdraw number)) z
+Declines t (Some (Query load)) z = FirstOf (table_trials t 0 (query load)) z
+Declines t (Some Listing) z = FirstOf (table_trials t 0 (listing room)) z
+Declines t None z = z ≡ unreadable_line
 
 -- Only a post and a withdrawal write.
-abbrev pub Asks : Command → Type 0
-Asks (Post number rate base) = ⊥
-Asks (Withdraw number) = ⊥
-Asks (Query load) = Unit {0}
-Asks Listing = Unit {0}
-Asks Unreadable = Unit {0}
+abbrev pub Asks : LineCommand → Type 0
+Asks (Some (Post number rate base)) = ⊥
+Asks (Some (Withdraw number)) = ⊥
+Asks (Some (Query load)) = Unit {0}
+Asks (Some Listing) = Unit {0}
+Asks None = Unit {0}
 
-pub record Obeys (m : Command) (t t' : List ℤ) (out out' : List ℕ) (n : ℕ) : Type 0 where
+pub record Obeys (m : LineCommand) (t t' : List ℤ) (out out' : List ℕ) (n : ℕ) : Type 0 where
   pub asks : Asks m → t' ≡ t
   pub declined : (z : Cause) → Declines t m z → (t' ≡ t) × Prints (answered (letter_of m) (named m) (refused (cause_number z))) out out' n
   pub refusal : (s : State) (held : Option (Held Item)) → Form (part_of t 0) s held → (k : ℕ) → (outcome s m).answer ≡ refused k → t' ≡ t

@@ -6,44 +6,48 @@ ghost use Rattle.counter_line.specs.Answering.{ListsLines};
 ghost use Rattle.counter_line.specs.Promises.{Counts};
 
 use counter_columns::Command;
+use counter_reply::{LINE, MOST};
+
+// The number that an unreadable line is declined with.
+const UNREADABLE: i64 = 11;
+
+// The words of 64 pieces, three each.
+const ROOM: usize = 192;
 
 // The lines of a listing.
 fn list(table: &[i64], out: &mut [u8]) -> usize
-    requires { 2535 ≤ length out.old }
+    requires { MOST ≤ length out.old }
     ensures { ListsLines table.now out.old out.new result }
 {
-    let mut pieces = [0i64; 192];
-    let listed = book::listing(table, 0, &mut pieces);
-    counter_reply::listed_lines(out, listed, &pieces)
+    let mut pieces = [0; ROOM];
+    let told = book::listing(table, 0, &mut pieces);
+    counter_reply::listed_lines(out, told, &pieces)
 }
 
-// Answers a line, without its newline, and tells how many bytes of `out` that took. An output below 2,535 bytes gets nothing.
+// Answers a line, without its newline, and tells how many bytes of `out` that took. An output that is too short for some line gets nothing.
 pub fn answer(table: &mut [i64], line: &[u8], out: &mut [u8]) -> usize
     ensures { Counts line.now table.old table.new out.old out.new result }
 {
-    if out.len() < 2535 {
+    if out.len() < MOST {
         return 0;
     }
-    let command = counter_columns::parse(line);
+    let Some(command) = counter_columns::parse(line) else {
+        counter_print::answer_line(out, b'?', UNREADABLE, 0, 0, 0);
+        return LINE;
+    };
     match command {
         Command::Post(number, rate, base) => {
-            let update = book::post(table, 0, number, rate, base);
-            return counter_reply::update_line(out, b'P', number, update);
+            let told = book::post(table, 0, number, rate, base);
+            counter_reply::update_line(out, b'P', number, told)
         }
         Command::Withdraw(number) => {
-            let update = book::withdraw(table, 0, number);
-            return counter_reply::update_line(out, b'W', number, update);
+            let told = book::withdraw(table, 0, number);
+            counter_reply::update_line(out, b'W', number, told)
         }
         Command::Query(load) => {
-            let found = book::query(table, 0, load);
-            return counter_reply::found_line(out, found);
+            let told = book::query(table, 0, load);
+            counter_reply::found_line(out, told)
         }
-        Command::List => {
-            return list(table, out);
-        }
-        Command::Unreadable => {
-            counter_print::answer_line(out, b'?', 11, 0, 0, 0);
-            return 39;
-        }
+        Command::List => list(table, out),
     }
 }

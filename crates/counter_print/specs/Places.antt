@@ -1,9 +1,12 @@
 -- A number's digits from the highest place down, as printing takes them off.
-use Rattle.std.specs.Prelude.{ℕ, zero, suc, ◌+◌, ◌-◌, ◌*◌, ◌/◌, ◌%◌, ◌^◌, ◌≤◌, ◌<◌, ◌≡◌, refl, Bool, true, false, List, [], ◌∷◌, ◌++◌, leb, length, get_or, take, set}
-use Rattle.std.proofs.Common.{ap, sym, subst, ◌∙◌, append_assoc, append-nil, pow-suc, mul_assoc, mul-one, zero-mul, suc-mul, mul-le-mul_right, arith, length-append, length-set, leb-true, leb-false, take_all, take-suc-set}
-use Rattle.std.proofs.Math.Nat.{pow-zero, one-le-pow, pow-le-pow_right}
+use Rattle.std.specs.Prelude.{ℕ, zero, suc, ◌+◌, ◌-◌, ◌*◌, ◌/◌, ◌%◌, ◌^◌, ◌≤◌, ◌<◌, ◌≡◌, refl, Bool, true, false, List, [], ◌∷◌, ◌++◌, leb, length, get_or, take, set, max}
+use Rattle.std.proofs.Common.{ap, sym, subst, ◌∙◌, append_assoc, append-nil, pow-suc, mul_assoc, mul-one, zero-mul, suc-mul, mul-le-mul_right, arith, length-append, leb-true, leb-false, take_all, take-suc-set}
+use Rattle.std.proofs.Math.Nat.{pow-zero, sub-zero, one-le-pow, pow-le-pow_right}
 use Rattle.std.proofs.Math.Decide.{dec_lt}
 use Rattle.std.proofs.Math.Numerals.{unary_clauses}
+use Rattle.std.specs.List.{take_while, prefix_len}
+use Rattle.std.proofs.lemmas.List.Sums.{prefix_len_passes, prefix_len_stops, prefix_len-le-length}
+use Rattle.std.proofs.lemmas.List.Folds.{length-prefix_len}
 use mir.Val.{bool_byte}
 use Rattle.counter_print.specs.declared.Lead.{Lead}
 use Rattle.counter_print.specs.Texts.{digit, numeral}
@@ -63,29 +66,47 @@ pub counts_text : (n count : ℕ) → CountsDigits n count → numeral n ≡ pla
 counts_text n zero c = absurd (omega (arith, c.0.some))
 counts_text n (suc k) c = numeral_places k n c.1 (λ h. simp unary_clauses at (c.0.least (omega arith)))
 
-pub needed_one : (number : ℕ) → Needed number 1
-needed_one number = record { some = omega arith; most = omega arith; least = λ h. absurd (omega arith) }
+-- The powers that are no greater than a number tell how many, and 0, which has none, is written with one digit.
+module _ (powers : List ℕ) (number : ℕ) (p : PowersOfTen powers) where
+  abbrev no_greater : ℕ → Bool
+  no_greater power = leb power number
 
-module _ {powers : List ℕ} {number count : ℕ} (p : PowersOfTen powers) (c : Needed number count) where
-  pub needed_more : count < length powers → get_or powers count 0 ≤ number → Needed number (count + 1)
-  needed_more h low =
-      record {
-        some = omega arith;
-        most = omega (arith, p.size);
-        least = λ _. rw back (omega (arith, low, power_at p count h));
-      }
+  below_next : number < 10 ^ most_digits → number < 10 ^ prefix_len no_greater powers
+  below_next fits = go (dec_lt (prefix_len no_greater powers) (length powers))
     where
-      back : count + 1 - 1 ≡ count
+      go : Dec (prefix_len no_greater powers < length powers) → number < 10 ^ prefix_len no_greater powers
+      go (yes h) =
+          let above : number < get_or powers (prefix_len no_greater powers) 0 = leb-false _ _ (prefix_len_stops no_greater powers 0 h) in
+          omega (arith, above, power_at p (prefix_len no_greater powers) h)
+      go (no h) =
+          let all : most_digits ≡ prefix_len no_greater powers = omega (arith, p.size, prefix_len-le-length no_greater powers) in
+          subst (λ (k : ℕ). number < 10 ^ k) all fits
+
+  counts_prefix : (count : ℕ) → prefix_len no_greater powers ≡ count → number < 10 ^ most_digits → CountsDigits number (max count 1)
+  counts_prefix zero e fits = (record { some = omega arith; most = omega arith; least = λ h. absurd (omega arith) }, omega (arith, pow-zero 10, subst (λ (k : ℕ). number < 10 ^ k) e (below_next fits)))
+  counts_prefix (suc k) e fits = (
+    record {
+      some = omega arith;
+      most = omega (arith, p.size, prefix_len-le-length no_greater powers);
+      least = λ _. rw back (omega (arith, low, power_at p k short));
+    },
+    rw same (subst (λ (k : ℕ). number < 10 ^ k) e (below_next fits)),
+  )
+    where
+      short : k < length powers
+      short = omega (arith, prefix_len-le-length no_greater powers)
+
+      low : get_or powers k 0 ≤ number
+      low = leb-true _ _ (prefix_len_passes no_greater powers k 0 (omega arith))
+
+      same : max (suc k) 1 ≡ suc k
+      same = omega arith
+
+      back : max (suc k) 1 - 1 ≡ k
       back = omega arith
 
-  pub counts_below : count < length powers → number < get_or powers count 0 → CountsDigits number count
-  counts_below h below = (c, omega (arith, below, power_at p count h))
-
-  pub counts_all : length powers ≤ count → number < 10 ^ most_digits → CountsDigits number count
-  counts_all h fits = (c, subst (λ (k : ℕ). number < 10 ^ k) same fits)
-    where
-      same : most_digits ≡ count
-      same = omega (arith, c.most, p.size)
+  pub counts_powers : number < 10 ^ most_digits → CountsDigits number (max (length (take_while no_greater powers)) 1)
+  counts_powers fits = rw (length-prefix_len no_greater powers) (counts_prefix (prefix_len no_greater powers) refl fits)
 
 -- ---- one digit
 
@@ -95,117 +116,110 @@ pub record LeadDigit (number power : ℕ) (lead : Lead) : Type 0 where
   pub small : lead.digit < 10
   pub less : lead.rest < power
 
--- While the power's multiples are compared: it goes in `digit` times, and more often only if all `times` that were tried went in.
+-- While the power's multiples are compared, before the multiple `times`: it goes in `digit` times, and more often only if all that were tried went in.
 pub record Tried (number power digit times : ℕ) : Type 0 where
   pub low : digit * power ≤ number
-  pub high : digit ≤ times
-  pub most : times ≤ 9
-  pub next : digit < times → number < suc digit * power
+  pub high : digit < times
+  pub next : suc digit < times → number < suc digit * power
 
-pub tried_none : (number power : ℕ) → Tried number power 0 0
-tried_none number power = record { low = omega (arith, zero-mul power); high = omega arith; most = omega arith; next = λ h. absurd (omega arith) }
+pub tried_none : (number power : ℕ) → Tried number power 0 1
+tried_none number power = record { low = omega (arith, zero-mul power); high = omega arith; next = λ h. absurd (omega arith) }
 
 module _ {number power digit times : ℕ} (g : Tried number power digit times) where
   -- Where the next multiple goes in, all before it did; where it does not, no more than `digit` do.
-  all_before : (times + 1) * power ≤ number → digit ≡ times
-  all_before h = go (dec_lt digit times)
+  all_before : times * power ≤ number → suc digit ≡ times
+  all_before h = go (dec_lt (suc digit) times)
     where
-      go : Dec (digit < times) → digit ≡ times
-      go (yes few) = absurd (omega (arith, h, g.next few, mul-le-mul_right {m = suc digit} {n = times + 1} power (omega arith)))
+      go : Dec (suc digit < times) → suc digit ≡ times
+      go (yes few) = absurd (omega (arith, h, g.next few, mul-le-mul_right {m = suc digit} {n = times} power (omega arith)))
       go (no all) = omega (arith, g.high)
 
-  no_more : number < (times + 1) * power → number < suc digit * power
-  no_more h = go (dec_lt digit times)
+  no_more : number < times * power → number < suc digit * power
+  no_more h = go (dec_lt (suc digit) times)
     where
-      go : Dec (digit < times) → number < suc digit * power
+      go : Dec (suc digit < times) → number < suc digit * power
       go (yes few) = g.next few
-      go (no all) = let same : suc digit ≡ times + 1 = omega (arith, g.high) in rw same h
+      go (no all) = let same : suc digit ≡ times = omega (arith, g.high) in rw same h
 
-  pub tried_more : times < 9 → Tried number power (digit + bool_byte (leb ((times + 1) * power) number)) (times + 1)
-  tried_more few = go (leb ((times + 1) * power) number) refl
+  pub tried_more : Tried number power (digit + bool_byte (leb (times * power) number)) (times + 1)
+  tried_more = go (leb (times * power) number) refl
     where
-      go : (b : Bool) → leb ((times + 1) * power) number ≡ b → Tried number power (digit + bool_byte b) (times + 1)
+      go : (b : Bool) → leb (times * power) number ≡ b → Tried number power (digit + bool_byte b) (times + 1)
       go true e =
-          let h : (times + 1) * power ≤ number = leb-true ((times + 1) * power) number e in
-          let same : digit ≡ times = all_before h in
-          record { low = rw same h; high = omega arith; most = omega arith; next = λ less. absurd (omega arith) }
+          let h : times * power ≤ number = leb-true (times * power) number e in
+          let same : digit + 1 ≡ times = omega (arith, all_before h) in
+          record { low = rw same h; high = omega arith; next = λ less. absurd (omega arith) }
       go false e =
           let none : digit + 0 ≡ digit = omega arith in
           rw none
           (record {
             low = g.low;
             high = omega (arith, g.high);
-            most = omega arith;
-            next = λ _. no_more (leb-false ((times + 1) * power) number e);
+            next = λ _. no_more (leb-false (times * power) number e);
           })
 
-  pub tried_done : 9 ≤ times → number < 10 * power → LeadDigit number power (record { digit = digit; rest = number - digit * power })
-  tried_done h below =
+  pub tried_done : times ≡ 10 → number < 10 * power → LeadDigit number power (record { digit = digit; rest = number - digit * power })
+  tried_done nine below =
       record {
         whole = omega (arith, g.low);
-        small = omega (arith, g.high, g.most);
+        small = omega (arith, g.high);
         less = omega (arith, no_more (rw nine below), suc-mul digit power);
       }
-    where
-      nine : times + 1 ≡ 10
-      nine = omega (arith, g.most)
 
 -- A multiple that is compared fits 64 bits.
 pub multiple_fits : (times power : ℕ) → times ≤ 10 → 10 * power < 2 ^ 64 → times * power < 2 ^ 64
 multiple_fits times power few h = omega (arith, h, mul-le-mul_right power few)
 
 -- What a digit is taken off is below ten times the power of its place, which fits 64 bits.
-module _ (powers : List ℕ) (p : PowersOfTen powers) (place : ℕ) (some : 0 < place) (most : place ≤ most_digits) where
-  pub place_power : get_or powers (place - 1) 0 ≡ 10 ^ (place - 1)
-  place_power = power_at p (place - 1) (omega (arith, p.size))
+module _ (powers : List ℕ) (p : PowersOfTen powers) (place : ℕ) (most : place < most_digits) where
+  pub place_power : get_or powers place 0 ≡ 10 ^ place
+  place_power = power_at p place (omega (arith, p.size))
 
-  pub lead_asks : (rest : ℕ) → rest < 10 ^ place → (rest < 10 * get_or powers (place - 1) 0) × (10 * get_or powers (place - 1) 0 < 2 ^ 64)
-  lead_asks rest small = (omega (arith, small, place_power, pow-suc 10 (place - 1), ap (λ (k : ℕ). 10 ^ k) back), omega (arith, place_power, low))
+  pub lead_asks : (rest : ℕ) → rest < 10 ^ suc place → (rest < 10 * get_or powers place 0) × (10 * get_or powers place 0 < 2 ^ 64)
+  lead_asks rest small = (omega (arith, small, place_power, pow-suc 10 place), omega (arith, place_power, low))
     where
-      back : place ≡ suc (place - 1)
-      back = omega arith
-
-      low : 10 ^ (place - 1) ≤ 10 ^ 18
-      low = pow-le-pow_right (omega arith) {i = place - 1} {j = 18} (omega arith)
+      low : 10 ^ place ≤ 10 ^ 18
+      low = pow-le-pow_right (omega arith) {i = place} {j = 18} (omega arith)
 
 -- ---- all digits, the highest first
 
--- While a column is filled: `at` digits stand there, and `place` are to come, those of what is left.
-pub record Putting (number : ℕ) (before column : List ℕ) (at place rest : ℕ) : Type 0 where
-  pub size : length column ≡ length before
-  pub count : at + place ≡ length before
-  pub small : rest < 10 ^ place
-  pub text : places (length before) number ≡ take at column ++ places place rest
+-- While a column is filled: `at` digits stand there, and those of what is left are to come.
+pub record Putting (number : ℕ) (before column : List ℕ) (at rest : ℕ) : Type 0 where
+  pub small : rest < 10 ^ (length before - at)
+  pub text : places (length before) number ≡ take at column ++ places (length before - at) rest
 
-pub putting_more : (place : ℕ) {number : ℕ} {before column : List ℕ} {at rest power : ℕ} {lead : Lead} → Putting number before column at place rest
-    → 0 < place → power ≡ 10 ^ (place - 1) → LeadDigit rest power lead
-    → Putting number before (set column at (digit lead.digit)) (at + 1) (place - 1) lead.rest
-putting_more zero p some e l = absurd (omega arith)
-putting_more (suc k) {column = column} {at} {rest} {power} {lead} p some e l =
+pub putting_more : {number : ℕ} {before column : List ℕ} {at rest power : ℕ} {lead : Lead} → Putting number before column at rest
+    → length column ≡ length before → at < length before → power ≡ 10 ^ (length before - 1 - at) → LeadDigit rest power lead
+    → Putting number before (set column at (digit lead.digit)) (at + 1) lead.rest
+putting_more {before = before} {column} {at} {rest} {power} {lead} p size some e l =
     record {
-      size = length-set column at (digit lead.digit) ∙ p.size;
-      count = omega (arith, p.count);
-      small = omega (arith, l.less, e);
+      small = rw (← left) (omega (arith, l.less, e));
       text = p.text ∙ ap (λ (t : List ℕ). take at column ++ t) top ∙ rw (next, shown, append_assoc, back);
     }
   where
-    tens : power ≡ 10 ^ k
-    tens = simp unary_clauses at e
+    left : length before - 1 - at ≡ length before - (at + 1)
+    left = omega arith
 
-    top : places (suc k) rest ≡ digit lead.digit ∷ places k lead.rest
-    top = rw (← l.whole, tens) (places_lead k lead.digit lead.rest l.small (omega (arith, l.less, tens)))
+    top : places (length before - at) rest ≡ digit lead.digit ∷ places (length before - 1 - at) lead.rest
+    top =
+        let one : length before - at ≡ suc (length before - 1 - at) = omega arith in
+        rw (one, ← l.whole, e) (places_lead (length before - 1 - at) lead.digit lead.rest l.small (omega (arith, l.less, e)))
 
     next : at + 1 ≡ suc at
     next = omega arith
 
-    back : suc k - 1 ≡ k
+    back : length before - suc at ≡ length before - 1 - at
     back = omega arith
 
     shown : take (suc at) (set column at (digit lead.digit)) ≡ take at column ++ digit lead.digit ∷ []
-    shown = take-suc-set column at (digit lead.digit) (omega (arith, p.size, p.count))
+    shown = take-suc-set column at (digit lead.digit) (omega (arith, size))
 
-pub putting_done : (place : ℕ) {number : ℕ} {before column : List ℕ} {at rest : ℕ} → Putting number before column at place rest → place ≤ 0
-    → column ≡ places (length before) number
+pub putting_none : (number : ℕ) (before : List ℕ) → number < 10 ^ length before → Putting number before before 0 number
+putting_none number before h = record { small = rw (sub-zero) h; text = rw (sub-zero) refl }
+
+pub putting_done : {number : ℕ} {before column : List ℕ} {at rest : ℕ} → Putting number before column at rest → length before ≤ at
+    → length column ≡ length before → column ≡ places (length before) number
 unfolding places
-putting_done zero {column = column} {at} p none = sym (p.text ∙ append-nil _ ∙ take_all at column (omega (arith, p.size, p.count)))
-putting_done (suc k) p none = absurd (omega arith)
+putting_done {before = before} {column} {at} p all size =
+    let none : length before - at ≡ 0 = omega arith in
+    sym (p.text ∙ rw (none, append-nil) (take_all at column (omega (arith, size))))

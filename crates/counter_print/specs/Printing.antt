@@ -2,12 +2,12 @@
 use Rattle.std.specs.Prelude.{ℕ, zero, suc, ◌+◌, ◌-◌, ◌^◌, ◌≤◌, ◌<◌, ◌≡◌, refl, Bool, true, false, List, [], ◌∷◌, ◌++◌, take, drop, set, replicate, ℤ, pos, negsuc, nat_abs}
 use Rattle.std.proofs.Common.{ap, sym, ◌∙◌, append-nil, arith, length-append, length-drop, drop_of_length-le, take-add, take_all, take_at, drop_at, take-suc-set, drop-drop, length-take-le, drop-set-lt}
 use Rattle.std.proofs.Math.Nat.{sub-zero}
+use Rattle.std.proofs.Math.Numerals.{unary_clauses}
 use Rattle.std.proofs.Math.ListN.{length}
 use Rattle.std.proofs.lemmas.List.{length-replicate}
 use Rattle.std.specs.Int.Signed.{lt_z}
 use Rattle.std.specs.Int.{w64}
 use mir.Val.{Fits, SFits, bool_byte}
-use Rattle.std.proofs.lemmas.List.Edits.{fill_more}
 use Rattle.counter_print.specs.Texts.{space, minus, decimal, justified, FitsIn, newline, answer_line}
 use Rattle.counter_print.specs.Printed.{Justifies, Puts, Answers}
 use Rattle.counter_print.specs.Decimals.{sign, decimal_parts}
@@ -18,49 +18,22 @@ use Rattle.counter_print.specs.Justified.{justified_append}
 
 -- ---- what stands before the digits
 
--- While spaces are written: those before `at` are.
-pub record Blanking (before column : List ℕ) (at : ℕ) : Type 0 where
-  pub high : at ≤ length before
-  pub text : column ≡ replicate at space ++ drop at before
-
-pub minus_room : (negative : Bool) (n : ℕ) → negative ≡ true → length (sign negative) ≤ n → 0 < n
-minus_room negative n e h = rw e at h
-
 minus_last : (k : ℕ) → set (replicate (suc k) space) k minus ≡ replicate k space ++ minus ∷ []
 minus_last zero = refl
 minus_last (suc k) = ap (λ (t : List ℕ). space ∷ t) (minus_last k)
 
-module _ {before column : List ℕ} {at : ℕ} (b : Blanking before column at) where
-  pub blanking_size : length column ≡ length before
-  blanking_size = rw (b.text, length-append, length-replicate, length-drop) (omega (arith, b.high))
-
-  pub blanking_more : at < length column → Blanking before (set column at space) (at + 1)
-  blanking_more h =
-      record {
-        high = omega (arith, blanking_size);
-        text = ap (λ (t : List ℕ). set t at space) b.text ∙ fill_more at space before (omega (arith, blanking_size));
-      }
-
-  blanks : length column ≤ at → column ≡ replicate (length before) space
-  blanks h =
-      let e : at ≡ length before = omega (arith, b.high, blanking_size) in
-      b.text ∙ rw (e, drop_of_length-le before {i = length before} (omega arith), append-nil)
-
-  pub signed_blank : length column ≤ at → column ≡ justified (length before) []
+module _ (width : ℕ) (column : List ℕ) (blank : column ≡ replicate width space) where
+  pub signed_blank : column ≡ justified width []
   unfolding justified
-  signed_blank h = blanks h ∙ rw (append-nil, sub-zero)
+  signed_blank = blank ∙ rw (append-nil, sub-zero)
 
-  pub signed_minus : length column ≤ at → 0 < length before → set column (at - 1) minus ≡ justified (length before) (minus ∷ [])
+  pub signed_minus : 0 < width → set column (length column - 1) minus ≡ justified width (minus ∷ [])
   unfolding justified
-  signed_minus h some = rw (all, here) (minus_last (length before - 1))
+  signed_minus some = rw (blank, length-replicate) (go width some)
     where
-      here : at - 1 ≡ length before - 1
-      here = omega (arith, b.high, blanking_size)
-
-      all : column ≡ replicate (suc (length before - 1)) space
-      all =
-          let e : length before ≡ suc (length before - 1) = omega arith in
-          blanks h ∙ ap (λ (n : ℕ). replicate n space) e
+      go : (n : ℕ) → 0 < n → set (replicate n space) (n - 1) minus ≡ replicate (n - 1) space ++ minus ∷ []
+      go zero h = absurd (omega arith)
+      go (suc k) h = simp unary_clauses (minus_last k)
 
 -- ---- a whole number
 

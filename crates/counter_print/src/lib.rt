@@ -11,7 +11,7 @@ ghost use Rattle.counter_print.specs.Printed.{Justifies, Puts, Answers};
 // No signed word has more digits: 2^63 has so many.
 const MOST_DIGITS: usize = 19;
 
-// The powers of ten, one for each place.
+// The powers of ten, one for each place. A table still, since printing subtracts its entries and does not divide (docs/REQUIREMENTS.md, 14.3).
 const POWERS: [u64; MOST_DIGITS] = [
     1,
     10,
@@ -41,18 +41,6 @@ struct Lead {
     rest: u64,
 }
 
-// A number without its sign, whatever the number is.
-fn magnitude(value: i64) -> u64
-    ensures { result ≡ nat_abs value }
-{
-    if value < 0 {
-        let nearer = value + 1;
-        let flipped = -nearer;
-        return flipped as u64 + 1;
-    }
-    value as u64
-}
-
 // The table, with its rule proved over all of it.
 fn powers_of_ten() -> [u64; MOST_DIGITS]
     ensures { PowersOfTen result }
@@ -65,11 +53,11 @@ fn digit_count(powers: &[u64], number: u64) -> usize
     requires { PowersOfTen powers.now × (number < 10 ^ most_digits) }
     ensures { CountsDigits number result }
 {
-    let mut count = 1;
-    while count < powers.len() && powers[count] <= number {
-        count += 1;
-    }
-    count
+    powers
+        .iter()
+        .take_while(|power| **power <= number)
+        .count()
+        .max(1)
 }
 
 // The highest digit: how often the power of its place goes in, and what is left once it is subtracted that often. All nine multiples are compared,
@@ -78,14 +66,12 @@ fn lead_digit(number: u64, power: u64) -> Lead
     requires { (number < 10 * power) × (10 * power < 2 ^ 64) }
     ensures { LeadDigit number power result }
 {
-    let mut digit: u8 = 0;
-    let mut times: u64 = 0;
-    while times < 9 {
-        times += 1;
+    let mut digit = 0;
+    for times in 1..10 {
         digit += (times * power <= number) as u8;
     }
     Lead {
-        digit: digit,
+        digit,
         rest: number - digit as u64 * power,
     }
 }
@@ -95,15 +81,12 @@ fn put_digits(column: &mut [u8], powers: &[u64], number: u64)
     requires { PowersOfTen powers.now × (length column.old ≤ most_digits) × (number < 10 ^ length column.old) }
     ensures { column.new ≡ places (length column.old) number }
 {
-    let mut at = 0;
-    let mut place = column.len();
+    let width = column.len();
     let mut rest = number;
-    while 0 < place {
-        place -= 1;
-        let lead = lead_digit(rest, powers[place]);
+    for at in 0..width {
+        let lead = lead_digit(rest, powers[width - 1 - at]);
         column[at] = b'0' + lead.digit;
         rest = lead.rest;
-        at += 1;
     }
 }
 
@@ -112,13 +95,10 @@ fn put_sign(column: &mut [u8], minus: bool)
     requires { length (sign minus) ≤ length column.old }
     ensures { column.new ≡ justified (length column.old) (sign minus) }
 {
-    let mut at = 0;
-    while at < column.len() {
-        column[at] = b' ';
-        at += 1;
-    }
+    column.fill(b' ');
     if minus {
-        column[at - 1] = b'-';
+        let last = column.len() - 1;
+        column[last] = b'-';
     }
 }
 
@@ -127,7 +107,7 @@ pub fn justify(column: &mut [u8], value: i64)
     ensures { Justifies value column.old column.new }
 {
     let powers = powers_of_ten();
-    let number = magnitude(value);
+    let number = value.unsigned_abs();
     let minus = value < 0;
     let count = digit_count(&powers, number);
     let width = column.len();

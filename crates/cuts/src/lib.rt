@@ -6,15 +6,18 @@ ghost use Rattle.table.specs.Layout.{cap};
 ghost use Rattle.cuts.specs.PieceCuts.{CutAt, CutBehind, CutBefore};
 ghost use Rattle.cuts.specs.Cutting.{least_rate};
 
-// The least rate in front of a cut: for a strict one a rate more. No offer's rate reaches a million.
+// No offer's rate reaches it.
+const MOST_RATE: i64 = 1_000_000;
+
+// The least rate in front of a cut: for a strict one a rate more.
 fn least_rate(strict: bool, rate: i64) -> i64
     ensures { result ≡ least_rate strict rate }
 {
     if strict {
-        if rate < 1_000_000 {
+        if rate < MOST_RATE {
             return rate + 1;
         }
-        return 1_000_000;
+        return MOST_RATE;
     }
     rate
 }

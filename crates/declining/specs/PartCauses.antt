@@ -1,5 +1,5 @@
 -- What declines a call in range, as the code finds it: a post by its number or the full book; and where nothing does, the offer can be posted.
-use Rattle.std.specs.Prelude.{◌≡◌, refl, ◌≢◌, ℕ, ◌≤◌, ◌<◌, length, ℤ, T}
+use Rattle.std.specs.Prelude.{◌≡◌, refl, ◌≢◌, ℕ, ◌≤◌, ◌<◌, length, ℤ, pos, T, Result, Ok, Err}
 use Rattle.std.proofs.Common.{subst, arith}
 use mathlib.Core.List.{List, Memᴰ}
 use Rattle.std.proofs.Math.Option.{Option}
@@ -16,6 +16,9 @@ use Rattle.table.specs.Items.{Item}
 use Rattle.form.specs.Form.{Book, number_of}
 use Rattle.form.specs.HeaderWords.{count_read}
 use Rattle.index.specs.Index.{FoundKey}
+use Rattle.causes.specs.declared.Declined.{Declined}
+use Rattle.causes.specs.declared.Declined.TheVariants.{NumberLive, Full}
+use Rattle.causes.specs.Numbers.{number_of as refusal_number}
 use Rattle.declining.specs.Sought.{number_sought, sought_none}
 use Rattle.declining.specs.Declining.{post_number_live, post_full, post_clear, clear_offer}
 
@@ -35,35 +38,38 @@ pub record Postable (o : Offer) (c : ℕ) (live : List Item) : Type 0 where
 
 -- ---- post
 
--- the number of the cause for which a post in range is declined, or 0
-pub record PostCause (n : ℤ) (w : Words) (m : ℕ) : Type 0 where
-  pub declines : (r z : ℤ) (plain : State) (held : Option (Held Item)) → Book w plain held → Clear (range_trials (post n r z)) → 0 < m →
-      step plain (post n r z) ≡ refusing plain m
-  pub clears : (r z : ℤ) (plain : State) (held : Option (Held Item)) (b : Book w plain held) → Clear (range_trials (post n r z)) → m ≤ 0 →
+-- the plain book declines a post in range by the number of this cause
+abbrev pub PostDeclined : ℤ → Words → Declined → Type 0
+PostDeclined n w c = (m : ℕ) × (refusal_number c ≡ pos m) × ((r z : ℤ) (plain : State) (held : Option (Held Item)) →
+    Book w plain held → Clear (range_trials (post n r z)) → step plain (post n r z) ≡ refusing plain m)
+
+-- why a post in range is declined, where it is
+pub record PostCause (n : ℤ) (w : Words) (u : Result (Unit {0}) Declined) : Type 0 where
+  pub declines : (c : Declined) → u ≡ Err c → PostDeclined n w c
+  pub clears : u ≡ Ok tt → (r z : ℤ) (plain : State) (held : Option (Held Item)) (b : Book w plain held) → Clear (range_trials (post n r z)) →
       Clear (trials plain (post n r z)) × Postable (record { number = n; rate = r; base = z }) plain.capacity (part_leaves b.order)
 
+cause_of : {n : ℤ} {w : Words} {c : Declined} → PostDeclined n w c → PostCause n w (Err c)
+cause_of {n} {w} {c} d = record { declines = λ k e. let h : c ≡ k = cc in subst (PostDeclined n w) h d; clears = λ e. cc }
+
 module _ (n : ℤ) (w : Words) {s : ℕ} (f : FoundKey number_tree number_field n (up_to most_nodes (word w numbers_root_word)) w s) where
-  pub cause_number : 0 < s → PostCause n w 5
-  cause_number h =
-      record {
-        declines = λ r z plain held b g q. post_number_live b n r z g (number_sought b f refl) (λ e. omega (arith, e, h));
-        clears = λ r z plain held b g q. absurd (omega (arith, q));
-      }
+  pub cause_number : 0 < s → PostCause n w (Err NumberLive)
+  cause_number h = cause_of (5, refl, λ r z plain held b g. post_number_live b n r z g (number_sought b f refl) (λ e. omega (arith, e, h)))
 
   module _ {i m : ℕ} (low : s ≤ 0) (ei : i ≡ up_to most_nodes (word w live_count_word)) (em : m ≡ cap w) where
-    pub cause_full : m ≤ i → PostCause n w 7
-    cause_full h =
-        record {
-          declines = λ r z plain held b g q. post_full b n r z g (number_sought b f refl) (omega (arith, low))
-              (omega (arith, h, em, ei, b.capacity, count_read b));
-          clears = λ r z plain held b g q. absurd (omega (arith, q));
-        }
+    pub cause_full : m ≤ i → PostCause n w (Err Full)
+    cause_full h = cause_of (
+      7,
+      refl,
+      λ r z plain held b g. post_full b n r z g (number_sought b f refl) (omega (arith, low))
+          (omega (arith, h, em, ei, b.capacity, count_read b)),
+    )
 
-    pub cause_none : i < m → PostCause n w 0
+    pub cause_none : i < m → PostCause n w (Ok tt)
     cause_none h =
         record {
-          declines = λ r z plain held b g q. absurd (omega (arith, q));
-          clears = λ r z plain held b g q.
+          declines = λ c e. cc;
+          clears = λ e r z plain held b g.
               let room : length (part_leaves b.order) < plain.capacity = omega (arith, h, em, ei, b.capacity, count_read b) in
               let sought = number_sought b f refl in
               let none_live : s ≡ 0 = omega (arith, low) in (

@@ -1,6 +1,7 @@
 -- The first and the last leaf of a tree, found by going down one side.
 use Rattle.std.specs.Prelude.{◌≡◌, refl, Bool, true, false, ℕ, suc, ◌-◌, ◌≤◌, ◌<◌}
 use Rattle.std.proofs.Common.{sym, ◌∙◌, ap, arith}
+use native.Mathlib.Numerals.{unary_clauses}
 use Rattle.trees.specs.Tree.{Tree, leaf, node, height, leaves, first, last, Avl}
 use Rattle.table.specs.Fields.{most_levels, most_slots}
 use Rattle.table.specs.Words.{Words}
@@ -9,6 +10,7 @@ use Rattle.table.specs.Rep.{child_at, Rep}
 use Rattle.table.specs.Nodes.{parents, leaf_low, not_spent}
 use Rattle.table.specs.PartTrees.{low}
 use Rattle.shape.specs.Splices.{inner_ref}
+use Rattle.descents.specs.Downs.{Down, at_leaf, goes, over}
 
 abbrev pub end_of : Bool → Tree Item → Item
 end_of false t = first t
@@ -82,3 +84,10 @@ going_ends {w} {k} {x} {y} {limit} {side} g h = record { is = λ t q a. stop t (
     stop : (t u : Tree Item) → Rep w k y u → end_of side u ≡ end_of side t → y ≡ (end_of side t).slot
     stop t (leaf a) q d = q.root ∙ ap (λ (i : Item). i.slot) (sym (end_leaf side a) ∙ d)
     stop t (node l s) q d = absurd (omega (arith, h, inner_ref q (omega arith)))
+
+-- the way down to that end
+pub going_down : {step : ℕ → ℕ → Type 0} {w : Words} {k x y limit r : ℕ} {side : Bool} → ((u z : ℕ) → step u z → z ≡ child_at w k side u) →
+    Going w k side x y limit → Down step limit y r → Ended w k side x r
+going_down f g (at_leaf s) = going_ends g s
+going_down f g (goes s c d) = going_down f (simp unary_clauses at (going_on g s (f _ _ c))) d
+going_down f g (over s) = going_over g s refl

@@ -1,6 +1,8 @@
 -- Ways down the trees of a table: a cut, a search by key, the leaf that follows a key, the first and the last leaf.
 -- ways through the code: a cut, as steps on words
 pub mod Cuts
+-- ways through the code: a way down, from a node to one of its children until a leaf
+pub mod Downs
 -- ways through the code: the first and the last leaf of a tree, found by going down one side
 pub mod Ends
 -- ways through the code: a leaf sought by key, whatever is told of the leaf at the way's end

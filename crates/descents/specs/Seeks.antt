@@ -3,6 +3,7 @@ use Rattle.std.specs.Prelude.{◌≡◌, refl, Bool, true, false, ℕ, ◌-◌, 
 use Rattle.std.proofs.Common.{◌∙◌, ap, arith}
 use Rattle.std.proofs.Math.Option.{Option, none, some}
 use mathlib.Core.List.Memᴰ
+use native.Mathlib.Numerals.{unary_clauses}
 use Rattle.trees.specs.Tree.{Tree, leaf, node, height, leaves, last, Avl}
 use Rattle.trees.specs.Leaves.{last_leaf}
 use Rattle.table.specs.Fields.{most_levels, most_slots}
@@ -14,6 +15,7 @@ use Rattle.table.specs.Nodes.{parents, leaf_low, not_spent}
 use Rattle.table.specs.PartTrees.{low}
 use Rattle.table.specs.Keys.{Keyed, keyed_left, keyed_right}
 use Rattle.shape.specs.Splices.{inner_ref}
+use Rattle.descents.specs.Downs.{Down, at_leaf, goes, over}
 use Rattle.descents.specs.Ends.{pick, down, down_low}
 
 -- what a key finds in a tree
@@ -82,14 +84,28 @@ looking_on {answer} {w} {k} {f} {x} {y} {limit} {g} {z} {b} right leads sought j
         told : b ≡ right sought (key (last l))
         told = eb ∙ ap (right sought) (ap (cell w f) (eg ∙ (parents r).seam_at) ∙ q.read (Memᴰ.append_left (leaves s) (last_leaf l)))
 
--- the limit is used up, which no balanced tree comes to
-pub looking_over : {answer : Answer} {w : Words} {k f x y limit r : ℕ} {sought : ℤ} → Looking answer w k f sought x y limit → most_slots < y → limit ≡ 0 →
-    Answered answer w k f sought x r
+-- the limit is used up, which no balanced tree comes to: node 0 will do
+looking_over : {answer : Answer} {w : Words} {k f x y limit : ℕ} {sought : ℤ} → Looking answer w k f sought x y limit → most_slots < y → limit ≡ 0 →
+    Looking answer w k f sought x 0 0
 looking_over j h e =
     record {
       is = λ t key r a q. absurd (not_spent (j.is t key r a q).here h e (j.is t key r a q).rep (j.is t key r a q).high);
-      nothing = λ d. absurd (omega (arith, h, j.nothing d));
+      nothing = λ d. refl;
     }
+
+-- the way down comes to a leaf, or to none
+pub record Arrived (answer : Answer) (w : Words) (k f : ℕ) (sought : ℤ) (x r : ℕ) : Type 0 where
+  pub low : r ≤ most_slots
+  pub left : ℕ
+  pub looking : Looking answer w k f sought x r left
+
+pub looking_down : {step : ℕ → ℕ → Type 0} {answer : Answer} {w : Words} {k f x y limit r : ℕ} (right : ℤ → ℤ → Bool) → Leads answer right → (sought : ℤ) →
+    ((u z : ℕ) → step u z → z ≡ child_at w k (right sought (cell w f (u - most_slots))) u) → Looking answer w k f sought x y limit →
+    Down step limit y r → Arrived answer w k f sought x r
+looking_down right leads sought steps j (at_leaf {limit = n} s) = record { low = s; left = n; looking = j }
+looking_down right leads sought steps j (goes s c d) =
+    looking_down right leads sought steps (simp unary_clauses at (looking_on right leads sought j s refl refl (steps _ _ c))) d
+looking_down right leads sought steps j (over s) = record { low = omega arith; left = 0; looking = looking_over j s refl }
 
 -- at a leaf
 pub looking_ends : {answer : Answer} {w : Words} {k f x y limit : ℕ} {sought : ℤ} (r : ℕ) → Looking answer w k f sought x y limit → y ≤ most_slots →

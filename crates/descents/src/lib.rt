@@ -1,9 +1,11 @@
-// Ways down the trees of a table. Each goes at most `limit` levels, so that it ends on any words.
+// Ways down the trees of a table. Each goes a limited number of levels, so that it ends on any words.
 #![tactic(auto)]
 
 ghost use Rattle.std.specs.Prelude.{◌≡◌};
+ghost use Rattle.table.specs.Fields.{most_levels};
 ghost use Rattle.table.specs.Layout.{cap};
 ghost use Rattle.descents.specs.Cuts.{Halving};
+ghost use Rattle.descents.specs.Downs.{Down};
 ghost use Rattle.descents.specs.Ends.{Ended};
 ghost use Rattle.descents.specs.Finds.{Found};
 ghost use Rattle.descents.specs.Afters.{After};
@@ -17,6 +19,7 @@ pub struct Cut {
 
 // Cuts a tree behind its last leaf whose field is at least `least`, where these leaves stand in front. Where nothing is cut off, nothing is
 // written. `c` is the capacity.
+#[tactic(auto, using(crate::specs::Cuts::still_known))]
 pub fn split_in(
     part: &mut [i64],
     c: u32,
@@ -41,26 +44,38 @@ pub fn split_in(
     let gap = table::inner_slot(x);
     if table::at_least_in(part, c, field, gap, least) {
         let r = table::child_in(part, c, tree, true, x);
-        let d = split_in(part, c, tree, field, least, r, limit - 1);
-        let f = d.front;
-        let b = d.back;
-        if b == 0 {
+        let Cut { front, back } = split_in(part, c, tree, field, least, r, limit - 1);
+        if back == 0 {
             return Cut { front: x, back: 0 };
         }
         let l = table::child_in(part, c, tree, false, x);
-        let y = shape::join_in(part, c, tree, gap, l, f);
-        return Cut { front: y, back: b };
+        let y = shape::join_in(part, c, tree, gap, l, front);
+        return Cut { front: y, back };
     }
     let l = table::child_in(part, c, tree, false, x);
     let r = table::child_in(part, c, tree, true, x);
-    let d = split_in(part, c, tree, field, least, l, limit - 1);
-    let f = d.front;
-    let b = d.back;
-    if f == 0 {
+    let Cut { front, back } = split_in(part, c, tree, field, least, l, limit - 1);
+    if front == 0 {
         return Cut { front: 0, back: x };
     }
-    let y = shape::join_in(part, c, tree, gap, b, r);
-    Cut { front: f, back: y }
+    let y = shape::join_in(part, c, tree, gap, back, r);
+    Cut { front, back: y }
+}
+
+// The leaf at the end of a way down from node `x`, where `child` gives the child to go to; 0 where it is longer than any in a balanced tree.
+#[tactic(auto, using(crate::specs::Downs::down_ends, crate::specs::Downs::down_goes))]
+fn leaf_below<F: Fn(u32) -> u32>(x: u32, child: F) -> u32
+    requires { F.IsAlwaysCallable child }
+    ensures { Down (F.post child) most_levels x result }
+{
+    let mut y = x;
+    for _ in 0..table::MOST_LEVELS + 1 {
+        if y <= table::MOST_SLOTS {
+            return y;
+        }
+        y = child(y);
+    }
+    0
 }
 
 // The first leaf of a balanced tree, or, on the other side, its last; 0 for an empty one. `c` is the capacity.
@@ -68,16 +83,7 @@ pub fn end_in(part: &[i64], c: u32, tree: u8, side: bool, x: u32) -> u32
     requires { c ≡ cap part.now }
     ensures { Ended part.now tree side x result }
 {
-    let mut y = x;
-    let mut limit: u32 = table::MOST_LEVELS;
-    while y > table::MOST_SLOTS {
-        if limit == 0 {
-            return 0;
-        }
-        limit -= 1;
-        y = table::child_in(part, c, tree, side, y);
-    }
-    y
+    leaf_below(x, |y| table::child_in(part, c, tree, side, y))
 }
 
 pub fn end(part: &[i64], tree: u8, side: bool, x: u32) -> u32
@@ -90,16 +96,10 @@ pub fn end(part: &[i64], tree: u8, side: bool, x: u32) -> u32
 pub fn find(part: &[i64], tree: u8, field: usize, key: i64, x: u32) -> u32
     ensures { Found part.now tree field key x result }
 {
-    let mut y = x;
-    let mut limit: u32 = table::MOST_LEVELS;
-    while y > table::MOST_SLOTS {
-        if limit == 0 {
-            return 0;
-        }
-        limit -= 1;
+    let y = leaf_below(x, |y| {
         let right = table::is_above(part, field, table::inner_slot(y), key);
-        y = table::child(part, tree, right, y);
-    }
+        table::child(part, tree, right, y)
+    });
     if table::is_equal(part, field, y, key) {
         return y;
     }
@@ -110,16 +110,10 @@ pub fn find(part: &[i64], tree: u8, field: usize, key: i64, x: u32) -> u32
 pub fn after(part: &[i64], tree: u8, field: usize, key: i64, x: u32) -> u32
     ensures { After part.now tree field key x result }
 {
-    let mut y = x;
-    let mut limit: u32 = table::MOST_LEVELS;
-    while y > table::MOST_SLOTS {
-        if limit == 0 {
-            return 0;
-        }
-        limit -= 1;
+    let y = leaf_below(x, |y| {
         let behind = table::at_least(part, field, table::inner_slot(y), key);
-        y = table::child(part, tree, behind, y);
-    }
+        table::child(part, tree, behind, y)
+    });
     if table::at_least(part, field, y, key) {
         return 0;
     }

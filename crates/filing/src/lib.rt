@@ -2,26 +2,24 @@
 // themselves, with their guards, are book's.
 #![tactic(auto)]
 
-ghost use Rattle.std.specs.Prelude.{◌≡◌, ◌-◌, T};
+ghost use Rattle.std.specs.Prelude.{T};
 ghost use Rattle.offers.specs.Offers.{offer_in_range};
 ghost use Rattle.filing.specs.PartUpdates.{PostDone, WithdrawDone};
+
+use levels::Counts;
 
 // The live count after an update, and what its searches took.
 #[derive(Drop)]
 pub struct Told {
     pub live: u32,
-    pub counts: levels::Counts,
+    pub counts: Counts,
 }
 
 // On words too few for a part nothing is done. A caller has seen that they are enough; said here again, the tests of each word read need not be made.
 fn nothing() -> Told {
     Told {
         live: 0,
-        counts: levels::Counts {
-            searches: 0,
-            steps: 0,
-            heights: 0,
-        },
+        counts: Counts::NONE,
     }
 }
 
@@ -39,25 +37,13 @@ pub fn post_part(part: &mut [i64], number: i64, rate: i64, base: i64) -> Told
     let s = settling::fill(part, number, rate, base);
     settling::enter(part, table::NUMBERS, table::NUMBER, table::NUMBERS_ROOT, s);
     settling::enter(part, table::ORDER, table::RANK, table::ORDER_ROOT, s);
-    let m = settling::join_offers(part, held, s, f);
-    let joined = m.held;
-    let counts = m.counts;
+    let joined = settling::join_offers(part, held, s, f);
     let live = n + 1;
-    settling::set_roots(part, joined, live);
+    settling::set_roots(part, joined.held, live);
     Told {
-        live: live,
-        counts: counts,
+        live,
+        counts: joined.counts,
     }
-}
-
-// One less, or 0.
-fn one_less(n: u32) -> u32
-    ensures { result ≡ n - 1 }
-{
-    if n < 1 {
-        return 0;
-    }
-    n - 1
 }
 
 // A withdrawal that is not declined, of the offer in slot `s`.
@@ -80,14 +66,12 @@ pub fn withdraw_part(part: &mut [i64], number: i64, s: u32) -> Told
         number,
     );
     settling::strike(part, table::ORDER, table::RANK, table::ORDER_ROOT, rank);
-    let m = settling::leave_offers(part, held, s, f, by);
-    let rest = m.held;
-    let spent = m.counts;
-    let live = one_less(n);
-    settling::set_roots(part, rest, live);
+    let rest = settling::leave_offers(part, held, s, f, by);
+    let live = n.saturating_sub(1);
+    settling::set_roots(part, rest.held, live);
     table::give_slot(part, s);
     Told {
-        live: live,
-        counts: spent,
+        live,
+        counts: rest.counts,
     }
 }

@@ -1,5 +1,6 @@
 -- The cheapest of each child of an inner node, in words: the node's own cheapest, or the cheaper of the bridge's line and what a descent finds.
-use Rattle.std.specs.Prelude.{◌≡◌, refl, ◌≢◌, Bool, true, false, List, ℕ, ◌-◌, T, ℤ}
+use mathlib.Core.Bool.{beq}
+use Rattle.std.specs.Prelude.{◌≡◌, refl, ◌≢◌, Bool, true, false, not, List, ℕ, ◌-◌, T, ℤ}
 use Rattle.std.proofs.Common.{sym, ◌∙◌, ap, ap₂, arith}
 use Rattle.std.proofs.Math.Option.{none, some}
 use mathlib.Core.List.Memᴰ
@@ -94,6 +95,27 @@ pub record OnRight (w : Words) (x e : ℕ) (q : ℤ) (s : ℕ) : Type 0 where
   pub is : (u v : Item) (l r : OfferTree Item) (ql qr : Part Item) (es : List Item) (a : Item) → Subtree w x (fork u v l ql qr r) es → Kept w e q a →
       s ≡ (right_of items (whole q) (seek_at q) v l qr a).slot
 
+-- by the side; left is false
+pub record OnSide (side : Bool) (w : Words) (x e : ℕ) (q : ℤ) (s : ℕ) : Type 0 where
+  pub left : side ≡ false → OnLeft w x e q s
+  pub right : side ≡ true → OnRight w x e q s
+
+same : (a b : Bool) → beq a b ≡ true → a ≡ b
+same true true e = refl
+same false false e = refl
+same true false e = sym e
+same false true e = e
+
+other : (a b : Bool) → beq a b ≡ false → a ≡ not b
+other true true e = e
+other false false e = sym e
+other true false e = refl
+other false true e = refl
+
+abbrev pub bridge_on : Bool → ℕ
+bridge_on false = bridge_left_field
+bridge_on true = bridge_right_field
+
 module _
     {w : Words} {x e m : ℕ} {q : ℤ} {late : Bool} (here : m ≡ x - most_slots) (test : late ≡ lt_z (cell w rate_field e) (cell w rate_field m)) where
   -- the code's test is the figure's
@@ -102,14 +124,17 @@ module _
       items.before (last (shape l)) a ≡ late
   side_is f k = sym (test ∙ ap₂ lt_z (ap (cell w rate_field) k.slot ∙ k.held.rate) (ap (cell w rate_field) here ∙ f.rate_at))
 
-  pub left_own : late ≡ false → OnLeft w x e q e
+  left_own : late ≡ false → OnLeft w x e q e
   left_own y = record { is = λ u v l r ql qr es a n k. rw (side_is (forked u v l r ql qr n) k, y) k.slot }
 
-  pub right_own : late ≡ true → OnRight w x e q e
+  right_own : late ≡ true → OnRight w x e q e
   right_own y = record { is = λ u v l r ql qr es a n k. rw (side_is (forked u v l r ql qr n) k, y) k.slot }
 
+  pub own_on : {side : Bool} → beq late side ≡ true → OnSide side w x e q e
+  own_on {side} y = record { left = λ f. left_own (same late side y ∙ f); right = λ f. right_own (same late side y ∙ f) }
+
   module _ {c root b s : ℕ} (stays : root ≡ rest_at w c) (least : Cheaper w root b q s) where
-    pub left_rest : late ≡ true → c ≡ child_at w offer_tree false x → b ≡ link_at w bridge_left_field m → OnLeft w x e q s
+    left_rest : late ≡ true → c ≡ child_at w offer_tree false x → b ≡ link_at w bridge_left_field m → OnLeft w x e q s
     left_rest y ec eb =
         record {
           is = λ u v l r ql qr es a n k.
@@ -121,7 +146,7 @@ module _
               (least.is ql u (rw (stays, ec) f.rest_left) own);
         }
 
-    pub right_rest : late ≡ false → c ≡ child_at w offer_tree true x → b ≡ link_at w bridge_right_field m → OnRight w x e q s
+    right_rest : late ≡ false → c ≡ child_at w offer_tree true x → b ≡ link_at w bridge_right_field m → OnRight w x e q s
     right_rest y ec eb =
         record {
           is = λ u v l r ql qr es a n k.
@@ -131,4 +156,11 @@ module _
               record { slot = eb ∙ ap (link_at w bridge_right_field) here ∙ f.v_at; held = subtree_held f.right in_right; load = k.load } in
               rw (side_is f k, y)
               (least.is qr v (rw (stays, ec) f.rest_right) own);
+        }
+
+    pub rest_on : {side : Bool} → beq late side ≡ false → c ≡ child_at w offer_tree side x → b ≡ link_at w (bridge_on side) m → OnSide side w x e q s
+    rest_on {side} y ec eb =
+        record {
+          left = λ f. left_rest (other late side y ∙ ap not f) (ec ∙ ap (λ k. child_at w offer_tree k x) f) (eb ∙ ap (λ k. link_at w (bridge_on k) m) f);
+          right = λ f. right_rest (other late side y ∙ ap not f) (ec ∙ ap (λ k. child_at w offer_tree k x) f) (eb ∙ ap (λ k. link_at w (bridge_on k) m) f);
         }

@@ -7,7 +7,7 @@ ghost use Rattle.std.specs.Int.Signed.{le_z, lt_z};
 ghost use Rattle.table.specs.Fields.{most_levels, most_slots, rate_field};
 ghost use Rattle.table.specs.Layout.{cap, cell};
 ghost use Rattle.query.specs.Readings.{price_in};
-ghost use Rattle.gathering.specs.Cheapest.{Cheaper, OnLeft, OnRight};
+ghost use Rattle.gathering.specs.Cheapest.{Cheaper, bridge_on, OnSide};
 ghost use Rattle.gathering.specs.Gathers.{Put, Gathers};
 
 // A place for each slot that a part may have.
@@ -45,49 +45,36 @@ fn cheaper(part: &[i64], root: u32, slot: u32, load: i64) -> u32
     if root == 0 {
         return slot;
     }
-    let found = query::descend(part, root, load);
-    let other = found.slot;
+    let other = query::descend(part, root, load).slot;
     if no_dearer(part, slot, other, load) {
         return slot;
     }
     other
 }
 
-// The cheapest below the left child of inner node `x`, where `e` is the cheapest below `x`. Whatever the words are, either this or `right_cheapest` is
-// `e` itself.
-fn left_cheapest(part: &[i64], c: u32, x: u32, e: u32, load: i64) -> u32
-    requires { c ≡ cap part.now }
-    ensures { OnLeft part.now x e load result }
+// The field of a bridge's end on a side: left is false, right is true.
+fn bridge_field(side: bool) -> usize
+    ensures { result ≡ bridge_on side }
 {
-    let m = table::inner_slot(x);
-    if !is_later(part, c, e, m) {
-        return e;
+    if side {
+        table::BRIDGE_RIGHT
+    } else {
+        table::BRIDGE_LEFT
     }
-    let root = form::rest_in(part, c, table::child_in(part, c, table::OFFERS, false, x));
-    cheaper(
-        part,
-        root,
-        table::link_in(part, c, table::BRIDGE_LEFT, m),
-        load,
-    )
 }
 
-// .. and the right child.
-fn right_cheapest(part: &[i64], c: u32, x: u32, e: u32, load: i64) -> u32
+// The cheapest below the child on a side of inner node `x`, where `e` is the cheapest below `x`. Whatever the words are, on one side it is `e` itself.
+fn child_cheapest(part: &[i64], c: u32, side: bool, x: u32, e: u32, load: i64) -> u32
     requires { c ≡ cap part.now }
-    ensures { OnRight part.now x e load result }
+    ensures { OnSide side part.now x e load result }
 {
     let m = table::inner_slot(x);
-    if is_later(part, c, e, m) {
+    if is_later(part, c, e, m) == side {
         return e;
     }
-    let root = form::rest_in(part, c, table::child_in(part, c, table::OFFERS, true, x));
-    cheaper(
-        part,
-        root,
-        table::link_in(part, c, table::BRIDGE_RIGHT, m),
-        load,
-    )
+    let root = form::rest_in(part, c, table::child_in(part, c, table::OFFERS, side, x));
+    let end = table::link_in(part, c, bridge_field(side), m);
+    cheaper(part, root, end, load)
 }
 
 // Puts leaf `x` at place `at`, and returns the next place; gives up where there is no room.
@@ -132,10 +119,10 @@ fn gather_in(
         return GIVEN_UP;
     }
     let left = table::child_in(part, c, table::OFFERS, false, x);
-    let f = left_cheapest(part, c, x, e, load);
+    let f = child_cheapest(part, c, false, x, e, load);
     let mid = gather_in(part, c, left, f, load, price, firsts, at, limit - 1);
     let right = table::child_in(part, c, table::OFFERS, true, x);
-    let g = right_cheapest(part, c, x, e, load);
+    let g = child_cheapest(part, c, true, x, e, load);
     gather_in(part, c, right, g, load, price, firsts, mid, limit - 1)
 }
 

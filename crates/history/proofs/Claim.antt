@@ -1,24 +1,20 @@
 -- Theorems on specs/Claim.
-use Rattle.std.specs.Prelude.{◌≡◌, refl, List, [], ◌∷◌, ℕ, length, ℤ, nat_abs}
-use Rattle.std.proofs.Common.{sym, ◌∙◌, ap, subst}
-use Rattle.std.proofs.Math.Option.{Option, none, some}
-use Rattle.plain.specs.Causes.{Cause, declined, Clear}
-use Rattle.plain.specs.Book.{State, Undo, Call, post, withdraw, query, listing, take_back, report, Answer, opened, open_trials, trials}
-use Rattle.plain.specs.Book.{recalling, accepted, respond, step, after, answers}
-use Rattle.trees.specs.Height.{log_height, log_height_p}
-use Rattle.dynamic.specs.OfferTree.{Held, Pair}
-use Rattle.dynamic.specs.Heights.{offers_height, piece_height}
-use Rattle.dynamic.specs.Work.{Work}
+use Rattle.std.specs.Prelude.{◌≡◌, refl, List, ◌∷◌, ℕ, length, ℤ, nat_abs, Result, Ok}
+use Rattle.std.proofs.Common.{sym, ◌∙◌, subst}
+use Rattle.std.proofs.Math.Option.{Option, none}
+use Rattle.plain.specs.Causes.{Clear}
+use Rattle.plain.specs.Book.{State, Call, Answer, opened, open_trials}
+use Rattle.plain.specs.Book.{step}
+use Rattle.trees.specs.Height.{log_height_p}
+use Rattle.dynamic.specs.OfferTree.{Held}
 use Rattle.table.specs.Items.{Item}
-use Rattle.pieces.specs.Pieces.{items}
-use Rattle.promises.specs.declared.Opening.{Opening}
-use Rattle.promises.specs.declared.Opening.TheVariants.{Opened}
-use Rattle.form.specs.Form.{Form, OffersIn}
+use Rattle.causes.specs.declared.Declined.{Declined}
+use Rattle.form.specs.Form.{Form}
 use Rattle.form.specs.Local.{Alike}
 use Rattle.form.proofs.Local.{form_alike}
-use Rattle.promises.specs.Promises.{part_of, Opens, Passes}
-use Rattle.history.specs.History.{Happens, by_update, by_query, by_listing, by_report, History, finished, next, LowPairs, Kept}
-use Rattle.history.specs.History.{Low, Claim}
+use Rattle.promises.specs.Promises.{part_of, Opens}
+use Rattle.history.specs.History.{History, finished, next}
+use Rattle.history.specs.History.{Claim}
 use Rattle.history.specs.Claim.{OneCall, low_trees, one_call, step_capacity}
 
 -- c is the plain book's capacity
@@ -54,9 +50,9 @@ from_book {c} {start} (next {t} {t₁} {k = k} alike p rest) s held same form =
 
 -- Every history: the list begins at an opening that meets neither cause 1 nor cause 2. That opening is accepted.
 pub every_history :
-    {start : ℕ} {t t₀ : List ℤ} {ks : List Call} {as' : List Answer} {t' : List ℤ} (c : ℤ) (r : Opening) →
+    {start : ℕ} {t t₀ : List ℤ} {ks : List Call} {as' : List Answer} {t' : List ℤ} (c : ℤ) (r : Result (Unit {0}) Declined) →
     Opens c start t t₀ r →
     Clear (open_trials (length t) start c) →
     (h : History (nat_abs c) start t₀ ks as' t') →
-    (r ≡ Opened) × Claim (opened c) none h
+    (r ≡ Ok tt) × Claim (opened c) none h
 every_history c r p clear h = ((p.accepted clear).0, from_book h (opened c) none refl (p.accepted clear).1)

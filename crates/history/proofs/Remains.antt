@@ -1,23 +1,17 @@
 -- Theorems on specs/Remains.
-use Rattle.std.specs.Prelude.{◌≡◌, refl, List, [], ℕ, length, ℤ, nat_abs}
-use Rattle.std.proofs.Common.{sym, ◌∙◌, ap, subst}
-use Rattle.std.proofs.Math.Option.{Option, none}
+use Rattle.std.specs.Prelude.{refl, List, ℕ, length, ℤ, nat_abs, Result}
 use Rattle.plain.specs.Causes.{Clear}
-use Rattle.plain.specs.Book.{State, Call, Answer, opened, open_trials, after}
-use Rattle.plain.specs.Sound.{Sound, opened_sound}
-use Rattle.plain.specs.Remaining.{remaining, AllAccepted}
-use Rattle.plain.proofs.Remaining.{remaining_leaves}
-use Rattle.dynamic.specs.OfferTree.{Held}
-use Rattle.table.specs.Items.{Item}
-use Rattle.form.specs.Form.{plain_offers}
-use Rattle.promises.specs.declared.Opening.{Opening}
+use Rattle.plain.specs.Book.{Call, Answer, open_trials}
+use Rattle.plain.specs.Sound.{opened_sound}
+use Rattle.causes.specs.declared.Declined.{Declined}
 use Rattle.promises.specs.Promises.{Opens}
-use Rattle.history.specs.History.{History, Claim}
+use Rattle.history.specs.History.{History}
 use Rattle.history.proofs.Claim.{every_history}
 use Rattle.history.specs.Remains.{Stays, remaining_stands}
 
 -- from an opening on
 pub every_remainder :
-    {start : ℕ} {t t₀ : List ℤ} {ks : List Call} {as' : List Answer} {t' : List ℤ} (c : ℤ) (r : Opening) (p : Opens c start t t₀ r)
-    (clear : Clear (open_trials (length t) start c)) (h : History (nat_abs c) start t₀ ks as' t') → Stays (every_history c r p clear h).1
+    {start : ℕ} {t t₀ : List ℤ} {ks : List Call} {as' : List Answer} {t' : List ℤ} (c : ℤ) (r : Result (Unit {0}) Declined)
+    (p : Opens c start t t₀ r) (clear : Clear (open_trials (length t) start c)) (h : History (nat_abs c) start t₀ ks as' t') →
+    Stays (every_history c r p clear h).1
 every_remainder {start} {t} c r p clear h = remaining_stands (opened_sound (length t) start c clear) refl (every_history c r p clear h).1

@@ -1,24 +1,20 @@
 -- The proof of the claim about a history (`Claim`, in History): from an accepted opening, whatever the capacity, the start and the words were, and
 -- after any list of posts, withdrawals, take-backs, queries, listings and reports, refused ones among them.
-use Rattle.std.specs.Prelude.{◌≡◌, refl, List, [], ◌∷◌, ℕ, length, ℤ, nat_abs}
+use Rattle.std.specs.Prelude.{◌≡◌, refl, List, [], ◌∷◌, ℕ, ℤ}
 use Rattle.std.proofs.Common.{sym, ◌∙◌, ap, subst}
 use Rattle.std.proofs.Math.Option.{Option, none, some}
-use Rattle.plain.specs.Causes.{Cause, declined, Clear}
-use Rattle.plain.specs.Book.{State, Undo, Call, post, withdraw, query, listing, take_back, report, Answer, opened, open_trials, trials}
-use Rattle.plain.specs.Book.{recalling, accepted, respond, step, after, answers}
-use Rattle.trees.specs.Height.{log_height, log_height_p}
+use Rattle.plain.specs.Causes.{Cause, declined}
+use Rattle.plain.specs.Book.{State, Undo, Call, post, withdraw, query, listing, take_back, report, Answer, trials}
+use Rattle.plain.specs.Book.{recalling, accepted, respond, step, after}
+use Rattle.trees.specs.Height.{log_height}
 use Rattle.dynamic.specs.OfferTree.{Held, Pair}
 use Rattle.dynamic.specs.Heights.{offers_height, piece_height}
 use Rattle.dynamic.specs.Work.{Work}
 use Rattle.table.specs.Items.{Item}
 use Rattle.pieces.specs.Pieces.{items}
-use Rattle.promises.specs.declared.Opening.{Opening}
-use Rattle.promises.specs.declared.Opening.TheVariants.{Opened}
 use Rattle.form.specs.Form.{Form, OffersIn}
-use Rattle.form.specs.Local.{Alike}
-use Rattle.form.proofs.Local.{form_alike}
-use Rattle.promises.specs.Promises.{part_of, Opens, Passes}
-use Rattle.history.specs.History.{Happens, by_update, by_query, by_listing, by_report, History, finished, next, LowPairs, Kept}
+use Rattle.promises.specs.Promises.{part_of, Passes}
+use Rattle.history.specs.History.{Happens, by_update, by_query, by_listing, by_report, History, LowPairs, Kept}
 pub use Rattle.history.specs.History.{Low, Claim}
 
 -- ---- heights

@@ -1,6 +1,6 @@
 -- A list of calls on one table, and the claim about it (docs/REQUIREMENTS.md, 8). Each call is told by its function's own promise; between two calls
 -- anybody may write words outside the part, and nobody writes the part.
-use Rattle.std.specs.Prelude.{◌≡◌, ℕ, ◌*◌, ◌≤◌, length, ℤ}
+use Rattle.std.specs.Prelude.{◌≡◌, ℕ, ◌*◌, ◌≤◌, length, ℤ, Result}
 use mathlib.Core.List.{List, [], ◌∷◌, Memᴰ}
 use Rattle.std.proofs.Math.Option.{Option, none, some}
 use Rattle.integers.specs.Log.{log_up}
@@ -9,10 +9,9 @@ use Rattle.trees.specs.Operations.{Part, part_leaves, part_height}
 use Rattle.dynamic.specs.OfferTree.{Held, held_shape, Pair}
 use Rattle.dynamic.specs.Rearranged.{piece_trees}
 use Rattle.table.specs.Items.{Item}
+use Rattle.causes.specs.declared.Declined.{Declined}
 use Rattle.promises.specs.declared.Update.{Update}
 use Rattle.promises.specs.declared.Found.{Found}
-use Rattle.promises.specs.declared.Listed.{Listed}
-use Rattle.promises.specs.declared.Reported.{Reported}
 use Rattle.form.specs.Form.{Form}
 use Rattle.form.specs.Local.{Alike}
 use Rattle.promises.specs.Promises.{part_of, Updates, Follows, Queries, Probes, Lists, Reports, found_told, update_answer, found_answer, listing_answer}
@@ -26,12 +25,14 @@ pub data Changes : Call → Type 0 where
 
 -- One call: the words before and after it, and its answer.
 pub data Happens (start : ℕ) (t : List ℤ) : Call → List ℤ → Answer → Type 0 where
-  by_update : {k : Call} {t' : List ℤ} {a : Answer} → Changes k → (u : Update) → Updates k start t t' u → a ≡ update_answer u → Happens start t k t' a
-  by_query : {t' : List ℤ} {a : Answer} (q : ℤ) (f : Found) → Queries q start t f → t' ≡ t → a ≡ found_answer f → Happens start t (query q) t' a
-  by_listing : {t' : List ℤ} {a : Answer} {room : ℕ} (out out' : List ℤ) (l : Listed) → Lists start t out out' l → room ≡ length out → t' ≡ t →
-      a ≡ listing_answer l out' → Happens start t (listing room) t' a
-  by_report : {t' : List ℤ} {a : Answer} {room : ℕ} (q p : ℤ) (out out' : List ℤ) (r : Reported) → Reports q p start t out out' r → room ≡ length out →
-      t' ≡ t → a ≡ report_answer r out' → Happens start t (report q p room) t' a
+  by_update : {k : Call} {t' : List ℤ} {a : Answer} → Changes k → (u : Result Update Declined) → Updates k start t t' u →
+      a ≡ update_answer u → Happens start t k t' a
+  by_query : {t' : List ℤ} {a : Answer} (q : ℤ) (f : Result Found Declined) → Queries q start t f →
+      t' ≡ t → a ≡ found_answer f → Happens start t (query q) t' a
+  by_listing : {t' : List ℤ} {a : Answer} {room : ℕ} (out out' : List ℤ) (l : Result ℤ Declined) → Lists start t out out' l → room ≡ length out →
+      t' ≡ t → a ≡ listing_answer l out' → Happens start t (listing room) t' a
+  by_report : {t' : List ℤ} {a : Answer} {room : ℕ} (q p : ℤ) (out out' : List ℤ) (r : Result ℤ Declined) → Reports q p start t out out' r →
+      room ≡ length out → t' ≡ t → a ≡ report_answer r out' → Happens start t (report q p room) t' a
 
 -- A list of calls with their answers, from the words `t` to the words `t'`.
 pub data History (c start : ℕ) : List ℤ → List Call → List Answer → List ℤ → Type 0 where

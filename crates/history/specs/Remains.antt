@@ -1,18 +1,15 @@
 -- After any list of calls with take-backs in it, refused ones among them, the part stands for the offers that the remaining accepted calls leave
 -- (plain, Remaining): those that the answers say were accepted, without the ones that were taken back.
-use Rattle.std.specs.Prelude.{◌≡◌, refl, List, [], ℕ, length, ℤ, nat_abs}
+use Rattle.std.specs.Prelude.{◌≡◌, List, [], ℕ, ℤ}
 use Rattle.std.proofs.Common.{sym, ◌∙◌, ap, subst}
-use Rattle.std.proofs.Math.Option.{Option, none}
-use Rattle.plain.specs.Causes.{Clear}
-use Rattle.plain.specs.Book.{State, Call, Answer, opened, open_trials, after}
-use Rattle.plain.specs.Sound.{Sound, opened_sound}
+use Rattle.std.proofs.Math.Option.{Option}
+use Rattle.plain.specs.Book.{State, Call, Answer, after}
+use Rattle.plain.specs.Sound.{Sound}
 use Rattle.plain.specs.Remaining.{remaining, AllAccepted}
 use Rattle.plain.proofs.Remaining.{remaining_leaves}
 use Rattle.dynamic.specs.OfferTree.{Held}
 use Rattle.table.specs.Items.{Item}
 use Rattle.form.specs.Form.{plain_offers}
-use Rattle.promises.specs.declared.Opening.{Opening}
-use Rattle.promises.specs.Promises.{Opens}
 use Rattle.history.specs.History.{History, Claim}
 
 -- What remains of the calls, told by their answers, is accepted call for call when it alone is made, and leaves what the order's leaves hold.

@@ -1,7 +1,7 @@
 -- What taking one level of the tree of offers apart and putting it together promise. On any words only fields of slots change; where the words
 -- hold subtrees with their envelopes, the results are the model's, and only the envelopes' fields in their slots have changed. Counts go round at
 -- 2 ^ 32, which no log of a book reaches.
-use Rattle.std.specs.Prelude.{◌≡◌, List, ◌++◌, ℕ, ◌^◌, ◌%◌, ◌<◌, length}
+use Rattle.std.specs.Prelude.{◌≡◌, List, ◌++◌, ℕ, ◌+◌, ◌^◌, ◌%◌, ◌<◌, length}
 use Rattle.envelopes.specs.Envelope.{Ordered}
 use Rattle.trees.specs.Tree.{node, leaves, last, Avl}
 use Rattle.dynamic.specs.OfferTree.{Held, held_shape, Pair, Made, lower, raise}
@@ -33,6 +33,12 @@ pub record Counted (log : List (Pair Item)) (n : Counts) : Type 0 where
   pub searches : n.searches ≡ length log % 2 ^ 32
   pub steps : n.steps ≡ steps_of items log % 2 ^ 32
   pub heights : n.heights ≡ heights_of log % 2 ^ 32
+
+-- c is the sum of a and b, gone round
+pub record Summed (a b c : Counts) : Type 0 where
+  pub searches : c.searches ≡ (a.searches + b.searches) % 2 ^ 32
+  pub steps : c.steps ≡ (a.steps + b.steps) % 2 ^ 32
+  pub heights : c.heights ≡ (a.heights + b.heights) % 2 ^ 32
 
 -- the words hold what was made, and count its log
 pub record MadeIn (w : Words) (m : Outcome) (made : Made Item) : Type 0 where

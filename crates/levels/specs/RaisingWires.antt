@@ -10,7 +10,7 @@ use Rattle.table.specs.Words.{Words, up_to, up_to_in}
 use Rattle.table.specs.Layout.{cap, cell, cset, link_at, Valid, cset_same}
 use Rattle.table.proofs.LayoutLaws.{cset_other}
 use Rattle.table.specs.Items.{Item, In, at, in_left, in_right, Slots, slots_left, slots_right, slots_across}
-use Rattle.table.specs.Rep.{child_field, height_field, Field, a_child, a_height, ref_of, node_on, Tied, Within, within_cap, within_trans, within_cset, Only}
+use Rattle.table.specs.Rep.{child_field, Field, a_child, a_height, ref_of, node_on, Tied, Within, within_cap, within_trans, within_cset, Only}
 use Rattle.table.specs.Nodes.{Made}
 use Rattle.nodes.specs.Joining.{Joined}
 use Rattle.pieces.specs.Pieces.{PieceField}

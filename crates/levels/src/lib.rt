@@ -6,8 +6,12 @@ ghost use Rattle.std.specs.Prelude.{◌≡◌};
 ghost use Rattle.table.specs.Fields.{bridge_left_field, bridge_right_field};
 ghost use Rattle.table.specs.Layout.{cap, link_at};
 ghost use Rattle.pieces.specs.Pieces.{CattedAfter, CattedBefore};
-ghost use Rattle.levels.specs.Levels.{LoweredIn, RaisedIn};
+ghost use Rattle.levels.specs.Levels.{LoweredIn, RaisedIn, Summed};
 ghost use Rattle.levels.specs.RaisingRests.{RestSet};
+
+use descents::Cut;
+use std::ops::Add;
+use table::Part;
 
 // A subtree in hand: its root in the tree of offers, and the root of its envelope.
 #[derive(Clone, Copy)]
@@ -22,6 +26,30 @@ pub struct Counts {
     pub searches: u32,
     pub steps: u32,
     pub heights: u32,
+}
+
+impl Counts {
+    // Nothing was searched.
+    pub const NONE: Counts = Counts {
+        searches: 0,
+        steps: 0,
+        heights: 0,
+    };
+}
+
+// The counts of one operation after another. They go round at 2 ^ 32, which those of a book do not reach.
+impl Add for Counts {
+    type Output = Counts;
+
+    ghost add_gives = { λ a b c. Summed a b c };
+
+    fn add(self, other: Counts) -> Counts {
+        Counts {
+            searches: self.searches.wrapping_add(other.searches),
+            steps: self.steps.wrapping_add(other.steps),
+            heights: self.heights.wrapping_add(other.heights),
+        }
+    }
 }
 
 // A subtree that was made, and what its making took.
@@ -52,6 +80,7 @@ fn set_rest(part: &mut [i64], c: u32, x: u32, q: u32)
 
 // Puts a left child's rest `q` behind its part `front` of the envelope of the node in slot `m`. That part ends at the node's bridge, which is
 // read only where there is a rest.
+// Two functions for the two sides: one would choose the field, the call and the order of its trees by the side.
 fn put_behind(part: &mut [i64], c: u32, m: u32, front: u32, q: u32) -> u32
     requires { c ≡ cap part.old }
     ensures { CattedAfter front q (link_at part.old bridge_left_field m) part.old part.new result }
@@ -85,11 +114,11 @@ pub fn lower(part: &mut [i64], h: Held) -> Lowered
     let r = table::child_in(part, k, table::OFFERS, true, h.tree);
     let m = table::inner_slot(h.tree);
     let rate = table::get_in(part, k, table::RATE, m);
-    let c = cuts::cut_in(part, k, false, rate, h.envelope);
+    let Cut { front, back } = cuts::cut_in(part, k, false, rate, h.envelope);
     let ql = form::rest_in(part, k, l);
     let qr = form::rest_in(part, k, r);
-    let le = put_behind(part, k, m, c.front, ql);
-    let re = put_in_front(part, k, m, qr, c.back);
+    let le = put_behind(part, k, m, front, ql);
+    let re = put_in_front(part, k, m, qr, back);
     Lowered {
         left: Held {
             tree: l,
@@ -108,26 +137,24 @@ pub fn raise(part: &mut [i64], gap: u32, l: Held, r: Held) -> Made
     ensures { RaisedIn gap l r part.old part.new result }
 {
     let k = table::capacity(part);
-    let m = search::meet_in(part, k, part, k, l.envelope, r.envelope);
-    let h = table::height_in(part, k, table::PIECES, l.envelope)
+    let read = Part::with_capacity(part, k);
+    let m = search::meet(&read, &read, l.envelope, r.envelope);
+    let heights = table::height_in(part, k, table::PIECES, l.envelope)
         + table::height_in(part, k, table::PIECES, r.envelope);
     let c = cuts::cut_behind(part, k, m.u, gap, l.envelope);
     let d = cuts::cut_before(part, k, m.v, r.envelope);
     set_rest(part, k, l.tree, c.back);
     set_rest(part, k, r.tree, d.front);
-    let x = shape::make_node_in(part, k, table::OFFERS, false, gap, l.tree, r.tree);
+    let tree = shape::make_node_in(part, k, table::OFFERS, false, gap, l.tree, r.tree);
     table::put_link_in(part, k, table::BRIDGE_LEFT, gap, m.u);
     table::put_link_in(part, k, table::BRIDGE_RIGHT, gap, m.v);
-    let e = pieces::cat_at(part, k, c.front, d.back, m.u, m.v);
+    let envelope = pieces::cat_at(part, k, c.front, d.back, m.u, m.v);
     Made {
-        held: Held {
-            tree: x,
-            envelope: e,
-        },
+        held: Held { tree, envelope },
         counts: Counts {
             searches: 1,
             steps: m.steps,
-            heights: h,
+            heights,
         },
     }
 }

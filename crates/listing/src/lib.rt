@@ -14,15 +14,13 @@ pub fn count(part: &[i64], root: u32) -> u32
     if s == 0 {
         return 0;
     }
-    let mut n: u32 = 1;
-    while s != last {
-        if table::MOST_SLOTS <= n {
-            return 0;
+    for n in 1..table::MOST_SLOTS + 1 {
+        if s == last {
+            return n;
         }
         s = table::link(part, table::NEXT_PIECE, s);
-        n += 1;
     }
-    n
+    0
 }
 
 // A word of a piece's crossing with the next; the last piece has none.
@@ -62,11 +60,9 @@ pub fn write(part: &[i64], root: u32, out: &mut [i64]) -> u32
         return n;
     }
     let mut s = descents::end(part, table::PIECES, false, root);
-    let mut i: u32 = 0;
-    while i < n {
+    for i in 0..n {
         put_piece(part, s, i + 1 == n, out, 3 * (i as usize));
         s = table::link(part, table::NEXT_PIECE, s);
-        i += 1;
     }
     n
 }

@@ -1,5 +1,5 @@
 -- The meeting on two parts: the search from their roots, and put together with the trials.
-use Rattle.std.specs.Prelude.{◌≡◌, refl, ◌⊎◌, Bool, true, false, not, ◌||◌, ℕ, ◌≤◌, T, leb, ltb, length, ℤ, pos}
+use Rattle.std.specs.Prelude.{◌≡◌, refl, ◌⊎◌, Bool, true, false, not, ◌||◌, ℕ, ◌≤◌, T, leb, ltb, length, ℤ, pos, Result, Ok, Err}
 use Rattle.std.proofs.Common.{sym, ◌∙◌, ap, ap₂, subst, ⊎_elim, arith, le→leb, ltb→lt, nltb→le}
 use mathlib.Core.List.Memᴰ
 use mathlib.Core.List.{List, ◌∷◌, ◌++◌, map, Memᴰ, map-append}
@@ -35,16 +35,18 @@ use Rattle.form.specs.Live.{live_length, first_offers, no_offers}
 use Rattle.form.specs.HeaderWords.{count_read}
 use Rattle.promises.specs.OneCause.{one_cause, not_clear}
 use Rattle.promises.specs.Rooted.{Root, topped, Top, root_of}
-use Rattle.meet_books.specs.declared.Met.{Met}
-use Rattle.meet_books.specs.declared.Met.TheVariants.{Meeting, Declined}
+use Rattle.causes.specs.declared.Declined.{Declined}
+use Rattle.causes.specs.declared.Declined.TheVariants.{Empty, RatesNotApart}
+use Rattle.causes.specs.Numbers.{number_of as cause_told}
+use Rattle.meet_books.specs.declared.Meeting.{Meeting}
 use Rattle.meet_books.specs.Promises.{meet_trials, refused, met, Found, Answers}
 use Rattle.meet_books.specs.Apart.{AllBefore, AllAbove, SetsApart, not_mixed, offers_above, firsts_apart}
 
 -- ---- the search from the roots
 
-pub record Searches (w w' : Words) (r : Met) : Type 0 where
+pub record Searches (w w' : Words) (m : Meeting) : Type 0 where
   pub finds : {s s' : State} {h h' : Held Item} → Book w s (some h) → Book w' s' (some h') → AllBefore (book_lines (some h)) (book_lines (some h')) →
-      Found s s' (some h) (some h') r
+      Found s s' (some h) (some h') (Ok m)
 
 -- what the code has read
 pub record Reads (w w' : Words) (l r : ℕ) (m : Ended) (u v : ℤ) (hl hr : ℕ) : Type 0 where
@@ -90,11 +92,11 @@ module _ {w w' : Words} {l r : ℕ} {m : Ended} {u v : ℤ} {hl hr : ℕ} (f : R
         sym (pieces_plain (ls ++ rs) (about.up_to ++ about.u ∷ about.v ∷ about.from) (os ++ os')
         (map-append offer_of ls rs ∙ ap₂ (λ (x y : List Offer). x ++ y) d e ∙ sym (firsts_apart os os' h)) o about.merged)
 
-  pub searches : Searches w w' (Meeting u v (pos m.steps) (pos hl) (pos hr))
+  pub searches : Searches w w' (record { u = u; v = v; steps = pos m.steps; hl = pos hl; hr = pos hr })
   searches = record { finds = λ b b' apart. go b b' apart (root_of b f.left_root) (root_of b' f.right_root) }
     where
       go : {s s' : State} {h h' : Held Item} → Book w s (some h) → Book w' s' (some h') → AllBefore (book_lines (some h)) (book_lines (some h')) →
-          Root w l (some h) → Root w' r (some h') → Found s s' (some h) (some h') (Meeting u v (pos m.steps) (pos hl) (pos hr))
+          Root w l (some h) → Root w' r (some h') → Found s s' (some h) (some h') (Ok (record { u = u; v = v; steps = pos m.steps; hl = pos hl; hr = pos hr }))
       go {h = h} {h' = h'} b b' apart (topped tl d p) (topped tr e q) =
           let o : Ordered items (leaves (held_shape h) ++ leaves (held_shape h')) =
           ordered_append items (leaves (held_shape h)) (leaves (held_shape h')) b.offers.offers_in.right.ordered
@@ -112,13 +114,14 @@ module _ {w w' : Words} {l r : ℕ} {m : Ended} {u v : ℤ} {hl hr : ℕ} (f : R
 
 -- ---- the trials
 
-pub record MeetsParts (w w' : Words) (r : Met) : Type 0 where
+pub record MeetsParts (w w' : Words) (r : Result Meeting Declined) : Type 0 where
   pub answers : (s s' : State) (held held' : Option (Held Item)) → Book w s held → Book w' s' held' → Answers s s' held held' r
 
 -- declined by the first trial that applies
-declines : {s s' : State} {held held' : Option (Held Item)} {k : Cause} → FirstOf (meet_trials s.offers s'.offers) k →
-    Answers s s' held held' (Declined (pos (cause_number k)))
-declines f = record { declined = λ z g. ap (λ (n : ℕ). refused (pos n)) (sym (one_cause f g)); accepted = λ g. absurd (not_clear f g) }
+declines : {s s' : State} {held held' : Option (Held Item)} {k : Cause} {c : Declined} → cause_told c ≡ pos (cause_number k) →
+    FirstOf (meet_trials s.offers s'.offers) k → Answers s s' held held' (Err c)
+declines e f =
+    record { declined = λ z g. ap refused e ∙ ap (λ (n : ℕ). refused (pos n)) (sym (one_cause f g)); accepted = λ g. absurd (not_clear f g) }
 
 -- what the count says of a book: no offer is live, or some are
 bare_book : {w : Words} {s : State} {held : Option (Held Item)} → Book w s held → T (ltb (up_to most_nodes (word w live_count_word)) 1) →
@@ -133,9 +136,9 @@ module _ {w : Words} {s : State} {held : Option (Held Item)} (b : Book w s held)
   live_book h = lt→nleb (length s.offers) 0 (some_offer h)
 
 pub one_empty : {w w' : Words} → T (ltb (up_to most_nodes (word w live_count_word)) 1) ⊎ T (ltb (up_to most_nodes (word w' live_count_word)) 1) →
-    MeetsParts w w' (Declined (pos 9))
+    MeetsParts w w' (Err Empty)
 one_empty k = record {
-  answers = λ s s' held held' b b'. declines
+  answers = λ s s' held held' b b'. declines refl
       (at_once (⊎_elim (λ h. or_left (leb (length s.offers) 0) (leb (length s'.offers) 0) (bare_book b h))
       (λ h. or_right (leb (length s.offers) 0) (leb (length s'.offers) 0) (bare_book b' h)) k));
 }
@@ -147,23 +150,23 @@ module _ {w w' : Words} {e e' : Bool} (t : e ≡ ltb (up_to most_nodes (word w l
     neither_empty {s} {s'} b b' = not_either (leb (length s.offers) 0) (leb (length s'.offers) 0) (live_book b t h)
         (live_book b' t' h')
 
-    pub not_apart : d ≡ false → MeetsParts w w' (Declined (pos 12))
+    pub not_apart : d ≡ false → MeetsParts w w' (Err RatesNotApart)
     not_apart n = record { answers = λ s s' held held' b b'. go held held' b b' }
       where
-        go : {s s' : State} (held held' : Option (Held Item)) → Book w s held → Book w' s' held' → Answers s s' held held' (Declined (pos 12))
+        go : {s s' : State} (held held' : Option (Held Item)) → Book w s held → Book w' s' held' → Answers s s' held held' (Err RatesNotApart)
         go none held' b b' = absurd (omega (arith, some_offer b t h, ap length (no_offers b refl)))
         go (some g) none b b' = absurd (omega (arith, some_offer b' t' h', ap length (no_offers b' refl)))
-        go (some g) (some g') b b' = declines {held = some g} {held' = some g'} (further (neither_empty b b') (at_once (s.mixed n b b')))
+        go (some g) (some g') b b' = declines {held = some g} {held' = some g'} refl (further (neither_empty b b') (at_once (s.mixed n b b')))
 
-    pub apart_found : d ≡ true → {r : Met} → Searches w w' r → MeetsParts w w' r
-    apart_found n {r} f = record { answers = λ s s' held held' b b'. go held held' b b' }
+    pub apart_found : d ≡ true → {m : Meeting} → Searches w w' m → MeetsParts w w' (Ok m)
+    apart_found n {m} f = record { answers = λ s s' held held' b b'. go held held' b b' }
       where
         -- all rates apart: the trial does not apply
         clear : {s s' : State} (g g' : Held Item) → Book w s (some g) → Book w' s' (some g') →
             T (not (any (λ a. any (λ b. not (lt_z b.rate a.rate)) s'.offers) s.offers))
         clear {s = plain} {s' = plain'} g g' b b' = not_mixed plain.offers plain'.offers (offers_above b b' (s.apart n b b'))
 
-        go : {s s' : State} (held held' : Option (Held Item)) → Book w s held → Book w' s' held' → Answers s s' held held' r
+        go : {s s' : State} (held held' : Option (Held Item)) → Book w s held → Book w' s' held' → Answers s s' held held' (Ok m)
         go none held' b b' = absurd (omega (arith, some_offer b t h, ap length (no_offers b refl)))
         go (some g) none b b' = absurd (omega (arith, some_offer b' t' h', ap length (no_offers b' refl)))
         go (some g) (some g') b b' =

@@ -9,18 +9,17 @@ ghost use Rattle.meet_books.specs.Promises.{MeetsBooks};
 ghost use Rattle.meet_books.specs.Apart.{SetsApart};
 ghost use Rattle.meet_books.specs.Searching.{Searches, MeetsParts};
 
-// What a meeting answers: the numbers of u's and v's offers, the steps of the search and the heights of the two trees, or the number of the
-// cause for which it was declined.
-#[derive(Drop)]
-pub enum Met {
-    Meeting {
-        u: i64,
-        v: i64,
-        steps: i64,
-        hl: i64,
-        hr: i64,
-    },
-    Declined(i64),
+use causes::Declined;
+use table::Part;
+
+// What a meeting answers: the numbers of u's and v's offers, the steps of the search and the heights of the two trees.
+#[derive(Clone, Copy)]
+pub struct Meeting {
+    pub u: i64,
+    pub v: i64,
+    pub steps: i64,
+    pub hl: i64,
+    pub hr: i64,
 }
 
 // No offer is live.
@@ -43,19 +42,19 @@ fn stand_apart(left: &[i64], right: &[i64]) -> bool
 }
 
 // Searches the meeting of the two root envelopes.
-fn search_roots(left: &[i64], right: &[i64]) -> Met
+fn search_roots(left: &[i64], right: &[i64]) -> Meeting
     ensures { Searches left.now right.now result }
 {
     let l = form::envelope_root(left);
     let r = form::envelope_root(right);
-    let m = search::meet(left, right, l, r);
+    let m = search::meet(&Part::of(left), &Part::of(right), l, r);
     let u = table::get(left, table::NUMBER, m.u);
     let v = table::get(right, table::NUMBER, m.v);
     let hl = table::height(left, table::PIECES, l);
     let hr = table::height(right, table::PIECES, r);
-    Met::Meeting {
-        u: u,
-        v: v,
+    Meeting {
+        u,
+        v,
         steps: m.steps as i64,
         hl: hl as i64,
         hr: hr as i64,
@@ -63,24 +62,29 @@ fn search_roots(left: &[i64], right: &[i64]) -> Met
 }
 
 // The meeting of two parts.
-fn meet_parts(left: &[i64], right: &[i64]) -> Met
+fn meet_parts(left: &[i64], right: &[i64]) -> Result<Meeting, Declined>
     ensures { MeetsParts left.now right.now result }
 {
     if is_empty(left) || is_empty(right) {
-        return Met::Declined(9);
+        return Err(Declined::Empty);
     }
-    if stand_apart(left, right) {
-        return search_roots(left, right);
+    if !stand_apart(left, right) {
+        return Err(Declined::RatesNotApart);
     }
-    Met::Declined(12)
+    Ok(search_roots(left, right))
 }
 
 // The meeting of the book at `left_start` with the book at `right_start`, whose rates are all below the first's.
-pub fn meet(left: &[i64], left_start: usize, right: &[i64], right_start: usize) -> Met
+pub fn meet(
+    left: &[i64],
+    left_start: usize,
+    right: &[i64],
+    right_start: usize,
+) -> Result<Meeting, Declined>
     ensures { MeetsBooks left.now left_start right.now right_start result }
 {
     if promises::no_book(left, left_start) || promises::no_book(right, right_start) {
-        return Met::Declined(3);
+        return Err(Declined::NoBook);
     }
     meet_parts(&left[left_start..], &right[right_start..])
 }

@@ -1,6 +1,6 @@
 -- The ring of entries read and written, word by word. A new entry comes behind the last one: the 255 entries before it all stand at other places.
-use Rattle.std.specs.Prelude.{◌≡◌, refl, ◌≢◌, List, [], ◌∷◌, ℕ, zero, suc, ◌+◌, ◌*◌, ◌-◌, ◌≤◌, ◌<◌, min, length, take, ℤ, pos}
-use Rattle.std.proofs.Common.{sym, ◌∙◌, ap, subst, add-one, arith, length-take, SFits}
+use Rattle.std.specs.Prelude.{◌≡◌, refl, ◌≢◌, List, [], ◌∷◌, ℕ, zero, suc, ◌+◌, ◌*◌, ◌-◌, ◌%◌, ◌≤◌, ◌<◌, min, length, take, ℤ, pos}
+use Rattle.std.proofs.Common.{sym, ◌∙◌, ap, subst, arith, length-take, SFits}
 use Rattle.std.proofs.Math.Decide.{dec_le}
 use Rattle.std.specs.Int.{w64}
 use Rattle.plain.specs.Book.{Undo, most_remembered}
@@ -19,22 +19,17 @@ use Rattle.memory.specs.declared.Entry.{Entry}
 abbrev pub last_place : ℕ
 last_place = 255
 
--- by the tests that the code makes
-pub before_first : (i : ℕ) → i < 1 → last_place ≡ earlier i
-before_first zero h = refl
-before_first (suc i) h = absurd (omega arith)
-
-pub before_other : (i : ℕ) → 1 ≤ i → i - 1 ≡ earlier i
-before_other zero h = absurd (omega arith)
-before_other (suc i) h = omega arith
-
 -- p is the place behind place i
 pub record Behind (i p : ℕ) : Type 0 where
   pub place : p < most_remembered
   pub back : i < most_remembered → earlier p ≡ i
 
-pub behind_other : (i : ℕ) → i < last_place → Behind i (i + 1)
-behind_other i h = record { place = omega arith; back = λ l. rw add-one }
+pub behind_round : (i : ℕ) → Behind i ((i + 1) % most_remembered)
+behind_round i = record { place = omega arith; back = back ((i + 1) % most_remembered) refl }
+  where
+    back : (p : ℕ) → p ≡ (i + 1) % most_remembered → i < most_remembered → earlier p ≡ i
+    back zero e h = omega arith
+    back (suc p) e h = omega arith
 
 -- going back from place j, place p comes after d steps
 data Back (p j d : ℕ) : Type 0 where

@@ -1,11 +1,9 @@
 // The memory of a part: a ring of 256 entries behind the slots, each of them four words that tell how to take one update back.
 #![tactic(auto)]
 
-ghost use Rattle.std.specs.Prelude.{◌≡◌, ◌+◌, ◌-◌, ◌≤◌, min};
-ghost use Rattle.plain.specs.Book.{most_remembered};
+ghost use Rattle.std.specs.Prelude.{◌≡◌};
 ghost use Rattle.form.specs.Memory.{entry_at, earlier};
 ghost use Rattle.memory.specs.Ring.{LastOf, Emptying, Remembering, Forgetting};
-ghost use Rattle.memory.specs.Entries.{Behind};
 
 // What was done, as an entry tells it.
 pub const POSTED: u32 = 1;
@@ -48,41 +46,7 @@ pub fn entry_at(part: &[i64], i: u32) -> usize
 pub fn before(i: u32) -> u32
     ensures { result ≡ earlier i }
 {
-    if i < 1 {
-        return LAST_PLACE;
-    }
-    i - 1
-}
-
-// The place behind place `i`.
-fn behind(i: u32) -> u32
-    ensures { Behind i result }
-{
-    if i < LAST_PLACE {
-        return i + 1;
-    }
-    0
-}
-
-// A count with one entry more, but no more than the ring has places.
-fn one_more(n: u32) -> u32
-    requires { n ≤ most_remembered }
-    ensures { result ≡ min most_remembered (n + 1) }
-{
-    if n < ENTRIES {
-        return n + 1;
-    }
-    n
-}
-
-// A count with one entry less.
-fn one_less(n: u32) -> u32
-    ensures { result ≡ n - 1 }
-{
-    if n < 1 {
-        return 0;
-    }
-    n - 1
+    i.checked_sub(1).unwrap_or(LAST_PLACE)
 }
 
 // Nothing is remembered: the first entry will stand at place 0.
@@ -115,14 +79,14 @@ pub fn last(part: &[i64]) -> Entry
     }
 }
 
-// One entry more; where there are 256 already, it takes the place of the oldest.
+// One entry more; where there are 256 already, it takes the place of the oldest. `done` is a number: `Remembering` is said of every one.
 pub fn remember(part: &mut [i64], done: u32, number: i64, rate: i64, base: i64)
     ensures { Remembering done number rate base part.old part.new }
 {
     let last = table::number_at(part, table::LAST_ENTRY, LAST_PLACE);
-    let next = behind(last);
+    let next = (last + 1) % ENTRIES;
     let count = table::number_at(part, table::REMEMBERED, ENTRIES);
-    let more = one_more(count);
+    let more = (count + 1).min(ENTRIES);
     let at = entry_at(part, next);
     table::set_number(part, at + DONE, done);
     table::set_word(part, at + ENTRY_NUMBER, number);
@@ -139,7 +103,7 @@ pub fn forget(part: &mut [i64])
     let last = table::number_at(part, table::LAST_ENTRY, LAST_PLACE);
     let previous = before(last);
     let count = table::number_at(part, table::REMEMBERED, ENTRIES);
-    let less = one_less(count);
+    let less = count.saturating_sub(1);
     table::set_number(part, table::LAST_ENTRY, previous);
     table::set_number(part, table::REMEMBERED, less);
 }

@@ -7,7 +7,7 @@ ghost use Rattle.table.specs.Fields.{most_slots};
 ghost use Rattle.promises.specs.Promises.{Opens};
 ghost use Rattle.opening.specs.Starting.{Heading, Lays, Starts};
 
-use promises::Opening;
+use causes::Declined;
 
 const MOST_CAPACITY: i64 = table::MOST_SLOTS as i64;
 
@@ -29,9 +29,7 @@ fn lay(part: &mut [i64], capacity: u32)
     requires { (1 ≤ capacity) × (capacity ≤ most_slots) }
     ensures { Lays capacity part.old part.new }
 {
-    let mut n: u32 = 0;
-    while n + 1 < capacity {
-        n += 1;
+    for n in 1..capacity {
         table::put_link(part, table::NUMBER, n, 0);
         table::put_link(part, table::NEXT_FREE, n, n + 1);
     }
@@ -50,19 +48,19 @@ fn start_book(part: &mut [i64], capacity: u32)
 }
 
 // Opens an empty book at `start`.
-pub fn open(table: &mut [i64], start: usize, capacity: i64) -> Opening
+pub fn open(table: &mut [i64], start: usize, capacity: i64) -> Result<(), Declined>
     ensures { Opens capacity start table.old table.new result }
 {
     if query::outside(1, MOST_CAPACITY, capacity) {
-        return Opening::Declined(1);
+        return Err(Declined::Capacity);
     }
     let c = table::up_to(table::MOST_SLOTS, capacity);
     if table.len() < start {
-        return Opening::Declined(2);
+        return Err(Declined::NoRoom);
     }
     if table.len() - start < 64 * (c as usize + 1) + table::MEMORY {
-        return Opening::Declined(2);
+        return Err(Declined::NoRoom);
     }
     start_book(&mut table[start..], c);
-    Opening::Opened
+    Ok(())
 }

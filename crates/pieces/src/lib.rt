@@ -5,6 +5,8 @@ ghost use Rattle.std.specs.Prelude.{◌≡◌};
 ghost use Rattle.table.specs.Layout.{cap};
 ghost use Rattle.pieces.specs.Pieces.{Catted, Seamed, CattedAfter, CattedBefore};
 
+use table::Part;
+
 // Puts two piece trees together, either of which may be empty, and keeps the crossing at the seam: `s` is the last piece of the left one,
 // `n` the first of the right one. `c` is the capacity.
 pub fn cat_at(part: &mut [i64], c: u32, l: u32, r: u32, s: u32, n: u32) -> u32
@@ -17,8 +19,9 @@ pub fn cat_at(part: &mut [i64], c: u32, l: u32, r: u32, s: u32, n: u32) -> u32
     if r == 0 {
         return l;
     }
-    let numerator = prices::base_in(part, c, n) - prices::base_in(part, c, s);
-    let denominator = prices::rate_in(part, c, s) - prices::rate_in(part, c, n);
+    let read = Part::with_capacity(part, c);
+    let numerator = prices::base(&read, n) - prices::base(&read, s);
+    let denominator = prices::rate(&read, s) - prices::rate(&read, n);
     table::put_three_in(
         part,
         c,
@@ -34,16 +37,11 @@ pub fn cat_at(part: &mut [i64], c: u32, l: u32, r: u32, s: u32, n: u32) -> u32
 }
 
 // The same, where the two pieces are not known.
+// Three functions, by which of the two are known: each asks and promises less or more than the others.
 fn cat_in(part: &mut [i64], c: u32, l: u32, r: u32) -> u32
     requires { c ≡ cap part.old }
     ensures { Catted l r part.old part.new result }
 {
-    if l == 0 {
-        return r;
-    }
-    if r == 0 {
-        return l;
-    }
     let s = descents::end_in(part, c, table::PIECES, true, l);
     let n = descents::end_in(part, c, table::PIECES, false, r);
     cat_at(part, c, l, r, s, n)

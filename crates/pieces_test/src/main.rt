@@ -2,91 +2,79 @@
 // result what a plain scan of all lines gives. Line s of the left 120 crosses the next one at 2 (s + 1), and so do the right 120.
 #![tactic(auto)]
 
-ghost use Rattle.std.specs.Prelude.{◌<◌};
-
 use std::io;
+use table::Part;
 
-// The rates fall from slot to slot.
-fn rate_of(s: usize) -> u32 {
-    if s > 240 {
-        return 0;
-    }
-    1000 - s as u32
+// How many lines each of the two trees has.
+const HALF: usize = 120;
+
+const LINES: usize = 2 * HALF;
+
+// A line in a slot.
+#[derive(Clone, Copy)]
+struct Line {
+    slot: u32,
+    rate: u32,
+    base: u32,
 }
 
-// Each base is the one before it and twice the number of pieces so far; the right envelope's begin anew.
-fn bases() -> [u32; 241] {
-    let mut all = [0u32; 241];
+impl Line {
+    fn price(&self, load: u32) -> u32 {
+        self.base.wrapping_add(load.wrapping_mul(self.rate))
+    }
+}
+
+// The lines of slots 1 to 240. The rates fall from slot to slot, and each base is the one before it and twice the number of pieces so far; the right
+// envelope's bases begin anew.
+fn lines() -> [Line; LINES] {
+    let none = Line {
+        slot: 0,
+        rate: 0,
+        base: 0,
+    };
+    let mut all = [none; LINES];
     let mut left: u32 = 0;
     let mut right: u32 = 20000;
-    for s in 1..121 {
-        let step = 2 * s as u32;
-        left = left.wrapping_add(step);
-        right = right.wrapping_add(step);
-        all[s] = left;
-        all[s + 120] = right;
+    for i in 0..HALF {
+        let slot = i as u32 + 1;
+        left = left.wrapping_add(2 * slot);
+        right = right.wrapping_add(2 * slot);
+        all[i] = Line {
+            slot,
+            rate: 1000 - slot,
+            base: left,
+        };
+        all[i + HALF] = Line {
+            slot: slot + 120,
+            rate: 880 - slot,
+            base: right,
+        };
     }
     all
 }
 
 // Puts the lines into their slots.
-fn fill(part: &mut [i64], all: [u32; 241]) {
+fn fill(part: &mut [i64], lines: &[Line]) {
     table::set_number(part, table::CAPACITY, 240);
-    for s in 1..241 {
-        let slot = s as u32;
-        table::put_link(part, table::NUMBER, slot, 1);
-        table::put_link(part, table::RATE, slot, rate_of(s));
-        table::put_link(part, table::BASE, slot, all[s]);
+    for line in lines {
+        table::put_link(part, table::NUMBER, line.slot, 1);
+        table::put_link(part, table::RATE, line.slot, line.rate);
+        table::put_link(part, table::BASE, line.slot, line.base);
     }
 }
 
 // One tree of 120 slots, from the one after `before` on.
 fn build(part: &mut [i64], before: u32) -> u32 {
-    let mut x: u32 = 0;
+    let mut x = 0;
     for s in 1..121 {
         x = pieces::cat(part, x, before.wrapping_add(s));
     }
     x
 }
 
-// The prices of all lines at load 150, of their bases; and those at the next load.
-fn at_150(all: [u32; 241]) -> [u32; 241] {
-    let mut prices = all;
-    for s in 1..241 {
-        let so_far = 150 * (1000 - s as u32);
-        prices[s] = prices[s].wrapping_add(so_far);
-    }
-    prices
-}
-
-fn at_next(before: [u32; 241]) -> [u32; 241] {
-    let mut prices = before;
-    for s in 1..241 {
-        prices[s] = prices[s].wrapping_add(rate_of(s));
-    }
-    prices
-}
-
-// The first of the cheapest lines, of the left 120 or of the right 120.
-fn cheapest(prices: [u32; 241], right: bool) -> usize
-    ensures { result < 241 }
-{
-    let mut best: usize = 1;
-    if right {
-        best = 121;
-        for s in 122..241 {
-            if prices[s] < prices[best] {
-                best = s;
-            }
-        }
-        return best;
-    }
-    for s in 2..121 {
-        if prices[s] < prices[best] {
-            best = s;
-        }
-    }
-    best
+// The first of the cheapest lines.
+fn cheapest(lines: &[Line], load: u32) -> Option<&Line> {
+    lines.iter().min_by_key(|line| line.price(load))
 }
 
 fn say(rt: &impl Print, label: &[u8], told: u32, expected: u32) -> io::Result<()> {
@@ -130,25 +118,26 @@ fn halves(rt: &impl Print, part: &mut [i64], l: u32) -> io::Result<u32> {
 }
 
 // The meeting of the two trees: the first load from 150 on at which the right is not the dearer.
-fn meeting(rt: &impl Print, met: search::Met, all: [u32; 241]) -> io::Result<()> {
-    let mut prices = at_150(all);
-    let loads: u32 = 100;
-    for load in 0..loads {
-        let u = cheapest(prices, false);
-        let v = cheapest(prices, true);
-        if prices[u] >= prices[v] {
-            say(rt, b"u of the meeting: ", met.u, u as u32)?;
-            return say(rt, b"v of the meeting: ", met.v, v as u32);
+fn meeting(rt: &impl Print, met: search::Met, lines: &[Line; LINES]) -> io::Result<()> {
+    for load in 150..250 {
+        let Some(u) = cheapest(&lines[..HALF], load) else {
+            return Ok(());
+        };
+        let Some(v) = cheapest(&lines[HALF..], load) else {
+            return Ok(());
+        };
+        if u.price(load) >= v.price(load) {
+            say(rt, b"u of the meeting: ", met.u, u.slot)?;
+            return say(rt, b"v of the meeting: ", met.v, v.slot);
         }
-        prices = at_next(prices);
     }
     Ok(())
 }
 
 fn main(rt: HostRuntime) -> io::Result<()> {
     let mut words = [0i64; 16448];
-    let all = bases();
-    fill(&mut words, all);
+    let lines = lines();
+    fill(&mut words, &lines);
     let l = build(&mut words, 0);
     let r = build(&mut words, 120);
     ends(&rt, &words, l)?;
@@ -159,5 +148,6 @@ fn main(rt: HostRuntime) -> io::Result<()> {
         descents::end(&words, 0, true, y),
         120,
     )?;
-    meeting(&rt, search::meet(&words, &words, y, r), all)
+    let read = Part::of(&words);
+    meeting(&rt, search::meet(&read, &read, y, r), &lines)
 }

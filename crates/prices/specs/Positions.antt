@@ -3,8 +3,9 @@ use Rattle.std.specs.Prelude.{◌≡◌, refl, Bool, true, false, cond, T, ℤ}
 use Rattle.std.proofs.Common.{sym, arith}
 use Rattle.std.specs.Int.Signed.{le_z, lt_z}
 use Rattle.integers.specs.Parts.{int_rules}
-use Rattle.prices.specs.declared.Position.{Position}
-use Rattle.prices.specs.declared.Position.TheVariants.{Below, On, Above}
+-- std's order of the point's price by the line's
+pub use Rattle.std.specs.declared.cmp.Ordering.{Ordering as Position}
+pub use Rattle.std.specs.declared.cmp.Ordering.TheVariants.{Less as Below, Equal as On, Greater as Above}
 
 -- by the point's price, and the line's at the point's load
 abbrev pub position_of : (point line : ℤ) → Position

@@ -11,7 +11,7 @@ use Rattle.std.specs.Int.{w64}
 use Rattle.offers.specs.Sizes.{numerator_in_range, denominator_in_range, base_times_fits, rate_times_fits, scaled_price_fits, base_gap_fits, rate_gap_fits}
 use Rattle.table.specs.Fields.{base_field, denominator_field, most_slots, next_piece_field, numerator_field, rate_field}
 use Rattle.table.specs.Words.{Words}
-use Rattle.table.specs.Layout.{cap, cell, link_at}
+use Rattle.table.specs.Layout.{cell, link_at}
 
 abbrev pub rate_at : Words → ℕ → ℤ
 rate_at w s = bounded (neg_ℤ (pos 100_000)) (pos 100_000) (cell w rate_field s)
@@ -48,14 +48,13 @@ denominator_ranged w s = positive_ranged (denominator_at w s) (bounded_ranged (p
 
 -- ---- prices
 
--- what a price is computed with: the part's capacity, and a load in range
-pub record Priced (c : ℕ) (w : Words) (n d : ℤ) : Type 0 where
-  pub known : c ≡ cap w
+-- what a price is computed with: a load in range
+pub record Priced (n d : ℤ) : Type 0 where
   pub above : T (numerator_in_range n)
   pub below : T (denominator_in_range d)
 
-pub crossing_priced : (w : Words) (p : ℕ) {n d : ℤ} (v : Words) {c : ℕ} → c ≡ cap v → n ≡ numerator_at w p → d ≡ denominator_at w p → Priced c v n d
-crossing_priced w p v e a b = record { known = e; above = rw a (numerator_ranged w p); below = rw b (denominator_ranged w p) }
+pub crossing_priced : (w : Words) (p : ℕ) {n d : ℤ} → n ≡ numerator_at w p → d ≡ denominator_at w p → Priced n d
+crossing_priced w p a b = record { above = rw a (numerator_ranged w p); below = rw b (denominator_ranged w p) }
 
 -- the price, times d, of the line in slot s at the load n over d
 abbrev pub price_in : Words → ℕ → ℤ → ℤ → ℤ

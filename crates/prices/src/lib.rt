@@ -1,77 +1,63 @@
 // What a comparison of two envelopes reads and computes, safe whatever the words are; and where a point lies against a line, for it and for a query.
-// `c` is a part's capacity, which is read once for a whole search.
 #![tactic(auto)]
 
 ghost use Rattle.std.specs.Prelude.{◌≡◌};
 ghost use Rattle.std.specs.Int.Signed.{le_z};
-ghost use Rattle.table.specs.Layout.{cap};
 ghost use Rattle.prices.specs.Positions.{position_of, is_apart};
 ghost use Rattle.prices.specs.Prices.{rate_at, base_at, numerator_at, denominator_at, crossing_price_at, Priced, price_in, kept_in, above_at};
 
-pub fn rate_in(part: &[i64], c: u32, slot: u32) -> i64
-    requires { c ≡ cap part.now }
+use std::cmp::Ordering;
+use table::Part;
+
+pub fn rate(part: &Part<'_>, slot: u32) -> i64
     ensures { result ≡ rate_at part.now slot }
 {
-    table::bounded(-100_000, 100_000, table::get_in(part, c, table::RATE, slot))
+    table::bounded(-100_000, 100_000, part.get(table::RATE, slot))
 }
 
-pub fn base_in(part: &[i64], c: u32, slot: u32) -> i64
-    requires { c ≡ cap part.now }
+pub fn base(part: &Part<'_>, slot: u32) -> i64
     ensures { result ≡ base_at part.now slot }
 {
-    table::bounded(
-        -1_000_000_000,
-        1_000_000_000,
-        table::get_in(part, c, table::BASE, slot),
-    )
+    table::bounded(-1_000_000_000, 1_000_000_000, part.get(table::BASE, slot))
 }
 
-// The crossing with the next piece.
-fn numerator_in(part: &[i64], c: u32, slot: u32) -> i64
-    requires { c ≡ cap part.now }
+// The crossing with the next piece: where the words hold one, its numerator and its denominator.
+pub fn numerator(part: &Part<'_>, slot: u32) -> i64
     ensures { result ≡ numerator_at part.now slot }
 {
     table::bounded(
         -2_000_000_000,
         2_000_000_000,
-        table::get_in(part, c, table::NUMERATOR, slot),
+        part.get(table::NUMERATOR, slot),
     )
 }
 
-fn denominator_in(part: &[i64], c: u32, slot: u32) -> i64
-    requires { c ≡ cap part.now }
+pub fn denominator(part: &Part<'_>, slot: u32) -> i64
     ensures { result ≡ denominator_at part.now slot }
 {
-    table::bounded(0, 200_000, table::get_in(part, c, table::DENOMINATOR, slot))
+    table::bounded(0, 200_000, part.get(table::DENOMINATOR, slot))
 }
 
 // The price of a slot's line at the load n over d, times d.
-fn price(part: &[i64], c: u32, slot: u32, n: i64, d: i64) -> i64
-    requires { Priced c part.now n d }
+fn price(part: &Part<'_>, slot: u32, n: i64, d: i64) -> i64
+    requires { Priced n d }
     ensures { result ≡ price_in part.now slot n d }
 {
-    base_in(part, c, slot) * d + rate_in(part, c, slot) * n
+    base(part, slot) * d + rate(part, slot) * n
 }
 
-// Where a point lies against a line.
-#[derive(Drop)]
-pub enum Position {
-    Below,
-    On,
-    Above,
+// The price of a slot's line at the crossing that the slot keeps, times its denominator.
+pub fn crossing_price(part: &Part<'_>, slot: u32) -> i64
+    ensures { result ≡ crossing_price_at part.now slot }
+{
+    price(part, slot, numerator(part, slot), denominator(part, slot))
 }
 
-// The one comparison of a point with a line: by the point's price, and the line's at the point's load.
-pub fn compare(point: i64, line: i64) -> Position
+// The one comparison of a point with a line, less where the point lies below it: by the point's price, and the line's at the point's load.
+pub fn compare(point: i64, line: i64) -> Ordering
     ensures { result ≡ position_of point line }
 {
-    if point < line {
-        return Position::Below;
-    }
-    if line < point {
-        return Position::Above;
-    }
-    Position::On
+    point.cmp(&line)
 }
 
 // Not on it: on it a query has its tie. This reading and the next give a test, and not three ways: where the outcome only selects a value, no branch comes
@@ -79,22 +65,14 @@ pub fn compare(point: i64, line: i64) -> Position
 pub fn apart(point: i64, line: i64) -> bool
     ensures { result ≡ is_apart (position_of point line) }
 {
-    match compare(point, line) {
-        Position::Below => true,
-        Position::On => false,
-        Position::Above => true,
-    }
+    compare(point, line).is_ne()
 }
 
 // On it or above: what the three cases of a meeting ask, and where a query goes on to the right.
 pub fn on_or_above(point: i64, line: i64) -> bool
     ensures { result ≡ le_z line point }
 {
-    match compare(point, line) {
-        Position::Below => false,
-        Position::On => true,
-        Position::Above => true,
-    }
+    compare(point, line).is_ge()
 }
 
 // The slot in which a node is kept.
@@ -108,69 +86,23 @@ fn kept_in(x: u32) -> u32
 }
 
 // Whether the crossing that slot `p` keeps is on or above the local envelope of node `x`: at that load one of the envelope's lines is
-// at most the line of slot `p`. Slot 0 stands for a missing end. `c` and `k` are the capacities.
-pub fn above(ours: &[i64], c: u32, p: u32, other: &[i64], k: u32, x: u32) -> bool
-    requires { (c ≡ cap ours.now) × (k ≡ cap other.now) }
+// at most the line of slot `p`. Slot 0 stands for a missing end.
+pub fn above(ours: &Part<'_>, p: u32, other: &Part<'_>, x: u32) -> bool
     ensures { result ≡ above_at ours.now p other.now x }
 {
     if p < 1 {
         return false;
     }
-    let n = numerator_in(ours, c, p);
-    let d = denominator_in(ours, c, p);
-    let y = price(ours, c, p, n, d);
+    let n = numerator(ours, p);
+    let d = denominator(ours, p);
+    let y = price(ours, p, n, d);
     let s = kept_in(x);
-    if on_or_above(y, price(other, k, s, n, d)) {
+    if on_or_above(y, price(other, s, n, d)) {
         return true;
     }
     if x <= table::MOST_SLOTS {
         return false;
     }
-    let t = table::link_in(other, k, table::NEXT_PIECE, s);
-    on_or_above(y, price(other, k, t, n, d))
-}
-
-// ---- by the capacity that the words tell
-
-pub fn rate(part: &[i64], slot: u32) -> i64
-    ensures { result ≡ rate_at part.now slot }
-{
-    table::bounded(-100_000, 100_000, table::get(part, table::RATE, slot))
-}
-
-pub fn base(part: &[i64], slot: u32) -> i64
-    ensures { result ≡ base_at part.now slot }
-{
-    table::bounded(
-        -1_000_000_000,
-        1_000_000_000,
-        table::get(part, table::BASE, slot),
-    )
-}
-
-// The crossing with the next piece: where the words hold one, its numerator and its denominator.
-pub fn numerator(part: &[i64], slot: u32) -> i64
-    ensures { result ≡ numerator_at part.now slot }
-{
-    table::bounded(
-        -2_000_000_000,
-        2_000_000_000,
-        table::get(part, table::NUMERATOR, slot),
-    )
-}
-
-pub fn denominator(part: &[i64], slot: u32) -> i64
-    ensures { result ≡ denominator_at part.now slot }
-{
-    table::bounded(0, 200_000, table::get(part, table::DENOMINATOR, slot))
-}
-
-// The price of a slot's line at the crossing that the slot keeps, times its denominator.
-pub fn crossing_price(part: &[i64], slot: u32) -> i64
-    ensures { result ≡ crossing_price_at part.now slot }
-{
-    let n = numerator(part, slot);
-    let d = denominator(part, slot);
-    let c = table::capacity(part);
-    price(part, c, slot, n, d)
+    let t = other.link(table::NEXT_PIECE, s);
+    on_or_above(y, price(other, t, n, d))
 }

@@ -1,5 +1,5 @@
 -- An entry out of range is named (`Names`) on a table of any content, where cause 3 does not apply; and examples on a part that no opening made.
-use Rattle.std.specs.Prelude.{◌≡◌, refl, not, List, [], ◌∷◌, map, ℕ, ◌+◌, length, replicate, ℤ, pos, T}
+use Rattle.std.specs.Prelude.{◌≡◌, refl, not, List, [], ◌∷◌, map, ℕ, ◌+◌, length, replicate, ℤ, pos, T, Result}
 use Rattle.std.proofs.Common.{◌∙◌, ap, arith}
 use Rattle.std.proofs.Math.Option.{Option}
 use Rattle.plain.specs.Causes.{declined, further}
@@ -14,7 +14,7 @@ use Rattle.table.specs.Items.{Item}
 use Rattle.form.specs.Form.{Book, head0}
 use Rattle.promises.specs.declared.Update.{Update}
 use Rattle.promises.specs.declared.Found.{Found}
-use Rattle.promises.specs.declared.Reported.{Reported}
+use Rattle.causes.specs.declared.Declined.{Declined}
 use Rattle.promises.specs.LentPart.{book_cap}
 use Rattle.promises.specs.Promises.{part_of, table_trials, update_answer, found_answer, report_answer, Updates, Queries, Reports}
 
@@ -22,13 +22,13 @@ use Rattle.promises.specs.Promises.{part_of, table_trials, update_answer, found_
 
 module _ (t : List ℤ) (start : ℕ) (there : T (not (no_book_at (length t) start (word (part_of t start) capacity_word)))) {m : ℕ} where
   -- refused with that number, and every word as it was
-  pub update_names : {k : Call} {t' : List ℤ} {u : Update} → Names m k → Updates k start t t' u → (update_answer u ≡ refused m) × (t' ≡ t)
+  pub update_names : {k : Call} {t' : List ℤ} {u : Result Update Declined} → Names m k → Updates k start t t' u → (update_answer u ≡ refused m) × (t' ≡ t)
   update_names n p = let (z, f, e) = names_first n in let (told, kept) = p.declined z (further there f) in (told ∙ ap refused e, kept)
 
-  pub query_names : {q : ℤ} {r : Found} → Names m (query q) → Queries q start t r → found_answer r ≡ refused m
+  pub query_names : {q : ℤ} {r : Result Found Declined} → Names m (query q) → Queries q start t r → found_answer r ≡ refused m
   query_names n p = let (z, f, e) = names_first n in p.declined z (further there f) ∙ ap refused e
 
-  pub report_names : {q p : ℤ} {out out' : List ℤ} {r : Reported} → Names m (report q p (length out)) → Reports q p start t out out' r →
+  pub report_names : {q p : ℤ} {out out' : List ℤ} {r : Result ℤ Declined} → Names m (report q p (length out)) → Reports q p start t out out' r →
       (report_answer r out' ≡ refused m) × (out' ≡ out)
   report_names n k = let (z, f, e) = names_first n in let (told, kept) = k.declined z (further there f) in (told ∙ ap refused e, kept)
 

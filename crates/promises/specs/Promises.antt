@@ -2,7 +2,7 @@
 -- On words of any content causes 1 to 4 and 14 to 16 hold as tabled, and no word outside the part changes. Where the part passes the check
 -- (`Form`), the answer is the plain book's, and the part stands for the plain book afterwards, its offers and its memory. A call that only reads
 -- asks for less: that the part stands for the offers (`Book`). 17 is promised where the part passes.
-use Rattle.std.specs.Prelude.{◌≡◌, Bool, true, List, [], ◌∷◌, ℕ, ◌+◌, ◌*◌, length, take, drop, ℤ, pos, negsuc, nat_abs}
+use Rattle.std.specs.Prelude.{◌≡◌, Bool, true, List, [], ◌∷◌, ℕ, ◌+◌, ◌*◌, length, take, drop, ℤ, pos, negsuc, nat_abs, Result, Ok, Err}
 use Rattle.std.proofs.Math.Option.{Option, none, some}
 use Rattle.plain.specs.Causes.{Cause, no_book, Trial, ◌when◌, cause_number, FirstOf, Clear}
 use Rattle.plain.specs.Book.{State, Call, query, listing, report, Answer, refused, live, found, listed, reported}
@@ -17,16 +17,10 @@ use Rattle.table.specs.Items.{Item}
 use Rattle.pieces.specs.Pieces.{items}
 use Rattle.form.specs.Form.{Book, Form}
 use Rattle.query.specs.Lookup.{LeafAt}
-use Rattle.promises.specs.declared.Opening.{Opening}
-use Rattle.promises.specs.declared.Opening.TheVariants.{Opened, Declined as OpeningDeclined}
+use Rattle.causes.specs.declared.Declined.{Declined}
+use Rattle.causes.specs.Numbers.{number_of}
 use Rattle.promises.specs.declared.Update.{Update}
-use Rattle.promises.specs.declared.Update.TheVariants.{Done, Declined as UpdateDeclined}
 use Rattle.promises.specs.declared.Found.{Found}
-use Rattle.promises.specs.declared.Found.TheVariants.{Offer, Declined as FoundDeclined}
-use Rattle.promises.specs.declared.Listed.{Listed}
-use Rattle.promises.specs.declared.Listed.TheVariants.{Pieces, Declined as ListingDeclined}
-use Rattle.promises.specs.declared.Reported.{Reported}
-use Rattle.promises.specs.declared.Reported.TheVariants.{Offers, Declined as ReportDeclined}
 
 -- ---- the part of a table
 
@@ -59,36 +53,35 @@ abbrev pub counted : (ℕ → Answer) → ℤ → Answer
 counted f (pos n) = f n
 counted f (negsuc n) = refused 0
 
--- Each case of an answer as a number and values: a refusal's number and none, or 0 and the values of the case. One definition for each enum: the
+-- An answer as a number and values: a refusal's number and none, or 0 and what the call hands out. One definition for each call's result: the
 -- promises' answers go by it, and so does what tells an answer as numbers.
 pub record Told : Type 0 where
   pub number : ℤ
   pub values : List ℤ
 
+-- a call is declined for the cause with this number
+abbrev pub IsRefusal : {A : Type 0} → Result A Declined → ℤ → Type 0
+IsRefusal r z = (c : Declined) × (r ≡ Err c) × (number_of c ≡ z)
+
 -- the live count, k, s and H
-abbrev pub update_told : Update → Told
-update_told (Done n k s h) = record { number = pos 0; values = n ∷ k ∷ s ∷ h ∷ [] }
-update_told (UpdateDeclined c) = record { number = c; values = [] }
+abbrev pub update_told : Result Update Declined → Told
+update_told (Ok u) = record { number = pos 0; values = u.live ∷ u.k ∷ u.s ∷ u.h ∷ [] }
+update_told (Err c) = record { number = number_of c; values = [] }
 
 -- the offer named first, its price, the second offer and the probes
-abbrev pub found_told : Found → Told
-found_told (Offer number price second probes) = record { number = pos 0; values = number ∷ price ∷ second ∷ probes ∷ [] }
-found_told (FoundDeclined c) = record { number = c; values = [] }
+abbrev pub found_told : Result Found Declined → Told
+found_told (Ok f) = record { number = pos 0; values = f.number ∷ f.price ∷ f.second ∷ f.probes ∷ [] }
+found_told (Err c) = record { number = number_of c; values = [] }
 
--- the count of pieces
-abbrev pub listed_told : Listed → Told
-listed_told (Pieces m) = record { number = pos 0; values = m ∷ [] }
-listed_told (ListingDeclined c) = record { number = c; values = [] }
-
--- the count of offers
-abbrev pub reported_told : Reported → Told
-reported_told (Offers m) = record { number = pos 0; values = m ∷ [] }
-reported_told (ReportDeclined c) = record { number = c; values = [] }
+-- a listing's count of pieces, or a report's of offers
+abbrev pub count_told : Result ℤ Declined → Told
+count_told (Ok m) = record { number = pos 0; values = m ∷ [] }
+count_told (Err c) = record { number = number_of c; values = [] }
 
 -- an opening's: 0 alone, or a refusal's number
-abbrev pub opening_answer : Opening → ℤ
-opening_answer Opened = pos 0
-opening_answer (OpeningDeclined c) = c
+abbrev pub opening_answer : Result (Unit {0}) Declined → ℤ
+opening_answer (Ok u) = pos 0
+opening_answer (Err c) = number_of c
 
 -- The plain book's answer of a number and values: a refusal where there are none, or a count. The values that follow it the plain book leaves open.
 abbrev pub counted_by : (ℕ → Answer) → ℤ → List ℤ → Answer
@@ -102,25 +95,25 @@ priced_by c (number ∷ []) = counted refused c
 priced_by c (number ∷ price ∷ []) = counted refused c
 priced_by c (number ∷ price ∷ second ∷ more) = found number price second
 
-abbrev pub update_answer : Update → Answer
+abbrev pub update_answer : Result Update Declined → Answer
 update_answer r = counted_by live (update_told r).number (update_told r).values
 
-abbrev pub found_answer : Found → Answer
+abbrev pub found_answer : Result Found Declined → Answer
 found_answer r = priced_by (found_told r).number (found_told r).values
 
 -- with the words that the output then begins with
-abbrev pub listing_answer : Listed → List ℤ → Answer
-listing_answer r out = counted_by (λ n. listed n (take (3 * n) out)) (listed_told r).number (listed_told r).values
+abbrev pub listing_answer : Result ℤ Declined → List ℤ → Answer
+listing_answer r out = counted_by (λ n. listed n (take (3 * n) out)) (count_told r).number (count_told r).values
 
-abbrev pub report_answer : Reported → List ℤ → Answer
-report_answer r out = counted_by (λ n. reported n (take (3 * n) out)) (reported_told r).number (reported_told r).values
+abbrev pub report_answer : Result ℤ Declined → List ℤ → Answer
+report_answer r out = counted_by (λ n. reported n (take (3 * n) out)) (count_told r).number (count_told r).values
 
 -- ---- open
 
-pub record Opens (c : ℤ) (start : ℕ) (t t' : List ℤ) (r : Opening) : Type 0 where
+pub record Opens (c : ℤ) (start : ℕ) (t t' : List ℤ) (r : Result (Unit {0}) Declined) : Type 0 where
   pub answers : opening_answer r ≡ pos (opening (length t) start c)
-  pub declined : (k : Cause) → FirstOf (open_trials (length t) start c) k → (r ≡ OpeningDeclined (pos (cause_number k))) × (t' ≡ t)
-  pub accepted : Clear (open_trials (length t) start c) → (r ≡ Opened) × Form (part_of t' start) (opened c) none × OnlyPart (nat_abs c) start t t'
+  pub declined : (k : Cause) → FirstOf (open_trials (length t) start c) k → IsRefusal r (pos (cause_number k)) × (t' ≡ t)
+  pub accepted : Clear (open_trials (length t) start c) → (r ≡ Ok tt) × Form (part_of t' start) (opened c) none × OnlyPart (nat_abs c) start t t'
 
 -- ---- post, withdraw and take-back
 
@@ -130,7 +123,7 @@ Counts [] log = log ≡ []
 Counts (n ∷ more) log = more ≡ pos (length log) ∷ pos (steps_of items log) ∷ pos (heights_of log) ∷ []
 
 -- on a part that stands for the plain book s
-pub record Follows (k : Call) (s : State) (held : Option (Held Item)) (start : ℕ) (t t' : List ℤ) (r : Update) : Type 0 where
+pub record Follows (k : Call) (s : State) (held : Option (Held Item)) (start : ℕ) (t t' : List ℤ) (r : Result Update Declined) : Type 0 where
   pub after : Option (Held Item)
   pub log : List (Pair Item)
   pub answers : update_answer r ≡ (step s k).answer
@@ -141,10 +134,10 @@ pub record Follows (k : Call) (s : State) (held : Option (Held Item)) (start : �
   pub spared : first_of_each s.offers ≡ first_of_each (step s k).state.offers → log ≡ []
   pub counts : Counts (update_told r).values log
 
-pub record Updates (k : Call) (start : ℕ) (t t' : List ℤ) (r : Update) : Type 0 where
+pub record Updates (k : Call) (start : ℕ) (t t' : List ℤ) (r : Result Update Declined) : Type 0 where
   pub declined : (z : Cause) → FirstOf (table_trials t start k) z → (update_answer r ≡ refused (cause_number z)) × (t' ≡ t)
   -- a refusal leaves every word, whatever the words are
-  pub refusal : (z : ℤ) → r ≡ UpdateDeclined z → t' ≡ t
+  pub refusal : (c : Declined) → r ≡ Err c → t' ≡ t
   pub outside : OnlyPart (capacity_at t start) start t t'
   -- nor does the part's length change
   pub same_part : word (part_of t' start) capacity_word ≡ word (part_of t start) capacity_word
@@ -167,7 +160,7 @@ abbrev pub Probes : Option (Held Item) → List ℤ → Type 0
 Probes held [] = Unit {0}
 Probes held (number ∷ more) = (price second probes : ℤ) × (more ≡ price ∷ second ∷ probes ∷ []) × ProbesIn held number probes
 
-pub record Queries (q : ℤ) (start : ℕ) (t : List ℤ) (r : Found) : Type 0 where
+pub record Queries (q : ℤ) (start : ℕ) (t : List ℤ) (r : Result Found Declined) : Type 0 where
   pub declined : (z : Cause) → FirstOf (table_trials t start (query q)) z → found_answer r ≡ refused (cause_number z)
   pub answers : (s : State) (held : Option (Held Item)) → Book (part_of t start) s held → found_answer r ≡ (step s (query q)).answer
   pub probes : (s : State) (held : Option (Held Item)) → Book (part_of t start) s held → Probes held (found_told r).values
@@ -181,10 +174,10 @@ written_words (found n p m) = 0
 written_words (listed m ws) = length ws
 written_words (reported m ws) = length ws
 
-pub record Lists (start : ℕ) (t out out' : List ℤ) (r : Listed) : Type 0 where
+pub record Lists (start : ℕ) (t out out' : List ℤ) (r : Result ℤ Declined) : Type 0 where
   pub declined : (z : Cause) → FirstOf (table_trials t start (listing (length out))) z → (listing_answer r out' ≡ refused (cause_number z)) × (out' ≡ out)
   -- a refusal leaves every word of the output, whatever the table's words are
-  pub refusal : (z : ℤ) → r ≡ ListingDeclined z → out' ≡ out
+  pub refusal : (c : Declined) → r ≡ Err c → out' ≡ out
   pub long : length out' ≡ length out
   pub answers : (s : State) (held : Option (Held Item)) → Book (part_of t start) s held → listing_answer r out' ≡ (step s (listing (length out))).answer
   -- later output words keep their contents
@@ -192,9 +185,9 @@ pub record Lists (start : ℕ) (t out out' : List ℤ) (r : Listed) : Type 0 whe
       drop (written_words (listing_answer r out')) out' ≡ drop (written_words (listing_answer r out')) out
 
 -- What a listing promises of its output a report does too, of a load q and a price p.
-pub record Reports (q p : ℤ) (start : ℕ) (t out out' : List ℤ) (r : Reported) : Type 0 where
+pub record Reports (q p : ℤ) (start : ℕ) (t out out' : List ℤ) (r : Result ℤ Declined) : Type 0 where
   pub declined : (z : Cause) → FirstOf (table_trials t start (report q p (length out))) z → (report_answer r out' ≡ refused (cause_number z)) × (out' ≡ out)
-  pub refusal : (z : ℤ) → r ≡ ReportDeclined z → out' ≡ out
+  pub refusal : (c : Declined) → r ≡ Err c → out' ≡ out
   pub long : length out' ≡ length out
   pub answers : (s : State) (held : Option (Held Item)) → Book (part_of t start) s held → report_answer r out' ≡ (step s (report q p (length out))).answer
   pub later : (s : State) (held : Option (Held Item)) → Book (part_of t start) s held →

@@ -7,45 +7,25 @@ ghost use Rattle.table.specs.Fields.{capacity_word};
 ghost use Rattle.table.specs.Words.{word};
 ghost use Rattle.promises.specs.Promises.{part_of};
 
-// What opening answers: the book is empty and open, or the number of the cause for which it was declined.
-#[derive(Drop)]
-pub enum Opening {
-    Opened,
-    Declined(i64),
-}
+pub use causes::Declined;
 
 // What a post, a withdrawal or a take-back answers: the live count after it, the searches, their steps in all and the sum of their trees' heights.
-#[derive(Drop)]
-pub enum Update {
-    Done { live: i64, k: i64, s: i64, h: i64 },
-    Declined(i64),
+#[derive(Clone, Copy)]
+pub struct Update {
+    pub live: i64,
+    pub k: i64,
+    pub s: i64,
+    pub h: i64,
 }
 
 // What a query answers: of the offers at the least price the number of the one with the lowest rate, that price, the number of the one with the
 // highest rate, and the depth of the first one's leaf in the root's piece tree.
-#[derive(Drop)]
-pub enum Found {
-    Offer {
-        number: i64,
-        price: i64,
-        second: i64,
-        probes: i64,
-    },
-    Declined(i64),
-}
-
-// What a listing answers: how many pieces it wrote, three words each.
-#[derive(Drop)]
-pub enum Listed {
-    Pieces(i64),
-    Declined(i64),
-}
-
-// What a report answers: how many offers it wrote, three words each.
-#[derive(Drop)]
-pub enum Reported {
-    Offers(i64),
-    Declined(i64),
+#[derive(Clone, Copy)]
+pub struct Found {
+    pub number: i64,
+    pub price: i64,
+    pub second: i64,
+    pub probes: i64,
 }
 
 // There is no book at `start`: it lies beyond the table, or the words there tell no capacity that they have room for.

@@ -20,9 +20,7 @@ use Rattle.meeting.specs.Machine.{left}
 use Rattle.meeting.specs.Located.{Spans, one, two, spans_some, farthest_at, nearest_at}
 use Rattle.meeting.specs.Meets.{size, line_from, spans_tree}
 use Rattle.table.specs.Items.{Item}
-use Rattle.prices.specs.declared.Position.{Position}
-use Rattle.prices.specs.declared.Position.TheVariants.{Below, On, Above}
-use Rattle.prices.specs.Positions.{Lies, below, on, above, lies}
+use Rattle.prices.specs.Positions.{Position, Below, On, Above, Lies, below, on, above, lies}
 use Rattle.pieces.specs.Pieces.{rate_of, base_of, items, item_laws_lem}
 use Rattle.query.specs.Lookup.{Reached, against, turned, kept_or, walk, lookup}
 

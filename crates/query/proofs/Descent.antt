@@ -1,21 +1,10 @@
 -- Theorems on specs/Descent.
-use Rattle.std.specs.Prelude.{◌≡◌, refl, ℕ, ◌+◌, ◌≤◌, ◌<◌, T, ℤ}
-use Rattle.std.proofs.Common.{sym, ◌∙◌, ap, subst, arith, le-ltb}
-use Rattle.std.proofs.Math.Option.{Option, none, some}
-use Rattle.offers.specs.Offers.{load_in_range}
-use Rattle.trees.specs.Tree.{Tree, leaf, node, height, first, last}
-use Rattle.trees.specs.Leaves.{first_leaf}
-use Rattle.table.specs.Fields.{most_levels, most_slots}
+use Rattle.std.specs.Prelude.{◌≡◌, refl, ℕ, ◌<◌, ℤ}
+use Rattle.std.proofs.Common.{arith}
+use Rattle.table.specs.Fields.{most_slots}
 use Rattle.table.specs.Words.{Words}
-use Rattle.table.specs.Layout.{cap}
-use Rattle.table.specs.Items.{Item}
 use Rattle.table.specs.Nodes.{ref_low}
-use Rattle.prices.specs.declared.Position.{Position}
-use Rattle.prices.specs.declared.Position.TheVariants.{Below as LiesBelow, On, Above}
-use Rattle.prices.specs.Positions.{on_or_above}
-use Rattle.query.specs.Lookup.{Reached, against, deeper, kept_or, walk, lookup, walk_turned}
-use Rattle.query.specs.Readings.{kept_at, toward_at, mind_at, kept_else}
-use Rattle.query.specs.QueriedPieces.{Pieces, Opened, opened, at_leaf}
+use Rattle.query.specs.Readings.{toward_at}
 use Rattle.query.specs.Descent.{Descended, Ongoing, ongoing_step}
 
 -- no node of a tree of pieces is without a child on the load's side

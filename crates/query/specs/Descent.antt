@@ -9,10 +9,7 @@ use Rattle.table.specs.Fields.{most_levels, most_slots}
 use Rattle.table.specs.Words.{Words}
 use Rattle.table.specs.Layout.{cap}
 use Rattle.table.specs.Items.{Item}
-use Rattle.table.specs.Nodes.{ref_low}
-use Rattle.prices.specs.declared.Position.{Position}
-use Rattle.prices.specs.declared.Position.TheVariants.{Below as LiesBelow, On, Above}
-use Rattle.prices.specs.Positions.{on_or_above}
+use Rattle.prices.specs.Positions.{Position, Below as LiesBelow, On, Above, on_or_above}
 use Rattle.query.specs.Lookup.{Reached, against, deeper, kept_or, walk, lookup, walk_turned}
 use Rattle.query.specs.Readings.{kept_at, toward_at, mind_at, kept_else}
 use Rattle.query.specs.QueriedPieces.{Pieces, Opened, opened, at_leaf}
@@ -135,8 +132,7 @@ pub ongoing_leaf : {w : Words} {root x second probes : ℕ} {q : ℤ} → Ongoin
 ongoing_leaf {q} g d =
     record { finds = λ t p k h. let b = g.below t p h in let (a, s, e) = at_leaf b.pieces d in at_end a b s e }
 
--- a tree at most most_levels high has a leaf after most_levels probes
-pub ongoing_limit : {w : Words} {root x second probes : ℕ} {q : ℤ} → Ongoing w root q x second probes → most_slots < x → most_levels ≤ probes →
+-- a tree at most most_levels high has no node below most_levels probes
+pub ongoing_limit : {w : Words} {root x second probes : ℕ} {q : ℤ} → Ongoing w root q x second probes → most_levels < probes →
     (slot other found : ℕ) → Descended w root q slot other found
-ongoing_limit {q} g d l slot other found =
-    record { finds = λ t p k h. let b = g.below t p h in let o = opened q b.pieces h d in absurd (omega (arith, b.high, ap height o.shape)) }
+ongoing_limit g l slot other found = record { finds = λ t p k h. absurd (omega (arith, (g.below t p h).high)) }

@@ -8,9 +8,7 @@ use Rattle.std.proofs.Common.{arith}
 use Rattle.offers.specs.Offers.{Offer, crossing_numerator, crossing_denominator}
 use Rattle.trees.specs.Tree.{Tree, leaf, node, height, leaves, first, last}
 use Rattle.table.specs.Items.{Item, at, Slots, slots_left, slots_right, slots_across}
-use Rattle.prices.specs.declared.Position.{Position}
-use Rattle.prices.specs.declared.Position.TheVariants.{Below, On, Above}
-use Rattle.prices.specs.Positions.{position_of}
+use Rattle.prices.specs.Positions.{Position, Below, On, Above, position_of}
 
 -- the item at the end of the walk, the one kept in mind or else the same, and how many nodes were passed
 pub record Reached : Type 0 where

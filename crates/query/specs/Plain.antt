@@ -2,29 +2,23 @@
 use Rattle.std.specs.Prelude.{◌≡◌, Bool, ℕ, ◌*◌, ◌≤◌, ◌<◌, T, ℤ, length}
 use Rattle.std.proofs.Common.{sym, ◌∙◌, ap, subst, arith, le-ltb, lt-ltb}
 use mathlib.Core.List.Memᴰ
-use mathlib.Core.List.{List, [], ◌∷◌, map, Memᴰ, Pairwise}
+use mathlib.Core.List.{List, map, Memᴰ}
 use Rattle.std.proofs.Math.Dec.{not_T}
-use Rattle.std.proofs.lemmas.Bool.{lt-leb}
 use Rattle.std.proofs.lemmas.List.{length-map}
-use Rattle.lists.specs.Bools.{is_true}
 use Rattle.integers.specs.Parts.{int_rules}
-use Rattle.offers.specs.Offers.{Offer, price_at, ahead, load_in_range}
+use Rattle.offers.specs.Offers.{Offer}
 use Rattle.envelopes.specs.Envelope.{Ordered, Env, listed as lines_listed}
 use Rattle.envelopes.proofs.Query.{env_listed}
 use Rattle.envelopes.proofs.Carried.{listed_map}
 use Rattle.lines.specs.Lines.{whole, whole_price}
 use Rattle.lines.specs.OfferLines.{offer_figure}
 use Rattle.plain.specs.Causes.{cause_number, output_too_short}
-use Rattle.plain.specs.Book.{State, holding, query, listing, found, listed, refused, lower, higher, cheapest, envelope, first_of_each, piece_words, step}
-use Rattle.plain.specs.Sound.{Sound}
-use Rattle.plain.specs.FirstLaws.{self, pairs_standing}
-use Rattle.plain.specs.QueryLaws.{RateOrder, lower_tie, higher_tie, NotFirst, Names, cheapest_names, cheapest_earliest, named_first}
+use Rattle.plain.specs.Book.{State, listing, listed, refused, envelope, first_of_each, piece_words, step}
+use Rattle.plain.specs.QueryLaws.{NotFirst, Names}
 use Rattle.plain.proofs.ListingLaws.{envelope_listed}
-use Rattle.trees.specs.Tree.{Tree, leaves}
 use Rattle.table.specs.Items.{Item}
 pub use Rattle.table.specs.Items.{offer_of}
 use Rattle.pieces.specs.Pieces.{rate_of, base_of, items, item_laws_lem}
-use Rattle.query.specs.Lookup.{lookup}
 
 -- ---- a query
 

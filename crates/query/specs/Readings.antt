@@ -1,5 +1,5 @@
 -- What the code reads of a part, whatever its words are: numbers are brought into the ranges that pieces keep, so that no product wraps.
-use Rattle.std.specs.Prelude.{◌≡◌, Bool, true, false, cond, ℕ, suc, ◌*◌, ◌-◌, ◌≤◌, T, ltb, ℤ, pos, neg_ℤ, nat_abs, ◌+ℤ◌, ◌*ℤ◌}
+use Rattle.std.specs.Prelude.{◌≡◌, Option, Some, None, Bool, true, false, cond, ℕ, suc, ◌*◌, ◌-◌, ◌≤◌, T, ltb, ℤ, pos, neg_ℤ, nat_abs, ◌+ℤ◌, ◌*ℤ◌}
 use Rattle.std.proofs.Common.{mul-le-mul, arith, SFits}
 use Rattle.std.specs.Int.{w64}
 use Rattle.integers.specs.Magnitude.{fits, nat_abs_add, nat_abs_mul, within_nat_abs}
@@ -9,11 +9,9 @@ use Rattle.table.specs.Fields.{base_field, denominator_field, most_slots, numera
 use Rattle.table.specs.Words.{Words}
 use Rattle.table.specs.Layout.{cell, link_at}
 use Rattle.table.specs.Rep.{bit, child_field}
-use Rattle.prices.specs.declared.Position.{Position}
-use Rattle.prices.specs.Positions.{position_of, is_apart, on_or_above}
+use Rattle.prices.specs.Positions.{Position, position_of, is_apart, on_or_above}
 use Rattle.query.specs.declared.Turn.{Turn}
 use Rattle.query.specs.declared.Step.{Step}
-use Rattle.query.specs.declared.Step.TheVariants.{To, Off}
 
 -- from −n to n
 abbrev pub clamped : ℕ → ℤ → ℤ
@@ -67,9 +65,9 @@ abbrev pub mind_at : Words → ℕ → ℤ → ℕ → ℕ
 mind_at w x q before = kept_at (seam_at w (x - most_slots) q) (x - most_slots) before
 
 -- the promise of one step from node x
-abbrev pub Stepped : Words → ℕ → ℤ → ℕ → Step → Type 0
-Stepped w x q before (To child kept) = (child ≡ toward_at w x q) × (kept ≡ mind_at w x q before)
-Stepped w x q before Off = 0 ≡ toward_at w x q
+abbrev pub Stepped : Words → ℕ → ℤ → ℕ → Option Step → Type 0
+Stepped w x q before (Some s) = (s.child ≡ toward_at w x q) × (s.kept ≡ mind_at w x q before)
+Stepped w x q before None = 0 ≡ toward_at w x q
 
 -- what is kept in mind, or else a slot
 abbrev pub kept_else : ℕ → ℕ → ℕ

@@ -32,19 +32,17 @@ struct Turn {
 fn side_of(point: i64, line: i64) -> usize
     ensures { result ≡ bit (on_or_above (position_of point line)) }
 {
-    if prices::on_or_above(point, line) {
-        return 1;
-    }
-    0
+    prices::on_or_above(point, line) as usize
 }
 
 fn kept_at(point: i64, line: i64, slot: u32, before: u32) -> u32
     ensures { result ≡ kept_at (position_of point line) slot before }
 {
     if prices::apart(point, line) {
-        return before;
+        before
+    } else {
+        slot
     }
-    slot
 }
 
 // The way on from the crossing n / d that `slot` keeps: where the piece on its left, at the load, lies against the next one. Both prices are taken less
@@ -59,12 +57,11 @@ fn turn_at(load: i64, n: i64, d: i64, slot: u32, before: u32) -> Turn
     }
 }
 
-// To a child, with what a tie keeps in mind, or off: what the words tell is no node of a tree of pieces. Each way off leaves the loop of a descent, so
-// that no value waits for a test.
+// A step to a child, with what a tie keeps in mind.
 #[derive(Drop)]
-enum Step {
-    To { child: usize, kept: u32 },
-    Off,
+struct Step {
+    child: usize,
+    kept: u32,
 }
 
 // Where the crossing stands in the group of a piece's node.
@@ -72,32 +69,33 @@ const ITS_NUMERATOR: usize = table::NUMERATOR - table::PIECE_NODE;
 
 const ITS_DENOMINATOR: usize = table::DENOMINATOR - table::PIECE_NODE;
 
-// From inner node `x` to its child on the load's side: one group of four words is read. `c` is the part's capacity, `before` what was kept in mind so far.
-fn toward(part: &[i64], c: u32, x: usize, load: i64, before: u32) -> Step
+// From inner node `x` to its child on the load's side: one group of four words is read. None where they tell no node of a tree of pieces. `c` is the part's
+// capacity, `before` what was kept in mind so far.
+fn toward(part: &[i64], c: u32, x: usize, load: i64, before: u32) -> Option<Step>
     requires { c ≡ cap part.now }
     ensures { Stepped part.now x load before result }
 {
     if x <= LEAVES {
-        return Step::Off;
+        return None;
     }
     if c as usize + LEAVES < x {
-        return Step::Off;
+        return None;
     }
     let slot = (x - LEAVES) as u32;
     let at = table::address(c, table::PIECE_NODE, slot);
     let d = part[at + ITS_DENOMINATOR];
     if outside(-200_000, 200_000, d) {
-        return Step::Off;
+        return None;
     }
     let turn = turn_at(load, part[at + ITS_NUMERATOR], d, slot, before);
     let z = part[at + turn.side];
     if outside(0, HIGHEST_NODE, z) {
-        return Step::Off;
+        return None;
     }
-    Step::To {
+    Some(Step {
         child: table::up_to(table::MOST_NODES, z) as usize,
         kept: turn.kept,
-    }
+    })
 }
 
 // Where a query ends: the slot of the offer named first, that of the second offer, and how many nodes it passed.
@@ -115,7 +113,7 @@ fn astray(probes: u32) -> Probe
     Probe {
         slot: 0,
         second: 0,
-        probes: probes,
+        probes,
     }
 }
 
@@ -123,10 +121,7 @@ fn astray(probes: u32) -> Probe
 fn kept_else(kept: u32, slot: u32) -> u32
     ensures { result ≡ kept_else kept slot }
 {
-    if kept < 1 {
-        return slot;
-    }
-    kept
+    if kept < 1 { slot } else { kept }
 }
 
 // From the root to the piece with the lowest rate of those that are the cheapest at the load. There are two where the load is at a crossing: the inner
@@ -141,25 +136,22 @@ pub fn descend(part: &[i64], root: u32, load: i64) -> Probe
     }
     let mut x = root as usize;
     let mut second: u32 = 0;
-    let mut probes: u32 = 0;
-    while LEAVES < x {
-        if table::MOST_LEVELS <= probes {
-            return astray(probes);
+    for probes in 0..table::MOST_LEVELS + 1 {
+        if x <= LEAVES {
+            let slot = x as u32;
+            return Probe {
+                slot,
+                second: kept_else(second, slot),
+                probes,
+            };
         }
-        let step = toward(part, c, x, load, second);
-        let Step::To { child, kept } = step else {
+        let Some(step) = toward(part, c, x, load, second) else {
             return astray(probes);
         };
-        second = kept;
-        x = child;
-        probes += 1;
+        x = step.child;
+        second = step.kept;
     }
-    let slot = x as u32;
-    Probe {
-        slot: slot,
-        second: kept_else(second, slot),
-        probes: probes,
-    }
+    astray(table::MOST_LEVELS)
 }
 
 // The number of the offer in a slot, 0 where the part has no such slot: what `table::get` reads, without its test of the length, which always passes.
@@ -167,10 +159,7 @@ pub fn number(part: &[i64], slot: u32) -> i64
     ensures { result ≡ cell part.now number_field slot }
 {
     let c = table::capacity(part);
-    if slot < 1 {
-        return 0;
-    }
-    if c < slot {
+    if slot < 1 || c < slot {
         return 0;
     }
     part[table::address(c, table::NUMBER, slot)]
@@ -181,10 +170,7 @@ pub fn price(part: &[i64], slot: u32, load: i64) -> i64
     ensures { result ≡ price_in part.now slot load }
 {
     let c = table::capacity(part);
-    if slot < 1 {
-        return 0;
-    }
-    if c < slot {
+    if slot < 1 || c < slot {
         return 0;
     }
     let at = table::address(c, table::NUMBER, slot);

@@ -1,5 +1,5 @@
 -- A reading of a part, by what the code reads of its words.
-use Rattle.std.specs.Prelude.{◌≡◌, refl, ◌≢◌, Bool, true, false, ℕ, suc, ◌+◌, ◌*◌, ◌-◌, ◌≤◌, ◌<◌, length, take, drop, ℤ, pos}
+use Rattle.std.specs.Prelude.{◌≡◌, refl, ◌≢◌, Bool, true, false, ℕ, suc, ◌+◌, ◌*◌, ◌-◌, ◌≤◌, ◌<◌, length, take, drop, ℤ, pos, Ok, Err, Option as Maybe, Some}
 use Rattle.std.proofs.Common.{sym, ◌∙◌, ap, subst, arith, length-append, drop_of_length-le}
 use mathlib.Core.List.Memᴰ
 use mathlib.Core.List.{List, [], ◌∷◌, ◌++◌, map, map-append, Memᴰ}
@@ -32,15 +32,15 @@ use Rattle.promises.specs.Promises.{part_of, no_book_trial}
 use Rattle.promises.specs.LentPart.{whole_part, no_form, no_book_cause}
 use Rattle.promises.specs.OneCause.{not_clear}
 use Rattle.promises.specs.Rooted.{Root, bare, topped, Top, root_of}
-use Rattle.reading.specs.declared.Handed.{Handed}
-use Rattle.reading.specs.declared.Handed.TheVariants.{Piece, Declined}
+use Rattle.causes.specs.declared.Declined.TheVariants.{NoBook}
+use Rattle.reading.specs.declared.Piece.{Piece}
 use Rattle.reading.specs.Promises.{ended, refused, told, piece_of, listed_at, root_pieces, PlaceOf, at_piece, past_last, Before, Starts, Moves, Hands}
 
 pub record PartMoves (w : Words) (place r : ℕ) : Type 0 where
   pub on : (n : ℕ) → Before w n place → Before w (n + 1) r
 
-pub record PartHands (w : Words) (place : ℕ) (r : Handed) : Type 0 where
-  pub answers : (n : ℕ) → Before w n place → (s : State) (held : Option (Held Item)) → Book w s held → told r ≡ listed_at s.offers n
+pub record PartHands (w : Words) (place : ℕ) (r : Maybe Piece) : Type 0 where
+  pub answers : (n : ℕ) → Before w n place → (s : State) (held : Option (Held Item)) → Book w s held → told (Ok r) ≡ listed_at s.offers n
 
 -- ---- what the root's envelope is
 
@@ -167,7 +167,7 @@ listed_is {w} {s} {held} b = go held b (root_of {root = up_to most_nodes (word w
 no_words : (es : List Offer) (n : ℕ) → length es ≤ n → take 3 (drop (3 * n) (piece_words es)) ≡ []
 no_words es n h = ap (take 3) (drop_of_length-le (piece_words es) {i = 3 * n} (omega (arith, words_length es)))
 
-pub hands_end : {w : Words} {p : ℕ} {r : Handed} → told r ≡ ended → p < 1 → PartHands w p r
+pub hands_end : {w : Words} {p : ℕ} {r : Maybe Piece} → told (Ok r) ≡ ended → p < 1 → PartHands w p r
 hands_end {w} {p} e h = record {
   answers = λ n k s held b. e
       ∙ ap piece_of (sym (no_words (envelope s.offers) n (omega (
@@ -219,7 +219,7 @@ module _ {w : Words} {root z p : ℕ} {last : Bool} {number u v : ℤ} (er : roo
     here_words : number ∷ u ∷ v ∷ [] ≡ take 3 (drop (3 * n) (piece_words (map offer_of (leaves t))))
     here_words = three last k.ahead refl k.split ∙ ap (take 3) (sym (words_at n k k.ahead k.split))
 
-  pub hands_piece : PartHands w p (Piece number u v)
+  pub hands_piece : PartHands w p (Some (record { number = number; numerator = u; denominator = v }))
   hands_piece = record {
     answers = λ n k s held b. ap piece_of
         (words n (by_root er (λ xs. PlaceOf xs n p → number ∷ u ∷ v ∷ [] ≡ take 3 (drop (3 * n) (piece_words (map offer_of xs)))) b (λ y q. nowhere n q)
@@ -249,7 +249,7 @@ module _ (start : ℕ) (t : List ℤ) {no : Bool} (e : no ≡ no_book_at (length
     pub after_no_book : (p : ℕ) → Moves start t p 0
     after_no_book p = record { nowhere = λ z g. refl; on = λ n k. record { stands = λ s held b. absurd (no_form t start e d b) } }
 
-    pub hands_no_book : (p : ℕ) → Hands start t p (Declined (pos 3))
+    pub hands_no_book : (p : ℕ) → Hands start t p (Err NoBook)
     hands_no_book p = record {
       declined = λ z g. ap (λ (n : ℕ). refused (pos n)) (sym (no_book_cause t start g));
       answers =
@@ -261,7 +261,7 @@ module _ (start : ℕ) (t : List ℤ) {no : Bool} (e : no ≡ no_book_at (length
     not_nowhere : (z : Cause) → FirstOf (no_book_trial t start ∷ []) z → ⊥
     not_nowhere z f = not_clear f (denied e d, tt)
 
-    pub hands_there : {p : ℕ} {r : Handed} → PartHands (take (length t - start) (drop start t)) p r → Hands start t p r
+    pub hands_there : {p : ℕ} {r : Maybe Piece} → PartHands (take (length t - start) (drop start t)) p r → Hands start t p (Ok r)
     hands_there {p} {r} k = record {
       declined = λ z f. absurd (not_nowhere z f);
       answers =

@@ -1,5 +1,5 @@
 -- A reading of a book's pieces (docs/REQUIREMENTS.md, 12): what it hands out at its n-th step, and what moves it on.
-use Rattle.std.specs.Prelude.{ℕ, ◌+◌, ◌*◌, ◌≤◌, ◌≡◌, List, [], ◌∷◌, length, take, drop, ℤ, pos}
+use Rattle.std.specs.Prelude.{ℕ, ◌+◌, ◌*◌, ◌≤◌, ◌≡◌, List, [], ◌∷◌, length, take, drop, ℤ, pos, Result, Ok, Err, Option as Maybe, Some, None}
 use Rattle.std.proofs.Math.Option.{Option, none, some}
 use Rattle.offers.specs.Offers.{Offer}
 use Rattle.plain.specs.Causes.{Cause, cause_number, FirstOf}
@@ -11,10 +11,15 @@ use Rattle.table.specs.Items.{Item}
 use Rattle.form.specs.Form.{Book}
 use Rattle.listing.specs.PieceCounts.{Passed}
 use Rattle.promises.specs.Promises.{part_of, no_book_trial}
-use Rattle.reading.specs.declared.Handed.{Handed}
-use Rattle.reading.specs.declared.Handed.TheVariants.{Piece, End, Declined}
+use Rattle.causes.specs.declared.Declined.{Declined}
+use Rattle.causes.specs.Numbers.{number_of}
+use Rattle.reading.specs.declared.Piece.{Piece}
 
 -- ---- answers in the requirements' numbers and words (16.5)
+
+-- what a reading hands out: a piece, none at the end, or a refusal
+abbrev pub Handed : Type 0
+Handed = Result (Maybe Piece) Declined
 
 -- a piece's three words, the end, or the number of the cause for declining
 pub data Told : Type 0 where
@@ -23,9 +28,9 @@ pub data Told : Type 0 where
   refused : ℤ → Told
 
 abbrev pub told : Handed → Told
-told (Piece number numerator denominator) = piece number numerator denominator
-told End = ended
-told (Declined k) = refused k
+told (Ok (Some p)) = piece p.number p.numerator p.denominator
+told (Ok None) = ended
+told (Err c) = refused (number_of c)
 
 abbrev pub refusal : Cause → Told
 refusal c = refused (pos (cause_number c))

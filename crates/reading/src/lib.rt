@@ -4,16 +4,14 @@
 ghost use Rattle.reading.specs.Promises.{Before, Starts, Hands, Moves};
 ghost use Rattle.reading.specs.PartReading.{PartMoves, PartHands};
 
-// What a reading hands out: a piece as listed, the end, or the number of the cause for which it is declined.
-#[derive(Drop)]
-pub enum Handed {
-    Piece {
-        number: i64,
-        numerator: i64,
-        denominator: i64,
-    },
-    End,
-    Declined(i64),
+use causes::Declined;
+
+// A piece as listed: its offer's number, and its crossing with the next piece.
+#[derive(Clone, Copy)]
+pub struct Piece {
+    pub number: i64,
+    pub numerator: i64,
+    pub denominator: i64,
 }
 
 // The place of a part's first piece.
@@ -38,26 +36,26 @@ fn part_after(part: &[i64], place: u32) -> u32
     table::link(part, table::NEXT_PIECE, place)
 }
 
-// What stands at a place of a part.
-fn part_piece(part: &[i64], place: u32) -> Handed
+// What stands at a place of a part: a piece, or the end.
+fn part_piece(part: &[i64], place: u32) -> Option<Piece>
     ensures { PartHands part.now place result }
 {
     if place < 1 {
-        return Handed::End;
+        return None;
     }
     let root = form::envelope_root(part);
     let last = place == descents::end(part, table::PIECES, true, root);
     let number = table::get(part, table::NUMBER, place);
     let numerator = listing::crossing_word(part, table::NUMERATOR, place, last);
     let denominator = listing::crossing_word(part, table::DENOMINATOR, place, last);
-    Handed::Piece {
-        number: number,
-        numerator: numerator,
-        denominator: denominator,
-    }
+    Some(Piece {
+        number,
+        numerator,
+        denominator,
+    })
 }
 
-// The place of the first piece of the book at `start`, and 0 where there is none.
+// The place of the first piece of the book at `start`, and 0 where there is none. A place is a number, since C keeps it between two calls.
 pub fn first_place(table: &[i64], start: usize) -> u32
     ensures { Starts start table.now result }
 {
@@ -77,12 +75,12 @@ pub fn place_after(table: &[i64], start: usize, place: u32) -> u32
     part_after(&table[start..], place)
 }
 
-// What a reading at a place hands out.
-pub fn piece_at(table: &[i64], start: usize, place: u32) -> Handed
+// What a reading at a place hands out: a piece, or the end.
+pub fn piece_at(table: &[i64], start: usize, place: u32) -> Result<Option<Piece>, Declined>
     ensures { Hands start table.now place result }
 {
     if promises::no_book(table, start) {
-        return Handed::Declined(3);
+        return Err(Declined::NoBook);
     }
-    part_piece(&table[start..], place)
+    Ok(part_piece(&table[start..], place))
 }

@@ -10,8 +10,7 @@ use Rattle.table.specs.Items.{Item}
 use Rattle.form.specs.Form.{Book}
 use Rattle.promises.specs.Promises.{part_of, no_book_trial}
 use Rattle.reading_steps.specs.declared.Reading.{Reading}
-use Rattle.reading.specs.declared.Handed.{Handed}
-use Rattle.reading.specs.Promises.{told, refusal, listed_at, Before, Nowhere, Starts, Moves, Hands}
+use Rattle.reading.specs.Promises.{Handed, told, refusal, listed_at, Before, Nowhere, Starts, Moves, Hands}
 
 -- a reading of that table and `start`, before the first piece
 pub record Begins (table : Bor (List ℤ)) (start : ℕ) (r : Reading) : Type 0 where

@@ -7,7 +7,8 @@ ghost use Rattle.reading.specs.Promises.{Before, Hands};
 ghost use Rattle.reading_steps.specs.ReadingSteps.{Begins, Advances, HandsAt};
 ghost use Rattle.promises.specs.Promises.{part_of};
 
-use reading::Handed;
+use causes::Declined;
+use reading::Piece;
 
 #[derive(Drop)]
 pub struct Reading<'a> {
@@ -22,13 +23,11 @@ fn nth_place(table: &[i64], start: usize, n: u32) -> u32
     ensures { Before (part_of table.now start) n result }
 {
     let mut place = reading::first_place(table, start);
-    let mut i: u32 = 0;
-    while i < n {
+    for _ in 0..n {
         if place < 1 {
             return 0;
         }
         place = reading::place_after(table, start, place);
-        i += 1;
     }
     place
 }
@@ -46,7 +45,7 @@ pub fn begin<'a>(table: &'a [i64], start: usize) -> Reading<'a>
 }
 
 // The piece to hand out next.
-pub fn piece<'a>(r: Reading<'a>) -> Handed
+pub fn piece<'a>(r: Reading<'a>) -> Result<Option<Piece>, Declined>
     ensures { Hands r.entry.start r.entry.table.now r.entry.place result }
 {
     reading::piece_at(r.table, r.start, r.place)
@@ -56,16 +55,14 @@ pub fn piece<'a>(r: Reading<'a>) -> Handed
 pub fn advance<'a>(r: Reading<'a>) -> Reading<'a>
     ensures { Advances r.entry result }
 {
-    let place = reading::place_after(r.table, r.start, r.place);
     Reading {
-        table: r.table,
-        start: r.start,
-        place,
+        place: reading::place_after(r.table, r.start, r.place),
+        ..r
     }
 }
 
 // What a reading of the book at `start` hands out after `n` pieces. It has plain parameters, so any caller can use it.
-pub fn nth_piece(table: &[i64], start: usize, n: u32) -> Handed
+pub fn nth_piece(table: &[i64], start: usize, n: u32) -> Result<Option<Piece>, Declined>
     ensures { HandsAt start table.now n result }
 {
     let place = nth_place(table, start, n);

@@ -1,5 +1,5 @@
 -- What an update that is remembered promises of a part, and a take-back. `w` are the part's words before it and `w'` those after it.
-use Rattle.std.specs.Prelude.{◌≡◌, List, [], ◌∷◌, ℕ, ◌≤◌, length, ℤ, pos}
+use Rattle.std.specs.Prelude.{◌≡◌, List, [], ◌∷◌, ℕ, ◌≤◌, length, ℤ, pos, Result, Ok, Err}
 use Rattle.std.proofs.Math.Option.{Option}
 use Rattle.offers.specs.Offers.{Offer}
 use Rattle.plain.specs.Causes.{Clear}
@@ -19,11 +19,12 @@ use Rattle.declining.specs.PartCauses.{Postable}
 use Rattle.filing.specs.Updating.{Updated}
 use Rattle.filing.specs.declared.Told.{Told}
 use Rattle.promises.specs.declared.Update.{Update}
-use Rattle.promises.specs.declared.Update.TheVariants.{Done, Declined}
+use Rattle.causes.specs.declared.Declined.{Declined}
+use Rattle.causes.specs.declared.Declined.TheVariants.{NothingToTakeBack}
 
 -- an update's answer
 abbrev pub update_of : Told → Update
-update_of t = Done (pos t.live) (pos t.counts.searches) (pos t.counts.steps) (pos t.counts.heights)
+update_of t = record { live = pos t.live; k = pos t.counts.searches; s = pos t.counts.steps; h = pos t.counts.heights }
 
 -- words past the part stay, and its capacity, whatever the words are
 pub record Inside (w w' : Words) : Type 0 where
@@ -58,18 +59,18 @@ pub record WithdrawKept (n : ℤ) (s : ℕ) (w w' : Words) (u : Update) : Type 0
 -- ---- undone
 
 -- this entry, where it is the last one
-pub record Undoes (v : Undo) (w w' : Words) (u : Update) : Type 0 where
+pub record Undoes (v : Undo) (w w' : Words) (u : Result Update Declined) : Type 0 where
   pub inside : Inside w w'
-  pub refusal : (z : ℤ) → u ≡ Declined z → w' ≡ w
+  pub refusal : (c : Declined) → u ≡ Err c → w' ≡ w
   pub done :
       (plain : State) (held : Option (Held Item)) (us : List Undo) → Form w plain held → plain.memory ≡ v ∷ us →
-      (t : Told) × (u ≡ update_of t) × Recorded w' (recalling plain (undone v plain.offers) us) held t
+      (t : Told) × (u ≡ Ok (update_of t)) × Recorded w' (recalling plain (undone v plain.offers) us) held t
 
 -- the last one, whatever it is
-pub record TakesBack (w w' : Words) (u : Update) : Type 0 where
+pub record TakesBack (w w' : Words) (u : Result Update Declined) : Type 0 where
   pub inside : Inside w w'
-  pub refusal : (z : ℤ) → u ≡ Declined z → w' ≡ w
-  pub nothing : (plain : State) (held : Option (Held Item)) → Form w plain held → plain.memory ≡ [] → u ≡ Declined (pos 17)
+  pub refusal : (c : Declined) → u ≡ Err c → w' ≡ w
+  pub nothing : (plain : State) (held : Option (Held Item)) → Form w plain held → plain.memory ≡ [] → u ≡ Err NothingToTakeBack
   pub done :
       (plain : State) (held : Option (Held Item)) (v : Undo) (us : List Undo) → Form w plain held → plain.memory ≡ v ∷ us →
-      (t : Told) × (u ≡ update_of t) × Recorded w' (recalling plain (undone v plain.offers) us) held t
+      (t : Told) × (u ≡ Ok (update_of t)) × Recorded w' (recalling plain (undone v plain.offers) us) held t

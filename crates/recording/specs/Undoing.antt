@@ -1,5 +1,6 @@
 -- An update remembered, and the last one undone: what the code's parts promise, put together.
-use Rattle.std.specs.Prelude.{◌≡◌, refl, List, [], ◌∷◌, ℕ, ◌≤◌, ◌<◌, ℤ, pos}
+use Rattle.std.specs.Prelude.{◌≡◌, refl, Bool, true, false, List, [], ◌∷◌, ℕ, ◌≤◌, ◌<◌, ℤ, Result, Ok, Err}
+use Rattle.std.specs.Result.{is_err}
 use Rattle.std.proofs.Common.{sym, ◌∙◌, ap, subst, arith}
 use Rattle.std.proofs.Math.Option.{Option}
 use Rattle.offers.specs.Offers.{Offer}
@@ -30,7 +31,8 @@ use Rattle.filing.specs.Withdrawing.{live_at}
 use Rattle.filing.specs.PartUpdates.{PostDone, WithdrawDone}
 use Rattle.filing.specs.declared.Told.{Told}
 use Rattle.promises.specs.declared.Update.{Update}
-use Rattle.promises.specs.declared.Update.TheVariants.{Declined}
+use Rattle.causes.specs.declared.Declined.{Declined}
+use Rattle.causes.specs.declared.Declined.TheVariants.{NothingToTakeBack}
 use Rattle.promises.specs.OneCause.{not_clear}
 use Rattle.recording.specs.Ranges.{RangeCause}
 use Rattle.recording.specs.Recording.{update_of, Recorded, PostKept, WithdrawKept, Undoes, TakesBack}
@@ -72,9 +74,6 @@ withdraw_kept n r z {w' = w'} {t = t} er ez g m e =
 
 -- ---- the last one undone
 
-done_declined : {t : Told} {z : ℤ} → update_of t ≡ Declined z → ⊥
-done_declined e = let x : ◌≡◌ {A = ℕ} 0 1 = cc in omega arith
-
 -- a call that nothing declines is not refused
 not_refused : (s : State) (k : Call) {next : State} {i m : ℕ} → step s k ≡ record { state = next; answer = live i } → step s k ≡ refusing s m → ⊥
 not_refused s k {i = i} {m} e d = let q : live i ≡ refused m = sym (ap (λ (o : Outcome). o.answer) e) ∙ ap (λ (o : Outcome). o.answer) d in
@@ -88,24 +87,25 @@ last_clear {plain = plain} {v = v} {us} f e =
     (tried_recalling plain us plain.memory v clear, rest)
 
 -- nothing is done
-pub undoes_declined : (v : Undo) {w w' : Words} {u : Update} → w' ≡ w →
+pub undoes_declined : (v : Undo) {w w' : Words} {u : Result Update Declined} → w' ≡ w →
     ((plain : State) (held : Option (Held Item)) (us : List Undo) → Form w plain held → plain.memory ≡ v ∷ us → ⊥) → Undoes v w w' u
 undoes_declined v e never =
     record { inside = inside_same e; refusal = λ z d. e; done = λ plain held us f m. absurd (never plain held us f m) }
 
 module _ (n : ℤ) {w : Words} {s : ℕ} (found : FoundKey number_tree number_field n (up_to most_nodes (word w numbers_root_word)) w s) where
-  pub undo_missing : {w' : Words} {u : Update} → s < 1 → w' ≡ w → Undoes (unpost n) w w' u
+  pub undo_missing : {w' : Words} {u : Result Update Declined} → s < 1 → w' ≡ w → Undoes (unpost n) w w' u
   undo_missing l e =
       undoes_declined (unpost n) e (λ plain held us f m.
       let (clear, rest) = last_clear f m in
       not_refused plain (withdraw n) (withdraws plain n clear)
       (withdraw_missing f.book n (clear.0, tt) (number_sought f.book found refl) (omega (arith, l))))
 
-  pub undo_post : {w₁ w' : Words} {t : Told} {u : Update} → 1 ≤ s → WithdrawDone n s w w₁ t → Forgetting w₁ w' → u ≡ update_of t → Undoes (unpost n) w w' u
+  pub undo_post : {w₁ w' : Words} {t : Told} {u : Result Update Declined} → 1 ≤ s → WithdrawDone n s w w₁ t → Forgetting w₁ w' →
+      u ≡ Ok (update_of t) → Undoes (unpost n) w w' u
   undo_post {w₁} {w'} {t} l g m e =
       record {
         inside = inside_both g.kept m.only;
-        refusal = λ z d. absurd (done_declined (sym e ∙ d));
+        refusal = λ z d. cc;
         done = λ plain held us f em.
             let (clear, rest) = last_clear f em in
             let (updated, count) = g.done plain held f.book found l in (
@@ -115,29 +115,46 @@ module _ (n : ℤ) {w : Words} {s : ℕ} (found : FoundKey number_tree number_fi
             );
       }
 
-module _ (n r z : ℤ) {w : Words} {i : ℕ} (range : RangeCause (post n r z) i) where
-  pub undo_range : {w' : Words} {u : Update} → 0 < i → w' ≡ w → Undoes (restore (record { number = n; rate = r; base = z })) w w' u
-  undo_range l e =
+-- what a test tells of its `Result`
+failed : (r : Result (Unit {0}) Declined) {b : Bool} → b ≡ is_err r → b ≡ true → (c : Declined) × (r ≡ Err c)
+failed (Ok u) e h = cc
+failed (Err c) e h = (c, refl)
+
+passed : (r : Result (Unit {0}) Declined) {b : Bool} → b ≡ is_err r → b ≡ false → r ≡ Ok tt
+passed (Ok u) e h = refl
+passed (Err c) e h = cc
+
+module _ (n r z : ℤ) {w : Words} {i : Result (Unit {0}) Declined} (range : RangeCause (post n r z) i) {b : Bool} (tested : b ≡ is_err i) where
+  pub undo_range : {w' : Words} {u : Result Update Declined} → b ≡ true → w' ≡ w → Undoes (restore (record { number = n; rate = r; base = z })) w w' u
+  undo_range h e =
       undoes_declined (restore (record { number = n; rate = r; base = z })) e (λ plain held us f m.
-      let (k, first, d) = names_first (range.names l) in
+      let (c, l) = failed i tested h in
+      let (number, d, names) = range.names c l in
+      let (k, first, p) = names_first names in
       not_clear (first_append (book_trials plain (post n r z)) first) (last_clear f m).0)
 
-  module _ (q : i ≤ 0) {m : ℕ} (cause : PostCause n w m) where
-    pub undo_cause : {w' : Words} {u : Update} → 0 < m → w' ≡ w → Undoes (restore (record { number = n; rate = r; base = z })) w w' u
-    undo_cause l e =
+  module _ (h : b ≡ false) {m : Result (Unit {0}) Declined} (cause : PostCause n w m) {d : Bool} (tried : d ≡ is_err m) where
+    q : i ≡ Ok tt
+    q = passed i tested h
+
+    pub undo_cause : {w' : Words} {u : Result Update Declined} → d ≡ true → w' ≡ w → Undoes (restore (record { number = n; rate = r; base = z })) w w' u
+    undo_cause k e =
         undoes_declined (restore (record { number = n; rate = r; base = z })) e (λ plain held us f em.
-        not_refused plain (post n r z) (posts plain n r z (last_clear f em).0) (cause.declines r z plain held f.book (range.clears q) l))
+        let (c, l) = failed m tried k in
+        let (number, p, declines) = cause.declines c l in
+        not_refused plain (post n r z) (posts plain n r z (last_clear f em).0) (declines r z plain held f.book (range.clears q)))
 
     pub undo_withdrawal :
-        {w₁ w' : Words} {t : Told} {u : Update} → m ≤ 0 → PostDone (record { number = n; rate = r; base = z }) w w₁ t → Forgetting w₁ w' → u ≡ update_of t →
+        {w₁ w' : Words} {t : Told} {u : Result Update Declined} → d ≡ false → PostDone (record { number = n; rate = r; base = z }) w w₁ t →
+        Forgetting w₁ w' → u ≡ Ok (update_of t) →
         Undoes (restore (record { number = n; rate = r; base = z })) w w' u
     undo_withdrawal {w₁} {t = t} l g forgets e =
         record {
           inside = inside_both g.kept forgets.only;
-          refusal = λ y d. absurd (done_declined (sym e ∙ d));
+          refusal = λ y d. cc;
           done = λ plain held us f em.
               let (clear, rest) = last_clear f em in
-              let (_, new) = cause.clears r z plain held f.book (range.clears q) l in
+              let (_, new) = cause.clears (passed m tried l) r z plain held f.book (range.clears q) in
               let (updated, count) = g.done plain held f.book new in (
                 t,
                 e,
@@ -155,7 +172,7 @@ module _ {w : Words} {e : Entry} (last : LastOf w e) where
   reads : {plain : State} {held : Option (Held Item)} {us : List Undo} → Form w plain held → plain.memory ≡ us → Reads us e
   reads {us = us} f m = last.reads us (subst (Ring w) m f.memory.ring)
 
-  pub takes_post : {w' : Words} {u : Update} → e.done ≡ posted → Undoes (unpost e.number) w w' u → TakesBack w w' u
+  pub takes_post : {w' : Words} {u : Result Update Declined} → e.done ≡ posted → Undoes (unpost e.number) w w' u → TakesBack w w' u
   takes_post {w'} {u} d g =
       record {
         inside = g.inside;
@@ -165,14 +182,14 @@ module _ {w : Words} {e : Entry} (last : LastOf w e) where
       }
     where
       go : (plain : State) (held : Option (Held Item)) (v : Undo) (us : List Undo) → Form w plain held → plain.memory ≡ v ∷ us → Reads (v ∷ us) e →
-          (t : Told) × (u ≡ update_of t) × Recorded w' (recalling plain (undone v plain.offers) us) held t
+          (t : Told) × (u ≡ Ok (update_of t)) × Recorded w' (recalling plain (undone v plain.offers) us) held t
       go plain held (unpost n) us f m (k, en) =
-          subst (λ (i : ℤ). (t : Told) × (u ≡ update_of t) × Recorded w' (recalling plain (leave i plain.offers) us) held t)
+          subst (λ (i : ℤ). (t : Told) × (u ≡ Ok (update_of t)) × Recorded w' (recalling plain (leave i plain.offers) us) held t)
           en (g.done plain held us f (m ∙ ap (λ (i : ℤ). unpost i ∷ us) (sym en)))
       go plain held (restore o) us f m (k, eo) = absurd (omega (arith, k, d))
 
   pub takes_withdrawal :
-      {w' : Words} {u : Update} → e.done ≡ withdrawn → Undoes (restore (record { number = e.number; rate = e.rate; base = e.base })) w w' u →
+      {w' : Words} {u : Result Update Declined} → e.done ≡ withdrawn → Undoes (restore (record { number = e.number; rate = e.rate; base = e.base })) w w' u →
       TakesBack w w' u
   takes_withdrawal {w'} {u} d g =
       record {
@@ -183,12 +200,13 @@ module _ {w : Words} {e : Entry} (last : LastOf w e) where
       }
     where
       go : (plain : State) (held : Option (Held Item)) (v : Undo) (us : List Undo) → Form w plain held → plain.memory ≡ v ∷ us → Reads (v ∷ us) e →
-          (t : Told) × (u ≡ update_of t) × Recorded w' (recalling plain (undone v plain.offers) us) held t
+          (t : Told) × (u ≡ Ok (update_of t)) × Recorded w' (recalling plain (undone v plain.offers) us) held t
       go plain held (unpost n) us f m (k, en) = absurd (omega (arith, k, d))
-      go plain held (restore o) us f m (k, eo) = subst (λ (p : Offer). (t : Told) × (u ≡ update_of t) × Recorded w' (recalling plain (join p plain.offers) us)
-          held t) eo (g.done plain held us f (m ∙ ap (λ (p : Offer). restore p ∷ us) (sym eo)))
+      go plain held (restore o) us f m (k, eo) = subst (λ (p : Offer). (t : Told) × (u ≡ Ok (update_of t)) ×
+          Recorded w' (recalling plain (join p plain.offers) us) held t) eo (g.done plain held us f (m ∙ ap (λ (p : Offer). restore p ∷ us) (sym eo)))
 
-  pub takes_nothing : {w' : Words} {u : Update} → (e.done ≡ posted → ⊥) → (e.done ≡ withdrawn → ⊥) → u ≡ Declined (pos 17) → w' ≡ w → TakesBack w w' u
+  pub takes_nothing : {w' : Words} {u : Result Update Declined} → (e.done ≡ posted → ⊥) → (e.done ≡ withdrawn → ⊥) → u ≡ Err NothingToTakeBack → w' ≡ w →
+      TakesBack w w' u
   takes_nothing {w'} {u} p q eu ew =
       record {
         inside = inside_same ew;

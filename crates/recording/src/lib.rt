@@ -7,13 +7,14 @@ ghost use Rattle.plain.specs.Book.{post, unpost, restore};
 ghost use Rattle.recording.specs.Ranges.{RangeCause};
 ghost use Rattle.recording.specs.Recording.{update_of, PostKept, WithdrawKept, Undoes, TakesBack};
 
+use causes::Declined;
 use promises::Update;
 
 // An update's answer.
 fn done(told: filing::Told) -> Update
     ensures { result ≡ update_of told }
 {
-    Update::Done {
+    Update {
         live: told.live as i64,
         k: told.counts.searches as i64,
         s: told.counts.steps as i64,
@@ -21,20 +22,20 @@ fn done(told: filing::Told) -> Update
     }
 }
 
-// The cause for which an offer's number, rate or base is out of range, or 0.
-pub fn range_cause(number: i64, rate: i64, base: i64) -> u32
+// The first of an offer's number, rate and base that is out of range, where one is.
+pub fn range_cause(number: i64, rate: i64, base: i64) -> Result<(), Declined>
     ensures { RangeCause (post number rate base) result }
 {
     if query::outside(1, 9_999, number) {
-        return 4;
+        return Err(Declined::OutOfRange);
     }
     if query::outside(-100_000, 100_000, rate) {
-        return 14;
+        return Err(Declined::RateOutOfRange);
     }
     if query::outside(-1_000_000_000, 1_000_000_000, base) {
-        return 15;
+        return Err(Declined::BaseOutOfRange);
     }
-    0
+    Ok(())
 }
 
 // A post that is not declined, remembered.
@@ -59,43 +60,38 @@ pub fn withdraw_kept(part: &mut [i64], number: i64, s: u32) -> Update
 }
 
 // The last update was a post: its offer goes out again. In a book it is live; on words of any content it may not be, and nothing is taken back.
-fn undo_post(part: &mut [i64], number: i64) -> Update
+fn undo_post(part: &mut [i64], number: i64) -> Result<Update, Declined>
     ensures { Undoes (unpost number) part.old part.new result }
 {
     let s = declining::live_slot(part, number);
     if s < 1 {
-        return Update::Declined(17);
+        return Err(Declined::NothingToTakeBack);
     }
     let told = filing::withdraw_part(part, number, s);
     memory::forget(part);
-    done(told)
+    Ok(done(told))
 }
 
 // It was a withdrawal: its offer comes back. In a book nothing is in its way.
-fn undo_withdrawal(part: &mut [i64], number: i64, rate: i64, base: i64) -> Update
+fn undo_withdrawal(part: &mut [i64], number: i64, rate: i64, base: i64) -> Result<Update, Declined>
     ensures { Undoes (restore (record { number = number; rate = rate; base = base })) part.old part.new result }
 {
-    if 0 < range_cause(number, rate, base) {
-        return Update::Declined(17);
-    }
-    if 0 < declining::post_cause(part, number) {
-        return Update::Declined(17);
+    if range_cause(number, rate, base).is_err() || declining::post_cause(part, number).is_err() {
+        return Err(Declined::NothingToTakeBack);
     }
     let told = filing::post_part(part, number, rate, base);
     memory::forget(part);
-    done(told)
+    Ok(done(told))
 }
 
-// Undoes the last update that is remembered; 17 where there is none.
-pub fn take_back_part(part: &mut [i64]) -> Update
+// Undoes the last update that is remembered.
+pub fn take_back_part(part: &mut [i64]) -> Result<Update, Declined>
     ensures { TakesBack part.old part.new result }
 {
     let last = memory::last(part);
-    if last.done == memory::POSTED {
-        return undo_post(part, last.number);
+    match last.done {
+        memory::POSTED => undo_post(part, last.number),
+        memory::WITHDRAWN => undo_withdrawal(part, last.number, last.rate, last.base),
+        _ => Err(Declined::NothingToTakeBack),
     }
-    if last.done == memory::WITHDRAWN {
-        return undo_withdrawal(part, last.number, last.rate, last.base);
-    }
-    Update::Declined(17)
 }

@@ -1,17 +1,13 @@
 -- The answers read off the words are the history's, where none of those is `refused 0`, as no answer of the plain book is.
-use Rattle.std.specs.Prelude.{◌≡◌, refl, ◌≢◌, Bool, true, false, cond, List, ◌∷◌, ℕ, take, drop, get_or, ℤ, pos}
+use Rattle.std.specs.Prelude.{◌≡◌, refl, ◌≢◌, Bool, true, false, cond, List, ◌∷◌, ℕ, take, drop, get_or, ℤ, pos, Result, Ok, Err}
 use Rattle.std.proofs.Common.{sym, ◌∙◌, ap, subst, arith, get_or-take}
 use Rattle.std.proofs.Math.Option.{Option}
 use Rattle.integers.specs.Equal.{equal}
 use Rattle.plain.specs.Book.{State, Call, post, withdraw, query, listing, take_back, report, Answer, refused, step, answers}
+use Rattle.causes.specs.declared.Declined.{Declined}
+use Rattle.causes.specs.Numbers.{number_of}
 use Rattle.promises.specs.declared.Update.{Update}
-use Rattle.promises.specs.declared.Update.TheVariants.{Done, Declined as UpdateDeclined}
 use Rattle.promises.specs.declared.Found.{Found}
-use Rattle.promises.specs.declared.Found.TheVariants.{Offer, Declined as FoundDeclined}
-use Rattle.promises.specs.declared.Listed.{Listed}
-use Rattle.promises.specs.declared.Listed.TheVariants.{Pieces, Declined as ListingDeclined}
-use Rattle.promises.specs.declared.Reported.{Reported}
-use Rattle.promises.specs.declared.Reported.TheVariants.{Offers, Declined as ReportDeclined}
 use Rattle.dynamic.specs.OfferTree.{Held}
 use Rattle.table.specs.Items.{Item}
 use Rattle.form.specs.Form.{Form}
@@ -21,7 +17,7 @@ use Rattle.promises.specs.Promises.{part_of, written_words, counted, update_answ
 use Rattle.promises.specs.Numbered.{numbered}
 use Rattle.history.specs.History.{Happens, posting, withdrawing, taking_back, by_update, by_query, by_listing, by_report, History, finished, next}
 use Rattle.history.specs.Claim.{step_capacity, one_call}
-use Rattle.replay_words.specs.Encoding.{stretch, update_words, found_words, listed_words, reported_words, accepted_answer, answer_of, told, spared, Spares}
+use Rattle.replay_words.specs.Encoding.{stretch, update_words, found_words, count_words, accepted_answer, answer_of, told, spared, Spares}
 use Rattle.replay_words.specs.Decoding.{same_is}
 use Rattle.replay_call.specs.Telling.{TellsOne, Tells}
 
@@ -48,31 +44,31 @@ refusal_told k c x y z out f = go (equal c (pos 0)) refl
     go true e = absurd (f (ap (counted refused) (same_is c (pos 0) e)))
     go false e = refl
 
-post_told : (n r b : ℤ) (u : Update) (out : List ℤ) → update_answer u ≢ refused 0 → by_words (post n r b) (update_words u) out ≡ update_answer u
-post_told n r b (Done m k s h) out f = refl
-post_told n r b (UpdateDeclined z) out f = refusal_told (post n r b) z (pos 0) (pos 0) (pos 0) out f
+post_told : (n r b : ℤ) (u : Result Update Declined) (out : List ℤ) → update_answer u ≢ refused 0 → by_words (post n r b) (update_words u) out ≡ update_answer u
+post_told n r b (Ok u) out f = refl
+post_told n r b (Err c) out f = refusal_told (post n r b) (number_of c) (pos 0) (pos 0) (pos 0) out f
 
-withdraw_told : (n : ℤ) (u : Update) (out : List ℤ) → update_answer u ≢ refused 0 → by_words (withdraw n) (update_words u) out ≡ update_answer u
-withdraw_told n (Done m k s h) out f = refl
-withdraw_told n (UpdateDeclined z) out f = refusal_told (withdraw n) z (pos 0) (pos 0) (pos 0) out f
+withdraw_told : (n : ℤ) (u : Result Update Declined) (out : List ℤ) → update_answer u ≢ refused 0 → by_words (withdraw n) (update_words u) out ≡ update_answer u
+withdraw_told n (Ok u) out f = refl
+withdraw_told n (Err c) out f = refusal_told (withdraw n) (number_of c) (pos 0) (pos 0) (pos 0) out f
 
-back_told : (u : Update) (out : List ℤ) → update_answer u ≢ refused 0 → by_words take_back (update_words u) out ≡ update_answer u
-back_told (Done m k s h) out f = refl
-back_told (UpdateDeclined z) out f = refusal_told take_back z (pos 0) (pos 0) (pos 0) out f
+back_told : (u : Result Update Declined) (out : List ℤ) → update_answer u ≢ refused 0 → by_words take_back (update_words u) out ≡ update_answer u
+back_told (Ok u) out f = refl
+back_told (Err c) out f = refusal_told take_back (number_of c) (pos 0) (pos 0) (pos 0) out f
 
-query_told : (q : ℤ) (a : Found) (out : List ℤ) → found_answer a ≢ refused 0 → by_words (query q) (found_words a) out ≡ found_answer a
-query_told q (Offer n p m s) out f = refl
-query_told q (FoundDeclined z) out f = refusal_told (query q) z (pos 0) (pos 0) (pos 0) out f
+query_told : (q : ℤ) (a : Result Found Declined) (out : List ℤ) → found_answer a ≢ refused 0 → by_words (query q) (found_words a) out ≡ found_answer a
+query_told q (Ok a) out f = refl
+query_told q (Err c) out f = refusal_told (query q) (number_of c) (pos 0) (pos 0) (pos 0) out f
 
-listing_told : (room : ℕ) (l : Listed) (out : List ℤ) → listing_answer l (take room out) ≢ refused 0 →
-    by_words (listing room) (listed_words l) out ≡ listing_answer l (take room out)
-listing_told room (Pieces m) out f = refl
-listing_told room (ListingDeclined z) out f = refusal_told (listing room) z (pos 0) (pos 0) (pos 0) out f
+listing_told : (room : ℕ) (l : Result ℤ Declined) (out : List ℤ) → listing_answer l (take room out) ≢ refused 0 →
+    by_words (listing room) (count_words l) out ≡ listing_answer l (take room out)
+listing_told room (Ok m) out f = refl
+listing_told room (Err c) out f = refusal_told (listing room) (number_of c) (pos 0) (pos 0) (pos 0) out f
 
-report_told : (q p : ℤ) (room : ℕ) (r : Reported) (out : List ℤ) → report_answer r (take room out) ≢ refused 0 →
-    by_words (report q p room) (reported_words r) out ≡ report_answer r (take room out)
-report_told q p room (Offers m) out f = refl
-report_told q p room (ReportDeclined z) out f = refusal_told (report q p room) z (pos 0) (pos 0) (pos 0) out f
+report_told : (q p : ℤ) (room : ℕ) (r : Result ℤ Declined) (out : List ℤ) → report_answer r (take room out) ≢ refused 0 →
+    by_words (report q p room) (count_words r) out ≡ report_answer r (take room out)
+report_told q p room (Ok m) out f = refl
+report_told q p room (Err c) out f = refusal_told (report q p room) (number_of c) (pos 0) (pos 0) (pos 0) out f
 
 one_told : {start : ℕ} {t : List ℤ} {k : Call} {t' : List ℤ} {a : Answer} (p : Happens start t k t' a) (ws ws' : List ℤ) → TellsOne p ws ws' →
     a ≢ refused 0 → by_words k ws' (drop 5 ws') ≡ a

@@ -4,13 +4,13 @@
 ghost use Rattle.replay.specs.Promises.{Resumes, Replays};
 ghost use Rattle.replay.specs.Running.{Ended};
 
-// What a run of calls answers: how many calls were run, all of them or those before one that is unreadable or whose answer does
-// not fit any more; or the number of the cause for which the opening was declined.
-#[derive(Drop)]
+pub use book::Declined;
+
+// How many calls were run: all of them, or those before one that is unreadable or whose answer does not fit any more.
+#[derive(Clone, Copy)]
 pub enum Replayed {
     Ran(usize),
     Stopped(usize),
-    Declined(i64),
 }
 
 // Makes one call after the other, up to the first that is unreadable or whose answer does not fit any more. Returns how many.
@@ -19,6 +19,7 @@ fn run(table: &mut [i64], start: usize, calls: &[i64], answers: &mut [i64]) -> u
 {
     let mut n: usize = 0;
     let mut at: usize = 0;
+    // No `for` over the calls: what ends the run is an answer of `one_call`, and a `for` would have a second way out, which returns the same count.
     loop {
         let used = replay_call::one_call(table, start, &calls[4 * n..], &mut answers[at..]);
         if used < 1 {
@@ -31,13 +32,14 @@ fn run(table: &mut [i64], start: usize, calls: &[i64], answers: &mut [i64]) -> u
 
 // Makes encoded calls on the book at `start`, and writes each answer.
 pub fn resume(table: &mut [i64], start: usize, calls: &[i64], answers: &mut [i64]) -> Replayed
-    ensures { Resumes start table.old table.new calls.now answers.old answers.new result }
+    ensures { Resumes start table.old table.new calls.now answers.old answers.new (Ok result) }
 {
     let n = run(table, start, calls, answers);
     if calls.len() <= 4 * n {
-        return Replayed::Ran(n);
+        Replayed::Ran(n)
+    } else {
+        Replayed::Stopped(n)
     }
-    Replayed::Stopped(n)
 }
 
 // Opens a book at `start`, makes encoded calls on it, and writes each answer.
@@ -47,12 +49,9 @@ pub fn replay(
     capacity: i64,
     calls: &[i64],
     answers: &mut [i64],
-) -> Replayed
+) -> Result<Replayed, Declined>
     ensures { Replays capacity start table.old table.new calls.now answers.old answers.new result }
 {
-    let opening = book::open(table, start, capacity);
-    if let book::Opening::Declined(cause) = opening {
-        return Replayed::Declined(cause);
-    }
-    resume(table, start, calls, answers)
+    book::open(table, start, capacity)?;
+    Ok(resume(table, start, calls, answers))
 }

@@ -1,6 +1,6 @@
 -- One encoded call, made: what it does to the table and to the words that are lent for its answer.
 use Rattle.std.specs.Prelude.{◌≡◌, true, false, List, ℕ, ◌≤◌, ◌<◌, length, drop, ℤ, leb}
-use Rattle.std.proofs.Math.Option.{Option, none, some}
+use Rattle.std.proofs.Math.Option.{some}
 use Rattle.plain.specs.Book.{Call, Answer}
 use Rattle.history.specs.History.{Happens}
 use Rattle.replay_words.specs.Encoding.{next_call, stretch, fitting}
@@ -12,11 +12,6 @@ pub record Performed (k : Call) (start : ℕ) (t t' ws ws' : List ℤ) : Type 0 
   pub tells : TellsOne happens ws ws'
   pub long : length ws' ≡ length ws
   pub later : drop (stretch k) ws' ≡ drop (stretch k) ws
-
--- by the kind of call, with the words used
-abbrev pub Performs : Option Call → (start : ℕ) (t t' ws ws' : List ℤ) → ℕ → Type 0
-Performs none start t t' ws ws' used = ⊥
-Performs (some k) start t t' ws ws' used = Performed k start t t' ws ws' × (used ≡ stretch k)
 
 -- the next call, where it can be run
 pub record Ready (k : Call) (cs ws : List ℤ) : Type 0 where

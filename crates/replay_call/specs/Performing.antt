@@ -1,38 +1,28 @@
 -- How each kind of call is performed: the words of its answer are the encoding of the very value that the call returned.
-use Rattle.std.specs.Prelude.{◌≡◌, refl, true, false, List, ◌++◌, ℕ, ◌+◌, ◌-◌, ◌≤◌, length, take, drop, ℤ}
-use Rattle.std.proofs.Common.{sym, ◌∙◌, ap, subst, true≢false, arith, length-append, length-drop, take_at, drop_at, drop-drop, length-take-le, leb-true}
-use Rattle.std.proofs.Math.Option.{Option, none, some}
-use Rattle.plain.specs.Book.{Call, post, withdraw, query, listing, take_back, report}
+use Rattle.std.specs.Prelude.{◌≡◌, refl, List, ◌++◌, ℕ, ◌+◌, ◌-◌, ◌≤◌, length, take, drop, ℤ, Result, Ok, Err}
+use Rattle.std.proofs.Common.{sym, ◌∙◌, ap, arith, length-append, length-drop, take_at, drop_at, drop-drop, length-take-le}
+use Rattle.plain.specs.Book.{Call, query, listing, report}
+use Rattle.causes.specs.declared.Declined.{Declined}
 use Rattle.promises.specs.declared.Update.{Update}
-use Rattle.promises.specs.declared.Update.TheVariants.{Done, Declined as UpdateDeclined}
 use Rattle.promises.specs.declared.Found.{Found}
-use Rattle.promises.specs.declared.Found.TheVariants.{Offer, Declined as FoundDeclined}
-use Rattle.promises.specs.declared.Listed.{Listed}
-use Rattle.promises.specs.declared.Listed.TheVariants.{Pieces, Declined as ListingDeclined}
-use Rattle.promises.specs.declared.Reported.{Reported}
-use Rattle.promises.specs.declared.Reported.TheVariants.{Offers, Declined as ReportDeclined}
 use Rattle.promises.specs.Promises.{Updates, Queries, Lists, Reports, update_answer, found_answer, listing_answer, report_answer}
 use Rattle.history.specs.History.{Changes, by_update, by_query, by_listing, by_report}
-use Rattle.replay_words.specs.Encoding.{next_call, stretch, fitting, update_words, found_words, listed_words, reported_words}
-use Rattle.replay_call.specs.OneCall.{Performed, Performs, Step}
+use Rattle.replay_words.specs.Encoding.{stretch, update_words, found_words, count_words}
+use Rattle.replay_call.specs.OneCall.{Performed}
 
 -- ---- the kinds of calls
 
-update_five : (u : Update) → length (update_words u) ≡ 5
-update_five (Done n k s h) = refl
-update_five (UpdateDeclined c) = refl
+update_five : (u : Result Update Declined) → length (update_words u) ≡ 5
+update_five (Ok u) = refl
+update_five (Err c) = refl
 
-found_five : (f : Found) → length (found_words f) ≡ 5
-found_five (Offer n p m q) = refl
-found_five (FoundDeclined c) = refl
+found_five : (f : Result Found Declined) → length (found_words f) ≡ 5
+found_five (Ok f) = refl
+found_five (Err c) = refl
 
-listed_five : (l : Listed) → length (listed_words l) ≡ 5
-listed_five (Pieces m) = refl
-listed_five (ListingDeclined c) = refl
-
-reported_five : (r : Reported) → length (reported_words r) ≡ 5
-reported_five (Offers m) = refl
-reported_five (ReportDeclined c) = refl
+count_five : (r : Result ℤ Declined) → length (count_words r) ≡ 5
+count_five (Ok m) = refl
+count_five (Err c) = refl
 
 module _ (ws : List ℤ) {ws' : List ℤ} (five : List ℤ) (n : length five ≡ 5) (h : 5 ≤ length ws) (e : ws' ≡ five ++ drop 5 ws) where
   five_take : take 5 ws' ≡ five
@@ -46,7 +36,7 @@ module _ (ws : List ℤ) {ws' : List ℤ} (five : List ℤ) (n : length five ≡
 
 module _ {start : ℕ} {t : List ℤ} (ws : List ℤ) {ws' : List ℤ} (h : 5 ≤ length ws) where
   -- a post, a withdrawal or a take-back
-  pub changes : {k : Call} {t' : List ℤ} {u : Update} → Changes k → stretch k ≡ 5 → Updates k start t t' u → ws' ≡ update_words u ++ drop 5 ws →
+  pub changes : {k : Call} {t' : List ℤ} {u : Result Update Declined} → Changes k → stretch k ≡ 5 → Updates k start t t' u → ws' ≡ update_words u ++ drop 5 ws →
       Performed k start t t' ws ws'
   changes {k} {t'} {u} c five p e =
       record {
@@ -57,7 +47,7 @@ module _ {start : ℕ} {t : List ℤ} (ws : List ℤ) {ws' : List ℤ} (h : 5 �
         later = rw five (five_drop ws (update_words u) (update_five u) h e);
       }
 
-  pub asks : {f : Found} (q : ℤ) → Queries q start t f → ws' ≡ found_words f ++ drop 5 ws → Performed (query q) start t t ws ws'
+  pub asks : {f : Result Found Declined} (q : ℤ) → Queries q start t f → ws' ≡ found_words f ++ drop 5 ws → Performed (query q) start t t ws ws'
   asks {f} q p e =
       record {
         answer = found_answer f;
@@ -123,10 +113,10 @@ written ws {ws₁} {ws'} {out'} five room n h long e₁ e =
     back = five_drop ws₁ five n h₁ e ∙ ap (drop 5) e₁ ∙ drop_at (take 5 ws) (out' ++ behind room ws) 5 front
 
 module _ {start : ℕ} {t : List ℤ} (ws : List ℤ) {ws₁ ws' out' : List ℤ} (room : ℕ) (h : 5 + room ≤ length ws) where
-  pub lists : {l : Listed} → Lists start t (lent_to room ws) out' l → ws₁ ≡ lent_back room ws out' →
-      ws' ≡ listed_words l ++ drop 5 ws₁ → Performed (listing room) start t t ws ws'
+  pub lists : {l : Result ℤ Declined} → Lists start t (lent_to room ws) out' l → ws₁ ≡ lent_back room ws out' →
+      ws' ≡ count_words l ++ drop 5 ws₁ → Performed (listing room) start t t ws ws'
   lists {l} p e₁ e =
-      let w = written ws (listed_words l) room (listed_five l) h p.long e₁ e in
+      let w = written ws (count_words l) room (count_five l) h p.long e₁ e in
       record {
         answer = listing_answer l out';
         happens = by_listing (lent_to room ws) out' l p w.lent refl refl;
@@ -135,10 +125,10 @@ module _ {start : ℕ} {t : List ℤ} (ws : List ℤ) {ws₁ ws' out' : List ℤ
         later = w.later;
       }
 
-  pub reports : {r : Reported} (q p : ℤ) → Reports q p start t (lent_to room ws) out' r → ws₁ ≡ lent_back room ws out' →
-      ws' ≡ reported_words r ++ drop 5 ws₁ → Performed (report q p room) start t t ws ws'
+  pub reports : {r : Result ℤ Declined} (q p : ℤ) → Reports q p start t (lent_to room ws) out' r → ws₁ ≡ lent_back room ws out' →
+      ws' ≡ count_words r ++ drop 5 ws₁ → Performed (report q p room) start t t ws ws'
   reports {r} q p k e₁ e =
-      let w = written ws (reported_words r) room (reported_five r) h k.long e₁ e in
+      let w = written ws (count_words r) room (count_five r) h k.long e₁ e in
       record {
         answer = report_answer r out';
         happens = by_report q p (lent_to room ws) out' r k w.lent refl refl;
@@ -146,37 +136,3 @@ module _ {start : ℕ} {t : List ℤ} (ws : List ℤ) {ws₁ ws' out' : List ℤ
         long = w.long;
         later = w.later;
       }
-
--- ---- and which it is
-
-pub some_words : (k : Call) → 5 ≤ stretch k
-some_words (post n r b) = omega arith
-some_words (withdraw n) = omega arith
-some_words (query q) = omega arith
-some_words (listing room) = omega arith
-some_words take_back = omega arith
-some_words (report q p room) = omega arith
-
-pub step_none : {start : ℕ} {t : List ℤ} (cs ws : List ℤ) {asked : Option Call} → asked ≡ next_call cs → fitting asked (length ws) ≡ false →
-    Step start t t cs ws ws 0
-step_none cs ws e f = record { stopped = λ h. (ap (λ (k : Option Call). fitting k (length ws)) (sym e) ∙ f, refl, refl); ran = λ h. absurd (omega arith) }
-
-pub step_some :
-    {start : ℕ} {t t' : List ℤ} (cs ws ws' : List ℤ) (asked : Option Call) {used : ℕ} →
-    asked ≡ next_call cs → fitting asked (length ws) ≡ true → Performs asked start t t' ws ws' used → Step start t t' cs ws ws' used
-step_some cs ws ws' none e f p = absurd p
-step_some cs ws ws' (some k) e f p = record {
-  stopped = λ h. absurd (omega (arith, h, p.1, some_words k));
-  ran =
-      λ h. (k, record { reads = sym e; fits = f }, p.0, p.1);
-}
-
-module _ {asked : Option Call} {k : Call} (e : asked ≡ some k) where
-  pub call_fits : (room : ℕ) → fitting asked room ≡ true → stretch k ≤ room
-  call_fits room f = leb-true (stretch k) room (subst (λ (o : Option Call). fitting o room ≡ true) e f)
-
-  pub performs : {start : ℕ} {t t' ws ws' : List ℤ} {used : ℕ} → Performed k start t t' ws ws' → used ≡ stretch k → Performs asked start t t' ws ws' used
-  performs {start} {t} {t'} {ws} {ws'} {used} p u = subst (λ (o : Option Call). Performs o start t t' ws ws' used) (sym e) (p, u)
-
-pub never : {asked : Option Call} → asked ≡ none → (ws : List ℤ) → fitting asked (length ws) ≡ true → ⊥
-never e ws f = true≢false (sym f ∙ ap (λ (o : Option Call). fitting o (length ws)) e)

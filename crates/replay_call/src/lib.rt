@@ -1,13 +1,13 @@
 // One encoded call on a book: made, and its answer written.
 #![tactic(auto)]
 
-ghost use Rattle.std.specs.Prelude.{◌≡◌, true, ◌+◌, ◌≤◌, length};
+ghost use Rattle.std.specs.Prelude.{◌≡◌, ◌+◌, ◌≤◌, length};
 ghost use Rattle.plain.specs.Book.{post, withdraw, query, listing, take_back, report};
-ghost use Rattle.replay_words.specs.Encoding.{fitting};
-ghost use Rattle.replay_words.specs.Decoding.{asked};
-ghost use Rattle.replay_call.specs.OneCall.{Performed, Performs, Step};
+ghost use Rattle.replay_words.specs.Encoding.{stretch};
+ghost use Rattle.replay_words.specs.Decoding.{meant};
+ghost use Rattle.replay_call.specs.OneCall.{Performed, Step};
 
-use replay_words::Next;
+use replay_words::Call;
 
 fn do_post(table: &mut [i64], start: usize, number: i64, rate: i64, base: i64, out: &mut [i64])
     requires { 5 ≤ length out.old }
@@ -40,7 +40,7 @@ fn do_listing(table: &[i64], start: usize, room: usize, out: &mut [i64])
 {
     let end = 5 + room;
     let told = book::listing(table, start, &mut out[5..end]);
-    replay_words::tell_listed(out, told);
+    replay_words::tell_count(out, told);
 }
 
 // The output lent is as a listing's.
@@ -50,7 +50,7 @@ fn do_report(table: &[i64], start: usize, load: i64, price: i64, room: usize, ou
 {
     let last = 5 + room;
     let told = book::report(table, start, load, price, &mut out[5..last]);
-    replay_words::tell_reported(out, told);
+    replay_words::tell_count(out, told);
 }
 
 fn do_take_back(table: &mut [i64], start: usize, out: &mut [i64])
@@ -62,32 +62,33 @@ fn do_take_back(table: &mut [i64], start: usize, out: &mut [i64])
 }
 
 // Makes a call whose answer fits. Returns how many words that takes.
-fn perform(table: &mut [i64], start: usize, next: Next, out: &mut [i64]) -> usize
-    requires { fitting (asked next) (length out.old) ≡ true }
-    ensures { Performs (asked next) start table.old table.new out.old out.new result }
+fn perform(table: &mut [i64], start: usize, call: Call, out: &mut [i64]) -> usize
+    requires { stretch (meant call) ≤ length out.old }
+    ensures tells { Performed (meant call) start table.old table.new out.old out.new }
+    ensures used { result ≡ stretch (meant call) }
 {
-    match next {
-        Next::Post { number, rate, base } => {
+    match call {
+        Call::Post { number, rate, base } => {
             do_post(table, start, number, rate, base, out);
             5
         }
-        Next::Withdraw(number) => {
+        Call::Withdraw(number) => {
             do_withdraw(table, start, number, out);
             5
         }
-        Next::Query(load) => {
+        Call::Query(load) => {
             do_query(table, start, load, out);
             5
         }
-        Next::Listing(room) => {
+        Call::Listing(room) => {
             do_listing(table, start, room, out);
             5 + room
         }
-        Next::TakeBack => {
+        Call::TakeBack => {
             do_take_back(table, start, out);
             5
         }
-        Next::Report {
+        Call::Report {
             load,
             price,
             room: words,
@@ -95,17 +96,17 @@ fn perform(table: &mut [i64], start: usize, next: Next, out: &mut [i64]) -> usiz
             do_report(table, start, load, price, words, out);
             5 + words
         }
-        Next::Nothing => 0,
     }
 }
 
-// Makes the first call, where it can be read and its answer fits. Returns how many words the answer takes, and 0 where there is no such call.
+// Makes the first call, where it can be read and its answer fits. Returns how many words the answer takes, and 0 where there is no such call:
+// `Step` says it of that number, and no answer takes 0.
 pub fn one_call(table: &mut [i64], start: usize, calls: &[i64], out: &mut [i64]) -> usize
     ensures { Step start table.old table.new calls.now out.old out.new result }
 {
     let next = replay_words::next_call(calls);
-    if replay_words::fits(next, out.len()) {
-        return perform(table, start, next, out);
+    match next {
+        Some(call) if replay_words::fits(next, out.len()) => perform(table, start, call, out),
+        _ => 0,
     }
-    0
 }

@@ -2,15 +2,15 @@
 --     1 number rate base   post           4 room 0 0          listing
 --     2 number 0 0         withdraw       5 0 0 0             take back
 --     3 load 0 0           query          6 load price room   report
-use Rattle.std.specs.Prelude.{◌≡◌, List, [], ◌∷◌, ◌++◌, Bool, false, ◌&&◌, cond, ℕ, zero, suc, ◌+◌, ◌*◌, ◌-◌, ◌≤◌, length, take, drop, get_or, ℤ, pos, negsuc, leb}
+use Rattle.std.specs.Prelude.{◌≡◌, List, [], ◌∷◌, ◌++◌, Bool, false, ◌&&◌, cond, ℕ, zero, suc, ◌+◌, ◌*◌, ◌-◌, ◌≤◌, length, take, drop, get_or, ℤ, pos, negsuc, leb, Result}
 use Rattle.std.proofs.Math.Option.{Option, none, some}
 use Rattle.integers.specs.Equal.{equal}
 use Rattle.plain.specs.Book.{Call, post, withdraw, query, listing, take_back, report, Answer, refused, live, found, listed, reported}
 use Rattle.promises.specs.declared.Update.{Update}
 use Rattle.promises.specs.declared.Found.{Found}
-use Rattle.promises.specs.declared.Listed.{Listed}
-use Rattle.promises.specs.declared.Reported.{Reported}
-use Rattle.promises.specs.Promises.{counted, update_told, found_told, listed_told, reported_told, written_words}
+use Rattle.causes.specs.declared.Declined.{Declined}
+use Rattle.causes.specs.Numbers.{number_of}
+use Rattle.promises.specs.Promises.{counted, update_told, found_told, count_told, written_words}
 
 -- ---- calls
 
@@ -105,19 +105,18 @@ padded zero values = []
 padded (suc n) [] = pos 0 ∷ padded n []
 padded (suc n) (value ∷ values) = value ∷ padded n values
 
-abbrev pub update_words : Update → List ℤ
+abbrev pub refusal_words : Declined → List ℤ
+refusal_words c = number_of c ∷ padded 4 []
+
+abbrev pub update_words : Result Update Declined → List ℤ
 update_words r = (update_told r).number ∷ padded 4 (update_told r).values
 
-abbrev pub found_words : Found → List ℤ
+abbrev pub found_words : Result Found Declined → List ℤ
 found_words r = (found_told r).number ∷ padded 4 (found_told r).values
 
--- the words written follow
-abbrev pub listed_words : Listed → List ℤ
-listed_words r = (listed_told r).number ∷ padded 4 (listed_told r).values
-
--- likewise
-abbrev pub reported_words : Reported → List ℤ
-reported_words r = (reported_told r).number ∷ padded 4 (reported_told r).values
+-- a listing's or a report's: the words written follow
+abbrev pub count_words : Result ℤ Declined → List ℤ
+count_words r = (count_told r).number ∷ padded 4 (count_told r).values
 
 -- ---- and read off again
 

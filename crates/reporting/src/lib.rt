@@ -5,7 +5,7 @@ ghost use Rattle.promises.specs.Promises.{Reports};
 ghost use Rattle.reporting.specs.Counting.{Under};
 ghost use Rattle.reporting.specs.Telling.{Tells};
 
-use promises::Reported;
+use causes::Declined;
 
 // How many offers of a part are under the price. Their words are written where the output has room for them all. Where not even the cheapest is, that is
 // seen at the end of a query's descent. None where a walk gave up, which no book's words make it do.
@@ -37,29 +37,35 @@ fn write_under(part: &[i64], load: i64, price: i64, out: &mut [i64]) -> u32
 }
 
 // The offers of a part that are under the price.
-fn tell(part: &[i64], load: i64, price: i64, out: &mut [i64]) -> Reported
+fn tell(part: &[i64], load: i64, price: i64, out: &mut [i64]) -> Result<i64, Declined>
     ensures { Tells load price part.now out.old out.new result }
 {
     let room = out.len();
     let n = write_under(part, load, price, out);
     if room < 3 * (n as usize) {
-        return Reported::Declined(10);
+        return Err(Declined::OutputTooShort);
     }
-    Reported::Offers(n as i64)
+    Ok(n as i64)
 }
 
 // Number, rate, base of every live offer whose price at the load is strictly below `price`, in order, from the first word of the output on.
-pub fn report(table: &[i64], start: usize, load: i64, price: i64, out: &mut [i64]) -> Reported
+pub fn report(
+    table: &[i64],
+    start: usize,
+    load: i64,
+    price: i64,
+    out: &mut [i64],
+) -> Result<i64, Declined>
     ensures { Reports load price start table.now out.old out.new result }
 {
     if promises::no_book(table, start) {
-        return Reported::Declined(3);
+        return Err(Declined::NoBook);
     }
     if query::outside(-101_000_000_000, 101_000_000_000, price) {
-        return Reported::Declined(4);
+        return Err(Declined::OutOfRange);
     }
     if query::outside(-1_000_000, 1_000_000, load) {
-        return Reported::Declined(16);
+        return Err(Declined::LoadOutOfRange);
     }
     tell(&table[start..], load, price, out)
 }

@@ -1,6 +1,7 @@
 // Each call on a book beside the same call on the plain slots; what differs is counted.
 use crate::world::{Place, Tally, World};
 use crate::{expected, slots, world};
+use book::{Declined, Update};
 
 // ---- open, post, withdraw and take_back
 
@@ -8,8 +9,8 @@ use crate::{expected, slots, world};
 pub(crate) fn open(w: World, start: usize, room: i64, cause: i64) -> World {
     let mut words = w.words;
     let same = match book::open(&mut words, start, room) {
-        book::Opening::Opened => cause == 0,
-        book::Opening::Declined(c) => (cause != 0) & (c == cause),
+        Ok(()) => cause == 0,
+        Err(c) => (cause != 0) & (c.number() == cause),
     };
     let told = world::counted(w.told, 0, 0, 0, same);
     let mut v = w;
@@ -19,28 +20,29 @@ pub(crate) fn open(w: World, start: usize, room: i64, cause: i64) -> World {
 }
 
 // An update that is to be declined for that cause, or where it is 0 to leave so many offers live.
-fn is_same(r: book::Update, cause: i64, count: u32) -> bool {
+fn is_same(r: Result<Update, Declined>, cause: i64, count: u32) -> bool {
     match r {
-        book::Update::Done {
-            live,
-            k: _,
-            s: _,
-            h: _,
-        } => (cause == 0) & (live == count as i64),
-        book::Update::Declined(c) => (cause != 0) & (c == cause),
+        Ok(update) => (cause == 0) & (update.live == count as i64),
+        Err(c) => (cause != 0) & (c.number() == cause),
     }
 }
 
 // The world after an update of its book: the words and slots that it left.
-fn updated(w: World, words: [i64; 7000], os: [i64; 192], r: book::Update, cause: i64) -> World {
+fn updated(
+    w: World,
+    words: [i64; 7000],
+    os: [i64; 192],
+    r: Result<Update, Declined>,
+    cause: i64,
+) -> World {
     let other = w.other;
     let same = is_same(r, cause, slots::count(&os));
     let told = world::counted(w.told, 0, 0, 0, same);
     World {
-        words: words,
-        os: os,
-        other: other,
-        told: told,
+        words,
+        os,
+        other,
+        told,
     }
 }
 
@@ -88,18 +90,13 @@ pub(crate) fn query(
     let i = slots::cheapest(os, load, false);
     let j = slots::cheapest(os, load, true);
     let same = match book::query(table, start, load) {
-        book::Found::Offer {
-            number,
-            price,
-            second,
-            probes: _,
-        } => {
+        Ok(found) => {
             (cause == 0)
-                & (number == slots::number(os, i))
-                & (price == slots::price(os, i, load))
-                & (second == slots::number(os, j))
+                & (found.number == slots::number(os, i))
+                & (found.price == slots::price(os, i, load))
+                & (found.second == slots::number(os, j))
         }
-        book::Found::Declined(c) => (cause != 0) & (c == cause),
+        Err(c) => (cause != 0) & (c.number() == cause),
     };
     world::counted(t, 1, 0, 0, same)
 }
@@ -116,8 +113,8 @@ pub(crate) fn listing(
     let fits = p.count as usize <= out.len() / 3;
     let words = expected::words_listed(&p, fits);
     let same = match book::listing(table, start, out) {
-        book::Listed::Pieces(n) => fits & (n == p.count as i64),
-        book::Listed::Declined(c) => !fits & (c == 10),
+        Ok(n) => fits & (n == p.count as i64),
+        Err(c) => !fits & (c == Declined::OutputTooShort),
     };
     world::counted(t, 0, 1, 0, same & expected::all_same(out, &words))
 }

@@ -90,58 +90,40 @@ fn end(os: &[i64; 192], i: usize, j: usize) -> slots::Ratio {
 }
 
 pub(crate) fn all_pieces(os: &[i64; 192]) -> Pieces {
-    let mut words = [7i64; 192];
+    let mut words = [7; 192];
     let mut i = slots::next_piece(os, 100_001);
-    let mut k: u32 = 0;
-    while k < 64 && i < 64 {
+    for k in 0..64u32 {
+        if i > 63 {
+            return Pieces { count: k, words };
+        }
         let j = slots::next_piece(os, slots::rate(os, i));
         put_piece(&mut words, k as usize, slots::number(os, i), end(os, i, j));
         i = j;
-        k = k + 1;
     }
-    Pieces {
-        count: k,
-        words: words,
-    }
+    Pieces { count: 64, words }
 }
 
 pub(crate) fn all_under(os: &[i64; 192], load: i64, limit: i64) -> Pieces {
-    let mut words = [7i64; 192];
+    let mut words = [7; 192];
     let mut i = slots::next_under(os, load, limit, 64);
-    let mut k: u32 = 0;
-    while k < 64 && i < 64 {
+    for k in 0..64u32 {
+        if i > 63 {
+            return Pieces { count: k, words };
+        }
         put_offer(&mut words, k as usize, os, i);
         i = slots::next_under(os, load, limit, i);
-        k = k + 1;
     }
-    Pieces {
-        count: k,
-        words: words,
-    }
+    Pieces { count: 64, words }
 }
 
 // What an output that is all 7 has after a listing or a report.
 pub(crate) fn words_listed(p: &Pieces, fits: bool) -> [i64; 192] {
-    if fits {
-        return p.words;
-    }
-    [7i64; 192]
-}
-
-fn has_word(words: &[i64; 192], k: usize, word: i64) -> bool {
-    if k < 192 {
-        return words[k] == word;
-    }
-    false
+    if fits { p.words } else { [7; 192] }
 }
 
 // Every word of the output, to its end.
 pub(crate) fn all_same(out: &[i64], words: &[i64; 192]) -> bool {
-    let mut same = true;
-    for k in 0..out.len() {
-        same = same & has_word(words, k, out[k]);
-    }
-    same
+    words.starts_with(out)
 }
 
 // ---- two books that meet

@@ -186,9 +186,9 @@ fn ask_nothing(w: World, start: usize, load: i64) -> World {
     let os = w.os;
     let a = calls::query(&words, start, false, &os, load, w.told);
     let asked = reports::Asked {
-        start: start,
+        start,
         is_open: false,
-        load: load,
+        load,
         limit: 101_000_000_001,
     };
     world::with_tally(w, reports::both(&words, asked, &os, a))
@@ -209,8 +209,8 @@ fn run_openings(w: World) -> World {
 fn run(w: World, kind: u32, room: u32) -> World {
     let p = Place {
         start: 17,
-        room: room,
-        kind: kind,
+        room,
+        kind,
     };
     let a = fill(calls::open(w, 17, room as i64, 0), p);
     let b = drain(refusals(a, p), p, 15);
@@ -222,7 +222,7 @@ fn run_pair(w: World, kind: u32) -> World {
     let p = Place {
         start: 17,
         room: 32,
-        kind: kind,
+        kind,
     };
     let right = makers::below(kind);
     let q = Place {

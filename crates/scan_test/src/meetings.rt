@@ -17,14 +17,10 @@ pub(crate) fn meeting(
     let i = expected::seam(&all);
     let j = slots::next_piece(&all, slots::rate(&all, i));
     let same = match meet_books::meet(table, from, table, to) {
-        meet_books::Met::Meeting {
-            u,
-            v,
-            steps: _,
-            hl: _,
-            hr: _,
-        } => (cause == 0) & (u == slots::number(&all, i)) & (v == slots::number(&all, j)),
-        meet_books::Met::Declined(c) => (cause != 0) & (c == cause),
+        Ok(met) => (cause == 0)
+            & (met.u == slots::number(&all, i))
+            & (met.v == slots::number(&all, j)),
+        Err(c) => (cause != 0) & (c.number() == cause),
     };
     world::counted(t, 0, 0, 1, same)
 }

@@ -17,8 +17,8 @@ fn report(table: &[i64], a: Asked, p: &expected::Pieces, out: &mut [i64], t: Tal
     let cause = expected::report_cause(a.is_open, a.load, a.limit, fits);
     let words = expected::words_listed(p, cause == 0);
     let same = match book::report(table, a.start, a.load, a.limit, out) {
-        book::Reported::Offers(n) => (cause == 0) & (n == p.count as i64),
-        book::Reported::Declined(c) => (cause != 0) & (c == cause),
+        Ok(n) => (cause == 0) & (n == p.count as i64),
+        Err(c) => (cause != 0) & (c.number() == cause),
     };
     world::compared(t, same & expected::all_same(out, &words))
 }
@@ -49,7 +49,7 @@ fn nth(table: &[i64], p: Place, os: &[i64; 192], j: u32, t: Tally) -> Tally {
     let asked = Asked {
         start: p.start,
         is_open: true,
-        load: load,
+        load,
         limit: limit(os, load, j),
     };
     both(table, asked, os, t)

@@ -39,12 +39,7 @@ pub(crate) fn copy(os: &mut [i64; 192], i: usize, from: &[i64; 192], j: usize) {
 
 // The slot with that number, or 64; of number 0 the first vacant one.
 pub(crate) fn with_number(os: &[i64; 192], sought: i64) -> usize {
-    for i in 0..64 {
-        if number(os, i) == sought {
-            return i;
-        }
-    }
-    64
+    (0..64).find(|i| number(os, *i) == sought).unwrap_or(64)
 }
 
 // Where no cause declines the call, an offer in place of the one with the number `old`; 0 is a vacant slot's.
@@ -66,12 +61,7 @@ pub(crate) fn written(
 
 // Some rate is from `low` to `high`.
 pub(crate) fn has_rate(os: &[i64; 192], low: i64, high: i64) -> bool {
-    let mut found = false;
-    for i in 0..64 {
-        let at = rate(os, i);
-        found = found | ((number(os, i) != 0) & (low <= at) & (at <= high));
-    }
-    found
+    (0..64).any(|i| number(os, i) != 0 && low <= rate(os, i) && rate(os, i) <= high)
 }
 
 pub(crate) fn count(os: &[i64; 192]) -> u32 {
@@ -84,11 +74,7 @@ pub(crate) fn count(os: &[i64; 192]) -> u32 {
 
 // Some rate of `l` is not above some rate of `r`.
 pub(crate) fn mixed(l: &[i64; 192], r: &[i64; 192]) -> bool {
-    let mut found = false;
-    for i in 0..64 {
-        found = found | ((number(l, i) != 0) & has_rate(r, rate(l, i), 100_000));
-    }
-    found
+    (0..64).any(|i| number(l, i) != 0 && has_rate(r, rate(l, i), 100_000))
 }
 
 // Of two slots the first where the test holds.
@@ -106,11 +92,7 @@ fn is_ahead(os: &[i64; 192], i: usize, j: usize) -> bool {
 
 // No offer of its rate stands before e.
 fn is_first(os: &[i64; 192], e: usize) -> bool {
-    let mut first = true;
-    for i in 0..64 {
-        first = first & ((number(os, i) == 0) | !is_ahead(os, i, e));
-    }
-    first
+    (0..64).all(|i| number(os, i) == 0 || !is_ahead(os, i, e))
 }
 
 // ---- the cheapest
@@ -148,11 +130,7 @@ fn cheaper(os: &[i64; 192], load: i64, higher: bool, best: usize, i: usize) -> u
 
 // Of the offers at the least price the slot of the one with the highest rate where `higher`, else of the one with the lowest; 64 where none is live.
 pub(crate) fn cheapest(os: &[i64; 192], load: i64, higher: bool) -> usize {
-    let mut best: usize = 64;
-    for i in 0..64 {
-        best = cheaper(os, load, higher, best, i);
-    }
-    best
+    (0..64).fold(64, |best, i| cheaper(os, load, higher, best, i))
 }
 
 // ---- the offers under a price
@@ -176,11 +154,7 @@ fn sooner(os: &[i64; 192], load: i64, limit: i64, last: usize, best: usize, i: u
 
 // The first slot under the limit behind slot `last`, with 64 the first of all; 64 where there is none.
 pub(crate) fn next_under(os: &[i64; 192], load: i64, limit: i64, last: usize) -> usize {
-    let mut best: usize = 64;
-    for i in 0..64 {
-        best = sooner(os, load, limit, last, best, i);
-    }
-    best
+    (0..64).fold(64, |best, i| sooner(os, load, limit, last, best, i))
 }
 
 // ---- the pieces
@@ -234,11 +208,7 @@ fn nearer(os: &[i64; 192], e: usize, below: bool, best: usize, i: usize) -> usiz
 
 // The slot whose crossing with e is the nearest on that side, or 64.
 fn nearest(os: &[i64; 192], e: usize, below: bool) -> usize {
-    let mut best: usize = 64;
-    for i in 0..64 {
-        best = nearer(os, e, below, best, i);
-    }
-    best
+    (0..64).fold(64, |best, i| nearer(os, e, below, best, i))
 }
 
 // The first of its rate, and at some rational load strictly cheaper than every offer of another: right of each crossing with a higher rate, left
@@ -263,9 +233,5 @@ fn higher(os: &[i64; 192], below: i64, best: usize, i: usize) -> usize {
 
 // The piece with the highest rate below `below`, or 64.
 pub(crate) fn next_piece(os: &[i64; 192], below: i64) -> usize {
-    let mut best: usize = 64;
-    for i in 0..64 {
-        best = higher(os, below, best, i);
-    }
-    best
+    (0..64).fold(64, |best, i| higher(os, below, best, i))
 }

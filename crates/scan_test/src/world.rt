@@ -30,7 +30,7 @@ pub struct Place {
 // No offer, and no call made; the table stays.
 pub(crate) fn begin(words: [i64; 7000]) -> World {
     World {
-        words: words,
+        words,
         os: [0i64; 192],
         other: [0i64; 192],
         told: Tally {

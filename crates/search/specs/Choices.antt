@@ -1,5 +1,5 @@
 -- What a step is to do, by numbers alone: whoever does it has made the machine's step.
-use Rattle.std.specs.Prelude.{ℕ, ◌-◌, ◌≤◌, ◌<◌, ◌≡◌, refl, Bool, true, false, not, ◌&&◌, List, leb}
+use Rattle.std.specs.Prelude.{Option, None, Some, ℕ, ◌-◌, ◌≤◌, ◌<◌, ◌≡◌, refl, Bool, true, false, not, ◌&&◌, List, leb}
 use Rattle.std.proofs.Common.{sym, ◌∙◌, ap, true≢false}
 use Rattle.table.specs.Fields.{most_slots}
 use Rattle.table.specs.Words.{Words}
@@ -10,7 +10,7 @@ use Rattle.search.specs.declared.Search.{Search}
 use Rattle.prices.specs.Prices.{above_at}
 use Rattle.walks.specs.Walks.{Walk}
 use Rattle.walks.specs.CodeMoves.{Topped, Pointed, point_word, pointed_by}
-use Rattle.walks.specs.Actions.{walk, Does, sided}
+use Rattle.walks.specs.Actions.{walk, Does, Stays, sided}
 use Rattle.search.specs.SearchSteps.{u_of, v_of, Receded, Stepped, receded_bottom, receded_leaf, receded_mine, receded_theirs, receded_neither}
 use Rattle.search.specs.SearchSteps.{stepped_mine, stepped_theirs, stepped_done, stepped_on}
 
@@ -36,10 +36,14 @@ state u us ud v vs vd done =
       done = done;
     }
 
-pub record Chooses (wl wr : Words) (u t v w : ℕ) (m : Move) : Type 0 where
-  pub stays : m.done ≡ true → (m.u ≡ Stay) × (m.v ≡ Stay)
+-- what a step makes of two walks: where there is no move both stay, and the search is finished
+abbrev pub Moves : Words → Words → Option Move → Walk → Walk → Search → Type 0
+Moves wl wr None h k r = (r.done ≡ true) × Stays wl h (u_of r) × Stays wr k (v_of r)
+Moves wl wr (Some m) h k r = (r.done ≡ false) × Does wl false m.u h (u_of r) × Does wr true m.v k (v_of r)
+
+pub record Chooses (wl wr : Words) (u t v w : ℕ) (m : Option Move) : Type 0 where
   pub next : (us : List ℕ) (ud : ℕ) (vs : List ℕ) (vd : ℕ) (b : Bool) → Topped (walk u us ud) t → Topped (walk v vs vd) w → (r : Search) →
-      r.done ≡ m.done → Does wl false m.u (walk u us ud) (u_of r) → Does wr true m.v (walk v vs vd) (v_of r) → Stepped wl wr (state u us ud v vs vd b) r
+      Moves wl wr m (walk u us ud) (walk v vs vd) r → Stepped wl wr (state u us ud v vs vd b) r
 
 -- ---- each answer of the code
 
@@ -65,33 +69,28 @@ module _ {ours other : Words} {side : Bool} {x t y p : ℕ} {m : Move} where
             record { mine = Retreat; theirs = Advance; is = e; next = λ a b f g. receded_neither t a deep inner s at_top p b clear f g z }
 
 module _ {wl wr : Words} {u t v w p q : ℕ} (ep : p ≡ point_word u t) (eq : q ≡ point_word v w) where
-  pub chooses_mine : {m : Move} → above_at wl p wr v ≡ true → Recedes wl wr false u t v q m → Chooses wl wr u t v w m
+  pub chooses_mine : {m : Move} → above_at wl p wr v ≡ true → Recedes wl wr false u t v q m → Chooses wl wr u t v w (Some m)
   chooses_mine a z =
       record {
-        stays = λ e. absurd (true≢false (sym e ∙ ap (λ (n : Move). n.done) z.is));
-        next = λ us ud vs vd b tu tv r d f g.
-            stepped_mine (pointed_by tu ep) a (d ∙ ap (λ (n : Move). n.done) z.is)
+        next = λ us ud vs vd b tu tv r (d, f, g).
+            stepped_mine (pointed_by tu ep) a d
             (z.next tu (pointed_by tv eq) (rw (ap (λ (n : Move). n.u) z.is) at f) (rw (ap (λ (n : Move). n.v) z.is) at g));
       }
 
   module _ (clear : above_at wl p wr v ≡ false) where
-    pub chooses_theirs : {m : Move} → above_at wr q wl u ≡ true → Recedes wr wl true v w u p m → Chooses wl wr u t v w m
+    pub chooses_theirs : {m : Move} → above_at wr q wl u ≡ true → Recedes wr wl true v w u p m → Chooses wl wr u t v w (Some m)
     chooses_theirs a z =
         record {
-          stays = λ e. absurd (true≢false (sym e ∙ ap (λ (n : Move). n.done) z.is));
-          next = λ us ud vs vd b tu tv r d f g.
-              stepped_theirs (pointed_by tu ep) (pointed_by tv eq) clear a (d ∙ ap (λ (n : Move). n.done) z.is)
+          next = λ us ud vs vd b tu tv r (d, f, g).
+              stepped_theirs (pointed_by tu ep) (pointed_by tv eq) clear a d
               (z.next tv (pointed_by tu ep) (rw (ap (λ (n : Move). n.v) z.is) at g) (rw (ap (λ (n : Move). n.u) z.is) at f));
         }
 
     module _ (clear' : above_at wr q wl u ≡ false) where
-      pub chooses_done : leb u most_slots && leb v most_slots ≡ true → Chooses wl wr u t v w (record { u = Stay; v = Stay; done = true })
+      pub chooses_done : leb u most_slots && leb v most_slots ≡ true → Chooses wl wr u t v w None
       chooses_done e =
-          record { stays = λ d. (refl, refl); next = λ us ud vs vd b tu tv r d f g. stepped_done (pointed_by tu ep) (pointed_by tv eq) clear clear' e d f g }
+          record { next = λ us ud vs vd b tu tv r (d, f, g). stepped_done (pointed_by tu ep) (pointed_by tv eq) clear clear' e d f g }
 
-      pub chooses_on : leb u most_slots && leb v most_slots ≡ false → Chooses wl wr u t v w (record { u = Advance; v = Advance; done = false })
+      pub chooses_on : leb u most_slots && leb v most_slots ≡ false → Chooses wl wr u t v w (Some (record { u = Advance; v = Advance }))
       chooses_on e =
-          record {
-            stays = λ d. absurd (true≢false (sym d));
-            next = λ us ud vs vd b tu tv r d f g. stepped_on (pointed_by tu ep) (pointed_by tv eq) clear clear' e d f g;
-          }
+          record { next = λ us ud vs vd b tu tv r (d, f, g). stepped_on (pointed_by tu ep) (pointed_by tv eq) clear clear' e d f g }

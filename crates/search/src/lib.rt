@@ -4,15 +4,16 @@
 
 ghost use Rattle.std.specs.Prelude.{◌≡◌, ◌&&◌, leb};
 ghost use Rattle.table.specs.Fields.{most_slots};
-ghost use Rattle.table.specs.Layout.{cap};
 ghost use Rattle.walks.specs.CodeMoves.{top_in};
 ghost use Rattle.search.specs.SearchSteps.{Stepped};
 ghost use Rattle.search.specs.Choices.{Recedes, Chooses};
 ghost use Rattle.search.specs.Runs.{started, Meets};
 
+use table::Part;
 use walks::{Action, Move, STACK, act, pair, point, top};
 
-// The state of a search: u and v with their stacks, and whether it is finished.
+// The state of a search: u and v with their stacks, and whether it is finished. docs/REQUIREMENTS.md, 17, names this form. `done` is a flag beside them,
+// since u and v stand when it is set as well: `Stepped` and `Meets` speak of both.
 #[derive(Drop)]
 struct Search {
     u: u32,
@@ -34,19 +35,8 @@ pub struct Met {
 }
 
 // Case 1 of the left side, and its mirror image, case 2, of the right: our point is on or above the other's local envelope.
-// We stand at `x` and pushed `t` last; the other stands at `y`, and slot `p` keeps its point. `c` and `k` are the capacities.
-fn recede(
-    ours: &[i64],
-    c: u32,
-    other: &[i64],
-    k: u32,
-    side: bool,
-    x: u32,
-    t: u32,
-    y: u32,
-    p: u32,
-) -> Move
-    requires { (c ≡ cap ours.now) × (k ≡ cap other.now) }
+// We stand at `x` and pushed `t` last; the other stands at `y`, and slot `p` keeps its point.
+fn recede(ours: &Part<'_>, other: &Part<'_>, side: bool, x: u32, t: u32, y: u32, p: u32) -> Move
     ensures { Recedes ours.now other.now side x t y p result }
 {
     if t < 1 {
@@ -55,10 +45,10 @@ fn recede(
     if x <= table::MOST_SLOTS {
         return pair(side, Action::Pop, Action::Stay);
     }
-    if prices::above(ours, c, table::inner_slot(t), other, k, y) {
+    if prices::above(ours, table::inner_slot(t), other, y) {
         return pair(side, Action::Pop, Action::Stay);
     }
-    if prices::above(other, k, p, ours, c, t) {
+    if prices::above(other, p, ours, t) {
         return pair(side, Action::Retreat, Action::Retreat);
     }
     pair(side, Action::Retreat, Action::Advance)
@@ -70,48 +60,39 @@ fn both_leaves(u: u32, v: u32) -> bool
     u <= table::MOST_SLOTS && v <= table::MOST_SLOTS
 }
 
-// What a step does at u and v, each with its stack.
+// What a step does at u and v, each with its stack; nothing at the end of the search.
 fn choose(
-    left: &[i64],
-    c: u32,
-    right: &[i64],
-    k: u32,
+    left: &Part<'_>,
+    right: &Part<'_>,
     u: u32,
     us: &[u32; STACK],
     ud: usize,
     v: u32,
     vs: &[u32; STACK],
     vd: usize,
-) -> Move
-    requires { (c ≡ cap left.now) × (k ≡ cap right.now) }
+) -> Option<Move>
     ensures { Chooses left.now right.now u (top_in us.now ud) v (top_in vs.now vd) result }
 {
     let p = point(u, us, ud);
     let q = point(v, vs, vd);
-    if prices::above(left, c, p, right, k, v) {
-        return recede(left, c, right, k, false, u, top(us, ud), v, q);
+    if prices::above(left, p, right, v) {
+        return Some(recede(left, right, false, u, top(us, ud), v, q));
     }
-    if prices::above(right, k, q, left, c, u) {
-        return recede(right, k, left, c, true, v, top(vs, vd), u, p);
+    if prices::above(right, q, left, u) {
+        return Some(recede(right, left, true, v, top(vs, vd), u, p));
     }
     if both_leaves(u, v) {
-        return Move {
-            u: Action::Stay,
-            v: Action::Stay,
-            done: true,
-        };
+        return None;
     }
-    Move {
+    Some(Move {
         u: Action::Advance,
         v: Action::Advance,
-        done: false,
-    }
+    })
 }
 
 // One step of the search. Whatever the walks do, u and v are noted above their stacks' tops, where an advance finds them pushed:
 // so the stacks are written before the comparisons, and copied once.
-fn step(left: &[i64], c: u32, right: &[i64], k: u32, s: Search) -> Search
-    requires { (c ≡ cap left.now) × (k ≡ cap right.now) }
+fn step(left: &Part<'_>, right: &Part<'_>, s: Search) -> Search
     ensures { Stepped left.now right.now s result }
 {
     let ud = s.ud;
@@ -124,28 +105,22 @@ fn step(left: &[i64], c: u32, right: &[i64], k: u32, s: Search) -> Search
     if vd < STACK {
         vs[vd] = s.v;
     }
-    let m = choose(left, c, right, k, s.u, &us, ud, s.v, &vs, vd);
-    if m.done {
+    let Some(m) = choose(left, right, s.u, &us, ud, s.v, &vs, vd) else {
         return Search {
-            u: s.u,
-            v: s.v,
-            us: us,
-            ud: ud,
-            vs: vs,
-            vd: vd,
+            us,
+            vs,
             done: true,
+            ..s
         };
-    }
-    let by_u = m.u;
-    let by_v = m.v;
-    let a = act(left, c, false, by_u, s.u, &us, ud);
-    let b = act(right, k, true, by_v, s.v, &vs, vd);
+    };
+    let a = act(left, false, m.u, s.u, &us, ud);
+    let b = act(right, true, m.v, s.v, &vs, vd);
     Search {
         u: a.at,
         v: b.at,
-        us: us,
+        us,
         ud: a.depth,
-        vs: vs,
+        vs,
         vd: b.depth,
         done: false,
     }
@@ -165,22 +140,21 @@ fn start(l: u32, r: u32) -> Search
     }
 }
 
-// The search from the roots `l` and `r`. At most 3 × (24 + 24) + 1 steps: on two trees of envelopes that face each other they suffice.
-// `c` and `k` are the capacities.
-pub fn meet_in(left: &[i64], c: u32, right: &[i64], k: u32, l: u32, r: u32) -> Met
-    requires { (c ≡ cap left.now) × (k ≡ cap right.now) }
+// Three for each level of the two trees and one: on two trees of envelopes that face each other they suffice.
+const MOST_STEPS: u32 = 3 * (24 + 24) + 1;
+
+// The search from the roots `l` and `r`.
+pub fn meet(left: &Part<'_>, right: &Part<'_>, l: u32, r: u32) -> Met
     ensures { Meets left.now right.now l r result }
 {
     let mut s = start(l, r);
-    let mut steps: u32 = 0;
-    while steps < 145 {
-        s = step(left, c, right, k, s);
-        steps += 1;
+    for before in 0..MOST_STEPS {
+        s = step(left, right, s);
         if s.done {
             return Met {
                 u: s.u,
                 v: s.v,
-                steps: steps,
+                steps: before + 1,
                 done: true,
             };
         }
@@ -188,15 +162,7 @@ pub fn meet_in(left: &[i64], c: u32, right: &[i64], k: u32, l: u32, r: u32) -> M
     Met {
         u: s.u,
         v: s.v,
-        steps: steps,
+        steps: MOST_STEPS,
         done: false,
     }
-}
-
-pub fn meet(left: &[i64], right: &[i64], l: u32, r: u32) -> Met
-    ensures { Meets left.now right.now l r result }
-{
-    let c = table::capacity(left);
-    let k = table::capacity(right);
-    meet_in(left, c, right, k, l, r)
 }

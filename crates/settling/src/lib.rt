@@ -12,6 +12,8 @@ ghost use Rattle.settling.specs.Settling.{idle, Joined, Left};
 ghost use Rattle.settling.specs.Following.{FollowedAt};
 ghost use Rattle.settling.specs.Writing.{filling, roots_of, rooting};
 
+use levels::{Counts, Held, Made};
+
 // Puts an offer with its rank into the first free slot.
 pub fn fill(part: &mut [i64], number: i64, rate: i64, base: i64) -> u32
     requires { T (offer_in_range (record { number = number; rate = rate; base = base })) }
@@ -35,6 +37,7 @@ pub fn enter(part: &mut [i64], tree: u8, field: usize, at: usize, s: u32)
     table::set_number(part, at, y);
 }
 
+// Not one function with `enter`: they differ in a call, not in a value.
 // Strikes the item with that key out of the index whose root is at word `at`.
 pub fn strike(part: &mut [i64], tree: u8, field: usize, at: usize, key: i64)
     ensures { Struck tree field at key part.old part.new }
@@ -45,10 +48,10 @@ pub fn strike(part: &mut [i64], tree: u8, field: usize, at: usize, key: i64)
 }
 
 // The roots that the header tells: of the offers and of their envelope.
-pub fn roots(part: &[i64]) -> levels::Held
+pub fn roots(part: &[i64]) -> Held
     ensures { result ≡ roots_of part.now }
 {
-    levels::Held {
+    Held {
         tree: form::offers_root(part),
         envelope: form::envelope_root(part),
     }
@@ -78,22 +81,18 @@ pub fn follower(part: &[i64], s: u32) -> u32
 }
 
 // The tree in hand as it is: nothing was searched.
-fn idle(held: levels::Held) -> levels::Made
+fn idle(held: Held) -> Made
     ensures { result ≡ idle held }
 {
-    levels::Made {
-        held: held,
-        counts: levels::Counts {
-            searches: 0,
-            steps: 0,
-            heights: 0,
-        },
+    Made {
+        held,
+        counts: Counts::NONE,
     }
 }
 
 // Joins the item in slot `s` to the offers in hand; that in slot `f` is the first of its rate, 0 for none. It stands alone, is inserted, or takes
 // the place of that one where it goes ahead of it.
-pub fn join_offers(part: &mut [i64], held: levels::Held, s: u32, f: u32) -> levels::Made
+pub fn join_offers(part: &mut [i64], held: Held, s: u32, f: u32) -> Made
     ensures { Joined s f held part.old part.new result }
 {
     if f < 1 {
@@ -110,7 +109,7 @@ pub fn join_offers(part: &mut [i64], held: levels::Held, s: u32, f: u32) -> leve
 
 // Takes the item in slot `s` out of the offers in hand where that in slot `f`, the first of its rate, is itself; that in slot `by`, if it is not 0,
 // comes in its place.
-pub fn leave_offers(part: &mut [i64], held: levels::Held, s: u32, f: u32, by: u32) -> levels::Made
+pub fn leave_offers(part: &mut [i64], held: Held, s: u32, f: u32, by: u32) -> Made
     ensures { Left s f by held part.old part.new result }
 {
     if f != s {
@@ -120,7 +119,7 @@ pub fn leave_offers(part: &mut [i64], held: levels::Held, s: u32, f: u32, by: u3
 }
 
 // Sets the roots of the offers and of their envelope, and the live count.
-pub fn set_roots(part: &mut [i64], held: levels::Held, n: u32)
+pub fn set_roots(part: &mut [i64], held: Held, n: u32)
     ensures { part.new ≡ rooting held n part.old }
 {
     table::set_number(part, table::OFFERS_ROOT, held.tree);

@@ -1,7 +1,7 @@
 // The offers of a part that are below a price, from the first of each rate on, and their words. The part is only read; any words are safe.
 #![tactic(auto)]
 
-ghost use Rattle.std.specs.Prelude.{◌≡◌, ◌≤◌, ◌<◌, length, get_or};
+ghost use Rattle.std.specs.Prelude.{◌≡◌, ◌≤◌, length};
 ghost use Rattle.table.specs.Fields.{most_slots};
 ghost use Rattle.table.specs.Layout.{cap};
 ghost use Rattle.spreading.specs.Neighbours.{Behind};
@@ -41,16 +41,6 @@ fn next_below(part: &[i64], c: u32, s: u32, last: u32, load: i64, price: i64) ->
     0
 }
 
-// Entry `i`, and 0 past the end.
-fn entry(slots: &[u32; gathering::SLOTS], i: usize) -> u32
-    ensures { i < most_slots → result ≡ get_or slots.now i 0 }
-{
-    if gathering::SLOTS <= i {
-        return 0;
-    }
-    slots[i]
-}
-
 // Puts the slots of all offers below, rate by rate: from the first of each rate, in the first `n` entries, its followers as long as they are below.
 // Returns how many; more than there are slots where it gave up, which no book's words make it do.
 pub fn spread(
@@ -67,19 +57,19 @@ pub fn spread(
     let c = table::capacity(part);
     let root = table::number_at(part, table::ORDER_ROOT, table::MOST_NODES);
     let last = descents::end_in(part, c, table::ORDER, true, root);
-    let mut i: usize = 0;
     let mut m: usize = 0;
-    let mut s = entry(firsts, 0);
-    while i < n {
-        if gathering::SLOTS <= m {
-            return gathering::GIVEN_UP;
-        }
-        all[m] = s;
-        m += 1;
-        s = next_below(part, c, s, last, load, price);
-        if s < 1 {
-            i += 1;
-            s = entry(firsts, i);
+    for &first in &firsts[..n] {
+        let mut s = first;
+        loop {
+            if gathering::SLOTS <= m {
+                return gathering::GIVEN_UP;
+            }
+            all[m] = s;
+            m += 1;
+            s = next_below(part, c, s, last, load, price);
+            if s < 1 {
+                break;
+            }
         }
     }
     m
@@ -103,9 +93,7 @@ pub fn write(part: &[i64], all: &[u32; gathering::SLOTS], n: usize, out: &mut [i
     if out.len() < 3 * n {
         return;
     }
-    let mut i: usize = 0;
-    while i < n {
-        put_offer(part, entry(all, i), out, 3 * i);
-        i += 1;
+    for (i, &slot) in all[..n].iter().enumerate() {
+        put_offer(part, slot, out, 3 * i);
     }
 }

@@ -12,6 +12,10 @@ ghost use Rattle.table.specs.Free.{first_free, taken, given};
 ghost use Rattle.table.specs.Cells.{Placed};
 ghost use Rattle.table.specs.Rep.{child_field, height_field, child_at, height_at};
 
+mod part;
+
+pub use part::Part;
+
 // The header's words.
 pub const CAPACITY: usize = 0;
 
@@ -65,7 +69,7 @@ pub const INNER_REST: usize = 20;
 
 pub const LEAF_REST: usize = 21;
 
-// The trees.
+// The trees. Numbers, and no enum: what is said of a tree's words (`child_at`, `Tied`) is said of every number, and each function takes every one.
 pub const PIECES: u8 = 0;
 
 pub const OFFERS: u8 = 1;
@@ -75,7 +79,8 @@ pub const NUMBERS: u8 = 2;
 pub const ORDER: u8 = 3;
 
 // The most slots of a part, the highest number of a node, and a height that no balanced tree of so many leaves exceeds. A node up to
-// MOST_SLOTS is the leaf of that slot, one above it an inner node.
+// MOST_SLOTS is the leaf of that slot, one above it an inner node. A node and a slot are words of the table, where 0 is none; so it is in what
+// reads and writes them, since an Option would be the same word in a second form.
 pub const MOST_SLOTS: u32 = 4096;
 
 pub const MOST_NODES: u32 = 8192;
@@ -262,7 +267,8 @@ pub fn at_least(part: &[i64], field: usize, slot: u32, key: i64) -> bool
     key <= get(part, field, slot)
 }
 
-// The same where the part's capacity `c` is known.
+// The same where the part's capacity `c` is known. Who writes takes it beside the words. One struct for both, as `Part` is to read, was tried: seen as a
+// list it tells nothing of the words once it is gone, and with a ghost field `part.new ≡ w` becomes `part.new.words ≡ holding part.old.words w`.
 fn spot_in(part: &[i64], c: u32, field: usize, slot: u32) -> usize
     requires { c ≡ cap part.now }
     ensures { result ≡ spot part.now field slot }

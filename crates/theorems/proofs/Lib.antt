@@ -1,5 +1,5 @@
 -- Theorems that rest on what a must-fail edit turns: an edit of a definition is refused at a fact only where they stand here.
--- lemmas: from an answer back to the enum's case: a refusal's number tells the declined case, and an accepted answer its case with all its values
+-- lemmas: from an answer back to the `Result`: a refusal's number tells an `Err` of that number, and an accepted answer an `Ok` with all its values
 pub mod AnswerCases
 -- theorem: demand 2 holds of every call
 pub mod AnswersExact

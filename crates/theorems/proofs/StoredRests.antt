@@ -1,14 +1,13 @@
 -- Theorems on specs/StoredRests.
-use Rattle.std.specs.Prelude.{◌≡◌, ◌⊎◌, ◌↔◌}
-use Rattle.std.proofs.Common.{sym, subst, inl, inr, ⊎_elim}
+use Rattle.std.specs.Prelude.{◌≡◌}
+use Rattle.std.proofs.Common.{sym, subst, ⊎_elim}
 use Rattle.std.proofs.Math.Logic.{⊎_swap}
 use mathlib.Core.List.Memᴰ
-use mathlib.Core.List.{List, [], ◌∷◌, ◌++◌, Memᴰ, Sublistᴰ}
-use mathlib.Core.List.Sublistᴰ
+use mathlib.Core.List.{List, [], ◌∷◌, ◌++◌, Memᴰ}
 use Rattle.lists.specs.Places.{sublist_mem, prefix_sub}
 use Rattle.envelopes.specs.PseudoLines.{Figure, PseudoLines}
 use Rattle.envelopes.specs.Envelope.{Env, Ordered}
-use Rattle.envelopes.specs.EnvelopeLaws.{ordered_left, ordered_right, ordered_apart, ordered_sublist}
+use Rattle.envelopes.specs.EnvelopeLaws.{ordered_left, ordered_right, ordered_sublist}
 use Rattle.trees.specs.Tree.{leaves}
 use Rattle.trees.specs.Operations.{part_leaves}
 use Rattle.dynamic.specs.OfferTree.{OfferTree, single, fork, shape, Held}

@@ -3,7 +3,7 @@
 pub mod Unique
 -- theorem: a table that passes the check stands for exactly one book
 pub mod OneReading
--- lemmas: from an answer back to the enum's case: a refusal's number tells the declined case, and an accepted answer its case with all its values
+-- lemmas: from an answer back to the `Result`: a refusal's number tells an `Err` of that number, and an accepted answer an `Ok` with all its values
 pub mod AnswerCases
 -- statement: demand 2, about the calls
 pub mod Demand2

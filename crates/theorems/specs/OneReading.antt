@@ -24,7 +24,6 @@ use Rattle.pieces.specs.Pieces.{items, item_laws_lem, PartIn}
 use Rattle.form.specs.Stored.{node_slot, rest_field, Stored, stored_fork, HeldIn}
 use Rattle.form.specs.Form.{offers_ref, envelope_ref, OffersIn, OffersStand, InOrder, plain_offers, Book, Form}
 use Rattle.form.specs.Rings.{ring_once}
-use Rattle.promises.specs.Promises.{Passes}
 use Rattle.theorems.specs.Unique.{AllLie, all_lie, same_item, same_part, some_root}
 
 pub number_of_lem : {m n : ℕ} {z z' : ℤ} → z ≡ pos m → z' ≡ pos n → z ≡ z' → m ≡ n

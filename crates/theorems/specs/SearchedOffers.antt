@@ -1,7 +1,7 @@
 -- What an update searched, told of live offers: each tree holds exactly the offers of its set that at some rational load are strictly cheaper than those of
 -- every other rate, each offer of a set is live, and k is capped by the live offers.
 use Rattle.std.proofs.Common.{sym, subst, arith}
-use Rattle.std.specs.Prelude.{◌↔◌, ℕ, ◌+◌, ◌*◌, ◌≤◌, max, length, T, ℤ}
+use Rattle.std.specs.Prelude.{◌↔◌, ℕ, ◌+◌, ◌*◌, ◌≤◌, max, length, T, ℤ, Result}
 use mathlib.Core.List.Pairwise
 use mathlib.Core.List.{List, ◌++◌, map, Memᴰ, Sublistᴰ, Pairwise}
 use Rattle.std.proofs.Math.Option.{Option}
@@ -22,10 +22,11 @@ use Rattle.dynamic.specs.Work.{Searched}
 use Rattle.table.specs.Items.{Item}
 use Rattle.pieces.specs.Pieces.{items}
 use Rattle.query.specs.Plain.{offer_of, pieces_plain}
+use Rattle.causes.specs.declared.Declined.{Declined}
 use Rattle.promises.specs.declared.Update.{Update}
 use Rattle.promises.specs.Promises.{part_of, Follows}
 use Rattle.form.specs.Form.{Book}
-use Rattle.form.specs.Live.{lines_ordered, lines_few, line_offer}
+use Rattle.form.specs.Live.{lines_few, line_offer}
 
 -- ---- the statement
 
@@ -64,7 +65,8 @@ searched_lists {lines} {p} o s =
     both : Ordered items (s.left_set ++ s.right_set)
     both = ordered_sublist items s.sets o
 
-module _ {k : Call} {s : State} {held : Option (Held Item)} {start : ℕ} {t t' : List ℤ} {r : Update} (f : Follows k s held start t t' r) where
+module _ {k : Call} {s : State} {held : Option (Held Item)} {start : ℕ} {t t' : List ℤ} {r : Result Update Declined}
+    (f : Follows k s held start t t' r) where
   -- its sets hold offers that are live after the update
   pub sets_live : {p : Pair Item} (l : PairLists (book_lines f.after) p) {a : Item} → Memᴰ a (l.left_set ++ l.right_set) →
       Memᴰ a.offer (step s k).state.offers

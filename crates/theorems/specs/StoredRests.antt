@@ -1,20 +1,16 @@
 -- Each stored part is the child's envelope less the parent's (docs/REQUIREMENTS.md, 5.2): of every inner node's two children, the part that is
 -- stored with it holds exactly the lines of its own envelope that are not on the node's, in order.
-use Rattle.std.specs.Prelude.{◌≡◌, ◌⊎◌, ◌↔◌}
-use Rattle.std.proofs.Common.{sym, subst, inl, inr, ⊎_elim}
-use Rattle.std.proofs.Math.Logic.{⊎_swap}
-use mathlib.Core.List.Memᴰ
+use Rattle.std.specs.Prelude.{◌⊎◌, ◌↔◌}
+use Rattle.std.proofs.Common.{inl, inr, ⊎_elim}
 use mathlib.Core.List.{List, [], ◌∷◌, ◌++◌, Memᴰ, Sublistᴰ}
 use mathlib.Core.List.Sublistᴰ
-use Rattle.lists.specs.Places.{sublist_mem, prefix_sub}
+use Rattle.lists.specs.Places.{sublist_mem}
 use Rattle.envelopes.specs.PseudoLines.{Figure, PseudoLines}
 use Rattle.envelopes.specs.Envelope.{Env, Ordered}
-use Rattle.envelopes.specs.EnvelopeLaws.{ordered_left, ordered_right, ordered_apart, ordered_sublist}
+use Rattle.envelopes.specs.EnvelopeLaws.{ordered_apart}
 use Rattle.trees.specs.Tree.{leaves}
 use Rattle.trees.specs.Operations.{part_leaves}
-use Rattle.dynamic.specs.OfferTree.{OfferTree, single, fork, shape, Held}
-use Rattle.dynamic.specs.Valid.{Valid, valid_fork, Whole}
-use Rattle.dynamic.specs.Lower.{valid_env}
+use Rattle.dynamic.specs.OfferTree.{OfferTree, single, fork, shape}
 
 -- ---- the statement
 

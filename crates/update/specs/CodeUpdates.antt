@@ -5,14 +5,13 @@ use Rattle.table.specs.Fields.{most_slots, offer_tree, rate_field}
 use Rattle.table.specs.Words.{Words}
 use Rattle.table.specs.Layout.{cell}
 use Rattle.descents.specs.Ends.{Ended}
-use Rattle.levels.specs.Levels.{line_at, RaisedIn}
+use Rattle.levels.specs.Levels.{line_at, RaisedIn, Summed}
 use Rattle.update.specs.Steps.{alone_at}
 use Rattle.levels.specs.declared.Held.{Held as InHand}
 use Rattle.levels.specs.declared.Counts.{Counts}
 use Rattle.levels.specs.declared.Made.{Made as Outcome}
 use Rattle.update.specs.declared.Opened.{Opened}
 use Rattle.update.specs.Neighbours.{LoweredOn, raised_left, raised_right}
-use Rattle.update.specs.Counting.{Summed}
 use Rattle.update.specs.Rebalancing.{RebalancedOn}
 use Rattle.update.specs.Inserting.{InsertedBelow, inserted_spent, inserted_leaf, inserted_inner}
 use Rattle.update.specs.Removing.{RemovedBelow, removed_spent, removed_leaf, SeamFound, removed_gone, removed_inner}

@@ -28,7 +28,7 @@ use Rattle.table.specs.PartTrees.{low}
 use Rattle.table.specs.Threads.{Holds}
 use Rattle.pieces.specs.Pieces.{items, item_laws_lem, rate_of}
 use Rattle.form.specs.Stored.{stored_single, HeldIn, Touched}
-use Rattle.levels.specs.Levels.{line_at, MadeIn}
+use Rattle.levels.specs.Levels.{line_at, MadeIn, Summed}
 use Rattle.update.specs.Steps.{Near, Newcomer, InsertedIn}
 use Rattle.levels.specs.declared.Held.{Held as InHand}
 use Rattle.levels.specs.declared.Counts.{Counts}
@@ -39,7 +39,7 @@ use Rattle.form.specs.Frames.{touched_trans, touched_more}
 use Rattle.form.proofs.Frames.{held_still}
 use Rattle.form.specs.Disjoint.{in_cases, inside_refl, inside_left, inside_right, inside_join, disjoint_both, disjoint_turned, slots_join}
 use Rattle.update.specs.Neighbours.{side_of, inner_high, seam_rate, Neighbours, LoweredOn, RaisedOn, Opens, opens, Raises, raises}
-use Rattle.update.specs.Counting.{Summed, counted_two}
+use Rattle.update.specs.Counting.{counted_two}
 use Rattle.update.specs.Rebalancing.{rebalance_on, RebalancedOn}
 use Rattle.update.specs.InsertingModel.{placed_rearranged, insert_single, insert_on, grown_row, grown_seam}
 

@@ -27,7 +27,7 @@ use Rattle.table.specs.Threads.{Holds}
 use Rattle.descents.specs.Ends.{Ended}
 use Rattle.pieces.specs.Pieces.{items, item_laws_lem}
 use Rattle.form.specs.Stored.{Touched}
-use Rattle.levels.specs.Levels.{HandIn, line_at, Counted, MadeIn}
+use Rattle.levels.specs.Levels.{HandIn, line_at, Counted, MadeIn, Summed}
 use Rattle.update.specs.Steps.{alone_at, Near, slot_by, Leaver, LeftIn, RemovedIn}
 use Rattle.levels.specs.declared.Held.{Held as InHand}
 use Rattle.levels.specs.declared.Counts.{Counts}
@@ -38,7 +38,7 @@ use Rattle.form.proofs.Frames.{held_still}
 use Rattle.form.specs.Frames.{touched_more}
 use Rattle.form.specs.Disjoint.{in_cases, inside_refl, inside_left, inside_right, inside_join, disjoint_both, slots_join}
 use Rattle.update.specs.Neighbours.{side_of, held_rep, inner_high, seam_rate, Neighbours, LoweredOn, Opens, opens}
-use Rattle.update.specs.Counting.{Summed, counted_two}
+use Rattle.update.specs.Counting.{counted_two}
 use Rattle.update.specs.Rebalancing.{rebalance_on, RebalancedOn}
 use Rattle.update.specs.Inserting.{alone_held, mem_one}
 use Rattle.update.specs.RemovingModel.{beside_on, remove_on, stands_on, left_row, slots_instead, inside_instead}

@@ -17,7 +17,7 @@ use Rattle.table.specs.Nodes.{on_one, on_other, on_across, in_one, in_other, hei
 use Rattle.shape.specs.Sides.{row_on, row_leaves, four_leaves, seam_first, seam_last}
 use Rattle.pieces.specs.Pieces.{items}
 use Rattle.form.specs.Stored.{Touched}
-use Rattle.levels.specs.Levels.{HandIn, Counted, MadeIn}
+use Rattle.levels.specs.Levels.{HandIn, Counted, MadeIn, Summed}
 use Rattle.levels.specs.declared.Held.{Held as InHand}
 use Rattle.levels.specs.declared.Counts.{Counts}
 use Rattle.levels.specs.declared.Made.{Made as Outcome}
@@ -25,7 +25,7 @@ use Rattle.update.specs.declared.Opened.{Opened}
 use Rattle.form.specs.Frames.{slots_within, touched_trans, touched_more}
 use Rattle.form.proofs.Frames.{held_still}
 use Rattle.update.specs.Neighbours.{side_of, ordered_one, ordered_other, held_height_lem, Neighbours, LoweredOn, RaisedOn, Opens, opens, Raises, raises}
-use Rattle.update.specs.Counting.{Summed, SummedThree, counted_two, counted_three}
+use Rattle.update.specs.Counting.{counted_two, counted_three}
 
 -- ---- three in a row
 
@@ -315,7 +315,7 @@ doubled e a ai b bp bq lt = omega arith
 
 -- the inner child is the higher one
 pub rotated_twice :
-    {side : Bool} {w w₁ w₂ w₃ w₄ w₅ : Words} {gap m m' : ℕ} {x y : InHand} {c d : Opened} {m₁ m₂ m₃ : Outcome} {n : Counts} →
+    {side : Bool} {w w₁ w₂ w₃ w₄ w₅ : Words} {gap m m' : ℕ} {x y : InHand} {c d : Opened} {m₁ m₂ m₃ : Outcome} {n₂ n : Counts} →
     LoweredOn side x w w₁ c →
     height_at w₁ offer_tree c.on.tree < height_at w₁ offer_tree c.off.tree →
     LoweredOn side c.off w₁ w₂ d →
@@ -324,9 +324,10 @@ pub rotated_twice :
     RaisedOn side gap d.off y w₃ w₄ m₂ →
     m' ≡ c.off.tree - most_slots →
     RaisedOn side m' m₁.held m₂.held w₄ w₅ m₃ →
-    SummedThree m₁.counts m₂.counts m₃.counts n →
+    Summed m₁.counts m₂.counts n₂ →
+    Summed n₂ m₃.counts n →
     RotatedIn side gap x y w w₅ (record { held = m₃.held; counts = n })
-rotated_twice {side} {w} {w₁} {w₂} {w₃} {w₄} {w₅} {gap} {m} {m'} {x} {y} {c} {d} {m₁} {m₂} {m₃} {n} low test low₂ e₁ c₁ c₂ e₃ c₃ counts =
+rotated_twice {side} {w} {w₁} {w₂} {w₃} {w₄} {w₅} {gap} {m} {m'} {x} {y} {c} {d} {m₁} {m₂} {m₃} {n} low test low₂ e₁ c₁ c₂ e₃ c₃ sum₂ sum₃ =
     rotated (within_trans low.within (within_trans low₂.within (within_trans c₁.within (within_trans c₂.within c₃.within)))) go
   where
     out : Outcome
@@ -337,7 +338,7 @@ rotated_twice {side} {w} {w₁} {w₂} {w₃} {w₄} {w₅} {gap} {m} {m'} {x} {
         record {
           made =
               subst (MadeIn w₅ out) (sym (rotate_twice_lem (side_of side) tall short lt))
-              (record { held = G.held; counted = counted_three D.counted G.counted_inner G.counted_outer counts });
+              (record { held = G.held; counted = counted_three D.counted G.counted_inner G.counted_outer sum₂ sum₃ });
           touched =
               touched_trans (lowered_touched near low.within a)
               (subst (λ xs. Touched xs w₁ w₅) (sym (row near low.within a))

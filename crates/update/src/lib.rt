@@ -7,14 +7,13 @@ ghost use Rattle.table.specs.Fields.{most_slots, rate_field};
 ghost use Rattle.table.specs.Layout.{cell};
 ghost use Rattle.update.specs.Steps.{RebalancedIn, alone_at, InsertedIn, RemovedIn};
 ghost use Rattle.update.specs.Neighbours.{LoweredOn, RaisedOn};
-ghost use Rattle.update.specs.Counting.{Summed, SummedThree};
 ghost use Rattle.update.specs.Rotating.{RotatedIn};
 ghost use Rattle.update.specs.Rebalancing.{RebalancedOn};
 ghost use Rattle.update.specs.Inserting.{InsertedBelow};
 ghost use Rattle.update.specs.Removing.{RemovedBelow, SeamFound};
 ghost use Rattle.update.specs.CodeUpdates.{Rebuilt};
 
-use levels::{Counts, Held, Made};
+use levels::{Counts, Held, Lowered, Made};
 
 // The two children from a side: the one on it, and the one off it.
 #[derive(Drop)]
@@ -26,15 +25,21 @@ pub struct Opened {
 fn lower_on(part: &mut [i64], side: bool, h: Held) -> Opened
     ensures { LoweredOn side h part.old part.new result }
 {
-    let c = levels::lower(part, h);
-    let l = c.left;
-    let r = c.right;
+    let Lowered { left, right } = levels::lower(part, h);
     if side {
-        return Opened { on: r, off: l };
+        Opened {
+            on: right,
+            off: left,
+        }
+    } else {
+        Opened {
+            on: left,
+            off: right,
+        }
     }
-    Opened { on: l, off: r }
 }
 
+// Here and in `rebalance_on` two calls: to put the two in order first is no plainer.
 fn raise_on(part: &mut [i64], side: bool, gap: u32, on: Held, off: Held) -> Made
     ensures { RaisedOn side gap on off part.old part.new result }
 {
@@ -44,60 +49,27 @@ fn raise_on(part: &mut [i64], side: bool, gap: u32, on: Held, off: Held) -> Made
     levels::raise(part, gap, on, off)
 }
 
-// The counts of one operation after another. They go round at 2 ^ 32, which those of a book do not reach.
-fn sum(a: Made, b: Made) -> Counts
-    ensures { Summed a.counts b.counts result }
-{
-    Counts {
-        searches: std::num::wrapping_add_u32(a.counts.searches, b.counts.searches),
-        steps: std::num::wrapping_add_u32(a.counts.steps, b.counts.steps),
-        heights: std::num::wrapping_add_u32(a.counts.heights, b.counts.heights),
-    }
-}
-
-fn sum_three(a: Made, b: Made, c: Made) -> Counts
-    ensures { SummedThree a.counts b.counts c.counts result }
-{
-    let n = sum(a, b);
-    Counts {
-        searches: std::num::wrapping_add_u32(n.searches, c.counts.searches),
-        steps: std::num::wrapping_add_u32(n.steps, c.counts.steps),
-        heights: std::num::wrapping_add_u32(n.heights, c.counts.heights),
-    }
-}
-
 // A rotation away from the side on which `tall`, two higher than `short`, stands.
 fn rotate(part: &mut [i64], side: bool, gap: u32, tall: Held, short: Held) -> Made
     ensures { RotatedIn side gap tall short part.old part.new result }
 {
-    let t = lower_on(part, side, tall);
-    let on = t.on;
-    let off = t.off;
+    let Opened { on, off } = lower_on(part, side, tall);
     let m = table::inner_slot(tall.tree);
     if table::height(part, table::OFFERS, off.tree) <= table::height(part, table::OFFERS, on.tree) {
-        let y = raise_on(part, side, gap, off, short);
-        let near = y.held;
-        let z = raise_on(part, side, m, on, near);
-        let held = z.held;
-        let counts = sum(y, z);
+        let near = raise_on(part, side, gap, off, short);
+        let top = raise_on(part, side, m, on, near.held);
         return Made {
-            held: held,
-            counts: counts,
+            held: top.held,
+            counts: near.counts + top.counts,
         };
     }
-    let i = lower_on(part, side, off);
-    let first = i.on;
-    let second = i.off;
-    let x = raise_on(part, side, m, on, first);
-    let y = raise_on(part, side, gap, second, short);
-    let far = x.held;
-    let near = y.held;
-    let z = raise_on(part, side, table::inner_slot(off.tree), far, near);
-    let held = z.held;
-    let counts = sum_three(x, y, z);
+    let inner = lower_on(part, side, off);
+    let far = raise_on(part, side, m, on, inner.on);
+    let near = raise_on(part, side, gap, inner.off, short);
+    let top = raise_on(part, side, table::inner_slot(off.tree), far.held, near.held);
     Made {
-        held: held,
-        counts: counts,
+        held: top.held,
+        counts: far.counts + near.counts + top.counts,
     }
 }
 
@@ -130,13 +102,10 @@ fn rebalance_on(part: &mut [i64], side: bool, gap: u32, on: Held, off: Held) -> 
 fn rebuild(part: &mut [i64], side: bool, gap: u32, g: Made, off: Held) -> Made
     ensures { Rebuilt side gap g off part.old part.new result }
 {
-    let on = g.held;
-    let b = rebalance_on(part, side, gap, on, off);
-    let held = b.held;
-    let counts = sum(g, b);
+    let top = rebalance_on(part, side, gap, g.held, off);
     Made {
-        held: held,
-        counts: counts,
+        held: top.held,
+        counts: g.counts + top.counts,
     }
 }
 
@@ -163,11 +132,7 @@ pub fn alone(s: u32) -> Made
             tree: s,
             envelope: s,
         },
-        counts: Counts {
-            searches: 0,
-            steps: 0,
-            heights: 0,
-        },
+        counts: Counts::NONE,
     }
 }
 
@@ -197,9 +162,7 @@ fn insert_below(part: &mut [i64], h: Held, slot: u32, limit: u32) -> Made
     }
     let m = table::inner_slot(h.tree);
     let side = at_most(part, slot, m);
-    let c = lower_on(part, side, h);
-    let on = c.on;
-    let off = c.off;
+    let Opened { on, off } = lower_on(part, side, h);
     let g = insert_below(part, on, slot, limit - 1);
     rebuild(part, side, m, g, off)
 }
@@ -227,15 +190,12 @@ fn remove_below(part: &mut [i64], h: Held, slot: u32, by: u32, limit: u32) -> Ma
     }
     let m = table::inner_slot(h.tree);
     let side = is_less(part, slot, m);
-    let c = lower_on(part, side, h);
-    let on = c.on;
-    let off = c.off;
+    let Opened { on, off } = lower_on(part, side, h);
     let g = remove_below(part, on, slot, by, limit - 1);
     if g.held.tree == 0 {
-        let counts = g.counts;
         return Made {
             held: off,
-            counts: counts,
+            counts: g.counts,
         };
     }
     let gap = seam_after(part, side, g.held.tree, m);

@@ -1,20 +1,19 @@
 -- Theorems on specs/Span.
-use Rattle.std.specs.Prelude.{◌≡◌, refl, Bool, true, false, not, cond, [], ◌∷◌, map, ℕ, ℤ, pos, negsuc, neg_ℤ}
+use Rattle.std.specs.Prelude.{◌≡◌, refl, false, ℤ, Result}
 use Rattle.std.proofs.Common.{ap, ◌∙◌}
 use Rattle.std.proofs.Math.Option.{Option, none, some}
 use Rattle.std.specs.Int.Signed.{lt_z}
-use Rattle.integers.specs.Ranges.{too_low, too_high, in_range_lem}
-use Rattle.offers.specs.Offers.{price_in_range}
-use Rattle.plain.specs.Causes.{Cause, declined, price_out_of_range, FirstOf, Clear}
-use Rattle.plain.specs.Trials.{clear, not_declined, declined_by, declined_first}
+use Rattle.integers.specs.Ranges.{in_range_lem}
+use Rattle.plain.specs.Causes.{Cause, declined, FirstOf, Clear}
+use Rattle.plain.specs.Trials.{clear, declined_first}
 use Rattle.vouchers.specs.Rule.{Rounded}
 use Rattle.vouchers.specs.RuleLaws.{voucher_units, rounded}
 use Rattle.vouchers.proofs.RuleLaws.{only_rounded}
-use Rattle.vouchers.specs.declared.Voucher.{Voucher}
-use Rattle.vouchers.specs.VoucherTold.{Told, in_units, refusal, told, voucher_trials, Vouches}
+use Rattle.causes.specs.declared.Declined.{Declined}
+use Rattle.vouchers.specs.VoucherTold.{in_units, told, voucher_trials, Vouches}
 use Rattle.vouchers.specs.Span.{decided, due, least, most, respond}
 
-pub only_due : (p : ℤ) (v : Voucher) → Vouches p v → told v ≡ due p
+pub only_due : (p : ℤ) (v : Result ℤ Declined) → Vouches p v → told v ≡ due p
 only_due p v w = go (declined (voucher_trials p)) (clear (voucher_trials p)) (declined_first (voucher_trials p))
   where
     go : (d : Option Cause) → (d ≡ none → Clear (voucher_trials p)) → ((z : Cause) → d ≡ some z → FirstOf (voucher_trials p) z) → told v ≡ respond p d

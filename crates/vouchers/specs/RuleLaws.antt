@@ -1,10 +1,10 @@
 -- What the voucher rule comes to: units that are a price rounded are computed, no others are so, and a rebate's voucher is that of the
 -- price with its sign changed.
 use Rattle.std.specs.Prelude.{ℕ, zero, suc, ◌+◌, ◌*◌, ◌-◌, ◌/◌, ◌%◌, ◌≤◌, ◌<◌, ◌≡◌, refl, ◌≢◌, ℤ, pos, negsuc, neg_ℤ, nat_abs, ◌-ℤ◌, ◌*ℤ◌}
-use Rattle.std.proofs.Common.{sym, ap, lt_of_not-le, arith}
+use Rattle.std.proofs.Common.{sym, ap, arith}
 use Rattle.std.proofs.Math.Decide.{ℕ_discrete}
 use Rattle.std.proofs.Math.IntN.{neg_ℤ-neg_ℤ}
-use Rattle.integers.specs.Parts.{pos_part, neg_part, nat_abs_parts, neg_p, neg_n, parts_eq, ne_parts}
+use Rattle.integers.specs.Parts.{pos_part, neg_part, nat_abs_parts, neg_p, neg_n, ne_parts}
 use Rattle.integers.specs.Ring.{var, nat, ◌:-◌, ◌:*◌, parts}
 use Rattle.integers.specs.Magnitude.{nat_abs_gap, nat_abs_neg}
 use Rattle.vouchers.specs.Rule.{off, Rounded}

@@ -1,15 +1,14 @@
 -- What is due for a price in its span, and outside it: the promise asks for this and leaves nothing else.
-use Rattle.std.specs.Prelude.{◌≡◌, refl, Bool, true, false, not, cond, [], ◌∷◌, map, ℕ, ℤ, pos, negsuc, neg_ℤ}
+use Rattle.std.specs.Prelude.{◌≡◌, refl, Bool, true, not, cond, [], ◌∷◌, map, ℕ, ℤ, pos, negsuc, neg_ℤ, Result}
 use Rattle.std.proofs.Common.{ap, ◌∙◌}
 use Rattle.std.proofs.Math.Option.{Option, none, some}
 use Rattle.std.specs.Int.Signed.{lt_z}
-use Rattle.integers.specs.Ranges.{too_low, too_high, in_range_lem}
+use Rattle.integers.specs.Ranges.{too_low, too_high}
 use Rattle.offers.specs.Offers.{price_in_range}
-use Rattle.plain.specs.Causes.{Cause, declined, price_out_of_range, FirstOf, Clear}
-use Rattle.plain.specs.Trials.{clear, not_declined, declined_by, declined_first}
-use Rattle.vouchers.specs.Rule.{Rounded}
+use Rattle.plain.specs.Causes.{Cause, declined, price_out_of_range}
+use Rattle.plain.specs.Trials.{not_declined, declined_by}
 use Rattle.vouchers.specs.RuleLaws.{voucher_units, rounded}
-use Rattle.vouchers.specs.declared.Voucher.{Voucher}
+use Rattle.causes.specs.declared.Declined.{Declined}
 use Rattle.vouchers.specs.VoucherTold.{Told, in_units, refusal, told, voucher_trials, Vouches}
 
 -- ---- the answer computed: it meets the promise, and no other does
@@ -21,7 +20,7 @@ respond price (some c) = refusal c
 abbrev pub due : ℤ → Told
 due price = respond price (declined (voucher_trials price))
 
-pub vouches_due : (p : ℤ) (v : Voucher) → told v ≡ due p → Vouches p v
+pub vouches_due : (p : ℤ) (v : Result ℤ Declined) → told v ≡ due p → Vouches p v
 vouches_due p v e = record {
   declined = λ z f. e ∙ ap (respond p) (declined_by (voucher_trials p) z f);
   accepted = λ c. (voucher_units p, e ∙ ap (respond p) (not_declined (voucher_trials p) c), rounded p);

@@ -4,6 +4,8 @@
 ghost use Rattle.vouchers.specs.Rule.{Rounded};
 ghost use Rattle.vouchers.specs.VoucherTold.{Vouches};
 
+use causes::Declined;
+
 // A unit in cents, and half of it.
 const UNIT: i64 = 100;
 
@@ -11,14 +13,6 @@ const HALF: i64 = 50;
 
 // The least rest that is nearer to the next unit than to this one.
 const ABOVE_HALF: i64 = HALF + 1;
-
-#[derive(Drop)]
-pub enum Voucher {
-    // Whole units of 100 cents.
-    Units(i64),
-    // The number of the cause.
-    Declined(i64),
-}
 
 // Half to even: the division goes toward zero, and a rest that is enough leads one unit further out. Half a unit is enough only from an
 // odd number of units, so that it ends at an even one.
@@ -37,12 +31,12 @@ fn whole_units(price: i64) -> i64
     units
 }
 
-// The voucher of a price from −101,000,000,000 to 101,000,000,000 cents.
-pub fn voucher_price(price: i64) -> Voucher
+// The voucher of a price from −101,000,000,000 to 101,000,000,000 cents, in whole units.
+pub fn voucher_price(price: i64) -> Result<i64, Declined>
     ensures { Vouches price result }
 {
     if price < -101_000_000_000 || 101_000_000_000 < price {
-        return Voucher::Declined(4);
+        return Err(Declined::OutOfRange);
     }
-    Voucher::Units(whole_units(price))
+    Ok(whole_units(price))
 }

@@ -72,8 +72,8 @@ pub record Acts (w : Words) (side : Bool) (action : Action) (at d top : ℕ) (r 
 
 -- two actions, the first of the given side
 abbrev pub sided : Bool → Action → Action → Move
-sided false a b = record { u = a; v = b; done = false }
-sided true a b = record { u = b; v = a; done = false }
+sided false a b = record { u = a; v = b }
+sided true a b = record { u = b; v = a }
 
 -- ---- each answer of the code
 

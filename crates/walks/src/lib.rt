@@ -3,9 +3,10 @@
 #![tactic(auto)]
 
 ghost use Rattle.std.specs.Prelude.{◌≡◌};
-ghost use Rattle.table.specs.Layout.{cap};
 ghost use Rattle.walks.specs.CodeMoves.{top_in, point_word};
 ghost use Rattle.walks.specs.Actions.{Retreats, Advances, Pops, Acts, sided};
+
+use table::Part;
 
 // The most nodes on a stack: a walk pushes at most one for each level of its tree.
 pub const STACK: usize = 24;
@@ -19,12 +20,11 @@ pub enum Action {
     Pop,
 }
 
-// What u and v do in a step, and whether it is the last.
+// What u and v do in a step.
 #[derive(Drop)]
 pub struct Move {
     pub u: Action,
     pub v: Action,
-    pub done: bool,
 }
 
 // Where a walk stands: its node, and how many nodes it pushed.
@@ -58,97 +58,73 @@ pub fn point(at: u32, stack: &[u32; STACK], depth: usize) -> u32
 }
 
 // An inner node goes away; a leaf stays.
-fn retreat(part: &[i64], c: u32, side: bool, at: u32) -> u32
-    requires { c ≡ cap part.now }
+fn retreat(part: &Part<'_>, side: bool, at: u32) -> u32
     ensures { Retreats part.now side at result }
 {
     if at <= table::MOST_SLOTS {
         return at;
     }
-    table::child_in(part, c, table::PIECES, side, at)
+    part.child(table::PIECES, side, at)
 }
 
 // An inner node is pushed and goes toward; a leaf stays.
-fn advance(part: &[i64], c: u32, side: bool, at: u32, depth: usize) -> Stand
-    requires { c ≡ cap part.now }
+fn advance(part: &Part<'_>, side: bool, at: u32, depth: usize) -> Stand
     ensures { Advances part.now side at depth result }
 {
     if at <= table::MOST_SLOTS {
-        return Stand {
-            at: at,
-            depth: depth,
-        };
+        return Stand { at, depth };
     }
     if STACK <= depth {
-        return Stand {
-            at: at,
-            depth: depth,
-        };
+        return Stand { at, depth };
     }
     Stand {
-        at: table::child_in(part, c, table::PIECES, !side, at),
+        at: part.child(table::PIECES, !side, at),
         depth: depth + 1,
     }
 }
 
 // The node pushed last is popped, and the walk goes to its child on the away side.
-fn pop(part: &[i64], c: u32, side: bool, depth: usize, top: u32) -> Stand
-    requires { c ≡ cap part.now }
+fn pop(part: &Part<'_>, side: bool, depth: usize, top: u32) -> Stand
     ensures { Pops part.now side depth top result }
 {
     if depth < 1 {
-        return Stand {
-            at: top,
-            depth: depth,
-        };
+        return Stand { at: top, depth };
     }
     Stand {
-        at: table::child_in(part, c, table::PIECES, side, top),
+        at: part.child(table::PIECES, side, top),
         depth: depth - 1,
     }
 }
 
-// Where an action leads a walk.
+// Where an action leads a walk. Inlined, so that a step makes no call for it.
+#[inline(always)]
 pub fn act(
-    part: &[i64],
-    c: u32,
+    part: &Part<'_>,
     side: bool,
     action: Action,
     at: u32,
     stack: &[u32; STACK],
     depth: usize,
 ) -> Stand
-    requires { c ≡ cap part.now }
     ensures { Acts part.now side action at depth (top_in stack.now depth) result }
 {
     match action {
-        Action::Stay => Stand {
-            at: at,
-            depth: depth,
-        },
+        Action::Stay => Stand { at, depth },
         Action::Retreat => Stand {
-            at: retreat(part, c, side, at),
-            depth: depth,
+            at: retreat(part, side, at),
+            depth,
         },
-        Action::Advance => advance(part, c, side, at, depth),
-        Action::Pop => pop(part, c, side, depth, top(stack, depth)),
+        Action::Advance => advance(part, side, at, depth),
+        Action::Pop => pop(part, side, depth, top(stack, depth)),
     }
 }
 
-// Two actions that do not end the search, the first of the given side.
+// Two actions, the first of the given side.
 pub fn pair(side: bool, a: Action, b: Action) -> Move
     ensures { result ≡ sided side a b }
 {
     if side {
-        return Move {
-            u: b,
-            v: a,
-            done: false,
-        };
+        return Move { u: b, v: a };
     }
-    Move {
-        u: a,
-        v: b,
-        done: false,
-    }
+    Move { u: a, v: b }
 }

@@ -1,9 +1,8 @@
 -- An accepted opening and a history of seven calls with their answers, all as literals: what the theorem about every history speaks of is there.
-use Rattle.std.specs.Prelude.{◌≡◌, List, [], ◌∷◌, length, ℤ, pos}
+use Rattle.std.specs.Prelude.{◌≡◌, List, [], ◌∷◌, length, ℤ, pos, Result, Ok}
 use Rattle.plain.specs.Causes.{Clear}
 use Rattle.plain.specs.Book.{Call, post, withdraw, query, listing, take_back, Answer, live, found, listed, open_trials}
-use Rattle.promises.specs.declared.Opening.{Opening}
-use Rattle.promises.specs.declared.Opening.TheVariants.{Opened}
+use Rattle.causes.specs.declared.Declined.{Declined}
 use Rattle.promises.specs.Promises.{Opens}
 use Rattle.history.specs.History.{History}
 
@@ -26,9 +25,9 @@ pub record Witness : Type 0 where
   pub before : List ℤ
   pub opened : List ℤ
   pub after : List ℤ
-  pub answer : Opening
+  pub answer : Result (Unit {0}) Declined
   pub opens : Opens (pos 3) 0 before opened answer
   -- it meets neither cause 1 nor cause 2
   pub clear : Clear (open_trials (length before) 0 (pos 3))
-  pub accepted : answer ≡ Opened
+  pub accepted : answer ≡ Ok tt
   pub history : History 3 0 opened calls told after

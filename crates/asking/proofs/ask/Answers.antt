@@ -16,8 +16,8 @@ returns-then-number_at-lt1 c = asks_empty c.number_at.ensures c.if-number_at-lt1
 pub returns : goal.returns
 returns c = let f = c.ranges.load in
     let g : FitsSigned w64 c.number-number.result = record { sfits = c.number-number.type_inv } in
-    let h : FitsSigned w64 c.price-price.result = record { sfits = c.price-price.type_inv } in
-    let k : FitsSigned w64 c.beside-second.result = record { sfits = c.beside-second.type_inv } in
+    let h : FitsSigned w64 c.price.result = record { sfits = c.price.type_inv } in
+    let k : FitsSigned w64 c.beside.result = record { sfits = c.beside.type_inv } in
     let v : to_z w64 c.descend-p.result.probes ≡ pos c.descend-p.result.probes = to_z_pos w64 (omega arith) in
     simp (to_z-of_z, g, h, k, v)
     (asks_found c.number_at.ensures c.if-number_at-lt1.false
@@ -25,6 +25,6 @@ returns c = let f = c.ranges.load in
       at_root = c.envelope_root-root.ensures;
       down = simp (to_z-of_z, f) at c.descend-p.ensures;
       named = c.number-number.ensures;
-      priced = simp (to_z-of_z, f) at c.price-price.ensures;
-      beside = c.beside-second.ensures;
+      priced = simp (to_z-of_z, f) at c.price.ensures;
+      beside = c.beside.ensures;
     }))

@@ -1,9 +1,6 @@
 -- `book::take_back` meets its contract: by its guard, and then what a take-back does to the part.
 use mathlib.Core.Path.{refl}
-use native.Mathlib.Omega.{arith}
 use Rattle.book.specs.TableUpdates.{updates_none, taken_back}
-use Rattle.promises.specs.LentPart.{book_start}
-use borrow.Author.Rules.{rules}
 use Rattle.book.proofs.take_back.Goals as goal
 
 pub returns-then-no_book : goal.returns-then-no_book

@@ -8,7 +8,7 @@ use mir.Facts.{to_z-of_z, to_z_pos}
 use mir.Syntax.{w64}
 use mir.Val.{to_z}
 use Rattle.marks.specs.MarkTold.{open_end}
-use Rattle.chart.specs.declared.Marked.TheVariants.{Mark}
+use Rattle.std.specs.Prelude.{Ok}
 use Rattle.chart.specs.Marking.{PartMark, part_empty, part_outside, part_first, part_last, part_inner, index_below, index_above, index_there}
 use Rattle.std.proofs.Common.{FitsSigned}
 use Rattle.chart.proofs.part_mark.Goals as goal
@@ -40,9 +40,9 @@ returns-then-i-lt1 c = let m = c.count-m in
     m.ensures.few (simp (to_z-of_z, c.ranges.index) at c.up_to-i.ensures) in
     let f : FitsSigned w64 c.rate.result = record { sfits = c.rate.type_inv } in
     let i : c.args.index ≡ pos 0 = j.0 ∙ ap pos (first c.if-i-lt1.true) in
-    subst (λ (z : ℤ). PartMark c.args.part.now z (Mark c.open_end.result)) (sym i)
+    subst (λ (z : ℤ). PartMark c.args.part.now z (Ok c.open_end.result)) (sym i)
     (part_first c.envelope_root-root.ensures m.ensures c.if-m-lt1.false c.slot_of.ensures
-    ((simp (to_z-of_z, f) at c.open_end.ensures) ∙ ap open_end c.rate.ensures))
+    ((simp (to_z-of_z, f) at c.open_end.ensures) ∙ ap open_end (rw c.of.ensures at c.rate.ensures)))
 
 pub returns-then-i-m : goal.returns-then-i-m
 returns-then-i-m c = let m = c.count-m in
@@ -51,10 +51,10 @@ returns-then-i-m c = let m = c.count-m in
     index_there c.args.index (simp (to_z-of_z, c.ranges.index) at c.if-index-lt0.false) (simp (to_z-of_z, c.ranges.index, e) at c.if-m-index.false)
     m.ensures.few (simp (to_z-of_z, c.ranges.index) at c.up_to-i.ensures) in
     let f : FitsSigned w64 c.rate-then-i-m.result = record { sfits = c.rate-then-i-m.type_inv } in
-    subst (λ (z : ℤ). PartMark c.args.part.now z (Mark c.open_end-then-i-m.result)) (sym j.0)
+    subst (λ (z : ℤ). PartMark c.args.part.now z (Ok c.open_end-then-i-m.result)) (sym j.0)
     (part_last c.envelope_root-root.ensures m.ensures c.if-m-lt1.false c.up_to-i.result c.if-i-lt1.false
     c.slot_of-s.ensures
-    c.if-i-m.true ((simp (to_z-of_z, f) at c.open_end-then-i-m.ensures) ∙ ap open_end c.rate-then-i-m.ensures))
+    c.if-i-m.true ((simp (to_z-of_z, f) at c.open_end-then-i-m.ensures) ∙ ap open_end (rw c.of-then-i-m.ensures at c.rate-then-i-m.ensures)))
 
 pub returns : goal.returns
 returns c = let m = c.count-m in
@@ -62,7 +62,7 @@ returns c = let m = c.count-m in
     let j =
     index_there c.args.index (simp (to_z-of_z, c.ranges.index) at c.if-index-lt0.false) (simp (to_z-of_z, c.ranges.index, e) at c.if-m-index.false)
     m.ensures.few (simp (to_z-of_z, c.ranges.index) at c.up_to-i.ensures) in
-    subst (λ (z : ℤ). PartMark c.args.part.now z (Mark c.crossing_at.result)) (sym j.0)
+    subst (λ (z : ℤ). PartMark c.args.part.now z (Ok c.crossing_at.result)) (sym j.0)
     (part_inner c.envelope_root-root.ensures m.ensures c.if-m-lt1.false c.up_to-i.result c.if-i-lt1.false
     c.slot_of-s.ensures
     (below j.1 c.if-i-m.false) c.crossing_at.ensures)

@@ -1,10 +1,6 @@
--- `chart::slot_of` meets its contract. The loop's invariant: piece k is in slot s.
-use Prim.Native.Nat.{◌-◌}
+-- `chart::slot_of` meets its contract. The loop's invariant: the piece of the counter is in slot s.
 use Rattle.chart.specs.ChartWalks.{Going}
 use Rattle.chart.proofs.slot_of.Given as goal
 
-abbrev pub invariant-loop-k : goal.invariant-loop-k
-invariant-loop-k l = Going l.part l.root l.i l.s l.k
-
-abbrev pub decreases-loop-k : goal.decreases-loop-k
-decreases-loop-k l = l.i - l.k
+abbrev pub invariant-loop : goal.invariant-loop
+invariant-loop l = Going l.part l.root l.i l.s l.counter

@@ -1,10 +1,6 @@
--- `check_memory::mark` meets its contract: the flags of the slots from place i on are raised.
-use Prim.Native.Nat.{◌≤◌}
+-- `check_memory::mark` meets its contract: the flags of the slots so far are raised.
 use Rattle.check_memory.specs.Flags.{Marking}
 use Rattle.check_memory.proofs.mark.Given as goal
 
-abbrev pub invariant-loop-i : goal.invariant-loop-i
-invariant-loop-i l = (l.i ≤ l.n) × Marking l.part l.scratch l.n l.i l.initial.live l.live
-
-abbrev pub decreases-loop-i : goal.decreases-loop-i
-decreases-loop-i l = l.i
+abbrev pub invariant-loop-slot : goal.invariant-loop-slot
+invariant-loop-slot l = Marking l.part l.scratch l.slot-index l.initial.live l.live

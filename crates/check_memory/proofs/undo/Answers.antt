@@ -6,7 +6,7 @@ use Rattle.check_memory.specs.Entries.{tries_no_number, tries_out, tries_neither
 use Rattle.check_memory.proofs.undo.Goals as goal
 
 pub returns-then-number-lt1 : goal.returns-then-number-lt1
-returns-then-number-lt1 c = tries_no_number c.entry_at-at.ensures c.number_at-number.ensures c.if-number-lt1.true c.stuck.ensures
+returns-then-number-lt1 c = tries_no_number c.entry_at-at.ensures c.number_at-number.ensures c.if-number-lt1.true
 
 pub take_out-requires : goal.take_out-requires
 take_out-requires c = record {
@@ -24,7 +24,7 @@ restorable-requires c = omega (arith, c.entry_at-at.ensures, cap_most c.args.par
 
 pub returns-then-not-restorable : goal.returns-then-not-restorable
 returns-then-not-restorable c = tries_neither c.entry_at-at.ensures c.tells.ensures c.if-tells.false c.restorable.ensures
-    c.if-not-restorable.true c.stuck-then-not-restorable.ensures
+    c.if-not-restorable.true
 
 pub bring_back-requires : goal.bring_back-requires
 bring_back-requires c = record {

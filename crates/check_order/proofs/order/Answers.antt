@@ -17,9 +17,9 @@ returns-else-n-eq0 c = order_none c.number_at-root.ensures c.header.ensures c.if
     (decides_stops (decides_equal _ _) (ne_eqb _ _ c.if-n-eq0.false) refl)
 
 pub returns-then-not-heads : goal.returns-then-not-heads
-returns-then-not-heads c = order_no_heads c.number_at-root.ensures c.header.ensures c.if-not-header.false c.if-root-eq0.false c.requires.1
+returns-then-not-heads c = order_no_heads c.number_at-root.ensures c.header.ensures c.if-not-header.false c.if-root-eq0.false c.requires.0
     c.order_tree.ensures c.if-not-order_tree.false c.heads.ensures c.if-not-heads.true
 
 pub returns : goal.returns
-returns c = order_all c.number_at-root.ensures c.header.ensures c.if-not-header.false c.if-root-eq0.false c.requires.1
+returns c = order_all c.number_at-root.ensures c.header.ensures c.if-not-header.false c.if-root-eq0.false c.requires.0
     c.order_tree.ensures c.if-not-order_tree.false c.heads.ensures c.if-not-heads.false c.shift.ensures

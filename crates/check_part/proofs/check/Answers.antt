@@ -1,7 +1,5 @@
 -- `check_part::check` meets its contract.
-use Rattle.promises.specs.LentPart.{book_start}
-use Rattle.promises.specs.Checking.{checks_none, checks_part}
-use borrow.Author.Rules.{rules}
+use Rattle.promises.specs.Checking.{checks_none}
 use Rattle.check_part.proofs.check.Goals as goal
 
 pub returns-then-no_book : goal.returns-then-no_book

@@ -1,28 +1,24 @@
 -- `counter_columns::parse_post` meets its contract: a post where all three fields hold a number, and else no call's line.
 use mir.Facts.{to_z-of_z}
 use mir.Syntax.{w64}
-use Rattle.std.proofs.Common.{FitsSigned}
-use Rattle.counter_columns.specs.Commands.{wrong_post, is_post, number_read, bad_read}
-use borrow.Author.Rules.{rules}
+use Rattle.std.proofs.Common.{FitsSigned, rules}
+use Rattle.counter_columns.specs.Commands.{wrong_post, is_post}
 use Rattle.counter_columns.proofs.parse_post.Goals as goal
 
-pub returns-in_default : goal.returns-in_default
-returns-in_default c = wrong_post _ c.requires.1 (λ n r b p. bad_read _ _ c.read_field.ensures c.in_default.is n p.first)
+pub returns-in_err-number : goal.returns-in_err-number
+returns-in_err-number c = rw c.from_residual.ensures (wrong_post _ c.requires.1 (λ n r b p. c.in_err-number.ensures n p.first))
 
-pub returns-in_default-read_field : goal.returns-in_default-read_field
-returns-in_default-read_field c = wrong_post _ c.requires.1 (λ n r b p. bad_read _ _ c.read_field-2.ensures c.in_default-read_field.is r p.second)
+pub returns-in_err-rate : goal.returns-in_err-rate
+returns-in_err-rate c = rw c.from_residual-in_err-rate.ensures (wrong_post _ c.requires.1 (λ n r b p. c.in_err-rate.ensures r p.second))
 
-pub returns-in_default-read_field-2 : goal.returns-in_default-read_field-2
-returns-in_default-read_field-2 c = wrong_post _ c.requires.1 (λ n r b p. bad_read _ _ c.read_field-3.ensures c.in_default-read_field-2.is b p.third)
+pub returns-in_err-base : goal.returns-in_err-base
+returns-in_err-base c = rw c.from_residual-in_err-base.ensures (wrong_post _ c.requires.1 (λ n r b p. c.in_err-base.ensures b p.third))
 
 pub returns : goal.returns
-returns c = let f : FitsSigned w64 c.in-Number.number = search rules in
-    let g : FitsSigned w64 c.in-Number-read_field.rate = search rules in
-    let h : FitsSigned w64 c.in-Number-read_field-2.base = search rules in
+returns c =
+    let f : FitsSigned w64 c.in_ok-number.number = search rules in
+    let g : FitsSigned w64 c.in_ok-rate.rate = search rules in
+    let h : FitsSigned w64 c.in_ok-base.base = search rules in
     simp (to_z-of_z, f, g, h)
     (is_post _ _ _ _ c.requires.0 c.requires.1
-    (record {
-      first = number_read _ _ c.read_field.ensures c.in-Number.is;
-      second = number_read _ _ c.read_field-2.ensures c.in-Number-read_field.is;
-      third = number_read _ _ c.read_field-3.ensures c.in-Number-read_field-2.is;
-    }))
+    (record { first = c.in_ok-number.ensures; second = c.in_ok-rate.ensures; third = c.in_ok-base.ensures }))

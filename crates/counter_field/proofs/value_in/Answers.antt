@@ -3,10 +3,10 @@ use Rattle.counter_field.specs.Values.{read_more, read_all, read_small}
 use Rattle.counter_field.proofs.value_in.Goals as goal
 
 pub with_byte-value-requires : goal.with_byte-value-requires
-with_byte-value-requires c = read_small c.loop-at.invariant c.requires
+with_byte-value-requires c = read_small c.loop-byte.invariant c.requires
 
-pub loop-at-preserved : goal.loop-at-preserved
-loop-at-preserved c = read_more c.loop-at.invariant c.loop-at-test.true c.with_byte-value.ensures
+pub loop-byte-preserved : goal.loop-byte-preserved
+loop-byte-preserved c = read_more c.loop-byte.invariant c.loop-byte-test.true c.with_byte-value.ensures
 
 pub returns : goal.returns
-returns c = (read_all c.loop-at.invariant c.loop-at-test.false, read_small c.loop-at.invariant c.requires)
+returns c = (read_all c.loop-byte.invariant c.loop-byte-test.false, read_small c.loop-byte.invariant c.requires)

@@ -6,7 +6,7 @@ use Rattle.counter_print.proofs.justify.Goals as goal
 pub returns-then-width-count : goal.returns-then-width-count
 returns-then-width-count c =
     let f = c.ranges.value in
-    justifies_narrow _ _ _ _ _ (simp (to_z-of_z, f) at c.magnitude-number.ensures) c.digit_count-count.ensures
+    justifies_narrow _ _ _ _ _ (simp (to_z-of_z, f) at c.unsigned_abs-number.ensures.value) c.digit_count-count.ensures
     (simp (to_z-of_z, f) at c.if-width-count.true)
 
 pub returns : goal.returns
@@ -18,7 +18,7 @@ returns c =
     let front_length : length c.put_sign.new.column ≡ length before - count = omega (arith, simp length-take at c.put_sign.auto.column) in
     let rest_length : length (drop (length before - count) before) ≡ count = rw length-drop (omega arith) in
     justifies_wide (length before - count) c.put_sign.new.column (drop (length before - count) before) front_length _ _ _ _ _
-    (simp (to_z-of_z, f) at c.magnitude-number.ensures)
+    (simp (to_z-of_z, f) at c.unsigned_abs-number.ensures.value)
     c.digit_count-count.ensures
     (omega arith)
     rest_length

@@ -2,8 +2,5 @@
 use Rattle.counter_print.specs.Places.{Putting}
 use Rattle.counter_print.proofs.put_digits.Given as goal
 
-abbrev pub invariant-loop-place : goal.invariant-loop-place
-invariant-loop-place l = Putting l.number l.initial.column l.column l.at l.place l.rest
-
-abbrev pub decreases-loop-place : goal.decreases-loop-place
-decreases-loop-place l = l.place
+abbrev pub invariant-loop-at : goal.invariant-loop-at
+invariant-loop-at l = Putting l.number l.initial.column l.column l.at l.rest

@@ -1,11 +1,6 @@
 -- `counter_reply::piece_lines` meets its contract: the invariant is the contract at the current piece.
-use Prim.Native.Nat.{◌-◌, ◌≤◌}
-use mathlib.Core.Path.{◌≡◌}
-use Rattle.counter_reply.specs.PieceLines.{PiecesTo, pieces_none, pieces_more}
+use Rattle.counter_reply.specs.PieceLines.{PiecesTo}
 use Rattle.counter_reply.proofs.piece_lines.Given as goal
 
 abbrev pub invariant-loop-i : goal.invariant-loop-i
-invariant-loop-i l = PiecesTo l.pieces l.initial.out l.out l.i × (l.i ≤ l.count)
-
-abbrev pub decreases-loop-i : goal.decreases-loop-i
-decreases-loop-i l = l.count - l.i
+invariant-loop-i l = PiecesTo l.pieces l.initial.out l.out l.i

@@ -1,29 +1,16 @@
--- `descents::after` meets its contract. The invariant: the node that is reached has what is sought if the tree has it, and is at most `limit` high.
+-- `descents::after` meets its contract: each step of the way down goes right of a leaf whose key is not below, and the leaf at its end follows the key, or none does.
 use borrow.Author.Rules.{rules}
-use native.Mathlib.Omega.{arith}
-use mathlib.Core.Bool.{true, false}
-use mir.Facts.{to_z-of_z}
-use mir.Syntax.{w64}
-use mir.Val.{to_z}
 use lib.Signed.{le_z}
-use Rattle.descents.specs.Seeks.{Looking, looking_begins, looking_on, looking_over}
+use mir.Facts.{to_z-of_z}
+use mathlib.Core.Bool.{true, false}
+use Rattle.descents.specs.Seeks.{looking_begins, looking_down}
 use Rattle.descents.specs.Afters.{below, below_leads, below_ends}
 use Rattle.descents.proofs.after.Goals as goal
 
-pub loop-y-init : goal.loop-y-init
-loop-y-init c = looking_begins below _ _ _ _ _
-
-pub returns-then-limit-eq0 : goal.returns-then-limit-eq0
-returns-then-limit-eq0 c = looking_over (simp (to_z-of_z, c.ranges.key) at c.loop-y.invariant) c.loop-y-test.true c.if-limit-eq0.true
-
-pub loop-y-preserved : goal.loop-y-preserved
-loop-y-preserved c = looking_on le_z below_leads _ c.loop-y.invariant c.loop-y-test.true
-    c.inner_slot.ensures c.at_least-behind.ensures c.child-y.ensures
-
 pub returns-then-at_least : goal.returns-then-at_least
-returns-then-at_least c = below_ends _ true (simp (to_z-of_z, c.ranges.key) at c.loop-y.invariant)
-    c.loop-y-test.false (simp (to_z-of_z, c.ranges.key) at c.at_least.ensures) c.if-at_least.true
+returns-then-at_least c = let q = looking_down le_z below_leads c.args.key (λ u z s. search rules) (looking_begins below _ _ _ _ _) c.leaf_below-y.ensures in
+    below_ends _ true q.looking q.low (simp (to_z-of_z, c.ranges.key) at c.at_least.ensures) c.if-at_least.true
 
 pub returns : goal.returns
-returns c = below_ends _ false (simp (to_z-of_z, c.ranges.key) at c.loop-y.invariant)
-    c.loop-y-test.false (simp (to_z-of_z, c.ranges.key) at c.at_least.ensures) c.if-at_least.false
+returns c = let q = looking_down le_z below_leads c.args.key (λ u z s. search rules) (looking_begins below _ _ _ _ _) c.leaf_below-y.ensures in
+    below_ends _ false q.looking q.low (simp (to_z-of_z, c.ranges.key) at c.at_least.ensures) c.if-at_least.false

@@ -14,4 +14,4 @@ pub returns : goal.returns
 returns c = let f = c.ranges in
     posted_part _ c.roots-held.ensures c.number_at-n.ensures (simp (to_z-of_z, f.rate) at c.find_rate-f.ensures)
     c.fill-s.ensures.is (simp (to_z-of_z, f.number, f.rate, f.base) at c.fill-s.ensures.words) c.enter.ensures
-    c.enter-2.ensures c.join_offers-m.ensures (omega arith) c.set_roots.ensures
+    c.enter-2.ensures c.join_offers-joined.ensures (omega arith) c.set_roots.ensures

@@ -14,4 +14,4 @@ returns c = let r : FitsSigned w64 c.get.result = record { sfits = c.get.type_in
     withdrawn_part _ c.roots-held.ensures c.number_at-n.ensures c.get-rank.ensures c.get.ensures
     (simp (to_z-of_z, r) at c.find_rate-f.ensures) c.follower-by.ensures
     (simp (to_z-of_z, c.ranges.number) at c.strike.ensures) (simp (to_z-of_z, k) at c.strike-2.ensures)
-    c.leave_offers-m.ensures c.one_less-live.ensures c.set_roots.ensures c.give_slot.ensures
+    c.leave_offers-rest.ensures c.saturating_sub-live.ensures c.set_roots.ensures c.give_slot.ensures

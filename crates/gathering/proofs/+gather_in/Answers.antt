@@ -1,4 +1,5 @@
 -- `gathering::gather_in` meets its contract, by recursion on the limit.
+use mathlib.Core.Path.{refl}
 use mir.Facts.{to_z-of_z}
 use Rattle.gathering.specs.Gathers.{gathers_none, gathers_put, gathers_deep, gathers_node}
 use Rattle.gathering.proofs.+gather_in.Goals as goal
@@ -15,6 +16,6 @@ returns-then-limit-eq0 t c = gathers_deep c.if-at-gt-SLOTS.false c.if-x-le-MOST_
 
 pub returns : goal.returns
 returns t c = gathers_node c.if-x-le-MOST_SLOTS.false c.if-limit-eq0.false (simp (to_z-of_z, c.ranges.load, c.ranges.price) at c.is_below.ensures)
-    c.if-not-is_below.false c.child_in-left.ensures (simp (to_z-of_z, c.ranges.load) at c.left_cheapest-f.ensures)
+    c.if-not-is_below.false c.child_in-left.ensures ((simp (to_z-of_z, c.ranges.load) at c.child_cheapest-f.ensures).left refl)
     (simp (to_z-of_z, c.ranges.load, c.ranges.price) at c.gather_in-mid.ensures) c.child_in-right.ensures
-    (simp (to_z-of_z, c.ranges.load) at c.right_cheapest-g.ensures) (simp (to_z-of_z, c.ranges.load, c.ranges.price) at c.gather_in.ensures)
+    ((simp (to_z-of_z, c.ranges.load) at c.child_cheapest-g.ensures).right refl) (simp (to_z-of_z, c.ranges.load, c.ranges.price) at c.gather_in.ensures)

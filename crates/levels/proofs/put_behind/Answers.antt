@@ -1,7 +1,5 @@
 -- `levels::put_behind` meets its contract.
 use Rattle.pieces.proofs.Catting.{catted_left, after_any}
-use Rattle.levels.specs.Lowering.{after_read}
-use borrow.Author.Rules.{rules}
 use Rattle.levels.proofs.put_behind.Goals as goal
 
 pub returns-then-q-eq0 : goal.returns-then-q-eq0

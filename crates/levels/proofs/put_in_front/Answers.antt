@@ -1,7 +1,5 @@
 -- `levels::put_in_front` meets its contract.
 use Rattle.pieces.proofs.Catting.{catted_right, before_any}
-use Rattle.levels.specs.Lowering.{before_read}
-use borrow.Author.Rules.{rules}
 use Rattle.levels.proofs.put_in_front.Goals as goal
 
 pub returns-then-q-eq0 : goal.returns-then-q-eq0

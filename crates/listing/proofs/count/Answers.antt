@@ -1,18 +1,17 @@
--- `listing::count` meets its contract. The loop's invariant: the n-th of the pieces is in slot s.
+-- `listing::count` meets its contract. The loop's invariant: the n-th of the pieces is in slot s, and no tree has more than there are slots.
+use native.Mathlib.Omega.{arith}
 use Rattle.listing.specs.PieceCounts.{along_begins, along_none, along_goes_on, along_ends, along_over}
 use Rattle.listing.proofs.count.Goals as goal
 
 pub returns-then-s-eq0 : goal.returns-then-s-eq0
 returns-then-s-eq0 c = along_none c.end-s.ensures c.if-s-eq0.true
 
-pub loop-s-init : goal.loop-s-init
-loop-s-init c = along_begins c.end-last.ensures c.end-s.ensures c.if-s-eq0.false
+pub loop-n-init : goal.loop-n-init
+loop-n-init c = (λ h. along_begins c.end-last.ensures c.end-s.ensures c.if-s-eq0.false, λ h. absurd (omega arith))
 
-pub returns-then-n-ge-MOST_SLOTS : goal.returns-then-n-ge-MOST_SLOTS
-returns-then-n-ge-MOST_SLOTS c = along_over c.loop-s.invariant c.loop-s-test.true c.if-n-ge-MOST_SLOTS.true
+pub loop-n-preserved : goal.loop-n-preserved
+loop-n-preserved c = let g = c.loop-n.invariant.0 (omega arith) in
+    (λ h. along_goes_on g c.if-s-last.false (omega arith) c.link-s.ensures, λ h. along_over g c.if-s-last.false (omega arith))
 
-pub loop-s-preserved : goal.loop-s-preserved
-loop-s-preserved c = along_goes_on c.loop-s.invariant c.loop-s-test.true c.if-n-ge-MOST_SLOTS.false c.link-s.ensures
-
-pub returns : goal.returns
-returns c = along_ends c.loop-s.invariant c.loop-s-test.false
+pub returns-then-s-last : goal.returns-then-s-last
+returns-then-s-last c = along_ends (c.loop-n.invariant.0 (omega arith)) c.if-s-last.true

@@ -1,10 +1,6 @@
 -- `listing::write` meets its contract. The loop's invariant: the first i pieces are written, and the output's later words are as before.
-use Prim.Native.Nat.{◌-◌}
 use Rattle.listing.specs.Listing.{Writing}
 use Rattle.listing.proofs.write.Given as goal
 
 abbrev pub invariant-loop-i : goal.invariant-loop-i
 invariant-loop-i l = Writing l.part l.root l.n l.initial.out l.s l.i l.out
-
-abbrev pub decreases-loop-i : goal.decreases-loop-i
-decreases-loop-i l = l.n - l.i

@@ -11,10 +11,10 @@ returns-then-is_empty c = one_empty (elim c.then-is_empty.branch [
   | then-is_empty-via-else-is_empty+then-is_empty-2 w ↦ inr (said w.is_empty-else-is_empty.ensures w.if-is_empty-2.true)
 ])
 
-pub returns-then-stand_apart : goal.returns-then-stand_apart
-returns-then-stand_apart c = apart_found c.is_empty.ensures c.is_empty-else-is_empty.ensures c.stand_apart.ensures c.if-is_empty.false
-    c.if-is_empty-2.false c.if-stand_apart.true c.search_roots.ensures
+pub returns-then-not-stand_apart : goal.returns-then-not-stand_apart
+returns-then-not-stand_apart c = not_apart c.is_empty.ensures c.is_empty-else-is_empty.ensures c.stand_apart.ensures c.if-is_empty.false
+    c.if-is_empty-2.false c.if-not-stand_apart.true
 
 pub returns : goal.returns
-returns c = not_apart c.is_empty.ensures c.is_empty-else-is_empty.ensures c.stand_apart.ensures c.if-is_empty.false c.if-is_empty-2.false
-    c.if-stand_apart.false
+returns c = apart_found c.is_empty.ensures c.is_empty-else-is_empty.ensures c.stand_apart.ensures c.if-is_empty.false
+    c.if-is_empty-2.false c.if-not-stand_apart.false c.search_roots.ensures

@@ -20,7 +20,7 @@ returns c = let g : FitsSigned w64 c.get-u.result = record { sfits = c.get-u.typ
     (record {
       left_root = c.envelope_root-l.ensures;
       right_root = c.envelope_root-r.ensures;
-      searched = c.meet-m.ensures;
+      searched = rw (c.of.ensures, c.of-2.ensures) at c.meet-m.ensures;
       left_number = c.get-u.ensures;
       right_number = c.get-v.ensures;
       left_height = c.height-hl.ensures;

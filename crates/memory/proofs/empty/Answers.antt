@@ -1,6 +1,5 @@
 -- `memory::empty` meets its contract: two words written one after the other.
 use Rattle.memory.specs.Entries.{emptying}
-use borrow.Author.Rules.{rules}
 use Rattle.memory.proofs.empty.Goals as goal
 
 pub returns : goal.returns

@@ -6,7 +6,6 @@ use mir.Facts.{to_z-of_z}
 use mir.Syntax.{w64}
 use Rattle.std.proofs.Common.{FitsSigned}
 use Rattle.memory.specs.Entries.{last_none, last_some}
-use borrow.Author.Rules.{rules}
 use Rattle.memory.proofs.last.Goals as goal
 
 pub returns-then-number_at-lt1 : goal.returns-then-number_at-lt1

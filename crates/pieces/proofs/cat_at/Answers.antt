@@ -18,14 +18,14 @@ pub returns-then-r-eq0 : goal.returns-then-r-eq0
 returns-then-r-eq0 c = seamed_any (catted_left c.if-r-eq0.true)
 
 pub overflow_sub-numerator : goal.overflow_sub-numerator
-overflow_sub-numerator c = let f : FitsSigned w64 c.base_in-2.result = record { sfits = c.base_in-2.type_inv } in
-    let g : FitsSigned w64 c.base_in.result = record { sfits = c.base_in.type_inv } in
-    simp (to_z-of_z, f, g) (bases_fit _ _ _ c.base_in.ensures c.base_in-2.ensures)
+overflow_sub-numerator c = let f : FitsSigned w64 c.base-2.result = record { sfits = c.base-2.type_inv } in
+    let g : FitsSigned w64 c.base.result = record { sfits = c.base.type_inv } in
+    simp (to_z-of_z, f, g) (bases_fit _ _ _ c.base.ensures c.base-2.ensures)
 
 pub overflow_sub-denominator : goal.overflow_sub-denominator
-overflow_sub-denominator c = let f : FitsSigned w64 c.rate_in.result = record { sfits = c.rate_in.type_inv } in
-    let g : FitsSigned w64 c.rate_in-2.result = record { sfits = c.rate_in-2.type_inv } in
-    simp (to_z-of_z, f, g) (rates_fit _ _ _ c.rate_in.ensures c.rate_in-2.ensures)
+overflow_sub-denominator c = let f : FitsSigned w64 c.rate.result = record { sfits = c.rate.type_inv } in
+    let g : FitsSigned w64 c.rate-2.result = record { sfits = c.rate-2.type_inv } in
+    simp (to_z-of_z, f, g) (rates_fit _ _ _ c.rate.ensures c.rate-2.ensures)
 
 pub join_in-requires : goal.join_in-requires
 join_in-requires c = threaded_known _ _ _ _ _ _ _ _ c.requires
@@ -33,14 +33,14 @@ join_in-requires c = threaded_known _ _ _ _ _ _ _ _ c.requires
 
 pub returns : goal.returns
 returns c = let a = c.args in
-    let w = a.part.now in
-    let f : FitsSigned w64 c.base_in-2.result = record { sfits = c.base_in-2.type_inv } in
-    let g : FitsSigned w64 c.base_in.result = record { sfits = c.base_in.type_inv } in
-    let f₂ : FitsSigned w64 c.rate_in.result = record { sfits = c.rate_in.type_inv } in
-    let g₂ : FitsSigned w64 c.rate_in-2.result = record { sfits = c.rate_in-2.type_inv } in
-    let k = bases_fit w a.s a.n c.base_in.ensures c.base_in-2.ensures in
-    let k₂ = rates_fit w a.s a.n c.rate_in.ensures c.rate_in-2.ensures in
+    let read = c.with_capacity-read.ensures in
+    let f : FitsSigned w64 c.base-2.result = record { sfits = c.base-2.type_inv } in
+    let g : FitsSigned w64 c.base.result = record { sfits = c.base.type_inv } in
+    let f₂ : FitsSigned w64 c.rate.result = record { sfits = c.rate.type_inv } in
+    let g₂ : FitsSigned w64 c.rate-2.result = record { sfits = c.rate-2.type_inv } in
+    let k = bases_fit _ a.s a.n c.base.ensures c.base-2.ensures in
+    let k₂ = rates_fit _ a.s a.n c.rate.ensures c.rate-2.ensures in
     let vn : to_z w64 a.n ≡ pos a.n = to_z_pos w64 (omega (arith, c.ranges.n)) in
-    seamed c.if-l-eq0.false c.if-r-eq0.false (ap₂ ◌-ℤ◌ c.base_in.ensures c.base_in-2.ensures)
-    (ap₂ ◌-ℤ◌ c.rate_in.ensures c.rate_in-2.ensures) (simp (to_z-of_z, f, g, k, f₂, g₂, k₂, vn) at c.put_three_in.ensures)
-    c.join_in.ensures
+    seamed c.if-l-eq0.false c.if-r-eq0.false (ap₂ ◌-ℤ◌ (rw read at c.base.ensures) (rw read at c.base-2.ensures))
+    (ap₂ ◌-ℤ◌ (rw read at c.rate.ensures) (rw read at c.rate-2.ensures))
+    (simp (to_z-of_z, f, g, k, f₂, g₂, k₂, vn) at c.put_three_in.ensures) c.join_in.ensures

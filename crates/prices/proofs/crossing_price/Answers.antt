@@ -8,8 +8,8 @@ use Rattle.prices.proofs.crossing_price.Goals as goal
 
 pub price-requires : goal.price-requires
 price-requires c = let a = c.args in
-    let n = c.numerator-n in
-    let d = c.denominator-d in
+    let n = c.numerator in
+    let d = c.denominator in
     let fn : FitsSigned w64 n.result = record { sfits = n.type_inv } in
     let fd : FitsSigned w64 d.result = record { sfits = d.type_inv } in
-    simp (to_z-of_z, fn, fd) (crossing_priced a.part.now a.slot a.part.now c.capacity-c.ensures n.ensures d.ensures)
+    simp (to_z-of_z, fn, fd) (crossing_priced a.part.now a.slot n.ensures d.ensures)

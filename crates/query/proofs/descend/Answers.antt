@@ -7,22 +7,20 @@ use Rattle.query.proofs.descend.Goals as goal
 pub returns-then-c-lt1 : goal.returns-then-c-lt1
 returns-then-c-lt1 c = no_slots c.capacity-c.ensures c.if-c-lt1.true _ _ _ _ _
 
-pub loop-x-init : goal.loop-x-init
-loop-x-init c = ongoing_start _ _ _
+pub loop-probes-init : goal.loop-probes-init
+loop-probes-init c = ongoing_start _ _ _
 
-pub returns-then-probes-ge-MOST_LEVELS : goal.returns-then-probes-ge-MOST_LEVELS
-returns-then-probes-ge-MOST_LEVELS c = let r = c.astray-then-probes-ge-MOST_LEVELS.result in
-    simp (to_z-of_z, c.ranges.load) at
-    (ongoing_limit c.loop-x.invariant c.loop-x-test.true c.if-probes-ge-MOST_LEVELS.true r.slot r.second r.probes)
+pub returns-then-x-le-LEAVES : goal.returns-then-x-le-LEAVES
+returns-then-x-le-LEAVES c = rw c.kept_else.ensures (simp (to_z-of_z, c.ranges.load) at (ongoing_leaf c.loop-probes.invariant c.if-x-le-LEAVES.true))
 
 pub returns-in_default : goal.returns-in_default
 returns-in_default c = let r = c.astray-in_default.result in
     simp (to_z-of_z, c.ranges.load) at
-    (ongoing_off c.loop-x.invariant c.loop-x-test.true (rw c.in_default.is at c.toward-step.ensures) r.slot
-    r.second r.probes)
+    (ongoing_off c.loop-probes.invariant c.if-x-le-LEAVES.false (rw c.in_default.is at c.toward.ensures) r.slot r.second r.probes)
 
-pub loop-x-preserved : goal.loop-x-preserved
-loop-x-preserved c = ongoing_step c.loop-x.invariant c.loop-x-test.true (rw c.in-To.is at c.toward-step.ensures)
+pub loop-probes-preserved : goal.loop-probes-preserved
+loop-probes-preserved c = ongoing_step c.loop-probes.invariant c.if-x-le-LEAVES.false (rw c.in-Some.is at c.toward.ensures)
 
 pub returns : goal.returns
-returns c = rw c.kept_else.ensures (simp (to_z-of_z, c.ranges.load) at (ongoing_leaf c.loop-x.invariant c.loop-x-test.false))
+returns c = let r = c.astray-2.result in
+    simp (to_z-of_z, c.ranges.load) at (ongoing_limit c.loop-probes.invariant c.loop-probes-test.false r.slot r.second r.probes)

@@ -11,10 +11,7 @@ use Rattle.table.specs.Cells.{cell_none, cell_inside, cell_there, place_small, p
 use Rattle.query.proofs.number.Goals as goal
 
 pub returns-then-slot-lt1 : goal.returns-then-slot-lt1
-returns-then-slot-lt1 c = cell_none (λ v. omega (arith, v.low, c.if-slot-lt1.true))
-
-pub returns-then-c-slot : goal.returns-then-c-slot
-returns-then-c-slot c = cell_none (λ v. omega (arith, v.high, c.if-c-slot.true, c.capacity-c.ensures))
+returns-then-slot-lt1 c = cell_none (λ v. omega (arith, v.low, v.high, c.capacity-c.ensures, c.then-slot-lt1.either))
 
 pub address-requires : goal.address-requires
 address-requires c = placed _ _ _ _ c.capacity-c.ensures (omega arith) (omega arith)

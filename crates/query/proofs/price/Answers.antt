@@ -27,10 +27,7 @@ module _ {b r l : ℤ} (x y q : ℤ) (eb : b ≡ clamped 1_000_000_000 x) (er : 
   told w s d e = rw (← d, ← e, ← eb, ← er, ← el)
 
 pub returns-then-slot-lt1 : goal.returns-then-slot-lt1
-returns-then-slot-lt1 c = price_none _ _ _ _ c.capacity-c.ensures (λ h. omega (arith, h.0))
-
-pub returns-then-c-slot : goal.returns-then-c-slot
-returns-then-c-slot c = price_none _ _ _ _ c.capacity-c.ensures (λ h. omega (arith, h.1))
+returns-then-slot-lt1 c = price_none _ _ _ _ c.capacity-c.ensures (λ h. omega (arith, h.0, h.1, c.then-slot-lt1.either))
 
 pub address-at-requires : goal.address-at-requires
 address-at-requires c = placed _ _ _ _ c.capacity-c.ensures (omega arith) (omega arith)

@@ -9,8 +9,7 @@ use Rattle.std.proofs.Common.{FitsSigned}
 use mir.Facts.{to_z-of_z}
 use Rattle.integers.specs.Magnitude.{fits}
 use Rattle.table.specs.Rep.{bit}
-use Rattle.prices.specs.declared.Position.{Position}
-use Rattle.prices.specs.Positions.{position_of, on_or_above}
+use Rattle.prices.specs.Positions.{Position, position_of, on_or_above}
 use Rattle.query.specs.declared.Turn.{Turn}
 use Rattle.query.specs.Readings.{clamped, clamped_product, crossing_against, kept_at, Turns}
 use Rattle.query.proofs.turn_at.Goals as goal

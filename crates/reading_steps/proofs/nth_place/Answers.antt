@@ -3,4 +3,4 @@ use Rattle.reading.specs.PartReading.{nearing_past}
 use Rattle.reading_steps.proofs.nth_place.Goals as goal
 
 pub returns-then-place-lt1 : goal.returns-then-place-lt1
-returns-then-place-lt1 c = nearing_past c.loop-i.invariant c.if-place-lt1.true
+returns-then-place-lt1 c = nearing_past c.loop.invariant c.if-place-lt1.true

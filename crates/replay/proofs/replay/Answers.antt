@@ -4,4 +4,4 @@ use Rattle.replay.specs.Resumed.{replays_opened}
 use Rattle.replay.proofs.replay.Goals as goal
 
 pub returns : goal.returns
-returns c = replays_opened (simp (to_z-of_z, c.ranges.capacity) at c.open-opening.ensures) c.in_default.is c.resume.ensures
+returns c = replays_opened (simp (to_z-of_z, c.ranges.capacity) at c.open.ensures) c.in_ok-open.was c.resume.ensures

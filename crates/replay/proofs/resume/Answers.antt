@@ -5,5 +5,5 @@ use Rattle.replay.proofs.resume.Goals as goal
 pub returns-then-calls-n : goal.returns-then-calls-n
 returns-then-calls-n c = resumes_all c.run-n.ensures c.if-calls-n.true
 
-pub returns : goal.returns
-returns c = resumes_some c.run-n.ensures c.if-calls-n.false
+pub returns-else-calls-n : goal.returns-else-calls-n
+returns-else-calls-n c = resumes_some c.run-n.ensures c.if-calls-n.false

@@ -4,4 +4,4 @@ use Rattle.replay_call.specs.Performing.{lists}
 use Rattle.replay_call.proofs.do_listing.Goals as goal
 
 pub returns : goal.returns
-returns c = let a = c.args in lists a.out.now a.room c.requires c.listing-told.ensures refl c.tell_listed.ensures
+returns c = let a = c.args in lists a.out.now a.room c.requires c.listing-told.ensures refl c.tell_count.ensures

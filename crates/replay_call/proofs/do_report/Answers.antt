@@ -8,4 +8,4 @@ pub returns : goal.returns
 returns c = let a = c.args in
     let f = c.ranges in
     reports a.out.now a.room c.requires a.load a.price (simp (to_z-of_z, f.load, f.price) at c.report-told.ensures) refl
-    c.tell_reported.ensures
+    c.tell_count.ensures

@@ -1,9 +1,6 @@
 -- `reporting::report` meets its contract: by its guards, and then what the part tells.
-use native.Mathlib.Omega.{arith}
 use mir.Facts.{to_z-of_z}
-use Rattle.promises.specs.LentPart.{book_start}
 use Rattle.reporting.specs.Telling.{report_no_book, report_price, report_load, report_told}
-use borrow.Author.Rules.{rules}
 use Rattle.reporting.proofs.report.Goals as goal
 
 pub returns-then-no_book : goal.returns-then-no_book

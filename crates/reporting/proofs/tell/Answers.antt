@@ -6,7 +6,6 @@ use mir.Syntax.{w64}
 use mir.Val.{to_z}
 use mir.Facts.{to_z-of_z, to_z_pos}
 use Rattle.reporting.specs.Telling.{told_short, told_all_lem}
-use borrow.Author.Rules.{rules}
 use Rattle.reporting.proofs.tell.Goals as goal
 
 pub returns-then-room-n : goal.returns-then-room-n

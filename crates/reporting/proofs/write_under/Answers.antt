@@ -1,9 +1,7 @@
 -- `reporting::write_under` meets its contract: by what was gathered, spread and written.
-use native.Mathlib.Omega.{arith}
 use mir.Facts.{to_z-of_z}
 use borrow.Author.Tests.{not-true}
 use Rattle.reporting.specs.Counting.{under_empty, under_none, under_lost, under_astray, under_all}
-use borrow.Author.Rules.{rules}
 use Rattle.reporting.proofs.write_under.Goals as goal
 
 pub returns-then-x-lt1 : goal.returns-then-x-lt1

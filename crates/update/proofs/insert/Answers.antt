@@ -1,7 +1,7 @@
 -- `update::insert` meets its contract.
 use Rattle.table.specs.Fields.{most_levels}
 use Rattle.update.specs.Inserting.{inserted}
-use Rattle.std.proofs.Common.{arith, rules}
+use Rattle.std.proofs.Common.{arith}
 use Rattle.update.proofs.insert.Goals as goal
 
 pub returns : goal.returns

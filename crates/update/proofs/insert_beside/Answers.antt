@@ -1,6 +1,5 @@
 -- `update::insert_beside` meets its contract.
 use Rattle.update.specs.CodeUpdates.{inserted_front, inserted_back}
-use Rattle.std.proofs.Common.{rules}
 use Rattle.update.proofs.insert_beside.Goals as goal
 
 pub returns-then-at_most : goal.returns-then-at_most

@@ -1,5 +1,5 @@
 -- `update::rebalance` meets its contract.
-use Rattle.std.proofs.Common.{arith, rules}
+use Rattle.std.proofs.Common.{arith}
 use Rattle.table.specs.Fields.{offer_tree}
 use Rattle.table.specs.Rep.{height_read}
 use Rattle.shape.specs.Splices.{towers_told}

@@ -1,7 +1,7 @@
 -- `update::remove` meets its contract.
 use Rattle.table.specs.Fields.{most_levels}
 use Rattle.update.specs.Removing.{removed}
-use Rattle.std.proofs.Common.{arith, rules}
+use Rattle.std.proofs.Common.{arith}
 use Rattle.update.proofs.remove.Goals as goal
 
 pub returns : goal.returns

@@ -1,16 +1,15 @@
 -- `update::rotate` meets its contract.
 use Rattle.update.specs.CodeSteps.{read_le, read_lt}
 use Rattle.update.specs.Rotating.{rotated_once, rotated_twice}
-use Rattle.std.proofs.Common.{◌∙◌, rules}
 use Rattle.update.proofs.rotate.Goals as goal
 
 pub returns-then-height : goal.returns-then-height
-returns-then-height c = rotated_once c.lower_on-t.ensures
+returns-then-height c = rotated_once c.lower_on.ensures
     (read_le c.height.ensures c.height-2.ensures c.if-height.true)
-    c.raise_on-y.ensures c.inner_slot-m.ensures c.raise_on-z.ensures c.sum-counts.ensures
+    c.raise_on-near.ensures c.inner_slot-m.ensures c.raise_on-top.ensures c.add.ensures
 
 pub returns : goal.returns
-returns c = rotated_twice c.lower_on-t.ensures
+returns c = rotated_twice c.lower_on.ensures
     (read_lt c.height-2.ensures c.height.ensures c.if-height.false)
-    c.lower_on-i.ensures c.inner_slot-m.ensures c.raise_on-x.ensures c.raise_on-y-2.ensures c.inner_slot.ensures
-    c.raise_on-z-2.ensures c.sum_three-counts.ensures
+    c.lower_on-inner.ensures c.inner_slot-m.ensures c.raise_on-far.ensures c.raise_on-near-2.ensures c.inner_slot.ensures
+    c.raise_on-top-2.ensures c.add-2.ensures c.add-3.ensures

@@ -1,18 +1,15 @@
 -- `vouchers::whole_units` meets its contract: a rest that is enough leads one unit further out, and with any other the units stay.
 use mathlib.Core.Path.{sym, subst}
-use mathlib.Core.Logic.{⊎_elim}
-use Prim.Native.Nat.{◌^◌, ◌<◌}
 use native.Mathlib.Omega.{arith}
-use lib.Dec.{lit<}
-use lib.IntN.{pos, nat_abs, ◌-ℤ◌}
+use lib.IntN.{pos, ◌-ℤ◌}
 use lib.Signed.{quot_z}
 use mir.Syntax.{w64}
 use mir.Val.{to_z}
 use mir.Facts.{to_z-of_z}
 use Rattle.integers.specs.Parts.{int_rules, nat_abs_parts, sub_parts}
 use Rattle.integers.specs.Magnitude.{fits, nat_abs_sub}
-use Rattle.vouchers.specs.VoucherSteps.{units_fit, pairs_fit, above_fits, below_fits, rest_fits}
-use Rattle.vouchers.specs.VoucherSteps.{cut, even, odd, Enough, further_up, further_down, no_further}
+use Rattle.vouchers.specs.VoucherSteps.{units_fit, below_fits, rest_fits}
+use Rattle.vouchers.specs.VoucherSteps.{cut, even, odd, Enough, further_down, no_further}
 use Rattle.vouchers.proofs.whole_units.Goals as goal
 use Rattle.vouchers.proofs.whole_units.Goals.{then-units-eq0, else-units-eq0}
 

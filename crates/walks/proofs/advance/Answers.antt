@@ -10,4 +10,4 @@ pub returns-then-depth-ge-STACK : goal.returns-then-depth-ge-STACK
 returns-then-depth-ge-STACK c = advances_full c.if-at-le-MOST_SLOTS.false c.if-depth-ge-STACK.true
 
 pub returns : goal.returns
-returns c = advances_node c.if-at-le-MOST_SLOTS.false c.if-depth-ge-STACK.false c.child_in.ensures
+returns c = advances_node c.if-at-le-MOST_SLOTS.false c.if-depth-ge-STACK.false c.child.ensures

@@ -4,4 +4,4 @@ use borrow.Author.Rules.{rules}
 use Rattle.walks.proofs.pop.Goals as goal
 
 pub returns : goal.returns
-returns c = pops_node c.child_in.ensures
+returns c = pops_node c.child.ensures

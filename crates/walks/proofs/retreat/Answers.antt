@@ -7,4 +7,4 @@ pub returns-then-at-le-MOST_SLOTS : goal.returns-then-at-le-MOST_SLOTS
 returns-then-at-le-MOST_SLOTS c = retreats_leaf c.if-at-le-MOST_SLOTS.true
 
 pub returns : goal.returns
-returns c = retreats_node c.if-at-le-MOST_SLOTS.false c.child_in.ensures
+returns c = retreats_node c.if-at-le-MOST_SLOTS.false c.child.ensures
