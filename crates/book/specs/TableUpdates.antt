@@ -130,7 +130,7 @@ module _ (start : ℕ) (t t' : List ℤ) {b : Bool} (e : b ≡ no_book_at (lengt
       (cause : PostCause n (lent t start) m) where
     pub post_refused : {c : Declined} {u : Result Update Declined} → m ≡ Err c → u ≡ Err c → t' ≡ t → Updates (post n r z) start t t' u
     post_refused {c} l eu et =
-        let (number, ec, declines) = cause.declines c l in
+        let (number, low, ec, declines) = cause.declines c l in
         updates_refused (post n r z) start t t' e h o q (λ plain held b. declines r z plain held b (o.clears q)) eu ec et
 
     pub post_accepted :

@@ -1,6 +1,6 @@
--- A named cause is fixed by its number: no other cause, and no `Other`, has it.
-use Rattle.std.specs.Prelude.{◌≡◌, refl, Bool, true, false, cond, ◌&&◌, ℤ, pos}
-use Rattle.std.proofs.Common.{sym, ◌∙◌, ap, true≢false}
+-- A named cause is fixed by its number: no other cause, and no `Other`, has it. So every number from 1 on fixes its cause.
+use Rattle.std.specs.Prelude.{◌≡◌, refl, Bool, true, false, cond, ◌&&◌, ℕ, ◌≤◌, ℤ, pos}
+use Rattle.std.proofs.Common.{sym, ◌∙◌, ap, arith, true≢false}
 use Rattle.std.specs.Int.Signed.{le_z}
 use Rattle.causes.specs.declared.Declined.{Declined}
 use Rattle.causes.specs.declared.Declined.TheVariants.{Capacity, NoRoom, NoBook, OutOfRange, RateOutOfRange, BaseOutOfRange, LoadOutOfRange}
@@ -93,3 +93,39 @@ named (Other n) e = absurd (true≢false (sym e ∙ not_named n))
 
 pub named_once : (c d : Declined) → Named d → number_of c ≡ number_of d → c ≡ d
 named_once c d h e = sym (round c (named c (ap is_cause e ∙ is_named d h))) ∙ ap cause_of e ∙ round d h
+
+-- a number of `Other` that is not 0 is its own
+own_number : (z : ℤ) (n : ℕ) → 1 ≤ n → number_of (Other z) ≡ pos n → z ≡ pos n
+own_number z n h = go (is_cause z)
+  where
+    go : (b : Bool) → cond b (pos 0) z ≡ pos n → z ≡ pos n
+    go true e = let f : 0 ≡ n = cc in absurd (omega (arith, f, h))
+    go false e = e
+
+other : (c : Declined) → is_cause (number_of c) ≡ false → (z : ℤ) × (c ≡ Other z)
+other Capacity e = absurd (true≢false e)
+other NoRoom e = absurd (true≢false e)
+other NoBook e = absurd (true≢false e)
+other OutOfRange e = absurd (true≢false e)
+other RateOutOfRange e = absurd (true≢false e)
+other BaseOutOfRange e = absurd (true≢false e)
+other LoadOutOfRange e = absurd (true≢false e)
+other NumberLive e = absurd (true≢false e)
+other Full e = absurd (true≢false e)
+other NotLive e = absurd (true≢false e)
+other NothingToTakeBack e = absurd (true≢false e)
+other Empty e = absurd (true≢false e)
+other OutputTooShort e = absurd (true≢false e)
+other RatesNotApart e = absurd (true≢false e)
+other NoSuchMark e = absurd (true≢false e)
+other (Other z) e = (z, refl)
+
+pub number_once : (c d : Declined) (n : ℕ) → 1 ≤ n → number_of c ≡ pos n → number_of d ≡ pos n → c ≡ d
+number_once c d n h e f = go (is_cause (pos n)) refl
+  where
+    go : (b : Bool) → is_cause (pos n) ≡ b → c ≡ d
+    go true b = named_once c d (named d (ap is_cause f ∙ b)) (e ∙ sym f)
+    go false b =
+        let (y, p) = other c (ap is_cause e ∙ b) in
+        let (z, q) = other d (ap is_cause f ∙ b) in
+        p ∙ ap Other (own_number y n h (ap number_of (sym p) ∙ e) ∙ sym (own_number z n h (ap number_of (sym q) ∙ f))) ∙ sym q

@@ -199,7 +199,7 @@ wrong_last line e none = (λ k i. go k (line_shape i))
     go (report load price room) s = s
 
 -- The letter L, and last columns that hold another number than 0.
-wrong_list : (line : List ℕ) (z : ℤ) → letter line ≡ 76 → LastColumns line z → z ≢ pos 0 → Parsed line None
+pub wrong_list : (line : List ℕ) (z : ℤ) → letter line ≡ 76 → LastColumns line z → z ≢ pos 0 → Parsed line None
 wrong_list line z e held other = (λ k i. go k (line_shape i))
   where
     go : (k : Call) → Shape k line → ⊥
@@ -241,7 +241,7 @@ reads_list line z f e l held = go (eqb (of_z w64 z) 0) (zero_bits z f)
 
 -- ---- a field that was read
 
-last_read : (line : List ℕ) (f : Option ℤ) → between 1 15 line ≡ replicate 14 space → FieldRead (between 15 27 line) f → LastRead line f
+pub last_read : (line : List ℕ) (f : Option ℤ) → between 1 15 line ≡ replicate 14 space → FieldRead (between 15 27 line) f → LastRead line f
 last_read line (Some z) e r = record { blank = e; last = r }
 last_read line None e r = λ z l. r z l.last
 

@@ -26,13 +26,12 @@ pub fn push(line: Line, byte: u8) -> Line
     ensures { Pushes line byte result }
 {
     let at = line.length;
-    let mut bytes = line.bytes;
+    // changed in place, since each copy of a line waits for the byte that was put in last
+    let mut longer = line;
     if 28 <= at {
-        return Line { bytes, length: at };
+        return longer;
     }
-    bytes[at] = byte;
-    Line {
-        bytes,
-        length: at + 1,
-    }
+    longer.bytes[at] = byte;
+    longer.length = at + 1;
+    longer
 }

@@ -1,6 +1,7 @@
 -- A number's digits from the highest place down, as printing takes them off.
-use Rattle.std.specs.Prelude.{ℕ, zero, suc, ◌+◌, ◌-◌, ◌*◌, ◌/◌, ◌%◌, ◌^◌, ◌≤◌, ◌<◌, ◌≡◌, refl, Bool, true, false, List, [], ◌∷◌, ◌++◌, leb, length, get_or, take, set, max}
-use Rattle.std.proofs.Common.{ap, sym, subst, ◌∙◌, append_assoc, append-nil, pow-suc, mul_assoc, mul-one, zero-mul, suc-mul, mul-le-mul_right, arith, length-append, leb-true, leb-false, take_all, take-suc-set}
+use Rattle.std.specs.Prelude.{ℕ, zero, suc, ◌+◌, ◌-◌, ◌*◌, ◌/◌, ◌%◌, ◌^◌, ◌≤◌, ◌<◌, ◌≡◌, refl, Bool, true, false, List, [], ◌∷◌, ◌++◌, leb, ltb, length, get_or, take, set, max}
+use Rattle.std.proofs.Common.{ap, sym, subst, ◌∙◌, append_assoc, append-nil, pow-suc, mul_assoc, mul-one, zero-mul, suc-mul, mul-le-mul_right, arith, length-append, leb-true, leb-false, le-leb, ltb-true, ltb-false, take_all, take-suc-set}
+use Rattle.std.proofs.lemmas.Bool.{lt-leb}
 use Rattle.std.proofs.Math.Nat.{pow-zero, sub-zero, one-le-pow, pow-le-pow_right}
 use Rattle.std.proofs.Math.Decide.{dec_lt}
 use Rattle.std.proofs.Math.Numerals.{unary_clauses}
@@ -165,6 +166,51 @@ module _ {number power digit times : ℕ} (g : Tried number power digit times) w
         small = omega (arith, g.high);
         less = omega (arith, no_more (rw nine below), suc-mul digit power);
       }
+
+-- The same, counted down from 9 by each multiple that does not go in.
+pub record Passed (number power digit times : ℕ) : Type 0 where
+  pub some : 10 ≤ digit + times
+  pub tried : Tried number power (digit + times - 10) times
+
+pub passed_none : (number power : ℕ) → Passed number power 9 1
+passed_none number power = record { some = omega arith; tried = tried_none number power }
+
+module _ {number power digit times : ℕ} (g : Passed number power digit times) where
+  pub passed_room : times < 10 → bool_byte (ltb number (times * power)) ≤ digit
+  passed_room few = go (ltb number (times * power))
+    where
+      go : (b : Bool) → bool_byte b ≤ digit
+      go true = omega (arith, g.some, few)
+      go false = omega arith
+
+  pub passed_more : times < 10 → Passed number power (digit - bool_byte (ltb number (times * power))) (times + 1)
+  passed_more few = go (ltb number (times * power)) refl
+    where
+      next : Tried number power (digit + times - 10 + bool_byte (leb (times * power) number)) (times + 1)
+      next = tried_more g.tried
+
+      go : (b : Bool) → ltb number (times * power) ≡ b → Passed number power (digit - bool_byte b) (times + 1)
+      go true e =
+          let over : number < times * power = ltb-true number (times * power) e in
+          let none : leb (times * power) number ≡ false = lt-leb (times * power) number over in
+          let same : digit + times - 10 + 0 ≡ digit - 1 + (times + 1) - 10 = omega (arith, g.some, few) in
+          record {
+            some = omega (arith, g.some, few);
+            tried = subst (λ (n : ℕ). Tried number power n (times + 1)) same (rw none at next);
+          }
+      go false e =
+          let under : times * power ≤ number = ltb-false number (times * power) e in
+          let one : leb (times * power) number ≡ true = le-leb (times * power) number under in
+          let same : digit + times - 10 + 1 ≡ digit - 0 + (times + 1) - 10 = omega (arith, g.some) in
+          record {
+            some = omega (arith, g.some);
+            tried = subst (λ (n : ℕ). Tried number power n (times + 1)) same (rw one at next);
+          }
+
+  pub passed_done : times ≡ 10 → number < 10 * power → LeadDigit number power (record { digit = digit; rest = number - digit * power })
+  passed_done nine below =
+      let same : digit + times - 10 ≡ digit = omega (arith, nine) in
+      tried_done (subst (λ (n : ℕ). Tried number power n times) same g.tried) nine below
 
 -- A multiple that is compared fits 64 bits.
 pub multiple_fits : (times power : ℕ) → times ≤ 10 → 10 * power < 2 ^ 64 → times * power < 2 ^ 64

@@ -61,18 +61,19 @@ fn digit_count(powers: &[u64], number: u64) -> usize
 }
 
 // The highest digit: how often the power of its place goes in, and what is left once it is subtracted that often. All nine multiples are compared,
-// since a branch on what a digit is would mostly be mispredicted.
+// since a branch on what a digit is would mostly be mispredicted; those that do not go in are taken off, since of a sum of tests the compiler makes a
+// vector, which takes half as long again.
 fn lead_digit(number: u64, power: u64) -> Lead
     requires { (number < 10 * power) × (10 * power < 2 ^ 64) }
     ensures { LeadDigit number power result }
 {
-    let mut digit = 0;
+    let mut digit = 9;
     for times in 1..10 {
-        digit += (times * power <= number) as u8;
+        digit -= (number < times * power) as u64;
     }
     Lead {
-        digit,
-        rest: number - digit as u64 * power,
+        digit: digit as u8,
+        rest: number - digit * power,
     }
 }
 

@@ -40,7 +40,7 @@ pub record Postable (o : Offer) (c : ℕ) (live : List Item) : Type 0 where
 
 -- the plain book declines a post in range by the number of this cause
 abbrev pub PostDeclined : ℤ → Words → Declined → Type 0
-PostDeclined n w c = (m : ℕ) × (refusal_number c ≡ pos m) × ((r z : ℤ) (plain : State) (held : Option (Held Item)) →
+PostDeclined n w c = (m : ℕ) × (1 ≤ m) × (refusal_number c ≡ pos m) × ((r z : ℤ) (plain : State) (held : Option (Held Item)) →
     Book w plain held → Clear (range_trials (post n r z)) → step plain (post n r z) ≡ refusing plain m)
 
 -- why a post in range is declined, where it is
@@ -54,12 +54,13 @@ cause_of {n} {w} {c} d = record { declines = λ k e. let h : c ≡ k = cc in sub
 
 module _ (n : ℤ) (w : Words) {s : ℕ} (f : FoundKey number_tree number_field n (up_to most_nodes (word w numbers_root_word)) w s) where
   pub cause_number : 0 < s → PostCause n w (Err NumberLive)
-  cause_number h = cause_of (5, refl, λ r z plain held b g. post_number_live b n r z g (number_sought b f refl) (λ e. omega (arith, e, h)))
+  cause_number h = cause_of (5, omega arith, refl, λ r z plain held b g. post_number_live b n r z g (number_sought b f refl) (λ e. omega (arith, e, h)))
 
   module _ {i m : ℕ} (low : s ≤ 0) (ei : i ≡ up_to most_nodes (word w live_count_word)) (em : m ≡ cap w) where
     pub cause_full : m ≤ i → PostCause n w (Err Full)
     cause_full h = cause_of (
       7,
+      omega arith,
       refl,
       λ r z plain held b g. post_full b n r z g (number_sought b f refl) (omega (arith, low))
           (omega (arith, h, em, ei, b.capacity, count_read b)),

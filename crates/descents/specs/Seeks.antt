@@ -84,10 +84,19 @@ looking_on {answer} {w} {k} {f} {x} {y} {limit} {g} {z} {b} right leads sought j
         told : b ≡ right sought (key (last l))
         told = eb ∙ ap (right sought) (ap (cell w f) (eg ∙ (parents r).seam_at) ∙ q.read (Memᴰ.append_left (leaves s) (last_leaf l)))
 
--- the limit is used up, which no balanced tree comes to: node 0 will do
-looking_over : {answer : Answer} {w : Words} {k f x y limit : ℕ} {sought : ℤ} → Looking answer w k f sought x y limit → most_slots < y → limit ≡ 0 →
-    Looking answer w k f sought x 0 0
+-- the limit is used up, which no balanced tree comes to
+pub looking_over : {answer : Answer} {w : Words} {k f x y limit r : ℕ} {sought : ℤ} → Looking answer w k f sought x y limit → most_slots < y → limit ≡ 0 →
+    Answered answer w k f sought x r
 looking_over j h e =
+    record {
+      is = λ t key r a q. absurd (not_spent (j.is t key r a q).here h e (j.is t key r a q).rep (j.is t key r a q).high);
+      nothing = λ d. absurd (omega (arith, h, j.nothing d));
+    }
+
+-- .. so that node 0 will do
+looking_nowhere : {answer : Answer} {w : Words} {k f x y limit : ℕ} {sought : ℤ} → Looking answer w k f sought x y limit → most_slots < y → limit ≡ 0 →
+    Looking answer w k f sought x 0 0
+looking_nowhere j h e =
     record {
       is = λ t key r a q. absurd (not_spent (j.is t key r a q).here h e (j.is t key r a q).rep (j.is t key r a q).high);
       nothing = λ d. refl;
@@ -105,7 +114,7 @@ pub looking_down : {step : ℕ → ℕ → Type 0} {answer : Answer} {w : Words}
 looking_down right leads sought steps j (at_leaf {limit = n} s) = record { low = s; left = n; looking = j }
 looking_down right leads sought steps j (goes s c d) =
     looking_down right leads sought steps (simp unary_clauses at (looking_on right leads sought j s refl refl (steps _ _ c))) d
-looking_down right leads sought steps j (over s) = record { low = omega arith; left = 0; looking = looking_over j s refl }
+looking_down right leads sought steps j (over s) = record { low = omega arith; left = 0; looking = looking_nowhere j s refl }
 
 -- at a leaf
 pub looking_ends : {answer : Answer} {w : Words} {k f x y limit : ℕ} {sought : ℤ} (r : ℕ) → Looking answer w k f sought x y limit → y ≤ most_slots →

@@ -124,17 +124,17 @@ module _
       items.before (last (shape l)) a ≡ late
   side_is f k = sym (test ∙ ap₂ lt_z (ap (cell w rate_field) k.slot ∙ k.held.rate) (ap (cell w rate_field) here ∙ f.rate_at))
 
-  left_own : late ≡ false → OnLeft w x e q e
+  pub left_own : late ≡ false → OnLeft w x e q e
   left_own y = record { is = λ u v l r ql qr es a n k. rw (side_is (forked u v l r ql qr n) k, y) k.slot }
 
-  right_own : late ≡ true → OnRight w x e q e
+  pub right_own : late ≡ true → OnRight w x e q e
   right_own y = record { is = λ u v l r ql qr es a n k. rw (side_is (forked u v l r ql qr n) k, y) k.slot }
 
   pub own_on : {side : Bool} → beq late side ≡ true → OnSide side w x e q e
   own_on {side} y = record { left = λ f. left_own (same late side y ∙ f); right = λ f. right_own (same late side y ∙ f) }
 
   module _ {c root b s : ℕ} (stays : root ≡ rest_at w c) (least : Cheaper w root b q s) where
-    left_rest : late ≡ true → c ≡ child_at w offer_tree false x → b ≡ link_at w bridge_left_field m → OnLeft w x e q s
+    pub left_rest : late ≡ true → c ≡ child_at w offer_tree false x → b ≡ link_at w bridge_left_field m → OnLeft w x e q s
     left_rest y ec eb =
         record {
           is = λ u v l r ql qr es a n k.
@@ -146,7 +146,7 @@ module _
               (least.is ql u (rw (stays, ec) f.rest_left) own);
         }
 
-    right_rest : late ≡ false → c ≡ child_at w offer_tree true x → b ≡ link_at w bridge_right_field m → OnRight w x e q s
+    pub right_rest : late ≡ false → c ≡ child_at w offer_tree true x → b ≡ link_at w bridge_right_field m → OnRight w x e q s
     right_rest y ec eb =
         record {
           is = λ u v l r ql qr es a n k.

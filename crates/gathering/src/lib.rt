@@ -64,6 +64,8 @@ fn bridge_field(side: bool) -> usize
 }
 
 // The cheapest below the child on a side of inner node `x`, where `e` is the cheapest below `x`. Whatever the words are, on one side it is `e` itself.
+// Inlined, so that each call has its side's fields and makes no call where it is.
+#[inline(always)]
 fn child_cheapest(part: &[i64], c: u32, side: bool, x: u32, e: u32, load: i64) -> u32
     requires { c ≡ cap part.now }
     ensures { OnSide side part.now x e load result }

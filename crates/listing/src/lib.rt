@@ -5,6 +5,8 @@ ghost use Rattle.std.specs.Prelude.{◌≡◌, ◌≤◌};
 ghost use Rattle.listing.specs.PieceCounts.{Counted};
 ghost use Rattle.listing.specs.Listing.{crossing_word, piece_at, Written};
 
+use table::Part;
+
 // How many pieces a tree has, counted along the thread from its first to its last; 0 for no tree.
 pub fn count(part: &[i64], root: u32) -> u32
     ensures { Counted part.now root result }
@@ -14,11 +16,13 @@ pub fn count(part: &[i64], root: u32) -> u32
     if s == 0 {
         return 0;
     }
+    // with the capacity read once, and not for each piece
+    let read = Part::of(part);
     for n in 1..table::MOST_SLOTS + 1 {
         if s == last {
             return n;
         }
-        s = table::link(part, table::NEXT_PIECE, s);
+        s = read.link(table::NEXT_PIECE, s);
     }
     0
 }

@@ -42,6 +42,13 @@ fn cat_in(part: &mut [i64], c: u32, l: u32, r: u32) -> u32
     requires { c ≡ cap part.old }
     ensures { Catted l r part.old part.new result }
 {
+    // before the two ways down, which are as long as the tree is high
+    if l == 0 {
+        return r;
+    }
+    if r == 0 {
+        return l;
+    }
     let s = descents::end_in(part, c, table::PIECES, true, l);
     let n = descents::end_in(part, c, table::PIECES, false, r);
     cat_at(part, c, l, r, s, n)

@@ -2,6 +2,8 @@
 // result what a plain scan of all lines gives. Line s of the left 120 crosses the next one at 2 (s + 1), and so do the right 120.
 #![tactic(auto)]
 
+ghost use Rattle.std.specs.Prelude.{◌≡◌, ◌↔◌, [], IsNone, IfSome, Contains};
+
 use std::io;
 use table::Part;
 
@@ -73,7 +75,10 @@ fn build(part: &mut [i64], before: u32) -> u32 {
 }
 
 // The first of the cheapest lines.
-fn cheapest(lines: &[Line], load: u32) -> Option<&Line> {
+fn cheapest(lines: &[Line], load: u32) -> Option<&Line>
+    ensures empty { IsNone result ↔ (lines.now ≡ []) }
+    ensures listed { IfSome result (λ l. Contains lines.now l.now) }
+{
     lines.iter().min_by_key(|line| line.price(load))
 }
 

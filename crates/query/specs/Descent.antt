@@ -132,7 +132,13 @@ pub ongoing_leaf : {w : Words} {root x second probes : ℕ} {q : ℤ} → Ongoin
 ongoing_leaf {q} g d =
     record { finds = λ t p k h. let b = g.below t p h in let (a, s, e) = at_leaf b.pieces d in at_end a b s e }
 
--- a tree at most most_levels high has no node below most_levels probes
-pub ongoing_limit : {w : Words} {root x second probes : ℕ} {q : ℤ} → Ongoing w root q x second probes → most_levels < probes →
+-- a tree at most most_levels high has a leaf after most_levels probes
+pub ongoing_limit : {w : Words} {root x second probes : ℕ} {q : ℤ} → Ongoing w root q x second probes → most_slots < x → most_levels ≤ probes →
     (slot other found : ℕ) → Descended w root q slot other found
-ongoing_limit g l slot other found = record { finds = λ t p k h. absurd (omega (arith, (g.below t p h).high)) }
+ongoing_limit {q} g d l slot other found =
+    record { finds = λ t p k h. let b = g.below t p h in let o = opened q b.pieces h d in absurd (omega (arith, b.high, ap height o.shape)) }
+
+-- .. and no node below most_levels probes
+pub ongoing_over : {w : Words} {root x second probes : ℕ} {q : ℤ} → Ongoing w root q x second probes → most_levels < probes →
+    (slot other found : ℕ) → Descended w root q slot other found
+ongoing_over g l slot other found = record { finds = λ t p k h. absurd (omega (arith, (g.below t p h).high)) }

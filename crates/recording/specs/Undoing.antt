@@ -141,7 +141,7 @@ module _ (n r z : ℤ) {w : Words} {i : Result (Unit {0}) Declined} (range : Ran
     undo_cause k e =
         undoes_declined (restore (record { number = n; rate = r; base = z })) e (λ plain held us f em.
         let (c, l) = failed m tried k in
-        let (number, p, declines) = cause.declines c l in
+        let (number, low, p, declines) = cause.declines c l in
         not_refused plain (post n r z) (posts plain n r z (last_clear f em).0) (declines r z plain held f.book (range.clears q)))
 
     pub undo_withdrawal :

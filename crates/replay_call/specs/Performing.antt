@@ -1,7 +1,7 @@
 -- How each kind of call is performed: the words of its answer are the encoding of the very value that the call returned.
 use Rattle.std.specs.Prelude.{◌≡◌, refl, List, ◌++◌, ℕ, ◌+◌, ◌-◌, ◌≤◌, length, take, drop, ℤ, Result, Ok, Err}
 use Rattle.std.proofs.Common.{sym, ◌∙◌, ap, arith, length-append, length-drop, take_at, drop_at, drop-drop, length-take-le}
-use Rattle.plain.specs.Book.{Call, query, listing, report}
+use Rattle.plain.specs.Book.{Call, post, withdraw, query, listing, take_back, report}
 use Rattle.causes.specs.declared.Declined.{Declined}
 use Rattle.promises.specs.declared.Update.{Update}
 use Rattle.promises.specs.declared.Found.{Found}
@@ -136,3 +136,12 @@ module _ {start : ℕ} {t : List ℤ} (ws : List ℤ) {ws₁ ws' out' : List ℤ
         long = w.long;
         later = w.later;
       }
+
+-- no answer takes 0 words
+pub some_words : (k : Call) → 5 ≤ stretch k
+some_words (post n r b) = omega arith
+some_words (withdraw n) = omega arith
+some_words (query q) = omega arith
+some_words (listing room) = omega arith
+some_words take_back = omega arith
+some_words (report q p room) = omega arith

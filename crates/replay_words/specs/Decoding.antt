@@ -1,5 +1,5 @@
 -- The code's reading of a call is the encoding's.
-use Rattle.std.specs.Prelude.{◌≡◌, refl, Option as Maybe, Some, None, true, false, List, [], ◌∷◌, ℕ, ◌-◌, ◌≤◌, length, drop, get_or, ℤ, pos, leb}
+use Rattle.std.specs.Prelude.{◌≡◌, refl, Option as Maybe, Some, None, true, false, List, [], ◌∷◌, ℕ, ◌-◌, ◌≤◌, ◌<◌, length, drop, get_or, ℤ, pos, leb}
 use Rattle.std.proofs.Common.{arith}
 use Rattle.std.proofs.Math.Option.{Option, none, some}
 use Rattle.integers.specs.Parts.{equal_eq}
@@ -37,6 +37,13 @@ four (a ∷ []) h e = absurd (omega arith)
 four (a ∷ b ∷ []) h e = absurd (omega arith)
 four (a ∷ b ∷ c ∷ []) h e = absurd (omega arith)
 four (a ∷ b ∷ c ∷ d ∷ ws) h e = e
+
+pub too_few : (ws : List ℤ) → length ws < 4 → none ≡ next_call ws
+too_few [] h = refl
+too_few (a ∷ []) h = refl
+too_few (a ∷ b ∷ []) h = refl
+too_few (a ∷ b ∷ c ∷ []) h = refl
+too_few (a ∷ b ∷ c ∷ d ∷ ws) h = absurd (omega arith)
 
 -- ---- which calls are run
 

@@ -11,7 +11,7 @@ loop-n-init c = (λ h. along_begins c.end-last.ensures c.end-s.ensures c.if-s-eq
 
 pub loop-n-preserved : goal.loop-n-preserved
 loop-n-preserved c = let g = c.loop-n.invariant.0 (omega arith) in
-    (λ h. along_goes_on g c.if-s-last.false (omega arith) c.link-s.ensures, λ h. along_over g c.if-s-last.false (omega arith))
+    (λ h. along_goes_on g c.if-s-last.false (omega arith) (rw c.of-read.ensures at c.link-s.ensures), λ h. along_over g c.if-s-last.false (omega arith))
 
 pub returns-then-s-last : goal.returns-then-s-last
 returns-then-s-last c = along_ends (c.loop-n.invariant.0 (omega arith)) c.if-s-last.true

@@ -1,6 +1,6 @@
 -- `query::descend` meets its contract. The loop's invariant: from x on, the walk goes on as from the root.
 use mir.Facts.{to_z-of_z}
-use Rattle.query.specs.Descent.{no_slots, ongoing_start, ongoing_step, ongoing_leaf, ongoing_limit}
+use Rattle.query.specs.Descent.{no_slots, ongoing_start, ongoing_step, ongoing_leaf, ongoing_over}
 use Rattle.query.proofs.Descent.{ongoing_off}
 use Rattle.query.proofs.descend.Goals as goal
 
@@ -23,4 +23,4 @@ loop-probes-preserved c = ongoing_step c.loop-probes.invariant c.if-x-le-LEAVES.
 
 pub returns : goal.returns
 returns c = let r = c.astray-2.result in
-    simp (to_z-of_z, c.ranges.load) at (ongoing_limit c.loop-probes.invariant c.loop-probes-test.false r.slot r.second r.probes)
+    simp (to_z-of_z, c.ranges.load) at (ongoing_over c.loop-probes.invariant c.loop-probes-test.false r.slot r.second r.probes)
